@@ -112,7 +112,7 @@ fn sweep(index: &Index, pass: &mut Pass)
     }
 }
 
-// Posts what an insertion has parted, and goes on with the hints that posting gives.
+// Posts what an insertion has split, and goes on with the hints that posting gives.
 fn post<R: Wait>(rt: &R, index: &Index, pass: &mut Pass, hint: Option<Hint>)
     requires { IsPassOf index.now pass.old }
     ensures { IsPassOf index.now pass.new }

@@ -14,7 +14,7 @@ use Rattle.bl_core_tree.specs.Starts.{AreSound, start_map}
 use Rattle.bl_core_tree.proofs.SoundStarts.{none_paired, bool_cases}
 use Rattle.bl_core.specs.Worlds.{Stage, Know, World}
 use Rattle.bl_core.specs.Blank.{IsBlank}
-use Rattle.bl_core.specs.Told.{TellsMiddles}
+use Rattle.bl_core.specs.Observed.{TellsMiddles}
 use Rattle.bl_core.proofs.Starts.{Sound, sound_world, sound_good}
 use Rattle.bl_core.proofs.WorldLaws.{laws}
 use Rattle.bl_check.specs.Rows.{RowsFrom, AreRowsOf}

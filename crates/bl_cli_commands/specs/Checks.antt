@@ -31,11 +31,11 @@ ReadsAll old new bytes = Consumes old new bytes × IsAtEnd new
 
 -- the bytes have the number that was told, if one was
 abbrev pub HasLength : Option ℕ → List ℕ → Type 0
-HasLength told bytes = IfSome told (λ count. count ≡ length bytes)
+HasLength observed bytes = IfSome observed (λ count. count ≡ length bytes)
 
 -- Why bytes cannot be read whole: the reader has failed, or it gave another number of bytes than was told.
 abbrev pub CannotRead : Option ℕ → Option (List ℕ) → Option (List ℕ) → Type 0 → Type 0
-CannotRead told old new failed = failed ⊎ ((bytes : List ℕ) × ReadsAll old new bytes × ¬ HasLength told bytes)
+CannotRead observed old new failed = failed ⊎ ((bytes : List ℕ) × ReadsAll old new bytes × ¬ HasLength observed bytes)
 
 -- A failed read comes only from what cannot be read, and a failed write only from a writer that has failed.
 abbrev pub ComesFrom : CommandFault → Type 0 → Type 0 → Type 0

@@ -20,7 +20,7 @@ use std::rt::Files;
 const PIECE: usize = 16_384;
 
 /// All bytes of a reader. Where their number is known and another number is read, the read has failed.
-pub(crate) fn read_told<R: Read>(
+pub(crate) fn read_observed<R: Read>(
     alloc: Global,
     reader: &mut Watched<R>,
     length: Option<u64>,
@@ -125,7 +125,7 @@ pub fn check_image<R: Read, W: Write>(
     ensures left { IfErr result (λ fault. (line : List ℕ)
         × Leaves fault (W.contents writer.old.inner) (W.contents writer.new.inner) line) }
 {
-    let bytes = read_told(alloc, reader, length)?;
+    let bytes = read_observed(alloc, reader, length)?;
     let (sound, line) = verdict(alloc, bytes.as_slice())?;
     match write_out(writer, line.as_bytes()) {
         Ok(()) => Ok(sound),

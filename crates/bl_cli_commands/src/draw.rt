@@ -1,6 +1,6 @@
 //! The command `draw`.
 
-use crate::check::{length_of, read_told};
+use crate::check::{length_of, read_observed};
 use crate::fault::CommandFault;
 use bl_draw::{svg_of, text_of};
 use bl_model::{Watched, write_out};
@@ -26,7 +26,7 @@ pub fn draw_image<R: Read, W: Write>(
     form: Form,
     writer: &mut Watched<W>,
 ) -> Result<bool, CommandFault> {
-    let bytes = read_told(alloc, reader, length)?;
+    let bytes = read_observed(alloc, reader, length)?;
     let (picture, is_sound) = match form {
         Form::Text => text_of(alloc, bytes.as_slice())?,
         Form::Svg => svg_of(alloc, bytes.as_slice())?,

@@ -66,7 +66,7 @@ fn fill<F: Write + OpenFile + Drop>(file: F, image: &Image) -> bool {
 }
 
 /// A path, and what the system says of it.
-fn told(alloc: Global, path: &str, error: &io::Error) -> Result<String, AllocError> {
+fn observed(alloc: Global, path: &str, error: &io::Error) -> Result<String, AllocError> {
     format!(in alloc; "{path}: {error}")
 }
 
@@ -85,7 +85,7 @@ pub fn may_replace<R: Files + AllocGlobal>(rt: &R, path: &str) -> Result<(), Dum
             let _ = fs::remove_file(rt, new.as_str());
             Ok(())
         }
-        Err(error) => Err(DumpFault::Make(told(rt.alloc(), new.as_str(), &error)?)),
+        Err(error) => Err(DumpFault::Make(observed(rt.alloc(), new.as_str(), &error)?)),
     }
 }
 
@@ -100,7 +100,7 @@ pub fn replace_file<R: Files + AllocGlobal>(
     let new = new_path(rt.alloc(), path)?;
     let file = match File::create_new(rt, new.as_str()) {
         Ok(file) => file,
-        Err(error) => return Err(DumpFault::Make(told(rt.alloc(), new.as_str(), &error)?)),
+        Err(error) => return Err(DumpFault::Make(observed(rt.alloc(), new.as_str(), &error)?)),
     };
     if !fill(file, image) {
         // Where it cannot be removed either, it is left.
@@ -111,7 +111,7 @@ pub fn replace_file<R: Files + AllocGlobal>(
         Ok(()) => Ok(()),
         Err(error) => {
             let _ = fs::remove_file(rt, new.as_str());
-            Err(DumpFault::Rename(told(rt.alloc(), new.as_str(), &error)?))
+            Err(DumpFault::Rename(observed(rt.alloc(), new.as_str(), &error)?))
         }
     }
 }

@@ -4,7 +4,7 @@ ghost use Rattle.std.specs.Prelude.{◌≡◌, true, ℕ, List, IfOk, IfErr};
 ghost use Rattle.bl_image.specs.Images.{IsImage};
 ghost use Rattle.bl_cli_commands.specs.Checks.{ReadsAll, HasLength, CannotLoad};
 
-use crate::check::{length_of, read_told};
+use crate::check::{length_of, read_observed};
 use crate::fault::CommandFault;
 use bl_check::{Fault, Quiet, load};
 use bl_model::Watched;
@@ -28,7 +28,7 @@ pub fn load_image<R: Read>(
     ensures fault { IfErr result (λ fault. CannotLoad fault length
         (R.remaining reader.old.inner) (R.remaining reader.new.inner) (reader.new.failed ≡ true)) }
 {
-    let bytes = read_told(alloc, reader, length)?;
+    let bytes = read_observed(alloc, reader, length)?;
     match load(alloc, bytes.as_slice()) {
         Ok(quiet) => Ok(quiet),
         Err(Fault::Rule { rule, page }) => Err(CommandFault::Unsound(rule, page)),

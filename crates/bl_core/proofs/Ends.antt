@@ -159,7 +159,7 @@ Begins-keeps know w w' p b s g =
 
 pub record Finishes {P : Type 0} (know : P → Know) (w w' : World P) (p : Name) (answer : Option Reply) (b : P) : Type 0 where
   pub extends : Extends w w' (silent p (End answer)) b
-  pub told : Answered w.trail p answer
+  pub observed : Answered w.trail p answer
   pub ghost : SameGhost w w'
   pub middle : (know b).middle ≡ (know (w.proc p)).middle
   pub places : (x : ℕ) → HoldsPage (know (w.proc p)).holds x → HoldsPage (know b).holds x
@@ -180,7 +180,7 @@ Finishes-keeps know w w' p answer b s g =
       middle = s.middle;
       places = s.places;
       own = s.own;
-      recorded = record_end w w' p answer b s.extends s.told (λ k. ap (λ f. f 0 k) s.ghost.map) g.recorded;
+      recorded = record_end w w' p answer b s.extends s.observed (λ k. ap (λ f. f 0 k) s.ghost.map) g.recorded;
       leads = λ x d link h. (let f : Running h.since ≡ Ended = sym h.runs ∙ change.2.at in cc);
       unretired = λ x time h o. (let f : Running h.since ≡ Ended = sym h.runs ∙ change.2.at in cc);
       passed = λ a h. (

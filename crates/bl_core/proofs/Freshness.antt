@@ -7,16 +7,16 @@ use Rattle.bl_page.specs.Machine.{Act}
 use Rattle.bl_claims.specs.Trails.{Mark, Trail}
 use Rattle.bl_claims.specs.Moments.{IsFreshBy}
 
--- a list that ends with m, parted at an element: that is m, or m stands behind it
-parted : {A : Type 0} (xs before since : List A) (m last : A) → xs ++ m ∷ [] ≡ before ++ last ∷ since → ((last ≡ m) × (since ≡ [])) ⊎ ((rest : List A) × (since ≡ rest ++ m ∷ []) × (xs ≡ before ++ last ∷ rest))
-parted [] [] since m last e = inl (cc, cc)
-parted [] (b ∷ []) since m last e = cc
-parted [] (b ∷ c ∷ before) since m last e = cc
-parted (x ∷ xs) [] since m last e = inr (xs, (let i : xs ++ m ∷ [] ≡ since = cc in sym i), (let i : x ≡ last = cc in ap (λ v. v ∷ xs) i))
-parted (x ∷ xs) (b ∷ before) since m last e =
+-- a list that ends with m, split at an element: that is m, or m stands behind it
+split : {A : Type 0} (xs before since : List A) (m last : A) → xs ++ m ∷ [] ≡ before ++ last ∷ since → ((last ≡ m) × (since ≡ [])) ⊎ ((rest : List A) × (since ≡ rest ++ m ∷ []) × (xs ≡ before ++ last ∷ rest))
+split [] [] since m last e = inl (cc, cc)
+split [] (b ∷ []) since m last e = cc
+split [] (b ∷ c ∷ before) since m last e = cc
+split (x ∷ xs) [] since m last e = inr (xs, (let i : xs ++ m ∷ [] ≡ since = cc in sym i), (let i : x ≡ last = cc in ap (λ v. v ∷ xs) i))
+split (x ∷ xs) (b ∷ before) since m last e =
     let i : xs ++ m ∷ [] ≡ before ++ last ∷ since = cc in
     let j : x ≡ b = cc in
-    elim (parted xs before since m last i) [
+    elim (split xs before since m last i) [
       | inl o ↦ inl o
       | inr o ↦ inr (o.0, o.1, (let f = o.2 in cc))
     ]
@@ -60,7 +60,7 @@ fresh_new ms m y e = record {
 
 -- what was fresh before m, and why
 pub fresh_back : (ms : Trail) (m : Mark) (y : ℕ) → m.event.act ≢ Act.Take y → IsFreshBy (ms ++ m ∷ []) y → IsFreshBy ms y × (m.event.act ≢ Act.Latch y) × ((x : ℕ) (c : Page) → x ≢ y → m.event.act ≡ Act.Put x c → ⊥)
-fresh_back ms m y no_take h = elim (parted ms h.gained.before h.gained.since m h.gained.last h.gained.split) [
+fresh_back ms m y no_take h = elim (split ms h.gained.before h.gained.since m h.gained.last h.gained.split) [
   | inl o ↦ absurd (no_take (ap (λ v. v.event.act) (sym o.0) ∙ h.by_take))
   | inr o ↦
       let rest = o.0 in

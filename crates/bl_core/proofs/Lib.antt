@@ -23,5 +23,5 @@ pub mod Moves
 pub mod Lowerings
 pub mod Fitted
 pub mod Compressions
-pub mod Partings
+pub mod Splittings
 pub mod Neighbours

@@ -87,12 +87,12 @@ record_begin w w' p b e maps g =
 
 -- p ends, with the answer that it said, or with none
 pub record_end : {P : Type 0} (w w' : World P) (p : Name) (answer : Option Reply) (b : P) → Extends w w' (silent p (End answer)) b → Answered w.trail p answer → ((k : ℕ) → w'.map 0 k ≡ w.map 0 k) → IsRecorded w → IsRecorded w'
-record_end w w' p answer b e told maps g =
+record_end w w' p answer b e observed maps g =
     let m : Mark = silent p (End answer) in
     let steps = e.steps.changes in
     let runs = e.steps.enabled.0 in
     let began : IsPhase w.trail p (Running runs.0) = rw runs.1 at (g.phases p) in
-    record_step w w' m b e (record { point = λ said h. cc; end = λ a h. (refl, (let i : a ≡ answer = cc in rw i told)) }) maps
+    record_step w w' m b e (record { point = λ said h. cc; end = λ a h. (refl, (let i : a ≡ answer = cc in rw i observed)) }) maps
     (λ q. elim (name_cases q p) [
       | inl i ↦ rw (i, steps.2.at) (began.0.0, DoesAt-push w.trail m began.0.1)
       | inr i ↦ rw (steps.2.others q i) (IsPhase-other w.trail m q (w.now.phase q) (λ v. i (sym v)) (g.phases q))

@@ -17,7 +17,7 @@ use Rattle.bl_core_tree.proofs.WalksEnd.{lone_walk}
 use Rattle.bl_core_tree.proofs.SoundPages.{sound_node, wide_page}
 use Rattle.bl_claims.specs.Moments.{IsLivePage, InMiddle, InEvening, snapshot_of, HasLaws}
 use Rattle.bl_core.specs.Worlds.{Know, World, tree_of, IsGood}
-use Rattle.bl_core.specs.Told.{TellsMiddles}
+use Rattle.bl_core.specs.Observed.{TellsMiddles}
 
 -- a page that covers keys is a leaf or an inner page
 pub tree_page : {P : Type 0} (know : P → Know) (w : World P) (x : ℕ) → IsGood know w → IsLive (w.status x) → IsTreePage (w.now.contents x)

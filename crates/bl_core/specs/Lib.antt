@@ -1,5 +1,5 @@
 pub mod Worlds
-pub mod Told
+pub mod Observed
 pub mod Blank
 pub mod Puts
 pub mod Compressions

@@ -25,7 +25,7 @@ use Rattle.bl_index_steps.specs.Runs.{IsWithin}
 use Rattle.atomic_table.specs.declared.shared.Seat.{Seat}
 use Rattle.bl_store.specs.declared.view.View.{View}
 use Rattle.bl_store.specs.Hands.{known, IsSameHand}
-use Rattle.bl_index_rule.specs.declared.known.Mine.{Mine}
+use Rattle.bl_index_rule.specs.declared.known.PassState.{PassState}
 
 abbrev OfFirst : Entry → Type 0
 OfFirst e = e.pass ≡ 0
@@ -58,7 +58,7 @@ pub pass_within : (index : Index) (pass : Pass) → IsPassOf index pass → AreW
 pass_within index pass of = subst (λ (z : Layout). AreWithin z.passes (trail pass)) of.1 pass.within
 
 -- a call of the only pass
-module _ (index : Index) (old : Pass) (h : Seat (Unit {0}) (View Mine)) (op : Op) (of : IsPassOf index old) (same : IsSameHand old.hand.seat h) (within : IsWithin h) where
+module _ (index : Index) (old : Pass) (h : Seat (Unit {0}) (View PassState)) (op : Op) (of : IsPassOf index old) (same : IsSameHand old.hand.seat h) (within : IsWithin h) where
   abbrev new : Trail
   new = (known h).trail
 

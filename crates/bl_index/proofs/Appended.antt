@@ -7,8 +7,8 @@ use Rattle.bl_page.specs.Faults.{pairs_of}
 use Rattle.bl_store.specs.declared.store.Glance.{Glance}
 use Rattle.bl_store.specs.declared.view.View.{View}
 use Rattle.bl_store.specs.Hands.{known, read_words}
-use Rattle.bl_index_rule.specs.declared.known.Mine.{Mine}
-use Rattle.bl_index_rule.specs.Told.{ends}
+use Rattle.bl_index_rule.specs.declared.known.PassState.{PassState}
+use Rattle.bl_index_rule.specs.Observed.{ends}
 use Rattle.bl_index.specs.declared.scanning.ScanFault.TheVariants.{Memory}
 use Rattle.bl_index_read.specs.LeafRows.{rows_between}
 use Rattle.bl_index_read.specs.Parts.{HasLeaf}
@@ -17,7 +17,7 @@ use Rattle.bl_index.specs.Scans.{AppendsPart, LeavesPart}
 use Rattle.bl_index_read.proofs.Listings.{part_finds}
 use Rattle.bl_index_read.proofs.Leaves.{TellsBehind, below_are}
 
-module _ (l : Layout) (pass from turns : ℕ) (old : Mine) (h h' : Seat (Unit {0}) (View Mine)) (glance : Glance) (has : HasLeaf l pass from turns old h glance) (ended : ends (known h) 0 (known h')) (to : Option ℕ) (before after : List (ℕ × ℕ)) where
+module _ (l : Layout) (pass from turns : ℕ) (old : PassState) (h h' : Seat (Unit {0}) (View PassState)) (glance : Glance) (has : HasLeaf l pass from turns old h glance) (ended : ends (known h) 0 (known h')) (to : Option ℕ) (before after : List (ℕ × ℕ)) where
   -- its rows below the end were appended
   pub part_appends : (behind : Behind) → TellsBehind to (read_words h) behind → after ≡ before ++ rows_between from to (pairs_of (read_words h)) → AppendsPart old.first l.pages pass turns from to behind before after old.trail (known h').trail
   part_appends behind tells grown = record {

@@ -32,11 +32,11 @@ use Rattle.bl_store.specs.Pages.{Owner, Released, Open, Held, Retired, Stage as 
 use Rattle.bl_store.specs.Closing.{HasEach, left_of, IsClosed}
 use Rattle.bl_store.specs.Hands.{known, IsOf, IsIdle}
 use Rattle.bl_store.specs.declared.store.Hand.{Hand}
-use Rattle.bl_index_rule.proofs.Shown.{at_below}
+use Rattle.bl_index_rule.proofs.FrameView.{at_below}
 use Rattle.bl_index.proofs.Gathered.{there, one_there, all_there}
-use Rattle.bl_index_rule.specs.declared.known.Mine.{Mine}
+use Rattle.bl_index_rule.specs.declared.known.PassState.{PassState}
 use Rattle.bl_claims.specs.Seeing.{first_map, BeginsFrom, AreWithin}
-use Rattle.bl_index_rule.specs.Fitting.{Shows, IsAnchor, IsHand, Fits}
+use Rattle.bl_index_rule.specs.Simulation.{Shows, IsAnchor, IsHand, Simulates}
 use Rattle.bl_index.specs.declared.index.Index.{Index}
 use Rattle.bl_index.specs.declared.index.Pass.{Pass}
 use Rattle.bl_index.specs.Calls.{pages_of, first_of, IsPassOf, number_of}
@@ -62,18 +62,18 @@ map_length : (pages : List (Option Page)) → length (map page_words pages) ≡ 
 map_length [] = refl
 map_length (page ∷ pages) = ap suc (map_length pages)
 
-module _ (l : Layout) (hands : List (Hand Mine)) (result : List (List ℕ)) (c : IsClosed Fits l hands result) (each : HasEach l.passes hands) where
+module _ (l : Layout) (hands : List (Hand PassState)) (result : List (List ℕ)) (c : IsClosed Simulates l hands result) (each : HasEach l.passes hands) where
   abbrev w : World Run
   w = c.kept.world
 
-  none_runs : (n since : ℕ) (d : Mine) → Stands c.pages n (Running since) d → ⊥
+  none_runs : (n since : ℕ) (d : PassState) → Stands c.pages n (Running since) d → ⊥
   none_runs n since d at =
       let low = at_below c.pages.hands n (Running since, d) at in
       let count = c.orderly.hands in
       let h = each n (omega (arith, low, count)) in
       let idle : get_elem? c.pages.hands n ≡ some (Idle, known h.1.seat) = subst (λ (z : ℕ). get_elem? c.pages.hands z ≡ some (Idle, known h.1.seat)) h.3 (c.stand h.0 h.1 h.2) in
-      let same : ◌≡◌ {A = Stands_at × Mine} (Running since, d) (Idle, known h.1.seat) = one_there c.pages.hands n (Running since, d) (Idle, known h.1.seat) at idle in
-      let stage : ◌≡◌ {A = Stands_at} (Running since) Idle = ap (λ (z : Stands_at × Mine). z.0) same in cc
+      let same : ◌≡◌ {A = Stands_at × PassState} (Running since, d) (Idle, known h.1.seat) = one_there c.pages.hands n (Running since, d) (Idle, known h.1.seat) at idle in
+      let stage : ◌≡◌ {A = Stands_at} (Running since) Idle = ap (λ (z : Stands_at × PassState). z.0) same in cc
 
   none_held : (x : ℕ) (p : Name) → w.now.owner x ≢ machine.Held p
   none_held x p e =
@@ -149,16 +149,16 @@ module _ (l : Layout) (hands : List (Hand Mine)) (result : List (List ℕ)) (c :
     pub closed_sound : AreSound pages
     closed_sound = rests_sound _ w c.kept.good pages fit are_left
 
-module _ (index : Index) (passes : List Pass) (hands : List (Hand Mine)) (of : AreHandsOf passes hands) where
+module _ (index : Index) (passes : List Pass) (hands : List (Hand PassState)) (of : AreHandsOf passes hands) where
   pub each_hand : AreAll index passes → HasEach index.tree.store.layout.passes hands
   each_hand all n lt = let has = all n lt in let a = of.all has.place has.pass has.at in (a.0, has.pass.hand, a.1, has.numbered)
 
-  pub hand_own : AreOf index passes → (k : ℕ) (hand : Hand Mine) → get_elem? hands k ≡ some hand → IsOf index.tree.store.table.shared.table_id index.tree.store.layout hand.seat × IsIdle hand.seat
+  pub hand_own : AreOf index passes → (k : ℕ) (hand : Hand PassState) → get_elem? hands k ≡ some hand → IsOf index.tree.store.table.shared.table_id index.tree.store.layout hand.seat × IsIdle hand.seat
   hand_own own k hand at =
       let h = of.only k hand at in let is = all_there (IsPassOf index) passes h.place h.pass own h.at in
-      subst (λ (z : Hand Mine). IsOf index.tree.store.table.shared.table_id index.tree.store.layout z.seat × IsIdle z.seat) h.is ((is.0, is.1), h.pass.idle)
+      subst (λ (z : Hand PassState). IsOf index.tree.store.table.shared.table_id index.tree.store.layout z.seat × IsIdle z.seat) h.is ((is.0, is.1), h.pass.idle)
 
-  module _ (result : List (List ℕ)) (c : IsClosed Fits index.tree.store.layout hands result) (own : AreOf index passes) (all : AreAll index passes) (pages : List (Option Page)) (spells : map page_words pages ≡ result) (fit : AllFit pages) where
+  module _ (result : List (List ℕ)) (c : IsClosed Simulates index.tree.store.layout hands result) (own : AreOf index passes) (all : AreAll index passes) (pages : List (Option Page)) (spells : map page_words pages ≡ result) (fit : AllFit pages) where
     knows : (k : ℕ) (pass : Pass) → get_elem? passes k ≡ some pass → IsHand c.kept.world (number_of pass) Idle (known pass.hand.seat)
     knows k pass at = let a = of.all k pass at in c.kept.hands (number_of pass) Idle (known pass.hand.seat) (c.stand a.0 pass.hand a.1)
 

@@ -7,8 +7,8 @@ use Rattle.bl_index.specs.Meetings.{Learns, Meet}
 
 -- one learned, two was told then, and neither forgot
 pub met : (first : List (Option Page)) (one two : ℕ) (old_one old_two learned new_one new_two : Trail) → Learns one two old_one old_two learned → IsSeen first learned → new_one ≡ learned → new_two ≡ learned → Meet first one two old_one old_two new_one new_two
-met first one two old_one old_two learned new_one new_two l seen kept told = record {
-  same = told ∙ sym kept;
+met first one two old_one old_two learned new_one new_two l seen kept observed = record {
+  same = observed ∙ sym kept;
   seen = subst (IsSeen first) (sym kept) seen;
   begins_one = (l.begins.0, kept ∙ l.begins.1);
   begins_two = (l.begins_theirs.0, kept ∙ l.begins_theirs.1);

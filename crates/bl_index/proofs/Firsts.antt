@@ -11,11 +11,11 @@ use Rattle.bl_page.specs.Words.{words_of}
 use Rattle.bl_store.specs.Opening.{first_pages, IsDealt}
 use Rattle.bl_store.specs.declared.view.View.{View}
 use Rattle.bl_store.specs.Frames.{share}
-use Rattle.bl_index_rule.specs.Fitting.{beginner, newcomer, Fits}
+use Rattle.bl_index_rule.specs.Simulation.{beginner, newcomer, Simulates}
 use Rattle.bl_index_rule.proofs.Bounds.{first_anchor}
 use Rattle.bl_index_rule.proofs.Starts.{first_leaf, starts}
 use Rattle.bl_store.specs.declared.store.Hand.{Hand}
-use Rattle.bl_index_rule.specs.declared.known.Mine.{Mine}
+use Rattle.bl_index_rule.specs.declared.known.PassState.{PassState}
 use Rattle.bl_claims.specs.Seeing.{IsSeen}
 use Rattle.bl_index.specs.declared.index.Index.{Index}
 use Rattle.bl_index.specs.declared.index.Pass.{Pass}
@@ -39,7 +39,7 @@ leaf_words (Leaf l) is = rw (is.0, is.1, is.2, is.3) refl
 leaf_words (Inner i) is = absurd is
 leaf_words (Dead d) is = absurd is
 
-pub opens : (many : ℕ) (contents : List (List ℕ)) → 4 ≤ many → AreFirst many contents → (passes : ℕ) → Fits (first_pages contents passes newcomer)
+pub opens : (many : ℕ) (contents : List (List ℕ)) → 4 ≤ many → AreFirst many contents → (passes : ℕ) → Simulates (first_pages contents passes newcomer)
 opens many contents four f passes =
     let count = f.count in
     let zero_at = there contents 0 (omega arith) in
@@ -59,15 +59,15 @@ opens many contents four f passes =
     rest (suc (suc x)) two at = at.1 ∙ ap some (f.each (suc (suc x)) at.0 at.1)
 
 -- the hands that are dealt know what a pass knows at first
-pub new_hands : (table : TableId) (l : Layout) (first : List (Option Page)) (known : Mine) (passes : ℕ) (hands : List (Hand Mine)) → known ≡ beginner first → IsDealt table l known passes hands → AreNew table l first 0 hands
-new_hands table l first known passes hands is h j hand at = let same : j ≡ 0 + j = omega arith in subst (λ (z : ℕ). IsNewHand table l first z hand) same (subst (λ (z : Mine). (hand.number ≡ j) × (hand.seat.table_id ≡ table) × (hand.seat.me.0 ≡ share l z j (j + 1))) is (h.each j hand at))
+pub new_hands : (table : TableId) (l : Layout) (first : List (Option Page)) (known : PassState) (passes : ℕ) (hands : List (Hand PassState)) → known ≡ beginner first → IsDealt table l known passes hands → AreNew table l first 0 hands
+new_hands table l first known passes hands is h j hand at = let same : j ≡ 0 + j = omega arith in subst (λ (z : ℕ). IsNewHand table l first z hand) same (subst (λ (z : PassState). (hand.number ≡ j) × (hand.seat.table_id ≡ table) × (hand.seat.me.0 ≡ share l z j (j + 1))) is (h.each j hand at))
 
-pub is_begun : (first image : List (Option Page)) (pages among : ℕ) (index : Index) (hands : List (Hand Mine)) (passes : List Pass) → index.tree.store.layout.pages ≡ pages → index.tree.store.layout.passes ≡ among → length hands ≡ among → ArePasses index.tree.store.table.shared.table_id index.tree.store.layout first (length hands) passes → first_of index ≡ first → first ≡ image → IsSeen image [] → IsBegun image pages among index passes
+pub is_begun : (first image : List (Option Page)) (pages among : ℕ) (index : Index) (hands : List (Hand PassState)) (passes : List Pass) → index.tree.store.layout.pages ≡ pages → index.tree.store.layout.passes ≡ among → length hands ≡ among → ArePasses index.tree.store.table.shared.table_id index.tree.store.layout first (length hands) passes → first_of index ≡ first → first ≡ image → IsSeen image [] → IsBegun image pages among index passes
 is_begun first image pages among index hands passes pages_are passes_are many are begins same seen = record {
   pages = pages_are;
   passes_are = passes_are;
   count = are.count ∙ many;
-  each = λ n pass at. (let is = are.each n pass at in ((is.1, ap (λ (v : View Mine). v.layout) is.2, ap (λ (v : View Mine). v.known.first) is.2 ∙ sym begins), is.0, ap (λ (v : View Mine). v.known.trail) is.2));
+  each = λ n pass at. (let is = are.each n pass at in ((is.1, ap (λ (v : View PassState). v.layout) is.2, ap (λ (v : View PassState). v.known.first) is.2 ∙ sym begins), is.0, ap (λ (v : View PassState). v.known.trail) is.2));
   first = begins ∙ same;
   seen = subst (λ (z : List (Option Page)). IsSeen z []) (sym (begins ∙ same)) seen;
 }

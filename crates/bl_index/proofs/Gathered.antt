@@ -5,9 +5,9 @@ use Rattle.std.proofs.lemmas.List.{length-append}
 use mathlib.Core.Option.{some, some-injective}
 use lib.ListN.{get_elem?}
 use Rattle.atomic_table.proofs.Lists.{at_longer, at_last}
-use Rattle.bl_index_rule.proofs.Shown.{at_below}
+use Rattle.bl_index_rule.proofs.FrameView.{at_below}
 use Rattle.bl_store.specs.declared.store.Hand.{Hand}
-use Rattle.bl_index_rule.specs.declared.known.Mine.{Mine}
+use Rattle.bl_index_rule.specs.declared.known.PassState.{PassState}
 use Rattle.bl_index.specs.declared.index.Pass.{Pass}
 use Rattle.bl_index.specs.Calls.{number_of}
 use Rattle.bl_index.specs.Closed.{HasPass, IsHandOf, IsAmong}
@@ -60,19 +60,19 @@ module _ (all rest : List Pass) (last : Pass) where
   pub last_there : (passes : List Pass) → passes ≡ rest ++ last ∷ [] → ((k : ℕ) (p : Pass) → get_elem? passes k ≡ some p → get_elem? all k ≡ some p) → get_elem? all (length rest) ≡ some last
   last_there passes is there = there (length rest) last (ap (λ (z : List Pass). get_elem? z (length rest)) is ∙ at_last rest last (length rest) refl)
 
-  among_more : (hands new : List (Hand Mine)) (hand : Hand Mine) → new ≡ hands ++ last.hand ∷ [] → IsAmong hands hand → IsAmong new hand
-  among_more hands new hand is a = (a.0, ap (λ (z : List (Hand Mine)). get_elem? z a.0) is ∙ at_longer hands (last.hand ∷ []) a.0 hand a.1)
+  among_more : (hands new : List (Hand PassState)) (hand : Hand PassState) → new ≡ hands ++ last.hand ∷ [] → IsAmong hands hand → IsAmong new hand
+  among_more hands new hand is a = (a.0, ap (λ (z : List (Hand PassState)). get_elem? z a.0) is ∙ at_longer hands (last.hand ∷ []) a.0 hand a.1)
 
-  pub taken_more : (passes : List Pass) (hands new : List (Hand Mine)) → passes ≡ rest ++ last ∷ [] → new ≡ hands ++ last.hand ∷ [] → get_elem? all (length rest) ≡ some last → ((k : ℕ) (p : Pass) → length passes ≤ k → get_elem? all k ≡ some p → IsAmong hands p.hand) → (k : ℕ) (p : Pass) → length rest ≤ k → get_elem? all k ≡ some p → IsAmong new p.hand
+  pub taken_more : (passes : List Pass) (hands new : List (Hand PassState)) → passes ≡ rest ++ last ∷ [] → new ≡ hands ++ last.hand ∷ [] → get_elem? all (length rest) ≡ some last → ((k : ℕ) (p : Pass) → length passes ≤ k → get_elem? all k ≡ some p → IsAmong hands p.hand) → (k : ℕ) (p : Pass) → length rest ≤ k → get_elem? all k ≡ some p → IsAmong new p.hand
   taken_more passes hands new is pushed here old k p low at = elim (cases_eq k (length rest)) [
     | inl same ↦ subst (λ (z : Pass). IsAmong new z.hand) (one_there all (length rest) last p here (subst (λ (z : ℕ). get_elem? all z ≡ some p) same at))
-        (length hands, ap (λ (z : List (Hand Mine)). get_elem? z (length hands)) pushed ∙ at_last hands last.hand (length hands) refl)
+        (length hands, ap (λ (z : List (Hand PassState)). get_elem? z (length hands)) pushed ∙ at_last hands last.hand (length hands) refl)
     | inr ne ↦ among_more hands new p.hand pushed (old k p (let long : length passes ≡ length rest + 1 = ap length is ∙ length-append rest (last ∷ []) in omega (arith, low, ne, long)) at)
   ]
 
-  pub only_more : (hands new : List (Hand Mine)) → new ≡ hands ++ last.hand ∷ [] → get_elem? all (length rest) ≡ some last → ((k : ℕ) (hand : Hand Mine) → get_elem? hands k ≡ some hand → IsHandOf all hand) → (k : ℕ) (hand : Hand Mine) → get_elem? new k ≡ some hand → IsHandOf all hand
+  pub only_more : (hands new : List (Hand PassState)) → new ≡ hands ++ last.hand ∷ [] → get_elem? all (length rest) ≡ some last → ((k : ℕ) (hand : Hand PassState) → get_elem? hands k ≡ some hand → IsHandOf all hand) → (k : ℕ) (hand : Hand PassState) → get_elem? new k ≡ some hand → IsHandOf all hand
   only_more hands new pushed here old k hand at =
-      let at' : get_elem? (hands ++ last.hand ∷ []) k ≡ some hand = ap (λ (z : List (Hand Mine)). get_elem? z k) (sym pushed) ∙ at in
+      let at' : get_elem? (hands ++ last.hand ∷ []) k ≡ some hand = ap (λ (z : List (Hand PassState)). get_elem? z k) (sym pushed) ∙ at in
       let low = at_below (hands ++ last.hand ∷ []) k hand at' in let long = length-append hands (last.hand ∷ []) in
       elim (cases_lt k (length hands)) [
         | inl lt ↦ old k hand (before hands k lt at')
@@ -81,7 +81,7 @@ module _ (all rest : List Pass) (last : Pass) where
             record { place = length rest; pass = last; at = here; is = one_there (hands ++ last.hand ∷ []) k last.hand hand (ap (λ (z : ℕ). get_elem? (hands ++ last.hand ∷ []) z) same ∙ at_last hands last.hand (length hands) refl) at' }
       ]
     where
-      before : (l : List (Hand Mine)) (j : ℕ) → j < length l → get_elem? (l ++ last.hand ∷ []) j ≡ some hand → get_elem? l j ≡ some hand
+      before : (l : List (Hand PassState)) (j : ℕ) → j < length l → get_elem? (l ++ last.hand ∷ []) j ≡ some hand → get_elem? l j ≡ some hand
       before [] j lt e = absurd (omega arith)
       before (x ∷ xs) zero lt e = e
       before (x ∷ xs) (suc j) lt e = before xs j (omega arith) e

@@ -8,7 +8,7 @@ use Rattle.atomic_table.specs.Seated.{TableId}
 use Rattle.bl_layout.specs.declared.layout.Layout.{Layout}
 use Rattle.bl_page.specs.declared.page.Page.{Page}
 use Rattle.bl_store.specs.declared.store.Hand.{Hand}
-use Rattle.bl_index_rule.specs.declared.known.Mine.{Mine}
+use Rattle.bl_index_rule.specs.declared.known.PassState.{PassState}
 use Rattle.bl_index.specs.declared.index.Pass.{Pass}
 use Rattle.bl_index.specs.Opened.{IsFirst, AreFirst, IsNewHand, AreNew, ArePasses}
 
@@ -28,13 +28,13 @@ firsts_push many contents new words f is e = record {
 }
 
 module _ (table : TableId) (layout : Layout) (first : List (Option Page)) where
-  pub rest_new : (least : ℕ) (hands : List (Hand Mine)) → AreNew table layout first least hands → AreNew table layout first (least + 1) (remove hands 0)
+  pub rest_new : (least : ℕ) (hands : List (Hand PassState)) → AreNew table layout first least hands → AreNew table layout first (least + 1) (remove hands 0)
   rest_new least [] new j hand at = absurd (some-ne-none hand (sym at))
   rest_new least (h ∷ hands) new j hand at = (let is = new (suc j) hand at in let same : least + suc j ≡ least + 1 + j = omega arith in subst (λ (z : ℕ). IsNewHand table layout first z hand) same is)
 
-  pub first_new : (least : ℕ) (hands : List (Hand Mine)) (hand : Hand Mine) → 0 < length hands → AreNew table layout first least hands → hand ≡ slice_index_or hands 0 hand → IsNewHand table layout first least hand
+  pub first_new : (least : ℕ) (hands : List (Hand PassState)) (hand : Hand PassState) → 0 < length hands → AreNew table layout first least hands → hand ≡ slice_index_or hands 0 hand → IsNewHand table layout first least hand
   first_new least [] hand many new e = absurd (omega arith)
-  first_new least (h ∷ hands) hand many new e = (let is = new 0 h refl in let same : least + 0 ≡ least = omega arith in subst (λ (z : ℕ × Hand Mine). IsNewHand table layout first z.0 z.1) (λ i. (same i, sym e i)) is)
+  first_new least (h ∷ hands) hand many new e = (let is = new 0 h refl in let same : least + 0 ≡ least = omega arith in subst (λ (z : ℕ × Hand PassState). IsNewHand table layout first z.0 z.1) (λ i. (same i, sym e i)) is)
 
   pub passes_push : (many : ℕ) (passes new : List Pass) (pass : Pass) → ArePasses table layout first many passes → IsNewHand table layout first many pass.hand → new ≡ passes ++ pass ∷ [] → ArePasses table layout first (many + 1) new
   passes_push many passes new pass f is e = record {

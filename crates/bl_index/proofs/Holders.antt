@@ -5,8 +5,8 @@ use Rattle.bl_page.specs.declared.page.Page.{Page}
 use Rattle.bl_core.specs.Worlds.{Hold, Stage, Know, HoldsPage, IsStage}
 use Rattle.bl_proc_base.specs.declared.approaching.Approach.{Approach}
 use Rattle.bl_proc_base.specs.declared.approaching.Approach.TheVariants as approach
-use Rattle.bl_proc_base.specs.declared.changing.Change.{Change}
-use Rattle.bl_proc_base.specs.declared.changing.Change.TheVariants as change
+use Rattle.bl_proc_base.specs.declared.editing.Edit.{Edit}
+use Rattle.bl_proc_base.specs.declared.editing.Edit.TheVariants as edit
 use Rattle.bl_proc_base.specs.declared.growing.Growth.{Growth}
 use Rattle.bl_proc_base.specs.declared.growing.Growth.TheVariants as growth
 use Rattle.bl_proc_compress.specs.declared.squeezing.CompressStage.{CompressStage}
@@ -30,7 +30,7 @@ use Rattle.bl_proc.specs.declared.lowering.LowerStage.TheVariants as lower
 use Rattle.bl_proc_invariant.specs.Lowering.{know_lowering}
 use Rattle.bl_proc.specs.declared.kinds.Proc.{Proc}
 use Rattle.bl_proc.specs.declared.kinds.Proc.TheVariants as proc
-use Rattle.bl_proc_invariant.specs.Tables.{Aim, know_approach, know_change}
+use Rattle.bl_proc_invariant.specs.Tables.{Aim, know_approach, know_edit}
 use Rattle.bl_proc_invariant.specs.Compressing.{know_squeeze}
 use Rattle.bl_proc_invariant.specs.Knowing.{Run, know, know_of, know_find, know_part, know_insert, know_delete, know_growth, know_post, know_compress, know_reclaim, know_lower}
 use Rattle.bl_proc_compress.specs.declared.compressing.Compression.{Compression}
@@ -48,13 +48,13 @@ approach_holds level key (approach.Latched x) = refl
 approach_holds level key (approach.Leaving x None) = refl
 approach_holds level key (approach.Leaving x (Some y)) = refl
 
-change_holds : (aim : Aim) (got : ℕ → Page) (c : Change) → (know_change aim got c).stage ≡ Stage.Busy
-change_holds aim got (change.Putting x page) = refl
-change_holds aim got (change.Taking full) = refl
-change_holds aim got (change.PuttingNew p) = refl
-change_holds aim got (change.PuttingOld p) = refl
-change_holds aim got (change.OpeningNew x new separator) = refl
-change_holds aim got (change.Opening x o) = refl
+edit_holds : (aim : Aim) (got : ℕ → Page) (c : Edit) → (know_edit aim got c).stage ≡ Stage.Busy
+edit_holds aim got (edit.Putting x page) = refl
+edit_holds aim got (edit.Taking full) = refl
+edit_holds aim got (edit.PuttingNew p) = refl
+edit_holds aim got (edit.PuttingOld p) = refl
+edit_holds aim got (edit.OpeningNew x new separator) = refl
+edit_holds aim got (edit.Opening x o) = refl
 
 growth_holds : (level key : ℕ) (got : ℕ → Page) (g : Growth) → (know_growth level key got g).stage ≡ Stage.Busy
 growth_holds level key got growth.Latching = refl
@@ -74,10 +74,10 @@ squeeze_holds level key got (compression.LatchedRight f c) = refl
 squeeze_holds level key got (compression.PuttingFirst p) = refl
 squeeze_holds level key got (compression.PuttingParent p) = refl
 squeeze_holds level key got (compression.PuttingLast p) = refl
-squeeze_holds level key got (compression.Retiring t fate) = refl
-squeeze_holds level key got (compression.OpeningRight t fate) = refl
-squeeze_holds level key got (compression.OpeningLeft t fate) = refl
-squeeze_holds level key got (compression.OpeningParent x fate) = refl
+squeeze_holds level key got (compression.Retiring t decision) = refl
+squeeze_holds level key got (compression.OpeningRight t decision) = refl
+squeeze_holds level key got (compression.OpeningLeft t decision) = refl
+squeeze_holds level key got (compression.OpeningParent x decision) = refl
 
 find_holds : (key : ℕ) (a : FindStage) → MayHold (know_find key a)
 find_holds key find.New = inr refl
@@ -97,7 +97,7 @@ insert_holds : (key value : ℕ) (got : ℕ → Page) (a : InsertStage) → MayH
 insert_holds key value got insert.New = inr refl
 insert_holds key value got (insert.Coming a) = inl (approach_holds 0 key a)
 insert_holds key value got (insert.Present x there) = inl refl
-insert_holds key value got (insert.Changing c) = inl (change_holds _ got c)
+insert_holds key value got (insert.Editing c) = inl (edit_holds _ got c)
 insert_holds key value got (insert.Ending r) = inr refl
 insert_holds key value got (insert.Over r) = inr refl
 
@@ -105,7 +105,7 @@ delete_holds : (key : ℕ) (got : ℕ → Page) (a : DeleteStage) → MayHold (k
 delete_holds key got delete.New = inr refl
 delete_holds key got (delete.Coming a) = inl (approach_holds 0 key a)
 delete_holds key got (delete.Absent x) = inl refl
-delete_holds key got (delete.Changing removed c) = inl (change_holds _ got c)
+delete_holds key got (delete.Editing removed c) = inl (edit_holds _ got c)
 delete_holds key got (delete.Ending r) = inr refl
 delete_holds key got (delete.Over r) = inr refl
 
@@ -114,7 +114,7 @@ post_holds level key got child post.New = inr refl
 post_holds level key got child (post.Coming a) = inl (approach_holds level key a)
 post_holds level key got child (post.Growing g) = inl (growth_holds level key got g)
 post_holds level key got child (post.Walking w) = inl refl
-post_holds level key got child (post.Changing c) = inl (change_holds _ got c)
+post_holds level key got child (post.Editing c) = inl (edit_holds _ got c)
 post_holds level key got child (post.Staying x r) = inl refl
 post_holds level key got child (post.Ending r) = inr refl
 post_holds level key got child (post.Over r) = inr refl

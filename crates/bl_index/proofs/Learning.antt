@@ -15,14 +15,14 @@ use Rattle.bl_core.proofs.Frames.{Each-map}
 use Rattle.bl_core.proofs.Pushes.{marks_of-other}
 use Rattle.bl_proc_invariant.specs.Knowing.{Run}
 use Rattle.bl_layout.specs.declared.layout.Layout.{Layout}
-use Rattle.bl_store.specs.Pages.{Stage, Idle, Running, Pages, Stands, told, Meets}
-use Rattle.bl_index_rule.specs.declared.known.Mine.{Mine}
+use Rattle.bl_store.specs.Pages.{Stage, Idle, Running, Pages, Stands, observed, Meets}
+use Rattle.bl_index_rule.specs.declared.known.PassState.{PassState}
 use Rattle.bl_claims.specs.Seeing.{IsSeen, AreWithin, AreElse, own, GoesOnFrom, name}
-use Rattle.bl_index_rule.specs.Fitting.{AreUpTo, IsAtStage, IsHand, IsRun, Fits}
+use Rattle.bl_index_rule.specs.Simulation.{AreUpTo, IsAtStage, IsHand, IsRun, Simulates}
 use Rattle.bl_index_rule.proofs.Entries.{own-other}
 use Rattle.bl_index_rule.proofs.Marks.{each_append}
 use Rattle.bl_index_rule.proofs.Sights.{world_seen}
-use Rattle.bl_index_rule.proofs.Shown.{same_owner, set_there}
+use Rattle.bl_index_rule.proofs.FrameView.{same_owner, set_there}
 use Rattle.bl_index_rule.proofs.Runners.{one_hand}
 use Rattle.bl_index.specs.Meetings.{IsStill, learned, heard}
 
@@ -50,23 +50,23 @@ up_to_more pass number old rest up other = each_append _ old rest up (Each-map _
 
 -- ---- one hand knows more
 
-module _ (s : Pages Mine) (f : Fits s) (n : ℕ) (st : Stage) (d : Mine) (at : Stands s n st d) (d' : Mine) (number : d'.number ≡ d.number) (passes : d'.passes ≡ d.passes) (first : d'.first ≡ d.first) (hand : IsHand f.world n st d') where
-  abbrev after : List (Stage × Mine)
+module _ (s : Pages PassState) (f : Simulates s) (n : ℕ) (st : Stage) (d : PassState) (at : Stands s n st d) (d' : PassState) (number : d'.number ≡ d.number) (passes : d'.passes ≡ d.passes) (first : d'.first ≡ d.first) (hand : IsHand f.world n st d') where
+  abbrev after : List (Stage × PassState)
   after = set s.hands n (st, d')
 
   runs_in : (p : Name) (since : ℕ) → IsRun s.hands p since → IsRun after p since
   runs_in p since r = elim (cases_eq p.pass n) [
     | inl e ↦
-        let one : ◌≡◌ {A = Stage × Mine} (st, d) (Running since, r.0) = one_hand s.hands n (st, d) (Running since, r.0) at (ap (get_elem? s.hands) (sym e) ∙ r.1) in
+        let one : ◌≡◌ {A = Stage × PassState} (st, d) (Running since, r.0) = one_hand s.hands n (st, d) (Running since, r.0) at (ap (get_elem? s.hands) (sym e) ∙ r.1) in
         let here : get_elem? after n ≡ some (st, d') = set_there s.hands n (st, d) (st, d') at in (
           d',
-          ap (get_elem? after) e ∙ (here ∙ ap (λ (z : Stage × Mine). some (z.0, d')) one),
-          r.2 ∙ (ap (λ (z : Stage × Mine). z.1.number) (sym one) ∙ sym number),
+          ap (get_elem? after) e ∙ (here ∙ ap (λ (z : Stage × PassState). some (z.0, d')) one),
+          r.2 ∙ (ap (λ (z : Stage × PassState). z.1.number) (sym one) ∙ sym number),
         )
     | inr ne ↦ (r.0, set_else s.hands n p.pass (st, d') ne ∙ r.1, r.2)
   ]
 
-  pub knows_more : Fits (told s n st d')
+  pub knows_more : Simulates (observed s n st d')
   knows_more = record {
     world = f.world;
     good = f.good;
@@ -80,24 +80,24 @@ module _ (s : Pages Mine) (f : Fits s) (n : ℕ) (st : Stage) (d : Mine) (at : S
     pages = f.pages;
     owners = λ x o e. f.owners x o e ∙ sym (same_owner s.hands n (st, d) (st, d') o at number);
     hands = λ k sg g at_k. ⊎_elim
-        (λ (z : (k ≡ n) × ((st, d') ≡ (sg, g))). subst (λ (u : ℕ × (Stage × Mine)). IsHand f.world u.0 u.1.0 u.1.1) (λ i. (sym z.0 i, z.1 i)) hand)
+        (λ (z : (k ≡ n) × ((st, d') ≡ (sg, g))). subst (λ (u : ℕ × (Stage × PassState)). IsHand f.world u.0 u.1.0 u.1.1) (λ i. (sym z.0 i, z.1 i)) hand)
         (λ (z : (k ≢ n) × (get_elem? s.hands k ≡ some (sg, g))). f.hands k sg g z.1)
         (at_set s.hands n k (st, d') (sg, g) at_k);
     within = subst (λ (z : ℕ). AreWithin z f.world.trail) (sym (length-set s.hands n (st, d'))) f.within;
     counts = λ k sg g at_k begun. ⊎_elim
-        (λ (z : (k ≡ n) × ((st, d') ≡ (sg, g))). let same : d' ≡ g = ap (λ (u : Stage × Mine). u.1) z.1 in
-        ap (λ (u : Mine). u.passes) (sym same) ∙ (passes ∙ (f.counts n st d at (λ none. begun (ap (λ (u : Mine). u.number) (sym same) ∙ (number ∙ none))) ∙ sym (length-set s.hands n (st, d')))))
+        (λ (z : (k ≡ n) × ((st, d') ≡ (sg, g))). let same : d' ≡ g = ap (λ (u : Stage × PassState). u.1) z.1 in
+        ap (λ (u : PassState). u.passes) (sym same) ∙ (passes ∙ (f.counts n st d at (λ none. begun (ap (λ (u : PassState). u.number) (sym same) ∙ (number ∙ none))) ∙ sym (length-set s.hands n (st, d')))))
         (λ (z : (k ≢ n) × (get_elem? s.hands k ≡ some (sg, g))). f.counts k sg g z.1 begun ∙ sym (length-set s.hands n (st, d')))
         (at_set s.hands n k (st, d') (sg, g) at_k);
     firsts = λ k sg g at_k. ⊎_elim
-        (λ (z : (k ≡ n) × ((st, d') ≡ (sg, g))). ap (λ (u : Stage × Mine). u.1.first) (sym z.1) ∙ (first ∙ f.firsts n st d at))
+        (λ (z : (k ≡ n) × ((st, d') ≡ (sg, g))). ap (λ (u : Stage × PassState). u.1.first) (sym z.1) ∙ (first ∙ f.firsts n st d at))
         (λ (z : (k ≢ n) × (get_elem? s.hands k ≡ some (sg, g))). f.firsts k sg g z.1)
         (at_set s.hands n k (st, d') (sg, g) at_k);
     busy = λ p since runs. runs_in p since (f.busy p since runs);
   }
 
 -- a hand that knows the trail up to a place behind which no event is of its pass
-module _ (w : World Run) (n : ℕ) (d : Mine) (trail : Trail) (more : Trail) (is : trail ≡ d.trail ++ more) (rest : Trail) (all : w.trail ≡ trail ++ rest) (other : AreElse n more) (behind : AreElse n rest) where
+module _ (w : World Run) (n : ℕ) (d : PassState) (trail : Trail) (more : Trail) (is : trail ≡ d.trail ++ more) (rest : Trail) (all : w.trail ≡ trail ++ rest) (other : AreElse n more) (behind : AreElse n rest) where
   stage_same : (st : Stage) → IsAtStage w n st d → IsAtStage w n st (record d { trail = trail })
   stage_same Idle h = h
   stage_same (Running since) h = h
@@ -114,12 +114,12 @@ module _ (w : World Run) (n : ℕ) (d : Mine) (trail : Trail) (more : Trail) (is
 
 -- ---- it learns all that has happened
 
-pub learns_all : (l : Layout) (n m : ℕ) (d e : Mine) → Meets Fits l n d m e (learned n m l.passes)
+pub learns_all : (l : Layout) (n m : ℕ) (d e : PassState) → Meets Simulates l n d m e (learned n m l.passes)
 learns_all l n m d e s st f o at at_m ne =
     let w = f.world in let h = f.hands n st d at in let k = f.hands m Idle e at_m in
     let mine : w.trail ≡ d.trail ++ h.begins.0 = h.begins.1 in
     let theirs : w.trail ≡ e.trail ++ k.begins.0 = k.begins.1 in
-    let d' : Mine = record d { trail = w.trail } in (
+    let d' : PassState = record d { trail = w.trail } in (
       d',
       knows_more s f n st d at d' refl refl refl (hand_more w n d w.trail h.begins.0 mine [] (sym (append-nil w.trail)) h.begins.2 tt st h),
       record {
@@ -140,13 +140,13 @@ learns_all l n m d e s st f o at at_m ne =
 
 -- ---- it is told what another knows
 
-pub hears_all : (l : Layout) (n m : ℕ) (d e : Mine) → GoesOnFrom d.trail e.trail → Meets Fits l n d m e (heard n)
+pub hears_all : (l : Layout) (n m : ℕ) (d e : PassState) → GoesOnFrom d.trail e.trail → Meets Simulates l n d m e (heard n)
 hears_all l n m d e on s st f o at at_m ne =
     let w = f.world in let h = f.hands n st d at in let k = f.hands m Idle e at_m in let more : Trail = on.0 in
     let rest : h.begins.0 ≡ more ++ k.begins.0 = append_cancel_left d.trail h.begins.0 (more ++ k.begins.0)
     (sym h.begins.1 ∙ (k.begins.1 ∙ (ap (λ (z : Trail). z ++ k.begins.0) on.1 ∙ append_assoc d.trail more k.begins.0))) in
     let parts = each_parts _ more k.begins.0 (subst (AreElse n) rest h.begins.2) in
-    let d' : Mine = record d { trail = e.trail } in (
+    let d' : PassState = record d { trail = e.trail } in (
       d',
       knows_more s f n st d at d' refl refl refl (hand_more w n d e.trail more on.1 k.begins.0 k.begins.1 parts.0 parts.1 st h),
       record {

@@ -20,7 +20,7 @@ use Rattle.bl_proc.specs.Lowers.{lower_next_in, lower_answer_in, lower_answer, L
 use Rattle.bl_proc.specs.Processes.{next_of, Takes}
 use Rattle.bl_proc_invariant.specs.Knowing.{know_of, know_lower}
 use Rattle.bl_proc_invariant.proofs.LoweringLogs.{stage_means}
-use Rattle.bl_index_rule.specs.declared.known.Mine.{Mine}
+use Rattle.bl_index_rule.specs.declared.known.PassState.{PassState}
 use Rattle.bl_index.specs.Calls.{LowersTree}
 use Rattle.bl_index_steps.specs.Runs.{IsDone}
 use Rattle.bl_index.specs.Kinds.{IsLowerAnswer}
@@ -61,12 +61,12 @@ sinking : (before : Proc) (q : Lower) → next_of before ≡ act.End → Takes b
 sinking (proc.Lower p) q e t = record { old = p; before_is = refl; at_end = e; goes = t }
 sinking other q e t = absurd t
 
-pub lower_has_answer : (pass : ℕ) (old e : Mine) (first : Proc) (q : Lower) → IsDone pass old e first (proc.Lower q) → (what : Option Answer) → what ≡ lower_answer q → IsLowerAnswer what
+pub lower_has_answer : (pass : ℕ) (old e : PassState) (first : Proc) (q : Lower) → IsDone pass old e first (proc.Lower q) → (what : Option Answer) → what ≡ lower_answer q → IsLowerAnswer what
 lower_has_answer pass old e first q d what a =
     let p = sinking d.before q d.at_end d.takes in
     subst IsLowerAnswer (sym a) (answers_at_end p.old.stage q.stage p.at_end p.goes)
 
-pub lower_answered : (from : List (Option Page)) (pass : ℕ) (old e : Mine) (first : Proc) (q : Lower) (what : Lowered) → IsDone pass old e first (proc.Lower q) → old.first ≡ from → lower_answer q ≡ Some (answer.Lower what) → LowersTree from pass what old.trail e.trail
+pub lower_answered : (from : List (Option Page)) (pass : ℕ) (old e : PassState) (first : Proc) (q : Lower) (what : Lowered) → IsDone pass old e first (proc.Lower q) → old.first ≡ from → lower_answer q ≡ Some (answer.Lower what) → LowersTree from pass what old.trail e.trail
 lower_answered from pass old e first q what d begins a =
     let p = sinking d.before q d.at_end d.takes in
     let marks : Trail = marks_of (name pass (old.number + 1)) e.trail in

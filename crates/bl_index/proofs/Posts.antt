@@ -16,7 +16,7 @@ use Rattle.bl_proc_meanings.specs.Answers.{MeansPosted, MeansHint}
 use Rattle.bl_proc_invariant.specs.Knowing.{know_of, know_post}
 use Rattle.bl_proc_invariant.proofs.Answered.{stage_means, stage_hints}
 use Rattle.bl_proc_unique.specs.Frames.{work_of}
-use Rattle.bl_index_rule.specs.declared.known.Mine.{Mine}
+use Rattle.bl_index_rule.specs.declared.known.PassState.{PassState}
 use Rattle.bl_claims.specs.Seeing.{name}
 use Rattle.bl_index.specs.Calls.{Posts}
 use Rattle.bl_index_steps.specs.Answered.{InCall}
@@ -31,12 +31,12 @@ silent_at_end level key got child post.New e = cc
 silent_at_end level key got child (post.Coming a) e = absurd (not_end_way a e)
 silent_at_end level key got child (post.Growing g) e = absurd (not_end_growth g e)
 silent_at_end level key got child (post.Walking w) e = cc
-silent_at_end level key got child (post.Changing c) e = absurd (not_end c e)
+silent_at_end level key got child (post.Editing c) e = absurd (not_end c e)
 silent_at_end level key got child (post.Staying x r) e = cc
 silent_at_end level key got child (post.Ending r) e = refl
 silent_at_end level key got child (post.Over r) e = refl
 
-pub post_answered : (from : List (Option Page)) (pass : ℕ) (old e : Mine) (first : Proc) (q : Post) (level key : ℕ) (what : Posted) (next : Option Hint) → IsDone pass old e first (proc.Post q) → old.first ≡ from → work_of first ≡ Some (level, key) → post_answer q ≡ Some (answer.Post what next) → Posts from pass level key what next old.trail e.trail
+pub post_answered : (from : List (Option Page)) (pass : ℕ) (old e : PassState) (first : Proc) (q : Post) (level key : ℕ) (what : Posted) (next : Option Hint) → IsDone pass old e first (proc.Post q) → old.first ≡ from → work_of first ≡ Some (level, key) → post_answer q ≡ Some (answer.Post what next) → Posts from pass level key what next old.trail e.trail
 post_answered from pass old e first q level key what next d begins is a =
     let p = posting d.before q level key (d.work ∙ is) d.at_end d.takes in
     let marks : Trail = marks_of (name pass (old.number + 1)) e.trail in
@@ -47,7 +47,7 @@ post_answered from pass old e first q level key what next d begins is a =
       hint = subst (λ (z : ℕ × ℕ). MeansHint z.0 z.1 what next marks) (λ i. (p.level_is i, p.key_is i)) (stage_hints q.level q.key q.stage what next marks a d.log);
     }
 
-pub post_in_call : (from : List (Option Page)) (pass : ℕ) (old e : Mine) (first : Proc) (q : Post) (level key : ℕ) (IsSo : Trail → Type 0) → IsDone pass old e first (proc.Post q) → old.first ≡ from → work_of first ≡ Some (level, key) → IsSo (own_marks e) → InCall pass None old.trail e.trail IsSo
+pub post_in_call : (from : List (Option Page)) (pass : ℕ) (old e : PassState) (first : Proc) (q : Post) (level key : ℕ) (IsSo : Trail → Type 0) → IsDone pass old e first (proc.Post q) → old.first ≡ from → work_of first ≡ Some (level, key) → IsSo (own_marks e) → InCall pass None old.trail e.trail IsSo
 post_in_call from pass old e first q level key IsSo d begins is so =
     let p = posting d.before q level key (d.work ∙ is) d.at_end d.takes in
     let adds = quiet_adds from pass old e first (proc.Post q) (proc.Post p.old) d begins p.before_is refl (λ r h. ap (λ (z : Proc). (know_of r.got r.child r.time z).said) h ∙ silent_at_end p.old.level p.old.key r.got r.child p.old.stage p.at_end) in

@@ -27,7 +27,7 @@ use Rattle.bl_proc_meanings.specs.Families.{LatchesBeside}
 use Rattle.bl_proc_unique.specs.Frames.{work_of}
 use Rattle.bl_proc_unique.specs.Retirements.{IsPutDone}
 use Rattle.bl_proc_unique.proofs.Retirements.{put_done}
-use Rattle.bl_index_rule.specs.declared.known.Mine.{Mine}
+use Rattle.bl_index_rule.specs.declared.known.PassState.{PassState}
 use Rattle.bl_claims.specs.Seeing.{name}
 use Rattle.bl_index.specs.Calls.{Compresses}
 use Rattle.bl_index_steps.specs.Runs.{IsDone}
@@ -46,10 +46,10 @@ not_end_compression (LatchedRight f c) e = cc
 not_end_compression (PuttingFirst p) e = not_end_put (put_of p.gains p) (put_done p.gains p) e
 not_end_compression (PuttingParent p) e = cc
 not_end_compression (PuttingLast p) e = not_end_put (put_of (other p.gains) p) (put_done (other p.gains) p) e
-not_end_compression (Retiring at fate) e = cc
-not_end_compression (OpeningRight at fate) e = cc
-not_end_compression (OpeningLeft at fate) e = cc
-not_end_compression (OpeningParent x fate) e = cc
+not_end_compression (Retiring at decision) e = cc
+not_end_compression (OpeningRight at decision) e = cc
+not_end_compression (OpeningLeft at decision) e = cc
+not_end_compression (OpeningParent x decision) e = cc
 
 silent_at_end : (level key : ℕ) (got : ℕ → Page) (a : CompressStage) → compress_next_in a ≡ act.End → (know_compress level key got a).said ≡ None
 silent_at_end level key got compress.New e = cc
@@ -90,12 +90,12 @@ pressing : (before : Proc) (q : Compress) (level key : ℕ) → work_of before �
 pressing (proc.Compress p) q level key is e t = record { old = p; before_is = refl; level_is = t.0 ∙ first_of is; key_is = t.1 ∙ second_of is; at_end = e; goes = t.2 }
 pressing other q level key is e t = absurd t
 
-pub compress_has_answer : (pass : ℕ) (old e : Mine) (first : Proc) (q : Compress) (level key : ℕ) → IsDone pass old e first (proc.Compress q) → work_of first ≡ Some (level, key) → (what : Option Answer) → what ≡ compress_answer q → IsCompressAnswer what
+pub compress_has_answer : (pass : ℕ) (old e : PassState) (first : Proc) (q : Compress) (level key : ℕ) → IsDone pass old e first (proc.Compress q) → work_of first ≡ Some (level, key) → (what : Option Answer) → what ≡ compress_answer q → IsCompressAnswer what
 compress_has_answer pass old e first q level key d is what a =
     let p = pressing d.before q level key (d.work ∙ is) d.at_end d.takes in
     subst IsCompressAnswer (sym a) (answers_at_end p.old.level p.old.key p.old.stage q.stage p.at_end p.goes)
 
-pub compress_answered : (from : List (Option Page)) (pass : ℕ) (old e : Mine) (first : Proc) (q : Compress) (level key : ℕ) (what : Squeezed) (next : Option Hint) → IsDone pass old e first (proc.Compress q) → old.first ≡ from → work_of first ≡ Some (level, key) → compress_answer q ≡ Some (answer.Compress what next) → Compresses from pass level key what next old.trail e.trail
+pub compress_answered : (from : List (Option Page)) (pass : ℕ) (old e : PassState) (first : Proc) (q : Compress) (level key : ℕ) (what : Squeezed) (next : Option Hint) → IsDone pass old e first (proc.Compress q) → old.first ≡ from → work_of first ≡ Some (level, key) → compress_answer q ≡ Some (answer.Compress what next) → Compresses from pass level key what next old.trail e.trail
 compress_answered from pass old e first q level key what next d begins is a =
     let p = pressing d.before q level key (d.work ∙ is) d.at_end d.takes in
     let marks : Trail = marks_of (name pass (old.number + 1)) e.trail in

@@ -4,14 +4,14 @@ use Rattle.bl_page.specs.declared.page.Page.{Page}
 use Rattle.bl_page.specs.Machine.{Name}
 use Rattle.bl_claims.specs.Trails.{Mark, Trail}
 use Rattle.bl_claims.specs.Walks.{Each}
-use Rattle.bl_index_rule.specs.declared.known.Mine.{Mine}
+use Rattle.bl_index_rule.specs.declared.known.PassState.{PassState}
 use Rattle.bl_claims.specs.Seeing.{IsSeen, own, name}
-use Rattle.bl_index_rule.specs.Told.{sweeps}
+use Rattle.bl_index_rule.specs.Observed.{sweeps}
 use Rattle.bl_index.specs.Calls.{Sweeps}
 
 -- the same of what it began with and of what the pass has seen; it runs no process
-pub swept_seen : (pass count among released : ℕ) (d e : Mine) → ∥ IsSeen d.first d.trail ∥₁ → d.runs ≡ false → sweeps pass count among d released e → (e.first ≡ d.first) × ∥ IsSeen e.first e.trail ∥₁ × (e.runs ≡ false)
-swept_seen pass count among released d e seen rests (inl is) = subst (λ (z : Mine). (z.first ≡ d.first) × ∥ IsSeen z.first z.trail ∥₁ × (z.runs ≡ false)) (sym is.0) (refl, seen, rests)
+pub swept_seen : (pass count among released : ℕ) (d e : PassState) → ∥ IsSeen d.first d.trail ∥₁ → d.runs ≡ false → sweeps pass count among d released e → (e.first ≡ d.first) × ∥ IsSeen e.first e.trail ∥₁ × (e.runs ≡ false)
+swept_seen pass count among released d e seen rests (inl is) = subst (λ (z : PassState). (z.first ≡ d.first) × ∥ IsSeen z.first z.trail ∥₁ × (z.runs ≡ false)) (sym is.0) (refl, seen, rests)
 swept_seen pass count among released d e seen rests (inr t) = (t.first, ∣ t.seen ∣₁, t.runs)
 
 -- more than the number of each process in a trail
@@ -27,16 +27,16 @@ fresh_from pass k (m ∷ ms) le =
       fresh_from pass k ms (omega arith),
     )
 
-pub sweep_tells : (from : List (Option Page)) (pass count among released answer : ℕ) (d e : Mine) → d.first ≡ from → d.number + 1 ≡ count → released ≤ answer → sweeps pass count among d released e → Sweeps from pass answer d.trail e.trail
+pub sweep_tells : (from : List (Option Page)) (pass count among released answer : ℕ) (d e : PassState) → d.first ≡ from → d.number + 1 ≡ count → released ≤ answer → sweeps pass count among d released e → Sweeps from pass answer d.trail e.trail
 sweep_tells from pass count among released answer d e begins next few (inl is) = record {
   number = above d.trail;
   fresh = fresh_from pass (above d.trail) d.trail (le_refl (above d.trail));
   more = [];
   few = omega arith;
-  begins = ap (λ (z : Mine). z.trail) is.0 ∙ sym (append-nil d.trail);
+  begins = ap (λ (z : PassState). z.trail) is.0 ∙ sym (append-nil d.trail);
   mine = tt;
-  seen = subst (λ (z : Mine). IsSeen from z.trail) (sym is.0);
-  none = ap (λ (z : Mine). own pass z.trail) is.0;
+  seen = subst (λ (z : PassState). IsSeen from z.trail) (sym is.0);
+  none = ap (λ (z : PassState). own pass z.trail) is.0;
 }
 sweep_tells from pass count among released answer d e begins next few (inr t) = record {
   few = subst (λ (z : ℕ). z ≤ answer) (sym t.many) few;

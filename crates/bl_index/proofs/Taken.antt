@@ -10,7 +10,7 @@ use Rattle.bl_page.specs.declared.page.Page.{Page}
 use Rattle.bl_claims.specs.Trails.{Trail}
 use Rattle.bl_store.specs.declared.store.Hand.{Hand}
 use Rattle.bl_store.specs.Hands.{known, IsSameHand}
-use Rattle.bl_index_rule.specs.declared.known.Mine.{Mine}
+use Rattle.bl_index_rule.specs.declared.known.PassState.{PassState}
 use Rattle.bl_index_read.specs.declared.finding.OutOfTurns.{OutOfTurns}
 use Rattle.bl_index.specs.declared.config.Config.{Config}
 use Rattle.bl_index.specs.declared.index.Index.{Index}
@@ -33,13 +33,13 @@ pub same_of : (index : Index) (old new : Pass) → IsSamePass old new → IsPass
 same_of index old new same of = (same.0 ∙ of.0, same.1 ∙ of.1, same.3 ∙ of.2)
 
 -- the pass has gone on with the same hand, and knows the same beginning
-pub same_pass : (old new : Hand Mine) → IsSameHand old.seat new.seat → (known new.seat).first ≡ (known old.seat).first
+pub same_pass : (old new : Hand PassState) → IsSameHand old.seat new.seat → (known new.seat).first ≡ (known old.seat).first
     → (new.seat.table_id ≡ old.seat.table_id) × (new.seat.me.0.layout ≡ old.seat.me.0.layout) × (new.number ≡ old.number) × ((known new.seat).first ≡ (known old.seat).first)
 same_pass old new same first = (same.0, same.1, new.own.0 ∙ (same.2 ∙ sym old.own.0), first)
 
 -- what a search answers is told from what the index began with, where that is the same
-pub told_from : (from first : List (Option Page)) (pages pass turns : ℕ) (op : Op) (result : Result Reply OutOfTurns) (old new : Trail) → from ≡ first → AnswersOrRunsOut from pages pass turns op result old new → AnswersOrRunsOut first pages pass turns op result old new
-told_from from first pages pass turns op result old new same answers = subst (λ (z : List (Option Page)). AnswersOrRunsOut z pages pass turns op result old new) same answers
+pub observed_from : (from first : List (Option Page)) (pages pass turns : ℕ) (op : Op) (result : Result Reply OutOfTurns) (old new : Trail) → from ≡ first → AnswersOrRunsOut from pages pass turns op result old new → AnswersOrRunsOut first pages pass turns op result old new
+observed_from from first pages pass turns op result old new same answers = subst (λ (z : List (Option Page)). AnswersOrRunsOut z pages pass turns op result old new) same answers
 
 there : (l : List Pass) (i : ℕ) (d : Pass) → i < length l → get_elem? l i ≡ some (get_or l i d)
 there [] i d h = absurd (omega arith)

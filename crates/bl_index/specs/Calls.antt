@@ -21,7 +21,7 @@ use Rattle.bl_proc_meanings.specs.Squeezed.{MeansSqueezed}
 use Rattle.bl_proc_meanings.specs.Lowered.{MeansLowered}
 use Rattle.bl_store.specs.Hands.{known, WasRefused}
 use Rattle.bl_claims.specs.Seeing.{first_map, IsSeen, own, name}
-use Rattle.bl_index_rule.specs.Told.{IsRelease}
+use Rattle.bl_index_rule.specs.Observed.{IsRelease}
 use Rattle.bl_index_steps.specs.Refused.{LacksForPage, LacksForPost}
 use Rattle.bl_index.specs.declared.index.Index.{Index}
 use Rattle.bl_index.specs.declared.index.Pass.{Pass}

@@ -9,7 +9,7 @@ use Rattle.bl_check.specs.Rows.{AreRowsOf}
 use Rattle.bl_claims.specs.Trails.{Trail}
 use Rattle.bl_check_tree.specs.Begins.{AreLeft}
 use Rattle.bl_store.specs.declared.store.Hand.{Hand}
-use Rattle.bl_index_rule.specs.declared.known.Mine.{Mine}
+use Rattle.bl_index_rule.specs.declared.known.PassState.{PassState}
 use Rattle.bl_claims.specs.Seeing.{IsSeen, AreWithin, own, GoesOnFrom}
 use Rattle.bl_index.specs.declared.closing.Room.{Room}
 use Rattle.bl_index.specs.declared.config.CloseFault.{CloseFault}
@@ -69,17 +69,17 @@ pub record HasRoom (hands pages : ℕ) (room : Room) : Type 0 where
   pub pages_fit : pages ≤ vec_capacity room.pages
 
 -- the hand is that of a pass
-pub record IsHandOf (passes : List Pass) (hand : Hand Mine) : Type 0 where
+pub record IsHandOf (passes : List Pass) (hand : Hand PassState) : Type 0 where
   pub place : ℕ
   pub pass : Pass
   pub at : get_elem? passes place ≡ some pass
   pub is : pass.hand ≡ hand
 
 -- the hand is among them
-abbrev pub IsAmong : List (Hand Mine) → Hand Mine → Type 0
+abbrev pub IsAmong : List (Hand PassState) → Hand PassState → Type 0
 IsAmong hands hand = (k : ℕ) × (get_elem? hands k ≡ some hand)
 
 -- the hands of the passes, and no others
-pub record AreHandsOf (passes : List Pass) (hands : List (Hand Mine)) : Type 0 where
-  pub only : (k : ℕ) (hand : Hand Mine) → get_elem? hands k ≡ some hand → IsHandOf passes hand
+pub record AreHandsOf (passes : List Pass) (hands : List (Hand PassState)) : Type 0 where
+  pub only : (k : ℕ) (hand : Hand PassState) → get_elem? hands k ≡ some hand → IsHandOf passes hand
   pub all : (k : ℕ) (pass : Pass) → get_elem? passes k ≡ some pass → IsAmong hands pass.hand

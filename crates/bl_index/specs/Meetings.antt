@@ -2,7 +2,7 @@
 use Rattle.std.specs.Prelude.{◌≡◌, ℕ, List, Option}
 use Rattle.bl_page.specs.declared.page.Page.{Page}
 use Rattle.bl_claims.specs.Trails.{Trail, marks_of}
-use Rattle.bl_index_rule.specs.declared.known.Mine.{Mine}
+use Rattle.bl_index_rule.specs.declared.known.PassState.{PassState}
 use Rattle.bl_claims.specs.Seeing.{IsSeen, AreWithin, own, GoesOnFrom, name}
 
 -- no process of the pass has done anything since
@@ -38,20 +38,20 @@ pub record Meet (first : List (Option Page)) (one two : ℕ) (old_one old_two ne
   pub still_two : IsStill two old_two new_one
 
 -- of what the pass knew, what the other knows, and what the pass knows then
-pub record Learned (pass other among : ℕ) (d e f : Mine) : Type 0 where
+pub record Learned (pass other among : ℕ) (d e f : PassState) : Type 0 where
   pub learns : Learns pass other d.trail e.trail f.trail
   pub first : f.first ≡ d.first
   pub seen : IsSeen f.first f.trail
   pub within : AreWithin among f.trail
   pub runs : f.runs ≡ d.runs
 
-abbrev pub learned : ℕ → ℕ → ℕ → Mine → Mine → Mine → Type 0
+abbrev pub learned : ℕ → ℕ → ℕ → PassState → PassState → PassState → Type 0
 learned pass other among d e f = Learned pass other among d e f
 
-pub record Heard (pass : ℕ) (d e f : Mine) : Type 0 where
+pub record Heard (pass : ℕ) (d e f : PassState) : Type 0 where
   pub hears : Hears pass d.trail e.trail f.trail
   pub first : f.first ≡ d.first
   pub runs : f.runs ≡ d.runs
 
-abbrev pub heard : ℕ → Mine → Mine → Mine → Type 0
+abbrev pub heard : ℕ → PassState → PassState → PassState → Type 0
 heard pass d e f = Heard pass d e f

@@ -11,10 +11,10 @@ use Rattle.bl_page.specs.declared.page.Page.TheVariants.{Anchor, Leaf, Inner, De
 use Rattle.bl_page.specs.Words.{words_of}
 use Rattle.bl_store.specs.Frames.{share}
 use Rattle.bl_store.specs.declared.store.Hand.{Hand}
-use Rattle.bl_index_rule.specs.declared.known.Mine.{Mine}
+use Rattle.bl_index_rule.specs.declared.known.PassState.{PassState}
 use Rattle.bl_check.specs.Rows.{AreRowsOf}
 use Rattle.bl_claims.specs.Seeing.{first_map, IsSeen}
-use Rattle.bl_index_rule.specs.Fitting.{beginner}
+use Rattle.bl_index_rule.specs.Simulation.{beginner}
 use Rattle.bl_index.specs.declared.config.Config.{Config}
 use Rattle.bl_index.specs.declared.config.OpenFault.{OpenFault}
 use Rattle.bl_index.specs.declared.config.OpenFault.TheVariants.{Pages, Passes, Memory}
@@ -81,12 +81,12 @@ IsFirst (suc zero) words = (c : Page) × IsFirstLeaf c × (words ≡ words_of c)
 IsFirst (suc (suc x)) words = words ≡ replicate 32 0
 
 -- a hand of that number that has done nothing, of an index that began so
-abbrev pub IsNewHand : TableId → Layout → List (Option Page) → ℕ → Hand Mine → Type 0
+abbrev pub IsNewHand : TableId → Layout → List (Option Page) → ℕ → Hand PassState → Type 0
 IsNewHand table layout first n hand = (hand.number ≡ n) × (hand.seat.table_id ≡ table) × (hand.seat.me.0 ≡ share layout (beginner first) n (n + 1))
 
 -- these hands have done nothing, and are numbered from that number on
-abbrev pub AreNew : TableId → Layout → List (Option Page) → ℕ → List (Hand Mine) → Type 0
-AreNew table layout first least hands = (j : ℕ) (hand : Hand Mine) → get_elem? hands j ≡ some hand → IsNewHand table layout first (least + j) hand
+abbrev pub AreNew : TableId → Layout → List (Option Page) → ℕ → List (Hand PassState) → Type 0
+AreNew table layout first least hands = (j : ℕ) (hand : Hand PassState) → get_elem? hands j ≡ some hand → IsNewHand table layout first (least + j) hand
 
 -- the words of the pages of an opening index of so many pages
 pub record AreFirst (many : ℕ) (contents : List (List ℕ)) : Type 0 where

@@ -7,7 +7,7 @@ use crate::config::CloseFault;
 use crate::index::{Index, Pass};
 use bl_check::Quiet;
 use bl_image::Image;
-use bl_index_rule::Mine;
+use bl_index_rule::PassState;
 use bl_page::Page;
 use bl_store::Hand;
 use std::alloc::{AllocError, Global};
@@ -15,7 +15,7 @@ use std::alloc::{AllocError, Global};
 // What a close fills.
 #[derive(Drop)]
 struct Room {
-    hands: Vec<Hand<Mine>>,
+    hands: Vec<Hand<PassState>>,
     words: Vec<[u64; 32]>,
     pages: Vec<Option<Page>>,
 }
@@ -59,7 +59,7 @@ fn has_all(passes: &[Pass], count: u32) -> bool
 }
 
 /// The hands of the passes.
-fn hands_of(mut passes: Vec<Pass>, mut room: Vec<Hand<Mine>>) -> Vec<Hand<Mine>>
+fn hands_of(mut passes: Vec<Pass>, mut room: Vec<Hand<PassState>>) -> Vec<Hand<PassState>>
     requires { (room.items ≡ []) × (length passes.items ≤ vec_capacity room) }
     ensures { AreHandsOf passes.items result.items }
 {

@@ -5,7 +5,7 @@ ghost use Rattle.bl_store.specs.Hands.{known, IsIdle, HasNoStock};
 ghost use Rattle.bl_claims.specs.Seeing.{IsSeen};
 ghost use Rattle.bl_index_steps.specs.Runs.{IsWithin};
 
-use bl_index_rule::Mine;
+use bl_index_rule::PassState;
 use bl_index_steps::Tree;
 use bl_store::Hand;
 
@@ -19,7 +19,7 @@ pub struct Index {
 /// seen is always a trail that an index may have, of the passes that there are.
 #[derive(Drop)]
 pub struct Pass {
-    pub(crate) hand: Hand<Mine>,
+    pub(crate) hand: Hand<PassState>,
     pub ghost idle: { IsIdle hand.seat },
     pub ghost empty: { HasNoStock hand.seat },
     pub ghost within: { IsWithin hand.seat },
@@ -34,7 +34,7 @@ impl Pass {
     }
 
     /// The hand by which it works, for one who runs a process event by event.
-    pub fn into_hand(self) -> Hand<Mine>
+    pub fn into_hand(self) -> Hand<PassState>
         ensures { result ≡ self.hand }
     {
         self.hand

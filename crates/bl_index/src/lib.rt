@@ -10,7 +10,7 @@
 //! their hints, mean what they did.
 #![tactic(auto)]
 
-mod changing;
+mod editing;
 mod closing;
 mod compressing;
 mod config;

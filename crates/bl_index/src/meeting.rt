@@ -8,7 +8,7 @@ ghost use Rattle.bl_index.specs.Meetings.{learned, heard};
 ghost use Rattle.bl_index_steps.specs.Runs.{Keeps};
 
 use crate::index::{Index, Pass};
-use bl_index_rule::Mine;
+use bl_index_rule::PassState;
 use bl_store::{Hand, MeetPlay};
 use std::marker::{Brand, PhantomData};
 
@@ -34,7 +34,7 @@ pub(crate) struct Learned<J> {
     meeting: PhantomData<J>,
 }
 
-impl<J: Meeting> MeetPlay<Mine> for Learned<J> {
+impl<J: Meeting> MeetPlay<PassState> for Learned<J> {
     ghost then = { learned J.pass J.other J.passes };
 }
 
@@ -43,7 +43,7 @@ pub(crate) struct Heard<J> {
     meeting: PhantomData<J>,
 }
 
-impl<J: Meeting> MeetPlay<Mine> for Heard<J> {
+impl<J: Meeting> MeetPlay<PassState> for Heard<J> {
     ghost then = { heard J.pass };
 }
 
@@ -73,13 +73,13 @@ impl Index {
         self.learn_by::<Brand>(&mut pass.hand, &mut other.hand);
     }
 
-    fn learn_by<J: Meeting>(&self, hand: &mut Hand<Mine>, other: &mut Hand<Mine>)
+    fn learn_by<J: Meeting>(&self, hand: &mut Hand<PassState>, other: &mut Hand<PassState>)
         requires own { IsHandOf self.now.tree.store hand.old × IsHandOf self.now.tree.store other.old }
         requires idle { IsIdle other.old.seat × HasNoStock other.old.seat }
         requires names { (hand.old.number ≡ J.pass) × (other.old.number ≡ J.other) × (self.now.tree.store.layout.passes ≡ J.passes) }
         ensures same { Keeps hand.old.seat hand.new.seat }
         ensures other { IsSameHand other.old.seat other.new.seat × IsIdle other.new.seat × HasNoStock other.new.seat × (known other.new.seat ≡ known other.old.seat) }
-        ensures told { learned J.pass J.other J.passes (known hand.old.seat) (known other.old.seat) (known hand.new.seat) }
+        ensures observed { learned J.pass J.other J.passes (known hand.old.seat) (known other.old.seat) (known hand.new.seat) }
     {
         self.tree.store.meet::<Learned<J>>(hand, other);
     }
@@ -95,14 +95,14 @@ impl Index {
         self.tell_by::<Brand>(&mut pass.hand, &mut other.hand);
     }
 
-    fn tell_by<J: Meeting>(&self, hand: &mut Hand<Mine>, other: &mut Hand<Mine>)
+    fn tell_by<J: Meeting>(&self, hand: &mut Hand<PassState>, other: &mut Hand<PassState>)
         requires own { IsHandOf self.now.tree.store hand.old × IsHandOf self.now.tree.store other.old }
         requires idle { IsIdle other.old.seat × HasNoStock other.old.seat }
         requires names { hand.old.number ≡ J.pass }
         requires begins { GoesOnFrom (known hand.old.seat).trail (known other.old.seat).trail }
         ensures same { Keeps hand.old.seat hand.new.seat }
         ensures other { IsSameHand other.old.seat other.new.seat × IsIdle other.new.seat × HasNoStock other.new.seat × (known other.new.seat ≡ known other.old.seat) }
-        ensures told { heard J.pass (known hand.old.seat) (known other.old.seat) (known hand.new.seat) }
+        ensures observed { heard J.pass (known hand.old.seat) (known other.old.seat) (known hand.new.seat) }
     {
         self.tree.store.meet::<Heard<J>>(hand, other);
     }

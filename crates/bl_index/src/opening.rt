@@ -3,14 +3,14 @@
 ghost use Rattle.std.specs.Prelude.{◌≡◌, ◌≤◌, [], length, IfOk, IfErr};
 ghost use Rattle.bl_store.specs.Opening.{first_pages as store_pages};
 ghost use Rattle.bl_claims.specs.Seeing.{IsSeen};
-ghost use Rattle.bl_index_rule.specs.Fitting.{beginner as unborn_pass, Fits};
+ghost use Rattle.bl_index_rule.specs.Simulation.{beginner as unborn_pass, Simulates};
 ghost use Rattle.bl_index.specs.Opened.{IsRefusal, IsFirstAnchor, IsFirstLeaf, IsFirst, AreFirst, AreNew, ArePasses, IsBegun, IsOpened, IsReopened, IsImageRefusal};
 
 use crate::config::{Config, OpenFault};
 use crate::index::{Index, Pass};
 use arrayvec::ArrayVec;
 use bl_check::Quiet;
-use bl_index_rule::{Beginning, Happened, Mine, Passes};
+use bl_index_rule::{FirstPages, GhostTrail, PassState, Passes};
 use bl_index_steps::Tree;
 use bl_model::limits::{LEAST_PAGES, MOST_PAGES};
 use bl_page::{Anchor, Leaf, Page};
@@ -70,10 +70,10 @@ fn no_pages(alloc: Global) -> Vec<Option<Page>>
 }
 
 /// What each pass knows at first: it has begun no process, and has seen nothing.
-fn beginner(alloc: Global, first: Beginning<Page>) -> Mine
+fn beginner(alloc: Global, first: FirstPages<Page>) -> PassState
     ensures { result ≡ unborn_pass first }
 {
-    Mine {
+    PassState {
         pass: 0,
         pages: 0,
         passes: 0,
@@ -85,16 +85,16 @@ fn beginner(alloc: Global, first: Beginning<Page>) -> Mine
         }),
         first,
         past: LinkedList::new(alloc),
-        trail: Happened::nothing(),
+        trail: GhostTrail::nothing(),
     }
 }
 
 /// A pass of each hand.
 fn passes_of(
     alloc: Global,
-    store: &Store<Mine, Passes>,
-    first: &Beginning<Page>,
-    hands: Vec<Hand<Mine>>,
+    store: &Store<PassState, Passes>,
+    first: &FirstPages<Page>,
+    hands: Vec<Hand<PassState>>,
 ) -> Result<Vec<Pass>, AllocError>
     requires hands { AreNew store.now.table.shared.table_id store.now.layout first.now 0 hands.items }
     requires seen { IsSeen first.now [] }
@@ -148,13 +148,13 @@ impl Index {
     ) -> Result<(Index, Vec<Pass>), AllocError>
         requires pages { (4 ≤ length words.now) × (length words.now ≤ 65536) }
         requires passes { (1 ≤ passes) × (passes ≤ 64) }
-        requires rule { Fits (store_pages words.now passes (unborn_pass image.now.items)) }
+        requires rule { Simulates (store_pages words.now passes (unborn_pass image.now.items)) }
         requires seen { IsSeen image.now.items [] }
         ensures { IfOk result (λ t. IsBegun image.now.items (length words.now) passes t.0 t.1.items) }
     {
-        let first = Beginning::of(image);
-        let told = Beginning::of(image);
-        let known = beginner(alloc, told);
+        let first = FirstPages::of(image);
+        let observed = FirstPages::of(image);
+        let known = beginner(alloc, observed);
         let (store, hands) = Store::new(alloc, words, passes, &known)?;
         let made = passes_of(alloc, &store, &first, hands)?;
         let pages = words.len() as u32;

@@ -14,7 +14,7 @@ impl Index {
 
     /// Lists the page whose low is the hint's key in its parent, which is of the hint's level. The parent then reaches it
     /// without the link of its left neighbour. A hint of either kind will do, and a late or repeated one does no harm.
-    /// Where the parent was parted, there is a hint to post it.
+    /// Where the parent was split, there is a hint to post it.
     pub fn post<R: Wait>(&self, rt: &R, pass: &mut Pass, hint: Hint) -> (Posted, Option<Hint>)
         requires own { IsPassOf self.now pass.old }
         ensures same { IsSamePass pass.old pass.new }

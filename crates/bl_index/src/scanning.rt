@@ -10,9 +10,9 @@ ghost use Rattle.bl_index_read.specs.LeafRows.{is_below as below, IsBelow, IsOve
 ghost use Rattle.bl_index.specs.Scans.{MayAppend, MayScan};
 
 use crate::index::{Index, Pass};
-use bl_index_read::{Behind, append_rows, come_to_leaf, end_part, portion_in};
-use bl_index_rule::Mine;
-use bl_index_steps::Shown;
+use bl_index_read::{Behind, append_rows, descend_to_leaf, end_part, portion_in};
+use bl_index_rule::PassState;
+use bl_index_steps::FrameView;
 use bl_store::Hand;
 use std::mem;
 
@@ -116,7 +116,7 @@ impl Index {
     #[inline(always)]
     fn append_part_by(
         &self,
-        hand: &mut Hand<Mine>,
+        hand: &mut Hand<PassState>,
         from: u64,
         near: u32,
         to: Option<u64>,
@@ -132,10 +132,10 @@ impl Index {
         ensures seen { IsSeen (known hand.new.seat).first (known hand.new.seat).trail }
         ensures appends { MayAppend (known hand.old.seat).first self.now.tree.store.layout.pages hand.old.number turns from to (vec_capacity result.0 - vec_len result.0) result.1 rows.items result.0.items (known hand.old.seat).trail (known hand.new.seat).trail }
     {
-        let Some(glance) = come_to_leaf(&self.tree, hand, from, Some(near), turns) else {
+        let Some(glance) = descend_to_leaf(&self.tree, hand, from, Some(near), turns) else {
             return (rows, Err(ScanFault::OutOfTurns(from)));
         };
-        let shown = Shown {
+        let shown = FrameView {
             store: &self.tree.store,
             glance,
         };

@@ -3,11 +3,11 @@
 ghost use Rattle.std.specs.Prelude.{◌≡◌, ℕ, ◌+◌, ◌≤◌, false};
 ghost use Rattle.bl_store.specs.Hands.{known};
 ghost use Rattle.bl_store.specs.Owners.{IsHandOf};
-ghost use Rattle.bl_index_rule.specs.Told.{sweeps};
+ghost use Rattle.bl_index_rule.specs.Observed.{sweeps};
 ghost use Rattle.bl_index_steps.specs.Runs.{Keeps, IsWithin};
 
 use crate::index::{Index, Pass};
-use bl_index_rule::{Mine, Sweeper, Swept};
+use bl_index_rule::{PassState, Sweeper, Swept};
 use bl_store::Hand;
 use std::marker::Brand;
 
@@ -33,13 +33,13 @@ impl Index {
     }
 
     // The releases of a sweep, by the process that the bound names beside its pass.
-    fn release<J: Sweeper>(&self, hand: &mut Hand<Mine>) -> u32
+    fn release<J: Sweeper>(&self, hand: &mut Hand<PassState>) -> u32
         requires own { IsHandOf self.now.tree.store hand.old }
         requires rests { (known hand.old.seat).runs ≡ false }
         requires names { (hand.old.number ≡ J.pass) × ((known hand.old.seat).number + 1 ≡ J.number) × (self.now.tree.store.layout.passes ≡ J.passes) }
         requires within { IsWithin hand.old.seat }
         ensures same { Keeps hand.old.seat hand.new.seat }
-        ensures told { (pages : ℕ) × (pages ≤ result) × sweeps J.pass J.number J.passes (known hand.old.seat) pages (known hand.new.seat) }
+        ensures observed { (pages : ℕ) × (pages ≤ result) × sweeps J.pass J.number J.passes (known hand.old.seat) pages (known hand.new.seat) }
         ensures within { IsWithin hand.new.seat }
         ensures count { hand.new.seat.me.0.releases ≡ hand.old.seat.me.0.releases + result }
     {

@@ -32,13 +32,13 @@ use Rattle.bl_proc_invariant.specs.Logs.{proc_log}
 use Rattle.bl_store.specs.declared.store.Glance.{Glance}
 use Rattle.bl_store.specs.declared.view.View.{View}
 use Rattle.bl_store.specs.Hands.{known, read_words, ReadsFrom}
-use Rattle.bl_index_rule.specs.declared.known.Mine.{Mine}
+use Rattle.bl_index_rule.specs.declared.known.PassState.{PassState}
 use Rattle.bl_claims.specs.Bounds.{gets_of, IsWithinBound}
 use Rattle.bl_claims.specs.Seeing.{name}
 use Rattle.bl_page.specs.Machine.Act.{Look}
 use Rattle.bl_page.specs.Machine.Looked.{Page as OfPage}
 use Rattle.bl_proc_invariant.specs.Turns.{event_of}
-use Rattle.bl_index_rule.specs.Told.{Steps, Finishes, Goes, MayGiveUp, ends}
+use Rattle.bl_index_rule.specs.Observed.{Steps, Finishes, Goes, MayGiveUp, ends}
 use Rattle.bl_index_read.specs.declared.listing.Reached.{Reached}
 use Rattle.bl_index_read.specs.declared.listing.Reached.TheVariants as reached
 use Rattle.bl_index_read.specs.Searching.{Finds}
@@ -65,7 +65,7 @@ probing_under_way from x state e = subst IsUnderWay (sym e) tt
 pub probing_course : (from x : ℕ) (free : Bool) (state : Proc) → state ≡ listing from (Probing x) → GoesOn state (seen.Probed free)
 probing_course from x free state e = subst (λ (z : Proc). GoesOn z (seen.Probed free)) (sym e) (part_goes (record { from = from; stage = Probing x }) (seen.Probed free) refl tt)
 
-pub probing_steps : (from x : ℕ) (free : Bool) (d e : Mine) → d.state ≡ listing from (Probing x) → Goes (seen.Probed free) d e → Steps (Look (OfPage x)) d e
+pub probing_steps : (from x : ℕ) (free : Bool) (d e : PassState) → d.state ≡ listing from (Probing x) → Goes (seen.Probed free) d e → Steps (Look (OfPage x)) d e
 probing_steps from x free d e is goes = subst (λ (z : Proc). Steps (event_of (end_of_proc z) (next_of z) (seen.Probed free)) d e) is goes.steps
 
 pub part_may_give_up : (from : ℕ) (d : Descent) (state : Proc) → state ≡ part_at from d → MayGiveUp state
@@ -84,7 +84,7 @@ abbrev pub reached_by : Descended → Glance → Reached
 reached_by (On e) glance = reached.Further e
 reached_by Here glance = reached.Leaf glance
 
-pub page_reached : (l : Layout) (from : ℕ) (a : Descent) (c : Page) (d : Mine) (h : Seat (Unit {0}) (View Mine)) (glance : Glance) → IsOn l d (part_at from a) → Goes (seen.Words c) d (known h) → ReadsFrom h glance → read_words h ≡ words_of c → (o : Descended) → Descends from a c o → HasReached from l h (reached_by o glance)
+pub page_reached : (l : Layout) (from : ℕ) (a : Descent) (c : Page) (d : PassState) (h : Seat (Unit {0}) (View PassState)) (glance : Glance) → IsOn l d (part_at from a) → Goes (seen.Words c) d (known h) → ReadsFrom h glance → read_words h ≡ words_of c → (o : Descended) → Descends from a c o → HasReached from l h (reached_by o glance)
 page_reached l from a c d h glance on goes reads is (On e) t = on_goes l (seen.Words c) d (known h) (part_at from a) (part_at from e) on goes (refl, t)
 page_reached l from a c d h glance on goes reads is Here t =
     let leads = here_leads from a c t in
@@ -94,7 +94,7 @@ page_reached l from a c d h glance on goes reads is Here t =
 
 -- ---- a part that has its leaf, and has ended
 
-module _ (l : Layout) (pass from turns : ℕ) (old : Mine) (h h' : Seat (Unit {0}) (View Mine)) (glance : Glance) (has : HasLeaf l pass from turns old h glance) (ended : ends (known h) 0 (known h')) where
+module _ (l : Layout) (pass from turns : ℕ) (old : PassState) (h h' : Seat (Unit {0}) (View PassState)) (glance : Glance) (has : HasLeaf l pass from turns old h glance) (ended : ends (known h) 0 (known h')) where
   abbrev rows : PartRows
   rows = has.leaf.rows
 
@@ -118,8 +118,8 @@ module _ (l : Layout) (pass from turns : ℕ) (old : Mine) (h h' : Seat (Unit {0
   latches : LatchesNone (marks_of (name pass (old.number + 1)) (known h').trail)
   latches = subst LatchesNone own (subst (λ (z : Proc). IsTidy z marks) over ended.0.notes.tidy)
 
-  told : Finishes (end_of_proc (listing from (Ending rows))) (known h) (known h')
-  told = subst (λ (z : Proc). Finishes (end_of_proc z) (known h) (known h')) has.leaf.state ended.0
+  observed : Finishes (end_of_proc (listing from (Ending rows))) (known h) (known h')
+  observed = subst (λ (z : Proc). Finishes (end_of_proc z) (known h) (known h')) has.leaf.state ended.0
 
   part_done : IsDone pass old (known h') (listing from (Ending rows)) (listing from (Over rows))
   part_done = record {
@@ -128,7 +128,7 @@ module _ (l : Layout) (pass from turns : ℕ) (old : Mine) (h h' : Seat (Unit {0
     since = has.since;
     state = has.leaf.state;
     at_end = refl;
-    told = told;
+    observed = observed;
     takes = (refl, refl);
     op = refl;
     work = refl;

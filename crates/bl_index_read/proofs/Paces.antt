@@ -14,9 +14,9 @@ use Rattle.bl_claims.specs.Bounds.{gets_in, gets_by, gets_of, IsWithinBound, IsB
 use Rattle.bl_proc_bounds.specs.Searches.{IsSearch, IsUnderWay}
 use Rattle.bl_proc_bounds.proofs.Counts.{since_first, own_gets, own_gets_own, gets_on}
 use Rattle.bl_proc_bounds.proofs.Others.{others_get, Quiet, quiet, quiet_below}
-use Rattle.bl_index_rule.specs.declared.known.Mine.{Mine}
+use Rattle.bl_index_rule.specs.declared.known.PassState.{PassState}
 use Rattle.bl_claims.specs.Seeing.{AreElse, name}
-use Rattle.bl_index_rule.specs.Told.{Notes, Steps, Begins, Finishes}
+use Rattle.bl_index_rule.specs.Observed.{Notes, Steps, Begins, Finishes}
 use Rattle.bl_index_rule.proofs.Marks.{each_append}
 use Rattle.bl_index_read.specs.Turns.{IsAtTurn, IsAtLast}
 use Rattle.bl_index_steps.proofs.Calls.{does_on}
@@ -34,7 +34,7 @@ not_begun p ms h i d = not_there p ms h i d.mark d.is (ap (λ e. e.process) d.ev
 else_other : (p : Name) (by : ℕ) (ms : Trail) → p.pass ≡ by → AreElse by ms → Each (λ (m : Mark). m.event.process ≢ p) ms
 else_other p by ms same h = Each-map _ _ ms (λ (m : Mark) (ne : m.event.process.pass ≢ by) (e : m.event.process ≡ p). ne (ap (λ (q : Name). q.pass) e ∙ same)) h
 
-module _ (pages : ℕ) (p : Name) (by count : ℕ) (act : Act Page Reply) (d e : Mine) (is : name by count ≡ p) (n : Notes by count act d e) where
+module _ (pages : ℕ) (p : Name) (by count : ℕ) (act : Act Page Reply) (d e : PassState) (is : name by count ≡ p) (n : Notes by count act d e) where
   own_pass : p.pass ≡ by
   own_pass = ap (λ (q : Name). q.pass) (sym is)
 
@@ -69,7 +69,7 @@ module _ (pages : ℕ) (p : Name) (by count : ℕ) (act : Act Page Reply) (d e :
       quiet pages p (n.between ++ n.last ∷ []) d.trail i begun (each_append _ n.between (n.last ∷ []) others (own, tt))
 
 -- it has begun, and got nothing yet
-pub at_begin : (pages passes pass : ℕ) (process : Proc) (old d : Mine) → Begins pass pages passes process old d → IsSearch d.state → IsUnderWay d.state → IsAtTurn pages pass (old.number + 1) 0 d.trail
+pub at_begin : (pages passes pass : ℕ) (process : Proc) (old d : PassState) → Begins pass pages passes process old d → IsSearch d.state → IsUnderWay d.state → IsAtTurn pages pass (old.number + 1) 0 d.trail
 at_begin pages passes pass process old d b search on =
     let p = name pass (old.number + 1) in
     let n = b.notes in
@@ -85,12 +85,12 @@ at_begin pages passes pass process old d b search on =
       gets = ap (gets_of p) trail ∙ ap (gets_by p) none;
     }
 
-module _ (pages pass number turns : ℕ) (d : Mine) (named : d.pass ≡ pass) (counted : d.number ≡ number) (t : IsAtTurn pages pass number turns d.trail) where
+module _ (pages pass number turns : ℕ) (d : PassState) (named : d.pass ≡ pass) (counted : d.number ≡ number) (t : IsAtTurn pages pass number turns d.trail) where
   abbrev is_p : name d.pass d.number ≡ name pass number
   is_p = λ i. name (named i) (counted i)
 
   -- a get after which it is to get another page
-  pub at_step : (x : ℕ) (e : Mine) → e.pages ≡ pages → Steps (Get x) d e → IsSearch e.state → IsUnderWay e.state → IsAtTurn pages pass number (turns + 1) e.trail
+  pub at_step : (x : ℕ) (e : PassState) → e.pages ≡ pages → Steps (Get x) d e → IsSearch e.state → IsUnderWay e.state → IsAtTurn pages pass number (turns + 1) e.trail
   at_step x e size s search on =
       let p = name pass number in
       let n = s.notes in record {
@@ -102,7 +102,7 @@ module _ (pages pass number turns : ℕ) (d : Mine) (named : d.pass ≡ pass) (c
       }
 
   -- a look, after which it has got no more
-  pub at_look : (it : Looked) (e : Mine) → e.pages ≡ pages → Steps (Look it) d e → IsSearch e.state → IsUnderWay e.state → IsAtTurn pages pass number turns e.trail
+  pub at_look : (it : Looked) (e : PassState) → e.pages ≡ pages → Steps (Look it) d e → IsSearch e.state → IsUnderWay e.state → IsAtTurn pages pass number turns e.trail
   at_look it e size s search on =
       let p = name pass number in
       let n = s.notes in record {
@@ -114,7 +114,7 @@ module _ (pages pass number turns : ℕ) (d : Mine) (named : d.pass ≡ pass) (c
       }
 
   -- it has ended with no answer
-  pub at_end : (answer : Option Reply) (e : Mine) → Finishes answer d e → IsWithinBound pages (name pass number) e.trail × (gets_of (name pass number) e.trail ≡ turns) × IsBelowBound pages (name pass number) e.trail
+  pub at_end : (answer : Option Reply) (e : PassState) → Finishes answer d e → IsWithinBound pages (name pass number) e.trail × (gets_of (name pass number) e.trail ≡ turns) × IsBelowBound pages (name pass number) e.trail
   at_end answer e f =
       let p = name pass number in
       let n = f.notes in
@@ -125,7 +125,7 @@ module _ (pages pass number turns : ℕ) (d : Mine) (named : d.pass ≡ pass) (c
       )
 
   -- a get by which it has found its leaf
-  pub at_last : (x : ℕ) (e : Mine) → e.pages ≡ pages → Steps (Get x) d e → IsSearch e.state → (most : ℕ) → turns + 1 ≤ most → IsAtLast pages pass number most e.trail
+  pub at_last : (x : ℕ) (e : PassState) → e.pages ≡ pages → Steps (Get x) d e → IsSearch e.state → (most : ℕ) → turns + 1 ≤ most → IsAtLast pages pass number most e.trail
   at_last x e size s search most le = record {
     begin = t.begin;
     begun = begun_on pages (name pass number) d.pass d.number (Get x) d e is_p s.notes t.begin t.begun;
@@ -134,7 +134,7 @@ module _ (pages pass number turns : ℕ) (d : Mine) (named : d.pass ≡ pass) (c
   }
 
 -- and then its end
-pub at_answer : (pages pass number most : ℕ) (answer : Option Reply) (e f : Mine) → e.pass ≡ pass → e.number ≡ number → IsAtLast pages pass number most e.trail → Finishes answer e f → IsWithinBound pages (name pass number) f.trail × (gets_of (name pass number) f.trail ≤ most)
+pub at_answer : (pages pass number most : ℕ) (answer : Option Reply) (e f : PassState) → e.pass ≡ pass → e.number ≡ number → IsAtLast pages pass number most e.trail → Finishes answer e f → IsWithinBound pages (name pass number) f.trail × (gets_of (name pass number) f.trail ≤ most)
 at_answer pages pass number most answer e f named counted last done =
     let p = name pass number in
     let n = done.notes in
@@ -144,5 +144,5 @@ at_answer pages pass number most answer e f named counted last done =
     (subst (IsWithinBound pages p) (sym n.trail) (q.within last.bounded), subst (λ (z : ℕ). z ≤ most) (sym same) last.few)
 
 -- both
-pub at_found : (pages pass number turns : ℕ) (d : Mine) (named : d.pass ≡ pass) (counted : d.number ≡ number) (t : IsAtTurn pages pass number turns d.trail) (x : ℕ) (answer : Option Reply) (e f : Mine) → e.pages ≡ pages → e.pass ≡ pass → e.number ≡ number → Steps (Get x) d e → IsSearch e.state → Finishes answer e f → (most : ℕ) → turns + 1 ≤ most → IsWithinBound pages (name pass number) f.trail × (gets_of (name pass number) f.trail ≤ most)
+pub at_found : (pages pass number turns : ℕ) (d : PassState) (named : d.pass ≡ pass) (counted : d.number ≡ number) (t : IsAtTurn pages pass number turns d.trail) (x : ℕ) (answer : Option Reply) (e f : PassState) → e.pages ≡ pages → e.pass ≡ pass → e.number ≡ number → Steps (Get x) d e → IsSearch e.state → Finishes answer e f → (most : ℕ) → turns + 1 ≤ most → IsWithinBound pages (name pass number) f.trail × (gets_of (name pass number) f.trail ≤ most)
 at_found pages pass number turns d named counted t x answer e f size named_then counted_then s search done most le = at_answer pages pass number most answer e f named_then counted_then (at_last pages pass number turns d named counted t x e size s search most le) done

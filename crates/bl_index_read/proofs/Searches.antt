@@ -14,9 +14,9 @@ use Rattle.bl_proc.specs.declared.searching.FindStage.TheVariants.{New, Descendi
 use Rattle.bl_proc.specs.Searches.{FindGoes}
 use Rattle.bl_proc_bounds.specs.Searches.{IsSearch, IsUnderWay}
 use Rattle.bl_proc_invariant.specs.Knowing.{Run, know, know_of, know_find, found, found_reply, end_of_proc}
-use Rattle.bl_index_rule.specs.declared.known.Mine.{Mine}
+use Rattle.bl_index_rule.specs.declared.known.PassState.{PassState}
 use Rattle.bl_claims.specs.Seeing.{own, Holds, name}
-use Rattle.bl_index_rule.specs.Told.{Finishes, MayGiveUp}
+use Rattle.bl_index_rule.specs.Observed.{Finishes, MayGiveUp}
 use Rattle.bl_index_steps.specs.Answered.{Answers}
 use Rattle.bl_index_steps.specs.Runs.{IsSince}
 use Rattle.bl_index_read.specs.Searching.{IsSearching}
@@ -52,7 +52,7 @@ pub find_is_search : (p : FindState) (state : Proc) → state ≡ Find p → IsS
 find_is_search p state e = subst IsSearch (sym e) tt
 
 -- a search that has found its leaf
-abbrev pub find_answers : (from : List (Option Page)) (pass : ℕ) (old d e : Mine) (p : FindState) (key : ℕ) (value : Option ℕ) (reply : Reply) → old.first ≡ from → IsSince pass old d → d.state ≡ Find p → p.key ≡ key → p.stage ≡ Ending value → Finishes (end_of_proc (Find p)) d e → reply ≡ found_reply value → Answers from pass (op.Find key) reply old.trail e.trail
+abbrev pub find_answers : (from : List (Option Page)) (pass : ℕ) (old d e : PassState) (p : FindState) (key : ℕ) (value : Option ℕ) (reply : Reply) → old.first ≡ from → IsSince pass old d → d.state ≡ Find p → p.key ≡ key → p.stage ≡ Ending value → Finishes (end_of_proc (Find p)) d e → reply ≡ found_reply value → Answers from pass (op.Find key) reply old.trail e.trail
 find_answers from pass old d e p key value reply begins s state is_key is_stage t is =
     let same : p ≡ record { key = key; stage = Ending value } = λ i. record { key = is_key i; stage = is_stage i } in
     let answer : end_of_proc (Find p) ≡ Some reply = ap (λ (z : FindState). end_of_proc (Find z)) same ∙ ap (λ (z : Reply). Some z) (sym is) in

@@ -16,7 +16,7 @@ use Rattle.bl_proc.specs.Parts.{IsPartOf}
 use Rattle.bl_store.specs.declared.store.Glance.{Glance}
 use Rattle.bl_store.specs.declared.view.View.{View}
 use Rattle.bl_store.specs.Hands.{known, read_words, IsIdle, IsRunning, ReadsFrom}
-use Rattle.bl_index_rule.specs.declared.known.Mine.{Mine}
+use Rattle.bl_index_rule.specs.declared.known.PassState.{PassState}
 use Rattle.bl_claims.specs.Seeing.{IsSeen}
 use Rattle.bl_index_read.specs.declared.listing.Reached.{Reached}
 use Rattle.bl_index_read.specs.declared.listing.Reached.TheVariants as reached
@@ -37,7 +37,7 @@ abbrev pub part_at : ℕ → Descent → Proc
 part_at from d = listing from (Descending d)
 
 -- The part has got its leaf, which has these words, and is to end with its rows.
-pub record IsAtLeaf (from : ℕ) (words : List ℕ) (d : Mine) : Type 0 where
+pub record IsAtLeaf (from : ℕ) (words : List ℕ) (d : PassState) : Type 0 where
   pub page : Page
   pub is : words ≡ words_of page
   pub leads : Leads page from 0 Here
@@ -46,12 +46,12 @@ pub record IsAtLeaf (from : ℕ) (words : List ℕ) (d : Mine) : Type 0 where
   pub state : d.state ≡ listing from (Ending rows)
 
 -- It is to get another page, or is at its leaf.
-abbrev pub HasReached : ℕ → Layout → Seat (Unit {0}) (View Mine) → Reached → Type 0
+abbrev pub HasReached : ℕ → Layout → Seat (Unit {0}) (View PassState) → Reached → Type 0
 HasReached from l h (reached.Further next) = IsOn l (known h) (part_at from next)
 HasReached from l h (reached.Leaf glance) = ReadsFrom h glance × IsAtLeaf from (read_words h) (known h) × IsOn l (known h) (known h).state
 
 -- The part that the pass began when it knew old is at its leaf, within its bound and so many turns.
-pub record HasLeaf (l : Layout) (pass from turns : ℕ) (old : Mine) (h : Seat (Unit {0}) (View Mine)) (glance : Glance) : Type 0 where
+pub record HasLeaf (l : Layout) (pass from turns : ℕ) (old : PassState) (h : Seat (Unit {0}) (View PassState)) (glance : Glance) : Type 0 where
   pub running : IsRunning h
   pub reads : ReadsFrom h glance
   pub leaf : IsAtLeaf from (read_words h) (known h)
@@ -60,7 +60,7 @@ pub record HasLeaf (l : Layout) (pass from turns : ℕ) (old : Mine) (h : Seat (
   pub last : IsAtLast l.pages pass (old.number + 1) turns (known h).trail
 
 -- It has run out of turns, and has ended.
-pub record HasGivenUp (l : Layout) (pass turns : ℕ) (old : Mine) (h : Seat (Unit {0}) (View Mine)) : Type 0 where
+pub record HasGivenUp (l : Layout) (pass turns : ℕ) (old : PassState) (h : Seat (Unit {0}) (View PassState)) : Type 0 where
   pub idle : IsIdle h
   pub within : IsWithin h
   pub rests : (known h).runs ≡ false

@@ -12,7 +12,7 @@ ghost use Rattle.bl_index_steps.specs.Runs.{Rests};
 ghost use Rattle.bl_model.specs.Replies.{reply_of};
 ghost use Rattle.bl_index_read.specs.Searching.{AnswersOrRunsOut, found_of, IsSearching};
 
-use bl_index_rule::Mine;
+use bl_index_rule::PassState;
 use bl_index_steps::Tree;
 use bl_model::KeyReply;
 use bl_proc::{Find, FindStage};
@@ -49,7 +49,7 @@ fn page_of(stage: FindStage) -> u32
 #[inline(always)]
 pub fn find_key(
     tree: &Tree,
-    hand: &mut Hand<Mine>,
+    hand: &mut Hand<PassState>,
     key: u64,
     turns: u32,
 ) -> Result<KeyReply, OutOfTurns>

@@ -11,4 +11,4 @@ mod listing;
 
 pub use finding::{OutOfTurns, find_key};
 pub use leaf_rows::{Behind, Portion, append_rows, portion_in};
-pub use listing::{come_to_leaf, end_part, list_part};
+pub use listing::{descend_to_leaf, end_part, list_part};

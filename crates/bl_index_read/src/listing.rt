@@ -14,8 +14,8 @@ ghost use Rattle.bl_proc_unique.specs.Courses.{GoesOn};
 ghost use Rattle.bl_store.specs.Hands.{known, IsIdle, IsRunning, IsSameHand, IsSameStock};
 ghost use Rattle.bl_store.specs.Owners.{IsHandOf};
 ghost use Rattle.bl_claims.specs.Seeing.{IsSeen};
-ghost use Rattle.bl_index_rule.specs.declared.known.Mine.{Mine as Knows};
-ghost use Rattle.bl_index_rule.specs.Told.{Begins, Steps, ends, IsUnborn};
+ghost use Rattle.bl_index_rule.specs.declared.known.PassState.{PassState as Knows};
+ghost use Rattle.bl_index_rule.specs.Observed.{Begins, Steps, ends, IsUnborn};
 ghost use Rattle.bl_index_steps.specs.Runs.{Runs, Keeps, Rests, IsSince, IsWithin};
 ghost use Rattle.bl_index_read.specs.Turns.{IsAtTurn};
 ghost use Rattle.bl_index_read.specs.Searching.{AnswersOrRunsOut};
@@ -23,8 +23,8 @@ ghost use Rattle.bl_index_read.specs.Parts.{listing, first_stage, part_at, IsAtL
 
 use crate::finding::OutOfTurns;
 use crate::leaf_rows::{descended, link_in, next_in, rows_in};
-use bl_index_rule::{Began, Ended, Launch, Mine};
-use bl_index_steps::{Shown, Tree};
+use bl_index_rule::{Began, Ended, Launch, PassState};
+use bl_index_steps::{FrameView, Tree};
 use bl_model::Reply;
 use bl_proc::first_way;
 use bl_proc_base::{Descended, Descent};
@@ -44,7 +44,7 @@ pub(crate) enum Reached {
 /// first; it leaves there the page to which its leaf links.
 pub fn list_part(
     tree: &Tree,
-    hand: &mut Hand<Mine>,
+    hand: &mut Hand<PassState>,
     from: u64,
     near: &mut Option<u32>,
     turns: u32,
@@ -57,10 +57,10 @@ pub fn list_part(
     ensures seen { IsSeen (known hand.new.seat).first (known hand.new.seat).trail }
     ensures answers { AnswersOrRunsOut (known hand.old.seat).first tree.now.store.layout.pages hand.old.number turns (op.Part from) result (known hand.old.seat).trail (known hand.new.seat).trail }
 {
-    let Some(glance) = come_to_leaf(tree, hand, from, *near, turns) else {
+    let Some(glance) = descend_to_leaf(tree, hand, from, *near, turns) else {
         return Err(OutOfTurns);
     };
-    let shown = Shown {
+    let shown = FrameView {
         store: &tree.store,
         glance,
     };
@@ -73,7 +73,7 @@ pub fn list_part(
 
 // The part from that key on begins, which the bound names beside its pass.
 #[inline(always)]
-fn launch_part<J: Launch>(tree: &Tree, hand: &mut Hand<Mine>, from: u64, near: Option<u32>)
+fn launch_part<J: Launch>(tree: &Tree, hand: &mut Hand<PassState>, from: u64, near: Option<u32>)
     requires own { IsHandOf tree.now.store hand.old }
     requires idle { IsIdle hand.old.seat }
     requires names { (hand.old.number ≡ J.pass) × (tree.now.store.layout.pages ≡ J.pages) × (tree.now.store.layout.passes ≡ J.passes) × (listing from (first_stage near) ≡ J.process) }
@@ -82,7 +82,7 @@ fn launch_part<J: Launch>(tree: &Tree, hand: &mut Hand<Mine>, from: u64, near: O
     requires course { GoesOn J.process seen.Done }
     ensures same { IsSameHand hand.old.seat hand.new.seat × IsSameStock hand.old.seat hand.new.seat }
     ensures running { IsRunning hand.new.seat }
-    ensures told { Begins J.pass J.pages J.passes J.process (known hand.old.seat) (known hand.new.seat) }
+    ensures observed { Begins J.pass J.pages J.passes J.process (known hand.old.seat) (known hand.new.seat) }
 {
     let _ = from;
     let _ = near;
@@ -91,33 +91,33 @@ fn launch_part<J: Launch>(tree: &Tree, hand: &mut Hand<Mine>, from: u64, near: O
 
 /// A part from that key on begins.
 #[inline(always)]
-fn begin_part(tree: &Tree, hand: &mut Hand<Mine>, from: u64)
+fn begin_part(tree: &Tree, hand: &mut Hand<PassState>, from: u64)
     requires own { IsHandOf tree.now.store hand.old }
     requires idle { IsIdle hand.old.seat }
     ensures same { IsSameHand hand.old.seat hand.new.seat × IsSameStock hand.old.seat hand.new.seat }
     ensures runs { Runs tree.now hand.new (part_at from descent.AtAnchor) }
     ensures begun { IsSince hand.old.number (known hand.old.seat) (known hand.new.seat) }
-    ensures told { Begins hand.old.number tree.now.store.layout.pages tree.now.store.layout.passes (listing from part_stage.New) (known hand.old.seat) (known hand.new.seat) }
+    ensures observed { Begins hand.old.number tree.now.store.layout.pages tree.now.store.layout.passes (listing from part_stage.New) (known hand.old.seat) (known hand.new.seat) }
 {
     launch_part::<Brand>(tree, hand, from, None);
 }
 
 /// A part from that key on begins, which has that page in mind.
 #[inline(always)]
-fn begin_near(tree: &Tree, hand: &mut Hand<Mine>, from: u64, page: u32)
+fn begin_near(tree: &Tree, hand: &mut Hand<PassState>, from: u64, page: u32)
     requires own { IsHandOf tree.now.store hand.old }
     requires idle { IsIdle hand.old.seat }
     ensures same { IsSameHand hand.old.seat hand.new.seat × IsSameStock hand.old.seat hand.new.seat }
     ensures runs { Runs tree.now hand.new (listing from (part_stage.Probing page)) }
     ensures begun { IsSince hand.old.number (known hand.old.seat) (known hand.new.seat) }
-    ensures told { Begins hand.old.number tree.now.store.layout.pages tree.now.store.layout.passes (listing from (part_stage.Near page)) (known hand.old.seat) (known hand.new.seat) }
+    ensures observed { Begins hand.old.number tree.now.store.layout.pages tree.now.store.layout.passes (listing from (part_stage.Near page)) (known hand.old.seat) (known hand.new.seat) }
 {
     launch_part::<Brand>(tree, hand, from, Some(page));
 }
 
 /// It looks whether that page is open, and where it is, its way begins there.
 #[inline(always)]
-fn probe(tree: &Tree, hand: &mut Hand<Mine>, from: u64, page: u32) -> Descent
+fn probe(tree: &Tree, hand: &mut Hand<PassState>, from: u64, page: u32) -> Descent
     requires runs { Runs tree.now hand.old (listing from (part_stage.Probing page)) }
     requires page { page < tree.now.store.layout.pages }
     ensures same { Keeps hand.old.seat hand.new.seat }
@@ -131,7 +131,7 @@ fn probe(tree: &Tree, hand: &mut Hand<Mine>, from: u64, page: u32) -> Descent
 
 /// A part from that key on begins, and looks at that page first, if there is one. Any number will do for it.
 #[inline(always)]
-fn set_off(tree: &Tree, hand: &mut Hand<Mine>, from: u64, near: Option<u32>) -> Descent
+fn set_off(tree: &Tree, hand: &mut Hand<PassState>, from: u64, near: Option<u32>) -> Descent
     requires own { IsHandOf tree.now.store hand.old }
     requires idle { IsIdle hand.old.seat }
     ensures same { IsSameHand hand.old.seat hand.new.seat × IsSameStock hand.old.seat hand.new.seat }
@@ -154,14 +154,14 @@ fn set_off(tree: &Tree, hand: &mut Hand<Mine>, from: u64, near: Option<u32>) -> 
 
 /// The part gets the page that is next, and goes on by its words.
 #[inline(always)]
-fn list_on(tree: &Tree, hand: &mut Hand<Mine>, from: u64, descent: Descent) -> Reached
+fn list_on(tree: &Tree, hand: &mut Hand<PassState>, from: u64, descent: Descent) -> Reached
     requires runs { Runs tree.now hand.old (part_at from descent) }
     ensures same { Keeps hand.old.seat hand.new.seat }
     ensures reached { HasReached from tree.now.store.layout hand.new.seat result }
     ensures got { Steps (Get (descent_page descent)) (known hand.old.seat) (known hand.new.seat) }
 {
     let glance = tree.look(hand, descent.page());
-    let shown = Shown {
+    let shown = FrameView {
         store: &tree.store,
         glance,
     };
@@ -176,7 +176,7 @@ fn list_on(tree: &Tree, hand: &mut Hand<Mine>, from: u64, descent: Descent) -> R
 #[inline(never)]
 fn seek_leaf(
     tree: &Tree,
-    hand: &mut Hand<Mine>,
+    hand: &mut Hand<PassState>,
     from: u64,
     way: Descent,
     turns: u32,
@@ -199,9 +199,9 @@ fn seek_leaf(
 /// A part begins, at that page if there is one and it is open, and gets so many pages at most, until it has its leaf. Where it
 /// runs out of turns, it ends.
 #[inline(always)]
-pub fn come_to_leaf(
+pub fn descend_to_leaf(
     tree: &Tree,
-    hand: &mut Hand<Mine>,
+    hand: &mut Hand<PassState>,
     from: u64,
     near: Option<u32>,
     turns: u32,
@@ -226,7 +226,7 @@ pub fn come_to_leaf(
 
 /// The part, which has its leaf, ends.
 #[inline(always)]
-pub fn end_part(tree: &Tree, hand: &mut Hand<Mine>)
+pub fn end_part(tree: &Tree, hand: &mut Hand<PassState>)
     requires runs { Runs tree.now hand.old (known hand.old.seat).state }
     requires leaf { (from : ℕ) × (words : List ℕ) × IsAtLeaf from words (known hand.old.seat) }
     ensures same { IsSameHand hand.old.seat hand.new.seat × IsSameStock hand.old.seat hand.new.seat }

@@ -24,32 +24,32 @@ use Rattle.bl_proc_bounds.specs.Latches.{IsTidy}
 use Rattle.bl_proc_bounds.specs.Paces.{AllKept}
 use Rattle.bl_proc_bounds.proofs.Bounded.{search_within, search_below}
 use Rattle.bl_store.specs.Pages.{Owner, Stage, Running, Pages, Stands}
-use Rattle.bl_index_rule.specs.declared.known.Mine.{Mine}
+use Rattle.bl_index_rule.specs.declared.known.PassState.{PassState}
 use Rattle.bl_claims.specs.Seeing.{first_map, BeginsFrom, IsSeen, AreWithin, own, name}
-use Rattle.bl_index_rule.specs.Fitting.{Shows, owner_in, IsAtStage, IsHand, IsRun, Fits}
-use Rattle.bl_index_rule.specs.Told.{IsNear, HasOwn, Notes}
+use Rattle.bl_index_rule.specs.Simulation.{Shows, owner_in, IsAtStage, IsHand, IsRun, Simulates}
+use Rattle.bl_index_rule.specs.Observed.{IsNear, HasOwn, Notes}
 use Rattle.bl_index_rule.proofs.Stages.{turn_mark, after, own_after, hand_self, hand_else}
 use Rattle.bl_index_rule.proofs.Sights.{world_moment, world_seen, near_pages}
 use Rattle.bl_index_rule.proofs.Shown.{at_below}
 use Rattle.bl_index_rule.proofs.Within.{within_push}
 use Rattle.bl_index_rule.proofs.Runners.{runs_after}
 
-module _ (s : Pages Mine) (f : Fits s) (n m : ℕ) (st : Stage) (d : Mine) (at : Stands s n st d) (a : Act Page Reply) (s1 : State Page) (b : Run) (t : Turned know f.world (name n m) a s1 b) (runs : Bool) (past : List Entry) where
-  abbrev pub next_known : Mine
+module _ (s : Pages PassState) (f : Simulates s) (n m : ℕ) (st : Stage) (d : PassState) (at : Stands s n st d) (a : Act Page Reply) (s1 : State Page) (b : Run) (t : Turned know f.world (name n m) a s1 b) (runs : Bool) (past : List Entry) where
+  abbrev pub next_known : PassState
   next_known = after f.world f.good n m a s1 b t (length s.hands) d.first runs past
 
   -- the new event is of a pass that there is
   next_within : AreWithin (length s.hands) t.next.trail
   next_within = subst (AreWithin (length s.hands)) (sym t.extends.trail) (within_push (length s.hands) f.world.trail (turn_mark f.world f.good n m a s1 b t) f.within (at_below s.hands n (st, d) at))
 
-  hands_same : (s' : Pages Mine) (st' : Stage) → s'.hands ≡ set s.hands n (st', next_known) → length s'.hands ≡ length s.hands
+  hands_same : (s' : Pages PassState) (st' : Stage) → s'.hands ≡ set s.hands n (st', next_known) → length s'.hands ≡ length s.hands
   hands_same s' st' hands = ap length hands ∙ length-set s.hands n (st', next_known)
 
   -- one state more has the laws of the tree
   next_moments : KeepsLogs t.next → HasMoments (first_map f.image) t.next.start t.next.trail
   next_moments logs = moments_on (first_map f.image) f.world.start t.next.start f.world.trail t.next.trail (turn_mark f.world f.good n m a s1 b t) t.extends.start t.extends.trail f.moments (world_moment t.next f.image t.good logs (t.extends.first ∙ f.first))
 
-  pub advance : KeepsLogs t.next → AllKept t.next → (s' : Pages Mine) (st' : Stage) → s'.hands ≡ set s.hands n (st', next_known) → length s'.contents ≡ length s.contents → d.number ≤ m → s1.clock ≤ s'.clock
+  pub advance : KeepsLogs t.next → AllKept t.next → (s' : Pages PassState) (st' : Stage) → s'.hands ≡ set s.hands n (st', next_known) → length s'.contents ≡ length s.contents → d.number ≤ m → s1.clock ≤ s'.clock
       → ((q : Name) → q ≢ name n m → s1.phase q ≡ f.world.now.phase q)
       → ((x : ℕ) (q : Name) → q ≢ name n m → s1.owner x ≡ machine.Held q → f.world.now.owner x ≡ machine.Held q)
       → ((x : ℕ) (words : List ℕ) → get_elem? s'.contents x ≡ some words → Shows x words (s1.contents x))
@@ -57,7 +57,7 @@ module _ (s : Pages Mine) (f : Fits s) (n m : ℕ) (st : Stage) (d : Mine) (at :
       → IsAtStage t.next n st' next_known
       → ((since : ℕ) → st ≡ Running since → m ≡ d.number)
       → ((since : ℕ) → s1.phase (name n m) ≡ machine.Running since → st' ≡ Running since)
-      → Fits s'
+      → Simulates s'
   advance logs all_kept s' st' hands size le clock others kept pages owners stage current on = record {
     world = t.next;
     good = t.good;
@@ -71,19 +71,19 @@ module _ (s : Pages Mine) (f : Fits s) (n m : ℕ) (st : Stage) (d : Mine) (at :
     pages = λ x words e. subst (λ (z : State Page). Shows x words (z.contents x)) (sym t.now) (pages x words e);
     owners = λ x o e. ap (λ (z : State Page). z.owner x) t.now ∙ owners x o e;
     hands = λ k sg g at_k. ⊎_elim
-        (λ (z : (k ≡ n) × ((st', next_known) ≡ (sg, g))). subst (λ (u : ℕ × (Stage × Mine)). IsHand t.next u.0 u.1.0 u.1.1) (λ i. (sym z.0 i, z.1 i)) (hand_self f.world f.good n m a s1 b t others kept st st' d (length s.hands) d.first runs past (f.hands n st d at) le stage))
+        (λ (z : (k ≡ n) × ((st', next_known) ≡ (sg, g))). subst (λ (u : ℕ × (Stage × PassState)). IsHand t.next u.0 u.1.0 u.1.1) (λ i. (sym z.0 i, z.1 i)) (hand_self f.world f.good n m a s1 b t others kept st st' d (length s.hands) d.first runs past (f.hands n st d at) le stage))
         (λ (z : (k ≢ n) × (get_elem? s.hands k ≡ some (sg, g))). hand_else f.world f.good n m a s1 b t others kept k sg g z.0 (f.hands k sg g z.1))
-        (at_set s.hands n k (st', next_known) (sg, g) (ap (λ (z : List (Stage × Mine)). get_elem? z k) (sym hands) ∙ at_k));
+        (at_set s.hands n k (st', next_known) (sg, g) (ap (λ (z : List (Stage × PassState)). get_elem? z k) (sym hands) ∙ at_k));
     within = subst (λ (z : ℕ). AreWithin z t.next.trail) (sym (hands_same s' st' hands)) next_within;
     counts = λ k sg g at_k begun. ⊎_elim
-        (λ (z : (k ≡ n) × ((st', next_known) ≡ (sg, g))). ap (λ (u : Stage × Mine). u.1.passes) (sym z.1) ∙ sym (hands_same s' st' hands))
+        (λ (z : (k ≡ n) × ((st', next_known) ≡ (sg, g))). ap (λ (u : Stage × PassState). u.1.passes) (sym z.1) ∙ sym (hands_same s' st' hands))
         (λ (z : (k ≢ n) × (get_elem? s.hands k ≡ some (sg, g))). f.counts k sg g z.1 begun ∙ sym (hands_same s' st' hands))
-        (at_set s.hands n k (st', next_known) (sg, g) (ap (λ (z : List (Stage × Mine)). get_elem? z k) (sym hands) ∙ at_k));
+        (at_set s.hands n k (st', next_known) (sg, g) (ap (λ (z : List (Stage × PassState)). get_elem? z k) (sym hands) ∙ at_k));
     firsts = λ k sg g at_k. ⊎_elim
-        (λ (z : (k ≡ n) × ((st', next_known) ≡ (sg, g))). ap (λ (u : Stage × Mine). u.1.first) (sym z.1) ∙ f.firsts n st d at)
+        (λ (z : (k ≡ n) × ((st', next_known) ≡ (sg, g))). ap (λ (u : Stage × PassState). u.1.first) (sym z.1) ∙ f.firsts n st d at)
         (λ (z : (k ≢ n) × (get_elem? s.hands k ≡ some (sg, g))). f.firsts k sg g z.1)
-        (at_set s.hands n k (st', next_known) (sg, g) (ap (λ (z : List (Stage × Mine)). get_elem? z k) (sym hands) ∙ at_k));
-    busy = λ p since runs. subst (λ (z : List (Stage × Mine)). IsRun z p since) (sym hands) (runs_after s.hands n m st st' d next_known at refl f.world.now.phase s1.phase others f.busy current on p since (ap (λ (z : State Page). z.phase p) (sym t.now) ∙ runs));
+        (at_set s.hands n k (st', next_known) (sg, g) (ap (λ (z : List (Stage × PassState)). get_elem? z k) (sym hands) ∙ at_k));
+    busy = λ p since runs. subst (λ (z : List (Stage × PassState)). IsRun z p since) (sym hands) (runs_after s.hands n m st st' d next_known at refl f.world.now.phase s1.phase others f.busy current on p since (ap (λ (z : State Page). z.phase p) (sym t.now) ∙ runs));
   }
 
   pub next_seen : KeepsLogs t.next → IsSeen d.first next_known.trail

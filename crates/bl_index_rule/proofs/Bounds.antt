@@ -38,11 +38,11 @@ use Rattle.bl_proc_bounds.proofs.Latching.{none_up}
 use Rattle.bl_proc_bounds.proofs.Kept.{left_kept, enter_kept}
 use Rattle.bl_proc_unique.specs.Courses.{GoesOn}
 use Rattle.bl_layout.specs.declared.layout.Layout.{Layout}
-use Rattle.bl_store.specs.Pages.{Held, Stage, Idle, Running, Pages, Stands, IsOrderly, HoldsNone, told, Begins as BeginsIn, Ends}
-use Rattle.bl_index_rule.specs.declared.known.Mine.{Mine}
+use Rattle.bl_store.specs.Pages.{Held, Stage, Idle, Running, Pages, Stands, IsOrderly, HoldsNone, observed, Begins as BeginsIn, Ends}
+use Rattle.bl_index_rule.specs.declared.known.PassState.{PassState}
 use Rattle.bl_claims.specs.Seeing.{own, name}
-use Rattle.bl_index_rule.specs.Fitting.{owner_in, IsAtStage, IsHand, Fits}
-use Rattle.bl_index_rule.specs.Told.{MayGiveUp, IsUnborn, Notes, Finishes, begins, ends, gives_up}
+use Rattle.bl_index_rule.specs.Simulation.{owner_in, IsAtStage, IsHand, Simulates}
+use Rattle.bl_index_rule.specs.Observed.{MayGiveUp, IsUnborn, Notes, Finishes, begins, ends, gives_up}
 use Rattle.bl_index_rule.proofs.Entries.{own-mine}
 use Rattle.bl_index_rule.proofs.Marks.{each_append, no_marks}
 use Rattle.bl_index_rule.proofs.Stages.{pass_of, number_of, turn_mark}
@@ -53,7 +53,7 @@ use Rattle.bl_index_rule.proofs.Advance.{next_known, advance, next_notes, next_n
 use Rattle.bl_index_rule.proofs.Turns.{turn_of, standing, is_named, turned, then_log, then_kept}
 
 -- Before a process begins, it stands in the world as one that has done nothing.
-module _ (s : Pages Mine) (f : Fits s) (n : ℕ) (d : Mine) (at : Stands s n Idle d) (b : Run) (blank : IsBlank (know b)) where
+module _ (s : Pages PassState) (f : Simulates s) (n : ℕ) (d : PassState) (at : Stands s n Idle d) (b : Run) (blank : IsBlank (know b)) where
   abbrev next_name : Name
   next_name = name n (d.number + 1)
 
@@ -72,20 +72,20 @@ module _ (s : Pages Mine) (f : Fits s) (n : ℕ) (d : Mine) (at : Stands s n Idl
     ],
   )
 
-  stage_in : (k : ℕ) (st : Stage) (e : Mine) → Stands s k st e → name k e.number ≢ next_name → IsAtStage f.world k st e → IsAtStage entered_world k st e
+  stage_in : (k : ℕ) (st : Stage) (e : PassState) → Stands s k st e → name k e.number ≢ next_name → IsAtStage f.world k st e → IsAtStage entered_world k st e
   stage_in k Idle e at_k ne h = h
   stage_in k (Running since) e at_k ne h =
       let same = kept_proc (name k e.number) ne in
       (h.0, h.1, h.2, ap (λ (r : Run). r.state) same ∙ h.3, h.4 ∙ ap (λ (r : Run). e.past ++ entries_at (name k e.number) (know r).said) (sym same), h.5)
 
   -- the process to come is none that a hand runs
-  not_now : (k : ℕ) (st : Stage) (e : Mine) → Stands s k st e → IsHand f.world k st e → name k e.number ≢ next_name
+  not_now : (k : ℕ) (st : Stage) (e : PassState) → Stands s k st e → IsHand f.world k st e → name k e.number ≢ next_name
   not_now k st e at_k h same = (
       let hands = f.hands n Idle d at in
       let here : k ≡ n = pass_of (name k e.number) next_name same in
-      let there : ◌≡◌ {A = lists.Option (Stage × Mine)} (some (st, e)) (some (Idle, d)) = sym at_k ∙ (ap (λ (z : ℕ). get_elem? s.hands z) here ∙ at) in
-      let one : ◌≡◌ {A = Stage × Mine} (st, e) (Idle, d) = some-injective {A = Stage × Mine} (st, e) (Idle, d) there in
-      let count : e.number ≡ d.number = ap (λ (z : Stage × Mine). z.1.number) one in
+      let there : ◌≡◌ {A = lists.Option (Stage × PassState)} (some (st, e)) (some (Idle, d)) = sym at_k ∙ (ap (λ (z : ℕ). get_elem? s.hands z) here ∙ at) in
+      let one : ◌≡◌ {A = Stage × PassState} (st, e) (Idle, d) = some-injective {A = Stage × PassState} (st, e) (Idle, d) there in
+      let count : e.number ≡ d.number = ap (λ (z : Stage × PassState). z.1.number) one in
       let more : e.number ≡ d.number + 1 = number_of (name k e.number) next_name same in
       omega arith)
 
@@ -97,7 +97,7 @@ module _ (s : Pages Mine) (f : Fits s) (n : ℕ) (d : Mine) (at : Stands s n Idl
       (Each-map _ _ d.trail (λ (m : Mark) (up : m.event.process.pass ≡ n → m.event.process.number ≤ d.number) (e : m.event.process ≡ next_name). (let few = up (pass_of _ _ e) in let is : m.event.process.number ≡ d.number + 1 = number_of _ _ e in absurd (omega arith))) h.counted)
       (Each-map _ _ h.begins.0 (λ (m : Mark) (ne : m.event.process.pass ≢ n) (e : m.event.process ≡ next_name). ne (pass_of _ _ e)) h.begins.2)))
 
-  pub entered : Fits s
+  pub entered : Simulates s
   entered = record {
     world = entered_world;
     good = (let h = (f.hands n Idle d at).later (d.number + 1) (omega arith) in enters_good f.world next_name b f.good h.0 h.1 blank);
@@ -132,7 +132,7 @@ first_anchor = Anchor (record { leftmost = record { items = 1 ∷ [] }; some = o
 abbrev pub fresh_run : Proc → Run
 fresh_run process = record { state = process; got = λ x. first_anchor; child = 0; time = 0 }
 
-pub begins_process : (l : Layout) (n : ℕ) (d : Mine) (process : Proc) → next_of process ≡ act.Begin → IsUnborn process → GoesOn process seen.Done → BeginsIn Fits l n d (begins n l.pages l.passes process)
+pub begins_process : (l : Layout) (n : ℕ) (d : PassState) (process : Proc) → next_of process ≡ act.Begin → IsUnborn process → GoesOn process seen.Done → BeginsIn Simulates l n d (begins n l.pages l.passes process)
 unfolding entered
 begins_process l n d process next unborn course s g o at =
     let b = fresh_run process in
@@ -154,11 +154,11 @@ begins_process l n d process next unborn course s g o at =
     let past : List Entry = own n d.trail in
     let silent : entries_at p (know (w.proc p)).said ≡ [] = ap (entries_at p) (ap (λ (r : Run). (know r).said) here ∙ blank.said) in
     let was : own n w.trail ≡ past ++ entries_at p (know (w.proc p)).said = h.mine ∙ (sym (append-nil past) ∙ ap (λ (z : List Entry). past ++ z) (sym silent)) in
-    let e : Mine = next_known s f n m Idle d at Act.Begin s1 b' t true past in
+    let e : PassState = next_known s f n m Idle d at Act.Begin s1 b' t true past in
     let logs : KeepsLogs t.next = next_logs s f n m Act.Begin s1 b' t (λ z runs. log) in
     let notes : Notes n m Act.Begin d e = next_notes s f n m Idle d at Act.Begin s1 b' t true past logs kept in (
       e,
-      advance s f n m Idle d at Act.Begin s1 b' t true past logs kept (told s n (Running s.clock) e) (Running s.clock) refl refl (omega arith) (omega arith)
+      advance s f n m Idle d at Act.Begin s1 b' t true past logs kept (observed s n (Running s.clock) e) (Running s.clock) refl refl (omega arith) (omega arith)
           (λ q ne. phase.others q ne) (λ x q ne z. z) g.pages
           (λ x own_ z. g.owners x own_ z ∙ sym (other_owner s.hands n (Running s.clock, e) own_ (λ is. h.stage.1 x (g.owners x own_ z ∙ (ap (owner_in s.hands) is ∙ held_by s.hands n (Idle, d) at)))))
           (next_stage s f n m Idle d at Act.Begin s1 b' t true past s.clock refl (λ z. omega arith) phase.at was log)
@@ -186,9 +186,9 @@ end_silent trail m answer is marked (Some said) e = (
     let here = DoesAt-last trail m in
     absurd (point.not_ended (length trail) answer (omega arith) (record { mark = here.mark; is = here.is; event = here.event ∙ (λ i. record { process = m.event.process; act = is i }) })))
 
-module _ (l : Layout) (n : ℕ) (d : Mine) (s : Pages Mine) (since : ℕ) (f : Fits s) (o : IsOrderly l s) (at : Stands s n (Running since) d) (answer : Option Reply) (b : Run)
+module _ (l : Layout) (n : ℕ) (d : PassState) (s : Pages PassState) (since : ℕ) (f : Simulates s) (o : IsOrderly l s) (at : Stands s n (Running since) d) (answer : Option Reply) (b : Run)
     (t : Turned know f.world (name n d.number) (Act.End answer) (record f.world.now { phase = put_name (name n d.number) machine.Ended f.world.now.phase }) b) where
-  pub finishes : AllKept t.next → HoldsNone s n × (e : Mine) × Fits (told s n Idle e) × Finishes answer d e × (e.trail ≡ t.next.trail) × (e.state ≡ b.state)
+  pub finishes : AllKept t.next → HoldsNone s n × (e : PassState) × Simulates (observed s n Idle e) × Finishes answer d e × (e.trail ≡ t.next.trail) × (e.state ≡ b.state)
   finishes all_kept =
       let w = f.world in
       let p = name n d.number in
@@ -197,7 +197,7 @@ module _ (l : Layout) (n : ℕ) (d : Mine) (s : Pages Mine) (since : ℕ) (f : F
       let can : ((c : ℕ) × (w.now.phase p ≡ machine.Running c)) × ((x : ℕ) → w.now.owner x ≢ machine.Held p) = t.extends.steps.enabled in
       let h = f.hands n (Running since) d at in
       let named = is_named s f n since d at in
-      let e : Mine = next_known s f n d.number (Running since) d at (Act.End answer) s1 b t false d.past in
+      let e : PassState = next_known s f n d.number (Running since) d at (Act.End answer) s1 b t false d.past in
       let logs : KeepsLogs t.next = next_logs s f n d.number (Act.End answer) s1 b t (λ z runs. absurd (let both : machine.Ended ≡ machine.Running z = sym phase.at ∙ (ap (λ (y : State Page). y.phase p) (sym t.now) ∙ runs) in cc)) in
       let notes : Notes n d.number (Act.End answer) d e = next_notes s f n d.number (Running since) d at (Act.End answer) s1 b t false d.past logs all_kept in
       let mk = turn_mark w f.good n d.number (Act.End answer) s1 b t in
@@ -205,7 +205,7 @@ module _ (l : Layout) (n : ℕ) (d : Mine) (s : Pages Mine) (since : ℕ) (f : F
       let kept : own n e.trail ≡ own n d.trail = ap (own n) t.extends.trail ∙ (own-mine n w.trail mk refl ∙ (ap (λ (z : Option Said). own n w.trail ++ entries_at p z) silent ∙ (append-nil (own n w.trail) ∙ h.mine))) in (
         λ x z. can.1 x (f.owners x (Held n) z ∙ held_by s.hands n (Running since, d) at),
         e,
-        advance s f n d.number (Running since) d at (Act.End answer) s1 b t false d.past logs all_kept (told s n Idle e) Idle refl refl (omega arith) f.clock
+        advance s f n d.number (Running since) d at (Act.End answer) s1 b t false d.past logs all_kept (observed s n Idle e) Idle refl refl (omega arith) f.clock
             (λ q ne. phase.others q ne) (λ x q ne z. z) f.pages
             (λ x own_ z. f.owners x own_ z ∙ sym (same_owner s.hands n (Running since, d) (Idle, e) own_ at refl))
             (refl, λ x z. can.1 x (ap (λ (y : State Page). y.owner x) (sym t.now) ∙ z))
@@ -222,7 +222,7 @@ module _ (l : Layout) (n : ℕ) (d : Mine) (s : Pages Mine) (since : ℕ) (f : F
         refl,
       )
 
-pub ends_process : (l : Layout) (n : ℕ) (d : Mine) → next_of d.state ≡ act.End → GoesOn d.state seen.Done → Ends Fits l n d ends
+pub ends_process : (l : Layout) (n : ℕ) (d : PassState) → next_of d.state ≡ act.End → GoesOn d.state seen.Done → Ends Simulates l n d ends
 ends_process l n d next course s since f o at =
     let w = f.world in
     let p = name n d.number in
@@ -246,7 +246,7 @@ search_writes (proc.Find a) search marks log = log
 search_writes (proc.Part a) search marks log = log
 search_writes old search marks log = absurd search
 
-pub gives_up_process : (l : Layout) (n : ℕ) (d : Mine) → MayGiveUp d.state → Ends Fits l n d gives_up
+pub gives_up_process : (l : Layout) (n : ℕ) (d : PassState) → MayGiveUp d.state → Ends Simulates l n d gives_up
 gives_up_process l n d may s since f o at =
     let w = f.world in
     let p = name n d.number in

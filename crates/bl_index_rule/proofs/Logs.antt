@@ -12,9 +12,9 @@ use Rattle.bl_proc_invariant.specs.Turns.{Turned}
 use Rattle.bl_proc_invariant.specs.Knowing.{Run, know}
 use Rattle.bl_proc_invariant.proofs.Middles.{KeepsLogs}
 use Rattle.bl_store.specs.Pages.{Running, Pages}
-use Rattle.bl_index_rule.specs.declared.known.Mine.{Mine}
+use Rattle.bl_index_rule.specs.declared.known.PassState.{PassState}
 use Rattle.bl_claims.specs.Seeing.{name}
-use Rattle.bl_index_rule.specs.Fitting.{Fits}
+use Rattle.bl_index_rule.specs.Simulation.{Simulates}
 use Rattle.bl_index_rule.proofs.Doings.{log_else}
 
 -- an event of one process leaves the phases of all others
@@ -31,17 +31,17 @@ other_phase s s' p q (Act.Look it) c ne = c.2 q
 other_phase s s' p q (Act.Release x) c ne = c.2 q
 other_phase s s' p q (Act.Miss what) c ne = c.2 q
 
-fits_logs : (s : Pages Mine) (f : Fits s) → KeepsLogs f.world
+fits_logs : (s : Pages PassState) (f : Simulates s) → KeepsLogs f.world
 fits_logs s f p since runs =
     let r = f.busy p since runs in
-    let d : Mine = r.0 in
+    let d : PassState = r.0 in
     let at = (f.hands p.pass (Running since) d r.1).stage in
     let is : p ≡ name p.pass d.number = λ i. name p.pass (r.2 i) in
     let log : proc_log (f.world.proc (name p.pass d.number)).state (marks_of (name p.pass d.number) f.world.trail) = subst (λ (z : Proc). proc_log z (marks_of (name p.pass d.number) f.world.trail)) (sym at.3) at.5 in
     subst (λ (z : Name). proc_log (f.world.proc z).state (marks_of z f.world.trail)) (sym is) log
 
 -- after a turn, where its own process has done so if it still runs
-pub next_logs : (s : Pages Mine) (f : Fits s) (n m : ℕ) (a : Act Page Reply) (s1 : State Page) (b : Run) (t : Turned know f.world (name n m) a s1 b)
+pub next_logs : (s : Pages PassState) (f : Simulates s) (n m : ℕ) (a : Act Page Reply) (s1 : State Page) (b : Run) (t : Turned know f.world (name n m) a s1 b)
     → ((since : ℕ) → t.next.now.phase (name n m) ≡ machine.Running since → proc_log b.state (marks_of (name n m) t.next.trail)) → KeepsLogs t.next
 next_logs s f n m a s1 b t own q since runs = elim (name_cases q (name n m)) [
   | inl e ↦

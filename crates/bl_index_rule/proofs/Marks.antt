@@ -6,7 +6,7 @@ use Rattle.bl_core.proofs.Pushes.{not_same}
 use Rattle.bl_claims.specs.Walks.{Each}
 use Rattle.bl_core.proofs.Frames.{Each-map}
 use Rattle.bl_claims.specs.Seeing.{AreElse}
-use Rattle.bl_index_rule.specs.Fitting.{AreUpTo}
+use Rattle.bl_index_rule.specs.Simulation.{AreUpTo}
 
 pub each_append : {A : Type 0} (P : A → Type 0) (xs ys : List A) → Each P xs → Each P ys → Each P (xs ++ ys)
 each_append P [] ys h k = k

@@ -19,21 +19,21 @@ use Rattle.bl_proc_base.specs.declared.acts.Action.TheVariants as act
 use Rattle.bl_proc_base.specs.declared.acts.Seen.{Seen}
 use Rattle.bl_proc_base.specs.declared.acts.Seen.TheVariants as seen
 use Rattle.bl_proc.specs.Processes.{next_of}
-use Rattle.bl_proc_invariant.specs.Turns.{event_of, IsTold, IsShown, Does}
+use Rattle.bl_proc_invariant.specs.Turns.{event_of, IsObserved, IsShown, Does}
 use Rattle.bl_proc_invariant.specs.Knowing.{know, end_of_proc}
 use Rattle.bl_proc_invariant.proofs.Gets.{IsGot, got_next_is}
 use Rattle.bl_proc_unique.specs.Courses.{GoesOn}
 use Rattle.bl_layout.specs.declared.layout.Layout.{Layout}
-use Rattle.bl_store.specs.Pages.{Owner, Released, Open, Held, Retired, Stage, Running, Pages, Stands, later, told, owned, written, Gets, Puts, Takes, Latches, Misses, Probes, Opens, Retires, Refuses}
-use Rattle.bl_index_rule.specs.declared.known.Mine.{Mine}
+use Rattle.bl_store.specs.Pages.{Owner, Released, Open, Held, Retired, Stage, Running, Pages, Stands, later, observed, owned, written, Gets, Puts, Takes, Latches, Misses, Probes, Opens, Retires, Refuses}
+use Rattle.bl_index_rule.specs.declared.known.PassState.{PassState}
 use Rattle.bl_claims.specs.Seeing.{name}
-use Rattle.bl_index_rule.specs.Fitting.{Shows, owner_in, Fits}
-use Rattle.bl_index_rule.specs.Told.{Goes, gets, puts, opens, retires, takes, tries, probes, refuses}
+use Rattle.bl_index_rule.specs.Simulation.{Shows, owner_in, Simulates}
+use Rattle.bl_index_rule.specs.Observed.{Goes, gets, puts, opens, retires, takes, tries, probes, refuses}
 use Rattle.bl_index_rule.proofs.Shown.{at_below, shows_words, got_words, is_held, is_released, held_by}
 use Rattle.bl_index_rule.proofs.Turns.{standing, turned, then_known, then_goes, then_fits, runs_on}
 
 -- an event that leaves all pages and owners as they are
-unmoved : (s : Pages Mine) (f : Fits s) (n since : ℕ) (d : Mine) → Stands s n (Running since) d → (what : Seen) → GoesOn d.state what → (a : Action) → next_of d.state ≡ a → IsTold f.world.now f.world.size a what → IsShown f.world.now (name n d.number) (f.world.proc (name n d.number)).time a what → Does f.world.now (name n d.number) (event_of (end_of_proc d.state) a what) f.world.now → (e : Mine) × Fits (told s n (Running since) e) × Goes what d e
+unmoved : (s : Pages PassState) (f : Simulates s) (n since : ℕ) (d : PassState) → Stands s n (Running since) d → (what : Seen) → GoesOn d.state what → (a : Action) → next_of d.state ≡ a → IsObserved f.world.now f.world.size a what → IsShown f.world.now (name n d.number) (f.world.proc (name n d.number)).time a what → Does f.world.now (name n d.number) (event_of (end_of_proc d.state) a what) f.world.now → (e : PassState) × Simulates (observed s n (Running since) e) × Goes what d e
 unmoved s f n since d at what c a next said shown does = (
   then_known s f n since d at what c a next f.world.now said shown does,
   then_fits s f n since d at what c a next f.world.now said shown does s refl refl f.clock (λ q. refl) (λ x q ne e. e) f.pages f.owners,
@@ -41,9 +41,9 @@ unmoved s f n since d at what c a next said shown does = (
 )
 
 -- an event by which a page gets another owner, and the time may pass
-moved_by : (s : Pages Mine) (f : Fits s) (n since : ℕ) (d : Mine) → Stands s n (Running since) d → (what : Seen) → GoesOn d.state what → (a : Action) → next_of d.state ≡ a → (x : ℕ) (was o : Owner) → get_elem? s.owners x ≡ some was → (o' : machine.Owner) → o' ≡ owner_in s.hands o → ((q : Name) → q ≢ name n d.number → o' ≢ machine.Held q) → (time then : ℕ) → time ≤ then → IsTold f.world.now f.world.size a what → IsShown f.world.now (name n d.number) (f.world.proc (name n d.number)).time a what
+moved_by : (s : Pages PassState) (f : Simulates s) (n since : ℕ) (d : PassState) → Stands s n (Running since) d → (what : Seen) → GoesOn d.state what → (a : Action) → next_of d.state ≡ a → (x : ℕ) (was o : Owner) → get_elem? s.owners x ≡ some was → (o' : machine.Owner) → o' ≡ owner_in s.hands o → ((q : Name) → q ≢ name n d.number → o' ≢ machine.Held q) → (time then : ℕ) → time ≤ then → IsObserved f.world.now f.world.size a what → IsShown f.world.now (name n d.number) (f.world.proc (name n d.number)).time a what
     → Does f.world.now (name n d.number) (event_of (end_of_proc d.state) a what) (record f.world.now { owner = put_at x o' f.world.now.owner; clock = time })
-    → (e : Mine) × Fits (told (record (owned s x o) { clock = then }) n (Running since) e) × Goes what d e
+    → (e : PassState) × Simulates (observed (record (owned s x o) { clock = then }) n (Running since) e) × Goes what d e
 moved_by s f n since d at what c a next x was o here o' is else time then le said shown does =
     let s1 : State Page = record f.world.now { owner = put_at x o' f.world.now.owner; clock = time } in
     let put = is_put_at x o' f.world.now.owner in (
@@ -67,19 +67,19 @@ moved_by s f n since d at what c a next x was o here o' is else time then le sai
     either_page (suc y) zero = inr (λ e. omega arith)
     either_page (suc y) (suc x) = ⊎_elim (λ e. inl (ap suc e)) (λ ne. inr (λ e. ne (omega arith))) (either_page y x)
 
-moved : (s : Pages Mine) (f : Fits s) (n since : ℕ) (d : Mine) → Stands s n (Running since) d → (what : Seen) → GoesOn d.state what → (a : Action) → next_of d.state ≡ a → (x : ℕ) (was o : Owner) → get_elem? s.owners x ≡ some was → (o' : machine.Owner) → o' ≡ owner_in s.hands o → ((q : Name) → q ≢ name n d.number → o' ≢ machine.Held q) → IsTold f.world.now f.world.size a what → IsShown f.world.now (name n d.number) (f.world.proc (name n d.number)).time a what
+moved : (s : Pages PassState) (f : Simulates s) (n since : ℕ) (d : PassState) → Stands s n (Running since) d → (what : Seen) → GoesOn d.state what → (a : Action) → next_of d.state ≡ a → (x : ℕ) (was o : Owner) → get_elem? s.owners x ≡ some was → (o' : machine.Owner) → o' ≡ owner_in s.hands o → ((q : Name) → q ≢ name n d.number → o' ≢ machine.Held q) → IsObserved f.world.now f.world.size a what → IsShown f.world.now (name n d.number) (f.world.proc (name n d.number)).time a what
     → Does f.world.now (name n d.number) (event_of (end_of_proc d.state) a what) (record f.world.now { owner = put_at x o' f.world.now.owner })
-    → (e : Mine) × Fits (told (owned s x o) n (Running since) e) × Goes what d e
+    → (e : PassState) × Simulates (observed (owned s x o) n (Running since) e) × Goes what d e
 moved s f n since d at what c a next x was o here o' is else said shown does = moved_by s f n since d at what c a next x was o here o' is else f.world.now.clock s.clock f.clock said shown does
 
 -- where the hand runs its process
-running : (R : Stage → Type 0) (s : Pages Mine) (f : Fits s) (n : ℕ) (st : Stage) (d : Mine) → d.runs ≡ true → Stands s n st d → ((since : ℕ) → Stands s n (Running since) d → R (Running since)) → R st
+running : (R : Stage → Type 0) (s : Pages PassState) (f : Simulates s) (n : ℕ) (st : Stage) (d : PassState) → d.runs ≡ true → Stands s n st d → ((since : ℕ) → Stands s n (Running since) d → R (Running since)) → R st
 running R s f n st d runs at go =
     let r = runs_on s f n st d at runs in
     subst R (sym r.1) (go r.0 (subst (λ (z : Stage). Stands s n z d) r.1 at))
 
-module _ (l : Layout) (n : ℕ) (d : Mine) (runs : d.runs ≡ true) where
-  pub gets_page : (x : ℕ) → next_of d.state ≡ act.Get x → ((c : Page) → GoesOn d.state (seen.Words c)) → Gets Fits l n d x gets
+module _ (l : Layout) (n : ℕ) (d : PassState) (runs : d.runs ≡ true) where
+  pub gets_page : (x : ℕ) → next_of d.state ≡ act.Get x → ((c : Page) → GoesOn d.state (seen.Words c)) → Gets Simulates l n d x gets
   gets_page x next course s since words owner f o at page =
       let w = f.world in
       let p = name n d.number in
@@ -94,9 +94,9 @@ module _ (l : Layout) (n : ℕ) (d : Mine) (runs : d.runs ≡ true) where
       let u = unmoved s f n since d at (seen.Words c) (course c) (act.Get x) next refl tt does in
       (λ e. can.1 (f.owners x owner page.1 ∙ is_released s.hands owner e), u.0, u.1, (c, words_are, u.2))
 
-  pub puts_page : (x : ℕ) (new : List ℕ) (c : Page) → next_of d.state ≡ act.Put x c → new ≡ words_of c → GoesOn d.state seen.Done → Puts Fits l n d x new puts
+  pub puts_page : (x : ℕ) (new : List ℕ) (c : Page) → next_of d.state ≡ act.Put x c → new ≡ words_of c → GoesOn d.state seen.Done → Puts Simulates l n d x new puts
   puts_page x new c next is course s st words owner f o at page =
-      running (λ sg. (owner ≡ Held n) × (e : Mine) × Fits (told (written s x new) n sg e) × puts d x owner words e) s f n st d runs at (λ since at'.
+      running (λ sg. (owner ≡ Held n) × (e : PassState) × Simulates (observed (written s x new) n sg e) × puts d x owner words e) s f n st d runs at (λ since at'.
       let w = f.world in
       let p = name n d.number in
       let s1 : State Page = record w.now { contents = put_at x c w.now.contents } in
@@ -115,9 +115,9 @@ module _ (l : Layout) (n : ℕ) (d : Mine) (runs : d.runs ≡ true) where
         then_goes s f n since d at' seen.Done course (act.Put x c) next s1 tt tt does,
       ))
 
-  pub opens_page : (x : ℕ) → next_of d.state ≡ act.Open x → GoesOn d.state seen.Done → Opens Fits l n d x opens
+  pub opens_page : (x : ℕ) → next_of d.state ≡ act.Open x → GoesOn d.state seen.Done → Opens Simulates l n d x opens
   opens_page x next course s st words owner f o at page =
-      running (λ sg. (owner ≡ Held n) × (e : Mine) × Fits (told (owned s x Open) n sg e) × opens d x owner words e) s f n st d runs at (λ since at'.
+      running (λ sg. (owner ≡ Held n) × (e : PassState) × Simulates (observed (owned s x Open) n sg e) × opens d x owner words e) s f n st d runs at (λ since at'.
       let w = f.world in
       let p = name n d.number in
       let does : Does w.now p (Act.Open x) (record w.now { owner = put_at x machine.Owner.Open w.now.owner }) = record { changes = (λ z. refl, is_put_at x machine.Owner.Open w.now.owner, λ q. refl); on = omega arith } in
@@ -127,9 +127,9 @@ module _ (l : Layout) (n : ℕ) (d : Mine) (runs : d.runs ≡ true) where
       (is_held s.hands n d.number owner (sym (f.owners x owner page.1) ∙ can), u.0, u.1, u.2))
 
   -- it is retired at the time of the store's clock, which the world's has not passed
-  pub retires_page : (x : ℕ) → next_of d.state ≡ act.Retire x → GoesOn d.state seen.Done → Retires Fits l n d x retires
+  pub retires_page : (x : ℕ) → next_of d.state ≡ act.Retire x → GoesOn d.state seen.Done → Retires Simulates l n d x retires
   retires_page x next course s st words owner f o at page =
-      running (λ sg. (owner ≡ Held n) × (e : Mine) × Fits (told (later (owned s x (Retired s.clock))) n sg e) × retires d s.clock e) s f n st d runs at (λ since at'.
+      running (λ sg. (owner ≡ Held n) × (e : PassState) × Simulates (observed (later (owned s x (Retired s.clock))) n sg e) × retires d s.clock e) s f n st d runs at (λ since at'.
       let w = f.world in
       let p = name n d.number in
       let s1 : State Page = record w.now { owner = put_at x (machine.Retired s.clock) w.now.owner; clock = s.clock + 1 } in
@@ -143,9 +143,9 @@ module _ (l : Layout) (n : ℕ) (d : Mine) (runs : d.runs ≡ true) where
       let u = moved_by s f n since d at' seen.Done course (act.Retire x) next x owner (Retired s.clock) page.1 (machine.Retired s.clock) refl (λ q ne e. let z : machine.Retired s.clock ≡ machine.Held q = e in cc) (s.clock + 1) (s.clock + 1) (omega arith) tt tt does in
       (is_held s.hands n d.number owner (sym (f.owners x owner page.1) ∙ can), u.0, u.1, u.2))
 
-  pub latches_page : (x : ℕ) → next_of d.state ≡ act.Latch x → GoesOn d.state seen.Done → Latches Fits l n d x tries
+  pub latches_page : (x : ℕ) → next_of d.state ≡ act.Latch x → GoesOn d.state seen.Done → Latches Simulates l n d x tries
   latches_page x next course s st words f o at page =
-      running (λ sg. (e : Mine) × Fits (told (owned s x (Held n)) n sg e) × tries d x Open words e) s f n st d runs at (λ since at'.
+      running (λ sg. (e : PassState) × Simulates (observed (owned s x (Held n)) n sg e) × tries d x Open words e) s f n st d runs at (λ since at'.
       let w = f.world in
       let p = name n d.number in
       let free : w.now.owner x ≡ machine.Owner.Open = f.owners x Open page.1 in
@@ -154,14 +154,14 @@ module _ (l : Layout) (n : ℕ) (d : Mine) (runs : d.runs ≡ true) where
       (u.0, u.1, ((λ e. u.2), λ ne. absurd (ne refl))))
 
   -- what it is told of the page is true
-  probed : (x : ℕ) (s : Pages Mine) (st : Stage) (f : Fits s) → Stands s n st d → next_of d.state ≡ act.Probe x → (free : Bool) → GoesOn d.state (seen.Probed free) → (free ≡ true → f.world.now.owner x ≡ machine.Owner.Open) → (e : Mine) × Fits (told s n st e) × Goes (seen.Probed free) d e
-  probed x s st f at next free course told_it =
-      running (λ sg. (e : Mine) × Fits (told s n sg e) × Goes (seen.Probed free) d e) s f n st d runs at (λ since at'.
+  probed : (x : ℕ) (s : Pages PassState) (st : Stage) (f : Simulates s) → Stands s n st d → next_of d.state ≡ act.Probe x → (free : Bool) → GoesOn d.state (seen.Probed free) → (free ≡ true → f.world.now.owner x ≡ machine.Owner.Open) → (e : PassState) × Simulates (observed s n st e) × Goes (seen.Probed free) d e
+  probed x s st f at next free course observed_it =
+      running (λ sg. (e : PassState) × Simulates (observed s n sg e) × Goes (seen.Probed free) d e) s f n st d runs at (λ since at'.
       let w = f.world in
       let does : Does w.now (name n d.number) (Act.Look (OfPage x)) w.now = record { changes = (λ z. refl, λ z. refl, λ q. refl); on = omega arith } in
-      unmoved s f n since d at' (seen.Probed free) course (act.Probe x) next told_it tt does)
+      unmoved s f n since d at' (seen.Probed free) course (act.Probe x) next observed_it tt does)
 
-  pub probes_page : (x : ℕ) → next_of d.state ≡ act.Probe x → ((free : Bool) → GoesOn d.state (seen.Probed free)) → Probes Fits l n d x probes
+  pub probes_page : (x : ℕ) → next_of d.state ≡ act.Probe x → ((free : Bool) → GoesOn d.state (seen.Probed free)) → Probes Simulates l n d x probes
   probes_page x next course s st words Open f o at page =
       let u = probed x s st f at next true (course true) (λ e. f.owners x Open page.1) in
       (u.0, u.1, ((λ e. u.2), λ ne. absurd (ne refl)))
@@ -175,17 +175,17 @@ module _ (l : Layout) (n : ℕ) (d : Mine) (runs : d.runs ≡ true) where
       let u = probed x s st f at next false (course false) (λ e. absurd (cc e)) in
       (u.0, u.1, ((λ e. absurd (cc e)), λ ne. u.2))
 
-  pub misses_page : (x : ℕ) → next_of d.state ≡ act.Latch x → GoesOn d.state seen.Missed → Misses Fits l n d x tries
+  pub misses_page : (x : ℕ) → next_of d.state ≡ act.Latch x → GoesOn d.state seen.Missed → Misses Simulates l n d x tries
   misses_page x next course s st words owner f o at page shut =
-      running (λ sg. (e : Mine) × Fits (told s n sg e) × tries d x owner words e) s f n st d runs at (λ since at'.
+      running (λ sg. (e : PassState) × Simulates (observed s n sg e) × tries d x owner words e) s f n st d runs at (λ since at'.
       let w = f.world in
       let does : Does w.now (name n d.number) (Act.Miss (missed.Latch x)) w.now = record { changes = (λ z. refl, λ z. refl, λ q. refl); on = omega arith } in
       let u = unmoved s f n since d at' seen.Missed course (act.Latch x) next tt tt does in
       (u.0, u.1, ((λ e. absurd (shut e)), λ ne. u.2)))
 
-  pub takes_page : (x : ℕ) → next_of d.state ≡ act.Take → ((y : ℕ) → IsChild y → GoesOn d.state (seen.Took y)) → Takes Fits l n d x takes
+  pub takes_page : (x : ℕ) → next_of d.state ≡ act.Take → ((y : ℕ) → IsChild y → GoesOn d.state (seen.Took y)) → Takes Simulates l n d x takes
   takes_page x next course s st words f o at page =
-      running (λ sg. (e : Mine) × Fits (told (owned s x (Held n)) n sg e) × takes d x Released words e) s f n st d runs at (λ since at'.
+      running (λ sg. (e : PassState) × Simulates (observed (owned s x (Held n)) n sg e) × takes d x Released words e) s f n st d runs at (λ since at'.
       let w = f.world in
       let p = name n d.number in
       let free : w.now.owner x ≡ machine.Released = f.owners x Released page.1 in
@@ -203,17 +203,17 @@ module _ (l : Layout) (n : ℕ) (d : Mine) (runs : d.runs ≡ true) where
       above zero e = absurd (anchor_not_released know f.world f.good e)
       above (suc x) e = omega arith
 
-  pub refuses_take : next_of d.state ≡ act.Take → GoesOn d.state seen.Refused → Refuses Fits l n d refuses
+  pub refuses_take : next_of d.state ≡ act.Take → GoesOn d.state seen.Refused → Refuses Simulates l n d refuses
   refuses_take next course s st f o at =
-      running (λ sg. (e : Mine) × Fits (told s n sg e) × refuses d s.clock e) s f n st d runs at (λ since at'.
+      running (λ sg. (e : PassState) × Simulates (observed s n sg e) × refuses d s.clock e) s f n st d runs at (λ since at'.
       let w = f.world in
       let does : Does w.now (name n d.number) (Act.Miss missed.Reservation) w.now = record { changes = (λ z. refl, λ z. refl, λ q. refl); on = omega arith } in
       let u = unmoved s f n since d at' seen.Refused course act.Take next tt tt does in
       (u.0, u.1, u.2))
 
-  pub refuses_put : (x : ℕ) (c : Page) → next_of d.state ≡ act.Put x c → GoesOn d.state seen.Refused → Refuses Fits l n d refuses
+  pub refuses_put : (x : ℕ) (c : Page) → next_of d.state ≡ act.Put x c → GoesOn d.state seen.Refused → Refuses Simulates l n d refuses
   refuses_put x c next course s st f o at =
-      running (λ sg. (e : Mine) × Fits (told s n sg e) × refuses d s.clock e) s f n st d runs at (λ since at'.
+      running (λ sg. (e : PassState) × Simulates (observed s n sg e) × refuses d s.clock e) s f n st d runs at (λ since at'.
       let w = f.world in
       let does : Does w.now (name n d.number) (Act.Miss missed.Reservation) w.now = record { changes = (λ z. refl, λ z. refl, λ q. refl); on = omega arith } in
       let u = unmoved s f n since d at' seen.Refused course (act.Put x c) next tt tt does in

@@ -19,11 +19,11 @@ use Rattle.bl_proc_invariant.proofs.Middles.{KeepsLogs}
 use Rattle.bl_proc_bounds.specs.Paces.{AllKept}
 use Rattle.bl_proc_bounds.proofs.Kept.{idle_kept}
 use Rattle.bl_layout.specs.declared.layout.Layout.{Layout}
-use Rattle.bl_store.specs.Pages.{Owner, Released, Held, Retired, Stage, Idle, Running, Pages, Stands, IsPage, AllBeganAfter, told, owned, Releases, ReleasesMany as SweepsIn}
-use Rattle.bl_index_rule.specs.declared.known.Mine.{Mine}
+use Rattle.bl_store.specs.Pages.{Owner, Released, Held, Retired, Stage, Idle, Running, Pages, Stands, IsPage, AllBeganAfter, observed, owned, Releases, ReleasesMany as SweepsIn}
+use Rattle.bl_index_rule.specs.declared.known.PassState.{PassState}
 use Rattle.bl_claims.specs.Seeing.{own, name}
-use Rattle.bl_index_rule.specs.Fitting.{owner_in, Fits}
-use Rattle.bl_index_rule.specs.Told.{ReleasesPages, sweeps}
+use Rattle.bl_index_rule.specs.Simulation.{owner_in, Simulates}
+use Rattle.bl_index_rule.specs.Observed.{ReleasesPages, sweeps}
 use Rattle.bl_index_rule.proofs.Entries.{own-mine}
 use Rattle.bl_index_rule.proofs.Marks.{each_append, no_marks, many-append}
 use Rattle.bl_index_rule.proofs.Stages.{turn_mark, pass_of, number_of}
@@ -33,10 +33,10 @@ use Rattle.bl_index_rule.proofs.Logs.{next_logs}
 use Rattle.bl_index_rule.proofs.Advance.{next_known, advance, next_notes, next_seen}
 
 -- the process is the last of the pass, or the next one
-abbrev IsNext : Mine → ℕ → Type 0
+abbrev IsNext : PassState → ℕ → Type 0
 IsNext d m = (d.number + 1 ≡ m) ⊎ (d.number ≡ m)
 
-module _ (s : Pages Mine) (f : Fits s) (n m : ℕ) (d : Mine) (at : Stands s n Idle d) (next : IsNext d m) where
+module _ (s : Pages PassState) (f : Simulates s) (n m : ℕ) (d : PassState) (at : Stands s n Idle d) (next : IsNext d m) where
   abbrev p : Name
   p = name n m
 
@@ -64,7 +64,7 @@ module _ (s : Pages Mine) (f : Fits s) (n m : ℕ) (d : Mine) (at : Stands s n I
     then_kept : AllKept turned.next
     then_kept = idle_kept f.world turned.next _ turned.extends f.good turned.good refl refl (λ y e. cc) f.kept
 
-    abbrev then_known : Mine
+    abbrev then_known : PassState
     then_known = next_known s f n m Idle d at (Act.Release x) freed (f.world.proc p) turned false d.past
 
     -- who holds a page held it before
@@ -88,19 +88,19 @@ module _ (s : Pages Mine) (f : Fits s) (n m : ℕ) (d : Mine) (at : Stands s n I
     idle : (z : ℕ) → f.world.now.phase p ≢ machine.Running z
     idle z runs = (
         let r = f.busy p z runs in
-        let one : ◌≡◌ {A = Stage × Mine} (Idle, d) (Running z, r.0) = one_hand s.hands n (Idle, d) (Running z, r.0) at r.1 in
-        let both : Idle ≡ Running z = ap (λ (v : Stage × Mine). v.0) one in
+        let one : ◌≡◌ {A = Stage × PassState} (Idle, d) (Running z, r.0) = one_hand s.hands n (Idle, d) (Running z, r.0) at r.1 in
+        let both : Idle ≡ Running z = ap (λ (v : Stage × PassState). v.0) one in
         cc)
 
     then_logs : KeepsLogs turned.next
     then_logs = next_logs s f n m (Act.Release x) freed (f.world.proc p) turned (λ z runs. absurd (idle z (ap (λ (v : State Page). v.phase p) (sym turned.now) ∙ runs)))
 
-    then_fits : Fits (told (owned s x Released) n Idle then_known)
-    then_fits = advance s f n m Idle d at (Act.Release x) freed (f.world.proc p) turned false d.past then_logs then_kept (told (owned s x Released) n Idle then_known) Idle refl refl (elim next [ inl e ↦ omega arith | inr e ↦ omega arith ]) f.clock
+    then_fits : Simulates (observed (owned s x Released) n Idle then_known)
+    then_fits = advance s f n m Idle d at (Act.Release x) freed (f.world.proc p) turned false d.past then_logs then_kept (observed (owned s x Released) n Idle then_known) Idle refl refl (elim next [ inl e ↦ omega arith | inr e ↦ omega arith ]) f.clock
         (λ q ne. refl) (λ y q ne e. held_before y q e) f.pages owners_after
         (refl, λ y z. empty y (held_before y p (ap (λ (v : State Page). v.owner y) (sym turned.now) ∙ z)))
         (λ z i. absurd (let both : Idle ≡ Running z = i in cc))
-        (λ z runs. (let r = f.busy p z runs in let one : ◌≡◌ {A = Stage × Mine} (Idle, d) (Running z, r.0) = one_hand s.hands n (Idle, d) (Running z, r.0) at r.1 in ap (λ (v : Stage × Mine). v.0) one))
+        (λ z runs. (let r = f.busy p z runs in let one : ◌≡◌ {A = Stage × PassState} (Idle, d) (Running z, r.0) = one_hand s.hands n (Idle, d) (Running z, r.0) at r.1 in ap (λ (v : Stage × PassState). v.0) one))
 
     then_sweeps : ReleasesPages n m (length s.hands) 1 d then_known
     then_sweeps =
@@ -122,7 +122,7 @@ module _ (s : Pages Mine) (f : Fits s) (n m : ℕ) (d : Mine) (at : Stands s n I
           runs = refl;
         }
 
-releases_page : (l : Layout) (n m : ℕ) (d : Mine) (x time : ℕ) → d.runs ≡ false → IsNext d m → Releases Fits l n d x time (sweeps n m l.passes d 1)
+releases_page : (l : Layout) (n m : ℕ) (d : PassState) (x time : ℕ) → d.runs ≡ false → IsNext d m → Releases Simulates l n d x time (sweeps n m l.passes d 1)
 releases_page l n m d x time rests next s Idle words f o at page all = (
   then_known s f n m d at next x time words page all,
   then_fits s f n m d at next x time words page all,
@@ -130,7 +130,7 @@ releases_page l n m d x time rests next s Idle words f o at page all = (
 )
 releases_page l n m d x time rests next s (Running since) words f o at page all = absurd (false≢true (sym rests ∙ (f.hands n (Running since) d at).stage.0))
 
-sweeps_more : (n m k i j : ℕ) (d e g : Mine) → ReleasesPages n m k i d e → ReleasesPages n m k j e g → ReleasesPages n m k (i + j) d g
+sweeps_more : (n m k i j : ℕ) (d e g : PassState) → ReleasesPages n m k i d e → ReleasesPages n m k j e g → ReleasesPages n m k (i + j) d g
 sweeps_more n m k i j d e g a b = record {
   more = a.more ++ b.more;
   trail = b.trail ∙ (ap (λ (l : Trail). l ++ b.more) a.trail ∙ append_assoc d.trail a.more b.more);
@@ -145,18 +145,18 @@ sweeps_more n m k i j d e g a b = record {
   runs = b.runs;
 }
 
-sweeps_on : (n m k i : ℕ) (d e g : Mine) → sweeps n m k d i e → sweeps n m k e 1 g → sweeps n m k d (i + 1) g
-sweeps_on n m k i d e g (inl a) t = subst (λ (z : Mine × ℕ). sweeps n m k z.0 (z.1 + 1) g) (λ at. (a.0 at, sym a.1 at)) t
+sweeps_on : (n m k i : ℕ) (d e g : PassState) → sweeps n m k d i e → sweeps n m k e 1 g → sweeps n m k d (i + 1) g
+sweeps_on n m k i d e g (inl a) t = subst (λ (z : PassState × ℕ). sweeps n m k z.0 (z.1 + 1) g) (λ at. (a.0 at, sym a.1 at)) t
 sweeps_on n m k i d e g (inr a) (inl b) = absurd (let one : 1 ≡ 0 = b.1 in omega arith)
 sweeps_on n m k i d e g (inr a) (inr b) = inr (sweeps_more n m k i 1 d e g a b)
 
 -- any number of releases, by the next process of a pass that runs none
-pub sweeps_pages : (l : Layout) (n m : ℕ) (d : Mine) → d.runs ≡ false → d.number + 1 ≡ m → SweepsIn Fits l n d (sweeps n m l.passes)
+pub sweeps_pages : (l : Layout) (n m : ℕ) (d : PassState) → d.runs ≡ false → d.number + 1 ≡ m → SweepsIn Simulates l n d (sweeps n m l.passes)
 sweeps_pages l n m d rests next = (
   inl (refl, refl),
   λ e g i. sweeps_on n m l.passes i d e g,
   λ e i x time by. elim by [
-    | inl is ↦ releases_page l n m e x time (ap (λ (z : Mine). z.runs) is.0 ∙ rests) (inl (ap (λ (z : Mine). z.number + 1) is.0 ∙ next))
+    | inl is ↦ releases_page l n m e x time (ap (λ (z : PassState). z.runs) is.0 ∙ rests) (inl (ap (λ (z : PassState). z.number + 1) is.0 ∙ next))
     | inr t ↦ releases_page l n m e x time t.runs (inr t.number)
   ],
 )

@@ -31,9 +31,9 @@ use Rattle.bl_proc_invariant.proofs.Middles.{KeepsLogs}
 use Rattle.bl_proc_bounds.proofs.Kept.{first_kept}
 use Rattle.bl_store.specs.Pages.{Owner, Stage, Idle}
 use Rattle.bl_store.specs.Opening.{is_blank, first_owner, first_pages}
-use Rattle.bl_index_rule.specs.declared.known.Mine.{Mine}
+use Rattle.bl_index_rule.specs.declared.known.PassState.{PassState}
 use Rattle.bl_claims.specs.Seeing.{first_map, BeginsFrom, IsSeen, name}
-use Rattle.bl_index_rule.specs.Fitting.{unborn, beginner, Shows, owner_in, IsHand, Fits}
+use Rattle.bl_index_rule.specs.Simulation.{unborn, beginner, Shows, owner_in, IsHand, Simulates}
 use Rattle.bl_index_rule.proofs.Within.{none_within}
 use Rattle.bl_index_rule.proofs.Sights.{world_moment, world_seen}
 use Rattle.bl_index_rule.proofs.Bounds.{first_anchor, fresh_run}
@@ -95,7 +95,7 @@ not_blank page = elim (bool_cases (is_blank (words_of page))) [
   | inr is ↦ is
 ]
 
-owns_page : (hands : List (Stage × Mine)) (page : Option Page) → owner_of page ≡ owner_in hands (first_owner (page_words page))
+owns_page : (hands : List (Stage × PassState)) (page : Option Page) → owner_of page ≡ owner_in hands (first_owner (page_words page))
 owns_page hands None = refl
 owns_page hands (Some page) = rw (not_blank page) refl
 
@@ -145,7 +145,7 @@ module _ (pages : List (Option Page)) (bytes : List ℕ) (image : IsImage pages 
       let at : page_at pages x ≡ is.0 = page_there pages x is.0 is.1 in
       subst (λ (z : List ℕ × Option Page). Shows x z.0 (contents_in z.1)) (λ i. (is.2 i, sym at i)) (shows_page x is.0 (anchor_there x is.0 at))
 
-  owner_at : (hands : List (Stage × Mine)) (x : ℕ) (own : Owner) → get_elem? (map first_owner (map page_words pages)) x ≡ some own → owner_of (page_at pages x) ≡ owner_in hands own
+  owner_at : (hands : List (Stage × PassState)) (x : ℕ) (own : Owner) → get_elem? (map first_owner (map page_words pages)) x ≡ some own → owner_of (page_at pages x) ≡ owner_in hands own
   owner_at hands x own e =
       let outer = of_map first_owner (map page_words pages) x own e in
       let inner = of_map page_words pages x outer.0 outer.1 in
@@ -161,7 +161,7 @@ module _ (pages : List (Option Page)) (bytes : List ℕ) (image : IsImage pages 
     mine = refl;
   }
 
-  pub reopens : (passes : ℕ) → Fits (first_pages (map page_words pages) passes (beginner pages))
+  pub reopens : (passes : ℕ) → Simulates (first_pages (map page_words pages) passes (beginner pages))
   reopens passes = record {
     world = world;
     good = good;
@@ -174,9 +174,9 @@ module _ (pages : List (Option Page)) (bytes : List ℕ) (image : IsImage pages 
     clock = omega arith;
     pages = words_at;
     owners = owner_at (replicate passes (Idle, beginner pages));
-    hands = λ n st d e. subst (λ (z : Stage × Mine). IsHand world n z.0 z.1) (of_all passes (Idle, beginner pages) n (st, d) e) (hand_at n);
+    hands = λ n st d e. subst (λ (z : Stage × PassState). IsHand world n z.0 z.1) (of_all passes (Idle, beginner pages) n (st, d) e) (hand_at n);
     within = none_within (length (replicate passes (Idle, beginner pages)));
-    counts = λ n st d e begun. absurd (begun (ap (λ (z : Stage × Mine). z.1.number) (sym (of_all passes (Idle, beginner pages) n (st, d) e))));
-    firsts = λ n st d e. ap (λ (z : Stage × Mine). z.1.first) (sym (of_all passes (Idle, beginner pages) n (st, d) e));
+    counts = λ n st d e begun. absurd (begun (ap (λ (z : Stage × PassState). z.1.number) (sym (of_all passes (Idle, beginner pages) n (st, d) e))));
+    firsts = λ n st d e. ap (λ (z : Stage × PassState). z.1.first) (sym (of_all passes (Idle, beginner pages) n (st, d) e));
     busy = λ p since e. absurd (let both : machine.Waiting ≡ machine.Running since = e in cc);
   }

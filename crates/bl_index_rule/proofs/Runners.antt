@@ -9,17 +9,17 @@ use Rattle.bl_page.specs.Machine.{Name, Phase}
 use Rattle.bl_page.specs.Machine as machine
 use Rattle.bl_core.proofs.Pushes.{name_cases}
 use Rattle.bl_store.specs.Pages.{Stage, Running}
-use Rattle.bl_index_rule.specs.declared.known.Mine.{Mine}
+use Rattle.bl_index_rule.specs.declared.known.PassState.{PassState}
 use Rattle.bl_claims.specs.Seeing.{name}
-use Rattle.bl_index_rule.specs.Fitting.{IsRun}
+use Rattle.bl_index_rule.specs.Simulation.{IsRun}
 use Rattle.bl_index_rule.proofs.Shown.{set_there}
 
 -- two hands at one place
-pub one_hand : (hands : List (Stage × Mine)) (n : ℕ) (a b : Stage × Mine) → get_elem? hands n ≡ some a → get_elem? hands n ≡ some b → a ≡ b
-one_hand hands n a b x y = (let both : ◌≡◌ {A = lists.Option (Stage × Mine)} (some a) (some b) = sym x ∙ y in some-injective {A = Stage × Mine} a b both)
+pub one_hand : (hands : List (Stage × PassState)) (n : ℕ) (a b : Stage × PassState) → get_elem? hands n ≡ some a → get_elem? hands n ≡ some b → a ≡ b
+one_hand hands n a b x y = (let both : ◌≡◌ {A = lists.Option (Stage × PassState)} (some a) (some b) = sym x ∙ y in some-injective {A = Stage × PassState} a b both)
 
-module _ (hands : List (Stage × Mine)) (n m : ℕ) (st st' : Stage) (d e : Mine) (at : get_elem? hands n ≡ some (st, d)) (count : e.number ≡ m) where
-  abbrev then_hands : List (Stage × Mine)
+module _ (hands : List (Stage × PassState)) (n m : ℕ) (st st' : Stage) (d e : PassState) (at : get_elem? hands n ≡ some (st, d)) (count : e.number ≡ m) where
+  abbrev then_hands : List (Stage × PassState)
   then_hands = set hands n (st', e)
 
   acting : (p : Name) (since : ℕ) → p ≡ name n m → st' ≡ Running since → IsRun then_hands p since
@@ -33,8 +33,8 @@ module _ (hands : List (Stage × Mine)) (n m : ℕ) (st st' : Stage) (d e : Mine
   other p since ne current r = elim (cases_eq p.pass n) [
     | inl i ↦
         let there : get_elem? hands n ≡ some (Running since, r.0) = ap (λ (z : ℕ). get_elem? hands z) (sym i) ∙ r.1 in
-        let one : ◌≡◌ {A = Stage × Mine} (st, d) (Running since, r.0) = one_hand hands n (st, d) (Running since, r.0) at there in
-        let same : m ≡ r.0.number = current since (ap (λ (z : Stage × Mine). z.0) one) ∙ ap (λ (z : Stage × Mine). z.1.number) one in
+        let one : ◌≡◌ {A = Stage × PassState} (st, d) (Running since, r.0) = one_hand hands n (st, d) (Running since, r.0) at there in
+        let same : m ≡ r.0.number = current since (ap (λ (z : Stage × PassState). z.0) one) ∙ ap (λ (z : Stage × PassState). z.1.number) one in
         absurd (ne (λ j. name (i j) ((r.2 ∙ sym same) j)))
     | inr away ↦ (r.0, set_else hands n p.pass (st', e) away ∙ r.1, r.2)
   ]

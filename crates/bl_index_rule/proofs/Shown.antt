@@ -15,9 +15,9 @@ use Rattle.bl_core.specs.Worlds.{World, MayGet, IsGood}
 use Rattle.bl_core.proofs.Descents.{is_dead_page}
 use Rattle.bl_proc_invariant.specs.Knowing.{Run, know}
 use Rattle.bl_store.specs.Pages.{Owner, Released, Open, Held, Retired, Stage}
-use Rattle.bl_index_rule.specs.declared.known.Mine.{Mine}
+use Rattle.bl_index_rule.specs.declared.known.PassState.{PassState}
 use Rattle.bl_claims.specs.Seeing.{name}
-use Rattle.bl_index_rule.specs.Fitting.{IsAnchor, Shows, number_in, owner_in}
+use Rattle.bl_index_rule.specs.Simulation.{IsAnchor, Shows, number_in, owner_in}
 
 module _ {A : Type 0} where
   pub at_below : (l : List A) (i : ℕ) (a : A) → get_elem? l i ≡ some a → i < length l
@@ -57,33 +57,33 @@ got_words w p (suc x) words good may e = elim e [
 ]
 
 -- the hand at one place goes on, with as many processes begun
-pub same_owner : (hands : List (Stage × Mine)) (n : ℕ) (h v : Stage × Mine) (o : Owner) → get_elem? hands n ≡ some h → v.1.number ≡ h.1.number → owner_in (set hands n v) o ≡ owner_in hands o
+pub same_owner : (hands : List (Stage × PassState)) (n : ℕ) (h v : Stage × PassState) (o : Owner) → get_elem? hands n ≡ some h → v.1.number ≡ h.1.number → owner_in (set hands n v) o ≡ owner_in hands o
 same_owner hands n h v Released at e = refl
 same_owner hands n h v Open at e = refl
 same_owner hands n h v (Retired t) at e = refl
 same_owner hands n h v (Held k) at e = dite (ℕ_discrete k n)
     (λ is. ap (λ (z : ℕ). machine.Held (name k z)) (ap (λ (z : ℕ). number_in (get_elem? (set hands n v) z)) is ∙ (ap number_in (set_there hands n h v at) ∙ (e ∙ (ap number_in (sym at) ∙ ap (λ (z : ℕ). number_in (get_elem? hands z)) (sym is))))))
-    (λ ne. ap (λ (z : Option (Stage × Mine)). machine.Held (name k (number_in z))) (set_else hands n k v ne))
+    (λ ne. ap (λ (z : Option (Stage × PassState)). machine.Held (name k (number_in z))) (set_else hands n k v ne))
 
 -- or with another process, where it had no page
-pub other_owner : (hands : List (Stage × Mine)) (n : ℕ) (v : Stage × Mine) (o : Owner) → o ≢ Held n → owner_in (set hands n v) o ≡ owner_in hands o
+pub other_owner : (hands : List (Stage × PassState)) (n : ℕ) (v : Stage × PassState) (o : Owner) → o ≢ Held n → owner_in (set hands n v) o ≡ owner_in hands o
 other_owner hands n v Released ne = refl
 other_owner hands n v Open ne = refl
 other_owner hands n v (Retired t) ne = refl
-other_owner hands n v (Held k) ne = ap (λ (z : Option (Stage × Mine)). machine.Held (name k (number_in z))) (set_else hands n k v (λ e. ne (ap Held e)))
+other_owner hands n v (Held k) ne = ap (λ (z : Option (Stage × PassState)). machine.Held (name k (number_in z))) (set_else hands n k v (λ e. ne (ap Held e)))
 
 -- whose pages they are
-pub is_held : (hands : List (Stage × Mine)) (n m : ℕ) (o : Owner) → owner_in hands o ≡ machine.Held (name n m) → o ≡ Held n
+pub is_held : (hands : List (Stage × PassState)) (n m : ℕ) (o : Owner) → owner_in hands o ≡ machine.Held (name n m) → o ≡ Held n
 is_held hands n m Released e = (let z : machine.Released ≡ machine.Held (name n m) = e in cc)
 is_held hands n m Open e = (let z : machine.Owner.Open ≡ machine.Held (name n m) = e in cc)
 is_held hands n m (Held k) e = (let z : name k (number_in (get_elem? hands k)) ≡ name n m = cc in ap (λ (q : Name). Held q.pass) z)
 is_held hands n m (Retired t) e = (let z : machine.Retired t ≡ machine.Held (name n m) = e in cc)
 
-pub is_open : (hands : List (Stage × Mine)) (o : Owner) → o ≡ Open → owner_in hands o ≡ machine.Owner.Open
+pub is_open : (hands : List (Stage × PassState)) (o : Owner) → o ≡ Open → owner_in hands o ≡ machine.Owner.Open
 is_open hands o e = ap (owner_in hands) e
 
-pub is_released : (hands : List (Stage × Mine)) (o : Owner) → o ≡ Released → owner_in hands o ≡ machine.Released
+pub is_released : (hands : List (Stage × PassState)) (o : Owner) → o ≡ Released → owner_in hands o ≡ machine.Released
 is_released hands o e = ap (owner_in hands) e
 
-pub held_by : (hands : List (Stage × Mine)) (n : ℕ) (h : Stage × Mine) → get_elem? hands n ≡ some h → owner_in hands (Held n) ≡ machine.Held (name n h.1.number)
-held_by hands n h at = ap (λ (z : Option (Stage × Mine)). machine.Held (name n (number_in z))) at
+pub held_by : (hands : List (Stage × PassState)) (n : ℕ) (h : Stage × PassState) → get_elem? hands n ≡ some h → owner_in hands (Held n) ≡ machine.Held (name n h.1.number)
+held_by hands n h at = ap (λ (z : Option (Stage × PassState)). machine.Held (name n (number_in z))) at

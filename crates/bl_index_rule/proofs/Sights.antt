@@ -17,7 +17,7 @@ use Rattle.bl_proc_invariant.proofs.Middles.{KeepsLogs}
 use Rattle.bl_proc_invariant.proofs.Starting.{run_laws}
 use Rattle.bl_proc_invariant.proofs.Near.{IsNear as IsNearIn}
 use Rattle.bl_claims.specs.Seeing.{first_map, BeginsFrom, IsSeen}
-use Rattle.bl_index_rule.specs.Told.{IsNear}
+use Rattle.bl_index_rule.specs.Observed.{IsNear}
 
 -- the laws of the tree in a good world, with the map after its history
 laws_now : (w : World Run) (image : List (Option Page)) → IsGood know w → KeepsLogs w → w.first ≡ first_map image → HasLaws (snapshot_of w.now w.trail) (final_map (first_map image) (history_of w.trail))

@@ -11,9 +11,9 @@ use Rattle.bl_core.specs.Blank.{IsBlank}
 use Rattle.bl_proc_invariant.specs.Turns.{Turned}
 use Rattle.bl_proc_invariant.specs.Knowing.{Run, know}
 use Rattle.bl_store.specs.Pages.{Stage, Idle, Running}
-use Rattle.bl_index_rule.specs.declared.known.Mine.{Mine}
+use Rattle.bl_index_rule.specs.declared.known.PassState.{PassState}
 use Rattle.bl_claims.specs.Seeing.{own, name}
-use Rattle.bl_index_rule.specs.Fitting.{IsAtStage, AreUpTo, IsHand}
+use Rattle.bl_index_rule.specs.Simulation.{IsAtStage, AreUpTo, IsHand}
 use Rattle.bl_index_rule.proofs.Doings.{log_else}
 use Rattle.bl_index_rule.proofs.Entries.{own-other, own-mine, said_grows}
 use Rattle.bl_index_rule.proofs.Marks.{each_append, up_to_on}
@@ -30,7 +30,7 @@ module _ (w : World Run) (good : IsGood know w) (n m : ℕ) (a : Act Page Reply)
   turn_mark = record { event = record { process = name n m; act = a }; saw = t.saw; said = t.said }
 
   -- what the acting hand knows then
-  abbrev pub after : ℕ → List (Option Page) → Bool → List Entry → Mine
+  abbrev pub after : ℕ → List (Option Page) → Bool → List Entry → PassState
   after passes first runs past = record { pass = n; pages = w.size; passes = passes; number = m; runs = runs; state = b.state; first = first; past = past; trail = t.next.trail }
 
   -- what it has said by then
@@ -50,7 +50,7 @@ module _ (w : World Run) (good : IsGood know w) (n m : ℕ) (a : Act Page Reply)
     later_on : (k j : ℕ) → name k j ≢ name n m → (w.now.phase (name k j) ≡ machine.Waiting) × IsBlank (know (w.proc (name k j))) → (t.next.now.phase (name k j) ≡ machine.Waiting) × IsBlank (know (t.next.proc (name k j)))
     later_on k j ne h = (phase_else (name k j) ne ∙ h.0, subst (λ (r : Run). IsBlank (know r)) (sym (t.extends.proc.others (name k j) ne)) h.1)
 
-    pub hand_self : (st st' : Stage) (d : Mine) (passes : ℕ) (first : List (Option Page)) (runs : Bool) (past : List Entry) → IsHand w n st d → d.number ≤ m → IsAtStage t.next n st' (after passes first runs past) → IsHand t.next n st' (after passes first runs past)
+    pub hand_self : (st st' : Stage) (d : PassState) (passes : ℕ) (first : List (Option Page)) (runs : Bool) (past : List Entry) → IsHand w n st d → d.number ≤ m → IsAtStage t.next n st' (after passes first runs past) → IsHand t.next n st' (after passes first runs past)
     hand_self st st' d passes first runs past h le stage = record {
       named = λ begun. (refl, sym t.extends.size);
       stage = stage;
@@ -63,7 +63,7 @@ module _ (w : World Run) (good : IsGood know w) (n m : ℕ) (a : Act Page Reply)
     own_else : (k : ℕ) → k ≢ n → own k t.next.trail ≡ own k w.trail
     own_else k ne = ap (own k) t.extends.trail ∙ own-other k w.trail turn_mark (λ e. ne (sym e))
 
-    stage_else : (k : ℕ) (st : Stage) (d : Mine) → k ≢ n → IsAtStage w k st d → IsAtStage t.next k st d
+    stage_else : (k : ℕ) (st : Stage) (d : PassState) → k ≢ n → IsAtStage w k st d → IsAtStage t.next k st d
     stage_else k Idle d ne h = (h.0, λ x e. h.1 x (kept x (name k d.number) (λ z. ne (pass_of _ _ z)) (ap (λ (z : State Page). z.owner x) (sym t.now) ∙ e)))
     stage_else k (Running since) d ne h =
         let p = name k d.number in
@@ -77,7 +77,7 @@ module _ (w : World Run) (good : IsGood know w) (n m : ℕ) (a : Act Page Reply)
           log_else w (name n m) p a s b t other d.state h.5,
         )
 
-    pub hand_else : (k : ℕ) (st : Stage) (d : Mine) → k ≢ n → IsHand w k st d → IsHand t.next k st d
+    pub hand_else : (k : ℕ) (st : Stage) (d : PassState) → k ≢ n → IsHand w k st d → IsHand t.next k st d
     hand_else k st d ne h = record {
       named = λ begun. let z = h.named begun in (z.0, z.1 ∙ sym t.extends.size);
       stage = stage_else k st d ne h.stage;

@@ -19,9 +19,9 @@ use Rattle.bl_proc_invariant.proofs.Middles.{KeepsLogs}
 use Rattle.bl_proc_bounds.proofs.Kept.{first_kept}
 use Rattle.bl_store.specs.Pages.{Stage, Idle}
 use Rattle.bl_store.specs.Opening.{first_owner, first_pages}
-use Rattle.bl_index_rule.specs.declared.known.Mine.{Mine}
+use Rattle.bl_index_rule.specs.declared.known.PassState.{PassState}
 use Rattle.bl_claims.specs.Seeing.{IsSeen, name}
-use Rattle.bl_index_rule.specs.Fitting.{unborn, newcomer, Shows, owner_in, IsHand, Fits}
+use Rattle.bl_index_rule.specs.Simulation.{unborn, newcomer, Shows, owner_in, IsHand, Simulates}
 use Rattle.bl_index_rule.proofs.Shown.{at_below}
 use Rattle.bl_index_rule.proofs.Within.{none_within}
 use Rattle.bl_index_rule.proofs.Sights.{world_moment, world_seen}
@@ -107,7 +107,7 @@ module _ (contents : List (List ℕ)) (o : AreOpening contents) where
   words_at (suc zero) words e = inl (some-injective words (words_of first_leaf) (sym e ∙ o.leaf))
   words_at (suc (suc x)) words e = inr (some-injective words (replicate 32 0) (sym e ∙ o.others (suc (suc x)) (omega arith) (at_below contents (suc (suc x)) words e)), tt)
 
-  owner_at : (hands : List (Stage × Mine)) (x : ℕ) (words : List ℕ) → get_elem? contents x ≡ some words → owner_of x ≡ owner_in hands (first_owner words)
+  owner_at : (hands : List (Stage × PassState)) (x : ℕ) (words : List ℕ) → get_elem? contents x ≡ some words → owner_of x ≡ owner_in hands (first_owner words)
   owner_at hands zero words e = ap (λ (z : List ℕ). owner_in hands (first_owner z)) (some-injective (words_of first_anchor) words (sym o.anchor ∙ e))
   owner_at hands (suc zero) words e = ap (λ (z : List ℕ). owner_in hands (first_owner z)) (some-injective (words_of first_leaf) words (sym o.leaf ∙ e))
   owner_at hands (suc (suc x)) words e = ap (λ (z : List ℕ). owner_in hands (first_owner z)) (some-injective (replicate 32 0) words (sym (o.others (suc (suc x)) (omega arith) (at_below contents (suc (suc x)) words e)) ∙ e))
@@ -122,7 +122,7 @@ module _ (contents : List (List ℕ)) (o : AreOpening contents) where
     mine = refl;
   }
 
-  pub starts : (passes : ℕ) → Fits (first_pages contents passes newcomer)
+  pub starts : (passes : ℕ) → Simulates (first_pages contents passes newcomer)
   starts passes = record {
     world = first_world (length contents);
     good = let many = o.many in first_good (length contents) (omega arith);
@@ -135,9 +135,9 @@ module _ (contents : List (List ℕ)) (o : AreOpening contents) where
     clock = omega arith;
     pages = words_at;
     owners = λ x own e. (let is = of_map first_owner contents x own e in owner_at (replicate passes (Idle, newcomer)) x is.0 is.1 ∙ ap (owner_in (replicate passes (Idle, newcomer))) is.2);
-    hands = λ n st d e. subst (λ (z : Stage × Mine). IsHand (first_world (length contents)) n z.0 z.1) (of_all passes (Idle, newcomer) n (st, d) e) (hand_at n);
+    hands = λ n st d e. subst (λ (z : Stage × PassState). IsHand (first_world (length contents)) n z.0 z.1) (of_all passes (Idle, newcomer) n (st, d) e) (hand_at n);
     within = none_within (length (replicate passes (Idle, newcomer)));
-    counts = λ n st d e begun. absurd (begun (ap (λ (z : Stage × Mine). z.1.number) (sym (of_all passes (Idle, newcomer) n (st, d) e))));
-    firsts = λ n st d e. ap (λ (z : Stage × Mine). z.1.first) (sym (of_all passes (Idle, newcomer) n (st, d) e));
+    counts = λ n st d e begun. absurd (begun (ap (λ (z : Stage × PassState). z.1.number) (sym (of_all passes (Idle, newcomer) n (st, d) e))));
+    firsts = λ n st d e. ap (λ (z : Stage × PassState). z.1.first) (sym (of_all passes (Idle, newcomer) n (st, d) e));
     busy = λ p since e. absurd (let both : machine.Waiting ≡ machine.Running since = e in cc);
   }

@@ -14,7 +14,7 @@ use Rattle.bl_proc.specs.declared.kinds.Proc.{Proc}
 use Rattle.bl_proc.specs.Processes.{next_of, Takes}
 use Rattle.bl_claims.specs.Trails.{marks_of}
 use Rattle.bl_proc_invariant.specs.Logs.{proc_log}
-use Rattle.bl_proc_invariant.specs.Turns.{event_of, IsTold, IsShown, Does, Turned}
+use Rattle.bl_proc_invariant.specs.Turns.{event_of, IsObserved, IsShown, Does, Turned}
 use Rattle.bl_proc_invariant.specs.Knowing.{Run, know, end_of_proc, run_next}
 use Rattle.bl_proc_invariant.proofs.Turning.{turn}
 use Rattle.bl_proc_invariant.proofs.Middles.{KeepsLogs}
@@ -22,26 +22,26 @@ use Rattle.bl_proc_invariant.proofs.Logged.{saw_words}
 use Rattle.bl_proc_bounds.specs.Paces.{AllKept}
 use Rattle.bl_proc_bounds.proofs.Turns.{state_kept}
 use Rattle.bl_proc_unique.specs.Courses.{GoesOn}
-use Rattle.bl_store.specs.Pages.{Owner, Stage, Idle, Running, Pages, Stands, told}
-use Rattle.bl_index_rule.specs.declared.known.Mine.{Mine}
+use Rattle.bl_store.specs.Pages.{Owner, Stage, Idle, Running, Pages, Stands, observed}
+use Rattle.bl_index_rule.specs.declared.known.PassState.{PassState}
 use Rattle.bl_claims.specs.Seeing.{name}
-use Rattle.bl_index_rule.specs.Fitting.{Shows, owner_in, IsAtStage, Fits}
-use Rattle.bl_index_rule.specs.Told.{Notes, Steps, Goes}
+use Rattle.bl_index_rule.specs.Simulation.{Shows, owner_in, IsAtStage, Simulates}
+use Rattle.bl_index_rule.specs.Observed.{Notes, Steps, Goes}
 use Rattle.bl_index_rule.proofs.Doings.{log_after}
 use Rattle.bl_index_rule.proofs.Shown.{same_owner}
 use Rattle.bl_index_rule.proofs.Logs.{next_logs}
 use Rattle.bl_index_rule.proofs.Advance.{next_known, advance, next_notes, next_saw, next_near, next_own, next_stage}
 
 -- the turn of a process of that state
-pub turn_of : (w : World Run) (p : Name) (old : Proc) (what : Seen) (s : State Page) → IsGood know w → (w.proc p).state ≡ old → (c : GoesOn old what) → (a : Action) → next_of old ≡ a → IsTold w.now w.size a what → IsShown w.now p (w.proc p).time a what → Does w.now p (event_of (end_of_proc old) a what) s
+pub turn_of : (w : World Run) (p : Name) (old : Proc) (what : Seen) (s : State Page) → IsGood know w → (w.proc p).state ≡ old → (c : GoesOn old what) → (a : Action) → next_of old ≡ a → IsObserved w.now w.size a what → IsShown w.now p (w.proc p).time a what → Does w.now p (event_of (end_of_proc old) a what) s
     → Turned know w p (event_of (end_of_proc old) a what) s (run_next w.now (w.proc p) what c.new)
-turn_of w p old what s good is c a next told shown does =
-    let F : Proc → Type 0 = λ z. Takes z what c.new → (y : Action) → next_of z ≡ y → IsTold w.now w.size y what → IsShown w.now p (w.proc p).time y what → Does w.now p (event_of (end_of_proc z) y what) s → Turned know w p (event_of (end_of_proc z) y what) s (run_next w.now (w.proc p) what c.new) in
-    let G : Proc → Type 0 = λ z. (y : Action) → next_of z ≡ y → IsTold w.now w.size y what → IsShown w.now p (w.proc p).time y what → Does w.now p (event_of (end_of_proc z) y what) s → Turned know w p (event_of (end_of_proc z) y what) s (run_next w.now (w.proc p) what c.new) in
-    let here : F (w.proc p).state = λ takes y e. subst (λ (v : Action). IsTold w.now w.size v what → IsShown w.now p (w.proc p).time v what → Does w.now p (event_of (end_of_proc (w.proc p).state) v what) s → Turned know w p (event_of (end_of_proc (w.proc p).state) v what) s (run_next w.now (w.proc p) what c.new)) e (λ t h d. turn w p (w.proc p) c.new what s refl good takes t h d) in
-    (subst F is here) c.takes a next told shown does
+turn_of w p old what s good is c a next observed shown does =
+    let F : Proc → Type 0 = λ z. Takes z what c.new → (y : Action) → next_of z ≡ y → IsObserved w.now w.size y what → IsShown w.now p (w.proc p).time y what → Does w.now p (event_of (end_of_proc z) y what) s → Turned know w p (event_of (end_of_proc z) y what) s (run_next w.now (w.proc p) what c.new) in
+    let G : Proc → Type 0 = λ z. (y : Action) → next_of z ≡ y → IsObserved w.now w.size y what → IsShown w.now p (w.proc p).time y what → Does w.now p (event_of (end_of_proc z) y what) s → Turned know w p (event_of (end_of_proc z) y what) s (run_next w.now (w.proc p) what c.new) in
+    let here : F (w.proc p).state = λ takes y e. subst (λ (v : Action). IsObserved w.now w.size v what → IsShown w.now p (w.proc p).time v what → Does w.now p (event_of (end_of_proc (w.proc p).state) v what) s → Turned know w p (event_of (end_of_proc (w.proc p).state) v what) s (run_next w.now (w.proc p) what c.new)) e (λ t h d. turn w p (w.proc p) c.new what s refl good takes t h d) in
+    (subst F is here) c.takes a next observed shown does
 
-module _ (s : Pages Mine) (f : Fits s) (n since : ℕ) (d : Mine) (at : Stands s n (Running since) d) where
+module _ (s : Pages PassState) (f : Simulates s) (n since : ℕ) (d : PassState) (at : Stands s n (Running since) d) where
   abbrev pub mine : Name
   mine = name n d.number
 
@@ -51,7 +51,7 @@ module _ (s : Pages Mine) (f : Fits s) (n since : ℕ) (d : Mine) (at : Stands s
   pub is_named : (d.pass ≡ n) × (d.pages ≡ f.world.size)
   is_named = (f.hands n (Running since) d at).named standing.1
 
-  module _ (what : Seen) (course : GoesOn d.state what) (a : Action) (next : next_of d.state ≡ a) (s1 : State Page) (said : IsTold f.world.now f.world.size a what) (shown : IsShown f.world.now mine (f.world.proc mine).time a what) (does : Does f.world.now mine (event_of (end_of_proc d.state) a what) s1) where
+  module _ (what : Seen) (course : GoesOn d.state what) (a : Action) (next : next_of d.state ≡ a) (s1 : State Page) (said : IsObserved f.world.now f.world.size a what) (shown : IsShown f.world.now mine (f.world.proc mine).time a what) (does : Does f.world.now mine (event_of (end_of_proc d.state) a what) s1) where
     abbrev pub turned : Turned know f.world mine (event_of (end_of_proc d.state) a what) s1 (run_next f.world.now (f.world.proc mine) what course.new)
     turned = turn_of f.world mine d.state what s1 f.good standing.3 course a next said shown does
 
@@ -67,7 +67,7 @@ module _ (s : Pages Mine) (f : Fits s) (n since : ℕ) (d : Mine) (at : Stands s
     then_logs : KeepsLogs turned.next
     then_logs = next_logs s f n d.number (event_of (end_of_proc d.state) a what) s1 (run_next f.world.now (f.world.proc mine) what course.new) turned (λ z runs. then_log)
 
-    abbrev pub then_known : Mine
+    abbrev pub then_known : PassState
     then_known = next_known s f n d.number (Running since) d at (event_of (end_of_proc d.state) a what) s1 (run_next f.world.now (f.world.proc mine) what course.new) turned true d.past
 
     pub then_goes : Goes what d then_known
@@ -75,7 +75,7 @@ module _ (s : Pages Mine) (f : Fits s) (n since : ℕ) (d : Mine) (at : Stands s
         let act = event_of (end_of_proc d.state) a what in
         let b = run_next f.world.now (f.world.proc mine) what course.new in
         let notes : Notes n d.number act d then_known = next_notes s f n d.number (Running since) d at act s1 b turned true d.past then_logs then_kept in
-        let saw : (x : ℕ) (c : Page) → act ≡ Act.Get x → what ≡ seen.Words c → notes.last.saw ≡ Some c = λ x c e told. next_saw s f n d.number (Running since) d at act s1 b turned true d.past then_logs then_kept ∙ saw_words (end_of_proc d.state) f.world.now f.world.size turned.saw a what said turned.extends.saw x c e told in
+        let saw : (x : ℕ) (c : Page) → act ≡ Act.Get x → what ≡ seen.Words c → notes.last.saw ≡ Some c = λ x c e observed. next_saw s f n d.number (Running since) d at act s1 b turned true d.past then_logs then_kept ∙ saw_words (end_of_proc d.state) f.world.now f.world.size turned.saw a what said turned.extends.saw x c e observed in
         let named = subst (λ (z : ℕ). (k : Notes z d.number act d then_known) × ((x : ℕ) (c : Page) → act ≡ Act.Get x → what ≡ seen.Words c → k.last.saw ≡ Some c)) (sym is_named.0) (notes, saw) in
         let steps : Steps act d then_known = record {
           notes = named.0;
@@ -95,23 +95,23 @@ module _ (s : Pages Mine) (f : Fits s) (n since : ℕ) (d : Mine) (at : Stands s
         }
 
     -- the pages go on as the store's do, and the process runs on
-    pub then_fits : (s2 : Pages Mine) → s2.hands ≡ s.hands → length s2.contents ≡ length s.contents → s1.clock ≤ s2.clock
+    pub then_fits : (s2 : Pages PassState) → s2.hands ≡ s.hands → length s2.contents ≡ length s.contents → s1.clock ≤ s2.clock
         → ((q : Name) → s1.phase q ≡ f.world.now.phase q)
         → ((x : ℕ) (q : Name) → q ≢ mine → s1.owner x ≡ machine.Held q → f.world.now.owner x ≡ machine.Held q)
         → ((x : ℕ) (words : List ℕ) → get_elem? s2.contents x ≡ some words → Shows x words (s1.contents x))
         → ((x : ℕ) (o : Owner) → get_elem? s2.owners x ≡ some o → s1.owner x ≡ owner_in s.hands o)
-        → Fits (told s2 n (Running since) then_known)
+        → Simulates (observed s2 n (Running since) then_known)
     then_fits s2 hands size clock phases kept pages owners =
         let act = event_of (end_of_proc d.state) a what in
         let b = run_next f.world.now (f.world.proc mine) what course.new in
-        let set_is : set s2.hands n (Running since, then_known) ≡ set s.hands n (Running since, then_known) = ap (λ (z : List (Stage × Mine)). set z n (Running since, then_known)) hands in
-        advance s f n d.number (Running since) d at act s1 b turned true d.past then_logs then_kept (told s2 n (Running since) then_known) (Running since) set_is size (omega arith) clock (λ q ne. phases q) kept pages
-        (λ x o e. owners x o e ∙ sym (ap (λ (z : List (Stage × Mine)). owner_in z o) set_is ∙ same_owner s.hands n (Running since, d) (Running since, then_known) o at refl))
+        let set_is : set s2.hands n (Running since, then_known) ≡ set s.hands n (Running since, then_known) = ap (λ (z : List (Stage × PassState)). set z n (Running since, then_known)) hands in
+        advance s f n d.number (Running since) d at act s1 b turned true d.past then_logs then_kept (observed s2 n (Running since) then_known) (Running since) set_is size (omega arith) clock (λ q ne. phases q) kept pages
+        (λ x o e. owners x o e ∙ sym (ap (λ (z : List (Stage × PassState)). owner_in z o) set_is ∙ same_owner s.hands n (Running since, d) (Running since, then_known) o at refl))
         (next_stage s f n d.number (Running since) d at act s1 b turned true d.past since refl standing.1 (phases mine ∙ standing.2) standing.4 then_log)
         (λ z e. refl)
         (λ z e. (let both : machine.Running since ≡ machine.Running z = sym (phases mine ∙ standing.2) ∙ e in let same : since ≡ z = cc in ap Running same))
 
 -- a hand that knows that it runs a process
-pub runs_on : (s : Pages Mine) (f : Fits s) (n : ℕ) (st : Stage) (d : Mine) → Stands s n st d → d.runs ≡ true → (since : ℕ) × (st ≡ Running since)
+pub runs_on : (s : Pages PassState) (f : Simulates s) (n : ℕ) (st : Stage) (d : PassState) → Stands s n st d → d.runs ≡ true → (since : ℕ) × (st ≡ Running since)
 runs_on s f n Idle d at runs = absurd (false≢true (sym (f.hands n Idle d at).stage.0 ∙ runs))
 runs_on s f n (Running since) d at runs = (since, refl)

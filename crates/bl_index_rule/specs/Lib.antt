@@ -1,2 +1,2 @@
-pub mod Fitting
-pub mod Told
+pub mod Simulation
+pub mod Observed

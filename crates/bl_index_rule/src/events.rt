@@ -1,9 +1,9 @@
 //! What each event tells the pass that makes it.
 
 ghost use Rattle.std.specs.Prelude.{ℕ};
-ghost use Rattle.bl_index_rule.specs.Told.{begins, ends, gives_up, gets, puts, takes, tries, probes, opens, retires, refuses, sweeps};
+ghost use Rattle.bl_index_rule.specs.Observed.{begins, ends, gives_up, gets, puts, takes, tries, probes, opens, retires, refuses, sweeps};
 
-use crate::known::Mine;
+use crate::known::PassState;
 use bl_store::{PagePlay, SweepPlay, TimePlay};
 use std::marker::{Brand, PhantomData};
 
@@ -21,7 +21,7 @@ pub trait Launch {
 }
 
 impl Launch for Brand {
-    ghost use Rattle.bl_index_rule.specs.Fitting.{unborn};
+    ghost use Rattle.bl_index_rule.specs.Simulation.{unborn};
 
     ghost pass = { 0 };
 
@@ -37,77 +37,77 @@ pub struct Began<J> {
     launch: PhantomData<J>,
 }
 
-impl<J: Launch> TimePlay<Mine> for Began<J> {
+impl<J: Launch> TimePlay<PassState> for Began<J> {
     ghost then = { begins J.pass J.pages J.passes J.process };
 }
 
 /// The process ends, and has answered.
 pub struct Ended;
 
-impl TimePlay<Mine> for Ended {
+impl TimePlay<PassState> for Ended {
     ghost then = { ends };
 }
 
 /// A search ends and has answered nothing.
 pub struct GaveUp;
 
-impl TimePlay<Mine> for GaveUp {
+impl TimePlay<PassState> for GaveUp {
     ghost then = { gives_up };
 }
 
 /// A page was read.
 pub struct Got;
 
-impl PagePlay<Mine> for Got {
+impl PagePlay<PassState> for Got {
     ghost then = { gets };
 }
 
 /// A page was put.
 pub struct Put;
 
-impl PagePlay<Mine> for Put {
+impl PagePlay<PassState> for Put {
     ghost then = { puts };
 }
 
 /// A page was taken.
 pub struct Took;
 
-impl PagePlay<Mine> for Took {
+impl PagePlay<PassState> for Took {
     ghost then = { takes };
 }
 
 /// A page was latched, or missed.
 pub struct Tried;
 
-impl PagePlay<Mine> for Tried {
+impl PagePlay<PassState> for Tried {
     ghost then = { tries };
 }
 
 /// A page was looked at, whether it is open.
 pub struct Probed;
 
-impl PagePlay<Mine> for Probed {
+impl PagePlay<PassState> for Probed {
     ghost then = { probes };
 }
 
 /// A page was opened.
 pub struct Opened;
 
-impl PagePlay<Mine> for Opened {
+impl PagePlay<PassState> for Opened {
     ghost then = { opens };
 }
 
 /// A page was retired.
 pub struct Retired;
 
-impl TimePlay<Mine> for Retired {
+impl TimePlay<PassState> for Retired {
     ghost then = { retires };
 }
 
 /// A reservation was refused.
 pub struct Refused;
 
-impl TimePlay<Mine> for Refused {
+impl TimePlay<PassState> for Refused {
     ghost then = { refuses };
 }
 
@@ -133,6 +133,6 @@ pub struct Swept<J> {
     sweeper: PhantomData<J>,
 }
 
-impl<J: Sweeper> SweepPlay<Mine> for Swept<J> {
+impl<J: Sweeper> SweepPlay<PassState> for Swept<J> {
     ghost then = { sweeps J.pass J.number J.passes };
 }

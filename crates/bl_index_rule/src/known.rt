@@ -11,12 +11,12 @@ use std::snapshot::Snapshot;
 
 /// What an index began with: the pages of an image, or no pages where it was opened empty. It takes no room.
 #[derive(Drop)]
-pub struct Beginning<P> {
+pub struct FirstPages<P> {
     pages: Snapshot<Vec<Option<P>>>,
 }
 
 // A clause sees the pages.
-impl<P> Model for Beginning<P> {
+impl<P> Model for FirstPages<P> {
     ghost use Rattle.std.specs.Prelude.{List, Option as Optional};
     ghost use Rattle.std.specs.Coded.{coded_option};
     ghost use base.Stored.{coded_list};
@@ -28,12 +28,12 @@ impl<P> Model for Beginning<P> {
     ghost view = { λ beginning. beginning.pages.value.items };
 }
 
-impl<P> Beginning<P> {
+impl<P> FirstPages<P> {
     /// The beginning with these pages.
-    pub fn of(pages: &Vec<Option<P>>) -> Beginning<P>
+    pub fn of(pages: &Vec<Option<P>>) -> FirstPages<P>
         ensures { result ≡ pages.now.items }
     {
-        Beginning {
+        FirstPages {
             pages: Snapshot::of(pages),
         }
     }
@@ -59,11 +59,11 @@ impl Model for Nothing {
 
 /// What has happened, as a trail: event by event. It takes no room, and only clauses see it.
 #[derive(Drop)]
-pub struct Happened {
+pub struct GhostTrail {
     trail: Snapshot<Nothing>,
 }
 
-impl Model for Happened {
+impl Model for GhostTrail {
     ghost use Rattle.std.specs.Coded.{codes};
     ghost use Rattle.bl_page.specs.contracts.page.Page as page;
     ghost use Rattle.bl_model.specs.contracts.operation.Reply as reply;
@@ -76,12 +76,12 @@ impl Model for Happened {
     ghost view = { λ happened. happened.trail.value };
 }
 
-impl Happened {
+impl GhostTrail {
     /// The trail before the first event.
-    pub fn nothing() -> Happened
+    pub fn nothing() -> GhostTrail
         ensures { result ≡ [] }
     {
-        Happened {
+        GhostTrail {
             trail: Snapshot::of(&Nothing),
         }
     }
@@ -89,7 +89,7 @@ impl Happened {
 
 /// What a pass knows.
 #[derive(Drop)]
-pub struct Mine {
+pub struct PassState {
     /// The number of the pass, once it has begun a process.
     pub pass: u32,
     /// How many pages there are, once it has begun a process.
@@ -103,9 +103,9 @@ pub struct Mine {
     /// Where the last of them stands.
     pub state: Proc,
     /// What the index began with.
-    pub first: Beginning<Page>,
+    pub first: FirstPages<Page>,
     /// The entries of the pass before that process.
     pub past: LinkedList<Entry>,
     /// All that had happened up to its own last event.
-    pub trail: Happened,
+    pub trail: GhostTrail,
 }

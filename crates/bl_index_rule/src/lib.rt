@@ -5,7 +5,7 @@
 //! Promised to `bl_index`: each event of a store is a turn of the process that the hand's pass has, whatever its kind, so
 //! the rule holds after it, and the pass knows all that has happened up to its own event. Each release of a sweep is one too,
 //! of a process of its own that does not begin. No value of the types here is made while a program runs, but for one of
-//! [`Mine`] and what it began with as an index is made.
+//! [`PassState`] and what it began with as an index is made.
 #![tactic(auto)]
 
 mod events;
@@ -16,5 +16,5 @@ pub use events::{
     Began, Ended, GaveUp, Got, Launch, Opened, Probed, Put, Refused, Retired, Sweeper, Swept, Took,
     Tried,
 };
-pub use known::{Beginning, Happened, Mine};
+pub use known::{FirstPages, GhostTrail, PassState};
 pub use rule::Passes;

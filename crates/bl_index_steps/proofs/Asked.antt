@@ -3,11 +3,11 @@ use Rattle.std.proofs.Common.{ℕ, ◌≡◌, ◌≢◌, None, Some, inl, inr, s
 use Rattle.bl_claims.specs.Trails.{Trail}
 use Rattle.bl_proc_base.specs.declared.acts.Action.TheVariants as act
 use Rattle.bl_proc_base.specs.declared.acts.Seen.{Seen}
-use Rattle.bl_proc_base.specs.declared.changing.Change.{Change}
-use Rattle.bl_proc_base.specs.declared.changing.Change.TheVariants as change
+use Rattle.bl_proc_base.specs.declared.editing.Edit.{Edit}
+use Rattle.bl_proc_base.specs.declared.editing.Edit.TheVariants as edit
 use Rattle.bl_proc_base.specs.declared.growing.Growth.{Growth}
 use Rattle.bl_proc_base.specs.declared.growing.Growth.TheVariants as growth
-use Rattle.bl_proc_base.specs.Changes.{change_next, change_needs}
+use Rattle.bl_proc_base.specs.Edits.{edit_next, edit_needs}
 use Rattle.bl_proc_base.specs.Growths.{growth_next, growth_needs}
 use Rattle.bl_proc.specs.declared.inserting.InsertStage.{InsertStage}
 use Rattle.bl_proc.specs.declared.inserting.InsertStage.TheVariants as insert
@@ -19,10 +19,10 @@ use Rattle.bl_proc.specs.declared.kinds.Proc.TheVariants.{Find, Insert, Delete, 
 use Rattle.bl_proc.specs.Inserts.{insert_next_in, insert_needs_in}
 use Rattle.bl_proc.specs.Posts.{post_next_in, post_needs_in}
 use Rattle.bl_proc.specs.Processes.{next_of, needs_of, Takes}
-use Rattle.bl_index_rule.specs.declared.known.Mine.{Mine}
-use Rattle.bl_index_rule.specs.Told.{Goes}
+use Rattle.bl_index_rule.specs.declared.known.PassState.{PassState}
+use Rattle.bl_index_rule.specs.Observed.{Goes}
 use Rattle.bl_index_steps.specs.Refused.{HasRoom, IsFull, GotAnchor}
-use Rattle.bl_index_steps.specs.Held.{own_marks, KeepsLatch, change_held, growth_held, insert_held, post_held, proc_held, AsksForPage, AsksFor}
+use Rattle.bl_index_steps.specs.Held.{own_marks, KeepsLatch, edit_held, growth_held, insert_held, post_held, proc_held, AsksForPage, AsksFor}
 use Rattle.bl_index_steps.proofs.Held.{goes_keeps, keeps_held, keeps_anchor}
 
 same_ask : {a b : ℕ × ℕ} → Some a ≡ Some b → b ≡ a
@@ -32,13 +32,13 @@ no_ask : {X : Type 0} {b : ℕ × ℕ} → None ≡ Some b → X
 no_ask {b = b} e = absurd (let f : None ≡ Some b = e in cc)
 
 -- it asks for what the page takes that it holds
-change_asks : (level key : ℕ) (c : Change) (ask : ℕ × ℕ) (marks : Trail) → change_needs c ≡ Some ask → change_held level key c marks → AsksForPage level key ask marks
-change_asks level key (change.Putting x page) ask marks e held = inl (same_ask e, held)
-change_asks level key (change.Taking full) ask marks e held = inr (same_ask e, held)
-change_asks level key (change.PuttingNew p) ask marks e held = no_ask e
-change_asks level key (change.PuttingOld p) ask marks e held = no_ask e
-change_asks level key (change.OpeningNew x new separator) ask marks e held = no_ask e
-change_asks level key (change.Opening x o) ask marks e held = no_ask e
+edit_asks : (level key : ℕ) (c : Edit) (ask : ℕ × ℕ) (marks : Trail) → edit_needs c ≡ Some ask → edit_held level key c marks → AsksForPage level key ask marks
+edit_asks level key (edit.Putting x page) ask marks e held = inl (same_ask e, held)
+edit_asks level key (edit.Taking full) ask marks e held = inr (same_ask e, held)
+edit_asks level key (edit.PuttingNew p) ask marks e held = no_ask e
+edit_asks level key (edit.PuttingOld p) ask marks e held = no_ask e
+edit_asks level key (edit.OpeningNew x new separator) ask marks e held = no_ask e
+edit_asks level key (edit.Opening x o) ask marks e held = no_ask e
 
 growth_asks : (level : ℕ) (g : Growth) (ask : ℕ × ℕ) (marks : Trail) → growth_needs g ≡ Some ask → growth_held level g marks → (ask ≡ (1, 2)) × GotAnchor level marks
 growth_asks level growth.Latching ask marks e held = no_ask e
@@ -54,7 +54,7 @@ insert_asks : (key : ℕ) (a : InsertStage) (ask : ℕ × ℕ) (marks : Trail) �
 insert_asks key insert.New ask marks e held = no_ask e
 insert_asks key (insert.Coming a) ask marks e held = no_ask e
 insert_asks key (insert.Present x there) ask marks e held = no_ask e
-insert_asks key (insert.Changing c) ask marks e held = change_asks 0 key c ask marks e held
+insert_asks key (insert.Editing c) ask marks e held = edit_asks 0 key c ask marks e held
 insert_asks key (insert.Ending r) ask marks e held = no_ask e
 insert_asks key (insert.Over r) ask marks e held = no_ask e
 
@@ -66,19 +66,19 @@ post_asks p ask marks e held = by p.stage e held
     by (post.Coming a) e held = no_ask e
     by (post.Growing g) e held = inr (growth_asks p.level g ask marks e held)
     by (post.Walking w) e held = no_ask e
-    by (post.Changing c) e held = inl (change_asks p.level p.key c ask marks e held)
+    by (post.Editing c) e held = inl (edit_asks p.level p.key c ask marks e held)
     by (post.Staying x r) e held = no_ask e
     by (post.Ending r) e held = no_ask e
     by (post.Over r) e held = no_ask e
 
 -- where it asks it latches nothing
-change_away : (c : Change) (x : ℕ) → change_next c ≢ act.Latch x
-change_away (change.Putting y page) x e = cc
-change_away (change.Taking full) x e = cc
-change_away (change.PuttingNew p) x e = cc
-change_away (change.PuttingOld p) x e = cc
-change_away (change.OpeningNew y new separator) x e = cc
-change_away (change.Opening y o) x e = cc
+edit_away : (c : Edit) (x : ℕ) → edit_next c ≢ act.Latch x
+edit_away (edit.Putting y page) x e = cc
+edit_away (edit.Taking full) x e = cc
+edit_away (edit.PuttingNew p) x e = cc
+edit_away (edit.PuttingOld p) x e = cc
+edit_away (edit.OpeningNew y new separator) x e = cc
+edit_away (edit.Opening y o) x e = cc
 
 growth_away : (g : Growth) (ask : ℕ × ℕ) → growth_needs g ≡ Some ask → (x : ℕ) → growth_next g ≢ act.Latch x
 growth_away growth.Latching ask needs x e = no_ask needs
@@ -94,7 +94,7 @@ insert_away : (a : InsertStage) (ask : ℕ × ℕ) → insert_needs_in a ≡ Som
 insert_away insert.New ask needs x e = cc
 insert_away (insert.Coming a) ask needs x e = no_ask needs
 insert_away (insert.Present y there) ask needs x e = cc
-insert_away (insert.Changing c) ask needs x e = change_away c x e
+insert_away (insert.Editing c) ask needs x e = edit_away c x e
 insert_away (insert.Ending r) ask needs x e = cc
 insert_away (insert.Over r) ask needs x e = cc
 
@@ -103,19 +103,19 @@ post_away post.New ask needs x e = cc
 post_away (post.Coming a) ask needs x e = no_ask needs
 post_away (post.Growing g) ask needs x e = growth_away g ask needs x e
 post_away (post.Walking w) ask needs x e = cc
-post_away (post.Changing c) ask needs x e = change_away c x e
+post_away (post.Editing c) ask needs x e = edit_away c x e
 post_away (post.Staying y r) ask needs x e = cc
 post_away (post.Ending r) ask needs x e = cc
 post_away (post.Over r) ask needs x e = cc
 
 -- that page stays the one that it latched last
-page_keeps : (level key : ℕ) (ask : ℕ × ℕ) (d e : Mine) → KeepsLatch d e → AsksForPage level key ask (own_marks d) → AsksForPage level key ask (own_marks e)
+page_keeps : (level key : ℕ) (ask : ℕ × ℕ) (d e : PassState) → KeepsLatch d e → AsksForPage level key ask (own_marks d) → AsksForPage level key ask (own_marks e)
 page_keeps level key ask d e latch asks = elim asks [
   | inl one ↦ inl (one.0, keeps_held level key HasRoom d e latch one.1)
   | inr two ↦ inr (two.0, keeps_held level key IsFull d e latch two.1)
 ]
 
-pub asks_keep : (p : Proc) (ask : ℕ × ℕ) (d e : Mine) → KeepsLatch d e → AsksFor p ask (own_marks d) → AsksFor p ask (own_marks e)
+pub asks_keep : (p : Proc) (ask : ℕ × ℕ) (d e : PassState) → KeepsLatch d e → AsksFor p ask (own_marks d) → AsksFor p ask (own_marks e)
 asks_keep (Find p) ask d e latch asks = tt
 asks_keep (Insert p) ask d e latch asks = page_keeps 0 p.key ask d e latch asks
 asks_keep (Delete p) ask d e latch asks = tt
@@ -129,15 +129,15 @@ asks_keep (Reclaim p) ask d e latch asks = tt
 asks_keep (Lower p) ask d e latch asks = tt
 
 -- by the event at which it was refused
-pub asks_told : (p : Proc) (ask : ℕ × ℕ) (d e : Mine) (what : Seen) → d.state ≡ p → needs_of p ≡ Some ask → proc_held p (own_marks d) → Goes what d e → AsksFor p ask (own_marks e)
-asks_told (Find p) ask d e what is needs held goes = tt
-asks_told (Insert p) ask d e what is needs held goes = asks_keep (Insert p) ask d e (goes_keeps what d e goes (λ x l. insert_away p.stage ask needs x (ap next_of (sym is) ∙ l))) (insert_asks p.key p.stage ask (own_marks d) needs held)
-asks_told (Delete p) ask d e what is needs held goes = tt
-asks_told (Post p) ask d e what is needs held goes = asks_keep (Post p) ask d e (goes_keeps what d e goes (λ x l. post_away p.stage ask needs x (ap next_of (sym is) ∙ l))) (post_asks p ask (own_marks d) needs held)
-asks_told (Part p) ask d e what is needs held goes = tt
-asks_told (Compress p) ask d e what is needs held goes = tt
-asks_told (Reclaim p) ask d e what is needs held goes = tt
-asks_told (Lower p) ask d e what is needs held goes = tt
+pub asks_observed : (p : Proc) (ask : ℕ × ℕ) (d e : PassState) (what : Seen) → d.state ≡ p → needs_of p ≡ Some ask → proc_held p (own_marks d) → Goes what d e → AsksFor p ask (own_marks e)
+asks_observed (Find p) ask d e what is needs held goes = tt
+asks_observed (Insert p) ask d e what is needs held goes = asks_keep (Insert p) ask d e (goes_keeps what d e goes (λ x l. insert_away p.stage ask needs x (ap next_of (sym is) ∙ l))) (insert_asks p.key p.stage ask (own_marks d) needs held)
+asks_observed (Delete p) ask d e what is needs held goes = tt
+asks_observed (Post p) ask d e what is needs held goes = asks_keep (Post p) ask d e (goes_keeps what d e goes (λ x l. post_away p.stage ask needs x (ap next_of (sym is) ∙ l))) (post_asks p ask (own_marks d) needs held)
+asks_observed (Part p) ask d e what is needs held goes = tt
+asks_observed (Compress p) ask d e what is needs held goes = tt
+asks_observed (Reclaim p) ask d e what is needs held goes = tt
+asks_observed (Lower p) ask d e what is needs held goes = tt
 
 -- the process goes on
 pub asks_on : (p : Proc) (what : Seen) (q : Proc) (ask : ℕ × ℕ) (marks : Trail) → Takes p what q → AsksFor p ask marks → AsksFor q ask marks

@@ -11,9 +11,9 @@ use Rattle.bl_core.proofs.Frames.{Each-map}
 use Rattle.bl_proc.specs.declared.kinds.Proc.{Proc}
 use Rattle.bl_proc_invariant.specs.Knowing.{Run, know}
 use Rattle.bl_claims.specs.Latches.{OnlyLooks}
-use Rattle.bl_index_rule.specs.declared.known.Mine.{Mine}
+use Rattle.bl_index_rule.specs.declared.known.PassState.{PassState}
 use Rattle.bl_claims.specs.Seeing.{IsSeen, AreElse, AreOnlyOf, own, Holds, name}
-use Rattle.bl_index_rule.specs.Told.{Steps, Begins, Finishes}
+use Rattle.bl_index_rule.specs.Observed.{Steps, Begins, Finishes}
 use Rattle.bl_index_rule.proofs.Marks.{each_append}
 use Rattle.bl_index_steps.specs.Runs.{IsSince}
 
@@ -37,7 +37,7 @@ longer old before first since tail = append_assoc old (before ++ first ∷ since
 others_only : (p : Name) (marks : Trail) → AreElse p.pass marks → AreOnlyOf p marks
 others_only p marks h = Each-map _ _ marks (λ (m : Mark) (ne : m.event.process.pass ≢ p.pass) (e : m.event.process.pass ≡ p.pass). absurd (ne e)) h
 
-pub since_begin : (pass pages passes : ℕ) (process : Proc) (old d : Mine) → Begins pass pages passes process old d → IsSince pass old d
+pub since_begin : (pass pages passes : ℕ) (process : Proc) (old d : PassState) → Begins pass pages passes process old d → IsSince pass old d
 since_begin pass pages passes process old d b =
     record {
       named = b.notes.pass;
@@ -54,7 +54,7 @@ since_begin pass pages passes process old d b =
       only = tt;
     }
 
-pub since_step : (pass : ℕ) (act : Act Page Reply) (old d e : Mine) → IsSince pass old d → Steps act d e → IsSince pass old e
+pub since_step : (pass : ℕ) (act : Act Page Reply) (old d e : PassState) → IsSince pass old d → Steps act d e → IsSince pass old e
 since_step pass act old d e s t =
     let tail : Trail = t.notes.between ++ t.notes.last ∷ [] in
     let p = name pass (old.number + 1) in
@@ -75,7 +75,7 @@ since_step pass act old d e s t =
     }
 
 -- its end stands last
-pub since_end : (pass : ℕ) (answer : Option Reply) (old d e : Mine) → IsSince pass old d → Finishes answer d e → Holds (name pass (old.number + 1)) answer old.trail e.trail
+pub since_end : (pass : ℕ) (answer : Option Reply) (old d e : PassState) → IsSince pass old d → Finishes answer d e → Holds (name pass (old.number + 1)) answer old.trail e.trail
 since_end pass answer old d e s t =
     let p = name pass (old.number + 1) in
     let tail : Trail = t.notes.between ++ t.notes.last ∷ [] in
@@ -95,11 +95,11 @@ since_end pass answer old d e s t =
     }
 
 -- what the index began with, and what the pass has seen by then
-pub end_seen : (pass : ℕ) (answer : Option Reply) (old d e : Mine) (first : List (Option Page)) → IsSince pass old d → Finishes answer d e → old.first ≡ first → (e.first ≡ first) × IsSeen first e.trail
+pub end_seen : (pass : ℕ) (answer : Option Reply) (old d e : PassState) (first : List (Option Page)) → IsSince pass old d → Finishes answer d e → old.first ≡ first → (e.first ≡ first) × IsSeen first e.trail
 end_seen pass answer old d e first s t is = let same : e.first ≡ first = t.notes.first ∙ (s.beginning ∙ is) in (same, subst (λ (z : List (Option Page)). IsSeen z e.trail) same t.notes.seen)
 
 -- what the pass has said by then
-pub since_said : (pass : ℕ) (answer : Option Reply) (old d e : Mine) (said : Option Said) → IsSince pass old d → Finishes answer d e → ((r : Run) → r.state ≡ d.state → (know r).said ≡ said) → own pass e.trail ≡ own pass old.trail ++ entries_at (name pass (old.number + 1)) said
+pub since_said : (pass : ℕ) (answer : Option Reply) (old d e : PassState) (said : Option Said) → IsSince pass old d → Finishes answer d e → ((r : Run) → r.state ≡ d.state → (know r).said ≡ said) → own pass e.trail ≡ own pass old.trail ++ entries_at (name pass (old.number + 1)) said
 since_said pass answer old d e said s t says =
     let h = s.own in
     let here : own pass e.trail ≡ own pass d.trail = subst (λ (z : ℕ). own z e.trail ≡ own z d.trail) s.named t.own in
@@ -107,5 +107,5 @@ since_said pass answer old d e said s t says =
     here ∙ (there ∙ ((λ i. s.past i ++ entries_at (name pass (old.number + 1)) (says h.run h.state i))))
 
 -- what it has done, by its name in the call
-pub own_looks : (pass : ℕ) (old d : Mine) (trail : Trail) → IsSince pass old d → OnlyLooks (marks_of (name d.pass d.number) trail) → OnlyLooks (marks_of (name pass (old.number + 1)) trail)
+pub own_looks : (pass : ℕ) (old d : PassState) (trail : Trail) → IsSince pass old d → OnlyLooks (marks_of (name d.pass d.number) trail) → OnlyLooks (marks_of (name pass (old.number + 1)) trail)
 own_looks pass old d trail s looks = subst (λ (p : Name). OnlyLooks (marks_of p trail)) (λ i. name (s.named i) (s.number i)) looks

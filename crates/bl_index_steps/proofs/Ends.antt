@@ -13,10 +13,10 @@ use Rattle.bl_proc_base.specs.declared.answers.Answer.{Answer}
 use Rattle.bl_proc_base.specs.declared.answers.Answer.TheVariants.{Op}
 use Rattle.bl_proc_base.specs.declared.approaching.Approach.{Approach}
 use Rattle.bl_proc_base.specs.declared.approaching.Approach.TheVariants as way
-use Rattle.bl_proc_base.specs.declared.changing.Change.{Change}
-use Rattle.bl_proc_base.specs.declared.changing.Change.TheVariants as change
+use Rattle.bl_proc_base.specs.declared.editing.Edit.{Edit}
+use Rattle.bl_proc_base.specs.declared.editing.Edit.TheVariants as edit
 use Rattle.bl_proc_base.specs.Approaches.{approach_next}
-use Rattle.bl_proc_base.specs.Changes.{change_next}
+use Rattle.bl_proc_base.specs.Edits.{edit_next}
 use Rattle.bl_proc.specs.declared.inserting.InsertStage.{InsertStage}
 use Rattle.bl_proc.specs.declared.inserting.InsertStage.TheVariants as insert
 use Rattle.bl_proc.specs.declared.inserting.InsertReply.{InsertReply}
@@ -41,7 +41,7 @@ use Rattle.bl_proc_invariant.specs.Beside.{MeansBeside}
 use Rattle.bl_proc_invariant.proofs.Beside.{beside_means}
 use Rattle.bl_proc_invariant.specs.Knowing.{Run, know, know_of, inserted_reply, deleted_reply, found_reply, know_find, know_part, know_insert, know_delete, find_end, part_end, insert_end, delete_end, end_of_proc}
 use Rattle.bl_proc_unique.specs.Frames.{op_of}
-use Rattle.bl_index_rule.specs.declared.known.Mine.{Mine}
+use Rattle.bl_index_rule.specs.declared.known.PassState.{PassState}
 use Rattle.bl_claims.specs.Seeing.{Holds, name}
 use Rattle.bl_index_steps.specs.Answered.{Answers, InCall}
 use Rattle.bl_index_steps.specs.Held.{own_marks}
@@ -58,13 +58,13 @@ not_end_way (way.Latching x) e = cc
 not_end_way (way.Latched x) e = cc
 not_end_way (way.Leaving x to) e = cc
 
-pub not_end : (c : Change) → change_next c ≢ act.End
-not_end (change.Putting x page) e = cc
-not_end (change.Taking full) e = cc
-not_end (change.PuttingNew p) e = cc
-not_end (change.PuttingOld p) e = cc
-not_end (change.OpeningNew x new s) e = cc
-not_end (change.Opening x what) e = cc
+pub not_end : (c : Edit) → edit_next c ≢ act.End
+not_end (edit.Putting x page) e = cc
+not_end (edit.Taking full) e = cc
+not_end (edit.PuttingNew p) e = cc
+not_end (edit.PuttingOld p) e = cc
+not_end (edit.OpeningNew x new s) e = cc
+not_end (edit.Opening x what) e = cc
 
 insert_reply_said : (q : InsertReply) (reply : Reply) (hint : Option Hint) → inserted_answer q ≡ Op reply hint → inserted_reply q ≡ reply
 insert_reply_said (inserted.Inserted s) reply hint e = cc
@@ -75,12 +75,12 @@ insert_ends : (key value : ℕ) (a b : InsertStage) (reply : Reply) (hint : Opti
 insert_ends key value insert.New b reply hint e t h = cc
 insert_ends key value (insert.Coming w) b reply hint e t h = absurd (not_end_way w e)
 insert_ends key value (insert.Present x there) b reply hint e t h = cc
-insert_ends key value (insert.Changing c) b reply hint e t h = absurd (not_end c e)
+insert_ends key value (insert.Editing c) b reply hint e t h = absurd (not_end c e)
 insert_ends key value (insert.Over r) b reply hint e t h = absurd t
 insert_ends key value (insert.Ending r) insert.New reply hint e t h = absurd t
 insert_ends key value (insert.Ending r) (insert.Coming w) reply hint e t h = absurd t
 insert_ends key value (insert.Ending r) (insert.Present y z) reply hint e t h = absurd t
-insert_ends key value (insert.Ending r) (insert.Changing c) reply hint e t h = absurd t
+insert_ends key value (insert.Ending r) (insert.Editing c) reply hint e t h = absurd t
 insert_ends key value (insert.Ending r) (insert.Ending q) reply hint e t h = absurd t
 insert_ends key value (insert.Ending r) (insert.Over q) reply hint e t h =
     let some : inserted_answer q ≡ Op reply hint = some_one h in
@@ -96,12 +96,12 @@ delete_ends : (key : ℕ) (a b : DeleteStage) (reply : Reply) (hint : Option Hin
 delete_ends key delete.New b reply hint e t h = cc
 delete_ends key (delete.Coming w) b reply hint e t h = absurd (not_end_way w e)
 delete_ends key (delete.Absent x) b reply hint e t h = cc
-delete_ends key (delete.Changing v c) b reply hint e t h = absurd (not_end c e)
+delete_ends key (delete.Editing v c) b reply hint e t h = absurd (not_end c e)
 delete_ends key (delete.Over r) b reply hint e t h = absurd t
 delete_ends key (delete.Ending r) delete.New reply hint e t h = absurd t
 delete_ends key (delete.Ending r) (delete.Coming w) reply hint e t h = absurd t
 delete_ends key (delete.Ending r) (delete.Absent y) reply hint e t h = absurd t
-delete_ends key (delete.Ending r) (delete.Changing v c) reply hint e t h = absurd t
+delete_ends key (delete.Ending r) (delete.Editing v c) reply hint e t h = absurd t
 delete_ends key (delete.Ending r) (delete.Ending q) reply hint e t h = absurd t
 delete_ends key (delete.Ending r) (delete.Over q) reply hint e t h =
     let some : deleted_answer q ≡ Op reply hint = some_one h in
@@ -172,28 +172,28 @@ end_says (proc.Lower p) last o reply hint i e t h = cc
 end_says before last o reply hint i e t h = absurd t
 
 -- what the index began with, as the pass knows when a process has ended
-pub done_first : (pass : ℕ) (old e : Mine) (first last : Proc) → IsDone pass old e first last → e.first ≡ old.first
-done_first pass old e first last d = d.told.notes.first ∙ d.since.beginning
+pub done_first : (pass : ℕ) (old e : PassState) (first last : Proc) → IsDone pass old e first last → e.first ≡ old.first
+done_first pass old e first last d = d.observed.notes.first ∙ d.since.beginning
 
 -- the hint beside its reply means what it has put
-pub op_beside : (pass : ℕ) (old e : Mine) (first last : Proc) (reply : Reply) (hint : Option Hint) → IsDone pass old e first last → answer_of last ≡ Some (Op reply hint) → MeansBeside last reply hint (marks_of (name pass (old.number + 1)) e.trail)
+pub op_beside : (pass : ℕ) (old e : PassState) (first last : Proc) (reply : Reply) (hint : Option Hint) → IsDone pass old e first last → answer_of last ≡ Some (Op reply hint) → MeansBeside last reply hint (marks_of (name pass (old.number + 1)) e.trail)
 op_beside pass old e first last reply hint d answer = beside_means last reply hint (marks_of (name pass (old.number + 1)) e.trail) answer d.log
 
-abbrev pub op_answered : (from : List (Option Page)) (pass : ℕ) (old e : Mine) (first last : Proc) (o : Operation) (reply : Reply) (hint : Option Hint) → IsDone pass old e first last → old.first ≡ from → op_of first ≡ Some o → answer_of last ≡ Some (Op reply hint) → Answers from pass o reply old.trail e.trail
+abbrev pub op_answered : (from : List (Option Page)) (pass : ℕ) (old e : PassState) (first last : Proc) (o : Operation) (reply : Reply) (hint : Option Hint) → IsDone pass old e first last → old.first ≡ from → op_of first ≡ Some o → answer_of last ≡ Some (Op reply hint) → Answers from pass o reply old.trail e.trail
 op_answered from pass old e first last o reply hint d begins is answer =
     let s = end_says d.before last o reply hint (d.op ∙ is) d.at_end d.takes answer in
     record {
       number = old.number + 1;
-      holds = subst (λ (z : Option Reply). Holds (name pass (old.number + 1)) z old.trail e.trail) s.end (since_end pass (end_of_proc d.before) old d.d e d.since d.told);
-      seen = (end_seen pass (end_of_proc d.before) old d.d e from d.since d.told begins).1;
-      once = since_said pass (end_of_proc d.before) old d.d e (Some (record { op = o; reply = reply })) d.since d.told (λ r h. s.said r (h ∙ d.state));
+      holds = subst (λ (z : Option Reply). Holds (name pass (old.number + 1)) z old.trail e.trail) s.end (since_end pass (end_of_proc d.before) old d.d e d.since d.observed);
+      seen = (end_seen pass (end_of_proc d.before) old d.d e from d.since d.observed begins).1;
+      once = since_said pass (end_of_proc d.before) old d.d e (Some (record { op = o; reply = reply })) d.since d.observed (λ r h. s.said r (h ∙ d.state));
     }
 
 -- what its process has done, by its name in the call
-pub own_done : (pass : ℕ) (old e : Mine) (first last : Proc) → IsDone pass old e first last → own_marks e ≡ marks_of (name pass (old.number + 1)) e.trail
-own_done pass old e first last d = ap (λ (z : ℕ × ℕ). marks_of (name z.0 z.1) e.trail) (λ i. ((d.told.notes.pass ∙ d.since.named) i, (d.told.notes.number ∙ d.since.number) i))
+pub own_done : (pass : ℕ) (old e : PassState) (first last : Proc) → IsDone pass old e first last → own_marks e ≡ marks_of (name pass (old.number + 1)) e.trail
+own_done pass old e first last d = ap (λ (z : ℕ × ℕ). marks_of (name z.0 z.1) e.trail) (λ i. ((d.observed.notes.pass ∙ d.since.named) i, (d.observed.notes.number ∙ d.since.number) i))
 
-pub op_in_call : (from : List (Option Page)) (pass : ℕ) (old e : Mine) (first last : Proc) (o : Operation) (reply : Reply) (hint : Option Hint) (IsSo : Trail → Type 0) → IsDone pass old e first last → old.first ≡ from → op_of first ≡ Some o → answer_of last ≡ Some (Op reply hint) → IsSo (own_marks e) → InCall pass (Some reply) old.trail e.trail IsSo
+pub op_in_call : (from : List (Option Page)) (pass : ℕ) (old e : PassState) (first last : Proc) (o : Operation) (reply : Reply) (hint : Option Hint) (IsSo : Trail → Type 0) → IsDone pass old e first last → old.first ≡ from → op_of first ≡ Some o → answer_of last ≡ Some (Op reply hint) → IsSo (own_marks e) → InCall pass (Some reply) old.trail e.trail IsSo
 op_in_call from pass old e first last o reply hint IsSo d begins is answer so = record {
   number = old.number + 1;
   holds = (op_answered from pass old e first last o reply hint d begins is answer).holds;

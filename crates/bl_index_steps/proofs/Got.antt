@@ -13,14 +13,14 @@ use Rattle.bl_proc_base.specs.declared.acts.Action.TheVariants as act
 use Rattle.bl_proc_base.specs.declared.approaching.Approach.{Approach}
 use Rattle.bl_proc_base.specs.declared.approaching.Approach.TheVariants as way
 use Rattle.bl_proc_base.specs.declared.approaching.Approached.TheVariants as came
-use Rattle.bl_proc_base.specs.declared.changing.Change.{Change}
-use Rattle.bl_proc_base.specs.declared.changing.Change.TheVariants as change
-use Rattle.bl_proc_base.specs.declared.changing.Changed.TheVariants as changed
+use Rattle.bl_proc_base.specs.declared.editing.Edit.{Edit}
+use Rattle.bl_proc_base.specs.declared.editing.Edit.TheVariants as edit
+use Rattle.bl_proc_base.specs.declared.editing.Edited.TheVariants as changed
 use Rattle.bl_proc_base.specs.declared.growing.Growth.{Growth}
 use Rattle.bl_proc_base.specs.declared.growing.Growth.TheVariants as growth
 use Rattle.bl_proc_base.specs.declared.growing.Grew.TheVariants as grew
 use Rattle.bl_proc_base.specs.Approaches.{approach_next, Approaches}
-use Rattle.bl_proc_base.specs.Changes.{change_next, EntersPair}
+use Rattle.bl_proc_base.specs.Edits.{edit_next, EntersPair}
 use Rattle.bl_proc_base.specs.Growths.{growth_next}
 use Rattle.bl_proc.specs.declared.inserting.InsertStage.{InsertStage}
 use Rattle.bl_proc.specs.declared.inserting.InsertStage.TheVariants as insert
@@ -31,14 +31,14 @@ use Rattle.bl_proc.specs.declared.kinds.Proc.TheVariants.{Find, Insert, Delete, 
 use Rattle.bl_proc.specs.Inserts.{insert_next_in}
 use Rattle.bl_proc.specs.Posts.{post_next_in}
 use Rattle.bl_proc.specs.Processes.{next_of, Takes}
-use Rattle.bl_proc_unique.proofs.WayCases.{approach_case, ChangeCase, change_case, GrowthCase, growth_case}
+use Rattle.bl_proc_unique.proofs.WayCases.{approach_case, EditCase, edit_case, GrowthCase, growth_case}
 use Rattle.bl_proc_unique.proofs.KindCases.{InsertCase, insert_case, PostCase, post_case}
 use Rattle.bl_proc_invariant.specs.Turns.{event_of}
 use Rattle.bl_proc_invariant.specs.Knowing.{insert_end, end_of_proc}
 use Rattle.bl_proc_invariant.proofs.Holdings.{none_of}
 use Rattle.bl_proc_invariant.proofs.Logging.{latched_on}
 use Rattle.bl_index_steps.specs.Refused.{GotLatched, GotHeld, GotAnchor}
-use Rattle.bl_index_steps.specs.Held.{LatchedLast, GotAt, approach_held, change_held, growth_held, insert_held, post_held, proc_held}
+use Rattle.bl_index_steps.specs.Held.{LatchedLast, GotAt, approach_held, edit_held, growth_held, insert_held, post_held, proc_held}
 
 module _ (marks : Trail) (m : Mark) where
   abbrev more : Trail
@@ -77,39 +77,39 @@ module _ (marks : Trail) (m : Mark) where
   got_now x c did saw h = record { latched = after_on (λ z l. (let e = sym did ∙ l in cc)) h.latched; is = h.is; get = m; rest = []; next = ap (λ (z : Trail). z ++ m ∷ []) h.none; act = did; saw = saw }
 
   -- on the way
-  coming : (level key : ℕ) (a b : Approach) (what : Seen) → Approaches level key a what (came.On b) → m.event.act ≡ event_of None (approach_next a) what → approach_held b more
-  coming level key a way.Start what t did = tt
-  coming level key a (way.At x) what t did = tt
-  coming level key a (way.Latching x) what t did = tt
-  coming level key a (way.Latched x) what t did = latched_now x (latched_on m level key (approach_case level key a what _ t) did)
-  coming level key a (way.Leaving x to) what t did = tt
+  descend : (level key : ℕ) (a b : Approach) (what : Seen) → Approaches level key a what (came.On b) → m.event.act ≡ event_of None (approach_next a) what → approach_held b more
+  descend level key a way.Start what t did = tt
+  descend level key a (way.At x) what t did = tt
+  descend level key a (way.Latching x) what t did = tt
+  descend level key a (way.Latched x) what t did = latched_now x (latched_on m level key (approach_case level key a what _ t) did)
+  descend level key a (way.Leaving x to) what t did = tt
 
   -- a pair is to enter the page
   held_as : {level key x : ℕ} {c : Page} {WasSo : Page → Type 0} → GotAt level key more x c → WasSo c → GotHeld level key more WasSo
   held_as {x = x} {c = c} h was = record { at = x; page = c; got = h.got; level_is = h.level_is; covers = h.covers; was = was }
 
-  entering : (level key x word : ℕ) (c : Page) (d : Change) → EntersPair x c key word d → GotAt level key more x c → change_held level key d more
-  entering level key x word c (change.Putting y page) t h = held_as h t.1.0
-  entering level key x word c (change.Taking full) t h = held_as h (subst (λ (z : Page). 14 ≤ length (pairs_of z)) t.3 full.full)
+  entering : (level key x word : ℕ) (c : Page) (d : Edit) → EntersPair x c key word d → GotAt level key more x c → edit_held level key d more
+  entering level key x word c (edit.Putting y page) t h = held_as h t.1.0
+  entering level key x word c (edit.Taking full) t h = held_as h (subst (λ (z : Page). 14 ≤ length (pairs_of z)) t.3 full.full)
   entering level key x word c old t h = absurd t
 
-  changing : (level key : ℕ) {c d : Change} {what : Seen} → ChangeCase c what (changed.On d) → change_held level key d more
-  changing level key (ChangeCase.Put x page d t) = subst (λ (z : Change). change_held level key z more) (sym t) tt
-  changing level key (ChangeCase.PutRefused x page d t) = subst (λ (z : Change). change_held level key z more) (sym t) tt
-  changing level key (ChangeCase.Took full y p t) = tt
-  changing level key (ChangeCase.TakeRefused full d t) = subst (λ (z : Change). change_held level key z more) (sym t) tt
-  changing level key (ChangeCase.PutNew p d t) = subst (λ (z : Change). change_held level key z more) (sym t) tt
-  changing level key (ChangeCase.PutOld p d t) = subst (λ (z : Change). change_held level key z more) (sym t) tt
-  changing level key (ChangeCase.OpenedNew x y separator d t) = subst (λ (z : Change). change_held level key z more) (sym t) tt
+  editing : (level key : ℕ) {c d : Edit} {what : Seen} → EditCase c what (changed.On d) → edit_held level key d more
+  editing level key (EditCase.Put x page d t) = subst (λ (z : Edit). edit_held level key z more) (sym t) tt
+  editing level key (EditCase.PutRefused x page d t) = subst (λ (z : Edit). edit_held level key z more) (sym t) tt
+  editing level key (EditCase.Took full y p t) = tt
+  editing level key (EditCase.TakeRefused full d t) = subst (λ (z : Edit). edit_held level key z more) (sym t) tt
+  editing level key (EditCase.PutNew p d t) = subst (λ (z : Edit). edit_held level key z more) (sym t) tt
+  editing level key (EditCase.PutOld p d t) = subst (λ (z : Edit). edit_held level key z more) (sym t) tt
+  editing level key (EditCase.OpenedNew x y separator d t) = subst (λ (z : Edit). edit_held level key z more) (sym t) tt
 
   -- an insertion
   inserting : {key value : ℕ} {old new : InsertStage} {what : Seen} → InsertCase key value old what new → m.event.act ≡ event_of (insert_end old) (insert_next_in old) what → ((x : ℕ) (c : Page) → m.event.act ≡ Get x → what ≡ seen.Words c → m.saw ≡ Some c) → insert_held key old marks → insert_held key new more
   inserting (InsertCase.Began a t) did saw h = subst (λ (z : Approach). approach_held z more) (sym t) tt
-  inserting {key = key} (InsertCase.Came a what b t) did saw h = coming 0 key a b what t did
+  inserting {key = key} (InsertCase.Came a what b t) did saw h = descend 0 key a b what t did
   inserting (InsertCase.Found x c y there l t) did saw h = tt
   inserting {key = key} {value = value} (InsertCase.Entered x c d l t) did saw h = entering 0 key x value c d t.1 (record { got = got_now x c did (saw x c did refl) h; level_is = l.2; covers = l.1 })
   inserting (InsertCase.Opened x there last t) did saw h = tt
-  inserting {key = key} (InsertCase.Changed c what d t) did saw h = changing 0 key (change_case c what _ t)
+  inserting {key = key} (InsertCase.Edited c what d t) did saw h = editing 0 key (edit_case c what _ t)
   inserting (InsertCase.Finished c what last t) did saw h = tt
   inserting (InsertCase.Ended r last t) did saw h = tt
 
@@ -130,7 +130,7 @@ module _ (marks : Trail) (m : Mark) where
   posting (PostCase.NoLevel c t) did saw h = tt
   posting (PostCase.Tallest c t) did saw h = tt
   posting (PostCase.ToGrow c t) did saw h = tt
-  posting {level = level} {key = key} (PostCase.Came a what b t) did saw h = coming level key a b what t did
+  posting {level = level} {key = key} (PostCase.Came a what b t) did saw h = descend level key a b what t did
   posting (PostCase.Listed x parent y l t) did saw h = tt
   posting {level = level} {key = key} (PostCase.ToWalk x parent v l t) did saw h =
       let here : GotAt level key more x (Inner parent) = record { got = got_now x (Inner parent) did (saw x (Inner parent) did refl) h; level_is = l.2; covers = l.1 } in
@@ -144,7 +144,7 @@ module _ (marks : Trail) (m : Mark) where
       entering level key v.at v.child (Inner v.parent) d (subst (λ (z : ℕ). EntersPair v.at (Inner v.parent) z v.child d) same t.2) (at_still (λ z l. (let e = sym did ∙ l in cc)) got)
   posting (PostCase.Stale v c x t) did saw h = tt
   posting (PostCase.Lost v c a t) did saw h = subst (λ (z : Approach). approach_held z more) (sym t.0) tt
-  posting {level = level} {key = key} (PostCase.Changed c what d t) did saw h = changing level key (change_case c what _ t)
+  posting {level = level} {key = key} (PostCase.Edited c what d t) did saw h = editing level key (edit_case c what _ t)
   posting (PostCase.Finished c what last t) did saw h = tt
   posting (PostCase.Opened x r last t) did saw h = tt
   posting (PostCase.Ended r last t) did saw h = tt
@@ -169,13 +169,13 @@ waiting_way (way.Latching x) e marks = tt
 waiting_way (way.Latched x) e marks = absurd (let f : act.Get x ≡ act.Begin = e in cc)
 waiting_way (way.Leaving x to) e marks = tt
 
-waiting_change : (level key : ℕ) (c : Change) → change_next c ≡ act.Begin → (marks : Trail) → change_held level key c marks
-waiting_change level key (change.Putting x page) e marks = absurd (let f : act.Put x page ≡ act.Begin = e in cc)
-waiting_change level key (change.Taking full) e marks = absurd (let f : act.Take ≡ act.Begin = e in cc)
-waiting_change level key (change.PuttingNew p) e marks = tt
-waiting_change level key (change.PuttingOld p) e marks = tt
-waiting_change level key (change.OpeningNew x new separator) e marks = tt
-waiting_change level key (change.Opening x o) e marks = tt
+waiting_edit : (level key : ℕ) (c : Edit) → edit_next c ≡ act.Begin → (marks : Trail) → edit_held level key c marks
+waiting_edit level key (edit.Putting x page) e marks = absurd (let f : act.Put x page ≡ act.Begin = e in cc)
+waiting_edit level key (edit.Taking full) e marks = absurd (let f : act.Take ≡ act.Begin = e in cc)
+waiting_edit level key (edit.PuttingNew p) e marks = tt
+waiting_edit level key (edit.PuttingOld p) e marks = tt
+waiting_edit level key (edit.OpeningNew x new separator) e marks = tt
+waiting_edit level key (edit.Opening x o) e marks = tt
 
 waiting_growth : (level : ℕ) (g : Growth) → growth_next g ≡ act.Begin → (marks : Trail) → growth_held level g marks
 waiting_growth level growth.Latched e marks = absurd (let f : act.Get 0 ≡ act.Begin = e in cc)
@@ -191,7 +191,7 @@ waiting_insert : (key : ℕ) (a : InsertStage) → insert_next_in a ≡ act.Begi
 waiting_insert key insert.New e marks = tt
 waiting_insert key (insert.Coming a) e marks = waiting_way a e marks
 waiting_insert key (insert.Present x there) e marks = tt
-waiting_insert key (insert.Changing c) e marks = waiting_change 0 key c e marks
+waiting_insert key (insert.Editing c) e marks = waiting_edit 0 key c e marks
 waiting_insert key (insert.Ending r) e marks = tt
 waiting_insert key (insert.Over r) e marks = tt
 
@@ -200,7 +200,7 @@ waiting_post level key post.New e marks = tt
 waiting_post level key (post.Coming a) e marks = waiting_way a e marks
 waiting_post level key (post.Growing g) e marks = waiting_growth level g e marks
 waiting_post level key (post.Walking w) e marks = absurd (let f : act.Get w.child ≡ act.Begin = e in cc)
-waiting_post level key (post.Changing c) e marks = waiting_change level key c e marks
+waiting_post level key (post.Editing c) e marks = waiting_edit level key c e marks
 waiting_post level key (post.Staying x r) e marks = tt
 waiting_post level key (post.Ending r) e marks = tt
 waiting_post level key (post.Over r) e marks = tt

@@ -17,8 +17,8 @@ use Rattle.bl_proc.specs.declared.kinds.Proc.{Proc}
 use Rattle.bl_proc.specs.Processes.{next_of}
 use Rattle.bl_proc_invariant.specs.Turns.{event_of}
 use Rattle.bl_proc_invariant.specs.Knowing.{end_of_proc}
-use Rattle.bl_index_rule.specs.declared.known.Mine.{Mine}
-use Rattle.bl_index_rule.specs.Told.{Notes, Begins, Goes, Finishes}
+use Rattle.bl_index_rule.specs.declared.known.PassState.{PassState}
+use Rattle.bl_index_rule.specs.Observed.{Notes, Begins, Goes, Finishes}
 use Rattle.bl_index_rule.proofs.Marks.{no_marks}
 use Rattle.bl_index_steps.specs.Refused.{GotHeld, GotAnchor}
 use Rattle.bl_index_steps.specs.Held.{own_marks, KeepsLatch, proc_held}
@@ -30,7 +30,7 @@ marks_past p [] ys h = no_marks p ys (Each-map _ _ ys (λ (m : Mark) (ne : m.eve
 marks_past p (m ∷ ms) ys h = ap (λ (z : Trail). if same_name m.event.process p then m ∷ z else z) (marks_past p ms ys h)
 
 -- one event of the process
-pub own_noted : (by count : ℕ) (act : Act Page Reply) (d e : Mine) (n : Notes by count act d e) → own_marks e ≡ marks_of (name by count) d.trail ++ n.last ∷ []
+pub own_noted : (by count : ℕ) (act : Act Page Reply) (d e : PassState) (n : Notes by count act d e) → own_marks e ≡ marks_of (name by count) d.trail ++ n.last ∷ []
 own_noted by count act d e n =
     let p : Name = name by count in
     let named : own_marks e ≡ marks_of p e.trail = ap (λ (z : Name). marks_of z e.trail) (λ i. name (n.pass i) (n.number i)) in
@@ -39,22 +39,22 @@ own_noted by count act d e n =
     named ∙ (ap (marks_of p) apart ∙ (last ∙ ap (λ (z : Trail). z ++ n.last ∷ []) (marks_past p d.trail n.between n.others)))
 
 -- a turn of it
-pub goes_held : (what : Seen) (d e : Mine) → Goes what d e → proc_held d.state (own_marks d) → proc_held e.state (own_marks e)
+pub goes_held : (what : Seen) (d e : PassState) → Goes what d e → proc_held d.state (own_marks d) → proc_held e.state (own_marks e)
 goes_held what d e goes held =
     let n = goes.steps.notes in
     let did : n.last.event.act ≡ event_of (end_of_proc d.state) (next_of d.state) what = ap (λ v. v.act) n.event in
-    let on : proc_held goes.course.new (own_marks d ++ n.last ∷ []) = held_turn d.state goes.course.new what (own_marks d) n.last goes.course.takes did (λ x c act told. goes.saw x c (sym did ∙ act) told) held in
+    let on : proc_held goes.course.new (own_marks d ++ n.last ∷ []) = held_turn d.state goes.course.new what (own_marks d) n.last goes.course.takes did (λ x c act observed. goes.saw x c (sym did ∙ act) observed) held in
     subst (λ (z : Proc × Trail). proc_held z.0 z.1) (λ i. (sym goes.state i, sym (own_noted d.pass d.number _ d e n) i)) on
 
 -- its begin
-pub begins_held : (pass pages passes : ℕ) (process : Proc) (d e : Mine) → Begins pass pages passes process d e → next_of process ≡ act.Begin → proc_held e.state (own_marks e)
-begins_held pass pages passes process d e told next =
-    let n = told.notes in
+pub begins_held : (pass pages passes : ℕ) (process : Proc) (d e : PassState) → Begins pass pages passes process d e → next_of process ≡ act.Begin → proc_held e.state (own_marks e)
+begins_held pass pages passes process d e observed next =
+    let n = observed.notes in
     let marks : Trail = marks_of (name pass (d.number + 1)) d.trail in
     let did : n.last.event.act ≡ Act.Begin = ap (λ v. v.act) n.event in
     let action : event_of (end_of_proc process) (next_of process) seen.Done ≡ Act.Begin = ap (λ (a : Action). event_of (end_of_proc process) a seen.Done) next in
-    let on : proc_held told.course.new (marks ++ n.last ∷ []) = held_turn process told.course.new seen.Done marks n.last told.course.takes (did ∙ sym action) (λ x c get words. absurd (let f : seen.Done ≡ seen.Words c = words in cc)) (waiting_held process next marks) in
-    subst (λ (z : Proc × Trail). proc_held z.0 z.1) (λ i. (sym told.state i, sym (own_noted pass (d.number + 1) Act.Begin d e n) i)) on
+    let on : proc_held observed.course.new (marks ++ n.last ∷ []) = held_turn process observed.course.new seen.Done marks n.last observed.course.takes (did ∙ sym action) (λ x c get words. absurd (let f : seen.Done ≡ seen.Words c = words in cc)) (waiting_held process next marks) in
+    subst (λ (z : Proc × Trail). proc_held z.0 z.1) (λ i. (sym observed.state i, sym (own_noted pass (d.number + 1) Act.Begin d e n) i)) on
 
 -- an event latches where the action does
 latch_next : (reply : Option Reply) (a : Action) (what : Seen) (x : ℕ) → event_of reply a what ≡ Latch x → a ≡ act.Latch x
@@ -73,22 +73,22 @@ latch_next reply (act.Release y) seen.Done x e = absurd (let f = e in cc)
 latch_next reply a what x e = absurd (let f = e in cc)
 
 -- a turn in which it latches nothing
-pub goes_keeps : (what : Seen) (d e : Mine) → Goes what d e → ((x : ℕ) → next_of d.state ≢ act.Latch x) → KeepsLatch d e
+pub goes_keeps : (what : Seen) (d e : PassState) → Goes what d e → ((x : ℕ) → next_of d.state ≢ act.Latch x) → KeepsLatch d e
 goes_keeps what d e goes away =
     let n = goes.steps.notes in
     (n.last ∷ [], own_noted d.pass d.number _ d e n, ((λ x l. away x (latch_next (end_of_proc d.state) (next_of d.state) what x (sym (ap (λ v. v.act) n.event) ∙ l))), tt))
 
 -- its end
-pub ends_keeps : (answer : Option Reply) (d e : Mine) → Finishes answer d e → KeepsLatch d e
-ends_keeps answer d e told =
-    let n = told.notes in
+pub ends_keeps : (answer : Option Reply) (d e : PassState) → Finishes answer d e → KeepsLatch d e
+ends_keeps answer d e observed =
+    let n = observed.notes in
     (n.last ∷ [], own_noted d.pass d.number (Act.End answer) d e n, ((λ x l. (let f : Act.End answer ≡ Latch x = sym (ap (λ v. v.act) n.event) ∙ l in cc)), tt))
 
 each_both : {A : Type 0} (P : A → Type 0) (xs ys : List A) → Each P xs → Each P ys → Each P (xs ++ ys)
 each_both P [] ys h k = k
 each_both P (x ∷ xs) ys h k = (h.0, each_both P xs ys h.1 k)
 
-pub keeps_both : (d e f : Mine) → KeepsLatch d e → KeepsLatch e f → KeepsLatch d f
+pub keeps_both : (d e f : PassState) → KeepsLatch d e → KeepsLatch e f → KeepsLatch d f
 keeps_both d e f one two = (one.0 ++ two.0, two.1 ∙ (ap (λ (z : Trail). z ++ two.0) one.1 ∙ append_assoc (own_marks d) one.0 two.0), each_both _ one.0 two.0 one.2 two.2)
 
 -- the page that it got stays the one that it latched last
@@ -100,18 +100,18 @@ anchor_more : {level : ℕ} (marks more : Trail) → Each (λ (m : Mark). (x : �
 anchor_more {level} marks [] h got = subst (GotAnchor level) (sym (append-nil marks)) got
 anchor_more {level} marks (m ∷ ms) h got = subst (GotAnchor level) (append_assoc marks (m ∷ []) ms) (anchor_more (marks ++ m ∷ []) ms h.1 (anchor_still marks m h.0 got))
 
-pub keeps_held : (level key : ℕ) (WasSo : Page → Type 0) (d e : Mine) → KeepsLatch d e → GotHeld level key (own_marks d) WasSo → GotHeld level key (own_marks e) WasSo
+pub keeps_held : (level key : ℕ) (WasSo : Page → Type 0) (d e : PassState) → KeepsLatch d e → GotHeld level key (own_marks d) WasSo → GotHeld level key (own_marks e) WasSo
 keeps_held level key WasSo d e keeps got = subst (λ (z : Trail). GotHeld level key z WasSo) (sym keeps.1) (held_more (own_marks d) keeps.0 keeps.2 got)
 
-pub keeps_anchor : (level : ℕ) (d e : Mine) → KeepsLatch d e → GotAnchor level (own_marks d) → GotAnchor level (own_marks e)
+pub keeps_anchor : (level : ℕ) (d e : PassState) → KeepsLatch d e → GotAnchor level (own_marks d) → GotAnchor level (own_marks e)
 keeps_anchor level d e keeps got = subst (GotAnchor level) (sym keeps.1) (anchor_more (own_marks d) keeps.0 keeps.2 got)
 
 -- a put, a take and an open latch nothing
-pub put_latches_not : (d : Mine) (p : Proc) (x : ℕ) (c : Page) → d.state ≡ p → next_of p ≡ act.Put x c → (y : ℕ) → next_of d.state ≢ act.Latch y
+pub put_latches_not : (d : PassState) (p : Proc) (x : ℕ) (c : Page) → d.state ≡ p → next_of p ≡ act.Put x c → (y : ℕ) → next_of d.state ≢ act.Latch y
 put_latches_not d p x c is next y latches = (let f : act.Put x c ≡ act.Latch y = sym next ∙ (ap next_of (sym is) ∙ latches) in cc)
 
-pub take_latches_not : (d : Mine) (p : Proc) → d.state ≡ p → next_of p ≡ act.Take → (y : ℕ) → next_of d.state ≢ act.Latch y
+pub take_latches_not : (d : PassState) (p : Proc) → d.state ≡ p → next_of p ≡ act.Take → (y : ℕ) → next_of d.state ≢ act.Latch y
 take_latches_not d p is next y latches = (let f : act.Take ≡ act.Latch y = sym next ∙ (ap next_of (sym is) ∙ latches) in cc)
 
-pub open_latches_not : (d : Mine) (x : ℕ) → next_of d.state ≡ act.Open x → (y : ℕ) → next_of d.state ≢ act.Latch y
+pub open_latches_not : (d : PassState) (x : ℕ) → next_of d.state ≡ act.Open x → (y : ℕ) → next_of d.state ≢ act.Latch y
 open_latches_not d x next y latches = (let f : act.Open x ≡ act.Latch y = sym next ∙ latches in cc)

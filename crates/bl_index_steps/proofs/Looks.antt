@@ -4,10 +4,10 @@ use Rattle.std.specs.Prelude.{◌↔◌, IsTrue}
 use Rattle.std.proofs.lemmas.Bool.{false≢true}
 use Rattle.bl_proc_base.specs.declared.acts.Seen.TheVariants as seen
 use Rattle.bl_store.specs.Pages.{Owner, Open}
-use Rattle.bl_index_rule.specs.declared.known.Mine.{Mine}
-use Rattle.bl_index_rule.specs.Told.{Goes, probes}
+use Rattle.bl_index_rule.specs.declared.known.PassState.{PassState}
+use Rattle.bl_index_rule.specs.Observed.{Goes, probes}
 
 -- by what it was told
-pub probed_as : (free : Bool) (d e : Mine) (x : ℕ) (owner : Owner) (words : List ℕ) → (IsTrue free ↔ (owner ≡ Open)) → probes d x owner words e → Goes (seen.Probed free) d e
-probed_as true d e x owner words is told = told.0 (is.0 refl)
-probed_as false d e x owner words is told = told.1 (λ same. false≢true (is.1 same))
+pub probed_as : (free : Bool) (d e : PassState) (x : ℕ) (owner : Owner) (words : List ℕ) → (IsTrue free ↔ (owner ≡ Open)) → probes d x owner words e → Goes (seen.Probed free) d e
+probed_as true d e x owner words is observed = observed.0 (is.0 refl)
+probed_as false d e x owner words is observed = observed.1 (λ same. false≢true (is.1 same))

@@ -4,9 +4,9 @@ use Rattle.bl_model.specs.declared.operation.Reply.{Reply}
 use Rattle.bl_page.specs.declared.page.Page.{Page}
 use Rattle.bl_proc.specs.declared.kinds.Proc.{Proc}
 use Rattle.bl_proc_invariant.specs.Knowing.{Run, know, end_of_proc}
-use Rattle.bl_index_rule.specs.declared.known.Mine.{Mine}
+use Rattle.bl_index_rule.specs.declared.known.PassState.{PassState}
 use Rattle.bl_claims.specs.Seeing.{own}
-use Rattle.bl_index_rule.specs.Told.{Finishes}
+use Rattle.bl_index_rule.specs.Observed.{Finishes}
 use Rattle.bl_index_steps.specs.Answered.{Adds}
 use Rattle.bl_index_steps.specs.Runs.{IsDone}
 use Rattle.bl_index_steps.proofs.Calls.{since_end, since_said, end_seen}
@@ -18,12 +18,12 @@ first_of {a} {b} {c} {d} e = (let both : ◌≡◌ {A = ℕ × ℕ} (a, b) (c, d
 pub second_of : {a b c d : ℕ} → ◌≡◌ {A = Option (ℕ × ℕ)} (Some (a, b)) (Some (c, d)) → b ≡ d
 second_of {a} {b} {c} {d} e = (let both : ◌≡◌ {A = ℕ × ℕ} (a, b) (c, d) = cc in ap (λ (z : ℕ × ℕ). z.1) both)
 
-abbrev pub quiet_adds : (from : List (Option Page)) (pass : ℕ) (old e : Mine) (first last before : Proc) (d : IsDone pass old e first last) → old.first ≡ from → d.before ≡ before → end_of_proc before ≡ None → ((r : Run) → r.state ≡ before → (know r).said ≡ None) → Adds from pass old.trail e.trail
+abbrev pub quiet_adds : (from : List (Option Page)) (pass : ℕ) (old e : PassState) (first last before : Proc) (d : IsDone pass old e first last) → old.first ≡ from → d.before ≡ before → end_of_proc before ≡ None → ((r : Run) → r.state ≡ before → (know r).said ≡ None) → Adds from pass old.trail e.trail
 quiet_adds from pass old e first last before d begins is end silent =
-    let told : Finishes None d.d e = subst (λ (z : Option Reply). Finishes z d.d e) (ap end_of_proc is ∙ end) d.told in
+    let observed : Finishes None d.d e = subst (λ (z : Option Reply). Finishes z d.d e) (ap end_of_proc is ∙ end) d.observed in
     record {
       number = old.number + 1;
-      holds = since_end pass None old d.d e d.since told;
-      seen = (end_seen pass None old d.d e from d.since told begins).1;
-      none = since_said pass None old d.d e None d.since told (λ r h. silent r (h ∙ (d.state ∙ is))) ∙ append-nil (own pass old.trail);
+      holds = since_end pass None old d.d e d.since observed;
+      seen = (end_seen pass None old d.d e from d.since observed begins).1;
+      none = since_said pass None old d.d e None d.since observed (λ r h. silent r (h ∙ (d.state ∙ is))) ∙ append-nil (own pass old.trail);
     }

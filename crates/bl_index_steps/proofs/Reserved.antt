@@ -13,11 +13,11 @@ use Rattle.bl_layout.specs.Words.{frame_count}
 use Rattle.bl_store.specs.declared.stock.Stock.{Stock}
 use Rattle.bl_store.specs.declared.view.View.{View}
 use Rattle.bl_store.specs.Hands.{HasNoStock, IsSameStock, drafts}
-use Rattle.bl_index_rule.specs.declared.known.Mine.{Mine}
+use Rattle.bl_index_rule.specs.declared.known.PassState.{PassState}
 use Rattle.bl_index_steps.specs.Runs.{HasReserved}
 
 abbrev H : Type 0
-H = Seat (Unit {0}) (View Mine)
+H = Seat (Unit {0}) (View PassState)
 
 -- it reserves nothing and uses nothing up
 abbrev pub IsQuiet : Action → Type 0

@@ -13,9 +13,9 @@ use Rattle.bl_proc_unique.proofs.RefusedNexts.{refused_opens, may_ask, may_ask_o
 use Rattle.bl_store.specs.declared.view.View.{View}
 use Rattle.bl_layout.specs.declared.layout.Layout.{Layout}
 use Rattle.bl_store.specs.Hands.{known, IsWhyOf, WasRefused, IsSameRefusal}
-use Rattle.bl_index_rule.specs.declared.known.Mine.{Mine}
-use Rattle.bl_proc_base.specs.declared.changing.Outcome.{Outcome}
-use Rattle.bl_proc_base.specs.declared.changing.Outcome.TheVariants as outcome
+use Rattle.bl_index_rule.specs.declared.known.PassState.{PassState}
+use Rattle.bl_proc_base.specs.declared.editing.Outcome.{Outcome}
+use Rattle.bl_proc_base.specs.declared.editing.Outcome.TheVariants as outcome
 use Rattle.bl_proc.specs.declared.posting.PostReply.TheVariants as reply
 use Rattle.bl_proc.specs.declared.posting.Post.{Post}
 use Rattle.bl_proc.specs.declared.kinds.Proc.TheVariants as proc
@@ -29,10 +29,10 @@ use Rattle.bl_index_steps.specs.Held.{own_marks, KeepsLatch, proc_held, AsksFor}
 use Rattle.bl_index_steps.specs.Rooms.{LacksPage, LacksPost, LacksAsked, TellsRoom}
 use Rattle.bl_index_steps.specs.Runs.{Moves}
 use Rattle.bl_index_steps.proofs.Held.{goes_keeps, keeps_held}
-use Rattle.bl_index_steps.proofs.Asked.{asks_on, asks_keep, asks_told}
+use Rattle.bl_index_steps.proofs.Asked.{asks_on, asks_keep, asks_observed}
 
 abbrev H : Type 0
-H = Seat (Unit {0}) (View Mine)
+H = Seat (Unit {0}) (View PassState)
 
 -- the hand has not reserved since, so what it was refused it still is
 pub refused_on : (h h' : H) (pages frames : ℕ) → IsSameRefusal h h' → WasRefused h pages frames → WasRefused h' pages frames
@@ -79,22 +79,22 @@ keeps_room h h' p what q is held moves takes tells going keeps = (
           (lacks.0, may_ask_on p what q lacks.0 takes lacks.1, refused_on h h' _ _ (tells.1 opens.0 opens.1) lacks.2, asks_on p what q lacks.0 (own_marks (known h')) takes (asks_keep p lacks.0 (known h) (known h') latch lacks.3))
       | inr end ↦ absurd (going end)
     ]
-    | inr told ↦
-        let asked = tells.0 told in
-        (asked.0, may_ask_on p what q asked.0 takes (may_ask p asked.0 asked.1), asked.2, asks_on p what q asked.0 (own_marks (known h')) takes (asks_told p asked.0 (known h) (known h') moves.0 is asked.1 held moves.1))
+    | inr observed ↦
+        let asked = tells.0 observed in
+        (asked.0, may_ask_on p what q asked.0 takes (may_ask p asked.0 asked.1), asked.2, asks_on p what q asked.0 (own_marks (known h')) takes (asks_observed p asked.0 (known h) (known h') moves.0 is asked.1 held moves.1))
   ]),
   λ r. keeps.1 (takes_puts p what q takes r),
 )
 
 -- nothing has happened
 pub stays_room : (h h' : H) (p q : Proc) → q ≡ p → IsSameRefusal h h' → known h' ≡ known h → KeepsRoom h p → KeepsRoom h' q
-stays_room h h' p q is same still keeps = subst (KeepsRoom h') (sym is) ((λ r. let lacks = keeps.0 r in (lacks.0, lacks.1, refused_on h h' _ _ same lacks.2, subst (λ (d : Mine). AsksFor p lacks.0 (own_marks d)) (sym still) lacks.3)), keeps.1)
+stays_room h h' p q is same still keeps = subst (KeepsRoom h') (sym is) ((λ r. let lacks = keeps.0 r in (lacks.0, lacks.1, refused_on h h' _ _ same lacks.2, subst (λ (d : PassState). AsksFor p lacks.0 (own_marks d)) (sym still) lacks.3)), keeps.1)
 
 -- and it ends so
 pub ends_room : (h h' : H) (p q : Proc) → Takes p seen.Done q → IsSameRefusal h h' → KeepsLatch (known h) (known h') → KeepsRoom h p → IsRefused q → LacksAsked h' q
 ends_room h h' p q takes same latch keeps r = elim (takes_refused p seen.Done q takes r) [
   | inl was ↦ let lacks = keeps.0 was in (lacks.0, may_ask_on p seen.Done q lacks.0 takes lacks.1, refused_on h h' _ _ same lacks.2, asks_on p seen.Done q lacks.0 (own_marks (known h')) takes (asks_keep p lacks.0 (known h) (known h') latch lacks.3))
-  | inr told ↦ absurd (let f : seen.Done ≡ seen.Refused = told in cc)
+  | inr observed ↦ absurd (let f : seen.Done ≡ seen.Refused = observed in cc)
 ]
 
 -- By what a hand lacks
@@ -120,8 +120,8 @@ pub lacks_two : (h : H) (p : Lower) → LacksAsked h (proc.Lower p) → WasRefus
 lacks_two h p lacks = subst (λ (z : ℕ × ℕ). WasRefused h z.0 z.1) lacks.1 lacks.2
 
 pub reply_refused : (o : Outcome) → post_reply o ≡ reply.NoRoom → o ≡ outcome.Refused
-reply_refused outcome.Changed e = absurd (let f : reply.Done None ≡ reply.NoRoom = e in cc)
-reply_refused (outcome.Parted k) e = absurd (let f : reply.Done (Some k) ≡ reply.NoRoom = e in cc)
+reply_refused outcome.Edited e = absurd (let f : reply.Done None ≡ reply.NoRoom = e in cc)
+reply_refused (outcome.SplitAt k) e = absurd (let f : reply.Done (Some k) ≡ reply.NoRoom = e in cc)
 reply_refused outcome.Refused e = refl
 
 pub words_not_refused : (c : Page) → seen.Words c ≡ seen.Refused → ⊥
@@ -131,6 +131,6 @@ pub done_not_refused : seen.Done ≡ seen.Refused → ⊥
 done_not_refused e = (let f : seen.Done ≡ seen.Refused = e in cc)
 
 pub insert_refused : (o : Outcome) → insert_reply o ≡ inserted.NoRoom → o ≡ outcome.Refused
-insert_refused outcome.Changed e = absurd (let f : inserted.Inserted None ≡ inserted.NoRoom = e in cc)
-insert_refused (outcome.Parted k) e = absurd (let f : inserted.Inserted (Some k) ≡ inserted.NoRoom = e in cc)
+insert_refused outcome.Edited e = absurd (let f : inserted.Inserted None ≡ inserted.NoRoom = e in cc)
+insert_refused (outcome.SplitAt k) e = absurd (let f : inserted.Inserted (Some k) ≡ inserted.NoRoom = e in cc)
 insert_refused outcome.Refused e = refl

@@ -12,22 +12,22 @@ use Rattle.bl_proc_unique.specs.Frames.{op_of, work_of}
 use Rattle.bl_proc_bounds.specs.Latches.{IsTidy}
 use Rattle.bl_proc_invariant.specs.Knowing.{end_of_proc}
 use Rattle.bl_proc_invariant.specs.Logs.{proc_log}
-use Rattle.bl_index_rule.specs.declared.known.Mine.{Mine}
+use Rattle.bl_index_rule.specs.declared.known.PassState.{PassState}
 use Rattle.bl_claims.specs.Seeing.{name}
-use Rattle.bl_index_rule.specs.Told.{Goes, Finishes, ends}
+use Rattle.bl_index_rule.specs.Observed.{Goes, Finishes, ends}
 use Rattle.bl_index_steps.specs.Held.{own_marks, proc_held}
 use Rattle.bl_index_steps.specs.Runs.{IsOn, IsSince, IsDone, IsSameProcess, OpensLast}
 use Rattle.bl_index_steps.proofs.Calls.{since_step}
 use Rattle.bl_index_steps.proofs.Held.{goes_held}
 
-pub on_itself : (l : Layout) (d : Mine) (p : Proc) → IsOn l d p → IsOn l d d.state
+pub on_itself : (l : Layout) (d : PassState) (p : Proc) → IsOn l d p → IsOn l d d.state
 on_itself l d p on = record { runs = on.runs; state = refl; pages = on.pages; passes = on.passes; near = on.near; held = on.held }
 
-pub on_as : (l : Layout) (d : Mine) (p : Proc) → IsOn l d d.state → d.state ≡ p → IsOn l d p
+pub on_as : (l : Layout) (d : PassState) (p : Proc) → IsOn l d d.state → d.state ≡ p → IsOn l d p
 on_as l d p on is = record { runs = on.runs; state = is; pages = on.pages; passes = on.passes; near = on.near; held = on.held }
 
 -- what it has got of the page that it latched last
-pub on_held : (l : Layout) (d : Mine) (p : Proc) → IsOn l d p → proc_held p (own_marks d)
+pub on_held : (l : Layout) (d : PassState) (p : Proc) → IsOn l d p → proc_held p (own_marks d)
 on_held l d p on = subst (λ (z : Proc). proc_held z (own_marks d)) on.state on.held
 
 pub opens_at : (state p ending last : Proc) (page : ℕ) → state ≡ p → OpensLast p page ending last → OpensLast state page ending last
@@ -38,13 +38,13 @@ none_of None not = refl
 none_of (Some v) not = absurd (not v refl)
 
 -- where the process stands after an event
-pub goes_takes : (what : Seen) (d e : Mine) → Goes what d e → Takes d.state what e.state
+pub goes_takes : (what : Seen) (d e : PassState) → Goes what d e → Takes d.state what e.state
 goes_takes what d e goes = subst (λ (z : Proc). Takes d.state what z) (sym goes.state) goes.course.takes
 
-pub goes_to : (what : Seen) (d e : Mine) (p q : Proc) → Goes what d e → d.state ≡ p → Takes p what q → e.state ≡ q
+pub goes_to : (what : Seen) (d e : PassState) (p q : Proc) → Goes what d e → d.state ≡ p → Takes p what q → e.state ≡ q
 goes_to what d e p q goes is t = goes.state ∙ sym (goes.course.only q (subst (λ (z : Proc). Takes z what q) (sym is) t))
 
-pub on_goes : (l : Layout) (what : Seen) (d e : Mine) (p q : Proc) → IsOn l d p → Goes what d e → Takes p what q → IsOn l e q
+pub on_goes : (l : Layout) (what : Seen) (d e : PassState) (p q : Proc) → IsOn l d p → Goes what d e → Takes p what q → IsOn l e q
 on_goes l what d e p q on goes t = record {
   runs = goes.steps.runs;
   state = goes_to what d e p q goes on.state t;
@@ -54,7 +54,7 @@ on_goes l what d e p q on goes t = record {
   held = goes_held what d e goes on.held;
 }
 
-pub on_after : (l : Layout) (what : Seen) (d e : Mine) (p : Proc) → IsOn l d p → Goes what d e → IsOn l e e.state
+pub on_after : (l : Layout) (what : Seen) (d e : PassState) (p : Proc) → IsOn l d p → Goes what d e → IsOn l e e.state
 on_after l what d e p on goes = record {
   runs = goes.steps.runs;
   state = refl;
@@ -64,14 +64,14 @@ on_after l what d e p on goes = record {
   held = goes_held what d e goes on.held;
 }
 
-pub same_goes : (what : Seen) (d e : Mine) → Goes what d e → IsSameProcess d e
+pub same_goes : (what : Seen) (d e : PassState) → Goes what d e → IsSameProcess d e
 same_goes what d e goes pass old since = since_step _ _ _ _ _ since goes.steps
 
-pub same_all : (d e f : Mine) → IsSameProcess d e → IsSameProcess e f → IsSameProcess d f
+pub same_all : (d e f : PassState) → IsSameProcess d e → IsSameProcess e f → IsSameProcess d f
 same_all d e f one two pass old since = two pass old (one pass old since)
 
 -- a latch that was had or missed
-pub same_latch : (b : Bool) (d e : Mine) → (b ≡ true → Goes seen.Done d e) → (b ≡ false → Goes seen.Missed d e) → IsSameProcess d e
+pub same_latch : (b : Bool) (d e : PassState) → (b ≡ true → Goes seen.Done d e) → (b ≡ false → Goes seen.Missed d e) → IsSameProcess d e
 same_latch true d e done missed = same_goes seen.Done d e (done refl)
 same_latch false d e done missed = same_goes seen.Missed d e (missed refl)
 
@@ -80,7 +80,7 @@ abbrev pub put_gave : Bool → Seen
 put_gave true = seen.Done
 put_gave false = seen.Refused
 
-pub goes_put : (b : Bool) (d e : Mine) → (b ≡ true → Goes seen.Done d e) → (b ≡ false → Goes seen.Refused d e) → Goes (put_gave b) d e
+pub goes_put : (b : Bool) (d e : PassState) → (b ≡ true → Goes seen.Done d e) → (b ≡ false → Goes seen.Refused d e) → Goes (put_gave b) d e
 goes_put true d e done refused = done refl
 goes_put false d e done refused = refused refl
 
@@ -89,11 +89,11 @@ pub course_at : (what : Seen) (p q : Proc) → p ≡ q → GoesOn q what → Goe
 course_at what p q is course = subst (λ (z : Proc). GoesOn z what) (sym is) course
 
 -- a process that has opened its last page and ended
-pub concluded : (pass page : ℕ) (old d e f : Mine) (first ending last : Proc) → IsSince pass old d → OpensLast d.state page ending last → Goes seen.Done d e → ends e 0 f → op_of ending ≡ op_of first → work_of ending ≡ work_of first → IsDone pass old f first last
-concluded pass page old d e f first ending last since opens goes told op work =
+pub opened_and_ended : (pass page : ℕ) (old d e f : PassState) (first ending last : Proc) → IsSince pass old d → OpensLast d.state page ending last → Goes seen.Done d e → ends e 0 f → op_of ending ≡ op_of first → work_of ending ≡ work_of first → IsDone pass old f first last
+opened_and_ended pass page old d e f first ending last since opens goes observed op work =
     let stands : e.state ≡ ending = goes_to seen.Done d e d.state ending goes refl opens.opened in
     let after = same_goes seen.Done d e goes pass old since in
-    let done = told.1 in
+    let done = observed.1 in
     let is_last : done.course.new ≡ last = sym (done.course.only last (subst (λ (z : Proc). Takes z seen.Done last) (sym stands) opens.ended)) in
     record {
       d = e;
@@ -101,23 +101,23 @@ concluded pass page old d e f first ending last since opens goes told op work =
       since = after;
       state = stands;
       at_end = opens.at_end;
-      told = subst (λ (z : Proc). Finishes (end_of_proc z) e f) stands told.0;
+      observed = subst (λ (z : Proc). Finishes (end_of_proc z) e f) stands observed.0;
       takes = opens.ended;
       op = op;
       work = work;
       log = subst (λ (z : Proc × Name). proc_log z.0 (marks_of z.1 f.trail)) (λ i. (is_last i, name (after.named i) (after.number i))) done.log;
-      tidy = subst (λ (z : Proc × Name). IsTidy z.0 (marks_of z.1 f.trail)) (λ i. ((done.state ∙ is_last) i, name (after.named i) (after.number i))) told.0.notes.tidy;
+      tidy = subst (λ (z : Proc × Name). IsTidy z.0 (marks_of z.1 f.trail)) (λ i. ((done.state ∙ is_last) i, name (after.named i) (after.number i))) observed.0.notes.tidy;
     }
 
 -- the same, from an earlier state of the process on
-pub done_from : (pass : ℕ) (old e : Mine) (earlier first last : Proc) → IsDone pass old e first last → op_of first ≡ op_of earlier → work_of first ≡ work_of earlier → IsDone pass old e earlier last
+pub done_from : (pass : ℕ) (old e : PassState) (earlier first last : Proc) → IsDone pass old e first last → op_of first ≡ op_of earlier → work_of first ≡ work_of earlier → IsDone pass old e earlier last
 done_from pass old e earlier first last done op work = record {
   d = done.d;
   before = done.before;
   since = done.since;
   state = done.state;
   at_end = done.at_end;
-  told = done.told;
+  observed = done.observed;
   takes = done.takes;
   op = done.op ∙ op;
   work = done.work ∙ work;

@@ -12,8 +12,8 @@ use Rattle.bl_claims.specs.Moments.{After, IsLatch}
 use Rattle.bl_claims.specs.Seeing.{name}
 use Rattle.bl_proc_base.specs.declared.approaching.Approach.{Approach}
 use Rattle.bl_proc_base.specs.declared.approaching.Approach.TheVariants as way
-use Rattle.bl_proc_base.specs.declared.changing.Change.{Change}
-use Rattle.bl_proc_base.specs.declared.changing.Change.TheVariants as change
+use Rattle.bl_proc_base.specs.declared.editing.Edit.{Edit}
+use Rattle.bl_proc_base.specs.declared.editing.Edit.TheVariants as edit
 use Rattle.bl_proc_base.specs.declared.growing.Growth.{Growth}
 use Rattle.bl_proc_base.specs.declared.growing.Growth.TheVariants as growth
 use Rattle.bl_proc.specs.declared.inserting.InsertStage.{InsertStage}
@@ -22,15 +22,15 @@ use Rattle.bl_proc.specs.declared.posting.PostStage.{PostStage}
 use Rattle.bl_proc.specs.declared.posting.PostStage.TheVariants as post
 use Rattle.bl_proc.specs.declared.kinds.Proc.{Proc}
 use Rattle.bl_proc.specs.declared.kinds.Proc.TheVariants as proc
-use Rattle.bl_index_rule.specs.declared.known.Mine.{Mine}
+use Rattle.bl_index_rule.specs.declared.known.PassState.{PassState}
 use Rattle.bl_index_steps.specs.Refused.{GotLatched, HasRoom, IsFull, GotHeld, GotAnchor}
 
 -- what the last process of the pass has done
-abbrev pub own_marks : Mine → Trail
+abbrev pub own_marks : PassState → Trail
 own_marks d = marks_of (name d.pass d.number) d.trail
 
 -- the process has done more since, and has latched nothing
-abbrev pub KeepsLatch : Mine → Mine → Type 0
+abbrev pub KeepsLatch : PassState → PassState → Type 0
 KeepsLatch d e = (more : Trail) × (own_marks e ≡ own_marks d ++ more) × Each (λ (m : Mark). (x : ℕ) → m.event.act ≢ Latch x) more
 
 -- the last that it did was to latch the page
@@ -52,13 +52,13 @@ approach_held (way.Latching x) marks = Unit {0}
 approach_held (way.Latched x) marks = LatchedLast marks x
 approach_held (way.Leaving x to) marks = Unit {0}
 
-abbrev pub change_held : ℕ → ℕ → Change → Trail → Type 0
-change_held level key (change.Putting x page) marks = GotHeld level key marks HasRoom
-change_held level key (change.Taking full) marks = GotHeld level key marks IsFull
-change_held level key (change.PuttingNew p) marks = Unit {0}
-change_held level key (change.PuttingOld p) marks = Unit {0}
-change_held level key (change.OpeningNew x new separator) marks = Unit {0}
-change_held level key (change.Opening x o) marks = Unit {0}
+abbrev pub edit_held : ℕ → ℕ → Edit → Trail → Type 0
+edit_held level key (edit.Putting x page) marks = GotHeld level key marks HasRoom
+edit_held level key (edit.Taking full) marks = GotHeld level key marks IsFull
+edit_held level key (edit.PuttingNew p) marks = Unit {0}
+edit_held level key (edit.PuttingOld p) marks = Unit {0}
+edit_held level key (edit.OpeningNew x new separator) marks = Unit {0}
+edit_held level key (edit.Opening x o) marks = Unit {0}
 
 abbrev pub growth_held : ℕ → Growth → Trail → Type 0
 growth_held level growth.Latching marks = Unit {0}
@@ -74,7 +74,7 @@ abbrev pub insert_held : ℕ → InsertStage → Trail → Type 0
 insert_held key insert.New marks = Unit {0}
 insert_held key (insert.Coming a) marks = approach_held a marks
 insert_held key (insert.Present x there) marks = Unit {0}
-insert_held key (insert.Changing c) marks = change_held 0 key c marks
+insert_held key (insert.Editing c) marks = edit_held 0 key c marks
 insert_held key (insert.Ending r) marks = Unit {0}
 insert_held key (insert.Over r) marks = Unit {0}
 
@@ -83,7 +83,7 @@ post_held level key post.New marks = Unit {0}
 post_held level key (post.Coming a) marks = approach_held a marks
 post_held level key (post.Growing g) marks = growth_held level g marks
 post_held level key (post.Walking w) marks = (w.key ≡ key) × GotAt level key marks w.at (Inner w.parent)
-post_held level key (post.Changing c) marks = change_held level key c marks
+post_held level key (post.Editing c) marks = edit_held level key c marks
 post_held level key (post.Staying x r) marks = Unit {0}
 post_held level key (post.Ending r) marks = Unit {0}
 post_held level key (post.Over r) marks = Unit {0}

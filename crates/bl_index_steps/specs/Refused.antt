@@ -41,7 +41,7 @@ pub record GotAnchor (level : ℕ) (marks : Trail) : Type 0 where
   pub levels : (roots_of anchor).levels ≡ level
 
 -- A frame was refused, where the page that the process held had room for one pair more; or a page and two frames, where that
--- page was full, and was to be parted. How many pages and frames were refused is said by WasRefused.
+-- page was full, and was to be split. How many pages and frames were refused is said by WasRefused.
 abbrev pub LacksForPage : ℕ → ℕ → Trail → (ℕ → ℕ → Type 0) → Type 0
 LacksForPage level key marks WasRefused = (WasRefused 0 1 × GotHeld level key marks HasRoom) ⊎ (WasRefused 1 2 × GotHeld level key marks IsFull)
 

@@ -9,12 +9,12 @@ use Rattle.bl_proc.specs.Processes.{next_of, needs_of}
 use Rattle.bl_proc_unique.specs.Refusals.{MayAsk}
 use Rattle.bl_store.specs.declared.view.View.{View}
 use Rattle.bl_store.specs.Hands.{known, WasRefused, IsSameRefusal}
-use Rattle.bl_index_rule.specs.declared.known.Mine.{Mine}
+use Rattle.bl_index_rule.specs.declared.known.PassState.{PassState}
 use Rattle.bl_index_steps.specs.Refused.{LacksForPage, LacksForPost}
 use Rattle.bl_index_steps.specs.Held.{own_marks, AsksFor}
 
 abbrev H : Type 0
-H = Seat (Unit {0}) (View Mine)
+H = Seat (Unit {0}) (View PassState)
 
 -- for the page of that level that it held, which covers the key
 abbrev pub LacksPage : ℕ → ℕ → H → Type 0

@@ -6,22 +6,22 @@ ghost use Rattle.bl_proc_base.specs.declared.answers.Answer.{Answer as AnswerIs}
 ghost use Rattle.bl_proc_unique.specs.Refusals.{IsNoRoom, IsRefused, PutsRefused};
 ghost use Rattle.bl_store.specs.Hands.{known, IsIdle, IsSameHand, HasNoStock};
 ghost use Rattle.bl_store.specs.Owners.{IsHandOf};
-ghost use Rattle.bl_index_rule.specs.Told.{IsUnborn};
-ghost use Rattle.bl_index_rule.specs.declared.known.Mine.{Mine as Knows};
+ghost use Rattle.bl_index_rule.specs.Observed.{IsUnborn};
+ghost use Rattle.bl_index_rule.specs.declared.known.PassState.{PassState as Knows};
 ghost use Rattle.bl_index_steps.specs.Runs.{Runs, Rests, IsSince, IsDone, HasReserved};
 ghost use Rattle.bl_index_steps.specs.Rooms.{LacksAsked};
 
 use crate::kinds::Kind;
 use crate::stepping::Stepped;
 use crate::tree::Tree;
-use bl_index_rule::Mine;
+use bl_index_rule::PassState;
 use bl_store::{Hand, Stock};
 use crossbeam_utils::Backoff;
 use std::sync::Wait;
 
 impl Tree {
     /// Carries the process out, from its begin to its end.
-    pub fn carry_out<P: Kind, R: Wait>(&self, rt: &R, hand: &mut Hand<Mine>, process: P) -> P
+    pub fn carry_out<P: Kind, R: Wait>(&self, rt: &R, hand: &mut Hand<PassState>, process: P) -> P
         requires own { IsHandOf self.now.store hand.old }
         requires idle { IsIdle hand.old.seat × HasNoStock hand.old.seat }
         requires new { (P.answer_of process ≡ None) × (P.next_of process ≡ act.Begin) × IsUnborn (P.proc_of process) }
@@ -38,7 +38,7 @@ impl Tree {
     }
 
     /// Carries the process on to its end. It has nothing reserved.
-    pub fn carry_on<P: Kind, R: Wait>(&self, rt: &R, hand: &mut Hand<Mine>, process: P) -> P
+    pub fn carry_on<P: Kind, R: Wait>(&self, rt: &R, hand: &mut Hand<PassState>, process: P) -> P
         requires runs { Runs self.now hand.old (P.proc_of process) }
         requires going { (P.answer_of process ≡ None) × (P.next_of process ≢ act.Begin) }
         requires reserved { HasReserved hand.old.seat None (P.proc_of process) }

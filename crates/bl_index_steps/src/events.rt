@@ -12,19 +12,19 @@ ghost use Rattle.bl_proc_unique.specs.Courses.{GoesOn};
 ghost use Rattle.bl_proc_unique.specs.Frames.{op_of, work_of};
 ghost use Rattle.bl_store.specs.Drafts.{IsSpread};
 ghost use Rattle.bl_store.specs.Hands.{known, read_words, IsSameHand, IsSameStage, IsSameStock, HasNoStock, IsStockOf, ReadsFrom, WasRefused, IsSameRefusal};
-ghost use Rattle.bl_index_rule.specs.declared.known.Mine.{Mine as Knows};
-ghost use Rattle.bl_index_rule.specs.Told.{Goes};
+ghost use Rattle.bl_index_rule.specs.declared.known.PassState.{PassState as Knows};
+ghost use Rattle.bl_index_rule.specs.Observed.{Goes};
 ghost use Rattle.bl_index_steps.specs.Held.{KeepsLatch};
 ghost use Rattle.bl_index_steps.specs.Runs.{Runs, Keeps, Rests, IsSince, IsDone, OpensLast};
 
 use crate::tree::Tree;
-use bl_index_rule::{Ended, Got, Mine, Opened, Probed, Put, Refused, Took, Tried};
+use bl_index_rule::{Ended, Got, PassState, Opened, Probed, Put, Refused, Took, Tried};
 use bl_store::{Glance, Hand, Spread, Stock};
 
 impl Tree {
     /// The process gets the page.
     #[inline(always)]
-    pub fn look(&self, hand: &mut Hand<Mine>, page: u32) -> Glance
+    pub fn look(&self, hand: &mut Hand<PassState>, page: u32) -> Glance
         requires runs { Runs self.now hand.old (known hand.old.seat).state }
         requires next { next_of (known hand.old.seat).state ≡ act.Get page }
         requires course { (c : Page) → GoesOn (known hand.old.seat).state (seen.Words c) }
@@ -40,7 +40,7 @@ impl Tree {
 
     /// The process tries to latch the page.
     #[inline(always)]
-    pub fn try_latch(&self, hand: &mut Hand<Mine>, page: u32) -> bool
+    pub fn try_latch(&self, hand: &mut Hand<PassState>, page: u32) -> bool
         requires runs { Runs self.now hand.old (known hand.old.seat).state }
         requires next { next_of (known hand.old.seat).state ≡ act.Latch page }
         requires course { GoesOn (known hand.old.seat).state seen.Done × GoesOn (known hand.old.seat).state seen.Missed }
@@ -53,7 +53,7 @@ impl Tree {
 
     /// The process looks whether the page is open.
     #[inline(always)]
-    pub fn is_open(&self, hand: &mut Hand<Mine>, page: u32) -> bool
+    pub fn is_open(&self, hand: &mut Hand<PassState>, page: u32) -> bool
         requires runs { Runs self.now hand.old (known hand.old.seat).state }
         requires page { page < self.now.store.layout.pages }
         requires next { next_of (known hand.old.seat).state ≡ act.Probe page }
@@ -66,7 +66,7 @@ impl Tree {
 
     /// The process opens the page.
     #[inline(always)]
-    pub fn reopen(&self, hand: &mut Hand<Mine>, page: u32)
+    pub fn reopen(&self, hand: &mut Hand<PassState>, page: u32)
         requires runs { Runs self.now hand.old (known hand.old.seat).state }
         requires next { next_of (known hand.old.seat).state ≡ act.Open page }
         requires course { GoesOn (known hand.old.seat).state seen.Done }
@@ -79,7 +79,7 @@ impl Tree {
 
     /// The process reserves a frame and puts the page with these words, or is refused.
     #[inline(always)]
-    pub fn replace(&self, hand: &mut Hand<Mine>, page: u32, words: &[u64; 32]) -> bool
+    pub fn replace(&self, hand: &mut Hand<PassState>, page: u32, words: &[u64; 32]) -> bool
         requires runs { Runs self.now hand.old (known hand.old.seat).state }
         requires next { (c : Page) × (next_of (known hand.old.seat).state ≡ act.Put page c) × (words.now ≡ words_of c) }
         requires course { GoesOn (known hand.old.seat).state seen.Done × GoesOn (known hand.old.seat).state seen.Refused }
@@ -104,15 +104,15 @@ impl Tree {
     #[inline(always)]
     pub fn replace_spread(
         &self,
-        hand: &mut Hand<Mine>,
+        hand: &mut Hand<PassState>,
         page: u32,
         glance: Glance,
-        change: Spread,
+        edit: Spread,
     ) -> bool
         requires runs { Runs self.now hand.old (known hand.old.seat).state }
         requires reads { ReadsFrom hand.old.seat glance }
-        requires place { change.place < 14 }
-        requires next { (c : Page) × (next_of (known hand.old.seat).state ≡ act.Put page c) × IsSpread change (read_words hand.old.seat) (words_of c) }
+        requires place { edit.place < 14 }
+        requires next { (c : Page) × (next_of (known hand.old.seat).state ≡ act.Put page c) × IsSpread edit (read_words hand.old.seat) (words_of c) }
         requires course { GoesOn (known hand.old.seat).state seen.Done × GoesOn (known hand.old.seat).state seen.Refused }
         requires empty { HasNoStock hand.old.seat }
         ensures same { IsSameHand hand.old.seat hand.new.seat × IsSameStage hand.old.seat hand.new.seat }
@@ -125,7 +125,7 @@ impl Tree {
             Ok(stock) => {
                 let mut stock = stock;
                 self.store
-                    .put_spread::<Put>(hand, page, glance, change, &mut stock);
+                    .put_spread::<Put>(hand, page, glance, edit, &mut stock);
                 true
             }
             Err(_) => false,
@@ -133,7 +133,7 @@ impl Tree {
     }
 
     /// The process reserves a page and two frames, and takes the page, or is refused.
-    pub fn take_page(&self, hand: &mut Hand<Mine>) -> Option<(u32, Stock)>
+    pub fn take_page(&self, hand: &mut Hand<PassState>) -> Option<(u32, Stock)>
         requires runs { Runs self.now hand.old (known hand.old.seat).state }
         requires next { next_of (known hand.old.seat).state ≡ act.Take }
         requires course { ((y : ℕ) → IsChild y → GoesOn (known hand.old.seat).state (seen.Took y)) × GoesOn (known hand.old.seat).state seen.Refused }
@@ -154,7 +154,7 @@ impl Tree {
     /// The process puts the page with these words, in a frame that it has reserved.
     pub fn put_reserved(
         &self,
-        hand: &mut Hand<Mine>,
+        hand: &mut Hand<PassState>,
         page: u32,
         words: &[u64; 32],
         stock: &mut Stock,
@@ -172,7 +172,7 @@ impl Tree {
 
     /// The process opens the only page that it holds, and ends.
     #[inline(always)]
-    pub fn conclude(&self, hand: &mut Hand<Mine>, page: u32)
+    pub fn open_and_end(&self, hand: &mut Hand<PassState>, page: u32)
         requires runs { Runs self.now hand.old (known hand.old.seat).state }
         requires opens { (ending : Proc) × (last : Proc) × OpensLast (known hand.old.seat).state page ending last }
         ensures same { IsSameHand hand.old.seat hand.new.seat × IsSameStock hand.old.seat hand.new.seat }

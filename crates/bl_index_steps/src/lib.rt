@@ -10,11 +10,11 @@ mod carrying;
 mod events;
 mod kinds;
 mod running;
-mod shown;
+mod frame_view;
 mod stepping;
 mod tree;
 
 pub use kinds::Kind;
-pub use shown::Shown;
+pub use frame_view::FrameView;
 pub use stepping::Stepped;
 pub use tree::Tree;

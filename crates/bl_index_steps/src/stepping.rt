@@ -10,7 +10,7 @@ ghost use Rattle.bl_index_steps.specs.Rooms.{TellsRoom};
 
 use crate::kinds::Kind;
 use crate::tree::Tree;
-use bl_index_rule::{Mine, Opened, Put, Refused, Retired, Took, Tried};
+use bl_index_rule::{PassState, Opened, Put, Refused, Retired, Took, Tried};
 use bl_page::Page;
 use bl_proc::{Action, Seen};
 use bl_store::{Hand, Stock};
@@ -27,7 +27,7 @@ pub enum Stepped {
 impl Tree {
     /// The process tries to latch the page. After a miss the thread pauses.
     #[inline(never)]
-    fn latch<P: Kind>(&self, hand: &mut Hand<Mine>, process: &mut P, page: u32, backoff: &Backoff)
+    fn latch<P: Kind>(&self, hand: &mut Hand<PassState>, process: &mut P, page: u32, backoff: &Backoff)
         requires runs { Runs self.now hand.old (P.proc_of process.old) }
         requires next { (P.answer_of process.old ≡ None) × (P.next_of process.old ≡ act.Latch page) }
         ensures same { IsSameHand hand.old.seat hand.new.seat × IsSameStage hand.old.seat hand.new.seat }
@@ -47,7 +47,7 @@ impl Tree {
 
     /// The process opens the page.
     #[inline(never)]
-    fn open_page<P: Kind>(&self, hand: &mut Hand<Mine>, process: &mut P, page: u32)
+    fn open_page<P: Kind>(&self, hand: &mut Hand<PassState>, process: &mut P, page: u32)
         requires runs { Runs self.now hand.old (P.proc_of process.old) }
         requires next { (P.answer_of process.old ≡ None) × (P.next_of process.old ≡ act.Open page) }
         ensures same { IsSameHand hand.old.seat hand.new.seat × IsSameStage hand.old.seat hand.new.seat }
@@ -62,7 +62,7 @@ impl Tree {
 
     /// The process retires the page, with the leave that it has from its reservation.
     #[inline(never)]
-    fn retire_page<P: Kind>(&self, hand: &mut Hand<Mine>, process: &mut P, page: u32)
+    fn retire_page<P: Kind>(&self, hand: &mut Hand<PassState>, process: &mut P, page: u32)
         requires runs { Runs self.now hand.old (P.proc_of process.old) }
         requires next { (P.answer_of process.old ≡ None) × (P.next_of process.old ≡ act.Retire page) }
         requires leave { MayRetire hand.old.seat }
@@ -80,7 +80,7 @@ impl Tree {
     /// The process puts the page, with a frame of the stock.
     fn put_with<P: Kind>(
         &self,
-        hand: &mut Hand<Mine>,
+        hand: &mut Hand<PassState>,
         process: &mut P,
         page: u32,
         contents: &Page,
@@ -105,7 +105,7 @@ impl Tree {
     /// The process reserves so many frames and puts the page with the first of them, or is refused.
     fn put_first<P: Kind>(
         &self,
-        hand: &mut Hand<Mine>,
+        hand: &mut Hand<PassState>,
         process: &mut P,
         page: u32,
         contents: &Page,
@@ -132,7 +132,7 @@ impl Tree {
 
     /// The process reserves a page and two frames, or is refused.
     #[inline(never)]
-    fn take<P: Kind>(&self, hand: &mut Hand<Mine>, process: &mut P) -> Option<Stock>
+    fn take<P: Kind>(&self, hand: &mut Hand<PassState>, process: &mut P) -> Option<Stock>
         requires runs { Runs self.now hand.old (P.proc_of process.old) }
         requires next { (P.answer_of process.old ≡ None) × (P.next_of process.old ≡ act.Take) }
         requires needs { P.needs_of process.old ≡ Some (1, 2) }
@@ -162,7 +162,7 @@ impl Tree {
     #[inline(never)]
     fn put<P: Kind>(
         &self,
-        hand: &mut Hand<Mine>,
+        hand: &mut Hand<PassState>,
         process: &mut P,
         page: u32,
         contents: &Page,
@@ -189,7 +189,7 @@ impl Tree {
     /// The next action of the process, one event, unless it is to end. It waits for nothing.
     pub fn step<P: Kind>(
         &self,
-        hand: &mut Hand<Mine>,
+        hand: &mut Hand<PassState>,
         process: &mut P,
         held: Option<Stock>,
         backoff: &Backoff,

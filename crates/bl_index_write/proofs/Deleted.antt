@@ -14,8 +14,8 @@ use Rattle.bl_proc_base.specs.declared.answers.Hint.{Hint}
 use Rattle.bl_proc_base.specs.declared.answers.Answer.TheVariants.{Op}
 use Rattle.bl_proc_base.specs.declared.approaching.Approach.TheVariants as approach
 use Rattle.bl_proc_base.specs.declared.onwards.Step.TheVariants.{Here}
-use Rattle.bl_proc_base.specs.declared.changing.Change.TheVariants as change
-use Rattle.bl_proc_base.specs.declared.changing.Outcome.{Outcome}
+use Rattle.bl_proc_base.specs.declared.editing.Edit.TheVariants as edit
+use Rattle.bl_proc_base.specs.declared.editing.Outcome.{Outcome}
 use Rattle.bl_proc_base.specs.Onwards.{Leads}
 use Rattle.bl_proc_base.specs.Respelled.{words_by}
 use Rattle.bl_proc_base.specs.Thin.{thin_low}
@@ -34,8 +34,8 @@ use Rattle.bl_proc_unique.proofs.Rows.{rows_one}
 use Rattle.bl_proc_unique.proofs.Pages.{without_some, rising}
 use Rattle.bl_proc_unique.proofs.Leaves.{leaf_covers, leaf_loses}
 use Rattle.bl_proc_unique.proofs.Deletions.{delete_goes}
-use Rattle.bl_index_rule.specs.declared.known.Mine.{Mine}
-use Rattle.bl_index_rule.specs.Told.{Goes}
+use Rattle.bl_index_rule.specs.declared.known.PassState.{PassState}
+use Rattle.bl_index_rule.specs.Observed.{Goes}
 use Rattle.bl_index_steps.specs.Runs.{IsDone, OpensLast}
 use Rattle.bl_index_write.specs.Events.{deleting, HasDeleted}
 use Rattle.bl_index_steps.proofs.Standing.{put_gave, goes_to, course_at}
@@ -71,7 +71,7 @@ module _ (key at : ℕ) (c : Page) (state : Proc) (takes : Takes (deleting key (
   pub stands_absent : None ≡ (node_of c).look key → state ≡ deleting key (delete.Absent at)
   stands_absent e = stands (delete.Absent at) (at, c, (refl, refl, leads), (refl, sym e))
 
-  pub stands_removing : (value : ℕ) → Some value ≡ (node_of c).look key → (p : Page) × IsTreePage p × (map_of (pairs_of c) key ≡ Some value) × (words_of p ≡ words_by c (dropped key (pairs_of c))) × (state ≡ deleting key (delete.Changing (record { value = value; thin = thin_low p }) (change.Putting at p)))
+  pub stands_removing : (value : ℕ) → Some value ≡ (node_of c).look key → (p : Page) × IsTreePage p × (map_of (pairs_of c) key ≡ Some value) × (words_of p ≡ words_by c (dropped key (pairs_of c))) × (state ≡ deleting key (delete.Editing (record { value = value; thin = thin_low p }) (edit.Putting at p)))
   stands_removing value e =
       let without = without_some c key (leaf_covers c key 0 leads) (leaf_loses c key leads) in
       let pairs : pairs_of without.0 ≡ dropped key (pairs_of c) = rows_one 0 (pairs_of without.0) (dropped key (pairs_of c)) (rising without.0) (RisesFrom-dropped key 0 (pairs_of c) (rising c)) (λ j. without.1.pairs j ∙ sym (map_of-dropped key 0 (pairs_of c) (rising c) j)) in (
@@ -79,7 +79,7 @@ module _ (key at : ℕ) (c : Page) (state : Proc) (takes : Takes (deleting key (
         frame_tree c without.0 without.1.frame,
         listed c key value leads.0 (sym e),
         spelled_by c without.0 (dropped key (pairs_of c)) without.1.frame pairs,
-        stands (delete.Changing (record { value = value; thin = thin_low without.0 }) (change.Putting at without.0)) (at, c, (refl, refl, leads), (sym e, (refl, without.1), refl)),
+        stands (delete.Editing (record { value = value; thin = thin_low without.0 }) (edit.Putting at without.0)) (at, c, (refl, refl, leads), (sym e, (refl, without.1), refl)),
       )
 
 pub opens_absent : (key at : ℕ) → OpensLast (deleting key (delete.Absent at)) at (deleting key (delete.Ending deleted.Absent)) (deleting key (delete.Over deleted.Absent))
@@ -92,24 +92,24 @@ opens_absent key at = record {
   ended = (refl, refl);
 }
 
-pub opens_removed : (key at : ℕ) (removed : Removed) (o : Outcome) → OpensLast (deleting key (delete.Changing removed (change.Opening at o))) at (deleting key (delete.Ending (delete_reply removed o))) (deleting key (delete.Over (delete_reply removed o)))
+pub opens_removed : (key at : ℕ) (removed : Removed) (o : Outcome) → OpensLast (deleting key (delete.Editing removed (edit.Opening at o))) at (deleting key (delete.Ending (delete_reply removed o))) (deleting key (delete.Over (delete_reply removed o)))
 opens_removed key at removed o = record {
   next = refl;
-  course = delete_goes (record { key = key; stage = delete.Changing removed (change.Opening at o) }) seen.Done refl tt;
+  course = delete_goes (record { key = key; stage = delete.Editing removed (edit.Opening at o) }) seen.Done refl tt;
   opened = (refl, (o, refl, refl));
   at_end = refl;
   over = delete_goes (record { key = key; stage = delete.Ending (delete_reply removed o) }) seen.Done refl tt;
   ended = (refl, refl);
 }
 
-pub removing_courses : (key at : ℕ) (removed : Removed) (p : Page) (state : Proc) → state ≡ deleting key (delete.Changing removed (change.Putting at p)) → GoesOn state seen.Done × GoesOn state seen.Refused
+pub removing_courses : (key at : ℕ) (removed : Removed) (p : Page) (state : Proc) → state ≡ deleting key (delete.Editing removed (edit.Putting at p)) → GoesOn state seen.Done × GoesOn state seen.Refused
 removing_courses key at removed p state is =
-    let put : Delete = record { key = key; stage = delete.Changing removed (change.Putting at p) } in
+    let put : Delete = record { key = key; stage = delete.Editing removed (edit.Putting at p) } in
     (course_at seen.Done _ _ is (delete_goes put seen.Done refl tt), course_at seen.Refused _ _ is (delete_goes put seen.Refused refl refl))
 
-pub stands_removed : (key at : ℕ) (removed : Removed) (p : Page) (b : Bool) (d e : Mine) → d.state ≡ deleting key (delete.Changing removed (change.Putting at p)) → Goes (put_gave b) d e → e.state ≡ deleting key (delete.Changing removed (change.Opening at (outcome_by b)))
+pub stands_removed : (key at : ℕ) (removed : Removed) (p : Page) (b : Bool) (d e : PassState) → d.state ≡ deleting key (delete.Editing removed (edit.Putting at p)) → Goes (put_gave b) d e → e.state ≡ deleting key (delete.Editing removed (edit.Opening at (outcome_by b)))
 stands_removed key at removed p true d e is goes = goes_to seen.Done d e _ _ goes is (refl, (refl, refl))
 stands_removed key at removed p false d e is goes = goes_to seen.Refused d e _ _ goes is (refl, (refl, refl))
 
-pub has_deleted : (key : ℕ) (pass : ℕ) (old f : Mine) (r : DeleteReply) (reply : Reply) (hint : Option Hint) → IsDone pass old f (deleting key delete.New) (deleting key (delete.Over r)) → deleted_answer r ≡ Op reply hint → HasDeleted pass old f (deleting key delete.New) reply hint
+pub has_deleted : (key : ℕ) (pass : ℕ) (old f : PassState) (r : DeleteReply) (reply : Reply) (hint : Option Hint) → IsDone pass old f (deleting key delete.New) (deleting key (delete.Over r)) → deleted_answer r ≡ Op reply hint → HasDeleted pass old f (deleting key delete.New) reply hint
 has_deleted key pass old f r reply hint done e = record { last = record { key = key; stage = delete.Over r }; done = done; answer = ap Some e }

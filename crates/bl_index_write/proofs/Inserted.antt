@@ -10,10 +10,10 @@ use Rattle.bl_rearrange.proofs.EnteredLemmas.{RisesFrom-entered, map_of-entered}
 use Rattle.bl_proc_base.specs.declared.acts.Seen.TheVariants as seen
 use Rattle.bl_proc_base.specs.declared.approaching.Approach.TheVariants as approach
 use Rattle.bl_proc_base.specs.declared.onwards.Step.TheVariants.{Here}
-use Rattle.bl_proc_base.specs.declared.changing.Change.TheVariants as change
-use Rattle.bl_proc_base.specs.declared.changing.Full.{Full}
-use Rattle.bl_proc_base.specs.declared.changing.Outcome.{Outcome}
-use Rattle.bl_proc_base.specs.declared.changing.Outcome.TheVariants as outcome
+use Rattle.bl_proc_base.specs.declared.editing.Edit.TheVariants as edit
+use Rattle.bl_proc_base.specs.declared.editing.Full.{Full}
+use Rattle.bl_proc_base.specs.declared.editing.Outcome.{Outcome}
+use Rattle.bl_proc_base.specs.declared.editing.Outcome.TheVariants as outcome
 use Rattle.bl_proc_base.specs.Onwards.{Leads}
 use Rattle.bl_proc_base.specs.Respelled.{words_by}
 use Rattle.bl_proc.specs.declared.inserting.Insert.{Insert}
@@ -33,8 +33,8 @@ use Rattle.bl_proc_unique.proofs.Insertions.{insert_goes}
 use Rattle.bl_model.specs.declared.operation.Reply.{Reply}
 use Rattle.bl_proc_base.specs.declared.answers.Hint.{Hint}
 use Rattle.bl_proc_base.specs.declared.answers.Answer.TheVariants.{Op}
-use Rattle.bl_index_rule.specs.declared.known.Mine.{Mine}
-use Rattle.bl_index_rule.specs.Told.{Goes}
+use Rattle.bl_index_rule.specs.declared.known.PassState.{PassState}
+use Rattle.bl_index_rule.specs.Observed.{Goes}
 use Rattle.bl_index_steps.specs.Runs.{IsDone, OpensLast}
 use Rattle.bl_index_write.specs.Events.{inserting, HasInserted}
 use Rattle.bl_index_steps.proofs.Standing.{put_gave, goes_to, course_at}
@@ -62,17 +62,17 @@ module _ (key value at : ℕ) (c : Page) (state : Proc) (takes : Takes (insertin
   pub stands_present : (there : ℕ) → Some there ≡ (node_of c).look key → state ≡ inserting key value (insert.Present at there)
   stands_present there e = stands (insert.Present at there) (at, c, (refl, refl, leads), (refl, sym e))
 
-  pub stands_putting : None ≡ (node_of c).look key → length (pairs_of c) < 14 → (p : Page) × (words_of p ≡ words_by c (entered key value (pairs_of c))) × (state ≡ inserting key value (insert.Changing (change.Putting at p)))
+  pub stands_putting : None ≡ (node_of c).look key → length (pairs_of c) < 14 → (p : Page) × (words_of p ≡ words_by c (entered key value (pairs_of c))) × (state ≡ inserting key value (insert.Editing (edit.Putting at p)))
   stands_putting e room =
       let absent = leaf_lists c key (sym e) in
       let fits = fits_some c key value 0 (leaf_covers c key 0 leads) absent (leaf_holds c key value leads) room in
       let pairs : pairs_of fits.0 ≡ entered key value (pairs_of c) = rows_one 0 (pairs_of fits.0) (entered key value (pairs_of c)) (rising fits.0) (RisesFrom-entered key value 0 (pairs_of c) (omega arith) absent (rising c)) (λ j. fits.1.2 j ∙ sym (map_of-entered key value (pairs_of c) absent j)) in
-      (fits.0, spelled_by c fits.0 (entered key value (pairs_of c)) fits.1.1 pairs, stands (insert.Changing (change.Putting at fits.0)) (at, c, (refl, refl, leads), (sym e, (refl, fits.1))))
+      (fits.0, spelled_by c fits.0 (entered key value (pairs_of c)) fits.1.1 pairs, stands (insert.Editing (edit.Putting at fits.0)) (at, c, (refl, refl, leads), (sym e, (refl, fits.1))))
 
-  pub stands_taking : None ≡ (node_of c).look key → 14 ≤ length (pairs_of c) → (f : Full) × (f.at ≡ at) × (f.key ≡ key) × (f.word ≡ value) × (f.page ≡ c) × (state ≡ inserting key value (insert.Changing (change.Taking f)))
+  pub stands_taking : None ≡ (node_of c).look key → 14 ≤ length (pairs_of c) → (f : Full) × (f.at ≡ at) × (f.key ≡ key) × (f.word ≡ value) × (f.page ≡ c) × (state ≡ inserting key value (insert.Editing (edit.Taking f)))
   stands_taking e full =
       let f : Full = record { at = at; key = key; word = value; page = c; covers = leaf_covers c key 0 leads; absent = leaf_lists c key (sym e); fits = leaf_holds c key value leads; full = full } in
-      (f, refl, refl, refl, refl, stands (insert.Changing (change.Taking f)) (at, c, (refl, refl, leads), (sym e, (refl, refl, refl, refl))))
+      (f, refl, refl, refl, refl, stands (insert.Editing (edit.Taking f)) (at, c, (refl, refl, leads), (sym e, (refl, refl, refl, refl))))
 
 pub opens_present : (key value at there : ℕ) → OpensLast (inserting key value (insert.Present at there)) at (inserting key value (insert.Ending (inserted.Present there))) (inserting key value (insert.Over (inserted.Present there)))
 opens_present key value at there = record {
@@ -84,10 +84,10 @@ opens_present key value at there = record {
   ended = (refl, refl, refl);
 }
 
-pub opens_changed : (key value at : ℕ) (o : Outcome) → OpensLast (inserting key value (insert.Changing (change.Opening at o))) at (inserting key value (insert.Ending (insert_reply o))) (inserting key value (insert.Over (insert_reply o)))
+pub opens_changed : (key value at : ℕ) (o : Outcome) → OpensLast (inserting key value (insert.Editing (edit.Opening at o))) at (inserting key value (insert.Ending (insert_reply o))) (inserting key value (insert.Over (insert_reply o)))
 opens_changed key value at o = record {
   next = refl;
-  course = insert_goes (record { key = key; value = value; stage = insert.Changing (change.Opening at o) }) seen.Done refl tt;
+  course = insert_goes (record { key = key; value = value; stage = insert.Editing (edit.Opening at o) }) seen.Done refl tt;
   opened = (refl, refl, (o, refl, refl));
   at_end = refl;
   over = insert_goes (record { key = key; value = value; stage = insert.Ending (insert_reply o) }) seen.Done refl tt;
@@ -96,18 +96,18 @@ opens_changed key value at o = record {
 
 -- what became of the leaf, by whether its new words were put
 abbrev pub outcome_by : Bool → Outcome
-outcome_by true = outcome.Changed
+outcome_by true = outcome.Edited
 outcome_by false = outcome.Refused
 
-pub put_courses : (key value at : ℕ) (p : Page) (state : Proc) → state ≡ inserting key value (insert.Changing (change.Putting at p)) → GoesOn state seen.Done × GoesOn state seen.Refused
+pub put_courses : (key value at : ℕ) (p : Page) (state : Proc) → state ≡ inserting key value (insert.Editing (edit.Putting at p)) → GoesOn state seen.Done × GoesOn state seen.Refused
 put_courses key value at p state is =
-    let put : Insert = record { key = key; value = value; stage = insert.Changing (change.Putting at p) } in
+    let put : Insert = record { key = key; value = value; stage = insert.Editing (edit.Putting at p) } in
     (course_at seen.Done _ _ is (insert_goes put seen.Done refl tt), course_at seen.Refused _ _ is (insert_goes put seen.Refused refl refl))
 
-pub stands_opening : (key value at : ℕ) (p : Page) (b : Bool) (d e : Mine) → d.state ≡ inserting key value (insert.Changing (change.Putting at p)) → Goes (put_gave b) d e → e.state ≡ inserting key value (insert.Changing (change.Opening at (outcome_by b)))
+pub stands_opening : (key value at : ℕ) (p : Page) (b : Bool) (d e : PassState) → d.state ≡ inserting key value (insert.Editing (edit.Putting at p)) → Goes (put_gave b) d e → e.state ≡ inserting key value (insert.Editing (edit.Opening at (outcome_by b)))
 stands_opening key value at p true d e is goes = goes_to seen.Done d e _ _ goes is (refl, refl, refl)
 stands_opening key value at p false d e is goes = goes_to seen.Refused d e _ _ goes is (refl, refl, refl)
 
 -- it has ended, and has answered by what became of the leaf
-pub has_inserted : (key value : ℕ) (pass : ℕ) (old f : Mine) (r : InsertReply) (reply : Reply) (hint : Option Hint) → IsDone pass old f (inserting key value insert.New) (inserting key value (insert.Over r)) → inserted_answer r ≡ Op reply hint → HasInserted pass old f (inserting key value insert.New) reply hint
+pub has_inserted : (key value : ℕ) (pass : ℕ) (old f : PassState) (r : InsertReply) (reply : Reply) (hint : Option Hint) → IsDone pass old f (inserting key value insert.New) (inserting key value (insert.Over r)) → inserted_answer r ≡ Op reply hint → HasInserted pass old f (inserting key value insert.New) reply hint
 has_inserted key value pass old f r reply hint done e = record { last = record { key = key; value = value; stage = insert.Over r }; done = done; answer = ap Some e }

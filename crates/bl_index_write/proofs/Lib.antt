@@ -1,6 +1,6 @@
 pub mod Inserted
 pub mod Spreading
-pub mod Parted
+pub mod Splits
 pub mod Deleted
 pub mod Parents
 pub mod PostEnds

@@ -9,12 +9,12 @@ use Rattle.bl_rearrange.specs.Rearranged.{pairs_of}
 use Rattle.bl_rearrange.proofs.EnteredLemmas.{RisesFrom-entered, map_of-entered}
 use Rattle.bl_proc_base.specs.declared.acts.Seen.TheVariants as seen
 use Rattle.bl_proc_base.specs.declared.approaching.Approach.TheVariants as approach
-use Rattle.bl_proc_base.specs.declared.approaching.Came.TheVariants as come
-use Rattle.bl_proc_base.specs.declared.changing.Change.{Change}
-use Rattle.bl_proc_base.specs.declared.changing.Change.TheVariants as change
-use Rattle.bl_proc_base.specs.declared.changing.Full.{Full}
-use Rattle.bl_proc_base.specs.declared.changing.Outcome.{Outcome}
-use Rattle.bl_proc_base.specs.declared.changing.Outcome.TheVariants as outcome
+use Rattle.bl_proc_base.specs.declared.approaching.Came.TheVariants as descend
+use Rattle.bl_proc_base.specs.declared.editing.Edit.{Edit}
+use Rattle.bl_proc_base.specs.declared.editing.Edit.TheVariants as edit
+use Rattle.bl_proc_base.specs.declared.editing.Full.{Full}
+use Rattle.bl_proc_base.specs.declared.editing.Outcome.{Outcome}
+use Rattle.bl_proc_base.specs.declared.editing.Outcome.TheVariants as outcome
 use Rattle.bl_proc_base.specs.declared.onwards.Step.{Step}
 use Rattle.bl_proc_base.specs.declared.onwards.Step.TheVariants.{Right, Down, Here}
 use Rattle.bl_proc_base.specs.Onwards.{Leads}
@@ -30,39 +30,39 @@ use Rattle.bl_proc.specs.Posts.{post_reply, IsLost, PostGoes, PostWalks}
 use Rattle.bl_proc.specs.Processes.{Takes}
 use Rattle.bl_proc.proofs.Named.{listed-child}
 use Rattle.bl_proc_unique.specs.Frames.{work_of}
-use Rattle.bl_proc_unique.proofs.Changes.{enter_one}
+use Rattle.bl_proc_unique.proofs.Edits.{enter_one}
 use Rattle.bl_proc_unique.proofs.Onwards.{right_small}
 use Rattle.bl_proc_unique.proofs.Pages.{fits_some, rising}
 use Rattle.bl_proc_unique.proofs.Posts.{post_goes}
 use Rattle.bl_proc_unique.proofs.Rows.{rows_one}
-use Rattle.bl_index_write.specs.declared.errands.Posting.{Posting}
+use Rattle.bl_index_write.specs.declared.targets.Posting.{Posting}
 use Rattle.atomic_table.specs.declared.shared.Seat.{Seat}
 use Rattle.bl_layout.specs.declared.layout.Layout.{Layout}
 use Rattle.bl_store.specs.declared.view.View.{View}
 use Rattle.bl_store.specs.Hands.{known}
 use Rattle.bl_proc_base.specs.declared.answers.Hint.{Hint}
 use Rattle.bl_proc_base.specs.declared.answers.Posted.{Posted}
-use Rattle.bl_index_rule.specs.declared.known.Mine.{Mine}
+use Rattle.bl_index_rule.specs.declared.known.PassState.{PassState}
 use Rattle.bl_index_write.specs.Events.{posting, IsToEnter, IsWalking, HasPosted, IsPostOver}
 use Rattle.bl_index_steps.specs.Runs.{IsSameProcess, OpensLast}
 use Rattle.bl_index_steps.proofs.Standing.{same_all}
 use Rattle.bl_index_write.proofs.Inserted.{spelled_by}
 
 -- a change by which a pair enters, by whether there is room
-module _ (x key word : ℕ) (words : List ℕ) (c : Change) (enter : IsToEnter x key word words c) where
-  pub enters_putting : length (pairs_of enter.page) < 14 → (p : Page) × (words_of p ≡ words_by enter.page (entered key word (pairs_of enter.page))) × (c ≡ change.Putting x p)
+module _ (x key word : ℕ) (words : List ℕ) (c : Edit) (enter : IsToEnter x key word words c) where
+  pub enters_putting : length (pairs_of enter.page) < 14 → (p : Page) × (words_of p ≡ words_by enter.page (entered key word (pairs_of enter.page))) × (c ≡ edit.Putting x p)
   enters_putting room =
       let page = enter.page in
       let fits = fits_some page key word 0 enter.covers enter.absent enter.fits room in
       let pairs : pairs_of fits.0 ≡ entered key word (pairs_of page) = rows_one 0 (pairs_of fits.0) (entered key word (pairs_of page)) (rising fits.0) (RisesFrom-entered key word 0 (pairs_of page) (omega arith) enter.absent (rising page)) (λ j. fits.1.2 j ∙ sym (map_of-entered key word (pairs_of page) enter.absent j)) in
       let one = enter_one x page key word enter.covers enter.absent enter.fits in
-      (fits.0, spelled_by page fits.0 (entered key word (pairs_of page)) fits.1.1 pairs, one.only c enter.enters ∙ sym (one.only (change.Putting x fits.0) (refl, fits.1)))
+      (fits.0, spelled_by page fits.0 (entered key word (pairs_of page)) fits.1.1 pairs, one.only c enter.enters ∙ sym (one.only (edit.Putting x fits.0) (refl, fits.1)))
 
-  pub enters_taking : 14 ≤ length (pairs_of enter.page) → (f : Full) × (f.at ≡ x) × (f.key ≡ key) × (f.word ≡ word) × (words ≡ words_of f.page) × (c ≡ change.Taking f)
+  pub enters_taking : 14 ≤ length (pairs_of enter.page) → (f : Full) × (f.at ≡ x) × (f.key ≡ key) × (f.word ≡ word) × (words ≡ words_of f.page) × (c ≡ edit.Taking f)
   enters_taking full =
       let f : Full = record { at = x; key = key; word = word; page = enter.page; covers = enter.covers; absent = enter.absent; fits = enter.fits; full = full } in
       let one = enter_one x enter.page key word enter.covers enter.absent enter.fits in
-      (f, refl, refl, refl, enter.is, one.only c enter.enters ∙ sym (one.only (change.Taking f) (refl, refl, refl, refl)))
+      (f, refl, refl, refl, enter.is, one.only c enter.enters ∙ sym (one.only (edit.Taking f) (refl, refl, refl, refl)))
 
 nonzero : (z : ℕ) → z ≢ 0 → 0 < z
 nonzero zero some = absurd (some refl)
@@ -76,7 +76,7 @@ module _ (j : Posting) where
   stands_already x (page.Dead d) state takes leads child e = absurd leads.0
   stands_already x (page.Inner i) state takes leads child e =
       let course = post_goes (record { level = j.level; key = j.key; stage = post.Coming (approach.Latched x); least = j.least; most = j.most; below = tt }) (seen.Words (page.Inner i)) refl tt in
-      course.only state takes ∙ sym (course.only (posting j (post.Staying x reply.Already) tt) (refl, refl, (come.ToParent x i, (refl, refl, leads), (refl, (child, sym e)))))
+      course.only state takes ∙ sym (course.only (posting j (post.Staying x reply.Already) tt) (refl, refl, (descend.ToParent x i, (refl, refl, leads), (refl, (child, sym e)))))
 
   pub stands_walking : (x child : ℕ) (c : Page) (words : List ℕ) (state : Proc) → Takes (posting j (post.Coming (approach.Latched x)) tt) (seen.Words c) state → words ≡ words_of c → Leads c j.key j.level Here → None ≡ (node_of c).look j.key → Leads c j.key (j.level - 1) (Down child) → IsWalking j x words child state
   stands_walking x child (page.Anchor a) words state takes is leads none down = absurd leads.0
@@ -90,7 +90,7 @@ module _ (j : Posting) where
       record {
         walk = w;
         below = below;
-        is = course.only state takes ∙ sym (course.only (posting j (post.Walking w) below) (refl, refl, (come.ToParent x i, (refl, refl, leads), (refl, refl, refl, down.3))));
+        is = course.only state takes ∙ sym (course.only (posting j (post.Walking w) below) (refl, refl, (descend.ToParent x i, (refl, refl, leads), (refl, refl, refl, down.3))));
         at = refl;
         key = refl;
         parent = is;
@@ -108,14 +108,14 @@ module _ (j : Posting) where
   }
 
   pub may_reply : (o : Outcome) → j.level < 12 → MayReply j.level (post_reply o)
-  may_reply outcome.Changed below = tt
-  may_reply (outcome.Parted separator) below = below
+  may_reply outcome.Edited below = tt
+  may_reply (outcome.SplitAt separator) below = below
   may_reply outcome.Refused below = tt
 
-  pub opens_listed : (x : ℕ) (o : Outcome) (below : j.level < 12) → OpensLast (posting j (post.Changing (change.Opening x o)) below) x (posting j (post.Ending (post_reply o)) (may_reply o below)) (posting j (post.Over (post_reply o)) (may_reply o below))
+  pub opens_listed : (x : ℕ) (o : Outcome) (below : j.level < 12) → OpensLast (posting j (post.Editing (edit.Opening x o)) below) x (posting j (post.Ending (post_reply o)) (may_reply o below)) (posting j (post.Over (post_reply o)) (may_reply o below))
   opens_listed x o below = record {
     next = refl;
-    course = post_goes (record { level = j.level; key = j.key; stage = post.Changing (change.Opening x o); least = j.least; most = j.most; below = below }) seen.Done refl tt;
+    course = post_goes (record { level = j.level; key = j.key; stage = post.Editing (edit.Opening x o); least = j.least; most = j.most; below = below }) seen.Done refl tt;
     opened = (refl, refl, (o, refl, refl));
     at_end = refl;
     over = post_goes (record { level = j.level; key = j.key; stage = post.Ending (post_reply o); least = j.least; most = j.most; below = may_reply o below }) seen.Done refl tt;
@@ -141,13 +141,13 @@ module _ (j : Posting) where
         let it : PostWalks j.level walk c (post.Walking v) = (refl, refl, refl, leading (Right z) leads) in
         record { walk = v; below = w.below; is = walks (post.Walking v) w.below it it; at = w.at; key = w.key; parent = w.parent; child = refl }
 
-    pub walked_found : Leads c j.key (j.level - 1) Here → (node_of c).shape.low ≡ j.key → (d : Change) × IsToEnter x j.key y words d × (next ≡ posting j (post.Changing d) w.below)
+    pub walked_found : Leads c j.key (j.level - 1) Here → (node_of c).shape.low ≡ j.key → (d : Edit) × IsToEnter x j.key y words d × (next ≡ posting j (post.Editing d) w.below)
     walked_found leads low =
         let walk = w.walk in
         let one = enter_one walk.at (page.Inner walk.parent) walk.key walk.child walk.covers walk.unlisted walk.names in
         let enter : IsToEnter walk.at walk.key walk.child words one.new = record { page = page.Inner walk.parent; tree = tt; is = w.parent; covers = walk.covers; absent = walk.unlisted; fits = walk.names; enters = one.goes } in
-        let it : PostWalks j.level walk c (post.Changing one.new) = (leading Here leads, low ∙ sym w.key, one.goes) in
-        (one.new, subst (λ (z : ℕ × ℕ × ℕ). IsToEnter z.0 z.1 z.2 words one.new) (λ i. (w.at i, w.key i, w.child i)) enter, walks (post.Changing one.new) w.below it it)
+        let it : PostWalks j.level walk c (post.Editing one.new) = (leading Here leads, low ∙ sym w.key, one.goes) in
+        (one.new, subst (λ (z : ℕ × ℕ × ℕ). IsToEnter z.0 z.1 z.2 words one.new) (λ i. (w.at i, w.key i, w.child i)) enter, walks (post.Editing one.new) w.below it it)
 
     pub walked_stale : Leads c j.key (j.level - 1) Here → (node_of c).shape.low ≢ j.key → next ≡ posting j (post.Staying x reply.Stale) tt
     walked_stale leads other =
@@ -161,14 +161,14 @@ module _ (j : Posting) where
 
   -- it has opened its parent, and begins again
   pub lost_again : (x : ℕ) → Takes (posting j (post.Coming (approach.Leaving x None)) tt) seen.Done (posting j (post.Coming approach.Start) tt)
-  lost_again x = (refl, refl, (come.On approach.Start, (tt, refl), refl))
+  lost_again x = (refl, refl, (descend.On approach.Start, (tt, refl), refl))
 
 -- what became of a post, from an earlier state of its pass on
-pub over_since : (l : Layout) (j : Posting) (d e : Mine) (h : Seat (Unit {0}) (View Mine)) (t : Option (Posted × Option Hint)) → IsSameProcess d e → IsPostOver l j e h t → IsPostOver l j d h t
+pub over_since : (l : Layout) (j : Posting) (d e : PassState) (h : Seat (Unit {0}) (View PassState)) (t : Option (Posted × Option Hint)) → IsSameProcess d e → IsPostOver l j e h t → IsPostOver l j d h t
 over_since l j d e h (Some t) same over = (over.0, over.1, over.2, over.3, λ pass old since. over.4 pass old (same pass old since))
 over_since l j d e h None same over = (over.0, over.1, same_all d e (known h) same over.2)
 
-pub posted_first : (j : Posting) (pass : ℕ) (old e : Mine) (what : Posted) (hint : Option Hint) → HasPosted pass old e (posting j post.New tt) what hint → (first : Proc) × (work_of first ≡ Some (j.level, j.key)) × HasPosted pass old e first what hint
+pub posted_first : (j : Posting) (pass : ℕ) (old e : PassState) (what : Posted) (hint : Option Hint) → HasPosted pass old e (posting j post.New tt) what hint → (first : Proc) × (work_of first ≡ Some (j.level, j.key)) × HasPosted pass old e first what hint
 posted_first j pass old e what hint posted = (posting j post.New tt, refl, posted)
 
 -- it does not matter why a post may be at its stage

@@ -15,7 +15,7 @@ use Rattle.bl_proc.specs.declared.kinds.Proc.TheVariants as proc
 use Rattle.bl_proc.specs.Posts.{post_next_in, post_answer_in, post_answer, PostGoes}
 use Rattle.bl_proc.specs.Processes.{next_of, Takes}
 use Rattle.bl_proc_unique.specs.Frames.{work_of}
-use Rattle.bl_index_rule.specs.declared.known.Mine.{Mine}
+use Rattle.bl_index_rule.specs.declared.known.PassState.{PassState}
 use Rattle.bl_index_steps.specs.Runs.{IsDone}
 use Rattle.bl_index_write.specs.Events.{IsPostAnswer}
 use Rattle.bl_index_steps.proofs.Quiet.{first_of, second_of}
@@ -36,14 +36,14 @@ answers_at_end at level key post.New b e t = cc
 answers_at_end at level key (post.Coming a) b e t = absurd (not_end_way a e)
 answers_at_end at level key (post.Growing g) b e t = absurd (not_end_growth g e)
 answers_at_end at level key (post.Walking w) b e t = cc
-answers_at_end at level key (post.Changing c) b e t = absurd (not_end c e)
+answers_at_end at level key (post.Editing c) b e t = absurd (not_end c e)
 answers_at_end at level key (post.Staying x r) b e t = cc
 answers_at_end at level key (post.Over r) b e t = absurd t
 answers_at_end at level key (post.Ending r) post.New e t = absurd t
 answers_at_end at level key (post.Ending r) (post.Coming a) e t = absurd t
 answers_at_end at level key (post.Ending r) (post.Growing g) e t = absurd t
 answers_at_end at level key (post.Ending r) (post.Walking w) e t = absurd t
-answers_at_end at level key (post.Ending r) (post.Changing c) e t = absurd t
+answers_at_end at level key (post.Ending r) (post.Editing c) e t = absurd t
 answers_at_end at level key (post.Ending r) (post.Staying x q) e t = absurd t
 answers_at_end at level key (post.Ending r) (post.Ending q) e t = absurd t
 answers_at_end at level key (post.Ending r) (post.Over (reply.Done s)) e t = tt
@@ -65,11 +65,11 @@ pub posting : (before : Proc) (q : Post) (level key : ℕ) → work_of before �
 posting (proc.Post p) q level key is e t = record { old = p; before_is = refl; level_is = t.0 ∙ first_of is; key_is = t.1 ∙ second_of is; at_end = e; goes = t.2 }
 posting other q level key is e t = absurd t
 
-pub post_has_answer : (pass : ℕ) (old e : Mine) (first : Proc) (q : Post) (level key : ℕ) → IsDone pass old e first (proc.Post q) → work_of first ≡ Some (level, key) → (what : Option Answer) → what ≡ post_answer q → IsPostAnswer what
+pub post_has_answer : (pass : ℕ) (old e : PassState) (first : Proc) (q : Post) (level key : ℕ) → IsDone pass old e first (proc.Post q) → work_of first ≡ Some (level, key) → (what : Option Answer) → what ≡ post_answer q → IsPostAnswer what
 post_has_answer pass old e first q level key d is what a =
     let p = posting d.before q level key (d.work ∙ is) d.at_end d.takes in
     subst IsPostAnswer (sym a) (answers_at_end q.level p.old.level p.old.key p.old.stage q.stage p.at_end p.goes)
 
 -- it is still the post of that key to that level
-pub post_named : (pass : ℕ) (old e : Mine) (first : Proc) (q : Post) (level key : ℕ) → IsDone pass old e first (proc.Post q) → work_of first ≡ Some (level, key) → (q.level ≡ level) × (q.key ≡ key)
+pub post_named : (pass : ℕ) (old e : PassState) (first : Proc) (q : Post) (level key : ℕ) → IsDone pass old e first (proc.Post q) → work_of first ≡ Some (level, key) → (q.level ≡ level) × (q.key ≡ key)
 post_named pass old e first q level key d is = let p = posting d.before q level key (d.work ∙ is) d.at_end d.takes in (p.level_is, p.key_is)

@@ -20,9 +20,9 @@ use Rattle.bl_proc_base.specs.declared.answers.Hint.{Hint}
 use Rattle.bl_proc_base.specs.declared.answers.Posted.{Posted}
 use Rattle.bl_proc_base.specs.declared.approaching.Approach.{Approach}
 use Rattle.bl_proc_base.specs.declared.approaching.Approach.TheVariants.{Start, At, Latching, Latched, Leaving}
-use Rattle.bl_proc_base.specs.declared.changing.Change.{Change}
+use Rattle.bl_proc_base.specs.declared.editing.Edit.{Edit}
 use Rattle.bl_proc_base.specs.declared.onwards.Step.TheVariants.{Here}
-use Rattle.bl_proc_base.specs.Changes.{EntersPair}
+use Rattle.bl_proc_base.specs.Edits.{EntersPair}
 use Rattle.bl_proc_base.specs.Onwards.{Leads}
 use Rattle.bl_proc.specs.declared.inserting.Insert.{Insert}
 use Rattle.bl_proc.specs.declared.inserting.InsertReply.{InsertReply}
@@ -41,10 +41,10 @@ use Rattle.bl_proc.specs.Levels.{IsBelowTop}
 use Rattle.bl_proc.specs.declared.kinds.Proc.{Proc}
 use Rattle.bl_proc.specs.declared.kinds.Proc.TheVariants as proc
 use Rattle.bl_proc.specs.Processes.{answer_of, Takes}
-use Rattle.bl_index_rule.specs.declared.known.Mine.{Mine}
-use Rattle.bl_index_write.specs.declared.coming.Arrived.{Arrived}
-use Rattle.bl_index_write.specs.declared.coming.Arrived.TheVariants.{There, Away}
-use Rattle.bl_index_write.specs.declared.errands.Posting.{Posting}
+use Rattle.bl_index_rule.specs.declared.known.PassState.{PassState}
+use Rattle.bl_index_write.specs.declared.descend.Arrived.{Arrived}
+use Rattle.bl_index_write.specs.declared.descend.Arrived.TheVariants.{There, Away}
+use Rattle.bl_index_write.specs.declared.targets.Posting.{Posting}
 use Rattle.bl_index_write.specs.declared.posting.Walked.{Walked}
 use Rattle.bl_index_write.specs.declared.posting.Walked.TheVariants.{On, Found, Stale, Lost}
 use Rattle.bl_index_steps.specs.Runs.{IsOn, IsSince, IsWithin, IsDone, IsSameProcess}
@@ -61,19 +61,19 @@ HoldsNone (Latched x) = ⊥
 HoldsNone (Leaving x to) = ⊥
 
 -- The writer that held a page of its level, to cover that key, has got it: the page has these words, and covers the key.
-pub record IsThere (level key : ℕ) (latched : Proc) (words : List ℕ) (d : Mine) : Type 0 where
+pub record IsThere (level key : ℕ) (latched : Proc) (words : List ℕ) (d : PassState) : Type 0 where
   pub page : Page
   pub is : words ≡ words_of page
   pub leads : Leads page key level Here
   pub takes : Takes latched (seen.Words page) d.state
 
 -- It is there; or it is to open the page, and goes on as that says.
-abbrev pub HasArrived : ℕ → ℕ → (Approach → Proc) → ℕ → Layout → Seat (Unit {0}) (View Mine) → Arrived → Type 0
+abbrev pub HasArrived : ℕ → ℕ → (Approach → Proc) → ℕ → Layout → Seat (Unit {0}) (View PassState) → Arrived → Type 0
 HasArrived level key at x l h (There glance) = ReadsFrom h glance × IsThere level key (at (Latched x)) (read_words h) (known h) × IsOn l (known h) (known h).state
 HasArrived level key at x l h (Away to) = IsOn l (known h) (at (Leaving x to))
 
 -- It is at the page of its level that covers its key; or its way begins again.
-abbrev pub HasCome : ℕ → ℕ → (Approach → Proc) → Layout → Seat (Unit {0}) (View Mine) → Option (ℕ × Glance) → Type 0
+abbrev pub HasCome : ℕ → ℕ → (Approach → Proc) → Layout → Seat (Unit {0}) (View PassState) → Option (ℕ × Glance) → Type 0
 HasCome level key at l h (Some t) = ReadsFrom h t.1 × IsThere level key (at (Latched t.0)) (read_words h) (known h) × IsOn l (known h) (known h).state
 HasCome level key at l h None = IsOn l (known h) (at Start)
 
@@ -86,26 +86,26 @@ abbrev pub deleting : ℕ → DeleteStage → Proc
 deleting key stage = proc.Delete (record { key = key; stage = stage })
 
 -- The insertion that began as first has ended, and has answered that.
-pub record HasInserted (pass : ℕ) (old e : Mine) (first : Proc) (reply : Reply) (hint : Option Hint) : Type 0 where
+pub record HasInserted (pass : ℕ) (old e : PassState) (first : Proc) (reply : Reply) (hint : Option Hint) : Type 0 where
   pub last : Insert
   pub done : IsDone pass old e first (proc.Insert last)
   pub answer : answer_of (proc.Insert last) ≡ Some (Op reply hint)
 
 -- It has ended with that reply, which says what it answers.
-abbrev pub HasInsertedBy : ℕ → Mine → Mine → Proc → InsertReply → Type 0
+abbrev pub HasInsertedBy : ℕ → PassState → PassState → Proc → InsertReply → Type 0
 HasInsertedBy pass old e first r = (reply : Reply) (hint : Option Hint) → inserted_answer r ≡ Op reply hint → HasInserted pass old e first reply hint
 
 -- The same of a deletion.
-pub record HasDeleted (pass : ℕ) (old e : Mine) (first : Proc) (reply : Reply) (hint : Option Hint) : Type 0 where
+pub record HasDeleted (pass : ℕ) (old e : PassState) (first : Proc) (reply : Reply) (hint : Option Hint) : Type 0 where
   pub last : Delete
   pub done : IsDone pass old e first (proc.Delete last)
   pub answer : answer_of (proc.Delete last) ≡ Some (Op reply hint)
 
-abbrev pub HasDeletedBy : ℕ → Mine → Mine → Proc → DeleteReply → Type 0
+abbrev pub HasDeletedBy : ℕ → PassState → PassState → Proc → DeleteReply → Type 0
 HasDeletedBy pass old e first r = (reply : Reply) (hint : Option Hint) → deleted_answer r ≡ Op reply hint → HasDeleted pass old e first reply hint
 
 -- The same of a post.
-pub record HasPosted (pass : ℕ) (old e : Mine) (first : Proc) (what : Posted) (hint : Option Hint) : Type 0 where
+pub record HasPosted (pass : ℕ) (old e : PassState) (first : Proc) (what : Posted) (hint : Option Hint) : Type 0 where
   pub last : Post
   pub done : IsDone pass old e first (proc.Post last)
   pub answer : answer_of (proc.Post last) ≡ Some (answer.Post what hint)
@@ -115,14 +115,14 @@ abbrev pub posting : (j : Posting) (stage : PostStage) → IsBelowTop j.level st
 posting j stage below = proc.Post (record { level = j.level; key = j.key; stage = stage; least = j.least; most = j.most; below = below })
 
 -- Page x, which has these words and has been got, may get that pair more, and is to.
-pub record IsToEnter (x key word : ℕ) (words : List ℕ) (change : Change) : Type 0 where
+pub record IsToEnter (x key word : ℕ) (words : List ℕ) (edit : Edit) : Type 0 where
   pub page : Page
   pub tree : IsTreePage page
   pub is : words ≡ words_of page
   pub covers : Covers page key
   pub absent : map_of (pairs_of page) key ≡ None
   pub fits : MayHold page word
-  pub enters : EntersPair x page key word change
+  pub enters : EntersPair x page key word edit
 
 -- It has got its parent x, which has these words, and is to get page y on its way to the child that covers its key.
 pub record IsWalking (j : Posting) (x : ℕ) (words : List ℕ) (y : ℕ) (state : Proc) : Type 0 where
@@ -135,15 +135,15 @@ pub record IsWalking (j : Posting) (x : ℕ) (words : List ℕ) (y : ℕ) (state
   pub child : walk.child ≡ y
 
 -- It is to get the next page; or it has got the child, and its parent is to list it, or not; or it is to open its parent, and begins again.
-abbrev pub HasWalked : Layout → Posting → ℕ → List ℕ → ℕ → Mine → Walked → Type 0
+abbrev pub HasWalked : Layout → Posting → ℕ → List ℕ → ℕ → PassState → Walked → Type 0
 HasWalked l j x words y d (On z) = IsOn l d d.state × IsWalking j x words z d.state
-HasWalked l j x words y d Found = (below : j.level < 12) × (c : Change) × IsToEnter x j.key y words c × IsOn l d (posting j (post.Changing c) below)
+HasWalked l j x words y d Found = (below : j.level < 12) × (c : Edit) × IsToEnter x j.key y words c × IsOn l d (posting j (post.Editing c) below)
 HasWalked l j x words y d Stale = IsOn l d (posting j (post.Staying x reply.Stale) tt)
 HasWalked l j x words y d Lost = IsOn l d (posting j (post.Coming (Leaving x None)) tt)
 
 -- It has ended, and has answered that; or its way begins again.
-abbrev pub IsPostOver : Layout → Posting → Mine → Seat (Unit {0}) (View Mine) → Option (Posted × Option Hint) → Type 0
-IsPostOver l j d h (Some t) = (IsIdle h × HasNoStock h) × IsWithin h × ((known h).runs ≡ false) × (t.0 ≡ posted.NoRoom → LacksPost j.level j.key h) × ((pass : ℕ) (old : Mine) → IsSince pass old d → HasPosted pass old (known h) (posting j post.New tt) t.0 t.1)
+abbrev pub IsPostOver : Layout → Posting → PassState → Seat (Unit {0}) (View PassState) → Option (Posted × Option Hint) → Type 0
+IsPostOver l j d h (Some t) = (IsIdle h × HasNoStock h) × IsWithin h × ((known h).runs ≡ false) × (t.0 ≡ posted.NoRoom → LacksPost j.level j.key h) × ((pass : ℕ) (old : PassState) → IsSince pass old d → HasPosted pass old (known h) (posting j post.New tt) t.0 t.1)
 IsPostOver l j d h None = (IsRunning h × HasNoStock h) × IsOn l (known h) (posting j (post.Coming Start) tt) × IsSameProcess d (known h)
 
 -- the answer of a post

@@ -4,7 +4,7 @@ use Rattle.bl_proc_base.specs.declared.acts.Seen.{Seen}
 use Rattle.bl_proc_base.specs.declared.approaching.Approach.{Approach}
 use Rattle.bl_proc_base.specs.declared.approaching.Approach.TheVariants.{Start, At, Latching, Latched, Leaving}
 use Rattle.bl_proc_base.specs.declared.approaching.Approached.TheVariants as came
-use Rattle.bl_proc_base.specs.declared.approaching.Came.TheVariants as come
+use Rattle.bl_proc_base.specs.declared.approaching.Came.TheVariants as descend
 use Rattle.bl_proc_base.specs.Approaches.{Approaches}
 use Rattle.bl_proc.specs.declared.posting.PostStage.TheVariants as post
 use Rattle.bl_proc.specs.Posts.{PostGoes}
@@ -20,7 +20,7 @@ IsPast (Leaving x to) = Unit {0}
 -- a post goes on as any writer then
 pub nears : (level key : ℕ) (a b : Approach) (what : Seen) → IsPast a → Approaches level key a what (came.On b) → PostGoes level key (post.Coming a) what (post.Coming b)
 nears level key Start b what past t = absurd past
-nears level key (At x) b what past t = (come.On b, (tt, t), refl)
-nears level key (Latching x) b what past t = (come.On b, (tt, t), refl)
-nears level key (Latched x) b what past t = (come.On b, (tt, t), refl)
-nears level key (Leaving x to) b what past t = (come.On b, (tt, t), refl)
+nears level key (At x) b what past t = (descend.On b, (tt, t), refl)
+nears level key (Latching x) b what past t = (descend.On b, (tt, t), refl)
+nears level key (Latched x) b what past t = (descend.On b, (tt, t), refl)
+nears level key (Leaving x to) b what past t = (descend.On b, (tt, t), refl)

@@ -10,7 +10,7 @@ ghost use Rattle.bl_rearrange.specs.Entered.{dropped};
 ghost use Rattle.bl_rearrange.specs.Rearranged.{pairs_of};
 ghost use Rattle.bl_proc_base.specs.declared.answers.Answer.TheVariants as answers;
 ghost use Rattle.bl_proc_base.specs.declared.approaching.Approach.TheVariants as approach;
-ghost use Rattle.bl_proc_base.specs.declared.changing.Change.TheVariants as change;
+ghost use Rattle.bl_proc_base.specs.declared.editing.Edit.TheVariants as edit;
 ghost use Rattle.bl_proc_base.specs.Respelled.{words_by};
 ghost use Rattle.bl_proc_base.specs.Thin.{thin_low, thin_hint};
 ghost use Rattle.bl_proc.specs.Deletes.{deleted_answer};
@@ -18,15 +18,15 @@ ghost use Rattle.bl_proc.specs.declared.deleting.DeleteReply.TheVariants as remo
 ghost use Rattle.bl_proc.specs.declared.deleting.DeleteStage.TheVariants as delete;
 ghost use Rattle.bl_store.specs.Hands.{known, read_words, IsIdle, IsRunning, IsSameHand, HasNoStock, ReadsFrom, WasRefused};
 ghost use Rattle.bl_store.specs.Owners.{IsHandOf};
-ghost use Rattle.bl_index_rule.specs.declared.known.Mine.{Mine as Knows};
+ghost use Rattle.bl_index_rule.specs.declared.known.PassState.{PassState as Knows};
 ghost use Rattle.bl_index_steps.specs.Runs.{Runs, Rests, IsOn, IsSince};
 ghost use Rattle.bl_index_write.specs.Events.{deleting, IsThere, HasDeleted, HasDeletedBy};
 ghost use Rattle.bl_model.specs.Replies.{reply_of};
 
-use crate::coming::{come, depart};
-use crate::errands::Deleting;
-use bl_index_rule::Mine;
-use bl_index_steps::{Shown, Tree};
+use crate::descend::{descend, begin_descent};
+use crate::targets::Deleting;
+use bl_index_rule::PassState;
+use bl_index_steps::{FrameView, Tree};
 use bl_model::KeyReply;
 use bl_proc::{DeleteReply, Hint, Removed};
 use bl_proc_base::{Level, hint_of_thin, row_in, thin_in, words_without};
@@ -57,17 +57,17 @@ fn answer_of(reply: DeleteReply) -> (KeyReply, Option<Hint>)
 }
 
 /// The leaf that it holds does not have the key.
-fn keep_absent(tree: &Tree, hand: &mut Hand<Mine>, at: u32, errand: Deleting) -> DeleteReply
-    requires runs { Runs tree.now hand.old (deleting errand.key (delete.Absent at)) }
+fn answer_absent(tree: &Tree, hand: &mut Hand<PassState>, at: u32, target: Deleting) -> DeleteReply
+    requires runs { Runs tree.now hand.old (deleting target.key (delete.Absent at)) }
     requires empty { HasNoStock hand.old.seat }
     ensures same { IsSameHand hand.old.seat hand.new.seat }
     ensures rests { Rests hand.new.seat }
     ensures empty { HasNoStock hand.new.seat }
-    ensures deleted { (pass : ℕ) (old : Knows) → IsSince pass old (known hand.old.seat) → HasDeletedBy pass old (known hand.new.seat) (deleting errand.key delete.New) result }
+    ensures deleted { (pass : ℕ) (old : Knows) → IsSince pass old (known hand.old.seat) → HasDeletedBy pass old (known hand.new.seat) (deleting target.key delete.New) result }
     ensures reply { result ≡ removal.Absent }
 {
-    let _ = errand;
-    tree.conclude(hand, at);
+    let _ = target;
+    tree.open_and_end(hand, at);
     DeleteReply::Absent
 }
 
@@ -75,31 +75,31 @@ fn keep_absent(tree: &Tree, hand: &mut Hand<Mine>, at: u32, errand: Deleting) ->
 #[inline(always)]
 fn remove(
     tree: &Tree,
-    hand: &mut Hand<Mine>,
+    hand: &mut Hand<PassState>,
     at: u32,
-    errand: Deleting,
+    target: Deleting,
     value: u64,
     glance: Glance,
 ) -> DeleteReply
     requires own { IsHandOf tree.now.store hand.old }
     requires running { IsRunning hand.old.seat × HasNoStock hand.old.seat }
     requires reads { ReadsFrom hand.old.seat glance }
-    requires page { (c : Page) × (p : Page) × IsTreePage c × IsTreePage p × (read_words hand.old.seat ≡ words_of c) × (map_of (pairs_of c) errand.key ≡ Some value) × (words_of p ≡ words_by c (dropped errand.key (pairs_of c))) × IsOn tree.now.store.layout (known hand.old.seat) (deleting errand.key (delete.Changing (record { value = value; thin = thin_low p }) (change.Putting at p))) }
+    requires page { (c : Page) × (p : Page) × IsTreePage c × IsTreePage p × (read_words hand.old.seat ≡ words_of c) × (map_of (pairs_of c) target.key ≡ Some value) × (words_of p ≡ words_by c (dropped target.key (pairs_of c))) × IsOn tree.now.store.layout (known hand.old.seat) (deleting target.key (delete.Editing (record { value = value; thin = thin_low p }) (edit.Putting at p))) }
     ensures same { IsSameHand hand.old.seat hand.new.seat }
     ensures rests { Rests hand.new.seat }
     ensures empty { HasNoStock hand.new.seat }
-    ensures deleted { (pass : ℕ) (old : Knows) → IsSince pass old (known hand.old.seat) → HasDeletedBy pass old (known hand.new.seat) (deleting errand.key delete.New) result }
+    ensures deleted { (pass : ℕ) (old : Knows) → IsSince pass old (known hand.old.seat) → HasDeletedBy pass old (known hand.new.seat) (deleting target.key delete.New) result }
     ensures no_room { result ≡ removal.NoRoom → WasRefused hand.new.seat 0 1 }
 {
-    let shown = Shown {
+    let shown = FrameView {
         store: &tree.store,
         glance,
     };
     let mut words = [0; 32];
-    words_without(&shown, hand, errand.key, &mut words);
+    words_without(&shown, hand, target.key, &mut words);
     let thin = thin_in(&words);
     let changed = tree.replace(hand, at, &words);
-    tree.conclude(hand, at);
+    tree.open_and_end(hand, at);
     if changed {
         DeleteReply::Deleted(Removed { value, thin })
     } else {
@@ -111,28 +111,28 @@ fn remove(
 #[inline(always)]
 fn delete_there(
     tree: &Tree,
-    hand: &mut Hand<Mine>,
+    hand: &mut Hand<PassState>,
     at: u32,
-    errand: Deleting,
+    target: Deleting,
     glance: Glance,
 ) -> DeleteReply
     requires runs { Runs tree.now hand.old (known hand.old.seat).state }
     requires empty { HasNoStock hand.old.seat }
     requires reads { ReadsFrom hand.old.seat glance }
-    requires there { IsThere 0 errand.key (deleting errand.key (delete.Coming (approach.Latched at))) (read_words hand.old.seat) (known hand.old.seat) }
+    requires there { IsThere 0 target.key (deleting target.key (delete.Coming (approach.Latched at))) (read_words hand.old.seat) (known hand.old.seat) }
     ensures same { IsSameHand hand.old.seat hand.new.seat }
     ensures rests { Rests hand.new.seat }
     ensures empty { HasNoStock hand.new.seat }
-    ensures deleted { (pass : ℕ) (old : Knows) → IsSince pass old (known hand.old.seat) → HasDeletedBy pass old (known hand.new.seat) (deleting errand.key delete.New) result }
+    ensures deleted { (pass : ℕ) (old : Knows) → IsSince pass old (known hand.old.seat) → HasDeletedBy pass old (known hand.new.seat) (deleting target.key delete.New) result }
     ensures no_room { result ≡ removal.NoRoom → WasRefused hand.new.seat 0 1 }
 {
-    let shown = Shown {
+    let shown = FrameView {
         store: &tree.store,
         glance,
     };
-    match row_in(&shown, hand, &mut 0, errand.key) {
-        Some(value) => remove(tree, hand, at, errand, value, glance),
-        None => keep_absent(tree, hand, at, errand),
+    match row_in(&shown, hand, &mut 0, target.key) {
+        Some(value) => remove(tree, hand, at, target, value, glance),
+        None => answer_absent(tree, hand, at, target),
     }
 }
 
@@ -141,7 +141,7 @@ fn delete_there(
 pub fn begin_deletion<R: Wait>(
     tree: &Tree,
     rt: &R,
-    hand: &mut Hand<Mine>,
+    hand: &mut Hand<PassState>,
     key: u64,
 ) -> (u32, Glance)
     requires own { IsHandOf tree.now.store hand.old }
@@ -153,16 +153,16 @@ pub fn begin_deletion<R: Wait>(
     ensures there { IsThere 0 key (deleting key (delete.Coming (approach.Latched result.0))) (read_words hand.new.seat) (known hand.new.seat) }
     ensures since { IsSince hand.old.number (known hand.old.seat) (known hand.new.seat) }
 {
-    let errand = Deleting { key };
-    depart(tree, hand, &errand);
-    come(tree, rt, hand, &errand)
+    let target = Deleting { key };
+    begin_descent(tree, hand, &target);
+    descend(tree, rt, hand, &target)
 }
 
 /// A deletion that holds its leaf goes on to its end.
 #[inline(always)]
 pub fn end_deletion(
     tree: &Tree,
-    hand: &mut Hand<Mine>,
+    hand: &mut Hand<PassState>,
     at: u32,
     key: u64,
     glance: Glance,
@@ -184,7 +184,7 @@ pub fn end_deletion(
 pub fn delete_key<R: Wait>(
     tree: &Tree,
     rt: &R,
-    hand: &mut Hand<Mine>,
+    hand: &mut Hand<PassState>,
     key: u64,
 ) -> (KeyReply, Option<Hint>)
     requires own { IsHandOf tree.now.store hand.old }

@@ -1,4 +1,4 @@
-//! The words of a full page that is parted, with a pair more, without pages being made of them.
+//! The words of a full page that is split, with a pair more, without pages being made of them.
 
 ghost use Rattle.std.specs.Prelude.{◌≡◌, ◌≤◌, length};
 ghost use Rattle.bl_page.specs.declared.page.Page.{Page};

@@ -6,26 +6,26 @@ ghost use Rattle.bl_page.specs.declared.page.Page.{Page};
 ghost use Rattle.bl_page.specs.Words.{words_of};
 ghost use Rattle.bl_proc_base.specs.declared.answers.Answer.TheVariants as answers;
 ghost use Rattle.bl_proc_base.specs.declared.approaching.Approach.TheVariants as approach;
-ghost use Rattle.bl_proc_base.specs.declared.changing.Change.TheVariants as change;
-ghost use Rattle.bl_proc_base.specs.declared.changing.Full.{Full};
+ghost use Rattle.bl_proc_base.specs.declared.editing.Edit.TheVariants as edit;
+ghost use Rattle.bl_proc_base.specs.declared.editing.Full.{Full};
 ghost use Rattle.bl_proc.specs.declared.inserting.InsertReply.TheVariants as inserted;
 ghost use Rattle.bl_proc.specs.declared.inserting.InsertStage.TheVariants as insert;
 ghost use Rattle.bl_proc.specs.Inserts.{insert_reply, inserted_answer};
 ghost use Rattle.bl_store.specs.Drafts.{IsSpread};
 ghost use Rattle.bl_store.specs.Hands.{known, read_words, IsIdle, IsRunning, IsSameHand, HasNoStock, ReadsFrom};
 ghost use Rattle.bl_store.specs.Owners.{IsHandOf};
-ghost use Rattle.bl_index_rule.specs.declared.known.Mine.{Mine as Knows};
+ghost use Rattle.bl_index_rule.specs.declared.known.PassState.{PassState as Knows};
 ghost use Rattle.bl_index_steps.specs.Runs.{Runs, Rests, IsOn, IsSince};
 ghost use Rattle.bl_index_write.specs.Events.{inserting, IsThere, HasInserted, HasInsertedBy};
 ghost use Rattle.bl_index_steps.specs.Rooms.{LacksPage};
 ghost use Rattle.bl_model.specs.Replies.{reply_of};
 
-use crate::coming::{come, depart};
-use crate::errands::Inserting;
-use crate::parting::part_full;
+use crate::descend::{descend, begin_descent};
+use crate::targets::Inserting;
+use crate::splitting::split_full;
 use crate::placing::listed_at;
-use bl_index_rule::Mine;
-use bl_index_steps::{Shown, Tree};
+use bl_index_rule::PassState;
+use bl_index_steps::{FrameView, Tree};
 use bl_model::KeyReply;
 use bl_page::{LEVEL_UNIT, place_in, word, words_from};
 use bl_proc::{Hint, InsertReply};
@@ -38,8 +38,8 @@ fn inserted_by(outcome: Outcome) -> InsertReply
     ensures { result ≡ insert_reply outcome }
 {
     match outcome {
-        Outcome::Changed => InsertReply::Inserted(None),
-        Outcome::Parted(separator) => InsertReply::Inserted(Some(separator)),
+        Outcome::Edited => InsertReply::Inserted(None),
+        Outcome::SplitAt(separator) => InsertReply::Inserted(Some(separator)),
         Outcome::Refused => InsertReply::NoRoom,
     }
 }
@@ -65,23 +65,23 @@ fn answer_of(reply: InsertReply) -> (KeyReply, Option<Hint>)
 }
 
 /// The leaf that it holds has the key, and stays as it is.
-fn keep_present(
+fn answer_present(
     tree: &Tree,
-    hand: &mut Hand<Mine>,
+    hand: &mut Hand<PassState>,
     at: u32,
-    errand: Inserting,
+    target: Inserting,
     there: u64,
 ) -> InsertReply
-    requires runs { Runs tree.now hand.old (inserting errand.key errand.value (insert.Present at there)) }
+    requires runs { Runs tree.now hand.old (inserting target.key target.value (insert.Present at there)) }
     requires empty { HasNoStock hand.old.seat }
     ensures same { IsSameHand hand.old.seat hand.new.seat }
     ensures rests { Rests hand.new.seat }
     ensures empty { HasNoStock hand.new.seat }
-    ensures inserted { (pass : ℕ) (old : Knows) → IsSince pass old (known hand.old.seat) → HasInsertedBy pass old (known hand.new.seat) (inserting errand.key errand.value insert.New) result }
+    ensures inserted { (pass : ℕ) (old : Knows) → IsSince pass old (known hand.old.seat) → HasInsertedBy pass old (known hand.new.seat) (inserting target.key target.value insert.New) result }
     ensures reply { result ≡ inserted.Present there }
 {
-    let _ = errand;
-    tree.conclude(hand, at);
+    let _ = target;
+    tree.open_and_end(hand, at);
     InsertReply::Present(there)
 }
 
@@ -89,9 +89,9 @@ fn keep_present(
 #[inline(always)]
 fn enter(
     tree: &Tree,
-    hand: &mut Hand<Mine>,
+    hand: &mut Hand<PassState>,
     at: u32,
-    errand: Inserting,
+    target: Inserting,
     glance: Glance,
     spread: Spread,
 ) -> InsertReply
@@ -99,16 +99,16 @@ fn enter(
     requires running { IsRunning hand.old.seat × HasNoStock hand.old.seat }
     requires reads { ReadsFrom hand.old.seat glance }
     requires place { spread.place < 14 }
-    requires page { (p : Page) × IsSpread spread (read_words hand.old.seat) (words_of p) × IsOn tree.now.store.layout (known hand.old.seat) (inserting errand.key errand.value (insert.Changing (change.Putting at p))) }
+    requires page { (p : Page) × IsSpread spread (read_words hand.old.seat) (words_of p) × IsOn tree.now.store.layout (known hand.old.seat) (inserting target.key target.value (insert.Editing (edit.Putting at p))) }
     ensures same { IsSameHand hand.old.seat hand.new.seat }
     ensures rests { Rests hand.new.seat }
     ensures empty { HasNoStock hand.new.seat }
-    ensures inserted { (pass : ℕ) (old : Knows) → IsSince pass old (known hand.old.seat) → HasInsertedBy pass old (known hand.new.seat) (inserting errand.key errand.value insert.New) result }
-    ensures no_room { result ≡ inserted.NoRoom → LacksPage 0 errand.key hand.new.seat }
+    ensures inserted { (pass : ℕ) (old : Knows) → IsSince pass old (known hand.old.seat) → HasInsertedBy pass old (known hand.new.seat) (inserting target.key target.value insert.New) result }
+    ensures no_room { result ≡ inserted.NoRoom → LacksPage 0 target.key hand.new.seat }
 {
-    let _ = errand;
+    let _ = target;
     let changed = tree.replace_spread(hand, at, glance, spread);
-    tree.conclude(hand, at);
+    tree.open_and_end(hand, at);
     if changed {
         InsertReply::Inserted(None)
     } else {
@@ -116,32 +116,32 @@ fn enter(
     }
 }
 
-/// The leaf that it holds is full, and is parted.
+/// The leaf that it holds is full, and is split.
 #[inline(never)]
-fn part_leaf(
+fn split_leaf(
     tree: &Tree,
-    hand: &mut Hand<Mine>,
+    hand: &mut Hand<PassState>,
     at: u32,
-    errand: Inserting,
+    target: Inserting,
     glance: Glance,
 ) -> InsertReply
     requires own { IsHandOf tree.now.store hand.old }
     requires running { IsRunning hand.old.seat × HasNoStock hand.old.seat }
     requires reads { ReadsFrom hand.old.seat glance }
-    requires full { (f : Full) × (f.at ≡ at) × (f.key ≡ errand.key) × (f.word ≡ errand.value) × (read_words hand.old.seat ≡ words_of f.page) × IsOn tree.now.store.layout (known hand.old.seat) (inserting errand.key errand.value (insert.Changing (change.Taking f))) }
+    requires full { (f : Full) × (f.at ≡ at) × (f.key ≡ target.key) × (f.word ≡ target.value) × (read_words hand.old.seat ≡ words_of f.page) × IsOn tree.now.store.layout (known hand.old.seat) (inserting target.key target.value (insert.Editing (edit.Taking f))) }
     ensures same { IsSameHand hand.old.seat hand.new.seat }
     ensures rests { Rests hand.new.seat }
     ensures empty { HasNoStock hand.new.seat }
-    ensures inserted { (pass : ℕ) (old : Knows) → IsSince pass old (known hand.old.seat) → HasInsertedBy pass old (known hand.new.seat) (inserting errand.key errand.value insert.New) result }
-    ensures no_room { result ≡ inserted.NoRoom → LacksPage 0 errand.key hand.new.seat }
+    ensures inserted { (pass : ℕ) (old : Knows) → IsSince pass old (known hand.old.seat) → HasInsertedBy pass old (known hand.new.seat) (inserting target.key target.value insert.New) result }
+    ensures no_room { result ≡ inserted.NoRoom → LacksPage 0 target.key hand.new.seat }
 {
-    let shown = Shown {
+    let shown = FrameView {
         store: &tree.store,
         glance,
     };
     let words = words_from(&shown, hand);
-    let outcome = part_full(tree, hand, &errand, at, &words, errand.key, errand.value);
-    tree.conclude(hand, at);
+    let outcome = split_full(tree, hand, &target, at, &words, target.key, target.value);
+    tree.open_and_end(hand, at);
     inserted_by(outcome)
 }
 
@@ -149,41 +149,41 @@ fn part_leaf(
 #[inline(always)]
 fn insert_there(
     tree: &Tree,
-    hand: &mut Hand<Mine>,
+    hand: &mut Hand<PassState>,
     at: u32,
-    errand: Inserting,
+    target: Inserting,
     glance: Glance,
 ) -> InsertReply
     requires runs { Runs tree.now hand.old (known hand.old.seat).state }
     requires empty { HasNoStock hand.old.seat }
     requires reads { ReadsFrom hand.old.seat glance }
-    requires there { IsThere 0 errand.key (inserting errand.key errand.value (insert.Coming (approach.Latched at))) (read_words hand.old.seat) (known hand.old.seat) }
+    requires there { IsThere 0 target.key (inserting target.key target.value (insert.Coming (approach.Latched at))) (read_words hand.old.seat) (known hand.old.seat) }
     ensures same { IsSameHand hand.old.seat hand.new.seat }
     ensures rests { Rests hand.new.seat }
     ensures empty { HasNoStock hand.new.seat }
-    ensures inserted { (pass : ℕ) (old : Knows) → IsSince pass old (known hand.old.seat) → HasInsertedBy pass old (known hand.new.seat) (inserting errand.key errand.value insert.New) result }
-    ensures no_room { result ≡ inserted.NoRoom → LacksPage 0 errand.key hand.new.seat }
+    ensures inserted { (pass : ℕ) (old : Knows) → IsSince pass old (known hand.old.seat) → HasInsertedBy pass old (known hand.new.seat) (inserting target.key target.value insert.New) result }
+    ensures no_room { result ≡ inserted.NoRoom → LacksPage 0 target.key hand.new.seat }
 {
-    let shown = Shown {
+    let shown = FrameView {
         store: &tree.store,
         glance,
     };
     let head = word(&shown, hand, 0);
     let count = (head % LEVEL_UNIT) as usize;
-    let place = place_in(&shown, hand, &mut 0, count, errand.key);
-    if let Some(there) = listed_at(&shown, hand, place, errand.key) {
-        return keep_present(tree, hand, at, errand, there);
+    let place = place_in(&shown, hand, &mut 0, count, target.key);
+    if let Some(there) = listed_at(&shown, hand, place, target.key) {
+        return answer_present(tree, hand, at, target, there);
     }
     if count < 14 {
         let spread = Spread {
             first: head + 1,
             place,
-            key: errand.key,
-            word: errand.value,
+            key: target.key,
+            word: target.value,
         };
-        enter(tree, hand, at, errand, glance, spread)
+        enter(tree, hand, at, target, glance, spread)
     } else {
-        part_leaf(tree, hand, at, errand, glance)
+        split_leaf(tree, hand, at, target, glance)
     }
 }
 
@@ -191,7 +191,7 @@ fn insert_there(
 pub fn insert_pair<R: Wait>(
     tree: &Tree,
     rt: &R,
-    hand: &mut Hand<Mine>,
+    hand: &mut Hand<PassState>,
     key: u64,
     value: u64,
 ) -> (KeyReply, Option<Hint>)
@@ -203,8 +203,8 @@ pub fn insert_pair<R: Wait>(
     ensures inserted { HasInserted hand.old.number (known hand.old.seat) (known hand.new.seat) (inserting key value insert.New) (reply_of result.0) result.1 }
     ensures no_room { result.0 ≡ replies.NoRoom → LacksPage 0 key hand.new.seat }
 {
-    let errand = Inserting { key, value };
-    depart(tree, hand, &errand);
-    let (at, glance) = come(tree, rt, hand, &errand);
-    answer_of(insert_there(tree, hand, at, errand, glance))
+    let target = Inserting { key, value };
+    begin_descent(tree, hand, &target);
+    let (at, glance) = descend(tree, rt, hand, &target);
+    answer_of(insert_there(tree, hand, at, target, glance))
 }

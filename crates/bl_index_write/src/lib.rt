@@ -5,13 +5,13 @@
 //! more level, which is rare, a post goes by a process value.
 #![tactic(auto)]
 
-mod changers;
-mod coming;
+mod editors;
+mod descend;
 mod deleting;
-mod errands;
+mod targets;
 mod halves;
 mod inserting;
-mod parting;
+mod splitting;
 mod placing;
 mod posting;
 

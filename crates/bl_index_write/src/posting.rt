@@ -7,7 +7,7 @@ ghost use Rattle.bl_claims.specs.Pages.{node_of, IsTreePage};
 ghost use Rattle.bl_proc_base.specs.declared.acts.Seen.TheVariants as seen;
 ghost use Rattle.bl_proc_base.specs.declared.answers.Answer.TheVariants as answers;
 ghost use Rattle.bl_proc_base.specs.declared.approaching.Approach.TheVariants as approach;
-ghost use Rattle.bl_proc_base.specs.declared.changing.Change.{Change};
+ghost use Rattle.bl_proc_base.specs.declared.editing.Edit.{Edit};
 ghost use Rattle.bl_proc_base.specs.declared.onwards.Step.TheVariants as onward;
 ghost use Rattle.bl_proc_base.specs.Onwards.{Leads};
 ghost use Rattle.bl_proc.specs.declared.kinds.Proc.{Proc};
@@ -18,19 +18,19 @@ ghost use Rattle.bl_proc.specs.Processes.{Takes};
 ghost use Rattle.bl_proc_unique.specs.Frames.{work_of};
 ghost use Rattle.bl_store.specs.Hands.{known, read_words, IsIdle, IsRunning, IsSameHand, HasNoStock, ReadsFrom};
 ghost use Rattle.bl_store.specs.Owners.{IsHandOf};
-ghost use Rattle.bl_index_rule.specs.declared.known.Mine.{Mine as Knows};
+ghost use Rattle.bl_index_rule.specs.declared.known.PassState.{PassState as Knows};
 ghost use Rattle.bl_index_steps.specs.Runs.{Runs, Keeps, Rests, IsOn, IsSince, IsSameProcess};
 ghost use Rattle.bl_index_write.specs.Events.{posting, IsThere, IsToEnter, IsWalking, HasWalked, HasPosted, IsPostOver, IsPostAnswer};
 ghost use Rattle.bl_index_steps.specs.Rooms.{LacksPost};
 ghost use Rattle.bl_proc_base.specs.declared.answers.Posted.TheVariants as postings;
 ghost use Rattle.bl_proc.specs.declared.posting.PostReply.TheVariants as replies;
 
-use crate::changers::Listing;
-use crate::coming::{come_from, depart};
-use crate::errands::Posting;
-use crate::parting::enter_page;
-use bl_index_rule::Mine;
-use bl_index_steps::{Shown, Tree};
+use crate::editors::Listing;
+use crate::descend::{come_from, begin_descent};
+use crate::targets::Posting;
+use crate::splitting::enter_page;
+use bl_index_rule::PassState;
+use bl_index_steps::{FrameView, Tree};
 use bl_page::{Words, word, words_from};
 use bl_proc::{Answer, Hint, Post, PostReply, PostStage, Posted, Process, Reader};
 use bl_proc_base::{Approach, Level, Outcome, Step, levels_in, row_in, step_in};
@@ -88,8 +88,8 @@ fn reply_by(outcome: Outcome) -> PostReply
     ensures { result ≡ post_reply outcome }
 {
     match outcome {
-        Outcome::Changed => PostReply::Done(None),
-        Outcome::Parted(separator) => PostReply::Done(Some(separator)),
+        Outcome::Edited => PostReply::Done(None),
+        Outcome::SplitAt(separator) => PostReply::Done(Some(separator)),
         Outcome::Refused => PostReply::NoRoom,
     }
 }
@@ -118,68 +118,68 @@ fn low_in<W: Words>(source: &W, hand: &mut W::Hand) -> u64
 /// The parent that it holds stays as it is.
 fn stay(
     tree: &Tree,
-    hand: &mut Hand<Mine>,
-    errand: Posting,
+    hand: &mut Hand<PassState>,
+    target: Posting,
     at: u32,
     reply: PostReply,
 ) -> (Posted, Option<Hint>)
     requires own { IsHandOf tree.now.store hand.old }
     requires running { IsRunning hand.old.seat × HasNoStock hand.old.seat }
     requires reply { reply ≢ replies.NoRoom }
-    requires process { (below : MayReply errand.level reply) × IsOn tree.now.store.layout (known hand.old.seat) (posting errand (post.Staying at reply) below) }
+    requires process { (below : MayReply target.level reply) × IsOn tree.now.store.layout (known hand.old.seat) (posting target (post.Staying at reply) below) }
     ensures same { IsSameHand hand.old.seat hand.new.seat }
-    ensures over { IsPostOver tree.now.store.layout errand (known hand.old.seat) hand.new.seat (Some result) }
+    ensures over { IsPostOver tree.now.store.layout target (known hand.old.seat) hand.new.seat (Some result) }
 {
-    tree.conclude(hand, at);
-    posted_by(errand.level, reply)
+    tree.open_and_end(hand, at);
+    posted_by(target.level, reply)
 }
 
 /// The parent that it holds, with these words, lists the child.
 fn list(
     tree: &Tree,
-    hand: &mut Hand<Mine>,
-    errand: Posting,
+    hand: &mut Hand<PassState>,
+    target: Posting,
     at: u32,
     parent: &[u64; 32],
     child: u32,
 ) -> (Posted, Option<Hint>)
     requires own { IsHandOf tree.now.store hand.old }
     requires running { IsRunning hand.old.seat × HasNoStock hand.old.seat }
-    requires page { (below : errand.level < 12) × (c : Change) × IsToEnter at errand.key child parent.now c × IsOn tree.now.store.layout (known hand.old.seat) (posting errand (post.Changing c) below) }
+    requires page { (below : target.level < 12) × (c : Edit) × IsToEnter at target.key child parent.now c × IsOn tree.now.store.layout (known hand.old.seat) (posting target (post.Editing c) below) }
     ensures same { IsSameHand hand.old.seat hand.new.seat }
-    ensures over { IsPostOver tree.now.store.layout errand (known hand.old.seat) hand.new.seat (Some result) }
+    ensures over { IsPostOver tree.now.store.layout target (known hand.old.seat) hand.new.seat (Some result) }
 {
-    let listing = Listing { posting: errand };
-    let outcome = enter_page(tree, hand, &listing, at, parent, errand.key, child as u64);
-    tree.conclude(hand, at);
-    posted_by(errand.level, reply_by(outcome))
+    let listing = Listing { posting: target };
+    let outcome = enter_page(tree, hand, &listing, at, parent, target.key, child as u64);
+    tree.open_and_end(hand, at);
+    posted_by(target.level, reply_by(outcome))
 }
 
 /// It gets the next page on its way from the parent, with these words, to the child that covers its key.
 fn walk_on(
     tree: &Tree,
-    hand: &mut Hand<Mine>,
-    errand: Posting,
+    hand: &mut Hand<PassState>,
+    target: Posting,
     at: u32,
     parent: &[u64; 32],
     child: u32,
 ) -> Walked
     requires runs { Runs tree.now hand.old (known hand.old.seat).state }
-    requires walking { IsWalking errand at parent.now child (known hand.old.seat).state }
+    requires walking { IsWalking target at parent.now child (known hand.old.seat).state }
     ensures same { Keeps hand.old.seat hand.new.seat }
-    ensures walked { HasWalked tree.now.store.layout errand at parent.now child (known hand.new.seat) result }
+    ensures walked { HasWalked tree.now.store.layout target at parent.now child (known hand.new.seat) result }
     ensures since { IsSameProcess (known hand.old.seat) (known hand.new.seat) }
 {
     let _ = at;
     let _ = parent;
     let glance = tree.look(hand, child);
-    let shown = Shown {
+    let shown = FrameView {
         store: &tree.store,
         glance,
     };
-    match step_in(&shown, hand, &mut 0, errand.key, errand.level - 1) {
+    match step_in(&shown, hand, &mut 0, target.key, target.level - 1) {
         Step::Here => {
-            if low_in(&shown, hand) == errand.key {
+            if low_in(&shown, hand) == target.key {
                 Walked::Found
             } else {
                 Walked::Stale
@@ -202,24 +202,24 @@ fn walk_on(
 fn walk<R: Wait>(
     tree: &Tree,
     rt: &R,
-    hand: &mut Hand<Mine>,
-    errand: Posting,
+    hand: &mut Hand<PassState>,
+    target: Posting,
     at: u32,
     parent: &[u64; 32],
     child: u32,
 ) -> Option<(Posted, Option<Hint>)>
     requires runs { Runs tree.now hand.old (known hand.old.seat).state }
     requires empty { HasNoStock hand.old.seat }
-    requires walking { IsWalking errand at parent.now child (known hand.old.seat).state }
+    requires walking { IsWalking target at parent.now child (known hand.old.seat).state }
     ensures same { IsSameHand hand.old.seat hand.new.seat }
-    ensures over { IsPostOver tree.now.store.layout errand (known hand.old.seat) hand.new.seat result }
+    ensures over { IsPostOver tree.now.store.layout target (known hand.old.seat) hand.new.seat result }
 {
     let mut child = child;
     for _ in rt.forever() {
-        match walk_on(tree, hand, errand, at, parent, child) {
+        match walk_on(tree, hand, target, at, parent, child) {
             Walked::On(next) => child = next,
-            Walked::Found => return Some(list(tree, hand, errand, at, parent, child)),
-            Walked::Stale => return Some(stay(tree, hand, errand, at, PostReply::Stale)),
+            Walked::Found => return Some(list(tree, hand, target, at, parent, child)),
+            Walked::Stale => return Some(stay(tree, hand, target, at, PostReply::Stale)),
             Walked::Lost => {
                 tree.reopen(hand, at);
                 return None;
@@ -233,28 +233,28 @@ fn walk<R: Wait>(
 fn post_there<R: Wait>(
     tree: &Tree,
     rt: &R,
-    hand: &mut Hand<Mine>,
-    errand: Posting,
+    hand: &mut Hand<PassState>,
+    target: Posting,
     at: u32,
     glance: Glance,
 ) -> Option<(Posted, Option<Hint>)>
     requires runs { Runs tree.now hand.old (known hand.old.seat).state }
     requires empty { HasNoStock hand.old.seat }
     requires reads { ReadsFrom hand.old.seat glance }
-    requires there { IsThere errand.level errand.key (posting errand (post.Coming (approach.Latched at)) tt) (read_words hand.old.seat) (known hand.old.seat) }
+    requires there { IsThere target.level target.key (posting target (post.Coming (approach.Latched at)) tt) (read_words hand.old.seat) (known hand.old.seat) }
     ensures same { IsSameHand hand.old.seat hand.new.seat }
-    ensures over { IsPostOver tree.now.store.layout errand (known hand.old.seat) hand.new.seat result }
+    ensures over { IsPostOver tree.now.store.layout target (known hand.old.seat) hand.new.seat result }
 {
-    let shown = Shown {
+    let shown = FrameView {
         store: &tree.store,
         glance,
     };
-    if let Some(_child) = row_in(&shown, hand, &mut 0, errand.key) {
-        return Some(stay(tree, hand, errand, at, PostReply::Already));
+    if let Some(_child) = row_in(&shown, hand, &mut 0, target.key) {
+        return Some(stay(tree, hand, target, at, PostReply::Already));
     }
     let parent = words_from(&shown, hand);
-    let child = first_child(&parent, errand.level, errand.key);
-    walk(tree, rt, hand, errand, at, &parent, child)
+    let child = first_child(&parent, target.level, target.key);
+    walk(tree, rt, hand, target, at, &parent, child)
 }
 
 /// The tree has no such level: it gets one more, or the post ends. This is rare, and goes by a process value.
@@ -262,25 +262,25 @@ fn post_there<R: Wait>(
 fn post_above<R: Wait>(
     tree: &Tree,
     rt: &R,
-    hand: &mut Hand<Mine>,
-    errand: Posting,
+    hand: &mut Hand<PassState>,
+    target: Posting,
     glance: Glance,
 ) -> (Posted, Option<Hint>)
     requires runs { Runs tree.now hand.old (known hand.old.seat).state }
     requires empty { HasNoStock hand.old.seat }
     requires reads { ReadsFrom hand.old.seat glance }
     requires since { (pass : ℕ) × (old : Knows) × IsSince pass old (known hand.old.seat) }
-    requires anchor { (c : Page) × (read_words hand.old.seat ≡ words_of c) × Takes (posting errand (post.Coming approach.Start) tt) (seen.Words c) (known hand.old.seat).state }
+    requires anchor { (c : Page) × (read_words hand.old.seat ≡ words_of c) × Takes (posting target (post.Coming approach.Start) tt) (seen.Words c) (known hand.old.seat).state }
     ensures same { IsSameHand hand.old.seat hand.new.seat }
-    ensures over { IsPostOver tree.now.store.layout errand (known hand.old.seat) hand.new.seat (Some result) }
+    ensures over { IsPostOver tree.now.store.layout target (known hand.old.seat) hand.new.seat (Some result) }
 {
-    let shown = Shown {
+    let shown = FrameView {
         store: &tree.store,
         glance,
     };
     let mut process = Post {
-        level: errand.level,
-        key: errand.key,
+        level: target.level,
+        key: target.key,
         stage: PostStage::Coming(Approach::Start),
     };
     process.took_words(&shown, hand);
@@ -292,26 +292,26 @@ fn post_above<R: Wait>(
 fn post_on<R: Wait>(
     tree: &Tree,
     rt: &R,
-    hand: &mut Hand<Mine>,
-    errand: Posting,
+    hand: &mut Hand<PassState>,
+    target: Posting,
 ) -> Option<(Posted, Option<Hint>)>
-    requires runs { Runs tree.now hand.old (posting errand (post.Coming approach.Start) tt) }
+    requires runs { Runs tree.now hand.old (posting target (post.Coming approach.Start) tt) }
     requires empty { HasNoStock hand.old.seat }
     requires since { (pass : ℕ) × (old : Knows) × IsSince pass old (known hand.old.seat) }
     ensures same { IsSameHand hand.old.seat hand.new.seat }
-    ensures over { IsPostOver tree.now.store.layout errand (known hand.old.seat) hand.new.seat result }
+    ensures over { IsPostOver tree.now.store.layout target (known hand.old.seat) hand.new.seat result }
 {
     let glance = tree.look(hand, 0);
-    let shown = Shown {
+    let shown = FrameView {
         store: &tree.store,
         glance,
     };
-    if levels_in(&shown, hand) <= errand.level {
-        return Some(post_above(tree, rt, hand, errand, glance));
+    if levels_in(&shown, hand) <= target.level {
+        return Some(post_above(tree, rt, hand, target, glance));
     }
-    let from = Approach::Start.took_words(errand.level, errand.key, &shown, hand);
-    match come_from(tree, rt, hand, &errand, from) {
-        Some((at, glance)) => post_there(tree, rt, hand, errand, at, glance),
+    let from = Approach::Start.took_words(target.level, target.key, &shown, hand);
+    match come_from(tree, rt, hand, &target, from) {
+        Some((at, glance)) => post_there(tree, rt, hand, target, at, glance),
         None => None,
     }
 }
@@ -320,17 +320,17 @@ fn post_on<R: Wait>(
 fn post_until<R: Wait>(
     tree: &Tree,
     rt: &R,
-    hand: &mut Hand<Mine>,
-    errand: Posting,
+    hand: &mut Hand<PassState>,
+    target: Posting,
 ) -> (Posted, Option<Hint>)
-    requires runs { Runs tree.now hand.old (posting errand (post.Coming approach.Start) tt) }
+    requires runs { Runs tree.now hand.old (posting target (post.Coming approach.Start) tt) }
     requires empty { HasNoStock hand.old.seat }
     requires since { (pass : ℕ) × (old : Knows) × IsSince pass old (known hand.old.seat) }
     ensures same { IsSameHand hand.old.seat hand.new.seat }
-    ensures over { IsPostOver tree.now.store.layout errand (known hand.old.seat) hand.new.seat (Some result) }
+    ensures over { IsPostOver tree.now.store.layout target (known hand.old.seat) hand.new.seat (Some result) }
 {
     for _ in rt.forever() {
-        match post_on(tree, rt, hand, errand) {
+        match post_on(tree, rt, hand, target) {
             Some(answer) => return answer,
             None => {}
         }
@@ -342,7 +342,7 @@ fn post_until<R: Wait>(
 pub fn post_key<R: Wait>(
     tree: &Tree,
     rt: &R,
-    hand: &mut Hand<Mine>,
+    hand: &mut Hand<PassState>,
     level: u32,
     key: u64,
 ) -> (Posted, Option<Hint>)
@@ -356,7 +356,7 @@ pub fn post_key<R: Wait>(
     ensures posted { (first : Proc) × (work_of first ≡ Some (level, key)) × HasPosted hand.old.number (known hand.old.seat) (known hand.new.seat) first result.0 result.1 }
     ensures no_room { result.0 ≡ postings.NoRoom → LacksPost level key hand.new.seat }
 {
-    let errand = Posting { level, key };
-    depart(tree, hand, &errand);
-    post_until(tree, rt, hand, errand)
+    let target = Posting { level, key };
+    begin_descent(tree, hand, &target);
+    post_until(tree, rt, hand, target)
 }

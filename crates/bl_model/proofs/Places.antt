@@ -22,12 +22,12 @@ module _ (rows : List (ℕ × ℕ)) (rising : HasRisingKeys rows) (k : ℕ) wher
   pub searched : (r : Result ℕ ℕ) → IsSearchInRange r (length rows) → IsBinarySearchResult (λ row. nat_cmp row.0 k) rows r
       → record { found : IfOk r (IsAt rows k); absent : IfErr r (IsGapFor rows k) }
   searched (Ok at) in_range equal = record { found = record { in_range = in_range; has_key = ranked _ k _ (sym (equal (0, 0))) }; absent = tt }
-  searched (Err at) in_range parted = record {
+  searched (Err at) in_range split = record {
     found = tt;
     absent = record {
       in_range = in_range;
-      smaller_before = λ j lt. ranked _ k _ (sym ((parted comparisons_rise).0 j (0, 0) (omega arith) lt));
-      greater_after = λ j le lt. ranked _ k _ (sym ((parted comparisons_rise).1 j (0, 0) le lt));
+      smaller_before = λ j lt. ranked _ k _ (sym ((split comparisons_rise).0 j (0, 0) (omega arith) lt));
+      greater_after = λ j le lt. ranked _ k _ (sym ((split comparisons_rise).1 j (0, 0) le lt));
     };
   }
 

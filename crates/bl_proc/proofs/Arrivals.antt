@@ -16,7 +16,7 @@ pub insert_arrives : (key value : ℕ) (a : Approach) (what : Seen) (x : ℕ) (c
 insert_arrives key value a what x c insert.New way at = absurd at
 insert_arrives key value a what x c (insert.Coming b) way at = absurd at
 insert_arrives key value a what x c (insert.Present y there) way at = (x, c, way, at)
-insert_arrives key value a what x c (insert.Changing change) way at = (x, c, way, at)
+insert_arrives key value a what x c (insert.Editing edit) way at = (x, c, way, at)
 insert_arrives key value a what x c (insert.Ending r) way at = absurd at
 insert_arrives key value a what x c (insert.Over r) way at = absurd at
 
@@ -24,6 +24,6 @@ pub delete_arrives : (key : ℕ) (a : Approach) (what : Seen) (x : ℕ) (c : Pag
 delete_arrives key a what x c delete.New way at = absurd at
 delete_arrives key a what x c (delete.Coming b) way at = absurd at
 delete_arrives key a what x c (delete.Absent y) way at = (x, c, way, at)
-delete_arrives key a what x c (delete.Changing value change) way at = (x, c, way, at)
+delete_arrives key a what x c (delete.Editing value edit) way at = (x, c, way, at)
 delete_arrives key a what x c (delete.Ending r) way at = absurd at
 delete_arrives key a what x c (delete.Over r) way at = absurd at

@@ -1,4 +1,4 @@
--- A post that changes its parent, or has parted it, is to a level below the last one: its parent is an inner page.
+-- A post that changes its parent, or has split it, is to a level below the last one: its parent is an inner page.
 use Rattle.std.proofs.Common.{ℕ, ◌≡◌, ◌<◌, sym, subst, arith}
 use Rattle.bl_page.specs.declared.page.Page.{Page}
 use Rattle.bl_page.specs.declared.page.Page.TheVariants.{Inner as InnerPage}
@@ -8,14 +8,14 @@ use Rattle.bl_proc_base.specs.declared.acts.Seen.TheVariants as seen
 use Rattle.bl_proc_base.specs.declared.approaching.Approach.{Approach}
 use Rattle.bl_proc_base.specs.declared.approaching.Came.{Came}
 use Rattle.bl_proc_base.specs.declared.approaching.Came.TheVariants as come
-use Rattle.bl_proc_base.specs.declared.changing.Outcome.{Outcome}
-use Rattle.bl_proc_base.specs.declared.changing.Outcome.TheVariants as outcome
+use Rattle.bl_proc_base.specs.declared.editing.Outcome.{Outcome}
+use Rattle.bl_proc_base.specs.declared.editing.Outcome.TheVariants as outcome
 use Rattle.bl_proc_base.specs.declared.growing.Growth.TheVariants as growth
 use Rattle.bl_proc_base.specs.Approaches.{Comes}
 use Rattle.bl_proc_base.proofs.Ways.{here_leads}
 use Rattle.bl_proc.specs.declared.walking.Walk.{Walk}
 use Rattle.bl_proc.specs.declared.posting.PostStage.{PostStage}
-use Rattle.bl_proc.specs.declared.posting.PostStage.TheVariants.{New, Coming, Growing, Walking, Changing, Staying, Ending, Over}
+use Rattle.bl_proc.specs.declared.posting.PostStage.TheVariants.{New, Coming, Growing, Walking, Editing, Staying, Ending, Over}
 use Rattle.bl_proc.specs.declared.posting.PostReply.TheVariants as reply
 use Rattle.bl_proc.specs.Levels.{MayReply, IsBelowTop}
 use Rattle.bl_proc.specs.Posts.{post_reply, PostLacks, PostArrives, PostWalks, PostComes, PostGoes}
@@ -41,7 +41,7 @@ walks_below level w c New h t = tt
 walks_below level w c (Coming b) h t = tt
 walks_below level w c (Growing g) h t = tt
 walks_below level w c (Walking v) h t = h
-walks_below level w c (Changing d) h t = h
+walks_below level w c (Editing d) h t = h
 walks_below level w c (Staying y reply.Already) h t = tt
 walks_below level w c (Staying y reply.Stale) h t = tt
 walks_below level w c (Staying y reply.NoRoom) h t = tt
@@ -49,8 +49,8 @@ walks_below level w c (Staying y reply.TooTall) h t = tt
 walks_below level w c old h t = absurd t
 
 reply_below : (level : ℕ) (o : Outcome) → level < 12 → MayReply level (post_reply o)
-reply_below level outcome.Changed h = tt
-reply_below level (outcome.Parted s) h = h
+reply_below level outcome.Edited h = tt
+reply_below level (outcome.SplitAt s) h = h
 reply_below level outcome.Refused h = tt
 
 pub goes_below : (level key : ℕ) (old : PostStage) (what : Seen) (new : PostStage) → IsBelowTop level old → PostGoes level key old what new → IsBelowTop level new
@@ -63,11 +63,11 @@ goes_below level key (Growing k) what (Coming b) h t = tt
 goes_below level key (Growing k) what (Growing g) h t = tt
 goes_below level key (Growing k) what (Ending r) h t = subst (MayReply level) (sym t.1) tt
 goes_below level key (Walking w) (seen.Words c) new h t = walks_below level w c new h t
-goes_below level key (Changing e) what New h t = tt
-goes_below level key (Changing e) what (Coming b) h t = tt
-goes_below level key (Changing e) what (Growing g) h t = tt
-goes_below level key (Changing e) what (Changing d) h t = h
-goes_below level key (Changing e) what (Ending r) h t = subst (MayReply level) (sym t.2) (reply_below level t.0 h)
+goes_below level key (Editing e) what New h t = tt
+goes_below level key (Editing e) what (Coming b) h t = tt
+goes_below level key (Editing e) what (Growing g) h t = tt
+goes_below level key (Editing e) what (Editing d) h t = h
+goes_below level key (Editing e) what (Ending r) h t = subst (MayReply level) (sym t.2) (reply_below level t.0 h)
 goes_below level key (Staying x q) seen.Done New h t = tt
 goes_below level key (Staying x q) seen.Done (Coming b) h t = tt
 goes_below level key (Staying x q) seen.Done (Growing g) h t = tt

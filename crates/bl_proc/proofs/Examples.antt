@@ -15,9 +15,9 @@ use Rattle.bl_proc.specs.declared.searching.FindStage.TheVariants as find
 use Rattle.bl_proc_base.specs.declared.approaching.Approach.TheVariants as approach
 use Rattle.bl_proc_base.specs.declared.approaching.Approached.TheVariants as came
 use Rattle.bl_proc_base.specs.declared.approaching.Came.TheVariants as come
-use Rattle.bl_proc_base.specs.declared.changing.Outcome.TheVariants as outcome
-use Rattle.bl_proc_base.specs.declared.changing.Change.TheVariants as change
-use Rattle.bl_proc_base.specs.declared.changing.Changed.TheVariants as changed
+use Rattle.bl_proc_base.specs.declared.editing.Outcome.TheVariants as outcome
+use Rattle.bl_proc_base.specs.declared.editing.Edit.TheVariants as edit
+use Rattle.bl_proc_base.specs.declared.editing.Edited.TheVariants as changed
 use Rattle.bl_proc.specs.declared.inserting.InsertStage.TheVariants as insert
 use Rattle.bl_proc.specs.declared.inserting.InsertReply.TheVariants as inserted
 use Rattle.bl_proc.specs.declared.deleting.DeleteStage.TheVariants as delete
@@ -29,7 +29,7 @@ use Rattle.bl_proc_base.specs.Given.{Gives}
 use Rattle.bl_proc_base.specs.Onwards.{Leads}
 use Rattle.bl_proc.specs.Searches.{FindGoes, found_answer}
 use Rattle.bl_proc_base.specs.Approaches.{Approaches}
-use Rattle.bl_proc_base.specs.Changes.{Changes, change_needs}
+use Rattle.bl_proc_base.specs.Edits.{Changes, edit_needs}
 use Rattle.bl_proc.specs.Inserts.{InsertGoes, inserted_answer}
 use Rattle.bl_proc.specs.Deletes.{DeleteGoes}
 use Rattle.bl_proc_base.specs.Growths.{Grows, Raises}
@@ -109,10 +109,10 @@ way_ends : Approaches 0 12 (approach.Latched 2) (seen.Words right_leaf) (came.He
 way_ends = (refl, refl, leaf_is_here)
 
 -- a page that has room is put by one frame; where that is refused, it is opened
-put_needs_a_frame : change_needs (change.Putting 1 left_leaf) ≡ Some (0, 1)
+put_needs_a_frame : edit_needs (edit.Putting 1 left_leaf) ≡ Some (0, 1)
 put_needs_a_frame = refl
 
-put_refused : Changes (change.Putting 1 left_leaf) seen.Refused (changed.On (change.Opening 1 outcome.Refused))
+put_refused : Changes (edit.Putting 1 left_leaf) seen.Refused (changed.On (edit.Opening 1 outcome.Refused))
 put_refused = refl
 
 -- an insertion of 12, which is there

@@ -1,9 +1,9 @@
--- The level of a post by its state: a parent that is parted is itself to be posted one level higher, so it is no page of the
+-- The level of a post by its state: a parent that is split is itself to be posted one level higher, so it is no page of the
 -- last level that a tree may have.
 use Rattle.std.specs.Prelude.{ℕ, ◌<◌, None, Some}
 use Rattle.std.proofs.Props.{props}
 use Rattle.bl_proc.specs.declared.posting.PostStage.{PostStage}
-use Rattle.bl_proc.specs.declared.posting.PostStage.TheVariants.{New, Coming, Growing, Walking, Changing, Staying, Ending, Over}
+use Rattle.bl_proc.specs.declared.posting.PostStage.TheVariants.{New, Coming, Growing, Walking, Editing, Staying, Ending, Over}
 use Rattle.bl_proc.specs.declared.posting.PostReply.{PostReply}
 use Rattle.bl_proc.specs.declared.posting.PostReply.TheVariants as reply
 
@@ -17,7 +17,7 @@ IsBelowTop level New = Unit {0}
 IsBelowTop level (Coming a) = Unit {0}
 IsBelowTop level (Growing g) = Unit {0}
 IsBelowTop level (Walking w) = level < 12
-IsBelowTop level (Changing c) = level < 12
+IsBelowTop level (Editing c) = level < 12
 IsBelowTop level (Staying x r) = MayReply level r
 IsBelowTop level (Ending r) = MayReply level r
 IsBelowTop level (Over r) = MayReply level r
@@ -36,7 +36,7 @@ IsBelowTop-prop level New = hlevel props
 IsBelowTop-prop level (Coming a) = hlevel props
 IsBelowTop-prop level (Growing g) = hlevel props
 IsBelowTop-prop level (Walking w) = hlevel props
-IsBelowTop-prop level (Changing c) = hlevel props
+IsBelowTop-prop level (Editing c) = hlevel props
 IsBelowTop-prop level (Staying x r) = MayReply-prop level r
 IsBelowTop-prop level (Ending r) = MayReply-prop level r
 IsBelowTop-prop level (Over r) = MayReply-prop level r

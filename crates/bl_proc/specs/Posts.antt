@@ -17,30 +17,30 @@ use Rattle.bl_proc_base.specs.declared.onwards.Step.TheVariants.{Again, Right, D
 use Rattle.bl_proc_base.specs.declared.approaching.Approach.TheVariants.{Start, Leaving}
 use Rattle.bl_proc_base.specs.declared.approaching.Came.{Came}
 use Rattle.bl_proc_base.specs.declared.approaching.Came.TheVariants as come
-use Rattle.bl_proc_base.specs.declared.changing.Outcome.{Outcome}
-use Rattle.bl_proc_base.specs.declared.changing.Outcome.TheVariants as outcome
-use Rattle.bl_proc_base.specs.declared.changing.Changed.TheVariants as change
+use Rattle.bl_proc_base.specs.declared.editing.Outcome.{Outcome}
+use Rattle.bl_proc_base.specs.declared.editing.Outcome.TheVariants as outcome
+use Rattle.bl_proc_base.specs.declared.editing.Edited.TheVariants as edit
 use Rattle.bl_proc_base.specs.declared.growing.Growth.TheVariants as growth
 use Rattle.bl_proc_base.specs.declared.growing.Grew.TheVariants as grew
 use Rattle.bl_proc.specs.declared.walking.Walk.{Walk}
 use Rattle.bl_proc.specs.declared.posting.Post.{Post}
 use Rattle.bl_proc.specs.declared.posting.PostStage.{PostStage}
-use Rattle.bl_proc.specs.declared.posting.PostStage.TheVariants.{New, Coming, Growing, Walking, Changing, Staying, Ending, Over}
+use Rattle.bl_proc.specs.declared.posting.PostStage.TheVariants.{New, Coming, Growing, Walking, Editing, Staying, Ending, Over}
 use Rattle.bl_proc.specs.declared.posting.PostReply.{PostReply}
 use Rattle.bl_proc.specs.declared.posting.PostReply.TheVariants as reply
 use Rattle.bl_proc_base.specs.Onwards.{Leads}
 use Rattle.bl_proc_base.specs.Approaches.{approach_next, Comes}
-use Rattle.bl_proc_base.specs.Changes.{change_next, change_needs, EntersPair, Changes}
+use Rattle.bl_proc_base.specs.Edits.{edit_next, edit_needs, EntersPair, Changes}
 use Rattle.bl_proc_base.specs.Growths.{growth_next, growth_needs, Grows}
 use Rattle.bl_proc.specs.Inserts.{post_hint}
 
 -- what a post answers when its parent is open again
 abbrev pub post_reply : Outcome → PostReply
-post_reply outcome.Changed = reply.Done None
-post_reply (outcome.Parted separator) = reply.Done (Some separator)
+post_reply outcome.Edited = reply.Done None
+post_reply (outcome.SplitAt separator) = reply.Done (Some separator)
 post_reply outcome.Refused = reply.NoRoom
 
--- A parent of that level that was parted is itself to be posted, one level higher.
+-- A parent of that level that was split is itself to be posted, one level higher.
 abbrev pub posted_answer : ℕ → PostReply → Answer
 posted_answer level (reply.Done separator) = answer.Post posted.Done (post_hint (level + 1) separator)
 posted_answer level reply.Already = answer.Post posted.Already None
@@ -53,7 +53,7 @@ post_next_in New = act.Begin
 post_next_in (Coming a) = approach_next a
 post_next_in (Growing g) = growth_next g
 post_next_in (Walking w) = act.Get w.child
-post_next_in (Changing c) = change_next c
+post_next_in (Editing c) = edit_next c
 post_next_in (Staying x r) = act.Open x
 post_next_in (Ending r) = act.End
 post_next_in (Over r) = act.End
@@ -63,7 +63,7 @@ post_needs_in New = None
 post_needs_in (Coming a) = None
 post_needs_in (Growing g) = growth_needs g
 post_needs_in (Walking w) = None
-post_needs_in (Changing c) = change_needs c
+post_needs_in (Editing c) = edit_needs c
 post_needs_in (Staying x r) = None
 post_needs_in (Ending r) = None
 post_needs_in (Over r) = None
@@ -73,7 +73,7 @@ post_answer_in level New = None
 post_answer_in level (Coming a) = None
 post_answer_in level (Growing g) = None
 post_answer_in level (Walking w) = None
-post_answer_in level (Changing c) = None
+post_answer_in level (Editing c) = None
 post_answer_in level (Staying x r) = None
 post_answer_in level (Ending r) = None
 post_answer_in level (Over r) = Some (posted_answer level r)
@@ -104,7 +104,7 @@ IsLost Here = ⊥
 -- parent and begins again.
 abbrev pub PostWalks : ℕ → Walk → Page → PostStage → Type 0
 PostWalks level w c (Walking v) = (v.at ≡ w.at) × (v.key ≡ w.key) × (v.parent ≡ w.parent) × Leads c w.key (level - 1) (Right v.child)
-PostWalks level w c (Changing change) = Leads c w.key (level - 1) Here × ((node_of c).shape.low ≡ w.key) × EntersPair w.at (InnerPage w.parent) w.key w.child change
+PostWalks level w c (Editing edit) = Leads c w.key (level - 1) Here × ((node_of c).shape.low ≡ w.key) × EntersPair w.at (InnerPage w.parent) w.key w.child edit
 PostWalks level w c (Staying x reply.Stale) = (x ≡ w.at) × Leads c w.key (level - 1) Here × ((node_of c).shape.low ≢ w.key)
 PostWalks level w c (Coming a) = (a ≡ Leaving w.at None) × ((o : Step) × Leads c w.key (level - 1) o × IsLost o)
 PostWalks level w c stage = ⊥
@@ -123,8 +123,8 @@ PostGoes level key (Growing g) what (Growing h) = Grows level g what (grew.On h)
 PostGoes level key (Growing g) what (Coming a) = Grows level g what grew.Grown × (a ≡ Start)
 PostGoes level key (Growing g) what (Ending r) = Grows level g what grew.Refused × (r ≡ reply.NoRoom)
 PostGoes level key (Walking w) (seen.Words c) new = PostWalks level w c new
-PostGoes level key (Changing c) what (Changing d) = Changes c what (change.On d)
-PostGoes level key (Changing c) what (Ending r) = (o : Outcome) × Changes c what (change.Over o) × (r ≡ post_reply o)
+PostGoes level key (Editing c) what (Editing d) = Changes c what (edit.On d)
+PostGoes level key (Editing c) what (Ending r) = (o : Outcome) × Changes c what (edit.Over o) × (r ≡ post_reply o)
 PostGoes level key (Staying x r) seen.Done (Ending last) = last ≡ r
 PostGoes level key (Ending r) seen.Done (Over last) = last ≡ r
 PostGoes level key old what new = ⊥

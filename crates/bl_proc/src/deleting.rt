@@ -2,7 +2,7 @@
 
 ghost use Rattle.std.specs.Prelude.{◌≡◌, None, Some};
 ghost use Rattle.bl_claims.specs.Pages.{node_of};
-ghost use Rattle.bl_proc_base.specs.declared.changing.Change.{Change};
+ghost use Rattle.bl_proc_base.specs.declared.editing.Edit.{Edit};
 ghost use Rattle.bl_proc.specs.declared.deleting.Removed.{Removed};
 ghost use Rattle.bl_proc.specs.declared.deleting.DeleteStage.TheVariants as delete_stage;
 ghost use Rattle.bl_proc_base.specs.declared.onwards.Step.TheVariants as onward;
@@ -13,7 +13,7 @@ ghost use Rattle.bl_proc.specs.Deletes.{delete_reply, thin_after, deleted_answer
 use bl_model::Reply;
 use bl_page::{Page, Words};
 use bl_proc_base::{
-    Action, Answer, Approach, Approached, Change, Changed, Level, Outcome, Process, Reader, Seen,
+    Action, Answer, Approach, Approached, Edit, Edited, Level, Outcome, Process, Reader, Seen,
     dropping, hint_of_thin, listed, thin_low, took_page,
 };
 use std::mem;
@@ -35,7 +35,7 @@ pub enum DeleteStage {
     /// It holds that leaf, which does not have the key, and is to open it.
     Absent(u32),
     /// It changes the leaf, and takes this out of it.
-    Changing(Removed, Change),
+    Editing(Removed, Edit),
     /// It is to end.
     Ending(DeleteReply),
     /// It has ended.
@@ -67,17 +67,17 @@ fn reply_of(removed: Removed, outcome: Outcome) -> DeleteReply
     ensures { result ≡ delete_reply removed outcome }
 {
     match outcome {
-        Outcome::Changed | Outcome::Parted(_) => DeleteReply::Deleted(removed),
+        Outcome::Edited | Outcome::SplitAt(_) => DeleteReply::Deleted(removed),
         Outcome::Refused => DeleteReply::NoRoom,
     }
 }
 
 /// The low of the page that is to be put, if it is thin.
-fn thin_after(change: &Change) -> Option<u64>
-    ensures { result ≡ thin_after change.now }
+fn thin_after(edit: &Edit) -> Option<u64>
+    ensures { result ≡ thin_after edit.now }
 {
-    match change {
-        Change::Putting(_, page) => thin_low(page),
+    match edit {
+        Edit::Putting(_, page) => thin_low(page),
         _ => None,
     }
 }
@@ -89,9 +89,9 @@ fn arrived(key: u64, at: u32, page: Page) -> DeleteStage
 {
     match listed(&page, key) {
         Some(value) => {
-            let change = dropping(at, page, key);
-            let thin = thin_after(&change);
-            DeleteStage::Changing(Removed { value, thin }, change)
+            let edit = dropping(at, page, key);
+            let thin = thin_after(&edit);
+            DeleteStage::Editing(Removed { value, thin }, edit)
         }
         None => DeleteStage::Absent(at),
     }
@@ -112,14 +112,14 @@ impl Delete {
 
     /// On with the change of the leaf.
     fn changed(&mut self, seen: Seen)
-        requires stage { (removed : Removed) × (c : Change) × (self.old.stage ≡ delete_stage.Changing removed c) }
+        requires stage { (removed : Removed) × (c : Edit) × (self.old.stage ≡ delete_stage.Editing removed c) }
         requires given { Gives (delete_next_in self.old.stage) (delete_needs_in self.old.stage) seen }
         ensures { DeleteTakes self.old seen self.new }
     {
         match mem::replace(&mut self.stage, DeleteStage::New) {
-            DeleteStage::Changing(removed, change) => match change.took(seen) {
-                Changed::On(change) => self.stage = DeleteStage::Changing(removed, change),
-                Changed::Over(outcome) => {
+            DeleteStage::Editing(removed, edit) => match edit.took(seen) {
+                Edited::On(edit) => self.stage = DeleteStage::Editing(removed, edit),
+                Edited::Over(outcome) => {
                     self.stage = DeleteStage::Ending(reply_of(removed, outcome));
                 }
             },
@@ -177,14 +177,14 @@ impl Process for Delete {
             DeleteStage::New => Action::Begin,
             DeleteStage::Coming(approach) => approach.next(),
             DeleteStage::Absent(at) => Action::Open(*at),
-            DeleteStage::Changing(_, change) => change.next(),
+            DeleteStage::Editing(_, edit) => edit.next(),
             DeleteStage::Ending(_) | DeleteStage::Over(_) => Action::End,
         }
     }
 
     fn needs(&self) -> Option<(u32, u32)> {
         match &self.stage {
-            DeleteStage::Changing(_, change) => change.needs(),
+            DeleteStage::Editing(_, edit) => edit.needs(),
             _ => None,
         }
     }
@@ -202,7 +202,7 @@ impl Process for Delete {
                 let approach = *approach;
                 self.came(approach, seen);
             }
-            DeleteStage::Changing(_, _) => self.changed(seen),
+            DeleteStage::Editing(_, _) => self.changed(seen),
             DeleteStage::New => self.stage = DeleteStage::Coming(Approach::Start),
             DeleteStage::Absent(_) => self.stage = DeleteStage::Ending(DeleteReply::Absent),
             DeleteStage::Ending(reply) => self.stage = DeleteStage::Over(*reply),

@@ -4,11 +4,11 @@ ghost use Rattle.std.specs.Prelude.{◌≡◌, None, Some};
 ghost use Rattle.bl_claims.specs.Pages.{node_of};
 ghost use Rattle.bl_proc_base.specs.declared.approaching.Approach.{Approach};
 ghost use Rattle.bl_proc_base.specs.declared.approaching.Approached.TheVariants as approached;
-ghost use Rattle.bl_proc_base.specs.declared.changing.Change.{Change};
+ghost use Rattle.bl_proc_base.specs.declared.editing.Edit.{Edit};
 ghost use Rattle.bl_proc.specs.declared.inserting.InsertStage.TheVariants as insert_stage;
 ghost use Rattle.bl_proc_base.specs.Given.{Gives};
 ghost use Rattle.bl_proc_base.specs.Approaches.{Approaches};
-ghost use Rattle.bl_proc_base.specs.Changes.{Changes};
+ghost use Rattle.bl_proc_base.specs.Edits.{Changes};
 ghost use Rattle.bl_proc.specs.Inserts.{post_hint, insert_reply, inserted_answer, insert_next_in, insert_needs_in, insert_answer_in, InsertArrives, InsertGoes, insert_next, insert_needs, insert_answer, InsertTakes};
 ghost use Rattle.bl_proc_base.specs.Onwards.{Leads};
 ghost use Rattle.bl_proc_base.specs.declared.onwards.Step.TheVariants as onward;
@@ -16,7 +16,7 @@ ghost use Rattle.bl_proc_base.specs.declared.onwards.Step.TheVariants as onward;
 use bl_model::Reply;
 use bl_page::{Page, Words};
 use bl_proc_base::{
-    Action, Answer, Approach, Approached, Change, Changed, Hint, Level, Outcome, Process, Reader,
+    Action, Answer, Approach, Approached, Edit, Edited, Hint, Level, Outcome, Process, Reader,
     Seen, entering, listed, took_page,
 };
 use std::mem;
@@ -39,7 +39,7 @@ pub enum InsertStage {
     /// It holds that leaf, which has the key with that value, and is to open it.
     Present(u32, u64),
     /// It changes the leaf.
-    Changing(Change),
+    Editing(Edit),
     /// It is to end.
     Ending(InsertReply),
     /// It has ended.
@@ -49,7 +49,7 @@ pub enum InsertStage {
 /// What became of an insertion.
 #[derive(Clone, Copy)]
 pub enum InsertReply {
-    /// The pair is there now. Where the leaf was parted, the separator is to be posted.
+    /// The pair is there now. Where the leaf was split, the separator is to be posted.
     Inserted(Option<u64>),
     /// The key was there with this value, and still is.
     Present(u64),
@@ -72,8 +72,8 @@ fn reply_of(outcome: Outcome) -> InsertReply
     ensures { result ≡ insert_reply outcome }
 {
     match outcome {
-        Outcome::Changed => InsertReply::Inserted(None),
-        Outcome::Parted(separator) => InsertReply::Inserted(Some(separator)),
+        Outcome::Edited => InsertReply::Inserted(None),
+        Outcome::SplitAt(separator) => InsertReply::Inserted(Some(separator)),
         Outcome::Refused => InsertReply::NoRoom,
     }
 }
@@ -85,7 +85,7 @@ fn arrived(key: u64, value: u64, at: u32, page: Page) -> InsertStage
 {
     match listed(&page, key) {
         Some(there) => InsertStage::Present(at, there),
-        None => InsertStage::Changing(entering(at, page, key, value)),
+        None => InsertStage::Editing(entering(at, page, key, value)),
     }
 }
 
@@ -104,14 +104,14 @@ impl Insert {
 
     /// On with the change of the leaf.
     fn changed(&mut self, seen: Seen)
-        requires stage { (c : Change) × (self.old.stage ≡ insert_stage.Changing c) }
+        requires stage { (c : Edit) × (self.old.stage ≡ insert_stage.Editing c) }
         requires given { Gives (insert_next_in self.old.stage) (insert_needs_in self.old.stage) seen }
         ensures { InsertTakes self.old seen self.new }
     {
         match mem::replace(&mut self.stage, InsertStage::New) {
-            InsertStage::Changing(change) => match change.took(seen) {
-                Changed::On(change) => self.stage = InsertStage::Changing(change),
-                Changed::Over(outcome) => self.stage = InsertStage::Ending(reply_of(outcome)),
+            InsertStage::Editing(edit) => match edit.took(seen) {
+                Edited::On(edit) => self.stage = InsertStage::Editing(edit),
+                Edited::Over(outcome) => self.stage = InsertStage::Ending(reply_of(outcome)),
             },
             _ => unreachable!(),
         }
@@ -162,14 +162,14 @@ impl Process for Insert {
             InsertStage::New => Action::Begin,
             InsertStage::Coming(approach) => approach.next(),
             InsertStage::Present(at, _) => Action::Open(*at),
-            InsertStage::Changing(change) => change.next(),
+            InsertStage::Editing(edit) => edit.next(),
             InsertStage::Ending(_) | InsertStage::Over(_) => Action::End,
         }
     }
 
     fn needs(&self) -> Option<(u32, u32)> {
         match &self.stage {
-            InsertStage::Changing(change) => change.needs(),
+            InsertStage::Editing(edit) => edit.needs(),
             _ => None,
         }
     }
@@ -187,7 +187,7 @@ impl Process for Insert {
                 let approach = *approach;
                 self.came(approach, seen);
             }
-            InsertStage::Changing(_) => self.changed(seen),
+            InsertStage::Editing(_) => self.changed(seen),
             InsertStage::New => self.stage = InsertStage::Coming(Approach::Start),
             InsertStage::Present(_, there) => {
                 self.stage = InsertStage::Ending(InsertReply::Present(*there));

@@ -4,7 +4,7 @@ ghost use Rattle.std.specs.Prelude.{◌≡◌, ◌≤◌, ◌<◌};
 ghost use Rattle.bl_proc.specs.Levels.{IsBelowTop, IsBelowTop-prop};
 
 use crate::walking::Walk;
-use bl_proc_base::{Approach, Change, Growth};
+use bl_proc_base::{Approach, Edit, Growth};
 
 /// The post of a key to a level: the page whose low the key is, one level lower, is to be listed.
 #[derive(Drop)]
@@ -30,7 +30,7 @@ pub enum PostStage {
     /// It holds the parent, and walks to the child.
     Walking(Walk),
     /// It changes the parent.
-    Changing(Change),
+    Editing(Edit),
     /// It holds the parent with that number, which stays as it is, and is to open it.
     Staying(u32, PostReply),
     /// It is to end.
@@ -42,7 +42,7 @@ pub enum PostStage {
 /// What became of a post.
 #[derive(Clone, Copy)]
 pub enum PostReply {
-    /// The parent lists the key now. Where it was parted, the separator is to be posted one level higher.
+    /// The parent lists the key now. Where it was split, the separator is to be posted one level higher.
     Done(Option<u64>),
     /// The parent listed the key.
     Already,

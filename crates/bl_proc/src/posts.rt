@@ -15,7 +15,7 @@ use crate::posting::{Post, PostReply, PostStage};
 use crate::walking::Walk;
 use bl_page::{Inner, Page, Words, listed_with};
 use bl_proc_base::{
-    Action, Answer, Approach, Came, Change, Changed, Grew, Growth, Level, Outcome, Posted, Process,
+    Action, Answer, Approach, Came, Edit, Edited, Grew, Growth, Level, Outcome, Posted, Process,
     Reader, Seen, Step, entering, low_of, took_page, way_from,
 };
 use std::mem;
@@ -25,8 +25,8 @@ fn reply_of(outcome: Outcome) -> PostReply
     ensures { result ≡ post_reply outcome }
 {
     match outcome {
-        Outcome::Changed => PostReply::Done(None),
-        Outcome::Parted(separator) => PostReply::Done(Some(separator)),
+        Outcome::Edited => PostReply::Done(None),
+        Outcome::SplitAt(separator) => PostReply::Done(Some(separator)),
         Outcome::Refused => PostReply::NoRoom,
     }
 }
@@ -109,7 +109,7 @@ fn found(level: u32, walk: Walk, page: &Page) -> PostStage
         child,
     } = walk;
     if low_of(page) == key {
-        PostStage::Changing(entering(at, Page::Inner(parent), key, child as u64))
+        PostStage::Editing(entering(at, Page::Inner(parent), key, child as u64))
     } else {
         PostStage::Staying(at, PostReply::Stale)
     }
@@ -150,13 +150,13 @@ fn walked(level: u32, walk: Walk, page: &Page) -> PostStage
 }
 
 /// On with the change of the parent.
-fn changed(level: u32, key: u64, change: Change, seen: Seen) -> PostStage
-    requires { Gives (post_next_in (post_stage.Changing change)) (post_needs_in (post_stage.Changing change)) seen }
-    ensures { PostGoes level key (post_stage.Changing change) seen result }
+fn changed(level: u32, key: u64, edit: Edit, seen: Seen) -> PostStage
+    requires { Gives (post_next_in (post_stage.Editing edit)) (post_needs_in (post_stage.Editing edit)) seen }
+    ensures { PostGoes level key (post_stage.Editing edit) seen result }
 {
-    match change.took(seen) {
-        Changed::On(change) => PostStage::Changing(change),
-        Changed::Over(outcome) => PostStage::Ending(reply_of(outcome)),
+    match edit.took(seen) {
+        Edited::On(edit) => PostStage::Editing(edit),
+        Edited::Over(outcome) => PostStage::Ending(reply_of(outcome)),
     }
 }
 
@@ -174,7 +174,7 @@ fn went(level: u32, key: u64, stage: PostStage, seen: Seen) -> PostStage
             Seen::Words(page) => walked(level, walk, &page),
             _ => unreachable!(),
         },
-        PostStage::Changing(change) => changed(level, key, change, seen),
+        PostStage::Editing(edit) => changed(level, key, edit, seen),
         PostStage::Staying(_, reply) => PostStage::Ending(reply),
         PostStage::Ending(reply) => PostStage::Over(reply),
         PostStage::Over(_) => unreachable!(),
@@ -231,7 +231,7 @@ impl Process for Post {
             PostStage::Coming(approach) => approach.next(),
             PostStage::Growing(growth) => growth.next(),
             PostStage::Walking(walk) => Action::Get(walk.child),
-            PostStage::Changing(change) => change.next(),
+            PostStage::Editing(edit) => edit.next(),
             PostStage::Staying(at, _) => Action::Open(*at),
             PostStage::Ending(_) | PostStage::Over(_) => Action::End,
         }
@@ -240,7 +240,7 @@ impl Process for Post {
     fn needs(&self) -> Option<(u32, u32)> {
         match &self.stage {
             PostStage::Growing(growth) => growth.needs(),
-            PostStage::Changing(change) => change.needs(),
+            PostStage::Editing(edit) => edit.needs(),
             _ => None,
         }
     }

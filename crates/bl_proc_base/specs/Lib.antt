@@ -2,7 +2,7 @@ pub mod Given
 pub mod Props
 pub mod Onwards
 pub mod Approaches
-pub mod Changes
+pub mod Edits
 pub mod Descents
 pub mod Growths
 pub mod Lowerings

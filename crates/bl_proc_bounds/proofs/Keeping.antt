@@ -27,7 +27,7 @@ use Rattle.bl_proc.specs.declared.kinds.Proc.TheVariants as proc
 use Rattle.bl_proc.specs.Searches.{find_next_in, FindGoes}
 use Rattle.bl_proc.specs.Parts.{part_next_in, way_by, PartGoes}
 use Rattle.bl_proc.specs.Processes.{next_of, Takes}
-use Rattle.bl_proc_invariant.specs.Turns.{event_of, IsTold}
+use Rattle.bl_proc_invariant.specs.Turns.{event_of, IsObserved}
 use Rattle.bl_proc_invariant.specs.Tables.{descent_goes}
 use Rattle.bl_proc_invariant.specs.Knowing.{Run, know_find, know_part, know_of, know, find_end, part_end, end_of_proc}
 use Rattle.bl_claims.specs.Bounds.{gets_in, puts_in}
@@ -93,42 +93,42 @@ PlaceAct (Trying x) a = a ≡ Look (OfPage x)
 PlaceAct (Going d) a = a ≡ Get (descent_page d)
 PlaceAct After a = (reply : Option Reply) × (a ≡ End reply)
 
-abbrev PlaceTold : State Page → Place → Seen → Type 0
-PlaceTold s (Trying x) (seen.Probed free) = free ≡ true → s.owner x ≡ Owner.Open
-PlaceTold s (Going d) (seen.Words c) = c ≡ s.contents (descent_page d)
-PlaceTold s place what = Unit {0}
+abbrev PlaceObserved : State Page → Place → Seen → Type 0
+PlaceObserved s (Trying x) (seen.Probed free) = free ≡ true → s.owner x ≡ Owner.Open
+PlaceObserved s (Going d) (seen.Words c) = c ≡ s.contents (descent_page d)
+PlaceObserved s place what = Unit {0}
 
 record Moved (s : State Page) (k : ℕ) (old : Place) (what : Seen) (a : Act Page Reply) (new : Place) : Type 0 where
   pub goes : PlaceGoes k old what new
   pub act : PlaceAct old a
-  pub told : PlaceTold s old what
+  pub observed : PlaceObserved s old what
 
-find_moved : (s : State Page) (size k : ℕ) (old : FindStage) (what : Seen) (new : FindStage) → FindGoes k old what new → IsTold s size (find_next_in old) what → Moved s k (find_place old) what (event_of (find_end old) (find_next_in old) what) (find_place new)
-find_moved s size k find.New seen.Done (find.Descending d) h told = record { goes = h; act = refl; told = tt }
-find_moved s size k (find.Descending d) (seen.Words c) (find.Descending e) h told = record { goes = h; act = refl; told = told }
-find_moved s size k (find.Descending d) (seen.Words c) (find.Ending v) h told = record { goes = tt; act = refl; told = told }
-find_moved s size k (find.Ending v) seen.Done (find.Over u) h told = record { goes = tt; act = (_, refl); told = tt }
-find_moved s size k old what new h told = absurd h
+find_moved : (s : State Page) (size k : ℕ) (old : FindStage) (what : Seen) (new : FindStage) → FindGoes k old what new → IsObserved s size (find_next_in old) what → Moved s k (find_place old) what (event_of (find_end old) (find_next_in old) what) (find_place new)
+find_moved s size k find.New seen.Done (find.Descending d) h observed = record { goes = h; act = refl; observed = tt }
+find_moved s size k (find.Descending d) (seen.Words c) (find.Descending e) h observed = record { goes = h; act = refl; observed = observed }
+find_moved s size k (find.Descending d) (seen.Words c) (find.Ending v) h observed = record { goes = tt; act = refl; observed = observed }
+find_moved s size k (find.Ending v) seen.Done (find.Over u) h observed = record { goes = tt; act = (_, refl); observed = tt }
+find_moved s size k old what new h observed = absurd h
 
-part_moved : (s : State Page) (size k : ℕ) (old : PartStage) (what : Seen) (new : PartStage) → PartGoes k old what new → IsTold s size (part_next_in old) what → Moved s k (part_place old) what (event_of (part_end old) (part_next_in old) what) (part_place new)
-part_moved s size k part.New seen.Done (part.Descending d) h told = record { goes = h; act = refl; told = tt }
-part_moved s size k (part.Near x) seen.Done (part.Probing y) h told = record { goes = tt; act = refl; told = tt }
-part_moved s size k (part.Probing x) (seen.Probed free) (part.Descending d) h told = record { goes = h; act = refl; told = told }
-part_moved s size k (part.Descending d) (seen.Words c) (part.Descending e) h told = record { goes = h; act = refl; told = told }
-part_moved s size k (part.Descending d) (seen.Words c) (part.Ending v) h told = record { goes = tt; act = refl; told = told }
-part_moved s size k (part.Ending v) seen.Done (part.Over u) h told = record { goes = tt; act = (_, refl); told = tt }
-part_moved s size k old what new h told = absurd h
+part_moved : (s : State Page) (size k : ℕ) (old : PartStage) (what : Seen) (new : PartStage) → PartGoes k old what new → IsObserved s size (part_next_in old) what → Moved s k (part_place old) what (event_of (part_end old) (part_next_in old) what) (part_place new)
+part_moved s size k part.New seen.Done (part.Descending d) h observed = record { goes = h; act = refl; observed = tt }
+part_moved s size k (part.Near x) seen.Done (part.Probing y) h observed = record { goes = tt; act = refl; observed = tt }
+part_moved s size k (part.Probing x) (seen.Probed free) (part.Descending d) h observed = record { goes = h; act = refl; observed = observed }
+part_moved s size k (part.Descending d) (seen.Words c) (part.Descending e) h observed = record { goes = h; act = refl; observed = observed }
+part_moved s size k (part.Descending d) (seen.Words c) (part.Ending v) h observed = record { goes = tt; act = refl; observed = observed }
+part_moved s size k (part.Ending v) seen.Done (part.Over u) h observed = record { goes = tt; act = (_, refl); observed = tt }
+part_moved s size k old what new h observed = absurd h
 
-moved : (s : State Page) (size : ℕ) (old : Proc) (what : Seen) (new : Proc) → Takes old what new → IsTold s size (next_of old) what → (sought new ≡ sought old) × Moved s (sought old) (place_of old) what (event_of (end_of_proc old) (next_of old) what) (place_of new)
-moved s size (proc.Find a) what (proc.Find c) t told = (t.0, find_moved s size a.key a.stage what c.stage t.1 told)
-moved s size (proc.Part a) what (proc.Part c) t told = (t.0, part_moved s size a.from a.stage what c.stage t.1 told)
-moved s size (proc.Insert a) what (proc.Insert c) t told = (refl, record { goes = tt; act = tt; told = tt })
-moved s size (proc.Delete a) what (proc.Delete c) t told = (refl, record { goes = tt; act = tt; told = tt })
-moved s size (proc.Post a) what (proc.Post c) t told = (refl, record { goes = tt; act = tt; told = tt })
-moved s size (proc.Compress a) what (proc.Compress c) t told = (refl, record { goes = tt; act = tt; told = tt })
-moved s size (proc.Reclaim a) what (proc.Reclaim c) t told = (refl, record { goes = tt; act = tt; told = tt })
-moved s size (proc.Lower a) what (proc.Lower c) t told = (refl, record { goes = tt; act = tt; told = tt })
-moved s size old what new t told = absurd t
+moved : (s : State Page) (size : ℕ) (old : Proc) (what : Seen) (new : Proc) → Takes old what new → IsObserved s size (next_of old) what → (sought new ≡ sought old) × Moved s (sought old) (place_of old) what (event_of (end_of_proc old) (next_of old) what) (place_of new)
+moved s size (proc.Find a) what (proc.Find c) t observed = (t.0, find_moved s size a.key a.stage what c.stage t.1 observed)
+moved s size (proc.Part a) what (proc.Part c) t observed = (t.0, part_moved s size a.from a.stage what c.stage t.1 observed)
+moved s size (proc.Insert a) what (proc.Insert c) t observed = (refl, record { goes = tt; act = tt; observed = tt })
+moved s size (proc.Delete a) what (proc.Delete c) t observed = (refl, record { goes = tt; act = tt; observed = tt })
+moved s size (proc.Post a) what (proc.Post c) t observed = (refl, record { goes = tt; act = tt; observed = tt })
+moved s size (proc.Compress a) what (proc.Compress c) t observed = (refl, record { goes = tt; act = tt; observed = tt })
+moved s size (proc.Reclaim a) what (proc.Reclaim c) t observed = (refl, record { goes = tt; act = tt; observed = tt })
+moved s size (proc.Lower a) what (proc.Lower c) t observed = (refl, record { goes = tt; act = tt; observed = tt })
+moved s size old what new t observed = absurd t
 
 -- Events
 
@@ -204,12 +204,12 @@ module _ (w w' : World Run) (m : Mark) (b : Run) (e : Extends w w' m b) (g : IsG
       let few : t.gets ≤ w.size = subst (λ n. t.gets ≤ n) e.size t.few in
       (spends_begin w.size w'.now.contents w.trail m p k (Going AtAnchor) t.gets own d.act phase.0 few t.ahead, none_got w.trail m p phase.0)
   goes p k (Trying x) (seen.Probed free) (Going to) own d sure h =
-      let t = probed_near know w g k sure x free d.told in
+      let t = probed_near know w g k sure x free d.observed in
       let none : own_gets p m ≡ 0 = own_gets_own p m own ∙ ap gets_in d.act in
       let ahead : AreLeft w'.now.contents k (Going (way_by x free)) t.gets = subst (λ c. AreLeft c k (Going (way_by x free)) t.gets) (sym (unchanged (ap puts_in d.act))) t.ahead in
       subst (λ v. IsKeptThen p k (Going v)) (sym d.goes) (spends_first w.size w.now.contents w'.now.contents w.trail m p k (Going AtAnchor) h.0 none h.1 (Going (way_by x free)) t.gets t.few ahead)
   goes p k (Going from) (seen.Words c) (Going to) own d sure h =
-      let r = ahead_on w.now.contents k from to h.left (subst (λ v. Descends k from v (descended.On to)) d.told d.goes) h.ahead in
+      let r = ahead_on w.now.contents k from to h.left (subst (λ v. Descends k from v (descended.On to)) d.observed d.goes) h.ahead in
       gets p k (Going from) (Going to) (descent_page from) r.left own d.act h (let l = r.less in omega arith) r.ahead
   goes p k (Going from) (seen.Words c) After own d sure h = gets p k (Going from) After (descent_page from) 0 own d.act h (ahead_some w.now.contents k from h.left h.ahead) refl
   goes p k After seen.Done After own d sure h = spends_still w.size w.now.contents w'.now.contents w.trail m p k After h (own_gets_own p m own ∙ ap gets_in d.act.1) h.ahead
@@ -229,10 +229,10 @@ module _ (w w' : World Run) (m : Mark) (b : Run) (e : Extends w w' m b) (g : IsG
       subst (λ t. IsKept w'.size w'.now.contents t p (sought (w'.proc p).state) (place_of (w'.proc p).state)) (sym e.trail) (subst (λ n. IsKept n w'.now.contents (w.trail ++ m ∷ []) p (sought (w'.proc p).state) (place_of (w'.proc p).state)) (sym e.size) there)
 
 -- A turn of a process that is told something of its next action, truly.
-pub turn_paced : (w w' : World Run) (m : Mark) (b : Run) (what : Seen) → Extends w w' m b → IsGood know w → IsGood know w' → Takes (w.proc m.event.process).state what b.state → IsTold w.now w.size (next_of (w.proc m.event.process).state) what → m.event.act ≡ event_of (end_of_proc (w.proc m.event.process).state) (next_of (w.proc m.event.process).state) what → AllPaced w → AllPaced w'
-turn_paced w w' m b what e g g' t told act all =
+pub turn_paced : (w w' : World Run) (m : Mark) (b : Run) (what : Seen) → Extends w w' m b → IsGood know w → IsGood know w' → Takes (w.proc m.event.process).state what b.state → IsObserved w.now w.size (next_of (w.proc m.event.process).state) what → m.event.act ≡ event_of (end_of_proc (w.proc m.event.process).state) (next_of (w.proc m.event.process).state) what → AllPaced w → AllPaced w'
+turn_paced w w' m b what e g g' t observed act all =
     let old = (w.proc m.event.process).state in
-    let d = moved w.now w.size old what b.state t told in
+    let d = moved w.now w.size old what b.state t observed in
     let did : Moved w.now (sought old) (place_of old) what m.event.act (place_of b.state) = subst (λ a. Moved w.now (sought old) (place_of old) what a (place_of b.state)) (sym act) d.1 in
     then_paced w w' m b e g g'
     (λ p i. subst (λ k. IsKept w.size w'.now.contents (w.trail ++ m ∷ []) p k (place_of b.state)) (sym d.0)

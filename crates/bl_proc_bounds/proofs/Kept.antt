@@ -9,7 +9,7 @@ use Rattle.bl_proc.specs.declared.posting.Post.{Post}
 use Rattle.bl_proc.specs.declared.kinds.Proc.TheVariants as proc
 use Rattle.bl_proc.specs.Processes.{next_of, Takes}
 use Rattle.bl_proc_invariant.specs.Logs.{proc_log}
-use Rattle.bl_proc_invariant.specs.Turns.{event_of, IsTold}
+use Rattle.bl_proc_invariant.specs.Turns.{event_of, IsObserved}
 use Rattle.bl_proc_invariant.specs.Knowing.{Run, know, end_of_proc}
 use Rattle.bl_proc_invariant.proofs.Starting.{with_proc}
 use Rattle.bl_claims.specs.Bounds.{gets_in, puts_in}
@@ -22,9 +22,9 @@ use Rattle.bl_proc_bounds.proofs.Held.{owned_on, owned_first}
 use Rattle.bl_proc_bounds.proofs.Latching.{tidy_turn, tidy_still, tidy_left, tidy_enter, tidy_first}
 
 -- A turn of a process that is told something of its next action, truly.
-pub turn_kept : (w w' : World Run) (m : Mark) (b : Run) (what : Seen) → Extends w w' m b → IsGood know w → IsGood know w' → proc_log (w.proc m.event.process).state (marks_of m.event.process w.trail) → Takes (w.proc m.event.process).state what b.state → IsTold w.now w.size (next_of (w.proc m.event.process).state) what → m.event.act ≡ event_of (end_of_proc (w.proc m.event.process).state) (next_of (w.proc m.event.process).state) what → AllKept w → AllKept w'
-turn_kept w w' m b what e g g' log t told act all = record {
-  paced = turn_paced w w' m b what e g g' t told act all.paced;
+pub turn_kept : (w w' : World Run) (m : Mark) (b : Run) (what : Seen) → Extends w w' m b → IsGood know w → IsGood know w' → proc_log (w.proc m.event.process).state (marks_of m.event.process w.trail) → Takes (w.proc m.event.process).state what b.state → IsObserved w.now w.size (next_of (w.proc m.event.process).state) what → m.event.act ≡ event_of (end_of_proc (w.proc m.event.process).state) (next_of (w.proc m.event.process).state) what → AllKept w → AllKept w'
+turn_kept w w' m b what e g g' log t observed act all = record {
+  paced = turn_paced w w' m b what e g g' t observed act all.paced;
   owned = owned_on w w' m b e all.owned;
   tidy = tidy_turn w w' m b what e g all.owned log t act all.tidy;
 }

@@ -13,12 +13,12 @@ use Rattle.bl_proc_base.specs.declared.acts.Seen.{Seen}
 use Rattle.bl_proc_base.specs.declared.acts.Seen.TheVariants as seen
 use Rattle.bl_proc_base.specs.declared.approaching.Approach.{Approach}
 use Rattle.bl_proc_base.specs.declared.approaching.Approach.TheVariants as way
-use Rattle.bl_proc_base.specs.declared.changing.Change.{Change}
-use Rattle.bl_proc_base.specs.declared.changing.Change.TheVariants as change
+use Rattle.bl_proc_base.specs.declared.editing.Edit.{Edit}
+use Rattle.bl_proc_base.specs.declared.editing.Edit.TheVariants as edit
 use Rattle.bl_proc_base.specs.declared.growing.Growth.{Growth}
 use Rattle.bl_proc_base.specs.declared.growing.Growth.TheVariants as growth
 use Rattle.bl_proc_base.specs.Approaches.{approach_next}
-use Rattle.bl_proc_base.specs.Changes.{change_next}
+use Rattle.bl_proc_base.specs.Edits.{edit_next}
 use Rattle.bl_proc_base.specs.Growths.{growth_next}
 use Rattle.bl_rearrange.specs.declared.sides.Side.{Side}
 use Rattle.bl_rearrange.specs.declared.sides.Side.TheVariants as side
@@ -141,13 +141,13 @@ approach_alone level key (way.Latching y) x e = refl
 approach_alone level key (way.Latched y) x e = absurd (cc e)
 approach_alone level key (way.Leaving y to) x e = absurd (cc e)
 
-change_never : (c : Change) (x : ℕ) → change_next c ≢ act.Latch x
-change_never (change.Putting y page) x e = cc
-change_never (change.Taking full) x e = cc
-change_never (change.PuttingNew p) x e = cc
-change_never (change.PuttingOld p) x e = cc
-change_never (change.OpeningNew y new separator) x e = cc
-change_never (change.Opening y what) x e = cc
+edit_never : (c : Edit) (x : ℕ) → edit_next c ≢ act.Latch x
+edit_never (edit.Putting y page) x e = cc
+edit_never (edit.Taking full) x e = cc
+edit_never (edit.PuttingNew p) x e = cc
+edit_never (edit.PuttingOld p) x e = cc
+edit_never (edit.OpeningNew y new separator) x e = cc
+edit_never (edit.Opening y what) x e = cc
 
 growth_alone : (level key : ℕ) (got : ℕ → Page) (g : Growth) (x : ℕ) → growth_next g ≡ act.Latch x → (know_growth level key got g).holds ≡ []
 growth_alone level key got growth.Latching x e = refl
@@ -157,7 +157,7 @@ insert_alone : (key value : ℕ) (got : ℕ → Page) (a : InsertStage) (x : ℕ
 insert_alone key value got insert.New x e = refl
 insert_alone key value got (insert.Coming a) x e = approach_alone 0 key a x e
 insert_alone key value got (insert.Present y v) x e = absurd (cc e)
-insert_alone key value got (insert.Changing c) x e = absurd (change_never c x e)
+insert_alone key value got (insert.Editing c) x e = absurd (edit_never c x e)
 insert_alone key value got (insert.Ending r) x e = refl
 insert_alone key value got (insert.Over r) x e = refl
 
@@ -165,7 +165,7 @@ delete_alone : (key : ℕ) (got : ℕ → Page) (a : DeleteStage) (x : ℕ) → 
 delete_alone key got delete.New x e = refl
 delete_alone key got (delete.Coming a) x e = approach_alone 0 key a x e
 delete_alone key got (delete.Absent y) x e = absurd (cc e)
-delete_alone key got (delete.Changing v c) x e = absurd (change_never c x e)
+delete_alone key got (delete.Editing v c) x e = absurd (edit_never c x e)
 delete_alone key got (delete.Ending r) x e = refl
 delete_alone key got (delete.Over r) x e = refl
 
@@ -174,7 +174,7 @@ post_alone level key got child post.New x e = refl
 post_alone level key got child (post.Coming a) x e = approach_alone level key a x e
 post_alone level key got child (post.Growing g) x e = growth_alone level key got g x e
 post_alone level key got child (post.Walking w) x e = absurd (cc e)
-post_alone level key got child (post.Changing c) x e = absurd (change_never c x e)
+post_alone level key got child (post.Editing c) x e = absurd (edit_never c x e)
 post_alone level key got child (post.Staying y r) x e = absurd (cc e)
 post_alone level key got child (post.Ending r) x e = refl
 post_alone level key got child (post.Over r) x e = refl

@@ -268,9 +268,9 @@ module _ {P : Type 0} (know : P → Know) (w : World P) (g : IsGood know w) (k :
 
   -- from where a search begins that has looked at a page
   pub probed_near : (x : ℕ) (free : Bool) → (free ≡ true → w.now.owner x ≡ Owner.Open) → Near w.now.contents k (way_by x free) w.size
-  probed_near zero free told = anchor_near
-  probed_near (suc x) false told = anchor_near
-  probed_near (suc x) true told = live_near (suc x) (elim (g.owned.opened (suc x) (told refl)) [
+  probed_near zero free observed = anchor_near
+  probed_near (suc x) false observed = anchor_near
+  probed_near (suc x) true observed = live_near (suc x) (elim (g.owned.opened (suc x) (observed refl)) [
     | inl h ↦ rw h live_live
     | inr h ↦ absurd (let z = g.owned.one_anchor (suc x) h in omega (arith, z))
   ])

@@ -11,8 +11,8 @@ use Rattle.bl_proc_base.specs.declared.answers.Squeezed.TheVariants as squeezed
 use Rattle.bl_proc_base.specs.declared.approaching.Approach.TheVariants.{Start}
 use Rattle.bl_proc_base.specs.declared.approaching.Came.{Came}
 use Rattle.bl_proc_base.specs.declared.approaching.Came.TheVariants as come
-use Rattle.bl_proc_compress.specs.declared.compressing.Fate.{Fate}
-use Rattle.bl_proc_compress.specs.declared.compressing.Fate.TheVariants as fate
+use Rattle.bl_proc_compress.specs.declared.compressing.Decision.{Decision}
+use Rattle.bl_proc_compress.specs.declared.compressing.Decision.TheVariants as decision
 use Rattle.bl_proc_compress.specs.declared.compressing.Compression.TheVariants.{LatchingLeft}
 use Rattle.bl_proc_compress.specs.declared.compressing.Compressed.TheVariants as step
 use Rattle.bl_proc_compress.specs.declared.squeezing.Compress.{Compress}
@@ -24,13 +24,13 @@ use Rattle.bl_proc_base.specs.Approaches.{approach_next, Comes}
 use Rattle.bl_proc_compress.specs.Compressions.{AreSiblings, compression_next, compression_needs, Compresses}
 
 -- what a compression answers by what became of the children, if it does not begin again
-abbrev pub compress_reply : Fate → Option CompressReply
-compress_reply (fate.Merged hint) = Some (reply.Merged hint)
-compress_reply fate.Evened = Some reply.Evened
-compress_reply fate.Enough = Some reply.Enough
-compress_reply (fate.Unposted hint) = Some (reply.Unposted hint)
-compress_reply fate.Refused = Some reply.NoRoom
-compress_reply fate.Lost = None
+abbrev pub compress_reply : Decision → Option CompressReply
+compress_reply (decision.Merged hint) = Some (reply.Merged hint)
+compress_reply decision.Evened = Some reply.Evened
+compress_reply decision.Enough = Some reply.Enough
+compress_reply (decision.Unposted hint) = Some (reply.Unposted hint)
+compress_reply decision.Refused = Some reply.NoRoom
+compress_reply decision.Lost = None
 
 abbrev pub compressed_answer : CompressReply → Answer
 compressed_answer (reply.Merged hint) = answer.Compress squeezed.Merged hint
@@ -81,8 +81,8 @@ abbrev pub CompressGoes : ℕ → ℕ → CompressStage → Seen → CompressSta
 CompressGoes level key New seen.Done (Coming a) = a ≡ Start
 CompressGoes level key (Coming a) what new = (m : Came) × Comes level key a what m × CompressComes key m new
 CompressGoes level key (Compressing c) what (Compressing d) = Compresses c what (step.On d)
-CompressGoes level key (Compressing c) what (Coming a) = (last : Fate) × Compresses c what (step.Over last) × (compress_reply last ≡ None) × (a ≡ Start)
-CompressGoes level key (Compressing c) what (Ending r) = (last : Fate) × Compresses c what (step.Over last) × (compress_reply last ≡ Some r)
+CompressGoes level key (Compressing c) what (Coming a) = (last : Decision) × Compresses c what (step.Over last) × (compress_reply last ≡ None) × (a ≡ Start)
+CompressGoes level key (Compressing c) what (Ending r) = (last : Decision) × Compresses c what (step.Over last) × (compress_reply last ≡ Some r)
 CompressGoes level key (Staying x) seen.Done (Ending r) = r ≡ reply.Alone
 CompressGoes level key (Ending r) seen.Done (Over last) = last ≡ r
 CompressGoes level key old what new = ⊥

@@ -18,11 +18,11 @@ use Rattle.bl_proc_base.specs.declared.acts.Seen.{Seen}
 use Rattle.bl_proc_base.specs.declared.acts.Seen.TheVariants as seen
 use Rattle.bl_proc_base.specs.declared.answers.Hint.{Hint}
 use Rattle.bl_proc_base.specs.declared.answers.Hint.TheVariants as hint
-use Rattle.bl_proc_compress.specs.declared.compressing.Trio.{Trio}
+use Rattle.bl_proc_compress.specs.declared.compressing.Siblings.{Siblings}
 use Rattle.bl_proc_compress.specs.declared.compressing.Family.{Family}
 use Rattle.bl_proc_compress.specs.declared.compressing.Puts.{Puts}
-use Rattle.bl_proc_compress.specs.declared.compressing.Fate.{Fate}
-use Rattle.bl_proc_compress.specs.declared.compressing.Fate.TheVariants.{Merged, Evened as EvenedOut, Enough, Unposted, Refused, Lost}
+use Rattle.bl_proc_compress.specs.declared.compressing.Decision.{Decision}
+use Rattle.bl_proc_compress.specs.declared.compressing.Decision.TheVariants.{Merged, Evened as EvenedOut, Enough, Unposted, Refused, Lost}
 use Rattle.bl_proc_compress.specs.declared.compressing.Compression.{Compression}
 use Rattle.bl_proc_compress.specs.declared.compressing.Compression.TheVariants.{LatchingLeft, LatchedLeft, LatchingRight, LatchedRight, PuttingFirst, PuttingParent, PuttingLast, Retiring, OpeningRight, OpeningLeft, OpeningParent}
 use Rattle.bl_proc_compress.specs.declared.compressing.Compressed.{Compressed}
@@ -61,10 +61,10 @@ compression_next (LatchedRight f c) = act.Get f.at.right
 compression_next (PuttingFirst p) = put_of p.gains p
 compression_next (PuttingParent p) = act.Put p.at.parent p.parent
 compression_next (PuttingLast p) = put_of (other p.gains) p
-compression_next (Retiring at fate) = act.Retire at.right
-compression_next (OpeningRight at fate) = act.Open at.right
-compression_next (OpeningLeft at fate) = act.Open at.left
-compression_next (OpeningParent x fate) = act.Open x
+compression_next (Retiring at decision) = act.Retire at.right
+compression_next (OpeningRight at decision) = act.Open at.right
+compression_next (OpeningLeft at decision) = act.Open at.left
+compression_next (OpeningParent x decision) = act.Open x
 
 -- pages and frames
 abbrev pub compression_needs : Compression → Option (ℕ × ℕ)
@@ -75,10 +75,10 @@ compression_needs (LatchedRight f c) = None
 compression_needs (PuttingFirst p) = Some (0, 3)
 compression_needs (PuttingParent p) = None
 compression_needs (PuttingLast p) = None
-compression_needs (Retiring at fate) = None
-compression_needs (OpeningRight at fate) = None
-compression_needs (OpeningLeft at fate) = None
-compression_needs (OpeningParent x fate) = None
+compression_needs (Retiring at decision) = None
+compression_needs (OpeningRight at decision) = None
+compression_needs (OpeningLeft at decision) = None
+compression_needs (OpeningParent x decision) = None
 
 -- the hint after a merge, by the parent of that level and the left child as they are put: the parent's, if it is thin
 abbrev pub either_hint : Option Hint → Option Hint → Option Hint
@@ -101,7 +101,7 @@ pub record Merges (f : Family) (c d : Page) (p : Puts) : Type 0 where
   pub left : IsMerged c d (Some p.left)
   pub parent : IsWithout (InnerPage f.parent) f.key p.parent
   pub right : IsBuried f.at.left d p.right
-  pub fate : p.fate ≡ Merged (merge_hint f.parent.level p.parent p.left)
+  pub decision : p.decision ≡ Merged (merge_hint f.parent.level p.parent p.left)
 
 -- The parent lists the child by the new key in place of the old one. It does so where it covers the new key and, without the
 -- old one, does not list it.
@@ -125,7 +125,7 @@ pub record Evens (f : Family) (c d : Page) (p : Puts) : Type 0 where
   pub at : p.at ≡ f.at
   pub evened : IsEvened c d (record { left = p.left; right = p.right; separator = separator; gains = p.gains })
   pub parent : Relists f.parent f.key separator f.at.right (Some p.parent)
-  pub fate : p.fate ≡ EvenedOut
+  pub decision : p.decision ≡ EvenedOut
 
 -- What is done with the children c and d, which are held and were got. Two neighbours are merged where one page holds all
 -- their pairs, and else evened out where one of them has few.
@@ -138,11 +138,11 @@ Decides f c d new = ⊥
 -- The left child c, which is held and was got: it links to the right one, or a page stands between them.
 abbrev pub Links : Family → Page → Compression → Type 0
 Links f c (LatchingRight g page) = (g ≡ f) × (page ≡ c) × (right_of c ≡ f.at.right)
-Links f c (OpeningLeft at fate) = (at ≡ f.at) × (right_of c ≢ f.at.right) × (fate ≡ Unposted (hint.Post f.parent.level (high_of c)))
+Links f c (OpeningLeft at decision) = (at ≡ f.at) × (right_of c ≢ f.at.right) × (decision ≡ Unposted (hint.Post f.parent.level (high_of c)))
 Links f c new = ⊥
 
 -- When all is put, a page that was merged away is retired, and else opened.
-abbrev pub after_puts : Trio → Fate → Compression
+abbrev pub after_puts : Siblings → Decision → Compression
 after_puts at (Merged h) = Retiring at (Merged h)
 after_puts at EvenedOut = OpeningRight at EvenedOut
 after_puts at Enough = OpeningRight at Enough
@@ -160,9 +160,9 @@ Compresses (LatchedRight f c) (seen.Words d) (On new) = Decides f c d new
 Compresses (PuttingFirst p) seen.Done (On new) = new ≡ PuttingParent p
 Compresses (PuttingFirst p) seen.Refused (On new) = new ≡ OpeningRight p.at Refused
 Compresses (PuttingParent p) seen.Done (On new) = new ≡ PuttingLast p
-Compresses (PuttingLast p) seen.Done (On new) = new ≡ after_puts p.at p.fate
-Compresses (Retiring at fate) seen.Done (On new) = new ≡ OpeningLeft at fate
-Compresses (OpeningRight at fate) seen.Done (On new) = new ≡ OpeningLeft at fate
-Compresses (OpeningLeft at fate) seen.Done (On new) = new ≡ OpeningParent at.parent fate
-Compresses (OpeningParent x fate) seen.Done (Over last) = last ≡ fate
+Compresses (PuttingLast p) seen.Done (On new) = new ≡ after_puts p.at p.decision
+Compresses (Retiring at decision) seen.Done (On new) = new ≡ OpeningLeft at decision
+Compresses (OpeningRight at decision) seen.Done (On new) = new ≡ OpeningLeft at decision
+Compresses (OpeningLeft at decision) seen.Done (On new) = new ≡ OpeningParent at.parent decision
+Compresses (OpeningParent x decision) seen.Done (Over last) = last ≡ decision
 Compresses old what new = ⊥

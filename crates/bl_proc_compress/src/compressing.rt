@@ -10,7 +10,7 @@ use bl_rearrange::Side;
 
 /// The numbers of a parent and of two neighbouring children.
 #[derive(Clone, Copy)]
-pub struct Trio {
+pub struct Siblings {
     pub parent: u32,
     pub left: u32,
     pub right: u32,
@@ -20,7 +20,7 @@ pub struct Trio {
 #[derive(Drop)]
 pub struct Family {
     /// The numbers of the three.
-    pub at: Trio,
+    pub at: Siblings,
     /// The parent.
     pub parent: Inner,
     /// The key by which it lists the right child.
@@ -36,19 +36,19 @@ pub struct Family {
 #[derive(Drop)]
 pub struct Puts {
     /// The numbers of the three.
-    pub at: Trio,
+    pub at: Siblings,
     /// The child that gains.
     pub gains: Side,
     pub left: Page,
     pub parent: Page,
     pub right: Page,
     /// What becomes of the compression by these puts.
-    pub fate: Fate,
+    pub decision: Decision,
 }
 
 /// What became of a compression.
 #[derive(Clone, Copy)]
-pub enum Fate {
+pub enum Decision {
     /// The left child has taken all of the right one, which is retired. There is a hint where the parent is thin now, or
     /// else the left child.
     Merged(Option<Hint>),
@@ -82,13 +82,13 @@ pub enum Compression {
     /// It is to put the child that loses.
     PuttingLast(Puts),
     /// It is to retire the right child.
-    Retiring(Trio, Fate),
+    Retiring(Siblings, Decision),
     /// It is to open the right child.
-    OpeningRight(Trio, Fate),
+    OpeningRight(Siblings, Decision),
     /// It is to open the left child.
-    OpeningLeft(Trio, Fate),
+    OpeningLeft(Siblings, Decision),
     /// It is to open the parent.
-    OpeningParent(u32, Fate),
+    OpeningParent(u32, Decision),
 }
 
 /// What became of a step of a compression.
@@ -97,5 +97,5 @@ pub enum Compressed {
     /// It goes on.
     On(Compression),
     /// It is over, and the process holds none of the three.
-    Over(Fate),
+    Over(Decision),
 }

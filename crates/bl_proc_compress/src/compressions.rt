@@ -9,7 +9,7 @@ ghost use Rattle.bl_proc_compress.specs.declared.compressing.Compression.TheVari
 ghost use Rattle.bl_proc_base.specs.Given.{Gives};
 ghost use Rattle.bl_proc_compress.specs.Compressions.{put_of, other, merge_hint, IsBuried, Merges, Relists, MayEven, Decides, Links, after_puts, compression_next, compression_needs, Compresses};
 
-use crate::compressing::{Compressed, Compression, Family, Fate, Puts, Trio};
+use crate::compressing::{Compressed, Compression, Family, Decision, Puts, Siblings};
 use bl_page::{Dead, Inner, Page, is_within};
 use bl_proc_base::{Action, Hint, Level, Seen, count_of, hint_of_thin, listed, thin_low};
 use bl_rearrange::{Evened, Fitted, Side, evened, merged, with_pair, without};
@@ -63,7 +63,7 @@ fn linked(family: Family, left: Page) -> Compression
         level,
         key: high_of(&left),
     };
-    Compression::OpeningLeft(at, Fate::Unposted(hint))
+    Compression::OpeningLeft(at, Decision::Unposted(hint))
 }
 
 /// What is put in place of a page that was merged into another one.
@@ -120,7 +120,7 @@ fn merging(family: Family, left: Page, right: Page) -> Puts
                 left,
                 parent,
                 right: dead,
-                fate: Fate::Merged(hint),
+                decision: Decision::Merged(hint),
             }
         }
         None => unreachable!(),
@@ -167,9 +167,9 @@ fn evening(family: Family, left: Page, right: Page) -> Compression
             left,
             parent,
             right,
-            fate: Fate::Evened,
+            decision: Decision::Evened,
         }),
-        None => Compression::OpeningRight(at, Fate::Lost),
+        None => Compression::OpeningRight(at, Decision::Lost),
     }
 }
 
@@ -180,13 +180,13 @@ fn decided(family: Family, left: Page, right: Page) -> Compression
     let left_count = count_of(&left);
     let right_count = count_of(&right);
     if !are_neighbours(&left, &right) {
-        Compression::OpeningRight(family.at, Fate::Lost)
+        Compression::OpeningRight(family.at, Decision::Lost)
     } else if left_count + right_count <= 14 {
         Compression::PuttingFirst(merging(family, left, right))
     } else if left_count < 7 || right_count < 7 {
         evening(family, left, right)
     } else {
-        Compression::OpeningRight(family.at, Fate::Enough)
+        Compression::OpeningRight(family.at, Decision::Enough)
     }
 }
 
@@ -210,12 +210,12 @@ fn other(side: Side) -> Side
 }
 
 /// When all is put.
-fn after_puts(at: Trio, fate: Fate) -> Compression
-    ensures { result ≡ after_puts at fate }
+fn after_puts(at: Siblings, decision: Decision) -> Compression
+    ensures { result ≡ after_puts at decision }
 {
-    match fate {
-        Fate::Merged(_) => Compression::Retiring(at, fate),
-        _ => Compression::OpeningRight(at, fate),
+    match decision {
+        Decision::Merged(_) => Compression::Retiring(at, decision),
+        _ => Compression::OpeningRight(at, decision),
     }
 }
 
@@ -277,24 +277,24 @@ impl Compression {
                 Compressed::On(Compression::PuttingParent(puts))
             }
             (Compression::PuttingFirst(puts), Seen::Refused) => {
-                Compressed::On(Compression::OpeningRight(puts.at, Fate::Refused))
+                Compressed::On(Compression::OpeningRight(puts.at, Decision::Refused))
             }
             (Compression::PuttingParent(puts), Seen::Done) => {
                 Compressed::On(Compression::PuttingLast(puts))
             }
             (Compression::PuttingLast(puts), Seen::Done) => {
-                Compressed::On(after_puts(puts.at, puts.fate))
+                Compressed::On(after_puts(puts.at, puts.decision))
             }
-            (Compression::Retiring(at, fate), Seen::Done) => {
-                Compressed::On(Compression::OpeningLeft(at, fate))
+            (Compression::Retiring(at, decision), Seen::Done) => {
+                Compressed::On(Compression::OpeningLeft(at, decision))
             }
-            (Compression::OpeningRight(at, fate), Seen::Done) => {
-                Compressed::On(Compression::OpeningLeft(at, fate))
+            (Compression::OpeningRight(at, decision), Seen::Done) => {
+                Compressed::On(Compression::OpeningLeft(at, decision))
             }
-            (Compression::OpeningLeft(at, fate), Seen::Done) => {
-                Compressed::On(Compression::OpeningParent(at.parent, fate))
+            (Compression::OpeningLeft(at, decision), Seen::Done) => {
+                Compressed::On(Compression::OpeningParent(at.parent, decision))
             }
-            (Compression::OpeningParent(_, fate), Seen::Done) => Compressed::Over(fate),
+            (Compression::OpeningParent(_, decision), Seen::Done) => Compressed::Over(decision),
             _ => unreachable!(),
         }
     }

@@ -4,7 +4,7 @@ ghost use Rattle.std.specs.Prelude.{◌≡◌, ◌<◌, length};
 ghost use Rattle.bl_page.specs.Pairs.{IsWithin};
 ghost use Rattle.bl_proc_compress.specs.Compressions.{right_place, AreSiblings};
 
-use crate::compressing::{Family, Trio};
+use crate::compressing::{Family, Siblings};
 use bl_page::{Inner, place_of};
 
 /// The place of the right one of the two: behind the child for the key, or that child's own where it is the last.
@@ -33,7 +33,7 @@ pub fn siblings(at: u32, parent: Inner, key: u64) -> Option<Family>
     let place = right_place(children, key);
     let (_, left) = children[place - 1];
     let (listed_by, right) = children[place];
-    let at = Trio {
+    let at = Siblings {
         parent: at,
         left: left as u32,
         right: right as u32,

@@ -6,7 +6,7 @@ ghost use Rattle.bl_proc_compress.specs.declared.squeezing.CompressStage.TheVari
 ghost use Rattle.bl_proc_base.specs.Given.{Gives};
 ghost use Rattle.bl_proc_compress.specs.Compresses.{compress_reply, compressed_answer, compress_next_in, compress_needs_in, compress_answer_in, CompressArrives, CompressGoes, compress_next, compress_needs, compress_answer, CompressTakes};
 
-use crate::compressing::{Compressed, Compression, Fate};
+use crate::compressing::{Compressed, Compression, Decision};
 use crate::families::siblings;
 use crate::squeezing::{Compress, CompressReply, CompressStage};
 use bl_page::Inner;
@@ -14,16 +14,16 @@ use bl_proc_base::{Action, Answer, Approach, Came, Process, Reader, Seen, Squeez
 use std::mem;
 
 /// What a compression answers by what became of the children, if it does not begin again.
-fn reply_of(fate: Fate) -> Option<CompressReply>
-    ensures { result ≡ compress_reply fate }
+fn reply_of(decision: Decision) -> Option<CompressReply>
+    ensures { result ≡ compress_reply decision }
 {
-    match fate {
-        Fate::Merged(hint) => Some(CompressReply::Merged(hint)),
-        Fate::Evened => Some(CompressReply::Evened),
-        Fate::Enough => Some(CompressReply::Enough),
-        Fate::Unposted(hint) => Some(CompressReply::Unposted(hint)),
-        Fate::Refused => Some(CompressReply::NoRoom),
-        Fate::Lost => None,
+    match decision {
+        Decision::Merged(hint) => Some(CompressReply::Merged(hint)),
+        Decision::Evened => Some(CompressReply::Evened),
+        Decision::Enough => Some(CompressReply::Enough),
+        Decision::Unposted(hint) => Some(CompressReply::Unposted(hint)),
+        Decision::Refused => Some(CompressReply::NoRoom),
+        Decision::Lost => None,
     }
 }
 
@@ -58,7 +58,7 @@ fn squeezed(level: u32, key: u64, compression: Compression, seen: Seen) -> Compr
 {
     match compression.took(seen) {
         Compressed::On(compression) => CompressStage::Compressing(compression),
-        Compressed::Over(fate) => match reply_of(fate) {
+        Compressed::Over(decision) => match reply_of(decision) {
             Some(reply) => CompressStage::Ending(reply),
             None => CompressStage::Coming(Approach::Start),
         },

@@ -152,7 +152,7 @@ module _ {P : Type 0} (know : P → Know) (w : World P) (g : IsGood know w) (p :
 
   -- it ends
   pub finished : (reply : Option Reply) (s : State Page) → Enabled w.now p (End reply) → Does w.now p (End reply) s → Answered w.trail p reply → k'.middle ≡ k.middle → ((x : ℕ) → HoldsPage k.holds x → HoldsPage k'.holds x) → IsSure (after w s (silent p (End reply)) b w.status w.sep w.map) p k' → Turned know w p (End reply) s b
-  finished reply s can does told middle places own =
+  finished reply s can does observed middle places own =
       let next : World P = after w s (silent p (End reply)) b w.status w.sep w.map in
       let extends = Extends-after w s (silent p (End reply)) b w.status w.sep w.map (record { enabled = can; changes = does.changes; on = does.on }) tt in
       record {
@@ -163,7 +163,7 @@ module _ {P : Type 0} (know : P → Know) (w : World P) (g : IsGood know w) (p :
         now = refl;
         good = Finishes-keeps know w next p reply b (record {
           extends = extends;
-          told = told;
+          observed = observed;
           ghost = record { status = refl; sep = refl; map = refl };
           middle = rw (before, then) middle;
           places = λ x h. rw then (places x (rw before at h));

@@ -24,7 +24,7 @@ use Rattle.bl_proc_base.specs.declared.approaching.Approach.TheVariants.{Start, 
 use Rattle.bl_proc_base.specs.declared.approaching.Approached.TheVariants as came
 use Rattle.bl_proc_base.specs.Onwards.{IsDead, Leads}
 use Rattle.bl_proc_base.specs.Approaches.{approach_next, Enters, Turns, Quits, Approaches}
-use Rattle.bl_proc_invariant.specs.Turns.{event_of, IsTold, Does, Turned}
+use Rattle.bl_proc_invariant.specs.Turns.{event_of, IsObserved, Does, Turned}
 use Rattle.bl_proc_invariant.specs.Tables.{idle, holds_live, goes_to, know_approach}
 use Rattle.bl_proc_invariant.specs.Knowing.{ending}
 use Rattle.bl_proc_invariant.proofs.Acts.{watched, latched, opened}
@@ -107,36 +107,36 @@ module _ {P : Type 0} (know : P → Know) (w : World P) (g : IsGood know w) (p :
         (walks w _ p (Get x) (Some (w.now.contents x)) gs (key < unbounded) stage said may below)
 
     pub start_turn : (a : Approach) (c : Page) (s : State Page) → know (w.proc p) ≡ know_approach level key Start → know b ≡ know_approach level key a → c ≡ w.now.contents 0 → Enters level (roots_of c) a → Does w.now p (Get 0) s → Turned know w p (Get 0) s b
-    start_turn Start c s before then told e does =
+    start_turn Start c s before then observed e does =
         let sure : IsSure w p (know_approach level key Start) = rw before at (g.sure p) in
         got_goes _ 0 s [] before refl refl then sure.stage sure.said (anchor_not_released know w g) does sure.sound tt
-    start_turn (At x) c s before then told e does =
+    start_turn (At x) c s before then observed e does =
         let sure : IsSure w p (know_approach level key Start) = rw before at (g.sure p) in
-        got_goes _ 0 s (goes_to x level 12 ∷ []) before refl refl then sure.stage sure.said (anchor_not_released know w g) does sure.sound ((enters_goes level x sure.stage).0 (rw told at e), tt)
-    start_turn (Latching x) c s before then told e does =
+        got_goes _ 0 s (goes_to x level 12 ∷ []) before refl refl then sure.stage sure.said (anchor_not_released know w g) does sure.sound ((enters_goes level x sure.stage).0 (rw observed at e), tt)
+    start_turn (Latching x) c s before then observed e does =
         let sure : IsSure w p (know_approach level key Start) = rw before at (g.sure p) in
-        got_goes _ 0 s (goes_to x level level ∷ []) before refl refl then sure.stage sure.said (anchor_not_released know w g) does sure.sound ((enters_goes level x sure.stage).1 (rw told at e), tt)
-    start_turn (Latched x) c s before then told e does = absurd e
-    start_turn (Leaving x to) c s before then told e does = absurd e
+        got_goes _ 0 s (goes_to x level level ∷ []) before refl refl then sure.stage sure.said (anchor_not_released know w g) does sure.sound ((enters_goes level x sure.stage).1 (rw observed at e), tt)
+    start_turn (Latched x) c s before then observed e does = absurd e
+    start_turn (Leaving x to) c s before then observed e does = absurd e
 
     pub at_turn : (x : ℕ) (a : Approach) (c : Page) (o : Step) (s : State Page) → know (w.proc p) ≡ know_approach level key (At x) → know b ≡ know_approach level key a → c ≡ w.now.contents x → Leads c key level o → Turns level x c o a → Does w.now p (Get x) s → Turned know w p (Get x) s b
-    at_turn x Start c o s before then told l t does =
+    at_turn x Start c o s before then observed l t does =
         let sure : IsSure w p (know_approach level key (At x)) = rw before at (g.sure p) in
         got_goes _ x s [] before refl refl then sure.stage sure.said (not_released know w g p x sure.goes.0.may) does sure.sound tt
-    at_turn x (At z) c o s before then told l t does =
+    at_turn x (At z) c o s before then observed l t does =
         let sure : IsSure w p (know_approach level key (At x)) = rw before at (g.sure p) in
-        got_goes _ x s (goes_to z level 12 ∷ []) before refl refl then sure.stage sure.said (not_released know w g p x sure.goes.0.may) does sure.sound ((turns_goes level key x z o sure.goes.0 sure.sound (rw told at l)).0 (rw told at t), tt)
-    at_turn x (Latching z) c o s before then told l t does =
+        got_goes _ x s (goes_to z level 12 ∷ []) before refl refl then sure.stage sure.said (not_released know w g p x sure.goes.0.may) does sure.sound ((turns_goes level key x z o sure.goes.0 sure.sound (rw observed at l)).0 (rw observed at t), tt)
+    at_turn x (Latching z) c o s before then observed l t does =
         let sure : IsSure w p (know_approach level key (At x)) = rw before at (g.sure p) in
-        got_goes _ x s (goes_to z level level ∷ []) before refl refl then sure.stage sure.said (not_released know w g p x sure.goes.0.may) does sure.sound ((turns_goes level key x z o sure.goes.0 sure.sound (rw told at l)).1 (rw told at t), tt)
-    at_turn x (Latched z) c o s before then told l t does = absurd (no_latched o t)
+        got_goes _ x s (goes_to z level level ∷ []) before refl refl then sure.stage sure.said (not_released know w g p x sure.goes.0.may) does sure.sound ((turns_goes level key x z o sure.goes.0 sure.sound (rw observed at l)).1 (rw observed at t), tt)
+    at_turn x (Latched z) c o s before then observed l t does = absurd (no_latched o t)
       where
         no_latched : (o : Step) → Turns level x c o (Latched z) → ⊥
         no_latched Again h = h
         no_latched (Right y) h = h
         no_latched (Down y) h = h
         no_latched Here h = h
-    at_turn x (Leaving z to) c o s before then told l t does = absurd (no_leaving o t)
+    at_turn x (Leaving z to) c o s before then observed l t does = absurd (no_leaving o t)
       where
         no_leaving : (o : Step) → Turns level x c o (Leaving z to) → ⊥
         no_leaving Again h = h
@@ -145,10 +145,10 @@ module _ {P : Type 0} (know : P → Know) (w : World P) (g : IsGood know w) (p :
         no_leaving Here h = h
 
     pub latch_turn : (x : ℕ) (s : State Page) → know (w.proc p) ≡ know_approach level key (Latching x) → know b ≡ know_approach level key (Latched x) → w.now.owner x ≡ Owner.Open → Does w.now p (Latch x) s → Turned know w p (Latch x) s b
-    latch_turn x s before then told does =
+    latch_turn x s before then observed does =
         let sure : IsSure w p (know_approach level key (Latching x)) = rw before at (g.sure p) in
-        latched know w g p b _ _ before then x s told does refl (inl refl) (λ y h. absurd h)
-        (walks_held w _ p (Latch x) None x (goes_to x level level ∷ []) (key < unbounded) sure.stage sure.said does.changes.1.at (open_live know w g p x sure.goes.0.may told) sure.goes sure.sound)
+        latched know w g p b _ _ before then x s observed does refl (inl refl) (λ y h. absurd h)
+        (walks_held w _ p (Latch x) None x (goes_to x level level ∷ []) (key < unbounded) sure.stage sure.said does.changes.1.at (open_live know w g p x sure.goes.0.may observed) sure.goes sure.sound)
 
     pub miss_turn : {what : Missed} (x : ℕ) (s : State Page) → know (w.proc p) ≡ know_approach level key (Latching x) → know b ≡ know_approach level key (At x) → level ≤ 12 → Does w.now p (Miss what) s → Turned know w p (Miss what) s b
     miss_turn {what} x s before then low does =
@@ -157,14 +157,14 @@ module _ {P : Type 0} (know : P → Know) (w : World P) (g : IsGood know w) (p :
         (walks w _ p (Miss what) None (goes_to x level 12 ∷ []) (key < unbounded) sure.stage sure.said (wider x level level level 12 (omega arith) low sure.goes.0, tt) sure.sound)
 
     pub leave_turn : (x : ℕ) (to : Option ℕ) (c : Page) (o : Step) (s : State Page) → know (w.proc p) ≡ know_approach level key (Latched x) → know b ≡ know_approach level key (Leaving x to) → c ≡ w.now.contents x → Leads c key level o → Quits o to → Does w.now p (Get x) s → Turned know w p (Get x) s b
-    leave_turn x None c o s before then told l q does =
+    leave_turn x None c o s before then observed l q does =
         let sure : IsSure w p (know_approach level key (Latched x)) = rw before at (g.sure p) in
         watched know w g p b _ _ before then (Get x) (Some (w.now.contents x)) None s tt (sure.stage, not_released know w g p x sure.goes.0.may) does refl refl (λ y h. h) (λ it e. cc) (λ j. refl)
         (walks_held w _ p (Get x) (Some (w.now.contents x)) x [] (key < unbounded) sure.stage sure.said (does.changes.1 x ∙ sure.holds.0.owner) sure.holds.0.status tt sure.sound)
-    leave_turn x (Some y) c o s before then told l q does =
+    leave_turn x (Some y) c o s before then observed l q does =
         let sure : IsSure w p (know_approach level key (Latched x)) = rw before at (g.sure p) in
         watched know w g p b _ _ before then (Get x) (Some (w.now.contents x)) None s tt (sure.stage, not_released know w g p x sure.goes.0.may) does refl refl (λ y h. h) (λ it e. cc) (λ j. refl)
-        (walks_held w _ p (Get x) (Some (w.now.contents x)) x (goes_to y level level ∷ []) (key < unbounded) sure.stage sure.said (does.changes.1 x ∙ sure.holds.0.owner) sure.holds.0.status (goes o (rw told at l) q sure, tt) sure.sound)
+        (walks_held w _ p (Get x) (Some (w.now.contents x)) x (goes_to y level level ∷ []) (key < unbounded) sure.stage sure.said (does.changes.1 x ∙ sure.holds.0.owner) sure.holds.0.status (goes o (rw observed at l) q sure, tt) sure.sound)
       where
         goes : (o : Step) → Leads (w.now.contents x) key level o → Quits o (Some y) → IsSure w p (know_approach level key (Latched x)) → IsGoes w p (goes_to y level level)
         goes (Right z) l q sure =
@@ -191,15 +191,15 @@ module _ {P : Type 0} (know : P → Know) (w : World P) (g : IsGood know w) (p :
     leaving_turn x (Some y) a' what s before then t does = absurd t
 
     -- every turn of the way that does not end it
-    pub approach_turn : (a a' : Approach) (what : Seen) (s : State Page) → level ≤ 12 → know (w.proc p) ≡ know_approach level key a → know b ≡ know_approach level key a' → Approaches level key a what (came.On a') → IsTold w.now w.size (approach_next a) what → Does w.now p (event_of None (approach_next a) what) s → Turned know w p (event_of None (approach_next a) what) s b
-    approach_turn Start a' (seen.Words c) s low before then t told does = start_turn a' c s before then told t does
-    approach_turn (At x) a' (seen.Words c) s low before then t told does = at_turn x a' c t.0 s before then told t.1 t.2 does
-    approach_turn (Latching x) a' seen.Done s low before then t told does = latch_turn x s before (rw t at then) told does
-    approach_turn (Latching x) a' seen.Missed s low before then t told does = miss_turn x s before (rw t at then) low does
-    approach_turn (Latched x) (Leaving y to) (seen.Words c) s low before then t told does = leave_turn x to c t.1.0 s before (subst (λ z. know b ≡ know_approach level key (Leaving z to)) t.0 then) told t.1.1 t.1.2 does
-    approach_turn (Leaving x to) a' what s low before then t told does = leaving_turn x to a' what s before then t does
-    approach_turn a a' (seen.Words c) s low before then t told does = absurd t
-    approach_turn a a' what s low before then t told does = absurd t
+    pub approach_turn : (a a' : Approach) (what : Seen) (s : State Page) → level ≤ 12 → know (w.proc p) ≡ know_approach level key a → know b ≡ know_approach level key a' → Approaches level key a what (came.On a') → IsObserved w.now w.size (approach_next a) what → Does w.now p (event_of None (approach_next a) what) s → Turned know w p (event_of None (approach_next a) what) s b
+    approach_turn Start a' (seen.Words c) s low before then t observed does = start_turn a' c s before then observed t does
+    approach_turn (At x) a' (seen.Words c) s low before then t observed does = at_turn x a' c t.0 s before then observed t.1 t.2 does
+    approach_turn (Latching x) a' seen.Done s low before then t observed does = latch_turn x s before (rw t at then) observed does
+    approach_turn (Latching x) a' seen.Missed s low before then t observed does = miss_turn x s before (rw t at then) low does
+    approach_turn (Latched x) (Leaving y to) (seen.Words c) s low before then t observed does = leave_turn x to c t.1.0 s before (subst (λ z. know b ≡ know_approach level key (Leaving z to)) t.0 then) observed t.1.1 t.1.2 does
+    approach_turn (Leaving x to) a' what s low before then t observed does = leaving_turn x to a' what s before then t does
+    approach_turn a a' (seen.Words c) s low before then t observed does = absurd t
+    approach_turn a a' what s low before then t observed does = absurd t
 
     -- A process on its way to a parent gives up at the anchor.
     pub give_up_turn : (s : State Page) → know (w.proc p) ≡ know_approach level key Start → know b ≡ ending None → Does w.now p (Get 0) s → Turned know w p (Get 0) s b

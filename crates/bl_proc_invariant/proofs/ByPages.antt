@@ -13,7 +13,7 @@ use Rattle.bl_rearrange.specs.declared.sides.Side.{Side}
 use Rattle.bl_rearrange.specs.declared.sides.Side.TheVariants as side
 use Rattle.bl_claims.specs.Trails.{Trail}
 use Rattle.bl_proc_base.specs.declared.answers.Hint.{Hint}
-use Rattle.bl_proc_compress.specs.declared.compressing.Trio.{Trio}
+use Rattle.bl_proc_compress.specs.declared.compressing.Siblings.{Siblings}
 use Rattle.bl_proc_compress.specs.declared.compressing.Family.{Family}
 use Rattle.bl_proc_compress.specs.declared.compressing.Puts.{Puts}
 use Rattle.bl_proc_compress.specs.Compressions.{Merges, Evens, Relists, merge_hint, other}
@@ -57,7 +57,7 @@ module _ (level key : ℕ) (ms : Trail) (u : Puts) where
         merged = u.left;
         parent = u.parent;
         dead = u.right;
-        both = subst (λ (t : Trio). AtBoth level key ms h.family h.left h.right (to_merged t u.left u.parent u.right)) h.at acts;
+        both = subst (λ (t : Siblings). AtBoth level key ms h.family h.left h.right (to_merged t u.left u.parent u.right)) h.at acts;
         merge = merge_of h.family h.left h.right u near m;
         hint_is = ap (λ (l : ℕ). merge_hint l u.parent u.left) h.both.left.family.level_is;
       }
@@ -69,6 +69,6 @@ module _ (level key : ℕ) (ms : Trail) (u : Puts) where
     right = h.right;
     now = evened_of u v.separator;
     parent = u.parent;
-    both = subst (λ (t : Trio). AtBoth level key ms h.family h.left h.right (to_evened t (evened_of u v.separator) u.parent)) h.at h.both;
+    both = subst (λ (t : Siblings). AtBoth level key ms h.family h.left h.right (to_evened t (evened_of u v.separator) u.parent)) h.at h.both;
     evening = evening_of h.family h.left h.right u v;
   }

@@ -11,9 +11,9 @@ use Rattle.bl_core.proofs.Pushes.{HasSaid-silent}
 use Rattle.bl_claims.specs.Trails.{Mark}
 use Rattle.bl_core.specs.Worlds.{Stage, Know, World, nodes, IsSure, IsGood, silent}
 use Rattle.bl_core.proofs.Descents.{not_released, open_live}
-use Rattle.bl_proc_compress.specs.declared.compressing.Trio.{Trio}
+use Rattle.bl_proc_compress.specs.declared.compressing.Siblings.{Siblings}
 use Rattle.bl_proc_compress.specs.declared.compressing.Family.{Family}
-use Rattle.bl_proc_compress.specs.declared.compressing.Fate.{Fate}
+use Rattle.bl_proc_compress.specs.declared.compressing.Decision.{Decision}
 use Rattle.bl_proc_compress.specs.declared.compressing.Puts.{Puts}
 use Rattle.bl_proc_compress.specs.declared.compressing.Compression.TheVariants.{LatchingLeft, LatchedLeft, LatchingRight, LatchedRight, PuttingFirst, OpeningRight, OpeningLeft, OpeningParent}
 use Rattle.bl_rearrange.specs.Rearranged.{right_of}
@@ -28,15 +28,15 @@ module _ {P : Type 0} (know : P → Know) (w : World P) (g : IsGood know w) (p :
   differ x y h o i = (let a : Owner.Open ≡ Held p = sym o ∙ (ap w.now.owner (sym i) ∙ h) in cc)
 
   pub latch_left_turn : (f : Family) (s : State Page) → know (w.proc p) ≡ know_compression level key got at new (LatchingLeft f) → know b ≡ know_compression level key got at new (LatchedLeft f) → w.now.owner f.at.left ≡ Owner.Open → Does w.now p (Latch f.at.left) s → Turned know w p (Latch f.at.left) s b
-  latch_left_turn f s before then told does =
+  latch_left_turn f s before then observed does =
       let is : IsSure w p (know_compression level key got at new (LatchingLeft f)) = rw before at (g.sure p) in
       let x = f.at.left in
-      let n : f.at.parent ≢ x = differ f.at.parent x is.holds.0.owner told in
-      latched know w g p b _ _ before then x s told does refl (inr (inl refl)) (λ y h. elim h [ inl e ↦ inl e | inr u ↦ absurd u ])
+      let n : f.at.parent ≢ x = differ f.at.parent x is.holds.0.owner observed in
+      latched know w g p b _ _ before then x s observed does refl (inr (inl refl)) (λ y h. elim h [ inl e ↦ inl e | inr u ↦ absurd u ])
       (record {
         stage = is.stage;
         said = HasSaid-silent w.trail (silent p (Latch x)) p None refl is.said;
-        holds = ((does.changes.1.others f.at.parent n ∙ is.holds.0.owner, is.holds.0.status, tt, is.holds.0.page), ((does.changes.1.at, open_live know w g p x is.goes.0.may told, tt, tt), tt));
+        holds = ((does.changes.1.others f.at.parent n ∙ is.holds.0.owner, is.holds.0.status, tt, is.holds.0.page), ((does.changes.1.at, open_live know w g p x is.goes.0.may observed, tt, tt), tt));
         goes = is.goes;
         children = tt;
         passed = tt;
@@ -44,16 +44,16 @@ module _ {P : Type 0} (know : P → Know) (w : World P) (g : IsGood know w) (p :
       })
 
   pub latch_right_turn : (f : Family) (c : Page) (s : State Page) → know (w.proc p) ≡ know_compression level key got at new (LatchingRight f c) → know b ≡ know_compression level key got at new (LatchedRight f c) → w.now.owner f.at.right ≡ Owner.Open → Does w.now p (Latch f.at.right) s → Turned know w p (Latch f.at.right) s b
-  latch_right_turn f c s before then told does =
+  latch_right_turn f c s before then observed does =
       let is : IsSure w p (know_compression level key got at new (LatchingRight f c)) = rw before at (g.sure p) in
       let y = f.at.right in
-      let n : f.at.parent ≢ y = differ f.at.parent y is.holds.0.owner told in
-      let m : f.at.left ≢ y = differ f.at.left y is.holds.1.0.owner told in
-      latched know w g p b _ _ before then y s told does refl (inr (inr (inl refl))) (λ z h. elim h [ inl e ↦ inl e | inr u ↦ elim u [ inl e ↦ inr (inl e) | inr v ↦ absurd v ] ])
+      let n : f.at.parent ≢ y = differ f.at.parent y is.holds.0.owner observed in
+      let m : f.at.left ≢ y = differ f.at.left y is.holds.1.0.owner observed in
+      latched know w g p b _ _ before then y s observed does refl (inr (inr (inl refl))) (λ z h. elim h [ inl e ↦ inl e | inr u ↦ elim u [ inl e ↦ inr (inl e) | inr v ↦ absurd v ] ])
       (record {
         stage = is.stage;
         said = HasSaid-silent w.trail (silent p (Latch y)) p None refl is.said;
-        holds = ((does.changes.1.others f.at.parent n ∙ is.holds.0.owner, is.holds.0.status, tt, is.holds.0.page), ((does.changes.1.others f.at.left m ∙ is.holds.1.0.owner, is.holds.1.0.status, tt, is.holds.1.0.page), ((does.changes.1.at, open_live know w g p y is.goes.0.may told, tt, tt), tt)));
+        holds = ((does.changes.1.others f.at.parent n ∙ is.holds.0.owner, is.holds.0.status, tt, is.holds.0.page), ((does.changes.1.others f.at.left m ∙ is.holds.1.0.owner, is.holds.1.0.status, tt, is.holds.1.0.page), ((does.changes.1.at, open_live know w g p y is.goes.0.may observed, tt, tt), tt)));
         goes = is.goes;
         children = tt;
         passed = tt;
@@ -91,12 +91,12 @@ module _ {P : Type 0} (know : P → Know) (w : World P) (g : IsGood know w) (p :
 
   -- the left child is got, and links to the right one
   pub link_turn : (f : Family) (c : Page) (s : State Page) → know (w.proc p) ≡ know_compression level key got at new (LatchedLeft f) → know b ≡ know_compression level key got at new (LatchingRight f c) → c ≡ w.now.contents f.at.left → right_of c ≡ f.at.right → Does w.now p (Get f.at.left) s → Turned know w p (Get f.at.left) s b
-  link_turn f c s before then told linked does =
+  link_turn f c s before then observed linked does =
       let is : IsSure w p (know_compression level key got at new (LatchedLeft f)) = rw before at (g.sure p) in
       let x = f.at.left in
       let m : Mark = record { event = record { process = p; act = Get x }; saw = Some (w.now.contents x); said = None } in
       let level_is : suc (node_of c).shape.level ≡ level = (
-      let e : (node_of c).shape.level ≡ (nodes w.now x).shape.level = ap (λ z. (node_of z).shape.level) told in
+      let e : (node_of c).shape.level ≡ (nodes w.now x).shape.level = ap (λ z. (node_of z).shape.level) observed in
       let least = is.goes.0.least in
       let most = is.goes.0.most in
       let some = is.sound.0.1 in
@@ -105,7 +105,7 @@ module _ {P : Type 0} (know : P → Know) (w : World P) (g : IsGood know w) (p :
       (record {
         stage = is.stage;
         said = HasSaid-silent w.trail m p None refl is.said;
-        holds = ((does.changes.1 f.at.parent ∙ is.holds.0.owner, is.holds.0.status, tt, is.holds.0.page), ((does.changes.1 x ∙ is.holds.1.0.owner, is.holds.1.0.status, tt, sym told), tt));
+        holds = ((does.changes.1 f.at.parent ∙ is.holds.0.owner, is.holds.0.status, tt, is.holds.0.page), ((does.changes.1 x ∙ is.holds.1.0.owner, is.holds.1.0.status, tt, sym observed), tt));
         goes = (is.goes.1.0, tt);
         children = tt;
         passed = tt;
@@ -113,12 +113,12 @@ module _ {P : Type 0} (know : P → Know) (w : World P) (g : IsGood know w) (p :
       })
 
   -- the left child is got, and a page stands between the two
-  pub unposted_turn : (f : Family) (t : Trio) (fate : Fate) (s : State Page) → know (w.proc p) ≡ know_compression level key got at new (LatchedLeft f) → know b ≡ know_compression level key got at new (OpeningLeft t fate) → t ≡ f.at → Does w.now p (Get f.at.left) s → Turned know w p (Get f.at.left) s b
-  unposted_turn f t fate s before then same does =
+  pub unposted_turn : (f : Family) (t : Siblings) (decision : Decision) (s : State Page) → know (w.proc p) ≡ know_compression level key got at new (LatchedLeft f) → know b ≡ know_compression level key got at new (OpeningLeft t decision) → t ≡ f.at → Does w.now p (Get f.at.left) s → Turned know w p (Get f.at.left) s b
+  unposted_turn f t decision s before then same does =
       let is : IsSure w p (know_compression level key got at new (LatchedLeft f)) = rw before at (g.sure p) in
       let x = f.at.left in
       let m : Mark = record { event = record { process = p; act = Get x }; saw = Some (w.now.contents x); said = None } in
-      watched know w g p b _ _ before (then ∙ ap (λ z. know_compression level key got at new (OpeningLeft z fate)) same) (Get x) (Some (w.now.contents x)) None s tt (is.stage, not_released know w g p x is.goes.0.may) does refl refl (λ y h. h) (λ it e. cc) (λ j. refl)
+      watched know w g p b _ _ before (then ∙ ap (λ z. know_compression level key got at new (OpeningLeft z decision)) same) (Get x) (Some (w.now.contents x)) None s tt (is.stage, not_released know w g p x is.goes.0.may) does refl refl (λ y h. h) (λ it e. cc) (λ j. refl)
       (record {
         stage = is.stage;
         said = HasSaid-silent w.trail m p None refl is.said;
@@ -130,12 +130,12 @@ module _ {P : Type 0} (know : P → Know) (w : World P) (g : IsGood know w) (p :
       })
 
   -- the right child is got, and the three stay as they are
-  pub stay_turn : (f : Family) (c : Page) (t : Trio) (fate : Fate) (s : State Page) → know (w.proc p) ≡ know_compression level key got at new (LatchedRight f c) → know b ≡ know_compression level key got at new (OpeningRight t fate) → t ≡ f.at → Does w.now p (Get f.at.right) s → Turned know w p (Get f.at.right) s b
-  stay_turn f c t fate s before then same does =
+  pub stay_turn : (f : Family) (c : Page) (t : Siblings) (decision : Decision) (s : State Page) → know (w.proc p) ≡ know_compression level key got at new (LatchedRight f c) → know b ≡ know_compression level key got at new (OpeningRight t decision) → t ≡ f.at → Does w.now p (Get f.at.right) s → Turned know w p (Get f.at.right) s b
+  stay_turn f c t decision s before then same does =
       let is : IsSure w p (know_compression level key got at new (LatchedRight f c)) = rw before at (g.sure p) in
       let y = f.at.right in
       let m : Mark = record { event = record { process = p; act = Get y }; saw = Some (w.now.contents y); said = None } in
-      watched know w g p b _ _ before (then ∙ ap (λ z. know_compression level key got at new (OpeningRight z fate)) same) (Get y) (Some (w.now.contents y)) None s tt (is.stage, not_released know w g p y is.goes.0.may) does refl refl (λ z h. h) (λ it e. cc) (λ j. refl)
+      watched know w g p b _ _ before (then ∙ ap (λ z. know_compression level key got at new (OpeningRight z decision)) same) (Get y) (Some (w.now.contents y)) None s tt (is.stage, not_released know w g p y is.goes.0.may) does refl refl (λ z h. h) (λ it e. cc) (λ j. refl)
       (record {
         stage = is.stage;
         said = HasSaid-silent w.trail m p None refl is.said;
@@ -147,8 +147,8 @@ module _ {P : Type 0} (know : P → Know) (w : World P) (g : IsGood know w) (p :
       })
 
   -- the reservation is refused
-  pub refuse_turn : {what : Missed} (u : Puts) (fate : Fate) (s : State Page) → know (w.proc p) ≡ know_compression level key got at new (PuttingFirst u) → know b ≡ know_compression level key got at new (OpeningRight u.at fate) → Does w.now p (Miss what) s → Turned know w p (Miss what) s b
-  refuse_turn {what} u fate s before then does =
+  pub refuse_turn : {what : Missed} (u : Puts) (decision : Decision) (s : State Page) → know (w.proc p) ≡ know_compression level key got at new (PuttingFirst u) → know b ≡ know_compression level key got at new (OpeningRight u.at decision) → Does w.now p (Miss what) s → Turned know w p (Miss what) s b
+  refuse_turn {what} u decision s before then does =
       let is : IsSure w p (know_compression level key got at new (PuttingFirst u)) = rw before at (g.sure p) in
       watched know w g p b _ _ before then (Miss what) None None s tt tt does tt refl (λ z h. h) (λ it e. cc) (λ j. refl)
       (record {
@@ -162,9 +162,9 @@ module _ {P : Type 0} (know : P → Know) (w : World P) (g : IsGood know w) (p :
       })
 
   -- the pages are opened, the right one first
-  pub open_right_turn : (t : Trio) (fate : Fate) (s : State Page) → know (w.proc p) ≡ know_compression level key got at new (OpeningRight t fate) → know b ≡ know_compression level key got at new (OpeningLeft t fate) → Does w.now p (Act.Open t.right) s → Turned know w p (Act.Open t.right) s b
-  open_right_turn t fate s before then does =
-      let is : IsSure w p (know_compression level key got at new (OpeningRight t fate)) = rw before at (g.sure p) in
+  pub open_right_turn : (t : Siblings) (decision : Decision) (s : State Page) → know (w.proc p) ≡ know_compression level key got at new (OpeningRight t decision) → know b ≡ know_compression level key got at new (OpeningLeft t decision) → Does w.now p (Act.Open t.right) s → Turned know w p (Act.Open t.right) s b
+  open_right_turn t decision s before then does =
+      let is : IsSure w p (know_compression level key got at new (OpeningRight t decision)) = rw before at (g.sure p) in
       let three = is.sound.1 in
       opened know w g p b _ _ before then t.right s is.holds.1.1.0.owner does (inl is.holds.1.1.0.status) refl refl ((λ e. cc, λ e. cc), ((λ e. cc, λ e. cc), ((λ e. cc, λ e. cc), tt)))
       (λ z n h. elim h [ inl e ↦ inl e | inr u ↦ elim u [ inl e ↦ inr (inl e) | inr v ↦ elim v [ inl e ↦ absurd (n (sym e)) | inr k ↦ absurd k ] ] ])
@@ -178,9 +178,9 @@ module _ {P : Type 0} (know : P → Know) (w : World P) (g : IsGood know w) (p :
         sound = (is.sound.0, three.left);
       })
 
-  pub open_left_turn : (t : Trio) (fate : Fate) (s : State Page) → know (w.proc p) ≡ know_compression level key got at new (OpeningLeft t fate) → know b ≡ know_compression level key got at new (OpeningParent t.parent fate) → Does w.now p (Act.Open t.left) s → Turned know w p (Act.Open t.left) s b
-  open_left_turn t fate s before then does =
-      let is : IsSure w p (know_compression level key got at new (OpeningLeft t fate)) = rw before at (g.sure p) in
+  pub open_left_turn : (t : Siblings) (decision : Decision) (s : State Page) → know (w.proc p) ≡ know_compression level key got at new (OpeningLeft t decision) → know b ≡ know_compression level key got at new (OpeningParent t.parent decision) → Does w.now p (Act.Open t.left) s → Turned know w p (Act.Open t.left) s b
+  open_left_turn t decision s before then does =
+      let is : IsSure w p (know_compression level key got at new (OpeningLeft t decision)) = rw before at (g.sure p) in
       opened know w g p b _ _ before then t.left s is.holds.1.0.owner does (inl is.holds.1.0.status) refl refl ((λ e. cc, λ e. cc), ((λ e. cc, λ e. cc), tt))
       (λ z n h. elim h [ inl e ↦ inl e | inr u ↦ elim u [ inl e ↦ absurd (n (sym e)) | inr v ↦ absurd v ] ])
       (record {
@@ -194,9 +194,9 @@ module _ {P : Type 0} (know : P → Know) (w : World P) (g : IsGood know w) (p :
       })
 
   -- the parent is opened last, and the process ends or begins its way again
-  pub open_parent_turn : (x : ℕ) (fate : Fate) (S : Type 0) (s : State Page) → know (w.proc p) ≡ know_compression level key got at new (OpeningParent x fate) → know b ≡ record (idle Stage.Busy) { sound = S } → (key < unbounded → S) → Does w.now p (Act.Open x) s → Turned know w p (Act.Open x) s b
-  open_parent_turn x fate S s before then on does =
-      let is : IsSure w p (know_compression level key got at new (OpeningParent x fate)) = rw before at (g.sure p) in
+  pub open_parent_turn : (x : ℕ) (decision : Decision) (S : Type 0) (s : State Page) → know (w.proc p) ≡ know_compression level key got at new (OpeningParent x decision) → know b ≡ record (idle Stage.Busy) { sound = S } → (key < unbounded → S) → Does w.now p (Act.Open x) s → Turned know w p (Act.Open x) s b
+  open_parent_turn x decision S s before then on does =
+      let is : IsSure w p (know_compression level key got at new (OpeningParent x decision)) = rw before at (g.sure p) in
       opened know w g p b _ _ before then x s is.holds.0.owner does (inl is.holds.0.status) refl refl ((λ e. cc, λ e. cc), tt)
       (λ z n h. elim h [ inl e ↦ absurd (n (sym e)) | inr u ↦ absurd u ])
       (record {

@@ -16,8 +16,8 @@ use Rattle.bl_core.proofs.Outside.{Retires-keeps}
 use Rattle.bl_core.specs.Compressions.{Couples}
 use Rattle.bl_core.proofs.Compressions.{PutsJoin-keeps, PutsLeftGain-keeps, PutsRightGain-keeps}
 use Rattle.bl_rearrange.specs.declared.sides.Side.TheVariants as side
-use Rattle.bl_proc_compress.specs.declared.compressing.Trio.{Trio}
-use Rattle.bl_proc_compress.specs.declared.compressing.Fate.{Fate}
+use Rattle.bl_proc_compress.specs.declared.compressing.Siblings.{Siblings}
+use Rattle.bl_proc_compress.specs.declared.compressing.Decision.{Decision}
 use Rattle.bl_proc_compress.specs.declared.compressing.Puts.{Puts}
 use Rattle.bl_proc_compress.specs.declared.compressing.Compression.TheVariants.{PuttingFirst, PuttingParent, Retiring, OpeningLeft}
 use Rattle.bl_proc_invariant.specs.Turns.{Does, Turned}
@@ -162,9 +162,9 @@ module _ {P : Type 0} (know : P → Know) (w : World P) (g : IsGood know w) (p :
     }
 
 -- the dead page is retired, and the other two are still held
-pub retire_turn : {P : Type 0} (know : P → Know) (w : World P) (g : IsGood know w) (p : Name) (b : P) (level key : ℕ) (got : ℕ → Page) (at new : ℕ) (t : Trio) (fate : Fate) (s : State Page) → know (w.proc p) ≡ know_compression level key got at new (Retiring t fate) → know b ≡ know_compression level key got at new (OpeningLeft t fate) → Does w.now p (Retire t.right) s → Turned know w p (Retire t.right) s b
-retire_turn know w g p b level key got at new t fate s before then does =
-    let is : IsSure w p (know_compression level key got at new (Retiring t fate)) = rw before at (g.sure p) in
+pub retire_turn : {P : Type 0} (know : P → Know) (w : World P) (g : IsGood know w) (p : Name) (b : P) (level key : ℕ) (got : ℕ → Page) (at new : ℕ) (t : Siblings) (decision : Decision) (s : State Page) → know (w.proc p) ≡ know_compression level key got at new (Retiring t decision) → know b ≡ know_compression level key got at new (OpeningLeft t decision) → Does w.now p (Retire t.right) s → Turned know w p (Retire t.right) s b
+retire_turn know w g p b level key got at new t decision s before then does =
+    let is : IsSure w p (know_compression level key got at new (Retiring t decision)) = rw before at (g.sure p) in
     let m : Mark = silent p (Retire t.right) in
     let three : AreThree t = is.sound.1 in
     let owns = does.changes.3 in

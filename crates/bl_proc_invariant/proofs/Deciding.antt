@@ -16,7 +16,7 @@ use Rattle.bl_claims.specs.Trails.{Mark}
 use Rattle.bl_core.specs.Worlds.{Know, World, nodes, tree_of, IsSure, IsGood}
 use Rattle.bl_core.proofs.Descents.{not_released}
 use Rattle.bl_core.proofs.Neighbours.{meets}
-use Rattle.bl_proc_compress.specs.declared.compressing.Trio.{Trio}
+use Rattle.bl_proc_compress.specs.declared.compressing.Siblings.{Siblings}
 use Rattle.bl_proc_compress.specs.declared.compressing.Family.{Family}
 use Rattle.bl_proc_compress.specs.declared.compressing.Puts.{Puts}
 use Rattle.bl_proc_compress.specs.declared.compressing.Compression.TheVariants.{LatchedRight, PuttingFirst}
@@ -24,7 +24,7 @@ use Rattle.bl_proc_invariant.specs.Turns.{Does, Turned}
 use Rattle.bl_proc_invariant.specs.Compressing.{AreThree, ToMerge, ToEvenLeft, ToEvenRight, know_compression}
 use Rattle.bl_proc_invariant.proofs.Acts.{watched}
 
-module _ {P : Type 0} (know : P → Know) (w : World P) (g : IsGood know w) (p : Name) (b : P) (level key : ℕ) (got got' : ℕ → Page) (at at' new new' : ℕ) (f : Family) (c d : Page) (u : Puts) (before : know (w.proc p) ≡ know_compression level key got at new (LatchedRight f c)) (told : d ≡ w.now.contents f.at.right) where
+module _ {P : Type 0} (know : P → Know) (w : World P) (g : IsGood know w) (p : Name) (b : P) (level key : ℕ) (got got' : ℕ → Page) (at at' new new' : ℕ) (f : Family) (c d : Page) (u : Puts) (before : know (w.proc p) ≡ know_compression level key got at new (LatchedRight f c)) (observed : d ≡ w.now.contents f.at.right) where
   sure : IsSure w p (know_compression level key got at new (LatchedRight f c))
   sure = rw before at (g.sure p)
 
@@ -58,11 +58,11 @@ module _ {P : Type 0} (know : P → Know) (w : World P) (g : IsGood know w) (p :
       let k = meets c d neighbours in
       let some = sure.sound.0.1 in
       let left_is : w.now.contents x ≡ c = sure.holds.1.0.page in
-      let right_level : suc (node_of d).shape.level ≡ level = (let e : (node_of d).shape.level ≡ level - 1 = ap (λ v. (node_of v).shape.level) told ∙ child.level_is in omega (arith, e, some)) in
-      let wide : (node_of d).shape.low < (node_of d).shape.end = subst (λ v. (node_of v).shape.low < (node_of v).shape.end) (sym told) (g.tree.side.wide y child.alive) in
-      let within : (node_of d).shape.end ≤ unbounded = subst (λ v. (node_of v).shape.end ≤ unbounded) (sym told) (g.tree.side.within y child.alive) in
+      let right_level : suc (node_of d).shape.level ≡ level = (let e : (node_of d).shape.level ≡ level - 1 = ap (λ v. (node_of v).shape.level) observed ∙ child.level_is in omega (arith, e, some)) in
+      let wide : (node_of d).shape.low < (node_of d).shape.end = subst (λ v. (node_of v).shape.low < (node_of v).shape.end) (sym observed) (g.tree.side.wide y child.alive) in
+      let within : (node_of d).shape.end ≤ unbounded = subst (λ v. (node_of v).shape.end ≤ unbounded) (sym observed) (g.tree.side.within y child.alive) in
       let end = k.end in
-      let low : (node_of d).shape.low ≡ f.key = ap (λ v. (node_of v).shape.low) told ∙ low_is in
+      let low : (node_of d).shape.low ≡ f.key = ap (λ v. (node_of v).shape.low) observed ∙ low_is in
       watched know w g p b _ _ before then (Get y) (Some (w.now.contents y)) None s tt (sure.stage, not_released know w g p y sure.goes.0.may) does refl refl
       (λ z h. elim h [
         | inl e ↦ inl (ap (λ t. t.parent) same ∙ e)
@@ -76,7 +76,7 @@ module _ {P : Type 0} (know : P → Know) (w : World P) (g : IsGood know w) (p :
           (subst (λ t. s.owner t.parent ≡ Held p) (sym same) (does.changes.1 f.at.parent ∙ sure.holds.0.owner), subst (λ t. w.status t.parent ≡ Live) (sym same) sure.holds.0.status, tt, ap (λ t. w.now.contents t.parent) same ∙ (parent_is ∙ sym got_parent)),
           (
             (subst (λ t. s.owner t.left ≡ Held p) (sym same) (does.changes.1 x ∙ sure.holds.1.0.owner), subst (λ t. w.status t.left ≡ Live) (sym same) sure.holds.1.0.status, tt, ap (λ t. w.now.contents t.left) same ∙ (left_is ∙ sym got_left)),
-            ((subst (λ t. s.owner t.right ≡ Held p) (sym same) (does.changes.1 y ∙ sure.holds.1.1.0.owner), subst (λ t. w.status t.right ≡ Live) (sym same) sure.holds.1.1.0.status, ap (λ t. w.sep t.right) same ∙ child.sep_is, ap (λ t. w.now.contents t.right) same ∙ (sym told ∙ sym got_right)), tt),
+            ((subst (λ t. s.owner t.right ≡ Held p) (sym same) (does.changes.1 y ∙ sure.holds.1.1.0.owner), subst (λ t. w.status t.right ≡ Live) (sym same) sure.holds.1.1.0.status, ap (λ t. w.sep t.right) same ∙ child.sep_is, ap (λ t. w.now.contents t.right) same ∙ (sym observed ∙ sym got_right)), tt),
           ),
         );
         goes = tt;
@@ -100,4 +100,4 @@ module _ {P : Type 0} (know : P → Know) (w : World P) (g : IsGood know w) (p :
       })
     where
       linked_is : got' u.at.left ≡ c → (node_of (got' u.at.left)).shape.right ≡ u.at.right
-      linked_is e = ap (λ v. (node_of v).shape.right) e ∙ ((meets c d neighbours).left_right ∙ (sure.sound.2 ∙ ap (λ (t : Trio). t.right) (sym same)))
+      linked_is e = ap (λ v. (node_of v).shape.right) e ∙ ((meets c d neighbours).left_right ∙ (sure.sound.2 ∙ ap (λ (t : Siblings). t.right) (sym same)))

@@ -21,11 +21,11 @@ use Rattle.bl_proc_base.specs.declared.acts.Seen.TheVariants as seen
 use Rattle.bl_proc_base.specs.declared.answers.Hint.{Hint}
 use Rattle.bl_proc_base.specs.declared.answers.Hint.TheVariants as post
 use Rattle.bl_proc_base.specs.declared.onwards.Step.TheVariants.{Here}
-use Rattle.bl_proc_compress.specs.declared.compressing.Trio.{Trio}
+use Rattle.bl_proc_compress.specs.declared.compressing.Siblings.{Siblings}
 use Rattle.bl_proc_compress.specs.declared.compressing.Family.{Family}
 use Rattle.bl_proc_compress.specs.declared.compressing.Puts.{Puts}
-use Rattle.bl_proc_compress.specs.declared.compressing.Fate.{Fate}
-use Rattle.bl_proc_compress.specs.declared.compressing.Fate.TheVariants as fate
+use Rattle.bl_proc_compress.specs.declared.compressing.Decision.{Decision}
+use Rattle.bl_proc_compress.specs.declared.compressing.Decision.TheVariants as decision
 use Rattle.bl_proc_compress.specs.declared.compressing.Compression.{Compression}
 use Rattle.bl_proc_compress.specs.declared.compressing.Compression.TheVariants.{LatchingLeft, LatchedLeft, LatchingRight, LatchedRight, PuttingFirst, PuttingParent, PuttingLast, Retiring, OpeningRight, OpeningLeft, OpeningParent}
 use Rattle.bl_proc_compress.specs.declared.compressing.Compressed.TheVariants as step
@@ -38,7 +38,7 @@ use Rattle.bl_proc_compress.specs.declared.squeezing.CompressStage.TheVariants a
 use Rattle.bl_proc_compress.specs.Compresses.{compress_reply, compress_next_in, CompressArrives}
 use Rattle.bl_proc_invariant.specs.Turns.{event_of}
 use Rattle.bl_proc_meanings.specs.Squeezed.{acts_in, acts_of, Since, AtFamily, AtLeft, AtBoth, to_right, LacksPlace, Once}
-use Rattle.bl_proc_invariant.specs.Logs.{put_act, to_last, IsToSqueeze, come_log, fate_log, squeeze_log, pressed_log, compress_log}
+use Rattle.bl_proc_invariant.specs.Logs.{put_act, to_last, IsToSqueeze, come_log, decision_log, squeeze_log, pressed_log, compress_log}
 use Rattle.bl_proc_invariant.proofs.ByPages.{merge_of, evened_of, evening_of, has_merged, has_evened}
 use Rattle.bl_proc_invariant.proofs.Logging.{way_stays, way_goes}
 use Rattle.bl_proc_unique.proofs.WayCases.{SqueezeCase, squeeze_case}
@@ -95,10 +95,10 @@ act_put : (sd : Side) (u : Puts) → acts_in (put_act sd u) ≡ put_act sd u ∷
 act_put side.Left u = refl
 act_put side.Right u = refl
 
-same_merge : (h i : Option Hint) → fate.Merged h ≡ fate.Merged i → h ≡ i
+same_merge : (h i : Option Hint) → decision.Merged h ≡ decision.Merged i → h ≡ i
 same_merge h i e = cc
 
-not_evened : (h : Option Hint) → fate.Merged h ≡ fate.Evened → ⊥
+not_evened : (h : Option Hint) → decision.Merged h ≡ decision.Evened → ⊥
 not_evened h e = cc
 
 decided_at : (f : Family) (c d : Page) (u : Puts) → Decides f c d (PuttingFirst u) → u.at ≡ f.at
@@ -155,13 +155,13 @@ module _ (ms : Trail) (m : Mark) where
   once_now h = record { until = more; after = []; split = sym (append-nil more); no_more = refl; is = h }
 
   module _ (level key : ℕ) where
-    fate_on : (ended : Fate) → writes_in m.event.act ≡ [] → fate_log level key ended ms → fate_log level key ended more
-    fate_on (fate.Merged hint) put h = once_on put h
-    fate_on fate.Evened put h = once_on put h
-    fate_on fate.Enough put h = once_on put h
-    fate_on (fate.Unposted hint) put h = once_on put h
-    fate_on fate.Refused put h = once_on put h
-    fate_on fate.Lost put h = unwritten_on ms m put h
+    decision_on : (ended : Decision) → writes_in m.event.act ≡ [] → decision_log level key ended ms → decision_log level key ended more
+    decision_on (decision.Merged hint) put h = once_on put h
+    decision_on decision.Evened put h = once_on put h
+    decision_on decision.Enough put h = once_on put h
+    decision_on (decision.Unposted hint) put h = once_on put h
+    decision_on decision.Refused put h = once_on put h
+    decision_on decision.Lost put h = unwritten_on ms m put h
 
     pressed_on : (r : CompressReply) → writes_in m.event.act ≡ [] → pressed_log level key r ms → pressed_log level key r more
     pressed_on (reply.Merged hint) put h = once_on put h
@@ -174,27 +174,27 @@ module _ (ms : Trail) (m : Mark) where
     same_reply : (r r' : CompressReply) → Some r ≡ Some r' → r ≡ r'
     same_reply r r' e = cc
 
-    fate_pressed : (ended : Fate) (r : CompressReply) → compress_reply ended ≡ Some r → fate_log level key ended more → pressed_log level key r more
-    fate_pressed (fate.Merged hint) r e h = subst (λ z. pressed_log level key z more) (same_reply _ _ e) h
-    fate_pressed fate.Evened r e h = subst (λ z. pressed_log level key z more) (same_reply _ _ e) h
-    fate_pressed fate.Enough r e h = subst (λ z. pressed_log level key z more) (same_reply _ _ e) h
-    fate_pressed (fate.Unposted hint) r e h = subst (λ z. pressed_log level key z more) (same_reply _ _ e) h
-    fate_pressed fate.Refused r e h = subst (λ z. pressed_log level key z more) (same_reply _ _ e) h
-    fate_pressed fate.Lost r e h = absurd (let z : None ≡ Some r = e in cc)
+    decision_pressed : (ended : Decision) (r : CompressReply) → compress_reply ended ≡ Some r → decision_log level key ended more → pressed_log level key r more
+    decision_pressed (decision.Merged hint) r e h = subst (λ z. pressed_log level key z more) (same_reply _ _ e) h
+    decision_pressed decision.Evened r e h = subst (λ z. pressed_log level key z more) (same_reply _ _ e) h
+    decision_pressed decision.Enough r e h = subst (λ z. pressed_log level key z more) (same_reply _ _ e) h
+    decision_pressed (decision.Unposted hint) r e h = subst (λ z. pressed_log level key z more) (same_reply _ _ e) h
+    decision_pressed decision.Refused r e h = subst (λ z. pressed_log level key z more) (same_reply _ _ e) h
+    decision_pressed decision.Lost r e h = absurd (let z : None ≡ Some r = e in cc)
 
-    lost_unwritten : (ended : Fate) → compress_reply ended ≡ None → fate_log level key ended more → Unwritten more
-    lost_unwritten fate.Lost e h = h
-    lost_unwritten (fate.Merged hint) e h = absurd (let z : Some (reply.Merged hint) ≡ None = e in cc)
-    lost_unwritten fate.Evened e h = absurd (let z : Some reply.Evened ≡ None = e in cc)
-    lost_unwritten fate.Enough e h = absurd (let z : Some reply.Enough ≡ None = e in cc)
-    lost_unwritten (fate.Unposted hint) e h = absurd (let z : Some (reply.Unposted hint) ≡ None = e in cc)
-    lost_unwritten fate.Refused e h = absurd (let z : Some reply.NoRoom ≡ None = e in cc)
+    lost_unwritten : (ended : Decision) → compress_reply ended ≡ None → decision_log level key ended more → Unwritten more
+    lost_unwritten decision.Lost e h = h
+    lost_unwritten (decision.Merged hint) e h = absurd (let z : Some (reply.Merged hint) ≡ None = e in cc)
+    lost_unwritten decision.Evened e h = absurd (let z : Some reply.Evened ≡ None = e in cc)
+    lost_unwritten decision.Enough e h = absurd (let z : Some reply.Enough ≡ None = e in cc)
+    lost_unwritten (decision.Unposted hint) e h = absurd (let z : Some (reply.Unposted hint) ≡ None = e in cc)
+    lost_unwritten decision.Refused e h = absurd (let z : Some reply.NoRoom ≡ None = e in cc)
 
     -- all three pages were put
-    last_on : (u : Puts) → IsToSqueeze level key more u (to_last u) → squeeze_log level key (after_puts u.at u.fate) more
+    last_on : (u : Puts) → IsToSqueeze level key more u (to_last u) → squeeze_log level key (after_puts u.at u.decision) more
     last_on u h = elim h.decided [
-      | inl m ↦ subst (λ z. squeeze_log level key (after_puts u.at z) more) (sym m.1.fate) (u, refl, h, m.1.fate, (_, refl))
-      | inr v ↦ subst (λ z. squeeze_log level key (after_puts u.at z) more) (sym v.fate) (once_now (has_evened level key more u h v))
+      | inl m ↦ subst (λ z. squeeze_log level key (after_puts u.at z) more) (sym m.1.decision) (u, refl, h, m.1.decision, (_, refl))
+      | inr v ↦ subst (λ z. squeeze_log level key (after_puts u.at z) more) (sym v.decision) (once_now (has_evened level key more u h v))
     ]
 
     -- no frame was there for the first put
@@ -207,7 +207,7 @@ module _ (ms : Trail) (m : Mark) where
       family = h.family;
       left = h.left;
       right = h.right;
-      both = subst (λ (t : Trio). AtBoth level key ms h.family h.left h.right (to_right t)) h.at h.both;
+      both = subst (λ (t : Siblings). AtBoth level key ms h.family h.left h.right (to_right t)) h.at h.both;
       due = elim h.decided [
         | inl d ↦ inl (u.left, u.parent, u.right, merge_of h.family h.left h.right u d.0 d.1)
         | inr v ↦ inr (evened_of u v.separator, u.parent, evening_of h.family h.left h.right u v)
@@ -215,26 +215,26 @@ module _ (ms : Trail) (m : Mark) where
     }
 
     -- the right one was retired
-    retired_on : (at : Trio) (ended : Fate) → m.event.act ≡ Retire at.right → squeeze_log level key (Retiring at ended) ms → fate_log level key ended more
+    retired_on : (at : Siblings) (ended : Decision) → m.event.act ≡ Retire at.right → squeeze_log level key (Retiring at ended) ms → decision_log level key ended more
     retired_on at ended did (u, same, h, is, one) =
-        let e : acts_in m.event.act ≡ Retire u.at.right ∷ [] = ap acts_in did ∙ ap (λ (t : Trio). Retire t.right ∷ []) (sym same) in
+        let e : acts_in m.event.act ≡ Retire u.at.right ∷ [] = ap acts_in did ∙ ap (λ (t : Siblings). Retire t.right ∷ []) (sym same) in
         let whole = puts_on (Retire u.at.right ∷ []) e h in
         elim h.decided [
-          | inl m ↦ subst (λ z. fate_log level key z more) (sym m.1.fate ∙ is) (once_now (has_merged level key more u whole m.0 m.1))
-          | inr v ↦ absurd (not_evened one.0 (sym (is ∙ one.1) ∙ v.fate))
+          | inl m ↦ subst (λ z. decision_log level key z more) (sym m.1.decision ∙ is) (once_now (has_merged level key more u whole m.0 m.1))
+          | inr v ↦ absurd (not_evened one.0 (sym (is ∙ one.1) ∙ v.decision))
         ]
 
     links_on : (f : Family) (c : Page) (d : Compression) → Links f c d → m.event.act ≡ Get f.at.left → m.saw ≡ Some c → AtFamily level key ms f (Get f.at.parent ∷ Latch f.at.left ∷ []) → squeeze_log level key d more
     links_on f c (LatchingRight h page) t did saw log = rw (← t.0, ← t.1) at (left_got c did saw log)
-    links_on f c (OpeningLeft at ended) t did saw log = subst (λ z. fate_log level key z more) (sym t.2) (once_now (record { family = f; left = c; at = left_got c did saw log; between = t.1; hint_is = ap (λ l. post.Post l (high_of c)) log.level_is }))
+    links_on f c (OpeningLeft at ended) t did saw log = subst (λ z. decision_log level key z more) (sym t.2) (once_now (record { family = f; left = c; at = left_got c did saw log; between = t.1; hint_is = ap (λ l. post.Post l (high_of c)) log.level_is }))
     links_on f c old t did saw log = absurd t
 
     decides_on : (f : Family) (c d : Page) (new : Compression) → Decides f c d new → m.event.act ≡ Get f.at.right → m.saw ≡ Some d → AtLeft level key ms f c (Get f.at.parent ∷ Latch f.at.left ∷ Get f.at.left ∷ Latch f.at.right ∷ []) → squeeze_log level key new more
     decides_on f c d (PuttingFirst u) t did saw log =
         let same = decided_at f c d u t in
-        record { family = f; left = c; right = d; at = same; both = subst (λ (z : Trio). AtBoth level key more f c d (to_right z)) (sym same) (right_got d did saw log); decided = t }
-    decides_on f c d (OpeningRight at fate.Enough) t did saw log = once_now (record { family = f; left = c; right = d; both = right_got d did saw log; neighbours = t.1; past = t.2; left_many = t.3; right_many = t.4 })
-    decides_on f c d (OpeningRight at fate.Lost) t did saw log = unwritten_on ms m (ap writes_in did) (since_unwritten refl log.family.since)
+        record { family = f; left = c; right = d; at = same; both = subst (λ (z : Siblings). AtBoth level key more f c d (to_right z)) (sym same) (right_got d did saw log); decided = t }
+    decides_on f c d (OpeningRight at decision.Enough) t did saw log = once_now (record { family = f; left = c; right = d; both = right_got d did saw log; neighbours = t.1; past = t.2; left_many = t.3; right_many = t.4 })
+    decides_on f c d (OpeningRight at decision.Lost) t did saw log = unwritten_on ms m (ap writes_in did) (since_unwritten refl log.family.since)
     decides_on f c d old t did saw log = absurd t
 
     squeeze_on : {c d : Compression} {what : Seen} → SqueezeCase c what (step.On d) → m.event.act ≡ event_of None (compression_next c) what → ((x : ℕ) (e : Page) → m.event.act ≡ Get x → what ≡ seen.Words e → m.saw ≡ Some e) → squeeze_log level key c ms → squeeze_log level key d more
@@ -249,11 +249,11 @@ module _ (ms : Trail) (m : Mark) where
     squeeze_on (SqueezeCase.PutParent u d t) did saw h = subst (λ z. squeeze_log level key z more) (sym t) (puts_on (Put u.at.parent u.parent ∷ []) (ap acts_in did) h)
     squeeze_on (SqueezeCase.PutLast u d t) did saw h = subst (λ z. squeeze_log level key z more) (sym t) (last_on u (puts_on (put_act (other u.gains) u ∷ []) (ap acts_in (did ∙ put_event (other u.gains) u) ∙ act_put (other u.gains) u) h))
     squeeze_on (SqueezeCase.Retired at ended d t) did saw h = subst (λ z. squeeze_log level key z more) (sym t) (retired_on at ended did h)
-    squeeze_on (SqueezeCase.OpenedRight at ended d t) did saw h = subst (λ z. squeeze_log level key z more) (sym t) (fate_on ended (ap writes_in did) h)
-    squeeze_on (SqueezeCase.OpenedLeft at ended d t) did saw h = subst (λ z. squeeze_log level key z more) (sym t) (fate_on ended (ap writes_in did) h)
+    squeeze_on (SqueezeCase.OpenedRight at ended d t) did saw h = subst (λ z. squeeze_log level key z more) (sym t) (decision_on ended (ap writes_in did) h)
+    squeeze_on (SqueezeCase.OpenedLeft at ended d t) did saw h = subst (λ z. squeeze_log level key z more) (sym t) (decision_on ended (ap writes_in did) h)
 
-    over_on : {c : Compression} {what : Seen} {ended : Fate} → SqueezeCase c what (step.Over ended) → m.event.act ≡ event_of None (compression_next c) what → squeeze_log level key c ms → fate_log level key ended more
-    over_on (SqueezeCase.OpenedParent x ended _ t) did h = subst (λ z. fate_log level key z more) (sym t) (fate_on ended (ap writes_in did) h)
+    over_on : {c : Compression} {what : Seen} {ended : Decision} → SqueezeCase c what (step.Over ended) → m.event.act ≡ event_of None (compression_next c) what → squeeze_log level key c ms → decision_log level key ended more
+    over_on (SqueezeCase.OpenedParent x ended _ t) did h = subst (λ z. decision_log level key z more) (sym t) (decision_on ended (ap writes_in did) h)
 
     -- at the parent
     met_on : (x : ℕ) (parent : Inner) (f : Family) → CompressArrives key x parent (compress.Compressing (LatchingLeft f)) → Leads (InnerPage parent) key level Here → m.event.act ≡ Get x → m.saw ≡ Some (InnerPage parent) → Since ms x [] → compress_log level key (compress.Compressing (LatchingLeft f)) more
@@ -292,7 +292,7 @@ module _ (ms : Trail) (m : Mark) where
       compress_on (CompressCase.Single x parent y l t) did saw h = single_on x parent y t l did (saw x (InnerPage parent) did refl) h
       compress_on (CompressCase.Squeezed c what d t) did saw h = squeeze_on (squeeze_case c what _ t) did saw h
       compress_on (CompressCase.Lost c what a (ended, t, none, start)) did saw h = subst (λ z. come_log z more) (sym start) (lost_unwritten ended none (over_on (squeeze_case c what _ t) did h))
-      compress_on (CompressCase.Finished c what r (ended, t, some)) did saw h = fate_pressed ended r some (over_on (squeeze_case c what _ t) did h)
+      compress_on (CompressCase.Finished c what r (ended, t, some)) did saw h = decision_pressed ended r some (over_on (squeeze_case c what _ t) did h)
       compress_on (CompressCase.Opened x r t) did saw h = subst (λ z. pressed_log level key z more) (sym t) (once_on (ap writes_in did) h)
       compress_on (CompressCase.Ended r last t) did saw h = subst (λ z. pressed_log level key z more) (sym t) (pressed_on r (ap writes_in did) h)
 
@@ -307,9 +307,9 @@ module _ (ms : Trail) (m : Mark) where
     squeeze_stays (PuttingParent u) h = puts_on [] (ap acts_in did) h
     squeeze_stays (PuttingLast u) h = puts_on [] (ap acts_in did) h
     squeeze_stays (Retiring at ended) (u, same, h, is, one) = (u, same, puts_on [] (ap acts_in did) h, is, one)
-    squeeze_stays (OpeningRight at ended) h = fate_on level key ended (ap writes_in did) h
-    squeeze_stays (OpeningLeft at ended) h = fate_on level key ended (ap writes_in did) h
-    squeeze_stays (OpeningParent x ended) h = fate_on level key ended (ap writes_in did) h
+    squeeze_stays (OpeningRight at ended) h = decision_on level key ended (ap writes_in did) h
+    squeeze_stays (OpeningLeft at ended) h = decision_on level key ended (ap writes_in did) h
+    squeeze_stays (OpeningParent x ended) h = decision_on level key ended (ap writes_in did) h
 
     pub compress_stays : (a : CompressStage) → compress_log level key a ms → compress_log level key a more
     compress_stays compress.New h = tt

@@ -17,9 +17,9 @@ abbrev pub reply_said : Option Said → Option Reply
 reply_said (Some said) = Some said.reply
 reply_said None = None
 
-pub told_said : {P : Type 0} (w : World P) (p : Name) (said : Option Said) → HasSaid w.trail p said → Answered w.trail p (reply_said said)
-told_said w p (Some said) h = (h.0, said, h.1, refl)
-told_said w p None h = h
+pub observed_said : {P : Type 0} (w : World P) (p : Name) (said : Option Said) → HasSaid w.trail p said → Answered w.trail p (reply_said said)
+observed_said w p (Some said) h = (h.0, said, h.1, refl)
+observed_said w p None h = h
 
 module _ {P : Type 0} (know : P → Know) (w : World P) (g : IsGood know w) (p : Name) (b : P) where
   pub start_turn : (S : Type 0) (s : State _) → know (w.proc p) ≡ record (idle Stage.Early) { sound = S } → know b ≡ record (idle Stage.Busy) { sound = S } → Does w.now p Begin s → Turned know w p Begin s b
@@ -42,7 +42,7 @@ module _ {P : Type 0} (know : P → Know) (w : World P) (g : IsGood know w) (p :
   pub end_turn : (said : Option Said) (s : State _) → know (w.proc p) ≡ ending said → know b ≡ late said → Does w.now p (End (reply_said said)) s → Turned know w p (End (reply_said said)) s b
   end_turn said s before then does =
       let is : IsSure w p (ending said) = rw before at (g.sure p) in
-      finished know w g p b _ _ before then (reply_said said) s (is.stage, λ x o. rw before at (g.owned.held x p o)) does (told_said w p said is.said) refl (λ x h. h)
+      finished know w g p b _ _ before then (reply_said said) s (is.stage, λ x o. rw before at (g.owned.held x p o)) does (observed_said w p said is.said) refl (λ x h. h)
       (record {
         stage = does.changes.2.at;
         said = HasSaid-silent w.trail (silent p (End (reply_said said))) p said refl is.said;

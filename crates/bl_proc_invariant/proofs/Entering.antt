@@ -10,10 +10,10 @@ use Rattle.bl_core.specs.Worlds.{Stage, World, IsStage, IsRelied, HoldsPage}
 use Rattle.bl_claims.specs.Walks.{Each}
 use Rattle.bl_core.proofs.Watches.{Learns}
 use Rattle.bl_core.proofs.Fitted.{fits_row, without_row}
-use Rattle.bl_proc_base.specs.declared.changing.Change.{Change}
-use Rattle.bl_proc_base.specs.declared.changing.Change.TheVariants.{Putting, Taking, PuttingNew, PuttingOld, OpeningNew, Opening}
-use Rattle.bl_proc_base.specs.Changes.{EntersPair, DropsPair}
-use Rattle.bl_proc_invariant.specs.Tables.{Aim, IsDue, know_change}
+use Rattle.bl_proc_base.specs.declared.editing.Edit.{Edit}
+use Rattle.bl_proc_base.specs.declared.editing.Edit.TheVariants.{Putting, Taking, PuttingNew, PuttingOld, OpeningNew, Opening}
+use Rattle.bl_proc_base.specs.Edits.{EntersPair, DropsPair}
+use Rattle.bl_proc_invariant.specs.Tables.{Aim, IsDue, know_edit}
 
 -- What it has of page x, which is c, when a change of it begins.
 pub record Begun {P : Type 0} (w w' : World P) (p : Name) (aim : Aim) (x : ℕ) (c : Page) : Type 0 where
@@ -25,7 +25,7 @@ pub record Begun {P : Type 0} (w w' : World P) (p : Name) (aim : Aim) (x : ℕ) 
   pub due : IsDue aim c
   pub children : Each (λ k. (w'.now.owner k.parent ≡ Held p) × IsRelied w p k) (aim.children x)
 
-pub enters_learns : {P : Type 0} (w w' : World P) (p : Name) (a : Act Page _) (saw : Option Page) (aim : Aim) (x word : ℕ) (c : Page) (change : Change) → Begun w w' p aim x c → aim.word ≡ Some word → EntersPair x c aim.key word change → Learns w w' (record { event = record { process = p; act = a }; saw = saw; said = None }) (know_change aim (λ z. c) change)
+pub enters_learns : {P : Type 0} (w w' : World P) (p : Name) (a : Act Page _) (saw : Option Page) (aim : Aim) (x word : ℕ) (c : Page) (edit : Edit) → Begun w w' p aim x c → aim.word ≡ Some word → EntersPair x c aim.key word edit → Learns w w' (record { event = record { process = p; act = a }; saw = saw; said = None }) (know_edit aim (λ z. c) edit)
 enters_learns w w' p a saw aim x word c (Putting y page) h is e = record {
   stage = h.stage;
   said = HasSaid-silent w.trail (record { event = record { process = p; act = a }; saw = saw; said = None }) p None refl h.said;
@@ -49,7 +49,7 @@ enters_learns w w' p a saw aim x word c (PuttingOld t) h is e = absurd e
 enters_learns w w' p a saw aim x word c (OpeningNew y z s) h is e = absurd e
 enters_learns w w' p a saw aim x word c (Opening y o) h is e = absurd e
 
-pub drops_learns : {P : Type 0} (w w' : World P) (p : Name) (a : Act Page _) (saw : Option Page) (aim : Aim) (x : ℕ) (c : Page) (change : Change) → Begun w w' p aim x c → aim.word ≡ None → DropsPair x c aim.key change → Learns w w' (record { event = record { process = p; act = a }; saw = saw; said = None }) (know_change aim (λ z. c) change)
+pub drops_learns : {P : Type 0} (w w' : World P) (p : Name) (a : Act Page _) (saw : Option Page) (aim : Aim) (x : ℕ) (c : Page) (edit : Edit) → Begun w w' p aim x c → aim.word ≡ None → DropsPair x c aim.key edit → Learns w w' (record { event = record { process = p; act = a }; saw = saw; said = None }) (know_edit aim (λ z. c) edit)
 drops_learns w w' p a saw aim x c (Putting y page) h is e = record {
   stage = h.stage;
   said = HasSaid-silent w.trail (record { event = record { process = p; act = a }; saw = saw; said = None }) p None refl h.said;
@@ -66,19 +66,19 @@ drops_learns w w' p a saw aim x c (OpeningNew y z s) h is e = absurd e
 drops_learns w w' p a saw aim x c (Opening y o) h is e = absurd e
 
 -- a change begins with the page that it holds, and with no other
-pub enters_places : (aim : Aim) (x word key : ℕ) (c : Page) (change : Change) → EntersPair x c key word change → HoldsPage (know_change aim (λ z. c) change).holds x
+pub enters_places : (aim : Aim) (x word key : ℕ) (c : Page) (edit : Edit) → EntersPair x c key word edit → HoldsPage (know_edit aim (λ z. c) edit).holds x
 enters_places aim x word key c (Putting y page) e = inl e.0
 enters_places aim x word key c (Taking full) e = inl e.0
 enters_places aim x word key c old e = absurd e
 
-pub drops_places : (aim : Aim) (x key : ℕ) (c : Page) (change : Change) → DropsPair x c key change → HoldsPage (know_change aim (λ z. c) change).holds x
+pub drops_places : (aim : Aim) (x key : ℕ) (c : Page) (edit : Edit) → DropsPair x c key edit → HoldsPage (know_edit aim (λ z. c) edit).holds x
 drops_places aim x key c (Putting y page) e = inl e.0
 drops_places aim x key c old e = absurd e
 
-pub change_middle : (aim : Aim) (got : ℕ → Page) (change : Change) → (know_change aim got change).middle ≡ None
-change_middle aim got (Putting y page) = refl
-change_middle aim got (Taking full) = refl
-change_middle aim got (PuttingNew t) = refl
-change_middle aim got (PuttingOld t) = refl
-change_middle aim got (OpeningNew y z s) = refl
-change_middle aim got (Opening y o) = refl
+pub edit_middle : (aim : Aim) (got : ℕ → Page) (edit : Edit) → (know_edit aim got edit).middle ≡ None
+edit_middle aim got (Putting y page) = refl
+edit_middle aim got (Taking full) = refl
+edit_middle aim got (PuttingNew t) = refl
+edit_middle aim got (PuttingOld t) = refl
+edit_middle aim got (OpeningNew y z s) = refl
+edit_middle aim got (Opening y o) = refl

@@ -10,8 +10,8 @@ use Rattle.bl_proc_base.specs.declared.descent.Descent.{Descent}
 use Rattle.bl_proc_base.specs.declared.descent.Descent.TheVariants as descent
 use Rattle.bl_proc_base.specs.declared.approaching.Approach.{Approach}
 use Rattle.bl_proc_base.specs.declared.approaching.Approach.TheVariants as way
-use Rattle.bl_proc_base.specs.declared.changing.Change.{Change}
-use Rattle.bl_proc_base.specs.declared.changing.Change.TheVariants as change
+use Rattle.bl_proc_base.specs.declared.editing.Edit.{Edit}
+use Rattle.bl_proc_base.specs.declared.editing.Edit.TheVariants as edit
 use Rattle.bl_proc_base.specs.declared.growing.Growth.{Growth}
 use Rattle.bl_proc_base.specs.declared.growing.Growth.TheVariants as growth
 use Rattle.bl_proc.specs.declared.searching.FindStage.{FindStage}
@@ -39,7 +39,7 @@ use Rattle.bl_proc.specs.declared.kinds.Proc.{Proc}
 use Rattle.bl_proc.specs.declared.kinds.Proc.TheVariants.{Find, Insert, Delete, Post, Part, Compress, Reclaim, Lower}
 use Rattle.bl_proc_base.specs.Descents.{descent_next}
 use Rattle.bl_proc_base.specs.Approaches.{approach_next}
-use Rattle.bl_proc_base.specs.Changes.{change_next}
+use Rattle.bl_proc_base.specs.Edits.{edit_next}
 use Rattle.bl_proc_compress.specs.Compressions.{put_of, other, compression_next}
 use Rattle.bl_rearrange.specs.declared.sides.Side.{Side}
 use Rattle.bl_rearrange.specs.declared.sides.Side.TheVariants as side
@@ -56,7 +56,7 @@ use Rattle.bl_proc.specs.Lowers.{lower_next_in}
 use Rattle.bl_proc_base.specs.Lowerings.{lowering_next}
 use Rattle.bl_proc.specs.Processes.{next_of}
 use Rattle.bl_proc_invariant.specs.Compressing.{know_squeeze}
-use Rattle.bl_proc_invariant.specs.Tables.{Aim, holds_live, know_descent, know_approach, know_change}
+use Rattle.bl_proc_invariant.specs.Tables.{Aim, holds_live, know_descent, know_approach, know_edit}
 use Rattle.bl_proc_invariant.specs.Knowing.{know_growth, know_find, know_part, know_insert, know_delete, know_post, know_compress, know_reclaim, know_lower, know_of, Run, know}
 
 -- page 0, or one that it may get
@@ -73,13 +73,13 @@ module _ {P : Type 0} (w : World P) (p : Name) where
   approach_got level key (way.Leaving x None) is = tt
   approach_got level key (way.Leaving x (Some y)) is = tt
 
-  change_got : (aim : Aim) (got : ℕ → Page) (c : Change) → IsSure w p (know_change aim got c) → IsGot w p (change_next c)
-  change_got aim got (change.Putting x page) is = tt
-  change_got aim got (change.Taking full) is = tt
-  change_got aim got (change.PuttingNew t) is = tt
-  change_got aim got (change.PuttingOld t) is = tt
-  change_got aim got (change.OpeningNew x y s) is = tt
-  change_got aim got (change.Opening x o) is = tt
+  edit_got : (aim : Aim) (got : ℕ → Page) (c : Edit) → IsSure w p (know_edit aim got c) → IsGot w p (edit_next c)
+  edit_got aim got (edit.Putting x page) is = tt
+  edit_got aim got (edit.Taking full) is = tt
+  edit_got aim got (edit.PuttingNew t) is = tt
+  edit_got aim got (edit.PuttingOld t) is = tt
+  edit_got aim got (edit.OpeningNew x y s) is = tt
+  edit_got aim got (edit.Opening x o) is = tt
 
   growth_got : (level key : ℕ) (got : ℕ → Page) (a : Growth) → IsSure w p (know_growth level key got a) → IsGot w p (growth_next a)
   growth_got level key got growth.Latching is = tt
@@ -113,7 +113,7 @@ module _ {P : Type 0} (w : World P) (p : Name) where
   insert_got key value got insert.New is = tt
   insert_got key value got (insert.Coming a) is = approach_got 0 key a is
   insert_got key value got (insert.Present x v) is = tt
-  insert_got key value got (insert.Changing c) is = change_got _ got c is
+  insert_got key value got (insert.Editing c) is = edit_got _ got c is
   insert_got key value got (insert.Ending r) is = tt
   insert_got key value got (insert.Over r) is = tt
 
@@ -121,7 +121,7 @@ module _ {P : Type 0} (w : World P) (p : Name) where
   delete_got key got delete.New is = tt
   delete_got key got (delete.Coming a) is = approach_got 0 key a is
   delete_got key got (delete.Absent x) is = tt
-  delete_got key got (delete.Changing v c) is = change_got _ got c is
+  delete_got key got (delete.Editing v c) is = edit_got _ got c is
   delete_got key got (delete.Ending r) is = tt
   delete_got key got (delete.Over r) is = tt
 
@@ -130,7 +130,7 @@ module _ {P : Type 0} (w : World P) (p : Name) where
   post_got level key got child (post.Coming a) is = approach_got level key a is
   post_got level key got child (post.Growing h) is = growth_got level key got h is
   post_got level key got child (post.Walking v) is = inr is.goes.0.may
-  post_got level key got child (post.Changing c) is = change_got _ got c is
+  post_got level key got child (post.Editing c) is = edit_got _ got c is
   post_got level key got child (post.Staying x r) is = tt
   post_got level key got child (post.Ending r) is = tt
   post_got level key got child (post.Over r) is = tt

@@ -28,12 +28,12 @@ use Rattle.bl_proc_base.specs.declared.growing.Grew.TheVariants.{On, Grown, Refu
 use Rattle.bl_proc_base.specs.declared.approaching.Approach.TheVariants.{Start}
 use Rattle.bl_proc.specs.declared.posting.PostStage.TheVariants.{Growing}
 use Rattle.bl_proc_base.specs.Growths.{growth_next, IsTop, IsAnchor, Raises}
-use Rattle.bl_proc_invariant.specs.Turns.{event_of, IsTold, Does, Turned}
+use Rattle.bl_proc_invariant.specs.Turns.{event_of, IsObserved, Does, Turned}
 use Rattle.bl_proc_invariant.specs.Tables.{idle, know_approach, anchor_known}
 use Rattle.bl_proc_invariant.specs.Knowing.{ending, know_growth, post_got}
 use Rattle.bl_proc_invariant.proofs.Acts.{of_held, not_gone, watched, latched, opened, taken}
 use Rattle.bl_proc_invariant.proofs.Approaching.{walks}
-use Rattle.bl_proc_invariant.proofs.Changing.{Aside, aside_held}
+use Rattle.bl_proc_invariant.proofs.Editing.{Aside, aside_held}
 use Rattle.bl_proc_unique.proofs.WayCases.{GrowthCase}
 
 -- a list with one more at its end
@@ -94,9 +94,9 @@ holds_anchor w w' p a saw c S stage said held anchored known s = record {
 
 module _ {P : Type 0} (know : P → Know) (w : World P) (g : IsGood know w) (p : Name) (b : P) (level key : ℕ) where
   latch_turn : (got : ℕ → Page) (s : State Page) → know (w.proc p) ≡ know_growth level key got growth.Latching → know b ≡ know_growth level key got growth.Latched → w.now.owner 0 ≡ Owner.Open → Does w.now p (Latch 0) s → Turned know w p (Latch 0) s b
-  latch_turn got s before then told does =
+  latch_turn got s before then observed does =
       let is : IsSure w p (know_growth level key got growth.Latching) = rw before at (g.sure p) in
-      latched know w g p b _ _ before then 0 s told does refl (inl refl) (λ y h. absurd h)
+      latched know w g p b _ _ before then 0 s observed does refl (inl refl) (λ y h. absurd h)
       (holds_anchor w _ p (Latch 0) None None _ is.stage is.said does.changes.1.at g.tree.anchored tt is.sound)
 
   miss_turn : {what : Missed} (got : ℕ → Page) (s : State Page) → know (w.proc p) ≡ know_growth level key got growth.Latching → know b ≡ know_growth level key got growth.Latching → Does w.now p (Miss what) s → Turned know w p (Miss what) s b
@@ -113,11 +113,11 @@ module _ {P : Type 0} (know : P → Know) (w : World P) (g : IsGood know w) (p :
       (holds_anchor w _ p (Get 0) (Some (w.now.contents 0)) None _ is.stage is.said (does.changes.1 0 ∙ is.holds.0.owner) is.holds.0.status tt is.sound)
 
   rise_turn : (got : ℕ → Page) (rise : Rise) (c : Page) (s : State Page) → know (w.proc p) ≡ know_growth level key got growth.Latched → know b ≡ know_growth level key (λ z. c) (growth.Taking rise) → c ≡ w.now.contents 0 → c ≡ Anchor rise.anchor → (roots_of c).levels ≡ level → Does w.now p (Get 0) s → Turned know w p (Get 0) s b
-  rise_turn got rise c s before then told is_anchor levels does =
+  rise_turn got rise c s before then observed is_anchor levels does =
       let is : IsSure w p (know_growth level key got growth.Latched) = rw before at (g.sure p) in
       let count : length rise.anchor.leftmost.items ≡ level = ap (λ z. (roots_of z).levels) (sym is_anchor) ∙ levels in
       watched know w g p b _ _ before then (Get 0) (Some (w.now.contents 0)) None s tt (is.stage, anchor_not_released know w g) does refl refl (λ y h. h) (λ it e. cc) (λ j. refl)
-      (holds_anchor w _ p (Get 0) (Some (w.now.contents 0)) (Some (Anchor rise.anchor)) _ is.stage is.said (does.changes.1 0 ∙ is.holds.0.owner) is.holds.0.status (sym told ∙ is_anchor)
+      (holds_anchor w _ p (Get 0) (Some (w.now.contents 0)) (Some (Anchor rise.anchor)) _ is.stage is.said (does.changes.1 0 ∙ is.holds.0.owner) is.holds.0.status (sym observed ∙ is_anchor)
       (is.sound, record { anchor = refl; levels = count; room = (let r = rise.room in omega (arith, count)) }, is_anchor))
 
   refuse_turn : {what : Missed} (got : ℕ → Page) (rise : Rise) (s : State Page) → know (w.proc p) ≡ know_growth level key got (growth.Taking rise) → know b ≡ know_growth level key got growth.OpeningRefused → Does w.now p (Miss what) s → Turned know w p (Miss what) s b
@@ -302,16 +302,16 @@ module _ {P : Type 0} (know : P → Know) (w : World P) (g : IsGood know w) (p :
       (walks w _ p (Act.Open 0) None [] S' is.stage is.said tt (on is.sound))
 
   -- every turn of a growth that does not end it
-  pub growth_turn : {a a' : Growth} {what : Seen} → GrowthCase level a what (On a') → (got : ℕ → Page) (s : State Page) → know (w.proc p) ≡ know_growth level key got a → know b ≡ know_growth level key (post_got got (Growing a) what) a' → IsTold w.now w.size (growth_next a) what → Does w.now p (event_of None (growth_next a) what) s → Turned know w p (event_of None (growth_next a) what) s b
-  growth_turn (GrowthCase.LatchedAnchor h t) got s before then told does = latch_turn got s before (subst (λ z. know b ≡ know_growth level key got z) t then) told does
-  growth_turn (GrowthCase.Missed h t) got s before then told does = miss_turn got s before (subst (λ z. know b ≡ know_growth level key got z) t then) does
-  growth_turn (GrowthCase.Rises c rise t) got s before then told does = rise_turn got rise c s before then told t.0 t.1 does
-  growth_turn (GrowthCase.Stands c t) got s before then told does = grown_turn got (λ z. c) s before then does
-  growth_turn (GrowthCase.TookTop rise y r t) got s before then told does = take_turn got rise y r s before then told.0 told.1 t.0 t.1 does
-  growth_turn (GrowthCase.TopRefused rise h t) got s before then told does = refuse_turn got rise s before (subst (λ z. know b ≡ know_growth level key got z) t then) does
-  growth_turn (GrowthCase.PutTop r h t) got s before then told does = top_turn got r s before (subst (λ z. know b ≡ know_growth level key got z) t then) does
-  growth_turn (GrowthCase.PutAnchor r h t) got s before then told does = anchor_turn got r s before (subst (λ z. know b ≡ know_growth level key got z) t then) does
-  growth_turn (GrowthCase.OpenedTop x h t) got s before then told does = open_top_turn got x s before (subst (λ z. know b ≡ know_growth level key got z) t then) does
+  pub growth_turn : {a a' : Growth} {what : Seen} → GrowthCase level a what (On a') → (got : ℕ → Page) (s : State Page) → know (w.proc p) ≡ know_growth level key got a → know b ≡ know_growth level key (post_got got (Growing a) what) a' → IsObserved w.now w.size (growth_next a) what → Does w.now p (event_of None (growth_next a) what) s → Turned know w p (event_of None (growth_next a) what) s b
+  growth_turn (GrowthCase.LatchedAnchor h t) got s before then observed does = latch_turn got s before (subst (λ z. know b ≡ know_growth level key got z) t then) observed does
+  growth_turn (GrowthCase.Missed h t) got s before then observed does = miss_turn got s before (subst (λ z. know b ≡ know_growth level key got z) t then) does
+  growth_turn (GrowthCase.Rises c rise t) got s before then observed does = rise_turn got rise c s before then observed t.0 t.1 does
+  growth_turn (GrowthCase.Stands c t) got s before then observed does = grown_turn got (λ z. c) s before then does
+  growth_turn (GrowthCase.TookTop rise y r t) got s before then observed does = take_turn got rise y r s before then observed.0 observed.1 t.0 t.1 does
+  growth_turn (GrowthCase.TopRefused rise h t) got s before then observed does = refuse_turn got rise s before (subst (λ z. know b ≡ know_growth level key got z) t then) does
+  growth_turn (GrowthCase.PutTop r h t) got s before then observed does = top_turn got r s before (subst (λ z. know b ≡ know_growth level key got z) t then) does
+  growth_turn (GrowthCase.PutAnchor r h t) got s before then observed does = anchor_turn got r s before (subst (λ z. know b ≡ know_growth level key got z) t then) does
+  growth_turn (GrowthCase.OpenedTop x h t) got s before then observed does = open_top_turn got x s before (subst (λ z. know b ≡ know_growth level key got z) t then) does
 
   -- a growth is over when the anchor is open
   pub over_turn : {a : Growth} {what : Seen} → GrowthCase level a what Grown → (got : ℕ → Page) (s : State Page) → know (w.proc p) ≡ know_growth level key got a → know b ≡ know_approach level key Start → Does w.now p (event_of None (growth_next a) what) s → Turned know w p (event_of None (growth_next a) what) s b

@@ -175,7 +175,7 @@ row_together old new key child r none = record {
     none_of_pages : (page : Page) → Contains [] page → ⊥
     none_of_pages page c = absurd (omega (arith, c.1))
 
--- the two parts of a page that was parted list what they are to list
+-- the two parts of a page that was split list what they are to list
 pub cut_together : (old left right : Page) (y key child : ℕ) → IsCut y key (Some child) (node_of old) (node_of left) (node_of right) → (node_of old).look key ≡ None → ListTogether (right ∷ left ∷ []) old key child
 cut_together old left right y key child r none = record {
   no_other = λ j c page is e. elim (Contains-push_cases (right ∷ []) left page is) [

@@ -3,7 +3,7 @@ pub mod Logging
 pub mod Looking
 pub mod Acts
 pub mod Approaching
-pub mod Changing
+pub mod Editing
 pub mod Ends
 pub mod Descending
 pub mod Finding
@@ -34,8 +34,8 @@ pub mod Releasing
 pub mod Compressing
 pub mod Coupling
 pub mod Relisting
-pub mod Parting
+pub mod Splitting
 pub mod Deciding
-pub mod Siblings
+pub mod SiblingLemmas
 pub mod Squeezing
 pub mod Pressing

@@ -26,7 +26,7 @@ use Rattle.bl_proc.specs.declared.parts.PartRows.{PartRows}
 use Rattle.bl_proc.specs.declared.parts.PartStage.{PartStage}
 use Rattle.bl_proc.specs.declared.parts.PartStage.TheVariants.{New, Near, Probing, Descending, Ending, Over}
 use Rattle.bl_proc.specs.Parts.{GoesOnAt, IsPartOf, part_next_in, way_by, PartGoes}
-use Rattle.bl_proc_invariant.specs.Turns.{event_of, IsTold, Does, Turned}
+use Rattle.bl_proc_invariant.specs.Turns.{event_of, IsObserved, Does, Turned}
 use Rattle.bl_proc_invariant.specs.Knowing.{listed, know_part, part_end}
 use Rattle.bl_proc_invariant.specs.Tables.{descent_goes}
 use Rattle.bl_proc_invariant.proofs.Acts.{watched}
@@ -63,10 +63,10 @@ module _ {P : Type 0} (know : P → Know) (w : World P) (g : IsGood know w) (p :
 
   -- an open page, but for the anchor, is one of the tree, which it may get
   probed : (x : ℕ) (free : Bool) → IsStage Stage.Busy (w.now.phase p) → (free ≡ true → w.now.owner x ≡ Owner.Open) → Each (IsGoes w p) (descent_goes (way_by x free))
-  probed zero free busy told = tt
-  probed (suc x) false busy told = tt
-  probed (suc x) true busy told =
-      let is : w.status (suc x) ≡ Live = elim (g.owned.opened (suc x) (told refl)) [
+  probed zero free busy observed = tt
+  probed (suc x) false busy observed = tt
+  probed (suc x) true busy observed =
+      let is : w.status (suc x) ≡ Live = elim (g.owned.opened (suc x) (observed refl)) [
         | inl h ↦ h
         | inr h ↦ absurd (let z = g.owned.one_anchor (suc x) h in omega (arith, z))
       ] in
@@ -75,19 +75,19 @@ module _ {P : Type 0} (know : P → Know) (w : World P) (g : IsGood know w) (p :
       let few = g.tree.few_levels in
       (record { may = may_live know w g p busy.0 (suc x) busy.1 live; least = omega arith; most = omega (arith, above, few) }, tt)
 
-  pub part_turn : (a a' : PartStage) (what : Seen) (s : State Page) → know (w.proc p) ≡ know_part from a → know b ≡ know_part from a' → PartGoes from a what a' → IsTold w.now w.size (part_next_in a) what → Does w.now p (event_of (part_end a) (part_next_in a) what) s → Turned know w p (event_of (part_end a) (part_next_in a) what) s b
-  part_turn New (Descending d) seen.Done s before then t told does = begin_turn know w g p b from s before (rw t at then) does
-  part_turn (Near x) (Probing y) seen.Done s before then t told does = begin_turn know w g p b from s before then does
-  part_turn (Probing x) (Descending d) (seen.Probed free) s before then t told does =
+  pub part_turn : (a a' : PartStage) (what : Seen) (s : State Page) → know (w.proc p) ≡ know_part from a → know b ≡ know_part from a' → PartGoes from a what a' → IsObserved w.now w.size (part_next_in a) what → Does w.now p (event_of (part_end a) (part_next_in a) what) s → Turned know w p (event_of (part_end a) (part_next_in a) what) s b
+  part_turn New (Descending d) seen.Done s before then t observed does = begin_turn know w g p b from s before (rw t at then) does
+  part_turn (Near x) (Probing y) seen.Done s before then t observed does = begin_turn know w g p b from s before then does
+  part_turn (Probing x) (Descending d) (seen.Probed free) s before then t observed does =
       let is : IsSure w p (know_part from (Probing x)) = rw before at (g.sure p) in
       let m : Mark = silent p (Looks (OfPage x)) in
       watched know w g p b _ _ before then (Looks (OfPage x)) None None s tt tt does tt refl (λ y h. h) (λ it e. cc) (λ k. refl)
-      (record { stage = is.stage; said = HasSaid-silent w.trail m p None refl is.said; holds = tt; goes = rw t (probed x free is.stage told); children = tt; passed = tt; sound = is.sound })
-  part_turn (Descending d) (Descending e) (seen.Words c) s before then t told does = descent_turn know w g p b from d c s before told does e then t
-  part_turn (Descending d) (Ending r) (seen.Words c) s before then t told does =
-      let part : IsPartOf (w.now.contents (descent_page d)) from r = rw told at t.1 in
-      leaf_turn know w g p b from d c s before told does (listed from r) then t.0 (λ may l. (lists (descent_page d) r part may l, λ k. refl))
-  part_turn (Ending r) (Over last) seen.Done s before then t told does =
+      (record { stage = is.stage; said = HasSaid-silent w.trail m p None refl is.said; holds = tt; goes = rw t (probed x free is.stage observed); children = tt; passed = tt; sound = is.sound })
+  part_turn (Descending d) (Descending e) (seen.Words c) s before then t observed does = descent_turn know w g p b from d c s before observed does e then t
+  part_turn (Descending d) (Ending r) (seen.Words c) s before then t observed does =
+      let part : IsPartOf (w.now.contents (descent_page d)) from r = rw observed at t.1 in
+      leaf_turn know w g p b from d c s before observed does (listed from r) then t.0 (λ may l. (lists (descent_page d) r part may l, λ k. refl))
+  part_turn (Ending r) (Over last) seen.Done s before then t observed does =
       end_turn know w g p b (listed from r) s before (rw t at then) does
-  part_turn a a' (seen.Words page) s before then t told does = absurd t
-  part_turn a a' old s before then t told does = absurd t
+  part_turn a a' (seen.Words page) s before then t observed does = absurd t
+  part_turn a a' old s before then t observed does = absurd t

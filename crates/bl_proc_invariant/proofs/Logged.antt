@@ -15,7 +15,7 @@ use Rattle.bl_proc_base.specs.declared.acts.Action.TheVariants as act
 use Rattle.bl_proc_base.specs.declared.acts.Seen.{Seen}
 use Rattle.bl_proc_base.specs.declared.acts.Seen.TheVariants as seen
 use Rattle.bl_proc_base.specs.declared.approaching.Approach.TheVariants as way
-use Rattle.bl_proc_base.specs.declared.changing.Change.TheVariants as change
+use Rattle.bl_proc_base.specs.declared.editing.Edit.TheVariants as edit
 use Rattle.bl_proc_base.specs.declared.growing.Growth.TheVariants as growth
 use Rattle.bl_proc.specs.declared.inserting.InsertStage.{InsertStage}
 use Rattle.bl_proc.specs.declared.inserting.InsertStage.TheVariants as insert
@@ -32,7 +32,7 @@ use Rattle.bl_proc_base.specs.declared.lowering.Lowering.TheVariants.{Looking}
 use Rattle.bl_proc.specs.declared.kinds.Proc.{Proc}
 use Rattle.bl_proc.specs.declared.kinds.Proc.TheVariants.{Find, Insert, Delete, Post, Part, Compress, Reclaim, Lower}
 use Rattle.bl_proc.specs.Processes.{next_of, Takes}
-use Rattle.bl_proc_invariant.specs.Turns.{event_of, IsTold, Turned}
+use Rattle.bl_proc_invariant.specs.Turns.{event_of, IsObserved, Turned}
 use Rattle.bl_proc_invariant.specs.Logs.{proc_log, insert_log, delete_log, post_log, compress_log, lower_log, AllLogs}
 use Rattle.bl_proc_invariant.specs.Knowing.{Run, know_of, know, know_insert, know_delete, know_post, know_compress, know_lower, end_of_proc, run_next}
 use Rattle.bl_proc_invariant.proofs.Logging.{post_on, post_stays}
@@ -48,7 +48,7 @@ early_post level key got child post.New e marks = tt
 early_post level key got child (post.Coming way.Start) e marks = absurd (let f = e in cc)
 early_post level key got child (post.Coming (way.Leaving x None)) e marks = absurd (let f = e in cc)
 early_post level key got child (post.Growing growth.Latching) e marks = absurd (let f = e in cc)
-early_post level key got child (post.Changing (change.Putting x page)) e marks = absurd (let f = e in cc)
+early_post level key got child (post.Editing (edit.Putting x page)) e marks = absurd (let f = e in cc)
 early_post level key got child old e marks = absurd (let f = e in cc)
 
 early_press : (level key : ℕ) (got : ℕ → Page) (a : CompressStage) → (know_compress level key got a).stage ≡ Stage.Early → (marks : Trail) → compress_log level key a marks
@@ -62,14 +62,14 @@ early_insert : (key value : ℕ) (got : ℕ → Page) (a : InsertStage) → (kno
 early_insert key value got insert.New e marks = tt
 early_insert key value got (insert.Coming way.Start) e marks = absurd (let f = e in cc)
 early_insert key value got (insert.Coming (way.Leaving x None)) e marks = absurd (let f = e in cc)
-early_insert key value got (insert.Changing (change.Putting x page)) e marks = absurd (let f = e in cc)
+early_insert key value got (insert.Editing (edit.Putting x page)) e marks = absurd (let f = e in cc)
 early_insert key value got old e marks = absurd (let f = e in cc)
 
 early_delete : (key : ℕ) (got : ℕ → Page) (a : DeleteStage) → (know_delete key got a).stage ≡ Stage.Early → (marks : Trail) → delete_log a marks
 early_delete key got delete.New e marks = tt
 early_delete key got (delete.Coming way.Start) e marks = absurd (let f = e in cc)
 early_delete key got (delete.Coming (way.Leaving x None)) e marks = absurd (let f = e in cc)
-early_delete key got (delete.Changing v (change.Putting x page)) e marks = absurd (let f = e in cc)
+early_delete key got (delete.Editing v (edit.Putting x page)) e marks = absurd (let f = e in cc)
 early_delete key got old e marks = absurd (let f = e in cc)
 
 early_lower : (got : ℕ → Page) (a : LowerStage) → (know_lower got a).stage ≡ Stage.Early → (marks : Trail) → lower_log a marks
@@ -94,20 +94,20 @@ same_words : (c d : Page) → seen.Words c ≡ seen.Words d → c ≡ d
 same_words c d e = cc
 
 -- what a process was told of a page is what the event saw
-pub saw_words : (reply : Option Reply) (s : State Page) (size : ℕ) (saw : Option Page) (action : Action) (what : Seen) → IsTold s size action what → Saw s (event_of reply action what) saw → (y : ℕ) (d : Page) → event_of reply action what ≡ Get y → what ≡ seen.Words d → saw ≡ Some d
-saw_words reply s size saw act.Begin (seen.Words c) told is y d e f = absurd (let g = e in cc)
-saw_words reply s size saw act.End (seen.Words c) told is y d e f = absurd (let g = e in cc)
-saw_words reply s size saw (act.Get x) (seen.Words c) told is y d e f = is ∙ ap Some (sym told ∙ same_words c d f)
-saw_words reply s size saw (act.Put x page) (seen.Words c) told is y d e f = absurd (let g = e in cc)
-saw_words reply s size saw (act.Latch x) (seen.Words c) told is y d e f = absurd (let g = e in cc)
-saw_words reply s size saw act.Take (seen.Words c) told is y d e f = absurd (let g = e in cc)
-saw_words reply s size saw (act.Open x) (seen.Words c) told is y d e f = absurd (let g = e in cc)
-saw_words reply s size saw (act.Retire x) (seen.Words c) told is y d e f = absurd (let g = e in cc)
-saw_words reply s size saw (act.Look n) (seen.Words c) told is y d e f = absurd (let g = e in cc)
-saw_words reply s size saw (act.See x) (seen.Words c) told is y d e f = absurd (let g = e in cc)
-saw_words reply s size saw (act.Probe x) (seen.Words c) told is y d e f = absurd (let g = e in cc)
-saw_words reply s size saw (act.Release x) (seen.Words c) told is y d e f = absurd (let g = e in cc)
-saw_words reply s size saw old what told is y d e f = absurd (let g = f in cc)
+pub saw_words : (reply : Option Reply) (s : State Page) (size : ℕ) (saw : Option Page) (action : Action) (what : Seen) → IsObserved s size action what → Saw s (event_of reply action what) saw → (y : ℕ) (d : Page) → event_of reply action what ≡ Get y → what ≡ seen.Words d → saw ≡ Some d
+saw_words reply s size saw act.Begin (seen.Words c) observed is y d e f = absurd (let g = e in cc)
+saw_words reply s size saw act.End (seen.Words c) observed is y d e f = absurd (let g = e in cc)
+saw_words reply s size saw (act.Get x) (seen.Words c) observed is y d e f = is ∙ ap Some (sym observed ∙ same_words c d f)
+saw_words reply s size saw (act.Put x page) (seen.Words c) observed is y d e f = absurd (let g = e in cc)
+saw_words reply s size saw (act.Latch x) (seen.Words c) observed is y d e f = absurd (let g = e in cc)
+saw_words reply s size saw act.Take (seen.Words c) observed is y d e f = absurd (let g = e in cc)
+saw_words reply s size saw (act.Open x) (seen.Words c) observed is y d e f = absurd (let g = e in cc)
+saw_words reply s size saw (act.Retire x) (seen.Words c) observed is y d e f = absurd (let g = e in cc)
+saw_words reply s size saw (act.Look n) (seen.Words c) observed is y d e f = absurd (let g = e in cc)
+saw_words reply s size saw (act.See x) (seen.Words c) observed is y d e f = absurd (let g = e in cc)
+saw_words reply s size saw (act.Probe x) (seen.Words c) observed is y d e f = absurd (let g = e in cc)
+saw_words reply s size saw (act.Release x) (seen.Words c) observed is y d e f = absurd (let g = e in cc)
+saw_words reply s size saw old what observed is y d e f = absurd (let g = f in cc)
 
 pub log_turn : (old new : Proc) (what : Seen) (marks : Trail) (m : Mark) → Takes old what new → m.event.act ≡ event_of (end_of_proc old) (next_of old) what → ((x : ℕ) (c : Page) → m.event.act ≡ Get x → what ≡ seen.Words c → m.saw ≡ Some c) → proc_log old marks → proc_log new (marks ++ m ∷ [])
 log_turn (Post a) (Post c) what marks m t did saw h =
@@ -146,12 +146,12 @@ logs_after w p a s b t logs mine q =
           subst (λ r. proc_log r.state (marks_of q t.next.trail)) (sym (t.extends.proc.others q n)) (subst (proc_log (w.proc q).state) (sym trail) (logs q))
     ]
 
-pub turn_logs : (w : World Run) (p : Name) (a : Run) (new : Proc) (what : Seen) (s : State Page) (did : Act Page Reply) → w.proc p ≡ a → AllLogs w → Takes a.state what new → IsTold w.now w.size (next_of a.state) what → did ≡ event_of (end_of_proc a.state) (next_of a.state) what → (turned : Turned know w p did s (run_next w.now a what new)) → AllLogs turned.next
-turn_logs w p a new what s did is logs t told same turned =
+pub turn_logs : (w : World Run) (p : Name) (a : Run) (new : Proc) (what : Seen) (s : State Page) (did : Act Page Reply) → w.proc p ≡ a → AllLogs w → Takes a.state what new → IsObserved w.now w.size (next_of a.state) what → did ≡ event_of (end_of_proc a.state) (next_of a.state) what → (turned : Turned know w p did s (run_next w.now a what new)) → AllLogs turned.next
+turn_logs w p a new what s did is logs t observed same turned =
     logs_after w p did s (run_next w.now a what new) turned logs (λ marks m here mark.
     let seen_it = subst (λ e. Saw w.now e turned.saw) same turned.extends.saw in
     log_turn a.state new what marks m t (ap (λ z. z.event.act) mark ∙ same)
-    (λ x c e f. ap (λ z. z.saw) mark ∙ saw_words (end_of_proc a.state) w.now w.size turned.saw (next_of a.state) what told seen_it x c (sym (ap (λ z. z.event.act) mark ∙ same) ∙ e) f)
+    (λ x c e f. ap (λ z. z.saw) mark ∙ saw_words (end_of_proc a.state) w.now w.size turned.saw (next_of a.state) what observed seen_it x c (sym (ap (λ z. z.event.act) mark ∙ same) ∙ e) f)
     (subst (λ r. proc_log r.state marks) is (subst (proc_log (w.proc p).state) (sym here) (logs p))))
 
 pub miss_logs : (w : World Run) (p : Name) (what : Missed) (s : State Page) → AllLogs w → (turned : Turned know w p (Miss what) s (w.proc p)) → AllLogs turned.next

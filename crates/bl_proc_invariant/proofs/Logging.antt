@@ -24,11 +24,11 @@ use Rattle.bl_proc_base.specs.declared.onwards.Step.TheVariants.{Again, Right, D
 use Rattle.bl_proc_base.specs.declared.approaching.Approach.{Approach}
 use Rattle.bl_proc_base.specs.declared.approaching.Approach.TheVariants as way
 use Rattle.bl_proc_base.specs.declared.approaching.Approached.TheVariants as came
-use Rattle.bl_proc_base.specs.declared.changing.Outcome.{Outcome}
-use Rattle.bl_proc_base.specs.declared.changing.Outcome.TheVariants as outcome
-use Rattle.bl_proc_base.specs.declared.changing.Change.{Change}
-use Rattle.bl_proc_base.specs.declared.changing.Change.TheVariants as change
-use Rattle.bl_proc_base.specs.declared.changing.Changed.TheVariants as changed
+use Rattle.bl_proc_base.specs.declared.editing.Outcome.{Outcome}
+use Rattle.bl_proc_base.specs.declared.editing.Outcome.TheVariants as outcome
+use Rattle.bl_proc_base.specs.declared.editing.Edit.{Edit}
+use Rattle.bl_proc_base.specs.declared.editing.Edit.TheVariants as edit
+use Rattle.bl_proc_base.specs.declared.editing.Edited.TheVariants as changed
 use Rattle.bl_proc_base.specs.declared.growing.Growth.{Growth}
 use Rattle.bl_proc_base.specs.declared.growing.Growth.TheVariants as growth
 use Rattle.bl_proc_base.specs.declared.growing.Grew.TheVariants as grew
@@ -39,13 +39,13 @@ use Rattle.bl_proc.specs.declared.posting.PostStage.{PostStage}
 use Rattle.bl_proc.specs.declared.posting.PostStage.TheVariants as post
 use Rattle.bl_proc_base.specs.Onwards.{Leads}
 use Rattle.bl_proc_base.specs.Approaches.{approach_next, Turns, Approaches}
-use Rattle.bl_proc_base.specs.Changes.{change_next, EntersPair}
+use Rattle.bl_proc_base.specs.Edits.{edit_next, EntersPair}
 use Rattle.bl_proc_base.specs.Growths.{growth_next, IsTop, IsAnchor, Raises}
 use Rattle.bl_proc.specs.Posts.{post_reply, post_next_in, PostArrives}
 use Rattle.bl_proc_invariant.specs.Turns.{event_of}
-use Rattle.bl_proc_invariant.specs.Logs.{Holding, HoldsParent, HoldsBoth, IsToPut, on_way, approach_log, outcome_log, change_log, HasHalfRaised, growth_log, reply_log, post_log}
+use Rattle.bl_proc_invariant.specs.Logs.{Holding, HoldsParent, HoldsBoth, IsToPut, on_way, approach_log, outcome_log, edit_log, HasHalfRaised, growth_log, reply_log, post_log}
 use Rattle.bl_proc_invariant.proofs.Holdings.{held_raised, held_now, held_on, parent_held_on, both_held_on, child_got, parent_got, refused_while, under, is_done, cut_low, row_together, cut_together}
-use Rattle.bl_proc_unique.proofs.WayCases.{ApproachCase, approach_case, ChangeCase, change_case, GrowthCase, growth_case}
+use Rattle.bl_proc_unique.proofs.WayCases.{ApproachCase, approach_case, EditCase, edit_case, GrowthCase, growth_case}
 use Rattle.bl_proc_unique.proofs.KindCases.{PostCase}
 
 no_latched : (level x : ℕ) (c : Page) (o : Step) (y : ℕ) → Turns level x c o (way.Latched y) → ⊥
@@ -143,13 +143,13 @@ module _ (marks : Trail) (m : Mark) (level key : ℕ) (least : 0 < level) where
   reply_on reply.TooTall quiet h = tall_on marks m quiet h
 
   outcome_on : (o : Outcome) → writes_in m.event.act ≡ [] → outcome_log level key o marks → outcome_log level key o more
-  outcome_on outcome.Changed quiet h = done_on marks m quiet h
-  outcome_on (outcome.Parted s) quiet h = done_on marks m quiet h
+  outcome_on outcome.Edited quiet h = done_on marks m quiet h
+  outcome_on (outcome.SplitAt s) quiet h = done_on marks m quiet h
   outcome_on outcome.Refused quiet h = no_room_on marks m quiet h
 
   outcome_reply : (o : Outcome) → outcome_log level key o more → reply_log level key (post_reply o) more
-  outcome_reply outcome.Changed h = h
-  outcome_reply (outcome.Parted s) h = h
+  outcome_reply outcome.Edited h = h
+  outcome_reply (outcome.SplitAt s) h = h
   outcome_reply outcome.Refused h = h
 
   -- at the parent
@@ -216,43 +216,43 @@ module _ (marks : Trail) (m : Mark) (level key : ℕ) (least : 0 < level) where
   grown_on GrowthCase.OpenedGrown did h = raised_on (ap writes_in did) h
 
   -- a pair is to enter the parent
-  enter_on : (x : ℕ) (c : Page) (word : ℕ) (d : Change) → EntersPair x c key word d → HoldsBoth level key more x c word [] → change_log level key d more
-  enter_on x c word (change.Putting y page) t h =
+  enter_on : (x : ℕ) (c : Page) (word : ℕ) (d : Edit) → EntersPair x c key word d → HoldsBoth level key more x c word [] → edit_log level key d more
+  enter_on x c word (edit.Putting y page) t h =
       let put : IsToPut level key more x [] (page ∷ []) = record { parent = c; child = word; both = h; together = row_together c page key word (fits_row c page key word 0 t.1 h.above.covers) h.above.unlisted } in
       subst (λ z. IsToPut level key more z [] (page ∷ [])) (sym t.0) put
-  enter_on x c word (change.Taking full) t h =
+  enter_on x c word (edit.Taking full) t h =
       (subst (λ z. HoldsBoth level key more full.at z full.word []) (sym t.3) (subst (λ z. HoldsBoth level key more full.at c z []) (sym t.2) (subst (λ z. HoldsBoth level key more z c word []) (sym t.0) h)), t.1)
   enter_on x c word old t h = absurd t
 
   -- on with the change of the parent
-  change_on : {c d : Change} {what : Seen} → ChangeCase c what (changed.On d) → m.event.act ≡ event_of None (change_next c) what → change_log level key c marks → change_log level key d more
-  change_on (ChangeCase.Put x page d t) did h =
+  edit_on : {c d : Edit} {what : Seen} → EditCase c what (changed.On d) → m.event.act ≡ event_of None (edit_next c) what → edit_log level key c marks → edit_log level key d more
+  edit_on (EditCase.Put x page d t) did h =
       let both : HoldsBoth level key more x h.parent h.child (Put x page ∷ []) = both_held_on marks m (Put x page ∷ []) (λ o. (let e = sym did ∙ o in cc)) (ap writes_in did) h.both in
       let put : IsToPut level key more x (Put x page ∷ []) (page ∷ []) = record { parent = h.parent; child = h.child; both = both; together = h.together } in
-      subst (λ z. change_log level key z more) (sym t) (is_done None (Put x page ∷ []) (page ∷ []) put (WritesBack.Whole page))
-  change_on (ChangeCase.PutRefused x page d t) did h =
-      subst (λ z. change_log level key z more) (sym t) (refused_while marks m did h.both.above.holding)
-  change_on (ChangeCase.Took full n q t) did h =
+      subst (λ z. edit_log level key z more) (sym t) (is_done None (Put x page ∷ []) (page ∷ []) put (WritesBack.Whole page))
+  edit_on (EditCase.PutRefused x page d t) did h =
+      subst (λ z. edit_log level key z more) (sym t) (refused_while marks m did h.both.above.holding)
+  edit_on (EditCase.Took full n q t) did h =
       let both : HoldsBoth level key more full.at full.page full.word (Take n ∷ []) = both_held_on marks m (Take n ∷ []) (λ o. (let e = sym did ∙ o in cc)) (ap writes_in did) h.0 in
       let cut = split_cut full.page q.left q.right key full.word n q.separator (subst (λ z. IsFitted full.page z full.word n (Split q.left q.right q.separator)) h.1 t.2) both.above.covers in
       let put : IsToPut level key more full.at (Take n ∷ []) (q.right ∷ q.left ∷ []) = (record { parent = full.page; child = full.word; both = both; together = cut_together full.page q.left q.right n key full.word cut both.above.unlisted }) in
       (rw (t.0, t.1) put, cut_low full.page q.left q.right full.key full.word n q.separator t.2)
-  change_on (ChangeCase.TakeRefused full d t) did h =
-      subst (λ z. change_log level key z more) (sym t) (refused_while marks m did h.0.above.holding)
-  change_on (ChangeCase.PutNew p d t) did h =
+  edit_on (EditCase.TakeRefused full d t) did h =
+      subst (λ z. edit_log level key z more) (sym t) (refused_while marks m did h.0.above.holding)
+  edit_on (EditCase.PutNew p d t) did h =
       let put = h.0 in
       let both : HoldsBoth level key more p.at put.parent put.child (Take p.new ∷ Put p.new p.right ∷ []) = both_held_on marks m (Put p.new p.right ∷ []) (λ o. (let e = sym did ∙ o in cc)) (ap writes_in did) put.both in
-      subst (λ z. change_log level key z more) (sym t) (record { parent = put.parent; child = put.child; both = both; together = put.together }, h.1)
-  change_on (ChangeCase.PutOld p d t) did h =
+      subst (λ z. edit_log level key z more) (sym t) (record { parent = put.parent; child = put.child; both = both; together = put.together }, h.1)
+  edit_on (EditCase.PutOld p d t) did h =
       let was = h.0 in
       let both : HoldsBoth level key more p.at was.parent was.child (Take p.new ∷ Put p.new p.right ∷ Put p.at p.left ∷ []) = both_held_on marks m (Put p.at p.left ∷ []) (λ o. (let e = sym did ∙ o in cc)) (ap writes_in did) was.both in
       let put : IsToPut level key more p.at (Take p.new ∷ Put p.new p.right ∷ Put p.at p.left ∷ []) (p.right ∷ p.left ∷ []) = record { parent = was.parent; child = was.child; both = both; together = was.together } in
-      subst (λ z. change_log level key z more) (sym t) (is_done (Some p.separator) _ (p.right ∷ p.left ∷ []) put (WritesBack.Split p.new p.separator p.right p.left h.1))
-  change_on (ChangeCase.OpenedNew x new separator d t) did h =
-      subst (λ z. change_log level key z more) (sym t) (done_on marks m (ap writes_in did) h)
+      subst (λ z. edit_log level key z more) (sym t) (is_done (Some p.separator) _ (p.right ∷ p.left ∷ []) put (WritesBack.Split p.new p.separator p.right p.left h.1))
+  edit_on (EditCase.OpenedNew x new separator d t) did h =
+      subst (λ z. edit_log level key z more) (sym t) (done_on marks m (ap writes_in did) h)
 
-  change_end : {c : Change} {what : Seen} {o : Outcome} → ChangeCase c what (changed.Over o) → m.event.act ≡ event_of None (change_next c) what → change_log level key c marks → reply_log level key (post_reply o) more
-  change_end (ChangeCase.Opened x o last t) did h = outcome_reply last (outcome_on last (ap writes_in did) (subst (λ z. outcome_log level key z marks) (sym t) h))
+  edit_end : {c : Edit} {what : Seen} {o : Outcome} → EditCase c what (changed.Over o) → m.event.act ≡ event_of None (edit_next c) what → edit_log level key c marks → reply_log level key (post_reply o) more
+  edit_end (EditCase.Opened x o last t) did h = outcome_reply last (outcome_on last (ap writes_in did) (subst (λ z. outcome_log level key z marks) (sym t) h))
 
   -- any step of a post
   pub post_on : {old new : PostStage} {what : Seen} → PostCase level key old what new → m.event.act ≡ event_of None (post_next_in old) what → ((x : ℕ) (c : Page) → m.event.act ≡ Get x → what ≡ seen.Words c → m.saw ≡ Some c) → post_log level key old marks → post_log level key new more
@@ -283,8 +283,8 @@ module _ (marks : Trail) (m : Mark) (level key : ℕ) (least : 0 < level) where
         low = subst (λ z. (node_of c).shape.low ≢ z) same t.2;
       })
   post_on (PostCase.Lost v c a t) did saw (h, same) = subst (λ z. approach_log level z more) (sym t.0) (raised_on (ap writes_in did) (held_raised h.holding))
-  post_on (PostCase.Changed c what d t) did saw h = change_on (change_case c what _ t) did h
-  post_on (PostCase.Finished c what last t) did saw h = subst (λ z. reply_log level key z more) (sym t.2) (change_end (change_case c what _ t.1) did h)
+  post_on (PostCase.Edited c what d t) did saw h = edit_on (edit_case c what _ t) did h
+  post_on (PostCase.Finished c what last t) did saw h = subst (λ z. reply_log level key z more) (sym t.2) (edit_end (edit_case c what _ t.1) did h)
   post_on (PostCase.Opened x r last t) did saw h = subst (λ z. reply_log level key z more) (sym t) (reply_on r (ap writes_in did) h)
   post_on (PostCase.Ended r last t) did saw h = subst (λ z. reply_log level key z more) (sym t) (reply_on r (ap writes_in did) h)
 
@@ -306,20 +306,20 @@ module _ (marks : Trail) (m : Mark) (level key : ℕ) (least : 0 < level) where
     growth_stays growth.OpeningGrown h = raised_on quiet h
     growth_stays growth.OpeningRefused h = no_room_on marks m quiet h
 
-    change_stays : (c : Change) → change_log level key c marks → change_log level key c more
-    change_stays (change.Putting x page) h = to_put_stays h
-    change_stays (change.Taking full) h = (both_stay [] h.0, h.1)
-    change_stays (change.PuttingNew p) h = (to_put_stays h.0, h.1)
-    change_stays (change.PuttingOld p) h = (to_put_stays h.0, h.1)
-    change_stays (change.OpeningNew x new separator) h = done_on marks m quiet h
-    change_stays (change.Opening x o) h = outcome_on o quiet h
+    edit_stays : (c : Edit) → edit_log level key c marks → edit_log level key c more
+    edit_stays (edit.Putting x page) h = to_put_stays h
+    edit_stays (edit.Taking full) h = (both_stay [] h.0, h.1)
+    edit_stays (edit.PuttingNew p) h = (to_put_stays h.0, h.1)
+    edit_stays (edit.PuttingOld p) h = (to_put_stays h.0, h.1)
+    edit_stays (edit.OpeningNew x new separator) h = done_on marks m quiet h
+    edit_stays (edit.Opening x o) h = outcome_on o quiet h
 
     pub post_stays : (old : PostStage) → post_log level key old marks → post_log level key old more
     post_stays post.New h = tt
     post_stays (post.Coming a) h = way_stays (raised_on quiet) (λ x k. held_on marks m [] (shut x) quiet k) a h
     post_stays (post.Growing g) h = growth_stays g h
     post_stays (post.Walking v) h = (parent_held_on marks m [] (shut v.at) quiet h.0, h.1)
-    post_stays (post.Changing c) h = change_stays c h
+    post_stays (post.Editing c) h = edit_stays c h
     post_stays (post.Staying x r) h = reply_on r quiet h
     post_stays (post.Ending r) h = reply_on r quiet h
     post_stays (post.Over r) h = reply_on r quiet h

@@ -29,7 +29,7 @@ use Rattle.bl_proc_base.specs.declared.lowering.Lowering.TheVariants as lowering
 use Rattle.bl_proc_base.specs.Onwards.{top_of}
 use Rattle.bl_proc_base.specs.Lowerings.{lowering_next, IsSole, IsFallen, Sinks}
 use Rattle.bl_proc_base.proofs.Tops.{length_take}
-use Rattle.bl_proc_invariant.specs.Turns.{event_of, IsTold, Does, Turned}
+use Rattle.bl_proc_invariant.specs.Turns.{event_of, IsObserved, Does, Turned}
 use Rattle.bl_proc_invariant.specs.Tables.{idle}
 use Rattle.bl_proc_invariant.specs.Lowering.{got_top, know_lowering, lowering_got}
 use Rattle.bl_proc_unique.proofs.Lowerings.{LoweringCase, lowering_case}
@@ -73,9 +73,9 @@ module _ {P : Type 0} (know : P → Know) (w : World P) (g : IsGood know w) (p :
 
   -- the anchor is latched, or missed
   pub latch_turn : (got : ℕ → Page) (s : State Page) → know (w.proc p) ≡ know_lowering got lowering.LatchingAnchor → know b ≡ know_lowering got lowering.LatchedAnchor → w.now.owner 0 ≡ Owner.Open → Does w.now p (Latch 0) s → Turned know w p (Latch 0) s b
-  latch_turn got s before then told does =
+  latch_turn got s before then observed does =
       let is : IsSure w p (know_lowering got lowering.LatchingAnchor) = rw before at (g.sure p) in
-      latched know w g p b _ _ before then 0 s told does refl (inl refl) (λ y h. absurd h)
+      latched know w g p b _ _ before then 0 s observed does refl (inl refl) (λ y h. absurd h)
       (holds_anchor w _ p (Latch 0) None None _ is.stage is.said does.changes.1.at g.tree.anchored tt tt)
 
   pub miss_turn : {what : Missed} (got : ℕ → Page) (s : State Page) → know (w.proc p) ≡ know_lowering got lowering.LatchingAnchor → know b ≡ know_lowering got lowering.LatchingAnchor → Does w.now p (Miss what) s → Turned know w p (Miss what) s b
@@ -93,18 +93,18 @@ module _ {P : Type 0} (know : P → Know) (w : World P) (g : IsGood know w) (p :
 
   -- or it has
   pub tall_turn : (got got' : ℕ → Page) (t : Summit) (c : Page) (s : State Page) → know (w.proc p) ≡ know_lowering got lowering.LatchedAnchor → know b ≡ know_lowering got' (lowering.LatchingTop t) → c ≡ w.now.contents 0 → c ≡ Anchor t.anchor → t.top ≡ top_of (roots_of c) → Does w.now p (Get 0) s → Turned know w p (Get 0) s b
-  tall_turn got got' t c s before then told is_anchor top does =
+  tall_turn got got' t c s before then observed is_anchor top does =
       let is : IsSure w p (know_lowering got lowering.LatchedAnchor) = rw before at (g.sure p) in
       watched know w g p b _ _ before then (Get 0) (Some (w.now.contents 0)) None s tt (is.stage, anchor_not_released know w g) does refl refl (λ y h. h) (λ it e. cc) (λ j. refl)
-      (holds_anchor w _ p (Get 0) (Some (w.now.contents 0)) (Some (Anchor t.anchor)) _ is.stage is.said (does.changes.1 0 ∙ is.holds.0.owner) is.holds.0.status (sym told ∙ is_anchor) (top ∙ ap (λ z. top_of (roots_of z)) is_anchor))
+      (holds_anchor w _ p (Get 0) (Some (w.now.contents 0)) (Some (Anchor t.anchor)) _ is.stage is.said (does.changes.1 0 ∙ is.holds.0.owner) is.holds.0.status (sym observed ∙ is_anchor) (top ∙ ap (λ z. top_of (roots_of z)) is_anchor))
 
   -- the top page is latched, or missed
   pub latch_top_turn : (got : ℕ → Page) (t : Summit) (s : State Page) → know (w.proc p) ≡ know_lowering got (lowering.LatchingTop t) → know b ≡ know_lowering got (lowering.LatchedTop t) → w.now.owner t.top ≡ Owner.Open → Does w.now p (Latch t.top) s → Turned know w p (Latch t.top) s b
-  latch_top_turn got t s before then told does =
+  latch_top_turn got t s before then observed does =
       let is : IsSure w p (know_lowering got (lowering.LatchingTop t)) = rw before at (g.sure p) in
-      let n : 0 ≢ t.top = λ e. (let o : w.now.owner 0 ≡ Owner.Open = ap w.now.owner e ∙ told in let h = is.holds.0.owner in cc) in
-      let live : w.status t.top ≡ Live = elim (g.owned.opened t.top told) [ inl e ↦ e | inr e ↦ absurd (n (sym (g.owned.one_anchor t.top e))) ] in
-      latched know w g p b _ _ before then t.top s told does refl (inr (inl refl)) (λ y h. elim h [ inl e ↦ inl e | inr u ↦ absurd u ])
+      let n : 0 ≢ t.top = λ e. (let o : w.now.owner 0 ≡ Owner.Open = ap w.now.owner e ∙ observed in let h = is.holds.0.owner in cc) in
+      let live : w.status t.top ≡ Live = elim (g.owned.opened t.top observed) [ inl e ↦ e | inr e ↦ absurd (n (sym (g.owned.one_anchor t.top e))) ] in
+      latched know w g p b _ _ before then t.top s observed does refl (inr (inl refl)) (λ y h. elim h [ inl e ↦ inl e | inr u ↦ absurd u ])
       (record {
         stage = is.stage;
         said = HasSaid-silent w.trail (silent p (Latch t.top)) p None refl is.said;
@@ -123,7 +123,7 @@ module _ {P : Type 0} (know : P → Know) (w : World P) (g : IsGood know w) (p :
 
   -- the top page is got under its latch: it is not needed
   pub sink_turn : (got : ℕ → Page) (t : Summit) (k : Sinking) (c : Page) (s : State Page) → know (w.proc p) ≡ know_lowering got (lowering.LatchedTop t) → know b ≡ know_lowering (got_top (Anchor t.anchor) c) (lowering.PuttingAnchor k) → c ≡ w.now.contents t.top → k.top ≡ t.top → IsSole c → Sinks t.anchor.leftmost.items k → Does w.now p (Get t.top) s → Turned know w p (Get t.top) s b
-  sink_turn got t k c s before then told same sole sinks does =
+  sink_turn got t k c s before then observed same sole sinks does =
       let is : IsSure w p (know_lowering got (lowering.LatchedTop t)) = rw before at (g.sure p) in
       let x = t.top in
       let m : Mark = record { event = record { process = p; act = Get x }; saw = Some (w.now.contents x); said = None } in
@@ -135,7 +135,7 @@ module _ {P : Type 0} (know : P → Know) (w : World P) (g : IsGood know w) (p :
       (record {
         stage = is.stage;
         said = HasSaid-silent w.trail m p None refl is.said;
-        holds = ((does.changes.1 0 ∙ is.holds.0.owner, is.holds.0.status, tt, is.holds.0.page), ((ap s.owner same ∙ (does.changes.1 x ∙ is.holds.1.0.owner), ap w.status same ∙ is.holds.1.0.status, tt, ap w.now.contents same ∙ (sym told ∙ sym to)), tt));
+        holds = ((does.changes.1 0 ∙ is.holds.0.owner, is.holds.0.status, tt, is.holds.0.page), ((ap s.owner same ∙ (does.changes.1 x ∙ is.holds.1.0.owner), ap w.status same ∙ is.holds.1.0.status, tt, ap w.now.contents same ∙ (sym observed ∙ sym to)), tt));
         goes = tt;
         children = tt;
         passed = tt;
@@ -347,21 +347,21 @@ module _ {P : Type 0} (know : P → Know) (w : World P) (g : IsGood know w) (p :
   open_turn got what s before then does = anchor_open_turn know w g p b 0 0 (Unit {0}) (Unit {0}) s before then (λ h. h) does
 
   -- every turn of a lowering that does not end it
-  pub lowering_turn : {l m : Lowering} {what : Seen} → LoweringCase l what (On m) → (got : ℕ → Page) (s : State Page) → know (w.proc p) ≡ know_lowering got l → know b ≡ know_lowering (lowering_got got l what) m → IsTold w.now w.size (lowering_next l) what → Does w.now p (event_of None (lowering_next l) what) s → Turned know w p (event_of None (lowering_next l) what) s b
-  lowering_turn (LoweringCase.SawMore c new t) got s before then told does = look_turn s before (subst (λ z. know b ≡ know_lowering got z) t.0 then) does
-  lowering_turn (LoweringCase.Latched new t) got s before then told does = latch_turn got s before (subst (λ z. know b ≡ know_lowering got z) t then) told does
-  lowering_turn (LoweringCase.Missed new t) got s before then told does = miss_turn got s before (subst (λ z. know b ≡ know_lowering got z) t then) does
-  lowering_turn (LoweringCase.IsTall c k t) got s before then told does = tall_turn got (λ z. c) k c s before then told t.0 t.1 does
-  lowering_turn (LoweringCase.IsLow c end t) got s before then told does = low_turn got (λ z. c) end s before then does
-  lowering_turn (LoweringCase.LatchedUpper k new t) got s before then told does = latch_top_turn got k s before (subst (λ z. know b ≡ know_lowering got z) t then) told does
-  lowering_turn (LoweringCase.MissedUpper k new t) got s before then told does = miss_top_turn got k s before (subst (λ z. know b ≡ know_lowering got z) t then) does
-  lowering_turn (LoweringCase.IsSpare k c u t) got s before then told does = sink_turn got k u c s before then told t.0 t.1 t.2 does
-  lowering_turn (LoweringCase.IsNeeded k c x end t) got s before then told does = stay_turn got (got_top (Anchor k.anchor) c) k x end s before then t.0 does
-  lowering_turn (LoweringCase.PutAnchor k new t) got s before then told does = anchor_turn got k s before (subst (λ z. know b ≡ know_lowering got z) t then) does
-  lowering_turn (LoweringCase.Refused k new t) got s before then told does = refuse_turn got k lowered.NoRoom s before (subst (λ z. know b ≡ know_lowering got z) t then) does
-  lowering_turn (LoweringCase.PutDead k new t) got s before then told does = dead_turn got k s before (subst (λ z. know b ≡ know_lowering got z) t then) does
-  lowering_turn (LoweringCase.Retired x new t) got s before then told does = retire_turn got x lowered.Lowered s before (subst (λ z. know b ≡ know_lowering got z) t then) does
-  lowering_turn (LoweringCase.OpenedTop x end new t) got s before then told does = open_top_turn got x end s before (subst (λ z. know b ≡ know_lowering got z) t then) does
+  pub lowering_turn : {l m : Lowering} {what : Seen} → LoweringCase l what (On m) → (got : ℕ → Page) (s : State Page) → know (w.proc p) ≡ know_lowering got l → know b ≡ know_lowering (lowering_got got l what) m → IsObserved w.now w.size (lowering_next l) what → Does w.now p (event_of None (lowering_next l) what) s → Turned know w p (event_of None (lowering_next l) what) s b
+  lowering_turn (LoweringCase.SawMore c new t) got s before then observed does = look_turn s before (subst (λ z. know b ≡ know_lowering got z) t.0 then) does
+  lowering_turn (LoweringCase.Latched new t) got s before then observed does = latch_turn got s before (subst (λ z. know b ≡ know_lowering got z) t then) observed does
+  lowering_turn (LoweringCase.Missed new t) got s before then observed does = miss_turn got s before (subst (λ z. know b ≡ know_lowering got z) t then) does
+  lowering_turn (LoweringCase.IsTall c k t) got s before then observed does = tall_turn got (λ z. c) k c s before then observed t.0 t.1 does
+  lowering_turn (LoweringCase.IsLow c end t) got s before then observed does = low_turn got (λ z. c) end s before then does
+  lowering_turn (LoweringCase.LatchedUpper k new t) got s before then observed does = latch_top_turn got k s before (subst (λ z. know b ≡ know_lowering got z) t then) observed does
+  lowering_turn (LoweringCase.MissedUpper k new t) got s before then observed does = miss_top_turn got k s before (subst (λ z. know b ≡ know_lowering got z) t then) does
+  lowering_turn (LoweringCase.IsSpare k c u t) got s before then observed does = sink_turn got k u c s before then observed t.0 t.1 t.2 does
+  lowering_turn (LoweringCase.IsNeeded k c x end t) got s before then observed does = stay_turn got (got_top (Anchor k.anchor) c) k x end s before then t.0 does
+  lowering_turn (LoweringCase.PutAnchor k new t) got s before then observed does = anchor_turn got k s before (subst (λ z. know b ≡ know_lowering got z) t then) does
+  lowering_turn (LoweringCase.Refused k new t) got s before then observed does = refuse_turn got k lowered.NoRoom s before (subst (λ z. know b ≡ know_lowering got z) t then) does
+  lowering_turn (LoweringCase.PutDead k new t) got s before then observed does = dead_turn got k s before (subst (λ z. know b ≡ know_lowering got z) t then) does
+  lowering_turn (LoweringCase.Retired x new t) got s before then observed does = retire_turn got x lowered.Lowered s before (subst (λ z. know b ≡ know_lowering got z) t then) does
+  lowering_turn (LoweringCase.OpenedTop x end new t) got s before then observed does = open_top_turn got x end s before (subst (λ z. know b ≡ know_lowering got z) t then) does
 
   -- and one that does
   pub lowering_over_turn : {l : Lowering} {what : Seen} {end : Lowered} → LoweringCase l what (Over end) → (got : ℕ → Page) (s : State Page) → know (w.proc p) ≡ know_lowering got l → know b ≡ idle Stage.Busy → Does w.now p (event_of None (lowering_next l) what) s → Turned know w p (event_of None (lowering_next l) what) s b
@@ -369,8 +369,8 @@ module _ {P : Type 0} (know : P → Know) (w : World P) (g : IsGood know w) (p :
   lowering_over_turn (LoweringCase.OpenedAnchor end last t) got s before then does = open_turn got end s before then does
 
   -- every turn of its process
-  pub lower_turn : {a a' : LowerStage} {what : Seen} → LowerCase a what a' → (got : ℕ → Page) (s : State Page) → know (w.proc p) ≡ know_lower got a → know b ≡ know_lower (lower_got got a what) a' → IsTold w.now w.size (lower_next_in a) what → Does w.now p (event_of None (lower_next_in a) what) s → Turned know w p (event_of None (lower_next_in a) what) s b
-  lower_turn (LowerCase.Began l t) got s before then told does = start_turn know w g p b (Unit {0}) s before (subst (λ z. know b ≡ know_lowering got z) t then) does
-  lower_turn (LowerCase.Sank l what m t) got s before then told does = lowering_turn (lowering_case l what _ t) got s before then told does
-  lower_turn (LowerCase.Finished l what r t) got s before then told does = lowering_over_turn (lowering_case l what _ t) got s before then does
-  lower_turn (LowerCase.Ended r last t) got s before then told does = end_turn know w g p b None s before then does
+  pub lower_turn : {a a' : LowerStage} {what : Seen} → LowerCase a what a' → (got : ℕ → Page) (s : State Page) → know (w.proc p) ≡ know_lower got a → know b ≡ know_lower (lower_got got a what) a' → IsObserved w.now w.size (lower_next_in a) what → Does w.now p (event_of None (lower_next_in a) what) s → Turned know w p (event_of None (lower_next_in a) what) s b
+  lower_turn (LowerCase.Began l t) got s before then observed does = start_turn know w g p b (Unit {0}) s before (subst (λ z. know b ≡ know_lowering got z) t then) does
+  lower_turn (LowerCase.Sank l what m t) got s before then observed does = lowering_turn (lowering_case l what _ t) got s before then observed does
+  lower_turn (LowerCase.Finished l what r t) got s before then observed does = lowering_over_turn (lowering_case l what _ t) got s before then does
+  lower_turn (LowerCase.Ended r last t) got s before then observed does = end_turn know w g p b None s before then does

@@ -16,7 +16,7 @@ use Rattle.bl_rearrange.specs.declared.sides.Side.TheVariants as side
 use Rattle.bl_claims.specs.Trails.{Mark, Trail, marks_of}
 use Rattle.bl_claims.specs.Moments.{Puts as PutsPage, IsMiddleBy, InMiddle, InEvening}
 use Rattle.bl_core.specs.Worlds.{Middle, World, nodes, HasMiddle, IsSure, IsGood}
-use Rattle.bl_core.specs.Told.{TellsMiddles}
+use Rattle.bl_core.specs.Observed.{TellsMiddles}
 use Rattle.bl_proc_base.specs.declared.approaching.Approach.TheVariants as way
 use Rattle.bl_proc_compress.specs.declared.compressing.Puts.{Puts}
 use Rattle.bl_proc_compress.specs.declared.compressing.Compression.TheVariants.{PuttingParent, PuttingLast}

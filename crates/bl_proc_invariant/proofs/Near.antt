@@ -16,8 +16,8 @@ use Rattle.bl_proc_base.specs.declared.acts.Action.{Action}
 use Rattle.bl_proc_base.specs.declared.acts.Action.TheVariants as act
 use Rattle.bl_proc_base.specs.declared.approaching.Approach.{Approach}
 use Rattle.bl_proc_base.specs.declared.approaching.Approach.TheVariants as way
-use Rattle.bl_proc_base.specs.declared.changing.Change.{Change}
-use Rattle.bl_proc_base.specs.declared.changing.Change.TheVariants as change
+use Rattle.bl_proc_base.specs.declared.editing.Edit.{Edit}
+use Rattle.bl_proc_base.specs.declared.editing.Edit.TheVariants as edit
 use Rattle.bl_proc_base.specs.declared.growing.Growth.{Growth}
 use Rattle.bl_proc_base.specs.declared.growing.Growth.TheVariants as growth
 use Rattle.bl_proc.specs.declared.searching.FindStage.{FindStage}
@@ -44,7 +44,7 @@ use Rattle.bl_proc_compress.specs.declared.squeezing.CompressStage.TheVariants a
 use Rattle.bl_proc.specs.declared.kinds.Proc.{Proc}
 use Rattle.bl_proc.specs.declared.kinds.Proc.TheVariants.{Find, Insert, Delete, Post, Part, Compress, Reclaim, Lower}
 use Rattle.bl_proc_base.specs.Approaches.{approach_next}
-use Rattle.bl_proc_base.specs.Changes.{change_next}
+use Rattle.bl_proc_base.specs.Edits.{edit_next}
 use Rattle.bl_proc_compress.specs.Compressions.{put_of, other, compression_next}
 use Rattle.bl_rearrange.specs.declared.sides.Side.{Side}
 use Rattle.bl_rearrange.specs.declared.sides.Side.TheVariants as side
@@ -61,7 +61,7 @@ use Rattle.bl_proc.specs.Lowers.{lower_next_in}
 use Rattle.bl_proc_base.specs.Lowerings.{lowering_next}
 use Rattle.bl_proc.specs.Processes.{next_of}
 use Rattle.bl_proc_invariant.specs.Compressing.{know_squeeze}
-use Rattle.bl_proc_invariant.specs.Tables.{Aim, know_approach, know_change}
+use Rattle.bl_proc_invariant.specs.Tables.{Aim, know_approach, know_edit}
 use Rattle.bl_proc_invariant.specs.Knowing.{know_growth, know_find, know_part, know_insert, know_delete, know_post, know_compress, know_reclaim, know_lower, know_of, Run, know}
 use Rattle.bl_proc_invariant.proofs.Descending.{descent_there}
 
@@ -88,13 +88,13 @@ module _ {P : Type 0} (know : P → Know) (w : World P) (g : IsGood know w) (p :
   approach_near level key (way.Leaving x None) is = is.holds.0.owner
   approach_near level key (way.Leaving x (Some y)) is = is.holds.0.owner
 
-  change_near : (aim : Aim) (got : ℕ → Page) (c : Change) → IsSure w p (know_change aim got c) → IsNear w p (change_next c)
-  change_near aim got (change.Putting x page) is = is.holds.0.owner
-  change_near aim got (change.Taking full) is = tt
-  change_near aim got (change.PuttingNew t) is = is.holds.1.0.owner
-  change_near aim got (change.PuttingOld t) is = is.holds.0.owner
-  change_near aim got (change.OpeningNew x y s) is = is.holds.1.0.owner
-  change_near aim got (change.Opening x o) is = is.holds.0.owner
+  edit_near : (aim : Aim) (got : ℕ → Page) (c : Edit) → IsSure w p (know_edit aim got c) → IsNear w p (edit_next c)
+  edit_near aim got (edit.Putting x page) is = is.holds.0.owner
+  edit_near aim got (edit.Taking full) is = tt
+  edit_near aim got (edit.PuttingNew t) is = is.holds.1.0.owner
+  edit_near aim got (edit.PuttingOld t) is = is.holds.0.owner
+  edit_near aim got (edit.OpeningNew x y s) is = is.holds.1.0.owner
+  edit_near aim got (edit.Opening x o) is = is.holds.0.owner
 
   growth_near : (level key : ℕ) (got : ℕ → Page) (a : Growth) → IsSure w p (know_growth level key got a) → IsNear w p (growth_next a)
   growth_near level key got growth.Latching is = anchor_not_free
@@ -124,7 +124,7 @@ module _ {P : Type 0} (know : P → Know) (w : World P) (g : IsGood know w) (p :
   insert_near key value got insert.New is = tt
   insert_near key value got (insert.Coming a) is = approach_near 0 key a is
   insert_near key value got (insert.Present x v) is = is.holds.0.owner
-  insert_near key value got (insert.Changing c) is = change_near _ got c is
+  insert_near key value got (insert.Editing c) is = edit_near _ got c is
   insert_near key value got (insert.Ending r) is = tt
   insert_near key value got (insert.Over r) is = tt
 
@@ -132,7 +132,7 @@ module _ {P : Type 0} (know : P → Know) (w : World P) (g : IsGood know w) (p :
   delete_near key got delete.New is = tt
   delete_near key got (delete.Coming a) is = approach_near 0 key a is
   delete_near key got (delete.Absent x) is = is.holds.0.owner
-  delete_near key got (delete.Changing v c) is = change_near _ got c is
+  delete_near key got (delete.Editing v c) is = edit_near _ got c is
   delete_near key got (delete.Ending r) is = tt
   delete_near key got (delete.Over r) is = tt
 
@@ -141,7 +141,7 @@ module _ {P : Type 0} (know : P → Know) (w : World P) (g : IsGood know w) (p :
   post_near level key got child (post.Coming a) is = approach_near level key a is
   post_near level key got child (post.Growing h) is = growth_near level key got h is
   post_near level key got child (post.Walking v) is = not_released know w g p v.child is.goes.0.may
-  post_near level key got child (post.Changing c) is = change_near _ got c is
+  post_near level key got child (post.Editing c) is = edit_near _ got c is
   post_near level key got child (post.Staying x r) is = is.holds.0.owner
   post_near level key got child (post.Ending r) is = tt
   post_near level key got child (post.Over r) is = tt

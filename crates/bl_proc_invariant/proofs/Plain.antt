@@ -5,8 +5,8 @@ use Rattle.bl_claims.specs.Trails.{Trail}
 use Rattle.bl_core.specs.Worlds.{Know}
 use Rattle.bl_proc_base.specs.declared.approaching.Approach.{Approach}
 use Rattle.bl_proc_base.specs.declared.approaching.Approach.TheVariants as way
-use Rattle.bl_proc_base.specs.declared.changing.Change.{Change}
-use Rattle.bl_proc_base.specs.declared.changing.Change.TheVariants as change
+use Rattle.bl_proc_base.specs.declared.editing.Edit.{Edit}
+use Rattle.bl_proc_base.specs.declared.editing.Edit.TheVariants as edit
 use Rattle.bl_proc_base.specs.declared.growing.Growth.{Growth}
 use Rattle.bl_proc_base.specs.declared.growing.Growth.TheVariants as growth
 use Rattle.bl_proc.specs.declared.searching.FindStage.{FindStage}
@@ -34,7 +34,7 @@ use Rattle.bl_proc_compress.specs.declared.squeezing.Compress.{Compress as Press
 use Rattle.bl_proc.specs.declared.kinds.Proc.{Proc}
 use Rattle.bl_proc.specs.declared.kinds.Proc.TheVariants.{Find, Insert, Delete, Post, Part, Compress, Reclaim, Lower}
 use Rattle.bl_proc_invariant.specs.Compressing.{know_squeeze}
-use Rattle.bl_proc_invariant.specs.Tables.{Aim, know_approach, know_change}
+use Rattle.bl_proc_invariant.specs.Tables.{Aim, know_approach, know_edit}
 use Rattle.bl_proc_invariant.specs.Knowing.{know_growth, know_find, know_part, know_insert, know_delete, know_post, know_compress, know_reclaim, know_lower, know_of, Run, know}
 
 -- it is not in the middle of a compression
@@ -49,13 +49,13 @@ approach_plain level key (way.Latched x) = record { middle = refl }
 approach_plain level key (way.Leaving x None) = record { middle = refl }
 approach_plain level key (way.Leaving x (Some y)) = record { middle = refl }
 
-change_plain : (aim : Aim) (got : ℕ → Page) (c : Change) → IsPlain (know_change aim got c)
-change_plain aim got (change.Putting x page) = record { middle = refl }
-change_plain aim got (change.Taking full) = record { middle = refl }
-change_plain aim got (change.PuttingNew t) = record { middle = refl }
-change_plain aim got (change.PuttingOld t) = record { middle = refl }
-change_plain aim got (change.OpeningNew x y s) = record { middle = refl }
-change_plain aim got (change.Opening x o) = record { middle = refl }
+edit_plain : (aim : Aim) (got : ℕ → Page) (c : Edit) → IsPlain (know_edit aim got c)
+edit_plain aim got (edit.Putting x page) = record { middle = refl }
+edit_plain aim got (edit.Taking full) = record { middle = refl }
+edit_plain aim got (edit.PuttingNew t) = record { middle = refl }
+edit_plain aim got (edit.PuttingOld t) = record { middle = refl }
+edit_plain aim got (edit.OpeningNew x y s) = record { middle = refl }
+edit_plain aim got (edit.Opening x o) = record { middle = refl }
 
 growth_plain : (level key : ℕ) (got : ℕ → Page) (a : Growth) → IsPlain (know_growth level key got a)
 growth_plain level key got growth.Latching = record { middle = refl }
@@ -87,7 +87,7 @@ insert_plain key value got (insert.Present x v) = record { middle = refl }
 insert_plain key value got (insert.Ending r) = record { middle = refl }
 insert_plain key value got (insert.Over r) = record { middle = refl }
 insert_plain key value got (insert.Coming a) = approach_plain 0 key a
-insert_plain key value got (insert.Changing c) = change_plain _ got c
+insert_plain key value got (insert.Editing c) = edit_plain _ got c
 
 delete_plain : (key : ℕ) (got : ℕ → Page) (a : DeleteStage) → IsPlain (know_delete key got a)
 delete_plain key got delete.New = record { middle = refl }
@@ -95,7 +95,7 @@ delete_plain key got (delete.Absent x) = record { middle = refl }
 delete_plain key got (delete.Ending r) = record { middle = refl }
 delete_plain key got (delete.Over r) = record { middle = refl }
 delete_plain key got (delete.Coming a) = approach_plain 0 key a
-delete_plain key got (delete.Changing v c) = change_plain _ got c
+delete_plain key got (delete.Editing v c) = edit_plain _ got c
 
 post_plain : (level key : ℕ) (got : ℕ → Page) (child : ℕ) (a : PostStage) → IsPlain (know_post level key got child a)
 post_plain level key got child post.New = record { middle = refl }
@@ -105,7 +105,7 @@ post_plain level key got child (post.Ending r) = record { middle = refl }
 post_plain level key got child (post.Over r) = record { middle = refl }
 post_plain level key got child (post.Coming a) = approach_plain level key a
 post_plain level key got child (post.Growing h) = growth_plain level key got h
-post_plain level key got child (post.Changing c) = change_plain _ got c
+post_plain level key got child (post.Editing c) = edit_plain _ got c
 
 reclaim_plain : (time : ℕ) (a : ReclaimStage) → IsPlain (know_reclaim time a)
 reclaim_plain time reclaim.Seeing = record { middle = refl }

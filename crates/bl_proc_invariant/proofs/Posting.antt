@@ -18,23 +18,23 @@ use Rattle.bl_core.proofs.Children.{child_found}
 use Rattle.bl_proc_base.specs.declared.acts.Seen.{Seen}
 use Rattle.bl_proc_base.specs.declared.onwards.Step.TheVariants.{Here}
 use Rattle.bl_proc_base.specs.declared.approaching.Approach.TheVariants as way
-use Rattle.bl_proc_base.specs.declared.changing.Change.{Change}
+use Rattle.bl_proc_base.specs.declared.editing.Edit.{Edit}
 use Rattle.bl_proc.specs.declared.walking.Walk.{Walk}
 use Rattle.bl_proc.specs.declared.posting.PostStage.{PostStage}
 use Rattle.bl_proc.specs.declared.posting.PostStage.TheVariants as post
 use Rattle.bl_proc_base.specs.Onwards.{Leads}
-use Rattle.bl_proc_base.specs.Changes.{EntersPair}
+use Rattle.bl_proc_base.specs.Edits.{EntersPair}
 use Rattle.bl_proc.specs.Posts.{post_next_in, PostArrives, PostWalks}
-use Rattle.bl_proc_invariant.specs.Turns.{event_of, IsTold, Does, Turned}
-use Rattle.bl_proc_invariant.specs.Tables.{idle, holds_live, goes_to, IsAim, IsDue, know_approach, know_change}
+use Rattle.bl_proc_invariant.specs.Turns.{event_of, IsObserved, Does, Turned}
+use Rattle.bl_proc_invariant.specs.Tables.{idle, holds_live, goes_to, IsAim, IsDue, know_approach, know_edit}
 use Rattle.bl_proc_invariant.specs.Knowing.{post_aim, know_post, post_got, post_child}
 use Rattle.bl_proc_invariant.proofs.Acts.{watched}
 use Rattle.bl_proc_invariant.proofs.Approaching.{walks_held, wider, to_right, got_goes, approach_turn, give_up_turn, kept_turn, stay_turn}
-use Rattle.bl_proc_invariant.proofs.Changing.{change_turn, finish_turn}
-use Rattle.bl_proc_invariant.proofs.Entering.{enters_learns, enters_places, change_middle}
+use Rattle.bl_proc_invariant.proofs.Editing.{edit_turn, finish_turn}
+use Rattle.bl_proc_invariant.proofs.Entering.{enters_learns, enters_places, edit_middle}
 use Rattle.bl_proc_invariant.proofs.Ends.{begin_turn, end_turn}
 use Rattle.bl_proc_invariant.proofs.Growing as growing
-use Rattle.bl_proc_unique.proofs.WayCases.{change_case, growth_case}
+use Rattle.bl_proc_unique.proofs.WayCases.{edit_case, growth_case}
 use Rattle.bl_proc_unique.proofs.KindCases.{PostCase}
 
 pub post_fine : (level key child : ℕ) → 0 < level → IsAim (post_aim level key child)
@@ -53,15 +53,15 @@ post_fine level key child above = record {
 module _ {P : Type 0} (know : P → Know) (w : World P) (g : IsGood know w) (p : Name) (b : P) (level key : ℕ) (least : 0 < level) (limit : level ≤ 12) where
   -- at the parent
   walk_turn : (x : ℕ) (parent : Inner) (v : Walk) (got : ℕ → Page) (child : ℕ) (s : State Page) → know (w.proc p) ≡ know_approach level key (way.Latched x) → know b ≡ know_post level key got child (post.Walking v) → InnerPage parent ≡ w.now.contents x → Leads (InnerPage parent) key level Here → PostArrives key x parent (post.Walking v) → Does w.now p (Get x) s → Turned know w p (Get x) s b
-  walk_turn x parent v got child s before then told leads t does =
+  walk_turn x parent v got child s before then observed leads t does =
       let is : IsSure w p (know_approach level key (way.Latched x)) = rw before at (g.sure p) in
       let held = is.holds.0 in
       let may = is.goes.0.may in
       let m : Mark = record { event = record { process = p; act = Get x }; saw = Some (w.now.contents x); said = None } in
-      let l = subst (λ z. Leads z key level Here) told leads in
-      let page : w.now.contents x ≡ InnerPage v.parent = sym told ∙ ap InnerPage (sym t.2) in
+      let l = subst (λ z. Leads z key level Here) observed leads in
+      let page : w.now.contents x ≡ InnerPage v.parent = sym observed ∙ ap InnerPage (sym t.2) in
       let unlisted : (node_of (InnerPage v.parent)).look key ≡ None = rw t.1 at v.unlisted in
-      let to : IsGoes w p (goes_to v.child (level - 1) (level - 1)) = goes_down know w g p x (level - 1) key v.child may l.0 (let e = l.2 in omega (arith, least)) (subst (λ z. IsChildOf (node_of z).look key v.child) told t.3) in
+      let to : IsGoes w p (goes_to v.child (level - 1) (level - 1)) = goes_down know w g p x (level - 1) key v.child may l.0 (let e = l.2 in omega (arith, least)) (subst (λ z. IsChildOf (node_of z).look key v.child) observed t.3) in
       watched know w g p b _ _ before then (Get x) (Some (w.now.contents x)) None s tt (is.stage, not_released know w g p x may) does refl refl
       (λ y h. elim h [ inl e ↦ inl (t.0 ∙ e) | inr u ↦ absurd u ]) (λ it e. cc) (λ j. refl)
       (record {
@@ -113,7 +113,7 @@ module _ {P : Type 0} (know : P → Know) (w : World P) (g : IsGood know w) (p :
         watched know w g p b _ _ before then (Get v.child) (Some (w.now.contents v.child)) None s tt (is.stage, not_released know w g p v.child is.goes.0.may) does refl refl (λ y h. h) (λ it e. cc) (λ j. refl)
         (walks_held w _ p (Get v.child) (Some (w.now.contents v.child)) v.at [] (key < unbounded) is.stage is.said (does.changes.1 v.at ∙ is.holds.0.owner) is.holds.0.status tt is.sound.0)
 
-    list_turn : (c : Change) → know b ≡ know_change (post_aim level key v.child) (λ z. InnerPage v.parent) c → PostWalks level v (w.now.contents v.child) (post.Changing c) → Turned know w p (Get v.child) s b
+    list_turn : (c : Edit) → know b ≡ know_edit (post_aim level key v.child) (λ z. InnerPage v.parent) c → PostWalks level v (w.now.contents v.child) (post.Editing c) → Turned know w p (Get v.child) s b
     list_turn c then t =
         let is = walking in
         let held = is.holds.0 in
@@ -127,8 +127,8 @@ module _ {P : Type 0} (know : P → Know) (w : World P) (g : IsGood know w) (p :
         let level_is : (nodes w.now v.at).shape.level ≡ level = rw held.page due.level in
         let above : (nodes w.now v.at).shape.level ≡ suc (nodes w.now v.child).shape.level = (let lo = to.least in let hi = to.most in omega (arith, level_is, least)) in
         let found = child_found know w p v.at v.child key g held.owner held.status covers above (rw before refl) to.may t.0.0 (t.1 ∙ key_is) in
-        watched know w g p b _ _ before then (Get v.child) (Some (w.now.contents v.child)) None s tt (is.stage, not_released know w g p v.child to.may) does refl (change_middle aim (λ z. page) c)
-        (λ y h. elim h [ inl e ↦ subst (λ z. HoldsPage (know_change aim (λ u. page) c).holds z) e (enters_places aim v.at v.child key page c enters) | inr n ↦ absurd n ]) (λ it e. cc) (λ k. refl)
+        watched know w g p b _ _ before then (Get v.child) (Some (w.now.contents v.child)) None s tt (is.stage, not_released know w g p v.child to.may) does refl (edit_middle aim (λ z. page) c)
+        (λ y h. elim h [ inl e ↦ subst (λ z. HoldsPage (know_edit aim (λ u. page) c).holds z) e (enters_places aim v.at v.child key page c enters) | inr n ↦ absurd n ]) (λ it e. cc) (λ k. refl)
         (enters_learns w _ p (Get v.child) (Some (w.now.contents v.child)) aim v.at v.child page c (record {
           stage = is.stage;
           said = is.said;
@@ -140,24 +140,24 @@ module _ {P : Type 0} (know : P → Know) (w : World P) (g : IsGood know w) (p :
         }) refl enters)
 
   -- every turn of a post
-  pub post_turn : {a a' : PostStage} {what : Seen} → PostCase level key a what a' → (got : ℕ → Page) (child : ℕ) (s : State Page) → know (w.proc p) ≡ know_post level key got child a → know b ≡ know_post level key (post_got got a what) (post_child child a) a' → IsTold w.now w.size (post_next_in a) what → Does w.now p (event_of None (post_next_in a) what) s → Turned know w p (event_of None (post_next_in a) what) s b
-  post_turn (PostCase.Began a t) got child s before then told does = begin_turn know w g p b key s before (rw t at then) does
-  post_turn (PostCase.NoLevel c t) got child s before then told does = give_up_turn know w g p b level key s before then does
-  post_turn (PostCase.Tallest c t) got child s before then told does = give_up_turn know w g p b level key s before then does
-  post_turn (PostCase.ToGrow c t) got child s before then told does =
+  pub post_turn : {a a' : PostStage} {what : Seen} → PostCase level key a what a' → (got : ℕ → Page) (child : ℕ) (s : State Page) → know (w.proc p) ≡ know_post level key got child a → know b ≡ know_post level key (post_got got a what) (post_child child a) a' → IsObserved w.now w.size (post_next_in a) what → Does w.now p (event_of None (post_next_in a) what) s → Turned know w p (event_of None (post_next_in a) what) s b
+  post_turn (PostCase.Began a t) got child s before then observed does = begin_turn know w g p b key s before (rw t at then) does
+  post_turn (PostCase.NoLevel c t) got child s before then observed does = give_up_turn know w g p b level key s before then does
+  post_turn (PostCase.Tallest c t) got child s before then observed does = give_up_turn know w g p b level key s before then does
+  post_turn (PostCase.ToGrow c t) got child s before then observed does =
       let is : IsSure w p (know_approach level key way.Start) = rw before at (g.sure p) in
       got_goes know w g p b level key _ 0 s [] before refl refl then is.stage is.said (anchor_not_released know w g) does is.sound tt
-  post_turn (PostCase.Came a what a' t) got child s before then told does = approach_turn know w g p b level key a a' what s limit before then t told does
-  post_turn (PostCase.Listed x parent y l t) got child s before then told does = kept_turn know w g p b level key x s before (rw t.0 at then) does
-  post_turn (PostCase.ToWalk x parent v l t) got child s before then told does = walk_turn x parent v got child s before then told l t does
-  post_turn (PostCase.Grew h what d t) got child s before then told does = growing.growth_turn know w g p b level key (growth_case level h what _ t) got s before then told does
-  post_turn (PostCase.Grown h what a t) got child s before then told does = growing.over_turn know w g p b level key (growth_case level h what _ t.0) got s before (rw t.1 at then) does
-  post_turn (PostCase.NoRoom h what r t) got child s before then told does = growing.no_room_turn know w g p b level key (growth_case level h what _ t.0) got s before then does
-  post_turn (PostCase.Walked v c u t) got child s before then told does = step_turn v got child s before does u (λ z. InnerPage v.parent) v.child then (subst (λ z. PostWalks level v z (post.Walking u)) told t)
-  post_turn (PostCase.Entered v c d t) got child s before then told does = list_turn v got child s before does d then (subst (λ z. PostWalks level v z (post.Changing d)) told t)
-  post_turn (PostCase.Stale v c x t) got child s before then told does = lost_turn v got child s before does (rw t.0 at then)
-  post_turn (PostCase.Lost v c a t) got child s before then told does = again_turn v got child s before does (rw t.0 at then)
-  post_turn (PostCase.Changed c what d t) got child s before then told does = change_turn know w g p b (post_aim level key child) (post_fine level key child least) got (change_case c what _ t) s before then told does
-  post_turn (PostCase.Finished c what r (o, t, same)) got child s before then told does = finish_turn know w g p b (post_aim level key child) (post_fine level key child least) got (change_case c what _ t) _ s before then tt does
-  post_turn (PostCase.Opened x r last t) got child s before then told does = stay_turn know w g p b level key x s before then does
-  post_turn (PostCase.Ended r last t) got child s before then told does = end_turn know w g p b None s before then does
+  post_turn (PostCase.Came a what a' t) got child s before then observed does = approach_turn know w g p b level key a a' what s limit before then t observed does
+  post_turn (PostCase.Listed x parent y l t) got child s before then observed does = kept_turn know w g p b level key x s before (rw t.0 at then) does
+  post_turn (PostCase.ToWalk x parent v l t) got child s before then observed does = walk_turn x parent v got child s before then observed l t does
+  post_turn (PostCase.Grew h what d t) got child s before then observed does = growing.growth_turn know w g p b level key (growth_case level h what _ t) got s before then observed does
+  post_turn (PostCase.Grown h what a t) got child s before then observed does = growing.over_turn know w g p b level key (growth_case level h what _ t.0) got s before (rw t.1 at then) does
+  post_turn (PostCase.NoRoom h what r t) got child s before then observed does = growing.no_room_turn know w g p b level key (growth_case level h what _ t.0) got s before then does
+  post_turn (PostCase.Walked v c u t) got child s before then observed does = step_turn v got child s before does u (λ z. InnerPage v.parent) v.child then (subst (λ z. PostWalks level v z (post.Walking u)) observed t)
+  post_turn (PostCase.Entered v c d t) got child s before then observed does = list_turn v got child s before does d then (subst (λ z. PostWalks level v z (post.Editing d)) observed t)
+  post_turn (PostCase.Stale v c x t) got child s before then observed does = lost_turn v got child s before does (rw t.0 at then)
+  post_turn (PostCase.Lost v c a t) got child s before then observed does = again_turn v got child s before does (rw t.0 at then)
+  post_turn (PostCase.Edited c what d t) got child s before then observed does = edit_turn know w g p b (post_aim level key child) (post_fine level key child least) got (edit_case c what _ t) s before then observed does
+  post_turn (PostCase.Finished c what r (o, t, same)) got child s before then observed does = finish_turn know w g p b (post_aim level key child) (post_fine level key child least) got (edit_case c what _ t) _ s before then tt does
+  post_turn (PostCase.Opened x r last t) got child s before then observed does = stay_turn know w g p b level key x s before then does
+  post_turn (PostCase.Ended r last t) got child s before then observed does = end_turn know w g p b None s before then does

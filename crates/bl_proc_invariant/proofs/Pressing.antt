@@ -18,7 +18,7 @@ use Rattle.bl_core.proofs.Descents.{goes_down, not_released}
 use Rattle.bl_proc_base.specs.declared.acts.Seen.{Seen}
 use Rattle.bl_proc_base.specs.declared.approaching.Approach.TheVariants as way
 use Rattle.bl_proc_compress.specs.declared.compressing.Family.{Family}
-use Rattle.bl_proc_compress.specs.declared.compressing.Fate.{Fate}
+use Rattle.bl_proc_compress.specs.declared.compressing.Decision.{Decision}
 use Rattle.bl_proc_compress.specs.declared.compressing.Compression.{Compression}
 use Rattle.bl_proc_compress.specs.declared.compressing.Compression.TheVariants.{LatchingLeft}
 use Rattle.bl_proc_compress.specs.declared.compressing.Compressed.TheVariants as step
@@ -26,7 +26,7 @@ use Rattle.bl_proc_compress.specs.Compressions.{right_place, AreSiblings, compre
 use Rattle.bl_proc_compress.proofs.Places.{listed_at}
 use Rattle.bl_proc_compress.specs.declared.squeezing.CompressStage.{CompressStage}
 use Rattle.bl_proc_compress.specs.Compresses.{compress_next_in}
-use Rattle.bl_proc_invariant.specs.Turns.{event_of, IsTold, Does, Turned}
+use Rattle.bl_proc_invariant.specs.Turns.{event_of, IsObserved, Does, Turned}
 use Rattle.bl_proc_invariant.specs.Tables.{idle, goes_to, know_approach}
 use Rattle.bl_proc_invariant.specs.Compressing.{know_squeeze}
 use Rattle.bl_proc_invariant.specs.Knowing.{know_compress, compress_got}
@@ -76,17 +76,17 @@ module _ {P : Type 0} (know : P → Know) (w : World P) (g : IsGood know w) (p :
       })
 
   -- the compression is over
-  over_turn : {c : Compression} {what : Seen} {fate : Fate} → SqueezeCase c what (step.Over fate) → (S : Type 0) (got : ℕ → Page) (s : State Page) → know (w.proc p) ≡ know_squeeze level key got c → know b ≡ record (idle Stage.Busy) { sound = S } → (key < unbounded → S) → Does w.now p (event_of None (compression_next c) what) s → Turned know w p (event_of None (compression_next c) what) s b
+  over_turn : {c : Compression} {what : Seen} {decision : Decision} → SqueezeCase c what (step.Over decision) → (S : Type 0) (got : ℕ → Page) (s : State Page) → know (w.proc p) ≡ know_squeeze level key got c → know b ≡ record (idle Stage.Busy) { sound = S } → (key < unbounded → S) → Does w.now p (event_of None (compression_next c) what) s → Turned know w p (event_of None (compression_next c) what) s b
   over_turn (SqueezeCase.OpenedParent x f _ t) S got s before then on does = open_parent_turn know w g p b level key got 0 0 x f S s before then on does
 
-  pub compress_turn : {a a' : CompressStage} {what : Seen} → CompressCase level key a what a' → (got : ℕ → Page) (s : State Page) → know (w.proc p) ≡ know_compress level key got a → know b ≡ know_compress level key (compress_got got a what) a' → IsTold w.now w.size (compress_next_in a) what → Does w.now p (event_of None (compress_next_in a) what) s → Turned know w p (event_of None (compress_next_in a) what) s b
-  compress_turn (CompressCase.Began a t) got s before then told does = begin_turn know w g p b key s before (rw t at then) does
-  compress_turn (CompressCase.NoLevel c t) got s before then told does = give_up_turn know w g p b level key s before then does
-  compress_turn (CompressCase.Came a what a' t) got s before then told does = approach_turn know w g p b level key a a' what s limit before then t told does
-  compress_turn (CompressCase.Met x parent f l t) got s before then told does = family_turn x parent f got s before then (sym told) l.2 t does
-  compress_turn (CompressCase.Single x parent y l t) got s before then told does = kept_turn know w g p b level key x s before (rw t.0 at then) does
-  compress_turn (CompressCase.Squeezed c what d t) got s before then told does = compression_turn know w g p b level key least got c d what s before then t told does
-  compress_turn (CompressCase.Lost c what a (fate, t, none, start)) got s before then told does = over_turn (squeeze_case c what _ t) (key < unbounded) got s before (rw start at then) (λ e. e) does
-  compress_turn (CompressCase.Finished c what r (fate, t, some)) got s before then told does = over_turn (squeeze_case c what _ t) (Unit {0}) got s before then (λ e. tt) does
-  compress_turn (CompressCase.Opened x r t) got s before then told does = stay_turn know w g p b level key x s before then does
-  compress_turn (CompressCase.Ended r last t) got s before then told does = end_turn know w g p b None s before then does
+  pub compress_turn : {a a' : CompressStage} {what : Seen} → CompressCase level key a what a' → (got : ℕ → Page) (s : State Page) → know (w.proc p) ≡ know_compress level key got a → know b ≡ know_compress level key (compress_got got a what) a' → IsObserved w.now w.size (compress_next_in a) what → Does w.now p (event_of None (compress_next_in a) what) s → Turned know w p (event_of None (compress_next_in a) what) s b
+  compress_turn (CompressCase.Began a t) got s before then observed does = begin_turn know w g p b key s before (rw t at then) does
+  compress_turn (CompressCase.NoLevel c t) got s before then observed does = give_up_turn know w g p b level key s before then does
+  compress_turn (CompressCase.Came a what a' t) got s before then observed does = approach_turn know w g p b level key a a' what s limit before then t observed does
+  compress_turn (CompressCase.Met x parent f l t) got s before then observed does = family_turn x parent f got s before then (sym observed) l.2 t does
+  compress_turn (CompressCase.Single x parent y l t) got s before then observed does = kept_turn know w g p b level key x s before (rw t.0 at then) does
+  compress_turn (CompressCase.Squeezed c what d t) got s before then observed does = compression_turn know w g p b level key least got c d what s before then t observed does
+  compress_turn (CompressCase.Lost c what a (decision, t, none, start)) got s before then observed does = over_turn (squeeze_case c what _ t) (key < unbounded) got s before (rw start at then) (λ e. e) does
+  compress_turn (CompressCase.Finished c what r (decision, t, some)) got s before then observed does = over_turn (squeeze_case c what _ t) (Unit {0}) got s before then (λ e. tt) does
+  compress_turn (CompressCase.Opened x r t) got s before then observed does = stay_turn know w g p b level key x s before then does
+  compress_turn (CompressCase.Ended r last t) got s before then observed does = end_turn know w g p b None s before then does

@@ -10,13 +10,13 @@ use Rattle.bl_core.proofs.Meant.{begun_now, unwritten_on, latched_unwritten, lat
 use Rattle.bl_proc_base.specs.declared.acts.Seen.{Seen}
 use Rattle.bl_proc_base.specs.declared.approaching.Approach.{Approach}
 use Rattle.bl_proc_base.specs.declared.approaching.Approached.TheVariants as came
-use Rattle.bl_proc_base.specs.declared.changing.Outcome.{Outcome}
-use Rattle.bl_proc_base.specs.declared.changing.Outcome.TheVariants as outcome
-use Rattle.bl_proc_base.specs.declared.changing.Change.{Change}
-use Rattle.bl_proc_base.specs.declared.changing.Change.TheVariants as change
-use Rattle.bl_proc_base.specs.declared.changing.Changed.TheVariants as changed
+use Rattle.bl_proc_base.specs.declared.editing.Outcome.{Outcome}
+use Rattle.bl_proc_base.specs.declared.editing.Outcome.TheVariants as outcome
+use Rattle.bl_proc_base.specs.declared.editing.Edit.{Edit}
+use Rattle.bl_proc_base.specs.declared.editing.Edit.TheVariants as edit
+use Rattle.bl_proc_base.specs.declared.editing.Edited.TheVariants as changed
 use Rattle.bl_proc_base.specs.Approaches.{approach_next, Approaches}
-use Rattle.bl_proc_base.specs.Changes.{change_next}
+use Rattle.bl_proc_base.specs.Edits.{edit_next}
 use Rattle.bl_proc.specs.declared.inserting.InsertReply.{InsertReply}
 use Rattle.bl_proc.specs.declared.inserting.InsertReply.TheVariants as inserted
 use Rattle.bl_proc.specs.declared.inserting.InsertStage.{InsertStage}
@@ -34,7 +34,7 @@ use Rattle.bl_proc_invariant.specs.Logs.{way_log, put_log, entry_log, AnyPage, i
 use Rattle.bl_proc_invariant.specs.Knowing.{insert_end, delete_end}
 use Rattle.bl_proc_invariant.proofs.Holdings.{cut_low}
 use Rattle.bl_proc_invariant.proofs.Logging.{way_stays, way_goes}
-use Rattle.bl_proc_unique.proofs.WayCases.{ChangeCase, change_case}
+use Rattle.bl_proc_unique.proofs.WayCases.{EditCase, edit_case}
 use Rattle.bl_proc_unique.proofs.KindCases.{InsertCase, DeleteCase}
 
 module _ (marks : Trail) (m : Mark) where
@@ -47,17 +47,17 @@ module _ (marks : Trail) (m : Mark) where
     leaf_stays separator h = (h.0, h.1, h.2, held_still marks m quiet h.3, h.4)
 
     outcome_stays : (Whole : Page → Type 0) (Parts : Type 0) (o : Outcome) → put_log Whole Parts o marks → put_log Whole Parts o more
-    outcome_stays Whole Parts outcome.Changed h = (h.0, h.1, held_still marks m quiet h.2, h.3)
-    outcome_stays Whole Parts (outcome.Parted separator) h = (leaf_stays (Some separator) h.0, h.1)
+    outcome_stays Whole Parts outcome.Edited h = (h.0, h.1, held_still marks m quiet h.2, h.3)
+    outcome_stays Whole Parts (outcome.SplitAt separator) h = (leaf_stays (Some separator) h.0, h.1)
     outcome_stays Whole Parts outcome.Refused h = unwritten_on marks m quiet h
 
-    entry_stays : (Whole : Page → Type 0) (Parts : Type 0) (c : Change) → entry_log Whole Parts c marks → entry_log Whole Parts c more
-    entry_stays Whole Parts (change.Putting x page) h = (held_still marks m quiet h.0, h.1)
-    entry_stays Whole Parts (change.Taking full) h = (held_still marks m quiet h.0, h.1)
-    entry_stays Whole Parts (change.PuttingNew p) h = (held_still marks m quiet h.0, h.1, h.2)
-    entry_stays Whole Parts (change.PuttingOld p) h = (held_still marks m quiet h.0, h.1, h.2)
-    entry_stays Whole Parts (change.OpeningNew x new separator) h = outcome_stays Whole Parts (outcome.Parted separator) h
-    entry_stays Whole Parts (change.Opening x o) h = outcome_stays Whole Parts o h
+    entry_stays : (Whole : Page → Type 0) (Parts : Type 0) (c : Edit) → entry_log Whole Parts c marks → entry_log Whole Parts c more
+    entry_stays Whole Parts (edit.Putting x page) h = (held_still marks m quiet h.0, h.1)
+    entry_stays Whole Parts (edit.Taking full) h = (held_still marks m quiet h.0, h.1)
+    entry_stays Whole Parts (edit.PuttingNew p) h = (held_still marks m quiet h.0, h.1, h.2)
+    entry_stays Whole Parts (edit.PuttingOld p) h = (held_still marks m quiet h.0, h.1, h.2)
+    entry_stays Whole Parts (edit.OpeningNew x new separator) h = outcome_stays Whole Parts (outcome.SplitAt separator) h
+    entry_stays Whole Parts (edit.Opening x o) h = outcome_stays Whole Parts o h
 
     inserted_stays : (r : InsertReply) → inserted_log r marks → inserted_log r more
     inserted_stays (inserted.Inserted separator) h = leaf_stays separator h
@@ -76,7 +76,7 @@ module _ (marks : Trail) (m : Mark) where
     insert_stays insert.New h = tt
     insert_stays (insert.Coming a) h = way_still a h
     insert_stays (insert.Present x there) h = unwritten_on marks m quiet h
-    insert_stays (insert.Changing c) h = entry_stays AnyPage (Unit {0}) c h
+    insert_stays (insert.Editing c) h = entry_stays AnyPage (Unit {0}) c h
     insert_stays (insert.Ending r) h = inserted_stays r h
     insert_stays (insert.Over r) h = inserted_stays r h
 
@@ -84,7 +84,7 @@ module _ (marks : Trail) (m : Mark) where
     delete_stays delete.New h = tt
     delete_stays (delete.Coming a) h = way_still a h
     delete_stays (delete.Absent x) h = unwritten_on marks m quiet h
-    delete_stays (delete.Changing removed c) h = entry_stays (IsThinAs removed) ⊥ c h
+    delete_stays (delete.Editing removed c) h = entry_stays (IsThinAs removed) ⊥ c h
     delete_stays (delete.Ending r) h = deleted_stays r h
     delete_stays (delete.Over r) h = deleted_stays r h
 
@@ -100,15 +100,15 @@ module _ (marks : Trail) (m : Mark) where
     refused : {x : ℕ} → m.event.act ≡ Miss missed.Reservation → WroteHeld marks x [] → Unwritten more
     refused did h = unwritten_on marks m (ap writes_in did) (latched_unwritten h)
 
-    entry_on : {c d : Change} {what : Seen} → ChangeCase c what (changed.On d) → m.event.act ≡ event_of None (change_next c) what → entry_log Whole Parts c marks → entry_log Whole Parts d more
-    entry_on (ChangeCase.Put x page d t) did h = subst (λ z. entry_log Whole Parts z more) (sym t) (x, page, held_writes marks m (Put x page ∷ []) (ap writes_in did) h.0, h.1)
-    entry_on (ChangeCase.PutRefused x page d t) did h = subst (λ z. entry_log Whole Parts z more) (sym t) (refused did h.0)
-    entry_on (ChangeCase.Took full n p t) did h =
+    entry_on : {c d : Edit} {what : Seen} → EditCase c what (changed.On d) → m.event.act ≡ event_of None (edit_next c) what → entry_log Whole Parts c marks → entry_log Whole Parts d more
+    entry_on (EditCase.Put x page d t) did h = subst (λ z. entry_log Whole Parts z more) (sym t) (x, page, held_writes marks m (Put x page ∷ []) (ap writes_in did) h.0, h.1)
+    entry_on (EditCase.PutRefused x page d t) did h = subst (λ z. entry_log Whole Parts z more) (sym t) (refused did h.0)
+    entry_on (EditCase.Took full n p t) did h =
         let took : WroteHeld more full.at (Take n ∷ []) = held_writes marks m (Take n ∷ []) (ap writes_in did) h.0 in
         (rw (t.0, t.1) took, cut_low full.page p.left p.right full.key full.word n p.separator t.2, h.1)
-    entry_on (ChangeCase.TakeRefused full d t) did h = subst (λ z. entry_log Whole Parts z more) (sym t) (refused did h.0)
-    entry_on (ChangeCase.PutNew p d t) did h = subst (λ z. entry_log Whole Parts z more) (sym t) (held_writes marks m (Put p.new p.right ∷ []) (ap writes_in did) h.0, h.1, h.2)
-    entry_on (ChangeCase.PutOld p d t) did h =
+    entry_on (EditCase.TakeRefused full d t) did h = subst (λ z. entry_log Whole Parts z more) (sym t) (refused did h.0)
+    entry_on (EditCase.PutNew p d t) did h = subst (λ z. entry_log Whole Parts z more) (sym t) (held_writes marks m (Put p.new p.right ∷ []) (ap writes_in did) h.0, h.1, h.2)
+    entry_on (EditCase.PutOld p d t) did h =
         let leaf : WroteLeaf (Some p.separator) more = (
           p.at,
           Take p.new ∷ Put p.new p.right ∷ Put p.at p.left ∷ [],
@@ -117,20 +117,20 @@ module _ (marks : Trail) (m : Mark) where
           WritesBack.Split p.new p.separator p.right p.left h.1,
         ) in
         subst (λ z. entry_log Whole Parts z more) (sym t) (leaf, h.2)
-    entry_on (ChangeCase.OpenedNew x new separator d t) did h = subst (λ z. entry_log Whole Parts z more) (sym t) (opened new (outcome.Parted separator) did h)
+    entry_on (EditCase.OpenedNew x new separator d t) did h = subst (λ z. entry_log Whole Parts z more) (sym t) (opened new (outcome.SplitAt separator) did h)
 
-    entry_end : {c : Change} {o : Outcome} {what : Seen} → ChangeCase c what (changed.Over o) → m.event.act ≡ event_of None (change_next c) what → entry_log Whole Parts c marks → put_log Whole Parts o more
-    entry_end (ChangeCase.Opened x q o t) did h = subst (λ z. put_log Whole Parts z more) (sym t) (opened x q did h)
+    entry_end : {c : Edit} {o : Outcome} {what : Seen} → EditCase c what (changed.Over o) → m.event.act ≡ event_of None (edit_next c) what → entry_log Whole Parts c marks → put_log Whole Parts o more
+    entry_end (EditCase.Opened x q o t) did h = subst (λ z. put_log Whole Parts z more) (sym t) (opened x q did h)
 
   -- an insertion
   outcome_inserted : (o : Outcome) → put_log AnyPage (Unit {0}) o more → inserted_log (insert_reply o) more
-  outcome_inserted outcome.Changed h = (h.0, Put h.0 h.1 ∷ [], h.1 ∷ [], h.2, WritesBack.Whole h.1)
-  outcome_inserted (outcome.Parted separator) h = h.0
+  outcome_inserted outcome.Edited h = (h.0, Put h.0 h.1 ∷ [], h.1 ∷ [], h.2, WritesBack.Whole h.1)
+  outcome_inserted (outcome.SplitAt separator) h = h.0
   outcome_inserted outcome.Refused h = h
 
-  arrived_insert : (key value x : ℕ) (c : Page) (d : Change) → InsertArrives key value x c (insert.Changing d) → WroteHeld more x [] → entry_log AnyPage (Unit {0}) d more
-  arrived_insert key value x c (change.Putting y page) t h = (subst (λ z. WroteHeld more z []) (sym t.1.0) h, tt)
-  arrived_insert key value x c (change.Taking full) t h = (subst (λ z. WroteHeld more z []) (sym t.1.0) h, tt)
+  arrived_insert : (key value x : ℕ) (c : Page) (d : Edit) → InsertArrives key value x c (insert.Editing d) → WroteHeld more x [] → entry_log AnyPage (Unit {0}) d more
+  arrived_insert key value x c (edit.Putting y page) t h = (subst (λ z. WroteHeld more z []) (sym t.1.0) h, tt)
+  arrived_insert key value x c (edit.Taking full) t h = (subst (λ z. WroteHeld more z []) (sym t.1.0) h, tt)
   arrived_insert key value x c old t h = absurd t.1
 
   pub insert_on : {key value : ℕ} {old new : InsertStage} {what : Seen} → InsertCase key value old what new → m.event.act ≡ event_of (insert_end old) (insert_next_in old) what → insert_log old marks → insert_log new more
@@ -139,18 +139,18 @@ module _ (marks : Trail) (m : Mark) where
   insert_on (InsertCase.Found x c y there l t) did h = unwritten_on marks m (ap writes_in did) (latched_unwritten h)
   insert_on {key = key} {value = value} (InsertCase.Entered x c d l t) did h = arrived_insert key value x c d t (held_still marks m (ap writes_in did) h)
   insert_on (InsertCase.Opened x there last t) did h = subst (λ z. inserted_log z more) (sym t) (unwritten_on marks m (ap writes_in did) h)
-  insert_on (InsertCase.Changed c what d t) did h = entry_on AnyPage (Unit {0}) (change_case c what _ t) did h
-  insert_on (InsertCase.Finished c what last t) did h = subst (λ z. inserted_log z more) (sym t.2) (outcome_inserted t.0 (entry_end AnyPage (Unit {0}) (change_case c what _ t.1) did h))
+  insert_on (InsertCase.Edited c what d t) did h = entry_on AnyPage (Unit {0}) (edit_case c what _ t) did h
+  insert_on (InsertCase.Finished c what last t) did h = subst (λ z. inserted_log z more) (sym t.2) (outcome_inserted t.0 (entry_end AnyPage (Unit {0}) (edit_case c what _ t.1) did h))
   insert_on (InsertCase.Ended r last t) did h = subst (λ z. inserted_log z more) (sym t) (inserted_stays (ap writes_in did) r h)
 
   -- a deletion
   outcome_deleted : (removed : Removed) (o : Outcome) → put_log (IsThinAs removed) ⊥ o more → deleted_log (delete_reply removed o) more
-  outcome_deleted removed outcome.Changed h = h
-  outcome_deleted removed (outcome.Parted separator) h = absurd h.1
+  outcome_deleted removed outcome.Edited h = h
+  outcome_deleted removed (outcome.SplitAt separator) h = absurd h.1
   outcome_deleted removed outcome.Refused h = h
 
-  arrived_delete : (key x : ℕ) (c : Page) (removed : Removed) (d : Change) → DeleteArrives key x c (delete.Changing removed d) → WroteHeld more x [] → entry_log (IsThinAs removed) ⊥ d more
-  arrived_delete key x c removed (change.Putting y page) t h = (subst (λ z. WroteHeld more z []) (sym t.1.0) h, t.2)
+  arrived_delete : (key x : ℕ) (c : Page) (removed : Removed) (d : Edit) → DeleteArrives key x c (delete.Editing removed d) → WroteHeld more x [] → entry_log (IsThinAs removed) ⊥ d more
+  arrived_delete key x c removed (edit.Putting y page) t h = (subst (λ z. WroteHeld more z []) (sym t.1.0) h, t.2)
   arrived_delete key x c removed old t h = absurd t.1
 
   pub delete_on : {key : ℕ} {old new : DeleteStage} {what : Seen} → DeleteCase key old what new → m.event.act ≡ event_of (delete_end old) (delete_next_in old) what → delete_log old marks → delete_log new more
@@ -159,6 +159,6 @@ module _ (marks : Trail) (m : Mark) where
   delete_on (DeleteCase.Missing x c y l t) did h = unwritten_on marks m (ap writes_in did) (latched_unwritten h)
   delete_on {key = key} (DeleteCase.Dropped x c v d l t) did h = arrived_delete key x c v d t (held_still marks m (ap writes_in did) h)
   delete_on (DeleteCase.Opened x last t) did h = subst (λ z. deleted_log z more) (sym t) (unwritten_on marks m (ap writes_in did) h)
-  delete_on (DeleteCase.Changed removed c what same d t) did h = subst (λ z. entry_log (IsThinAs z) ⊥ d more) (sym t.0) (entry_on (IsThinAs removed) ⊥ (change_case c what _ t.1) did h)
-  delete_on (DeleteCase.Finished removed c what last t) did h = subst (λ z. deleted_log z more) (sym t.2) (outcome_deleted removed t.0 (entry_end (IsThinAs removed) ⊥ (change_case c what _ t.1) did h))
+  delete_on (DeleteCase.Edited removed c what same d t) did h = subst (λ z. entry_log (IsThinAs z) ⊥ d more) (sym t.0) (entry_on (IsThinAs removed) ⊥ (edit_case c what _ t.1) did h)
+  delete_on (DeleteCase.Finished removed c what last t) did h = subst (λ z. deleted_log z more) (sym t.2) (outcome_deleted removed t.0 (entry_end (IsThinAs removed) ⊥ (edit_case c what _ t.1) did h))
   delete_on (DeleteCase.Ended r last t) did h = subst (λ z. deleted_log z more) (sym t) (deleted_stays (ap writes_in did) r h)

@@ -12,7 +12,7 @@ use Rattle.bl_core.specs.Worlds.{Know, World, nodes, IsSure, IsGood, IsBounded, 
 use Rattle.bl_core.proofs.After.{after, Extends-after, put_at, is_put_at}
 use Rattle.bl_core.specs.Puts.{Owes}
 use Rattle.bl_core.proofs.Moves.{PutsRow-keeps}
-use Rattle.bl_core.proofs.Partings.{PutsRelisted-keeps}
+use Rattle.bl_core.proofs.Splittings.{PutsRelisted-keeps}
 use Rattle.bl_proc_compress.specs.declared.compressing.Puts.{Puts}
 use Rattle.bl_proc_compress.specs.declared.compressing.Compression.TheVariants.{PuttingParent, PuttingLast}
 use Rattle.bl_proc_invariant.specs.Turns.{Does, Turned}

@@ -12,11 +12,11 @@ use Rattle.bl_rearrange.specs.declared.sides.Side.{Side}
 use Rattle.bl_rearrange.specs.declared.sides.Side.TheVariants as side
 use Rattle.bl_proc_base.specs.declared.acts.Seen.{Seen}
 use Rattle.bl_proc_base.specs.declared.acts.Seen.TheVariants.{Words}
-use Rattle.bl_proc_compress.specs.declared.compressing.Trio.{Trio}
+use Rattle.bl_proc_compress.specs.declared.compressing.Siblings.{Siblings}
 use Rattle.bl_proc_compress.specs.declared.compressing.Family.{Family}
 use Rattle.bl_proc_compress.specs.declared.compressing.Puts.{Puts}
 use Rattle.bl_proc_base.specs.declared.answers.Hint.{Hint}
-use Rattle.bl_proc_compress.specs.declared.compressing.Fate.TheVariants as fate
+use Rattle.bl_proc_compress.specs.declared.compressing.Decision.TheVariants as decision
 use Rattle.bl_proc_compress.specs.declared.compressing.Compression.{Compression}
 use Rattle.bl_proc_compress.specs.declared.compressing.Compression.TheVariants.{LatchingLeft, LatchedLeft, LatchingRight, LatchedRight, PuttingFirst, PuttingParent, PuttingLast, Retiring, OpeningRight, OpeningLeft, OpeningParent}
 use Rattle.bl_proc_compress.specs.Compressions.{IsBuried}
@@ -31,7 +31,7 @@ pub record ToMerge (got : ℕ → Page) (p : Puts) (key new : ℕ) : Type 0 wher
   pub same : new ≡ key
   pub gains : p.gains ≡ side.Left
   pub hint : Option Hint
-  pub fate : p.fate ≡ fate.Merged hint
+  pub decision : p.decision ≡ decision.Merged hint
   pub join : IsJoin (node_of (got p.at.left)) (node_of (got p.at.right)) (node_of p.left)
   pub row : IsRow key None (node_of (got p.at.parent)) (node_of p.parent)
   pub buried : IsBuried p.at.left (got p.at.right) p.right
@@ -39,7 +39,7 @@ pub record ToMerge (got : ℕ → Page) (p : Puts) (key new : ℕ) : Type 0 wher
 -- An evening with pairs that move to the left, or to the right. The parent is to list the right child by the new key.
 pub record ToEvenLeft (got : ℕ → Page) (p : Puts) (key new : ℕ) : Type 0 where
   pub gains : p.gains ≡ side.Left
-  pub fate : p.fate ≡ fate.Evened
+  pub decision : p.decision ≡ decision.Evened
   pub gain : IsLeftGain p.at.right (node_of (got p.at.left)) (node_of (got p.at.right)) (node_of p.left)
   pub loss : IsRightLoss (node_of p.left) (node_of (got p.at.right)) (node_of p.right)
   pub relisted : IsRelisted p.at.right key new (node_of (got p.at.parent)) (node_of p.parent)
@@ -47,7 +47,7 @@ pub record ToEvenLeft (got : ℕ → Page) (p : Puts) (key new : ℕ) : Type 0 w
 
 pub record ToEvenRight (got : ℕ → Page) (p : Puts) (key new : ℕ) : Type 0 where
   pub gains : p.gains ≡ side.Right
-  pub fate : p.fate ≡ fate.Evened
+  pub decision : p.decision ≡ decision.Evened
   pub gain : IsRightGain (node_of (got p.at.left)) (node_of (got p.at.right)) (node_of p.right)
   pub loss : IsLeftLoss p.at.right (node_of (got p.at.left)) (node_of p.right) (node_of p.left)
   pub relisted : IsRelisted p.at.right key new (node_of (got p.at.parent)) (node_of p.parent)
@@ -68,7 +68,7 @@ pub record IsToPut (level key : ℕ) (got : ℕ → Page) (p : Puts) (at new : �
   pub does : ToMerge got p at new ⊎ (ToEvenLeft got p at new ⊎ ToEvenRight got p at new)
 
 -- the three are different pages
-pub record AreThree (at : Trio) : Type 0 where
+pub record AreThree (at : Siblings) : Type 0 where
   pub left : at.parent ≢ at.left
   pub right : at.parent ≢ at.right
   pub both : at.left ≢ at.right
@@ -95,10 +95,10 @@ key_before got (LatchedRight f c) = 0
 key_before got (PuttingFirst p) = (node_of (got p.at.right)).shape.low
 key_before got (PuttingParent p) = (node_of (got p.at.right)).shape.low
 key_before got (PuttingLast p) = (node_of (got p.at.right)).shape.low
-key_before got (Retiring t fate) = 0
-key_before got (OpeningRight t fate) = 0
-key_before got (OpeningLeft t fate) = 0
-key_before got (OpeningParent x fate) = 0
+key_before got (Retiring t decision) = 0
+key_before got (OpeningRight t decision) = 0
+key_before got (OpeningLeft t decision) = 0
+key_before got (OpeningParent x decision) = 0
 
 abbrev pub key_after : Compression → ℕ
 key_after (LatchingLeft f) = 0
@@ -108,10 +108,10 @@ key_after (LatchedRight f c) = 0
 key_after (PuttingFirst p) = (node_of p.right).shape.low
 key_after (PuttingParent p) = (node_of p.right).shape.low
 key_after (PuttingLast p) = (node_of p.right).shape.low
-key_after (Retiring t fate) = 0
-key_after (OpeningRight t fate) = 0
-key_after (OpeningLeft t fate) = 0
-key_after (OpeningParent x fate) = 0
+key_after (Retiring t decision) = 0
+key_after (OpeningRight t decision) = 0
+key_after (OpeningLeft t decision) = 0
+key_after (OpeningParent x decision) = 0
 
 -- what the three pages held when the right child, d, was got
 abbrev pub got_three : Family → Page → Page → ℕ → Page
@@ -135,10 +135,10 @@ know_compression level key got at new (PuttingLast p) = record (idle Stage.Busy)
   middle = Some (record { parent = p.at.parent; left = p.at.left; right = p.at.right });
   sound = IsToPut level key got p at new × AreThree p.at;
 }
-know_compression level key got at new (Retiring t fate) = record (idle Stage.Busy) { holds = holds_live t.parent ∷ holds_live t.left ∷ record { at = t.right; status = Gone; sep = None; page = None } ∷ []; sound = (key < unbounded) × AreThree t }
-know_compression level key got at new (OpeningRight t fate) = record (idle Stage.Busy) { holds = holds_live t.parent ∷ holds_live t.left ∷ holds_live t.right ∷ []; sound = (key < unbounded) × AreThree t }
-know_compression level key got at new (OpeningLeft t fate) = record (idle Stage.Busy) { holds = holds_live t.parent ∷ holds_live t.left ∷ []; sound = (key < unbounded) × (t.parent ≢ t.left) }
-know_compression level key got at new (OpeningParent x fate) = record (idle Stage.Busy) { holds = holds_live x ∷ []; sound = key < unbounded }
+know_compression level key got at new (Retiring t decision) = record (idle Stage.Busy) { holds = holds_live t.parent ∷ holds_live t.left ∷ record { at = t.right; status = Gone; sep = None; page = None } ∷ []; sound = (key < unbounded) × AreThree t }
+know_compression level key got at new (OpeningRight t decision) = record (idle Stage.Busy) { holds = holds_live t.parent ∷ holds_live t.left ∷ holds_live t.right ∷ []; sound = (key < unbounded) × AreThree t }
+know_compression level key got at new (OpeningLeft t decision) = record (idle Stage.Busy) { holds = holds_live t.parent ∷ holds_live t.left ∷ []; sound = (key < unbounded) × (t.parent ≢ t.left) }
+know_compression level key got at new (OpeningParent x decision) = record (idle Stage.Busy) { holds = holds_live x ∷ []; sound = key < unbounded }
 
 -- The same, with those keys; and what the process has got of the three after it was told this.
 abbrev pub know_squeeze : ℕ → ℕ → (ℕ → Page) → Compression → Know

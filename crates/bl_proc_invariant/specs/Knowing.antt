@@ -45,7 +45,7 @@ use Rattle.bl_proc.specs.Deletes.{delete_reply}
 use Rattle.bl_proc_base.specs.Growths.{Raises, IsAnchor}
 use Rattle.bl_proc_invariant.specs.Compressing.{know_squeeze, compression_got}
 use Rattle.bl_proc_invariant.specs.Lowering.{know_lowering, lowering_got}
-use Rattle.bl_proc_invariant.specs.Tables.{idle, holds_live, holds_known, anchor_known, goes_to, know_descent, know_approach, Aim, IsDue, know_change}
+use Rattle.bl_proc_invariant.specs.Tables.{idle, holds_live, holds_known, anchor_known, goes_to, know_descent, know_approach, Aim, IsDue, know_edit}
 
 -- it is to begin; it is to end, or has ended, with what it said
 abbrev pub early : ℕ → Know
@@ -102,7 +102,7 @@ abbrev pub know_insert : ℕ → ℕ → (ℕ → Page) → InsertStage → Know
 know_insert key value got insert.New = early key
 know_insert key value got (insert.Coming a) = know_approach 0 key a
 know_insert key value got (insert.Present x there) = record (ending (inserts key value (inserted.Present there))) { holds = holds_live x ∷ [] }
-know_insert key value got (insert.Changing c) = know_change (insert_aim key value) got c
+know_insert key value got (insert.Editing c) = know_edit (insert_aim key value) got c
 know_insert key value got (insert.Ending r) = ending (inserts key value r)
 know_insert key value got (insert.Over r) = late (inserts key value r)
 
@@ -123,7 +123,7 @@ abbrev pub know_delete : ℕ → (ℕ → Page) → DeleteStage → Know
 know_delete key got delete.New = early key
 know_delete key got (delete.Coming a) = know_approach 0 key a
 know_delete key got (delete.Absent x) = record (ending (deletes key deleted.Absent)) { holds = holds_live x ∷ [] }
-know_delete key got (delete.Changing removed c) = know_change (delete_aim key removed) got c
+know_delete key got (delete.Editing removed c) = know_edit (delete_aim key removed) got c
 know_delete key got (delete.Ending r) = ending (deletes key r)
 know_delete key got (delete.Over r) = late (deletes key r)
 
@@ -155,7 +155,7 @@ know_post level key got child post.New = early key
 know_post level key got child (post.Coming a) = know_approach level key a
 know_post level key got child (post.Growing g) = know_growth level key got g
 know_post level key got child (post.Walking w) = record (idle Stage.Busy) { holds = holds_known w.at (Inner w.parent) ∷ []; goes = goes_to w.child (level - 1) (level - 1) ∷ []; sound = (key < unbounded) × IsDue (post_aim level key 0) (Inner w.parent) × (w.key ≡ key) }
-know_post level key got child (post.Changing c) = know_change (post_aim level key child) got c
+know_post level key got child (post.Editing c) = know_edit (post_aim level key child) got c
 know_post level key got child (post.Staying x r) = record (idle Stage.Busy) { holds = holds_live x ∷ [] }
 know_post level key got child (post.Ending r) = ending None
 know_post level key got child (post.Over r) = late None
@@ -238,7 +238,7 @@ abbrev pub insert_end : InsertStage → Option Reply
 insert_end insert.New = None
 insert_end (insert.Coming a) = None
 insert_end (insert.Present x there) = None
-insert_end (insert.Changing c) = None
+insert_end (insert.Editing c) = None
 insert_end (insert.Ending r) = Some (inserted_reply r)
 insert_end (insert.Over r) = None
 
@@ -246,7 +246,7 @@ abbrev pub delete_end : DeleteStage → Option Reply
 delete_end delete.New = None
 delete_end (delete.Coming a) = None
 delete_end (delete.Absent x) = None
-delete_end (delete.Changing removed c) = None
+delete_end (delete.Editing removed c) = None
 delete_end (delete.Ending r) = Some (deleted_reply r)
 delete_end (delete.Over r) = None
 

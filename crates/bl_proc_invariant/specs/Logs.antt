@@ -12,10 +12,10 @@ use Rattle.bl_claims.specs.Trails.{Mark, Trail, marks_of}
 use Rattle.bl_claims.specs.Meanings.{HasGot, writes_of, Wrote, Unwritten, WroteHeld, IsNewTop, RaisesOnly, HasRaised, ListTogether, MeansDone, MeansAlready, MeansStale, MeansTooTall, MeansNoRoom}
 use Rattle.bl_proc_base.specs.declared.approaching.Approach.{Approach}
 use Rattle.bl_proc_base.specs.declared.approaching.Approach.TheVariants as way
-use Rattle.bl_proc_base.specs.declared.changing.Outcome.{Outcome}
-use Rattle.bl_proc_base.specs.declared.changing.Outcome.TheVariants as outcome
-use Rattle.bl_proc_base.specs.declared.changing.Change.{Change}
-use Rattle.bl_proc_base.specs.declared.changing.Change.TheVariants as change
+use Rattle.bl_proc_base.specs.declared.editing.Outcome.{Outcome}
+use Rattle.bl_proc_base.specs.declared.editing.Outcome.TheVariants as outcome
+use Rattle.bl_proc_base.specs.declared.editing.Edit.{Edit}
+use Rattle.bl_proc_base.specs.declared.editing.Edit.TheVariants as edit
 use Rattle.bl_proc_base.specs.declared.growing.Growth.{Growth}
 use Rattle.bl_proc_base.specs.declared.growing.Growth.TheVariants as growth
 use Rattle.bl_proc.specs.declared.posting.PostReply.{PostReply}
@@ -26,8 +26,8 @@ use Rattle.bl_rearrange.specs.declared.sides.Side.{Side}
 use Rattle.bl_proc_compress.specs.declared.compressing.Puts.{Puts}
 use Rattle.bl_proc_compress.specs.declared.compressing.Family.{Family}
 use Rattle.bl_proc_base.specs.declared.answers.Hint.{Hint}
-use Rattle.bl_proc_compress.specs.declared.compressing.Fate.{Fate}
-use Rattle.bl_proc_compress.specs.declared.compressing.Fate.TheVariants as fate
+use Rattle.bl_proc_compress.specs.declared.compressing.Decision.{Decision}
+use Rattle.bl_proc_compress.specs.declared.compressing.Decision.TheVariants as decision
 use Rattle.bl_proc_compress.specs.declared.compressing.Compression.{Compression}
 use Rattle.bl_proc_compress.specs.declared.compressing.Compression.TheVariants.{LatchingLeft, LatchedLeft, LatchingRight, LatchedRight, PuttingFirst, PuttingParent, PuttingLast, Retiring, OpeningRight, OpeningLeft, OpeningParent}
 use Rattle.bl_proc_compress.specs.declared.squeezing.CompressReply.{CompressReply}
@@ -102,17 +102,17 @@ pub record IsToPut (level key : ℕ) (marks : Trail) (x : ℕ) (acts : List (Act
   pub together : ListTogether pages parent key child
 
 abbrev pub outcome_log : ℕ → ℕ → Outcome → Trail → Type 0
-outcome_log level key outcome.Changed marks = MeansDone level key None marks
-outcome_log level key (outcome.Parted separator) marks = MeansDone level key (Some separator) marks
+outcome_log level key outcome.Edited marks = MeansDone level key None marks
+outcome_log level key (outcome.SplitAt separator) marks = MeansDone level key (Some separator) marks
 outcome_log level key outcome.Refused marks = MeansNoRoom level marks
 
-abbrev pub change_log : ℕ → ℕ → Change → Trail → Type 0
-change_log level key (change.Putting x page) marks = IsToPut level key marks x [] (page ∷ [])
-change_log level key (change.Taking full) marks = HoldsBoth level key marks full.at full.page full.word [] × (full.key ≡ key)
-change_log level key (change.PuttingNew p) marks = IsToPut level key marks p.at (Take p.new ∷ []) (p.right ∷ p.left ∷ []) × ((node_of p.right).shape.low ≡ p.separator)
-change_log level key (change.PuttingOld p) marks = IsToPut level key marks p.at (Take p.new ∷ Put p.new p.right ∷ []) (p.right ∷ p.left ∷ []) × ((node_of p.right).shape.low ≡ p.separator)
-change_log level key (change.OpeningNew x new separator) marks = MeansDone level key (Some separator) marks
-change_log level key (change.Opening x o) marks = outcome_log level key o marks
+abbrev pub edit_log : ℕ → ℕ → Edit → Trail → Type 0
+edit_log level key (edit.Putting x page) marks = IsToPut level key marks x [] (page ∷ [])
+edit_log level key (edit.Taking full) marks = HoldsBoth level key marks full.at full.page full.word [] × (full.key ≡ key)
+edit_log level key (edit.PuttingNew p) marks = IsToPut level key marks p.at (Take p.new ∷ []) (p.right ∷ p.left ∷ []) × ((node_of p.right).shape.low ≡ p.separator)
+edit_log level key (edit.PuttingOld p) marks = IsToPut level key marks p.at (Take p.new ∷ Put p.new p.right ∷ []) (p.right ∷ p.left ∷ []) × ((node_of p.right).shape.low ≡ p.separator)
+edit_log level key (edit.OpeningNew x new separator) marks = MeansDone level key (Some separator) marks
+edit_log level key (edit.Opening x o) marks = outcome_log level key o marks
 
 -- of a new top level this was written, and the anchor not yet
 abbrev pub HasHalfRaised : ℕ → List (Act Page Reply) → Trail → Type 0
@@ -141,7 +141,7 @@ post_log level key post.New marks = Unit {0}
 post_log level key (post.Coming a) marks = approach_log level a marks
 post_log level key (post.Growing g) marks = growth_log level g marks
 post_log level key (post.Walking w) marks = HoldsParent level key marks w.at (Inner w.parent) [] × (w.key ≡ key)
-post_log level key (post.Changing c) marks = change_log level key c marks
+post_log level key (post.Editing c) marks = edit_log level key c marks
 post_log level key (post.Staying x r) marks = reply_log level key r marks
 post_log level key (post.Ending r) marks = reply_log level key r marks
 post_log level key (post.Over r) marks = reply_log level key r marks
@@ -153,17 +153,17 @@ way_log a marks = on_way (Unwritten marks) (λ x. WroteHeld marks x []) a
 -- Insertions and deletions: the leaf that was put is whole, and so, or it was split, if it may be.
 
 abbrev pub put_log : (Page → Type 0) → Type 0 → Outcome → Trail → Type 0
-put_log Whole Parts outcome.Changed marks = (x : ℕ) × (page : Page) × WroteHeld marks x (Put x page ∷ []) × Whole page
-put_log Whole Parts (outcome.Parted separator) marks = WroteLeaf (Some separator) marks × Parts
+put_log Whole Parts outcome.Edited marks = (x : ℕ) × (page : Page) × WroteHeld marks x (Put x page ∷ []) × Whole page
+put_log Whole Parts (outcome.SplitAt separator) marks = WroteLeaf (Some separator) marks × Parts
 put_log Whole Parts outcome.Refused marks = Unwritten marks
 
-abbrev pub entry_log : (Page → Type 0) → Type 0 → Change → Trail → Type 0
-entry_log Whole Parts (change.Putting x page) marks = WroteHeld marks x [] × Whole page
-entry_log Whole Parts (change.Taking full) marks = WroteHeld marks full.at [] × Parts
-entry_log Whole Parts (change.PuttingNew p) marks = WroteHeld marks p.at (Take p.new ∷ []) × ((node_of p.right).shape.low ≡ p.separator) × Parts
-entry_log Whole Parts (change.PuttingOld p) marks = WroteHeld marks p.at (Take p.new ∷ Put p.new p.right ∷ []) × ((node_of p.right).shape.low ≡ p.separator) × Parts
-entry_log Whole Parts (change.OpeningNew x new separator) marks = put_log Whole Parts (outcome.Parted separator) marks
-entry_log Whole Parts (change.Opening x o) marks = put_log Whole Parts o marks
+abbrev pub entry_log : (Page → Type 0) → Type 0 → Edit → Trail → Type 0
+entry_log Whole Parts (edit.Putting x page) marks = WroteHeld marks x [] × Whole page
+entry_log Whole Parts (edit.Taking full) marks = WroteHeld marks full.at [] × Parts
+entry_log Whole Parts (edit.PuttingNew p) marks = WroteHeld marks p.at (Take p.new ∷ []) × ((node_of p.right).shape.low ≡ p.separator) × Parts
+entry_log Whole Parts (edit.PuttingOld p) marks = WroteHeld marks p.at (Take p.new ∷ Put p.new p.right ∷ []) × ((node_of p.right).shape.low ≡ p.separator) × Parts
+entry_log Whole Parts (edit.OpeningNew x new separator) marks = put_log Whole Parts (outcome.SplitAt separator) marks
+entry_log Whole Parts (edit.Opening x o) marks = put_log Whole Parts o marks
 
 abbrev pub AnyPage : Page → Type 0
 AnyPage page = Unit {0}
@@ -177,7 +177,7 @@ abbrev pub insert_log : InsertStage → Trail → Type 0
 insert_log insert.New marks = Unit {0}
 insert_log (insert.Coming a) marks = way_log a marks
 insert_log (insert.Present x there) marks = Unwritten marks
-insert_log (insert.Changing c) marks = entry_log AnyPage (Unit {0}) c marks
+insert_log (insert.Editing c) marks = entry_log AnyPage (Unit {0}) c marks
 insert_log (insert.Ending r) marks = inserted_log r marks
 insert_log (insert.Over r) marks = inserted_log r marks
 
@@ -194,7 +194,7 @@ abbrev pub delete_log : DeleteStage → Trail → Type 0
 delete_log delete.New marks = Unit {0}
 delete_log (delete.Coming a) marks = way_log a marks
 delete_log (delete.Absent x) marks = Unwritten marks
-delete_log (delete.Changing removed c) marks = entry_log (IsThinAs removed) ⊥ c marks
+delete_log (delete.Editing removed c) marks = entry_log (IsThinAs removed) ⊥ c marks
 delete_log (delete.Ending r) marks = deleted_log r marks
 delete_log (delete.Over r) marks = deleted_log r marks
 
@@ -225,13 +225,13 @@ pub record IsToSqueeze (level key : ℕ) (marks : Trail) (p : Puts) (acts : List
   pub both : AtBoth level key marks family left right acts
   pub decided : Decides family left right (PuttingFirst p)
 
-abbrev pub fate_log : ℕ → ℕ → Fate → Trail → Type 0
-fate_log level key (fate.Merged hint) marks = MeansMerged level key hint marks
-fate_log level key fate.Evened marks = MeansEvened level key marks
-fate_log level key fate.Enough marks = MeansEnough level key marks
-fate_log level key (fate.Unposted hint) marks = MeansUnposted level key hint marks
-fate_log level key fate.Refused marks = MeansNoPlace level key marks
-fate_log level key fate.Lost marks = Unwritten marks
+abbrev pub decision_log : ℕ → ℕ → Decision → Trail → Type 0
+decision_log level key (decision.Merged hint) marks = MeansMerged level key hint marks
+decision_log level key decision.Evened marks = MeansEvened level key marks
+decision_log level key decision.Enough marks = MeansEnough level key marks
+decision_log level key (decision.Unposted hint) marks = MeansUnposted level key hint marks
+decision_log level key decision.Refused marks = MeansNoPlace level key marks
+decision_log level key decision.Lost marks = Unwritten marks
 
 abbrev pub squeeze_log : ℕ → ℕ → Compression → Trail → Type 0
 squeeze_log level key (LatchingLeft f) marks = AtFamily level key marks f (Get f.at.parent ∷ [])
@@ -241,10 +241,10 @@ squeeze_log level key (LatchedRight f c) marks = AtLeft level key marks f c (Get
 squeeze_log level key (PuttingFirst p) marks = IsToSqueeze level key marks p (to_right p.at)
 squeeze_log level key (PuttingParent p) marks = IsToSqueeze level key marks p (to_first p)
 squeeze_log level key (PuttingLast p) marks = IsToSqueeze level key marks p (to_second p)
-squeeze_log level key (Retiring at last) marks = (p : Puts) × (p.at ≡ at) × IsToSqueeze level key marks p (to_last p) × (p.fate ≡ last) × ((hint : Option Hint) × (last ≡ fate.Merged hint))
-squeeze_log level key (OpeningRight at last) marks = fate_log level key last marks
-squeeze_log level key (OpeningLeft at last) marks = fate_log level key last marks
-squeeze_log level key (OpeningParent x last) marks = fate_log level key last marks
+squeeze_log level key (Retiring at last) marks = (p : Puts) × (p.at ≡ at) × IsToSqueeze level key marks p (to_last p) × (p.decision ≡ last) × ((hint : Option Hint) × (last ≡ decision.Merged hint))
+squeeze_log level key (OpeningRight at last) marks = decision_log level key last marks
+squeeze_log level key (OpeningLeft at last) marks = decision_log level key last marks
+squeeze_log level key (OpeningParent x last) marks = decision_log level key last marks
 
 abbrev pub pressed_log : ℕ → ℕ → CompressReply → Trail → Type 0
 pressed_log level key (pressed.Merged hint) marks = MeansMerged level key hint marks

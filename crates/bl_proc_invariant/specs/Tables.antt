@@ -14,10 +14,10 @@ use Rattle.bl_proc_base.specs.declared.descent.Descent.{Descent}
 use Rattle.bl_proc_base.specs.declared.descent.Descent.TheVariants as descent
 use Rattle.bl_proc_base.specs.declared.approaching.Approach.{Approach}
 use Rattle.bl_proc_base.specs.declared.approaching.Approach.TheVariants.{Start, At, Latching, Latched, Leaving}
-use Rattle.bl_proc_base.specs.declared.changing.Outcome.{Outcome}
-use Rattle.bl_proc_base.specs.declared.changing.Outcome.TheVariants as outcome
-use Rattle.bl_proc_base.specs.declared.changing.Change.{Change}
-use Rattle.bl_proc_base.specs.declared.changing.Change.TheVariants.{Putting, Taking, PuttingNew, PuttingOld, OpeningNew, Opening}
+use Rattle.bl_proc_base.specs.declared.editing.Outcome.{Outcome}
+use Rattle.bl_proc_base.specs.declared.editing.Outcome.TheVariants as outcome
+use Rattle.bl_proc_base.specs.declared.editing.Edit.{Edit}
+use Rattle.bl_proc_base.specs.declared.editing.Edit.TheVariants.{Putting, Taking, PuttingNew, PuttingOld, OpeningNew, Opening}
 
 -- nothing but where it stands
 abbrev pub idle : Stage → Know
@@ -79,10 +79,10 @@ pub record IsDue (aim : Aim) (c : Page) : Type 0 where
   pub was : (node_of c).look aim.key ≡ aim.was
 
 -- got is what the process got of the page under its latch.
-abbrev pub know_change : Aim → (ℕ → Page) → Change → Know
-know_change aim got (Putting x page) = record (idle Stage.Busy) { holds = holds_known x (got x) ∷ []; children = aim.children x; sound = IsDue aim (got x) × IsRow aim.key aim.word (node_of (got x)) (node_of page) }
-know_change aim got (Taking full) = record (idle Stage.Busy) { holds = holds_known full.at full.page ∷ []; children = aim.children full.at; sound = IsDue aim full.page × (full.key ≡ aim.key) × (Some full.word ≡ aim.word) × (got full.at ≡ full.page) }
-know_change aim got (PuttingNew p) = record (idle Stage.Busy) { holds = holds_known p.at (got p.at) ∷ record { at = p.new; status = Fresh; sep = None; page = None } ∷ []; children = aim.children p.at; sound = IsDue aim (got p.at) × IsCut p.new aim.key aim.word (node_of (got p.at)) (node_of p.left) (node_of p.right) }
-know_change aim got (PuttingOld p) = record (idle Stage.Busy) { holds = holds_known p.at (got p.at) ∷ record { at = p.new; status = Fresh; sep = Some (node_of p.right).shape.low; page = Some p.right } ∷ []; children = aim.children p.at; sound = IsDue aim (got p.at) × IsCut p.new aim.key aim.word (node_of (got p.at)) (node_of p.left) (node_of p.right) }
-know_change aim got (OpeningNew x new separator) = record (idle Stage.Busy) { said = aim.said (outcome.Parted separator); holds = holds_live x ∷ holds_live new ∷ []; sound = x ≢ new }
-know_change aim got (Opening x o) = record (idle Stage.Busy) { said = aim.said o; holds = holds_live x ∷ [] }
+abbrev pub know_edit : Aim → (ℕ → Page) → Edit → Know
+know_edit aim got (Putting x page) = record (idle Stage.Busy) { holds = holds_known x (got x) ∷ []; children = aim.children x; sound = IsDue aim (got x) × IsRow aim.key aim.word (node_of (got x)) (node_of page) }
+know_edit aim got (Taking full) = record (idle Stage.Busy) { holds = holds_known full.at full.page ∷ []; children = aim.children full.at; sound = IsDue aim full.page × (full.key ≡ aim.key) × (Some full.word ≡ aim.word) × (got full.at ≡ full.page) }
+know_edit aim got (PuttingNew p) = record (idle Stage.Busy) { holds = holds_known p.at (got p.at) ∷ record { at = p.new; status = Fresh; sep = None; page = None } ∷ []; children = aim.children p.at; sound = IsDue aim (got p.at) × IsCut p.new aim.key aim.word (node_of (got p.at)) (node_of p.left) (node_of p.right) }
+know_edit aim got (PuttingOld p) = record (idle Stage.Busy) { holds = holds_known p.at (got p.at) ∷ record { at = p.new; status = Fresh; sep = Some (node_of p.right).shape.low; page = Some p.right } ∷ []; children = aim.children p.at; sound = IsDue aim (got p.at) × IsCut p.new aim.key aim.word (node_of (got p.at)) (node_of p.left) (node_of p.right) }
+know_edit aim got (OpeningNew x new separator) = record (idle Stage.Busy) { said = aim.said (outcome.SplitAt separator); holds = holds_live x ∷ holds_live new ∷ []; sound = x ≢ new }
+know_edit aim got (Opening x o) = record (idle Stage.Busy) { said = aim.said o; holds = holds_live x ∷ [] }

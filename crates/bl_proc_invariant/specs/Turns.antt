@@ -44,12 +44,12 @@ event_of reply (act.Release x) seen.Done = Release x
 event_of reply action what = Miss (missed_by action what)
 
 -- What it was told is true of the pages. Whether a page may be got, put or opened is not asked: the process knows it.
-abbrev pub IsTold : State Page → ℕ → Action → Seen → Type 0
-IsTold s size (act.Get x) (seen.Words c) = c ≡ s.contents x
-IsTold s size (act.Latch x) seen.Done = s.owner x ≡ Owner.Open
-IsTold s size (act.Probe x) (seen.Probed free) = free ≡ true → s.owner x ≡ Owner.Open
-IsTold s size act.Take (seen.Took y) = (s.owner y ≡ Released) × (y < size)
-IsTold s size action what = Unit {0}
+abbrev pub IsObserved : State Page → ℕ → Action → Seen → Type 0
+IsObserved s size (act.Get x) (seen.Words c) = c ≡ s.contents x
+IsObserved s size (act.Latch x) seen.Done = s.owner x ≡ Owner.Open
+IsObserved s size (act.Probe x) (seen.Probed free) = free ≡ true → s.owner x ≡ Owner.Open
+IsObserved s size act.Take (seen.Took y) = (s.owner y ≡ Released) × (y < size)
+IsObserved s size action what = Unit {0}
 
 -- What p was told of the owner of x: if that is retired, the page is; and each process that runs has a number up to that of
 -- the last that was started.

@@ -22,7 +22,7 @@ use Rattle.bl_proc_base.specs.declared.answers.Hint.{Hint}
 use Rattle.bl_proc_base.specs.declared.answers.Hint.TheVariants as post
 use Rattle.bl_proc_base.specs.declared.answers.Squeezed.{Squeezed}
 use Rattle.bl_proc_base.specs.declared.answers.Squeezed.TheVariants as squeezed
-use Rattle.bl_proc_compress.specs.declared.compressing.Trio.{Trio}
+use Rattle.bl_proc_compress.specs.declared.compressing.Siblings.{Siblings}
 use Rattle.bl_proc_compress.specs.declared.compressing.Family.{Family}
 use Rattle.bl_proc_compress.specs.Compressions.{AreSiblings, IsBuried, IsFew, MayEven, merge_hint, other}
 
@@ -64,23 +64,23 @@ pub record AtBoth (level key : ℕ) (marks : Trail) (f : Family) (c d : Page) (a
   pub got : HasGot left.family.since.during f.at.right d
 
 -- What is done of a compression, after the latch of the parent: up to the get of the left child, and of the right one.
-abbrev pub to_left : Trio → List (Act Page Reply)
+abbrev pub to_left : Siblings → List (Act Page Reply)
 to_left at = Get at.parent ∷ Latch at.left ∷ Get at.left ∷ []
 
-abbrev pub to_right : Trio → List (Act Page Reply)
+abbrev pub to_right : Siblings → List (Act Page Reply)
 to_right at = Get at.parent ∷ Latch at.left ∷ Get at.left ∷ Latch at.right ∷ Get at.right ∷ []
 
 -- the put of one of two children
-abbrev pub put_child : Side → Trio → Page → Page → Act Page Reply
+abbrev pub put_child : Side → Siblings → Page → Page → Act Page Reply
 put_child side.Left at left right = Put at.left left
 put_child side.Right at left right = Put at.right right
 
 -- Up to the end of a merge: the left child is put, then the parent, then the right child, which is retired. Up to the end of an
 -- evening: the child that gains is put, then the parent, then the other child.
-abbrev pub to_merged : Trio → Page → Page → Page → List (Act Page Reply)
+abbrev pub to_merged : Siblings → Page → Page → Page → List (Act Page Reply)
 to_merged at merged parent dead = Get at.parent ∷ Latch at.left ∷ Get at.left ∷ Latch at.right ∷ Get at.right ∷ Put at.left merged ∷ Put at.parent parent ∷ Put at.right dead ∷ Retire at.right ∷ []
 
-abbrev pub to_evened : Trio → Evened → Page → List (Act Page Reply)
+abbrev pub to_evened : Siblings → Evened → Page → List (Act Page Reply)
 to_evened at now parent = Get at.parent ∷ Latch at.left ∷ Get at.left ∷ Latch at.right ∷ Get at.right ∷ put_child now.gains at now.left now.right ∷ Put at.parent parent ∷ put_child (other now.gains) at now.left now.right ∷ []
 
 -- What a merge of two children puts: the left one with the pairs of both, the parent without the right one, and the right one

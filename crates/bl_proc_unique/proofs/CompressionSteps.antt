@@ -10,8 +10,8 @@ use Rattle.bl_proc_base.specs.declared.acts.Seen.TheVariants as seen
 use Rattle.bl_proc_base.specs.Given.{Gives}
 use Rattle.bl_proc_compress.specs.declared.compressing.Family.{Family}
 use Rattle.bl_proc_compress.specs.declared.compressing.Puts.{Puts}
-use Rattle.bl_proc_compress.specs.declared.compressing.Fate.{Fate}
-use Rattle.bl_proc_compress.specs.declared.compressing.Fate.TheVariants.{Refused}
+use Rattle.bl_proc_compress.specs.declared.compressing.Decision.{Decision}
+use Rattle.bl_proc_compress.specs.declared.compressing.Decision.TheVariants.{Refused}
 use Rattle.bl_proc_compress.specs.declared.compressing.Compression.{Compression}
 use Rattle.bl_proc_compress.specs.declared.compressing.Compression.TheVariants.{LatchingLeft, LatchedLeft, LatchingRight, LatchedRight, PuttingFirst, PuttingParent, PuttingLast, Retiring, OpeningRight, OpeningLeft, OpeningParent}
 use Rattle.bl_proc_compress.specs.declared.compressing.Compressed.{Compressed}
@@ -29,13 +29,13 @@ put_gives side.Right p needs seen.Refused Goal put refused g = refused refl g
 put_gives old p needs what new put refused g = absurd g
 
 -- What goes on goes on to one state.
-on_only : (old : Compression) (what : Seen) (new : Compression) → ((d : Compression) → Compresses old what (On d) → d ≡ new) → ((fate : Fate) → Compresses old what (Over fate) → ⊥) → (o : Compressed) → Compresses old what o → o ≡ On new
+on_only : (old : Compression) (what : Seen) (new : Compression) → ((d : Compression) → Compresses old what (On d) → d ≡ new) → ((decision : Decision) → Compresses old what (Over decision) → ⊥) → (o : Compressed) → Compresses old what o → o ≡ On new
 on_only old what new is over (On d) t = ap On (is d t)
-on_only old what new is over (Over fate) t = absurd (over fate t)
+on_only old what new is over (Over decision) t = absurd (over decision t)
 
-opened : (x : ℕ) (fate : Fate) (o : Compressed) → Compresses (OpeningParent x fate) seen.Done o → o ≡ Over fate
-opened x fate (On d) t = absurd t
-opened x fate (Over z) t = ap Over t
+opened : (x : ℕ) (decision : Decision) (o : Compressed) → Compresses (OpeningParent x decision) seen.Done o → o ≡ Over decision
+opened x decision (On d) t = absurd t
+opened x decision (Over z) t = ap Over t
 
 link_goes : (f : Family) (c : Page) → One (Compresses (LatchedLeft f) (seen.Words c))
 link_goes f c = (let h = link_one f c in record { new = On h.new; goes = h.goes; only = on_only (LatchedLeft f) (seen.Words c) h.new h.only (λ z t. t) })
@@ -56,7 +56,7 @@ last_goes : (p : Puts) (what : Seen) → Gives (compression_next (PuttingLast p)
 last_goes p what g = put_gives (other p.gains) p None what (One (Compresses (PuttingLast p) what)) (λ e. subst (λ z. One (Compresses (PuttingLast p) z)) (sym e) put) (λ e some. absurd (false≢true some)) g
   where
     put : One (Compresses (PuttingLast p) seen.Done)
-    put = record { new = On (after_puts p.at p.fate); goes = refl; only = on_only (PuttingLast p) seen.Done (after_puts p.at p.fate) (λ d t. t) (λ z t. t) }
+    put = record { new = On (after_puts p.at p.decision); goes = refl; only = on_only (PuttingLast p) seen.Done (after_puts p.at p.decision) (λ d t. t) (λ z t. t) }
 
 pub compression_one : (c : Compression) (what : Seen) → Gives (compression_next c) (compression_needs c) what → One (Compresses c what)
 compression_one (PuttingFirst p) what g = first_goes p what g
@@ -69,8 +69,8 @@ compression_one (LatchingRight f d) seen.Missed g = record { new = On (LatchingR
 compression_one (LatchedRight f d) (seen.Words c) g = decide_goes f d c
 compression_one (PuttingParent p) seen.Done g = record { new = On (PuttingLast p); goes = refl; only = on_only (PuttingParent p) seen.Done (PuttingLast p) (λ n t. t) (λ z t. t) }
 compression_one (PuttingParent p) seen.Refused g = absurd (false≢true g)
-compression_one (Retiring at fate) seen.Done g = record { new = On (OpeningLeft at fate); goes = refl; only = on_only (Retiring at fate) seen.Done (OpeningLeft at fate) (λ n t. t) (λ z t. t) }
-compression_one (OpeningRight at fate) seen.Done g = record { new = On (OpeningLeft at fate); goes = refl; only = on_only (OpeningRight at fate) seen.Done (OpeningLeft at fate) (λ n t. t) (λ z t. t) }
-compression_one (OpeningLeft at fate) seen.Done g = record { new = On (OpeningParent at.parent fate); goes = refl; only = on_only (OpeningLeft at fate) seen.Done (OpeningParent at.parent fate) (λ n t. t) (λ z t. t) }
-compression_one (OpeningParent x fate) seen.Done g = record { new = Over fate; goes = refl; only = opened x fate }
+compression_one (Retiring at decision) seen.Done g = record { new = On (OpeningLeft at decision); goes = refl; only = on_only (Retiring at decision) seen.Done (OpeningLeft at decision) (λ n t. t) (λ z t. t) }
+compression_one (OpeningRight at decision) seen.Done g = record { new = On (OpeningLeft at decision); goes = refl; only = on_only (OpeningRight at decision) seen.Done (OpeningLeft at decision) (λ n t. t) (λ z t. t) }
+compression_one (OpeningLeft at decision) seen.Done g = record { new = On (OpeningParent at.parent decision); goes = refl; only = on_only (OpeningLeft at decision) seen.Done (OpeningParent at.parent decision) (λ n t. t) (λ z t. t) }
+compression_one (OpeningParent x decision) seen.Done g = record { new = Over decision; goes = refl; only = opened x decision }
 compression_one old what g = absurd g

@@ -16,7 +16,7 @@ use Rattle.bl_proc_base.specs.Given.{Gives}
 use Rattle.bl_proc_base.specs.Approaches.{Comes}
 use Rattle.bl_proc_base.proofs.Ways.{here_leads}
 use Rattle.bl_proc_compress.specs.declared.compressing.Family.{Family}
-use Rattle.bl_proc_compress.specs.declared.compressing.Fate.{Fate}
+use Rattle.bl_proc_compress.specs.declared.compressing.Decision.{Decision}
 use Rattle.bl_proc_compress.specs.declared.compressing.Compression.{Compression}
 use Rattle.bl_proc_compress.specs.declared.compressing.Compression.TheVariants.{LatchingLeft}
 use Rattle.bl_proc_compress.specs.declared.compressing.Compressed.{Compressed}
@@ -67,26 +67,26 @@ after_way level key a what (come.On b) h = record { new = Coming b; goes = refl;
 after_way level key a what (come.ToParent x parent) h = (let one = arrive_one key x parent (here_leads level key a what x (page.Inner parent) h).1 in record { new = one.new; goes = one.goes; only = one.only })
 
 -- By what becomes of the children.
-abbrev after_fate : Option CompressReply → CompressStage
-after_fate None = Coming Start
-after_fate (Some r) = Ending r
+abbrev after_decision : Option CompressReply → CompressStage
+after_decision None = Coming Start
+after_decision (Some r) = Ending r
 
 abbrev after_step : Compressed → CompressStage
 after_step (step.On d) = Compressing d
-after_step (step.Over fate) = after_fate (compress_reply fate)
+after_step (step.Over decision) = after_decision (compress_reply decision)
 
-over_goes : (level key : ℕ) (c : Compression) (what : Seen) (fate : Fate) (r : Option CompressReply) → compress_reply fate ≡ r → Compresses c what (step.Over fate) → CompressGoes level key (Compressing c) what (after_fate r)
-over_goes level key c what fate None e t = (fate, t, e, refl)
-over_goes level key c what fate (Some r) e t = (fate, t, e)
+over_goes : (level key : ℕ) (c : Compression) (what : Seen) (decision : Decision) (r : Option CompressReply) → compress_reply decision ≡ r → Compresses c what (step.Over decision) → CompressGoes level key (Compressing c) what (after_decision r)
+over_goes level key c what decision None e t = (decision, t, e, refl)
+over_goes level key c what decision (Some r) e t = (decision, t, e)
 
 step_goes : (level key : ℕ) (c : Compression) (what : Seen) (n : Compressed) → Compresses c what n → CompressGoes level key (Compressing c) what (after_step n)
 step_goes level key c what (step.On d) t = t
-step_goes level key c what (step.Over fate) t = over_goes level key c what fate (compress_reply fate) refl t
+step_goes level key c what (step.Over decision) t = over_goes level key c what decision (compress_reply decision) refl t
 
 step_only : {level key : ℕ} {c : Compression} {what : Seen} {b : CompressStage} (n : Compressed) → ((o : Compressed) → Compresses c what o → o ≡ n) → CompressCase level key (Compressing c) what b → b ≡ after_step n
 step_only n is (CompressCase.Squeezed c what d t) = ap after_step (is (step.On d) t)
-step_only n is (CompressCase.Lost c what a t) = ap Coming t.3 ∙ (ap after_fate (sym t.2) ∙ ap after_step (is (step.Over t.0) t.1))
-step_only n is (CompressCase.Finished c what r t) = ap after_fate (sym t.2) ∙ ap after_step (is (step.Over t.0) t.1)
+step_only n is (CompressCase.Lost c what a t) = ap Coming t.3 ∙ (ap after_decision (sym t.2) ∙ ap after_step (is (step.Over t.0) t.1))
+step_only n is (CompressCase.Finished c what r t) = ap after_decision (sym t.2) ∙ ap after_step (is (step.Over t.0) t.1)
 
 module _ (level key : ℕ) where
   begun_only : {b : CompressStage} → CompressCase level key New seen.Done b → b ≡ Coming Start

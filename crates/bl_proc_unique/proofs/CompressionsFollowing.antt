@@ -6,11 +6,11 @@ use Rattle.bl_rearrange.specs.declared.sides.Side.TheVariants as side
 use Rattle.bl_proc_base.specs.declared.acts.Action.TheVariants as act
 use Rattle.bl_proc_base.specs.declared.acts.Seen.{Seen}
 use Rattle.bl_proc_base.specs.declared.acts.Seen.TheVariants as seen
-use Rattle.bl_proc_compress.specs.declared.compressing.Trio.{Trio}
+use Rattle.bl_proc_compress.specs.declared.compressing.Siblings.{Siblings}
 use Rattle.bl_proc_compress.specs.declared.compressing.Family.{Family}
 use Rattle.bl_proc_compress.specs.declared.compressing.Puts.{Puts}
-use Rattle.bl_proc_compress.specs.declared.compressing.Fate.{Fate}
-use Rattle.bl_proc_compress.specs.declared.compressing.Fate.TheVariants as fate
+use Rattle.bl_proc_compress.specs.declared.compressing.Decision.{Decision}
+use Rattle.bl_proc_compress.specs.declared.compressing.Decision.TheVariants as decision
 use Rattle.bl_proc_compress.specs.declared.compressing.Compression.{Compression}
 use Rattle.bl_proc_compress.specs.declared.compressing.Compression.TheVariants as step
 use Rattle.bl_proc_compress.specs.declared.compressing.Compressed.TheVariants as compressed
@@ -83,17 +83,17 @@ links_frames f c old t = absurd t
 
 decides_frames : (f : Family) (c d : Page) (e : Compression) → Decides f c d e → compression_frames e ≡ 0
 decides_frames f c d (step.PuttingFirst p) t = refl
-decides_frames f c d (step.OpeningRight at fate.Enough) t = refl
-decides_frames f c d (step.OpeningRight at fate.Lost) t = refl
+decides_frames f c d (step.OpeningRight at decision.Enough) t = refl
+decides_frames f c d (step.OpeningRight at decision.Lost) t = refl
 decides_frames f c d old t = absurd t
 
-after_frames : (at : Trio) (became : Fate) → compression_frames (after_puts at became) ≡ 0
-after_frames at (fate.Merged h) = refl
-after_frames at fate.Evened = refl
-after_frames at fate.Enough = refl
-after_frames at (fate.Unposted h) = refl
-after_frames at fate.Refused = refl
-after_frames at fate.Lost = refl
+after_frames : (at : Siblings) (became : Decision) → compression_frames (after_puts at became) ≡ 0
+after_frames at (decision.Merged h) = refl
+after_frames at decision.Evened = refl
+after_frames at decision.Enough = refl
+after_frames at (decision.Unposted h) = refl
+after_frames at decision.Refused = refl
+after_frames at decision.Lost = refl
 
 -- a compression of two children that goes on, and one that is over
 compression_leaves : {c e : Compression} {what : Seen} → SqueezeCase c what (compressed.On e) → Leaves (compression_next c) (compression_needs c) what (compression_frames c) (compression_frames e)
@@ -102,7 +102,7 @@ compression_leaves (SqueezeCase.GotRight f c d e t) = decides_frames f c d e t
 compression_leaves (SqueezeCase.PutFirst p e t) = first_leaves p.gains p (compression_frames e) (ap compression_frames t)
 compression_leaves (SqueezeCase.FirstRefused p e t) = first_refused p.gains p (compression_frames e) (ap compression_frames t)
 compression_leaves (SqueezeCase.PutParent p e t) = sym (ap (λ (n : Compression). suc (compression_frames n)) t)
-compression_leaves (SqueezeCase.PutLast p e t) = last_leaves (other p.gains) p (compression_frames e) (ap compression_frames t ∙ after_frames p.at p.fate)
+compression_leaves (SqueezeCase.PutLast p e t) = last_leaves (other p.gains) p (compression_frames e) (ap compression_frames t ∙ after_frames p.at p.decision)
 compression_leaves (SqueezeCase.LatchLeft f e t) = ap compression_frames t
 compression_leaves (SqueezeCase.MissLeft f e t) = ap compression_frames t
 compression_leaves (SqueezeCase.LatchRight f c e t) = ap compression_frames t
@@ -111,8 +111,8 @@ compression_leaves (SqueezeCase.Retired at z e t) = ap compression_frames t
 compression_leaves (SqueezeCase.OpenedRight at z e t) = ap compression_frames t
 compression_leaves (SqueezeCase.OpenedLeft at z e t) = ap compression_frames t
 
-compression_over : {c : Compression} {became : Fate} {what : Seen} → SqueezeCase c what (compressed.Over became) → Leaves (compression_next c) (compression_needs c) what (compression_frames c) 0
-compression_over (SqueezeCase.OpenedParent x fate _ t) = refl
+compression_over : {c : Compression} {became : Decision} {what : Seen} → SqueezeCase c what (compressed.Over became) → Leaves (compression_next c) (compression_needs c) what (compression_frames c) 0
+compression_over (SqueezeCase.OpenedParent x decision _ t) = refl
 
 not_begin_step : (c : Compression) → compression_next c ≢ act.Begin
 not_begin_step (step.LatchingLeft f) e = cc

@@ -9,13 +9,13 @@ use Rattle.bl_proc_base.specs.declared.approaching.Approach.{Approach}
 use Rattle.bl_proc_base.specs.declared.approaching.Approach.TheVariants.{Start}
 use Rattle.bl_proc_base.specs.declared.approaching.Approached.{Approached}
 use Rattle.bl_proc_base.specs.declared.approaching.Approached.TheVariants as came
-use Rattle.bl_proc_base.specs.declared.changing.Change.{Change}
-use Rattle.bl_proc_base.specs.declared.changing.Changed.{Changed}
-use Rattle.bl_proc_base.specs.declared.changing.Changed.TheVariants as change
+use Rattle.bl_proc_base.specs.declared.editing.Edit.{Edit}
+use Rattle.bl_proc_base.specs.declared.editing.Edited.{Edited}
+use Rattle.bl_proc_base.specs.declared.editing.Edited.TheVariants as edit
 use Rattle.bl_proc_base.specs.Given.{Gives}
 use Rattle.bl_proc_base.specs.Onwards.{Leads}
 use Rattle.bl_proc_base.specs.Approaches.{Approaches}
-use Rattle.bl_proc_base.specs.Changes.{DropsPair, Changes}
+use Rattle.bl_proc_base.specs.Edits.{DropsPair, Changes}
 use Rattle.bl_proc.specs.declared.kinds.Proc.{Proc}
 use Rattle.bl_proc.specs.declared.kinds.Proc.TheVariants as proc
 use Rattle.bl_proc.specs.Processes.{Takes}
@@ -25,12 +25,12 @@ use Rattle.bl_proc_unique.specs.Courses.{GoesOn}
 use Rattle.bl_proc_unique.specs.One.{One}
 use Rattle.bl_proc_unique.proofs.Cases.{came_on, came_at, came_as, not_both}
 use Rattle.bl_proc_unique.proofs.Ways.{approach_one}
-use Rattle.bl_proc_unique.proofs.Changes.{drop_one, change_one}
+use Rattle.bl_proc_unique.proofs.Edits.{drop_one, edit_one}
 use Rattle.bl_proc_unique.proofs.Leaves.{leaf_covers, leaf_loses}
 use Rattle.bl_proc.specs.declared.deleting.Removed.{Removed}
 use Rattle.bl_proc.specs.declared.deleting.Delete.{Delete}
 use Rattle.bl_proc.specs.declared.deleting.DeleteStage.{DeleteStage}
-use Rattle.bl_proc.specs.declared.deleting.DeleteStage.TheVariants.{New, Coming, Absent, Changing, Ending, Over}
+use Rattle.bl_proc.specs.declared.deleting.DeleteStage.TheVariants.{New, Coming, Absent, Editing, Ending, Over}
 use Rattle.bl_proc.specs.declared.deleting.DeleteReply.{DeleteReply}
 use Rattle.bl_proc.specs.declared.deleting.DeleteReply.TheVariants as reply
 use Rattle.bl_proc.specs.Deletes.{delete_reply, thin_after, delete_next_in, delete_needs_in, delete_answer_in, DeleteArrives, DeleteGoes}
@@ -39,17 +39,17 @@ use Rattle.bl_proc_unique.proofs.KindCases.{DeleteCase, delete_case}
 module _ (key : ℕ) (x : ℕ) (c : Page) where
   absent_only : (node_of c).look key ≡ None → (other : DeleteStage) → DeleteArrives key x c other → other ≡ Absent x
   absent_only e (Absent m) t = ap Absent t.0
-  absent_only e (Changing v d) t = (let z : None ≡ Some v.value = sym e ∙ t.0 in cc)
+  absent_only e (Editing v d) t = (let z : None ≡ Some v.value = sym e ∙ t.0 in cc)
   absent_only e old t = absurd t
 
-  changing_only : (w : ℕ) (d : Change) → (node_of c).look key ≡ Some w → ((f : Change) → DropsPair x c key f → f ≡ d) → (other : DeleteStage) → DeleteArrives key x c other → other ≡ Changing (record { value = w; thin = thin_after d }) d
-  changing_only w d e one (Absent m) t = (let z : None ≡ Some w = sym t.1 ∙ e in cc)
-  changing_only w d e one (Changing v f) t = (let same : Some v.value ≡ Some w = sym t.0 ∙ e in let s : v.value ≡ w = cc in let f_is = one f t.1 in let thin = t.2 ∙ ap thin_after f_is in λ i. Changing (record { value = s i; thin = thin i }) (f_is i))
-  changing_only w d e one old t = absurd t
+  editing_only : (w : ℕ) (d : Edit) → (node_of c).look key ≡ Some w → ((f : Edit) → DropsPair x c key f → f ≡ d) → (other : DeleteStage) → DeleteArrives key x c other → other ≡ Editing (record { value = w; thin = thin_after d }) d
+  editing_only w d e one (Absent m) t = (let z : None ≡ Some w = sym t.1 ∙ e in cc)
+  editing_only w d e one (Editing v f) t = (let same : Some v.value ≡ Some w = sym t.0 ∙ e in let s : v.value ≡ w = cc in let f_is = one f t.1 in let thin = t.2 ∙ ap thin_after f_is in λ i. Editing (record { value = s i; thin = thin i }) (f_is i))
+  editing_only w d e one old t = absurd t
 
   arrive_by : Leads c key 0 Here → (look : Option ℕ) → (node_of c).look key ≡ look → One (DeleteArrives key x c)
   arrive_by h None e = record { new = Absent x; goes = (refl, e); only = absent_only e }
-  arrive_by h (Some w) e = (let p = drop_one x c key (leaf_covers c key 0 h) (leaf_loses c key h) in record { new = Changing (record { value = w; thin = thin_after p.new }) p.new; goes = (e, p.goes, refl); only = changing_only w p.new e p.only })
+  arrive_by h (Some w) e = (let p = drop_one x c key (leaf_covers c key 0 h) (leaf_loses c key h) in record { new = Editing (record { value = w; thin = thin_after p.new }) p.new; goes = (e, p.goes, refl); only = editing_only w p.new e p.only })
 
   arrive_one : Leads c key 0 Here → One (DeleteArrives key x c)
   arrive_one h = arrive_by h ((node_of c).look key) refl
@@ -63,7 +63,7 @@ module _ (key : ℕ) (a : Approach) (what : Seen) where
   here_only x c is one New t = (let e = is (came.Here t.0 t.1) t.2 in one.only New (subst (λ (z : ℕ × Page). DeleteArrives key z.0 z.1 New) (λ i. (came_at t.0 x t.1 c e i, came_as t.0 x t.1 c e i)) t.3))
   here_only x c is one (Coming b) t = absurd (not_both b x c (is (came.On b) t))
   here_only x c is one (Absent m) t = (let e = is (came.Here t.0 t.1) t.2 in one.only (Absent m) (subst (λ (z : ℕ × Page). DeleteArrives key z.0 z.1 (Absent m)) (λ i. (came_at t.0 x t.1 c e i, came_as t.0 x t.1 c e i)) t.3))
-  here_only x c is one (Changing v d) t = (let e = is (came.Here t.0 t.1) t.2 in one.only (Changing v d) (subst (λ (z : ℕ × Page). DeleteArrives key z.0 z.1 (Changing v d)) (λ i. (came_at t.0 x t.1 c e i, came_as t.0 x t.1 c e i)) t.3))
+  here_only x c is one (Editing v d) t = (let e = is (came.Here t.0 t.1) t.2 in one.only (Editing v d) (subst (λ (z : ℕ × Page). DeleteArrives key z.0 z.1 (Editing v d)) (λ i. (came_at t.0 x t.1 c e i, came_as t.0 x t.1 c e i)) t.3))
   here_only x c is one (Ending r) t = (let e = is (came.Here t.0 t.1) t.2 in one.only (Ending r) (subst (λ (z : ℕ × Page). DeleteArrives key z.0 z.1 (Ending r)) (λ i. (came_at t.0 x t.1 c e i, came_as t.0 x t.1 c e i)) t.3))
   here_only x c is one (Over r) t = (let e = is (came.Here t.0 t.1) t.2 in one.only (Over r) (subst (λ (z : ℕ × Page). DeleteArrives key z.0 z.1 (Over r)) (λ i. (came_at t.0 x t.1 c e i, came_as t.0 x t.1 c e i)) t.3))
 
@@ -72,17 +72,17 @@ module _ (key : ℕ) (a : Approach) (what : Seen) where
   coming_by (came.Here x c) h only = (let one = arrive_one key x c (here_leads 0 key a what x c h) in record { new = one.new; goes = delete_arrives key a what x c one.new h one.goes; only = here_only x c only one })
 
 -- by what becomes of its change
-abbrev after_change : Removed → Changed → DeleteStage
-after_change v (change.On e) = Changing v e
-after_change v (change.Over o) = Ending (delete_reply v o)
+abbrev after_edit : Removed → Edited → DeleteStage
+after_edit v (edit.On e) = Editing v e
+after_edit v (edit.Over o) = Ending (delete_reply v o)
 
-change_goes : (key : ℕ) (v : Removed) (d : Change) (what : Seen) (n : Changed) → Changes d what n → DeleteGoes key (Changing v d) what (after_change v n)
-change_goes key v d what (change.On e) h = (refl, h)
-change_goes key v d what (change.Over o) h = (o, h, refl)
+edit_goes : (key : ℕ) (v : Removed) (d : Edit) (what : Seen) (n : Edited) → Changes d what n → DeleteGoes key (Editing v d) what (after_edit v n)
+edit_goes key v d what (edit.On e) h = (refl, h)
+edit_goes key v d what (edit.Over o) h = (o, h, refl)
 
-change_only : {key : ℕ} {v : Removed} {d : Change} {what : Seen} {b : DeleteStage} (n : Changed) → ((z : Changed) → Changes d what z → z ≡ n) → DeleteCase key (Changing v d) what b → b ≡ after_change v n
-change_only n is (DeleteCase.Changed v d what u e t) = ap (λ z. Changing z e) t.0 ∙ ap (after_change v) (is (change.On e) t.1)
-change_only n is (DeleteCase.Finished v d what r t) = ap Ending t.2 ∙ ap (after_change v) (is (change.Over t.0) t.1)
+edit_only : {key : ℕ} {v : Removed} {d : Edit} {what : Seen} {b : DeleteStage} (n : Edited) → ((z : Edited) → Changes d what z → z ≡ n) → DeleteCase key (Editing v d) what b → b ≡ after_edit v n
+edit_only n is (DeleteCase.Edited v d what u e t) = ap (λ z. Editing z e) t.0 ∙ ap (after_edit v) (is (edit.On e) t.1)
+edit_only n is (DeleteCase.Finished v d what r t) = ap Ending t.2 ∙ ap (after_edit v) (is (edit.Over t.0) t.1)
 
 module _ (key : ℕ) where
   begun_only : {b : DeleteStage} → DeleteCase key New seen.Done b → b ≡ Coming Start
@@ -96,7 +96,7 @@ module _ (key : ℕ) where
 
   stage_one : (a : DeleteStage) (what : Seen) → delete_answer_in a ≡ None → Gives (delete_next_in a) (delete_needs_in a) what → One (DeleteGoes key a what)
   stage_one (Coming a) what r g = (let h = approach_one 0 key a what g in coming_by key a what h.new h.goes h.only)
-  stage_one (Changing v d) what r g = (let h = change_one d what g in record { new = after_change v h.new; goes = change_goes key v d what h.new h.goes; only = λ b t. change_only h.new h.only (delete_case key (Changing v d) what b t) })
+  stage_one (Editing v d) what r g = (let h = edit_one d what g in record { new = after_edit v h.new; goes = edit_goes key v d what h.new h.goes; only = λ b t. edit_only h.new h.only (delete_case key (Editing v d) what b t) })
   stage_one New seen.Done r g = record { new = Coming Start; goes = refl; only = λ b t. begun_only (delete_case key New seen.Done b t) }
   stage_one (Absent x) seen.Done r g = record { new = Ending reply.Absent; goes = refl; only = λ b t. stays_only (delete_case key (Absent x) seen.Done b t) }
   stage_one (Ending q) seen.Done r g = record { new = Over q; goes = refl; only = λ b t. ended_only (delete_case key (Ending q) seen.Done b t) }

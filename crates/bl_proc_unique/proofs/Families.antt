@@ -8,13 +8,13 @@ use Rattle.bl_model.specs.Rows.{map_of}
 use Rattle.bl_page.specs.declared.page.Inner.{Inner}
 use Rattle.bl_page.specs.Pairs.{IsChild, IsChild-prop, IsWithin, IsWithin-prop, place}
 use Rattle.bl_page.proofs.Lookups.{place-le, NameChildren-at}
-use Rattle.bl_proc_compress.specs.declared.compressing.Trio.{Trio}
+use Rattle.bl_proc_compress.specs.declared.compressing.Siblings.{Siblings}
 use Rattle.bl_proc_compress.specs.declared.compressing.Family.{Family}
 use Rattle.bl_proc_compress.specs.Compressions.{right_place, IsFamily}
 use Rattle.bl_proc_compress.proofs.Places.{right_place-some, listed_at, above_first, within_at}
 
-trio_same : (a b : Trio) → a.parent ≡ b.parent → a.left ≡ b.left → a.right ≡ b.right → a ≡ b
-trio_same a b parent left right = λ i. record { parent = parent i; left = left i; right = right i }
+siblings_same : (a b : Siblings) → a.parent ≡ b.parent → a.left ≡ b.left → a.right ≡ b.right → a ≡ b
+siblings_same a b parent left right = λ i. record { parent = parent i; left = left i; right = right i }
 
 family_same : (a b : Family) → a.at ≡ b.at → a.parent ≡ b.parent → a.key ≡ b.key → a ≡ b
 family_same a b at parent key = λ i. record {
@@ -32,7 +32,7 @@ module _ (x key : ℕ) (parent : Inner) where
   pub family_one : (f g : Family) → IsFamily x key parent f → IsFamily x key parent g → f ≡ g
   family_one f g a b =
       let right : ◌≡◌ {A = ℕ × ℕ} (f.key, f.at.right) (g.key, g.at.right) = sym a.right ∙ b.right in
-      let at = trio_same f.at g.at (a.parent_at ∙ sym b.parent_at) (sym a.left ∙ b.left) (ap (λ (z : ℕ × ℕ). z.1) right) in
+      let at = siblings_same f.at g.at (a.parent_at ∙ sym b.parent_at) (sym a.left ∙ b.left) (ap (λ (z : ℕ × ℕ). z.1) right) in
       family_same f g at (a.parent_is ∙ sym b.parent_is) (ap (λ (z : ℕ × ℕ). z.0) right)
 
   right_place-lt : (k : ℕ) (pairs : List (ℕ × ℕ)) → 0 < length pairs → right_place k pairs < length pairs

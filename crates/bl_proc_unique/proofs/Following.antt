@@ -4,12 +4,12 @@ use Rattle.bl_proc_base.specs.declared.acts.Action.TheVariants as act
 use Rattle.bl_proc_base.specs.declared.acts.Seen.{Seen}
 use Rattle.bl_proc_base.specs.declared.approaching.Approach.{Approach}
 use Rattle.bl_proc_base.specs.declared.approaching.Approach.TheVariants as way
-use Rattle.bl_proc_base.specs.declared.changing.Change.{Change}
-use Rattle.bl_proc_base.specs.declared.changing.Change.TheVariants as change
-use Rattle.bl_proc_base.specs.declared.changing.Outcome.{Outcome}
-use Rattle.bl_proc_base.specs.declared.changing.Changed.TheVariants as changed
+use Rattle.bl_proc_base.specs.declared.editing.Edit.{Edit}
+use Rattle.bl_proc_base.specs.declared.editing.Edit.TheVariants as edit
+use Rattle.bl_proc_base.specs.declared.editing.Outcome.{Outcome}
+use Rattle.bl_proc_base.specs.declared.editing.Edited.TheVariants as changed
 use Rattle.bl_proc_base.specs.Approaches.{approach_next}
-use Rattle.bl_proc_base.specs.Changes.{change_next, change_needs, EntersPair}
+use Rattle.bl_proc_base.specs.Edits.{edit_next, edit_needs, EntersPair}
 use Rattle.bl_page.specs.declared.page.Page.{Page}
 use Rattle.bl_model.specs.declared.operation.Op.TheVariants as op
 use Rattle.bl_proc.specs.declared.searching.Find.{Find}
@@ -18,8 +18,8 @@ use Rattle.bl_proc.specs.declared.searching.FindStage.TheVariants as find
 use Rattle.bl_proc.specs.declared.kinds.Proc.TheVariants as proc
 use Rattle.bl_proc.specs.Searches.{find_next_in, find_answer_in}
 use Rattle.bl_proc.specs.Processes.{next_of, Takes}
-use Rattle.bl_proc_unique.specs.Frames.{change_frames, Wants, Leaves, Follows}
-use Rattle.bl_proc_unique.proofs.WayCases.{ChangeCase}
+use Rattle.bl_proc_unique.specs.Frames.{edit_frames, Wants, Leaves, Follows}
+use Rattle.bl_proc_unique.proofs.WayCases.{EditCase}
 use Rattle.bl_proc_unique.proofs.KindCases.{FindCase, find_case}
 
 pub approach_wants : (a : Approach) (needs : Option (ℕ × ℕ)) → Wants (approach_next a) needs 0
@@ -29,13 +29,13 @@ approach_wants (way.Latching x) needs = refl
 approach_wants (way.Latched x) needs = refl
 approach_wants (way.Leaving x to) needs = refl
 
-pub change_wants : (c : Change) → Wants (change_next c) (change_needs c) (change_frames c)
-change_wants (change.Putting u v) = (refl, refl, omega arith, omega arith)
-change_wants (change.Taking u) = (refl, refl, refl)
-change_wants (change.PuttingNew u) = (λ e. omega arith)
-change_wants (change.PuttingOld u) = (λ e. omega arith)
-change_wants (change.OpeningNew u v s) = refl
-change_wants (change.Opening u v) = refl
+pub edit_wants : (c : Edit) → Wants (edit_next c) (edit_needs c) (edit_frames c)
+edit_wants (edit.Putting u v) = (refl, refl, omega arith, omega arith)
+edit_wants (edit.Taking u) = (refl, refl, refl)
+edit_wants (edit.PuttingNew u) = (λ e. omega arith)
+edit_wants (edit.PuttingOld u) = (λ e. omega arith)
+edit_wants (edit.OpeningNew u v s) = refl
+edit_wants (edit.Opening u v) = refl
 
 pub find_wants : (p : Find) → Wants (next_of (proc.Find p)) None 0
 find_wants p = wants p.stage
@@ -47,17 +47,17 @@ find_wants p = wants p.stage
     wants (find.Over v) = refl
 
 -- a change that goes on, and one that is over
-pub change_leaves : {c d : Change} {what : Seen} → ChangeCase c what (changed.On d) → Leaves (change_next c) (change_needs c) what (change_frames c) (change_frames d)
-change_leaves (ChangeCase.Put x page d t) = ap (λ (z : Change). suc (change_frames z)) t
-change_leaves (ChangeCase.PutRefused x page d t) = ap change_frames t
-change_leaves (ChangeCase.Took full y p t) = refl
-change_leaves (ChangeCase.TakeRefused full d t) = ap change_frames t
-change_leaves (ChangeCase.PutNew p d t) = sym (ap (λ (z : Change). suc (change_frames z)) t)
-change_leaves (ChangeCase.PutOld p d t) = sym (ap (λ (z : Change). suc (change_frames z)) t)
-change_leaves (ChangeCase.OpenedNew x y separator d t) = ap change_frames t
+pub edit_leaves : {c d : Edit} {what : Seen} → EditCase c what (changed.On d) → Leaves (edit_next c) (edit_needs c) what (edit_frames c) (edit_frames d)
+edit_leaves (EditCase.Put x page d t) = ap (λ (z : Edit). suc (edit_frames z)) t
+edit_leaves (EditCase.PutRefused x page d t) = ap edit_frames t
+edit_leaves (EditCase.Took full y p t) = refl
+edit_leaves (EditCase.TakeRefused full d t) = ap edit_frames t
+edit_leaves (EditCase.PutNew p d t) = sym (ap (λ (z : Edit). suc (edit_frames z)) t)
+edit_leaves (EditCase.PutOld p d t) = sym (ap (λ (z : Edit). suc (edit_frames z)) t)
+edit_leaves (EditCase.OpenedNew x y separator d t) = ap edit_frames t
 
-pub change_over : {c : Change} {o : Outcome} {what : Seen} → ChangeCase c what (changed.Over o) → Leaves (change_next c) (change_needs c) what (change_frames c) 0
-change_over (ChangeCase.Opened x o last t) = refl
+pub edit_over : {c : Edit} {o : Outcome} {what : Seen} → EditCase c what (changed.Over o) → Leaves (edit_next c) (edit_needs c) what (edit_frames c) 0
+edit_over (EditCase.Opened x o last t) = refl
 
 pub approach_leaves : (a : Approach) (what : Seen) → Leaves (approach_next a) None what 0 0
 approach_leaves way.Start what = refl
@@ -73,17 +73,17 @@ not_begin_way (way.Latching x) e = cc
 not_begin_way (way.Latched x) e = cc
 not_begin_way (way.Leaving x to) e = cc
 
-pub not_begin : (c : Change) → change_next c ≢ act.Begin
-not_begin (change.Putting u v) e = cc
-not_begin (change.Taking u) e = cc
-not_begin (change.PuttingNew u) e = cc
-not_begin (change.PuttingOld u) e = cc
-not_begin (change.OpeningNew u v s) e = cc
-not_begin (change.Opening u v) e = cc
+pub not_begin : (c : Edit) → edit_next c ≢ act.Begin
+not_begin (edit.Putting u v) e = cc
+not_begin (edit.Taking u) e = cc
+not_begin (edit.PuttingNew u) e = cc
+not_begin (edit.PuttingOld u) e = cc
+not_begin (edit.OpeningNew u v s) e = cc
+not_begin (edit.Opening u v) e = cc
 
-pub came_frames_insert : (x key value : ℕ) (c : Page) (e : Change) → EntersPair x c key value e → change_frames e ≡ 0
-came_frames_insert x key value c (change.Putting u v) t = refl
-came_frames_insert x key value c (change.Taking u) t = refl
+pub came_frames_insert : (x key value : ℕ) (c : Page) (e : Edit) → EntersPair x c key value e → edit_frames e ≡ 0
+came_frames_insert x key value c (edit.Putting u v) t = refl
+came_frames_insert x key value c (edit.Taking u) t = refl
 came_frames_insert x key value c old t = absurd t
 
 find_leaves : (a : FindStage) (what : Seen) → Leaves (find_next_in a) None what 0 0

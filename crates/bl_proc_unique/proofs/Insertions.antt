@@ -9,13 +9,13 @@ use Rattle.bl_proc_base.specs.declared.approaching.Approach.{Approach}
 use Rattle.bl_proc_base.specs.declared.approaching.Approach.TheVariants.{Start}
 use Rattle.bl_proc_base.specs.declared.approaching.Approached.{Approached}
 use Rattle.bl_proc_base.specs.declared.approaching.Approached.TheVariants as came
-use Rattle.bl_proc_base.specs.declared.changing.Change.{Change}
-use Rattle.bl_proc_base.specs.declared.changing.Changed.{Changed}
-use Rattle.bl_proc_base.specs.declared.changing.Changed.TheVariants as change
+use Rattle.bl_proc_base.specs.declared.editing.Edit.{Edit}
+use Rattle.bl_proc_base.specs.declared.editing.Edited.{Edited}
+use Rattle.bl_proc_base.specs.declared.editing.Edited.TheVariants as edit
 use Rattle.bl_proc_base.specs.Given.{Gives}
 use Rattle.bl_proc_base.specs.Onwards.{Leads}
 use Rattle.bl_proc_base.specs.Approaches.{Approaches}
-use Rattle.bl_proc_base.specs.Changes.{EntersPair, Changes}
+use Rattle.bl_proc_base.specs.Edits.{EntersPair, Changes}
 use Rattle.bl_proc.specs.declared.kinds.Proc.{Proc}
 use Rattle.bl_proc.specs.declared.kinds.Proc.TheVariants as proc
 use Rattle.bl_proc.specs.Processes.{Takes}
@@ -25,11 +25,11 @@ use Rattle.bl_proc_unique.specs.Courses.{GoesOn}
 use Rattle.bl_proc_unique.specs.One.{One}
 use Rattle.bl_proc_unique.proofs.Cases.{came_on, came_at, came_as, not_both}
 use Rattle.bl_proc_unique.proofs.Ways.{approach_one}
-use Rattle.bl_proc_unique.proofs.Changes.{enter_one, change_one}
+use Rattle.bl_proc_unique.proofs.Edits.{enter_one, edit_one}
 use Rattle.bl_proc_unique.proofs.Leaves.{leaf_covers, leaf_lists, leaf_holds}
 use Rattle.bl_proc.specs.declared.inserting.Insert.{Insert}
 use Rattle.bl_proc.specs.declared.inserting.InsertStage.{InsertStage}
-use Rattle.bl_proc.specs.declared.inserting.InsertStage.TheVariants.{New, Coming, Present, Changing, Ending, Over}
+use Rattle.bl_proc.specs.declared.inserting.InsertStage.TheVariants.{New, Coming, Present, Editing, Ending, Over}
 use Rattle.bl_proc.specs.declared.inserting.InsertReply.{InsertReply}
 use Rattle.bl_proc.specs.declared.inserting.InsertReply.TheVariants as reply
 use Rattle.bl_proc.specs.Inserts.{insert_reply, insert_next_in, insert_needs_in, insert_answer_in, InsertArrives, InsertGoes}
@@ -38,16 +38,16 @@ use Rattle.bl_proc_unique.proofs.KindCases.{InsertCase, insert_case}
 module _ (key value : ℕ) (x : ℕ) (c : Page) where
   present_only : (v : ℕ) → (node_of c).look key ≡ Some v → (other : InsertStage) → InsertArrives key value x c other → other ≡ Present x v
   present_only v e (Present m n) t = (let same : Some n ≡ Some v = sym t.1 ∙ e in let one : n ≡ v = cc in λ i. Present (t.0 i) (one i))
-  present_only v e (Changing d) t = (let z : None ≡ Some v = sym t.0 ∙ e in cc)
+  present_only v e (Editing d) t = (let z : None ≡ Some v = sym t.0 ∙ e in cc)
   present_only v e old t = absurd t
 
-  changing_only : (d : Change) → (node_of c).look key ≡ None → ((f : Change) → EntersPair x c key value f → f ≡ d) → (other : InsertStage) → InsertArrives key value x c other → other ≡ Changing d
-  changing_only d e one (Present m n) t = (let z : None ≡ Some n = sym e ∙ t.1 in cc)
-  changing_only d e one (Changing f) t = ap Changing (one f t.1)
-  changing_only d e one old t = absurd t
+  editing_only : (d : Edit) → (node_of c).look key ≡ None → ((f : Edit) → EntersPair x c key value f → f ≡ d) → (other : InsertStage) → InsertArrives key value x c other → other ≡ Editing d
+  editing_only d e one (Present m n) t = (let z : None ≡ Some n = sym e ∙ t.1 in cc)
+  editing_only d e one (Editing f) t = ap Editing (one f t.1)
+  editing_only d e one old t = absurd t
 
   arrive_by : Leads c key 0 Here → (look : Option ℕ) → (node_of c).look key ≡ look → One (InsertArrives key value x c)
-  arrive_by h None e = (let p = enter_one x c key value (leaf_covers c key 0 h) (leaf_lists c key e) (leaf_holds c key value h) in record { new = Changing p.new; goes = (e, p.goes); only = changing_only p.new e p.only })
+  arrive_by h None e = (let p = enter_one x c key value (leaf_covers c key 0 h) (leaf_lists c key e) (leaf_holds c key value h) in record { new = Editing p.new; goes = (e, p.goes); only = editing_only p.new e p.only })
   arrive_by h (Some v) e = record { new = Present x v; goes = (refl, e); only = present_only v e }
 
   arrive_one : Leads c key 0 Here → One (InsertArrives key value x c)
@@ -62,7 +62,7 @@ module _ (key value : ℕ) (a : Approach) (what : Seen) where
   here_only x c is one New t = (let e = is (came.Here t.0 t.1) t.2 in one.only New (subst (λ (z : ℕ × Page). InsertArrives key value z.0 z.1 New) (λ i. (came_at t.0 x t.1 c e i, came_as t.0 x t.1 c e i)) t.3))
   here_only x c is one (Coming b) t = absurd (not_both b x c (is (came.On b) t))
   here_only x c is one (Present m n) t = (let e = is (came.Here t.0 t.1) t.2 in one.only (Present m n) (subst (λ (z : ℕ × Page). InsertArrives key value z.0 z.1 (Present m n)) (λ i. (came_at t.0 x t.1 c e i, came_as t.0 x t.1 c e i)) t.3))
-  here_only x c is one (Changing d) t = (let e = is (came.Here t.0 t.1) t.2 in one.only (Changing d) (subst (λ (z : ℕ × Page). InsertArrives key value z.0 z.1 (Changing d)) (λ i. (came_at t.0 x t.1 c e i, came_as t.0 x t.1 c e i)) t.3))
+  here_only x c is one (Editing d) t = (let e = is (came.Here t.0 t.1) t.2 in one.only (Editing d) (subst (λ (z : ℕ × Page). InsertArrives key value z.0 z.1 (Editing d)) (λ i. (came_at t.0 x t.1 c e i, came_as t.0 x t.1 c e i)) t.3))
   here_only x c is one (Ending r) t = (let e = is (came.Here t.0 t.1) t.2 in one.only (Ending r) (subst (λ (z : ℕ × Page). InsertArrives key value z.0 z.1 (Ending r)) (λ i. (came_at t.0 x t.1 c e i, came_as t.0 x t.1 c e i)) t.3))
   here_only x c is one (Over r) t = (let e = is (came.Here t.0 t.1) t.2 in one.only (Over r) (subst (λ (z : ℕ × Page). InsertArrives key value z.0 z.1 (Over r)) (λ i. (came_at t.0 x t.1 c e i, came_as t.0 x t.1 c e i)) t.3))
 
@@ -71,17 +71,17 @@ module _ (key value : ℕ) (a : Approach) (what : Seen) where
   coming_by (came.Here x c) h only = (let one = arrive_one key value x c (here_leads 0 key a what x c h) in record { new = one.new; goes = insert_arrives key value a what x c one.new h one.goes; only = here_only x c only one })
 
 -- by what becomes of its change
-abbrev after_change : Changed → InsertStage
-after_change (change.On e) = Changing e
-after_change (change.Over o) = Ending (insert_reply o)
+abbrev after_edit : Edited → InsertStage
+after_edit (edit.On e) = Editing e
+after_edit (edit.Over o) = Ending (insert_reply o)
 
-change_goes : (key value : ℕ) (d : Change) (what : Seen) (n : Changed) → Changes d what n → InsertGoes key value (Changing d) what (after_change n)
-change_goes key value d what (change.On e) h = h
-change_goes key value d what (change.Over o) h = (o, h, refl)
+edit_goes : (key value : ℕ) (d : Edit) (what : Seen) (n : Edited) → Changes d what n → InsertGoes key value (Editing d) what (after_edit n)
+edit_goes key value d what (edit.On e) h = h
+edit_goes key value d what (edit.Over o) h = (o, h, refl)
 
-change_only : {key value : ℕ} {d : Change} {what : Seen} {b : InsertStage} (n : Changed) → ((z : Changed) → Changes d what z → z ≡ n) → InsertCase key value (Changing d) what b → b ≡ after_change n
-change_only n is (InsertCase.Changed d what e t) = ap after_change (is (change.On e) t)
-change_only n is (InsertCase.Finished d what r t) = ap Ending t.2 ∙ ap after_change (is (change.Over t.0) t.1)
+edit_only : {key value : ℕ} {d : Edit} {what : Seen} {b : InsertStage} (n : Edited) → ((z : Edited) → Changes d what z → z ≡ n) → InsertCase key value (Editing d) what b → b ≡ after_edit n
+edit_only n is (InsertCase.Edited d what e t) = ap after_edit (is (edit.On e) t)
+edit_only n is (InsertCase.Finished d what r t) = ap Ending t.2 ∙ ap after_edit (is (edit.Over t.0) t.1)
 
 module _ (key value : ℕ) where
   begun_only : {b : InsertStage} → InsertCase key value New seen.Done b → b ≡ Coming Start
@@ -95,7 +95,7 @@ module _ (key value : ℕ) where
 
   stage_one : (a : InsertStage) (what : Seen) → insert_answer_in a ≡ None → Gives (insert_next_in a) (insert_needs_in a) what → One (InsertGoes key value a what)
   stage_one (Coming a) what r g = (let h = approach_one 0 key a what g in coming_by key value a what h.new h.goes h.only)
-  stage_one (Changing d) what r g = (let h = change_one d what g in record { new = after_change h.new; goes = change_goes key value d what h.new h.goes; only = λ b t. change_only h.new h.only (insert_case key value (Changing d) what b t) })
+  stage_one (Editing d) what r g = (let h = edit_one d what g in record { new = after_edit h.new; goes = edit_goes key value d what h.new h.goes; only = λ b t. edit_only h.new h.only (insert_case key value (Editing d) what b t) })
   stage_one New seen.Done r g = record { new = Coming Start; goes = refl; only = λ b t. begun_only (insert_case key value New seen.Done b t) }
   stage_one (Present x v) seen.Done r g = record { new = Ending (reply.Present v); goes = refl; only = λ b t. stays_only (insert_case key value (Present x v) seen.Done b t) }
   stage_one (Ending q) seen.Done r g = record { new = Over q; goes = refl; only = λ b t. ended_only (insert_case key value (Ending q) seen.Done b t) }

@@ -19,9 +19,9 @@ use Rattle.bl_proc_base.specs.declared.approaching.Approach.TheVariants as way
 use Rattle.bl_proc_base.specs.declared.approaching.Approached.TheVariants as came
 use Rattle.bl_proc_base.specs.declared.approaching.Came.{Came as Became}
 use Rattle.bl_proc_base.specs.declared.approaching.Came.TheVariants as come
-use Rattle.bl_proc_base.specs.declared.changing.Outcome.{Outcome}
-use Rattle.bl_proc_base.specs.declared.changing.Change.{Change}
-use Rattle.bl_proc_base.specs.declared.changing.Changed.TheVariants as changed
+use Rattle.bl_proc_base.specs.declared.editing.Outcome.{Outcome}
+use Rattle.bl_proc_base.specs.declared.editing.Edit.{Edit}
+use Rattle.bl_proc_base.specs.declared.editing.Edited.TheVariants as changed
 use Rattle.bl_proc_base.specs.declared.growing.Growth.{Growth}
 use Rattle.bl_proc_base.specs.declared.growing.Growth.TheVariants as growth
 use Rattle.bl_proc_base.specs.declared.growing.Grew.TheVariants as grew
@@ -30,7 +30,7 @@ use Rattle.bl_proc_base.specs.declared.lowering.Lowering.{Lowering}
 use Rattle.bl_proc_base.specs.declared.lowering.Lowering.TheVariants.{Looking}
 use Rattle.bl_proc_base.specs.declared.lowering.Sank.TheVariants as sank
 use Rattle.bl_proc_compress.specs.declared.compressing.Family.{Family}
-use Rattle.bl_proc_compress.specs.declared.compressing.Fate.{Fate}
+use Rattle.bl_proc_compress.specs.declared.compressing.Decision.{Decision}
 use Rattle.bl_proc_compress.specs.declared.compressing.Compression.{Compression}
 use Rattle.bl_proc_compress.specs.declared.compressing.Compression.TheVariants.{LatchingLeft}
 use Rattle.bl_proc_compress.specs.declared.compressing.Compressed.TheVariants as step
@@ -67,7 +67,7 @@ use Rattle.bl_proc.specs.declared.parts.PartStage.TheVariants as part
 use Rattle.bl_proc_base.specs.Onwards.{Leads}
 use Rattle.bl_proc_base.specs.Descents.{Descends}
 use Rattle.bl_proc_base.specs.Approaches.{Approaches, Comes}
-use Rattle.bl_proc_base.specs.Changes.{EntersPair, DropsPair, Changes}
+use Rattle.bl_proc_base.specs.Edits.{EntersPair, DropsPair, Changes}
 use Rattle.bl_proc_base.specs.Growths.{Grows}
 use Rattle.bl_proc_base.specs.Lowerings.{Lowers}
 use Rattle.bl_proc.specs.Searches.{FindGoes}
@@ -137,10 +137,10 @@ pub data InsertCase (key value : ℕ) : InsertStage → Seen → InsertStage →
   Began : (a : Approach) → a ≡ way.Start → InsertCase key value insert.New seen.Done (insert.Coming a)
   Came : (a : Approach) (what : Seen) (b : Approach) → Approaches 0 key a what (came.On b) → InsertCase key value (insert.Coming a) what (insert.Coming b)
   Found : (x : ℕ) (c : Page) (y there : ℕ) → Leads c key 0 Here → (y ≡ x) × ((node_of c).look key ≡ Some there) → InsertCase key value (insert.Coming (way.Latched x)) (seen.Words c) (insert.Present y there)
-  Entered : (x : ℕ) (c : Page) (d : Change) → Leads c key 0 Here → ((node_of c).look key ≡ None) × EntersPair x c key value d → InsertCase key value (insert.Coming (way.Latched x)) (seen.Words c) (insert.Changing d)
+  Entered : (x : ℕ) (c : Page) (d : Edit) → Leads c key 0 Here → ((node_of c).look key ≡ None) × EntersPair x c key value d → InsertCase key value (insert.Coming (way.Latched x)) (seen.Words c) (insert.Editing d)
   Opened : (x there : ℕ) (r : InsertReply) → r ≡ inserted.Present there → InsertCase key value (insert.Present x there) seen.Done (insert.Ending r)
-  Changed : (c : Change) (what : Seen) (d : Change) → Changes c what (changed.On d) → InsertCase key value (insert.Changing c) what (insert.Changing d)
-  Finished : (c : Change) (what : Seen) (r : InsertReply) → (o : Outcome) × Changes c what (changed.Over o) × (r ≡ insert_reply o) → InsertCase key value (insert.Changing c) what (insert.Ending r)
+  Edited : (c : Edit) (what : Seen) (d : Edit) → Changes c what (changed.On d) → InsertCase key value (insert.Editing c) what (insert.Editing d)
+  Finished : (c : Edit) (what : Seen) (r : InsertReply) → (o : Outcome) × Changes c what (changed.Over o) × (r ≡ insert_reply o) → InsertCase key value (insert.Editing c) what (insert.Ending r)
   Ended : (r last : InsertReply) → last ≡ r → InsertCase key value (insert.Ending r) seen.Done (insert.Over last)
 
 pub insert_case : (key value : ℕ) (a : InsertStage) (what : Seen) (b : InsertStage) → InsertGoes key value a what b → InsertCase key value a what b
@@ -148,12 +148,12 @@ insert_case key value insert.New seen.Done (insert.Coming a) t = Began a t
 insert_case key value (insert.Coming a) what (insert.Coming b) t = Came a what b t
 insert_case key value (insert.Coming a) what (insert.Present y there) (x, c, h, t) =
     at_page (λ z d. InsertArrives key value z d (insert.Present y there)) (λ b w. InsertCase key value (insert.Coming b) w (insert.Present y there)) h t (λ z d l u. Found z d y there l u)
-insert_case key value (insert.Coming a) what (insert.Changing e) (x, c, h, t) =
-    at_page (λ z d. InsertArrives key value z d (insert.Changing e)) (λ b w. InsertCase key value (insert.Coming b) w (insert.Changing e)) h t (λ z d l u. Entered z d e l u)
+insert_case key value (insert.Coming a) what (insert.Editing e) (x, c, h, t) =
+    at_page (λ z d. InsertArrives key value z d (insert.Editing e)) (λ b w. InsertCase key value (insert.Coming b) w (insert.Editing e)) h t (λ z d l u. Entered z d e l u)
 insert_case key value (insert.Coming a) what b t = absurd t.3
 insert_case key value (insert.Present x there) seen.Done (insert.Ending r) t = Opened x there r t
-insert_case key value (insert.Changing c) what (insert.Changing d) t = Changed c what d t
-insert_case key value (insert.Changing c) what (insert.Ending r) t = Finished c what r t
+insert_case key value (insert.Editing c) what (insert.Editing d) t = Edited c what d t
+insert_case key value (insert.Editing c) what (insert.Ending r) t = Finished c what r t
 insert_case key value (insert.Ending r) seen.Done (insert.Over last) t = Ended r last t
 insert_case key value a what b t = absurd t
 
@@ -162,10 +162,10 @@ pub data DeleteCase (key : ℕ) : DeleteStage → Seen → DeleteStage → Type 
   Began : (a : Approach) → a ≡ way.Start → DeleteCase key delete.New seen.Done (delete.Coming a)
   Came : (a : Approach) (what : Seen) (b : Approach) → Approaches 0 key a what (came.On b) → DeleteCase key (delete.Coming a) what (delete.Coming b)
   Missing : (x : ℕ) (c : Page) (y : ℕ) → Leads c key 0 Here → (y ≡ x) × ((node_of c).look key ≡ None) → DeleteCase key (delete.Coming (way.Latched x)) (seen.Words c) (delete.Absent y)
-  Dropped : (x : ℕ) (c : Page) (v : Removed) (d : Change) → Leads c key 0 Here → ((node_of c).look key ≡ Some v.value) × DropsPair x c key d × (v.thin ≡ thin_after d) → DeleteCase key (delete.Coming (way.Latched x)) (seen.Words c) (delete.Changing v d)
+  Dropped : (x : ℕ) (c : Page) (v : Removed) (d : Edit) → Leads c key 0 Here → ((node_of c).look key ≡ Some v.value) × DropsPair x c key d × (v.thin ≡ thin_after d) → DeleteCase key (delete.Coming (way.Latched x)) (seen.Words c) (delete.Editing v d)
   Opened : (x : ℕ) (r : DeleteReply) → r ≡ deleted.Absent → DeleteCase key (delete.Absent x) seen.Done (delete.Ending r)
-  Changed : (v : Removed) (c : Change) (what : Seen) (u : Removed) (d : Change) → (u ≡ v) × Changes c what (changed.On d) → DeleteCase key (delete.Changing v c) what (delete.Changing u d)
-  Finished : (v : Removed) (c : Change) (what : Seen) (r : DeleteReply) → (o : Outcome) × Changes c what (changed.Over o) × (r ≡ delete_reply v o) → DeleteCase key (delete.Changing v c) what (delete.Ending r)
+  Edited : (v : Removed) (c : Edit) (what : Seen) (u : Removed) (d : Edit) → (u ≡ v) × Changes c what (changed.On d) → DeleteCase key (delete.Editing v c) what (delete.Editing u d)
+  Finished : (v : Removed) (c : Edit) (what : Seen) (r : DeleteReply) → (o : Outcome) × Changes c what (changed.Over o) × (r ≡ delete_reply v o) → DeleteCase key (delete.Editing v c) what (delete.Ending r)
   Ended : (r last : DeleteReply) → last ≡ r → DeleteCase key (delete.Ending r) seen.Done (delete.Over last)
 
 pub delete_case : (key : ℕ) (a : DeleteStage) (what : Seen) (b : DeleteStage) → DeleteGoes key a what b → DeleteCase key a what b
@@ -173,12 +173,12 @@ delete_case key delete.New seen.Done (delete.Coming a) t = Began a t
 delete_case key (delete.Coming a) what (delete.Coming b) t = Came a what b t
 delete_case key (delete.Coming a) what (delete.Absent y) (x, c, h, t) =
     at_page (λ z d. DeleteArrives key z d (delete.Absent y)) (λ b w. DeleteCase key (delete.Coming b) w (delete.Absent y)) h t (λ z d l u. Missing z d y l u)
-delete_case key (delete.Coming a) what (delete.Changing v e) (x, c, h, t) =
-    at_page (λ z d. DeleteArrives key z d (delete.Changing v e)) (λ b w. DeleteCase key (delete.Coming b) w (delete.Changing v e)) h t (λ z d l u. Dropped z d v e l u)
+delete_case key (delete.Coming a) what (delete.Editing v e) (x, c, h, t) =
+    at_page (λ z d. DeleteArrives key z d (delete.Editing v e)) (λ b w. DeleteCase key (delete.Coming b) w (delete.Editing v e)) h t (λ z d l u. Dropped z d v e l u)
 delete_case key (delete.Coming a) what b t = absurd t.3
 delete_case key (delete.Absent x) seen.Done (delete.Ending r) t = Opened x r t
-delete_case key (delete.Changing v c) what (delete.Changing u d) t = Changed v c what u d t
-delete_case key (delete.Changing v c) what (delete.Ending r) t = Finished v c what r t
+delete_case key (delete.Editing v c) what (delete.Editing u d) t = Edited v c what u d t
+delete_case key (delete.Editing v c) what (delete.Ending r) t = Finished v c what r t
 delete_case key (delete.Ending r) seen.Done (delete.Over last) t = Ended r last t
 delete_case key a what b t = absurd t
 
@@ -195,11 +195,11 @@ pub data PostCase (level key : ℕ) : PostStage → Seen → PostStage → Type 
   Grown : (g : Growth) (what : Seen) (a : Approach) → Grows level g what grew.Grown × (a ≡ way.Start) → PostCase level key (post.Growing g) what (post.Coming a)
   NoRoom : (g : Growth) (what : Seen) (r : PostReply) → Grows level g what grew.Refused × (r ≡ listed.NoRoom) → PostCase level key (post.Growing g) what (post.Ending r)
   Walked : (w : Walk) (c : Page) (v : Walk) → (v.at ≡ w.at) × (v.key ≡ w.key) × (v.parent ≡ w.parent) × Leads c w.key (level - 1) (Right v.child) → PostCase level key (post.Walking w) (seen.Words c) (post.Walking v)
-  Entered : (w : Walk) (c : Page) (d : Change) → Leads c w.key (level - 1) Here × ((node_of c).shape.low ≡ w.key) × EntersPair w.at (InnerPage w.parent) w.key w.child d → PostCase level key (post.Walking w) (seen.Words c) (post.Changing d)
+  Entered : (w : Walk) (c : Page) (d : Edit) → Leads c w.key (level - 1) Here × ((node_of c).shape.low ≡ w.key) × EntersPair w.at (InnerPage w.parent) w.key w.child d → PostCase level key (post.Walking w) (seen.Words c) (post.Editing d)
   Stale : (w : Walk) (c : Page) (x : ℕ) → (x ≡ w.at) × Leads c w.key (level - 1) Here × ((node_of c).shape.low ≢ w.key) → PostCase level key (post.Walking w) (seen.Words c) (post.Staying x listed.Stale)
   Lost : (w : Walk) (c : Page) (a : Approach) → (a ≡ way.Leaving w.at None) × ((o : Step) × Leads c w.key (level - 1) o × IsLost o) → PostCase level key (post.Walking w) (seen.Words c) (post.Coming a)
-  Changed : (c : Change) (what : Seen) (d : Change) → Changes c what (changed.On d) → PostCase level key (post.Changing c) what (post.Changing d)
-  Finished : (c : Change) (what : Seen) (r : PostReply) → (o : Outcome) × Changes c what (changed.Over o) × (r ≡ post_reply o) → PostCase level key (post.Changing c) what (post.Ending r)
+  Edited : (c : Edit) (what : Seen) (d : Edit) → Changes c what (changed.On d) → PostCase level key (post.Editing c) what (post.Editing d)
+  Finished : (c : Edit) (what : Seen) (r : PostReply) → (o : Outcome) × Changes c what (changed.Over o) × (r ≡ post_reply o) → PostCase level key (post.Editing c) what (post.Ending r)
   Opened : (x : ℕ) (r last : PostReply) → last ≡ r → PostCase level key (post.Staying x r) seen.Done (post.Ending last)
   Ended : (r last : PostReply) → last ≡ r → PostCase level key (post.Ending r) seen.Done (post.Over last)
 
@@ -225,11 +225,11 @@ post_case level key (post.Growing g) what (post.Growing h) t = Grew g what h t
 post_case level key (post.Growing g) what (post.Coming a) t = Grown g what a t
 post_case level key (post.Growing g) what (post.Ending r) t = NoRoom g what r t
 post_case level key (post.Walking w) (seen.Words c) (post.Walking v) t = Walked w c v t
-post_case level key (post.Walking w) (seen.Words c) (post.Changing d) t = Entered w c d t
+post_case level key (post.Walking w) (seen.Words c) (post.Editing d) t = Entered w c d t
 post_case level key (post.Walking w) (seen.Words c) (post.Staying x listed.Stale) t = Stale w c x t
 post_case level key (post.Walking w) (seen.Words c) (post.Coming a) t = Lost w c a t
-post_case level key (post.Changing c) what (post.Changing d) t = Changed c what d t
-post_case level key (post.Changing c) what (post.Ending r) t = Finished c what r t
+post_case level key (post.Editing c) what (post.Editing d) t = Edited c what d t
+post_case level key (post.Editing c) what (post.Ending r) t = Finished c what r t
 post_case level key (post.Staying x r) seen.Done (post.Ending last) t = Opened x r last t
 post_case level key (post.Ending r) seen.Done (post.Over last) t = Ended r last t
 post_case level key a what b t = absurd t
@@ -242,8 +242,8 @@ pub data CompressCase (level key : ℕ) : CompressStage → Seen → CompressSta
   Met : (x : ℕ) (parent : Inner) (f : Family) → Leads (InnerPage parent) key level Here → AreSiblings x key parent (Some f) → CompressCase level key (compress.Coming (way.Latched x)) (seen.Words (InnerPage parent)) (compress.Compressing (LatchingLeft f))
   Single : (x : ℕ) (parent : Inner) (y : ℕ) → Leads (InnerPage parent) key level Here → (y ≡ x) × AreSiblings x key parent None → CompressCase level key (compress.Coming (way.Latched x)) (seen.Words (InnerPage parent)) (compress.Staying y)
   Squeezed : (c : Compression) (what : Seen) (d : Compression) → Compresses c what (step.On d) → CompressCase level key (compress.Compressing c) what (compress.Compressing d)
-  Lost : (c : Compression) (what : Seen) (a : Approach) → (last : Fate) × Compresses c what (step.Over last) × (compress_reply last ≡ None) × (a ≡ way.Start) → CompressCase level key (compress.Compressing c) what (compress.Coming a)
-  Finished : (c : Compression) (what : Seen) (r : CompressReply) → (last : Fate) × Compresses c what (step.Over last) × (compress_reply last ≡ Some r) → CompressCase level key (compress.Compressing c) what (compress.Ending r)
+  Lost : (c : Compression) (what : Seen) (a : Approach) → (last : Decision) × Compresses c what (step.Over last) × (compress_reply last ≡ None) × (a ≡ way.Start) → CompressCase level key (compress.Compressing c) what (compress.Coming a)
+  Finished : (c : Compression) (what : Seen) (r : CompressReply) → (last : Decision) × Compresses c what (step.Over last) × (compress_reply last ≡ Some r) → CompressCase level key (compress.Compressing c) what (compress.Ending r)
   Opened : (x : ℕ) (r : CompressReply) → r ≡ pressed.Alone → CompressCase level key (compress.Staying x) seen.Done (compress.Ending r)
   Ended : (r last : CompressReply) → last ≡ r → CompressCase level key (compress.Ending r) seen.Done (compress.Over last)
 

@@ -8,7 +8,7 @@ pub mod Rows
 pub mod Listings
 pub mod Pages
 pub mod Ways
-pub mod Changes
+pub mod Edits
 pub mod Growths
 pub mod Lowerings
 pub mod Lowers

@@ -126,7 +126,7 @@ evened_one c d e f a b =
     let gains = gains_one e.gains f.gains (length (pairs_of c)) (length (pairs_of e.left)) (length (pairs_of f.left)) (low_of d) e.separator f.separator many a.gains b.gains in
     λ i. record { left = left i; right = right i; separator = key i; gains = gains i }
 
--- the pairs on both sides of a bound, parted in the middle
+-- the pairs on both sides of a bound, split in the middle
 record HasShares (low middle high : ℕ) (left right : List (ℕ × ℕ)) : Type 0 where
   pub lower : List (ℕ × ℕ)
   pub upper : List (ℕ × ℕ)

@@ -14,7 +14,7 @@ use Rattle.bl_rearrange.specs.declared.fitted.Fitted.TheVariants.{Fits, Split}
 use Rattle.bl_rearrange.specs.Rearranged.{pairs_of, IsNow, low_of, high_of, right_of, MayHold, MayLose, IsFitted, IsWithout}
 use Rattle.bl_rearrange.proofs.EnteredLemmas.{length-entered}
 use Rattle.bl_rearrange.proofs.Parts.{entered_is, halves_are, dropped_is}
-use Rattle.bl_proc_unique.proofs.Rows.{rows_one, front_one, back_one, IsParted, parted_one}
+use Rattle.bl_proc_unique.proofs.Rows.{rows_one, front_one, back_one, IsSplit, split_rows_one}
 
 pub vec_one : {A : Type 0} (v w : ArrayVec A) → v.items ≡ w.items → v ≡ w
 vec_one v w e = ap (λ xs. record { items = xs }) e
@@ -94,7 +94,7 @@ pub begins : (separator : ℕ) (xs : List (ℕ × ℕ)) → BeginsWith separator
 begins separator [] h = absurd h
 begins separator (x ∷ xs) h = sym h
 
-parts_of : (c : Page) (key word new : ℕ) (left right : Page) (separator : ℕ) → IsFitted c key word new (Split left right separator) → IsParted (with_pair (map_of (pairs_of c)) key word) (low_of c) separator (high_of c) (pairs_of left) (pairs_of right)
+parts_of : (c : Page) (key word new : ℕ) (left right : Page) (separator : ℕ) → IsFitted c key word new (Split left right separator) → IsSplit (with_pair (map_of (pairs_of c)) key word) (low_of c) separator (high_of c) (pairs_of left) (pairs_of right)
 parts_of c key word new left right separator f = record {
   some = (let h = f.8 in omega arith);
   lower = rising left;
@@ -112,7 +112,7 @@ pub record SameSplit (left right : Page) (separator : ℕ) (left' right' : Page)
 
 pub split_one : (c : Page) (key word new : ℕ) (left right : Page) (separator : ℕ) (left' right' : Page) (separator' : ℕ) → IsFitted c key word new (Split left right separator) → IsFitted c key word new (Split left' right' separator') → SameSplit left right separator left' right' separator'
 split_one c key word new left right separator left' right' separator' a b =
-    let both = parted_one (with_pair (map_of (pairs_of c)) key word) (low_of c) separator separator' (high_of c) (pairs_of left) (pairs_of right) (pairs_of left') (pairs_of right') (parts_of c key word new left right separator a) (parts_of c key word new left' right' separator' b) in
+    let both = split_rows_one (with_pair (map_of (pairs_of c)) key word) (low_of c) separator separator' (high_of c) (pairs_of left) (pairs_of right) (pairs_of left') (pairs_of right') (parts_of c key word new left right separator a) (parts_of c key word new left' right' separator' b) in
     let front : pairs_of left ≡ pairs_of left' = front_one (pairs_of left) (pairs_of right) (pairs_of left') (pairs_of right') (a.1 ∙ sym b.1) both in
     let back : pairs_of right ≡ pairs_of right' = back_one (pairs_of left) (pairs_of right) (pairs_of left') (pairs_of right') (a.1 ∙ sym b.1) both in
     let key_one : separator ≡ separator' = begins separator (pairs_of right) a.5 ∙ (ap (λ (z : List (ℕ × ℕ)). (get_or z 0 (0, 0)).0) back ∙ sym (begins separator' (pairs_of right') b.5)) in

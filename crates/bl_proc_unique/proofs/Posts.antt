@@ -23,13 +23,13 @@ use Rattle.bl_proc_base.specs.declared.growing.Growth.{Growth}
 use Rattle.bl_proc_base.specs.declared.growing.Growth.TheVariants as growth
 use Rattle.bl_proc_base.specs.declared.growing.Grew.{Grew}
 use Rattle.bl_proc_base.specs.declared.growing.Grew.TheVariants as grew
-use Rattle.bl_proc_base.specs.declared.changing.Change.{Change}
-use Rattle.bl_proc_base.specs.declared.changing.Changed.{Changed}
-use Rattle.bl_proc_base.specs.declared.changing.Changed.TheVariants as change
+use Rattle.bl_proc_base.specs.declared.editing.Edit.{Edit}
+use Rattle.bl_proc_base.specs.declared.editing.Edited.{Edited}
+use Rattle.bl_proc_base.specs.declared.editing.Edited.TheVariants as edit
 use Rattle.bl_proc_base.specs.Given.{Gives}
 use Rattle.bl_proc_base.specs.Onwards.{Leads}
 use Rattle.bl_proc_base.specs.Approaches.{Comes}
-use Rattle.bl_proc_base.specs.Changes.{EntersPair, Changes}
+use Rattle.bl_proc_base.specs.Edits.{EntersPair, Changes}
 use Rattle.bl_proc_base.specs.Growths.{Grows}
 use Rattle.bl_proc.specs.declared.kinds.Proc.{Proc}
 use Rattle.bl_proc.specs.declared.kinds.Proc.TheVariants as proc
@@ -38,7 +38,7 @@ use Rattle.bl_proc.specs.declared.posting.Post.{Post}
 use Rattle.bl_proc.specs.Levels.{IsBelowTop, IsBelowTop-prop}
 use Rattle.bl_proc.proofs.Below.{goes_below}
 use Rattle.bl_proc.specs.declared.posting.PostStage.{PostStage}
-use Rattle.bl_proc.specs.declared.posting.PostStage.TheVariants.{New, Coming, Growing, Walking, Changing, Staying, Ending, Over}
+use Rattle.bl_proc.specs.declared.posting.PostStage.TheVariants.{New, Coming, Growing, Walking, Editing, Staying, Ending, Over}
 use Rattle.bl_proc.specs.declared.posting.PostReply.{PostReply}
 use Rattle.bl_proc.specs.declared.posting.PostReply.TheVariants as reply
 use Rattle.bl_proc.specs.Posts.{post_reply, post_next_in, post_needs_in, post_answer_in, PostLacks, PostArrives, IsLost, PostWalks, PostComes, PostGoes}
@@ -50,7 +50,7 @@ use Rattle.bl_proc_unique.specs.One.{One}
 use Rattle.bl_proc_unique.proofs.Cases.{one_after}
 use Rattle.bl_proc_unique.proofs.Onwards.{leads_some, leads_one, child_of, child_one, right_small}
 use Rattle.bl_proc_unique.proofs.Ways.{come_one}
-use Rattle.bl_proc_unique.proofs.Changes.{enter_one, change_one}
+use Rattle.bl_proc_unique.proofs.Edits.{enter_one, edit_one}
 use Rattle.bl_proc_unique.proofs.Growths.{growth_one}
 use Rattle.bl_proc_unique.proofs.KindCases.{PostCase, post_case}
 
@@ -115,31 +115,31 @@ module _ (level : ℕ) (w : Walk) (c : Page) where
   abbrev low_is : Type 0
   low_is = (node_of c).shape.low ≡ w.key
 
-  found_only : (d : Change) → Leads c w.key (level - 1) Here → low_is → ((f : Change) → EntersPair w.at (page.Inner w.parent) w.key w.child f → f ≡ d) → (other : PostStage) → PostWalks level w c other → other ≡ Changing d
+  found_only : (d : Edit) → Leads c w.key (level - 1) Here → low_is → ((f : Edit) → EntersPair w.at (page.Inner w.parent) w.key w.child f → f ≡ d) → (other : PostStage) → PostWalks level w c other → other ≡ Editing d
   found_only d h low one (Coming b) t = absurd (subst IsLost (leads_one c w.key (level - 1) t.1.0 Here t.1.1 h) t.1.2)
   found_only d h low one (Walking v) t = absurd (let e = leads_one c w.key (level - 1) Here (Right v.child) h t.3 in cc)
-  found_only d h low one (Changing n) t = ap Changing (one n t.2)
+  found_only d h low one (Editing n) t = ap Editing (one n t.2)
   found_only d h low one (Staying m reply.Stale) t = absurd (t.2 low)
   found_only d h low one old t = absurd t
 
   other_only : Leads c w.key (level - 1) Here → (low_is → ⊥) → (other : PostStage) → PostWalks level w c other → other ≡ Staying w.at reply.Stale
   other_only h differs (Coming b) t = absurd (subst IsLost (leads_one c w.key (level - 1) t.1.0 Here t.1.1 h) t.1.2)
   other_only h differs (Walking v) t = absurd (let e = leads_one c w.key (level - 1) Here (Right v.child) h t.3 in cc)
-  other_only h differs (Changing n) t = absurd (differs t.1)
+  other_only h differs (Editing n) t = absurd (differs t.1)
   other_only h differs (Staying m reply.Stale) t = λ i. Staying (t.0 i) reply.Stale
   other_only h differs old t = absurd t
 
   right_only : (v : Walk) → v.at ≡ w.at → v.key ≡ w.key → v.parent ≡ w.parent → Leads c w.key (level - 1) (Right v.child) → (other : PostStage) → PostWalks level w c other → other ≡ Walking v
   right_only v at key parent h (Coming b) t = absurd (let zero_is : v.child ≡ 0 = subst IsLost (leads_one c w.key (level - 1) t.1.0 (Right v.child) t.1.1 h) t.1.2 in let some = v.names.0 in omega arith)
   right_only v at key parent h (Walking u) t = ap Walking (walk_same u v (t.0 ∙ sym at) (t.1 ∙ sym key) (t.2 ∙ sym parent) (right_page (leads_one c w.key (level - 1) (Right u.child) (Right v.child) t.3 h)))
-  right_only v at key parent h (Changing n) t = absurd (let e = leads_one c w.key (level - 1) (Right v.child) Here h t.0 in cc)
+  right_only v at key parent h (Editing n) t = absurd (let e = leads_one c w.key (level - 1) (Right v.child) Here h t.0 in cc)
   right_only v at key parent h (Staying m reply.Stale) t = absurd (let e = leads_one c w.key (level - 1) (Right v.child) Here h t.1 in cc)
   right_only v at key parent h old t = absurd t
 
   lost_only : (o : Step) → Leads c w.key (level - 1) o → IsLost o → (other : PostStage) → PostWalks level w c other → other ≡ Coming (Leaving w.at None)
   lost_only o h lost (Coming b) t = ap Coming t.0
   lost_only o h lost (Walking u) t = absurd (let zero_is : u.child ≡ 0 = subst IsLost (leads_one c w.key (level - 1) o (Right u.child) h t.3) lost in let some = u.names.0 in omega arith)
-  lost_only o h lost (Changing n) t = absurd (subst IsLost (leads_one c w.key (level - 1) o Here h t.0) lost)
+  lost_only o h lost (Editing n) t = absurd (subst IsLost (leads_one c w.key (level - 1) o Here h t.0) lost)
   lost_only o h lost (Staying m reply.Stale) t = absurd (subst IsLost (leads_one c w.key (level - 1) o Here h t.1) lost)
   lost_only o h lost old t = absurd t
 
@@ -157,7 +157,7 @@ module _ (level : ℕ) (w : Walk) (c : Page) where
         record { new = Walking v; goes = (refl, refl, refl, h); only = right_only v refl refl refl h })
   ]
   walk_by Here h = elim (cases_eq (node_of c).shape.low w.key) [
-    | inl low ↦ (let d = enter_one w.at (page.Inner w.parent) w.key w.child w.covers w.unlisted w.names in record { new = Changing d.new; goes = (h, low, d.goes); only = found_only d.new h low d.only })
+    | inl low ↦ (let d = enter_one w.at (page.Inner w.parent) w.key w.child w.covers w.unlisted w.names in record { new = Editing d.new; goes = (h, low, d.goes); only = found_only d.new h low d.only })
     | inr differs ↦ record { new = Staying w.at reply.Stale; goes = (refl, h, differs); only = other_only h differs }
   ]
 
@@ -180,17 +180,17 @@ growth_only n is (PostCase.Grew g what h t) = ap after_growth (is (grew.On h) t)
 growth_only n is (PostCase.Grown g what a t) = ap Coming t.1 ∙ ap after_growth (is grew.Grown t.0)
 growth_only n is (PostCase.NoRoom g what r t) = ap Ending t.1 ∙ ap after_growth (is grew.Refused t.0)
 
-abbrev after_change : Changed → PostStage
-after_change (change.On e) = Changing e
-after_change (change.Over o) = Ending (post_reply o)
+abbrev after_edit : Edited → PostStage
+after_edit (edit.On e) = Editing e
+after_edit (edit.Over o) = Ending (post_reply o)
 
-change_goes : (level key : ℕ) (d : Change) (what : Seen) (n : Changed) → Changes d what n → PostGoes level key (Changing d) what (after_change n)
-change_goes level key d what (change.On e) h = h
-change_goes level key d what (change.Over o) h = (o, h, refl)
+edit_goes : (level key : ℕ) (d : Edit) (what : Seen) (n : Edited) → Changes d what n → PostGoes level key (Editing d) what (after_edit n)
+edit_goes level key d what (edit.On e) h = h
+edit_goes level key d what (edit.Over o) h = (o, h, refl)
 
-change_only : {level key : ℕ} {d : Change} {what : Seen} {b : PostStage} (n : Changed) → ((z : Changed) → Changes d what z → z ≡ n) → PostCase level key (Changing d) what b → b ≡ after_change n
-change_only n is (PostCase.Changed d what e t) = ap after_change (is (change.On e) t)
-change_only n is (PostCase.Finished d what r t) = ap Ending t.2 ∙ ap after_change (is (change.Over t.0) t.1)
+edit_only : {level key : ℕ} {d : Edit} {what : Seen} {b : PostStage} (n : Edited) → ((z : Edited) → Changes d what z → z ≡ n) → PostCase level key (Editing d) what b → b ≡ after_edit n
+edit_only n is (PostCase.Edited d what e t) = ap after_edit (is (edit.On e) t)
+edit_only n is (PostCase.Finished d what r t) = ap Ending t.2 ∙ ap after_edit (is (edit.Over t.0) t.1)
 
 module _ (level key : ℕ) where
   begun_only : {b : PostStage} → PostCase level key New seen.Done b → b ≡ Coming Start
@@ -208,7 +208,7 @@ module _ (level key : ℕ) where
       let h = one_after way (after_way level key a what way.new way.goes) in
       record { new = h.new; goes = h.goes; only = h.only }
   stage_one least (Growing n) what r g = (let h = growth_one level least n what g in record { new = after_growth h.new; goes = growth_goes level key n what h.new h.goes; only = λ b t. growth_only h.new h.only (post_case level key (Growing n) what b t) })
-  stage_one least (Changing d) what r g = (let h = change_one d what g in record { new = after_change h.new; goes = change_goes level key d what h.new h.goes; only = λ b t. change_only h.new h.only (post_case level key (Changing d) what b t) })
+  stage_one least (Editing d) what r g = (let h = edit_one d what g in record { new = after_edit h.new; goes = edit_goes level key d what h.new h.goes; only = λ b t. edit_only h.new h.only (post_case level key (Editing d) what b t) })
   stage_one least New seen.Done r g = record { new = Coming Start; goes = refl; only = λ b t. begun_only (post_case level key New seen.Done b t) }
   stage_one least (Walking w) (seen.Words c) r g = (let h = walk_one level w c in record { new = h.new; goes = h.goes; only = h.only })
   stage_one least (Staying x q) seen.Done r g = record { new = Ending q; goes = refl; only = λ b t. stays_only (post_case level key (Staying x q) seen.Done b t) }

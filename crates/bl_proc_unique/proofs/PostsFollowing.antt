@@ -14,8 +14,8 @@ use Rattle.bl_proc.specs.declared.kinds.Proc.TheVariants as proc
 use Rattle.bl_proc.specs.Posts.{post_next_in, post_needs_in, post_answer_in}
 use Rattle.bl_proc.specs.Processes.{Takes}
 use Rattle.bl_proc_unique.specs.Frames.{growth_frames, post_frames, Wants, Leaves, Follows}
-use Rattle.bl_proc_unique.proofs.Following.{approach_wants, change_wants, change_leaves, change_over, approach_leaves, not_begin_way, not_begin, came_frames_insert}
-use Rattle.bl_proc_unique.proofs.WayCases.{change_case, GrowthCase, growth_case}
+use Rattle.bl_proc_unique.proofs.Following.{approach_wants, edit_wants, edit_leaves, edit_over, approach_leaves, not_begin_way, not_begin, came_frames_insert}
+use Rattle.bl_proc_unique.proofs.WayCases.{edit_case, GrowthCase, growth_case}
 use Rattle.bl_proc_unique.proofs.KindCases.{PostCase, post_case}
 
 growth_wants : (g : Growth) → Wants (growth_next g) (growth_needs g) (growth_frames g)
@@ -36,7 +36,7 @@ post_wants p = wants p.stage
     wants (post.Coming a) = approach_wants a None
     wants (post.Growing g) = growth_wants g
     wants (post.Walking w) = refl
-    wants (post.Changing c) = change_wants c
+    wants (post.Editing c) = edit_wants c
     wants (post.Staying x r) = refl
     wants (post.Ending r) = refl
     wants (post.Over r) = refl
@@ -75,8 +75,8 @@ post_leaves {level = level} (PostCase.Grew g what h t) = growth_leaves (growth_c
 post_leaves {level = level} (PostCase.Grown g what a t) = grown_leaves (growth_case level g what _ t.0)
 post_leaves {level = level} (PostCase.NoRoom g what r t) = refused_leaves (growth_case level g what _ t.0)
 post_leaves (PostCase.Entered w c d t) = came_frames_insert w.at w.key w.child (Inner w.parent) d t.2
-post_leaves (PostCase.Changed c what d t) = change_leaves (change_case c what _ t)
-post_leaves (PostCase.Finished c what r t) = change_over (change_case c what _ t.1)
+post_leaves (PostCase.Edited c what d t) = edit_leaves (edit_case c what _ t)
+post_leaves (PostCase.Finished c what r t) = edit_over (edit_case c what _ t.1)
 post_leaves other = refl
 
 post_begun : {level key : ℕ} {a b : PostStage} {what : Seen} → PostCase level key a what b → post_next_in b ≢ act.Begin
@@ -86,7 +86,7 @@ post_begun (PostCase.Grew g what h t) = not_begin_growth h
 post_begun (PostCase.Grown g what a t) = not_begin_way a
 post_begun (PostCase.Entered w c d t) = not_begin d
 post_begun (PostCase.Lost w c a t) = not_begin_way a
-post_begun (PostCase.Changed c what d t) = not_begin d
+post_begun (PostCase.Edited c what d t) = not_begin d
 post_begun other = λ z. cc
 
 post_running : {level key : ℕ} {a b : PostStage} {what : Seen} → PostCase level key a what b → post_next_in a ≢ act.End → post_answer_in level b ≡ None

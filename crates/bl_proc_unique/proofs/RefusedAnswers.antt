@@ -62,7 +62,7 @@ insert_answers : (a : InsertStage) (b : Answer) → insert_answer_in a ≡ Some 
 insert_answers insert.New b e r = none_answer b e
 insert_answers (insert.Coming a) b e r = none_answer b e
 insert_answers (insert.Present x v) b e r = none_answer b e
-insert_answers (insert.Changing c) b e r = none_answer b e
+insert_answers (insert.Editing c) b e r = none_answer b e
 insert_answers (insert.Ending x) b e r = none_answer b e
 insert_answers (insert.Over (inserted.Inserted s)) b e r = no_room _ b e r
 insert_answers (insert.Over (inserted.Present v)) b e r = no_room _ b e r
@@ -72,7 +72,7 @@ delete_answers : (a : DeleteStage) (b : Answer) → delete_answer_in a ≡ Some 
 delete_answers delete.New b e r = none_answer b e
 delete_answers (delete.Coming a) b e r = none_answer b e
 delete_answers (delete.Absent x) b e r = none_answer b e
-delete_answers (delete.Changing v c) b e r = none_answer b e
+delete_answers (delete.Editing v c) b e r = none_answer b e
 delete_answers (delete.Ending x) b e r = none_answer b e
 delete_answers (delete.Over (deleted.Deleted v)) b e r = no_room _ b e r
 delete_answers (delete.Over deleted.Absent) b e r = no_room _ b e r
@@ -83,7 +83,7 @@ post_answers level post.New b e r = none_answer b e
 post_answers level (post.Coming a) b e r = none_answer b e
 post_answers level (post.Growing g) b e r = none_answer b e
 post_answers level (post.Walking w) b e r = none_answer b e
-post_answers level (post.Changing c) b e r = none_answer b e
+post_answers level (post.Editing c) b e r = none_answer b e
 post_answers level (post.Staying x s) b e r = none_answer b e
 post_answers level (post.Ending x) b e r = none_answer b e
 post_answers level (post.Over (listed.Done s)) b e r = no_room _ b e r

@@ -3,11 +3,11 @@ use Rattle.std.proofs.Common.{ℕ, ◌≡◌, ◌⊎◌, None, Some, refl, inl, 
 use Rattle.bl_proc_base.specs.declared.acts.Seen.{Seen}
 use Rattle.bl_proc_base.specs.declared.acts.Action.{Action}
 use Rattle.bl_proc_base.specs.declared.acts.Action.TheVariants as act
-use Rattle.bl_proc_base.specs.declared.changing.Change.{Change}
-use Rattle.bl_proc_base.specs.declared.changing.Change.TheVariants as change
+use Rattle.bl_proc_base.specs.declared.editing.Edit.{Edit}
+use Rattle.bl_proc_base.specs.declared.editing.Edit.TheVariants as edit
 use Rattle.bl_proc_base.specs.declared.growing.Growth.{Growth}
 use Rattle.bl_proc_base.specs.declared.growing.Growth.TheVariants as growth
-use Rattle.bl_proc_base.specs.Changes.{change_next, change_needs}
+use Rattle.bl_proc_base.specs.Edits.{edit_next, edit_needs}
 use Rattle.bl_proc_base.specs.Growths.{growth_next, growth_needs}
 use Rattle.bl_proc_compress.specs.declared.compressing.Compression.{Compression}
 use Rattle.bl_proc_compress.specs.declared.compressing.Compression.TheVariants.{LatchingLeft, LatchedLeft, LatchingRight, LatchedRight, PuttingFirst, PuttingParent, PuttingLast, Retiring, OpeningRight, OpeningLeft, OpeningParent}
@@ -33,35 +33,35 @@ use Rattle.bl_proc.specs.Inserts.{insert_next_in, insert_needs_in}
 use Rattle.bl_proc.specs.Deletes.{delete_next_in, delete_needs_in}
 use Rattle.bl_proc.specs.Posts.{post_next_in, post_needs_in}
 use Rattle.bl_proc.specs.Processes.{next_of, needs_of, Takes}
-use Rattle.bl_proc_unique.specs.Refusals.{ChangeRefused, GrowthRefused, InsertRefused, DeleteRefused, PostRefused, SqueezeRefused, CompressRefused, LoweringRefused, LowerRefused, IsRefused, SqueezePuts, CompressPuts, PutsRefused, MayAsk}
+use Rattle.bl_proc_unique.specs.Refusals.{EditRefused, GrowthRefused, InsertRefused, DeleteRefused, PostRefused, SqueezeRefused, CompressRefused, LoweringRefused, LowerRefused, IsRefused, SqueezePuts, CompressPuts, PutsRefused, MayAsk}
 
 -- it opens a page, or ends
 abbrev pub OpensOrEnds : Action → Type 0
 OpensOrEnds action = ((x : ℕ) × (action ≡ act.Open x)) ⊎ (action ≡ act.End)
 
-change_opens : (c : Change) → ChangeRefused c → OpensOrEnds (change_next c)
-change_opens (change.Opening x o) r = inl (x, refl)
-change_opens old r = absurd r
+edit_opens : (c : Edit) → EditRefused c → OpensOrEnds (edit_next c)
+edit_opens (edit.Opening x o) r = inl (x, refl)
+edit_opens old r = absurd r
 
 growth_opens : (g : Growth) → GrowthRefused g → OpensOrEnds (growth_next g)
 growth_opens growth.OpeningRefused r = inl (0, refl)
 growth_opens old r = absurd r
 
 insert_opens : (s : InsertStage) → InsertRefused s → OpensOrEnds (insert_next_in s)
-insert_opens (insert.Changing c) r = change_opens c r
+insert_opens (insert.Editing c) r = edit_opens c r
 insert_opens (insert.Ending a) r = inr refl
 insert_opens (insert.Over a) r = inr refl
 insert_opens old r = absurd r
 
 delete_opens : (s : DeleteStage) → DeleteRefused s → OpensOrEnds (delete_next_in s)
-delete_opens (delete.Changing v c) r = change_opens c r
+delete_opens (delete.Editing v c) r = edit_opens c r
 delete_opens (delete.Ending a) r = inr refl
 delete_opens (delete.Over a) r = inr refl
 delete_opens old r = absurd r
 
 post_opens : (s : PostStage) → PostRefused s → OpensOrEnds (post_next_in s)
 post_opens (post.Growing g) r = growth_opens g r
-post_opens (post.Changing c) r = change_opens c r
+post_opens (post.Editing c) r = edit_opens c r
 post_opens (post.Staying x a) r = inl (x, refl)
 post_opens (post.Ending a) r = inr refl
 post_opens (post.Over a) r = inr refl
@@ -110,13 +110,13 @@ some_ask a b e = (let f : b ≡ a = cc in f)
 none_asks : {X : Type 0} (b : ℕ × ℕ) → None ≡ Some b → X
 none_asks b e = absurd (let f : None ≡ Some b = e in cc)
 
-change_asks : (c : Change) (b : ℕ × ℕ) → change_needs c ≡ Some b → (b ≡ (0, 1)) ⊎ (b ≡ (1, 2))
-change_asks (change.Putting x page) b e = inl (some_ask _ b e)
-change_asks (change.Taking full) b e = inr (some_ask _ b e)
-change_asks (change.PuttingNew p) b e = none_asks b e
-change_asks (change.PuttingOld p) b e = none_asks b e
-change_asks (change.OpeningNew x new separator) b e = none_asks b e
-change_asks (change.Opening x o) b e = none_asks b e
+edit_asks : (c : Edit) (b : ℕ × ℕ) → edit_needs c ≡ Some b → (b ≡ (0, 1)) ⊎ (b ≡ (1, 2))
+edit_asks (edit.Putting x page) b e = inl (some_ask _ b e)
+edit_asks (edit.Taking full) b e = inr (some_ask _ b e)
+edit_asks (edit.PuttingNew p) b e = none_asks b e
+edit_asks (edit.PuttingOld p) b e = none_asks b e
+edit_asks (edit.OpeningNew x new separator) b e = none_asks b e
+edit_asks (edit.Opening x o) b e = none_asks b e
 
 growth_asks : (g : Growth) (b : ℕ × ℕ) → growth_needs g ≡ Some b → (b ≡ (0, 1)) ⊎ (b ≡ (1, 2))
 growth_asks growth.Latching b e = none_asks b e
@@ -132,7 +132,7 @@ insert_asks : (s : InsertStage) (b : ℕ × ℕ) → insert_needs_in s ≡ Some 
 insert_asks insert.New b e = none_asks b e
 insert_asks (insert.Coming a) b e = none_asks b e
 insert_asks (insert.Present x v) b e = none_asks b e
-insert_asks (insert.Changing c) b e = change_asks c b e
+insert_asks (insert.Editing c) b e = edit_asks c b e
 insert_asks (insert.Ending a) b e = none_asks b e
 insert_asks (insert.Over a) b e = none_asks b e
 
@@ -140,7 +140,7 @@ delete_asks : (s : DeleteStage) (b : ℕ × ℕ) → delete_needs_in s ≡ Some 
 delete_asks delete.New b e = none_asks b e
 delete_asks (delete.Coming a) b e = none_asks b e
 delete_asks (delete.Absent x) b e = none_asks b e
-delete_asks (delete.Changing v c) b e = change_asks c b e
+delete_asks (delete.Editing v c) b e = edit_asks c b e
 delete_asks (delete.Ending a) b e = none_asks b e
 delete_asks (delete.Over a) b e = none_asks b e
 
@@ -149,7 +149,7 @@ post_asks post.New b e = none_asks b e
 post_asks (post.Coming a) b e = none_asks b e
 post_asks (post.Growing g) b e = growth_asks g b e
 post_asks (post.Walking w) b e = none_asks b e
-post_asks (post.Changing c) b e = change_asks c b e
+post_asks (post.Editing c) b e = edit_asks c b e
 post_asks (post.Staying x a) b e = none_asks b e
 post_asks (post.Ending a) b e = none_asks b e
 post_asks (post.Over a) b e = none_asks b e

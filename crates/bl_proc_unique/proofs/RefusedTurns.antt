@@ -3,8 +3,8 @@ use Rattle.std.proofs.Common.{ℕ, ◌≡◌, ◌⊎◌, refl, subst, inl, inr}
 use Rattle.bl_page.specs.declared.page.Page.TheVariants.{Inner}
 use Rattle.bl_proc_base.specs.declared.acts.Seen.{Seen}
 use Rattle.bl_proc_base.specs.declared.acts.Seen.TheVariants as seen
-use Rattle.bl_proc_base.specs.declared.changing.Outcome.{Outcome}
-use Rattle.bl_proc_base.specs.declared.changing.Outcome.TheVariants as outcome
+use Rattle.bl_proc_base.specs.declared.editing.Outcome.{Outcome}
+use Rattle.bl_proc_base.specs.declared.editing.Outcome.TheVariants as outcome
 use Rattle.bl_proc.specs.declared.inserting.InsertStage.{InsertStage}
 use Rattle.bl_proc.specs.declared.deleting.Removed.{Removed}
 use Rattle.bl_proc.specs.declared.deleting.DeleteStage.{DeleteStage}
@@ -22,39 +22,39 @@ use Rattle.bl_proc.specs.Posts.{post_reply}
 use Rattle.bl_proc_unique.specs.Refusals.{OutcomeRefused, InsertNoRoom, InsertRefused, DeleteNoRoom, DeleteRefused, PostNoRoom, PostRefused, LowerNoRoom, LoweringRefused, LowerRefused, IsRefused, PutsRefused}
 use Rattle.bl_proc_unique.proofs.RefusedCompressions.{compress_refused, compress_puts}
 use Rattle.bl_proc_unique.proofs.Refusals.{changes_refused, changes_over, grows_refused, grows_over, enters_not, drops_not}
-use Rattle.bl_proc_unique.proofs.WayCases.{change_case, growth_case}
+use Rattle.bl_proc_unique.proofs.WayCases.{edit_case, growth_case}
 use Rattle.bl_proc_unique.proofs.KindCases.{InsertCase, insert_case, DeleteCase, delete_case, PostCase, post_case, compress_case, LowerCase, lower_case}
 use Rattle.bl_proc_unique.proofs.Lowerings.{LoweringCase, lowering_case}
 
 insert_outcome : (o : Outcome) → InsertNoRoom (insert_reply o) → OutcomeRefused o
-insert_outcome outcome.Changed r = r
-insert_outcome (outcome.Parted k) r = r
+insert_outcome outcome.Edited r = r
+insert_outcome (outcome.SplitAt k) r = r
 insert_outcome outcome.Refused r = tt
 
 insert_refused : {key value : ℕ} {a b : InsertStage} {what : Seen} → InsertCase key value a what b → InsertRefused b → InsertRefused a ⊎ (what ≡ seen.Refused)
 insert_refused (InsertCase.Entered x c d l t) r = inl (enters_not x c _ _ d t.1 r)
 insert_refused (InsertCase.Opened x there q t) r = inl (subst InsertNoRoom t r)
-insert_refused (InsertCase.Changed c what d t) r = changes_refused (change_case c what _ t) r
-insert_refused (InsertCase.Finished c what q t) r = inl (changes_over (change_case c what _ t.1) (insert_outcome t.0 (subst InsertNoRoom t.2 r)))
+insert_refused (InsertCase.Edited c what d t) r = changes_refused (edit_case c what _ t) r
+insert_refused (InsertCase.Finished c what q t) r = inl (changes_over (edit_case c what _ t.1) (insert_outcome t.0 (subst InsertNoRoom t.2 r)))
 insert_refused (InsertCase.Ended q last t) r = inl (subst InsertNoRoom t r)
 insert_refused other r = inl r
 
 delete_outcome : (v : Removed) (o : Outcome) → DeleteNoRoom (delete_reply v o) → OutcomeRefused o
-delete_outcome v outcome.Changed r = r
-delete_outcome v (outcome.Parted k) r = r
+delete_outcome v outcome.Edited r = r
+delete_outcome v (outcome.SplitAt k) r = r
 delete_outcome v outcome.Refused r = tt
 
 delete_refused : {key : ℕ} {a b : DeleteStage} {what : Seen} → DeleteCase key a what b → DeleteRefused b → DeleteRefused a ⊎ (what ≡ seen.Refused)
 delete_refused (DeleteCase.Dropped x c v d l t) r = inl (drops_not x c _ d t.1 r)
 delete_refused (DeleteCase.Opened x q t) r = inl (subst DeleteNoRoom t r)
-delete_refused (DeleteCase.Changed v c what u d t) r = changes_refused (change_case c what _ t.1) r
-delete_refused (DeleteCase.Finished v c what q t) r = inl (changes_over (change_case c what _ t.1) (delete_outcome v t.0 (subst DeleteNoRoom t.2 r)))
+delete_refused (DeleteCase.Edited v c what u d t) r = changes_refused (edit_case c what _ t.1) r
+delete_refused (DeleteCase.Finished v c what q t) r = inl (changes_over (edit_case c what _ t.1) (delete_outcome v t.0 (subst DeleteNoRoom t.2 r)))
 delete_refused (DeleteCase.Ended q last t) r = inl (subst DeleteNoRoom t r)
 delete_refused other r = inl r
 
 post_outcome : (o : Outcome) → PostNoRoom (post_reply o) → OutcomeRefused o
-post_outcome outcome.Changed r = r
-post_outcome (outcome.Parted k) r = r
+post_outcome outcome.Edited r = r
+post_outcome (outcome.SplitAt k) r = r
 post_outcome outcome.Refused r = tt
 
 post_refused : {level key : ℕ} {a b : PostStage} {what : Seen} → PostCase level key a what b → PostRefused b → PostRefused a ⊎ (what ≡ seen.Refused)
@@ -62,8 +62,8 @@ post_refused {level = level} (PostCase.Grew g what h t) r = grows_refused (growt
 post_refused (PostCase.Grown g what a t) r = absurd r
 post_refused {level = level} (PostCase.NoRoom g what q t) r = inl (grows_over (growth_case level g what _ t.0))
 post_refused (PostCase.Entered w c d t) r = inl (enters_not w.at (Inner w.parent) w.key w.child d t.2 r)
-post_refused (PostCase.Changed c what d t) r = changes_refused (change_case c what _ t) r
-post_refused (PostCase.Finished c what q t) r = inl (changes_over (change_case c what _ t.1) (post_outcome t.0 (subst PostNoRoom t.2 r)))
+post_refused (PostCase.Edited c what d t) r = changes_refused (edit_case c what _ t) r
+post_refused (PostCase.Finished c what q t) r = inl (changes_over (edit_case c what _ t.1) (post_outcome t.0 (subst PostNoRoom t.2 r)))
 post_refused (PostCase.Opened x q last t) r = inl (subst PostNoRoom t r)
 post_refused (PostCase.Ended q last t) r = inl (subst PostNoRoom t r)
 post_refused other r = inl r

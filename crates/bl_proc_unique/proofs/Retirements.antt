@@ -6,12 +6,12 @@ use Rattle.bl_proc_base.specs.declared.acts.Seen.{Seen}
 use Rattle.bl_proc_base.specs.declared.acts.Seen.TheVariants as seen
 use Rattle.bl_proc_base.specs.declared.approaching.Approach.{Approach}
 use Rattle.bl_proc_base.specs.declared.approaching.Approach.TheVariants as way
-use Rattle.bl_proc_base.specs.declared.changing.Change.{Change}
-use Rattle.bl_proc_base.specs.declared.changing.Change.TheVariants as change
+use Rattle.bl_proc_base.specs.declared.editing.Edit.{Edit}
+use Rattle.bl_proc_base.specs.declared.editing.Edit.TheVariants as edit
 use Rattle.bl_proc_base.specs.declared.growing.Growth.{Growth}
 use Rattle.bl_proc_base.specs.declared.growing.Growth.TheVariants as growth
 use Rattle.bl_proc_base.specs.Approaches.{approach_next}
-use Rattle.bl_proc_base.specs.Changes.{change_next}
+use Rattle.bl_proc_base.specs.Edits.{edit_next}
 use Rattle.bl_proc_base.specs.Growths.{growth_next}
 use Rattle.bl_rearrange.specs.declared.sides.Side.{Side}
 use Rattle.bl_rearrange.specs.declared.sides.Side.TheVariants as side
@@ -21,9 +21,9 @@ use Rattle.bl_proc.specs.declared.searching.FindStage.TheVariants as find
 use Rattle.bl_proc.specs.declared.posting.Post.{Post}
 use Rattle.bl_proc.specs.declared.posting.PostStage.{PostStage}
 use Rattle.bl_proc.specs.declared.posting.PostStage.TheVariants as post
-use Rattle.bl_proc_compress.specs.declared.compressing.Trio.{Trio}
+use Rattle.bl_proc_compress.specs.declared.compressing.Siblings.{Siblings}
 use Rattle.bl_proc_compress.specs.declared.compressing.Puts.{Puts}
-use Rattle.bl_proc_compress.specs.declared.compressing.Fate.{Fate}
+use Rattle.bl_proc_compress.specs.declared.compressing.Decision.{Decision}
 use Rattle.bl_proc_compress.specs.declared.compressing.Compression.{Compression}
 use Rattle.bl_proc_compress.specs.declared.compressing.Compression.TheVariants.{LatchingLeft, LatchedLeft, LatchingRight, LatchedRight, PuttingFirst, PuttingParent, PuttingLast, Retiring, OpeningRight, OpeningLeft, OpeningParent}
 use Rattle.bl_proc_compress.specs.declared.compressing.Compressed.TheVariants.{On}
@@ -47,13 +47,13 @@ module _ (old : Action) (what : Seen) where
   approach_none (way.Latched x) = tt
   approach_none (way.Leaving x to) = tt
 
-  change_none : (c : Change) → RetiresAfter old what (change_next c)
-  change_none (change.Putting x page) = tt
-  change_none (change.Taking full) = tt
-  change_none (change.PuttingNew p) = tt
-  change_none (change.PuttingOld p) = tt
-  change_none (change.OpeningNew x new separator) = tt
-  change_none (change.Opening x o) = tt
+  edit_none : (c : Edit) → RetiresAfter old what (edit_next c)
+  edit_none (edit.Putting x page) = tt
+  edit_none (edit.Taking full) = tt
+  edit_none (edit.PuttingNew p) = tt
+  edit_none (edit.PuttingOld p) = tt
+  edit_none (edit.OpeningNew x new separator) = tt
+  edit_none (edit.Opening x o) = tt
 
   growth_none : (g : Growth) → RetiresAfter old what (growth_next g)
   growth_none growth.Latching = tt
@@ -76,7 +76,7 @@ module _ (old : Action) (what : Seen) where
   post_none (post.Coming w) = approach_none w
   post_none (post.Growing g) = growth_none g
   post_none (post.Walking w) = tt
-  post_none (post.Changing c) = change_none c
+  post_none (post.Editing c) = edit_none c
   post_none (post.Staying x r) = tt
   post_none (post.Ending r) = tt
   post_none (post.Over r) = tt
@@ -90,7 +90,7 @@ put_done side.Left p = tt
 put_done side.Right p = tt
 
 -- a compression that goes on to the retirement
-to_retiring : {c : Compression} {what : Seen} {d : Compression} {at : Trio} {fate : Fate} → SqueezeCase c what (On d) → d ≡ Retiring at fate → IsPutDone (compression_next c) what
+to_retiring : {c : Compression} {what : Seen} {d : Compression} {at : Siblings} {decision : Decision} → SqueezeCase c what (On d) → d ≡ Retiring at decision → IsPutDone (compression_next c) what
 to_retiring (SqueezeCase.PutLast p d t) e = put_done (other p.gains) p
 to_retiring (SqueezeCase.GotLeft f c d t) e = absurd (subst (Links f c) e t)
 to_retiring (SqueezeCase.GotRight f c g d t) e = absurd (subst (Decides f c g) e t)
@@ -106,7 +106,7 @@ to_retiring (SqueezeCase.OpenedRight u f d t) e = cc
 to_retiring (SqueezeCase.OpenedLeft u f d t) e = cc
 
 -- and a process that may come to it from there alone
-after_unless : (old : Action) (what : Seen) (d : Compression) → ((at : Trio) (fate : Fate) → d ≡ Retiring at fate → IsPutDone old what) → RetiresAfter old what (compression_next d)
+after_unless : (old : Action) (what : Seen) (d : Compression) → ((at : Siblings) (decision : Decision) → d ≡ Retiring at decision → IsPutDone old what) → RetiresAfter old what (compression_next d)
 after_unless old what (LatchingLeft f) done = tt
 after_unless old what (LatchedLeft f) done = tt
 after_unless old what (LatchingRight f page) done = tt
@@ -114,15 +114,15 @@ after_unless old what (LatchedRight f page) done = tt
 after_unless old what (PuttingFirst p) done = put_none old what p.gains p
 after_unless old what (PuttingParent p) done = tt
 after_unless old what (PuttingLast p) done = put_none old what (other p.gains) p
-after_unless old what (Retiring at fate) done = done at fate refl
-after_unless old what (OpeningRight at fate) done = tt
-after_unless old what (OpeningLeft at fate) done = tt
-after_unless old what (OpeningParent x fate) done = tt
+after_unless old what (Retiring at decision) done = done at decision refl
+after_unless old what (OpeningRight at decision) done = tt
+after_unless old what (OpeningLeft at decision) done = tt
+after_unless old what (OpeningParent x decision) done = tt
 
 stage_after : {level key : ℕ} {a b : CompressStage} {what : Seen} → CompressCase level key a what b → RetiresAfter (compress_next_in a) what (compress_next_in b)
 stage_after (CompressCase.Began w t) = approach_none act.Begin seen.Done w
 stage_after (CompressCase.Came a what b t) = approach_none (approach_next a) what b
-stage_after (CompressCase.Squeezed c what d t) = after_unless (compression_next c) what d (λ at fate e. to_retiring (squeeze_case c what _ t) e)
+stage_after (CompressCase.Squeezed c what d t) = after_unless (compression_next c) what d (λ at decision e. to_retiring (squeeze_case c what _ t) e)
 stage_after (CompressCase.Lost c what a t) = approach_none (compression_next c) what a
 stage_after other = tt
 

@@ -80,7 +80,7 @@ rises_within least low high [] r w = tt
 rises_within least low high (y ∷ ys) r w = (w.0.0, r.1)
 
 -- the two parts of what lists m, cut at a key
-pub record IsParted (m : ℕ → Option ℕ) (low middle high : ℕ) (xs ys : List (ℕ × ℕ)) : Type 0 where
+pub record IsSplit (m : ℕ → Option ℕ) (low middle high : ℕ) (xs ys : List (ℕ × ℕ)) : Type 0 where
   pub some : 0 < middle
   pub lower : RisesFrom 0 xs
   pub lower_in : AllWithin low middle xs
@@ -89,7 +89,7 @@ pub record IsParted (m : ℕ → Option ℕ) (low middle high : ℕ) (xs ys : Li
   pub below : (j : ℕ) → j < middle → map_of xs j ≡ m j
   pub above : (j : ℕ) → middle ≤ j → map_of ys j ≡ m j
 
-whole : (m : ℕ → Option ℕ) (low middle high : ℕ) (xs ys : List (ℕ × ℕ)) → IsParted m low middle high xs ys → RisesFrom 0 (xs ++ ys) × ((j : ℕ) → map_of (xs ++ ys) j ≡ m j)
+whole : (m : ℕ → Option ℕ) (low middle high : ℕ) (xs ys : List (ℕ × ℕ)) → IsSplit m low middle high xs ys → RisesFrom 0 (xs ++ ys) × ((j : ℕ) → map_of (xs ++ ys) j ≡ m j)
 whole m low middle high xs ys p = (
     let up = rises_within 0 middle high ys p.upper p.upper_in in (
       rises_both 0 low middle xs ys p.some p.lower p.lower_in (omega arith) up,
@@ -99,5 +99,5 @@ whole m low middle high xs ys p = (
       ],
     ))
 
-pub parted_one : (m : ℕ → Option ℕ) (low b c high : ℕ) (xs ys us vs : List (ℕ × ℕ)) → IsParted m low b high xs ys → IsParted m low c high us vs → xs ++ ys ≡ us ++ vs
-parted_one m low b c high xs ys us vs p q = (let a = whole m low b high xs ys p in let d = whole m low c high us vs q in rows_one 0 (xs ++ ys) (us ++ vs) a.0 d.0 (λ j. a.1 j ∙ sym (d.1 j)))
+pub split_rows_one : (m : ℕ → Option ℕ) (low b c high : ℕ) (xs ys us vs : List (ℕ × ℕ)) → IsSplit m low b high xs ys → IsSplit m low c high us vs → xs ++ ys ≡ us ++ vs
+split_rows_one m low b c high xs ys us vs p q = (let a = whole m low b high xs ys p in let d = whole m low c high us vs q in rows_one 0 (xs ++ ys) (us ++ vs) a.0 d.0 (λ j. a.1 j ∙ sym (d.1 j)))

@@ -15,25 +15,25 @@ use Rattle.bl_proc_base.specs.declared.approaching.Approach.{Approach}
 use Rattle.bl_proc_base.specs.declared.approaching.Approach.TheVariants as way
 use Rattle.bl_proc_base.specs.declared.approaching.Approached.{Approached}
 use Rattle.bl_proc_base.specs.declared.approaching.Approached.TheVariants as came
-use Rattle.bl_proc_base.specs.declared.changing.Full.{Full}
-use Rattle.bl_proc_base.specs.declared.changing.Parting.{Parting}
-use Rattle.bl_proc_base.specs.declared.changing.Outcome.{Outcome}
-use Rattle.bl_proc_base.specs.declared.changing.Outcome.TheVariants as outcome
-use Rattle.bl_proc_base.specs.declared.changing.Change.{Change}
-use Rattle.bl_proc_base.specs.declared.changing.Change.TheVariants as change
-use Rattle.bl_proc_base.specs.declared.changing.Changed.{Changed}
-use Rattle.bl_proc_base.specs.declared.changing.Changed.TheVariants as changed
+use Rattle.bl_proc_base.specs.declared.editing.Full.{Full}
+use Rattle.bl_proc_base.specs.declared.editing.Splitting.{Splitting}
+use Rattle.bl_proc_base.specs.declared.editing.Outcome.{Outcome}
+use Rattle.bl_proc_base.specs.declared.editing.Outcome.TheVariants as outcome
+use Rattle.bl_proc_base.specs.declared.editing.Edit.{Edit}
+use Rattle.bl_proc_base.specs.declared.editing.Edit.TheVariants as edit
+use Rattle.bl_proc_base.specs.declared.editing.Edited.{Edited}
+use Rattle.bl_proc_base.specs.declared.editing.Edited.TheVariants as changed
 use Rattle.bl_proc_base.specs.declared.growing.Rise.{Rise}
 use Rattle.bl_proc_base.specs.declared.growing.Raising.{Raising}
 use Rattle.bl_proc_base.specs.declared.growing.Growth.{Growth}
 use Rattle.bl_proc_base.specs.declared.growing.Growth.TheVariants as growth
 use Rattle.bl_proc_base.specs.declared.growing.Grew.{Grew}
 use Rattle.bl_proc_base.specs.declared.growing.Grew.TheVariants as grew
-use Rattle.bl_proc_compress.specs.declared.compressing.Trio.{Trio}
+use Rattle.bl_proc_compress.specs.declared.compressing.Siblings.{Siblings}
 use Rattle.bl_proc_compress.specs.declared.compressing.Family.{Family}
 use Rattle.bl_proc_compress.specs.declared.compressing.Puts.{Puts}
-use Rattle.bl_proc_compress.specs.declared.compressing.Fate.{Fate}
-use Rattle.bl_proc_compress.specs.declared.compressing.Fate.TheVariants.{Refused}
+use Rattle.bl_proc_compress.specs.declared.compressing.Decision.{Decision}
+use Rattle.bl_proc_compress.specs.declared.compressing.Decision.TheVariants.{Refused}
 use Rattle.bl_proc_compress.specs.declared.compressing.Compression.{Compression}
 use Rattle.bl_proc_compress.specs.declared.compressing.Compression.TheVariants.{LatchingLeft, LatchedLeft, LatchingRight, LatchedRight, PuttingFirst, PuttingParent, PuttingLast, Retiring, OpeningRight, OpeningLeft, OpeningParent}
 use Rattle.bl_proc_compress.specs.declared.compressing.Compressed.{Compressed}
@@ -41,7 +41,7 @@ use Rattle.bl_proc_compress.specs.declared.compressing.Compressed.TheVariants as
 use Rattle.bl_proc_compress.specs.Compressions.{Links, Decides, after_puts, Compresses}
 use Rattle.bl_proc_base.specs.Onwards.{Leads}
 use Rattle.bl_proc_base.specs.Approaches.{Enters, Turns, Quits, Approaches}
-use Rattle.bl_proc_base.specs.Changes.{Changes}
+use Rattle.bl_proc_base.specs.Edits.{Changes}
 use Rattle.bl_proc_base.specs.Growths.{Raises, Grows}
 
 -- A writer on its way to the page that covers its key, and there.
@@ -67,26 +67,26 @@ approach_case level key (way.Leaving x None) seen.Done (came.On b) t = OpenedLos
 approach_case level key a what new t = absurd t
 
 -- The change of one pair of a page that is held.
-pub data ChangeCase : Change → Seen → Changed → Type 0 where
-  Put : (x : ℕ) (page : Page) (new : Change) → new ≡ change.Opening x outcome.Changed → ChangeCase (change.Putting x page) seen.Done (changed.On new)
-  PutRefused : (x : ℕ) (page : Page) (new : Change) → new ≡ change.Opening x outcome.Refused → ChangeCase (change.Putting x page) seen.Refused (changed.On new)
-  Took : (full : Full) (y : ℕ) (p : Parting) → (p.at ≡ full.at) × (p.new ≡ y) × IsFitted full.page full.key full.word y (Split p.left p.right p.separator) → ChangeCase (change.Taking full) (seen.Took y) (changed.On (change.PuttingNew p))
-  TakeRefused : (full : Full) (new : Change) → new ≡ change.Opening full.at outcome.Refused → ChangeCase (change.Taking full) seen.Refused (changed.On new)
-  PutNew : (p : Parting) (new : Change) → new ≡ change.PuttingOld p → ChangeCase (change.PuttingNew p) seen.Done (changed.On new)
-  PutOld : (p : Parting) (new : Change) → new ≡ change.OpeningNew p.at p.new p.separator → ChangeCase (change.PuttingOld p) seen.Done (changed.On new)
-  OpenedNew : (x y separator : ℕ) (new : Change) → new ≡ change.Opening x (outcome.Parted separator) → ChangeCase (change.OpeningNew x y separator) seen.Done (changed.On new)
-  Opened : (x : ℕ) (o last : Outcome) → last ≡ o → ChangeCase (change.Opening x o) seen.Done (changed.Over last)
+pub data EditCase : Edit → Seen → Edited → Type 0 where
+  Put : (x : ℕ) (page : Page) (new : Edit) → new ≡ edit.Opening x outcome.Edited → EditCase (edit.Putting x page) seen.Done (changed.On new)
+  PutRefused : (x : ℕ) (page : Page) (new : Edit) → new ≡ edit.Opening x outcome.Refused → EditCase (edit.Putting x page) seen.Refused (changed.On new)
+  Took : (full : Full) (y : ℕ) (p : Splitting) → (p.at ≡ full.at) × (p.new ≡ y) × IsFitted full.page full.key full.word y (Split p.left p.right p.separator) → EditCase (edit.Taking full) (seen.Took y) (changed.On (edit.PuttingNew p))
+  TakeRefused : (full : Full) (new : Edit) → new ≡ edit.Opening full.at outcome.Refused → EditCase (edit.Taking full) seen.Refused (changed.On new)
+  PutNew : (p : Splitting) (new : Edit) → new ≡ edit.PuttingOld p → EditCase (edit.PuttingNew p) seen.Done (changed.On new)
+  PutOld : (p : Splitting) (new : Edit) → new ≡ edit.OpeningNew p.at p.new p.separator → EditCase (edit.PuttingOld p) seen.Done (changed.On new)
+  OpenedNew : (x y separator : ℕ) (new : Edit) → new ≡ edit.Opening x (outcome.SplitAt separator) → EditCase (edit.OpeningNew x y separator) seen.Done (changed.On new)
+  Opened : (x : ℕ) (o last : Outcome) → last ≡ o → EditCase (edit.Opening x o) seen.Done (changed.Over last)
 
-pub change_case : (c : Change) (what : Seen) (new : Changed) → Changes c what new → ChangeCase c what new
-change_case (change.Putting x page) seen.Done (changed.On new) t = Put x page new t
-change_case (change.Putting x page) seen.Refused (changed.On new) t = PutRefused x page new t
-change_case (change.Taking full) (seen.Took y) (changed.On (change.PuttingNew p)) t = Took full y p t
-change_case (change.Taking full) seen.Refused (changed.On new) t = TakeRefused full new t
-change_case (change.PuttingNew p) seen.Done (changed.On new) t = PutNew p new t
-change_case (change.PuttingOld p) seen.Done (changed.On new) t = PutOld p new t
-change_case (change.OpeningNew x y separator) seen.Done (changed.On new) t = OpenedNew x y separator new t
-change_case (change.Opening x o) seen.Done (changed.Over last) t = Opened x o last t
-change_case c what new t = absurd t
+pub edit_case : (c : Edit) (what : Seen) (new : Edited) → Changes c what new → EditCase c what new
+edit_case (edit.Putting x page) seen.Done (changed.On new) t = Put x page new t
+edit_case (edit.Putting x page) seen.Refused (changed.On new) t = PutRefused x page new t
+edit_case (edit.Taking full) (seen.Took y) (changed.On (edit.PuttingNew p)) t = Took full y p t
+edit_case (edit.Taking full) seen.Refused (changed.On new) t = TakeRefused full new t
+edit_case (edit.PuttingNew p) seen.Done (changed.On new) t = PutNew p new t
+edit_case (edit.PuttingOld p) seen.Done (changed.On new) t = PutOld p new t
+edit_case (edit.OpeningNew x y separator) seen.Done (changed.On new) t = OpenedNew x y separator new t
+edit_case (edit.Opening x o) seen.Done (changed.Over last) t = Opened x o last t
+edit_case c what new t = absurd t
 
 -- A new top level.
 pub data GrowthCase (level : ℕ) : Growth → Seen → Grew → Type 0 where
@@ -127,11 +127,11 @@ pub data SqueezeCase : Compression → Seen → Compressed → Type 0 where
   PutFirst : (p : Puts) (new : Compression) → new ≡ PuttingParent p → SqueezeCase (PuttingFirst p) seen.Done (step.On new)
   FirstRefused : (p : Puts) (new : Compression) → new ≡ OpeningRight p.at Refused → SqueezeCase (PuttingFirst p) seen.Refused (step.On new)
   PutParent : (p : Puts) (new : Compression) → new ≡ PuttingLast p → SqueezeCase (PuttingParent p) seen.Done (step.On new)
-  PutLast : (p : Puts) (new : Compression) → new ≡ after_puts p.at p.fate → SqueezeCase (PuttingLast p) seen.Done (step.On new)
-  Retired : (at : Trio) (fate : Fate) (new : Compression) → new ≡ OpeningLeft at fate → SqueezeCase (Retiring at fate) seen.Done (step.On new)
-  OpenedRight : (at : Trio) (fate : Fate) (new : Compression) → new ≡ OpeningLeft at fate → SqueezeCase (OpeningRight at fate) seen.Done (step.On new)
-  OpenedLeft : (at : Trio) (fate : Fate) (new : Compression) → new ≡ OpeningParent at.parent fate → SqueezeCase (OpeningLeft at fate) seen.Done (step.On new)
-  OpenedParent : (x : ℕ) (fate last : Fate) → last ≡ fate → SqueezeCase (OpeningParent x fate) seen.Done (step.Over last)
+  PutLast : (p : Puts) (new : Compression) → new ≡ after_puts p.at p.decision → SqueezeCase (PuttingLast p) seen.Done (step.On new)
+  Retired : (at : Siblings) (decision : Decision) (new : Compression) → new ≡ OpeningLeft at decision → SqueezeCase (Retiring at decision) seen.Done (step.On new)
+  OpenedRight : (at : Siblings) (decision : Decision) (new : Compression) → new ≡ OpeningLeft at decision → SqueezeCase (OpeningRight at decision) seen.Done (step.On new)
+  OpenedLeft : (at : Siblings) (decision : Decision) (new : Compression) → new ≡ OpeningParent at.parent decision → SqueezeCase (OpeningLeft at decision) seen.Done (step.On new)
+  OpenedParent : (x : ℕ) (decision last : Decision) → last ≡ decision → SqueezeCase (OpeningParent x decision) seen.Done (step.Over last)
 
 pub squeeze_case : (c : Compression) (what : Seen) (new : Compressed) → Compresses c what new → SqueezeCase c what new
 squeeze_case (LatchingLeft f) seen.Done (step.On new) t = LatchLeft f new t
@@ -144,8 +144,8 @@ squeeze_case (PuttingFirst p) seen.Done (step.On new) t = PutFirst p new t
 squeeze_case (PuttingFirst p) seen.Refused (step.On new) t = FirstRefused p new t
 squeeze_case (PuttingParent p) seen.Done (step.On new) t = PutParent p new t
 squeeze_case (PuttingLast p) seen.Done (step.On new) t = PutLast p new t
-squeeze_case (Retiring at fate) seen.Done (step.On new) t = Retired at fate new t
-squeeze_case (OpeningRight at fate) seen.Done (step.On new) t = OpenedRight at fate new t
-squeeze_case (OpeningLeft at fate) seen.Done (step.On new) t = OpenedLeft at fate new t
-squeeze_case (OpeningParent x fate) seen.Done (step.Over last) t = OpenedParent x fate last t
+squeeze_case (Retiring at decision) seen.Done (step.On new) t = Retired at decision new t
+squeeze_case (OpeningRight at decision) seen.Done (step.On new) t = OpenedRight at decision new t
+squeeze_case (OpeningLeft at decision) seen.Done (step.On new) t = OpenedLeft at decision new t
+squeeze_case (OpeningParent x decision) seen.Done (step.Over last) t = OpenedParent x decision last t
 squeeze_case c what new t = absurd t

@@ -6,8 +6,8 @@ use Rattle.bl_proc_base.specs.declared.acts.Action.{Action}
 use Rattle.bl_proc_base.specs.declared.acts.Action.TheVariants as act
 use Rattle.bl_proc_base.specs.declared.acts.Seen.{Seen}
 use Rattle.bl_proc_base.specs.declared.acts.Seen.TheVariants as seen
-use Rattle.bl_proc_base.specs.declared.changing.Change.{Change}
-use Rattle.bl_proc_base.specs.declared.changing.Change.TheVariants as change
+use Rattle.bl_proc_base.specs.declared.editing.Edit.{Edit}
+use Rattle.bl_proc_base.specs.declared.editing.Edit.TheVariants as edit
 use Rattle.bl_proc_base.specs.declared.growing.Growth.{Growth}
 use Rattle.bl_proc_base.specs.declared.growing.Growth.TheVariants as growth
 use Rattle.bl_proc_base.specs.declared.lowering.Lowering.{Lowering}
@@ -30,13 +30,13 @@ use Rattle.bl_proc.specs.Processes.{next_of, needs_of, answer_of}
 
 -- How many frames a process has reserved and not yet put.
 
-abbrev pub change_frames : Change → ℕ
-change_frames (change.Putting x page) = 0
-change_frames (change.Taking full) = 0
-change_frames (change.PuttingNew p) = 2
-change_frames (change.PuttingOld p) = 1
-change_frames (change.OpeningNew x new separator) = 0
-change_frames (change.Opening x what) = 0
+abbrev pub edit_frames : Edit → ℕ
+edit_frames (edit.Putting x page) = 0
+edit_frames (edit.Taking full) = 0
+edit_frames (edit.PuttingNew p) = 2
+edit_frames (edit.PuttingOld p) = 1
+edit_frames (edit.OpeningNew x new separator) = 0
+edit_frames (edit.Opening x what) = 0
 
 abbrev pub growth_frames : Growth → ℕ
 growth_frames growth.Latching = 0
@@ -52,7 +52,7 @@ abbrev pub insert_frames : InsertStage → ℕ
 insert_frames insert.New = 0
 insert_frames (insert.Coming a) = 0
 insert_frames (insert.Present x there) = 0
-insert_frames (insert.Changing c) = change_frames c
+insert_frames (insert.Editing c) = edit_frames c
 insert_frames (insert.Ending r) = 0
 insert_frames (insert.Over r) = 0
 
@@ -60,7 +60,7 @@ abbrev pub delete_frames : DeleteStage → ℕ
 delete_frames delete.New = 0
 delete_frames (delete.Coming a) = 0
 delete_frames (delete.Absent x) = 0
-delete_frames (delete.Changing value c) = change_frames c
+delete_frames (delete.Editing value c) = edit_frames c
 delete_frames (delete.Ending r) = 0
 delete_frames (delete.Over r) = 0
 
@@ -69,7 +69,7 @@ post_frames post.New = 0
 post_frames (post.Coming a) = 0
 post_frames (post.Growing g) = growth_frames g
 post_frames (post.Walking w) = 0
-post_frames (post.Changing c) = change_frames c
+post_frames (post.Editing c) = edit_frames c
 post_frames (post.Staying x r) = 0
 post_frames (post.Ending r) = 0
 post_frames (post.Over r) = 0
@@ -83,10 +83,10 @@ compression_frames (compression.LatchedRight f c) = 0
 compression_frames (compression.PuttingFirst p) = 0
 compression_frames (compression.PuttingParent p) = 2
 compression_frames (compression.PuttingLast p) = 1
-compression_frames (compression.Retiring t fate) = 0
-compression_frames (compression.OpeningRight t fate) = 0
-compression_frames (compression.OpeningLeft t fate) = 0
-compression_frames (compression.OpeningParent x fate) = 0
+compression_frames (compression.Retiring t decision) = 0
+compression_frames (compression.OpeningRight t decision) = 0
+compression_frames (compression.OpeningLeft t decision) = 0
+compression_frames (compression.OpeningParent x decision) = 0
 
 abbrev pub compress_frames : CompressStage → ℕ
 compress_frames compress.New = 0

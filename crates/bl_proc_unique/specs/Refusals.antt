@@ -5,18 +5,18 @@ use Rattle.bl_proc_base.specs.declared.answers.Answer.{Answer}
 use Rattle.bl_proc_base.specs.declared.answers.Answer.TheVariants as answer
 use Rattle.bl_proc_base.specs.declared.answers.Posted.TheVariants as posted
 use Rattle.bl_proc_base.specs.declared.answers.Squeezed.TheVariants as squeezed
-use Rattle.bl_proc_base.specs.declared.changing.Outcome.{Outcome}
-use Rattle.bl_proc_base.specs.declared.changing.Outcome.TheVariants as outcome
-use Rattle.bl_proc_base.specs.declared.changing.Change.{Change}
-use Rattle.bl_proc_base.specs.declared.changing.Change.TheVariants as change
+use Rattle.bl_proc_base.specs.declared.editing.Outcome.{Outcome}
+use Rattle.bl_proc_base.specs.declared.editing.Outcome.TheVariants as outcome
+use Rattle.bl_proc_base.specs.declared.editing.Edit.{Edit}
+use Rattle.bl_proc_base.specs.declared.editing.Edit.TheVariants as edit
 use Rattle.bl_proc_base.specs.declared.growing.Growth.{Growth}
 use Rattle.bl_proc_base.specs.declared.growing.Growth.TheVariants as growth
 use Rattle.bl_proc_base.specs.declared.lowering.Lowered.{Lowered}
 use Rattle.bl_proc_base.specs.declared.lowering.Lowered.TheVariants as lowered
 use Rattle.bl_proc_base.specs.declared.lowering.Lowering.{Lowering}
 use Rattle.bl_proc_base.specs.declared.lowering.Lowering.TheVariants as lowering
-use Rattle.bl_proc_compress.specs.declared.compressing.Fate.{Fate}
-use Rattle.bl_proc_compress.specs.declared.compressing.Fate.TheVariants as fate
+use Rattle.bl_proc_compress.specs.declared.compressing.Decision.{Decision}
+use Rattle.bl_proc_compress.specs.declared.compressing.Decision.TheVariants as decision
 use Rattle.bl_proc_compress.specs.declared.compressing.Compression.{Compression}
 use Rattle.bl_proc_compress.specs.declared.compressing.Compression.TheVariants.{LatchingLeft, LatchedLeft, LatchingRight, LatchedRight, PuttingFirst, PuttingParent, PuttingLast, Retiring, OpeningRight, OpeningLeft, OpeningParent}
 use Rattle.bl_proc_compress.specs.declared.squeezing.CompressReply.{CompressReply}
@@ -49,26 +49,26 @@ IsNoRoom (answer.Lower lowered.NoRoom) = Unit {0}
 IsNoRoom other = ⊥
 
 -- It goes on without room. Puts with such a fate count too, though none are ever decided.
-abbrev pub FateRefused : Fate → Type 0
-FateRefused (fate.Merged hint) = ⊥
-FateRefused fate.Evened = ⊥
-FateRefused fate.Enough = ⊥
-FateRefused (fate.Unposted hint) = ⊥
-FateRefused fate.Refused = Unit {0}
-FateRefused fate.Lost = ⊥
+abbrev pub DecisionRefused : Decision → Type 0
+DecisionRefused (decision.Merged hint) = ⊥
+DecisionRefused decision.Evened = ⊥
+DecisionRefused decision.Enough = ⊥
+DecisionRefused (decision.Unposted hint) = ⊥
+DecisionRefused decision.Refused = Unit {0}
+DecisionRefused decision.Lost = ⊥
 
 abbrev pub SqueezeRefused : Compression → Type 0
 SqueezeRefused (LatchingLeft f) = ⊥
 SqueezeRefused (LatchedLeft f) = ⊥
 SqueezeRefused (LatchingRight f page) = ⊥
 SqueezeRefused (LatchedRight f page) = ⊥
-SqueezeRefused (PuttingFirst u) = FateRefused u.fate
-SqueezeRefused (PuttingParent u) = FateRefused u.fate
-SqueezeRefused (PuttingLast u) = FateRefused u.fate
-SqueezeRefused (Retiring at end) = FateRefused end
-SqueezeRefused (OpeningRight at end) = FateRefused end
-SqueezeRefused (OpeningLeft at end) = FateRefused end
-SqueezeRefused (OpeningParent x end) = FateRefused end
+SqueezeRefused (PuttingFirst u) = DecisionRefused u.decision
+SqueezeRefused (PuttingParent u) = DecisionRefused u.decision
+SqueezeRefused (PuttingLast u) = DecisionRefused u.decision
+SqueezeRefused (Retiring at end) = DecisionRefused end
+SqueezeRefused (OpeningRight at end) = DecisionRefused end
+SqueezeRefused (OpeningLeft at end) = DecisionRefused end
+SqueezeRefused (OpeningParent x end) = DecisionRefused end
 
 abbrev pub PressNoRoom : CompressReply → Type 0
 PressNoRoom (pressed.Merged hint) = ⊥
@@ -87,17 +87,17 @@ CompressRefused (compress.Ending r) = PressNoRoom r
 CompressRefused (compress.Over r) = PressNoRoom r
 
 abbrev pub OutcomeRefused : Outcome → Type 0
-OutcomeRefused outcome.Changed = ⊥
-OutcomeRefused (outcome.Parted k) = ⊥
+OutcomeRefused outcome.Edited = ⊥
+OutcomeRefused (outcome.SplitAt k) = ⊥
 OutcomeRefused outcome.Refused = Unit {0}
 
-abbrev pub ChangeRefused : Change → Type 0
-ChangeRefused (change.Putting x0 c0) = ⊥
-ChangeRefused (change.Taking t0) = ⊥
-ChangeRefused (change.PuttingNew t0) = ⊥
-ChangeRefused (change.PuttingOld t0) = ⊥
-ChangeRefused (change.OpeningNew x0 n0 s0) = ⊥
-ChangeRefused (change.Opening x0 o0) = OutcomeRefused o0
+abbrev pub EditRefused : Edit → Type 0
+EditRefused (edit.Putting x0 c0) = ⊥
+EditRefused (edit.Taking t0) = ⊥
+EditRefused (edit.PuttingNew t0) = ⊥
+EditRefused (edit.PuttingOld t0) = ⊥
+EditRefused (edit.OpeningNew x0 n0 s0) = ⊥
+EditRefused (edit.Opening x0 o0) = OutcomeRefused o0
 
 abbrev pub GrowthRefused : Growth → Type 0
 GrowthRefused growth.Latching = ⊥
@@ -118,7 +118,7 @@ abbrev pub InsertRefused : InsertStage → Type 0
 InsertRefused insert.New = ⊥
 InsertRefused (insert.Coming a) = ⊥
 InsertRefused (insert.Present x v) = ⊥
-InsertRefused (insert.Changing c) = ChangeRefused c
+InsertRefused (insert.Editing c) = EditRefused c
 InsertRefused (insert.Ending r) = InsertNoRoom r
 InsertRefused (insert.Over r) = InsertNoRoom r
 
@@ -131,7 +131,7 @@ abbrev pub DeleteRefused : DeleteStage → Type 0
 DeleteRefused delete.New = ⊥
 DeleteRefused (delete.Coming a) = ⊥
 DeleteRefused (delete.Absent x) = ⊥
-DeleteRefused (delete.Changing v c) = ChangeRefused c
+DeleteRefused (delete.Editing v c) = EditRefused c
 DeleteRefused (delete.Ending r) = DeleteNoRoom r
 DeleteRefused (delete.Over r) = DeleteNoRoom r
 
@@ -147,7 +147,7 @@ PostRefused post.New = ⊥
 PostRefused (post.Coming a) = ⊥
 PostRefused (post.Growing g) = GrowthRefused g
 PostRefused (post.Walking w) = ⊥
-PostRefused (post.Changing c) = ChangeRefused c
+PostRefused (post.Editing c) = EditRefused c
 PostRefused (post.Staying x r) = PostNoRoom r
 PostRefused (post.Ending r) = PostNoRoom r
 PostRefused (post.Over r) = PostNoRoom r
@@ -191,10 +191,10 @@ SqueezePuts (LatchingLeft f) = ⊥
 SqueezePuts (LatchedLeft f) = ⊥
 SqueezePuts (LatchingRight f page) = ⊥
 SqueezePuts (LatchedRight f page) = ⊥
-SqueezePuts (PuttingFirst u) = FateRefused u.fate
-SqueezePuts (PuttingParent u) = FateRefused u.fate
-SqueezePuts (PuttingLast u) = FateRefused u.fate
-SqueezePuts (Retiring at end) = FateRefused end
+SqueezePuts (PuttingFirst u) = DecisionRefused u.decision
+SqueezePuts (PuttingParent u) = DecisionRefused u.decision
+SqueezePuts (PuttingLast u) = DecisionRefused u.decision
+SqueezePuts (Retiring at end) = DecisionRefused end
 SqueezePuts (OpeningRight at end) = ⊥
 SqueezePuts (OpeningLeft at end) = ⊥
 SqueezePuts (OpeningParent x end) = ⊥

@@ -23,7 +23,7 @@ pub record IsEntered (low high key word : ℕ) (old new : List (ℕ × ℕ)) : T
   pub children : IsChild word → NameChildren old → NameChildren new
   pub map : SameMap (with_pair (map_of old) key word) (map_of new)
 
--- The same, parted at a key.
+-- The same, split at a key.
 pub record AreHalves (low high key word : ℕ) (old lower upper : List (ℕ × ℕ)) (separator : ℕ) : Type 0 where
   pub lower_count : length lower ≡ 8
   pub upper_count : length upper ≡ 7

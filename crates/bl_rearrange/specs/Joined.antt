@@ -1,4 +1,4 @@
--- Pairs up to a bound and pairs from it on, in one list, or parted in the middle.
+-- Pairs up to a bound and pairs from it on, in one list, or split in the middle.
 use Rattle.std.specs.Prelude.{◌≡◌, ℕ, ◌+◌, ◌/◌, ◌<◌, ◌≤◌, ◌++◌, List, length}
 use Rattle.bl_page.specs.Pairs.{RisesFrom, AllWithin, BeginsWith, NameChildren, end_of}
 use Rattle.bl_rearrange.specs.declared.sides.Side.{Side}
@@ -22,7 +22,7 @@ pub record IsJoined (low high : ℕ) (left right joined : List (ℕ × ℕ)) : T
   pub first : BeginsWith low left → BeginsWith low joined
   pub children : NameChildren left → NameChildren right → NameChildren joined
 
--- They are parted in the middle, at a key.
+-- They are split in the middle, at a key.
 pub record AreShares (low high : ℕ) (left right lower upper : List (ℕ × ℕ)) (separator : ℕ) : Type 0 where
   pub pairs : lower ++ upper ≡ left ++ right
   pub half : length lower ≡ (length left + length right + 1) / 2

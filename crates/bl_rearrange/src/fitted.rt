@@ -9,7 +9,7 @@ ghost use Rattle.bl_page.specs.declared.page.Page.{Page};
 ghost use Rattle.bl_page.specs.declared.page.Page.TheVariants as page;
 ghost use Rattle.bl_rearrange.specs.Rearranged.{IsFitted, IsWithout, MayHold, MayLose, pairs_of};
 
-use crate::pairs::{Halves, dropped_pair, entered_pair, parted_with};
+use crate::pairs::{Halves, dropped_pair, entered_pair, split_with};
 use bl_page::{Inner, Leaf, Page};
 
 /// A page with a pair more.
@@ -48,7 +48,7 @@ fn leaf_with(leaf: Leaf, key: u64, value: u64, new_page: u32) -> Fitted
         lower,
         upper,
         separator,
-    } = parted_with(rows.as_slice(), low, high, key, value);
+    } = split_with(rows.as_slice(), low, high, key, value);
     let lower_leaf = Leaf {
         low,
         high: separator,
@@ -93,7 +93,7 @@ fn inner_with(inner: Inner, key: u64, child: u64, new_page: u32) -> Fitted
         lower,
         upper,
         separator,
-    } = parted_with(children.as_slice(), low, high, key, child);
+    } = split_with(children.as_slice(), low, high, key, child);
     let lower_inner = Inner {
         level,
         low,

@@ -1,4 +1,4 @@
-//! Pairs of two neighbours: all in one list, or parted in the middle.
+//! Pairs of two neighbours: all in one list, or split in the middle.
 
 ghost use Rattle.std.specs.Prelude.{◌≡◌, ◌≢◌, ◌+◌, ◌/◌, ◌<◌, ◌≤◌, ◌++◌, length, drop, take, MatchOption};
 ghost use Rattle.bl_rearrange.specs.Joined.{AreSides, IsJoined, AreShares, MovesTo};
@@ -77,7 +77,7 @@ fn halves(left: Pairs, right: Pairs) -> (Pairs, Pairs, Side)
     }
 }
 
-/// The pairs of two neighbours, parted in the middle.
+/// The pairs of two neighbours, split in the middle.
 pub struct Shares {
     /// The half of the pairs, rounded up.
     pub lower: Pairs,
@@ -88,7 +88,7 @@ pub struct Shares {
     pub gains: Side,
 }
 
-/// The pairs on both sides of the bound `middle`, more than fit into one page, parted in the middle.
+/// The pairs on both sides of the bound `middle`, more than fit into one page, split in the middle.
 pub fn evened_pairs(left: Pairs, right: Pairs, low: u64, middle: u64, high: u64) -> Shares
     requires sides { AreSides low middle high left.items right.items }
     requires left_few { length left.items ≤ 14 }

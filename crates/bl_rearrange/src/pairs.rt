@@ -34,7 +34,7 @@ pub fn collected(slice: &[(u64, u64)]) -> Pairs
 }
 
 /// Full pairs with one more: the lower 8 and the upper 7 of them.
-fn parted(pairs: &[(u64, u64)], key: u64, word: u64) -> (Pairs, Pairs)
+fn split(pairs: &[(u64, u64)], key: u64, word: u64) -> (Pairs, Pairs)
     requires { length pairs.now ≡ 14 }
     ensures pairs { result.0.items ++ result.1.items ≡ entered key word pairs.now }
     ensures lower { length result.0.items ≡ 8 }
@@ -63,8 +63,8 @@ pub struct Halves {
     pub separator: u64,
 }
 
-/// Full pairs within these bounds, parted, with one more.
-pub fn parted_with(pairs: &[(u64, u64)], low: u64, high: u64, key: u64, word: u64) -> Halves
+/// Full pairs within these bounds, split, with one more.
+pub fn split_with(pairs: &[(u64, u64)], low: u64, high: u64, key: u64, word: u64) -> Halves
     requires full { length pairs.now ≡ 14 }
     requires rising { RisesFrom 0 pairs.now }
     requires within { AllWithin low high pairs.now }
@@ -72,7 +72,7 @@ pub fn parted_with(pairs: &[(u64, u64)], low: u64, high: u64, key: u64, word: u6
     requires absent { map_of pairs.now key ≡ None }
     ensures { AreHalves low high key word pairs.now result.lower.items result.upper.items result.separator }
 {
-    let (lower, upper) = parted(pairs, key, word);
+    let (lower, upper) = split(pairs, key, word);
     let separator = upper.as_slice()[0].0;
     Halves {
         lower,

@@ -11,11 +11,11 @@ use Rattle.bl_replay.specs.Plays.Plays.{Then}
 use Rattle.bl_replay.specs.Plays.BreaksOff.{Behind, Within}
 use Rattle.bl_replay.specs.Emits.{Partly}
 
--- a list, parted at one of its places
-parted : {A : Type 0} (xs : List A) (i : ℕ) (x : A) → slice_get xs i ≡ Some x → xs ≡ take i xs ++ x ∷ drop (suc i) xs
-parted [] i x e = absurd (let f : None ≡ Some x = e in cc)
-parted (y ∷ xs) zero x e = (let f : y ≡ x = cc in ap (λ z. z ∷ xs) f)
-parted (y ∷ xs) (suc i) x e = ap (λ z. y ∷ z) (parted xs i x e)
+-- a list, split at one of its places
+split : {A : Type 0} (xs : List A) (i : ℕ) (x : A) → slice_get xs i ≡ Some x → xs ≡ take i xs ++ x ∷ drop (suc i) xs
+split [] i x e = absurd (let f : None ≡ Some x = e in cc)
+split (y ∷ xs) zero x e = (let f : y ≡ x = cc in ap (λ z. z ∷ xs) f)
+split (y ∷ xs) (suc i) x e = ap (λ z. y ∷ z) (split xs i x e)
 
 further_suc : {A : Type 0} (xs : List A) (i : ℕ) (x : A) → slice_get xs i ≡ Some x → take (suc i) xs ≡ take i xs ++ x ∷ []
 further_suc [] i x e = absurd (let f : None ≡ Some x = e in cc)
@@ -58,7 +58,7 @@ started_further commands i c e = ap started_by (further commands i c e) ∙ star
 -- a command was broken off
 pub breaks_off : (v mid : View) (commands : List Command) (i : ℕ) (c : Command) (text more : List ℕ) → slice_get commands i ≡ Some c → Plays v (take i commands) text mid → Partly mid c more → BreaksOff v commands (text ++ more)
 breaks_off v mid commands i c text more e p part =
-    let is = parted commands i c e in
+    let is = split commands i c e in
     elim part [
       | inl none ↦ Behind (take i commands) (c ∷ drop (suc i) commands) (text ++ more) mid is (subst (λ t. Plays v (take i commands) t mid) (sym (ap (λ t. text ++ t) none ∙ append-nil text)) p)
       | inr some ↦ elim some [

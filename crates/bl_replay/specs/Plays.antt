@@ -18,7 +18,7 @@ use Rattle.bl_world.specs.declared.turns.Turn.{Turn}
 use Rattle.bl_world.specs.declared.turns.Turn.TheVariants as turn
 use Rattle.bl_world.specs.Views.{View}
 use Rattle.bl_world.specs.Turns.{TurnsTo}
-use Rattle.bl_world.specs.Deeds.{IsOpening, Starts}
+use Rattle.bl_world.specs.WorldSteps.{IsOpening, Starts}
 use Rattle.bl_world.specs.Choices.{Chooses}
 use Rattle.bl_world.specs.Accounts.{Account}
 use Rattle.bl_replay.specs.Texts.{event_line, answer_line}

@@ -6,7 +6,7 @@ ghost use Rattle.bl_replay_script.specs.Commands.{MayStart, MayStand, starts};
 ghost use Rattle.bl_replay_script.specs.declared.command.Command.TheVariants as command;
 ghost use Rattle.bl_world.specs.Views.{View, number_in};
 ghost use Rattle.bl_world.specs.Turns.{IsStarted};
-ghost use Rattle.bl_world.specs.Deeds.{MayStart as MayBegin};
+ghost use Rattle.bl_world.specs.WorldSteps.{MayStart as MayBegin};
 ghost use Rattle.bl_replay.specs.declared.fault.ReplayFault.TheVariants as fault;
 ghost use Rattle.bl_replay.specs.Plays.{Prints, PrintsChosen, PrintsTurns, IsStart, Does, all_kinds};
 ghost use Rattle.bl_replay.specs.Emits.{Emits, Partly};

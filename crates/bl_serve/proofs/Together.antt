@@ -98,11 +98,11 @@ learns_all first one one' others others' i end l = record {
 -- how many have been told
 pub record TellsUpTo (one one' : Pass) (others others' : List Pass) (i : ℕ) : Type 0 where
   pub keeps : Keeps one one'
-  pub told : AllZip (Comes (trail one)) (take i others) (take i others')
+  pub observed : AllZip (Comes (trail one)) (take i others) (take i others')
   pub left : drop i others' ≡ drop i others
 
 pub tells_none : (one : Pass) (others : List Pass) → TellsUpTo one one others others 0
-tells_none one others = record { keeps = ((refl, refl, refl, refl), refl); told = tt; left = refl }
+tells_none one others = record { keeps = ((refl, refl, refl, refl), refl); observed = tt; left = refl }
 
 -- the next one is as it was
 pub next_is : {A : Type 0} (others now : List A) (i : ℕ) (d : A) → drop i now ≡ drop i others → i < length now → get_or now i d ≡ get_or others i d
@@ -142,9 +142,9 @@ tells_one one mid new d other other' others now i long l low at known keeps same
     let was : other ≡ get_or others i d = at ∙ next_is others now i d l.left low in
     let at_one : trail other' ≡ trail one = hears.is ∙ l.keeps.1 in record {
       keeps = keeps_again one mid new l.keeps keeps;
-      told = subst (λ (z : List Pass). AllZip (Comes (trail one)) z (take (i + 1) (set now i other'))) (sym (take_more others i d (omega arith) ∙ ap (λ (z : Pass). take i others ++ z ∷ []) (sym was)))
+      observed = subst (λ (z : List Pass). AllZip (Comes (trail one)) z (take (i + 1) (set now i other'))) (sym (take_more others i d (omega arith) ∙ ap (λ (z : Pass). take i others ++ z ∷ []) (sym was)))
           (subst (λ (z : List Pass). AllZip (Comes (trail one)) (take i others ++ other ∷ []) z) (sym (take_set now i other' low))
-          (zip_push (trail one) (take i others) (take i now) other other' l.told (record {
+          (zip_push (trail one) (take i others) (take i now) other other' l.observed (record {
             same = same;
             is = at_one;
             begins = subst (λ (z : Pass). GoesOnFrom (trail z) (trail one)) (sym was) (known i d (omega arith));
@@ -167,29 +167,29 @@ tell_begins one mid d other others now i long l low at known =
 
 pub tells_all : (one one' : Pass) (others others' : List Pass) (i : ℕ) → length others' ≡ length others → length others' ≤ i → TellsUpTo one one' others others' i → AllZip (Comes (trail one)) others others'
 tells_all one one' others others' i long end l =
-    subst (λ (z : List Pass). AllZip (Comes (trail one)) z others') (take_all i others (omega arith)) (subst (λ (z : List Pass). AllZip (Comes (trail one)) (take i others) z) (take_all i others' end) l.told)
+    subst (λ (z : List Pass). AllZip (Comes (trail one)) z others') (take_all i others (omega arith)) (subst (λ (z : List Pass). AllZip (Comes (trail one)) (take i others) z) (take_all i others' end) l.observed)
 
 -- ---- all
 
-then_told : (t : Trail) (ps qs rs : List Pass) → AllZip Keeps ps qs → AllZip (Comes t) qs rs → AllZip (Comes t) ps rs
-then_told t [] [] [] h k = tt
-then_told t [] [] (r ∷ rs) h k = absurd k
-then_told t [] (q ∷ qs) rs h k = absurd h
-then_told t (p ∷ ps) [] rs h k = absurd h
-then_told t (p ∷ ps) (q ∷ qs) [] h k = absurd k
-then_told t (p ∷ ps) (q ∷ qs) (r ∷ rs) h k = (
+then_observed : (t : Trail) (ps qs rs : List Pass) → AllZip Keeps ps qs → AllZip (Comes t) qs rs → AllZip (Comes t) ps rs
+then_observed t [] [] [] h k = tt
+then_observed t [] [] (r ∷ rs) h k = absurd k
+then_observed t [] (q ∷ qs) rs h k = absurd h
+then_observed t (p ∷ ps) [] rs h k = absurd h
+then_observed t (p ∷ ps) (q ∷ qs) [] h k = absurd k
+then_observed t (p ∷ ps) (q ∷ qs) (r ∷ rs) h k = (
   record {
     same = same_again p q r h.0.0 k.0.same;
     is = k.0.is;
     begins = subst (λ (z : Trail). GoesOnFrom z t) h.0.1 k.0.begins;
     none = subst (λ (z : ℕ × Trail). own z.0 t ≡ own z.0 z.1) (λ i. (h.0.0.2 i, h.0.1 i)) k.0.none;
   },
-  then_told t ps qs rs h.1 k.1,
+  then_observed t ps qs rs h.1 k.1,
 )
 
 pub all_meet : (first : List (Option Page)) (one mid last : Pass) (others mids lasts : List Pass) → LearnsAll first one mid others mids → Keeps mid last → AllZip (Comes (trail mid)) mids lasts → AllMeet first (one ∷ others) (last ∷ lasts)
-all_meet first one mid last others mids lasts l k told = record {
+all_meet first one mid last others mids lasts l k observed = record {
   seen = trail mid;
-  each = (record { same = same_again one mid last l.same k.0; is = k.1; begins = l.begins; none = l.none }, then_told (trail mid) others mids lasts l.kept told);
+  each = (record { same = same_again one mid last l.same k.0; is = k.1; begins = l.begins; none = l.none }, then_observed (trail mid) others mids lasts l.kept observed);
   may_be = λ h. l.may_be (h 0 one (omega arith));
 }

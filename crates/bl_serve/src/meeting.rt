@@ -23,7 +23,7 @@ fn tell_all(index: &Index, first: &mut Pass, others: &mut [Pass])
     requires own { IsPassOf index.now first.old × All (IsPassOf index.now) others.old }
     requires begins { All (λ p. GoesOnFrom (trail p) (trail first.old)) others.old }
     ensures first { Keeps first.old first.new }
-    ensures told { AllZip (Comes (trail first.old)) others.old others.new }
+    ensures observed { AllZip (Comes (trail first.old)) others.old others.new }
 {
     for number in 0..others.len() {
         index.tell(&mut others[number], first);

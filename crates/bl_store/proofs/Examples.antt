@@ -1,10 +1,10 @@
 -- Worked examples of the definitions.
 use Rattle.std.proofs.Common.{◌≡◌, ℕ, [], ◌∷◌, replicate, refl, inl}
 use Rattle.bl_layout.specs.Cells.{cell_count}
-use Rattle.bl_store.specs.Pages.{Released, Open, Held, Retired, Idle, Running, Pages, Stands, IsPage, told, owned, written, later}
+use Rattle.bl_store.specs.Pages.{Released, Open, Held, Retired, Idle, Running, Pages, Stands, IsPage, observed, owned, written, later}
 use Rattle.bl_store.specs.Frames.{process_at, page_at, owner_at, state_at, place_at, smallest, OwnerIs, share, taking_in, giving_back, given_back, joined}
 use Rattle.bl_store.specs.Opening.{first_pages}
-use Rattle.bl_store.specs.Told.{draft, lower}
+use Rattle.bl_store.specs.Observed.{draft, lower}
 use Rattle.bl_store.specs.Hands.{drafts}
 use Rattle.bl_store.specs.Closing.{left_of}
 use Rattle.bl_store.specs.declared.view.View.{View}
@@ -18,7 +18,7 @@ opens = refl
 
 -- Hand 1 begins, and is told 8.
 abbrev begun : Pages ℕ
-begun = told start 1 (Running 0) 8
+begun = observed start 1 (Running 0) 8
 
 stands : Stands begun 1 (Running 0) 8
 stands = refl

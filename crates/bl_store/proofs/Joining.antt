@@ -10,7 +10,7 @@ use Rattle.std.proofs.lemmas.List.{length-append}
 use Rattle.bl_layout.specs.declared.layout.Layout.{Layout}
 use Rattle.bl_store.specs.Pages.{Idle, Pages, Meets}
 use Rattle.bl_store.specs.Frames.{IsTakenIn, IsLive, Knows, IsApart, Kept, stage_of, joined, share, spent_view, without_hand, taking_in, giving_back, given_back, others, last_of}
-use Rattle.bl_store.specs.Told.{met}
+use Rattle.bl_store.specs.Observed.{met}
 use Rattle.bl_store.specs.declared.view.View.{View}
 use Rattle.bl_store.specs.declared.view.Joined.{Joined}
 use Rattle.bl_store.specs.declared.view.Stamp.{Stamp}
@@ -18,7 +18,7 @@ use Rattle.bl_store.specs.declared.view.Stamp.TheVariants.{Out}
 use Rattle.bl_store.specs.declared.view.Sealing.TheVariants.{Unsealed, Sealed}
 use Rattle.bl_store.proofs.Lists.{at_below, there, one_there, set_there, total_set}
 use Rattle.bl_store.proofs.Keeps.{sealed_on}
-use Rattle.bl_store.proofs.Time.{told_load}
+use Rattle.bl_store.proofs.Time.{observed_load}
 
 module _ {D : Type 0} (l : Layout) (first : D) (holds : Pages D → Type 0) where
   abbrev St : Type 0
@@ -180,7 +180,7 @@ module _ {D : Type 0} (l : Layout) (first : D) (holds : Pages D → Type 0) wher
         record me.0 { reading = me.0.reading; refused = me.0.refused; known = t.0 },
         keeps,
         tt,
-        told_load l first holds st r i id me.1 me.0 me.0.reading me.0.refused t.0 at live mine.reads t.1,
+        observed_load l first holds st r i id me.1 me.0 me.0.reading me.0.refused t.0 at live mine.reads t.1,
         ((refl, refl, refl, refl), refl, (refl, refl, refl), refl, λ g gs e. let same : j ≡ g = some-injective j g (ap (λ (z : List (Joined D)). get_elem? z 0) (sym has ∙ e)) in subst (λ (z : Joined D). then' me.0.known z.known t.0) same t.2),
       )
 

@@ -10,7 +10,7 @@ use Rattle.atomic_table.specs.Table.{State, keeps, stepped}
 use Rattle.atomic_table.proofs.Lists.{at_set, set_else}
 use Rattle.bl_layout.specs.declared.layout.Layout.{Layout}
 use Rattle.bl_layout.specs.Cells.{front, behind}
-use Rattle.bl_store.specs.Pages.{Owner, Retired, Stage, Running, Pages, Stands, IsOrderly, told, owned, written, later}
+use Rattle.bl_store.specs.Pages.{Owner, Retired, Stage, Running, Pages, Stands, IsOrderly, observed, owned, written, later}
 use Rattle.bl_store.specs.Frames.{process_at, page_at, owner_at, state_at, place_at, Use, drafted, shown, dropped, timed, Frame, free, used, StateIs, FrameIs, PageIs, OwnerIs, ProcessIs, stage_of, IsRead, MayRead, Readable, Reads, Stocks, Drops, Seals, Swept, SweepIs, Knows, Budgeted, Shows, IsLive, IsApart, IsSealing, Kept}
 use Rattle.bl_store.specs.declared.view.View.{View}
 use Rattle.bl_store.specs.declared.view.Joined.{Joined}
@@ -58,8 +58,8 @@ drops_kept fs f old new q (Timed g t) here no_drop no_time k = (k.0, frame_kept 
 
 module _ {D : Type 0} where
   -- what the words show stays where a hand is told something, and its process word shows where it stands
-  pub shows_told : (l : Layout) (ws : List ℕ) (s : Pages D) (fs : List Frame) (q : ℕ) (st : Stage) (d : D) → ProcessIs (get_or ws (process_at l q) 0) st → Shows l ws s fs → Shows l ws (told s q st d) fs
-  shows_told l ws s fs q st d is r = record {
+  pub shows_observed : (l : Layout) (ws : List ℕ) (s : Pages D) (fs : List Frame) (q : ℕ) (st : Stage) (d : D) → ProcessIs (get_or ws (process_at l q) 0) st → Shows l ws s fs → Shows l ws (observed s q st d) fs
+  shows_observed l ws s fs q st d is r = record {
     wide = r.wide;
     frame_total = r.frame_total;
     clock = r.clock;
@@ -106,7 +106,7 @@ module _ {D : Type 0} where
   }
 
   -- a process word changes, and where its hand stands
-  pub shows_process : (l : Layout) (ws : List ℕ) (s : Pages D) (fs : List Frame) (q n : ℕ) (st : Stage) (d : D) → IsOrderly l s → q < l.passes → ProcessIs n st → Shows l ws s fs → Shows l (set ws (process_at l q) n) (told s q st d) fs
+  pub shows_process : (l : Layout) (ws : List ℕ) (s : Pages D) (fs : List Frame) (q n : ℕ) (st : Stage) (d : D) → IsOrderly l s → q < l.passes → ProcessIs n st → Shows l ws s fs → Shows l (set ws (process_at l q) n) (observed s q st d) fs
   shows_process l ws s fs q n st d orderly low is r = let wide = r.wide in let total = r.frame_total in let counts = orderly.contents in let owned' = orderly.owners in let i : ℕ = process_at l q in record {
     wide = length-set ws i n ∙ r.wide;
     frame_total = r.frame_total;
@@ -146,8 +146,8 @@ module _ {D : Type 0} where
     frame = λ g fr e. frame_same l ws (set ws 0 n) g (get_or-set_other ws 0 (state_at l g) n 0 (λ z. omega arith)) (λ k small. get_or-set_other ws 0 (place_at l g k) n 0 (λ z. omega arith)) fr (r.frame g fr e);
   }
 
-  pub orderly_told : (l : Layout) (s : Pages D) (q : ℕ) (st : Stage) (d : D) → ((b : ℕ) → st ≡ Running b → b ≤ s.clock) → IsOrderly l s → IsOrderly l (told s q st d)
-  orderly_told l s q st d low r = record {
+  pub orderly_observed : (l : Layout) (s : Pages D) (q : ℕ) (st : Stage) (d : D) → ((b : ℕ) → st ≡ Running b → b ≤ s.clock) → IsOrderly l s → IsOrderly l (observed s q st d)
+  orderly_observed l s q st d low r = record {
     contents = r.contents;
     owners = r.owners;
     hands = length-set s.hands q (st, d) ∙ r.hands;
@@ -164,9 +164,9 @@ module _ {D : Type 0} where
   orderly_later l s r = record { contents = r.contents; owners = r.owners; hands = r.hands; begun = λ n since e at. let low = r.begun n since e at in omega arith }
 
   -- what a sweep knows stays: the hand q goes on with its process, ends it, or begins one by now
-  pub swept_told : (s s' : Pages D) (q : ℕ) (st0 st : Stage) (d0 d : D) (m k : ℕ) → s.clock ≤ s'.clock → Stands s q st0 d0 → s'.hands ≡ set s.hands q (st, d) → ((b : ℕ) → st ≡ Running b → (st0 ≡ Running b) ⊎ (s.clock ≤ b))
+  pub swept_observed : (s s' : Pages D) (q : ℕ) (st0 st : Stage) (d0 d : D) (m k : ℕ) → s.clock ≤ s'.clock → Stands s q st0 d0 → s'.hands ≡ set s.hands q (st, d) → ((b : ℕ) → st ≡ Running b → (st0 ≡ Running b) ⊎ (s.clock ≤ b))
       → Swept s m k → Swept s' m k
-  swept_told s s' q st0 st d0 d m k more here same begun is = let past = is.past in record {
+  swept_observed s s' q st0 st d0 d m k more here same begun is = let past = is.past in record {
     past = omega arith;
     later = λ n b e at low. ⊎_elim
         (λ (t : (n ≡ q) × ((st, d) ≡ (Running b, e))). ⊎_elim

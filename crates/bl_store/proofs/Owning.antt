@@ -7,16 +7,16 @@ use prog.Atomic.{either}
 use Rattle.atomic_table.specs.Table.{State, Me, step, keeps, Act, Valid, carried_after, stepped, Allows}
 use Rattle.atomic_table.proofs.Lists.{at_set, set_else, exchanged}
 use Rattle.bl_layout.specs.declared.layout.Layout.{Layout}
-use Rattle.bl_store.specs.Pages.{Owner, Released, Open, Held, Retired, Stage, Running, Pages, AllBeganAfter, told, owned, Takes, Latches, Misses, Probes, Opens, Refuses, Releases}
+use Rattle.bl_store.specs.Pages.{Owner, Released, Open, Held, Retired, Stage, Running, Pages, AllBeganAfter, observed, owned, Takes, Latches, Misses, Probes, Opens, Refuses, Releases}
 use Rattle.bl_store.specs.Frames.{process_at, owner_at, IsTaken, OwnerIs, ProcessIs, stage_of, Seals, Swept, SweepIs, Shows, IsLive, IsSealing, Kept}
-use Rattle.bl_store.specs.Told.{took, tried, opened, freed, refused, wanted}
+use Rattle.bl_store.specs.Observed.{took, tried, opened, freed, refused, wanted}
 use Rattle.bl_store.specs.declared.view.View.{View}
 use Rattle.bl_store.specs.declared.view.Sealing.{Sealing}
 use Rattle.bl_store.specs.declared.view.Sealing.TheVariants.{Unsealed, Sealed}
 use Rattle.bl_store.specs.declared.view.Sweep.TheVariants.{Over}
 use Rattle.bl_store.proofs.Lists.{at_below, there, one_there, set_there}
-use Rattle.bl_store.proofs.Keeps.{shows_told, shows_owner, orderly_told, orderly_owned, swept_told, Goes, sweeps_stay, sealed_on, moved}
-use Rattle.bl_store.proofs.Time.{began_by, told_load}
+use Rattle.bl_store.proofs.Keeps.{shows_observed, shows_owner, orderly_observed, orderly_owned, swept_observed, Goes, sweeps_stay, sealed_on, moved}
+use Rattle.bl_store.proofs.Time.{began_by, observed_load}
 use Rattle.bl_store.proofs.Reserving.{idle_step, noting, note_step}
 
 module _ {D : Type 0} (l : Layout) (first : D) (holds : Pages D → Type 0) where
@@ -34,10 +34,10 @@ module _ {D : Type 0} (l : Layout) (first : D) (holds : Pages D → Type 0) wher
   Leads s i n id me then' = (w : View D) × (a : Act (Unit {0})) × Valid s.homes me.1 a × Rule (stepped s i n id me.1 w a) × then' (w, carried_after me.1 a)
 
   owner_step : (st : St) (r : Rule st) (i n id : ℕ) (cs : List (ℕ × Unit {0})) (v : View D) (x rl : ℕ) (o o' : Owner) (d : D) → get_elem? st.views id ≡ some v → IsLive v → i ≡ owner_at l x → get_elem? r.pages.owners x ≡ some o → OwnerIs n o' → ((t : ℕ) → o' ≢ Retired t)
-      → ((j t : ℕ) → get_or st.words i 0 ≡ 4 * j + 2 → o ≡ Retired t → ⊥) → holds (told (owned r.pages x o') v.number (stage_of v.stamp) d) → Rule (stepped st i n id cs (record v { known = d; releases = rl }) keeps)
+      → ((j t : ℕ) → get_or st.words i 0 ≡ 4 * j + 2 → o ≡ Retired t → ⊥) → holds (observed (owned r.pages x o') v.number (stage_of v.stamp) d) → Rule (stepped st i n id cs (record v { known = d; releases = rl }) keeps)
   owner_step st r i n id cs v x rl o o' d at live i_is here is open_now apart kept = let mine = r.seats id v at live in let s : Pages D = r.pages in let q : ℕ = v.number in let sg : Stage = stage_of v.stamp in
       let orderly = r.orderly in let owned' = orderly.owners in let counted = mine.counted in let dealt = mine.dealt in let low = at_below s.owners x o here in
-      let ws : List ℕ = set st.words i n in let s1 : Pages D = owned s x o' in let s' : Pages D = told s1 q sg d in
+      let ws : List ℕ = set st.words i n in let s1 : Pages D = owned s x o' in let s' : Pages D = observed s1 q sg d in
       let shows : Shows l ws s1 r.frames = subst (λ (z : ℕ). Shows l (set st.words z n) s1 r.frames) (sym i_is) (shows_owner l st.words s r.frames x n o' r.orderly (omega arith) is r.shows) in
       let process : get_or ws (process_at l q) 0 ≡ get_or st.words (process_at l q) 0 = get_or-set_other st.words i (process_at l q) n 0 (λ z. omega arith) in
       let seals : (j : ℕ) (y : Sealing) → Seals l st.words s.owners j y → Seals l ws s1.owners j y = (λ j y k. sealed_else st.words s.owners i n x j o o' i_is here (λ t. apart j t) y k) in
@@ -49,15 +49,15 @@ module _ {D : Type 0} (l : Layout) (first : D) (holds : Pages D → Type 0) wher
         stocks = λ j ds other k. k;
         drops = λ j y other k. k;
         seals = λ j y other k. seals j y k;
-        swept = λ m k sw. swept_told s s' q sg sg v.known d m k (le_refl s.clock) mine.stands refl (λ b e. inl e) sw;
+        swept = λ m k sw. swept_observed s s' q sg sg v.known d m k (le_refl s.clock) mine.stands refl (λ b e. inl e) sw;
       } in
       let w : View D = record v { known = d; releases = rl } in
       let sealing : IsSealing l ws s1.owners (set st.views id w) = (λ y t e. ⊎_elim (λ (a : (y ≡ x) × (o' ≡ Retired t)). absurd (open_now t a.1))
       (λ (a : (y ≢ x) × (get_elem? s.owners y ≡ some (Retired t))). let other = a.0 in ⊎_elim (λ (h : get_or st.words (owner_at l y) 0 ≡ 4 * t + 3). inl (get_or-set_other st.words i (owner_at l y) n 0 (λ z. other (omega arith)) ∙ h))
       (λ (h : (j : ℕ) × (u : View D) × (get_elem? st.views j ≡ some u) × IsLive u × (u.sealing ≡ Sealed y t)). inr (sealed_on st.views id v w at refl (λ k. k) y t h)) (r.sealing y t a.1)) (at_set s.owners x y o' (Retired t) e)) in
       moved l first holds st r i n id cs v w s' r.frames r.budgets at live
-      (orderly_told l s1 q sg d (began_by l s q v.stamp v.known r.orderly mine.stands) (orderly_owned l s x o' r.orderly))
-      (shows_told l ws s1 r.frames q sg d (subst (λ (z : ℕ). ProcessIs z sg) (sym process) (r.shows.process q sg v.known (omega arith) mine.stands)) shows)
+      (orderly_observed l s1 q sg d (began_by l s q v.stamp v.known r.orderly mine.stands) (orderly_owned l s x o' r.orderly))
+      (shows_observed l ws s1 r.frames q sg d (subst (λ (z : ℕ). ProcessIs z sg) (sym process) (r.shows.process q sg v.known (omega arith) mine.stands)) shows)
       r.budgeted go
       record {
         layout = refl;
@@ -134,7 +134,7 @@ module _ {D : Type 0} (l : Layout) (first : D) (holds : Pages D → Type 0) wher
         record me.0 { reading = me.0.reading; refused = me.0.refused; known = t.0 },
         keeps,
         tt,
-        told_load l first holds st r i id me.1 me.0 me.0.reading me.0.refused t.0 at live mine.reads t.1,
+        observed_load l first holds st r i id me.1 me.0 me.0.reading me.0.refused t.0 at live mine.reads t.1,
         ((refl, refl, refl, refl), refl, (refl, refl, refl), λ y equal. let back : x ≡ y = omega arith in (own.0, page.0, (λ hit. absurd (miss hit)), (λ _. not), subst (λ (z : ℕ). then' me.0.known z own.0 page.0 t.0) back t.2)),
       ))
 
@@ -146,7 +146,7 @@ module _ {D : Type 0} (l : Layout) (first : D) (holds : Pages D → Type 0) wher
         record me.0 { reading = me.0.reading; refused = me.0.refused; known = t.0 },
         keeps,
         tt,
-        told_load l first holds st r i id me.1 me.0 me.0.reading me.0.refused t.0 at live mine.reads t.1,
+        observed_load l first holds st r i id me.1 me.0 me.0.reading me.0.refused t.0 at live mine.reads t.1,
         ((refl, refl, refl, refl), refl, (refl, refl, refl), λ y equal. let back : x ≡ y = omega arith in (own.0, page.0, (λ hit. was_open own.0 (get_or st.words i 0) own.2 hit), (λ miss e. miss (subst (OwnerIs (get_or st.words i 0)) e own.2)), subst (λ (z : ℕ). then' me.0.known z own.0 page.0 t.0) back t.2)),
       )
 
@@ -184,6 +184,6 @@ module _ {D : Type 0} (l : Layout) (first : D) (holds : Pages D → Type 0) wher
     record me.0 { reading = me.0.reading; refused = Some (wanted pages frames); known = t.0 },
     keeps,
     tt,
-    told_load l first holds st r i id me.1 me.0 me.0.reading (Some (wanted pages frames)) t.0 at live mine.reads t.1,
+    observed_load l first holds st r i id me.1 me.0 me.0.reading (Some (wanted pages frames)) t.0 at live mine.reads t.1,
     ((refl, refl, refl, refl), refl, (refl, refl, refl), refl, refl, refl, (s.clock, t.2)),
   )

@@ -7,9 +7,9 @@ use Rattle.atomic_table.specs.Table.{State, Me, step, keeps, stepped, Allows}
 use Rattle.atomic_table.proofs.Lists.{at_set, set_here, set_else}
 use Rattle.bl_layout.specs.declared.layout.Layout.{Layout}
 use Rattle.bl_layout.specs.Words.{frame_count}
-use Rattle.bl_store.specs.Pages.{Owner, Held, Stage, Pages, IsOrderly, told, written, Puts}
+use Rattle.bl_store.specs.Pages.{Owner, Held, Stage, Pages, IsOrderly, observed, written, Puts}
 use Rattle.bl_store.specs.Frames.{process_at, page_at, owner_at, state_at, place_at, drafted, shown, dropped, Frame, used, FrameIs, PageIs, OwnerIs, ProcessIs, stage_of, MayRead, Readable, Reads, Stocks, Drops, Shows, IsLive, Kept}
-use Rattle.bl_store.specs.Told.{draft, swapped}
+use Rattle.bl_store.specs.Observed.{draft, swapped}
 use Rattle.bl_store.specs.declared.view.View.{View}
 use Rattle.bl_store.specs.declared.view.Stamp.{Stamp}
 use Rattle.bl_store.specs.declared.view.Reading.{Reading}
@@ -18,7 +18,7 @@ use Rattle.bl_store.specs.declared.view.Draft.{Draft}
 use Rattle.bl_store.specs.declared.view.Dropping.{Dropping}
 use Rattle.bl_store.specs.declared.view.Dropping.TheVariants.{Empty, Dropped}
 use Rattle.bl_store.proofs.Lists.{at_below, there, set_there}
-use Rattle.bl_store.proofs.Keeps.{frame_same, page_kept, reads_kept, stocks_kept, drops_kept, shows_told, orderly_told, orderly_written, swept_told, seal_same, Goes, sweeps_stay, sealing_stays, moved}
+use Rattle.bl_store.proofs.Keeps.{frame_same, page_kept, reads_kept, stocks_kept, drops_kept, shows_observed, orderly_observed, orderly_written, swept_observed, seal_same, Goes, sweeps_stay, sealing_stays, moved}
 use Rattle.bl_store.proofs.Time.{began_by}
 
 abbrev tail_of : List Draft → List Draft
@@ -66,10 +66,10 @@ module _ {D : Type 0} (l : Layout) (first : D) (holds : Pages D → Type 0) wher
       }
 
   put_step : (st : St) (r : Rule st) (i n id : ℕ) (cs : List (ℕ × Unit {0})) (v : View D) (gs : List Frame) (x f : ℕ) (xs : List ℕ) (ds : List Draft) (dr : Dropping) (d : D) → i ≡ page_at l x → n ≡ f + 1 → x < l.pages → get_elem? st.views id ≡ some v → IsLive v
-      → Passing l st.words r.frames gs v.number x f xs ds → Drops gs v.number dr → holds (told (written r.pages x xs) v.number (stage_of v.stamp) d) → Rule (stepped st i n id cs (record v { stock = ds; known = d; dropping = dr }) keeps)
+      → Passing l st.words r.frames gs v.number x f xs ds → Drops gs v.number dr → holds (observed (written r.pages x xs) v.number (stage_of v.stamp) d) → Rule (stepped st i n id cs (record v { stock = ds; known = d; dropping = dr }) keeps)
   put_step st r i n id cs v gs x f xs ds dr d i_is n_is inside at live go drops kept = let mine = r.seats id v at live in let s : Pages D = r.pages in let q : ℕ = v.number in let sg : Stage = stage_of v.stamp in
       let orderly = r.orderly in let counts = orderly.contents in let owned' = orderly.owners in let total = r.shows.frame_total in let wide = r.shows.wide in let counted = mine.counted in let dealt = mine.dealt in
-      let ws : List ℕ = set st.words i n in let s1 : Pages D = written s x xs in let s' : Pages D = told s1 q sg d in
+      let ws : List ℕ = set st.words i n in let s1 : Pages D = written s x xs in let s' : Pages D = observed s1 q sg d in
       let owners : (y : ℕ) → y < length s.owners → get_or ws (owner_at l y) 0 ≡ get_or st.words (owner_at l y) 0 = (λ y below. get_or-set_other st.words i (owner_at l y) n 0 (λ z. omega arith)) in
       let process : (k : ℕ) → k < l.passes → get_or ws (process_at l k) 0 ≡ get_or st.words (process_at l k) 0 = (λ k below. get_or-set_other st.words i (process_at l k) n 0 (λ z. omega arith)) in
       let shows : Shows l ws s1 gs = shows_put st.words s r.frames gs q x f i n xs ds i_is n_is inside r.orderly r.shows go in
@@ -81,11 +81,11 @@ module _ {D : Type 0} (l : Layout) (first : D) (holds : Pages D → Type 0) wher
         stocks = λ j es other is. go.stocks j es other is;
         drops = λ j e other is. go.drops j e other is;
         seals = λ j y other is. seal_same l st.words ws s.owners j y owners is;
-        swept = λ m k is. swept_told s s' q sg sg v.known d m k (le_refl s.clock) mine.stands refl (λ b e. inl e) is;
+        swept = λ m k is. swept_observed s s' q sg sg v.known d m k (le_refl s.clock) mine.stands refl (λ b e. inl e) is;
       } in
       moved l first holds st r i n id cs v (record v { stock = ds; known = d; dropping = dr }) s' gs r.budgets at live
-      (orderly_told l s1 q sg d (began_by l s q v.stamp v.known r.orderly mine.stands) (orderly_written l s x xs r.orderly))
-      (shows_told l ws s1 gs q sg d (subst (λ (z : ℕ). ProcessIs z sg) (sym (process q (omega arith))) (r.shows.process q sg v.known (omega arith) mine.stands)) shows)
+      (orderly_observed l s1 q sg d (began_by l s q v.stamp v.known r.orderly mine.stands) (orderly_written l s x xs r.orderly))
+      (shows_observed l ws s1 gs q sg d (subst (λ (z : ℕ). ProcessIs z sg) (sym (process q (omega arith))) (r.shows.process q sg v.known (omega arith) mine.stands)) shows)
       r.budgeted moves
       record {
         layout = refl;

@@ -13,7 +13,7 @@ use Rattle.bl_layout.specs.declared.layout.Layout.{Layout}
 use Rattle.bl_layout.specs.Words.{frame_count}
 use Rattle.bl_store.specs.Pages.{Running, Pages, Stands}
 use Rattle.bl_store.specs.Frames.{owner_at, state_at, place_at, Use, drafted, shown, dropped, timed, retired, Frame, free, used, FrameIs, MayRead, Stocks, Drops, Swept, SweepIs, Budgeted, IsLive, Kept}
-use Rattle.bl_store.specs.Told.{draft, allotted, noted, reserved, returned, wrote, confirmed, settled, released}
+use Rattle.bl_store.specs.Observed.{draft, allotted, noted, reserved, returned, wrote, confirmed, settled, released}
 use Rattle.bl_store.specs.declared.view.View.{View}
 use Rattle.bl_store.specs.declared.view.Draft.{Draft}
 use Rattle.bl_store.specs.declared.view.Dropping.{Dropping}

@@ -7,7 +7,7 @@ use Rattle.atomic_table.specs.Table.{State, Me, step, keeps, Allows}
 use Rattle.bl_layout.specs.declared.layout.Layout.{Layout}
 use Rattle.bl_store.specs.Pages.{Running, Pages}
 use Rattle.bl_store.specs.Frames.{process_at, ProcessIs, Swept, SweepIs, IsLive, Kept}
-use Rattle.bl_store.specs.Told.{lower, horizoned, passed}
+use Rattle.bl_store.specs.Observed.{lower, horizoned, passed}
 use Rattle.bl_store.specs.declared.view.View.{View}
 use Rattle.bl_store.specs.declared.view.Sweep.{Sweep}
 use Rattle.bl_store.specs.declared.view.Sweep.TheVariants.{Still, Over}

@@ -9,9 +9,9 @@ use Rattle.std.proofs.lemmas.Grind.{get_or-set_at}
 use Rattle.atomic_table.specs.Table.{State, Me, step, keeps, stepped, Allows}
 use Rattle.atomic_table.proofs.Lists.{at_set, set_else, set_again}
 use Rattle.bl_layout.specs.declared.layout.Layout.{Layout}
-use Rattle.bl_store.specs.Pages.{Owner, Held, Retired, Stage, Pages, told, owned, later, Retires}
+use Rattle.bl_store.specs.Pages.{Owner, Held, Retired, Stage, Pages, observed, owned, later, Retires}
 use Rattle.bl_store.specs.Frames.{process_at, owner_at, dropped, timed, Frame, used, OwnerIs, ProcessIs, stage_of, IsRead, Drops, Seals, Swept, Budgeted, Shows, IsLive, IsSealing, Kept}
-use Rattle.bl_store.specs.Told.{drew, sealed, published}
+use Rattle.bl_store.specs.Observed.{drew, sealed, published}
 use Rattle.bl_store.specs.declared.view.View.{View}
 use Rattle.bl_store.specs.declared.view.Stamp.{Stamp}
 use Rattle.bl_store.specs.declared.view.Stamp.TheVariants.{Out, Clocked, In}
@@ -19,7 +19,7 @@ use Rattle.bl_store.specs.declared.view.Dropping.TheVariants.{Dropped, Timed}
 use Rattle.bl_store.specs.declared.view.Sealing.{Sealing}
 use Rattle.bl_store.specs.declared.view.Sealing.TheVariants.{Unsealed, Sealed}
 use Rattle.bl_store.proofs.Lists.{at_below, there, one_there, set_there, total_set}
-use Rattle.bl_store.proofs.Keeps.{reads_kept, stocks_kept, drops_kept, shows_told, shows_state, shows_owner, shows_later, orderly_told, orderly_owned, orderly_later, swept_told, seal_same, Goes, reads_stay, sweeps_stay, sealing_stays, moved}
+use Rattle.bl_store.proofs.Keeps.{reads_kept, stocks_kept, drops_kept, shows_observed, shows_state, shows_owner, shows_later, orderly_observed, orderly_owned, orderly_later, swept_observed, seal_same, Goes, reads_stay, sweeps_stay, sealing_stays, moved}
 use Rattle.bl_store.proofs.Time.{low_clock, began_by}
 use Rattle.std.proofs.Math.Nat.{mod-eq_of_lt}
 
@@ -98,7 +98,7 @@ module _ {D : Type 0} (l : Layout) (first : D) (holds : Pages D → Type 0) wher
       let page = there s.contents x (omega arith) in let own = there s.owners x (omega arith) in
       let t = asked s sg page.0 own.0 r.kept r.orderly mine.stands (page.1, own.1) in
       let word : get_or st.words (owner_at l x) 0 ≡ 4 * q + 2 = subst (OwnerIs (get_or st.words (owner_at l x) 0)) t.0 (r.shows.owner x own.0 own.1) in
-      let s1 : Pages D = owned s x (Retired s.clock) in let s' : Pages D = told (later s1) q sg t.1 in
+      let s1 : Pages D = owned s x (Retired s.clock) in let s' : Pages D = observed (later s1) q sg t.1 in
       let bs' : List ℕ = set r.budgets q (me.0.puts + k) in let ws : List ℕ = set st.words i (n + 1) in let w : View D = record me.0 { sealing = Sealed x n; retires = k; known = t.1 } in
       let same_words : set st.words (owner_at l x) (get_or st.words (owner_at l x) 0) ≡ st.words = set-get_or st.words (owner_at l x) 0 in
       let shows1 : Shows l st.words s1 r.frames = subst (λ (z : List ℕ). Shows l z s1 r.frames) same_words (shows_owner l st.words s r.frames x (get_or st.words (owner_at l x) 0) (Retired s.clock) r.orderly inside (inr (q, word)) r.shows) in
@@ -120,15 +120,15 @@ module _ {D : Type 0} (l : Layout) (first : D) (holds : Pages D → Type 0) wher
         stocks = λ j ds other a. a;
         drops = λ j d other a. a;
         seals = λ j y other a. others j y a;
-        swept = λ m j a. swept_told s s' q sg sg me.0.known t.1 m j (omega arith) mine.stands refl (λ b e. inl e) a;
+        swept = λ m j a. swept_observed s s' q sg sg me.0.known t.1 m j (omega arith) mine.stands refl (λ b e. inl e) a;
       } in (
         w,
         keeps,
         tt,
         subst (λ (z : ℕ). Rule (stepped st i z id me.1 w keeps)) (sym up)
             (moved l first holds st r i (n + 1) id me.1 me.0 w s' r.frames bs' at live
-            (orderly_told l (later s1) q sg t.1 (λ b e. let soon = began_by l s q me.0.stamp me.0.known r.orderly mine.stands b e in omega arith) (orderly_later l s1 (orderly_owned l s x (Retired s.clock) r.orderly)))
-            (shows_told l ws (later s1) r.frames q sg t.1 (subst (λ (z : ℕ). ProcessIs z sg) (sym process) (r.shows.process q sg me.0.known (omega arith) mine.stands)) shows)
+            (orderly_observed l (later s1) q sg t.1 (λ b e. let soon = began_by l s q me.0.stamp me.0.known r.orderly mine.stands b e in omega arith) (orderly_later l s1 (orderly_owned l s x (Retired s.clock) r.orderly)))
+            (shows_observed l ws (later s1) r.frames q sg t.1 (subst (λ (z : ℕ). ProcessIs z sg) (sym process) (r.shows.process q sg me.0.known (omega arith) mine.stands)) shows)
             (spent s.clock q (me.0.puts + me.0.retires) (me.0.puts + k) r.budgets mine.budget (omega arith) r.budgeted) go
             record {
               layout = refl;

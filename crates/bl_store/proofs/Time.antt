@@ -7,9 +7,9 @@ use Rattle.atomic_table.specs.Table.{State, Me, step, keeps, stepped, Allows}
 use Rattle.atomic_table.proofs.Lists.{set_else}
 use Rattle.bl_layout.specs.declared.layout.Layout.{Layout}
 use Rattle.bl_layout.specs.Words.{frame_count}
-use Rattle.bl_store.specs.Pages.{Owner, Stage, Running, Pages, Stands, IsOrderly, told, Begins, Ends, Gets}
+use Rattle.bl_store.specs.Pages.{Owner, Stage, Running, Pages, Stands, IsOrderly, observed, Begins, Ends, Gets}
 use Rattle.bl_store.specs.Frames.{process_at, page_at, owner_at, place_at, Use, drafted, shown, dropped, timed, retired, Frame, used, Full, PageIs, ProcessIs, stage_of, IsRead, MayRead, Reads, Budgeted, Shows, IsLive, Kept}
-use Rattle.bl_store.specs.Told.{clocked, stamped, ended, looked, copied}
+use Rattle.bl_store.specs.Observed.{clocked, stamped, ended, looked, copied}
 use Rattle.bl_store.specs.declared.view.View.{View}
 use Rattle.bl_store.specs.declared.view.Wanted.{Wanted}
 use Rattle.bl_store.specs.declared.view.Stamp.{Stamp}
@@ -17,7 +17,7 @@ use Rattle.bl_store.specs.declared.view.Stamp.TheVariants.{Out, Clocked, In}
 use Rattle.bl_store.specs.declared.view.Reading.{Reading}
 use Rattle.bl_store.specs.declared.view.Reading.TheVariants.{Nowhere, At}
 use Rattle.bl_store.proofs.Lists.{at_below, there, set_there}
-use Rattle.bl_store.proofs.Keeps.{shows_told, shows_process, orderly_told, swept_told, seal_same, Goes, sweeps_stay, sealing_stays, moved, unmoved}
+use Rattle.bl_store.proofs.Keeps.{shows_observed, shows_process, orderly_observed, swept_observed, seal_same, Goes, sweeps_stay, sealing_stays, moved, unmoved}
 
 abbrev frame_of : Reading → ℕ
 frame_of Nowhere = 0
@@ -54,9 +54,9 @@ module _ {D : Type 0} where
   }
 
   -- the hand q is told something, and goes on with its process, ends it or begins one by now
-  pub goes_told : (l : Layout) (ws ws' : List ℕ) (s : Pages D) (fs : List Frame) (bs : List ℕ) (q : ℕ) (st0 st : Stage) (d0 d : D) → Stands s q st0 d0 → ((b : ℕ) → st ≡ Running b → (st0 ≡ Running b) ⊎ (s.clock ≤ b))
-      → ((x : ℕ) → x < length s.owners → get_or ws' (owner_at l x) 0 ≡ get_or ws (owner_at l x) 0) → Goes l ws ws' s (told s q st d) fs fs bs bs q
-  goes_told l ws ws' s fs bs q st0 st d0 d here begun owners = record {
+  pub goes_observed : (l : Layout) (ws ws' : List ℕ) (s : Pages D) (fs : List Frame) (bs : List ℕ) (q : ℕ) (st0 st : Stage) (d0 d : D) → Stands s q st0 d0 → ((b : ℕ) → st ≡ Running b → (st0 ≡ Running b) ⊎ (s.clock ≤ b))
+      → ((x : ℕ) → x < length s.owners → get_or ws' (owner_at l x) 0 ≡ get_or ws (owner_at l x) 0) → Goes l ws ws' s (observed s q st d) fs fs bs bs q
+  goes_observed l ws ws' s fs bs q st0 st d0 d here begun owners = record {
     clock = le_refl s.clock;
     hands = λ k other. set_else s.hands q k (st, d) other;
     budgets = λ k other. refl;
@@ -64,7 +64,7 @@ module _ {D : Type 0} where
     stocks = λ j ds other is. is;
     drops = λ j x other is. is;
     seals = λ j x other is. seal_same l ws ws' s.owners j x owners is;
-    swept = λ m k is. swept_told s (told s q st d) q st0 st d0 d m k (le_refl s.clock) here refl begun is;
+    swept = λ m k is. swept_observed s (observed s q st d) q st0 st d0 d m k (le_refl s.clock) here refl begun is;
   }
 
   pub began_by : (l : Layout) (s : Pages D) (n : ℕ) (st : Stamp) (d : D) → IsOrderly l s → Stands s n (stage_of st) d → (b : ℕ) → stage_of st ≡ Running b → b ≤ s.clock
@@ -81,13 +81,13 @@ module _ {D : Type 0} (l : Layout) (first : D) (holds : Pages D → Type 0) wher
   Rule = Kept l first holds
 
   -- a load at which the hand is told something and reads as it says
-  pub told_load : (st : St) (r : Rule st) (i id : ℕ) (cs : List (ℕ × Unit {0})) (v : View D) (rd : Reading) (rf : Option Wanted) (d : D) → get_elem? st.views id ≡ some v → IsLive v → Reads r.frames v.stamp rd
-      → holds (told r.pages v.number (stage_of v.stamp) d) → Rule (stepped st i (get_or st.words i 0) id cs (record v { reading = rd; refused = rf; known = d }) keeps)
-  told_load st r i id cs v rd rf d at live reads kept = let mine = r.seats id v at live in let s : Pages D = r.pages in let low = mine.counted in let dealt = mine.dealt in
-      let go : Goes l st.words st.words s (told s v.number (stage_of v.stamp) d) r.frames r.frames r.budgets r.budgets v.number = goes_told l st.words st.words s r.frames r.budgets v.number (stage_of v.stamp) (stage_of v.stamp) v.known d mine.stands (λ b e. inl e) (λ x _. refl) in
-      unmoved l first holds st r i id cs v (record v { reading = rd; refused = rf; known = d }) (told s v.number (stage_of v.stamp) d) r.budgets at live
-      (orderly_told l s v.number (stage_of v.stamp) d (began_by l s v.number v.stamp v.known r.orderly mine.stands) r.orderly)
-      (shows_told l st.words s r.frames v.number (stage_of v.stamp) d (r.shows.process v.number (stage_of v.stamp) v.known (omega arith) mine.stands) r.shows)
+  pub observed_load : (st : St) (r : Rule st) (i id : ℕ) (cs : List (ℕ × Unit {0})) (v : View D) (rd : Reading) (rf : Option Wanted) (d : D) → get_elem? st.views id ≡ some v → IsLive v → Reads r.frames v.stamp rd
+      → holds (observed r.pages v.number (stage_of v.stamp) d) → Rule (stepped st i (get_or st.words i 0) id cs (record v { reading = rd; refused = rf; known = d }) keeps)
+  observed_load st r i id cs v rd rf d at live reads kept = let mine = r.seats id v at live in let s : Pages D = r.pages in let low = mine.counted in let dealt = mine.dealt in
+      let go : Goes l st.words st.words s (observed s v.number (stage_of v.stamp) d) r.frames r.frames r.budgets r.budgets v.number = goes_observed l st.words st.words s r.frames r.budgets v.number (stage_of v.stamp) (stage_of v.stamp) v.known d mine.stands (λ b e. inl e) (λ x _. refl) in
+      unmoved l first holds st r i id cs v (record v { reading = rd; refused = rf; known = d }) (observed s v.number (stage_of v.stamp) d) r.budgets at live
+      (orderly_observed l s v.number (stage_of v.stamp) d (began_by l s v.number v.stamp v.known r.orderly mine.stands) r.orderly)
+      (shows_observed l st.words s r.frames v.number (stage_of v.stamp) d (r.shows.process v.number (stage_of v.stamp) v.known (omega arith) mine.stands) r.shows)
       r.budgeted go
       record {
         layout = refl;
@@ -106,15 +106,15 @@ module _ {D : Type 0} (l : Layout) (first : D) (holds : Pages D → Type 0) wher
 
   -- a process word changes, and the hand reads nothing
   process_step : (st : St) (r : Rule st) (i id n : ℕ) (cs : List (ℕ × Unit {0})) (v : View D) (sp : Stamp) (rf : Option Wanted) (d : D) → get_elem? st.views id ≡ some v → IsLive v → i ≡ process_at l v.number → ProcessIs n (stage_of sp) → IsRead r.pages.clock sp
-      → ((b : ℕ) → stage_of sp ≡ Running b → b ≡ r.pages.clock) → holds (told r.pages v.number (stage_of sp) d) → Rule (stepped st i n id cs (record v { stamp = sp; reading = Nowhere; refused = rf; known = d }) keeps)
+      → ((b : ℕ) → stage_of sp ≡ Running b → b ≡ r.pages.clock) → holds (observed r.pages v.number (stage_of sp) d) → Rule (stepped st i n id cs (record v { stamp = sp; reading = Nowhere; refused = rf; known = d }) keeps)
   process_step st r i id n cs v sp rf d at live i_is is clocked' begun kept = let mine = r.seats id v at live in let s : Pages D = r.pages in let low = mine.counted in let dealt = mine.dealt in let orderly = r.orderly in let counts = orderly.owners in
       let ws : List ℕ = set st.words i n in
       let owners : (x : ℕ) → x < length s.owners → get_or ws (owner_at l x) 0 ≡ get_or st.words (owner_at l x) 0 = (λ x below. get_or-set_other st.words i (owner_at l x) n 0 (λ z. omega arith)) in
-      let go : Goes l st.words ws s (told s v.number (stage_of sp) d) r.frames r.frames r.budgets r.budgets v.number = goes_told l st.words ws s r.frames r.budgets v.number (stage_of v.stamp) (stage_of sp) v.known d mine.stands
+      let go : Goes l st.words ws s (observed s v.number (stage_of sp) d) r.frames r.frames r.budgets r.budgets v.number = goes_observed l st.words ws s r.frames r.budgets v.number (stage_of v.stamp) (stage_of sp) v.known d mine.stands
       (λ b e. let now = begun b e in inr (omega arith)) owners in
-      moved l first holds st r i n id cs v (record v { stamp = sp; reading = Nowhere; refused = rf; known = d }) (told s v.number (stage_of sp) d) r.frames r.budgets at live
-      (orderly_told l s v.number (stage_of sp) d (λ b e. let now = begun b e in omega arith) r.orderly)
-      (subst (λ (z : ℕ). Shows l (set st.words z n) (told s v.number (stage_of sp) d) r.frames) (sym i_is) (shows_process l st.words s r.frames v.number n (stage_of sp) d r.orderly (omega arith) is r.shows))
+      moved l first holds st r i n id cs v (record v { stamp = sp; reading = Nowhere; refused = rf; known = d }) (observed s v.number (stage_of sp) d) r.frames r.budgets at live
+      (orderly_observed l s v.number (stage_of sp) d (λ b e. let now = begun b e in omega arith) r.orderly)
+      (subst (λ (z : ℕ). Shows l (set st.words z n) (observed s v.number (stage_of sp) d) r.frames) (sym i_is) (shows_process l st.words s r.frames v.number n (stage_of sp) d r.orderly (omega arith) is r.shows))
       r.budgeted go
       record {
         layout = refl;
@@ -184,7 +184,7 @@ module _ {D : Type 0} (l : Layout) (first : D) (holds : Pages D → Type 0) wher
   looks then' slots id i b x me i_is inside same is asked live st r _ at _ = let mine = r.seats id me.0 at live in let s : Pages D = r.pages in let orderly = r.orderly in let counts = orderly.contents in let owners = orderly.owners in
       let page = there s.contents x (omega arith) in let own = there s.owners x (omega arith) in let n : ℕ = get_or st.words i 0 in
       let t = asked s b page.0 own.0 r.kept r.orderly (mine.stands ∙ ap (λ (z : Stamp). some (stage_of z, me.0.known)) is) (page.1, own.1) in
-      let kept : holds (told s me.0.number (stage_of me.0.stamp) t.1) = subst (λ (z : Stamp). holds (told s me.0.number (stage_of z) t.1)) (sym is) t.2 in
+      let kept : holds (observed s me.0.number (stage_of me.0.stamp) t.1) = subst (λ (z : Stamp). holds (observed s me.0.number (stage_of z) t.1)) (sym is) t.2 in
       let passes = ap (λ (z : Layout). z.passes) same in let total = r.shows.frame_total in let counts' = ap (λ (z : Layout). frame_count z) same in
       let from : PageIs r.frames x n page.0 = subst (λ (z : ℕ). PageIs r.frames x (get_or st.words z 0) page.0) (sym i_is) (r.shows.page x page.0 page.1) in
       ⊎_elim
@@ -192,14 +192,14 @@ module _ {D : Type 0} (l : Layout) (first : D) (holds : Pages D → Type 0) wher
         record me.0 { reading = me.0.reading; known = t.1 },
         keeps,
         tt,
-        told_load st r i id me.1 me.0 me.0.reading me.0.refused t.1 at live mine.reads kept,
+        observed_load st r i id me.1 me.0 me.0.reading me.0.refused t.1 at live mine.reads kept,
         ((refl, refl, refl, refl), refl, (refl, refl, refl), λ y equal. let back : x ≡ y = omega arith in (own.0, page.0, ((λ _. e.1), λ some_frame. absurd (some_frame e.0)), subst (λ (z : ℕ). then' me.0.known z own.0 page.0 t.1) back t.3)),
       ))
       (λ (e : (f : ℕ) × (n ≡ f + 1) × (get_elem? r.frames f ≡ some (used (shown x) page.0))). let up = e.1 in let within = at_below r.frames e.0 (used (shown x) page.0) e.2 in (
         record me.0 { reading = At e.0 page.0; known = t.1 },
         keeps,
         tt,
-        told_load st r i id me.1 me.0 (At e.0 page.0) me.0.refused t.1 at live (b, is, (shown x, e.2, tt)) kept,
+        observed_load st r i id me.1 me.0 (At e.0 page.0) me.0.refused t.1 at live (b, is, (shown x, e.2, tt)) kept,
         (
           (refl, refl, refl, refl),
           refl,

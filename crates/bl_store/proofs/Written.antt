@@ -5,7 +5,7 @@ use Rattle.std.proofs.lemmas.List.{get_or_append_left, length-append}
 use Rattle.atomic_table.specs.declared.shared.Seat.{Seat}
 use Rattle.bl_layout.specs.declared.layout.Layout.{Layout}
 use Rattle.bl_layout.specs.Words.{frame_count}
-use Rattle.bl_store.specs.Told.{draft}
+use Rattle.bl_store.specs.Observed.{draft}
 use Rattle.bl_store.specs.Drafts.{first_words, behind_first, IsSpread}
 use Rattle.bl_store.specs.Hands.{drafts, BeginsAt, IsStockOf}
 use Rattle.bl_store.specs.declared.put.Spread.{Spread}

@@ -1,7 +1,7 @@
 pub mod Pages
 pub mod Frames
 pub mod Opening
-pub mod Told
+pub mod Observed
 pub mod Drafts
 pub mod Hands
 pub mod Owners

@@ -34,8 +34,8 @@ module _ {D : Type 0} where
   IsPage s x words owner = (get_elem? s.contents x ≡ some words) × (get_elem? s.owners x ≡ some owner)
 
   -- the hand n stands there from now on and knows d
-  abbrev pub told : Pages D → ℕ → Stage → D → Pages D
-  told s n st d = record s { hands = slice_set s.hands n (st, d) }
+  abbrev pub observed : Pages D → ℕ → Stage → D → Pages D
+  observed s n st d = record s { hands = slice_set s.hands n (st, d) }
 
   abbrev pub owned : Pages D → ℕ → Owner → Pages D
   owned s x owner = record s { owners = slice_set s.owners x owner }
@@ -66,67 +66,67 @@ module _ {D : Type 0} (holds : Pages D → Type 0) (l : Layout) (n : ℕ) (d : D
   -- a process of the hand begins
   abbrev pub Begins : (D → ℕ → D → Type 0) → Type 0
   Begins then = (s : Pages D) → holds s → IsOrderly l s → Stands s n Idle d
-      → (d' : D) × holds (told s n (Running s.clock) d') × then d s.clock d'
+      → (d' : D) × holds (observed s n (Running s.clock) d') × then d s.clock d'
 
   -- the hand's process ends, and has no page
   abbrev pub Ends : (D → ℕ → D → Type 0) → Type 0
   Ends then = (s : Pages D) (since : ℕ) → holds s → IsOrderly l s → Stands s n (Running since) d
-      → HoldsNone s n × (d' : D) × holds (told s n Idle d') × then d s.clock d'
+      → HoldsNone s n × (d' : D) × holds (observed s n Idle d') × then d s.clock d'
 
   -- the page x, which is not released, is read
   abbrev pub Gets : ℕ → (D → ℕ → Owner → List ℕ → D → Type 0) → Type 0
   Gets x then = (s : Pages D) (since : ℕ) (words : List ℕ) (owner : Owner) → holds s → IsOrderly l s → Stands s n (Running since) d → IsPage s x words owner
-      → (owner ≢ Released) × (d' : D) × holds (told s n (Running since) d') × then d x owner words d'
+      → (owner ≢ Released) × (d' : D) × holds (observed s n (Running since) d') × then d x owner words d'
 
   -- the page x, which the hand holds, becomes `new`
   abbrev pub Puts : ℕ → List ℕ → (D → ℕ → Owner → List ℕ → D → Type 0) → Type 0
   Puts x new then = (s : Pages D) (st : Stage) (words : List ℕ) (owner : Owner) → holds s → IsOrderly l s → Stands s n st d → IsPage s x words owner
-      → (owner ≡ Held n) × (d' : D) × holds (told (written s x new) n st d') × then d x owner words d'
+      → (owner ≡ Held n) × (d' : D) × holds (observed (written s x new) n st d') × then d x owner words d'
 
   -- the page x, which was released, is the hand's
   abbrev pub Takes : ℕ → (D → ℕ → Owner → List ℕ → D → Type 0) → Type 0
   Takes x then = (s : Pages D) (st : Stage) (words : List ℕ) → holds s → IsOrderly l s → Stands s n st d → IsPage s x words Released
-      → (d' : D) × holds (told (owned s x (Held n)) n st d') × then d x Released words d'
+      → (d' : D) × holds (observed (owned s x (Held n)) n st d') × then d x Released words d'
 
   -- the page x, which was open, is the hand's
   abbrev pub Latches : ℕ → (D → ℕ → Owner → List ℕ → D → Type 0) → Type 0
   Latches x then = (s : Pages D) (st : Stage) (words : List ℕ) → holds s → IsOrderly l s → Stands s n st d → IsPage s x words Open
-      → (d' : D) × holds (told (owned s x (Held n)) n st d') × then d x Open words d'
+      → (d' : D) × holds (observed (owned s x (Held n)) n st d') × then d x Open words d'
 
   -- the latch of the page x, which was not open, is missed
   abbrev pub Misses : ℕ → (D → ℕ → Owner → List ℕ → D → Type 0) → Type 0
   Misses x then = (s : Pages D) (st : Stage) (words : List ℕ) (owner : Owner) → holds s → IsOrderly l s → Stands s n st d → IsPage s x words owner → owner ≢ Open
-      → (d' : D) × holds (told s n st d') × then d x owner words d'
+      → (d' : D) × holds (observed s n st d') × then d x owner words d'
 
   -- the page x is looked at, whether it is open
   abbrev pub Probes : ℕ → (D → ℕ → Owner → List ℕ → D → Type 0) → Type 0
   Probes x then = (s : Pages D) (st : Stage) (words : List ℕ) (owner : Owner) → holds s → IsOrderly l s → Stands s n st d → IsPage s x words owner
-      → (d' : D) × holds (told s n st d') × then d x owner words d'
+      → (d' : D) × holds (observed s n st d') × then d x owner words d'
 
   -- the page x, which the hand holds, is open
   abbrev pub Opens : ℕ → (D → ℕ → Owner → List ℕ → D → Type 0) → Type 0
   Opens x then = (s : Pages D) (st : Stage) (words : List ℕ) (owner : Owner) → holds s → IsOrderly l s → Stands s n st d → IsPage s x words owner
-      → (owner ≡ Held n) × (d' : D) × holds (told (owned s x Open) n st d') × then d x owner words d'
+      → (owner ≡ Held n) × (d' : D) × holds (observed (owned s x Open) n st d') × then d x owner words d'
 
   -- the page x, which the hand holds, is retired at the time, and time passes
   abbrev pub Retires : ℕ → (D → ℕ → D → Type 0) → Type 0
   Retires x then = (s : Pages D) (st : Stage) (words : List ℕ) (owner : Owner) → holds s → IsOrderly l s → Stands s n st d → IsPage s x words owner
-      → (owner ≡ Held n) × (d' : D) × holds (told (later (owned s x (Retired s.clock))) n st d') × then d s.clock d'
+      → (owner ≡ Held n) × (d' : D) × holds (observed (later (owned s x (Retired s.clock))) n st d') × then d s.clock d'
 
   -- a reservation is refused, which changes nothing
   abbrev pub Refuses : (D → ℕ → D → Type 0) → Type 0
   Refuses then = (s : Pages D) (st : Stage) → holds s → IsOrderly l s → Stands s n st d
-      → (d' : D) × holds (told s n st d') × then d s.clock d'
+      → (d' : D) × holds (observed s n st d') × then d s.clock d'
 
   -- the hand learns of another, m, that is outside a process and knows e; nothing else changes
   abbrev pub Meets : ℕ → D → (D → D → D → Type 0) → Type 0
   Meets m e then = (s : Pages D) (st : Stage) → holds s → IsOrderly l s → Stands s n st d → Stands s m Idle e → m ≢ n
-      → (d' : D) × holds (told s n st d') × then d e d'
+      → (d' : D) × holds (observed s n st d') × then d e d'
 
   -- the page x is released, which was retired at that time; every process that runs began after it
   abbrev pub Releases : ℕ → ℕ → (D → Type 0) → Type 0
   Releases x time then = (s : Pages D) (st : Stage) (words : List ℕ) → holds s → IsOrderly l s → Stands s n st d → IsPage s x words (Retired time) → AllBeganAfter s time
-      → (d' : D) × holds (told (owned s x Released) n st d') × then d'
+      → (d' : D) × holds (observed (owned s x Released) n st d') × then d'
 
 -- Any number of releases by the hand n, in their order: what they tell goes on from one to the next, and counts the pages.
 abbrev pub ReleasesMany : {D : Type 0} → (Pages D → Type 0) → Layout → ℕ → D → (D → ℕ → D → Type 0) → Type 0

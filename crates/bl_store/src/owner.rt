@@ -23,7 +23,7 @@ impl<D, R: PageRule<D>, A: Allocator> Store<D, R, A> {
         requires latches { Latches R.holds self.now.layout hand.old.number (known hand.old.seat) page M.then }
         requires misses { Misses R.holds self.now.layout hand.old.number (known hand.old.seat) page M.then }
         ensures same { IsSameHand hand.old.seat hand.new.seat × IsSameStage hand.old.seat hand.new.seat × IsSameStock hand.old.seat hand.new.seat }
-        ensures told { (owner : Owner) × (words : List ℕ) × (IsTrue result ↔ (owner ≡ Owner.Open)) × M.then (known hand.old.seat) page owner words (known hand.new.seat) }
+        ensures observed { (owner : Owner) × (words : List ℕ) × (IsTrue result ↔ (owner ≡ Owner.Open)) × M.then (known hand.old.seat) page owner words (known hand.new.seat) }
     {
         let mine = 4 * hand.number as u64 + 2;
         let at = self.layout.page_owner_cell(page);
@@ -40,7 +40,7 @@ impl<D, R: PageRule<D>, A: Allocator> Store<D, R, A> {
         requires page { page < self.now.layout.pages }
         requires rule { Probes R.holds self.now.layout hand.old.number (known hand.old.seat) page M.then }
         ensures same { IsSameHand hand.old.seat hand.new.seat × IsSameStage hand.old.seat hand.new.seat × IsSameStock hand.old.seat hand.new.seat }
-        ensures told { (owner : Owner) × (words : List ℕ) × (IsTrue result ↔ (owner ≡ Owner.Open)) × M.then (known hand.old.seat) page owner words (known hand.new.seat) }
+        ensures observed { (owner : Owner) × (words : List ℕ) × (IsTrue result ↔ (owner ≡ Owner.Open)) × M.then (known hand.old.seat) page owner words (known hand.new.seat) }
     {
         let at = self.layout.page_owner_cell(page);
         self.table.shared.load::<Try<M>>(&mut hand.seat, at) == 1
@@ -53,7 +53,7 @@ impl<D, R: PageRule<D>, A: Allocator> Store<D, R, A> {
         requires rule { Opens R.holds self.now.layout hand.old.number (known hand.old.seat) page M.then }
         ensures same { IsSameHand hand.old.seat hand.new.seat × IsSameStage hand.old.seat hand.new.seat × IsSameStock hand.old.seat hand.new.seat }
         ensures refusal { IsSameRefusal hand.old.seat hand.new.seat }
-        ensures told { (words : List ℕ) × M.then (known hand.old.seat) page (Held hand.old.number) words (known hand.new.seat) }
+        ensures observed { (words : List ℕ) × M.then (known hand.old.seat) page (Held hand.old.number) words (known hand.new.seat) }
     {
         let at = self.layout.page_owner_cell(page);
         self.table.shared.store::<Open<M>>(&mut hand.seat, at, 1);
@@ -67,7 +67,7 @@ impl<D, R: PageRule<D>, A: Allocator> Store<D, R, A> {
         requires rule { Retires R.holds self.now.layout hand.old.number (known hand.old.seat) page M.then }
         ensures same { IsSameHand hand.old.seat hand.new.seat × IsSameStage hand.old.seat hand.new.seat }
         ensures stock { (hand.new.seat.me.0.stock ≡ hand.old.seat.me.0.stock) × (hand.new.seat.me.0.puts ≡ hand.old.seat.me.0.puts) }
-        ensures told { (time : ℕ) × M.then (known hand.old.seat) time (known hand.new.seat) }
+        ensures observed { (time : ℕ) × M.then (known hand.old.seat) time (known hand.new.seat) }
     {
         let time = self.seal::<M, Brand>(&mut hand.seat, page);
         let at = self.layout.page_owner_cell(page);
@@ -86,7 +86,7 @@ impl<D, R: PageRule<D>, A: Allocator> Store<D, R, A> {
         ensures same { IsSameHand seat.old seat.new × IsSameStage seat.old seat.new }
         ensures stock { (seat.new.me.0.stock ≡ seat.old.me.0.stock) × (seat.new.me.0.puts ≡ seat.old.me.0.puts) }
         ensures sealed { (seat.new.me.0.sealing ≡ Sealed page result) × (result < 2305843009213693952) × (seat.new.me.1 ≡ []) }
-        ensures told { M.then (known seat.old) result (known seat.new) }
+        ensures observed { M.then (known seat.old) result (known seat.new) }
     {
         self.table
             .shared

@@ -1,5 +1,5 @@
 //! What each step on the table tells its seat.
-ghost use Rattle.bl_store.specs.Told.{allotted, clocked, confirmed, copied, drew, ended, freed, horizoned, looked, met, noted, opened, passed, published, refused, released, reserved, returned, sealed, settled, stamped, swapped, took, tried, wrote};
+ghost use Rattle.bl_store.specs.Observed.{allotted, clocked, confirmed, copied, drew, ended, freed, horizoned, looked, met, noted, opened, passed, published, refused, released, reserved, returned, sealed, settled, stamped, swapped, took, tried, wrote};
 ghost use Rattle.std.specs.Prelude.{ℕ};
 
 use crate::rule::{MeetPlay, PagePlay, SweepPlay, TimePlay};

@@ -5,7 +5,7 @@ ghost use Rattle.bl_store.specs.Drafts.{draft_words, other_drafts, HasDraft, IsS
 ghost use Rattle.bl_store.specs.Frames.{place_at};
 ghost use Rattle.bl_store.specs.Pages.{Held, Puts};
 ghost use Rattle.bl_store.specs.Hands.{known, read_words, IsSameHand, IsSameReading, IsSameStage, IsQuiet, IsStockOf, HasRetired, ReadsFrom};
-ghost use Rattle.bl_store.specs.Told.{draft};
+ghost use Rattle.bl_store.specs.Observed.{draft};
 ghost use Rattle.bl_store.specs.declared.view.Draft.{Draft};
 ghost use Rattle.bl_store.specs.declared.view.Dropping.TheVariants.{Dropped};
 
@@ -50,7 +50,7 @@ impl<D, R: PageRule<D>, A: Allocator> Store<D, R, A> {
         requires rule { Puts R.holds self.now.layout hand.old.number (known hand.old.seat) page words.now M.then }
         ensures same { IsSameHand hand.old.seat hand.new.seat × IsSameStage hand.old.seat hand.new.seat × (hand.new.seat.me.0.retires ≡ hand.old.seat.me.0.retires) }
         ensures stock { IsStockOf hand.new.seat stock.new × (stock.new.count + 1 ≡ stock.old.count) × (stock.new.page ≡ stock.old.page) }
-        ensures told { (old : List ℕ) × M.then (known hand.old.seat) page (Held hand.old.number) old (known hand.new.seat) }
+        ensures observed { (old : List ℕ) × M.then (known hand.old.seat) page (Held hand.old.number) old (known hand.new.seat) }
         ensures retired { HasRetired hand.new.seat }
     {
         stock.count -= 1;
@@ -79,7 +79,7 @@ impl<D, R: PageRule<D>, A: Allocator> Store<D, R, A> {
         requires rule { (words : List ℕ) × IsSpread change (read_words hand.old.seat) words × Puts R.holds self.now.layout hand.old.number (known hand.old.seat) page words M.then }
         ensures same { IsSameHand hand.old.seat hand.new.seat × IsSameStage hand.old.seat hand.new.seat × (hand.new.seat.me.0.retires ≡ hand.old.seat.me.0.retires) }
         ensures stock { IsStockOf hand.new.seat stock.new × (stock.new.count + 1 ≡ stock.old.count) × (stock.new.page ≡ stock.old.page) }
-        ensures told { (old : List ℕ) × M.then (known hand.old.seat) page (Held hand.old.number) old (known hand.new.seat) }
+        ensures observed { (old : List ℕ) × M.then (known hand.old.seat) page (Held hand.old.number) old (known hand.new.seat) }
         ensures retired { HasRetired hand.new.seat }
     {
         stock.count -= 1;
@@ -98,7 +98,7 @@ impl<D, R: PageRule<D>, A: Allocator> Store<D, R, A> {
         requires rule { Puts R.holds self.now.layout hand.old.number (known hand.old.seat) page (draft_words hand.old.seat) M.then }
         ensures same { IsSameHand hand.old.seat hand.new.seat × IsSameStage hand.old.seat hand.new.seat × (hand.new.seat.me.0.retires ≡ hand.old.seat.me.0.retires) }
         ensures stock { (hand.new.seat.me.0.stock ≡ other_drafts hand.old.seat) × (hand.old.seat.me.0.puts ≤ hand.new.seat.me.0.puts + 1) }
-        ensures told { (old : List ℕ) × M.then (known hand.old.seat) page (Held hand.old.number) old (known hand.new.seat) }
+        ensures observed { (old : List ℕ) × M.then (known hand.old.seat) page (Held hand.old.number) old (known hand.new.seat) }
         ensures retired { HasRetired hand.new.seat }
     {
         let before = self.table.shared.swap::<Swap<M>>(

@@ -3,7 +3,7 @@ ghost use Rattle.std.specs.Prelude.{◌≡◌, ◌≢◌, ◌⊎◌, ℕ, ◌+�
 ghost use Rattle.bl_layout.specs.Words.{frame_count};
 ghost use Rattle.bl_store.specs.Pages.{Released, Takes, Refuses};
 ghost use Rattle.bl_store.specs.Frames.{owner_at};
-ghost use Rattle.bl_store.specs.Told.{wanted};
+ghost use Rattle.bl_store.specs.Observed.{wanted};
 ghost use Rattle.bl_store.specs.Hands.{known, IsSameHand, IsSameReading, IsSameStage, IsSameStock, IsQuiet, HasNoStock, IsStockOf, MayRetire, SawTaken, IsTried, IsWhy, WasRefused};
 
 use crate::plays::{Allot, Ask, Note, Refuse, Reserve, Return, Take};
@@ -84,7 +84,7 @@ impl<D, R: PageRule<D>, A: Allocator> Store<D, R, A> {
         ensures same { IsSameHand hand.old.seat hand.new.seat × IsSameStage hand.old.seat hand.new.seat }
         ensures stock { (hand.new.seat.me.0.stock ≡ hand.old.seat.me.0.stock) × (hand.new.seat.me.0.seen ≡ hand.old.seat.me.0.seen) × (hand.new.seat.me.0.got ≡ hand.old.seat.me.0.got) }
         ensures refused { hand.new.seat.me.0.refused ≡ Some (wanted pages frames) }
-        ensures told { (now : ℕ) × M.then (known hand.old.seat) now (known hand.new.seat) }
+        ensures observed { (now : ℕ) × M.then (known hand.old.seat) now (known hand.new.seat) }
     {
         self.table
             .shared

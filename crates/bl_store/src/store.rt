@@ -118,7 +118,7 @@ impl<D, R: PageRule<D>, A: Allocator> Store<D, R, A> {
         ensures same { IsSameHand hand.old.seat hand.new.seat × IsSameStock hand.old.seat hand.new.seat }
         ensures running { IsRunning hand.new.seat }
         ensures none { hand.new.seat.me.0.refused ≡ None }
-        ensures told { (now : ℕ) × M.then (known hand.old.seat) now (known hand.new.seat) }
+        ensures observed { (now : ℕ) × M.then (known hand.old.seat) now (known hand.new.seat) }
     {
         let clock = self
             .table
@@ -138,7 +138,7 @@ impl<D, R: PageRule<D>, A: Allocator> Store<D, R, A> {
         ensures same { IsSameHand hand.old.seat hand.new.seat × IsSameStock hand.old.seat hand.new.seat }
         ensures idle { IsIdle hand.new.seat }
         ensures refusal { IsSameRefusal hand.old.seat hand.new.seat }
-        ensures told { (now : ℕ) × M.then (known hand.old.seat) now (known hand.new.seat) }
+        ensures observed { (now : ℕ) × M.then (known hand.old.seat) now (known hand.new.seat) }
     {
         let process = self.stamps + PROCESS_CELLS * hand.number as usize;
         self.table
@@ -155,7 +155,7 @@ impl<D, R: PageRule<D>, A: Allocator> Store<D, R, A> {
         requires page { page < self.now.layout.pages }
         requires rule { Gets R.holds self.now.layout hand.old.number (known hand.old.seat) page M.then }
         ensures same { IsSameHand hand.old.seat hand.new.seat × IsSameStage hand.old.seat hand.new.seat × IsSameStock hand.old.seat hand.new.seat }
-        ensures told { (owner : Owner) × (words : List ℕ) × HasSeen result hand.new.seat words × M.then (known hand.old.seat) page owner words (known hand.new.seat) }
+        ensures observed { (owner : Owner) × (words : List ℕ) × HasSeen result hand.new.seat words × M.then (known hand.old.seat) page owner words (known hand.new.seat) }
         ensures unread { (glance : Glance) → result ≡ Some glance → glance.used ≡ 0 }
     {
         let found = self
@@ -207,7 +207,7 @@ impl<D, R: PageRule<D>, A: Allocator> Store<D, R, A> {
         requires page { page < self.now.layout.pages }
         requires rule { Gets R.holds self.now.layout hand.old.number (known hand.old.seat) page M.then }
         ensures same { IsSameHand hand.old.seat hand.new.seat × IsSameStage hand.old.seat hand.new.seat × IsSameStock hand.old.seat hand.new.seat }
-        ensures told { (owner : Owner) × M.then (known hand.old.seat) page owner result (known hand.new.seat) }
+        ensures observed { (owner : Owner) × M.then (known hand.old.seat) page owner result (known hand.new.seat) }
     {
         let mut words = [0u64; 32];
         self.get_into::<M>(hand, page, &mut words);
@@ -221,7 +221,7 @@ impl<D, R: PageRule<D>, A: Allocator> Store<D, R, A> {
         requires page { page < self.now.layout.pages }
         requires rule { Gets R.holds self.now.layout hand.old.number (known hand.old.seat) page M.then }
         ensures same { IsSameHand hand.old.seat hand.new.seat × IsSameStage hand.old.seat hand.new.seat × IsSameStock hand.old.seat hand.new.seat }
-        ensures told { (owner : Owner) × M.then (known hand.old.seat) page owner words.new (known hand.new.seat) }
+        ensures observed { (owner : Owner) × M.then (known hand.old.seat) page owner words.new (known hand.new.seat) }
     {
         let found = self
             .table

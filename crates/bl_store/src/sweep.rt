@@ -40,7 +40,7 @@ impl<D, R: PageRule<D>, A: Allocator> Store<D, R, A> {
         requires own { IsHandOf self.now hand.old }
         requires rule { ReleasesMany R.holds self.now.layout hand.old.number (known hand.old.seat) M.then }
         ensures same { IsSameHand hand.old.seat hand.new.seat × IsSameStage hand.old.seat hand.new.seat × IsSameStock hand.old.seat hand.new.seat }
-        ensures told { (pages : ℕ) × (pages ≤ result) × M.then (known hand.old.seat) pages (known hand.new.seat) }
+        ensures observed { (pages : ℕ) × (pages ≤ result) × M.then (known hand.old.seat) pages (known hand.new.seat) }
         ensures count { hand.new.seat.me.0.releases ≡ hand.old.seat.me.0.releases + result }
     {
         hand.unswept = 0;
@@ -161,7 +161,7 @@ impl<D, R: PageRule<D>, A: Allocator> Store<D, R, A> {
         requires swept { hand.old.seat.me.0.sweep ≡ Over oldest self.now.layout.passes }
         requires rule { (x time : ℕ) → Releases R.holds self.now.layout hand.old.number (known hand.old.seat) x time (M.then (known hand.old.seat) 1) }
         ensures same { IsSameHand hand.old.seat hand.new.seat × IsSameStage hand.old.seat hand.new.seat × IsSameStock hand.old.seat hand.new.seat × (hand.new.seat.me.0.sweep ≡ hand.old.seat.me.0.sweep) }
-        ensures told { ((result ≡ true) × M.then (known hand.old.seat) 1 (known hand.new.seat)) ⊎ (known hand.new.seat ≡ known hand.old.seat) }
+        ensures observed { ((result ≡ true) × M.then (known hand.old.seat) 1 (known hand.new.seat)) ⊎ (known hand.new.seat ≡ known hand.old.seat) }
         ensures yes { result ≡ true → hand.new.seat.me.0.releases ≡ hand.old.seat.me.0.releases + 1 }
         ensures no { result ≡ false → hand.new.seat.me.0.releases ≡ hand.old.seat.me.0.releases }
     {

@@ -9,7 +9,7 @@ use lib.ListN.{get_elem?}
 use Rattle.atomic_table.proofs.Lists.{set_here, set_else}
 use Rattle.bl_page.specs.Machine.{Name, IsAt}
 use Rattle.bl_page.specs.Machine as machine
-use Rattle.bl_store.specs.Pages.{Owner, Released, Open, Held, Retired, Stage, Idle, Running, Pages, Stands, AllBeganAfter, told, owned, written, later}
+use Rattle.bl_store.specs.Pages.{Owner, Released, Open, Held, Retired, Stage, Idle, Running, Pages, Stands, AllBeganAfter, observed, owned, written, later}
 use Rattle.bl_store_events.specs.Shown.{name, owner_in, phase_of, phase_in, seen, one_more, IsTied}
 
 at_below : {A : Type 0} (l : List A) (i : ℕ) (a : A) → get_elem? l i ≡ some a → i < length l
@@ -66,15 +66,15 @@ module _ {D : Type 0} where
   next ended s p high = ap (λ (b : Bool). if b then phase_of (get_elem? s.hands p.pass) else if (nat_lt p.number (ended p.pass)) then machine.Ended else machine.Waiting) (ne_eqb p.number (ended p.pass) (λ e. omega arith))
       ∙ ap (λ (b : Bool). if b then machine.Ended else machine.Waiting) (le-ltb p.number (ended p.pass) (omega arith))
 
-  phase_told : (st : Stage) (d d' : D) → phase_of (some (st, d')) ≡ phase_of (some (st, d))
-  phase_told Idle d d' = refl
-  phase_told (Running b) d d' = refl
+  phase_observed : (st : Stage) (d d' : D) → phase_of (some (st, d')) ≡ phase_of (some (st, d))
+  phase_observed Idle d d' = refl
+  phase_observed (Running b) d d' = refl
 
   -- a hand goes on as it was, whatever it is told
   stays : (ended : ℕ → ℕ) (s s' : Pages D) (n : ℕ) (st : Stage) (d d' : D) → Stands s n st d → s'.hands ≡ set s.hands n (st, d') → (p : Name) → phase_in ended s' p ≡ phase_in ended s p
   stays ended s s' n st d d' at is p = ap (λ (z : machine.Phase). if (eqb p.number (ended p.pass)) then z else if (nat_lt p.number (ended p.pass)) then machine.Ended else machine.Waiting)
       (ap (λ (z : List (Stage × D)). phase_of (get_elem? z p.pass)) is ∙ dite (ℕ_discrete p.pass n)
-      (λ e. ap (λ (z : ℕ). phase_of (get_elem? (set s.hands n (st, d')) z)) e ∙ (ap phase_of (set_there s.hands n (st, d) (st, d') at) ∙ (phase_told st d d' ∙ (ap phase_of (sym at) ∙ ap (λ (z : ℕ). phase_of (get_elem? s.hands z)) (sym e)))))
+      (λ e. ap (λ (z : ℕ). phase_of (get_elem? (set s.hands n (st, d')) z)) e ∙ (ap phase_of (set_there s.hands n (st, d) (st, d') at) ∙ (phase_observed st d d' ∙ (ap phase_of (sym at) ∙ ap (λ (z : ℕ). phase_of (get_elem? s.hands z)) (sym e)))))
       (λ ne. ap phase_of (set_else s.hands n p.pass (st, d') ne)))
 
   -- the process of the hand n is the only one that may change with it
@@ -93,8 +93,8 @@ module _ {D : Type 0} where
       (⊎_elim (λ is. let r = running (get_elem? s.hands q.pass) since (sym (now ended s q is) ∙ e) in all q.pass since r.0 r.1)
       (λ high. let no : machine.Waiting ≡ machine.Running since = sym (next ended s q high) ∙ e in absurd cc)) (side q.number (ended q.pass))
 
-  ended_else : (ended : ℕ → ℕ) (s : Pages D) (n : ℕ) (d' : D) (st : Stage) (d : D) → Stands s n st d → (p : Name) → p ≢ name ended n → phase_in (one_more ended n) (told s n Idle d') p ≡ phase_in ended s p
-  ended_else ended s n d' st d at p other = let s' : Pages D = told s n Idle d' in let more = one_more ended n in dite (ℕ_discrete p.pass n)
+  ended_else : (ended : ℕ → ℕ) (s : Pages D) (n : ℕ) (d' : D) (st : Stage) (d : D) → Stands s n st d → (p : Name) → p ≢ name ended n → phase_in (one_more ended n) (observed s n Idle d') p ≡ phase_in ended s p
+  ended_else ended s n d' st d at p other = let s' : Pages D = observed s n Idle d' in let more = one_more ended n in dite (ℕ_discrete p.pass n)
       (λ pass. let up = more_here ended n p.pass pass in ⊎_elim (λ low. past more s' p (omega arith) ∙ sym (past ended s p low))
       (⊎_elim (λ e. absurd (other (λ i. record { pass = pass i; number = (e ∙ ap ended pass) i })))
       (λ high. dite (ℕ_discrete p.number (ended p.pass + 1))
@@ -111,7 +111,7 @@ tied D = record {
     changes = (
       (λ x. refl),
       (λ x. refl),
-      (s.clock, le_refl s.clock, le_refl s.clock, record { at = now ended (told s n (Running s.clock) d') (name ended n) refl ∙ ap phase_of (set_there s.hands n (Idle, d) (Running s.clock, d') at); others = λ p other. others ended s n (Running s.clock, d') p other }),
+      (s.clock, le_refl s.clock, le_refl s.clock, record { at = now ended (observed s n (Running s.clock) d') (name ended n) refl ∙ ap phase_of (set_there s.hands n (Idle, d) (Running s.clock, d') at); others = λ p other. others ended s n (Running s.clock, d') p other }),
     );
     on = le_refl s.clock;
   };
@@ -120,13 +120,13 @@ tied D = record {
     changes = (
       (λ x. refl),
       (λ x. owner_ended ended n (get_elem? s.owners x) (free x)),
-      record { at = past (one_more ended n) (told s n Idle d') (name ended n) (omega arith); others = λ p other. ended_else ended s n d' (Running since) d at p other },
+      record { at = past (one_more ended n) (observed s n Idle d') (name ended n) (omega arith); others = λ p other. ended_else ended s n d' (Running since) d at p other },
     );
     on = le_refl s.clock;
   };
   gets = λ ended s n x since d d' words owner at page not. record {
     enabled = ((since, now ended s (name ended n) refl ∙ ap phase_of at), λ e. not_released ended owner not (ap (owner_in ended) (sym page.1) ∙ e));
-    changes = ((λ y. refl), (λ y. refl), stays ended s (told s n (Running since) d') n (Running since) d d' at refl);
+    changes = ((λ y. refl), (λ y. refl), stays ended s (observed s n (Running since) d') n (Running since) d d' at refl);
     on = le_refl s.clock;
   };
   puts = λ ended s n x st d d' words new at page. record {
@@ -134,38 +134,38 @@ tied D = record {
     changes = (
       record { at = get_or-set_same s.contents x new [] (at_below s.contents x words page.0); others = λ y other. get_or-set_other s.contents x y new [] other },
       (λ y. refl),
-      stays ended s (told (written s x new) n st d') n st d d' at refl,
+      stays ended s (observed (written s x new) n st d') n st d d' at refl,
     );
     on = le_refl s.clock;
   };
   takes = λ ended s n x st d d' words at page. record {
     enabled = ap (owner_in ended) page.1;
-    changes = ((λ y. refl), owner_at ended s.owners x Released (Held n) page.1, stays ended s (told (owned s x (Held n)) n st d') n st d d' at refl);
+    changes = ((λ y. refl), owner_at ended s.owners x Released (Held n) page.1, stays ended s (observed (owned s x (Held n)) n st d') n st d d' at refl);
     on = le_refl s.clock;
   };
   latches = λ ended s n x st d d' words at page. record {
     enabled = ap (owner_in ended) page.1;
-    changes = ((λ y. refl), owner_at ended s.owners x Open (Held n) page.1, stays ended s (told (owned s x (Held n)) n st d') n st d d' at refl);
+    changes = ((λ y. refl), owner_at ended s.owners x Open (Held n) page.1, stays ended s (observed (owned s x (Held n)) n st d') n st d d' at refl);
     on = le_refl s.clock;
   };
   opens = λ ended s n x st d d' words at page. record {
     enabled = ap (owner_in ended) page.1;
-    changes = ((λ y. refl), owner_at ended s.owners x (Held n) Open page.1, stays ended s (told (owned s x Open) n st d') n st d d' at refl);
+    changes = ((λ y. refl), owner_at ended s.owners x (Held n) Open page.1, stays ended s (observed (owned s x Open) n st d') n st d d' at refl);
     on = le_refl s.clock;
   };
   retires = λ ended s n x st d d' words at page. record {
     enabled = ap (owner_in ended) page.1;
-    changes = (s.clock, le_refl s.clock, omega arith, ((λ y. refl), owner_at ended s.owners x (Held n) (Retired s.clock) page.1, stays ended s (told (later (owned s x (Retired s.clock))) n st d') n st d d' at refl));
+    changes = (s.clock, le_refl s.clock, omega arith, ((λ y. refl), owner_at ended s.owners x (Held n) (Retired s.clock) page.1, stays ended s (observed (later (owned s x (Retired s.clock))) n st d') n st d d' at refl));
     on = omega arith;
   };
   releases = λ ended s n x time st d d' words at page all. record {
     enabled = (time, ap (owner_in ended) page.1, after ended s time all);
-    changes = ((λ y. refl), owner_at ended s.owners x (Retired time) Released page.1, stays ended s (told (owned s x Released) n st d') n st d d' at refl);
+    changes = ((λ y. refl), owner_at ended s.owners x (Retired time) Released page.1, stays ended s (observed (owned s x Released) n st d') n st d d' at refl);
     on = le_refl s.clock;
   };
   misses = λ ended s n what st d d' at. record {
     enabled = tt;
-    changes = ((λ y. refl), (λ y. refl), stays ended s (told s n st d') n st d d' at refl);
+    changes = ((λ y. refl), (λ y. refl), stays ended s (observed s n st d') n st d d' at refl);
     on = le_refl s.clock;
   };
 }

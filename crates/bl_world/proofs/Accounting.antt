@@ -41,7 +41,7 @@ use Rattle.bl_proc_bounds.specs.Searches.{IsSearch}
 use Rattle.bl_proc_bounds.specs.Latches.{IsTidy}
 use Rattle.bl_proc_bounds.proofs.Bounded.{search_within}
 use Rattle.bl_world.specs.Views.{View, name_of}
-use Rattle.bl_world.specs.Deeds.{Way}
+use Rattle.bl_world.specs.WorldSteps.{Way}
 use Rattle.bl_world.specs.Retirements.{MeansReclaimed}
 use Rattle.bl_world.specs.declared.turns.Event.{Event}
 use Rattle.bl_world.specs.Accounts.{op_of, HasEnd, Replies, IsOwn, Account, Continues}
@@ -143,7 +143,7 @@ module _ (v : View) (h : Has v) where
       let r = h.good.recorded in
       record {
         way = way;
-        count = λ way. events_count way.opened v way.deeds way.led ∙ (let e : length way.opened.events ≡ 0 = ap length way.opening.events in omega (arith, e));
+        count = λ way. events_count way.opened v way.world_steps way.led ∙ (let e : length way.opened.events ≡ 0 = ap length way.opening.events in omega (arith, e));
         trail = w.trail;
         shown = h.shown;
         start = w.start;
@@ -171,7 +171,7 @@ module _ (v : View) (h : Has v) where
         releases = h.releases;
         bounded = bounded;
         latches = latches;
-        refused = λ way n p a stood e no. first_refused way.size way.opened v way.deeds n way.opening way.led (record { process = p; stood = stood; refused = answers_refused p a e no });
+        refused = λ way n p a stood e no. first_refused way.size way.opened v way.world_steps n way.opening way.led (record { process = p; stood = stood; refused = answers_refused p a e no });
       }
 
 -- the account of a world that is there, and its going on

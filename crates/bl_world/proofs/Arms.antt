@@ -21,7 +21,7 @@ use Rattle.bl_proc.specs.declared.reclaiming.Reclaim.{Reclaim}
 use Rattle.bl_proc.specs.declared.kinds.Proc.{Proc}
 use Rattle.bl_proc.specs.declared.kinds.Proc.TheVariants as proc
 use Rattle.bl_proc.specs.Processes.{next_of, Takes}
-use Rattle.bl_proc_invariant.specs.Turns.{event_of, IsTold, IsShown, Does}
+use Rattle.bl_proc_invariant.specs.Turns.{event_of, IsObserved, IsShown, Does}
 use Rattle.bl_proc_invariant.specs.Knowing.{end_of_proc, run_next}
 use Rattle.bl_proc_bounds.proofs.Turns.{Paced, paced_turn, paced_idle}
 use Rattle.bl_world.specs.declared.turns.Act.{Act}
@@ -73,15 +73,15 @@ module _ (pages : List Page) (owners : List Owner) (processes : List Proc) (even
   abbrev pub after_act : Act → List Event
   after_act act = events ++ record { process = suc n; act = act } ∷ []
 
-  pub turned : (what : Seen) (action : Action) (h : HasWorld pages owners processes events) (s : State Page) → next_of p0 ≡ action → Takes p0 what p1 → IsTold h.world.now h.world.size action what → IsShown h.world.now (name_of (suc n)) (h.world.proc (name_of (suc n))).time action what → Does h.world.now (name_of (suc n)) (event_of (end_of_proc p0) action what) s → Paced h.world (name_of (suc n)) (event_of (end_of_proc p0) action what) s (run_next h.world.now (h.world.proc (name_of (suc n))) what p1)
+  pub turned : (what : Seen) (action : Action) (h : HasWorld pages owners processes events) (s : State Page) → next_of p0 ≡ action → Takes p0 what p1 → IsObserved h.world.now h.world.size action what → IsShown h.world.now (name_of (suc n)) (h.world.proc (name_of (suc n))).time action what → Does h.world.now (name_of (suc n)) (event_of (end_of_proc p0) action what) s → Paced h.world (name_of (suc n)) (event_of (end_of_proc p0) action what) s (run_next h.world.now (h.world.proc (name_of (suc n))) what p1)
   turned what action h s next takes =
       let w = h.world in
       let p = name_of (suc n) in
       let time = (w.proc p).time in
       let is : (w.proc p).state ≡ p0 = h.runs n p0 stood in
-      let by_state : (z : Proc) → (w.proc p).state ≡ z → Takes z what p1 → IsTold w.now w.size (next_of z) what → IsShown w.now p time (next_of z) what → Does w.now p (event_of (end_of_proc z) (next_of z) what) s → Paced w p (event_of (end_of_proc z) (next_of z) what) s (run_next w.now (w.proc p) what p1) =
-      λ z e. subst (λ z. Takes z what p1 → IsTold w.now w.size (next_of z) what → IsShown w.now p time (next_of z) what → Does w.now p (event_of (end_of_proc z) (next_of z) what) s → Paced w p (event_of (end_of_proc z) (next_of z) what) s (run_next w.now (w.proc p) what p1)) e (λ t told shown does. paced_turn w p (w.proc p) p1 what s refl h.good h.logs t told shown does) in
-      subst (λ a. IsTold w.now w.size a what → IsShown w.now p time a what → Does w.now p (event_of (end_of_proc p0) a what) s → Paced w p (event_of (end_of_proc p0) a what) s (run_next w.now (w.proc p) what p1)) next (by_state p0 is takes)
+      let by_state : (z : Proc) → (w.proc p).state ≡ z → Takes z what p1 → IsObserved w.now w.size (next_of z) what → IsShown w.now p time (next_of z) what → Does w.now p (event_of (end_of_proc z) (next_of z) what) s → Paced w p (event_of (end_of_proc z) (next_of z) what) s (run_next w.now (w.proc p) what p1) =
+      λ z e. subst (λ z. Takes z what p1 → IsObserved w.now w.size (next_of z) what → IsShown w.now p time (next_of z) what → Does w.now p (event_of (end_of_proc z) (next_of z) what) s → Paced w p (event_of (end_of_proc z) (next_of z) what) s (run_next w.now (w.proc p) what p1)) e (λ t observed shown does. paced_turn w p (w.proc p) p1 what s refl h.good h.logs t observed shown does) in
+      subst (λ a. IsObserved w.now w.size a what → IsShown w.now p time a what → Does w.now p (event_of (end_of_proc p0) a what) s → Paced w p (event_of (end_of_proc p0) a what) s (run_next w.now (w.proc p) what p1)) next (by_state p0 is takes)
 
   -- who stands there after it
   pub now_is : (p : Proc) → slice_get (slice_set processes n p1) n ≡ Some p → p1 ≡ p

@@ -3,8 +3,8 @@ use Rattle.std.proofs.Common.{◌≡◌}
 use Rattle.bl_proc_base.specs.declared.acts.Action.TheVariants as act
 use Rattle.bl_proc_base.specs.declared.approaching.Approach.{Approach}
 use Rattle.bl_proc_base.specs.declared.approaching.Approach.TheVariants as way
-use Rattle.bl_proc_base.specs.declared.changing.Change.{Change}
-use Rattle.bl_proc_base.specs.declared.changing.Change.TheVariants as change
+use Rattle.bl_proc_base.specs.declared.editing.Edit.{Edit}
+use Rattle.bl_proc_base.specs.declared.editing.Edit.TheVariants as edit
 use Rattle.bl_proc_base.specs.declared.growing.Growth.{Growth}
 use Rattle.bl_proc_base.specs.declared.growing.Growth.TheVariants as growth
 use Rattle.bl_rearrange.specs.declared.sides.Side.{Side}
@@ -16,7 +16,7 @@ use Rattle.bl_proc_compress.specs.declared.compressing.Puts.{Puts}
 use Rattle.bl_proc_compress.specs.declared.compressing.Compression.{Compression}
 use Rattle.bl_proc_compress.specs.declared.compressing.Compression.TheVariants.{PuttingFirst, PuttingLast}
 use Rattle.bl_proc_base.specs.Approaches.{approach_next}
-use Rattle.bl_proc_base.specs.Changes.{change_next}
+use Rattle.bl_proc_base.specs.Edits.{edit_next}
 use Rattle.bl_proc_base.specs.Growths.{growth_next}
 use Rattle.bl_proc_compress.specs.Compressions.{put_of, other, compression_next}
 
@@ -27,13 +27,13 @@ approach_begins (way.Latching x) e = absurd cc
 approach_begins (way.Latched x) e = absurd cc
 approach_begins (way.Leaving x to) e = absurd cc
 
-pub change_begins : {X : Type 0} (c : Change) → change_next c ≡ act.Begin → X
-change_begins (change.Putting x page) e = absurd cc
-change_begins (change.Taking full) e = absurd cc
-change_begins (change.PuttingNew p) e = absurd cc
-change_begins (change.PuttingOld p) e = absurd cc
-change_begins (change.OpeningNew x new s) e = absurd cc
-change_begins (change.Opening x what) e = absurd cc
+pub edit_begins : {X : Type 0} (c : Edit) → edit_next c ≡ act.Begin → X
+edit_begins (edit.Putting x page) e = absurd cc
+edit_begins (edit.Taking full) e = absurd cc
+edit_begins (edit.PuttingNew p) e = absurd cc
+edit_begins (edit.PuttingOld p) e = absurd cc
+edit_begins (edit.OpeningNew x new s) e = absurd cc
+edit_begins (edit.Opening x what) e = absurd cc
 
 pub growth_begins : {X : Type 0} (g : Growth) → growth_next g ≡ act.Begin → X
 growth_begins growth.Latching e = absurd cc

@@ -42,7 +42,7 @@ use Rattle.bl_world.specs.declared.owners.Owner.{Owner}
 use Rattle.bl_world.specs.Views.{name_of}
 use Rattle.bl_world.specs.Worlds.{key_in, IsUnknown, IsReclaiming, HasWorld}
 use Rattle.bl_world.proofs.Stands.{Grows, name_differs}
-use Rattle.bl_world.proofs.Begins.{approach_begins, change_begins, growth_begins, squeeze_begins, lowering_begins}
+use Rattle.bl_world.proofs.Begins.{approach_begins, edit_begins, growth_begins, squeeze_begins, lowering_begins}
 use Rattle.bl_world.proofs.Places.{push_cases, push_length}
 
 -- A process that is to begin has done nothing.
@@ -59,20 +59,20 @@ part_blank k old small e = absurd cc
 insert_blank : (k v : ℕ) (got : ℕ → Page) (a : InsertStage) → k < 2 ^ 64 → insert_next_in a ≡ act.Begin → IsBlank (know_insert k v got a)
 insert_blank k v got insert.New small e = record { stage = refl; said = refl; holds = refl; goes = refl; children = refl; passed = refl; sound = small }
 insert_blank k v got (insert.Coming a) small e = approach_begins a e
-insert_blank k v got (insert.Changing c) small e = change_begins c e
+insert_blank k v got (insert.Editing c) small e = edit_begins c e
 insert_blank k v got old small e = absurd cc
 
 delete_blank : (k : ℕ) (got : ℕ → Page) (a : DeleteStage) → k < 2 ^ 64 → delete_next_in a ≡ act.Begin → IsBlank (know_delete k got a)
 delete_blank k got delete.New small e = record { stage = refl; said = refl; holds = refl; goes = refl; children = refl; passed = refl; sound = small }
 delete_blank k got (delete.Coming a) small e = approach_begins a e
-delete_blank k got (delete.Changing v c) small e = change_begins c e
+delete_blank k got (delete.Editing v c) small e = edit_begins c e
 delete_blank k got old small e = absurd cc
 
 post_blank : (l k : ℕ) (got : ℕ → Page) (child : ℕ) (a : PostStage) → k < 2 ^ 64 → post_next_in a ≡ act.Begin → IsBlank (know_post l k got child a)
 post_blank l k got child post.New small e = record { stage = refl; said = refl; holds = refl; goes = refl; children = refl; passed = refl; sound = small }
 post_blank l k got child (post.Coming a) small e = approach_begins a e
 post_blank l k got child (post.Growing g) small e = growth_begins g e
-post_blank l k got child (post.Changing c) small e = change_begins c e
+post_blank l k got child (post.Editing c) small e = edit_begins c e
 post_blank l k got child old small e = absurd cc
 
 compress_blank : (l k : ℕ) (got : ℕ → Page) (a : CompressStage) → k < 2 ^ 64 → compress_next_in a ≡ act.Begin → IsBlank (know_compress l k got a)

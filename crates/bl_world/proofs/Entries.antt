@@ -7,9 +7,9 @@ use Rattle.bl_claims.specs.Trails.{Said}
 use Rattle.bl_core.specs.Worlds.{Stage}
 use Rattle.bl_proc_base.specs.declared.approaching.Approach.{Approach}
 use Rattle.bl_proc_base.specs.declared.approaching.Approach.TheVariants as way
-use Rattle.bl_proc_base.specs.declared.changing.Outcome.{Outcome}
-use Rattle.bl_proc_base.specs.declared.changing.Change.{Change}
-use Rattle.bl_proc_base.specs.declared.changing.Change.TheVariants as change
+use Rattle.bl_proc_base.specs.declared.editing.Outcome.{Outcome}
+use Rattle.bl_proc_base.specs.declared.editing.Edit.{Edit}
+use Rattle.bl_proc_base.specs.declared.editing.Edit.TheVariants as edit
 use Rattle.bl_proc_base.specs.declared.growing.Growth.{Growth}
 use Rattle.bl_proc_base.specs.declared.growing.Growth.TheVariants as growth
 use Rattle.bl_proc_base.specs.declared.answers.Answer.{Answer}
@@ -50,7 +50,7 @@ use Rattle.bl_proc.specs.Posts.{post_answer_in}
 use Rattle.bl_proc_compress.specs.Compresses.{compress_answer_in}
 use Rattle.bl_proc.specs.Lowers.{lower_answer_in}
 use Rattle.bl_proc.specs.Reclaims.{reclaim_answer_in}
-use Rattle.bl_proc_invariant.specs.Tables.{Aim, know_approach, know_change}
+use Rattle.bl_proc_invariant.specs.Tables.{Aim, know_approach, know_edit}
 use Rattle.bl_proc_invariant.specs.Compressing.{know_squeeze}
 use Rattle.bl_proc_invariant.specs.Lowering.{know_lowering}
 use Rattle.bl_proc_invariant.specs.Knowing.{know_of, know_find, know_part, know_insert, know_delete, know_post, know_compress, know_reclaim, know_lower, know_growth, insert_aim, delete_aim, post_aim}
@@ -70,13 +70,13 @@ approach_said level key (way.Latched x) = refl
 approach_said level key (way.Leaving x None) = refl
 approach_said level key (way.Leaving x (Some y)) = refl
 
-change_said : (aim : Aim) (got : ℕ → Page) (c : Change) (s : Said) → (know_change aim got c).said ≡ Some s → (o : Outcome) × (aim.said o ≡ Some s)
-change_said aim got (change.Putting x page) s e = none_said s e
-change_said aim got (change.Taking full) s e = none_said s e
-change_said aim got (change.PuttingNew t) s e = none_said s e
-change_said aim got (change.PuttingOld t) s e = none_said s e
-change_said aim got (change.OpeningNew x y k) s e = (_, e)
-change_said aim got (change.Opening x o) s e = (_, e)
+edit_said : (aim : Aim) (got : ℕ → Page) (c : Edit) (s : Said) → (know_edit aim got c).said ≡ Some s → (o : Outcome) × (aim.said o ≡ Some s)
+edit_said aim got (edit.Putting x page) s e = none_said s e
+edit_said aim got (edit.Taking full) s e = none_said s e
+edit_said aim got (edit.PuttingNew t) s e = none_said s e
+edit_said aim got (edit.PuttingOld t) s e = none_said s e
+edit_said aim got (edit.OpeningNew x y k) s e = (_, e)
+edit_said aim got (edit.Opening x o) s e = (_, e)
 
 growth_said : (level key : ℕ) (got : ℕ → Page) (g : Growth) → (know_growth level key got g).said ≡ None
 growth_said level key got growth.Latching = refl
@@ -121,7 +121,7 @@ insert_op : (k v : ℕ) (got : ℕ → Page) (a : InsertStage) (s : Said) → (k
 insert_op k v got insert.New s e = none_said s e
 insert_op k v got (insert.Coming a) s e = none_said s (sym (approach_said 0 k a) ∙ e)
 insert_op k v got (insert.Present x there) s e = same_op _ s e
-insert_op k v got (insert.Changing c) s e = same_op _ s (change_said (insert_aim k v) got c s e).1
+insert_op k v got (insert.Editing c) s e = same_op _ s (edit_said (insert_aim k v) got c s e).1
 insert_op k v got (insert.Ending r) s e = same_op _ s e
 insert_op k v got (insert.Over r) s e = same_op _ s e
 
@@ -129,7 +129,7 @@ delete_op : (k : ℕ) (got : ℕ → Page) (a : DeleteStage) (s : Said) → (kno
 delete_op k got delete.New s e = none_said s e
 delete_op k got (delete.Coming a) s e = none_said s (sym (approach_said 0 k a) ∙ e)
 delete_op k got (delete.Absent x) s e = same_op _ s e
-delete_op k got (delete.Changing v c) s e = same_op _ s (change_said (delete_aim k v) got c s e).1
+delete_op k got (delete.Editing v c) s e = same_op _ s (edit_said (delete_aim k v) got c s e).1
 delete_op k got (delete.Ending r) s e = same_op _ s e
 delete_op k got (delete.Over r) s e = same_op _ s e
 
@@ -138,7 +138,7 @@ post_none l k got child post.New s e = none_said s e
 post_none l k got child (post.Coming a) s e = none_said s (sym (approach_said l k a) ∙ e)
 post_none l k got child (post.Growing g) s e = none_said s (sym (growth_said l k got g) ∙ e)
 post_none l k got child (post.Walking w) s e = none_said s e
-post_none l k got child (post.Changing c) s e = none_said s (change_said (post_aim l k child) got c s e).1
+post_none l k got child (post.Editing c) s e = none_said s (edit_said (post_aim l k child) got c s e).1
 post_none l k got child (post.Staying x r) s e = none_said s e
 post_none l k got child (post.Ending r) s e = none_said s e
 post_none l k got child (post.Over r) s e = none_said s e
@@ -234,7 +234,7 @@ insert_answered : (k v : ℕ) (got : ℕ → Page) (a : InsertStage) (reply : Re
 insert_answered k v got insert.New reply hint e = none_answer _ e
 insert_answered k v got (insert.Coming a) reply hint e = none_answer _ e
 insert_answered k v got (insert.Present x there) reply hint e = none_answer _ e
-insert_answered k v got (insert.Changing c) reply hint e = none_answer _ e
+insert_answered k v got (insert.Editing c) reply hint e = none_answer _ e
 insert_answered k v got (insert.Ending r) reply hint e = none_answer _ e
 insert_answered k v got (insert.Over (inserted.Inserted s)) reply hint e = record { it = _; is = refl; reply_is = same_reply _ _ _ _ e }
 insert_answered k v got (insert.Over (inserted.Present w)) reply hint e = record { it = _; is = refl; reply_is = same_reply _ _ _ _ e }
@@ -244,7 +244,7 @@ delete_answered : (k : ℕ) (got : ℕ → Page) (a : DeleteStage) (reply : Repl
 delete_answered k got delete.New reply hint e = none_answer _ e
 delete_answered k got (delete.Coming a) reply hint e = none_answer _ e
 delete_answered k got (delete.Absent x) reply hint e = none_answer _ e
-delete_answered k got (delete.Changing v c) reply hint e = none_answer _ e
+delete_answered k got (delete.Editing v c) reply hint e = none_answer _ e
 delete_answered k got (delete.Ending r) reply hint e = none_answer _ e
 delete_answered k got (delete.Over (deleted.Deleted v)) reply hint e = record { it = _; is = refl; reply_is = same_reply _ _ _ _ e }
 delete_answered k got (delete.Over deleted.Absent) reply hint e = record { it = _; is = refl; reply_is = same_reply _ _ _ _ e }
@@ -255,7 +255,7 @@ post_answered l post.New reply hint e = none_answer _ e
 post_answered l (post.Coming a) reply hint e = none_answer _ e
 post_answered l (post.Growing g) reply hint e = none_answer _ e
 post_answered l (post.Walking w) reply hint e = none_answer _ e
-post_answered l (post.Changing c) reply hint e = none_answer _ e
+post_answered l (post.Editing c) reply hint e = none_answer _ e
 post_answered l (post.Staying x r) reply hint e = none_answer _ e
 post_answered l (post.Ending r) reply hint e = none_answer _ e
 post_answered l (post.Over (listed.Done s)) reply hint e = no_post _ _ _ _ e
@@ -319,7 +319,7 @@ insert_late : (k v : ℕ) (got : ℕ → Page) (a : InsertStage) (b : Answer) �
 insert_late k v got insert.New b e = none_answer _ e
 insert_late k v got (insert.Coming a) b e = none_answer _ e
 insert_late k v got (insert.Present x there) b e = none_answer _ e
-insert_late k v got (insert.Changing c) b e = none_answer _ e
+insert_late k v got (insert.Editing c) b e = none_answer _ e
 insert_late k v got (insert.Ending r) b e = none_answer _ e
 insert_late k v got (insert.Over r) b e = refl
 
@@ -327,7 +327,7 @@ delete_late : (k : ℕ) (got : ℕ → Page) (a : DeleteStage) (b : Answer) → 
 delete_late k got delete.New b e = none_answer _ e
 delete_late k got (delete.Coming a) b e = none_answer _ e
 delete_late k got (delete.Absent x) b e = none_answer _ e
-delete_late k got (delete.Changing v c) b e = none_answer _ e
+delete_late k got (delete.Editing v c) b e = none_answer _ e
 delete_late k got (delete.Ending r) b e = none_answer _ e
 delete_late k got (delete.Over r) b e = refl
 
@@ -336,7 +336,7 @@ post_late l k got child post.New b e = none_answer _ e
 post_late l k got child (post.Coming a) b e = none_answer _ e
 post_late l k got child (post.Growing g) b e = none_answer _ e
 post_late l k got child (post.Walking w) b e = none_answer _ e
-post_late l k got child (post.Changing c) b e = none_answer _ e
+post_late l k got child (post.Editing c) b e = none_answer _ e
 post_late l k got child (post.Staying x r) b e = none_answer _ e
 post_late l k got child (post.Ending r) b e = none_answer _ e
 post_late l k got child (post.Over r) b e = refl

@@ -15,7 +15,7 @@ use Rattle.bl_world.specs.declared.turns.Turn.TheVariants as turn
 use Rattle.bl_world.specs.declared.owners.Owner.TheVariants as own
 use Rattle.bl_world.specs.Views.{View}
 use Rattle.bl_world.specs.Turns.{RunsTo}
-use Rattle.bl_world.specs.Deeds.{IsOpening}
+use Rattle.bl_world.specs.WorldSteps.{IsOpening}
 
 abbrev anchor : Page
 anchor = page.Anchor (record { leftmost = record { items = 1 ∷ [] }; some = omega arith; few = omega arith; pages = ((omega arith, omega arith), tt) })

@@ -5,7 +5,7 @@ use Rattle.bl_proc.specs.declared.kinds.Proc.{Proc}
 use Rattle.bl_world.specs.declared.turns.Turn.{Turn}
 use Rattle.bl_world.specs.Views.{View}
 use Rattle.bl_world.specs.Turns.{RunsTo, RunsInto}
-use Rattle.bl_world.specs.Deeds.{MayStart, Starts, Way}
+use Rattle.bl_world.specs.WorldSteps.{MayStart, Starts, Way}
 use Rattle.bl_world.specs.Accounts.{Continues}
 use Rattle.bl_world.specs.Worlds.{key_in, IsWorld}
 use Rattle.bl_world.proofs.Keeping.{Has, GrowsTo, runs_grow}

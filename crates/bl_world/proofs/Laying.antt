@@ -5,7 +5,7 @@ use Rattle.bl_page.specs.declared.page.Page.{Page}
 use Rattle.bl_proc_base.specs.Growths.{IsAnchor}
 use Rattle.bl_world.specs.declared.owners.Owner.{Owner}
 use Rattle.bl_world.specs.declared.owners.Owner.TheVariants as own
-use Rattle.bl_world.specs.Deeds.{AreEmptyLeaves, AreReleased, IsOpening}
+use Rattle.bl_world.specs.WorldSteps.{AreEmptyLeaves, AreReleased, IsOpening}
 use Rattle.bl_world.proofs.Arms.{set_here, set_other, stands}
 
 pub laid : (size : ℕ) (pages : List Page) (owners : List Owner) (c : Page) → 4 ≤ size → AreEmptyLeaves size pages → AreReleased size owners → IsAnchor (1 ∷ []) c → IsOpening size (record { pages = slice_set pages 0 c; owners = slice_set (slice_set owners 0 own.Open) 1 own.Open; processes = []; events = [] })

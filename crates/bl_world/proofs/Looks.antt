@@ -5,12 +5,12 @@ use Rattle.bl_proc_base.specs.declared.acts.Action.TheVariants as act
 use Rattle.bl_proc_base.specs.declared.acts.Seen.{Seen}
 use Rattle.bl_proc_base.specs.declared.approaching.Approach.{Approach}
 use Rattle.bl_proc_base.specs.declared.approaching.Approach.TheVariants as way
-use Rattle.bl_proc_base.specs.declared.changing.Change.{Change}
-use Rattle.bl_proc_base.specs.declared.changing.Change.TheVariants as change
+use Rattle.bl_proc_base.specs.declared.editing.Edit.{Edit}
+use Rattle.bl_proc_base.specs.declared.editing.Edit.TheVariants as edit
 use Rattle.bl_proc_base.specs.declared.growing.Growth.{Growth}
 use Rattle.bl_proc_base.specs.declared.growing.Growth.TheVariants as growth
 use Rattle.bl_proc_base.specs.Approaches.{approach_next}
-use Rattle.bl_proc_base.specs.Changes.{change_next}
+use Rattle.bl_proc_base.specs.Edits.{edit_next}
 use Rattle.bl_proc_base.specs.Growths.{growth_next}
 use Rattle.bl_proc_compress.specs.Compressions.{put_of, other, compression_next}
 use Rattle.bl_proc.specs.declared.searching.FindStage.{FindStage}
@@ -72,13 +72,13 @@ approach_tree (way.Latched x) = tt
 approach_tree (way.Leaving x None) = tt
 approach_tree (way.Leaving x (Some y)) = tt
 
-change_tree : (a : Change) → IsOfTree (change_next a)
-change_tree (change.Putting x page) = tt
-change_tree (change.Taking full) = tt
-change_tree (change.PuttingNew p) = tt
-change_tree (change.PuttingOld p) = tt
-change_tree (change.OpeningNew x new s) = tt
-change_tree (change.Opening x o) = tt
+edit_tree : (a : Edit) → IsOfTree (edit_next a)
+edit_tree (edit.Putting x page) = tt
+edit_tree (edit.Taking full) = tt
+edit_tree (edit.PuttingNew p) = tt
+edit_tree (edit.PuttingOld p) = tt
+edit_tree (edit.OpeningNew x new s) = tt
+edit_tree (edit.Opening x o) = tt
 
 growth_tree : (a : Growth) → IsOfTree (growth_next a)
 growth_tree growth.Latching = tt
@@ -125,7 +125,7 @@ insert_tree : (a : InsertStage) → IsOfTree (insert_next_in a)
 insert_tree insert.New = tt
 insert_tree (insert.Coming a) = approach_tree a
 insert_tree (insert.Present x v) = tt
-insert_tree (insert.Changing c) = change_tree c
+insert_tree (insert.Editing c) = edit_tree c
 insert_tree (insert.Ending r) = tt
 insert_tree (insert.Over r) = tt
 
@@ -133,7 +133,7 @@ delete_tree : (a : DeleteStage) → IsOfTree (delete_next_in a)
 delete_tree delete.New = tt
 delete_tree (delete.Coming a) = approach_tree a
 delete_tree (delete.Absent x) = tt
-delete_tree (delete.Changing v c) = change_tree c
+delete_tree (delete.Editing v c) = edit_tree c
 delete_tree (delete.Ending r) = tt
 delete_tree (delete.Over r) = tt
 
@@ -142,7 +142,7 @@ post_tree post.New = tt
 post_tree (post.Coming a) = approach_tree a
 post_tree (post.Growing g) = growth_tree g
 post_tree (post.Walking w) = tt
-post_tree (post.Changing c) = change_tree c
+post_tree (post.Editing c) = edit_tree c
 post_tree (post.Staying x r) = tt
 post_tree (post.Ending r) = tt
 post_tree (post.Over r) = tt

@@ -24,7 +24,7 @@ use Rattle.bl_world.specs.declared.turns.Event.{Event}
 use Rattle.bl_world.specs.declared.owners.Owner.TheVariants as own
 use Rattle.bl_world.specs.Retirements.{Stands}
 use Rattle.bl_world.specs.Views.{View, owner_of}
-use Rattle.bl_world.specs.Deeds.{IsOpening}
+use Rattle.bl_world.specs.WorldSteps.{IsOpening}
 use Rattle.bl_world.proofs.Keeping.{Has}
 use Rattle.bl_world.proofs.Moments.{world_moment}
 

@@ -20,7 +20,7 @@ use Rattle.bl_proc.specs.Posts.{post_next_in}
 use Rattle.bl_proc_compress.specs.Compresses.{compress_next_in}
 use Rattle.bl_proc.specs.Lowers.{lower_next_in}
 use Rattle.bl_proc_unique.specs.Refusals.{InsertRefused, DeleteRefused, PostRefused, CompressRefused, LowerRefused, IsRefused}
-use Rattle.bl_world.proofs.Begins.{change_begins, growth_begins, squeeze_begins, lowering_begins}
+use Rattle.bl_world.proofs.Begins.{edit_begins, growth_begins, squeeze_begins, lowering_begins}
 
 -- A process that is to begin was not refused.
 
@@ -28,7 +28,7 @@ insert_free : (a : InsertStage) → insert_next_in a ≡ act.Begin → InsertRef
 insert_free insert.New e r = r
 insert_free (insert.Coming a) e r = r
 insert_free (insert.Present x v) e r = r
-insert_free (insert.Changing c) e r = change_begins c e
+insert_free (insert.Editing c) e r = edit_begins c e
 insert_free (insert.Ending x) e r = cc
 insert_free (insert.Over x) e r = cc
 
@@ -36,7 +36,7 @@ delete_free : (a : DeleteStage) → delete_next_in a ≡ act.Begin → DeleteRef
 delete_free delete.New e r = r
 delete_free (delete.Coming a) e r = r
 delete_free (delete.Absent x) e r = r
-delete_free (delete.Changing v c) e r = change_begins c e
+delete_free (delete.Editing v c) e r = edit_begins c e
 delete_free (delete.Ending x) e r = cc
 delete_free (delete.Over x) e r = cc
 
@@ -45,7 +45,7 @@ post_free post.New e r = r
 post_free (post.Coming a) e r = r
 post_free (post.Growing g) e r = growth_begins g e
 post_free (post.Walking w) e r = r
-post_free (post.Changing c) e r = change_begins c e
+post_free (post.Editing c) e r = edit_begins c e
 post_free (post.Staying x s) e r = cc
 post_free (post.Ending x) e r = cc
 post_free (post.Over x) e r = cc

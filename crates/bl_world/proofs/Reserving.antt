@@ -3,11 +3,11 @@ use Rattle.std.proofs.Common.{IsSome}
 use Rattle.std.proofs.lemmas.Bool.{false≢true}
 use Rattle.bl_proc_base.specs.declared.acts.Action.{Action}
 use Rattle.bl_proc_base.specs.declared.acts.Action.TheVariants as act
-use Rattle.bl_proc_base.specs.declared.changing.Change.{Change}
-use Rattle.bl_proc_base.specs.declared.changing.Change.TheVariants as change
+use Rattle.bl_proc_base.specs.declared.editing.Edit.{Edit}
+use Rattle.bl_proc_base.specs.declared.editing.Edit.TheVariants as edit
 use Rattle.bl_proc_base.specs.declared.growing.Growth.{Growth}
 use Rattle.bl_proc_base.specs.declared.growing.Growth.TheVariants as growth
-use Rattle.bl_proc_base.specs.Changes.{change_next, change_needs}
+use Rattle.bl_proc_base.specs.Edits.{edit_next, edit_needs}
 use Rattle.bl_proc_base.specs.Growths.{growth_next, growth_needs}
 use Rattle.bl_proc_compress.specs.Compressions.{put_of, compression_next, compression_needs}
 use Rattle.bl_proc.specs.declared.inserting.InsertStage.{InsertStage}
@@ -51,13 +51,13 @@ Reserves (act.See x) = ⊥
 Reserves (act.Probe x) = ⊥
 Reserves (act.Release x) = ⊥
 
-change_reserves : (c : Change) → IsSome (change_needs c) → Reserves (change_next c)
-change_reserves (change.Putting x page) h = tt
-change_reserves (change.Taking full) h = tt
-change_reserves (change.PuttingNew p) h = tt
-change_reserves (change.PuttingOld p) h = tt
-change_reserves (change.OpeningNew x new s) h = absurd (false≢true h)
-change_reserves (change.Opening x what) h = absurd (false≢true h)
+edit_reserves : (c : Edit) → IsSome (edit_needs c) → Reserves (edit_next c)
+edit_reserves (edit.Putting x page) h = tt
+edit_reserves (edit.Taking full) h = tt
+edit_reserves (edit.PuttingNew p) h = tt
+edit_reserves (edit.PuttingOld p) h = tt
+edit_reserves (edit.OpeningNew x new s) h = absurd (false≢true h)
+edit_reserves (edit.Opening x what) h = absurd (false≢true h)
 
 growth_reserves : (g : Growth) → IsSome (growth_needs g) → Reserves (growth_next g)
 growth_reserves (growth.Taking rise) h = tt
@@ -74,16 +74,16 @@ squeeze_reserves (PuttingFirst u) h = put_reserves u.gains u
 squeeze_reserves old h = absurd (false≢true h)
 
 insert_reserves : (a : InsertStage) → IsSome (insert_needs_in a) → Reserves (insert_next_in a)
-insert_reserves (insert.Changing c) h = change_reserves c h
+insert_reserves (insert.Editing c) h = edit_reserves c h
 insert_reserves old h = absurd (false≢true h)
 
 delete_reserves : (a : DeleteStage) → IsSome (delete_needs_in a) → Reserves (delete_next_in a)
-delete_reserves (delete.Changing v c) h = change_reserves c h
+delete_reserves (delete.Editing v c) h = edit_reserves c h
 delete_reserves old h = absurd (false≢true h)
 
 post_reserves : (a : PostStage) → IsSome (post_needs_in a) → Reserves (post_next_in a)
 post_reserves (post.Growing g) h = growth_reserves g h
-post_reserves (post.Changing c) h = change_reserves c h
+post_reserves (post.Editing c) h = edit_reserves c h
 post_reserves old h = absurd (false≢true h)
 
 compress_reserves : (a : CompressStage) → IsSome (compress_needs_in a) → Reserves (compress_next_in a)

@@ -17,30 +17,30 @@ runs_on v mid v' (s ∷ turns) t r d = (r.0, r.1, runs_on r.0 mid v' turns t r.2
 
 -- no turn makes or ends a process
 module _ (v v' : View) (n : ℕ) (p : Proc) where
-  told_count : {a : _} {what : _} → Tells v n p a what v' → length v'.processes ≡ length v.processes
-  told_count t = ap length t.processes ∙ length-set v.processes n t.new
+  observed_count : {a : _} {what : _} → Tells v n p a what v' → length v'.processes ≡ length v.processes
+  observed_count t = ap length t.processes ∙ length-set v.processes n t.new
 
   idle_count : Idles v n v' → length v'.processes ≡ length v.processes
   idle_count e = ap (λ z. length z.processes) e
 
   carried_count : (action : Action) → Carries v n p action v' → length v'.processes ≡ length v.processes
-  carried_count act.Begin c = told_count c.1
-  carried_count act.End c = told_count c.1
-  carried_count (act.Get x) c = told_count c.3
-  carried_count (act.Put x d) c = told_count c.1
-  carried_count (act.Latch x) c = elim c [ inl l ↦ told_count l.2 | inr m ↦ told_count m.2 ]
-  carried_count (act.Open x) c = told_count c.1
+  carried_count act.Begin c = observed_count c.1
+  carried_count act.End c = observed_count c.1
+  carried_count (act.Get x) c = observed_count c.3
+  carried_count (act.Put x d) c = observed_count c.1
+  carried_count (act.Latch x) c = elim c [ inl l ↦ observed_count l.2 | inr m ↦ observed_count m.2 ]
+  carried_count (act.Open x) c = observed_count c.1
   carried_count act.Take c = absurd c
-  carried_count (act.Retire x) c = told_count c.1
-  carried_count (act.Look q) c = told_count c.7
-  carried_count (act.See x) c = told_count c.3
-  carried_count (act.Probe x) c = told_count c.1
-  carried_count (act.Release x) c = elim c [ inl l ↦ told_count l.2 | inr m ↦ told_count m.2 ]
+  carried_count (act.Retire x) c = observed_count c.1
+  carried_count (act.Look q) c = observed_count c.7
+  carried_count (act.See x) c = observed_count c.3
+  carried_count (act.Probe x) c = observed_count c.1
+  carried_count (act.Release x) c = elim c [ inl l ↦ observed_count l.2 | inr m ↦ observed_count m.2 ]
 
   at_count : (t : Turn) → TurnsAt v n p t v' → length v'.processes ≡ length v.processes
   at_count (turn.Step number) d = elim d [ inl l ↦ carried_count (next_of p) l.1 | inr i ↦ idle_count i.1 ]
-  at_count (turn.Take number x) d = elim d [ inl l ↦ told_count l.3 | inr i ↦ idle_count i.1 ]
-  at_count (turn.Refuse number) d = elim d [ inl l ↦ told_count l.2 | inr i ↦ idle_count i.1 ]
+  at_count (turn.Take number x) d = elim d [ inl l ↦ observed_count l.3 | inr i ↦ idle_count i.1 ]
+  at_count (turn.Refuse number) d = elim d [ inl l ↦ observed_count l.2 | inr i ↦ idle_count i.1 ]
 
 -- no turn makes or ends a page
 module _ (v v' : View) (n : ℕ) (p : Proc) where
@@ -73,11 +73,11 @@ pub runs_count : (v v' : View) (turns : List Turn) → RunsTo v turns v' → len
 runs_count v v' [] e = ap (λ z. length z.processes) e
 runs_count v v' (t ∷ turns) r = runs_count r.0 v' turns r.2 ∙ at_count v r.0 r.1.place r.1.process t r.1.does
 
--- a list, parted at one of its places
-parted_suc : {A : Type 0} (xs : List A) (i : ℕ) (x : A) → slice_get xs i ≡ Some x → xs ≡ take i xs ++ x ∷ drop (suc i) xs
-parted_suc [] i x e = absurd (let f : None ≡ Some x = e in cc)
-parted_suc (y ∷ xs) zero x e = (let f : y ≡ x = cc in ap (λ z. z ∷ xs) f)
-parted_suc (y ∷ xs) (suc i) x e = ap (λ z. y ∷ z) (parted_suc xs i x e)
+-- a list, split at one of its places
+split_suc : {A : Type 0} (xs : List A) (i : ℕ) (x : A) → slice_get xs i ≡ Some x → xs ≡ take i xs ++ x ∷ drop (suc i) xs
+split_suc [] i x e = absurd (let f : None ≡ Some x = e in cc)
+split_suc (y ∷ xs) zero x e = (let f : y ≡ x = cc in ap (λ z. z ∷ xs) f)
+split_suc (y ∷ xs) (suc i) x e = ap (λ z. y ∷ z) (split_suc xs i x e)
 
 further_suc : {A : Type 0} (xs : List A) (i : ℕ) (x : A) → slice_get xs i ≡ Some x → take (suc i) xs ≡ take i xs ++ x ∷ []
 further_suc [] i x e = absurd (let f : None ≡ Some x = e in cc)
@@ -93,7 +93,7 @@ runs_further v mid v' turns i t e r d = rw (one_more i, further_suc turns i t e)
 
 -- memory failed at that place
 pub runs_into : (v v' : View) (turns : List Turn) (i : ℕ) (t : Turn) → slice_get turns i ≡ Some t → RunsTo v (take i turns) v' → RunsInto v turns v'
-runs_into v v' turns i t e r = (take i turns, t, drop (suc i) turns, parted_suc turns i t e, r)
+runs_into v v' turns i t e r = (take i turns, t, drop (suc i) turns, split_suc turns i t e, r)
 
 -- all turns up to a place are of processes that were started, and so is the one at that place
 pub all_further : (v : View) (turns : List Turn) (i : ℕ) (t : Turn) → slice_get turns i ≡ Some t → AllStarted v (take i turns) → IsStarted v (number_in t) → AllStarted v (take (i + 1) turns)

@@ -33,21 +33,21 @@ module _ (v v' : View) (number : ℕ) (some : 0 < number) (within : number ≤ l
 -- A process was read that stands there: what it was asked is said of who stands there.
 module _ (processes : List Proc) (n : ℕ) (p read : Proc) (stood : slice_get processes n ≡ Some p) (is : read ≡ get_or processes n read) where
   pub none_answered : (answer : Option Answer) → answer ≡ answer_of read → ((a : Answer) → answer ≡ Some a → ⊥) → answer_of p ≡ None
-  none_answered answer told none = ap answer_of (stood_is processes n p read stood is) ∙ (sym told ∙ none_left answer none)
+  none_answered answer observed none = ap answer_of (stood_is processes n p read stood is) ∙ (sym observed ∙ none_left answer none)
 
   pub has_answered : (answer : Option Answer) (a : Answer) → answer ≡ answer_of read → answer ≡ Some a → answer_of p ≢ None
-  has_answered answer a told some none = (let e : Some a ≡ None = sym some ∙ (told ∙ (sym (ap answer_of (stood_is processes n p read stood is)) ∙ none)) in cc)
+  has_answered answer a observed some none = (let e : Some a ≡ None = sym some ∙ (observed ∙ (sym (ap answer_of (stood_is processes n p read stood is)) ∙ none)) in cc)
 
-  pub next_told : (action : Action) → action ≡ next_of read → next_of p ≡ action
-  next_told action told = ap next_of (stood_is processes n p read stood is) ∙ sym told
+  pub next_observed : (action : Action) → action ≡ next_of read → next_of p ≡ action
+  next_observed action observed = ap next_of (stood_is processes n p read stood is) ∙ sym observed
 
-  pub needs_told : (needs : Option (ℕ × ℕ)) → needs ≡ needs_of read → needs_of p ≡ needs
-  needs_told needs told = ap needs_of (stood_is processes n p read stood is) ∙ sym told
+  pub needs_observed : (needs : Option (ℕ × ℕ)) → needs ≡ needs_of read → needs_of p ≡ needs
+  needs_observed needs observed = ap needs_of (stood_is processes n p read stood is) ∙ sym observed
 
 -- it was read twice: it had not answered, and its next action is this
 pub goes_on : (processes : List Proc) (n : ℕ) (p first second : Proc) (answer : Option Answer) (action : Action) → slice_get processes n ≡ Some p → first ≡ get_or processes n first → answer ≡ answer_of first
     → ((a : Answer) → answer ≡ Some a → ⊥) → second ≡ get_or processes n second → action ≡ next_of second → (answer_of p ≡ None) × (next_of p ≡ action)
-goes_on processes n p first second answer action stood is told none is_too next = (none_answered processes n p first stood is answer told none, next_told processes n p second stood is_too action next)
+goes_on processes n p first second answer action stood is observed none is_too next = (none_answered processes n p first stood is answer observed none, next_observed processes n p second stood is_too action next)
 
 -- it may be told of a page that it takes, and that it was refused
 pub may_give_page : (p : Proc) (x : ℕ) → next_of p ≡ act.Take → IsChild x → Gives (next_of p) (needs_of p) (seen.Took x)

@@ -38,7 +38,7 @@ use Rattle.bl_world.specs.declared.owners.Owner.{Owner}
 use Rattle.bl_world.specs.Views.{View, name_of, owner_of, events_shown}
 use Rattle.bl_world.specs.Retirements.{MeansReclaimed, ReleasesSeen}
 use Rattle.bl_proc_unique.specs.Refusals.{IsNoRoom}
-use Rattle.bl_world.specs.Deeds.{Way, turns_in, WasRefused}
+use Rattle.bl_world.specs.WorldSteps.{Way, turns_in, WasRefused}
 
 -- no released page is got: before each get its page is not released
 abbrev pub NoneReleased : State Page → Trail → Type 0
@@ -88,7 +88,7 @@ pub record IsOwn (v : View) (q : Name) (said : Said) : Type 0 where
 pub record Account (v : View) : Type 0 where
   -- starts and turns led here from the opening index; and whichever these were, there is one event for each turn
   pub way : Way v
-  pub count : (way : Way v) → length v.events ≡ turns_in way.deeds
+  pub count : (way : Way v) → length v.events ≡ turns_in way.world_steps
   -- the step list is the one that is shown; it is legal from the opening index, so that no released page was got, and leads
   -- to the pages and owners that stand here
   pub trail : Trail
@@ -131,7 +131,7 @@ pub record Account (v : View) : Type 0 where
   -- and a lowering the anchor at most; a search and a part latch, take and put nothing
   pub latches : (n : ℕ) (p : Proc) → slice_get v.processes n ≡ Some p → IsTidy p (marks_of (name_of (n + 1)) trail)
   -- whichever the turns were: a process answers that there was no room only where one of them was a fit refusal of it
-  pub refused : (way : Way v) (n : ℕ) (p : Proc) (a : Answer) → slice_get v.processes n ≡ Some p → answer_of p ≡ Some a → IsNoRoom a → WasRefused way.opened way.deeds n
+  pub refused : (way : Way v) (n : ℕ) (p : Proc) (a : Answer) → slice_get v.processes n ≡ Some p → answer_of p ≡ Some a → IsNoRoom a → WasRefused way.opened way.world_steps n
 
 -- The account of what stands after goes on from that of what stood before.
 pub record Continues (v v' : View) : Type 0 where

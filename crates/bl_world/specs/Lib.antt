@@ -1,7 +1,7 @@
 pub mod Views
 pub mod Retirements
 pub mod Turns
-pub mod Deeds
+pub mod WorldSteps
 pub mod Accounts
 pub mod Worlds
 pub mod Choices

@@ -10,7 +10,7 @@ ghost use Rattle.bl_proc.specs.Processes.{next_of, needs_of, answer_of, Takes};
 ghost use Rattle.bl_world.specs.Views.{view_of, number_in, is_retired as is_retired_owner, is_open as is_open_page};
 ghost use Rattle.bl_world.specs.Retirements.{HasSeen};
 ghost use Rattle.bl_world.specs.Turns.{IsFree, Stays, Puts, Owns, Tells, Idles, Carries, IsToRelease, MayRelease, StepsTo, TakesTo, RefusesTo, TurnsTo, RunsTo, RunsInto, IsStarted, AllStarted, HasUnknown};
-ghost use Rattle.bl_world.specs.Deeds.{Starts};
+ghost use Rattle.bl_world.specs.WorldSteps.{Starts};
 ghost use Rattle.bl_world.specs.Worlds.{IsWorld};
 
 use crate::lists::Lists;
@@ -55,7 +55,7 @@ impl Lists {
     }
 
     /// The process is told of an event that leaves pages and owners as they are.
-    fn told(&mut self, index: usize, act: Act, seen: Seen) -> Result<(), AllocError>
+    fn observed(&mut self, index: usize, act: Act, seen: Seen) -> Result<(), AllocError>
         requires started { index < length self.old.processes.items }
         requires given { (p : Proc) → slice_get self.old.processes.items index ≡ Some p → (answer_of p ≡ None) × Gives (next_of p) (needs_of p) seen }
         ensures ok { OnOk result ((p : Proc) → slice_get self.old.processes.items index ≡ Some p → Stays (view_of self.old) (view_of self.new) × Tells (view_of self.old) index p act seen (view_of self.new)) }
@@ -118,7 +118,7 @@ impl Lists {
                 Seen::Done,
             ),
             Owner::Released | Owner::Held(_) | Owner::Retired(_) => {
-                self.told(index, Act::Miss, Seen::Missed)
+                self.observed(index, Act::Miss, Seen::Missed)
             }
         }
     }
@@ -132,7 +132,7 @@ impl Lists {
         ensures err { OnErr result (view_of self.new ≡ view_of self.old) }
     {
         let page = self.pages[at as usize].copied();
-        self.told(index, Act::Get(at), Seen::Words(page))
+        self.observed(index, Act::Get(at), Seen::Words(page))
     }
 
     /// The process opens a page.
@@ -174,7 +174,7 @@ impl Lists {
     {
         let retired = is_retired(self.owners[at as usize]);
         let started = self.processes.len();
-        self.told(
+        self.observed(
             index,
             Act::See(at),
             Seen::Owner {
@@ -193,7 +193,7 @@ impl Lists {
         ensures err { OnErr result (view_of self.new ≡ view_of self.old) }
     {
         let owner = self.owners.as_slice().get(at as usize).copied();
-        self.told(index, Act::See(at), Seen::Probed(is_open(owner)))
+        self.observed(index, Act::See(at), Seen::Probed(is_open(owner)))
     }
 
     /// Since which event the process at that place has seen its page retired, if it is to release one.
@@ -221,7 +221,7 @@ impl Lists {
         match self.retired_for(index) {
             Some(place) => {
                 let blocks = is_blocking(self.events.as_slice(), number, place);
-                self.told(index, Act::Look(number), Seen::Blocks(blocks))
+                self.observed(index, Act::Look(number), Seen::Blocks(blocks))
             }
             None => unreachable!(),
         }
@@ -236,7 +236,7 @@ impl Lists {
         ensures err { OnErr result (view_of self.new ≡ view_of self.old) }
     {
         if !self.may_release(index, at) {
-            return self.told(index, Act::Miss, Seen::Missed);
+            return self.observed(index, Act::Miss, Seen::Missed);
         }
         self.own(index, at, Owner::Released, Act::Release(at), Seen::Done)
     }
@@ -264,8 +264,8 @@ impl Lists {
             return self.idle(index);
         }
         match self.processes[index].next() {
-            Action::Begin => self.told(index, Act::Begin, Seen::Done),
-            Action::End => self.told(index, Act::End, Seen::Done),
+            Action::Begin => self.observed(index, Act::Begin, Seen::Done),
+            Action::End => self.observed(index, Act::End, Seen::Done),
             Action::Get(at) => self.get(index, at),
             Action::Put(at, page) => self.put(index, at, page),
             Action::Latch(at) => self.latch(index, at),
@@ -322,7 +322,7 @@ impl Lists {
         if self.processes[index].needs().is_none() {
             return self.idle(index);
         }
-        self.told(index, Act::Miss, Seen::Refused)
+        self.observed(index, Act::Miss, Seen::Refused)
     }
 
     /// One turn of a process that was started.

@@ -4,7 +4,7 @@ ghost use Rattle.std.specs.Prelude.{◌≡◌, ◌≤◌, [], ◌∷◌, length,
 ghost use Rattle.bl_page.specs.declared.page.Page.TheVariants as page;
 ghost use Rattle.bl_proc_base.specs.Growths.{IsAnchor};
 ghost use Rattle.bl_world.specs.Views.{view_of};
-ghost use Rattle.bl_world.specs.Deeds.{IsEmptyLeaf, AreEmptyLeaves, AreReleased, IsOpening};
+ghost use Rattle.bl_world.specs.WorldSteps.{IsEmptyLeaf, AreEmptyLeaves, AreReleased, IsOpening};
 
 use crate::lists::Lists;
 use crate::owners::Owner;

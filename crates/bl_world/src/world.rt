@@ -24,7 +24,7 @@ impl Model for World {
     ghost use Rattle.bl_page.specs.contracts.page.Page as page;
     ghost use Rattle.bl_proc.specs.contracts.kinds.Proc as proc;
     ghost use Rattle.bl_world.specs.Views.{View, view_of};
-    ghost use Rattle.bl_world.specs.Deeds.{Way};
+    ghost use Rattle.bl_world.specs.WorldSteps.{Way};
     ghost use Rattle.bl_world.specs.Worlds.{IsWorld};
 
     ghost Value = { View };
@@ -57,7 +57,7 @@ impl World {
     ghost use Rattle.bl_proc.specs.Processes.{answer_of};
     ghost use Rattle.bl_world.specs.declared.turns.WorldFault.TheVariants as fault;
     ghost use Rattle.bl_world.specs.Turns.{RunsTo, RunsInto, IsStarted, HasUnknown};
-    ghost use Rattle.bl_world.specs.Deeds.{IsOpening, MayStart, Starts};
+    ghost use Rattle.bl_world.specs.WorldSteps.{IsOpening, MayStart, Starts};
     ghost use Rattle.bl_world.specs.Choices.{Chooses};
     ghost use Rattle.bl_world.specs.Accounts.{Account, Continues};
     ghost use Rattle.bl_world.specs.Lone.{IsLoneWalk};

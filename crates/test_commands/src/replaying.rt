@@ -81,13 +81,13 @@ fn memory_or_the_output(rt: HostRuntime) {
         b"1 begin\n1 get 0\n1 latch 1\n1 get 1\n2 begin\n2 get 0\n2 get 1\n2 end\n2 answer absent\n1 put 1\n1 open 1\n1 end\n1 answer inserted\n".as_slice();
     let (result, written) = replay_within(rt.alloc(), text, 999);
     let written = written.as_slice();
-    let is_as_told = match result {
+    let is_as_observed = match result {
         Ok(()) => written == wanted,
         // the test's own writer may have been refused its memory
         Err(CommandFault::Memory) | Err(CommandFault::Write) => wanted.starts_with(written),
         Err(_) => false,
     };
-    assert!(rt; is_as_told);
+    assert!(rt; is_as_observed);
 }
 
 /// `check`, `draw`, the loading of an image and `replay` say that reading the path fails, and write nothing.

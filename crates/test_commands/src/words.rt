@@ -235,7 +235,7 @@ fn fault_of(alloc: Global, failing: Failing) -> Result<DumpFault, Fail> {
 }
 
 /// Whether those are the two lines of the fault, and its status.
-fn is_told(
+fn is_observed(
     alloc: Global,
     fault: DumpFault,
     text: &str,
@@ -275,7 +275,7 @@ fn words_of_a_dump_that_fails(rt: HostRuntime) -> Result<(), Fail> {
     ] {
         let fault = fault_of(rt.alloc(), failing)?;
         assert!(rt;
-            is_told(rt.alloc(), fault, text, reason, status)?,
+            is_observed(rt.alloc(), fault, text, reason, status)?,
             "{reason}"
         );
     }

@@ -18,7 +18,7 @@ const ROWS: u64 = 50;
 /// How many levels a tree may have: a split is followed by at most one post on each.
 const LEVELS: u32 = 12;
 
-/// Inserts a key, and lists the pages that were parted.
+/// Inserts a key, and lists the pages that were split.
 fn put<R: Wait>(rt: &R, index: &Index, pass: &mut Pass, key: u64)
     requires { IsPassOf index.now pass.old }
     ensures { IsPassOf index.now pass.new }

@@ -6,13 +6,13 @@ use Rattle.bl_proc.specs.declared.kinds.Proc.TheVariants as proc
 use Rattle.bl_store.specs.declared.store.Glance.{Glance}
 use Rattle.bl_store.specs.declared.store.Hand.{Hand}
 use Rattle.bl_store.specs.Hands.{known, read_words, HasNoStock, ReadsFrom}
-use Rattle.bl_index_rule.specs.declared.known.Mine.{Mine}
+use Rattle.bl_index_rule.specs.declared.known.PassState.{PassState}
 use Rattle.bl_index_steps.specs.declared.tree.Tree.{Tree}
 use Rattle.bl_index_steps.specs.Runs.{Runs}
 use Rattle.bl_index_write.specs.Events.{IsThere}
 
 -- The hand runs a deletion of that key, which holds page at and got it last, as its leaf.
-pub record IsHeld (tree : Tree) (hand : Hand Mine) (key at : ℕ) (glance : Glance) : Type 0 where
+pub record IsHeld (tree : Tree) (hand : Hand PassState) (key at : ℕ) (glance : Glance) : Type 0 where
   pub runs : Runs tree hand (known hand.seat).state
   pub empty : HasNoStock hand.seat
   pub reads : ReadsFrom hand.seat glance

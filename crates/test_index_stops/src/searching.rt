@@ -11,7 +11,7 @@ ghost use Rattle.bl_index_steps.specs.Runs.{Runs, Keeps};
 
 use crate::begun::{fill, opened};
 use bl_index::KeyReply;
-use bl_index_rule::Mine;
+use bl_index_rule::PassState;
 use bl_index_steps::Tree;
 use bl_proc::{Find, FindStage, Squeezed};
 use bl_store::Hand;
@@ -29,7 +29,7 @@ fn page_of(stage: FindStage) -> u32
 }
 
 /// The search gets its next page, if it is to get one.
-fn read_on(tree: &Tree, hand: &mut Hand<Mine>, search: &mut Find)
+fn read_on(tree: &Tree, hand: &mut Hand<PassState>, search: &mut Find)
     requires runs { Runs tree.now hand.old (proc.Find search.old) }
     ensures same { Keeps hand.old.seat hand.new.seat }
     ensures runs { Runs tree.now hand.new (proc.Find search.new) }
@@ -41,7 +41,7 @@ fn read_on(tree: &Tree, hand: &mut Hand<Mine>, search: &mut Find)
 }
 
 /// A search begins, and gets two pages.
-fn read_two(tree: &Tree, hand: &mut Hand<Mine>, key: u64) -> Find
+fn read_two(tree: &Tree, hand: &mut Hand<PassState>, key: u64) -> Find
     requires own { IsHandOf tree.now.store hand.old }
     requires idle { IsIdle hand.old.seat }
     ensures same { IsSameHand hand.old.seat hand.new.seat × IsSameStock hand.old.seat hand.new.seat }
@@ -55,7 +55,7 @@ fn read_two(tree: &Tree, hand: &mut Hand<Mine>, key: u64) -> Find
 }
 
 /// The search gets two pages more, and ends with what it found, if it has come to its leaf.
-fn read_rest(tree: &Tree, hand: &mut Hand<Mine>, search: Find) -> Option<Option<u64>>
+fn read_rest(tree: &Tree, hand: &mut Hand<PassState>, search: Find) -> Option<Option<u64>>
     requires runs { Runs tree.now hand.old (proc.Find search) }
 {
     let mut search = search;

@@ -5,7 +5,7 @@ ghost use Rattle.test_index_stops.specs.Stopped.{IsHeld};
 
 use crate::begun::{fill, opened};
 use bl_index::{Index, KeyReply, Pass};
-use bl_index_rule::Mine;
+use bl_index_rule::PassState;
 use bl_index_write::{begin_deletion, end_deletion};
 use bl_proc::{Hint, Level};
 use bl_store::{Glance, Hand};
@@ -47,7 +47,7 @@ fn is_raised(flag: &AtomicBool) -> bool {
 }
 
 /// A deletion of key 2 begins, and holds its leaf.
-fn hold<R: Wait>(rt: &R, index: &Index, pass: Pass) -> (Hand<Mine>, u32, Glance)
+fn hold<R: Wait>(rt: &R, index: &Index, pass: Pass) -> (Hand<PassState>, u32, Glance)
     requires { IsPassOf index.now pass }
     ensures { IsHeld index.now.tree result.0 2 result.1 result.2 }
 {
@@ -60,7 +60,7 @@ fn hold<R: Wait>(rt: &R, index: &Index, pass: Pass) -> (Hand<Mine>, u32, Glance)
 /// the insertion was answered, and what the deletion answers.
 fn go_on(
     index: &Index,
-    hand: Hand<Mine>,
+    hand: Hand<PassState>,
     at: u32,
     glance: Glance,
     course: &Course,

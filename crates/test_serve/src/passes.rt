@@ -87,7 +87,7 @@ fn serve_and_find<R: Threads + Wait + Sync>(
 
 // Key 15 parts the first leaf, and the insertion posts the new one: a search gets the anchor, the root and the leaf.
 #[test]
-fn parted_leaves_are_listed(rt: HostRuntime) -> Result<(), Fail> {
+fn split_leaves_are_listed(rt: HostRuntime) -> Result<(), Fail> {
     let input = inserts(rt.alloc(), 15)?;
     let served = match opened(rt.alloc(), 8, 1) {
         Some((index, passes)) => serve_and_find(&rt, rt.alloc(), &index, passes, input.as_slice()),

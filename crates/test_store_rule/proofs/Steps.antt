@@ -6,7 +6,7 @@ use native.Mathlib.Decide.{ℕ_discrete}
 use lib.ListN.{get_elem?}
 use Rattle.atomic_table.proofs.Lists.{at_set, set_here, set_else, at_last, at_longer}
 use Rattle.bl_layout.specs.declared.layout.Layout.{Layout}
-use Rattle.bl_store.specs.Pages.{Owner, Released, Open, Held, Retired, Stage, Idle, Running, Pages, Stands, told, owned, written, Begins, Ends, Gets, Puts, Takes, Latches, Misses, Opens, Retires, Refuses, Meets, ReleasesMany}
+use Rattle.bl_store.specs.Pages.{Owner, Released, Open, Held, Retired, Stage, Idle, Running, Pages, Stands, observed, owned, written, Begins, Ends, Gets, Puts, Takes, Latches, Misses, Opens, Retires, Refuses, Meets, ReleasesMany}
 use Rattle.bl_store.specs.Opening.{is_blank, first_owner, first_pages, IsDealt}
 use Rattle.test_store_rule.specs.declared.Mine.{Mine}
 use Rattle.std.proofs.lemmas.List.{get_or-replicate, length-replicate, length-append}
@@ -32,8 +32,8 @@ module _ {A : Type 0} where
   set_there l i a b e = set_here l i b (at_below l i a e)
 
 -- a hand goes on with what it holds
-told_same : (s : Pages Mine) (n : ℕ) (st st' : Stage) (d : Mine) → Stands s n st d → Fits s → Fits (told s n st' d)
-told_same s n st st' d at r = record {
+observed_same : (s : Pages Mine) (n : ℕ) (st st' : Stage) (d : Mine) → Stands s n st d → Fits s → Fits (observed s n st' d)
+observed_same s n st st' d at r = record {
   whole = r.whole;
   fixed = r.fixed;
   held = λ m x sg e at_m is. ⊎_elim (λ (t : (m ≡ n) × ((st', d) ≡ (sg, e))). r.held n x st d at (ap (λ (z : Stage × Mine). z.1.held) t.1 ∙ is) ∙ ap (λ (z : ℕ). some (Held z)) (sym t.0)) (λ (t : (m ≢ n) × (get_elem? s.hands m ≡ some (sg, e))). r.held m x sg e t.1 is)
@@ -52,7 +52,7 @@ owned_else s x o o' here none none2 fixed r = record {
 }
 
 -- a hand that holds none gains a page that nobody holds
-gains : (s : Pages Mine) (n x : ℕ) (st : Stage) (d : Mine) (o : Owner) → Stands s n st d → get_elem? s.owners x ≡ some o → ((m : ℕ) → o ≢ Held m) → d.held ≡ None → Fits s → Fits (told (owned s x (Held n)) n st (holding (Some x)))
+gains : (s : Pages Mine) (n x : ℕ) (st : Stage) (d : Mine) (o : Owner) → Stands s n st d → get_elem? s.owners x ≡ some o → ((m : ℕ) → o ≢ Held m) → d.held ≡ None → Fits s → Fits (observed (owned s x (Held n)) n st (holding (Some x)))
 gains s n x st d o at here none empty r = record {
   whole = r.whole;
   fixed = λ y p low e. ⊎_elim (λ (t : (y ≡ x) × (Held n ≡ p)). subst IsUsed t.1 tt) (λ (t : (y ≢ x) × (get_elem? s.owners y ≡ some p)). r.fixed y p low t.1) (at_set s.owners x y (Held n) p e);
@@ -69,7 +69,7 @@ gains s n x st d o at here none empty r = record {
 }
 
 -- a hand loses the page that it holds
-loses : (s : Pages Mine) (n x : ℕ) (st : Stage) (d : Mine) (o' : Owner) → Stands s n st d → d.held ≡ Some x → ((m : ℕ) → o' ≢ Held m) → (x < 2 → IsUsed o') → Fits s → Fits (told (owned s x o') n st (holding None))
+loses : (s : Pages Mine) (n x : ℕ) (st : Stage) (d : Mine) (o' : Owner) → Stands s n st d → d.held ≡ Some x → ((m : ℕ) → o' ≢ Held m) → (x < 2 → IsUsed o') → Fits s → Fits (observed (owned s x o') n st (holding None))
 loses s n x st d o' at has none fixed r = let mine = r.held n x st d at has in record {
   whole = r.whole;
   fixed = λ y p low e. ⊎_elim (λ (t : (y ≡ x) × (o' ≡ p)). let same = t.0 in subst IsUsed t.1 (fixed (omega arith))) (λ (t : (y ≢ x) × (get_elem? s.owners y ≡ some p)). r.fixed y p low t.1) (at_set s.owners x y o' p e);
@@ -87,10 +87,10 @@ loses s n x st d o' at has none fixed r = let mine = r.held n x st d at has in r
 
 module _ (l : Layout) (n : ℕ) (d : Mine) where
   pub begins : Begins Fits l n d same_at_time
-  begins s r o at = (d, told_same s n Idle (Running s.clock) d at r, refl)
+  begins s r o at = (d, observed_same s n Idle (Running s.clock) d at r, refl)
 
   pub ends : d.held ≡ None → Ends Fits l n d same_at_time
-  ends empty s since r o at = ((λ x is. let was = r.known n x (Running since) d at is in let none_is : None ≡ Some x = sym empty ∙ was in cc), d, told_same s n (Running since) Idle d at r, refl)
+  ends empty s since r o at = ((λ x is. let was = r.known n x (Running since) d at is in let none_is : None ≡ Some x = sym empty ∙ was in cc), d, observed_same s n (Running since) Idle d at r, refl)
 
   used_not_released : (o : Owner) → IsUsed o → o ≢ Released
   used_not_released o is e = subst IsUsed e is
@@ -100,7 +100,7 @@ module _ (l : Layout) (n : ℕ) (d : Mine) where
   gets x near s since words owner r o at page = (
     ⊎_elim (λ (low : x < 2). used_not_released owner (r.fixed x owner low page.1)) (λ (has : d.held ≡ Some x). λ e. let none : Released ≡ Held n = sym e ∙ one_there s.owners x owner (Held n) page.1 (r.held n x (Running since) d at has) in cc) near,
     d,
-    told_same s n (Running since) (Running since) d at r,
+    observed_same s n (Running since) (Running since) d at r,
     (refl, r.whole x words page.0),
   )
 
@@ -108,7 +108,7 @@ module _ (l : Layout) (n : ℕ) (d : Mine) where
   puts x new has same s st words owner r o at page = (
     one_there s.owners x owner (Held n) page.1 (r.held n x st d at has),
     d,
-    told_same (written s x new) n st st d at record {
+    observed_same (written s x new) n st st d at record {
       whole = λ y ws e. ⊎_elim (λ (t : (y ≡ x) × (new ≡ ws)). subst AllSame t.1 same) (λ (t : (y ≢ x) × (get_elem? s.contents y ≡ some ws)). r.whole y ws t.1) (at_set s.contents x y new ws e);
       fixed = r.fixed;
       held = r.held;
@@ -124,7 +124,7 @@ module _ (l : Layout) (n : ℕ) (d : Mine) where
   latches x empty s st words r o at page = (holding (Some x), gains s n x st d Open at page.1 (λ m e. cc) empty r, ((λ e. refl), λ other. absurd (other refl)))
 
   pub misses : (x : ℕ) → Misses Fits l n d x tried
-  misses x s st words owner r o at page not = (d, told_same s n st st d at r, ((λ e. absurd (not e)), λ _. refl))
+  misses x s st words owner r o at page not = (d, observed_same s n st st d at r, ((λ e. absurd (not e)), λ _. refl))
 
   pub opens : (x : ℕ) → d.held ≡ Some x → Opens Fits l n d x lost
   opens x has s st words owner r o at page = (one_there s.owners x owner (Held n) page.1 (r.held n x st d at has), holding None, loses s n x st d Open at has (λ m e. cc) (λ low. tt) r, refl)
@@ -138,7 +138,7 @@ module _ (l : Layout) (n : ℕ) (d : Mine) where
   )
 
   pub refuses : Refuses Fits l n d same_at_time
-  refuses s st r o at = (d, told_same s n st st d at r, refl)
+  refuses s st r o at = (d, observed_same s n st st d at r, refl)
 
 pub sweeps : (l : Layout) (n : ℕ) (d : Mine) → ReleasesMany Fits l n d same_after
 sweeps l n d = (
@@ -146,7 +146,7 @@ sweeps l n d = (
   (λ e f k is next. next ∙ is),
   λ e k x time is s st words r o at page after. (
     e,
-    told_same (owned s x Released) n st st e at (owned_else s x (Retired time) Released page.1 (λ m e. cc) (λ m e. cc) (λ low. r.fixed x (Retired time) low page.1) r),
+    observed_same (owned s x Released) n st st e at (owned_else s x (Retired time) Released page.1 (λ m e. cc) (λ m e. cc) (λ low. r.fixed x (Retired time) low page.1) r),
     refl,
   ),
 )
@@ -234,7 +234,7 @@ next_fresh t l hands rest more one two is next dealt = let count = dealt.count i
 pub meets : (l : Layout) (n : ℕ) (d : Mine) (m : ℕ) (e : Mine) → Meets Fits l n d m e same_apart
 meets l n d m e s st r o at other apart = (
   d,
-  told_same s n st st d at r,
+  observed_same s n st st d at r,
   (refl, λ x has also. let mine = r.held n x st d at has in let theirs = r.held m x Idle e other also in let both : Held n ≡ Held m = one_there s.owners x (Held n) (Held m) mine theirs in let same : n ≡ m = cc in apart (sym same)),
 )
 

@@ -6,7 +6,7 @@ use bl_model::Reply;
 use bl_proc::{Answer, Posted, Squeezed};
 use bl_serve_lines::print::push_number;
 use std::alloc::{AllocError, Global};
-use test_worked_lines::{count, said, told};
+use test_worked_lines::{count, said, observed};
 
 pub fn yes(alloc: Global, is_so: bool) -> Result<Vec<u8>, AllocError> {
     said(alloc, if is_so { "yes" } else { "no" })
@@ -17,7 +17,7 @@ pub fn changed(
     alloc: Global,
     (reply, hint): (KeyReply, Option<Hint>),
 ) -> Result<Vec<u8>, AllocError> {
-    told(alloc, &Answer::Op(reply.reply(), hint))
+    observed(alloc, &Answer::Op(reply.reply(), hint))
 }
 
 /// What a post got.
@@ -25,7 +25,7 @@ pub fn posted(
     alloc: Global,
     (posted, hint): (Posted, Option<Hint>),
 ) -> Result<Vec<u8>, AllocError> {
-    told(alloc, &Answer::Post(posted, hint))
+    observed(alloc, &Answer::Post(posted, hint))
 }
 
 /// What a compression got.
@@ -33,18 +33,18 @@ pub fn compressed(
     alloc: Global,
     (squeezed, hint): (Squeezed, Option<Hint>),
 ) -> Result<Vec<u8>, AllocError> {
-    told(alloc, &Answer::Compress(squeezed, hint))
+    observed(alloc, &Answer::Compress(squeezed, hint))
 }
 
 /// What a lowering got.
 pub fn lowered(alloc: Global, lowered: Lowered) -> Result<Vec<u8>, AllocError> {
-    told(alloc, &Answer::Lower(lowered))
+    observed(alloc, &Answer::Lower(lowered))
 }
 
 /// What a search got.
 pub fn found(alloc: Global, reply: Result<KeyReply, OutOfTurns>) -> Result<Vec<u8>, AllocError> {
     match reply {
-        Ok(reply) => told(alloc, &Answer::Op(reply.reply(), None)),
+        Ok(reply) => observed(alloc, &Answer::Op(reply.reply(), None)),
         Err(OutOfTurns) => said(alloc, "out of turns"),
     }
 }
@@ -52,7 +52,7 @@ pub fn found(alloc: Global, reply: Result<KeyReply, OutOfTurns>) -> Result<Vec<u
 /// What a part got.
 pub fn listed(alloc: Global, reply: Result<Reply, OutOfTurns>) -> Result<Vec<u8>, AllocError> {
     match reply {
-        Ok(reply) => told(alloc, &Answer::Op(reply, None)),
+        Ok(reply) => observed(alloc, &Answer::Op(reply, None)),
         Err(OutOfTurns) => said(alloc, "out of turns"),
     }
 }

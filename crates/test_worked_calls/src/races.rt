@@ -86,7 +86,7 @@ fn sweep(index: &Index, pass: &mut Pass)
     }
 }
 
-// The keys of the threads lie between each other: every fourth key is of one of them. Leaves that are parted are posted. The
+// The keys of the threads lie between each other: every fourth key is of one of them. Leaves that are split are posted. The
 // second time the keys that were kept are there.
 fn fill<R: Wait>(rt: &R, index: &Index, pass: &mut Pass, place: usize, counts: &Counts)
     requires { IsPassOf index.now pass.old }
@@ -266,7 +266,7 @@ fn push_count(text: &mut Vec<u8>, name: &[u8], counter: &AtomicU64) -> Result<()
 }
 
 // What was counted, in words.
-fn told(alloc: Global, counts: &Counts) -> Result<Vec<u8>, AllocError> {
+fn observed(alloc: Global, counts: &Counts) -> Result<Vec<u8>, AllocError> {
     let mut text = Vec::new(alloc);
     push_count(&mut text, b"inserted ", &counts.inserted)?;
     push_count(&mut text, b"deleted ", &counts.deleted)?;
@@ -292,7 +292,7 @@ pub fn raced<R: Threads + Wait + Sync>(
 {
     let counts = Counts::none();
     work(rt, alloc, index, passes, what, &counts);
-    let mut text = told(alloc, &counts)?;
+    let mut text = observed(alloc, &counts)?;
     if passes.len() > 4 {
         let there = found(rt, index, &mut passes[4]);
         push_number(&mut text, b" found ", there)?;

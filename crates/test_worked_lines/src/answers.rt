@@ -17,7 +17,7 @@ pub fn count(alloc: Global, number: u64) -> Result<Vec<u8>, AllocError> {
 }
 
 /// What a process or a call has answered.
-pub fn told(alloc: Global, answer: &Answer) -> Result<Vec<u8>, AllocError> {
+pub fn observed(alloc: Global, answer: &Answer) -> Result<Vec<u8>, AllocError> {
     let mut text = Vec::new(alloc);
     match answer {
         Answer::Op(reply, hint) => {

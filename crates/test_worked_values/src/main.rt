@@ -9,7 +9,7 @@
 //! |---|---|
 //! | `page WORDS` | `is one` where the words are a page's that is spelled so, and so is its copy; else the fault |
 //! | `covers KEY WORDS`, `row KEY WORDS`, `child KEY WORDS` | whether the page covers the key, and what it has of it |
-//! | `with KEY WORD WORDS` | the page with that pair more, or the two pages into which it is parted, of which the new one is page 2 |
+//! | `with KEY WORD WORDS` | the page with that pair more, or the two pages into which it is split, of which the new one is page 2 |
 //! | `without KEY WORDS` | the leaf without that row |
 //! | `merge WORDS \| WORDS`, `even WORDS \| WORDS` | one page for both; both with as many pairs, with the separator and the side that gains |
 //! | `levels WORDS`, `top WORDS`, `level WORDS`, `pairs WORDS` | what the words of a page say: how many levels, the page on top, its level; and how many pairs the page has |

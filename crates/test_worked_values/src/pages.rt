@@ -6,7 +6,7 @@ use bl_rearrange::{Evened, Fitted, Side, evened, merged, with_pair, without};
 use std::alloc::{AllocError, Global};
 use test_worked_lines::{page_words, said};
 
-/// The page that a pair is moved to where a page is parted.
+/// The page that a pair is moved to where a page is split.
 const NEW: u32 = 2;
 
 /// The page, its copy, and the words one by one are spelled as they were read.

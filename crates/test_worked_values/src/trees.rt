@@ -4,7 +4,7 @@ use bl_page::{Page, from_words};
 use bl_proc::{Action, Find, Process, Reader, Seen};
 use bl_serve_lines::print::push_number;
 use std::alloc::{AllocError, Global};
-use test_worked_lines::{page_words, said, shown_words, told};
+use test_worked_lines::{page_words, said, shown_words, observed};
 
 /// How many pages there are.
 const PAGES: u32 = 8;
@@ -53,7 +53,7 @@ pub fn note_answer<P: Process>(
 ) -> Result<(), AllocError> {
     if let Some(answer) = process.answer() {
         text.extend_from_slice(b": ")?;
-        text.extend_from_slice(told(alloc, &answer)?.as_slice())?;
+        text.extend_from_slice(observed(alloc, &answer)?.as_slice())?;
     }
     Ok(())
 }

@@ -86,11 +86,11 @@ pub(crate) fn lowers(
     }
 }
 
-/// A running process has parted the named page from another one.
+/// A running process has split the named page from another one.
 pub(crate) fn parts(running: &mut Running, tree: &Tree, named: Option<u32>) -> Result<(), Law> {
     if let Some(page) = named {
         let live = found!(tree.live_at(page), "a page that is named is live");
-        running.parted = Some((live.level.saturating_add(1), live.low));
+        running.split = Some((live.level.saturating_add(1), live.low));
     }
     Ok(())
 }

@@ -62,9 +62,9 @@ pub(crate) struct Pages {
 /// What befell pages of one kind: leaves, or pages above them.
 #[derive(Clone, Copy, Debug)]
 struct Shapes {
-    /// Pages that were left thin, and pages that were parted.
+    /// Pages that were left thin, and pages that were split.
     thin: u32,
-    parted: u32,
+    split: u32,
     /// Compressions of such pages that put all.
     merged: u32,
     evened: u32,
@@ -87,7 +87,7 @@ pub(crate) struct Tally {
 
 const NO_SHAPES: Shapes = Shapes {
     thin: 0,
-    parted: 0,
+    split: 0,
     merged: 0,
     evened: 0,
 };
@@ -232,9 +232,9 @@ impl Pages {
 }
 
 impl Shapes {
-    fn hinted(&mut self, is_parted: bool) {
-        if is_parted {
-            one_more(&mut self.parted);
+    fn hinted(&mut self, is_split: bool) {
+        if is_split {
+            one_more(&mut self.split);
         } else {
             one_more(&mut self.thin);
         }
@@ -249,7 +249,7 @@ impl Shapes {
     }
 
     fn least(&self) -> u32 {
-        self.thin.min(self.parted).min(self.merged).min(self.evened)
+        self.thin.min(self.split).min(self.merged).min(self.evened)
     }
 }
 
@@ -273,12 +273,12 @@ impl Tally {
     }
 
     pub(crate) fn hinted(&mut self, answer: &Answer, hint: &Hint) {
-        let is_parted = is_to_post(hint);
-        if is_parted && matches!(answer, Answer::Compress(_, _)) {
-            // another process has parted it
+        let is_split = is_to_post(hint);
+        if is_split && matches!(answer, Answer::Compress(_, _)) {
+            // another process has split it
             return;
         }
-        self.shapes(hint.level() == 1).hinted(is_parted);
+        self.shapes(hint.level() == 1).hinted(is_split);
     }
 
     /// A compression has put all.
@@ -303,7 +303,7 @@ impl Tally {
             .done
             .min(self.posts.already)
             .min(self.posts.stale);
-        let shapes = self.leaves.parted.min(self.leaves.thin);
+        let shapes = self.leaves.split.min(self.leaves.thin);
         let others = self.compressions.least().min(self.pages.least());
         self.operations.least().min(posts).min(shapes) > 9
             && others.min(self.waits).min(self.posts.refused) > 3

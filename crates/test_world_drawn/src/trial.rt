@@ -230,7 +230,7 @@ impl Trial {
         self.crew.start(alloc, number, job)
     }
 
-    /// A post lists its key now; a compression has put all; and a page was parted from the one that was put.
+    /// A post lists its key now; a compression has put all; and a page was split from the one that was put.
     fn has_put(
         &mut self,
         alloc: Global,
@@ -481,7 +481,7 @@ impl Trial {
         Err("a process that is alone answers")
     }
 
-    /// Posts what was parted.
+    /// Posts what was split.
     fn post(&mut self, alloc: Global) -> Result<(), Law> {
         for _ in 0..12 {
             if let Some((level, key)) = self.lots.hints.pop() {
@@ -621,7 +621,7 @@ fn small_worlds_keep_the_laws(rt: HostRuntime) {
     assert!(rt; tally.is_of_small_worlds(), "{tally:?}");
 }
 
-// Pages above the leaves were parted, merged, evened and left thin.
+// Pages above the leaves were split, merged, evened and left thin.
 #[test]
 fn wide_worlds_keep_the_laws(rt: HostRuntime) {
     let mut tally = NONE;

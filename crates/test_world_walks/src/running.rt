@@ -37,8 +37,8 @@ pub struct Running {
     pub own: Option<Answer>,
     /// The low of the leaf that its deletion left thin.
     pub thin: Option<u64>,
-    /// The level and the low of the page that it has parted from another one.
-    pub parted: Option<(usize, u64)>,
+    /// The level and the low of the page that it has split from another one.
+    pub split: Option<(usize, u64)>,
     /// It compresses, and has put a page.
     pub squeeze: Option<Squeeze>,
     /// Its children have shown that it is in the middle of an evening.
@@ -173,7 +173,7 @@ impl Running {
             refused: false,
             own: None,
             thin: None,
-            parted: None,
+            split: None,
             squeeze: None,
             evens: false,
             sunk: Vec::new(alloc),
@@ -312,14 +312,14 @@ impl Running {
     /// It has answered with this hint, or none.
     fn judge_hint(&self, hint: Option<Hint>) -> Result<(), Law> {
         let Some(hint) = hint else {
-            keep!(self.parted.is_none(), "who parts a page hints so");
+            keep!(self.split.is_none(), "who parts a page hints so");
             return holds(self.thin.is_none(), "who leaves a leaf thin hints so");
         };
         keep!(self.own.is_some(), "who hints has changed a page");
         if is_to_post(&hint) {
             let named = Some((hint.level() as usize, hint.key()));
             return holds(
-                named == self.parted,
+                named == self.split,
                 "a hint to post names the page that was parted",
             );
         }

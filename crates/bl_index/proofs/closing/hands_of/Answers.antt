@@ -3,15 +3,15 @@ use mathlib.Core.Option.{some-ne-none}
 use lib.ListN.{get_elem?}
 use Rattle.std.proofs.lemmas.List.{length_push}
 use Rattle.bl_store.specs.declared.store.Hand.{Hand}
-use Rattle.bl_index_rule.proofs.Shown.{at_below}
-use Rattle.bl_index_rule.specs.declared.known.Mine.{Mine}
+use Rattle.bl_index_rule.proofs.FrameView.{at_below}
+use Rattle.bl_index_rule.specs.declared.known.PassState.{PassState}
 use Rattle.bl_index.proofs.Gathered.{rest_there, last_there, taken_more, only_more}
 use Rattle.bl_index.proofs.closing.hands_of.Goals as goal
 
 pub loop-pass-init : goal.loop-pass-init
 loop-pass-init c = record {
   room = (let none = ap length c.requires.0 in let fits = c.requires.1 in omega (arith, none, fits));
-  only = λ k hand at. absurd (some-ne-none hand (sym at ∙ ap (λ (z : List (Hand Mine)). get_elem? z k) c.requires.0));
+  only = λ k hand at. absurd (some-ne-none hand (sym at ∙ ap (λ (z : List (Hand PassState)). get_elem? z k) c.requires.0));
   there = λ k pass at. at;
   taken = λ k pass low at. absurd (let below = at_below c.args.passes.items k pass at in omega (arith, low, below));
 }

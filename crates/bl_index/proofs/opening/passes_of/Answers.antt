@@ -1,6 +1,6 @@
 use Rattle.std.proofs.Common.{◌+◌, ap, sym, subst, arith}
 use Rattle.bl_store.specs.declared.view.View.{View}
-use Rattle.bl_index_rule.specs.declared.known.Mine.{Mine}
+use Rattle.bl_index_rule.specs.declared.known.PassState.{PassState}
 use Rattle.bl_claims.specs.Seeing.{IsSeen, AreWithin}
 use Rattle.bl_index.specs.Opened.{AreNew}
 use Rattle.bl_index.proofs.Hands.{rest_new, first_new, passes_push}
@@ -17,9 +17,9 @@ invariant_of-push c = (
     record {
       idle = ap (λ (v : View _). v.stamp) is.2;
       empty = ap (λ (v : View _). v.stock) is.2;
-      rests = ap (λ (v : View Mine). v.known.runs) is.2;
-      within = subst (λ (v : View Mine). AreWithin v.layout.passes v.known.trail) (sym is.2) (none_within _);
-      seen = subst (λ (v : View Mine). ∥ IsSeen v.known.first v.known.trail ∥₁) (sym is.2) ∣ c.requires.seen ∣₁;
+      rests = ap (λ (v : View PassState). v.known.runs) is.2;
+      within = subst (λ (v : View PassState). AreWithin v.layout.passes v.known.trail) (sym is.2) (none_within _);
+      seen = subst (λ (v : View PassState). ∥ IsSeen v.known.first v.known.trail ∥₁) (sym is.2) ∣ c.requires.seen ∣₁;
     })
 
 pub loop-number-preserved : goal.loop-number-preserved

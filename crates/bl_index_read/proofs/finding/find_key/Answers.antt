@@ -19,7 +19,7 @@ loop-turn-init c =
       since = c.begin.ensures.begun;
       key = search rules;
       going = going;
-      turn = at_begin _ _ _ _ _ _ c.begin.ensures.told (find_is_search _ _ state) (find_under_way _ _ state going);
+      turn = at_begin _ _ _ _ _ _ c.begin.ensures.observed (find_is_search _ _ state) (find_under_way _ _ state going);
     }
 
 pub loop-turn-preserved : goal.loop-turn-preserved
@@ -45,10 +45,10 @@ returns-in-Ending-clause-answers c =
     let process = c.read.ensures.runs.on in
     let since = since_step _ _ _ _ _ inv.since c.read.ensures.moves.1.steps in
     let le : c.loop-turn._turn + 1 ≤ c.args.turns = omega arith in
-    let found = at_found _ _ _ _ _ inv.since.named inv.since.number inv.turn _ _ _ _ process.pages since.named since.number c.read.ensures.got (find_is_search _ _ process.state) c.finish.ensures.told c.args.turns le in
+    let found = at_found _ _ _ _ _ inv.since.named inv.since.number inv.turn _ _ _ _ process.pages since.named since.number c.read.ensures.got (find_is_search _ _ process.state) c.finish.ensures.observed c.args.turns le in
     record {
       answered = record {
-        answers = find_answers _ _ _ _ _ c.read.new.process c.args.key c.in-Ending.value (reply_of c.found.result) refl since process.state (takes.1.0 ∙ inv.key) c.in-Ending.is c.finish.ensures.told c.found.ensures;
+        answers = find_answers _ _ _ _ _ c.read.new.process c.args.key c.in-Ending.value (reply_of c.found.result) refl since process.state (takes.1.0 ∙ inv.key) c.in-Ending.is c.finish.ensures.observed c.found.ensures;
         few = found.1;
         bounded = found.0;
         looks = own_looks _ _ _ _ since (only_looks _ c.finish.ensures.tidy c.finish.ensures.log);
@@ -59,12 +59,12 @@ returns-in-Ending-clause-answers c =
 pub returns-clause-answers : goal.returns-clause-answers
 returns-clause-answers c =
     let inv = c.loop-turn.invariant in
-    let end = at_end _ _ _ _ _ inv.since.named inv.since.number inv.turn None _ c.give_up.ensures.told in
+    let end = at_end _ _ _ _ _ inv.since.named inv.since.number inv.turn None _ c.give_up.ensures.observed in
     let all : c.loop-turn._turn ≡ c.args.turns = omega arith in
     record {
       answered = tt;
       refused = record {
-        adds = gives_up _ _ _ _ _ refl inv.since (find_may_give_up c.loop-turn.process _ inv.process.state inv.going) c.give_up.ensures.told;
+        adds = gives_up _ _ _ _ _ refl inv.since (find_may_give_up c.loop-turn.process _ inv.process.state inv.going) c.give_up.ensures.observed;
         bounded = end.0;
         gets = end.1 ∙ all;
         below = end.2;

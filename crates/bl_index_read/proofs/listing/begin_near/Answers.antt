@@ -14,9 +14,9 @@ pub returns-clause-runs : goal.returns-clause-runs
 returns-clause-runs c = record {
   own = search rules;
   running = search rules;
-  on = (let told = c.launch_part.ensures.told in
-      record { runs = told.runs; state = told.state ∙ sym (told.course.only (listing c.args.from (Probing c.args.page)) (refl, refl)); pages = told.pages; passes = told.passes; near = told.near; held = begins_held _ _ _ _ _ _ told refl });
+  on = (let observed = c.launch_part.ensures.observed in
+      record { runs = observed.runs; state = observed.state ∙ sym (observed.course.only (listing c.args.from (Probing c.args.page)) (refl, refl)); pages = observed.pages; passes = observed.passes; near = observed.near; held = begins_held _ _ _ _ _ _ observed refl });
 }
 
 pub returns-clause-begun : goal.returns-clause-begun
-returns-clause-begun c = since_begin _ _ _ _ _ _ c.launch_part.ensures.told
+returns-clause-begun c = since_begin _ _ _ _ _ _ c.launch_part.ensures.observed

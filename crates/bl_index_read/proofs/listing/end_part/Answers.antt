@@ -12,7 +12,7 @@ end-requires-clause-rule c =
     ends_process _ _ (known c.args.hand.now.seat) (ap next_of leaf.state) (leaf_course c.requires.leaf.0 leaf.rows _ leaf.state)
 
 pub returns-clause-within : goal.returns-clause-within
-returns-clause-within c = ends_within c.args.tree.now.store.layout c.args.hand.now.seat c.end.new.hand.seat _ c.requires.runs.own.1 c.end.ensures.same.0.1 c.requires.runs.on.passes c.end.ensures.told.1.0
+returns-clause-within c = ends_within c.args.tree.now.store.layout c.args.hand.now.seat c.end.new.hand.seat _ c.requires.runs.own.1 c.end.ensures.same.0.1 c.requires.runs.on.passes c.end.ensures.observed.1.0
 
 pub returns-clause-ended : goal.returns-clause-ended
-returns-clause-ended c = c.end.ensures.told.1
+returns-clause-ended c = c.end.ensures.observed.1

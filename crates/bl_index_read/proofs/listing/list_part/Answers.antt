@@ -1,8 +1,8 @@
 use Rattle.std.proofs.Common.{rules, ℕ, List, ap, sym, subst, refl, ◌∙◌}
 use Rattle.bl_store.specs.Hands.{known, read_words}
 use Rattle.bl_store.specs.declared.store.Hand.{Hand}
-use Rattle.bl_index_rule.specs.declared.known.Mine.{Mine}
-use Rattle.bl_index_rule.specs.Told.{ends}
+use Rattle.bl_index_rule.specs.declared.known.PassState.{PassState}
+use Rattle.bl_index_rule.specs.Observed.{ends}
 use Rattle.bl_index_read.specs.Parts.{IsAtLeaf}
 use Rattle.bl_index_read.proofs.Leaves.{GoesOnBehind, leaf_pairs, part_answers}
 use Rattle.bl_index_read.proofs.listing.list_part.Goals as goal
@@ -13,24 +13,24 @@ rows_in-rows-requires-clause-pairs c = leaf_pairs _ _ _ c.in-Some.ensures.came.l
 pub end_part-requires-clause-leaf : goal.end_part-requires-clause-leaf
 end_part-requires-clause-leaf c =
     let leaf = c.in-Some.ensures.came.leaf in
-    subst (λ (h : Hand Mine). (from : ℕ) × (words : List ℕ) × IsAtLeaf from words (known h.seat)) (sym (c.link_in.ensures.same ∙ (c.next_in-next.ensures.same ∙ c.rows_in-rows.ensures.same))) (c.args.from, _, leaf)
+    subst (λ (h : Hand PassState). (from : ℕ) × (words : List ℕ) × IsAtLeaf from words (known h.seat)) (sym (c.link_in.ensures.same ∙ (c.next_in-next.ensures.same ∙ c.rows_in-rows.ensures.same))) (c.args.from, _, leaf)
 
 pub returns-clause-answers : goal.returns-clause-answers
 returns-clause-answers c =
     let has = c.in-Some.ensures.came in
     let same = c.link_in.ensures.same ∙ (c.next_in-next.ensures.same ∙ c.rows_in-rows.ensures.same) in
-    let ended = subst (λ (h : Hand Mine). ends (known h.seat) 0 (known c.end_part.new.hand.seat)) same c.end_part.ensures.ended in
-    let goes : GoesOnBehind (read_words c.come_to_leaf.new.hand.seat) c.next_in-next.result = λ page tree e. c.next_in-next.ensures.next page tree (ap (λ (h : Hand Mine). read_words h.seat) c.rows_in-rows.ensures.same ∙ e) in
+    let ended = subst (λ (h : Hand PassState). ends (known h.seat) 0 (known c.end_part.new.hand.seat)) same c.end_part.ensures.ended in
+    let goes : GoesOnBehind (read_words c.descend_to_leaf.new.hand.seat) c.next_in-next.result = λ page tree e. c.next_in-next.ensures.next page tree (ap (λ (h : Hand PassState). read_words h.seat) c.rows_in-rows.ensures.same ∙ e) in
     record {
-      answered = part_answers _ _ c.args.from c.args.turns _ c.come_to_leaf.new.hand.seat c.end_part.new.hand.seat _ has ended c.next_in-next.result goes (record { rows = c.rows_in-rows.result; next = c.next_in-next.result }) c.rows_in-rows.ensures.rows refl;
+      answered = part_answers _ _ c.args.from c.args.turns _ c.descend_to_leaf.new.hand.seat c.end_part.new.hand.seat _ has ended c.next_in-next.result goes (record { rows = c.rows_in-rows.result; next = c.next_in-next.result }) c.rows_in-rows.ensures.rows refl;
       refused = tt;
     }
 
-pub come_to_leaf-requires-clause-own : goal.come_to_leaf-requires-clause-own
-come_to_leaf-requires-clause-own c = c.requires.own
+pub descend_to_leaf-requires-clause-own : goal.descend_to_leaf-requires-clause-own
+descend_to_leaf-requires-clause-own c = c.requires.own
 
-pub come_to_leaf-requires-clause-idle : goal.come_to_leaf-requires-clause-idle
-come_to_leaf-requires-clause-idle c = c.requires.idle
+pub descend_to_leaf-requires-clause-idle : goal.descend_to_leaf-requires-clause-idle
+descend_to_leaf-requires-clause-idle c = c.requires.idle
 
 pub returns-clause-rests : goal.returns-clause-rests
 returns-clause-rests c = record {
@@ -40,4 +40,4 @@ returns-clause-rests c = record {
 }
 
 pub returns-in_default-clause-same : goal.returns-in_default-clause-same
-returns-in_default-clause-same c = c.come_to_leaf.ensures.same
+returns-in_default-clause-same c = c.descend_to_leaf.ensures.same

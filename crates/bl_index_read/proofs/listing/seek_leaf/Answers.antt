@@ -56,17 +56,17 @@ pub returns-clause-came : goal.returns-clause-came
 returns-clause-came c = λ old pass got s t.
     let inv = c.loop-turn.invariant in
     let on = inv.since old pass s in
-    let told = c.give_up.ensures.told in
-    let end = at_end _ _ _ _ _ on.named on.number (inv.turn old pass got s t) None _ told in
+    let observed = c.give_up.ensures.observed in
+    let end = at_end _ _ _ _ _ on.named on.number (inv.turn old pass got s t) None _ observed in
     let all : c.loop-turn._turn ≡ c.args.turns = omega arith in
     record {
       idle = c.give_up.ensures.idle;
       within = c.give_up.ensures.within;
-      rests = told.runs;
-      first = told.notes.first ∙ on.beginning;
-      seen = told.notes.seen;
+      rests = observed.runs;
+      first = observed.notes.first ∙ on.beginning;
+      seen = observed.notes.seen;
       out = record {
-        adds = gives_up _ _ _ _ _ refl on (part_may_give_up c.args.from c.loop-turn.way _ inv.process.state) told;
+        adds = gives_up _ _ _ _ _ refl on (part_may_give_up c.args.from c.loop-turn.way _ inv.process.state) observed;
         bounded = end.0;
         gets = end.1 ∙ ap (λ (z : ℕ). got + z) all;
         below = end.2;

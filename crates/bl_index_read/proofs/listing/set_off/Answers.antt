@@ -12,7 +12,7 @@ returns-then-page-tree-clause-begun c = since_step _ _ _ _ _ c.begin_near.ensure
 pub returns-then-page-tree-clause-turn : goal.returns-then-page-tree-clause-turn
 returns-then-page-tree-clause-turn c =
     let state = c.begin_near.ensures.runs.on.state in
-    let began = at_begin _ _ _ _ _ _ c.begin_near.ensures.told (part_is_search c.args.from (Probing c.in-Some.page) _ state) (probing_under_way c.args.from c.in-Some.page _ state) in
+    let began = at_begin _ _ _ _ _ _ c.begin_near.ensures.observed (part_is_search c.args.from (Probing c.in-Some.page) _ state) (probing_under_way c.args.from c.in-Some.page _ state) in
     let since = c.begin_near.ensures.begun in
     let on = c.probe.ensures.runs.on in
     at_look _ _ _ _ _ since.named since.number began (OfPage c.in-Some.page) _ on.pages c.probe.ensures.looked (part_is_search c.args.from (Descending c.probe.result) _ on.state) (part_under_way c.args.from c.probe.result _ on.state)
@@ -20,4 +20,4 @@ returns-then-page-tree-clause-turn c =
 pub returns-clause-turn : goal.returns-clause-turn
 returns-clause-turn c =
     let state = c.begin_part.ensures.runs.on.state in
-    at_begin _ _ _ _ _ _ c.begin_part.ensures.told (part_is_search c.args.from (Descending AtAnchor) _ state) (part_under_way c.args.from AtAnchor _ state)
+    at_begin _ _ _ _ _ _ c.begin_part.ensures.observed (part_is_search c.args.from (Descending AtAnchor) _ state) (part_under_way c.args.from AtAnchor _ state)

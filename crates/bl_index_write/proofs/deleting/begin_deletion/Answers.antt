@@ -1,4 +1,4 @@
 use Rattle.bl_index_write.proofs.deleting.begin_deletion.Goals as goal
 
 pub returns-clause-since : goal.returns-clause-since
-returns-clause-since g c = c.come.ensures.since _ _ c.depart.ensures.begun
+returns-clause-since g c = c.descend.ensures.since _ _ c.begin_descent.ensures.begun

@@ -4,7 +4,7 @@ use Rattle.bl_page.proofs.Once.{once}
 use Rattle.bl_claims.specs.Pages.{IsTreePage}
 use Rattle.bl_rearrange.specs.Rearranged.{pairs_of}
 use Rattle.bl_proc_base.proofs.Spellings.{tree_pairs}
-use Rattle.bl_index_write.proofs.Parted.{spread_full}
+use Rattle.bl_index_write.proofs.Splits.{spread_full}
 use Rattle.bl_index_write.proofs.halves.entries_with.Goals as goal
 
 pub place_in-place-requires-clause-pairs : goal.place_in-place-requires-clause-pairs

@@ -1,5 +1,5 @@
 use Rattle.std.proofs.Common.{refl, arith}
-use Rattle.bl_index_write.proofs.Parted.{blank, laid}
+use Rattle.bl_index_write.proofs.Splits.{blank, laid}
 use Rattle.bl_index_write.proofs.halves.laid_out.Goals as goal
 
 pub loop-i-init : goal.loop-i-init

@@ -2,7 +2,7 @@ use Rattle.std.proofs.Common.{Some, inl, refl, sym, ap, subst, ◌∙◌}
 use Rattle.bl_proc.specs.declared.posting.PostReply.{PostReply}
 use Rattle.bl_proc.specs.declared.posting.PostStage.TheVariants as post
 use Rattle.bl_proc.specs.Posts.{post_reply, posted_answer}
-use Rattle.bl_proc_base.specs.declared.changing.Change.TheVariants as change
+use Rattle.bl_proc_base.specs.declared.editing.Edit.TheVariants as edit
 use Rattle.bl_proc.specs.declared.kinds.Proc.{Proc}
 use Rattle.bl_store.specs.Hands.{known}
 use Rattle.bl_index_steps.specs.Runs.{IsOn}
@@ -13,24 +13,24 @@ use Rattle.bl_index_steps.proofs.Rooms.{lacks_on, reply_refused}
 use Rattle.bl_index_write.proofs.posting.list.Goals as goal
 
 pub enter_page-outcome-requires-clause-page : goal.enter_page-outcome-requires-clause-page
-enter_page-outcome-requires-clause-page c = (c.requires.page.1, c.requires.page.2, subst (λ (z : Proc). IsOn c.args.tree.now.store.layout (known c.args.hand.now.seat) z) (posting_same c.args.errand (post.Changing c.requires.page.1) c.requires.page.0 _) c.requires.page.3)
+enter_page-outcome-requires-clause-page c = (c.requires.page.1, c.requires.page.2, subst (λ (z : Proc). IsOn c.args.tree.now.store.layout (known c.args.hand.now.seat) z) (posting_same c.args.target (post.Editing c.requires.page.1) c.requires.page.0 _) c.requires.page.3)
 
-pub conclude-requires-clause-opens : goal.conclude-requires-clause-opens
-conclude-requires-clause-opens c =
-    let j = c.args.errand in let o = c.enter_page-outcome.result in let below = c.requires.page.0 in
-    (posting j (post.Ending (post_reply o)) (may_reply j o below), posting j (post.Over (post_reply o)) (may_reply j o below), opens_at _ _ _ _ _ (c.enter_page-outcome.ensures.runs.on.state ∙ posting_same j (post.Changing (change.Opening c.args.at o)) _ below) (opens_listed j c.args.at o below))
+pub open_and_end-requires-clause-opens : goal.open_and_end-requires-clause-opens
+open_and_end-requires-clause-opens c =
+    let j = c.args.target in let o = c.enter_page-outcome.result in let below = c.requires.page.0 in
+    (posting j (post.Ending (post_reply o)) (may_reply j o below), posting j (post.Over (post_reply o)) (may_reply j o below), opens_at _ _ _ _ _ (c.enter_page-outcome.ensures.runs.on.state ∙ posting_same j (post.Editing (edit.Opening c.args.at o)) _ below) (opens_listed j c.args.at o below))
 
 pub returns-clause-over : goal.returns-clause-over
 returns-clause-over c =
-    let j = c.args.errand in let o = c.enter_page-outcome.result in let below = c.requires.page.0 in
-    let opens = opens_at _ _ _ _ _ (c.enter_page-outcome.ensures.runs.on.state ∙ posting_same j (post.Changing (change.Opening c.args.at o)) _ below) (opens_listed j c.args.at o below) in (
-      (c.conclude.ensures.rests.idle, c.conclude.ensures.same.1.0 ∙ c.enter_page-outcome.ensures.empty),
-      c.conclude.ensures.rests.within,
-      c.conclude.ensures.rests.over,
-      (λ none. inl (lacks_on j.level j.key c.enter_page-outcome.new.hand.seat c.conclude.new.hand.seat c.conclude.ensures.refusal c.conclude.ensures.keeps (c.enter_page-outcome.ensures.asked (reply_refused o (sym c.reply_by.ensures ∙ c.posted_by.ensures.no_room none))))),
+    let j = c.args.target in let o = c.enter_page-outcome.result in let below = c.requires.page.0 in
+    let opens = opens_at _ _ _ _ _ (c.enter_page-outcome.ensures.runs.on.state ∙ posting_same j (post.Editing (edit.Opening c.args.at o)) _ below) (opens_listed j c.args.at o below) in (
+      (c.open_and_end.ensures.rests.idle, c.open_and_end.ensures.same.1.0 ∙ c.enter_page-outcome.ensures.empty),
+      c.open_and_end.ensures.rests.within,
+      c.open_and_end.ensures.rests.over,
+      (λ none. inl (lacks_on j.level j.key c.enter_page-outcome.new.hand.seat c.open_and_end.new.hand.seat c.open_and_end.ensures.refusal c.open_and_end.ensures.keeps (c.enter_page-outcome.ensures.asked (reply_refused o (sym c.reply_by.ensures ∙ c.posted_by.ensures.no_room none))))),
       λ pass old since. record {
         last = record { level = j.level; key = j.key; stage = post.Over (post_reply o); least = j.least; most = j.most; below = may_reply j o below };
-        done = c.conclude.ensures.done pass old (posting j post.New tt) (posting j (post.Ending (post_reply o)) (may_reply j o below)) (posting j (post.Over (post_reply o)) (may_reply j o below)) (c.enter_page-outcome.ensures.since pass old since) opens refl refl;
+        done = c.open_and_end.ensures.done pass old (posting j post.New tt) (posting j (post.Ending (post_reply o)) (may_reply j o below)) (posting j (post.Over (post_reply o)) (may_reply j o below)) (c.enter_page-outcome.ensures.since pass old since) opens refl refl;
         answer = ap (λ (z : PostReply). Some (posted_answer j.level z)) (sym c.reply_by.ensures) ∙ ap Some c.posted_by.ensures.answer;
       },
     )

@@ -8,7 +8,7 @@ pub post_on-requires-clause-since : goal.post_on-requires-clause-since
 post_on-requires-clause-since g c = (let begun = c.requires.since in (begun.0, begun.1, c.loop.invariant.since begun.0 begun.1 begun.2))
 
 pub returns-in-Some-post_on-clause-over : goal.returns-in-Some-post_on-clause-over
-returns-in-Some-post_on-clause-over g c = over_since c.args.tree.now.store.layout c.args.errand (known c.args.hand.now.seat) (known c.loop.hand.seat) c.post_on.new.hand.seat (Some c.in-Some-post_on.answer) c.loop.invariant.since c.in-Some-post_on.ensures.over
+returns-in-Some-post_on-clause-over g c = over_since c.args.tree.now.store.layout c.args.target (known c.args.hand.now.seat) (known c.loop.hand.seat) c.post_on.new.hand.seat (Some c.in-Some-post_on.answer) c.loop.invariant.since c.in-Some-post_on.ensures.over
 
 pub loop-preserved : goal.loop-preserved
 loop-preserved g c = record {

@@ -9,6 +9,6 @@ abbrev pub invariant-loop : goal.invariant-loop
 invariant-loop g l = record {
   same : IsSameHand l.fn.hand.seat l.hand.seat;
   running : IsRunning l.hand.seat × HasNoStock l.hand.seat;
-  process : IsOn l.tree.store.layout (known l.hand.seat) (posting l.errand (post.Coming approach.Start) tt);
+  process : IsOn l.tree.store.layout (known l.hand.seat) (posting l.target (post.Coming approach.Start) tt);
   since : IsSameProcess (known l.fn.hand.seat) (known l.hand.seat);
 }

@@ -20,4 +20,4 @@ tell_all-requires-clause-begins c = c.learn_all.ensures.learns.known
 
 pub returns-in-Some : goal.returns-in-Some
 returns-in-Some c = subst (λ (z : List Pass). AllMeet (first_of c.args.index.now) z (c.tell_all.new.first ∷ c.tell_all.new.others)) (sym c.in-Some.ensures.cases.0)
-    (all_meet (first_of c.args.index.now) c.in-Some.first.now c.learn_all.new.first c.tell_all.new.first c.in-Some.others.now c.learn_all.new.others c.tell_all.new.others c.learn_all.ensures.learns c.tell_all.ensures.first c.tell_all.ensures.told)
+    (all_meet (first_of c.args.index.now) c.in-Some.first.now c.learn_all.new.first c.tell_all.new.first c.in-Some.others.now c.learn_all.new.others c.tell_all.new.others c.learn_all.ensures.learns c.tell_all.ensures.first c.tell_all.ensures.observed)

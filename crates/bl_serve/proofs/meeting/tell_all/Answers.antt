@@ -19,5 +19,5 @@ loop-number-preserved c = let e = c.tell.ensures in
 pub returns : goal.returns
 returns c = let l = c.loop-number.invariant in record {
   first = l.keeps;
-  told = tells_all c.args.first.now c.loop-number.first c.args.others.now c.loop-number.others c.loop-number.number (omega arith) (omega arith) l;
+  observed = tells_all c.args.first.now c.loop-number.first c.args.others.now c.loop-number.others c.loop-number.number (omega arith) (omega arith) l;
 }

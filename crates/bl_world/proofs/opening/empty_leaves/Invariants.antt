@@ -1,4 +1,4 @@
-use Rattle.bl_world.specs.Deeds.{AreEmptyLeaves}
+use Rattle.bl_world.specs.WorldSteps.{AreEmptyLeaves}
 use Rattle.bl_world.proofs.opening.empty_leaves.Given as goal
 
 abbrev pub invariant-loop : goal.invariant-loop

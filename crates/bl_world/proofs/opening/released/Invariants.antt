@@ -1,4 +1,4 @@
-use Rattle.bl_world.specs.Deeds.{AreReleased}
+use Rattle.bl_world.specs.WorldSteps.{AreReleased}
 use Rattle.bl_world.proofs.opening.released.Given as goal
 
 abbrev pub invariant-loop : goal.invariant-loop

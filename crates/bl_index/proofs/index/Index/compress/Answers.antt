@@ -24,4 +24,4 @@ pub returns-clause-same : goal.returns-clause-same
 returns-clause-same g c = let e = c.carry_out-process.ensures in same_pass c.args.pass.now.hand c.carry_out-process.new.hand e.same (done_first _ _ _ _ _ e.done)
 
 pub invariant_of-pass : goal.invariant_of-pass
-invariant_of-pass g c = let e = c.carry_out-process.ensures in record { idle = e.rests.idle; empty = e.empty; within = e.rests.within; rests = e.rests.over; seen = ∣ e.done.told.notes.seen ∣₁ }
+invariant_of-pass g c = let e = c.carry_out-process.ensures in record { idle = e.rests.idle; empty = e.empty; within = e.rests.within; rests = e.rests.over; seen = ∣ e.done.observed.notes.seen ∣₁ }

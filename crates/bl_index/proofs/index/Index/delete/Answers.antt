@@ -21,4 +21,4 @@ pub returns-clause-same : goal.returns-clause-same
 returns-clause-same g c = let e = c.delete_key.ensures in same_pass c.args.pass.now.hand c.delete_key.new.hand e.same (done_first _ _ _ _ _ e.deleted.done)
 
 pub invariant_of-pass : goal.invariant_of-pass
-invariant_of-pass g c = let e = c.delete_key.ensures in record { idle = e.rests.idle; empty = e.empty; within = e.rests.within; rests = e.rests.over; seen = ∣ e.deleted.done.told.notes.seen ∣₁ }
+invariant_of-pass g c = let e = c.delete_key.ensures in record { idle = e.rests.idle; empty = e.empty; within = e.rests.within; rests = e.rests.over; seen = ∣ e.deleted.done.observed.notes.seen ∣₁ }

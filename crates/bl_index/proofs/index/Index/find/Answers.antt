@@ -1,5 +1,5 @@
 use Rattle.bl_model.specs.declared.operation.Op.TheVariants as op
-use Rattle.bl_index.proofs.Taken.{same_pass, told_from}
+use Rattle.bl_index.proofs.Taken.{same_pass, observed_from}
 use Rattle.bl_index.proofs.Alone.{keys_alone}
 use Rattle.bl_index.proofs.index.Index.find.Goals as goal
 
@@ -7,7 +7,7 @@ pub returns-clause-same : goal.returns-clause-same
 returns-clause-same c = same_pass c.args.pass.now.hand c.find_key.new.hand c.find_key.ensures.same.0 c.find_key.ensures.first
 
 pub returns-clause-answers : goal.returns-clause-answers
-returns-clause-answers c = told_from _ _ _ _ _ _ _ _ _ c.requires.2 c.find_key.ensures.answers
+returns-clause-answers c = observed_from _ _ _ _ _ _ _ _ _ c.requires.2 c.find_key.ensures.answers
 
 pub returns-clause-alone : goal.returns-clause-alone
 returns-clause-alone c = let e = c.find_key.ensures in keys_alone c.args.self.now c.args.pass.now c.find_key.new.hand.seat (op.Find c.args.key) c.requires e.same.0 e.rests.within _ _ c.find_key.result (returns-clause-answers c)

@@ -28,7 +28,7 @@ pub returns-clause-same : goal.returns-clause-same
 returns-clause-same g c = let e = c.insert_pair.ensures in same_pass c.args.pass.now.hand c.insert_pair.new.hand e.same (done_first _ _ _ _ _ e.inserted.done)
 
 pub invariant_of-pass : goal.invariant_of-pass
-invariant_of-pass g c = let e = c.insert_pair.ensures in record { idle = e.rests.idle; empty = e.empty; within = e.rests.within; rests = e.rests.over; seen = ∣ e.inserted.done.told.notes.seen ∣₁ }
+invariant_of-pass g c = let e = c.insert_pair.ensures in record { idle = e.rests.idle; empty = e.empty; within = e.rests.within; rests = e.rests.over; seen = ∣ e.inserted.done.observed.notes.seen ∣₁ }
 
 pub returns-clause-no_room : goal.returns-clause-no_room
 returns-clause-no_room g c = λ none.

@@ -3,7 +3,7 @@ use Rattle.bl_image.specs.Images.{page_words, image_bytes}
 use Rattle.bl_image.specs.declared.image.Image.{Image}
 use Rattle.bl_check_tree.proofs.Beginnings.{AllFit}
 use Rattle.bl_store.specs.Opening.{first_pages}
-use Rattle.bl_index_rule.specs.Fitting.{beginner, Fits}
+use Rattle.bl_index_rule.specs.Simulation.{beginner, Simulates}
 use Rattle.bl_index_rule.proofs.Reopened.{beginner_seen, reopens, map_length}
 use Rattle.std.specs.Prelude.{IfOk}
 use Rattle.bl_index.specs.Opened.{IsReopened}
@@ -24,7 +24,7 @@ begun-requires-clause-rule c =
     let image = c.image-image.result.now in
     let fits : AllFit image.pages.items = c.in_ok-words.ensures.fits in
     let words : c.as_slice.result.now ≡ map page_words image.pages.items = c.as_slice.ensures.value ∙ c.in_ok-words.ensures.words in
-    subst (λ (z : List (List ℕ)). Fits (first_pages z c.args.passes (beginner image.pages.items))) (sym words) (reopens image.pages.items (image_bytes image.pages.items) (is_image image fits) c.image-image.ensures.sound c.args.passes)
+    subst (λ (z : List (List ℕ)). Simulates (first_pages z c.args.passes (beginner image.pages.items))) (sym words) (reopens image.pages.items (image_bytes image.pages.items) (is_image image fits) c.image-image.ensures.sound c.args.passes)
 
 pub begun-requires-clause-seen : goal.begun-requires-clause-seen
 begun-requires-clause-seen c =

@@ -14,13 +14,13 @@ pub returns-clause-runs : goal.returns-clause-runs
 returns-clause-runs g c = record {
   own = search rules;
   running = search rules;
-  on = (let told = c.launch.ensures.told in
+  on = (let observed = c.launch.ensures.observed in
       let goes = g.met.P.Kind.goes c.args.process.now c.took.new.self seen.Done c.took.ensures in
-      record { runs = told.runs; state = told.state ∙ sym (told.course.only _ goes); pages = told.pages; passes = told.passes; near = told.near; held = begins_held _ _ _ _ _ _ told (g.met.P.Kind.acts c.args.process.now ∙ c.requires.new.1) });
+      record { runs = observed.runs; state = observed.state ∙ sym (observed.course.only _ goes); pages = observed.pages; passes = observed.passes; near = observed.near; held = begins_held _ _ _ _ _ _ observed (g.met.P.Kind.acts c.args.process.now ∙ c.requires.new.1) });
 }
 
 pub returns-clause-begun : goal.returns-clause-begun
-returns-clause-begun g c = since_begin _ _ _ _ _ _ c.launch.ensures.told
+returns-clause-begun g c = since_begin _ _ _ _ _ _ c.launch.ensures.observed
 
-pub returns-clause-told : goal.returns-clause-told
-returns-clause-told g c = c.launch.ensures.told
+pub returns-clause-observed : goal.returns-clause-observed
+returns-clause-observed g c = c.launch.ensures.observed

@@ -5,7 +5,7 @@ use Rattle.bl_proc_invariant.specs.Logs.{proc_log}
 use Rattle.bl_proc.specs.Processes.{next_of}
 use Rattle.bl_proc_unique.specs.Frames.{op_of, work_of}
 use Rattle.bl_store.specs.Hands.{known}
-use Rattle.bl_index_rule.specs.declared.known.Mine.{Mine}
+use Rattle.bl_index_rule.specs.declared.known.PassState.{PassState}
 use Rattle.bl_claims.specs.Seeing.{name}
 use Rattle.bl_index_steps.specs.Runs.{IsSince}
 use Rattle.bl_index_steps.proofs.Calls.{since_step}
@@ -37,14 +37,14 @@ pub returns-in-AtEnd-clause-done : goal.returns-in-AtEnd-clause-done
 returns-in-AtEnd-clause-done g c = λ pass old begun.
     let inv = c.loop.invariant in
     let after = c.in-AtEnd.ensures.after in
-    let since = subst (λ (z : Mine). IsSince pass old z) (sym after.2) (inv.since pass old begun) in
+    let since = subst (λ (z : PassState). IsSince pass old z) (sym after.2) (inv.since pass old begun) in
     record {
       d = known c.step.new.hand.seat;
       before = g.P.Kind.proc_of c.step.new.process;
       since = since;
-      state = ap (λ (z : Mine). z.state) after.2 ∙ (inv.process.state ∙ sym after.1);
+      state = ap (λ (z : PassState). z.state) after.2 ∙ (inv.process.state ∙ sym after.1);
       at_end = ap next_of after.1 ∙ after.0;
-      told = c.finish.ensures.told;
+      observed = c.finish.ensures.observed;
       takes = g.met.P.Kind.goes _ _ _ c.finish.ensures.takes;
       op = ap op_of after.1 ∙ inv.op;
       work = ap work_of after.1 ∙ inv.work;
@@ -59,7 +59,7 @@ returns-in-AtEnd-clause-no_room g c = λ a is none.
     let after = c.in-AtEnd.ensures.after in
     let p = g.P.Kind.proc_of c.loop.process in let q = g.P.Kind.proc_of c.step.new.process in
     let keeps = stays_room c.loop.hand.seat c.step.new.hand.seat p q after.1 after.4 after.2 inv.room in
-    ends_room c.step.new.hand.seat c.finish.new.hand.seat q (g.P.Kind.proc_of c.finish.new.process) (laws.goes _ _ _ c.finish.ensures.takes) c.finish.ensures.refusal (ends_keeps _ (known c.step.new.hand.seat) (known c.finish.new.hand.seat) c.finish.ensures.told) keeps (answers_refused _ a (laws.answers c.finish.new.process ∙ is) none)
+    ends_room c.step.new.hand.seat c.finish.new.hand.seat q (g.P.Kind.proc_of c.finish.new.process) (laws.goes _ _ _ c.finish.ensures.takes) c.finish.ensures.refusal (ends_keeps _ (known c.step.new.hand.seat) (known c.finish.new.hand.seat) c.finish.ensures.observed) keeps (answers_refused _ a (laws.answers c.finish.new.process ∙ is) none)
 
 pub returns-in-AtEnd-clause-rests : goal.returns-in-AtEnd-clause-rests
 returns-in-AtEnd-clause-rests g c = record {

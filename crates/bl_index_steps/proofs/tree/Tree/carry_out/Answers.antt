@@ -14,7 +14,7 @@ pub carry_on-requires-clause-free : goal.carry_on-requires-clause-free
 carry_on-requires-clause-free g c =
     let takes = g.met.P.Kind.goes _ _ _ c.begin.ensures.takes in
     let p = g.P.Kind.proc_of c.args.process in let q = g.P.Kind.proc_of c.begin.new.process in
-    ((λ r. elim (takes_refused p seen.Done q takes r) [ inl was ↦ c.requires.free.0 was | inr told ↦ done_not_refused told ]), λ r. c.requires.free.1 (takes_puts p seen.Done q takes r))
+    ((λ r. elim (takes_refused p seen.Done q takes r) [ inl was ↦ c.requires.free.0 was | inr observed ↦ done_not_refused observed ]), λ r. c.requires.free.1 (takes_puts p seen.Done q takes r))
 
 pub begin-requires-clause-own : goal.begin-requires-clause-own
 begin-requires-clause-own g c = c.requires.own

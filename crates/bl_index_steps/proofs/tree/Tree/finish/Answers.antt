@@ -18,11 +18,11 @@ end-requires-clause-rule g c =
     (subst (λ (z : Proc). GoesOn z seen.Done) (sym c.requires.runs.on.state) (laws.courses c.args.process.now seen.Done c.requires.next.0 (rw c.requires.next.1 tt)))
 
 pub returns-clause-within : goal.returns-clause-within
-returns-clause-within g c = ends_within c.args.self.now.store.layout c.args.hand.now.seat c.end.new.hand.seat _ c.requires.runs.own.1 c.end.ensures.same.0.1 c.requires.runs.on.passes c.end.ensures.told.1.0
+returns-clause-within g c = ends_within c.args.self.now.store.layout c.args.hand.now.seat c.end.new.hand.seat _ c.requires.runs.own.1 c.end.ensures.same.0.1 c.requires.runs.on.passes c.end.ensures.observed.1.0
 
 pub returns-clause-tidy : goal.returns-clause-tidy
 returns-clause-tidy g c =
-    let ended = c.end.ensures.told.1 in
+    let ended = c.end.ensures.observed.1 in
     let goes = g.met.P.Kind.goes c.args.process.now c.took.new.self seen.Done c.took.ensures in
     let takes : Takes (known c.args.hand.now.seat).state seen.Done (g.P.Kind.proc_of c.took.new.self) = subst (λ (z : Proc). Takes z seen.Done (g.P.Kind.proc_of c.took.new.self)) (sym c.requires.runs.on.state) goes in
     subst (λ (z : Proc). IsTidy z (marks_of (name (known c.args.hand.now.seat).pass (known c.args.hand.now.seat).number) (known c.end.new.hand.seat).trail)) (ended.1.state ∙ sym (ended.1.course.only _ takes)) ended.0.notes.tidy

@@ -6,4 +6,4 @@ pub end-requires-clause-rule : goal.end-requires-clause-rule
 end-requires-clause-rule c = gives_up_process _ _ _ c.requires.may
 
 pub returns-clause-within : goal.returns-clause-within
-returns-clause-within c = ends_within c.args.self.now.store.layout c.args.hand.now.seat c.end.new.hand.seat _ c.requires.own.1 c.end.ensures.same.0.1 c.requires.passes c.end.ensures.told.1.0
+returns-clause-within c = ends_within c.args.self.now.store.layout c.args.hand.now.seat c.end.new.hand.seat _ c.requires.own.1 c.end.ensures.same.0.1 c.requires.passes c.end.ensures.observed.1.0

@@ -7,4 +7,4 @@ pub probe-requires-clause-rule : goal.probe-requires-clause-rule
 probe-requires-clause-rule c = probes_page _ _ (known c.args.hand.now.seat) c.requires.runs.on.runs _ c.requires.next c.requires.course
 
 pub returns-clause-goes : goal.returns-clause-goes
-returns-clause-goes c = let told = c.probe.ensures.told in probed_as c.probe.result _ _ c.args.page told.0 told.1 told.2 told.3
+returns-clause-goes c = let observed = c.probe.ensures.observed in probed_as c.probe.result _ _ c.args.page observed.0 observed.1 observed.2 observed.3

@@ -26,16 +26,16 @@ pub returns-then-try_latch-clause-runs : goal.returns-then-try_latch-clause-runs
 returns-then-try_latch-clause-runs g c = record {
   own = search rules;
   running = search rules;
-  on = (let told = c.try_latch.ensures.told in
-      on_goes _ seen.Done _ _ _ _ c.requires.runs.on (told.3.0 (told.2.0 c.if-try_latch.true)) (g.met.P.Kind.goes _ _ seen.Done c.took.ensures));
+  on = (let observed = c.try_latch.ensures.observed in
+      on_goes _ seen.Done _ _ _ _ c.requires.runs.on (observed.3.0 (observed.2.0 c.if-try_latch.true)) (g.met.P.Kind.goes _ _ seen.Done c.took.ensures));
 }
 
 pub returns-else-try_latch-clause-runs : goal.returns-else-try_latch-clause-runs
 returns-else-try_latch-clause-runs g c = record {
   own = search rules;
   running = search rules;
-  on = (let told = c.try_latch.ensures.told in
-      on_goes _ seen.Missed _ _ _ _ c.requires.runs.on (told.3.1 (λ is. false≢true (sym c.if-try_latch.false ∙ told.2.1 is))) (g.met.P.Kind.goes _ _ seen.Missed c.took-else-try_latch.ensures));
+  on = (let observed = c.try_latch.ensures.observed in
+      on_goes _ seen.Missed _ _ _ _ c.requires.runs.on (observed.3.1 (λ is. false≢true (sym c.if-try_latch.false ∙ observed.2.1 is))) (g.met.P.Kind.goes _ _ seen.Missed c.took-else-try_latch.ensures));
 }
 
 pub try_latch-requires-clause-own : goal.try_latch-requires-clause-own

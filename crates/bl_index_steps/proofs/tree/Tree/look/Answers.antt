@@ -7,4 +7,4 @@ pub glance-requires-clause-rule : goal.glance-requires-clause-rule
 glance-requires-clause-rule c = gets_page _ _ (known c.args.hand.now.seat) c.requires.runs.on.runs _ c.requires.next c.requires.course
 
 pub returns-clause-goes : goal.returns-clause-goes
-returns-clause-goes c = let told = c.in-Some.ensures.told in let page = told.3 in (page.0, sym told.2.1 ∙ page.1, page.2)
+returns-clause-goes c = let observed = c.in-Some.ensures.observed in let page = observed.3 in (page.0, sym observed.2.1 ∙ page.1, page.2)

@@ -33,8 +33,8 @@ pub returns-clause-runs : goal.returns-clause-runs
 returns-clause-runs g c = record {
   own = search rules;
   running = search rules;
-  on = (on_goes c.args.self.now.store.layout seen.Done (known c.args.hand.now.seat) (known c.put.new.hand.seat) (g.P.Kind.proc_of c.args.process.now) (g.P.Kind.proc_of c.took.new.self) c.requires.runs.on (c.put.ensures.told.1) (g.met.P.Kind.goes c.args.process.now c.took.new.self seen.Done c.took.ensures));
+  on = (on_goes c.args.self.now.store.layout seen.Done (known c.args.hand.now.seat) (known c.put.new.hand.seat) (g.P.Kind.proc_of c.args.process.now) (g.P.Kind.proc_of c.took.new.self) c.requires.runs.on (c.put.ensures.observed.1) (g.met.P.Kind.goes c.args.process.now c.took.new.self seen.Done c.took.ensures));
 }
 
 pub returns-clause-moves : goal.returns-clause-moves
-returns-clause-moves g c = (seen.Done, c.put.ensures.told.1)
+returns-clause-moves g c = (seen.Done, c.put.ensures.observed.1)

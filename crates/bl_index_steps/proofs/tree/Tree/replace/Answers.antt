@@ -2,8 +2,8 @@ use Rattle.std.proofs.Common.{◌≡◌, refl, ap, subst, ◌∙◌}
 use Rattle.bl_proc_base.specs.declared.acts.Seen.TheVariants as seen
 use Rattle.bl_proc.specs.Processes.{next_of}
 use Rattle.bl_store.specs.Hands.{known}
-use Rattle.bl_index_rule.specs.declared.known.Mine.{Mine}
-use Rattle.bl_index_rule.specs.Told.{Goes}
+use Rattle.bl_index_rule.specs.declared.known.PassState.{PassState}
+use Rattle.bl_index_rule.specs.Observed.{Goes}
 use Rattle.bl_index_rule.proofs.Pages.{puts_page, refuses_put}
 use Rattle.bl_index_steps.proofs.Standing.{course_at}
 use Rattle.bl_index_steps.proofs.tree.Tree.replace.Goals as goal
@@ -14,10 +14,10 @@ reserve-requires-clause-refuses c = refuses_put _ _ (known c.args.hand.now.seat)
 pub put-requires-clause-rule : goal.put-requires-clause-rule
 put-requires-clause-rule c =
     let same : known c.reserve.new.hand.seat ≡ known c.args.hand.now.seat = (c.in-Ok.ensures.no_page refl).1 in
-    let state = ap (λ (d : Mine). d.state) same in
-    puts_page _ _ (known c.reserve.new.hand.seat) (ap (λ (d : Mine). d.runs) same ∙ c.requires.runs.on.runs) _ _ c.requires.next.0 (ap next_of state ∙ c.requires.next.1) c.requires.next.2 (course_at seen.Done _ _ state c.requires.course.0)
+    let state = ap (λ (d : PassState). d.state) same in
+    puts_page _ _ (known c.reserve.new.hand.seat) (ap (λ (d : PassState). d.runs) same ∙ c.requires.runs.on.runs) _ _ c.requires.next.0 (ap next_of state ∙ c.requires.next.1) c.requires.next.2 (course_at seen.Done _ _ state c.requires.course.0)
 
 pub returns-in-Ok-clause-done : goal.returns-in-Ok-clause-done
 returns-in-Ok-clause-done c = λ e.
     let same : known c.reserve.new.hand.seat ≡ known c.args.hand.now.seat = (c.in-Ok.ensures.no_page refl).1 in
-    subst (λ (d : Mine). Goes seen.Done d (known c.put.new.hand.seat)) same c.put.ensures.told.1
+    subst (λ (d : PassState). Goes seen.Done d (known c.put.new.hand.seat)) same c.put.ensures.observed.1

@@ -6,8 +6,8 @@ use Rattle.bl_proc.specs.Processes.{next_of}
 use Rattle.bl_store.specs.Drafts.{IsSpread}
 use Rattle.bl_store.specs.Hands.{known, words_in, BeginsAt}
 use Rattle.bl_store.specs.declared.view.Reading.{Reading}
-use Rattle.bl_index_rule.specs.declared.known.Mine.{Mine}
-use Rattle.bl_index_rule.specs.Told.{Goes}
+use Rattle.bl_index_rule.specs.declared.known.PassState.{PassState}
+use Rattle.bl_index_rule.specs.Observed.{Goes}
 use Rattle.bl_index_rule.proofs.Pages.{puts_page, refuses_put}
 use Rattle.bl_index_steps.proofs.Standing.{course_at}
 use Rattle.bl_index_steps.proofs.tree.Tree.replace_spread.Goals as goal
@@ -22,13 +22,13 @@ put_spread-requires-clause-reads c =
 pub put_spread-requires-clause-rule : goal.put_spread-requires-clause-rule
 put_spread-requires-clause-rule c =
     let same : known c.reserve.new.hand.seat ≡ known c.args.hand.now.seat = (c.in-Ok.ensures.no_page refl).1 in
-    let state = ap (λ (d : Mine). d.state) same in (
+    let state = ap (λ (d : PassState). d.state) same in (
       words_of c.requires.next.0,
-      subst (λ (z : Reading). IsSpread c.args.change (words_in z) (words_of c.requires.next.0)) (sym (c.in-Ok.ensures.reads refl)) c.requires.next.2,
-      puts_page _ _ (known c.reserve.new.hand.seat) (ap (λ (d : Mine). d.runs) same ∙ c.requires.runs.on.runs) _ _ c.requires.next.0 (ap next_of state ∙ c.requires.next.1) refl (course_at seen.Done _ _ state c.requires.course.0),
+      subst (λ (z : Reading). IsSpread c.args.edit (words_in z) (words_of c.requires.next.0)) (sym (c.in-Ok.ensures.reads refl)) c.requires.next.2,
+      puts_page _ _ (known c.reserve.new.hand.seat) (ap (λ (d : PassState). d.runs) same ∙ c.requires.runs.on.runs) _ _ c.requires.next.0 (ap next_of state ∙ c.requires.next.1) refl (course_at seen.Done _ _ state c.requires.course.0),
     )
 
 pub returns-in-Ok-clause-done : goal.returns-in-Ok-clause-done
 returns-in-Ok-clause-done c = λ e.
     let same : known c.reserve.new.hand.seat ≡ known c.args.hand.now.seat = (c.in-Ok.ensures.no_page refl).1 in
-    subst (λ (d : Mine). Goes seen.Done d (known c.put_spread.new.hand.seat)) same c.put_spread.ensures.told.1
+    subst (λ (d : PassState). Goes seen.Done d (known c.put_spread.new.hand.seat)) same c.put_spread.ensures.observed.1

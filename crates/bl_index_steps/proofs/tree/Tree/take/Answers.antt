@@ -6,7 +6,7 @@ use Rattle.bl_proc_unique.specs.Courses.{GoesOn}
 use Rattle.bl_store.specs.Hands.{known}
 use Rattle.bl_index_rule.proofs.Pages.{takes_page, refuses_take}
 use Rattle.bl_index_steps.proofs.Rooms.{tells_took, tells_refused, take_opens_not}
-use Rattle.bl_index_rule.specs.Told.{Goes}
+use Rattle.bl_index_rule.specs.Observed.{Goes}
 use Rattle.bl_index_steps.proofs.Standing.{on_goes}
 use Rattle.bl_index_steps.proofs.tree.Tree.take.Goals as goal
 

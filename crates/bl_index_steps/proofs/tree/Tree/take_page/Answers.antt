@@ -1,6 +1,6 @@
 use Rattle.std.proofs.Common.{ℕ, ◌≡◌, ◌<◌, refl, sym, ◌∙◌, subst, arith}
 use Rattle.bl_proc_base.specs.declared.acts.Seen.TheVariants as seen
-use Rattle.bl_index_rule.specs.Told.{Goes}
+use Rattle.bl_index_rule.specs.Observed.{Goes}
 use Rattle.bl_index_steps.proofs.Standing.{same_number}
 use Rattle.bl_store.specs.Hands.{known}
 use Rattle.bl_index_rule.proofs.Pages.{takes_page, refuses_take}

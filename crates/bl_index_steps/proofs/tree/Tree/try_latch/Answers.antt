@@ -11,7 +11,7 @@ pub try_latch-requires-clause-misses : goal.try_latch-requires-clause-misses
 try_latch-requires-clause-misses c = misses_page _ _ (known c.args.hand.now.seat) c.requires.runs.on.runs _ c.requires.next c.requires.course.1
 
 pub returns-clause-done : goal.returns-clause-done
-returns-clause-done c = λ e. let told = c.try_latch.ensures.told in told.3.0 (told.2.0 e)
+returns-clause-done c = λ e. let observed = c.try_latch.ensures.observed in observed.3.0 (observed.2.0 e)
 
 pub returns-clause-missed : goal.returns-clause-missed
-returns-clause-missed c = λ e. let told = c.try_latch.ensures.told in told.3.1 (λ is. false≢true (sym e ∙ told.2.1 is))
+returns-clause-missed c = λ e. let observed = c.try_latch.ensures.observed in observed.3.1 (λ is. false≢true (sym e ∙ observed.2.1 is))

@@ -29,12 +29,12 @@ pub gather-requires-clause-reads : goal.gather-requires-clause-reads
 gather-requires-clause-reads g c = let same = ap (λ (z : Layout). z.passes) c.requires.own.1 in let t = c.load-found.ensures.2.3 c.args.page (omega arith) in
     let f = t.2.1 c.if-found-eq0.false in let up = f.1 in let back : f.0 ≡ c.load-found.result - 1 = omega arith in (t.1, f.3, f.4 ∙ ap (λ (z : ℕ). At z t.1) back)
 
-pub returns-then-found-eq0-clause-told : goal.returns-then-found-eq0-clause-told
-returns-then-found-eq0-clause-told g c = let same = ap (λ (z : Layout). z.passes) c.requires.own.1 in let t = c.load-found.ensures.2.3 c.args.page (omega arith) in
+pub returns-then-found-eq0-clause-observed : goal.returns-then-found-eq0-clause-observed
+returns-then-found-eq0-clause-observed g c = let same = ap (λ (z : Layout). z.passes) c.requires.own.1 in let t = c.load-found.ensures.2.3 c.args.page (omega arith) in
     (t.0, subst (λ (z : List ℕ). g.M.PagePlay.then c.args.hand.now.seat.me.0.known c.args.page t.0 z c.load-found.new.seat.me.0.known) (t.2.0 c.if-found-eq0.true) t.3)
 
-pub returns-else-found-eq0-clause-told : goal.returns-else-found-eq0-clause-told
-returns-else-found-eq0-clause-told g c = let same = ap (λ (z : Layout). z.passes) c.requires.own.1 in let t = c.load-found.ensures.2.3 c.args.page (omega arith) in
+pub returns-else-found-eq0-clause-observed : goal.returns-else-found-eq0-clause-observed
+returns-else-found-eq0-clause-observed g c = let same = ap (λ (z : Layout). z.passes) c.requires.own.1 in let t = c.load-found.ensures.2.3 c.args.page (omega arith) in
     let f = t.2.1 c.if-found-eq0.false in let up = f.1 in let back : f.0 ≡ c.load-found.result - 1 = omega arith in
     let words = c.gather.ensures.words t.1 f.3 (f.4 ∙ ap (λ (z : ℕ). At z t.1) back) in let known = ap (λ (m : Me (Unit {0}) (View g.row.D.Denot)). m.0.known) c.gather.ensures.same.1 in
     (t.0, subst (λ (z : List ℕ × g.row.D.Denot). g.M.PagePlay.then c.args.hand.now.seat.me.0.known c.args.page t.0 z.0 z.1) (λ i. (sym words i, sym known i)) t.3)

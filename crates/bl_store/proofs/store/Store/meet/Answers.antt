@@ -45,8 +45,8 @@ split_seat-requires g c = let st = c.args.self.now in let wide = st.wide in let 
       gives_back _ _ _ _ _ j c.args.hand.now.seat.me.0.joined (live_on c.args.hand.now c.load.new.seat.me layout (e.0.1 ∙ ap (λ (v : View g.row.D.Denot). v.number) view)) (layout ∙ (c.requires.own.0.1 ∙ sym st.key)) (e.3 ∙ ap (λ (v : View g.row.D.Denot). v.joined) view),
     )
 
-pub returns-clause-told : goal.returns-clause-told
-returns-clause-told g c = let both = c.join_seat.ensures.2 in let theirs : c.replace-theirs.result ≡ c.args.other.now.seat = c.replace-theirs.ensures.value in let me : c.split_seat-blank.new.seat.me ≡ c.args.hand.now.seat.me = c.split_seat-blank.ensures.2 in
+pub returns-clause-observed : goal.returns-clause-observed
+returns-clause-observed g c = let both = c.join_seat.ensures.2 in let theirs : c.replace-theirs.result ≡ c.args.other.now.seat = c.replace-theirs.ensures.value in let me : c.split_seat-blank.new.seat.me ≡ c.args.hand.now.seat.me = c.split_seat-blank.ensures.2 in
     let view : c.join_seat.new.seat.me.0 ≡ taking_in c.args.hand.now.seat.me.0 c.args.other.now.seat.me.0 = ap (λ (m : Me (Unit {0}) (View g.row.D.Denot)). m.0) both ∙ (λ i. taking_in ((me i).0) ((theirs i).me.0)) in
     let j : Joined g.row.D.Denot = joined c.args.other.now.seat.me.0.number c.args.other.now.seat.me.0.known in let t = c.load.ensures.2.4 j c.args.hand.now.seat.me.0.joined (ap (λ (v : View g.row.D.Denot). v.joined) view) in
     let after : c.split_seat.new.seat.me.0.known ≡ c.load.new.seat.me.0.known = ap (λ (m : Me (Unit {0}) (View g.row.D.Denot)). m.0.known) c.split_seat.ensures.2 in

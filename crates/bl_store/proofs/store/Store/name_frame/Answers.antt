@@ -26,8 +26,8 @@ pub returns-then-before-ne0-clause-stock : goal.returns-then-before-ne0-clause-s
 returns-then-before-ne0-clause-stock g c = let seat = c.args.hand.now.seat in let e = c.swap-before.ensures.2 in let r = c.retire_frame.ensures in let passes = ap (λ (z : Layout). z.passes) c.requires.own.1 in
     let t = e.3 c.args.page c.args.frame (draft_words seat) (other_drafts seat) (omega arith) c.requires.draft.0 in let a = e.2.0 in let b = r.stock.1 in (r.stock.0 ∙ t.0, omega arith)
 
-pub returns-then-before-ne0-clause-told : goal.returns-then-before-ne0-clause-told
-returns-then-before-ne0-clause-told g c = let seat = c.args.hand.now.seat in let e = c.swap-before.ensures.2 in let passes = ap (λ (z : Layout). z.passes) c.requires.own.1 in
+pub returns-then-before-ne0-clause-observed : goal.returns-then-before-ne0-clause-observed
+returns-then-before-ne0-clause-observed g c = let seat = c.args.hand.now.seat in let e = c.swap-before.ensures.2 in let passes = ap (λ (z : Layout). z.passes) c.requires.own.1 in
     let t = e.3 c.args.page c.args.frame (draft_words seat) (other_drafts seat) (omega arith) c.requires.draft.0 in
     (t.1.0, subst (λ (z : ℕ × g.row.D.Denot). g.M.PagePlay.then seat.me.0.known c.args.page (Held z.0) t.1.0 z.1) (λ i. (sym c.args.hand.now.own.0 i, sym c.retire_frame.ensures.same.2 i)) t.1.1)
 
@@ -35,7 +35,7 @@ pub returns-else-before-ne0-clause-stock : goal.returns-else-before-ne0-clause-s
 returns-else-before-ne0-clause-stock g c = let seat = c.args.hand.now.seat in let e = c.swap-before.ensures.2 in let passes = ap (λ (z : Layout). z.passes) c.requires.own.1 in
     let t = e.3 c.args.page c.args.frame (draft_words seat) (other_drafts seat) (omega arith) c.requires.draft.0 in let a = e.2.0 in (t.0, omega arith)
 
-pub returns-else-before-ne0-clause-told : goal.returns-else-before-ne0-clause-told
-returns-else-before-ne0-clause-told g c = let seat = c.args.hand.now.seat in let e = c.swap-before.ensures.2 in let passes = ap (λ (z : Layout). z.passes) c.requires.own.1 in
+pub returns-else-before-ne0-clause-observed : goal.returns-else-before-ne0-clause-observed
+returns-else-before-ne0-clause-observed g c = let seat = c.args.hand.now.seat in let e = c.swap-before.ensures.2 in let passes = ap (λ (z : Layout). z.passes) c.requires.own.1 in
     let t = e.3 c.args.page c.args.frame (draft_words seat) (other_drafts seat) (omega arith) c.requires.draft.0 in
     (t.1.0, subst (λ (z : ℕ). g.M.PagePlay.then seat.me.0.known c.args.page (Held z) t.1.0 c.swap-before.new.seat.me.0.known) (sym c.args.hand.now.own.0) t.1.1)

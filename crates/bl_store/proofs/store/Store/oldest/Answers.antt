@@ -1,5 +1,5 @@
 use Rattle.std.proofs.Common.{rules, arith, ◌≡◌, ℕ, ◌+◌, ap, sym, ◌∙◌}
-use Rattle.bl_store.specs.Told.{lower}
+use Rattle.bl_store.specs.Observed.{lower}
 use Rattle.bl_store.specs.declared.view.Sweep.TheVariants.{Over}
 use Rattle.bl_store.proofs.Sweeping.{horizons, passes, lower_none, lower_some}
 use Rattle.bl_store.proofs.Living.{live_hand}

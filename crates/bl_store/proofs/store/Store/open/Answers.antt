@@ -13,6 +13,6 @@ store-requires g c = let st = c.args.self.now in let wide = st.wide in let own =
       (subst (λ (z : Layout × ℕ). Opens g.R.PageRule.holds z.0 z.1 c.args.hand.now.seat.me.0.known c.args.page g.M.PagePlay.then) (λ i. (sym st.key i, own.0 i)) c.requires.rule) (live_hand c.args.hand.now),
 )
 
-pub returns-clause-told : goal.returns-clause-told
-returns-clause-told g c = let passes = ap (λ (z : Layout). z.passes) c.requires.own.1 in let pages = ap (λ (z : Layout). z.pages) c.requires.own.1 in let t = c.store.ensures.2.3 c.args.page (omega arith) in
+pub returns-clause-observed : goal.returns-clause-observed
+returns-clause-observed g c = let passes = ap (λ (z : Layout). z.passes) c.requires.own.1 in let pages = ap (λ (z : Layout). z.pages) c.requires.own.1 in let t = c.store.ensures.2.3 c.args.page (omega arith) in
     (t.0, subst (λ (z : ℕ). g.M.PagePlay.then c.args.hand.now.seat.me.0.known c.args.page (Held z) t.0 c.store.new.seat.me.0.known) (sym c.args.hand.now.own.0) t.1)

@@ -21,7 +21,7 @@ returns-clause-stock g c = let fs : List ℕ = c.args.stock.now.frames in let n 
     let left = r.stock.0 ∙ (c.write_spread.ensures.draft.1 ∙ ap behind_first (c.requires.stock.0.frames ∙ drafts_pop fs n (omega arith))) in
     (stock_after c.args.hand.now.seat _ c.args.stock.now _ c.requires.stock.0 refl (omega arith) left (omega arith) (r.same.0.1 ∙ quiet.1), omega arith, refl)
 
-pub returns-clause-told : goal.returns-clause-told
-returns-clause-told g c = let quiet = c.write_spread.ensures.same in let t = c.name_frame.ensures.told in
+pub returns-clause-observed : goal.returns-clause-observed
+returns-clause-observed g c = let quiet = c.write_spread.ensures.same in let t = c.name_frame.ensures.observed in
     let number : c.write_spread.new.hand.number ≡ c.args.hand.now.number = c.write_spread.new.hand.own.0 ∙ (quiet.2 ∙ sym c.args.hand.now.own.0) in
     (t.0, subst (λ (z : g.row.D.Denot × ℕ). g.M.PagePlay.then z.0 c.args.page (Held z.1) t.0 c.name_frame.new.hand.seat.me.0.known) (λ i. (quiet.4 i, number i)) t.1)

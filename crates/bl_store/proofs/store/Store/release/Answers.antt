@@ -22,7 +22,7 @@ compare_exchange-found-requires-2 g c = let st = c.args.self.now in let wide = s
 pub returns-then-found-state : goal.returns-then-found-state
 returns-then-found-state g c = let f = c.compare_exchange-found.ensures in record {
   same = ((f.0, f.2.0.0, f.2.0.1), f.2.1, f.2.2, f.2.3);
-  told = inr (f.2.5 c.if-found-state.true).0;
+  observed = inr (f.2.5 c.if-found-state.true).0;
   yes = λ e. cc;
   no = λ _. (f.2.5 c.if-found-state.true).1;
 }
@@ -30,7 +30,7 @@ returns-then-found-state g c = let f = c.compare_exchange-found.ensures in recor
 pub returns-then-at-self : goal.returns-then-at-self
 returns-then-at-self g c = let f = c.compare_exchange-found.ensures in record {
   same = ((f.0, f.2.0.0, f.2.0.1), f.2.1, f.2.2, f.2.3);
-  told = inl (refl, (f.2.4 c.if-found-state.false).0);
+  observed = inl (refl, (f.2.4 c.if-found-state.false).0);
   yes = λ _. (f.2.4 c.if-found-state.false).1;
   no = λ e. cc;
 }
@@ -38,7 +38,7 @@ returns-then-at-self g c = let f = c.compare_exchange-found.ensures in record {
 pub returns-then-found-state-2 : goal.returns-then-found-state-2
 returns-then-found-state-2 g c = let f = c.compare_exchange-found-2.ensures in record {
   same = ((f.0, f.2.0.0.0, f.2.0.0.1), f.2.0.1, f.2.0.2, f.2.1);
-  told = inr f.2.0.3;
+  observed = inr f.2.0.3;
   yes = λ e. cc;
   no = λ _. f.2.3 c.if-found-state-2.true;
 }
@@ -46,7 +46,7 @@ returns-then-found-state-2 g c = let f = c.compare_exchange-found-2.ensures in r
 pub returns : goal.returns
 returns g c = let f = c.compare_exchange-found-2.ensures in record {
   same = ((f.0, f.2.0.0.0, f.2.0.0.1), f.2.0.1, f.2.0.2, f.2.1);
-  told = inr f.2.0.3;
+  observed = inr f.2.0.3;
   yes = λ _. f.2.2 c.if-found-state-2.false;
   no = λ e. cc;
 }

@@ -44,8 +44,8 @@ refuse-requires-then-stock-frames-clause-refuses g c = let e = c.load-clock.ensu
     subst (λ (z : ℕ × g.row.D.Denot). Refuses g.R.PageRule.holds c.args.self.now.layout z.0 z.1 g.M.TimePlay.then) (λ i. (number i, sym (b.4 ∙ (q.4 ∙ (e.2.2 ∙ s.3))) i)) c.requires.refuses
 
 pub returns-then-stock-frames-clause-refused : goal.returns-then-stock-frames-clause-refused
-returns-then-stock-frames-clause-refused g c = let e = c.load-clock.ensures in let s = c.prepare.ensures.same in let q = c.reserve_frames.ensures.same.0 in let b = c.give_back.ensures.same.0 in let told = c.refuse-then-stock-frames.ensures.told in
-    (c.refuse-then-stock-frames.ensures.stock.0 ∙ c.give_back.ensures.stock, (told.0, subst (λ (z : g.row.D.Denot). g.M.TimePlay.then z told.0 c.refuse-then-stock-frames.new.hand.seat.me.0.known) (b.4 ∙ (q.4 ∙ (e.2.2 ∙ s.3))) told.1))
+returns-then-stock-frames-clause-refused g c = let e = c.load-clock.ensures in let s = c.prepare.ensures.same in let q = c.reserve_frames.ensures.same.0 in let b = c.give_back.ensures.same.0 in let observed = c.refuse-then-stock-frames.ensures.observed in
+    (c.refuse-then-stock-frames.ensures.stock.0 ∙ c.give_back.ensures.stock, (observed.0, subst (λ (z : g.row.D.Denot). g.M.TimePlay.then z observed.0 c.refuse-then-stock-frames.new.hand.seat.me.0.known) (b.4 ∙ (q.4 ∙ (e.2.2 ∙ s.3))) observed.1))
 
 pub give_back-requires-then-is_none-clause-stock : goal.give_back-requires-then-is_none-clause-stock
 give_back-requires-then-is_none-clause-stock g c = let t = c.take-stock.ensures.same in let was = c.reserve_frames.ensures.stock.0 in record {

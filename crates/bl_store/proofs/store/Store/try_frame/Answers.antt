@@ -2,7 +2,7 @@ use Rattle.std.proofs.Common.{rules, arith, ◌≡◌, ℕ, ◌+◌, ◌<◌, Li
 use Rattle.bl_layout.specs.declared.layout.Layout.{Layout}
 use Rattle.bl_layout.specs.Words.{frame_count}
 use Rattle.bl_store.specs.Frames.{state_at}
-use Rattle.bl_store.specs.Told.{draft}
+use Rattle.bl_store.specs.Observed.{draft}
 use Rattle.bl_store.specs.declared.view.Draft.{Draft}
 use Rattle.bl_store.proofs.Reserving.{notes, reserves}
 use Rattle.bl_store.proofs.StockLemmas.{drafts_push, within_push, has_same, has_more, has_new}

@@ -18,6 +18,6 @@ compare_exchange-requires g c = let st = c.args.self.now in let wide = st.wide i
       (subst (λ (z : Layout × ℕ). Misses g.R.PageRule.holds z.0 z.1 c.args.hand.now.seat.me.0.known c.args.page g.M.PagePlay.then) (λ i. (sym st.key i, own.0 i)) c.requires.misses) (live_hand c.args.hand.now),
 )
 
-pub returns-clause-told : goal.returns-clause-told
-returns-clause-told g c = let passes = ap (λ (z : Layout). z.passes) c.requires.own.1 in let pages = ap (λ (z : Layout). z.pages) c.requires.own.1 in let t = c.compare_exchange.ensures.2.3 c.args.page (omega arith) in
+pub returns-clause-observed : goal.returns-clause-observed
+returns-clause-observed g c = let passes = ap (λ (z : Layout). z.passes) c.requires.own.1 in let pages = ap (λ (z : Layout). z.pages) c.requires.own.1 in let t = c.compare_exchange.ensures.2.3 c.args.page (omega arith) in
     (t.0, t.1, ((λ h. t.2 (eqb-true c.compare_exchange.result 1 h)), λ e. dite (ℕ_discrete c.compare_exchange.result 1) (eq-eqb c.compare_exchange.result 1) (λ ne. absurd (t.3 ne e))), t.4)

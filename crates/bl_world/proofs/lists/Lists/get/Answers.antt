@@ -12,8 +12,8 @@ index-requires c =
     omega (arith, within)
 
 pub returns-clause-ok : goal.returns-clause-ok
-returns-clause-ok c = ok_map c.told.result (λ f p stood.
+returns-clause-ok c = ok_map c.observed.result (λ f p stood.
     (let w = c.args.self.now in
     let within = get_within w.pages.items w.owners.items w.processes.items w.events.items c.args.index p c.args.at stood c.requires.world (c.requires.next p stood).1 in
     let page = read_at w.pages.items c.args.at c.index.result.now within c.index.ensures in
-    (c.copied-page.result, rw c.copied-page.ensures page, (f p stood).0, (f p stood).1))) c.told.ensures.ok
+    (c.copied-page.result, rw c.copied-page.ensures page, (f p stood).0, (f p stood).1))) c.observed.ensures.ok

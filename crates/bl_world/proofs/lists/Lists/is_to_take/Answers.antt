@@ -1,7 +1,7 @@
 use Rattle.std.proofs.Common.{◌∙◌, ◌-◌, arith, refl, sym, inl, inr}
 use Rattle.bl_proc_base.specs.declared.acts.Action.TheVariants as act
 use Rattle.bl_world.specs.Views.{view_of}
-use Rattle.bl_world.proofs.Turned.{goes_on, has_answered, is_taking, next_told, none_takes, none_there}
+use Rattle.bl_world.proofs.Turned.{goes_on, has_answered, is_taking, next_observed, none_takes, none_there}
 use Rattle.bl_world.proofs.lists.Lists.is_to_take.Goals as goal
 use Rattle.bl_world.proofs.lists.Lists.is_to_take.Goals.{then-number-eq0-via-then-number-eq0, then-number-eq0-via-else-number-eq0+then-number-len}
 
@@ -29,5 +29,5 @@ pub returns-in_default-matches : goal.returns-in_default-matches
 returns-in_default-matches c = (
   (λ e. cc),
   λ h. absurd (none_takes (view_of c.args.self.now) c.args.number c.if-number-eq0.false (omega (arith, c.if-number-len.false, c.len.ensures)) (λ p stood may.
-      c.in_default-matches.not-Take (sym (next_told c.args.self.now.processes.items (c.args.number - 1) p c.index-2.result.now stood c.index-2.ensures c.next.result c.next.ensures) ∙ may.1)) h),
+      c.in_default-matches.not-Take (sym (next_observed c.args.self.now.processes.items (c.args.number - 1) p c.index-2.result.now stood c.index-2.ensures c.next.result c.next.ensures) ∙ may.1)) h),
 )

@@ -13,7 +13,7 @@ may_release-requires-clause-within c =
     omega (arith, within, w.paired)
 
 pub returns-then-not-may_release-clause-ok : goal.returns-then-not-may_release-clause-ok
-returns-then-not-may_release-clause-ok c = ok_map c.told.result (λ f p stood. inr ((λ may. false≢true (sym c.if-not-may_release.true ∙ c.may_release.ensures.1 may)), (f p stood).0, (f p stood).1)) c.told.ensures.ok
+returns-then-not-may_release-clause-ok c = ok_map c.observed.result (λ f p stood. inr ((λ may. false≢true (sym c.if-not-may_release.true ∙ c.may_release.ensures.1 may)), (f p stood).0, (f p stood).1)) c.observed.ensures.ok
 
 pub own-requires-clause-within : goal.own-requires-clause-within
 own-requires-clause-within c =

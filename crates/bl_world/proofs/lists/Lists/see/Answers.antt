@@ -12,9 +12,9 @@ index-requires c =
     omega (arith, within, w.paired)
 
 pub returns-clause-ok : goal.returns-clause-ok
-returns-clause-ok c = ok_map c.told.result (λ f p stood.
+returns-clause-ok c = ok_map c.observed.result (λ f p stood.
     (let w = c.args.self.now in
     let within = see_within w.pages.items w.owners.items w.processes.items w.events.items c.args.index p c.args.at stood c.requires.world (c.requires.next p stood).1 in
     let there = read_at w.owners.items c.args.at c.index.result.now (omega (arith, within, w.paired)) c.index.ensures in
     let many : c.len-started.result ≡ length w.processes.items = omega (arith, c.len-started.ensures) in
-    (c.index.result.now, there, (f p stood).0, rw (c.is_retired-retired.ensures, many) at (f p stood).1))) c.told.ensures.ok
+    (c.index.result.now, there, (f p stood).0, rw (c.is_retired-retired.ensures, many) at (f p stood).1))) c.observed.ensures.ok

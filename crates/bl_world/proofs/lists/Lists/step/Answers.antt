@@ -9,11 +9,11 @@ pub returns-in-Some-clause-ok : goal.returns-in-Some-clause-ok
 returns-in-Some-clause-ok c = ok_map c.idle.result (λ e p stood.
     inr ((λ m. has_answered c.args.self.now.processes.items c.args.index p c.index.result.now stood c.index.ensures c.answer.result c.in-Some.field-0 c.answer.ensures c.in-Some.is m.0), e)) c.idle.ensures.ok
 
-pub told-requires-clause-given : goal.told-requires-clause-given
-told-requires-clause-given c = λ p stood. (let goes = goes_on c.args.self.now.processes.items c.args.index p c.index.result.now c.index-2.result.now c.answer.result (act.Begin) stood c.index.ensures c.answer.ensures c.in_default.not-Some c.index-2.ensures c.in-Begin.ensures in (goes.0, may_begin p goes.1))
+pub observed-requires-clause-given : goal.observed-requires-clause-given
+observed-requires-clause-given c = λ p stood. (let goes = goes_on c.args.self.now.processes.items c.args.index p c.index.result.now c.index-2.result.now c.answer.result (act.Begin) stood c.index.ensures c.answer.ensures c.in_default.not-Some c.index-2.ensures c.in-Begin.ensures in (goes.0, may_begin p goes.1))
 
-pub told-requires-in-End-clause-given : goal.told-requires-in-End-clause-given
-told-requires-in-End-clause-given c = λ p stood. (let goes = goes_on c.args.self.now.processes.items c.args.index p c.index.result.now c.index-2.result.now c.answer.result (act.End) stood c.index.ensures c.answer.ensures c.in_default.not-Some c.index-2.ensures c.in-End.ensures in (goes.0, may_end p goes.1))
+pub observed-requires-in-End-clause-given : goal.observed-requires-in-End-clause-given
+observed-requires-in-End-clause-given c = λ p stood. (let goes = goes_on c.args.self.now.processes.items c.args.index p c.index.result.now c.index-2.result.now c.answer.result (act.End) stood c.index.ensures c.answer.ensures c.in_default.not-Some c.index-2.ensures c.in-End.ensures in (goes.0, may_end p goes.1))
 
 pub get-requires-clause-next : goal.get-requires-clause-next
 get-requires-clause-next c = λ p stood. goes_on c.args.self.now.processes.items c.args.index p c.index.result.now c.index-2.result.now c.answer.result (act.Get c.in-Get.at) stood c.index.ensures c.answer.ensures c.in_default.not-Some c.index-2.ensures c.in-Get.ensures
@@ -43,12 +43,12 @@ pub retire-requires-clause-next : goal.retire-requires-clause-next
 retire-requires-clause-next c = λ p stood. goes_on c.args.self.now.processes.items c.args.index p c.index.result.now c.index-2.result.now c.answer.result (act.Retire c.in-Retire.at) stood c.index.ensures c.answer.ensures c.in_default.not-Some c.index-2.ensures c.in-Retire.ensures
 
 pub returns-in-Begin-clause-ok : goal.returns-in-Begin-clause-ok
-returns-in-Begin-clause-ok c = ok_map c.told.result (λ f p stood.
-    carried (view_of c.args.self.now) (view_of c.told.new.self) c.args.index p act.Begin (goes_on c.args.self.now.processes.items c.args.index p c.index.result.now c.index-2.result.now c.answer.result (act.Begin) stood c.index.ensures c.answer.ensures c.in_default.not-Some c.index-2.ensures c.in-Begin.ensures) (λ e. cc) (f p stood)) c.told.ensures.ok
+returns-in-Begin-clause-ok c = ok_map c.observed.result (λ f p stood.
+    carried (view_of c.args.self.now) (view_of c.observed.new.self) c.args.index p act.Begin (goes_on c.args.self.now.processes.items c.args.index p c.index.result.now c.index-2.result.now c.answer.result (act.Begin) stood c.index.ensures c.answer.ensures c.in_default.not-Some c.index-2.ensures c.in-Begin.ensures) (λ e. cc) (f p stood)) c.observed.ensures.ok
 
 pub returns-in-End-clause-ok : goal.returns-in-End-clause-ok
-returns-in-End-clause-ok c = ok_map c.told-in-End.result (λ f p stood.
-    carried (view_of c.args.self.now) (view_of c.told-in-End.new.self) c.args.index p act.End (goes_on c.args.self.now.processes.items c.args.index p c.index.result.now c.index-2.result.now c.answer.result (act.End) stood c.index.ensures c.answer.ensures c.in_default.not-Some c.index-2.ensures c.in-End.ensures) (λ e. cc) (f p stood)) c.told-in-End.ensures.ok
+returns-in-End-clause-ok c = ok_map c.observed-in-End.result (λ f p stood.
+    carried (view_of c.args.self.now) (view_of c.observed-in-End.new.self) c.args.index p act.End (goes_on c.args.self.now.processes.items c.args.index p c.index.result.now c.index-2.result.now c.answer.result (act.End) stood c.index.ensures c.answer.ensures c.in_default.not-Some c.index-2.ensures c.in-End.ensures) (λ e. cc) (f p stood)) c.observed-in-End.ensures.ok
 
 pub returns-in-Get-clause-ok : goal.returns-in-Get-clause-ok
 returns-in-Get-clause-ok c = ok_map c.get.result (λ f p stood.

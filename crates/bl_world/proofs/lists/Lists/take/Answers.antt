@@ -2,7 +2,7 @@ use Rattle.std.proofs.Common.{◌∙◌, arith, refl, sym, inl, inr}
 use Rattle.std.proofs.lemmas.Option.{slice_get_within}
 use Rattle.bl_proc_base.specs.declared.acts.Action.TheVariants as act
 use Rattle.bl_world.proofs.Outcomes.{ok_map}
-use Rattle.bl_world.proofs.Turned.{goes_on, has_answered, may_give_page, next_told}
+use Rattle.bl_world.proofs.Turned.{goes_on, has_answered, may_give_page, next_observed}
 use Rattle.bl_world.proofs.lists.Lists.take.Goals as goal
 
 pub returns-then-not-is_free-clause-ok : goal.returns-then-not-is_free-clause-ok
@@ -21,4 +21,4 @@ returns-in-Take-clause-ok c = ok_map c.own.result (λ f p stood.
 
 pub returns-in_default-next-clause-ok : goal.returns-in_default-next-clause-ok
 returns-in_default-next-clause-ok c = ok_map c.idle-in_default-next.result (λ e p stood.
-    inr ((λ m. c.in_default-next.not-Take (sym (next_told c.args.self.now.processes.items c.args.index p c.index-2.result.now stood c.index-2.ensures c.next.result c.next.ensures) ∙ m.0.1)), e)) c.idle-in_default-next.ensures.ok
+    inr ((λ m. c.in_default-next.not-Take (sym (next_observed c.args.self.now.processes.items c.args.index p c.index-2.result.now stood c.index-2.ensures c.next.result c.next.ensures) ∙ m.0.1)), e)) c.idle-in_default-next.ensures.ok

@@ -1,5 +1,5 @@
 use Rattle.std.proofs.Common.{arith, subst, sym}
-use Rattle.bl_world.specs.Deeds.{MayStart}
+use Rattle.bl_world.specs.WorldSteps.{MayStart}
 use Rattle.bl_world.specs.Views.{View, view_of}
 use Rattle.bl_world.proofs.Going.{started}
 use Rattle.bl_world.proofs.world.World.start.Goals as goal

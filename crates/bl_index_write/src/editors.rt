@@ -1,0 +1,86 @@
+//! Who changes a page that it holds.
+
+ghost use Rattle.std.specs.Prelude.{◌<◌};
+
+use crate::targets::{Inserting, Posting};
+
+/// Who changes a page that it holds and has got. There is a process that does so, of which there is no value.
+pub(crate) trait Editor {
+    ghost use Rattle.std.specs.Prelude.{◌≡◌, ℕ};
+    ghost use Rattle.bl_proc_base.specs.declared.acts.Seen.{Seen};
+    ghost use Rattle.bl_proc_base.specs.declared.editing.Edit.{Edit};
+    ghost use Rattle.bl_proc_base.specs.declared.editing.Edit.TheVariants as edit;
+    ghost use Rattle.bl_proc_base.specs.declared.editing.Edited.TheVariants as changed;
+    ghost use Rattle.bl_proc_base.specs.Edits.{edit_next, edit_needs, Changes};
+    ghost use Rattle.bl_proc_base.specs.Given.{Gives};
+    ghost use Rattle.bl_proc.specs.declared.kinds.Proc.{Proc};
+    ghost use Rattle.bl_proc.specs.Processes.{next_of, Takes};
+    ghost use Rattle.bl_proc_unique.specs.Courses.{GoesOn};
+    ghost use Rattle.bl_claims.specs.Trails.{Trail};
+    ghost use Rattle.bl_index_steps.specs.Held.{edit_held, proc_held};
+
+    // The process that has come so far with its change.
+    ghost editing: { Self → Edit → Proc };
+
+    // The level of the page, and the key that it covers.
+    ghost level_at: { Self → ℕ };
+
+    ghost key_at: { Self → ℕ };
+
+    ghost acts: { (j : Self) (c : Edit) → next_of (editing j c) ≡ edit_next c };
+
+    ghost courses: { (j : Self) (c : Edit) (what : Seen) → Gives (edit_next c) (edit_needs c) what → GoesOn (editing j c) what };
+
+    ghost goes: { (j : Self) (c d : Edit) (what : Seen) → Changes c what (changed.On d) → Takes (editing j c) what (editing j d) };
+
+    ghost holds: { (j : Self) (c : Edit) (marks : Trail) → proc_held (editing j c) marks → edit_held (level_at j) (key_at j) c marks };
+}
+
+impl Editor for Inserting {
+    ghost use Rattle.std.specs.Prelude.{refl};
+    ghost use Rattle.bl_proc.specs.declared.kinds.Proc.TheVariants as proc;
+    ghost use Rattle.bl_proc.specs.declared.inserting.InsertStage.TheVariants as insert;
+    ghost use Rattle.bl_proc_unique.proofs.Insertions.{insert_goes};
+
+    ghost editing = { λ j c. proc.Insert (record { key = j.key; value = j.value; stage = insert.Editing c }) };
+
+    ghost level_at = { λ j. 0 };
+
+    ghost key_at = { λ j. j.key };
+
+    ghost acts = { λ j c. refl };
+
+    ghost courses = { λ j c what g. insert_goes (record { key = j.key; value = j.value; stage = insert.Editing c }) what refl g };
+
+    ghost goes = { λ j c d what t. (refl, refl, t) };
+
+    ghost holds = { λ j c marks held. held };
+}
+
+/// The listing of a child in its parent, which is below the last level that a tree may have.
+#[derive(Clone, Copy)]
+pub(crate) struct Listing {
+    pub(crate) posting: Posting,
+    pub(crate) ghost below: { posting.level < 12 },
+}
+
+impl Editor for Listing {
+    ghost use Rattle.std.specs.Prelude.{refl};
+    ghost use Rattle.bl_proc.specs.declared.posting.PostStage.TheVariants as post;
+    ghost use Rattle.bl_proc_unique.proofs.Posts.{post_goes};
+    ghost use Rattle.bl_index_write.specs.Events.{posting};
+
+    ghost editing = { λ j c. posting j.posting (post.Editing c) j.below };
+
+    ghost level_at = { λ j. j.posting.level };
+
+    ghost key_at = { λ j. j.posting.key };
+
+    ghost acts = { λ j c. refl };
+
+    ghost courses = { λ j c what g. post_goes (record { level = j.posting.level; key = j.posting.key; stage = post.Editing c; least = j.posting.least; most = j.posting.most; below = j.below }) what refl g };
+
+    ghost goes = { λ j c d what t. (refl, refl, t) };
+
+    ghost holds = { λ j c marks held. held };
+}

@@ -1,7 +1,0 @@
-use Rattle.bl_rearrange.proofs.Parts.{halves_are}
-use Rattle.bl_rearrange.proofs.pairs.parted_with.Goals as goal
-
-pub returns : goal.returns
-returns c =
-    rw c.as_slice.ensures.value (halves_are c.args.low c.args.high c.args.key c.args.word c.args.pairs.now c.parted-lower.result.0.items c.parted-lower.result.1.items
-    c.requires.rising c.requires.within c.requires.covers c.requires.absent c.parted-lower.ensures.pairs c.parted-lower.ensures.lower c.parted-lower.ensures.upper)
