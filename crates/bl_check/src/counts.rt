@@ -6,11 +6,9 @@ ghost use Rattle.bl_check.specs.Reports.{IsReport, rows_in as the_rows_in, is_le
 
 use crate::anchor::roots;
 use crate::report::Report;
+use bl_model::limits::ENOUGH_PAIRS;
 use bl_page::Page;
 use std::alloc::{AllocError, Global};
-
-/// Fewer pairs than this make a page thin.
-const THIN: usize = 7;
 
 /// How many pairs a leaf has, 0 of another page.
 fn rows_in(page: &Option<Page>) -> u32
@@ -40,9 +38,10 @@ fn is_thin(page: &Option<Page>) -> bool
     ensures { result ≡ the_is_thin page.now }
 {
     match page {
-        Some(Page::Leaf(leaf)) => leaf.rows.len() < THIN && !(leaf.low == 0 && leaf.high == 0),
+        Some(Page::Leaf(leaf)) => leaf.rows.len() < ENOUGH_PAIRS
+            && !(leaf.low == 0 && leaf.high == 0),
         Some(Page::Inner(inner)) => {
-            inner.children.len() < THIN && !(inner.low == 0 && inner.high == 0)
+            inner.children.len() < ENOUGH_PAIRS && !(inner.low == 0 && inner.high == 0)
         }
         _ => false,
     }

@@ -1,10 +1,8 @@
 //! What is drawn of a page.
 
+use bl_model::limits::ENOUGH_PAIRS;
 use bl_page::Page;
 use std::alloc::{AllocError, Global};
-
-/// Fewer entries than this make a page thin.
-const THIN: usize = 7;
 
 /// A page on a level of the tree.
 #[derive(Clone, Copy, Debug, PartialEq, Eq)]
@@ -25,7 +23,7 @@ pub(crate) struct Node {
 impl Node {
     /// Whether it has few entries and is not alone on its level.
     pub(crate) fn is_thin(&self) -> bool {
-        self.count < THIN && !(self.low == 0 && self.high == 0)
+        self.count < ENOUGH_PAIRS && !(self.low == 0 && self.high == 0)
     }
 }
 

@@ -99,12 +99,4 @@ impl Layout {
             Word::FrameWord(frame, place) => self.frame_word(frame, place),
         }
     }
-
-    /// Whether two names have one number, which is so exactly where they are one name.
-    pub fn is_shared(self, one: Word, other: Word) -> bool
-        requires { IsNamed self one × IsNamed self other }
-        ensures { IsTrue result ↔ (one ≡ other) }
-    {
-        self.number(one) == self.number(other)
-    }
 }

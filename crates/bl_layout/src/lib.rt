@@ -13,8 +13,10 @@
 
 mod cells;
 mod layout;
+mod owners;
 mod word;
 
 pub use cells::PROCESS_CELLS;
 pub use layout::Layout;
+pub use owners::{held_by, retired_at};
 pub use word::Word;

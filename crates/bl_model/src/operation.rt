@@ -1,5 +1,6 @@
 //! What is asked of a map, and what it answers.
 
+use crate::limits::MOST_PAIRS;
 use arrayvec::ArrayVec;
 
 /// An operation on the map. Every key and every value is allowed.
@@ -29,7 +30,7 @@ pub enum Reply {
     /// The key of a `Delete` was there with this value, and isn't any more.
     Deleted(u64),
     /// The pairs of a `Part` in rising order of their keys, and where the next part begins.
-    Rows(ArrayVec<(u64, u64), 14>, Next),
+    Rows(ArrayVec<(u64, u64), MOST_PAIRS>, Next),
     /// There was no room for a change, and the map is as it was.
     NoRoom,
 }

@@ -4,6 +4,7 @@ ghost use Rattle.std.specs.Prelude.{◌≡◌};
 
 use crate::page::{Anchor, Dead, Inner, Leaf, Page, Pairs};
 use arrayvec::ArrayVec;
+use bl_model::limits::MOST_LEVELS;
 
 fn copied_pairs(pairs: &Pairs) -> Pairs
     ensures { result ≡ pairs.now }
@@ -14,7 +15,7 @@ fn copied_pairs(pairs: &Pairs) -> Pairs
     }
 }
 
-fn copied_pages(pages: &ArrayVec<u32, 12>) -> ArrayVec<u32, 12>
+fn copied_pages(pages: &ArrayVec<u32, MOST_LEVELS>) -> ArrayVec<u32, MOST_LEVELS>
     ensures { result ≡ pages.now }
 {
     match pages.clone() {

@@ -4,15 +4,16 @@ ghost use Rattle.std.specs.Prelude.{◌≡◌, ◌<◌, ◌≤◌, ◌^◌, leng
 ghost use Rattle.bl_page.specs.Pairs.{end_of, RisesFrom, RisesFrom-prop, AllWithin, AllWithin-prop, BeginsWith, BeginsWith-prop, NameChildren, NameChildren-prop, AreChildren, AreChildren-prop};
 
 use arrayvec::ArrayVec;
+use bl_model::limits::{MOST_LEVELS, MOST_PAIRS};
 
 /// Pairs with rising keys: of a leaf a key and its value, of an inner page the least key of a child and the child's number.
-pub type Pairs = ArrayVec<(u64, u64), 14>;
+pub type Pairs = ArrayVec<(u64, u64), MOST_PAIRS>;
 
 /// The page from which every descent begins, page 0.
 #[derive(Drop)]
 pub struct Anchor {
     /// The leftmost page of each level, from level 0 up; 1 to 12 of them.
-    pub leftmost: ArrayVec<u32, 12>,
+    pub leftmost: ArrayVec<u32, MOST_LEVELS>,
     ghost some: { 0 < length leftmost.items },
     ghost few: { length leftmost.items ≤ 12 },
     ghost pages: { AreChildren leftmost.items } by { AreChildren-prop leftmost.items },

@@ -10,6 +10,7 @@ ghost use Rattle.bl_page.specs.declared.page.Page.{Page};
 use crate::page::{Anchor, Dead, Inner, Leaf, Page, Pairs, WordFault};
 use crate::spelling::{KIND_UNIT, LEVEL_UNIT};
 use arrayvec::ArrayVec;
+use bl_model::limits::{MOST_LEVELS, MOST_PAIRS};
 
 /// That many pairs behind the head.
 fn pairs_at(words: &[u64; 32], count: usize) -> Pairs
@@ -104,7 +105,7 @@ fn bounds_fit(words: &[u64; 32]) -> bool
 }
 
 /// That many page numbers behind the head, if each is one.
-fn leftmost_at(words: &[u64; 32], count: usize) -> Option<ArrayVec<u32, 12>>
+fn leftmost_at(words: &[u64; 32], count: usize) -> Option<ArrayVec<u32, MOST_LEVELS>>
     requires { count ≤ 12 }
     ensures { MatchOption result (¬ AreChildren (take count (drop 4 words.now)))
         (λ leftmost. AreChildren leftmost.items × (leftmost.items ≡ take count (drop 4 words.now))) }
@@ -129,7 +130,7 @@ fn anchor_in(words: &[u64; 32]) -> Result<Anchor, WordFault>
         return Err(WordFault::Level);
     }
     let count = count_at(words);
-    if count == 0 || count > 12 {
+    if count == 0 || count > MOST_LEVELS {
         return Err(WordFault::Count);
     }
     if words[1] != 0 || words[2] != 0 || words[3] != 0 {
@@ -153,7 +154,7 @@ fn leaf_in(words: &[u64; 32]) -> Result<Leaf, WordFault>
         return Err(WordFault::Level);
     }
     let count = count_at(words);
-    if count > 14 {
+    if count > MOST_PAIRS {
         return Err(WordFault::Count);
     }
     if !bounds_fit(words) {
@@ -197,7 +198,7 @@ fn inner_in(words: &[u64; 32]) -> Result<Inner, WordFault>
         return Err(WordFault::Level);
     }
     let count = count_at(words);
-    if count == 0 || count > 14 {
+    if count == 0 || count > MOST_PAIRS {
         return Err(WordFault::Count);
     }
     if !bounds_fit(words) {

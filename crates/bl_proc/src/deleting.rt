@@ -11,10 +11,10 @@ ghost use Rattle.bl_proc_base.specs.Onwards.{Leads};
 ghost use Rattle.bl_proc.specs.Deletes.{delete_reply, thin_after, deleted_answer, delete_next_in, delete_needs_in, delete_answer_in, DeleteArrives, DeleteGoes, delete_next, delete_needs, delete_answer, DeleteTakes};
 
 use bl_model::Reply;
-use bl_page::{Page, Words};
+use bl_page::Page;
 use bl_proc_base::{
-    Action, Answer, Approach, Approached, Edit, Edited, Level, Outcome, Process, Reader, Seen,
-    dropping, hint_of_thin, listed, thin_low, took_page,
+    Action, Answer, Approach, Approached, Edit, Edited, Level, Outcome, Process, Seen, dropping,
+    hint_of_thin, listed, thin_low,
 };
 use std::mem;
 
@@ -208,19 +208,5 @@ impl Process for Delete {
             DeleteStage::Ending(reply) => self.stage = DeleteStage::Over(*reply),
             DeleteStage::Over(_) => unreachable!(),
         }
-    }
-}
-
-impl Reader for Delete {
-    // No page is made of the words on the way to the leaf.
-    #[inline(always)]
-    fn took_words<W: Words>(&mut self, source: &W, hand: &mut W::Hand) {
-        if let DeleteStage::Coming(approach) = &mut self.stage {
-            if approach.is_to_look() {
-                *approach = approach.took_words(0, self.key, source, hand);
-                return;
-            }
-        }
-        took_page(self, source, hand);
     }
 }

@@ -14,10 +14,10 @@ ghost use Rattle.bl_proc_base.specs.Onwards.{Leads};
 ghost use Rattle.bl_proc_base.specs.declared.onwards.Step.TheVariants as onward;
 
 use bl_model::Reply;
-use bl_page::{Page, Words};
+use bl_page::Page;
 use bl_proc_base::{
-    Action, Answer, Approach, Approached, Edit, Edited, Hint, Level, Outcome, Process, Reader,
-    Seen, entering, listed, took_page,
+    Action, Answer, Approach, Approached, Edit, Edited, Hint, Level, Outcome, Process, Seen,
+    entering, listed,
 };
 use std::mem;
 
@@ -195,19 +195,5 @@ impl Process for Insert {
             InsertStage::Ending(reply) => self.stage = InsertStage::Over(*reply),
             InsertStage::Over(_) => unreachable!(),
         }
-    }
-}
-
-impl Reader for Insert {
-    // No page is made of the words on the way to the leaf.
-    #[inline(always)]
-    fn took_words<W: Words>(&mut self, source: &W, hand: &mut W::Hand) {
-        if let InsertStage::Coming(approach) = &mut self.stage {
-            if approach.is_to_look() {
-                *approach = approach.took_words(0, self.key, source, hand);
-                return;
-            }
-        }
-        took_page(self, source, hand);
     }
 }

@@ -13,8 +13,8 @@ ghost use Rattle.bl_proc.specs.Parts.{GoesOnAt, IsPartOf, part_next_in, part_ans
 
 use arrayvec::ArrayVec;
 use bl_model::{Next, Reply};
-use bl_page::{Page, Pairs, Words};
-use bl_proc_base::{Action, Answer, Descended, Descent, Process, Reader, Seen, took_page};
+use bl_page::{Page, Pairs};
+use bl_proc_base::{Action, Answer, Descended, Descent, Process, Seen};
 use std::mem;
 
 /// A process that lists the pairs of one leaf from a key on.
@@ -204,19 +204,5 @@ impl Process for Part {
     fn took(&mut self, seen: Seen) {
         let stage = mem::replace(&mut self.stage, PartStage::New);
         self.stage = went(self.from, stage, &seen);
-    }
-}
-
-impl Reader for Part {
-    // Only of the leaf's words a page is made.
-    #[inline(always)]
-    fn took_words<W: Words>(&mut self, source: &W, hand: &mut W::Hand) {
-        match &self.stage {
-            PartStage::Descending(descent) => match descent.took_words(source, hand, self.from) {
-                Descended::On(next) => self.stage = PartStage::Descending(next),
-                Descended::Here => took_page(self, source, hand),
-            },
-            _ => unreachable!(),
-        }
     }
 }

@@ -14,6 +14,7 @@ ghost use Rattle.bl_proc_base.specs.Edits.{edit_next, edit_needs, EntersPair, Dr
 use crate::acts::{Action, Seen};
 use crate::editing::{Edit, Edited, Full, Outcome, Splitting};
 use crate::reading::count_of;
+use bl_model::limits::MOST_PAIRS;
 use bl_page::Page;
 use bl_rearrange::{Fitted, with_pair, without};
 
@@ -24,7 +25,7 @@ pub fn entering(at: u32, page: Page, key: u64, word: u64) -> Edit
     requires fits { MayHold page word }
     ensures { EntersPair at page key word result }
 {
-    if 14 <= count_of(&page) {
+    if MOST_PAIRS <= count_of(&page) {
         return Edit::Taking(Full {
             at,
             key,

@@ -12,6 +12,7 @@ ghost use Rattle.bl_proc_base.specs.Growths.{growth_next, growth_needs, IsTop, I
 use crate::acts::{Action, Seen};
 use crate::growing::{Grew, Growth, Raising, Rise};
 use arrayvec::ArrayVec;
+use bl_model::limits::MOST_LEVELS;
 use bl_page::{Anchor, Inner, Page, Pairs};
 
 /// One pair, with the least key.
@@ -72,7 +73,7 @@ fn looked(level: u32, page: Page) -> Growth
     match page {
         Page::Anchor(anchor) => {
             let levels = anchor.leftmost.len();
-            if levels == level as usize && levels < 12 {
+            if levels == level as usize && levels < MOST_LEVELS {
                 Growth::Taking(Rise { anchor })
             } else {
                 Growth::OpeningGrown

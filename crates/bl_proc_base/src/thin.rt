@@ -7,16 +7,14 @@ ghost use Rattle.bl_claims.specs.Pages.{IsTreePage};
 ghost use Rattle.bl_proc_base.specs.Thin.{low_if_thin, thin_low, thin_hint};
 
 use crate::answers::{Hint, Level};
+use bl_model::limits::ENOUGH_PAIRS;
 use bl_page::{LEVEL_UNIT, Page};
-
-/// A page with fewer pairs is thin, if it is not alone on its level.
-const ENOUGH: usize = 7;
 
 /// The low of a page with so many pairs and these bounds, if it is thin.
 fn low_if_thin(pairs: usize, low: u64, high: u64) -> Option<u64>
     ensures { result ≡ low_if_thin pairs low high }
 {
-    if pairs < ENOUGH && !(low == 0 && high == 0) {
+    if pairs < ENOUGH_PAIRS && !(low == 0 && high == 0) {
         Some(low)
     } else {
         None

@@ -9,7 +9,8 @@ ghost use Rattle.bl_proc_compress.specs.declared.compressing.Compression.TheVari
 ghost use Rattle.bl_proc_base.specs.Given.{Gives};
 ghost use Rattle.bl_proc_compress.specs.Compressions.{put_of, other, merge_hint, IsBuried, Merges, Relists, MayEven, Decides, Links, after_puts, compression_next, compression_needs, Compresses};
 
-use crate::compressing::{Compressed, Compression, Family, Decision, Puts, Siblings};
+use crate::compressing::{Compressed, Compression, Decision, Family, Puts, Siblings};
+use bl_model::limits::{ENOUGH_PAIRS, MOST_PAIRS};
 use bl_page::{Dead, Inner, Page, is_within};
 use bl_proc_base::{Action, Hint, Level, Seen, count_of, hint_of_thin, listed, thin_low};
 use bl_rearrange::{Evened, Fitted, Side, evened, merged, with_pair, without};
@@ -181,9 +182,9 @@ fn decided(family: Family, left: Page, right: Page) -> Compression
     let right_count = count_of(&right);
     if !are_neighbours(&left, &right) {
         Compression::OpeningRight(family.at, Decision::Lost)
-    } else if left_count + right_count <= 14 {
+    } else if left_count + right_count <= MOST_PAIRS {
         Compression::PuttingFirst(merging(family, left, right))
-    } else if left_count < 7 || right_count < 7 {
+    } else if left_count < ENOUGH_PAIRS || right_count < ENOUGH_PAIRS {
         evening(family, left, right)
     } else {
         Compression::OpeningRight(family.at, Decision::Enough)

@@ -12,5 +12,5 @@ mod families;
 mod squeezes;
 mod squeezing;
 
-pub use compressing::{Compressed, Compression, Family, Decision, Puts, Siblings};
+pub use compressing::{Compressed, Compression, Decision, Family, Puts, Siblings};
 pub use squeezing::{Compress, CompressReply, CompressStage};

@@ -10,6 +10,7 @@ ghost use Rattle.bl_page.specs.declared.page.Page.TheVariants as page;
 ghost use Rattle.bl_rearrange.specs.Rearranged.{IsFitted, IsWithout, MayHold, MayLose, pairs_of};
 
 use crate::pairs::{Halves, dropped_pair, entered_pair, split_with};
+use bl_model::limits::MOST_PAIRS;
 use bl_page::{Inner, Leaf, Page};
 
 /// A page with a pair more.
@@ -35,7 +36,7 @@ fn leaf_with(leaf: Leaf, key: u64, value: u64, new_page: u32) -> Fitted
         right,
         rows,
     } = leaf;
-    if rows.len() < 14 {
+    if rows.len() < MOST_PAIRS {
         let rows = entered_pair(rows, low, high, key, value);
         return Fitted::Fits(Page::Leaf(Leaf {
             low,
@@ -79,7 +80,7 @@ fn inner_with(inner: Inner, key: u64, child: u64, new_page: u32) -> Fitted
         right,
         children,
     } = inner;
-    if children.len() < 14 {
+    if children.len() < MOST_PAIRS {
         let children = entered_pair(children, low, high, key, child);
         return Fitted::Fits(Page::Inner(Inner {
             level,

@@ -10,6 +10,7 @@ use crate::rule::{PagePlay, PageRule, TimePlay};
 use crate::store::{Hand, Store};
 use crate::view::View;
 use atomic_table::Seat;
+use bl_layout::{held_by, retired_at};
 use std::alloc::Allocator;
 use std::marker::Brand;
 
@@ -25,7 +26,7 @@ impl<D, R: PageRule<D>, A: Allocator> Store<D, R, A> {
         ensures same { IsSameHand hand.old.seat hand.new.seat × IsSameStage hand.old.seat hand.new.seat × IsSameStock hand.old.seat hand.new.seat }
         ensures observed { (owner : Owner) × (words : List ℕ) × (IsTrue result ↔ (owner ≡ Owner.Open)) × M.then (known hand.old.seat) page owner words (known hand.new.seat) }
     {
-        let mine = 4 * hand.number as u64 + 2;
+        let mine = held_by(hand.number);
         let at = self.layout.page_owner_cell(page);
         self.table
             .shared
@@ -73,7 +74,7 @@ impl<D, R: PageRule<D>, A: Allocator> Store<D, R, A> {
         let at = self.layout.page_owner_cell(page);
         self.table
             .shared
-            .store::<Publish>(&mut hand.seat, at, 4 * time + 3);
+            .store::<Publish>(&mut hand.seat, at, retired_at(time));
     }
 
     // The tick by which the page is retired.

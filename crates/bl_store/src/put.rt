@@ -14,6 +14,7 @@ use crate::rule::{PagePlay, PageRule};
 use crate::stock::Stock;
 use crate::store::{Glance, Hand, RING, Store};
 use crate::sweep::LOOKS;
+use bl_layout::retired_at;
 use std::alloc::Allocator;
 
 /// How the words of a page are to change: they get another first one, and two words enter behind 4 + 2 * place of them.
@@ -281,7 +282,7 @@ impl<D, R: PageRule<D>, A: Allocator> Store<D, R, A> {
         let at = self.layout.frame_owner_cell(frame);
         self.table
             .shared
-            .store::<Settle>(&mut hand.seat, at, 4 * time + 3);
+            .store::<Settle>(&mut hand.seat, at, retired_at(time));
         self.note_retired(hand, frame);
     }
 

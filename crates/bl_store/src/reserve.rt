@@ -10,6 +10,7 @@ use crate::plays::{Allot, Ask, Note, Refuse, Reserve, Return, Take};
 use crate::rule::{PagePlay, PageRule, TimePlay};
 use crate::stock::{NoRoom, Stock};
 use crate::store::{Hand, RING, Store};
+use bl_layout::held_by;
 use std::alloc::Allocator;
 use std::marker::Brand;
 use std::sync::atomic::Ordering;
@@ -205,7 +206,7 @@ impl<D, R: PageRule<D>, A: Allocator> Store<D, R, A> {
         if self.table.shared.load::<Note>(&mut hand.seat, at) != 0 {
             return;
         }
-        let mine = 4 * hand.number as u64 + 2;
+        let mine = held_by(hand.number);
         let found = self
             .table
             .shared
@@ -226,7 +227,7 @@ impl<D, R: PageRule<D>, A: Allocator> Store<D, R, A> {
         while stock.count > 0 {
             stock.count -= 1;
             let frame = stock.frames[stock.count as usize];
-            let mine = 4 * hand.number as u64 + 2;
+            let mine = held_by(hand.number);
             self.table.shared.compare_exchange::<Return>(
                 &mut hand.seat,
                 self.layout.frame_owner_cell(frame),
@@ -287,7 +288,7 @@ impl<D, R: PageRule<D>, A: Allocator> Store<D, R, A> {
         if self.table.shared.load::<Note>(&mut hand.seat, at) != 0 {
             return false;
         }
-        let mine = 4 * hand.number as u64 + 2;
+        let mine = held_by(hand.number);
         self.table
             .shared
             .compare_exchange::<Take<T>>(&mut hand.seat, at, 0, mine)

@@ -1,6 +1,6 @@
 //! Numbers of the words of a store.
 
-use bl_layout::{Layout, Word};
+use bl_layout::{Layout, Word, held_by, retired_at};
 
 #[test]
 fn small_store(rt: HostRuntime) {
@@ -55,11 +55,7 @@ fn largest_store(rt: HostRuntime) {
 }
 
 #[test]
-fn words_apart(rt: HostRuntime) {
-    let layout = Layout {
-        pages: 4,
-        passes: 1,
-    };
-    assert!(rt; layout.is_shared(Word::PageOwner(3), Word::PageOwner(3)));
-    assert!(rt; !layout.is_shared(Word::PageOwner(3), Word::FrameOwner(0)));
+fn words_of_owners(rt: HostRuntime) {
+    assert!(rt; [held_by(0), held_by(1), held_by(63)] == [2, 6, 254]);
+    assert!(rt; [retired_at(0), retired_at(1), retired_at(1 << 40)] == [3, 7, 4_398_046_511_107]);
 }

@@ -6,7 +6,7 @@ use bl_model::Reply;
 use bl_proc::{Answer, Posted, Squeezed};
 use bl_serve_lines::print::push_number;
 use std::alloc::{AllocError, Global};
-use test_worked_lines::{count, said, observed};
+use test_worked_lines::{count, observed, said};
 
 pub fn yes(alloc: Global, is_so: bool) -> Result<Vec<u8>, AllocError> {
     said(alloc, if is_so { "yes" } else { "no" })

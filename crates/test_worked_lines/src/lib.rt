@@ -6,6 +6,6 @@ mod answers;
 mod tally;
 mod words;
 
-pub use answers::{count, push_hint, said, observed};
+pub use answers::{count, observed, push_hint, said};
 pub use tally::{Tally, call_of};
 pub use words::{numbers_in, page_words, shown_words};
