@@ -32,7 +32,7 @@ use Rattle.bl_store.specs.Pages.{Owner, Released, Open, Held, Retired, Stage as 
 use Rattle.bl_store.specs.Closing.{HasEach, left_of, IsClosed}
 use Rattle.bl_store.specs.Hands.{known, IsOf, IsIdle}
 use Rattle.bl_store.specs.declared.store.Hand.{Hand}
-use Rattle.bl_index_rule.proofs.FrameView.{at_below}
+use Rattle.bl_index_rule.proofs.Shown.{at_below}
 use Rattle.bl_index.proofs.Gathered.{there, one_there, all_there}
 use Rattle.bl_index_rule.specs.declared.known.PassState.{PassState}
 use Rattle.bl_claims.specs.Seeing.{first_map, BeginsFrom, AreWithin}

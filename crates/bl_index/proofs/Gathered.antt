@@ -5,7 +5,7 @@ use Rattle.std.proofs.lemmas.List.{length-append}
 use mathlib.Core.Option.{some, some-injective}
 use lib.ListN.{get_elem?}
 use Rattle.atomic_table.proofs.Lists.{at_longer, at_last}
-use Rattle.bl_index_rule.proofs.FrameView.{at_below}
+use Rattle.bl_index_rule.proofs.Shown.{at_below}
 use Rattle.bl_store.specs.declared.store.Hand.{Hand}
 use Rattle.bl_index_rule.specs.declared.known.PassState.{PassState}
 use Rattle.bl_index.specs.declared.index.Pass.{Pass}

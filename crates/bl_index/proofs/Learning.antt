@@ -22,7 +22,7 @@ use Rattle.bl_index_rule.specs.Simulation.{AreUpTo, IsAtStage, IsHand, IsRun, Si
 use Rattle.bl_index_rule.proofs.Entries.{own-other}
 use Rattle.bl_index_rule.proofs.Marks.{each_append}
 use Rattle.bl_index_rule.proofs.Sights.{world_seen}
-use Rattle.bl_index_rule.proofs.FrameView.{same_owner, set_there}
+use Rattle.bl_index_rule.proofs.Shown.{same_owner, set_there}
 use Rattle.bl_index_rule.proofs.Runners.{one_hand}
 use Rattle.bl_index.specs.Meetings.{IsStill, learned, heard}
 

@@ -5,7 +5,8 @@ use Rattle.bl_model.specs.declared.operation.Reply.{Reply}
 use Rattle.bl_model.specs.declared.operation.Entry.{Entry}
 use Rattle.bl_page.specs.declared.page.Page.{Page}
 use Rattle.bl_claims.specs.Trails.{Trail}
-use Rattle.bl_index.specs.Calls.{Answers, Sweeps, Adds as AddsIn}
+use Rattle.bl_index.specs.Calls.{Sweeps}
+use Rattle.bl_index_steps.specs.Answered.{Answers, Adds as AddsIn}
 use Rattle.bl_serve_worker.specs.Works.{Works, Adds}
 
 pub nothing : (first : List (Option Page)) (pass : ℕ) (old : Trail) → Adds first pass old old

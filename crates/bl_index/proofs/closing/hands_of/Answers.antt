@@ -3,7 +3,7 @@ use mathlib.Core.Option.{some-ne-none}
 use lib.ListN.{get_elem?}
 use Rattle.std.proofs.lemmas.List.{length_push}
 use Rattle.bl_store.specs.declared.store.Hand.{Hand}
-use Rattle.bl_index_rule.proofs.FrameView.{at_below}
+use Rattle.bl_index_rule.proofs.Shown.{at_below}
 use Rattle.bl_index_rule.specs.declared.known.PassState.{PassState}
 use Rattle.bl_index.proofs.Gathered.{rest_there, last_there, taken_more, only_more}
 use Rattle.bl_index.proofs.closing.hands_of.Goals as goal

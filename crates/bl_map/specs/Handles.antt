@@ -1,0 +1,57 @@
+-- What a call of a handle promises.
+use Rattle.std.specs.Prelude.{◌≡◌, ℕ, List, Option, length}
+use Rattle.bl_model.specs.declared.operation.Op.{Op}
+use Rattle.bl_model.specs.declared.operation.Reply.{Reply}
+use Rattle.bl_page.specs.declared.page.Page.{Page}
+use Rattle.bl_claims.specs.Trails.{Trail}
+use Rattle.bl_index.specs.Calls.{first_of, IsPassOf, IsSamePass, number_of, trail}
+use Rattle.bl_index.specs.Meetings.{Meet}
+use Rattle.bl_index.specs.declared.index.Pass.{Pass}
+use Rattle.bl_map.specs.declared.handle.Handle.{Handle}
+use Rattle.bl_map.specs.declared.map.Map.{Map}
+use Rattle.bl_map.specs.Works.{Works, Adds}
+
+-- what the map began with
+abbrev pub first_map_of : Handle → List (Option Page)
+first_map_of handle = first_of handle.map.now.index
+
+-- all that has happened in the map, up to the handle's own last event
+abbrev pub seen_by : Handle → Trail
+seen_by handle = trail handle.pass
+
+-- the number of its seat, which its entries have
+abbrev pub number_of_seat : Handle → ℕ
+number_of_seat handle = number_of handle.pass
+
+-- both are of one map
+abbrev pub AreOfOne : Handle → Handle → Type 0
+AreOfOne one two = IsPassOf one.map.now.index two.pass
+
+-- The same handle of the same map
+abbrev pub IsSameHandle : Handle → Handle → Type 0
+IsSameHandle old new = (new.map ≡ old.map) × IsSamePass old.pass new.pass
+
+-- The handle has made this call, with this reply, and no other.
+abbrev pub HasCalled : Op → Reply → Handle → Handle → Type 0
+HasCalled op reply old new = Works (first_map_of old) (number_of_seat old) op reply (seen_by old) (seen_by new)
+
+-- The handle has made no call.
+abbrev pub HasKeptUp : Handle → Handle → Type 0
+HasKeptUp old new = Adds (first_map_of old) (number_of_seat old) (seen_by old) (seen_by new)
+
+-- Two handles have met: both have seen one trail, which the map may have. It begins with what each of them had seen, and has no further
+-- entry of either.
+abbrev pub HaveMet : Handle → Handle → Handle → Handle → Type 0
+HaveMet old_one old_two new_one new_two = Meet (first_map_of old_one) (number_of_seat old_one) (number_of_seat old_two) (seen_by old_one) (seen_by old_two) (seen_by new_one) (seen_by new_two)
+
+-- the seat that a handle worked from
+abbrev pub seat_of : Handle → Pass
+seat_of handle = handle.pass
+
+-- how many pieces of upkeep wait
+abbrev pub waiting_of : Handle → ℕ
+waiting_of handle = length handle.waiting.items
+
+-- The handle is one of this map, works from that seat, and has nothing to keep up.
+abbrev pub IsNewHandle : Map → Pass → Handle → Type 0
+IsNewHandle map seat handle = (handle.map.now ≡ map) × (handle.pass ≡ seat) × (waiting_of handle ≡ 0)

@@ -1,0 +1,34 @@
+-- What a scan of a handle promises.
+use Rattle.std.specs.Prelude.{◌≡◌, ℕ, ◌≤◌, ◌++◌, List, Option, Some, Result, All, OnOk, flat_map}
+use Rattle.bl_page.specs.declared.page.Page.{Page}
+use Rattle.bl_model.specs.Rows.{HasRisingKeys}
+use Rattle.bl_model.specs.declared.operation.Entry.{Entry}
+use Rattle.bl_claims.specs.Trails.{Trail, history_of}
+use Rattle.bl_claims.specs.Seeing.{IsSeen, own, GoesOnFrom}
+use Rattle.bl_index_read.specs.LeafRows.{IsBelow, IsOver}
+use Rattle.bl_index.specs.Scans.{rows_below, AreParts, IsRight}
+
+-- The pass has scanned from a key on up to another, or to the end of the map: its new entries are parts, and their rows below the
+-- scan's end are these, whose keys rise, and which answer each key on the way right.
+pub record HasScanned (first : List (Option Page)) (pass from : ℕ) (to upto : Option ℕ) (rows : List (ℕ × ℕ)) (old new : Trail) : Type 0 where
+  pub parts : List Entry
+  pub are_parts : AreParts pass to (Some from) parts upto
+  pub begins : GoesOnFrom old new
+  pub seen : IsSeen first old → IsSeen first new
+  pub mine : own pass new ≡ own pass old ++ parts
+  pub listed : rows ≡ flat_map (λ part. rows_below to part.reply) parts
+  pub rising : HasRisingKeys rows
+  pub within : All (λ row. (from ≤ row.0) × IsBelow upto row.0) rows
+  pub right : (key : ℕ) → from ≤ key → IsBelow upto key → IsBelow to key → IsRight first pass (history_of old) (history_of new) rows key
+
+-- The rows of a scan stand behind those of before. Without a fault it has come to its end or to that of the map; else it has come to
+-- some key, and of what it has read behind that key nothing is listed.
+pub record Scanned {E : Type 0} (first : List (Option Page)) (pass from : ℕ) (to : Option ℕ) (result : Result (Unit {0}) E) (before after : List (ℕ × ℕ)) (old new : Trail) : Type 0 where
+  pub rows : List (ℕ × ℕ)
+  pub appended : after ≡ before ++ rows
+  pub upto : Option ℕ
+  pub mid : Trail
+  pub scanned : HasScanned first pass from to upto rows old mid
+  pub over : OnOk result (IsOver to upto × (new ≡ mid))
+  pub begins : GoesOnFrom mid new
+  pub seen : IsSeen first mid → IsSeen first new

@@ -1,0 +1,19 @@
+//! A map from `u64` keys to `u64` values that threads share, for programs that want no more than that.
+//!
+//! It is an index whose upkeep is done by whoever changes it: a change waits for room before it begins, lists the pages that it has
+//! split, merges those that it has left with few rows, takes top levels away that are not needed, and gives back what was swapped out.
+//! Each thread works through a [`Handle`], and meets no hint, no frame and no turn.
+//!
+//! Promised to its user: each call of a handle adds one entry to what the handle has seen, this operation with this reply, and no
+//! other entry of its own; what it has seen then is a trail that an index may have, which begins with what it had seen before. So there
+//! is one legal history of the map in which each answer stands at its point. Upkeep adds no entry.
+#![tactic(auto)]
+
+mod calls;
+mod handle;
+mod map;
+mod upkeep;
+
+pub use bl_index::{CloseFault, KeyReply, OpenFault, Pass as Seat};
+pub use handle::Handle;
+pub use map::Map;

@@ -1,0 +1,72 @@
+//! The map, which its threads share.
+
+ghost use Rattle.std.specs.Prelude.{◌≡◌, IfOk, IfErr};
+ghost use Rattle.bl_map.specs.Handles.{IsNewHandle};
+ghost use Rattle.bl_map.specs.Maps.{IsSeatOf, AreSeatsOf, IsOpened, IsOpenFault, IsReopened, IsImageFault, IsClosed, IsBack};
+
+use crate::handle::Handle;
+use bl_check::Quiet;
+use bl_index::{CloseFault, Config, Index, OpenFault, Pass};
+use std::alloc::Global;
+
+/// A map that threads share.
+#[derive(Drop)]
+pub struct Map {
+    pub(crate) index: Index,
+}
+
+impl Map {
+    /// An empty map of so many pages, 4 to 65,536, and a seat for each of so many threads, 1 to 64.
+    pub fn open(alloc: Global, pages: u32, seats: u32) -> Result<(Map, Vec<Pass>), OpenFault>
+        ensures ok { IfOk result (λ t. IsOpened pages seats t.0 t.1.items) }
+        ensures seats { IfOk result (λ t. AreSeatsOf t.0 t.1.items) }
+        ensures fault { IfErr result (IsOpenFault pages seats) }
+    {
+        let config = Config {
+            pages,
+            passes: seats,
+        };
+        let (index, seats) = Index::open(alloc, config)?;
+        Ok((Map { index }, seats))
+    }
+
+    /// A map that begins with the rows of a sound image, with as many pages, and a seat for each of so many threads, 1 to 64. Where it
+    /// is not opened, the image comes back as it was.
+    pub fn open_image(
+        alloc: Global,
+        image: Quiet,
+        seats: u32,
+    ) -> Result<(Map, Vec<Pass>), (Quiet, OpenFault)>
+        ensures ok { IfOk result (λ t. IsReopened image seats t.0 t.1.items) }
+        ensures seats { IfOk result (λ t. AreSeatsOf t.0 t.1.items) }
+        ensures fault { IfErr result (λ t. (t.0 ≡ image) × IsImageFault seats t.1) }
+    {
+        let (index, seats) = Index::open_image(alloc, image, seats)?;
+        Ok((Map { index }, seats))
+    }
+
+    /// The handle by which a thread works from a seat of this map.
+    pub fn handle(&self, seat: Pass) -> Handle<'_>
+        requires { IsSeatOf self.now seat }
+        ensures { IsNewHandle self.now seat result }
+    {
+        Handle::new(self, seat)
+    }
+
+    /// Closes the map: a sound image, whose rows are those of the map after all that has happened. It takes all seats. Where one is
+    /// missing, or there is no memory, the map and the seats come back as they were.
+    pub fn close(
+        self,
+        alloc: Global,
+        seats: Vec<Pass>,
+    ) -> Result<Quiet, (Map, Vec<Pass>, CloseFault)>
+        requires own { AreSeatsOf self seats.items }
+        ensures ok { IfOk result (IsClosed self seats.items) }
+        ensures fault { IfErr result (λ t. IsBack self seats.items t.0 t.1.items t.2) }
+    {
+        match self.index.close(alloc, seats) {
+            Ok(image) => Ok(image),
+            Err((index, seats, why)) => Err((Map { index }, seats, why)),
+        }
+    }
+}
