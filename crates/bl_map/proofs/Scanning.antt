@@ -17,7 +17,7 @@ use Rattle.bl_index.specs.Scans.{rows_below, AreParts, AreCalls, Scans, IsRight,
 use Rattle.bl_index.specs.declared.scanning.ScanFault.{ScanFault}
 use Rattle.bl_index.specs.declared.scanning.ScanFault.TheVariants.{Memory, OutOfTurns}
 use Rattle.bl_index.proofs.PartByPart.{ends_behind}
-use Rattle.bl_index.proofs.Ranges.{rising_behind}
+use Rattle.bl_index_read.proofs.Ranges.{rising_behind}
 use Rattle.bl_index.proofs.Scanned.{IsBehind}
 use Rattle.bl_map.specs.Works.{Adds}
 use Rattle.bl_map.specs.Scans.{HasScanned, Scanned}
