@@ -10,10 +10,10 @@
 //! their hints, mean what they did.
 #![tactic(auto)]
 
-mod editing;
 mod closing;
 mod compressing;
 mod config;
+mod editing;
 mod finding;
 mod index;
 mod listing;

@@ -18,7 +18,7 @@ ghost use Rattle.bl_index_steps.specs.Held.{KeepsLatch};
 ghost use Rattle.bl_index_steps.specs.Runs.{Runs, Keeps, Rests, IsSince, IsDone, OpensLast};
 
 use crate::tree::Tree;
-use bl_index_rule::{Ended, Got, PassState, Opened, Probed, Put, Refused, Took, Tried};
+use bl_index_rule::{Ended, Got, Opened, PassState, Probed, Put, Refused, Took, Tried};
 use bl_store::{Glance, Hand, Spread, Stock};
 
 impl Tree {

@@ -8,13 +8,13 @@
 
 mod carrying;
 mod events;
+mod frame_view;
 mod kinds;
 mod running;
-mod frame_view;
 mod stepping;
 mod tree;
 
-pub use kinds::Kind;
 pub use frame_view::FrameView;
+pub use kinds::Kind;
 pub use stepping::Stepped;
 pub use tree::Tree;

@@ -18,8 +18,8 @@ ghost use Rattle.bl_store.specs.Owners.{IsHandOf};
 ghost use Rattle.bl_index_rule.specs.Observed.{Begins, Steps, Finishes, IsUnborn, MayGiveUp};
 ghost use Rattle.bl_index_steps.specs.Runs.{Runs, Keeps, IsSince, IsWithin, Moves};
 
-use crate::kinds::Kind;
 use crate::frame_view::FrameView;
+use crate::kinds::Kind;
 use crate::tree::Tree;
 use bl_index_rule::{Began, Ended, GaveUp, Got, Launch, PassState};
 use bl_proc::Seen;

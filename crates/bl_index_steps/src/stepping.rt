@@ -10,7 +10,7 @@ ghost use Rattle.bl_index_steps.specs.Rooms.{TellsRoom};
 
 use crate::kinds::Kind;
 use crate::tree::Tree;
-use bl_index_rule::{PassState, Opened, Put, Refused, Retired, Took, Tried};
+use bl_index_rule::{Opened, PassState, Put, Refused, Retired, Took, Tried};
 use bl_page::Page;
 use bl_proc::{Action, Seen};
 use bl_store::{Hand, Stock};
@@ -27,7 +27,13 @@ pub enum Stepped {
 impl Tree {
     /// The process tries to latch the page. After a miss the thread pauses.
     #[inline(never)]
-    fn latch<P: Kind>(&self, hand: &mut Hand<PassState>, process: &mut P, page: u32, backoff: &Backoff)
+    fn latch<P: Kind>(
+        &self,
+        hand: &mut Hand<PassState>,
+        process: &mut P,
+        page: u32,
+        backoff: &Backoff,
+    )
         requires runs { Runs self.now hand.old (P.proc_of process.old) }
         requires next { (P.answer_of process.old ≡ None) × (P.next_of process.old ≡ act.Latch page) }
         ensures same { IsSameHand hand.old.seat hand.new.seat × IsSameStage hand.old.seat hand.new.seat }

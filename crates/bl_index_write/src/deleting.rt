@@ -23,7 +23,7 @@ ghost use Rattle.bl_index_steps.specs.Runs.{Runs, Rests, IsOn, IsSince};
 ghost use Rattle.bl_index_write.specs.Events.{deleting, IsThere, HasDeleted, HasDeletedBy};
 ghost use Rattle.bl_model.specs.Replies.{reply_of};
 
-use crate::descend::{descend, begin_descent};
+use crate::descend::{begin_descent, descend};
 use crate::targets::Deleting;
 use bl_index_rule::PassState;
 use bl_index_steps::{FrameView, Tree};

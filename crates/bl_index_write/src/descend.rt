@@ -138,7 +138,12 @@ fn latch_there<J: Target>(tree: &Tree, hand: &mut Hand<PassState>, target: &J, p
 
 /// It gets the page that it holds, and sees by its words whether it is there.
 #[inline(always)]
-fn read_latched<J: Target>(tree: &Tree, hand: &mut Hand<PassState>, target: &J, page: u32) -> Arrived
+fn read_latched<J: Target>(
+    tree: &Tree,
+    hand: &mut Hand<PassState>,
+    target: &J,
+    page: u32,
+) -> Arrived
     requires runs { Runs tree.now hand.old (J.at target.now (approach.Latched page)) }
     ensures same { Keeps hand.old.seat hand.new.seat }
     ensures arrived { HasArrived (J.level_of target.now) (J.key_of target.now) (J.at target.now) page tree.now.store.layout hand.new.seat result }

@@ -20,10 +20,10 @@ ghost use Rattle.bl_index_write.specs.Events.{inserting, IsThere, HasInserted, H
 ghost use Rattle.bl_index_steps.specs.Rooms.{LacksPage};
 ghost use Rattle.bl_model.specs.Replies.{reply_of};
 
-use crate::descend::{descend, begin_descent};
-use crate::targets::Inserting;
-use crate::splitting::split_full;
+use crate::descend::{begin_descent, descend};
 use crate::placing::listed_at;
+use crate::splitting::split_full;
+use crate::targets::Inserting;
 use bl_index_rule::PassState;
 use bl_index_steps::{FrameView, Tree};
 use bl_model::KeyReply;

@@ -5,15 +5,15 @@
 //! more level, which is rare, a post goes by a process value.
 #![tactic(auto)]
 
-mod editors;
-mod descend;
 mod deleting;
-mod targets;
+mod descend;
+mod editors;
 mod halves;
 mod inserting;
-mod splitting;
 mod placing;
 mod posting;
+mod splitting;
+mod targets;
 
 pub use deleting::{begin_deletion, delete_key, end_deletion};
 pub use inserting::insert_pair;

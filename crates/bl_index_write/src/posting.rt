@@ -25,10 +25,10 @@ ghost use Rattle.bl_index_steps.specs.Rooms.{LacksPost};
 ghost use Rattle.bl_proc_base.specs.declared.answers.Posted.TheVariants as postings;
 ghost use Rattle.bl_proc.specs.declared.posting.PostReply.TheVariants as replies;
 
+use crate::descend::{begin_descent, come_from};
 use crate::editors::Listing;
-use crate::descend::{come_from, begin_descent};
-use crate::targets::Posting;
 use crate::splitting::enter_page;
+use crate::targets::Posting;
 use bl_index_rule::PassState;
 use bl_index_steps::{FrameView, Tree};
 use bl_page::{Words, word, words_from};

@@ -105,15 +105,7 @@ fn end_on<R: Threads + Wait + Sync, I: Read + Drop, O: Write + Drop>(
 {
     let mut reader = Watched::new(reader);
     let mut writer = Watched::new(writer);
-    let fault = match serve(
-        rt,
-        index,
-        passes,
-        &mut reader,
-        &mut writer,
-        &OpenGate,
-        2,
-    ) {
+    let fault = match serve(rt, index, passes, &mut reader, &mut writer, &OpenGate, 2) {
         Ok(_) => None,
         Err(fault) => Some(fault),
     };
