@@ -1,5 +1,5 @@
 -- What a part tells its caller.
-use Rattle.std.proofs.Common.{ℕ, ◌≡◌, ◌+◌, ◌≤◌, Bool, true, false, List, Option, None, Some, refl, sym, subst, ◌∙◌, []}
+use Rattle.std.proofs.Common.{ℕ, ◌≡◌, ◌+◌, ◌≤◌, Bool, true, false, List, Option, None, Some, refl, sym, subst, ◌∙◌, [], ap}
 use Rattle.std.specs.Prelude.{MatchOption}
 use Rattle.atomic_table.specs.declared.shared.Seat.{Seat}
 use Rattle.bl_layout.specs.declared.layout.Layout.{Layout}
@@ -44,7 +44,6 @@ use Rattle.bl_index_read.specs.declared.listing.Reached.TheVariants as reached
 use Rattle.bl_index_read.specs.Searching.{Finds}
 use Rattle.bl_index_steps.specs.Runs.{IsOn, IsDone}
 use Rattle.bl_index_read.specs.Parts.{listing, part_at, HasReached, HasLeaf}
-use Rattle.bl_index_steps.proofs.Calls.{own_looks}
 use Rattle.bl_index_steps.proofs.Ends.{op_answered}
 use Rattle.bl_index_read.proofs.Paces.{at_answer}
 use Rattle.bl_index_read.proofs.Silent.{may_give_up}

@@ -19,6 +19,7 @@ use std::thread::join;
 const YIELDS: u32 = 1_000_000;
 
 /// How far the three threads are.
+#[derive(Drop)]
 struct Course {
     waits: AtomicBool,
     goes: AtomicBool,
