@@ -1,5 +1,6 @@
 -- What a list of rows has at a key, and what an edit of the list does to it.
 use Rattle.std.proofs.Common.{◌≡◌, ◌≢◌, ℕ, zero, suc, ◌<◌, eqb, List, [], ◌∷◌, length, get_or, if◌then◌else◌, Some, None, refl, inl, inr, arith}
+use Rattle.std.specs.Prelude.{set}
 use Rattle.std.specs.List.{insert, remove}
 use Rattle.std.proofs.lemmas.Bool.{cases_eq}
 use Rattle.std.proofs.lemmas.Bool.Decides.{nat_tests}
@@ -44,6 +45,14 @@ map_of-remove (x ∷ rows) k zero rising is_at q =
 map_of-remove (x ∷ rows) k (suc i) rising is_at q =
     let below : key_at (x ∷ rows) 0 < key_at (x ∷ rows) (suc i) = rising 0 (suc i) (omega arith) is_at.in_range in
     grind (arith, nat_tests, below, is_at.has_key, map_of-remove rows k i (rising_tail x rows rising) (is_at_tail x rows k i is_at) q)
+
+-- another value in the one row that has the key sets the value there, and nothing else
+pub map_of-set : (rows : List (ℕ × ℕ)) (k v i : ℕ) → HasRisingKeys rows → IsAt rows k i → (q : ℕ) → map_of (set rows i (k, v)) q ≡ (if eqb q k then Some v else map_of rows q)
+map_of-set [] k v i rising is_at q = absurd (omega (arith, is_at.in_range))
+map_of-set (x ∷ rows) k v zero rising is_at q = grind (arith, nat_tests, is_at.has_key)
+map_of-set (x ∷ rows) k v (suc i) rising is_at q =
+    let below : key_at (x ∷ rows) 0 < key_at (x ∷ rows) (suc i) = rising 0 (suc i) (omega arith) is_at.in_range in
+    grind (arith, nat_tests, below, is_at.has_key, map_of-set rows k v i (rising_tail x rows rising) (is_at_tail x rows k i is_at) q)
 
 -- a pair of the map is a row
 pub row_of-pair : (rows : List (ℕ × ℕ)) (k v : ℕ) → map_of rows k ≡ Some v → (i : ℕ) × (i < length rows) × (get_or rows i (0, 0) ≡ (k, v))

@@ -1,15 +1,18 @@
 -- What a search finds among rows with rising keys, and what an edit at that place does.
-use Rattle.std.proofs.Common.{◌≡◌, ℕ, ◌+◌, ◌-◌, ◌<◌, ◌≤◌, List, length, get_or, Some, None, Result, Ok, Err, IfOk, IfErr, sym, ap, subst, arith}
+use Rattle.std.proofs.Common.{◌≡◌, ℕ, ◌+◌, ◌-◌, ◌<◌, ◌≤◌, List, length, get_or, Some, None, Result, Ok, Err, IfOk, IfErr, sym, ap, ◌∙◌, subst, inl, inr, arith}
+use Rattle.std.specs.Prelude.{set}
 use Rattle.std.specs.List.{insert, remove}
 use Rattle.std.specs.List.Sorted.{IsSearchInRange, IsBinarySearchResult, IsNonDecreasingBy}
 use Rattle.std.specs.Ordering.{nat_cmp, ordering_index}
 use Rattle.std.proofs.lemmas.Cmp.{ranked}
 use Rattle.std.proofs.lemmas.List.Sorted.{IsNonDecreasingBy-from_default}
+use Rattle.std.proofs.lemmas.List.{length-set, get_or-set_same, get_or-set_other}
 use Rattle.std.proofs.lemmas.List.Edits.{length-insert, get_or-insert_below, get_or-insert_at, get_or-insert_above}
+use Rattle.std.proofs.lemmas.Bool.{cases_eq}
 use Rattle.std.proofs.lemmas.Bool.Decides.{nat_tests}
 use Rattle.bl_model.specs.Map.{SameMap, with_pair, without_key}
 use Rattle.bl_model.specs.Rows.{map_of, key_at, HasRisingKeys, IsAt, IsGapFor}
-use Rattle.bl_model.proofs.Lookups.{NoKeyBefore, map_of-absent, map_of-present, map_of-insert, map_of-remove}
+use Rattle.bl_model.proofs.Lookups.{NoKeyBefore, map_of-absent, map_of-present, map_of-insert, map_of-remove, map_of-set}
 
 module _ (rows : List (ℕ × ℕ)) (rising : HasRisingKeys rows) (k : ℕ) where
   -- the comparisons with k rise along the rows, as a binary search asks
@@ -43,6 +46,20 @@ module _ (rows : List (ℕ × ℕ)) (rising : HasRisingKeys rows) (k at : ℕ) (
   -- a removal there takes that key away alone
   pub same_map-remove : SameMap (without_key (map_of rows) k) (map_of (remove rows at))
   same_map-remove q = map_of-remove rows k at rising is_at q
+
+  -- another value there changes that key alone, and keeps the order
+  pub same_map-set : (v : ℕ) → SameMap (with_pair (map_of rows) k v) (map_of (set rows at (k, v)))
+  same_map-set v q = map_of-set rows k v at rising is_at q
+
+  pub rising-set : (v : ℕ) → HasRisingKeys (set rows at (k, v))
+  rising-set v i j lt in_range =
+      let new = set rows at (k, v) in
+      let long = length-set rows at (k, v) in
+      let key : (p : ℕ) → key_at new p ≡ key_at rows p = λ p. elim (cases_eq p at) [
+        | inl here ↦ rw here (ap (λ (x : ℕ × ℕ). x.0) (get_or-set_same rows at (k, v) (0, 0) is_at.in_range) ∙ sym is_at.has_key)
+        | inr other ↦ ap (λ (x : ℕ × ℕ). x.0) (get_or-set_other rows at p (k, v) (0, 0) other)
+      ] in
+      omega (arith, key i, key j, rising i j lt (omega (arith, long)))
 
 module _ (rows : List (ℕ × ℕ)) (k at : ℕ) (gap : IsGapFor rows k at) where
   -- a key that has a gap is not found

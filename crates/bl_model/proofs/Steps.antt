@@ -1,18 +1,19 @@
 -- What PlainMap answers is a map step.
-use Rattle.std.proofs.Common.{◌≡◌, ℕ, ◌+◌, ◌-◌, ◌<◌, ◌≤◌, List, length, get_or, take, drop, Some, Result, Ok, Err, OnErr, refl, sym, ap, ◌∙◌, subst, inl, inr, arith}
+use Rattle.std.proofs.Common.{◌≡◌, ◌≢◌, ℕ, ◌+◌, ◌-◌, ◌<◌, ◌≤◌, List, length, get_or, take, drop, Some, Result, Ok, Err, OnErr, refl, sym, ap, ◌∙◌, subst, inl, inr, arith}
+use Rattle.std.specs.Prelude.{set}
 use Rattle.std.specs.List.{insert, remove}
 use Rattle.std.proofs.lemmas.Grind.{common_steps}
 use Rattle.std.proofs.lemmas.Bool.{cases_lt}
 use Rattle.std.proofs.lemmas.List.{get_or_default, length-drop, length-take-le, get_or-take, get_or-drop}
-use Rattle.bl_model.specs.declared.operation.Op.TheVariants.{Find, Insert, Delete, Part}
+use Rattle.bl_model.specs.declared.operation.Op.TheVariants.{Find, Insert, Delete, Change, Part}
 use Rattle.bl_model.specs.declared.operation.Next.TheVariants.{More, End}
 use Rattle.bl_model.specs.declared.operation.Reply.{Reply}
-use Rattle.bl_model.specs.declared.operation.Reply.TheVariants.{Found, Absent, Inserted, Present, Deleted, Rows, NoRoom}
+use Rattle.bl_model.specs.declared.operation.Reply.TheVariants.{Found, Absent, Inserted, Present, Deleted, Changed, Differs, Rows, NoRoom}
 use Rattle.bl_model.specs.Map.{IsMapStep, IsPart}
 use Rattle.bl_model.specs.Plain.{BeginsPart, FillsPart}
 use Rattle.bl_model.specs.Rows.{map_of, key_at, HasRisingKeys, IsAt, IsGapFor}
 use Rattle.bl_model.proofs.Maps.{same_map-refl}
-use Rattle.bl_model.proofs.Places.{map_of-at, map_of-gap, same_map-insert, same_map-remove}
+use Rattle.bl_model.proofs.Places.{map_of-at, map_of-gap, same_map-insert, same_map-remove, same_map-set}
 use Rattle.bl_model.proofs.Parts.{IsPlaceOf, lists_window}
 
 module _ (rows : List (ℕ × ℕ)) (rising : HasRisingKeys rows) (k at : ℕ) (is_at : IsAt rows k at) (row : ℕ × ℕ) (read : row ≡ get_or rows at row) where
@@ -29,12 +30,21 @@ module _ (rows : List (ℕ × ℕ)) (rising : HasRisingKeys rows) (k at : ℕ) (
   pub step_deleted : (new : List (ℕ × ℕ)) → new ≡ remove rows at → IsMapStep (map_of rows) (Delete k) (Deleted row.1) (map_of new)
   step_deleted new is = record { answer = value_is; after = λ q. ap (λ r. map_of r q) is ∙ same_map-remove rows rising k at is_at q }
 
+  pub step_changed : (old new : ℕ) → row.1 ≡ old → (rows' : List (ℕ × ℕ)) → rows' ≡ set rows at (k, new) → IsMapStep (map_of rows) (Change k old new) Changed (map_of rows')
+  step_changed old new same rows' is = record { answer = value_is ∙ ap (λ z. Some z) same; after = λ q. ap (λ r. map_of r q) is ∙ same_map-set rows rising k at is_at new q }
+
+  pub step_differs : (old new : ℕ) → row.1 ≢ old → IsMapStep (map_of rows) (Change k old new) (Differs row.1) (map_of rows)
+  step_differs old new other = record { answer = (value_is, other); after = same_map-refl (map_of rows) }
+
 module _ (rows : List (ℕ × ℕ)) (k at : ℕ) (gap : IsGapFor rows k at) where
   pub step_absent : IsMapStep (map_of rows) (Find k) Absent (map_of rows)
   step_absent = record { answer = map_of-gap rows k at gap; after = same_map-refl (map_of rows) }
 
   pub step_gone : IsMapStep (map_of rows) (Delete k) Absent (map_of rows)
   step_gone = record { answer = map_of-gap rows k at gap; after = same_map-refl (map_of rows) }
+
+  pub step_unchanged : (old new : ℕ) → IsMapStep (map_of rows) (Change k old new) Absent (map_of rows)
+  step_unchanged old new = record { answer = map_of-gap rows k at gap; after = same_map-refl (map_of rows) }
 
   pub step_inserted : (v : ℕ) (new : List (ℕ × ℕ)) → new ≡ insert rows at (k, v) → IsMapStep (map_of rows) (Insert k v) Inserted (map_of new)
   step_inserted v new is = record { answer = map_of-gap rows k at gap; after = λ q. ap (λ r. map_of r q) is ∙ same_map-insert rows k at gap v q }
@@ -83,6 +93,8 @@ module _ (rows : List (ℕ × ℕ)) (rising : HasRisingKeys rows) (from at : ℕ
   step_part Inserted h = absurd h
   step_part (Present v) h = absurd h
   step_part (Deleted v) h = absurd h
+  step_part Changed h = absurd h
+  step_part (Differs v) h = absurd h
   step_part NoRoom h = absurd h
 
   pub fills_part : (reply : Reply) → BeginsPart (drop at rows) reply → FillsPart (map_of rows) reply
@@ -96,6 +108,8 @@ module _ (rows : List (ℕ × ℕ)) (rising : HasRisingKeys rows) (from at : ℕ
   fills_part Inserted h = tt
   fills_part (Present v) h = tt
   fills_part (Deleted v) h = tt
+  fills_part Changed h = tt
+  fills_part (Differs v) h = tt
   fills_part NoRoom h = tt
 
 -- the rest of a list from a place, as a slice of it

@@ -5,3 +5,4 @@ pub mod Plain
 pub mod Stream
 pub mod Parts
 pub mod Replies
+pub mod Writes

@@ -1,11 +1,11 @@
 -- One ordered map: what an operation may answer, and the map after it.
-use Rattle.std.specs.Prelude.{◌≡◌, ℕ, ◌≤◌, ◌<◌, ◌↔◌, List, Contains, Option, None, Some, IsSome, if◌then◌else◌, ◌==◌}
+use Rattle.std.specs.Prelude.{◌≡◌, ◌≢◌, ℕ, ◌≤◌, ◌<◌, ◌↔◌, List, Contains, Option, None, Some, IsSome, if◌then◌else◌, ◌==◌}
 use Rattle.bl_model.specs.declared.operation.Op.{Op}
-use Rattle.bl_model.specs.declared.operation.Op.TheVariants.{Find, Insert, Delete, Part}
+use Rattle.bl_model.specs.declared.operation.Op.TheVariants.{Find, Insert, Delete, Change, Part}
 use Rattle.bl_model.specs.declared.operation.Next.{Next}
 use Rattle.bl_model.specs.declared.operation.Next.TheVariants.{More, End}
 use Rattle.bl_model.specs.declared.operation.Reply.{Reply}
-use Rattle.bl_model.specs.declared.operation.Reply.TheVariants.{Found, Absent, Inserted, Present, Deleted, Rows, NoRoom}
+use Rattle.bl_model.specs.declared.operation.Reply.TheVariants.{Found, Absent, Inserted, Present, Deleted, Changed, Differs, Rows, NoRoom}
 use Rattle.bl_model.specs.Rows.{HasRisingKeys}
 
 -- a map: the value at each key that it has
@@ -48,14 +48,19 @@ MayAnswer m (Insert key value) NoRoom = m key ≡ None
 MayAnswer m (Delete key) (Deleted value) = m key ≡ Some value
 MayAnswer m (Delete key) Absent = m key ≡ None
 MayAnswer m (Delete key) NoRoom = IsSome (m key)
+MayAnswer m (Change key old new) Changed = m key ≡ Some old
+MayAnswer m (Change key old new) (Differs there) = (m key ≡ Some there) × (there ≢ old)
+MayAnswer m (Change key old new) Absent = m key ≡ None
+MayAnswer m (Change key old new) NoRoom = m key ≡ Some old
 MayAnswer m (Part from) (Rows rows next) = IsPart m from rows.items next
 -- no other reply is given
 MayAnswer m op reply = ⊥
 
--- the map after the operation was answered like this: only Inserted and Deleted change it
+-- the map after the operation was answered like this: only Inserted, Deleted and Changed change it
 abbrev pub map_step : Op → Reply → Map → Map
 map_step (Insert key value) Inserted m = with_pair m key value
 map_step (Delete key) (Deleted value) m = without_key m key
+map_step (Change key old new) Changed m = with_pair m key new
 map_step op reply m = m
 
 -- From old, the operation may answer this, and it leaves new.

@@ -2,7 +2,7 @@
 use Rattle.bl_model.specs.declared.operation.Reply.{Reply}
 use Rattle.bl_model.specs.declared.operation.Reply.TheVariants as reply
 use Rattle.bl_model.specs.declared.operation.KeyReply.{KeyReply}
-use Rattle.bl_model.specs.declared.operation.KeyReply.TheVariants.{Found, Absent, Inserted, Present, Deleted, NoRoom}
+use Rattle.bl_model.specs.declared.operation.KeyReply.TheVariants.{Found, Absent, Inserted, Present, Deleted, Changed, Differs, NoRoom}
 
 abbrev pub reply_of : KeyReply → Reply
 reply_of (Found value) = reply.Found value
@@ -10,4 +10,6 @@ reply_of Absent = reply.Absent
 reply_of Inserted = reply.Inserted
 reply_of (Present value) = reply.Present value
 reply_of (Deleted value) = reply.Deleted value
+reply_of Changed = reply.Changed
+reply_of (Differs value) = reply.Differs value
 reply_of NoRoom = reply.NoRoom

@@ -12,6 +12,8 @@ pub enum Op {
     Insert(u64, u64),
     /// Takes a key and its value away.
     Delete(u64),
+    /// Puts the third number at a key in place of the second, where the key has that.
+    Change(u64, u64, u64),
     /// Lists some of the pairs, from a key on.
     Part(u64),
 }
@@ -21,7 +23,7 @@ pub enum Op {
 pub enum Reply {
     /// The value at the key of a `Find`.
     Found(u64),
-    /// The key of a `Find` or a `Delete` isn't there.
+    /// The key of a `Find`, a `Delete` or a `Change` isn't there.
     Absent,
     /// The pair of an `Insert` is there now.
     Inserted,
@@ -29,6 +31,10 @@ pub enum Reply {
     Present(u64),
     /// The key of a `Delete` was there with this value, and isn't any more.
     Deleted(u64),
+    /// The key of a `Change` had the old value, and has the new one now.
+    Changed,
+    /// The key of a `Change` was there with this value, which is not the old one, and still is.
+    Differs(u64),
     /// The pairs of a `Part` in rising order of their keys, and where the next part begins.
     Rows(ArrayVec<(u64, u64), MOST_PAIRS>, Next),
     /// There was no room for a change, and the map is as it was.
@@ -44,13 +50,13 @@ pub enum Next {
     End,
 }
 
-/// What a search, an insertion or a deletion answers. It stands for a reply of the map, and has no room for rows, so that it is
+/// What a search or a write of one key answers. It stands for a reply of the map, and has no room for rows, so that it is
 /// small: only parts have rows.
 #[derive(Clone, Copy, Debug, PartialEq, Eq)]
 pub enum KeyReply {
     /// The value at the key of a search.
     Found(u64),
-    /// The key of a search or a deletion isn't there.
+    /// The key of a search, a deletion or a change isn't there.
     Absent,
     /// The pair of an insertion is there now.
     Inserted,
@@ -58,6 +64,10 @@ pub enum KeyReply {
     Present(u64),
     /// The key of a deletion was there with this value, and isn't any more.
     Deleted(u64),
+    /// The key of a change had the old value, and has the new one now.
+    Changed,
+    /// The key of a change was there with this value, which is not the old one, and still is.
+    Differs(u64),
     /// There was no room for a change, and the map is as it was.
     NoRoom,
 }
@@ -76,6 +86,8 @@ impl KeyReply {
             KeyReply::Inserted => Reply::Inserted,
             KeyReply::Present(value) => Reply::Present(value),
             KeyReply::Deleted(value) => Reply::Deleted(value),
+            KeyReply::Changed => Reply::Changed,
+            KeyReply::Differs(value) => Reply::Differs(value),
             KeyReply::NoRoom => Reply::NoRoom,
         }
     }

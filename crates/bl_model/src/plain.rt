@@ -1,6 +1,7 @@
 //! A map in a sorted vector.
 
 ghost use Rattle.std.specs.Prelude.{◌≡◌, ◌≢◌, [], IfOk, IfErr, OnErr};
+ghost use Rattle.bl_model.specs.declared.operation.Op.TheVariants as op;
 ghost use Rattle.bl_model.specs.Map.{IsMapStep, SameMap, empty};
 ghost use Rattle.bl_model.specs.Plain.{BeginsPart, FillsPart, NeedsRoom};
 ghost use Rattle.bl_model.specs.Rows.{HasRisingKeys, IsAt, IsGapFor, map_of};
@@ -81,6 +82,7 @@ impl PlainMap {
                 Ok(place) => Ok(Reply::Deleted(self.rows.remove(place).1)),
                 Err(_) => Ok(Reply::Absent),
             },
+            Op::Change(key, old, new) => Ok(self.change(key, old, new)),
             Op::Part(from) => {
                 let place = match self.search(from) {
                     Ok(place) => place,
@@ -88,6 +90,26 @@ impl PlainMap {
                 };
                 Ok(part(&self.rows[place..]))
             }
+        }
+    }
+
+    /// Puts the new value at the key in place of the old one, where the key has that.
+    fn change(&mut self, key: u64, old: u64, new: u64) -> Reply
+        ensures step { IsMapStep (map_of self.old) (op.Change key old new) result (map_of self.new) }
+        ensures room { result ≢ Reply.NoRoom }
+        ensures part { FillsPart (map_of self.old) result }
+    {
+        match self.search(key) {
+            Ok(place) => {
+                let there = self.rows[place].1;
+                if there == old {
+                    self.rows[place] = (key, new);
+                    Reply::Changed
+                } else {
+                    Reply::Differs(there)
+                }
+            }
+            Err(_) => Reply::Absent,
         }
     }
 

@@ -1,0 +1,50 @@
+-- Writes of one key: what they do and answer, by what the key has.
+use Rattle.std.specs.Prelude.{◌≡◌, ◌≢◌, ℕ, Option, None, Some, IsSome, if◌then◌else◌, ◌==◌}
+use Rattle.bl_model.specs.declared.operation.Op.{Op}
+use Rattle.bl_model.specs.declared.operation.Op.TheVariants as op
+use Rattle.bl_model.specs.declared.operation.Reply.TheVariants as reply
+use Rattle.bl_model.specs.declared.operation.KeyReply.TheVariants.{Absent, Inserted, Present, Deleted, Changed, Differs}
+use Rattle.bl_model.specs.declared.deciding.KeyWrite.{KeyWrite}
+use Rattle.bl_model.specs.declared.deciding.KeyWrite.TheVariants.{Insert, Delete, Change}
+use Rattle.bl_model.specs.declared.deciding.Effect.{Effect}
+use Rattle.bl_model.specs.declared.deciding.Effect.TheVariants.{Keep, Enter, Remove, Replace}
+use Rattle.bl_model.specs.declared.deciding.Decided.{Decided}
+use Rattle.bl_model.specs.Map.{Map, MayAnswer, IsMapStep}
+use Rattle.bl_model.specs.Replies.{reply_of}
+
+-- the operation on the map
+abbrev pub write_op : ℕ → KeyWrite → Op
+write_op key (Insert value) = op.Insert key value
+write_op key Delete = op.Delete key
+write_op key (Change old new) = op.Change key old new
+
+-- what the key has afterwards, where it had that
+abbrev pub effected : Effect → Option ℕ → Option ℕ
+effected Keep there = there
+effected (Enter value) there = Some value
+effected Remove there = None
+effected (Replace value) there = Some value
+
+-- It may have that effect: only what is not there is entered, and only what is there goes or gives way.
+abbrev pub MayHave : Effect → Option ℕ → Type 0
+MayHave Keep there = Unit {0}
+MayHave (Enter value) there = there ≡ None
+MayHave Remove there = IsSome there
+MayHave (Replace value) there = IsSome there
+
+-- what a write does and answers
+abbrev pub decided : KeyWrite → Option ℕ → Decided
+decided (Insert value) None = record { effect = Enter value; reply = Inserted }
+decided (Insert value) (Some there) = record { effect = Keep; reply = Present there }
+decided Delete None = record { effect = Keep; reply = Absent }
+decided Delete (Some there) = record { effect = Remove; reply = Deleted there }
+decided (Change old new) None = record { effect = Keep; reply = Absent }
+decided (Change old new) (Some there) = if there == old then record { effect = Replace new; reply = Changed } else record { effect = Keep; reply = Differs there }
+
+-- The answer is the map's, and leaves the key as the effect says, on every map in which the key has that; where the effect is
+-- a change, there may have been no room for it.
+pub record IsDecided (write : KeyWrite) (there : Option ℕ) (d : Decided) : Type 0 where
+  pub step : (key : ℕ) (m m' : Map) → m key ≡ there → m' key ≡ effected d.effect there → ((j : ℕ) → j ≢ key → m' j ≡ m j) → IsMapStep m (write_op key write) (reply_of d.reply) m'
+  pub fits : MayHave d.effect there
+  pub room : reply_of d.reply ≢ reply.NoRoom
+  pub refused : (key : ℕ) (m : Map) → m key ≡ there → d.effect ≢ Keep → MayAnswer m (write_op key write) reply.NoRoom
