@@ -2,6 +2,7 @@
 use Rattle.std.specs.Prelude.{◌≡◌, ◌≢◌, ℕ, Option, None, Some, IsSome, if◌then◌else◌, ◌==◌}
 use Rattle.bl_model.specs.declared.operation.Op.{Op}
 use Rattle.bl_model.specs.declared.operation.Op.TheVariants as op
+use Rattle.bl_model.specs.declared.operation.Reply.{Reply}
 use Rattle.bl_model.specs.declared.operation.Reply.TheVariants as reply
 use Rattle.bl_model.specs.declared.operation.KeyReply.TheVariants.{Absent, Inserted, Present, Deleted, Changed, Differs}
 use Rattle.bl_model.specs.declared.deciding.KeyWrite.{KeyWrite}
@@ -40,6 +41,13 @@ decided Delete None = record { effect = Keep; reply = Absent }
 decided Delete (Some there) = record { effect = Remove; reply = Deleted there }
 decided (Change old new) None = record { effect = Keep; reply = Absent }
 decided (Change old new) (Some there) = if there == old then record { effect = Replace new; reply = Changed } else record { effect = Keep; reply = Differs there }
+
+abbrev pub effect_of : KeyWrite → Option ℕ → Effect
+effect_of write there = (decided write there).effect
+
+-- the map's reply
+abbrev pub replied : KeyWrite → Option ℕ → Reply
+replied write there = reply_of (decided write there).reply
 
 -- The answer is the map's, and leaves the key as the effect says, on every map in which the key has that; where the effect is
 -- a change, there may have been no room for it.

@@ -47,7 +47,7 @@ listed-at least k (suc i) (pair ∷ pairs) h few is =
     let other : pair.0 < k = omega (arith, first, is) in
     grind (arith, more, other)
 
-place-none : (least k : ℕ) (pairs : List (ℕ × ℕ)) → RisesFrom least pairs → k < least → place k pairs ≡ 0
+pub place-none : (least k : ℕ) (pairs : List (ℕ × ℕ)) → RisesFrom least pairs → k < least → place k pairs ≡ 0
 place-none least k [] h below = refl
 place-none least k (pair ∷ pairs) h below = let first : least ≤ pair.0 = h.0 in let e : nat_lt k pair.0 ≡ true = grind (arith, first, below) in grind (arith, e)
 

@@ -18,9 +18,9 @@ use Rattle.bl_proc_base.specs.declared.approaching.Came.TheVariants as come
 use Rattle.bl_proc_base.specs.declared.editing.Outcome.TheVariants as outcome
 use Rattle.bl_proc_base.specs.declared.editing.Edit.TheVariants as edit
 use Rattle.bl_proc_base.specs.declared.editing.Edited.TheVariants as changed
-use Rattle.bl_proc.specs.declared.inserting.InsertStage.TheVariants as insert
-use Rattle.bl_proc.specs.declared.inserting.InsertReply.TheVariants as inserted
-use Rattle.bl_proc.specs.declared.deleting.DeleteStage.TheVariants as delete
+use Rattle.bl_model.specs.declared.deciding.KeyWrite.TheVariants.{Insert, Delete, Change}
+use Rattle.bl_proc.specs.declared.writing.WriteStage.TheVariants as write
+use Rattle.bl_proc.specs.declared.writing.WriteReply.TheVariants.{Done}
 use Rattle.bl_proc_base.specs.declared.growing.Growth.TheVariants as growth
 use Rattle.bl_proc_base.specs.declared.growing.Grew.TheVariants as grew
 use Rattle.bl_proc.specs.declared.posting.PostStage.TheVariants as post
@@ -30,8 +30,7 @@ use Rattle.bl_proc_base.specs.Onwards.{Leads}
 use Rattle.bl_proc.specs.Searches.{FindGoes, found_answer}
 use Rattle.bl_proc_base.specs.Approaches.{Approaches}
 use Rattle.bl_proc_base.specs.Edits.{Changes, edit_needs}
-use Rattle.bl_proc.specs.Inserts.{InsertGoes, inserted_answer}
-use Rattle.bl_proc.specs.Deletes.{DeleteGoes}
+use Rattle.bl_proc.specs.Writes.{WriteGoes, write_reply, write_answer}
 use Rattle.bl_proc_base.specs.Growths.{Grows, Raises}
 use Rattle.bl_proc.specs.Posts.{PostGoes, posted_answer}
 
@@ -116,16 +115,26 @@ put_refused : Changes (edit.Putting 1 left_leaf) seen.Refused (changed.On (edit.
 put_refused = refl
 
 -- an insertion of 12, which is there
-insert_is_there : InsertGoes 12 5 (insert.Coming (approach.Latched 2)) (seen.Words right_leaf) (insert.Present 2 120)
-insert_is_there = (2, right_leaf, way_ends, (refl, refl))
+insert_is_there : WriteGoes 12 (Insert 5) (write.Coming (approach.Latched 2)) (seen.Words right_leaf) (write.Keeping 2 (Some 120))
+insert_is_there = (2, right_leaf, way_ends, (refl, refl, refl))
+
+it_was_present : write_answer (Insert 5) (Done (Some 120) None) ≡ answer.Op (reply.Present 120) None
+it_was_present = refl
 
 -- a split is answered with its hint
-split_hint : inserted_answer (inserted.Inserted (Some 9)) ≡ answer.Op reply.Inserted (Some (hint.Post 1 9))
+split_hint : write_answer (Insert 5) (write_reply (record { there = None; thin = None }) (outcome.SplitAt 9)) ≡ answer.Op reply.Inserted (Some (hint.Post 1 9))
 split_hint = refl
 
 -- a deletion of 13, which is not there
-delete_is_absent : DeleteGoes 13 (delete.Coming (approach.Latched 2)) (seen.Words right_leaf) (delete.Absent 2)
-delete_is_absent = (2, right_leaf, (refl, refl, (tt, (omega arith, omega arith), refl)), (refl, refl))
+delete_is_absent : WriteGoes 13 Delete (write.Coming (approach.Latched 2)) (seen.Words right_leaf) (write.Keeping 2 None)
+delete_is_absent = (2, right_leaf, (refl, refl, (tt, (omega arith, omega arith), refl)), (refl, refl, refl))
+
+-- a change of 12 from 7, which it has not, and one from 120, once it is done
+it_differs : write_answer (Change 7 8) (Done (Some 120) None) ≡ answer.Op (reply.Differs 120) None
+it_differs = refl
+
+it_is_changed : write_answer (Change 120 8) (Done (Some 120) None) ≡ answer.Op reply.Changed None
+it_is_changed = refl
 
 -- a tree of one level gets page 3 as its top
 raises : Raises (1 ∷ []) 3 parent high_anchor

@@ -1,7 +1,6 @@
 pub mod Searches
 pub mod Parts
-pub mod Inserts
-pub mod Deletes
+pub mod Writes
 pub mod Levels
 pub mod Posts
 pub mod Reclaims

@@ -32,7 +32,7 @@ use Rattle.bl_proc_base.specs.Onwards.{Leads}
 use Rattle.bl_proc_base.specs.Approaches.{approach_next, Comes}
 use Rattle.bl_proc_base.specs.Edits.{edit_next, edit_needs, EntersPair, Changes}
 use Rattle.bl_proc_base.specs.Growths.{growth_next, growth_needs, Grows}
-use Rattle.bl_proc.specs.Inserts.{post_hint}
+use Rattle.bl_proc.specs.Writes.{post_hint}
 
 -- what a post answers when its parent is open again
 abbrev pub post_reply : Outcome → PostReply

@@ -1,20 +1,19 @@
 -- A process of any kind does what its kind does.
 use Rattle.std.specs.Prelude.{◌≡◌, ℕ, Option}
+use Rattle.bl_model.specs.declared.deciding.KeyWrite.{KeyWrite}
 use Rattle.bl_proc_base.specs.declared.acts.Action.{Action}
 use Rattle.bl_proc_base.specs.declared.acts.Seen.{Seen}
 use Rattle.bl_proc_base.specs.declared.answers.Answer.{Answer}
 use Rattle.bl_proc.specs.declared.kinds.Proc.{Proc}
-use Rattle.bl_proc.specs.declared.kinds.Proc.TheVariants.{Find, Insert, Delete, Post, Part, Compress, Reclaim, Lower}
+use Rattle.bl_proc.specs.declared.kinds.Proc.TheVariants.{Find, Write, Post, Part, Compress, Reclaim, Lower}
 use Rattle.bl_proc.specs.declared.searching.FindStage.TheVariants as find
-use Rattle.bl_proc.specs.declared.inserting.InsertStage.TheVariants as insert
-use Rattle.bl_proc.specs.declared.deleting.DeleteStage.TheVariants as delete
+use Rattle.bl_proc.specs.declared.writing.WriteStage.TheVariants as write_stage
 use Rattle.bl_proc.specs.declared.posting.PostStage.TheVariants as post
 use Rattle.bl_proc.specs.declared.parts.PartStage.TheVariants as part
 use Rattle.bl_proc.specs.declared.reclaiming.ReclaimStage.TheVariants as reclaim
 use Rattle.bl_proc.specs.declared.lowering.LowerStage.TheVariants as lower
 use Rattle.bl_proc.specs.Searches.{find_next, find_needs, find_answer, FindTakes}
-use Rattle.bl_proc.specs.Inserts.{insert_next, insert_needs, insert_answer, InsertTakes}
-use Rattle.bl_proc.specs.Deletes.{delete_next, delete_needs, delete_answer, DeleteTakes}
+use Rattle.bl_proc.specs.Writes.{write_next_of, write_needs_of, write_answer_of, WriteTakes}
 use Rattle.bl_proc.specs.Posts.{post_next, post_needs, post_answer, PostTakes}
 use Rattle.bl_proc_compress.specs.declared.squeezing.CompressStage.TheVariants as compress
 use Rattle.bl_proc_compress.specs.Compresses.{compress_next, compress_needs, compress_answer, CompressTakes}
@@ -24,8 +23,7 @@ use Rattle.bl_proc.specs.Lowers.{lower_next, lower_needs, lower_answer, LowerTak
 
 abbrev pub next_of : Proc → Action
 next_of (Find p) = find_next p
-next_of (Insert p) = insert_next p
-next_of (Delete p) = delete_next p
+next_of (Write p) = write_next_of p
 next_of (Post p) = post_next p
 next_of (Part p) = part_next p
 next_of (Compress p) = compress_next p
@@ -35,8 +33,7 @@ next_of (Lower p) = lower_next p
 -- pages and frames
 abbrev pub needs_of : Proc → Option (ℕ × ℕ)
 needs_of (Find p) = find_needs p
-needs_of (Insert p) = insert_needs p
-needs_of (Delete p) = delete_needs p
+needs_of (Write p) = write_needs_of p
 needs_of (Post p) = post_needs p
 needs_of (Part p) = part_needs p
 needs_of (Compress p) = compress_needs p
@@ -45,8 +42,7 @@ needs_of (Lower p) = lower_needs p
 
 abbrev pub answer_of : Proc → Option Answer
 answer_of (Find p) = find_answer p
-answer_of (Insert p) = insert_answer p
-answer_of (Delete p) = delete_answer p
+answer_of (Write p) = write_answer_of p
 answer_of (Post p) = post_answer p
 answer_of (Part p) = part_answer p
 answer_of (Compress p) = compress_answer p
@@ -55,8 +51,7 @@ answer_of (Lower p) = lower_answer p
 
 abbrev pub Takes : Proc → Seen → Proc → Type 0
 Takes (Find old) what (Find new) = FindTakes old what new
-Takes (Insert old) what (Insert new) = InsertTakes old what new
-Takes (Delete old) what (Delete new) = DeleteTakes old what new
+Takes (Write old) what (Write new) = WriteTakes old what new
 Takes (Post old) what (Post new) = PostTakes old what new
 Takes (Part old) what (Part new) = PartTakes old what new
 Takes (Compress old) what (Compress new) = CompressTakes old what new
@@ -70,13 +65,9 @@ abbrev pub IsFind : ℕ → Proc → Type 0
 IsFind key (Find p) = (p.key ≡ key) × (p.stage ≡ find.New)
 IsFind key p = ⊥
 
-abbrev pub IsInsert : ℕ → ℕ → Proc → Type 0
-IsInsert key value (Insert p) = (p.key ≡ key) × (p.value ≡ value) × (p.stage ≡ insert.New)
-IsInsert key value p = ⊥
-
-abbrev pub IsDelete : ℕ → Proc → Type 0
-IsDelete key (Delete p) = (p.key ≡ key) × (p.stage ≡ delete.New)
-IsDelete key p = ⊥
+abbrev pub IsWrite : ℕ → KeyWrite → Proc → Type 0
+IsWrite key write (Write p) = (p.key ≡ key) × (p.write ≡ write) × (p.stage ≡ write_stage.New)
+IsWrite key write p = ⊥
 
 abbrev pub IsPost : ℕ → ℕ → Proc → Type 0
 IsPost level key (Post p) = (p.level ≡ level) × (p.key ≡ key) × (p.stage ≡ post.New)

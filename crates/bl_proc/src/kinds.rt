@@ -1,16 +1,17 @@
 //! The sum of all kinds of processes.
 
 ghost use Rattle.std.specs.Prelude.{◌≡◌, ◌<◌, ◌≤◌};
+ghost use Rattle.bl_model.specs.declared.deciding.KeyWrite.TheVariants as key_write;
 ghost use Rattle.bl_proc_base.specs.declared.acts.Action.TheVariants as act;
-ghost use Rattle.bl_proc.specs.Processes.{next_of, needs_of, answer_of, Takes, IsFind, IsInsert, IsDelete, IsPost, IsPart, IsCompress, IsReclaim, IsLower};
+ghost use Rattle.bl_proc.specs.Processes.{next_of, needs_of, answer_of, Takes, IsFind, IsWrite, IsPost, IsPart, IsCompress, IsReclaim, IsLower};
 
-use crate::deleting::Delete;
-use crate::inserting::Insert;
 use crate::lowering::Lower;
 use crate::parts::Part;
 use crate::posting::Post;
 use crate::reclaiming::Reclaim;
 use crate::searching::Find;
+use crate::writing::Write;
+use bl_model::KeyWrite;
 use bl_proc_base::{Action, Answer, Process, Seen};
 use bl_proc_compress::Compress;
 
@@ -19,10 +20,8 @@ use bl_proc_compress::Compress;
 pub enum Proc {
     /// Looks a key up.
     Find(Find),
-    /// Puts a value at a key that has none.
-    Insert(Insert),
-    /// Takes a key and its value away.
-    Delete(Delete),
+    /// Inserts, deletes or changes a key.
+    Write(Write),
     /// Lists a child in its parent.
     Post(Post),
     /// Lists pairs from a key on.
@@ -46,18 +45,26 @@ impl Proc {
 
     /// A process that is to put the value at the key, where the key has none.
     pub fn insert(key: u64, value: u64) -> Proc
-        ensures made { IsInsert key value result }
+        ensures made { IsWrite key (key_write.Insert value) result }
         ensures begins { next_of result ≡ act.Begin }
     {
-        Proc::Insert(Insert::new(key, value))
+        Proc::Write(Write::new(key, KeyWrite::Insert(value)))
     }
 
     /// A process that is to take the key and its value away.
     pub fn delete(key: u64) -> Proc
-        ensures made { IsDelete key result }
+        ensures made { IsWrite key key_write.Delete result }
         ensures begins { next_of result ≡ act.Begin }
     {
-        Proc::Delete(Delete::new(key))
+        Proc::Write(Write::new(key, KeyWrite::Delete))
+    }
+
+    /// A process that is to put the new value at the key in place of the old one, where the key has that.
+    pub fn change(key: u64, old: u64, new: u64) -> Proc
+        ensures made { IsWrite key (key_write.Change old new) result }
+        ensures begins { next_of result ≡ act.Begin }
+    {
+        Proc::Write(Write::new(key, KeyWrite::Change(old, new)))
     }
 
     /// A process that is to list the page whose low is the key in its parent, which is of that level.
@@ -118,8 +125,7 @@ impl Process for Proc {
     fn next(&self) -> Action {
         match self {
             Proc::Find(process) => process.next(),
-            Proc::Insert(process) => process.next(),
-            Proc::Delete(process) => process.next(),
+            Proc::Write(process) => process.next(),
             Proc::Post(process) => process.next(),
             Proc::Part(process) => process.next(),
             Proc::Compress(process) => process.next(),
@@ -131,8 +137,7 @@ impl Process for Proc {
     fn needs(&self) -> Option<(u32, u32)> {
         match self {
             Proc::Find(process) => process.needs(),
-            Proc::Insert(process) => process.needs(),
-            Proc::Delete(process) => process.needs(),
+            Proc::Write(process) => process.needs(),
             Proc::Post(process) => process.needs(),
             Proc::Part(process) => process.needs(),
             Proc::Compress(process) => process.needs(),
@@ -144,8 +149,7 @@ impl Process for Proc {
     fn answer(&self) -> Option<Answer> {
         match self {
             Proc::Find(process) => process.answer(),
-            Proc::Insert(process) => process.answer(),
-            Proc::Delete(process) => process.answer(),
+            Proc::Write(process) => process.answer(),
             Proc::Post(process) => process.answer(),
             Proc::Part(process) => process.answer(),
             Proc::Compress(process) => process.answer(),
@@ -157,8 +161,7 @@ impl Process for Proc {
     fn took(&mut self, seen: Seen) {
         match self {
             Proc::Find(process) => process.took(seen),
-            Proc::Insert(process) => process.took(seen),
-            Proc::Delete(process) => process.took(seen),
+            Proc::Write(process) => process.took(seen),
             Proc::Post(process) => process.took(seen),
             Proc::Part(process) => process.took(seen),
             Proc::Compress(process) => process.took(seen),

@@ -7,8 +7,6 @@
 //! operations on B*-trees with overtaking" (JCSS 33, 1986). Nothing is allocated, and a search carries no pages.
 #![tactic(auto)]
 
-mod deleting;
-mod inserting;
 mod kinds;
 mod lowering;
 mod parts;
@@ -17,6 +15,7 @@ mod posts;
 mod reclaiming;
 mod searching;
 mod walking;
+mod writing;
 
 pub use bl_page::Words;
 pub use bl_proc_base::{
@@ -24,8 +23,6 @@ pub use bl_proc_base::{
     row_in, step_in,
 };
 pub use bl_proc_compress::{Compress, CompressReply, CompressStage};
-pub use deleting::{Delete, DeleteReply, DeleteStage, Removed};
-pub use inserting::{Insert, InsertReply, InsertStage};
 pub use kinds::Proc;
 pub use lowering::{Lower, LowerStage};
 pub use parts::{Part, PartRows, PartStage, first_way};
@@ -33,3 +30,4 @@ pub use posting::{Post, PostReply, PostStage};
 pub use reclaiming::{Reclaim, ReclaimStage, Round};
 pub use searching::{Find, FindStage};
 pub use walking::Walk;
+pub use writing::{Noted, Write, WriteReply, WriteStage};

@@ -10,9 +10,9 @@ ghost use Rattle.bl_proc_base.specs.Onwards.{Leads};
 ghost use Rattle.bl_proc.specs.Levels.{MayReply};
 ghost use Rattle.bl_proc.specs.Posts.{post_reply, posted_answer, post_next_in, post_needs_in, post_answer_in, PostLacks, PostArrives, PostWalks, PostGoes, post_next, post_needs, post_answer, PostTakes};
 
-use crate::inserting::hint_to_post;
 use crate::posting::{Post, PostReply, PostStage};
 use crate::walking::Walk;
+use crate::writing::hint_to_post;
 use bl_page::{Inner, Page, Words, listed_with};
 use bl_proc_base::{
     Action, Answer, Approach, Came, Edit, Edited, Grew, Growth, Level, Outcome, Posted, Process,

@@ -1,7 +1,7 @@
--- The words of a page with a pair more or less.
+-- The words of a page with a pair more or less, or with another value in one.
 use Rattle.std.proofs.Common.{◌≡◌, ℕ, zero, suc, ◌+◌, ◌*◌, ◌-◌, ◌<◌, ◌≤◌, List, length, get_or, set, Some, sym, ap, subst, ◌∙◌, inl, inr, arith, ext_get_or, get_or-set_other, get_or-set_same, length-set}
 use Rattle.std.specs.Prelude.{replicate}
-use Rattle.std.proofs.lemmas.List.{length-append, length-replicate, get_or_past}
+use Rattle.std.proofs.lemmas.List.{length-append, length-replicate, get_or_past, set-get_or}
 use Rattle.std.proofs.lemmas.Bool.{cases_lt, cases_eq}
 use Rattle.bl_model.specs.Rows.{map_of}
 use Rattle.bl_page.specs.declared.page.Page.{Page}
@@ -13,11 +13,11 @@ use Rattle.bl_page.proofs.Lookups.{place-le}
 use Rattle.bl_page.proofs.Halving.{listed-before}
 use Rattle.bl_page.proofs.Once.{rows_again, children_again}
 use Rattle.bl_claims.specs.Pages.{IsTreePage}
-use Rattle.bl_rearrange.specs.Entered.{entered, dropped}
+use Rattle.bl_rearrange.specs.Entered.{entered, dropped, replaced}
 use Rattle.bl_rearrange.specs.Rearranged.{pairs_of}
-use Rattle.bl_rearrange.proofs.EnteredLemmas.{length-entered, length-dropped, length-dropped_le}
-use Rattle.bl_proc_base.specs.Respelled.{words_by, IsShiftedUp, IsShiftedDown}
-use Rattle.bl_proc_base.proofs.Shifts.{padded, length-entries, entered-below, entered-key, entered-word, entered-above, dropped-below, dropped-above}
+use Rattle.bl_rearrange.proofs.EnteredLemmas.{length-entered, length-dropped, length-dropped_le, length-replaced}
+use Rattle.bl_proc_base.specs.Respelled.{words_by, IsShiftedUp, IsShiftedDown, HasValueAt}
+use Rattle.bl_proc_base.proofs.Shifts.{padded, length-entries, entered-below, entered-key, entered-word, entered-above, dropped-below, dropped-above, replaced-there, replaced-other}
 
 long : (first low high right : ℕ) (es : List ℕ) → length es ≤ 28 → length (layout first low high right es) ≡ 32
 long first low high right es few = omega (arith, length-append es (replicate {A = ℕ} (28 - length es) 0), length-replicate {A = ℕ} (28 - length es) 0)
@@ -95,6 +95,23 @@ module _ (first low high right : ℕ) (pairs : List (ℕ × ℕ)) (old new : Lis
       let some = (listed-before 0 key value pairs rises listed).0 in
       relaid first low high right (first - 1) old (entries_of pairs) is new (entries_of (dropped key pairs)) size less (λ k lt. down.below k (omega arith)) (down_at value rises listed few down)
 
+  value_at : (word value : ℕ) → RisesFrom 0 pairs → map_of pairs key ≡ Some value → HasValueAt (place key pairs) word old new → (m : ℕ) → m < 28 → get_or new (4 + m) 0 ≡ get_or (entries_of (replaced key word pairs)) m 0
+  value_at word value rises listed has m lt =
+      let some = (listed-before 0 key value pairs rises listed).0 in
+      elim (cases_eq (m + 1) (2 * place key pairs)) [
+        | inl here ↦ (let e : 4 + m ≡ 3 + 2 * place key pairs = omega (arith, here) in
+            ap (λ (k : ℕ). get_or new k 0) e ∙ (has.there ∙ sym (replaced-there key word value 0 pairs m rises listed here)))
+        | inr other ↦ has.others (4 + m) (omega arith) (λ i. other (omega (arith, i))) ∙ (entry first low high right (entries_of pairs) old is m ∙ sym (replaced-other key word value 0 pairs m rises listed other))
+      ]
+
+  pub replaced_layout : (word value : ℕ) → RisesFrom 0 pairs → map_of pairs key ≡ Some value → length pairs ≤ 14 → HasValueAt (place key pairs) word old new → new ≡ layout first low high right (entries_of (replaced key word pairs))
+  replaced_layout word value rises listed few has =
+      let few' : length (entries_of (replaced key word pairs)) ≤ 28 = omega (arith, length-entries (replaced key word pairs), length-replaced key word pairs) in
+      let some = (listed-before 0 key value pairs rises listed).0 in
+      let front : (k : ℕ) → k < 4 → get_or new k 0 ≡ get_or old k 0 = λ k lt. has.others k (omega arith) (λ i. absurd (omega (arith, i, some))) in
+      let top : get_or new 0 0 ≡ first = front 0 (omega arith) ∙ ap (λ (w : List ℕ). get_or w 0 0) is in
+      sym (set-get_or new 0 0) ∙ (ap (set new 0) top ∙ relaid first low high right first old (entries_of pairs) is new (entries_of (replaced key word pairs)) size few' front (value_at word value rises listed has))
+
 module _ (key : ℕ) (old new : List ℕ) (top at : ℕ) (size : length new ≡ 32) (is_top : top ≡ get_or old 0 0) (is_at : at ≡ place key (pairs_in_words old)) where
   pub respelled_with : (c : Page) (word : ℕ) → IsTreePage c → old ≡ words_of c → length (pairs_of c) < 14 → IsShiftedUp at key word old new → set new 0 (top + 1) ≡ words_by c (entered key word (pairs_of c))
   respelled_with (page.Anchor a) word tree e room up = absurd tree
@@ -131,6 +148,21 @@ module _ (key : ℕ) (old new : List ℕ) (top at : ℕ) (size : length new ≡ 
       ap (λ (z : ℕ). set new 0 (z - 1)) first ∙ (dropped_layout (head 3 i.level (length rows)) i.low i.high i.right rows old new e size key value i.order listed (omega (arith, i.few)) (subst (λ (z : ℕ). IsShiftedDown z old new) there down)
       ∙ ap (λ (z : ℕ). layout z i.low i.high i.right (entries_of (dropped key rows))) (ap (λ (z : ℕ). z - 1) (sym first) ∙ less))
   respelled_without (page.Dead d) value tree e listed down = absurd tree
+
+module _ (key : ℕ) (old new : List ℕ) (at : ℕ) (size : length new ≡ 32) (is_at : at ≡ place key (pairs_in_words old)) where
+  pub respelled_value : (c : Page) (word value : ℕ) → IsTreePage c → old ≡ words_of c → map_of (pairs_of c) key ≡ Some value → HasValueAt at word old new → new ≡ words_by c (replaced key word (pairs_of c))
+  respelled_value (page.Anchor a) word value tree e listed has = absurd tree
+  respelled_value (page.Leaf l) word value tree e listed has =
+      let rows = l.rows.items in
+      let there : at ≡ place key rows = is_at ∙ (ap (λ (w : List ℕ). place key (pairs_in_words w)) e ∙ ap (place key) (rows_again l)) in
+      replaced_layout (head 2 0 (length rows)) l.low l.high l.right rows old new e size key word value l.order listed (omega (arith, l.few)) (subst (λ (z : ℕ). HasValueAt z word old new) there has)
+      ∙ ap (λ (z : ℕ). layout (head 2 0 z) l.low l.high l.right (entries_of (replaced key word rows))) (sym (length-replaced key word rows))
+  respelled_value (page.Inner i) word value tree e listed has =
+      let rows = i.children.items in
+      let there : at ≡ place key rows = is_at ∙ (ap (λ (w : List ℕ). place key (pairs_in_words w)) e ∙ ap (place key) (children_again i)) in
+      replaced_layout (head 3 i.level (length rows)) i.low i.high i.right rows old new e size key word value i.order listed (omega (arith, i.few)) (subst (λ (z : ℕ). HasValueAt z word old new) there has)
+      ∙ ap (λ (z : ℕ). layout (head 3 i.level z) i.low i.high i.right (entries_of (replaced key word rows))) (sym (length-replaced key word rows))
+  respelled_value (page.Dead d) word value tree e listed has = absurd tree
 
 -- the place of a listed key
 pub place_within : (c : Page) (words : List ℕ) (key value at : ℕ) → IsTreePage c → words ≡ words_of c → map_of (pairs_of c) key ≡ Some value → at ≡ place key (pairs_in_words words) → (0 < at) × (at ≤ 14)

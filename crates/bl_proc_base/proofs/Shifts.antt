@@ -1,5 +1,5 @@
--- The entries of pairs with one more, and with one less, by their indices.
-use Rattle.std.proofs.Common.{◌≡◌, ℕ, zero, suc, ◌+◌, ◌*◌, ◌<◌, ◌≤◌, List, [], ◌∷◌, ◌++◌, length, get_or, Some, true, false, refl, inl, inr, arith}
+-- The entries of pairs with one more, with one less, and with another word in one, by their indices.
+use Rattle.std.proofs.Common.{◌≡◌, ◌≢◌, ℕ, zero, suc, ◌+◌, ◌-◌, ◌*◌, ◌<◌, ◌≤◌, List, [], ◌∷◌, ◌++◌, length, get_or, Some, true, false, refl, sym, subst, inl, inr, arith}
 use Rattle.std.specs.Prelude.{nat_lt, ◌==◌, replicate}
 use Rattle.std.proofs.lemmas.Bool.{cases_lt, cases_eq}
 use Rattle.bl_model.specs.Rows.{map_of}
@@ -7,7 +7,7 @@ use Rattle.bl_page.specs.Words.{entries_of}
 use Rattle.bl_page.specs.Pairs.{RisesFrom, place}
 use Rattle.bl_page.proofs.Lookups.{listed-least}
 use Rattle.bl_page.proofs.Halving.{listed-before}
-use Rattle.bl_rearrange.specs.Entered.{entered, dropped}
+use Rattle.bl_rearrange.specs.Entered.{entered, dropped, replaced}
 
 -- behind entries stand zeros, as behind the end of a list
 zeros : (n m : ℕ) → get_or (replicate {A = ℕ} n 0) m 0 ≡ 0
@@ -116,3 +116,54 @@ module _ (key value : ℕ) where
         let some = (listed-before (pair.0 + 1) key value pairs rises.1 rest).0 in
         rw d (above_by pair pairs (λ k le. dropped-above (pair.0 + 1) pairs k rises.1 rest le) m some (omega (arith, h')))
   ]
+
+module _ (key word value : ℕ) where
+  pub replaced-there : (least : ℕ) (pairs : List (ℕ × ℕ)) (m : ℕ) → RisesFrom least pairs → map_of pairs key ≡ Some value → m + 1 ≡ 2 * place key pairs → get_or (entries_of (replaced key word pairs)) m 0 ≡ word
+  replaced-there least [] m rises is h = absurd cc
+  replaced-there least (pair ∷ pairs) m rises is h = elim (cases_eq pair.0 key) [
+    | inl same ↦
+        let none : place key pairs ≡ 0 = place-none key (pair.0 + 1) pairs (omega (arith, same)) rises.1 in
+        let e : nat_lt key pair.0 ≡ false = grind (arith, same) in
+        let d : (pair.0 == key) ≡ true = grind (arith, same) in
+        let h' = rw e at h in
+        let one : m ≡ 1 = omega (arith, h', none) in
+        rw (d, one) refl
+    | inr other ↦
+        let rest : map_of pairs key ≡ Some value = grind (arith, is, other) in
+        let after = listed-least (pair.0 + 1) key value pairs rises.1 rest in
+        let e : nat_lt key pair.0 ≡ false = grind (arith, after) in
+        let d : (pair.0 == key) ≡ false = grind (arith, other) in
+        let h' = rw e at h in
+        let some = (listed-before (pair.0 + 1) key value pairs rises.1 rest).0 in
+        let k : m ≡ suc (suc (m - 2)) = omega (arith, h', some) in
+        rw d (subst (λ n. get_or (pair.0 ∷ pair.1 ∷ entries_of (replaced key word pairs)) n 0 ≡ word) (sym k) (replaced-there (pair.0 + 1) pairs (m - 2) rises.1 rest (omega (arith, h', some))))
+  ]
+
+  pub replaced-other : (least : ℕ) (pairs : List (ℕ × ℕ)) (m : ℕ) → RisesFrom least pairs → map_of pairs key ≡ Some value → m + 1 ≢ 2 * place key pairs → get_or (entries_of (replaced key word pairs)) m 0 ≡ get_or (entries_of pairs) m 0
+  replaced-other least [] m rises is h = refl
+  replaced-other least (pair ∷ pairs) m rises is h = elim (cases_eq pair.0 key) [
+    | inl same ↦
+        let none : place key pairs ≡ 0 = place-none key (pair.0 + 1) pairs (omega (arith, same)) rises.1 in
+        let e : nat_lt key pair.0 ≡ false = grind (arith, same) in
+        let d : (pair.0 == key) ≡ true = grind (arith, same) in
+        let h' = rw e at h in
+        rw d (but_one pair pairs same m (λ i. h' (omega (arith, i, none))))
+    | inr other ↦
+        let rest : map_of pairs key ≡ Some value = grind (arith, is, other) in
+        let after = listed-least (pair.0 + 1) key value pairs rises.1 rest in
+        let e : nat_lt key pair.0 ≡ false = grind (arith, after) in
+        let d : (pair.0 == key) ≡ false = grind (arith, other) in
+        let h' = rw e at h in
+        rw d (behind_first pair pairs (λ k n. replaced-other (pair.0 + 1) pairs k rises.1 rest n) m h')
+  ]
+    where
+      but_one : (pair : ℕ × ℕ) (pairs : List (ℕ × ℕ)) → pair.0 ≡ key → (k : ℕ) → k ≢ 1 → get_or (key ∷ word ∷ entries_of pairs) k 0 ≡ get_or (pair.0 ∷ pair.1 ∷ entries_of pairs) k 0
+      but_one pair pairs same zero n = sym same
+      but_one pair pairs same (suc zero) n = absurd (n refl)
+      but_one pair pairs same (suc (suc k)) n = refl
+
+      behind_first : (pair : ℕ × ℕ) (pairs : List (ℕ × ℕ)) → ((k : ℕ) → k + 1 ≢ 2 * place key pairs → get_or (entries_of (replaced key word pairs)) k 0 ≡ get_or (entries_of pairs) k 0)
+          → (k : ℕ) → k + 1 ≢ 2 * (place key pairs + 1) → get_or (pair.0 ∷ pair.1 ∷ entries_of (replaced key word pairs)) k 0 ≡ get_or (pair.0 ∷ pair.1 ∷ entries_of pairs) k 0
+      behind_first pair pairs rest zero n = refl
+      behind_first pair pairs rest (suc zero) n = refl
+      behind_first pair pairs rest (suc (suc k)) n = rest k (λ i. n (omega (arith, i)))

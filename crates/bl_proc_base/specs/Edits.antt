@@ -2,7 +2,7 @@
 use Rattle.std.specs.Prelude.{◌≡◌, ℕ, Option, None, Some}
 use Rattle.bl_page.specs.declared.page.Page.{Page}
 use Rattle.bl_rearrange.specs.declared.fitted.Fitted.TheVariants.{Fits, Split}
-use Rattle.bl_rearrange.specs.Rearranged.{IsFitted, IsWithout}
+use Rattle.bl_rearrange.specs.Rearranged.{IsFitted, IsWithout, IsWithValue}
 use Rattle.bl_proc_base.specs.declared.acts.Action.{Action}
 use Rattle.bl_proc_base.specs.declared.acts.Action.TheVariants as act
 use Rattle.bl_proc_base.specs.declared.acts.Seen.{Seen}
@@ -42,6 +42,11 @@ EntersPair x c key word edit = ⊥
 abbrev pub DropsPair : ℕ → Page → ℕ → Edit → Type 0
 DropsPair x c key (Putting y page) = (y ≡ x) × IsWithout c key page
 DropsPair x c key edit = ⊥
+
+-- The key, which page x lists, which is c, is to have that value in place of its own.
+abbrev pub GivesValue : ℕ → Page → ℕ → ℕ → Edit → Type 0
+GivesValue x c key value (Putting y page) = (y ≡ x) × IsWithValue c key value page
+GivesValue x c key value edit = ⊥
 
 abbrev pub Changes : Edit → Seen → Edited → Type 0
 Changes (Putting x page) seen.Done (On new) = new ≡ Opening x outcome.Edited

@@ -1,5 +1,5 @@
 -- The words of a page whose pairs are others.
-use Rattle.std.specs.Prelude.{◌≡◌, ℕ, ◌+◌, ◌*◌, ◌<◌, ◌≤◌, List, [], length, slice_index}
+use Rattle.std.specs.Prelude.{◌≡◌, ◌≢◌, ℕ, ◌+◌, ◌*◌, ◌<◌, ◌≤◌, List, [], length, slice_index}
 use Rattle.bl_page.specs.declared.page.Page.{Page}
 use Rattle.bl_page.specs.declared.page.Page.TheVariants.{Anchor, Leaf, Inner, Dead}
 use Rattle.bl_page.specs.Words.{head, layout, entries_of}
@@ -17,6 +17,11 @@ pub record IsShiftedUp (place key word : ℕ) (old new : List ℕ) : Type 0 wher
   pub key_there : slice_index new (4 + 2 * place) ≡ key
   pub word_there : slice_index new (5 + 2 * place) ≡ word
   pub above : (k : ℕ) → 4 + 2 * place ≤ k → k < 30 → slice_index new (k + 2) ≡ slice_index old k
+
+-- The pair before that place has that word in place of its own.
+pub record HasValueAt (place word : ℕ) (old new : List ℕ) : Type 0 where
+  pub there : slice_index new (3 + 2 * place) ≡ word
+  pub others : (k : ℕ) → k < 32 → k ≢ 3 + 2 * place → slice_index new k ≡ slice_index old k
 
 -- The pair before that place is gone, and what stood behind it stands one pair further down.
 pub record IsShiftedDown (place : ℕ) (old new : List ℕ) : Type 0 where

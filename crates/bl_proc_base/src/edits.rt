@@ -1,6 +1,6 @@
 //! The steps of a change.
 
-ghost use Rattle.std.specs.Prelude.{◌≡◌, ◌≤◌, None};
+ghost use Rattle.std.specs.Prelude.{◌≡◌, ◌≤◌, None, IsSome};
 ghost use Rattle.bl_model.specs.Rows.{map_of};
 ghost use Rattle.bl_page.specs.Pages.{Covers};
 ghost use Rattle.bl_page.specs.Pairs.{IsChild};
@@ -9,14 +9,14 @@ ghost use Rattle.bl_proc_base.specs.declared.acts.Seen.TheVariants as seen;
 ghost use Rattle.bl_proc_base.specs.declared.editing.Edit.TheVariants as edit;
 ghost use Rattle.bl_proc_base.specs.declared.editing.Edited.TheVariants as changed;
 ghost use Rattle.bl_proc_base.specs.Given.{Gives};
-ghost use Rattle.bl_proc_base.specs.Edits.{edit_next, edit_needs, EntersPair, DropsPair, Changes};
+ghost use Rattle.bl_proc_base.specs.Edits.{edit_next, edit_needs, EntersPair, DropsPair, GivesValue, Changes};
 
 use crate::acts::{Action, Seen};
 use crate::editing::{Edit, Edited, Full, Outcome, Splitting};
 use crate::reading::count_of;
 use bl_model::limits::MOST_PAIRS;
 use bl_page::Page;
-use bl_rearrange::{Fitted, with_pair, without};
+use bl_rearrange::{Fitted, with_pair, with_value, without};
 
 /// A pair is to enter the page.
 pub fn entering(at: u32, page: Page, key: u64, word: u64) -> Edit
@@ -47,6 +47,15 @@ pub fn dropping(at: u32, page: Page, key: u64) -> Edit
     ensures { DropsPair at page key result }
 {
     Edit::Putting(at, without(page, key))
+}
+
+/// A key that the page lists is to have that value in place of its own.
+pub fn replacing(at: u32, page: Page, key: u64, value: u64) -> Edit
+    requires listed { IsSome (map_of (pairs_of page) key) }
+    requires fits { MayHold page value }
+    ensures { GivesValue at page key value result }
+{
+    Edit::Putting(at, with_value(page, key, value))
 }
 
 /// The full page is split.

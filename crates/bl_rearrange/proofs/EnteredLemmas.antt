@@ -1,13 +1,14 @@
--- Pairs that rise, with one more or one less.
-use Rattle.std.proofs.Common.{◌≡◌, ◌≢◌, ℕ, ◌+◌, ◌≤◌, List, [], ◌∷◌, length, None, Some, true, false, refl, ap, add-one, inl, inr, arith}
+-- Pairs that rise, with one more or one less, or with another word in one.
+use Rattle.std.proofs.Common.{◌≡◌, ◌≢◌, ℕ, suc, ◌+◌, ◌-◌, ◌≤◌, List, set, [], ◌∷◌, length, None, Some, true, false, refl, ap, sym, subst, ◌∙◌, add-one, inl, inr, arith}
 use Rattle.std.specs.Prelude.{nat_lt, ◌==◌}
 use Rattle.std.specs.List.{insert}
 use Rattle.std.proofs.lemmas.Bool.{cases_lt, cases_eq}
 use Rattle.bl_model.specs.Map.{with_pair, without_key, SameMap}
 use Rattle.bl_model.specs.Rows.{map_of}
 use Rattle.bl_page.specs.Pairs.{RisesFrom, AllWithin, BeginsWith, NameChildren, IsWithin, IsChild, place}
-use Rattle.bl_page.proofs.Lookups.{map_of_below}
-use Rattle.bl_rearrange.specs.Entered.{entered, dropped}
+use Rattle.bl_page.proofs.Lookups.{map_of_below, listed-least}
+use Rattle.bl_page.proofs.Halving.{listed-before, place-none}
+use Rattle.bl_rearrange.specs.Entered.{entered, dropped, replaced}
 
 -- what `insert` at the place of the key gives
 pub insert-place : (key word : ℕ) (pairs : List (ℕ × ℕ)) → insert pairs (place key pairs) (key, word) ≡ entered key word pairs
@@ -125,4 +126,73 @@ pub map_of-dropped : (key least : ℕ) (pairs : List (ℕ × ℕ)) → RisesFrom
 map_of-dropped key least pairs h j = elim (cases_eq j key) [
   | inl same ↦ grind (arith, map_of-dropped_same key least pairs h, same)
   | inr other ↦ grind (arith, map_of-dropped_other key j pairs other, other)
+]
+
+-- ---- another word in one pair
+
+-- what a write at the place before the key's gives
+pub set-place : (key word value least : ℕ) (pairs : List (ℕ × ℕ)) → RisesFrom least pairs → map_of pairs key ≡ Some value → set pairs (place key pairs - 1) (key, word) ≡ replaced key word pairs
+set-place key word value least [] h listed = absurd cc
+set-place key word value least (pair ∷ pairs) h listed = elim (cases_eq pair.0 key) [
+  | inl same ↦
+      let e : (pair.0 == key) ≡ true = grind arith in
+      let none : place key pairs ≡ 0 = place-none (pair.0 + 1) key pairs h.1 (omega (arith, same)) in
+      let at : place key (pair ∷ pairs) - 1 ≡ 0 = (let f : nat_lt key pair.0 ≡ false = grind arith in grind (arith, f, none)) in
+      rw (e, at) refl
+  | inr other ↦
+      let e : (pair.0 == key) ≡ false = grind (arith, other) in
+      let rest : map_of pairs key ≡ Some value = grind (arith, listed, other) in
+      let more = listed-before (pair.0 + 1) key value pairs h.1 rest in
+      let f : nat_lt key pair.0 ≡ false = grind (arith, listed-least (pair.0 + 1) key value pairs h.1 rest) in
+      let at : place key (pair ∷ pairs) - 1 ≡ suc (place key pairs - 1) = (let g : place key (pair ∷ pairs) ≡ place key pairs + 1 = grind (arith, f) in omega (arith, g, more.0)) in
+      rw (e, at) (ap (λ t. pair ∷ t) (set-place key word value (pair.0 + 1) pairs h.1 rest))
+]
+
+pub length-replaced : (key word : ℕ) (pairs : List (ℕ × ℕ)) → length (replaced key word pairs) ≡ length pairs
+length-replaced key word [] = refl
+length-replaced key word (pair ∷ pairs) = grind (arith, length-replaced key word pairs)
+
+pub RisesFrom-replaced : (key word least : ℕ) (pairs : List (ℕ × ℕ)) → RisesFrom least pairs → RisesFrom least (replaced key word pairs)
+RisesFrom-replaced key word least [] h = tt
+RisesFrom-replaced key word least (pair ∷ pairs) h = elim (cases_eq pair.0 key) [
+  | inl same ↦ let e : (pair.0 == key) ≡ true = grind arith in rw e (subst (λ k. (least ≤ k) × RisesFrom (k + 1) pairs) same h)
+  | inr other ↦ let e : (pair.0 == key) ≡ false = grind (arith, other) in rw e (h.0, RisesFrom-replaced key word (pair.0 + 1) pairs h.1)
+]
+
+pub AllWithin-replaced : (key word low high : ℕ) (pairs : List (ℕ × ℕ)) → AllWithin low high pairs → AllWithin low high (replaced key word pairs)
+AllWithin-replaced key word low high [] h = tt
+AllWithin-replaced key word low high (pair ∷ pairs) h = elim (cases_eq pair.0 key) [
+  | inl same ↦ let e : (pair.0 == key) ≡ true = grind arith in rw e (subst (λ k. IsWithin low high k × AllWithin low high pairs) same h)
+  | inr other ↦ let e : (pair.0 == key) ≡ false = grind (arith, other) in rw e (h.0, AllWithin-replaced key word low high pairs h.1)
+]
+
+pub BeginsWith-replaced : (key word low : ℕ) (pairs : List (ℕ × ℕ)) → BeginsWith low pairs → BeginsWith low (replaced key word pairs)
+BeginsWith-replaced key word low [] h = absurd h
+BeginsWith-replaced key word low (pair ∷ pairs) h = elim (cases_eq pair.0 key) [
+  | inl same ↦ let e : (pair.0 == key) ≡ true = grind arith in rw e (sym same ∙ h)
+  | inr other ↦ let e : (pair.0 == key) ≡ false = grind (arith, other) in rw e h
+]
+
+pub NameChildren-replaced : (key word : ℕ) (pairs : List (ℕ × ℕ)) → IsChild word → NameChildren pairs → NameChildren (replaced key word pairs)
+NameChildren-replaced key word [] is h = tt
+NameChildren-replaced key word (pair ∷ pairs) is h = elim (cases_eq pair.0 key) [
+  | inl same ↦ let e : (pair.0 == key) ≡ true = grind arith in rw e (is, h.1)
+  | inr other ↦ let e : (pair.0 == key) ≡ false = grind (arith, other) in rw e (h.0, NameChildren-replaced key word pairs is h.1)
+]
+
+pub map_of-replaced_same : (key word value : ℕ) (pairs : List (ℕ × ℕ)) → map_of pairs key ≡ Some value → map_of (replaced key word pairs) key ≡ Some word
+map_of-replaced_same key word value [] h = absurd cc
+map_of-replaced_same key word value (pair ∷ pairs) h = elim (cases_eq pair.0 key) [
+  | inl same ↦ grind (arith, same)
+  | inr other ↦ (let rest : map_of pairs key ≡ Some value = grind (arith, h, other) in grind (arith, map_of-replaced_same key word value pairs rest, other))
+]
+
+pub map_of-replaced_other : (key word j : ℕ) (pairs : List (ℕ × ℕ)) → j ≢ key → map_of (replaced key word pairs) j ≡ map_of pairs j
+map_of-replaced_other key word j [] n = refl
+map_of-replaced_other key word j (pair ∷ pairs) n = grind (arith, map_of-replaced_other key word j pairs n)
+
+pub map_of-replaced : (key word value : ℕ) (pairs : List (ℕ × ℕ)) → map_of pairs key ≡ Some value → SameMap (with_pair (map_of pairs) key word) (map_of (replaced key word pairs))
+map_of-replaced key word value pairs h j = elim (cases_eq j key) [
+  | inl same ↦ grind (arith, map_of-replaced_same key word value pairs h, same)
+  | inr other ↦ grind (arith, map_of-replaced_other key word j pairs other, other)
 ]

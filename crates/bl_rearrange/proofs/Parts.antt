@@ -4,8 +4,8 @@ use Rattle.std.specs.Prelude.{IsSome}
 use Rattle.std.proofs.lemmas.Bool.{false≢true}
 use Rattle.bl_model.specs.Rows.{map_of}
 use Rattle.bl_page.specs.Pairs.{RisesFrom, AllWithin, BeginsWith, NameChildren, IsWithin, IsChild}
-use Rattle.bl_rearrange.specs.Entered.{entered, dropped, IsEntered, IsDropped, AreHalves}
-use Rattle.bl_rearrange.proofs.EnteredLemmas.{length-entered, map_of-entered, RisesFrom-entered, AllWithin-entered, BeginsWith-entered, NameChildren-entered, length-dropped_le, length-dropped, RisesFrom-dropped, AllWithin-dropped, BeginsWith-dropped, NameChildren-dropped, map_of-dropped}
+use Rattle.bl_rearrange.specs.Entered.{entered, dropped, replaced, IsEntered, IsDropped, IsReplaced, AreHalves}
+use Rattle.bl_rearrange.proofs.EnteredLemmas.{length-entered, map_of-entered, RisesFrom-entered, AllWithin-entered, BeginsWith-entered, NameChildren-entered, length-dropped_le, length-dropped, RisesFrom-dropped, AllWithin-dropped, BeginsWith-dropped, NameChildren-dropped, map_of-dropped, length-replaced, RisesFrom-replaced, AllWithin-replaced, BeginsWith-replaced, NameChildren-replaced, map_of-replaced}
 use Rattle.bl_rearrange.proofs.Cuts.{cut, NameChildren-append, RisesFrom-lower}
 
 pub entered_is : (low high key word : ℕ) (old : List (ℕ × ℕ)) → RisesFrom 0 old → AllWithin low high old → IsWithin low high key → map_of old key ≡ None
@@ -47,7 +47,7 @@ halves_are low high key word old (x ∷ xs) (y ∷ ys) rises within covers absen
       upper_map = λ j le. parts.upper j le ∙ ap (λ pairs. map_of pairs j) is ∙ whole.map j;
     }
 
-some_value : (o : Option ℕ) → IsSome o → (value : ℕ) × (o ≡ Some value)
+pub some_value : (o : Option ℕ) → IsSome o → (value : ℕ) × (o ≡ Some value)
 some_value (Some value) h = (value, refl)
 some_value None h = absurd (false≢true h)
 
@@ -60,4 +60,14 @@ dropped_is low high key old rises within = record {
   first = λ other h. BeginsWith-dropped key low old other h;
   children = λ h. NameChildren-dropped key old h;
   map = map_of-dropped key 0 old rises;
+}
+
+pub replaced_is : (low high key word : ℕ) (old : List (ℕ × ℕ)) → RisesFrom 0 old → AllWithin low high old → IsSome (map_of old key) → IsReplaced low high key word old (replaced key word old)
+replaced_is low high key word old rises within listed = record {
+  count = length-replaced key word old;
+  rising = RisesFrom-replaced key word 0 old rises;
+  within = AllWithin-replaced key word low high old within;
+  first = λ h. BeginsWith-replaced key word low old h;
+  children = λ is h. NameChildren-replaced key word old is h;
+  map = (let some = some_value (map_of old key) listed in map_of-replaced key word some.0 old some.1);
 }

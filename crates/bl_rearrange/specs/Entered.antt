@@ -1,4 +1,4 @@
--- Pairs that rise, with one pair more or one less.
+-- Pairs that rise, with one pair more or one less, or with another word in one.
 use Rattle.std.specs.Prelude.{◌≡◌, ◌≢◌, ℕ, ◌+◌, ◌<◌, ◌≤◌, List, [], ◌∷◌, length, if◌then◌else◌, nat_lt, ◌==◌, IsSome}
 use Rattle.bl_model.specs.Map.{with_pair, without_key, SameMap}
 use Rattle.bl_model.specs.Rows.{map_of}
@@ -13,6 +13,11 @@ entered key word (pair ∷ pairs) = if nat_lt key pair.0 then (key, word) ∷ pa
 abbrev pub dropped : ℕ → List (ℕ × ℕ) → List (ℕ × ℕ)
 dropped key [] = []
 dropped key (pair ∷ pairs) = if pair.0 == key then pairs else pair ∷ dropped key pairs
+
+-- the pairs with that word in the one with the key
+abbrev pub replaced : ℕ → ℕ → List (ℕ × ℕ) → List (ℕ × ℕ)
+replaced key word [] = []
+replaced key word (pair ∷ pairs) = if pair.0 == key then (key, word) ∷ pairs else pair ∷ replaced key word pairs
 
 -- Pairs within those bounds that rise, now with one more.
 pub record IsEntered (low high key word : ℕ) (old new : List (ℕ × ℕ)) : Type 0 where
@@ -49,3 +54,12 @@ pub record IsDropped (low high key : ℕ) (old new : List (ℕ × ℕ)) : Type 0
   pub first : key ≢ low → BeginsWith low old → BeginsWith low new
   pub children : NameChildren old → NameChildren new
   pub map : SameMap (without_key (map_of old) key) (map_of new)
+
+-- Pairs within those bounds that rise, now with another word in one.
+pub record IsReplaced (low high key word : ℕ) (old new : List (ℕ × ℕ)) : Type 0 where
+  pub count : length new ≡ length old
+  pub rising : RisesFrom 0 new
+  pub within : AllWithin low high new
+  pub first : BeginsWith low old → BeginsWith low new
+  pub children : IsChild word → NameChildren old → NameChildren new
+  pub map : SameMap (with_pair (map_of old) key word) (map_of new)

@@ -59,6 +59,12 @@ pub record IsWithout (page : Page) (key : ℕ) (new : Page) : Type 0 where
   pub count : IsSome (map_of (pairs_of page) key) → length (pairs_of new) + 1 ≡ length (pairs_of page)
   pub pairs : SameMap (without_key (map_of (pairs_of page)) key) (map_of (pairs_of new))
 
+-- The key, which the page lists, has that word in it, and nothing else in the page has changed.
+pub record IsWithValue (page : Page) (key word : ℕ) (new : Page) : Type 0 where
+  pub frame : KeepsFrame page new
+  pub count : length (pairs_of new) ≡ length (pairs_of page)
+  pub pairs : SameMap (with_pair (map_of (pairs_of page)) key word) (map_of (pairs_of new))
+
 -- What fits is in the page, beside all that was there. Of 15 pairs the lower 8 stay and the upper 7 go to the new
 -- page; the key that parts them is the first of the upper ones, and above the low of the page.
 abbrev pub IsFitted : Page → ℕ → ℕ → ℕ → Fitted → Type 0

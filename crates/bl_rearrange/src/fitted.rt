@@ -1,4 +1,4 @@
-//! Pages with a pair more or less.
+//! Pages with a pair more or less, or with another word in one.
 
 ghost use Rattle.std.specs.Prelude.{◌≡◌, ◌≢◌, ◌<◌, length, None, IsSome};
 ghost use Rattle.bl_model.specs.Map.{without_key, SameMap};
@@ -7,9 +7,9 @@ ghost use Rattle.bl_page.specs.Pairs.{IsChild, IsWithin};
 ghost use Rattle.bl_page.specs.Pages.{Covers};
 ghost use Rattle.bl_page.specs.declared.page.Page.{Page};
 ghost use Rattle.bl_page.specs.declared.page.Page.TheVariants as page;
-ghost use Rattle.bl_rearrange.specs.Rearranged.{IsFitted, IsWithout, MayHold, MayLose, pairs_of};
+ghost use Rattle.bl_rearrange.specs.Rearranged.{IsFitted, IsWithout, IsWithValue, MayHold, MayLose, pairs_of};
 
-use crate::pairs::{Halves, dropped_pair, entered_pair, split_with};
+use crate::pairs::{Halves, dropped_pair, entered_pair, replaced_pair, split_with};
 use bl_model::limits::MOST_PAIRS;
 use bl_page::{Inner, Leaf, Page};
 
@@ -183,6 +183,63 @@ pub fn without(page: Page, key: u64) -> Page
     match page {
         Page::Leaf(leaf) => Page::Leaf(leaf_without(leaf, key)),
         Page::Inner(inner) => Page::Inner(inner_without(inner, key)),
+        Page::Anchor(_) | Page::Dead(_) => unreachable!(),
+    }
+}
+
+/// A leaf with another value at a key that it lists.
+fn leaf_with_value(leaf: Leaf, key: u64, value: u64) -> Leaf
+    requires { IsSome (map_of leaf.rows.items key) }
+    ensures { IsWithValue (page.Leaf leaf) key value (page.Leaf result) }
+{
+    let Leaf {
+        low,
+        high,
+        right,
+        rows,
+    } = leaf;
+    let rows = replaced_pair(rows, low, high, key, value);
+    Leaf {
+        low,
+        high,
+        right,
+        rows,
+    }
+}
+
+/// An inner page with another child at a key that it lists.
+fn inner_with_value(inner: Inner, key: u64, child: u64) -> Inner
+    requires listed { IsSome (map_of inner.children.items key) }
+    requires child { IsChild child }
+    ensures { IsWithValue (page.Inner inner) key child (page.Inner result) }
+{
+    let Inner {
+        level,
+        low,
+        high,
+        right,
+        children,
+    } = inner;
+    let children = replaced_pair(children, low, high, key, child);
+    Inner {
+        level,
+        low,
+        high,
+        right,
+        children,
+    }
+}
+
+/// The page with that value at a key that it lists: of a row of a leaf, or of a child of an inner page, where it is a
+/// page's number. All else is kept.
+pub fn with_value(page: Page, key: u64, value: u64) -> Page
+    requires listed { IsSome (map_of (pairs_of page) key) }
+    requires value { MayHold page value }
+    ensures { IsWithValue page key value result }
+{
+    match page {
+        Page::Leaf(leaf) => Page::Leaf(leaf_with_value(leaf, key, value)),
+        Page::Inner(inner) => Page::Inner(inner_with_value(inner, key, value)),
         Page::Anchor(_) | Page::Dead(_) => unreachable!(),
     }
 }

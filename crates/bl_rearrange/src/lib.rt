@@ -1,5 +1,5 @@
-//! Rearranging the pairs of pages: one page with a pair more, in two pages where it is full, or with a pair less; two
-//! neighbours merged into one page, or evened out.
+//! Rearranging the pairs of pages: one page with a pair more, in two pages where it is full, with a pair less, or with
+//! another value in one; two neighbours merged into one page, or evened out.
 //!
 //! Promised to whoever moves pages of a tree: the pairs together are kept, with the new one or without the dropped one,
 //! seen as a map from keys; kind, level, bounds and links are said page by page. Nothing is allocated, and no page is
@@ -12,6 +12,6 @@ mod neighbours;
 mod pairs;
 mod sides;
 
-pub use fitted::{Fitted, with_pair, without};
+pub use fitted::{Fitted, with_pair, with_value, without};
 pub use neighbours::{evened, merged};
 pub use sides::{Evened, Side};

@@ -1,10 +1,10 @@
-//! Pairs with rising keys, with one more or one less.
+//! Pairs with rising keys, with one more or one less, or with another word in one.
 
-ghost use Rattle.std.specs.Prelude.{◌≡◌, ◌+◌, ◌<◌, ◌++◌, length, MatchOption, None};
+ghost use Rattle.std.specs.Prelude.{◌≡◌, ◌+◌, ◌<◌, ◌++◌, length, MatchOption, None, IsSome};
 ghost use Rattle.std.specs.List.{remove};
 ghost use Rattle.bl_model.specs.Rows.{map_of};
 ghost use Rattle.bl_page.specs.Pairs.{RisesFrom, AllWithin, IsWithin};
-ghost use Rattle.bl_rearrange.specs.Entered.{entered, dropped, IsEntered, IsDropped, AreHalves};
+ghost use Rattle.bl_rearrange.specs.Entered.{entered, dropped, replaced, IsEntered, IsDropped, IsReplaced, AreHalves};
 
 use arrayvec::ArrayVec;
 use bl_page::{Pairs, place_of};
@@ -126,4 +126,26 @@ pub fn dropped_pair(pairs: Pairs, low: u64, high: u64, key: u64) -> Pairs
     ensures { IsDropped low high key pairs.items result.items }
 {
     dropped_at_place(pairs, key)
+}
+
+/// The pairs with that word in the one with the key.
+fn replaced_at_place(pairs: Pairs, key: u64, word: u64) -> Pairs
+    requires rising { RisesFrom 0 pairs.items }
+    requires listed { IsSome (map_of pairs.items key) }
+    ensures { result.items ≡ replaced key word pairs.items }
+{
+    let mut pairs = pairs;
+    let place = place_of(pairs.as_slice(), key);
+    pairs.as_mut_slice()[place - 1] = (key, word);
+    pairs
+}
+
+/// The pairs within these bounds with that word in the one with the key.
+pub fn replaced_pair(pairs: Pairs, low: u64, high: u64, key: u64, word: u64) -> Pairs
+    requires rising { RisesFrom 0 pairs.items }
+    requires within { AllWithin low high pairs.items }
+    requires listed { IsSome (map_of pairs.items key) }
+    ensures { IsReplaced low high key word pairs.items result.items }
+{
+    replaced_at_place(pairs, key, word)
 }
