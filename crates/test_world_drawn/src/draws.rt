@@ -115,11 +115,31 @@ impl Draws {
         }
     }
 
-    /// An insertion or a deletion, by the season. Most deletions are from one quarter of the rows, and many insertions into
-    /// the one before or behind it.
+    /// A change of the value that a key has, or now and then of another one. Few of them put the value that is there.
+    fn change_of_value(&mut self, tree: &Tree, key: u64, started: usize) -> Job {
+        let there = tree.value_at(key).unwrap_or(0);
+        let old = if self.below(4) == 0 {
+            there.wrapping_add(1)
+        } else {
+            there
+        };
+        let new = if self.below(8) == 0 {
+            old
+        } else {
+            started as u64
+        };
+        Job::Change(key, old, new)
+    }
+
+    /// An insertion or a deletion, by the season, or a change of a value. Most deletions are from one quarter of the rows, and
+    /// many insertions into the one before or behind it.
     fn change(&mut self, tree: &Tree, size: &Size, started: usize) -> Job {
         let seasons = size.seasons(started);
         let quarter = (seasons / 2).wrapping_add(size.pages as usize);
+        if self.below(12) == 0 {
+            let key = self.key_of(tree, size.keys, quarter);
+            return self.change_of_value(tree, key, started);
+        }
         let insertions = if seasons & 1 == 0 { 15 } else { 4 };
         if self.below(16) >= insertions {
             return Job::Delete(self.key_of(tree, size.keys, quarter));

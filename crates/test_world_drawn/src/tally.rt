@@ -12,6 +12,8 @@ struct Operations {
     inserted: u32,
     present: u32,
     deleted: u32,
+    changed: u32,
+    differing: u32,
     parts: u32,
     without_room: u32,
 }
@@ -100,6 +102,8 @@ pub(crate) const NONE: Tally = Tally {
         inserted: 0,
         present: 0,
         deleted: 0,
+        changed: 0,
+        differing: 0,
         parts: 0,
         without_room: 0,
     },
@@ -150,6 +154,8 @@ impl Operations {
             Reply::Inserted => &mut self.inserted,
             Reply::Present(_) => &mut self.present,
             Reply::Deleted(_) => &mut self.deleted,
+            Reply::Changed => &mut self.changed,
+            Reply::Differs(_) => &mut self.differing,
             Reply::Rows(_, _) => &mut self.parts,
             Reply::NoRoom => &mut self.without_room,
         };
@@ -162,6 +168,8 @@ impl Operations {
             .min(self.inserted)
             .min(self.present)
             .min(self.deleted)
+            .min(self.changed)
+            .min(self.differing)
             .min(self.parts)
             .min(self.without_room)
     }
