@@ -1,9 +1,9 @@
 //! What a write of one key does, by what the key has.
 
-ghost use Rattle.std.specs.Prelude.{◌≡◌};
-ghost use Rattle.bl_model.specs.Writes.{decided, IsDecided};
+ghost use Rattle.std.specs.Prelude.{◌≡◌, MatchOption};
+ghost use Rattle.bl_model.specs.Writes.{write_op, IsRead, decided, IsDecided};
 
-use crate::operation::KeyReply;
+use crate::operation::{KeyReply, Op};
 
 /// An operation on one key that may change what the key has.
 #[derive(Clone, Copy, Debug, PartialEq, Eq)]
@@ -34,6 +34,20 @@ pub enum Effect {
 pub struct Decided {
     pub effect: Effect,
     pub reply: KeyReply,
+}
+
+impl Op {
+    /// The key and the write of it, if the operation is one.
+    pub fn write(&self) -> Option<(u64, KeyWrite)>
+        ensures { MatchOption result (IsRead self.now) (λ t. write_op t.0 t.1 ≡ self.now) }
+    {
+        match *self {
+            Op::Insert(key, value) => Some((key, KeyWrite::Insert(value))),
+            Op::Delete(key) => Some((key, KeyWrite::Delete)),
+            Op::Change(key, old, new) => Some((key, KeyWrite::Change(old, new))),
+            Op::Find(_) | Op::Part(_) => None,
+        }
+    }
 }
 
 /// What a write does and answers where its key has that value, or none.

@@ -43,12 +43,20 @@ impl Proc {
         Proc::Find(Find::new(key))
     }
 
+    /// A process that is to write the key so.
+    pub fn write(key: u64, write: KeyWrite) -> Proc
+        ensures made { IsWrite key write result }
+        ensures begins { next_of result ≡ act.Begin }
+    {
+        Proc::Write(Write::new(key, write))
+    }
+
     /// A process that is to put the value at the key, where the key has none.
     pub fn insert(key: u64, value: u64) -> Proc
         ensures made { IsWrite key (key_write.Insert value) result }
         ensures begins { next_of result ≡ act.Begin }
     {
-        Proc::Write(Write::new(key, KeyWrite::Insert(value)))
+        Proc::write(key, KeyWrite::Insert(value))
     }
 
     /// A process that is to take the key and its value away.
@@ -56,7 +64,7 @@ impl Proc {
         ensures made { IsWrite key key_write.Delete result }
         ensures begins { next_of result ≡ act.Begin }
     {
-        Proc::Write(Write::new(key, KeyWrite::Delete))
+        Proc::write(key, KeyWrite::Delete)
     }
 
     /// A process that is to put the new value at the key in place of the old one, where the key has that.
@@ -64,7 +72,7 @@ impl Proc {
         ensures made { IsWrite key (key_write.Change old new) result }
         ensures begins { next_of result ≡ act.Begin }
     {
-        Proc::Write(Write::new(key, KeyWrite::Change(old, new)))
+        Proc::write(key, KeyWrite::Change(old, new))
     }
 
     /// A process that is to list the page whose low is the key in its parent, which is of that level.

@@ -1,7 +1,5 @@
 -- The hint beside the reply of a process means what it says.
-use Rattle.std.proofs.Common.{◌≡◌, ℕ, [], Option, Some, None, true, false, sym, subst, inl, inr, refl, arith}
-use Rattle.std.specs.Prelude.{◌==◌}
-use Rattle.std.proofs.lemmas.Bool.{cases_eq}
+use Rattle.std.proofs.Common.{◌≡◌, ℕ, [], Option, Some, None, sym, subst}
 use Rattle.bl_model.specs.declared.operation.Reply.{Reply}
 use Rattle.bl_claims.specs.Trails.{Trail}
 use Rattle.bl_claims.specs.Meanings.{writes_of}
@@ -13,12 +11,8 @@ use Rattle.bl_proc.specs.declared.searching.FindStage.TheVariants as find
 use Rattle.bl_proc.specs.declared.parts.PartStage.{PartStage}
 use Rattle.bl_proc.specs.declared.parts.PartStage.TheVariants as part
 use Rattle.bl_model.specs.declared.deciding.KeyWrite.{KeyWrite}
-use Rattle.bl_model.specs.declared.deciding.KeyWrite.TheVariants.{Insert, Delete, Change}
-use Rattle.bl_model.specs.declared.operation.KeyReply.TheVariants.{Changed, Differs}
-use Rattle.bl_model.specs.declared.deciding.Effect.TheVariants.{Keep, Replace}
-use Rattle.bl_model.specs.declared.deciding.Decided.{Decided}
-use Rattle.bl_model.specs.Replies.{reply_of}
-use Rattle.bl_model.specs.Writes.{decided, effect_of, replied}
+use Rattle.bl_model.specs.Writes.{effect_of, replied}
+use Rattle.bl_model.proofs.Decisions.{is_decided}
 use Rattle.bl_proc.specs.declared.writing.WriteReply.{WriteReply}
 use Rattle.bl_proc.specs.declared.writing.WriteReply.TheVariants as written
 use Rattle.bl_proc.specs.declared.writing.WriteStage.{WriteStage}
@@ -29,7 +23,7 @@ use Rattle.bl_proc.specs.Searches.{find_answer_in}
 use Rattle.bl_proc.specs.Parts.{part_answer_in}
 use Rattle.bl_proc.specs.Writes.{write_answer, write_answer_in}
 use Rattle.bl_proc.specs.Processes.{answer_of}
-use Rattle.bl_proc_meanings.specs.Hinted.{MeansWritten}
+use Rattle.bl_proc_meanings.specs.Hinted.{WroteFor, MeansWritten}
 use Rattle.bl_proc_invariant.specs.Beside.{MeansBeside}
 use Rattle.bl_proc_invariant.specs.Logs.{effect_log, written_log, write_log, proc_log}
 
@@ -42,26 +36,9 @@ same_reply p q h i e = cc
 same_hint : (p q : Reply) (h i : Option Hint) → answer.Op p h ≡ answer.Op q i → h ≡ i
 same_hint p q h i e = cc
 
-as_decided : (d e : Decided) → d ≡ e → (h : Option Hint) (marks : Trail) → (effect_log e.effect h marks → MeansWritten (reply_of e.reply) h marks) → effect_log d.effect h marks → MeansWritten (reply_of d.reply) h marks
-as_decided d e is h marks = subst (λ z. effect_log z.effect h marks → MeansWritten (reply_of z.reply) h marks) (sym is)
-
 -- what was done with the leaf, and what is answered for it
 effect_means : (does : KeyWrite) (there : Option ℕ) (h : Option Hint) (marks : Trail) → effect_log (effect_of does there) h marks → MeansWritten (replied does there) h marks
-effect_means (Insert value) None h marks = λ log. log
-effect_means (Insert value) (Some there) h marks = λ log. log
-effect_means Delete None h marks = λ log. log
-effect_means Delete (Some there) h marks = λ log. log
-effect_means (Change old new) None h marks = λ log. log
-effect_means (Change old new) (Some there) h marks = elim (cases_eq there old) [
-  | inl same ↦
-      let e : (there == old) ≡ true = grind (arith, same) in
-      let is : decided (Change old new) (Some there) ≡ record { effect = Replace new; reply = Changed } = rw e refl in
-      as_decided (decided (Change old new) (Some there)) (record { effect = Replace new; reply = Changed }) is h marks (λ log. log)
-  | inr other ↦
-      let e : (there == old) ≡ false = grind (arith, other) in
-      let is : decided (Change old new) (Some there) ≡ record { effect = Keep; reply = Differs there } = rw e refl in
-      as_decided (decided (Change old new) (Some there)) (record { effect = Keep; reply = Differs there }) is h marks (λ log. log)
-]
+effect_means does there h marks = subst (λ d. WroteFor d h marks) (sym (is_decided does there).told)
 
 write_beside : (does : KeyWrite) (r : WriteReply) (reply : Reply) (h : Option Hint) (marks : Trail) → write_answer does r ≡ answer.Op reply h → written_log does r marks → MeansWritten reply h marks
 write_beside does (written.Done there hint) reply h marks e log =

@@ -1,14 +1,12 @@
 -- Every turn of a write of one key keeps a world good.
 use Rattle.std.proofs.Common.{ℕ, ◌≡◌, ◌≢◌, Option, Some, None, true, arith, ap, sym, ◌∙◌, refl, subst, inl, inr}
 use Rattle.std.proofs.lemmas.Bool.{false≢true}
-use Rattle.bl_model.specs.declared.operation.Reply.TheVariants as reply
 use Rattle.bl_model.specs.declared.deciding.KeyWrite.{KeyWrite}
-use Rattle.bl_model.specs.declared.deciding.KeyWrite.TheVariants.{Insert, Delete, Change}
 use Rattle.bl_model.specs.declared.deciding.Effect.{Effect}
 use Rattle.bl_model.specs.declared.deciding.Effect.TheVariants.{Keep, Enter, Remove, Replace}
-use Rattle.bl_model.specs.Map.{Map, map_step}
-use Rattle.bl_model.specs.Writes.{write_op, effect_of, effected}
-use Rattle.bl_model.proofs.Decisions.{is_decided}
+use Rattle.bl_model.specs.Map.{Map}
+use Rattle.bl_model.specs.Writes.{effect_of, effected}
+use Rattle.bl_model.proofs.Decisions.{is_decided, refused_step}
 use Rattle.bl_page.specs.declared.page.Page.{Page}
 use Rattle.bl_page.specs.Machine.{Name, State, Act}
 use Rattle.bl_page.specs.Machine.Act.{Get}
@@ -39,12 +37,6 @@ use Rattle.bl_proc_invariant.proofs.Entering.{performs_learns, performs_places, 
 use Rattle.bl_proc_invariant.proofs.Ends.{begin_turn, end_turn}
 use Rattle.bl_proc_unique.proofs.WayCases.{edit_case}
 use Rattle.bl_proc_unique.proofs.KindCases.{WriteCase}
-
--- no room leaves the map
-refused_step : (key : ℕ) (does : KeyWrite) (m : Map) (k : ℕ) → m k ≡ map_step (write_op key does) reply.NoRoom m k
-refused_step key (Insert value) m k = refl
-refused_step key Delete m k = refl
-refused_step key (Change old new) m k = refl
 
 pub write_fine : (key : ℕ) (does : KeyWrite) (noted : Noted) → IsAim (write_aim key does noted)
 write_fine key does noted = record {

@@ -39,15 +39,14 @@ use Rattle.bl_proc_compress.specs.Compressions.{Decides, other}
 use Rattle.bl_model.specs.declared.deciding.KeyWrite.{KeyWrite}
 use Rattle.bl_model.specs.declared.deciding.Effect.{Effect}
 use Rattle.bl_model.specs.declared.deciding.Effect.TheVariants.{Keep, Enter, Remove, Replace}
-use Rattle.bl_model.specs.Writes.{effect_of}
+use Rattle.bl_model.specs.Writes.{effect_of, deed_of}
 use Rattle.bl_proc.specs.declared.writing.Noted.{Noted}
 use Rattle.bl_proc.specs.declared.writing.WriteReply.{WriteReply}
 use Rattle.bl_proc.specs.declared.writing.WriteReply.TheVariants as written
 use Rattle.bl_proc.specs.declared.writing.WriteStage.{WriteStage}
 use Rattle.bl_proc.specs.declared.writing.WriteStage.TheVariants as write
-use Rattle.bl_proc.specs.Writes.{post_hint}
-use Rattle.bl_proc_base.specs.Thin.{thin_low, thin_hint}
-use Rattle.bl_proc_meanings.specs.Hinted.{WroteLeaf}
+use Rattle.bl_proc_base.specs.Thin.{thin_low}
+use Rattle.bl_proc_meanings.specs.Hinted.{WroteLeaf, WroteFor}
 use Rattle.bl_proc_meanings.specs.Lowered.{MeansLowered}
 use Rattle.bl_proc_invariant.specs.LoweringLog.{lowering_log}
 use Rattle.bl_proc_invariant.specs.Knowing.{Run}
@@ -179,10 +178,7 @@ MaySplit (Enter value) = Unit {0}
 MaySplit effect = ⊥
 
 abbrev pub effect_log : Effect → Option Hint → Trail → Type 0
-effect_log Keep hint marks = Unwritten marks × (hint ≡ None)
-effect_log (Enter value) hint marks = (separator : Option ℕ) × WroteLeaf separator marks × (hint ≡ post_hint 1 separator)
-effect_log Remove hint marks = (x : ℕ) × (page : Page) × WroteHeld marks x (Put x page ∷ []) × (hint ≡ thin_hint 1 (thin_low page))
-effect_log (Replace value) hint marks = (x : ℕ) × (page : Page) × WroteHeld marks x (Put x page ∷ []) × (hint ≡ None)
+effect_log effect hint marks = WroteFor (deed_of effect) hint marks
 
 abbrev pub written_log : KeyWrite → WriteReply → Trail → Type 0
 written_log does (written.Done there hint) marks = effect_log (effect_of does there) hint marks
