@@ -4,11 +4,12 @@ ghost use Rattle.std.specs.Prelude.{◌≡◌};
 ghost use Rattle.bl_model.specs.declared.operation.Op.TheVariants as op;
 ghost use Rattle.bl_index.specs.Calls.{first_of, IsPassOf, IsSamePass, number_of, trail};
 ghost use Rattle.bl_model.specs.Replies.{reply_of};
+ghost use Rattle.bl_model.specs.Writes.{write_op};
 ghost use Rattle.bl_map.specs.Works.{Works, Adds};
 ghost use Rattle.bl_map.specs.Scans.{Scanned};
 
 use crate::upkeep::{Waiting, follow, sweep, wait_for_frames};
-use bl_index::{Index, KeyReply, Pass, ScanFault};
+use bl_index::{Index, KeyReply, KeyWrite, Pass, ScanFault};
 use std::alloc::AllocError;
 use std::sync::Wait;
 
@@ -27,60 +28,22 @@ pub(crate) fn find<R: Wait>(rt: &R, index: &Index, pass: &mut Pass, key: u64) ->
     unreachable!()
 }
 
-/// Inserts the value if the key is absent, and lists the pages that were split.
-pub(crate) fn insert<R: Wait>(
+/// Writes a key, and does what is due behind it: lists the pages that were split, and merges the page where few rows are left.
+pub(crate) fn write<R: Wait>(
     rt: &R,
     index: &Index,
     pass: &mut Pass,
     waiting: &mut Waiting,
     key: u64,
-    value: u64,
+    write: KeyWrite,
 ) -> KeyReply
     requires { IsPassOf index.now pass.old }
     ensures same { IsSamePass pass.old pass.new }
-    ensures works { Works (first_of index.now) (number_of pass.old) (op.Insert key value) (reply_of result) (trail pass.old) (trail pass.new) }
+    ensures works { Works (first_of index.now) (number_of pass.old) (write_op key write) (reply_of result) (trail pass.old) (trail pass.new) }
 {
     wait_for_frames(index, pass);
-    let (reply, hint) = index.insert(rt, pass, key, value);
+    let (reply, hint) = index.write(rt, pass, key, write);
     follow(rt, index, pass, waiting, hint);
-    sweep(index, pass);
-    reply
-}
-
-/// Takes the key and its value away, and merges the page where few rows are left.
-pub(crate) fn delete<R: Wait>(
-    rt: &R,
-    index: &Index,
-    pass: &mut Pass,
-    waiting: &mut Waiting,
-    key: u64,
-) -> KeyReply
-    requires { IsPassOf index.now pass.old }
-    ensures same { IsSamePass pass.old pass.new }
-    ensures works { Works (first_of index.now) (number_of pass.old) (op.Delete key) (reply_of result) (trail pass.old) (trail pass.new) }
-{
-    wait_for_frames(index, pass);
-    let (reply, hint) = index.delete(rt, pass, key);
-    follow(rt, index, pass, waiting, hint);
-    sweep(index, pass);
-    reply
-}
-
-/// Puts the new value at the key in place of the old one, where the key has that.
-pub(crate) fn change<R: Wait>(
-    rt: &R,
-    index: &Index,
-    pass: &mut Pass,
-    key: u64,
-    old: u64,
-    new: u64,
-) -> KeyReply
-    requires { IsPassOf index.now pass.old }
-    ensures same { IsSamePass pass.old pass.new }
-    ensures works { Works (first_of index.now) (number_of pass.old) (op.Change key old new) (reply_of result) (trail pass.old) (trail pass.new) }
-{
-    wait_for_frames(index, pass);
-    let reply = index.change(rt, pass, key, old, new);
     sweep(index, pass);
     reply
 }

@@ -3,6 +3,7 @@
 ghost use Rattle.std.specs.Prelude.{◌≡◌};
 ghost use Rattle.bl_model.specs.declared.operation.Op.TheVariants as op;
 ghost use Rattle.bl_model.specs.Replies.{reply_of};
+ghost use Rattle.bl_model.specs.Writes.{write_op};
 ghost use Rattle.bl_index.specs.Calls.{IsPassOf};
 ghost use Rattle.bl_map.specs.Seats.{IsPassOf-prop};
 
@@ -10,7 +11,7 @@ use crate::calls;
 use crate::map::Map;
 use crate::upkeep::{self, Waiting};
 use arrayvec::ArrayVec;
-use bl_index::{KeyReply, Pass};
+use bl_index::{KeyReply, KeyWrite, Pass};
 use std::alloc::AllocError;
 use std::sync::Wait;
 
@@ -46,19 +47,21 @@ impl<'a> Handle<'a> {
         calls::find(rt, &self.map.index, &mut self.pass, key)
     }
 
+    /// Writes a key: what each of the calls below does.
+    pub fn write<R: Wait>(&mut self, rt: &R, key: u64, write: KeyWrite) -> KeyReply
+        ensures same { IsSameHandle self.old self.new }
+        ensures called { HasCalled (write_op key write) (reply_of result) self.old self.new }
+    {
+        let index = &self.map.index;
+        calls::write(rt, index, &mut self.pass, &mut self.waiting, key, write)
+    }
+
     /// Inserts the value if the key is absent: `Inserted`, or `Present` with the value that stays, or `NoRoom`.
     pub fn insert<R: Wait>(&mut self, rt: &R, key: u64, value: u64) -> KeyReply
         ensures same { IsSameHandle self.old self.new }
         ensures called { HasCalled (op.Insert key value) (reply_of result) self.old self.new }
     {
-        calls::insert(
-            rt,
-            &self.map.index,
-            &mut self.pass,
-            &mut self.waiting,
-            key,
-            value,
-        )
+        self.write(rt, key, KeyWrite::Insert(value))
     }
 
     /// Takes a key away: `Deleted` with its value, or `Absent`, or `NoRoom`.
@@ -66,7 +69,7 @@ impl<'a> Handle<'a> {
         ensures same { IsSameHandle self.old self.new }
         ensures called { HasCalled (op.Delete key) (reply_of result) self.old self.new }
     {
-        calls::delete(rt, &self.map.index, &mut self.pass, &mut self.waiting, key)
+        self.write(rt, key, KeyWrite::Delete)
     }
 
     /// Puts the new value at a key that has the old one: `Changed`, or `Differs` with the value that stays, or `Absent`, or `NoRoom`.
@@ -74,7 +77,7 @@ impl<'a> Handle<'a> {
         ensures same { IsSameHandle self.old self.new }
         ensures called { HasCalled (op.Change key old new) (reply_of result) self.old self.new }
     {
-        calls::change(rt, &self.map.index, &mut self.pass, key, old, new)
+        self.write(rt, key, KeyWrite::Change(old, new))
     }
 
     /// Appends the rows from a key on and below an end, if there is one, by rising keys. It is no snapshot: each key is answered as the

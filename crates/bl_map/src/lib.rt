@@ -14,6 +14,6 @@ mod handle;
 mod map;
 mod upkeep;
 
-pub use bl_index::{CloseFault, KeyReply, OpenFault, Pass as Seat};
+pub use bl_index::{CloseFault, KeyReply, KeyWrite, OpenFault, Pass as Seat};
 pub use handle::Handle;
 pub use map::Map;

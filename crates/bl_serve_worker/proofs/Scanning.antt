@@ -8,7 +8,7 @@ use Rattle.bl_model.specs.declared.operation.Entry.{Entry}
 use Rattle.bl_model.specs.declared.operation.Next.TheVariants.{More, End}
 use Rattle.bl_model.specs.declared.operation.Op.TheVariants.{Part}
 use Rattle.bl_model.specs.declared.operation.Reply.{Reply}
-use Rattle.bl_model.specs.declared.operation.Reply.TheVariants.{Found, Absent, Inserted, Present, Deleted, Changed, Differs, Rows, NoRoom}
+use Rattle.bl_model.specs.declared.operation.Reply.TheVariants.{Rows}
 use Rattle.bl_serve_lines.specs.Lines.{AreParts, rows_below}
 use Rattle.bl_model.specs.Parts.{rows_of, ended_at}
 use Rattle.bl_serve_lines.specs.Text.{row_text}
@@ -35,14 +35,7 @@ rows_alone first pass from reply old new w none = only_rows _ from reply (answer
 behind : (from next : ℕ) (reply : Reply) → IsBehind from (ended_at reply) → ended_at reply ≡ Some next → from < next
 behind from next (Rows rows (More key)) further is = let e : key ≡ next = cc in omega (arith, further, e)
 behind from next (Rows rows End) further is = let no : ⊥ = cc in absurd no
-behind from next (Found v) further is = let no : ⊥ = cc in absurd no
-behind from next Absent further is = let no : ⊥ = cc in absurd no
-behind from next Inserted further is = let no : ⊥ = cc in absurd no
-behind from next (Present v) further is = let no : ⊥ = cc in absurd no
-behind from next (Deleted v) further is = let no : ⊥ = cc in absurd no
-behind from next Changed further is = let no : ⊥ = cc in absurd no
-behind from next (Differs v) further is = let no : ⊥ = cc in absurd no
-behind from next NoRoom further is = let no : ⊥ = cc in absurd no
+behind from next other further is = let no : ⊥ = cc in absurd no
 
 -- the next part begins behind it
 pub goes_further : (first : List (Option Page)) (pass from high next : ℕ) (before after : List ℕ) (old new : Trail) → WritesPart first pass from high (More next) before after old new → from < next

@@ -4,16 +4,17 @@ ghost use Rattle.std.specs.Prelude.{◌≡◌, suc, ◌+◌, ◌<◌, ◌≤◌,
 ghost use Rattle.bl_model.specs.declared.operation.Op.TheVariants as op;
 ghost use Rattle.bl_index.specs.Calls.{first_of, IsPassOf, IsSamePass, number_of, trail};
 ghost use Rattle.bl_model.specs.Replies.{reply_of};
+ghost use Rattle.bl_model.specs.Writes.{write_op, IsRead};
 ghost use Rattle.bl_serve_worker.specs.Works.{Works, Adds};
 ghost use Rattle.bl_serve_worker.specs.Answering.{AnswersLine, AnswersLines, WritesPart, WritesRows};
 
-use crate::compressing::{enqueue, post};
+use crate::compressing::tidy;
 use crate::frames::wait_for_frames;
 use crate::gate::Gate;
 use crate::service::Service;
 use bl_hints::Hints;
 use bl_index::{Index, KeyReply, Pass};
-use bl_model::{Next, Op, Reply};
+use bl_model::{KeyWrite, Next, Op, Reply};
 use bl_serve_lines::print::{
     Response, push_key_line, push_line, push_number, push_rows_below, push_word_line,
 };
@@ -71,45 +72,23 @@ fn sweep_if_due(index: &Index, pass: &mut Pass, may_sweep: bool)
     }
 }
 
-/// Puts the value at the key, where the key has none, and posts the split if there was one.
-fn insert<R: Wait>(
+/// Writes a key. A split is posted, and a hint of a thin page waits for a compressor.
+fn write<R: Wait>(
     rt: &R,
     index: &Index,
     hints: &Hints,
     pass: &mut Pass,
     key: u64,
-    value: u64,
+    write: KeyWrite,
 ) -> KeyReply
     requires { IsPassOf index.now pass.old }
     ensures same { IsSamePass pass.old pass.new }
-    ensures works { Works (first_of index.now) (number_of pass.old) (op.Insert key value) (reply_of result) (trail pass.old) (trail pass.new) }
+    ensures works { Works (first_of index.now) (number_of pass.old) (write_op key write) (reply_of result) (trail pass.old) (trail pass.new) }
 {
     wait_for_frames(index, pass);
-    let (reply, hint) = index.insert(rt, pass, key, value);
-    post(rt, index, hints, pass, hint);
+    let (reply, hint) = index.write(rt, pass, key, write);
+    tidy(rt, index, hints, pass, hint);
     reply
-}
-
-/// Takes the key and its value away. A hint of a thin page waits for a compressor.
-fn delete<R: Wait>(rt: &R, index: &Index, hints: &Hints, pass: &mut Pass, key: u64) -> KeyReply
-    requires { IsPassOf index.now pass.old }
-    ensures same { IsSamePass pass.old pass.new }
-    ensures works { Works (first_of index.now) (number_of pass.old) (op.Delete key) (reply_of result) (trail pass.old) (trail pass.new) }
-{
-    wait_for_frames(index, pass);
-    let (reply, hint) = index.delete(rt, pass, key);
-    enqueue(rt, hints, hint);
-    reply
-}
-
-/// Puts the new value at the key in place of the old one, where the key has that.
-fn change<R: Wait>(rt: &R, index: &Index, pass: &mut Pass, key: u64, old: u64, new: u64) -> KeyReply
-    requires { IsPassOf index.now pass.old }
-    ensures same { IsSamePass pass.old pass.new }
-    ensures works { Works (first_of index.now) (number_of pass.old) (op.Change key old new) (reply_of result) (trail pass.old) (trail pass.new) }
-{
-    wait_for_frames(index, pass);
-    index.change(rt, pass, key, old, new)
 }
 
 /// Writes the rows of a part that lie below an end, and says where the part ended.
@@ -198,6 +177,30 @@ fn list<R: Wait>(
     push_line(text, number, &Response::Replied(reply))
 }
 
+/// Carries a search or a part out, and answers it.
+fn look<R: Wait>(
+    rt: &R,
+    index: &Index,
+    pass: &mut Pass,
+    number: u64,
+    op: Op,
+    text: &mut Vec<u8>,
+) -> Result<(), AllocError>
+    requires own { IsPassOf index.now pass.old }
+    requires read { IsRead op }
+    ensures same { IsSamePass pass.old pass.new }
+    ensures answers { OnOk result (AnswersLine (first_of index.now) (number_of pass.old) number (Some (Request.Ask op)) text.old.items text.new.items (trail pass.old) (trail pass.new)) }
+{
+    match op {
+        Op::Find(key) => {
+            let reply = find(rt, index, pass, key);
+            push_key_line(text, number, reply)
+        }
+        Op::Part(from) => list(rt, index, pass, number, from, text),
+        _ => unreachable!(),
+    }
+}
+
 /// Carries an operation out, and answers it.
 fn operate<R: Wait>(
     rt: &R,
@@ -212,24 +215,12 @@ fn operate<R: Wait>(
     ensures same { IsSamePass pass.old pass.new }
     ensures answers { OnOk result (AnswersLine (first_of index.now) (number_of pass.old) number (Some (Request.Ask op)) text.old.items text.new.items (trail pass.old) (trail pass.new)) }
 {
-    match op {
-        Op::Find(key) => {
-            let reply = find(rt, index, pass, key);
+    match op.write() {
+        Some((key, does)) => {
+            let reply = write(rt, index, hints, pass, key, does);
             push_key_line(text, number, reply)
         }
-        Op::Insert(key, value) => {
-            let reply = insert(rt, index, hints, pass, key, value);
-            push_key_line(text, number, reply)
-        }
-        Op::Delete(key) => {
-            let reply = delete(rt, index, hints, pass, key);
-            push_key_line(text, number, reply)
-        }
-        Op::Change(key, old, new) => {
-            let reply = change(rt, index, pass, key, old, new);
-            push_key_line(text, number, reply)
-        }
-        Op::Part(from) => list(rt, index, pass, number, from, text),
+        None => look(rt, index, pass, number, op, text),
     }
 }
 

@@ -62,6 +62,24 @@ pub(crate) fn post<R: Wait>(
     }
 }
 
+/// Does what is due behind a write: a split is posted, and a hint of a thin page waits for a compressor.
+pub(crate) fn tidy<R: Wait>(
+    rt: &R,
+    index: &Index,
+    hints: &Hints,
+    pass: &mut Pass,
+    hint: Option<Hint>,
+)
+    requires { IsPassOf index.now pass.old }
+    ensures same { IsSamePass pass.old pass.new }
+    ensures adds { Adds (first_of index.now) (number_of pass.old) (trail pass.old) (trail pass.new) }
+{
+    match hint {
+        Some(Hint::Thin { .. }) => enqueue(rt, hints, hint),
+        _ => post(rt, index, hints, pass, hint),
+    }
+}
+
 /// Takes top levels away that are not needed, one after another, where a compression may have left one: the top page had too few
 /// children to compress, or has one fewer now. Before each it waits for frames.
 fn lower<R: Wait>(rt: &R, index: &Index, pass: &mut Pass, squeezed: Squeezed)

@@ -1,0 +1,8 @@
+use Rattle.std.proofs.Common.{refl, ap}
+use Rattle.std.proofs.lemmas.Result.{on_ok_weaker}
+use Rattle.bl_serve_lines.specs.declared.request.Request.TheVariants.{Ask}
+use Rattle.bl_serve_worker.proofs.Lines.{asked_as}
+use Rattle.bl_serve_worker.proofs.answering.look.Goals as goal
+
+pub returns-in-Find-clause-answers : goal.returns-in-Find-clause-answers
+returns-in-Find-clause-answers g c = on_ok_weaker c.push_key_line.result (λ is. asked_as _ _ _ _ _ _ _ _ _ _ _ refl (ap Ask c.in-Find.is) c.find-reply.ensures.works is) c.push_key_line.ensures
