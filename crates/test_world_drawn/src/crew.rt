@@ -24,7 +24,8 @@ pub(crate) fn change_of(running: &mut Running, act: Act, tree: &Tree) -> Result<
             }
             Ok(Op::Delete(key))
         }
-        _ => Err("only insertions and deletions change rows"),
+        Job::Change(key, old, new) => Ok(Op::Change(key, old, new)),
+        _ => Err("only insertions, deletions and changes change rows"),
     }
 }
 

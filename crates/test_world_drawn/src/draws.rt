@@ -128,6 +128,18 @@ impl Draws {
         let key = self.key_of(tree, size.keys, quarter.wrapping_add(behind));
         Job::Insert(key.saturating_add(self.below(3)), started as u64)
     }
+
+    /// A change of a key. Mostly the key has a value, and mostly the change is from that one; now and then it is to the same.
+    fn change_of_value(&mut self, tree: &Tree, keys: u64, started: usize) -> Job {
+        let quarter = self.below(4) as usize;
+        let key = self.key_of(tree, keys, quarter);
+        let old = match tree.value_at(key) {
+            Some(value) if self.below(3) > 0 => value,
+            _ => self.below((started as u64).saturating_add(1)),
+        };
+        let new = if self.below(6) == 0 { old } else { started as u64 };
+        Job::Change(key, old, new)
+    }
 }
 
 /// The process that goes on alone for so many turns.
@@ -241,12 +253,13 @@ impl Lots {
 
     fn job_on_tree(&mut self, tree: &Tree, started: usize) -> Job {
         let key = self.draws.key(self.size.keys);
-        match self.draws.below(28) {
+        match self.draws.below(30) {
             0..=3 => Job::Find(key),
             4 | 5 => self.part(key),
             6 | 7 => self.post(tree),
             8..=11 => self.compression(tree),
             12 => Job::Lower,
+            13 | 14 => self.draws.change_of_value(tree, self.size.keys, started),
             _ => self.draws.change(tree, &self.size, started),
         }
     }

@@ -90,6 +90,10 @@ impl Twins {
                 Proc::insert(key, value),
             ),
             Job::Delete(key) => self.begin(Proc::delete(key), Proc::delete(key)),
+            Job::Change(key, old, new) => self.begin(
+                Proc::change(key, old, new),
+                Proc::change(key, old, new),
+            ),
             Job::Part(from) => self.begin(Proc::part(from), Proc::part(from)),
             Job::PartNear(from, page) => self.begin(part_near(from, page), part_near(from, page)),
             Job::Post(level, key) => self.enter_post(level, key),

@@ -15,6 +15,8 @@ pub enum Job {
     Find(u64),
     Insert(u64, u64),
     Delete(u64),
+    /// A change of that key from the one value to the other.
+    Change(u64, u64, u64),
     Post(u32, u64),
     Part(u64),
     /// A part from that key on that has a page in mind.
@@ -64,8 +66,11 @@ pub struct Running {
 fn reply_in(job: Job, value: Option<u64>) -> Option<Reply> {
     match (job, value) {
         (Job::Find(_), Some(value)) => Some(Reply::Found(value)),
-        (Job::Find(_) | Job::Delete(_), None) => Some(Reply::Absent),
+        (Job::Find(_) | Job::Delete(_) | Job::Change(_, _, _), None) => Some(Reply::Absent),
         (Job::Insert(_, _), Some(value)) => Some(Reply::Present(value)),
+        (Job::Change(_, old, _), Some(value)) if value != old => Some(Reply::Differs(value)),
+        // it puts the value that is there
+        (Job::Change(_, old, new), Some(_)) if old == new => Some(Reply::Changed),
         _ => None,
     }
 }
@@ -94,7 +99,7 @@ fn rights_of_part(tree: &Tree, from: u64, right: &mut Vec<Answer>) -> Result<(),
 /// Adds what are right answers in this tree, of a process that changes nothing.
 fn rights_in(tree: &Tree, job: Job, right: &mut Vec<Answer>) -> Result<(), Law> {
     match job {
-        Job::Find(key) | Job::Insert(key, _) | Job::Delete(key) => {
+        Job::Find(key) | Job::Insert(key, _) | Job::Delete(key) | Job::Change(key, _, _) => {
             match reply_in(job, tree.value_at(key)) {
                 Some(reply) => add(right, Answer::Op(reply, None)),
                 None => Ok(()),
