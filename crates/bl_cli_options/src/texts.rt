@@ -18,12 +18,14 @@ answer of a request was lost.";
 pub(crate) const ABOUT_SERVE: &str = "\
 Requests, a line each, in lower case with one space between words; numbers are 0
 to 18446744073709551615:
-  find K        found V, or absent
-  insert K V    inserted; or present V, with the value that stays; or noroom
-  delete K      deleted V, or absent; or noroom
-  scan LO HI    rows K=V K=V, the rows from key LO on and below key HI, by
-                rising keys
-  sync          synced: the end of a section
+  find K            found V, or absent
+  insert K V        inserted; or present V, with the value that stays; or noroom
+  delete K          deleted V, or absent; or noroom
+  change K OLD NEW  changed; or differs V, where V is not OLD and stays; or
+                    absent; or noroom
+  scan LO HI        rows K=V K=V, the rows from key LO on and below key HI, by
+                    rising keys
+  sync              synced: the end of a section
 Any other line is malformed. Each reply begins with the number of its line.
 Replies are written at each sync and at the end of the input. All requests
 before a sync are carried out before those after it; those between two syncs in
@@ -109,7 +111,7 @@ memory.";
 /// Of `replay`.
 pub(crate) const ABOUT_REPLAY: &str = "\
 The lines of a script; the first is `pages N`:
-  find K, insert K V, delete K, part K         each starts a process
+  find K, insert K V, delete K, change K OLD NEW, part K  each starts a process
   post L K, compress L K, reclaim X            so do these
   turn P, turn P X   one turn of process P; a take tries page X
   refuse P           process P is refused what it is about to reserve

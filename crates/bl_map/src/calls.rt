@@ -66,6 +66,25 @@ pub(crate) fn delete<R: Wait>(
     reply
 }
 
+/// Puts the new value at the key in place of the old one, where the key has that.
+pub(crate) fn change<R: Wait>(
+    rt: &R,
+    index: &Index,
+    pass: &mut Pass,
+    key: u64,
+    old: u64,
+    new: u64,
+) -> KeyReply
+    requires { IsPassOf index.now pass.old }
+    ensures same { IsSamePass pass.old pass.new }
+    ensures works { Works (first_of index.now) (number_of pass.old) (op.Change key old new) (reply_of result) (trail pass.old) (trail pass.new) }
+{
+    wait_for_frames(index, pass);
+    let reply = index.change(rt, pass, key, old, new);
+    sweep(index, pass);
+    reply
+}
+
 /// Appends the rows from a key on and below an end, if there is one. Where a part ran out of turns the scan goes on from there.
 pub(crate) fn scan<R: Wait>(
     rt: &R,

@@ -69,6 +69,14 @@ impl<'a> Handle<'a> {
         calls::delete(rt, &self.map.index, &mut self.pass, &mut self.waiting, key)
     }
 
+    /// Puts the new value at a key that has the old one: `Changed`, or `Differs` with the value that stays, or `Absent`, or `NoRoom`.
+    pub fn change<R: Wait>(&mut self, rt: &R, key: u64, old: u64, new: u64) -> KeyReply
+        ensures same { IsSameHandle self.old self.new }
+        ensures called { HasCalled (op.Change key old new) (reply_of result) self.old self.new }
+    {
+        calls::change(rt, &self.map.index, &mut self.pass, key, old, new)
+    }
+
     /// Appends the rows from a key on and below an end, if there is one, by rising keys. It is no snapshot: each key is answered as the
     /// map stood at some moment of the scan. Where memory is refused, the rows so far stay, and none behind them is left out before.
     pub fn scan<R: Wait>(

@@ -12,7 +12,7 @@ use Rattle.bl_proc_base.specs.declared.answers.Answer.{Answer}
 use Rattle.bl_proc.specs.declared.kinds.Proc.{Proc}
 use Rattle.bl_proc.specs.declared.kinds.Proc.TheVariants as proc
 use Rattle.bl_proc.specs.declared.parts.PartStage.TheVariants as part
-use Rattle.bl_proc.specs.Processes.{answer_of, IsFind, IsInsert, IsDelete, IsPost, IsPart, IsCompress, IsReclaim, IsLower}
+use Rattle.bl_proc.specs.Processes.{answer_of, IsFind, IsInsert, IsDelete, IsChange, IsPost, IsPart, IsCompress, IsReclaim, IsLower}
 use Rattle.bl_world.specs.declared.turns.Event.{Event}
 use Rattle.bl_world.specs.declared.turns.Turn.{Turn}
 use Rattle.bl_world.specs.declared.turns.Turn.TheVariants as turn
@@ -68,6 +68,7 @@ abbrev pub IsStart : Start → Proc → Type 0
 IsStart (start.Operation (op.Find key)) p = IsFind key p
 IsStart (start.Operation (op.Insert key value)) p = IsInsert key value p
 IsStart (start.Operation (op.Delete key)) p = IsDelete key p
+IsStart (start.Operation (op.Change key old new)) p = IsChange key old new p
 IsStart (start.Operation (op.Part from)) p = IsPart from p
 IsStart (start.PartNear from page) p = IsPartNear from page p
 IsStart (start.Post level key) p = IsPost level key p

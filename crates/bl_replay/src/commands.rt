@@ -30,6 +30,7 @@ fn process_of(start: Start) -> Proc
         Start::Operation(Op::Find(key)) => Proc::find(key),
         Start::Operation(Op::Insert(key, value)) => Proc::insert(key, value),
         Start::Operation(Op::Delete(key)) => Proc::delete(key),
+        Start::Operation(Op::Change(key, old, new)) => Proc::change(key, old, new),
         Start::Post { level, key } => Proc::post(level, key),
         Start::Operation(Op::Part(from)) => Proc::part(from),
         Start::PartNear { from, page } => Proc::Part(Part::near(from, page)),

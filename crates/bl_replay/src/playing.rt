@@ -18,7 +18,7 @@ use bl_world::World;
 use std::alloc::Global;
 use std::io::Write;
 
-/// The kinds of process that a script may start, beside searches, insertions, deletions and posts: all.
+/// The kinds of process that a script may start, beside searches, insertions, deletions, changes and posts: all.
 pub const PLAYED: Kinds = Kinds {
     part: true,
     compress: true,

@@ -14,7 +14,7 @@ use Rattle.bl_replay_script.specs.Steps.{GivesHead}
 some_unread : (unread bytes left : List ℕ) → 0 < length bytes → unread ≡ bytes ++ left → 0 < length unread
 some_unread unread bytes left some is = let same : length unread ≡ length bytes + length left = ap length is ∙ length-append bytes left in omega arith
 
-pub long_no_line : (unread bytes left : List ℕ) (End : Type 0) → HasNoLf bytes → 64 < length bytes → unread ≡ bytes ++ left → HasNoLine unread End × (0 < length unread)
+pub long_no_line : (unread bytes left : List ℕ) (End : Type 0) → HasNoLf bytes → 69 < length bytes → unread ≡ bytes ++ left → HasNoLine unread End × (0 < length unread)
 long_no_line unread bytes left End cut long is = (Long bytes left cut long is, some_unread unread bytes left (omega arith) is)
 
 pub rest_no_line : (unread bytes left : List ℕ) (End : Type 0) → HasNoLf bytes → 0 < length bytes → unread ≡ bytes ++ left → EndsRead bytes left End → HasNoLine unread End × (0 < length unread)

@@ -1,4 +1,4 @@
--- The text of a line of a script has no LF and at most 64 bytes, and two lines are cut at the same place.
+-- The text of a line of a script has no LF and at most 69 bytes, and two lines are cut at the same place.
 use Rattle.std.proofs.Common.{◌≡◌, ◌≢◌, ℕ, ◌<◌, ◌≤◌, ◌^◌, ◌==◌, ◌&&◌, List, [], ◌∷◌, ◌++◌, length, get_or, true, refl, ap, sym, ◌∙◌, length-append, decimal, codes, arith}
 use Rattle.std.specs.Prelude.{Bool, not, drop}
 use Rattle.std.proofs.Math.Seq.{get_or-append_seam}
@@ -9,11 +9,11 @@ use Rattle.std.proofs.lemmas.List.Elements.{All-nil, All-cons, All-head, All-tai
 use Rattle.std.proofs.lemmas.Str.Parse.{not_in_digits}
 use Rattle.bl_serve_lines.proofs.Numbers.{own}
 use Rattle.bl_serve_lines.specs.Lines.{HasNoLf}
-use Rattle.bl_replay_script.specs.Commands.{one, two}
+use Rattle.bl_replay_script.specs.Commands.{one, two, three}
 
 pub record IsPlain (text : List ℕ) : Type 0 where
   pub cut : HasNoLf text
-  pub short : length text ≤ 64
+  pub short : length text ≤ 69
 
 abbrev pub is_free : List ℕ → Bool
 is_free [] = true
@@ -38,12 +38,25 @@ plain_one word a free few small = record {
   short = let n = number_short a small in let size = length-append word (one a) in omega (arith, few, n, size);
 }
 
+two_no_lf : (a b : ℕ) → a < 2 ^ 64 → b < 2 ^ 64 → HasNoLf (two a b)
+two_no_lf a b small small_b = All-append (λ b. b ≢ 10) (decimal a ++ codes " ") (decimal b) (All-append (λ b. b ≢ 10) (decimal a) (codes " ") (number_no_lf a small) (free_no_lf (codes " ") refl)) (number_no_lf b small_b)
+
+two_short : (a b : ℕ) → a < 2 ^ 64 → b < 2 ^ 64 → length (two a b) ≤ 41
+two_short a b small small_b = let n = number_short a small in let m = number_short b small_b in
+    let first = length-append (decimal a) (codes " ") in let all = length-append (decimal a ++ codes " ") (decimal b) in let space : length (codes " ") ≡ 1 = refl in omega (arith, n, m, first, all, space)
+
 pub plain_two : (word : List ℕ) (a b : ℕ) → is_free word ≡ true → length word ≤ 23 → a < 2 ^ 64 → b < 2 ^ 64 → IsPlain (word ++ two a b)
 plain_two word a b free few small small_b = record {
-  cut = All-append (λ b. b ≢ 10) word (two a b) (free_no_lf word free)
-      (All-append (λ b. b ≢ 10) (decimal a ++ codes " ") (decimal b) (All-append (λ b. b ≢ 10) (decimal a) (codes " ") (number_no_lf a small) (free_no_lf (codes " ") refl)) (number_no_lf b small_b));
-  short = let n = number_short a small in let m = number_short b small_b in let size = length-append word (two a b) in
-      let first = length-append (decimal a) (codes " ") in let all = length-append (decimal a ++ codes " ") (decimal b) in let space : length (codes " ") ≡ 1 = refl in omega (arith, few, n, m, size, first, all, space);
+  cut = All-append (λ b. b ≢ 10) word (two a b) (free_no_lf word free) (two_no_lf a b small small_b);
+  short = let n = two_short a b small small_b in let size = length-append word (two a b) in omega (arith, few, n, size);
+}
+
+pub plain_three : (word : List ℕ) (a b d : ℕ) → is_free word ≡ true → length word ≤ 7 → a < 2 ^ 64 → b < 2 ^ 64 → d < 2 ^ 64 → IsPlain (word ++ three a b d)
+plain_three word a b d free few small small_b small_d = record {
+  cut = All-append (λ b. b ≢ 10) word (three a b d) (free_no_lf word free)
+      (All-append (λ b. b ≢ 10) (two a b ++ codes " ") (decimal d) (All-append (λ b. b ≢ 10) (two a b) (codes " ") (two_no_lf a b small small_b) (free_no_lf (codes " ") refl)) (number_no_lf d small_d));
+  short = let n = two_short a b small small_b in let m = number_short d small_d in let size = length-append word (three a b d) in
+      let first = length-append (two a b) (codes " ") in let all = length-append (two a b ++ codes " ") (decimal d) in let space : length (codes " ") ≡ 1 = refl in omega (arith, few, n, m, size, first, all, space);
 }
 
 -- two texts without LF, each before an LF

@@ -4,19 +4,19 @@ use Rattle.std.proofs.lemmas.List.{append_cancel_left}
 use Rattle.std.proofs.lemmas.Fmt.{digits_decimal}
 use Rattle.std.proofs.lemmas.Str.Parse.{not_in_digits}
 use Rattle.bl_serve_lines.proofs.Numbers.{own, at_middle}
-use Rattle.bl_model.specs.declared.operation.Op.TheVariants.{Find, Insert, Delete, Part}
+use Rattle.bl_model.specs.declared.operation.Op.TheVariants.{Find, Insert, Delete, Change, Part}
 use Rattle.bl_replay_script.specs.declared.command.Start.TheVariants.{Operation, PartNear, Post, Compress, Reclaim, Lower}
 use Rattle.bl_replay_script.specs.declared.command.Command.{Command}
 use Rattle.bl_replay_script.specs.declared.command.Command.TheVariants as command
 use Rattle.bl_replay_script.specs.declared.command.Kinds.{Kinds}
-use Rattle.bl_replay_script.specs.Commands.{one, two, IsLevel, IsPageCount, MayStand, command_text}
-use Rattle.bl_replay_script.proofs.Numbers.{one_same, two_same}
-use Rattle.bl_replay_script.proofs.Plain.{IsPlain, plain_word, plain_one, plain_two}
+use Rattle.bl_replay_script.specs.Commands.{one, two, three, IsLevel, IsPageCount, MayStand, command_text}
+use Rattle.bl_replay_script.proofs.Numbers.{one_same, two_same, three_same}
+use Rattle.bl_replay_script.proofs.Plain.{IsPlain, plain_word, plain_one, plain_two, plain_three}
 
 -- one number has no space in it
 one_not_two : (a b c : ℕ) → a < 2 ^ 64 → b < 2 ^ 64 → one a ≡ two b c → ⊥
 one_not_two a b c small small_b e =
-    let middle = at_middle (one a) b c e in
+    let middle = at_middle (one a) b (decimal c) e in
     not_in_digits own (decimal a) 32 (digits_decimal own a small) (λ r. omega (arith, r.0)) (length (decimal b)) middle.0 middle.1
 
 small_level : (level : ℕ) → IsLevel level → level < 2 ^ 64
@@ -29,6 +29,7 @@ pub line_text : (kinds : Kinds) (pages started : ℕ) → IsPageCount pages → 
 line_text kinds pages started count (command.Start (Operation (Find a))) h = plain_one (codes "find ") a refl (omega arith) h
 line_text kinds pages started count (command.Start (Operation (Insert a b))) h = plain_two (codes "insert ") a b refl (omega arith) h.0 h.1
 line_text kinds pages started count (command.Start (Operation (Delete a))) h = plain_one (codes "delete ") a refl (omega arith) h
+line_text kinds pages started count (command.Start (Operation (Change a b c))) h = plain_three (codes "change ") a b c refl (omega arith) h.0 h.1 h.2
 line_text kinds pages started count (command.Start (Operation (Part a))) h = plain_one (codes "part ") a refl (omega arith) h.1
 line_text kinds pages started count (command.Start (PartNear a b)) h = plain_two (codes "partnear ") a b refl (omega arith) h.1 (small_page b pages count h.2)
 line_text kinds pages started count (command.Start (Post a b)) h = plain_two (codes "post ") a b refl (omega arith) (small_level a h.0) h.1
@@ -48,6 +49,7 @@ abbrev kind_of : Command → ℕ
 kind_of (command.Start (Operation (Find a))) = 6711662
 kind_of (command.Start (Operation (Insert a b))) = 6909555
 kind_of (command.Start (Operation (Delete a))) = 6579564
+kind_of (command.Start (Operation (Change a b c))) = 6514785
 kind_of (command.Start (Operation (Part a))) = 7364978
 kind_of (command.Start (PartNear a b)) = 7364978
 kind_of (command.Start (Post a b)) = 7368563
@@ -63,6 +65,7 @@ kind_is : (c : Command) → letters (command_text c) ≡ kind_of c
 kind_is (command.Start (Operation (Find a))) = refl
 kind_is (command.Start (Operation (Insert a b))) = refl
 kind_is (command.Start (Operation (Delete a))) = refl
+kind_is (command.Start (Operation (Change a b c))) = refl
 kind_is (command.Start (Operation (Part a))) = refl
 kind_is (command.Start (PartNear a b)) = refl
 kind_is (command.Start (Post a b)) = refl
@@ -81,6 +84,7 @@ pub text_same : (kinds : Kinds) (pages started : ℕ) → IsPageCount pages → 
 text_same kinds pages started count (command.Start (Operation (Find a))) (command.Start (Operation (Find c))) h k e = ap (λ z. (command.Start (Operation (Find z)))) (one_same a c h k (append_cancel_left (codes "find ") (one a) (one c) e))
 text_same kinds pages started count (command.Start (Operation (Insert a b))) (command.Start (Operation (Insert c d))) h k e = let same = two_same a b c d h.0 h.1 k.0 k.1 (append_cancel_left (codes "insert ") (two a b) (two c d) e) in ap (λ z. (command.Start (Operation (Insert z b)))) same.0 ∙ ap (λ z. (command.Start (Operation (Insert c z)))) same.1
 text_same kinds pages started count (command.Start (Operation (Delete a))) (command.Start (Operation (Delete c))) h k e = ap (λ z. (command.Start (Operation (Delete z)))) (one_same a c h k (append_cancel_left (codes "delete ") (one a) (one c) e))
+text_same kinds pages started count (command.Start (Operation (Change a b c))) (command.Start (Operation (Change x y z))) h k e = let same = three_same a b c x y z h.0 h.1 h.2 k.0 k.1 k.2 (append_cancel_left (codes "change ") (three a b c) (three x y z) e) in ap (λ n. (command.Start (Operation (Change n b c)))) same.0 ∙ ap (λ n. (command.Start (Operation (Change x n c)))) same.1 ∙ ap (λ n. (command.Start (Operation (Change x y n)))) same.2
 text_same kinds pages started count (command.Start (Operation (Part a))) (command.Start (Operation (Part c))) h k e = ap (λ z. (command.Start (Operation (Part z)))) (one_same a c h.1 k.1 (append_cancel_left (codes "part ") (one a) (one c) e))
 text_same kinds pages started count (command.Start (Operation (Part a))) (command.Start (PartNear c d)) h k e = absurd (let at : 32 ≡ 110 = ap (λ t. get_or t 4 0) e in omega arith)
 text_same kinds pages started count (command.Start (PartNear a b)) (command.Start (Operation (Part c))) h k e = absurd (let at : 110 ≡ 32 = ap (λ t. get_or t 4 0) e in omega arith)
@@ -98,5 +102,6 @@ text_same kinds pages started count (command.Run a b) (command.Run c d) h k e = 
 text_same kinds pages started count c (command.Start (Operation (Find x))) h k e = absurd (other_kind c (command.Start (Operation (Find x))) e (λ i. omega (arith, i)))
 text_same kinds pages started count c (command.Start (Operation (Insert x y))) h k e = absurd (other_kind c (command.Start (Operation (Insert x y))) e (λ i. omega (arith, i)))
 text_same kinds pages started count c (command.Start (Operation (Delete x))) h k e = absurd (other_kind c (command.Start (Operation (Delete x))) e (λ i. omega (arith, i)))
+text_same kinds pages started count c (command.Start (Operation (Change x y z))) h k e = absurd (other_kind c (command.Start (Operation (Change x y z))) e (λ i. omega (arith, i)))
 text_same kinds pages started count c (command.Start (Operation (Part x))) h k e = absurd (other_kind c (command.Start (Operation (Part x))) e (λ i. omega (arith, i)))
 text_same kinds pages started count c d h k e = absurd (other_kind c d e (λ i. omega (arith, i)))

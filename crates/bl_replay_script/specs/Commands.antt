@@ -1,24 +1,28 @@
 -- The lines of a script: the text of each command, and where it is allowed.
 use Rattle.std.specs.Prelude.{ℕ, ◌+◌, ◌<◌, ◌≤◌, ◌^◌, List, [], ◌∷◌, ◌++◌, codes, decimal, IsTrue}
-use Rattle.bl_model.specs.declared.operation.Op.TheVariants.{Find, Insert, Delete, Part}
+use Rattle.bl_model.specs.declared.operation.Op.TheVariants.{Find, Insert, Delete, Change, Part}
 use Rattle.bl_replay_script.specs.declared.command.Start.{Start}
 use Rattle.bl_replay_script.specs.declared.command.Start.TheVariants.{Operation, PartNear, Post, Compress, Reclaim, Lower}
 use Rattle.bl_replay_script.specs.declared.command.Command.{Command}
 use Rattle.bl_replay_script.specs.declared.command.Command.TheVariants as command
 use Rattle.bl_replay_script.specs.declared.command.Kinds.{Kinds}
 
--- one number, and two with a space between them
+-- one number, and two or three with a space between each two
 abbrev pub one : ℕ → List ℕ
 one a = decimal a
 
 abbrev pub two : ℕ → ℕ → List ℕ
 two a b = decimal a ++ codes " " ++ decimal b
 
+abbrev pub three : ℕ → ℕ → ℕ → List ℕ
+three a b d = two a b ++ codes " " ++ decimal d
+
 -- the text of the line that starts a process
 abbrev pub start_text : Start → List ℕ
 start_text (Operation (Find key)) = codes "find " ++ one key
 start_text (Operation (Insert key value)) = codes "insert " ++ two key value
 start_text (Operation (Delete key)) = codes "delete " ++ one key
+start_text (Operation (Change key old new)) = codes "change " ++ three key old new
 start_text (Operation (Part from)) = codes "part " ++ one from
 start_text (PartNear from page) = codes "partnear " ++ two from page
 start_text (Post level key) = codes "post " ++ two level key
@@ -57,6 +61,7 @@ abbrev pub MayStart : Kinds → ℕ → Start → Type 0
 MayStart kinds pages (Operation (Find key)) = Fits key
 MayStart kinds pages (Operation (Insert key value)) = Fits key × Fits value
 MayStart kinds pages (Operation (Delete key)) = Fits key
+MayStart kinds pages (Operation (Change key old new)) = Fits key × Fits old × Fits new
 MayStart kinds pages (Operation (Part from)) = IsTrue kinds.part × Fits from
 MayStart kinds pages (PartNear from page) = IsTrue kinds.part × Fits from × (page < pages)
 MayStart kinds pages (Post level key) = IsLevel level × Fits key

@@ -22,10 +22,10 @@ pub record IsScript (kinds : Kinds) (pages : ℕ) (commands : List Command) (byt
   pub stand : AllStand kinds pages 0 commands
   pub spelled : bytes ≡ script_text pages commands
 
--- What is left is no line of a script, whatever a line may say: it begins with more than 64 bytes without LF, or nothing
+-- What is left is no line of a script, whatever a line may say: it begins with more than 69 bytes without LF, or nothing
 -- stands behind it and there is no LF in it.
 pub data HasNoLine (left : List ℕ) (at_end : Type 0) : Type 0 where
-  Long : (line rest : List ℕ) → HasNoLf line → 64 < length line → left ≡ line ++ rest → HasNoLine left at_end
+  Long : (line rest : List ℕ) → HasNoLf line → 69 < length line → left ≡ line ++ rest → HasNoLine left at_end
   Cut : HasNoLf left → at_end → HasNoLine left at_end
 
 -- What is left begins with a line that is bad: it is no line, or says nothing that may stand there.

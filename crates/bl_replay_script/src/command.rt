@@ -58,7 +58,7 @@ pub struct Script {
     pub commands: Vec<Command>,
 }
 
-/// Which kinds of process a script may start, beside searches, insertions, deletions and posts.
+/// Which kinds of process a script may start, beside searches, insertions, deletions, changes and posts.
 #[derive(Clone, Copy, Debug, PartialEq, Eq)]
 pub struct Kinds {
     /// `part` and `partnear` lines.

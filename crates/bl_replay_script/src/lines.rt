@@ -14,7 +14,7 @@ use std::io::Read;
 /// What comes next.
 #[derive(Clone, Copy, Debug, PartialEq, Eq)]
 pub enum Next {
-    /// A line of at most 64 bytes.
+    /// A line of at most 69 bytes.
     Line,
     /// Nothing.
     End,

@@ -3,11 +3,11 @@
 ghost use Rattle.std.specs.Prelude.{◌≡◌, ◌≢◌, ℕ, ◌<◌, ◌≤◌, ◌^◌, ◌++◌, ◌↔◌, codes, IsTrue, MatchOption};
 ghost use Rattle.bl_replay_script.specs.declared.command.Start.{Start as StartSpec};
 ghost use Rattle.bl_replay_script.specs.declared.command.Command.{Command as CommandSpec};
-ghost use Rattle.bl_replay_script.specs.Commands.{one, two, head_text, start_text, command_text, Fits, IsLevel, IsPageCount, IsStarted, MayStart, MayStand};
+ghost use Rattle.bl_replay_script.specs.Commands.{one, two, three, head_text, start_text, command_text, Fits, IsLevel, IsPageCount, IsStarted, MayStart, MayStand};
 
 use crate::command::{Command, Kinds, Start};
 use bl_model::Op;
-use bl_serve_lines::number::{number, two_numbers};
+use bl_serve_lines::number::{number, three_numbers, two_numbers};
 use bl_serve_lines::request::after;
 
 /// Every number.
@@ -49,6 +49,21 @@ fn two_within(line: &[u8], word: &[u8], least: u64, most: u64, last: u64) -> Opt
     } else {
         None
     }
+}
+
+/// The three numbers behind the word.
+fn three_behind(line: &[u8], word: &[u8]) -> Option<(u64, u64, u64)>
+    ensures { MatchOption result
+        ((a b d : ℕ) → Fits a → Fits b → Fits d → line.now ≢ word.now ++ three a b d)
+        (λ p. Fits p.0 × Fits p.1 × Fits p.2 × (line.now ≡ word.now ++ three p.0 p.1 p.2)) }
+{
+    let Some(rest) = after(line, word) else {
+        return None;
+    };
+    let Some((a, b, d)) = three_numbers(rest) else {
+        return None;
+    };
+    Some((a, b, d))
 }
 
 /// How many pages the line asks for, if it is a first line.
@@ -155,6 +170,9 @@ fn start_of(kinds: Kinds, pages: u32, line: &[u8]) -> Option<Start>
     }
     if let Some(key) = one_within(line, b"delete ", 0, MOST) {
         return Some(Start::Operation(Op::Delete(key)));
+    }
+    if let Some((key, old, new)) = three_behind(line, b"change ") {
+        return Some(Start::Operation(Op::Change(key, old, new)));
     }
     if let Some(from) = part_line(kinds, line) {
         return Some(Start::Operation(Op::Part(from)));

@@ -2,16 +2,16 @@
 use Rattle.std.proofs.Common.{◌≡◌, ◌≢◌, ℕ, zero, suc, ◌+◌, ◌<◌, ◌≤◌, List, [], ◌∷◌, ◌++◌, length, map, refl, sym, ap, ◌∙◌, subst, arith, ⊎_elim}
 use Rattle.std.specs.Prelude.{◌↔◌, All, Contains, Option, Some, None, flat_map, slice_index_or, sum_by, count_by, is_none, IsSome}
 use Rattle.std.specs.List.{AllZip}
-use Rattle.std.proofs.lemmas.Bool.{cases_lt}
+use Rattle.std.proofs.lemmas.Bool.{cases_eq, cases_lt}
 use Rattle.std.proofs.lemmas.Grind.{common_steps}
 use Rattle.std.proofs.lemmas.List.Concat.{flat_map-cons}
 use Rattle.std.proofs.lemmas.List.Elements.{All-nil, All-cons, All-head, All-tail}
 use Rattle.bl_model.specs.declared.operation.Entry.{Entry}
 use Rattle.bl_model.specs.declared.operation.Op.{Op}
-use Rattle.bl_model.specs.declared.operation.Op.TheVariants.{Find, Insert, Delete, Part}
+use Rattle.bl_model.specs.declared.operation.Op.TheVariants.{Find, Insert, Delete, Change, Part}
 use Rattle.bl_model.specs.declared.operation.Reply.{Reply}
 use Rattle.bl_model.specs.declared.operation.Next.TheVariants.{More}
-use Rattle.bl_model.specs.declared.operation.Reply.TheVariants.{Found, Absent, Present, Rows, NoRoom}
+use Rattle.bl_model.specs.declared.operation.Reply.TheVariants.{Found, Absent, Present, Differs, Rows, NoRoom}
 use Rattle.bl_serve_lines.specs.declared.request.Request.{Request}
 use Rattle.bl_serve_lines.specs.declared.request.Request.TheVariants.{Ask, Scan, Sync}
 use Rattle.bl_model.specs.Map.{Map, MayAnswer, map_step}
@@ -131,6 +131,14 @@ some_reply m bytes (Delete key) a = go (m key) refl
   where
     go : (o : Option ℕ) → m key ≡ o → (r : Reply) × MayAnswer m (Delete key) r
     go (Some v) is = (NoRoom, subst IsSome (sym is) refl)
+    go None is = (Absent, is)
+some_reply m bytes (Change key old new) a = go (m key) refl
+  where
+    go : (o : Option ℕ) → m key ≡ o → (r : Reply) × MayAnswer m (Change key old new) r
+    go (Some v) is = elim (cases_eq v old) [
+      | inl same ↦ (NoRoom, is ∙ ap Some same)
+      | inr other ↦ (Differs v, (is, other))
+    ]
     go None is = (Absent, is)
 some_reply m bytes (Part from) a = absurd a
 

@@ -9,12 +9,12 @@ use Rattle.memchr.specs.Find.{IsFirstByte, NoneBefore, Nowhere, Passes, is_byte,
 use Rattle.bl_serve_lines.specs.Lines.{HasNoLf}
 use Rattle.bl_serve_lines.specs.Streams.{IsFirstLine}
 
--- bytes of a slice that were put behind a list with room for 65
-pub keep_is : (old piece new : List ℕ) (room kept : ℕ) → room + length old ≡ 65 → kept ≡ min (length piece) room → new ≡ old ++ take kept piece → new ≡ take 65 (old ++ piece)
+-- bytes of a slice that were put behind a list with room for 70
+pub keep_is : (old piece new : List ℕ) (room kept : ℕ) → room + length old ≡ 70 → kept ≡ min (length piece) room → new ≡ old ++ take kept piece → new ≡ take 70 (old ++ piece)
 keep_is old piece new room kept fits is e = e ∙ ap (λ t. old ++ t) (elim (cases_lt (length piece) room) [
   | inl less ↦ let all : kept ≡ length piece = omega arith in ap (λ n. take n piece) all ∙ take_all (length piece) piece (omega arith) ∙ sym (take_all room piece (omega arith))
   | inr more ↦ let some : kept ≡ room = omega arith in ap (λ n. take n piece) some
-]) ∙ sym (take-append-add old piece room) ∙ ap (λ n. take n (old ++ piece)) (let size : length old + room ≡ 65 = omega (arith, fits) in size)
+]) ∙ sym (take-append-add old piece room) ∙ ap (λ n. take n (old ++ piece)) (let size : length old + room ≡ 70 = omega (arith, fits) in size)
 
 -- no LF stands before the first one
 pub no_lf_before : (ahead : List ℕ) (place : ℕ) → place < length ahead → Nowhere (Passes (is_byte 10) ahead) 0 place → HasNoLf (take place ahead)
@@ -51,11 +51,11 @@ passed_over bytes self from upto count inside is few =
     sym (rest_of_part bytes from upto count (omega (arith, size, few))) ∙ ap (drop count) is
 
 -- the kept bytes of a line, with a further piece
-pub kept_more : (bytes old new piece : List ℕ) → old ≡ take 65 bytes → new ≡ take 65 (old ++ piece) → new ≡ take 65 (bytes ++ piece)
-kept_more bytes old new piece is e = elim (cases_lt (length bytes) 65) [
-  | inl short ↦ e ∙ ap (λ t. take 65 (t ++ piece)) (is ∙ take_all 65 bytes (omega arith))
-  | inr long ↦ let len : length old ≡ 65 = ap length is ∙ length-take-le 65 bytes long in
-      e ∙ take-append-le 65 old piece (omega (arith, len)) ∙ take_all 65 old (omega (arith, len)) ∙ is ∙ sym (take-append-le 65 bytes piece long)
+pub kept_more : (bytes old new piece : List ℕ) → old ≡ take 70 bytes → new ≡ take 70 (old ++ piece) → new ≡ take 70 (bytes ++ piece)
+kept_more bytes old new piece is e = elim (cases_lt (length bytes) 70) [
+  | inl short ↦ e ∙ ap (λ t. take 70 (t ++ piece)) (is ∙ take_all 70 bytes (omega arith))
+  | inr long ↦ let len : length old ≡ 70 = ap length is ∙ length-take-le 70 bytes long in
+      e ∙ take-append-le 70 old piece (omega (arith, len)) ∙ take_all 70 old (omega (arith, len)) ∙ is ∙ sym (take-append-le 70 bytes piece long)
 ]
 
 -- a line ends in a piece: p was read ahead, m was read now, and together they are q
@@ -70,22 +70,22 @@ line_goes_on s more bytes p m q piece new h e is none = sym (append_assoc s more
 pub line_stops : (s more bytes p m new : List ℕ) → s ++ more ≡ bytes ++ p → p ≡ [] → m ≡ [] → new ≡ [] → s ++ (more ++ m) ≡ bytes ++ new
 line_stops s more bytes p m new h none no_more end = ap (λ t. s ++ (more ++ t)) no_more ∙ ap (λ t. s ++ t) (append-nil more) ∙ h ∙ ap (λ t. bytes ++ t) (none ∙ sym end)
 
-pub short_line : (bytes kept : List ℕ) → kept ≡ take 65 bytes → length kept ≤ 64 → length bytes ≤ 64
-short_line bytes kept is few = let size = length-take 65 bytes in let same : length kept ≡ length (take 65 bytes) = ap length is in omega (arith, size, same)
+pub short_line : (bytes kept : List ℕ) → kept ≡ take 70 bytes → length kept ≤ 69 → length bytes ≤ 69
+short_line bytes kept is few = let size = length-take 70 bytes in let same : length kept ≡ length (take 70 bytes) = ap length is in omega (arith, size, same)
 
-pub long_line_cut : (bytes kept : List ℕ) → kept ≡ take 65 bytes → 64 < length kept → 64 < length bytes
-long_line_cut bytes kept is many = let size = length-take 65 bytes in let same : length kept ≡ length (take 65 bytes) = ap length is in omega (arith, size, same)
+pub long_line_cut : (bytes kept : List ℕ) → kept ≡ take 70 bytes → 69 < length kept → 69 < length bytes
+long_line_cut bytes kept is many = let size = length-take 70 bytes in let same : length kept ≡ length (take 70 bytes) = ap length is in omega (arith, size, same)
 
-pub some_byte : (bytes kept : List ℕ) → kept ≡ take 65 bytes → (length kept ≡ 0 → ⊥) → 0 < length bytes
-some_byte bytes kept is some = let size = length-take 65 bytes in let same : length kept ≡ length (take 65 bytes) = ap length is in omega (arith, size, same, some)
+pub some_byte : (bytes kept : List ℕ) → kept ≡ take 70 bytes → (length kept ≡ 0 → ⊥) → 0 < length bytes
+some_byte bytes kept is some = let size = length-take 70 bytes in let same : length kept ≡ length (take 70 bytes) = ap length is in omega (arith, size, same, some)
 
 pub count_on : (bytes q : List ℕ) (n : ℕ) → n ≤ length bytes → 0 < length q → n + 1 ≤ length (bytes ++ q)
 count_on bytes q n few some = let size = length-append bytes q in omega (arith, size)
 
 -- the bytes up to the first LF of what was read ahead
 pub piece_to_lf : (bytes self old new : List ℕ) (from upto place : ℕ) → from ≤ upto → upto ≤ length bytes → take (upto - from) (drop from bytes) ≡ self
-    → IsFirstByte (is_byte 10) (take (upto - from) (drop from bytes)) (Some place) → new ≡ take 65 (old ++ take place (take (upto - from) (drop from bytes)))
-    → (piece : List ℕ) × HasNoLf piece × (new ≡ take 65 (old ++ piece)) × (self ≡ piece ++ 10 ∷ take (upto - (from + (place + 1))) (drop (from + (place + 1)) bytes))
+    → IsFirstByte (is_byte 10) (take (upto - from) (drop from bytes)) (Some place) → new ≡ take 70 (old ++ take place (take (upto - from) (drop from bytes)))
+    → (piece : List ℕ) × HasNoLf piece × (new ≡ take 70 (old ++ piece)) × (self ≡ piece ++ 10 ∷ take (upto - (from + (place + 1))) (drop (from + (place + 1)) bytes))
 piece_to_lf bytes self old new from upto place le inside is first kept =
     let ahead = take (upto - from) (drop from bytes) in
     let lt : place < length ahead = first.0.high in
@@ -103,8 +103,8 @@ ok_of {T} {E} {P} r x is h = subst (λ y. OnOk y P) is h
 
 -- all of what was read ahead, where no LF is in it
 pub piece_whole : (bytes self old new : List ℕ) (from upto : ℕ) → take (upto - from) (drop from bytes) ≡ self
-    → IsFirstByte (is_byte 10) (take (upto - from) (drop from bytes)) None → new ≡ take 65 (old ++ take (upto - from) (drop from bytes))
-    → (piece : List ℕ) × HasNoLf piece × (new ≡ take 65 (old ++ piece)) × ((self ≡ piece) × (take (upto - upto) (drop upto bytes) ≡ []))
+    → IsFirstByte (is_byte 10) (take (upto - from) (drop from bytes)) None → new ≡ take 70 (old ++ take (upto - from) (drop from bytes))
+    → (piece : List ℕ) × HasNoLf piece × (new ≡ take 70 (old ++ piece)) × ((self ≡ piece) × (take (upto - upto) (drop upto bytes) ≡ []))
 piece_whole bytes self old new from upto is none kept = let nothing : upto - upto ≡ 0 = omega arith in
     (take (upto - from) (drop from bytes), no_lf_any (take (upto - from) (drop from bytes)) none, kept, (sym is, ap (λ n. take n (drop upto bytes)) nothing))
 
@@ -113,7 +113,7 @@ pub first_line : (bytes self : List ℕ) (from upto place : ℕ) → from ≤ up
     → IsFirstByte (is_byte 10) (take (upto - from) (drop from bytes)) (Some place) → IsFirstLine (take place (take (upto - from) (drop from bytes))) self
 unfolding piece_to_lf
 first_line bytes self from upto place le inside is first =
-    let cut = piece_to_lf bytes self [] (take 65 ([] ++ take place (take (upto - from) (drop from bytes)))) from upto place le inside is first refl in
+    let cut = piece_to_lf bytes self [] (take 70 ([] ++ take place (take (upto - from) (drop from bytes)))) from upto place le inside is first refl in
     record { rest = take (upto - (from + (place + 1))) (drop (from + (place + 1)) bytes); cut = cut.1; begins = cut.3 }
 
 -- the first of the places that pass is the first place that does

@@ -1,9 +1,9 @@
 -- Worked examples of the definitions.
-use Rattle.std.proofs.Common.{◌≡◌, List, [], ◌∷◌, codes, decimal, refl, lit<, lit≤, Some}
+use Rattle.std.proofs.Common.{◌≡◌, List, [], ◌∷◌, codes, decimal, get_or, refl, ap, ◌∙◌, lit<, lit≤, Some, arith}
 use Rattle.std.proofs.lemmas.Fmt.{decimal_digit}
 use Rattle.std.proofs.lemmas.List.Elements.{All-nil, All-cons}
-use Rattle.bl_model.specs.declared.operation.Op.TheVariants.{Find, Insert, Part}
-use Rattle.bl_model.specs.declared.operation.Reply.TheVariants.{Found, Absent, Inserted, Rows}
+use Rattle.bl_model.specs.declared.operation.Op.TheVariants.{Find, Insert, Change, Part}
+use Rattle.bl_model.specs.declared.operation.Reply.TheVariants.{Found, Absent, Inserted, Changed, Differs, Rows}
 use Rattle.bl_model.specs.declared.operation.Next.TheVariants.{More, End}
 use Rattle.bl_model.specs.declared.operation.Entry.{Entry}
 use Rattle.bl_model.specs.Map.{empty}
@@ -50,6 +50,16 @@ five = decimal_digit 5 (lit< tt)
 insert_line : Spells (codes "insert 1 5") (Ask (Insert 1 5))
 insert_line = (lit< tt, lit< tt, simp (one, five))
 
+-- the key, then what it is to have, then what it gets
+change_line : Spells (codes "change 1 5 2") (Ask (Change 1 5 2))
+change_line = (lit< tt, lit< tt, lit< tt, simp (one, five, two))
+
+-- the other way round it is another request
+change_back : Spells (codes "change 1 5 2") (Ask (Change 1 2 5)) → ⊥
+change_back spells =
+    let other : codes "change 1 5 2" ≡ codes "change 1 2 5" = spells.3 ∙ simp (one, two, five) in
+    let byte : 53 ≡ 50 = ap (λ t. get_or t 9 0) other in omega (arith, byte)
+
 sync_line : Spells (codes "sync") Sync
 sync_line = refl
 
@@ -68,6 +78,22 @@ text_written = simp (one, two, three, four, five)
 
 rest_written : rest_text 4 (codes "find") ≡ codes "4 malformed\n"
 rest_written = simp four
+
+abbrev changed : Entry
+changed = record { pass = 0; op = Change 1 5 2; reply = Changed }
+
+-- another value than the old one is there
+abbrev kept : Entry
+kept = record { pass = 0; op = Change 1 5 2; reply = Differs 2 }
+
+changes_are_legal : IsLegalFrom empty (inserted ∷ changed ∷ kept ∷ [])
+changes_are_legal = (refl, (refl, ((refl, λ same. omega (arith, same)), tt)))
+
+abbrev changes : List Line
+changes = record { bytes = codes "change 1 5 2"; answer = Replied changed } ∷ record { bytes = codes "change 1 5 2"; answer = Replied kept } ∷ []
+
+changes_written : output_of 1 changes ≡ codes "1 changed\n2 differs 2\n"
+changes_written = simp (one, two)
 
 scan_line : Spells (codes "scan 1 4") (Scan 1 4)
 scan_line = (lit< tt, lit< tt, simp (one, four))

@@ -28,8 +28,8 @@ pub record IsFirstLine (line bytes : List ℕ) : Type 0 where
 
 -- unread begins with the bytes, which have no LF, and what stands behind them is left
 abbrev pub CutsLine : {E : Type 0} → List ℕ → List ℕ → Result Cut E → List ℕ → Type 0 → Type 0 → Type 0
-CutsLine unread bytes (Ok Whole) left at_end failed = HasNoLf bytes × (length bytes ≤ 64) × (unread ≡ bytes ++ 10 ∷ left)
-CutsLine unread bytes (Ok Long) left at_end failed = HasNoLf bytes × (64 < length bytes) × (unread ≡ bytes ++ 10 ∷ left)
+CutsLine unread bytes (Ok Whole) left at_end failed = HasNoLf bytes × (length bytes ≤ 69) × (unread ≡ bytes ++ 10 ∷ left)
+CutsLine unread bytes (Ok Long) left at_end failed = HasNoLf bytes × (69 < length bytes) × (unread ≡ bytes ++ 10 ∷ left)
 CutsLine unread bytes (Ok Rest) left at_end failed = HasNoLf bytes × (0 < length bytes) × (unread ≡ bytes ++ left) × EndsRead bytes left at_end
 CutsLine unread bytes (Ok End) left at_end failed = (bytes ≡ []) × (unread ≡ []) × (left ≡ []) × at_end
 CutsLine unread bytes (Err e) left at_end failed = HasNoLf bytes × (unread ≡ bytes) × (left ≡ []) × failed

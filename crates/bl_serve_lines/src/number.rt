@@ -55,3 +55,18 @@ pub fn two_numbers(text: &[u8]) -> Option<(u64, u64)>
         _ => None,
     }
 }
+
+/// Three numbers with one space between each two.
+pub fn three_numbers(text: &[u8]) -> Option<(u64, u64, u64)>
+    ensures found { IfSome result (λ p. text.now ≡ decimal p.0 ++ codes " " ++ decimal p.1 ++ codes " " ++ decimal p.2) }
+    ensures none { IfNone result ((m n k : ℕ) → m < 2 ^ 64 → n < 2 ^ 64 → k < 2 ^ 64 → text.now ≢ decimal m ++ codes " " ++ decimal n ++ codes " " ++ decimal k) }
+{
+    let space = first_space(text);
+    if space == text.len() {
+        return None;
+    }
+    match (number(&text[..space]), two_numbers(&text[space + 1..])) {
+        (Some(first), Some((second, third))) => Some((first, second, third)),
+        _ => None,
+    }
+}

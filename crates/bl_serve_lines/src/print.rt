@@ -79,6 +79,8 @@ fn push_key_reply(out: &mut Vec<u8>, reply: KeyReply) -> Result<(), AllocError>
         KeyReply::Inserted => out.extend_from_slice(b"inserted"),
         KeyReply::Present(value) => push_number(out, b"present ", value),
         KeyReply::Deleted(value) => push_number(out, b"deleted ", value),
+        KeyReply::Changed => out.extend_from_slice(b"changed"),
+        KeyReply::Differs(value) => push_number(out, b"differs ", value),
         KeyReply::NoRoom => out.extend_from_slice(b"noroom"),
     }
 }
@@ -93,6 +95,8 @@ pub fn push_reply(out: &mut Vec<u8>, reply: &Reply) -> Result<(), AllocError>
         Reply::Inserted => push_key_reply(out, KeyReply::Inserted),
         Reply::Present(value) => push_key_reply(out, KeyReply::Present(*value)),
         Reply::Deleted(value) => push_key_reply(out, KeyReply::Deleted(*value)),
+        Reply::Changed => push_key_reply(out, KeyReply::Changed),
+        Reply::Differs(value) => push_key_reply(out, KeyReply::Differs(*value)),
         Reply::Rows(rows, next) => {
             out.extend_from_slice(b"rows")?;
             push_rows(out, rows.as_slice())?;

@@ -3,11 +3,11 @@
 ghost use Rattle.std.specs.Prelude.{◌≡◌, ◌≢◌, ℕ, ◌<◌, List, ◌++◌, length, IsNone, MatchOption};
 ghost use Rattle.bl_serve_lines.specs.Text.{Means};
 
-use crate::number::{number, two_numbers};
+use crate::number::{number, three_numbers, two_numbers};
 use bl_model::Op;
 
 /// The most bytes that a line may have before its LF. A longer one is malformed.
-pub const LINE_LIMIT: usize = 64;
+pub const LINE_LIMIT: usize = 69;
 
 /// What a line asks for.
 #[derive(Clone, Copy, Debug, PartialEq, Eq)]
@@ -43,6 +43,10 @@ fn spelled(line: &[u8]) -> Option<Request>
         [b'd', b'e', b'l', b'e', b't', b'e', b' ', rest @ ..] => {
             let key = number(rest)?;
             Some(Request::Ask(Op::Delete(key)))
+        }
+        [b'c', b'h', b'a', b'n', b'g', b'e', b' ', rest @ ..] => {
+            let (key, old, new) = three_numbers(rest)?;
+            Some(Request::Ask(Op::Change(key, old, new)))
         }
         [b's', b'c', b'a', b'n', b' ', rest @ ..] => {
             let (low, high) = two_numbers(rest)?;

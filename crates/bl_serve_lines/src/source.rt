@@ -19,12 +19,12 @@ use std::marker::Model;
 const BUFFER: usize = 65_536;
 
 /// How many bytes of a line are kept: one more than a request may have, so that a longer line shows.
-pub const KEPT: usize = 65;
+pub const KEPT: usize = 70;
 
 /// How a line was cut.
 #[derive(Clone, Copy, Debug, PartialEq, Eq)]
 pub enum Cut {
-    /// A line of at most 64 bytes with its LF.
+    /// A line of at most 69 bytes with its LF.
     Whole,
     /// A line of more bytes with its LF.
     Long,

@@ -8,7 +8,7 @@ use Rattle.bl_model.specs.declared.operation.Entry.{Entry}
 use Rattle.bl_model.specs.declared.operation.Next.TheVariants.{More, End}
 use Rattle.bl_model.specs.declared.operation.Op.TheVariants.{Part}
 use Rattle.bl_model.specs.declared.operation.Reply.{Reply}
-use Rattle.bl_model.specs.declared.operation.Reply.TheVariants.{Found, Absent, Inserted, Present, Deleted, Rows, NoRoom}
+use Rattle.bl_model.specs.declared.operation.Reply.TheVariants.{Found, Absent, Inserted, Present, Deleted, Changed, Differs, Rows, NoRoom}
 use Rattle.bl_serve_lines.specs.Lines.{AreParts, rows_below}
 use Rattle.bl_model.specs.Parts.{rows_of, ended_at}
 use Rattle.bl_serve_lines.specs.Text.{row_text}
@@ -40,6 +40,8 @@ behind from next Absent further is = let no : ⊥ = cc in absurd no
 behind from next Inserted further is = let no : ⊥ = cc in absurd no
 behind from next (Present v) further is = let no : ⊥ = cc in absurd no
 behind from next (Deleted v) further is = let no : ⊥ = cc in absurd no
+behind from next Changed further is = let no : ⊥ = cc in absurd no
+behind from next (Differs v) further is = let no : ⊥ = cc in absurd no
 behind from next NoRoom further is = let no : ⊥ = cc in absurd no
 
 -- the next part begins behind it

@@ -102,6 +102,23 @@ fn delete<R: Wait>(rt: &R, index: &Index, hints: &Hints, pass: &mut Pass, key: u
     reply
 }
 
+/// Puts the new value at the key in place of the old one, where the key has that.
+fn change<R: Wait>(
+    rt: &R,
+    index: &Index,
+    pass: &mut Pass,
+    key: u64,
+    old: u64,
+    new: u64,
+) -> KeyReply
+    requires { IsPassOf index.now pass.old }
+    ensures same { IsSamePass pass.old pass.new }
+    ensures works { Works (first_of index.now) (number_of pass.old) (op.Change key old new) (reply_of result) (trail pass.old) (trail pass.new) }
+{
+    wait_for_frames(index, pass);
+    index.change(rt, pass, key, old, new)
+}
+
 /// Writes the rows of a part that lie below an end, and says where the part ended.
 fn write_part<R: Wait>(
     rt: &R,
@@ -213,6 +230,10 @@ fn operate<R: Wait>(
         }
         Op::Delete(key) => {
             let reply = delete(rt, index, hints, pass, key);
+            push_key_line(text, number, reply)
+        }
+        Op::Change(key, old, new) => {
+            let reply = change(rt, index, pass, key, old, new);
             push_key_line(text, number, reply)
         }
         Op::Part(from) => list(rt, index, pass, number, from, text),

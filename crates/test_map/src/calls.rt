@@ -34,14 +34,17 @@ fn shared(alloc: Global) -> Option<(Map, Seat, Seat)>
     Some((map, one, two))
 }
 
-fn row_replies<R: Wait>(rt: &R, handle: &mut Handle<'_>) -> [KeyReply; 6] {
+fn row_replies<R: Wait>(rt: &R, handle: &mut Handle<'_>) -> [KeyReply; 9] {
     [
         handle.find(rt, 5),
         handle.insert(rt, 5, 50),
         handle.insert(rt, 5, 60),
         handle.find(rt, 5),
+        handle.change(rt, 5, 50, 70),
+        handle.change(rt, 5, 50, 80),
         handle.delete(rt, 5),
         handle.delete(rt, 5),
+        handle.change(rt, 5, 70, 80),
     ]
 }
 
@@ -57,7 +60,10 @@ fn a_row_comes_and_goes(rt: HostRuntime) {
         KeyReply::Inserted,
         KeyReply::Present(50),
         KeyReply::Found(50),
-        KeyReply::Deleted(50),
+        KeyReply::Changed,
+        KeyReply::Differs(70),
+        KeyReply::Deleted(70),
+        KeyReply::Absent,
         KeyReply::Absent,
     ];
     assert!(rt; replies == wanted);

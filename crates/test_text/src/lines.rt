@@ -3,7 +3,7 @@
 use arrayvec::ArrayVec;
 use bl_model::{Next, Reply, Watched};
 use bl_serve_lines::ServeFault;
-use bl_serve_lines::number::{number, two_numbers};
+use bl_serve_lines::number::{number, three_numbers, two_numbers};
 use bl_serve_lines::print::{Response, push_line, push_rows_below};
 use bl_serve_lines::source::{Cut, KEPT, Source};
 use std::alloc::Global;
@@ -13,7 +13,7 @@ use std::test::Fail;
 
 #[test]
 fn numbers_have_one_spelling(rt: HostRuntime) {
-    assert!(rt; are_numbers() && are_two_numbers());
+    assert!(rt; are_numbers() && are_two_numbers() && are_three_numbers());
 }
 
 fn are_numbers() -> bool {
@@ -22,6 +22,12 @@ fn are_numbers() -> bool {
 
 fn are_two_numbers() -> bool {
     two_numbers(b"1 20") == Some((1, 20)) && two_numbers(b"1  20").is_none()
+}
+
+fn are_three_numbers() -> bool {
+    three_numbers(b"1 20 3") == Some((1, 20, 3))
+        && three_numbers(b"1 20").is_none()
+        && three_numbers(b"1 20 3 4").is_none()
 }
 
 /// The response to the seventh line is printed so.
@@ -39,6 +45,8 @@ fn answers_are_printed_by_number(rt: HostRuntime) -> Result<(), Fail> {
         (Response::Replied(Reply::Inserted), "7 inserted\n"),
         (Response::Replied(Reply::Present(0)), "7 present 0\n"),
         (Response::Replied(Reply::Deleted(8)), "7 deleted 8\n"),
+        (Response::Replied(Reply::Changed), "7 changed\n"),
+        (Response::Replied(Reply::Differs(60)), "7 differs 60\n"),
         (Response::Replied(Reply::NoRoom), "7 noroom\n"),
         (Response::Synced, "7 synced\n"),
         (Response::Malformed, "7 malformed\n"),
@@ -229,11 +237,11 @@ fn is_cut_from(source: &mut Source, input: &[u8], cut: Cut) -> bool {
         && gives(source, &mut reader, &mut line, (Cut::Whole, "sync"))
 }
 
-// The longest request has 48 bytes, and the longest line that is kept 64.
+// The longest request has 69 bytes, and so has the longest line that is kept.
 #[test]
 fn long_lines_are_cut_whole(rt: HostRuntime) -> Result<(), Fail> {
-    for length in [64usize, 65, 66, 65_535, 65_536, 65_537, 3_000_000] {
-        let cut = if length > 64 { Cut::Long } else { Cut::Whole };
+    for length in [69usize, 70, 71, 65_535, 65_536, 65_537, 3_000_000] {
+        let cut = if length > 69 { Cut::Long } else { Cut::Whole };
         assert!(rt; is_cut(rt.alloc(), length, cut)?);
     }
     Ok(())

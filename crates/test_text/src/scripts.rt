@@ -14,7 +14,7 @@ const ALL: Kinds = Kinds {
     lower: true,
 };
 
-/// Searches, insertions, deletions and posts alone.
+/// Searches, insertions, deletions, changes and posts alone.
 const FEW: Kinds = Kinds {
     part: false,
     compress: false,

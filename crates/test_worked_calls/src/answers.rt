@@ -20,6 +20,11 @@ pub fn changed(
     observed(alloc, &Answer::Op(reply.reply(), hint))
 }
 
+/// What a change of a value got.
+pub fn replied(alloc: Global, reply: KeyReply) -> Result<Vec<u8>, AllocError> {
+    observed(alloc, &Answer::Op(reply.reply(), None))
+}
+
 /// What a post got.
 pub fn posted(
     alloc: Global,

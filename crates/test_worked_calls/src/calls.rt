@@ -28,6 +28,7 @@ pub enum Call {
 pub enum PassCall {
     Insert(u64, u64),
     Delete(u64),
+    Change(u64, u64, u64),
     Find(u64, u32),
     Part(u64, u32),
     /// A part from that key on that has a page in mind, with so many turns.
@@ -96,6 +97,7 @@ fn map_call(words: &[&str]) -> Option<PassCall> {
         ["delete", key] => key.parse().ok().map(PassCall::Delete),
         ["insert", key, value] => insert_of(key, value),
         [call, key, turns] => search_of(call, key, turns),
+        ["change", key, old, new] => change_of(key, old, new),
         ["scan", from, end, turns] => scan_of(from, end, turns),
         ["near", from, page, turns] => near_of(from, page, turns),
         _ => None,
@@ -104,6 +106,10 @@ fn map_call(words: &[&str]) -> Option<PassCall> {
 
 fn insert_of(key: &str, value: &str) -> Option<PassCall> {
     Some(PassCall::Insert(key.parse().ok()?, value.parse().ok()?))
+}
+
+fn change_of(key: &str, old: &str, new: &str) -> Option<PassCall> {
+    Some(PassCall::Change(key.parse().ok()?, old.parse().ok()?, new.parse().ok()?))
 }
 
 /// A call that has a key and so many turns.

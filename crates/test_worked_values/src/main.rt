@@ -25,11 +25,11 @@
 //! | `spelled PAGE` | the words of a page that was read |
 //! | `cut`, `alter` | how many images are refused for their head: beginnings of it, and with one of the first 32 bytes altered in any way |
 //! | `map` | begins a map without rows |
-//! | `find KEY`, `insert KEY VALUE`, `delete KEY`, `part FROM` | what the map replies |
+//! | `find KEY`, `insert KEY VALUE`, `delete KEY`, `change KEY OLD NEW`, `part FROM` | what the map replies |
 //! | `processes` | from here on the calls are these |
 //! | `opening` | the pages of an opening tree, of which there are 8, in place of those before |
 //! | `page NUMBER`, `put NUMBER WORDS` | the words of a page, up to the last that is not 0; writes a page |
-//! | `find KEY`, `insert KEY VALUE`, `delete KEY`, `part KEY`, `post LEVEL KEY`, `compress LEVEL KEY`, `lower` | runs such a process: its events and its answer |
+//! | `find KEY`, `insert KEY VALUE`, `delete KEY`, `change KEY OLD NEW`, `part KEY`, `post LEVEL KEY`, `compress LEVEL KEY`, `lower` | runs such a process: its events and its answer |
 //! | `wait PROCESS` | starts one of these, which waits |
 //! | `go TURNS` | so many turns of the process that waits, and its answer if it has one |
 //! | `refuse`, `miss` | it is refused what it needs for its next action, or misses its latch |

@@ -10,6 +10,7 @@ pub fn op_of(call: &str, numbers: &[u64]) -> Option<Op> {
         ("find", [key]) => Some(Op::Find(*key)),
         ("insert", [key, value]) => Some(Op::Insert(*key, *value)),
         ("delete", [key]) => Some(Op::Delete(*key)),
+        ("change", [key, old, new]) => Some(Op::Change(*key, *old, *new)),
         ("part", [from]) => Some(Op::Part(*from)),
         _ => None,
     }

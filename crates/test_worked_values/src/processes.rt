@@ -22,6 +22,7 @@ fn process_of(call: &str, numbers: &[u64]) -> Option<Proc> {
         ("find", [key]) => Some(Proc::find(*key)),
         ("insert", [key, value]) => Some(Proc::insert(*key, *value)),
         ("delete", [key]) => Some(Proc::delete(*key)),
+        ("change", [key, old, new]) => Some(Proc::change(*key, *old, *new)),
         ("part", [key]) => Some(Proc::part(*key)),
         ("lower", []) => Some(Proc::lower()),
         (_, [level, key]) => helper_of(call, *level, *key),

@@ -7,7 +7,7 @@ use Rattle.bl_replay_script.proofs.lines.next_line.Goals as goal
 -- the whole line was kept
 pub returns-in-Ok-Whole : goal.returns-in-Ok-Whole
 returns-in-Ok-Whole g c = let e = rw c.in-Ok-Whole.field-0-is at c.in-Ok-Whole.ensures in
-    let same : c.next_line.new.line.items ≡ e.0 = e.3 ∙ take_all 65 e.0 (omega (arith, e.4.1)) in
+    let same : c.next_line.new.line.items ≡ e.0 = e.3 ∙ take_all 70 e.0 (omega (arith, e.4.1)) in
     (e.1, e.2, (subst HasNoLf (sym same) e.4.0, subst (λ t. c.args.source.now ++ e.1 ≡ t ++ 10 ∷ c.next_line.new.self) (sym same) e.4.2))
 
 pub returns-in-Ok-Long : goal.returns-in-Ok-Long

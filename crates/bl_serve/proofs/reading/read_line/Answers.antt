@@ -9,7 +9,7 @@ use Rattle.bl_serve.proofs.reading.read_line.Goals as goal
 -- the whole line was kept
 pub returns-in-Ok-Whole : goal.returns-in-Ok-Whole
 returns-in-Ok-Whole g c = let e = rw c.in-Ok-Whole.field-0-is at c.in-Ok-Whole.ensures in
-    let same : c.as_slice.result.now ≡ e.0 = c.as_slice.ensures.value ∙ e.3 ∙ take_all 65 e.0 (omega (arith, e.4.1)) in
+    let same : c.as_slice.result.now ≡ e.0 = c.as_slice.ensures.value ∙ e.3 ∙ take_all 70 e.0 (omega (arith, e.4.1)) in
     (e.0, e.1, e.2, (record { cut = e.4.0; means = subst (λ t. Means t c.parse.result) same c.parse.ensures.meaning }, e.4.2))
 
 pub returns-in-Ok-Long : goal.returns-in-Ok-Long

@@ -12,3 +12,6 @@ returns-in-Insert-clause-answers g c = on_ok_weaker c.push_key_line-in-Insert.re
 
 pub returns-in-Delete-clause-answers : goal.returns-in-Delete-clause-answers
 returns-in-Delete-clause-answers g c = on_ok_weaker c.push_key_line-in-Delete.result (λ is. asked_as _ _ _ _ _ _ _ _ _ _ _ refl (ap Ask c.in-Delete.is) c.delete-reply.ensures.works is) c.push_key_line-in-Delete.ensures
+
+pub returns-in-Change-clause-answers : goal.returns-in-Change-clause-answers
+returns-in-Change-clause-answers g c = on_ok_weaker c.push_key_line-in-Change.result (λ is. asked_as _ _ _ _ _ _ _ _ _ _ _ refl (ap Ask c.in-Change.is) c.change-reply.ensures.works is) c.push_key_line-in-Change.ensures

@@ -10,6 +10,6 @@ invariant-loop g l = record {
   read : Consumes (g.R.Read.remaining l.fn.reader.inner) (g.R.Read.remaining l.reader.inner) more;
   cut : HasNoLf bytes;
   whole : l.fn.self ++ more ≡ bytes ++ l.self;
-  front : l.line.items ≡ take 65 bytes;
+  front : l.line.items ≡ take 70 bytes;
   count : l.counter ≤ length bytes;
 }
