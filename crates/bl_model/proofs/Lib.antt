@@ -7,3 +7,4 @@ pub mod Parts
 pub mod Steps
 mod Written
 pub mod Beginnings
+pub mod Decisions

@@ -1,5 +1,6 @@
 -- A change goes on, and in one way.
 use Rattle.std.proofs.Common.{ℕ, ◌≡◌, ◌<◌, ◌≤◌, None, length, refl, sym, ap, ◌∙◌, subst, inl, inr, arith}
+use Rattle.std.specs.Prelude.{IsSome}
 use Rattle.std.specs.Coded.{le_prop}
 use Rattle.std.proofs.Props.{props}
 use Rattle.std.proofs.lemmas.Bool.{cases_lt, false≢true}
@@ -9,7 +10,7 @@ use Rattle.bl_page.specs.Pages.{Covers}
 use Rattle.bl_page.specs.Pairs.{IsChild}
 use Rattle.bl_model.specs.Rows.{map_of}
 use Rattle.bl_rearrange.specs.declared.fitted.Fitted.TheVariants.{Fits}
-use Rattle.bl_rearrange.specs.Rearranged.{pairs_of, MayHold, MayLose, IsFitted, IsWithout}
+use Rattle.bl_rearrange.specs.Rearranged.{pairs_of, MayHold, MayLose, IsFitted, IsWithout, IsWithValue}
 use Rattle.bl_proc_base.specs.Props.{Covers-prop, MayHold-prop}
 use Rattle.bl_proc_base.specs.declared.acts.Seen.{Seen}
 use Rattle.bl_proc_base.specs.declared.acts.Seen.TheVariants as seen
@@ -20,9 +21,9 @@ use Rattle.bl_proc_base.specs.declared.editing.Edit.TheVariants.{Putting, Taking
 use Rattle.bl_proc_base.specs.declared.editing.Edited.{Edited}
 use Rattle.bl_proc_base.specs.declared.editing.Edited.TheVariants.{On, Over}
 use Rattle.bl_proc_base.specs.Given.{Gives}
-use Rattle.bl_proc_base.specs.Edits.{edit_next, edit_needs, EntersPair, DropsPair, Changes}
+use Rattle.bl_proc_base.specs.Edits.{edit_next, edit_needs, EntersPair, DropsPair, GivesValue, Changes}
 use Rattle.bl_proc_unique.specs.One.{One}
-use Rattle.bl_proc_unique.proofs.Pages.{fits_one, fits_some, split_one, split_some, without_one, without_some}
+use Rattle.bl_proc_unique.proofs.Pages.{fits_one, fits_some, split_one, split_some, without_one, without_some, value_one, value_some}
 use Rattle.bl_proc_unique.proofs.WayCases.{EditCase, edit_case}
 
 full_same : (a b : Full) → a.at ≡ b.at → a.key ≡ b.key → a.word ≡ b.word → a.page ≡ b.page → a ≡ b
@@ -63,6 +64,15 @@ module _ (x : ℕ) (c : Page) (key : ℕ) (in_it : Covers c key) (may : MayLose 
 
   pub drop_one : One (DropsPair x c key)
   drop_one = (let p = without_some c key in_it may in record { new = Putting x p.0; goes = (refl, p.1); only = drop_only p.0 p.1 })
+
+-- A key that a page lists is to have another value.
+module _ (x : ℕ) (c : Page) (key value : ℕ) (listed : IsSome (map_of (pairs_of c) key)) (may : MayHold c value) where
+  value_only : (p : Page) → IsWithValue c key value p → (other : Edit) → GivesValue x c key value other → other ≡ Putting x p
+  value_only p f (Putting u v) t = (let e = value_one c key value v p t.1 f in λ i. Putting (t.0 i) (e i))
+  value_only p f old t = absurd t
+
+  pub replace_one : One (GivesValue x c key value)
+  replace_one = (let p = value_some c key value listed may in record { new = Putting x p.0; goes = (refl, p.1); only = value_only p.0 p.1 })
 
 -- what two turns lead to where the same was seen
 edit_same : {c : Edit} {what : Seen} {a b : Edited} → EditCase c what a → EditCase c what b → b ≡ a

@@ -81,10 +81,10 @@ not_begin (edit.PuttingOld u) e = cc
 not_begin (edit.OpeningNew u v s) e = cc
 not_begin (edit.Opening u v) e = cc
 
-pub came_frames_insert : (x key value : ℕ) (c : Page) (e : Edit) → EntersPair x c key value e → edit_frames e ≡ 0
-came_frames_insert x key value c (edit.Putting u v) t = refl
-came_frames_insert x key value c (edit.Taking u) t = refl
-came_frames_insert x key value c old t = absurd t
+pub came_frames : (x key value : ℕ) (c : Page) (e : Edit) → EntersPair x c key value e → edit_frames e ≡ 0
+came_frames x key value c (edit.Putting u v) t = refl
+came_frames x key value c (edit.Taking u) t = refl
+came_frames x key value c old t = absurd t
 
 find_leaves : (a : FindStage) (what : Seen) → Leaves (find_next_in a) None what 0 0
 find_leaves find.New what = refl

@@ -1,6 +1,9 @@
 -- Which turns a process of each kind can take, each with what it gives. Whoever takes a turn of a process apart has one
 -- clause for each of them, and none for what cannot be.
 use Rattle.std.proofs.Common.{ℕ, ◌≡◌, ◌≢◌, ◌-◌, ◌<◌, ◌≤◌, Bool, true, false, Option, Some, None, refl, sym, subst}
+use Rattle.bl_model.specs.declared.deciding.KeyWrite.{KeyWrite}
+use Rattle.bl_model.specs.declared.deciding.Effect.TheVariants.{Keep}
+use Rattle.bl_model.specs.Writes.{effect_of}
 use Rattle.bl_page.specs.declared.page.Page.{Page}
 use Rattle.bl_page.specs.declared.page.Page.TheVariants.{Inner as InnerPage}
 use Rattle.bl_page.specs.declared.page.Inner.{Inner}
@@ -8,7 +11,7 @@ use Rattle.bl_claims.specs.Pages.{node_of, roots_of}
 use Rattle.bl_proc_base.specs.declared.acts.Seen.{Seen}
 use Rattle.bl_proc_base.specs.declared.acts.Seen.TheVariants as seen
 use Rattle.bl_proc_base.specs.declared.answers.Reclaimed.{Reclaimed}
-use Rattle.bl_proc_base.specs.declared.answers.Reclaimed.TheVariants.{Released, Kept}
+use Rattle.bl_proc_base.specs.declared.answers.Reclaimed.TheVariants as reclaimed
 use Rattle.bl_proc_base.specs.declared.onwards.Step.{Step}
 use Rattle.bl_proc_base.specs.declared.onwards.Step.TheVariants.{Right, Here}
 use Rattle.bl_proc_base.specs.declared.descent.Descent.{Descent}
@@ -40,15 +43,11 @@ use Rattle.bl_proc_compress.specs.declared.squeezing.CompressReply.{CompressRepl
 use Rattle.bl_proc_compress.specs.declared.squeezing.CompressReply.TheVariants as pressed
 use Rattle.bl_proc_compress.specs.Compressions.{AreSiblings, Compresses}
 use Rattle.bl_proc_compress.specs.Compresses.{compress_reply, CompressArrives, CompressComes, CompressGoes}
-use Rattle.bl_proc.specs.declared.inserting.InsertStage.{InsertStage}
-use Rattle.bl_proc.specs.declared.inserting.InsertStage.TheVariants as insert
-use Rattle.bl_proc.specs.declared.inserting.InsertReply.{InsertReply}
-use Rattle.bl_proc.specs.declared.inserting.InsertReply.TheVariants as inserted
-use Rattle.bl_proc.specs.declared.deleting.Removed.{Removed}
-use Rattle.bl_proc.specs.declared.deleting.DeleteStage.{DeleteStage}
-use Rattle.bl_proc.specs.declared.deleting.DeleteStage.TheVariants as delete
-use Rattle.bl_proc.specs.declared.deleting.DeleteReply.{DeleteReply}
-use Rattle.bl_proc.specs.declared.deleting.DeleteReply.TheVariants as deleted
+use Rattle.bl_proc.specs.declared.writing.Noted.{Noted}
+use Rattle.bl_proc.specs.declared.writing.WriteReply.{WriteReply}
+use Rattle.bl_proc.specs.declared.writing.WriteReply.TheVariants as written
+use Rattle.bl_proc.specs.declared.writing.WriteStage.{WriteStage}
+use Rattle.bl_proc.specs.declared.writing.WriteStage.TheVariants as write
 use Rattle.bl_proc.specs.declared.walking.Walk.{Walk}
 use Rattle.bl_proc.specs.declared.posting.PostStage.{PostStage}
 use Rattle.bl_proc.specs.declared.posting.PostStage.TheVariants as post
@@ -67,13 +66,12 @@ use Rattle.bl_proc.specs.declared.parts.PartStage.TheVariants as part
 use Rattle.bl_proc_base.specs.Onwards.{Leads}
 use Rattle.bl_proc_base.specs.Descents.{Descends}
 use Rattle.bl_proc_base.specs.Approaches.{Approaches, Comes}
-use Rattle.bl_proc_base.specs.Edits.{EntersPair, DropsPair, Changes}
+use Rattle.bl_proc_base.specs.Edits.{EntersPair, Changes}
 use Rattle.bl_proc_base.specs.Growths.{Grows}
 use Rattle.bl_proc_base.specs.Lowerings.{Lowers}
 use Rattle.bl_proc.specs.Searches.{FindGoes}
 use Rattle.bl_proc.specs.Parts.{IsPartOf, way_by, PartGoes}
-use Rattle.bl_proc.specs.Inserts.{insert_reply, InsertArrives, InsertGoes}
-use Rattle.bl_proc.specs.Deletes.{thin_after, delete_reply, DeleteArrives, DeleteGoes}
+use Rattle.bl_proc.specs.Writes.{Performs, thin_by, write_reply, WriteArrives, WriteGoes}
 use Rattle.bl_proc.specs.Posts.{post_reply, IsLost, PostLacks, PostArrives, PostComes, PostGoes}
 use Rattle.bl_proc.specs.Reclaims.{GoesPast, ReclaimGoes}
 use Rattle.bl_proc.specs.Lowers.{LowerGoes}
@@ -132,55 +130,30 @@ part_case from (part.Descending d) (seen.Words c) (part.Ending r) t = Listed d c
 part_case from (part.Ending r) seen.Done (part.Over last) t = Ended r last t
 part_case from a what b t = absurd t
 
--- At its leaf an insertion has found the key, or the pair enters.
-pub data InsertCase (key value : ℕ) : InsertStage → Seen → InsertStage → Type 0 where
-  Began : (a : Approach) → a ≡ way.Start → InsertCase key value insert.New seen.Done (insert.Coming a)
-  Came : (a : Approach) (what : Seen) (b : Approach) → Approaches 0 key a what (came.On b) → InsertCase key value (insert.Coming a) what (insert.Coming b)
-  Found : (x : ℕ) (c : Page) (y there : ℕ) → Leads c key 0 Here → (y ≡ x) × ((node_of c).look key ≡ Some there) → InsertCase key value (insert.Coming (way.Latched x)) (seen.Words c) (insert.Present y there)
-  Entered : (x : ℕ) (c : Page) (d : Edit) → Leads c key 0 Here → ((node_of c).look key ≡ None) × EntersPair x c key value d → InsertCase key value (insert.Coming (way.Latched x)) (seen.Words c) (insert.Editing d)
-  Opened : (x there : ℕ) (r : InsertReply) → r ≡ inserted.Present there → InsertCase key value (insert.Present x there) seen.Done (insert.Ending r)
-  Edited : (c : Edit) (what : Seen) (d : Edit) → Changes c what (changed.On d) → InsertCase key value (insert.Editing c) what (insert.Editing d)
-  Finished : (c : Edit) (what : Seen) (r : InsertReply) → (o : Outcome) × Changes c what (changed.Over o) × (r ≡ insert_reply o) → InsertCase key value (insert.Editing c) what (insert.Ending r)
-  Ended : (r last : InsertReply) → last ≡ r → InsertCase key value (insert.Ending r) seen.Done (insert.Over last)
+-- At its leaf a write leaves it as it is, or changes it.
+pub data WriteCase (key : ℕ) (does : KeyWrite) : WriteStage → Seen → WriteStage → Type 0 where
+  Began : (a : Approach) → a ≡ way.Start → WriteCase key does write.New seen.Done (write.Coming a)
+  Came : (a : Approach) (what : Seen) (b : Approach) → Approaches 0 key a what (came.On b) → WriteCase key does (write.Coming a) what (write.Coming b)
+  Kept : (x : ℕ) (c : Page) (y : ℕ) (there : Option ℕ) → Leads c key 0 Here → (y ≡ x) × ((node_of c).look key ≡ there) × (effect_of does there ≡ Keep) → WriteCase key does (write.Coming (way.Latched x)) (seen.Words c) (write.Keeping y there)
+  Changed : (x : ℕ) (c : Page) (noted : Noted) (d : Edit) → Leads c key 0 Here → ((node_of c).look key ≡ noted.there) × Performs (effect_of does noted.there) x c key d × (noted.thin ≡ thin_by (effect_of does noted.there) d) → WriteCase key does (write.Coming (way.Latched x)) (seen.Words c) (write.Editing noted d)
+  Opened : (x : ℕ) (there : Option ℕ) (r : WriteReply) → r ≡ written.Done there None → WriteCase key does (write.Keeping x there) seen.Done (write.Ending r)
+  Edited : (noted : Noted) (c : Edit) (what : Seen) (same : Noted) (d : Edit) → (same ≡ noted) × Changes c what (changed.On d) → WriteCase key does (write.Editing noted c) what (write.Editing same d)
+  Finished : (noted : Noted) (c : Edit) (what : Seen) (r : WriteReply) → (o : Outcome) × Changes c what (changed.Over o) × (r ≡ write_reply noted o) → WriteCase key does (write.Editing noted c) what (write.Ending r)
+  Ended : (r last : WriteReply) → last ≡ r → WriteCase key does (write.Ending r) seen.Done (write.Over last)
 
-pub insert_case : (key value : ℕ) (a : InsertStage) (what : Seen) (b : InsertStage) → InsertGoes key value a what b → InsertCase key value a what b
-insert_case key value insert.New seen.Done (insert.Coming a) t = Began a t
-insert_case key value (insert.Coming a) what (insert.Coming b) t = Came a what b t
-insert_case key value (insert.Coming a) what (insert.Present y there) (x, c, h, t) =
-    at_page (λ z d. InsertArrives key value z d (insert.Present y there)) (λ b w. InsertCase key value (insert.Coming b) w (insert.Present y there)) h t (λ z d l u. Found z d y there l u)
-insert_case key value (insert.Coming a) what (insert.Editing e) (x, c, h, t) =
-    at_page (λ z d. InsertArrives key value z d (insert.Editing e)) (λ b w. InsertCase key value (insert.Coming b) w (insert.Editing e)) h t (λ z d l u. Entered z d e l u)
-insert_case key value (insert.Coming a) what b t = absurd t.3
-insert_case key value (insert.Present x there) seen.Done (insert.Ending r) t = Opened x there r t
-insert_case key value (insert.Editing c) what (insert.Editing d) t = Edited c what d t
-insert_case key value (insert.Editing c) what (insert.Ending r) t = Finished c what r t
-insert_case key value (insert.Ending r) seen.Done (insert.Over last) t = Ended r last t
-insert_case key value a what b t = absurd t
-
--- At its leaf a deletion misses the key, or the pair leaves.
-pub data DeleteCase (key : ℕ) : DeleteStage → Seen → DeleteStage → Type 0 where
-  Began : (a : Approach) → a ≡ way.Start → DeleteCase key delete.New seen.Done (delete.Coming a)
-  Came : (a : Approach) (what : Seen) (b : Approach) → Approaches 0 key a what (came.On b) → DeleteCase key (delete.Coming a) what (delete.Coming b)
-  Missing : (x : ℕ) (c : Page) (y : ℕ) → Leads c key 0 Here → (y ≡ x) × ((node_of c).look key ≡ None) → DeleteCase key (delete.Coming (way.Latched x)) (seen.Words c) (delete.Absent y)
-  Dropped : (x : ℕ) (c : Page) (v : Removed) (d : Edit) → Leads c key 0 Here → ((node_of c).look key ≡ Some v.value) × DropsPair x c key d × (v.thin ≡ thin_after d) → DeleteCase key (delete.Coming (way.Latched x)) (seen.Words c) (delete.Editing v d)
-  Opened : (x : ℕ) (r : DeleteReply) → r ≡ deleted.Absent → DeleteCase key (delete.Absent x) seen.Done (delete.Ending r)
-  Edited : (v : Removed) (c : Edit) (what : Seen) (u : Removed) (d : Edit) → (u ≡ v) × Changes c what (changed.On d) → DeleteCase key (delete.Editing v c) what (delete.Editing u d)
-  Finished : (v : Removed) (c : Edit) (what : Seen) (r : DeleteReply) → (o : Outcome) × Changes c what (changed.Over o) × (r ≡ delete_reply v o) → DeleteCase key (delete.Editing v c) what (delete.Ending r)
-  Ended : (r last : DeleteReply) → last ≡ r → DeleteCase key (delete.Ending r) seen.Done (delete.Over last)
-
-pub delete_case : (key : ℕ) (a : DeleteStage) (what : Seen) (b : DeleteStage) → DeleteGoes key a what b → DeleteCase key a what b
-delete_case key delete.New seen.Done (delete.Coming a) t = Began a t
-delete_case key (delete.Coming a) what (delete.Coming b) t = Came a what b t
-delete_case key (delete.Coming a) what (delete.Absent y) (x, c, h, t) =
-    at_page (λ z d. DeleteArrives key z d (delete.Absent y)) (λ b w. DeleteCase key (delete.Coming b) w (delete.Absent y)) h t (λ z d l u. Missing z d y l u)
-delete_case key (delete.Coming a) what (delete.Editing v e) (x, c, h, t) =
-    at_page (λ z d. DeleteArrives key z d (delete.Editing v e)) (λ b w. DeleteCase key (delete.Coming b) w (delete.Editing v e)) h t (λ z d l u. Dropped z d v e l u)
-delete_case key (delete.Coming a) what b t = absurd t.3
-delete_case key (delete.Absent x) seen.Done (delete.Ending r) t = Opened x r t
-delete_case key (delete.Editing v c) what (delete.Editing u d) t = Edited v c what u d t
-delete_case key (delete.Editing v c) what (delete.Ending r) t = Finished v c what r t
-delete_case key (delete.Ending r) seen.Done (delete.Over last) t = Ended r last t
-delete_case key a what b t = absurd t
+pub write_case : (key : ℕ) (does : KeyWrite) (a : WriteStage) (what : Seen) (b : WriteStage) → WriteGoes key does a what b → WriteCase key does a what b
+write_case key does write.New seen.Done (write.Coming a) t = Began a t
+write_case key does (write.Coming a) what (write.Coming b) t = Came a what b t
+write_case key does (write.Coming a) what (write.Keeping y there) (x, c, h, t) =
+    at_page (λ z d. WriteArrives key does z d (write.Keeping y there)) (λ b w. WriteCase key does (write.Coming b) w (write.Keeping y there)) h t (λ z d l u. Kept z d y there l u)
+write_case key does (write.Coming a) what (write.Editing noted e) (x, c, h, t) =
+    at_page (λ z d. WriteArrives key does z d (write.Editing noted e)) (λ b w. WriteCase key does (write.Coming b) w (write.Editing noted e)) h t (λ z d l u. Changed z d noted e l u)
+write_case key does (write.Coming a) what b t = absurd t.3
+write_case key does (write.Keeping x there) seen.Done (write.Ending r) t = Opened x there r t
+write_case key does (write.Editing noted c) what (write.Editing same d) t = Edited noted c what same d t
+write_case key does (write.Editing noted c) what (write.Ending r) t = Finished noted c what r t
+write_case key does (write.Ending r) seen.Done (write.Over last) t = Ended r last t
+write_case key does a what b t = absurd t
 
 -- At the anchor the level may be missing, or is to be made; at the parent the key is listed, or the walk to the child begins.
 pub data PostCase (level key : ℕ) : PostStage → Seen → PostStage → Type 0 where
@@ -270,12 +243,12 @@ compress_case level key a what b t = absurd t
 pub data ReclaimCase : ReclaimStage → Seen → ReclaimStage → Type 0 where
   First : (started own : ℕ) (r : Round) → GoesPast 0 started own (reclaim.Looking r) → ReclaimCase reclaim.Seeing (seen.Owner true started own) (reclaim.Looking r)
   NoneThere : (started own : ℕ) → GoesPast 0 started own reclaim.Releasing → ReclaimCase reclaim.Seeing (seen.Owner true started own) reclaim.Releasing
-  NotRetired : (started own : ℕ) (what : Reclaimed) → what ≡ Kept → ReclaimCase reclaim.Seeing (seen.Owner false started own) (reclaim.Over what)
+  NotRetired : (started own : ℕ) (what : Reclaimed) → what ≡ reclaimed.Kept → ReclaimCase reclaim.Seeing (seen.Owner false started own) (reclaim.Over what)
   Further : (r n : Round) → GoesPast r.next r.started r.own (reclaim.Looking n) → ReclaimCase (reclaim.Looking r) (seen.Blocks false) (reclaim.Looking n)
   NoMore : (r : Round) → GoesPast r.next r.started r.own reclaim.Releasing → ReclaimCase (reclaim.Looking r) (seen.Blocks false) reclaim.Releasing
-  Blocked : (r : Round) (what : Reclaimed) → what ≡ Kept → ReclaimCase (reclaim.Looking r) (seen.Blocks true) (reclaim.Over what)
-  Done : (what : Reclaimed) → what ≡ Released → ReclaimCase reclaim.Releasing seen.Done (reclaim.Over what)
-  Missed : (what : Reclaimed) → what ≡ Kept → ReclaimCase reclaim.Releasing seen.Missed (reclaim.Over what)
+  Blocked : (r : Round) (what : Reclaimed) → what ≡ reclaimed.Kept → ReclaimCase (reclaim.Looking r) (seen.Blocks true) (reclaim.Over what)
+  Done : (what : Reclaimed) → what ≡ reclaimed.Released → ReclaimCase reclaim.Releasing seen.Done (reclaim.Over what)
+  Missed : (what : Reclaimed) → what ≡ reclaimed.Kept → ReclaimCase reclaim.Releasing seen.Missed (reclaim.Over what)
 
 pub reclaim_case : (a : ReclaimStage) (what : Seen) (b : ReclaimStage) → ReclaimGoes a what b → ReclaimCase a what b
 reclaim_case reclaim.Seeing (seen.Owner true started own) (reclaim.Looking r) t = First started own r t

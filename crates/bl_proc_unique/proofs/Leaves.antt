@@ -1,5 +1,6 @@
 -- The leaf at which a writer of level 0 arrives.
 use Rattle.std.proofs.Common.{ℕ, ◌≡◌, None, refl, arith}
+use Rattle.std.specs.Prelude.{IsSome}
 use Rattle.bl_page.specs.declared.page.Page.{Page}
 use Rattle.bl_page.specs.declared.page.Page.TheVariants.{Anchor, Leaf, Inner, Dead}
 use Rattle.bl_page.specs.Pages.{Covers}
@@ -32,3 +33,9 @@ leaf_loses (Anchor a) key h = tt
 leaf_loses (Leaf l) key h = tt
 leaf_loses (Inner i) key h = absurd (let above = i.above_leaves in let level = h.2 in omega arith)
 leaf_loses (Dead d) key h = tt
+
+pub leaf_has : (c : Page) (key level : ℕ) → Leads c key level Here → IsSome ((node_of c).look key) → IsSome (map_of (pairs_of c) key)
+leaf_has (Anchor a) key level h listed = absurd h.0
+leaf_has (Leaf l) key level h listed = listed
+leaf_has (Inner i) key level h listed = listed
+leaf_has (Dead d) key level h listed = absurd h.0

@@ -14,8 +14,7 @@ pub mod Lowerings
 pub mod Lowers
 pub mod Parts
 pub mod Leaves
-pub mod Insertions
-pub mod Deletions
+pub mod Writings
 pub mod Posts
 pub mod Following
 pub mod PostsFollowing

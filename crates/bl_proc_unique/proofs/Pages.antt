@@ -1,5 +1,7 @@
--- A page with a pair more or less: there is one, and it is the only one.
+-- A page with a pair more or less, or with another value in one: there is one, and it is the only one.
 use Rattle.std.proofs.Common.{◌≡◌, ℕ, zero, suc, ◌<◌, ◌≤◌, List, [], ◌∷◌, length, take, drop, get_or, None, refl, sym, ap, ◌∙◌, subst, arith}
+use Rattle.std.specs.Prelude.{IsSome}
+use Rattle.std.proofs.lemmas.Bool.{false≢true}
 use Rattle.std.proofs.lemmas.List.{take-append-drop, length-append}
 use Rattle.arrayvec.specs.ArrayVec.{ArrayVec}
 use Rattle.bl_model.specs.Map.{with_pair}
@@ -9,11 +11,11 @@ use Rattle.bl_page.specs.declared.page.Page.TheVariants.{Anchor, Leaf, Inner, De
 use Rattle.bl_page.specs.Pages.{Covers}
 use Rattle.bl_page.specs.Pairs.{RisesFrom, AllWithin, BeginsWith, IsChild, IsWithin, end_of}
 use Rattle.bl_page.proofs.Same.{leaf_same, inner_same}
-use Rattle.bl_rearrange.specs.Entered.{entered, dropped, AreHalves}
+use Rattle.bl_rearrange.specs.Entered.{entered, dropped, replaced, AreHalves}
 use Rattle.bl_rearrange.specs.declared.fitted.Fitted.TheVariants.{Fits, Split}
-use Rattle.bl_rearrange.specs.Rearranged.{pairs_of, IsNow, low_of, high_of, right_of, MayHold, MayLose, IsFitted, IsWithout}
+use Rattle.bl_rearrange.specs.Rearranged.{pairs_of, IsNow, low_of, high_of, right_of, MayHold, MayLose, IsFitted, IsWithout, IsWithValue}
 use Rattle.bl_rearrange.proofs.EnteredLemmas.{length-entered}
-use Rattle.bl_rearrange.proofs.Parts.{entered_is, halves_are, dropped_is}
+use Rattle.bl_rearrange.proofs.Parts.{entered_is, halves_are, dropped_is, replaced_is}
 use Rattle.bl_proc_unique.proofs.Rows.{rows_one, front_one, back_one, IsSplit, split_rows_one}
 
 pub vec_one : {A : Type 0} (v w : ArrayVec A) → v.items ≡ w.items → v ≡ w
@@ -206,3 +208,41 @@ without_some (Inner i) key in_it may =
       record { frame = (refl, refl, refl, refl); count = is.one_less; pairs = is.map },
     )
 without_some (Dead d) key in_it may = absurd in_it
+
+-- Another value in one pair.
+
+pub value_one : (c : Page) (key value : ℕ) (p q : Page) → IsWithValue c key value p → IsWithValue c key value q → p ≡ q
+value_one c key value p q a b = now_one (low_of c) (high_of c) (right_of c) c p q a.frame b.frame (rows_one 0 (pairs_of p) (pairs_of q) (rising p) (rising q) (λ j. a.pairs j ∙ sym (b.pairs j)))
+
+pub value_some : (c : Page) (key value : ℕ) → IsSome (map_of (pairs_of c) key) → MayHold c value → (p : Page) × IsWithValue c key value p
+value_some (Anchor a) key value listed may = absurd (false≢true listed)
+value_some (Leaf l) key value listed may =
+    let is = replaced_is l.low l.high key value l.rows.items l.order l.cover listed in
+    let count = is.count in
+    let few = l.few in (
+      Leaf (record { low = l.low; high = l.high; right = l.right; rows = record { items = replaced key value l.rows.items }; bounds = l.bounds; link = l.link; few = omega arith; order = is.rising; cover = is.within }),
+      record { frame = (refl, refl, refl); count = count; pairs = is.map },
+    )
+value_some (Inner i) key value listed may =
+    let is = replaced_is i.low i.high key value i.children.items i.order i.cover listed in
+    let count = is.count in
+    let few = i.few in (
+      Inner (record {
+        level = i.level;
+        low = i.low;
+        high = i.high;
+        right = i.right;
+        children = record { items = replaced key value i.children.items };
+        above_leaves = i.above_leaves;
+        below_limit = i.below_limit;
+        bounds = i.bounds;
+        link = i.link;
+        few = omega arith;
+        order = is.rising;
+        cover = is.within;
+        first = is.first i.first;
+        pages = is.children may i.pages;
+      }),
+      record { frame = (refl, refl, refl, refl); count = count; pairs = is.map },
+    )
+value_some (Dead d) key value listed may = absurd (false≢true listed)

@@ -14,7 +14,7 @@ use Rattle.bl_proc.specs.declared.kinds.Proc.TheVariants as proc
 use Rattle.bl_proc.specs.Posts.{post_next_in, post_needs_in, post_answer_in}
 use Rattle.bl_proc.specs.Processes.{Takes}
 use Rattle.bl_proc_unique.specs.Frames.{growth_frames, post_frames, Wants, Leaves, Follows}
-use Rattle.bl_proc_unique.proofs.Following.{approach_wants, edit_wants, edit_leaves, edit_over, approach_leaves, not_begin_way, not_begin, came_frames_insert}
+use Rattle.bl_proc_unique.proofs.Following.{approach_wants, edit_wants, edit_leaves, edit_over, approach_leaves, not_begin_way, not_begin, came_frames}
 use Rattle.bl_proc_unique.proofs.WayCases.{edit_case, GrowthCase, growth_case}
 use Rattle.bl_proc_unique.proofs.KindCases.{PostCase, post_case}
 
@@ -74,7 +74,7 @@ post_leaves (PostCase.Came a what b t) = approach_leaves a what
 post_leaves {level = level} (PostCase.Grew g what h t) = growth_leaves (growth_case level g what _ t)
 post_leaves {level = level} (PostCase.Grown g what a t) = grown_leaves (growth_case level g what _ t.0)
 post_leaves {level = level} (PostCase.NoRoom g what r t) = refused_leaves (growth_case level g what _ t.0)
-post_leaves (PostCase.Entered w c d t) = came_frames_insert w.at w.key w.child (Inner w.parent) d t.2
+post_leaves (PostCase.Entered w c d t) = came_frames w.at w.key w.child (Inner w.parent) d t.2
 post_leaves (PostCase.Edited c what d t) = edit_leaves (edit_case c what _ t)
 post_leaves (PostCase.Finished c what r t) = edit_over (edit_case c what _ t.1)
 post_leaves other = refl

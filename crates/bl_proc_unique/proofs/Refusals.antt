@@ -1,5 +1,7 @@
 -- States in which a process goes on without room. A change or a growth comes to one only by being refused.
 use Rattle.std.proofs.Common.{ℕ, ◌≡◌, ◌⊎◌, refl, subst, inl, inr}
+use Rattle.bl_model.specs.declared.deciding.Effect.{Effect}
+use Rattle.bl_model.specs.declared.deciding.Effect.TheVariants.{Keep, Enter, Remove, Replace}
 use Rattle.bl_page.specs.declared.page.Page.{Page}
 use Rattle.bl_proc_base.specs.declared.acts.Seen.{Seen}
 use Rattle.bl_proc_base.specs.declared.acts.Seen.TheVariants as seen
@@ -9,7 +11,8 @@ use Rattle.bl_proc_base.specs.declared.editing.Edit.TheVariants as edit
 use Rattle.bl_proc_base.specs.declared.editing.Edited.TheVariants as changed
 use Rattle.bl_proc_base.specs.declared.growing.Growth.{Growth}
 use Rattle.bl_proc_base.specs.declared.growing.Grew.TheVariants as grew
-use Rattle.bl_proc_base.specs.Edits.{EntersPair, DropsPair}
+use Rattle.bl_proc_base.specs.Edits.{EntersPair, DropsPair, GivesValue}
+use Rattle.bl_proc.specs.Writes.{Performs}
 use Rattle.bl_proc_unique.specs.Refusals.{OutcomeRefused, EditRefused, GrowthRefused}
 use Rattle.bl_proc_unique.proofs.WayCases.{EditCase, GrowthCase}
 
@@ -54,3 +57,14 @@ drops_not x c key (edit.PuttingNew t) e r = r
 drops_not x c key (edit.PuttingOld t) e r = r
 drops_not x c key (edit.OpeningNew y n s) e r = r
 drops_not x c key (edit.Opening y o) e r = e
+
+pub gives_not : (x : ℕ) (c : Page) (key value : ℕ) (d : Edit) → GivesValue x c key value d → EditRefused d → ⊥
+gives_not x c key value (edit.Putting y p) e r = r
+gives_not x c key value (edit.Opening y o) e r = e
+gives_not x c key value old e r = r
+
+pub performs_not : (effect : Effect) (x : ℕ) (c : Page) (key : ℕ) (d : Edit) → Performs effect x c key d → EditRefused d → ⊥
+performs_not Keep x c key d e r = e
+performs_not (Enter value) x c key d e r = enters_not x c key value d e r
+performs_not Remove x c key d e r = drops_not x c key d e r
+performs_not (Replace value) x c key d e r = gives_not x c key value d e r

@@ -1,16 +1,20 @@
 -- A process that answers that there was no room goes on without room.
-use Rattle.std.proofs.Common.{ℕ, ◌≡◌, Some, None, subst}
+use Rattle.std.proofs.Common.{ℕ, ◌≡◌, ◌≢◌, Option, Some, None, refl, subst}
+use Rattle.bl_model.specs.declared.operation.Reply.{Reply}
+use Rattle.bl_model.specs.declared.operation.Reply.TheVariants as reply
+use Rattle.bl_model.specs.declared.deciding.KeyWrite.{KeyWrite}
+use Rattle.bl_model.specs.Writes.{replied}
+use Rattle.bl_model.proofs.Decisions.{is_decided}
 use Rattle.bl_proc_base.specs.declared.answers.Answer.{Answer}
+use Rattle.bl_proc_base.specs.declared.answers.Answer.TheVariants as answer
+use Rattle.bl_proc_base.specs.declared.answers.Hint.{Hint}
 use Rattle.bl_proc.specs.declared.searching.FindStage.{FindStage}
 use Rattle.bl_proc.specs.declared.searching.FindStage.TheVariants as find
 use Rattle.bl_proc.specs.declared.parts.PartStage.{PartStage}
 use Rattle.bl_proc.specs.declared.parts.PartStage.TheVariants as part
-use Rattle.bl_proc.specs.declared.inserting.InsertStage.{InsertStage}
-use Rattle.bl_proc.specs.declared.inserting.InsertStage.TheVariants as insert
-use Rattle.bl_proc.specs.declared.inserting.InsertReply.TheVariants as inserted
-use Rattle.bl_proc.specs.declared.deleting.DeleteStage.{DeleteStage}
-use Rattle.bl_proc.specs.declared.deleting.DeleteStage.TheVariants as delete
-use Rattle.bl_proc.specs.declared.deleting.DeleteReply.TheVariants as deleted
+use Rattle.bl_proc.specs.declared.writing.WriteReply.TheVariants as written
+use Rattle.bl_proc.specs.declared.writing.WriteStage.{WriteStage}
+use Rattle.bl_proc.specs.declared.writing.WriteStage.TheVariants as write
 use Rattle.bl_proc.specs.declared.posting.PostStage.{PostStage}
 use Rattle.bl_proc.specs.declared.posting.PostStage.TheVariants as post
 use Rattle.bl_proc.specs.declared.posting.PostReply.TheVariants as listed
@@ -27,13 +31,12 @@ use Rattle.bl_proc.specs.declared.kinds.Proc.TheVariants as proc
 use Rattle.bl_proc.specs.Processes.{answer_of}
 use Rattle.bl_proc.specs.Searches.{find_answer_in}
 use Rattle.bl_proc.specs.Parts.{part_answer_in}
-use Rattle.bl_proc.specs.Inserts.{insert_answer_in}
-use Rattle.bl_proc.specs.Deletes.{delete_answer_in}
+use Rattle.bl_proc.specs.Writes.{write_answer_in}
 use Rattle.bl_proc.specs.Posts.{post_answer_in}
 use Rattle.bl_proc_compress.specs.Compresses.{compress_answer_in}
 use Rattle.bl_proc.specs.Reclaims.{reclaim_answer_in}
 use Rattle.bl_proc.specs.Lowers.{lower_answer_in}
-use Rattle.bl_proc_unique.specs.Refusals.{IsNoRoom, InsertRefused, DeleteRefused, PostRefused, CompressRefused, LowerRefused, IsRefused}
+use Rattle.bl_proc_unique.specs.Refusals.{IsNoRoom, WriteRefused, PostRefused, CompressRefused, LowerRefused, IsRefused}
 
 -- An answer
 
@@ -58,25 +61,19 @@ part_answers (part.Descending d) b e r = none_answer b e
 part_answers (part.Ending q) b e r = none_answer b e
 part_answers (part.Over q) b e r = no_room _ b e r
 
-insert_answers : (a : InsertStage) (b : Answer) → insert_answer_in a ≡ Some b → IsNoRoom b → InsertRefused a
-insert_answers insert.New b e r = none_answer b e
-insert_answers (insert.Coming a) b e r = none_answer b e
-insert_answers (insert.Present x v) b e r = none_answer b e
-insert_answers (insert.Editing c) b e r = none_answer b e
-insert_answers (insert.Ending x) b e r = none_answer b e
-insert_answers (insert.Over (inserted.Inserted s)) b e r = no_room _ b e r
-insert_answers (insert.Over (inserted.Present v)) b e r = no_room _ b e r
-insert_answers (insert.Over inserted.NoRoom) b e r = tt
+-- no write decides that there was no room
+never_no_room : (q : Reply) (h : Option Hint) → q ≢ reply.NoRoom → IsNoRoom (answer.Op q h) → ⊥
+never_no_room reply.NoRoom h other r = other refl
+never_no_room q h other r = r
 
-delete_answers : (a : DeleteStage) (b : Answer) → delete_answer_in a ≡ Some b → IsNoRoom b → DeleteRefused a
-delete_answers delete.New b e r = none_answer b e
-delete_answers (delete.Coming a) b e r = none_answer b e
-delete_answers (delete.Absent x) b e r = none_answer b e
-delete_answers (delete.Editing v c) b e r = none_answer b e
-delete_answers (delete.Ending x) b e r = none_answer b e
-delete_answers (delete.Over (deleted.Deleted v)) b e r = no_room _ b e r
-delete_answers (delete.Over deleted.Absent) b e r = no_room _ b e r
-delete_answers (delete.Over deleted.NoRoom) b e r = tt
+write_answers : (does : KeyWrite) (a : WriteStage) (b : Answer) → write_answer_in does a ≡ Some b → IsNoRoom b → WriteRefused a
+write_answers does write.New b e r = none_answer b e
+write_answers does (write.Coming a) b e r = none_answer b e
+write_answers does (write.Keeping x there) b e r = none_answer b e
+write_answers does (write.Editing noted c) b e r = none_answer b e
+write_answers does (write.Ending x) b e r = none_answer b e
+write_answers does (write.Over (written.Done there h)) b e r = absurd (never_no_room (replied does there) h (is_decided does there).room (no_room _ b e r))
+write_answers does (write.Over written.NoRoom) b e r = tt
 
 post_answers : (level : ℕ) (a : PostStage) (b : Answer) → post_answer_in level a ≡ Some b → IsNoRoom b → PostRefused a
 post_answers level post.New b e r = none_answer b e
@@ -121,8 +118,7 @@ lower_answers (lower.Over lowered.NoRoom) b e r = tt
 
 pub answers_refused : (p : Proc) (a : Answer) → answer_of p ≡ Some a → IsNoRoom a → IsRefused p
 answers_refused (proc.Find p) a e r = find_answers p.stage a e r
-answers_refused (proc.Insert p) a e r = insert_answers p.stage a e r
-answers_refused (proc.Delete p) a e r = delete_answers p.stage a e r
+answers_refused (proc.Write p) a e r = write_answers p.write p.stage a e r
 answers_refused (proc.Post p) a e r = post_answers p.level p.stage a e r
 answers_refused (proc.Part p) a e r = part_answers p.stage a e r
 answers_refused (proc.Compress p) a e r = compress_answers p.stage a e r

@@ -15,10 +15,8 @@ use Rattle.bl_proc_compress.specs.Compressions.{compression_next, compression_ne
 use Rattle.bl_proc_compress.specs.declared.squeezing.CompressStage.{CompressStage}
 use Rattle.bl_proc_compress.specs.declared.squeezing.CompressStage.TheVariants as compress
 use Rattle.bl_proc_compress.specs.Compresses.{compress_next_in, compress_needs_in}
-use Rattle.bl_proc.specs.declared.inserting.InsertStage.{InsertStage}
-use Rattle.bl_proc.specs.declared.inserting.InsertStage.TheVariants as insert
-use Rattle.bl_proc.specs.declared.deleting.DeleteStage.{DeleteStage}
-use Rattle.bl_proc.specs.declared.deleting.DeleteStage.TheVariants as delete
+use Rattle.bl_proc.specs.declared.writing.WriteStage.{WriteStage}
+use Rattle.bl_proc.specs.declared.writing.WriteStage.TheVariants as write
 use Rattle.bl_proc.specs.declared.posting.PostStage.{PostStage}
 use Rattle.bl_proc.specs.declared.posting.PostStage.TheVariants as post
 use Rattle.bl_proc_base.specs.declared.lowering.Lowering.{Lowering}
@@ -29,11 +27,10 @@ use Rattle.bl_proc.specs.declared.lowering.LowerStage.TheVariants as lower
 use Rattle.bl_proc.specs.Lowers.{lower_next_in, lower_needs_in}
 use Rattle.bl_proc.specs.declared.kinds.Proc.{Proc}
 use Rattle.bl_proc.specs.declared.kinds.Proc.TheVariants as proc
-use Rattle.bl_proc.specs.Inserts.{insert_next_in, insert_needs_in}
-use Rattle.bl_proc.specs.Deletes.{delete_next_in, delete_needs_in}
+use Rattle.bl_proc.specs.Writes.{write_next_in, write_needs_in}
 use Rattle.bl_proc.specs.Posts.{post_next_in, post_needs_in}
 use Rattle.bl_proc.specs.Processes.{next_of, needs_of, Takes}
-use Rattle.bl_proc_unique.specs.Refusals.{EditRefused, GrowthRefused, InsertRefused, DeleteRefused, PostRefused, SqueezeRefused, CompressRefused, LoweringRefused, LowerRefused, IsRefused, SqueezePuts, CompressPuts, PutsRefused, MayAsk}
+use Rattle.bl_proc_unique.specs.Refusals.{EditRefused, GrowthRefused, WriteRefused, PostRefused, SqueezeRefused, CompressRefused, LoweringRefused, LowerRefused, IsRefused, SqueezePuts, CompressPuts, PutsRefused, MayAsk}
 
 -- it opens a page, or ends
 abbrev pub OpensOrEnds : Action → Type 0
@@ -47,17 +44,11 @@ growth_opens : (g : Growth) → GrowthRefused g → OpensOrEnds (growth_next g)
 growth_opens growth.OpeningRefused r = inl (0, refl)
 growth_opens old r = absurd r
 
-insert_opens : (s : InsertStage) → InsertRefused s → OpensOrEnds (insert_next_in s)
-insert_opens (insert.Editing c) r = edit_opens c r
-insert_opens (insert.Ending a) r = inr refl
-insert_opens (insert.Over a) r = inr refl
-insert_opens old r = absurd r
-
-delete_opens : (s : DeleteStage) → DeleteRefused s → OpensOrEnds (delete_next_in s)
-delete_opens (delete.Editing v c) r = edit_opens c r
-delete_opens (delete.Ending a) r = inr refl
-delete_opens (delete.Over a) r = inr refl
-delete_opens old r = absurd r
+write_opens : (s : WriteStage) → WriteRefused s → OpensOrEnds (write_next_in s)
+write_opens (write.Editing noted c) r = edit_opens c r
+write_opens (write.Ending a) r = inr refl
+write_opens (write.Over a) r = inr refl
+write_opens old r = absurd r
 
 post_opens : (s : PostStage) → PostRefused s → OpensOrEnds (post_next_in s)
 post_opens (post.Growing g) r = growth_opens g r
@@ -95,8 +86,7 @@ lower_opens (lower.Over a) r = inr refl
 lower_opens old r = absurd r
 
 pub refused_opens : (p : Proc) → IsRefused p → (PutsRefused p → ⊥) → OpensOrEnds (next_of p)
-refused_opens (proc.Insert p) r not = insert_opens p.stage r
-refused_opens (proc.Delete p) r not = delete_opens p.stage r
+refused_opens (proc.Write p) r not = write_opens p.stage r
 refused_opens (proc.Post p) r not = post_opens p.stage r
 refused_opens (proc.Compress p) r not = compress_opens p.stage r not
 refused_opens (proc.Lower p) r not = lower_opens p.stage r
@@ -128,21 +118,13 @@ growth_asks (growth.OpeningTop x) b e = none_asks b e
 growth_asks growth.OpeningGrown b e = none_asks b e
 growth_asks growth.OpeningRefused b e = none_asks b e
 
-insert_asks : (s : InsertStage) (b : ℕ × ℕ) → insert_needs_in s ≡ Some b → (b ≡ (0, 1)) ⊎ (b ≡ (1, 2))
-insert_asks insert.New b e = none_asks b e
-insert_asks (insert.Coming a) b e = none_asks b e
-insert_asks (insert.Present x v) b e = none_asks b e
-insert_asks (insert.Editing c) b e = edit_asks c b e
-insert_asks (insert.Ending a) b e = none_asks b e
-insert_asks (insert.Over a) b e = none_asks b e
-
-delete_asks : (s : DeleteStage) (b : ℕ × ℕ) → delete_needs_in s ≡ Some b → (b ≡ (0, 1)) ⊎ (b ≡ (1, 2))
-delete_asks delete.New b e = none_asks b e
-delete_asks (delete.Coming a) b e = none_asks b e
-delete_asks (delete.Absent x) b e = none_asks b e
-delete_asks (delete.Editing v c) b e = edit_asks c b e
-delete_asks (delete.Ending a) b e = none_asks b e
-delete_asks (delete.Over a) b e = none_asks b e
+write_asks : (s : WriteStage) (b : ℕ × ℕ) → write_needs_in s ≡ Some b → (b ≡ (0, 1)) ⊎ (b ≡ (1, 2))
+write_asks write.New b e = none_asks b e
+write_asks (write.Coming a) b e = none_asks b e
+write_asks (write.Keeping x there) b e = none_asks b e
+write_asks (write.Editing noted c) b e = edit_asks c b e
+write_asks (write.Ending a) b e = none_asks b e
+write_asks (write.Over a) b e = none_asks b e
 
 post_asks : (s : PostStage) (b : ℕ × ℕ) → post_needs_in s ≡ Some b → (b ≡ (0, 1)) ⊎ (b ≡ (1, 2))
 post_asks post.New b e = none_asks b e
@@ -195,8 +177,7 @@ lower_asks (lower.Over a) b e = none_asks b e
 
 pub may_ask : (p : Proc) (b : ℕ × ℕ) → needs_of p ≡ Some b → MayAsk p b
 may_ask (proc.Find p) b e = none_asks b e
-may_ask (proc.Insert p) b e = insert_asks p.stage b e
-may_ask (proc.Delete p) b e = delete_asks p.stage b e
+may_ask (proc.Write p) b e = write_asks p.stage b e
 may_ask (proc.Post p) b e = post_asks p.stage b e
 may_ask (proc.Part p) b e = none_asks b e
 may_ask (proc.Compress p) b e = compress_asks p.stage b e
@@ -206,8 +187,7 @@ may_ask (proc.Lower p) b e = lower_asks p.stage b e
 -- A step of a process leaves what its kind may ask for.
 pub may_ask_on : (p : Proc) (what : Seen) (q : Proc) (b : ℕ × ℕ) → Takes p what q → MayAsk p b → MayAsk q b
 may_ask_on (proc.Find p) what (proc.Find q) b t m = m
-may_ask_on (proc.Insert p) what (proc.Insert q) b t m = m
-may_ask_on (proc.Delete p) what (proc.Delete q) b t m = m
+may_ask_on (proc.Write p) what (proc.Write q) b t m = m
 may_ask_on (proc.Post p) what (proc.Post q) b t m = m
 may_ask_on (proc.Part p) what (proc.Part q) b t m = m
 may_ask_on (proc.Compress p) what (proc.Compress q) b t m = m

@@ -5,9 +5,9 @@ use Rattle.bl_proc_base.specs.declared.acts.Seen.{Seen}
 use Rattle.bl_proc_base.specs.declared.acts.Seen.TheVariants as seen
 use Rattle.bl_proc_base.specs.declared.editing.Outcome.{Outcome}
 use Rattle.bl_proc_base.specs.declared.editing.Outcome.TheVariants as outcome
-use Rattle.bl_proc.specs.declared.inserting.InsertStage.{InsertStage}
-use Rattle.bl_proc.specs.declared.deleting.Removed.{Removed}
-use Rattle.bl_proc.specs.declared.deleting.DeleteStage.{DeleteStage}
+use Rattle.bl_model.specs.declared.deciding.KeyWrite.{KeyWrite}
+use Rattle.bl_proc.specs.declared.writing.Noted.{Noted}
+use Rattle.bl_proc.specs.declared.writing.WriteStage.{WriteStage}
 use Rattle.bl_proc.specs.declared.posting.PostStage.{PostStage}
 use Rattle.bl_proc_base.specs.declared.lowering.Lowering.{Lowering}
 use Rattle.bl_proc_base.specs.declared.lowering.Sank.{Sank}
@@ -16,41 +16,27 @@ use Rattle.bl_proc.specs.declared.lowering.LowerStage.{LowerStage}
 use Rattle.bl_proc.specs.declared.kinds.Proc.{Proc}
 use Rattle.bl_proc.specs.declared.kinds.Proc.TheVariants as proc
 use Rattle.bl_proc.specs.Processes.{Takes}
-use Rattle.bl_proc.specs.Inserts.{insert_reply}
-use Rattle.bl_proc.specs.Deletes.{delete_reply}
+use Rattle.bl_proc.specs.Writes.{write_reply}
 use Rattle.bl_proc.specs.Posts.{post_reply}
-use Rattle.bl_proc_unique.specs.Refusals.{OutcomeRefused, InsertNoRoom, InsertRefused, DeleteNoRoom, DeleteRefused, PostNoRoom, PostRefused, LowerNoRoom, LoweringRefused, LowerRefused, IsRefused, PutsRefused}
+use Rattle.bl_proc_unique.specs.Refusals.{OutcomeRefused, WriteNoRoom, WriteRefused, PostNoRoom, PostRefused, LowerNoRoom, LoweringRefused, LowerRefused, IsRefused, PutsRefused}
 use Rattle.bl_proc_unique.proofs.RefusedCompressions.{compress_refused, compress_puts}
-use Rattle.bl_proc_unique.proofs.Refusals.{changes_refused, changes_over, grows_refused, grows_over, enters_not, drops_not}
+use Rattle.bl_proc_unique.proofs.Refusals.{changes_refused, changes_over, grows_refused, grows_over, enters_not, performs_not}
 use Rattle.bl_proc_unique.proofs.WayCases.{edit_case, growth_case}
-use Rattle.bl_proc_unique.proofs.KindCases.{InsertCase, insert_case, DeleteCase, delete_case, PostCase, post_case, compress_case, LowerCase, lower_case}
+use Rattle.bl_proc_unique.proofs.KindCases.{WriteCase, write_case, PostCase, post_case, compress_case, LowerCase, lower_case}
 use Rattle.bl_proc_unique.proofs.Lowerings.{LoweringCase, lowering_case}
 
-insert_outcome : (o : Outcome) → InsertNoRoom (insert_reply o) → OutcomeRefused o
-insert_outcome outcome.Edited r = r
-insert_outcome (outcome.SplitAt k) r = r
-insert_outcome outcome.Refused r = tt
+write_outcome : (noted : Noted) (o : Outcome) → WriteNoRoom (write_reply noted o) → OutcomeRefused o
+write_outcome noted outcome.Edited r = r
+write_outcome noted (outcome.SplitAt k) r = r
+write_outcome noted outcome.Refused r = tt
 
-insert_refused : {key value : ℕ} {a b : InsertStage} {what : Seen} → InsertCase key value a what b → InsertRefused b → InsertRefused a ⊎ (what ≡ seen.Refused)
-insert_refused (InsertCase.Entered x c d l t) r = inl (enters_not x c _ _ d t.1 r)
-insert_refused (InsertCase.Opened x there q t) r = inl (subst InsertNoRoom t r)
-insert_refused (InsertCase.Edited c what d t) r = changes_refused (edit_case c what _ t) r
-insert_refused (InsertCase.Finished c what q t) r = inl (changes_over (edit_case c what _ t.1) (insert_outcome t.0 (subst InsertNoRoom t.2 r)))
-insert_refused (InsertCase.Ended q last t) r = inl (subst InsertNoRoom t r)
-insert_refused other r = inl r
-
-delete_outcome : (v : Removed) (o : Outcome) → DeleteNoRoom (delete_reply v o) → OutcomeRefused o
-delete_outcome v outcome.Edited r = r
-delete_outcome v (outcome.SplitAt k) r = r
-delete_outcome v outcome.Refused r = tt
-
-delete_refused : {key : ℕ} {a b : DeleteStage} {what : Seen} → DeleteCase key a what b → DeleteRefused b → DeleteRefused a ⊎ (what ≡ seen.Refused)
-delete_refused (DeleteCase.Dropped x c v d l t) r = inl (drops_not x c _ d t.1 r)
-delete_refused (DeleteCase.Opened x q t) r = inl (subst DeleteNoRoom t r)
-delete_refused (DeleteCase.Edited v c what u d t) r = changes_refused (edit_case c what _ t.1) r
-delete_refused (DeleteCase.Finished v c what q t) r = inl (changes_over (edit_case c what _ t.1) (delete_outcome v t.0 (subst DeleteNoRoom t.2 r)))
-delete_refused (DeleteCase.Ended q last t) r = inl (subst DeleteNoRoom t r)
-delete_refused other r = inl r
+write_refused : {key : ℕ} {does : KeyWrite} {a b : WriteStage} {what : Seen} → WriteCase key does a what b → WriteRefused b → WriteRefused a ⊎ (what ≡ seen.Refused)
+write_refused (WriteCase.Changed x c noted d l t) r = inl (performs_not _ x c _ d t.1 r)
+write_refused (WriteCase.Opened x there q t) r = inl (subst WriteNoRoom t r)
+write_refused (WriteCase.Edited noted c what same d t) r = changes_refused (edit_case c what _ t.1) r
+write_refused (WriteCase.Finished noted c what q t) r = inl (changes_over (edit_case c what _ t.1) (write_outcome noted t.0 (subst WriteNoRoom t.2 r)))
+write_refused (WriteCase.Ended q last t) r = inl (subst WriteNoRoom t r)
+write_refused other r = inl r
 
 post_outcome : (o : Outcome) → PostNoRoom (post_reply o) → OutcomeRefused o
 post_outcome outcome.Edited r = r
@@ -100,8 +86,7 @@ pub takes_refused : (p : Proc) (what : Seen) (q : Proc) → Takes p what q → I
 takes_refused p what (proc.Find q) t r = absurd r
 takes_refused p what (proc.Part q) t r = absurd r
 takes_refused p what (proc.Reclaim q) t r = absurd r
-takes_refused (proc.Insert p) what (proc.Insert q) t r = insert_refused (insert_case p.key p.value p.stage what q.stage t.2) r
-takes_refused (proc.Delete p) what (proc.Delete q) t r = delete_refused (delete_case p.key p.stage what q.stage t.1) r
+takes_refused (proc.Write p) what (proc.Write q) t r = write_refused (write_case p.key p.write p.stage what q.stage t.2) r
 takes_refused (proc.Post p) what (proc.Post q) t r = post_refused (post_case p.level p.key p.stage what q.stage t.2) r
 takes_refused (proc.Compress p) what (proc.Compress q) t r = compress_refused (compress_case p.level p.key p.stage what q.stage t.2) r
 takes_refused (proc.Lower p) what (proc.Lower q) t r = lower_refused (lower_case p.stage what q.stage t) r

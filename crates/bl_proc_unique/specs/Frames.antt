@@ -2,6 +2,7 @@
 use Rattle.std.specs.Prelude.{◌≡◌, ◌≢◌, ◌≤◌, ℕ, suc, Option, Some, None}
 use Rattle.bl_model.specs.declared.operation.Op.{Op}
 use Rattle.bl_model.specs.declared.operation.Op.TheVariants as op
+use Rattle.bl_model.specs.Writes.{write_op}
 use Rattle.bl_proc_base.specs.declared.acts.Action.{Action}
 use Rattle.bl_proc_base.specs.declared.acts.Action.TheVariants as act
 use Rattle.bl_proc_base.specs.declared.acts.Seen.{Seen}
@@ -12,10 +13,8 @@ use Rattle.bl_proc_base.specs.declared.growing.Growth.{Growth}
 use Rattle.bl_proc_base.specs.declared.growing.Growth.TheVariants as growth
 use Rattle.bl_proc_base.specs.declared.lowering.Lowering.{Lowering}
 use Rattle.bl_proc_base.specs.declared.lowering.Lowering.TheVariants as lowering
-use Rattle.bl_proc.specs.declared.inserting.InsertStage.{InsertStage}
-use Rattle.bl_proc.specs.declared.inserting.InsertStage.TheVariants as insert
-use Rattle.bl_proc.specs.declared.deleting.DeleteStage.{DeleteStage}
-use Rattle.bl_proc.specs.declared.deleting.DeleteStage.TheVariants as delete
+use Rattle.bl_proc.specs.declared.writing.WriteStage.{WriteStage}
+use Rattle.bl_proc.specs.declared.writing.WriteStage.TheVariants as write
 use Rattle.bl_proc.specs.declared.posting.PostStage.{PostStage}
 use Rattle.bl_proc.specs.declared.posting.PostStage.TheVariants as post
 use Rattle.bl_proc_compress.specs.declared.compressing.Compression.{Compression}
@@ -48,21 +47,13 @@ growth_frames (growth.OpeningTop x) = 0
 growth_frames growth.OpeningGrown = 0
 growth_frames growth.OpeningRefused = 0
 
-abbrev pub insert_frames : InsertStage → ℕ
-insert_frames insert.New = 0
-insert_frames (insert.Coming a) = 0
-insert_frames (insert.Present x there) = 0
-insert_frames (insert.Editing c) = edit_frames c
-insert_frames (insert.Ending r) = 0
-insert_frames (insert.Over r) = 0
-
-abbrev pub delete_frames : DeleteStage → ℕ
-delete_frames delete.New = 0
-delete_frames (delete.Coming a) = 0
-delete_frames (delete.Absent x) = 0
-delete_frames (delete.Editing value c) = edit_frames c
-delete_frames (delete.Ending r) = 0
-delete_frames (delete.Over r) = 0
+abbrev pub write_frames : WriteStage → ℕ
+write_frames write.New = 0
+write_frames (write.Coming a) = 0
+write_frames (write.Keeping x there) = 0
+write_frames (write.Editing noted c) = edit_frames c
+write_frames (write.Ending r) = 0
+write_frames (write.Over r) = 0
 
 abbrev pub post_frames : PostStage → ℕ
 post_frames post.New = 0
@@ -116,8 +107,7 @@ lower_frames (lower.Over r) = 0
 
 abbrev pub frames_of : Proc → ℕ
 frames_of (proc.Find p) = 0
-frames_of (proc.Insert p) = insert_frames p.stage
-frames_of (proc.Delete p) = delete_frames p.stage
+frames_of (proc.Write p) = write_frames p.stage
 frames_of (proc.Post p) = post_frames p.stage
 frames_of (proc.Part p) = 0
 frames_of (proc.Compress p) = compress_frames p.stage
@@ -127,8 +117,7 @@ frames_of (proc.Lower p) = lower_frames p.stage
 -- the operation that a process carries out, if it has one
 abbrev pub op_of : Proc → Option Op
 op_of (proc.Find p) = Some (op.Find p.key)
-op_of (proc.Insert p) = Some (op.Insert p.key p.value)
-op_of (proc.Delete p) = Some (op.Delete p.key)
+op_of (proc.Write p) = Some (write_op p.key p.write)
 op_of (proc.Post p) = None
 op_of (proc.Part p) = Some (op.Part p.from)
 op_of (proc.Compress p) = None
@@ -138,8 +127,7 @@ op_of (proc.Lower p) = None
 -- the level and the key of a post or a compression
 abbrev pub work_of : Proc → Option (ℕ × ℕ)
 work_of (proc.Find p) = None
-work_of (proc.Insert p) = None
-work_of (proc.Delete p) = None
+work_of (proc.Write p) = None
 work_of (proc.Post p) = Some (p.level, p.key)
 work_of (proc.Part p) = None
 work_of (proc.Compress p) = Some (p.level, p.key)

@@ -23,14 +23,10 @@ use Rattle.bl_proc_compress.specs.declared.squeezing.CompressReply.{CompressRepl
 use Rattle.bl_proc_compress.specs.declared.squeezing.CompressReply.TheVariants as pressed
 use Rattle.bl_proc_compress.specs.declared.squeezing.CompressStage.{CompressStage}
 use Rattle.bl_proc_compress.specs.declared.squeezing.CompressStage.TheVariants as compress
-use Rattle.bl_proc.specs.declared.inserting.InsertStage.{InsertStage}
-use Rattle.bl_proc.specs.declared.inserting.InsertStage.TheVariants as insert
-use Rattle.bl_proc.specs.declared.inserting.InsertReply.{InsertReply}
-use Rattle.bl_proc.specs.declared.inserting.InsertReply.TheVariants as inserted
-use Rattle.bl_proc.specs.declared.deleting.DeleteStage.{DeleteStage}
-use Rattle.bl_proc.specs.declared.deleting.DeleteStage.TheVariants as delete
-use Rattle.bl_proc.specs.declared.deleting.DeleteReply.{DeleteReply}
-use Rattle.bl_proc.specs.declared.deleting.DeleteReply.TheVariants as deleted
+use Rattle.bl_proc.specs.declared.writing.WriteReply.{WriteReply}
+use Rattle.bl_proc.specs.declared.writing.WriteReply.TheVariants as written
+use Rattle.bl_proc.specs.declared.writing.WriteStage.{WriteStage}
+use Rattle.bl_proc.specs.declared.writing.WriteStage.TheVariants as write
 use Rattle.bl_proc.specs.declared.posting.PostStage.{PostStage}
 use Rattle.bl_proc.specs.declared.posting.PostStage.TheVariants as post
 use Rattle.bl_proc.specs.declared.posting.PostReply.{PostReply}
@@ -109,31 +105,17 @@ GrowthRefused (growth.OpeningTop x0) = ⊥
 GrowthRefused growth.OpeningGrown = ⊥
 GrowthRefused growth.OpeningRefused = Unit {0}
 
-abbrev pub InsertNoRoom : InsertReply → Type 0
-InsertNoRoom (inserted.Inserted s) = ⊥
-InsertNoRoom (inserted.Present v) = ⊥
-InsertNoRoom inserted.NoRoom = Unit {0}
+abbrev pub WriteNoRoom : WriteReply → Type 0
+WriteNoRoom (written.Done there hint) = ⊥
+WriteNoRoom written.NoRoom = Unit {0}
 
-abbrev pub InsertRefused : InsertStage → Type 0
-InsertRefused insert.New = ⊥
-InsertRefused (insert.Coming a) = ⊥
-InsertRefused (insert.Present x v) = ⊥
-InsertRefused (insert.Editing c) = EditRefused c
-InsertRefused (insert.Ending r) = InsertNoRoom r
-InsertRefused (insert.Over r) = InsertNoRoom r
-
-abbrev pub DeleteNoRoom : DeleteReply → Type 0
-DeleteNoRoom (deleted.Deleted v) = ⊥
-DeleteNoRoom deleted.Absent = ⊥
-DeleteNoRoom deleted.NoRoom = Unit {0}
-
-abbrev pub DeleteRefused : DeleteStage → Type 0
-DeleteRefused delete.New = ⊥
-DeleteRefused (delete.Coming a) = ⊥
-DeleteRefused (delete.Absent x) = ⊥
-DeleteRefused (delete.Editing v c) = EditRefused c
-DeleteRefused (delete.Ending r) = DeleteNoRoom r
-DeleteRefused (delete.Over r) = DeleteNoRoom r
+abbrev pub WriteRefused : WriteStage → Type 0
+WriteRefused write.New = ⊥
+WriteRefused (write.Coming a) = ⊥
+WriteRefused (write.Keeping x there) = ⊥
+WriteRefused (write.Editing noted c) = EditRefused c
+WriteRefused (write.Ending r) = WriteNoRoom r
+WriteRefused (write.Over r) = WriteNoRoom r
 
 abbrev pub PostNoRoom : PostReply → Type 0
 PostNoRoom (listed.Done s) = ⊥
@@ -177,8 +159,7 @@ LowerRefused (lower.Over r) = LowerNoRoom r
 
 abbrev pub IsRefused : Proc → Type 0
 IsRefused (proc.Find p) = ⊥
-IsRefused (proc.Insert p) = InsertRefused p.stage
-IsRefused (proc.Delete p) = DeleteRefused p.stage
+IsRefused (proc.Write p) = WriteRefused p.stage
 IsRefused (proc.Post p) = PostRefused p.stage
 IsRefused (proc.Part p) = ⊥
 IsRefused (proc.Compress p) = CompressRefused p.stage
@@ -209,8 +190,7 @@ CompressPuts (compress.Over r) = ⊥
 
 abbrev pub PutsRefused : Proc → Type 0
 PutsRefused (proc.Find p) = ⊥
-PutsRefused (proc.Insert p) = ⊥
-PutsRefused (proc.Delete p) = ⊥
+PutsRefused (proc.Write p) = ⊥
 PutsRefused (proc.Post p) = ⊥
 PutsRefused (proc.Part p) = ⊥
 PutsRefused (proc.Compress p) = CompressPuts p.stage
@@ -221,8 +201,7 @@ PutsRefused (proc.Lower p) = ⊥
 -- new; for those of a compression; for the two of a lowering.
 abbrev pub MayAsk : Proc → ℕ × ℕ → Type 0
 MayAsk (proc.Find p) ask = ⊥
-MayAsk (proc.Insert p) ask = (ask ≡ (0, 1)) ⊎ (ask ≡ (1, 2))
-MayAsk (proc.Delete p) ask = (ask ≡ (0, 1)) ⊎ (ask ≡ (1, 2))
+MayAsk (proc.Write p) ask = (ask ≡ (0, 1)) ⊎ (ask ≡ (1, 2))
 MayAsk (proc.Post p) ask = (ask ≡ (0, 1)) ⊎ (ask ≡ (1, 2))
 MayAsk (proc.Part p) ask = ⊥
 MayAsk (proc.Compress p) ask = ask ≡ (0, 3)
