@@ -103,14 +103,7 @@ fn delete<R: Wait>(rt: &R, index: &Index, hints: &Hints, pass: &mut Pass, key: u
 }
 
 /// Puts the new value at the key in place of the old one, where the key has that.
-fn change<R: Wait>(
-    rt: &R,
-    index: &Index,
-    pass: &mut Pass,
-    key: u64,
-    old: u64,
-    new: u64,
-) -> KeyReply
+fn change<R: Wait>(rt: &R, index: &Index, pass: &mut Pass, key: u64, old: u64, new: u64) -> KeyReply
     requires { IsPassOf index.now pass.old }
     ensures same { IsSamePass pass.old pass.new }
     ensures works { Works (first_of index.now) (number_of pass.old) (op.Change key old new) (reply_of result) (trail pass.old) (trail pass.new) }

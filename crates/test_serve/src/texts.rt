@@ -65,6 +65,10 @@ fn small_inputs(rt: HostRuntime) {
             b"1 inserted\n2 synced\n3 present 50\n".as_slice(),
         ),
         (
+            b"insert 5 50\nsync\nchange 5 50 60\nsync\nchange 5 50 70\nchange 6 1 2\nfind 5\n".as_slice(),
+            b"1 inserted\n2 synced\n3 changed\n4 synced\n5 differs 60\n6 absent\n7 found 60\n".as_slice(),
+        ),
+        (
             b"insert 18446744073709551615 1\nsync\nfind 18446744073709551615\n".as_slice(),
             b"1 inserted\n2 synced\n3 found 1\n".as_slice(),
         ),

@@ -10,7 +10,7 @@
 //! | `open PAGES PASSES` | a new index with so many passes, in place of the one before: `done`, or what is out of range |
 //! | `PASS insert KEY VALUE`, `PASS delete KEY` | the reply, and the hint beside it |
 //! | `PASS change KEY OLD NEW` | the reply |
-| `PASS find KEY TURNS`, `PASS part FROM TURNS` | the reply, or `out of turns` |
+//! | `PASS find KEY TURNS`, `PASS part FROM TURNS` | the reply, or `out of turns` |
 //! | `PASS near FROM PAGE TURNS` | the reply of a part that has that page in mind, or `out of turns`; and the page that it leaves for the next one |
 //! | `PASS scan FROM END TURNS`, `PASS scan-all FROM TURNS` | `done`, or where it ran out of turns; and all rows that scans have listed in this index |
 //! | `PASS post LEVEL KEY`, `PASS compress LEVEL KEY` | the answer, and the hint beside it. A post is by a hint to post, and a compression by one of a thin page; `post-thin` and `compress-post` are by the other kind |
