@@ -137,7 +137,11 @@ impl Draws {
             Some(value) if self.below(3) > 0 => value,
             _ => self.below((started as u64).saturating_add(1)),
         };
-        let new = if self.below(6) == 0 { old } else { started as u64 };
+        let new = if self.below(6) == 0 {
+            old
+        } else {
+            started as u64
+        };
         Job::Change(key, old, new)
     }
 }
