@@ -6,7 +6,7 @@ use Rattle.bl_page.specs.declared.page.Page.{Page}
 use Rattle.bl_page.specs.declared.page.Page.TheVariants.{Anchor, Leaf, Inner, Dead}
 use Rattle.bl_page.specs.Pairs.{end_of}
 use Rattle.bl_rearrange.specs.declared.fitted.Fitted.TheVariants.{Fits, Split}
-use Rattle.bl_rearrange.specs.Rearranged.{pairs_of, IsNow, low_of, high_of, right_of, KeepsFrame, IsWithout, IsFitted}
+use Rattle.bl_rearrange.specs.Rearranged.{pairs_of, IsNow, low_of, high_of, right_of, KeepsFrame, IsWithout, IsWithValue, IsFitted}
 use Rattle.bl_claims.specs.Nodes.{Covers}
 use Rattle.bl_core_tree.specs.Moves.{IsRow, IsCut}
 use Rattle.bl_claims.specs.Pages.{node_of}
@@ -44,6 +44,14 @@ without_row page new key f c = record {
   shape = frame_shape page new f.frame;
   here = look_of new key ∙ (f.pairs key ∙ grind arith);
   rest = λ j n. look_of new j ∙ (f.pairs j ∙ ((let e : without_key (map_of (pairs_of page)) key j ≡ map_of (pairs_of page) j = grind arith in e) ∙ sym (look_of page j)));
+}
+
+pub value_row : (page new : Page) (key value : ℕ) → IsWithValue page key value new → Covers (node_of page).shape key → IsRow key (Some value) (node_of page) (node_of new)
+value_row page new key value f c = record {
+  covered = c;
+  shape = frame_shape page new f.frame;
+  here = look_of new key ∙ (f.pairs key ∙ grind arith);
+  rest = λ j n. look_of new j ∙ (f.pairs j ∙ ((let e : with_pair (map_of (pairs_of page)) key value j ≡ map_of (pairs_of page) j = grind arith in e) ∙ sym (look_of page j)));
 }
 
 -- the bounds of a page of the tree

@@ -1,5 +1,7 @@
 -- The hint beside the reply of a process means what it says.
-use Rattle.std.proofs.Common.{◌≡◌, [], Option, Some, None, sym, subst}
+use Rattle.std.proofs.Common.{◌≡◌, ℕ, [], Option, Some, None, true, false, sym, subst, inl, inr, refl, arith}
+use Rattle.std.specs.Prelude.{◌==◌}
+use Rattle.std.proofs.lemmas.Bool.{cases_eq}
 use Rattle.bl_model.specs.declared.operation.Reply.{Reply}
 use Rattle.bl_claims.specs.Trails.{Trail}
 use Rattle.bl_claims.specs.Meanings.{writes_of}
@@ -10,25 +12,26 @@ use Rattle.bl_proc.specs.declared.searching.FindStage.{FindStage}
 use Rattle.bl_proc.specs.declared.searching.FindStage.TheVariants as find
 use Rattle.bl_proc.specs.declared.parts.PartStage.{PartStage}
 use Rattle.bl_proc.specs.declared.parts.PartStage.TheVariants as part
-use Rattle.bl_proc.specs.declared.inserting.InsertReply.{InsertReply}
-use Rattle.bl_proc.specs.declared.inserting.InsertReply.TheVariants as inserted
-use Rattle.bl_proc.specs.declared.inserting.InsertStage.{InsertStage}
-use Rattle.bl_proc.specs.declared.inserting.InsertStage.TheVariants as insert
-use Rattle.bl_proc.specs.declared.deleting.DeleteReply.{DeleteReply}
-use Rattle.bl_proc.specs.declared.deleting.DeleteReply.TheVariants as deleted
-use Rattle.bl_proc.specs.declared.deleting.DeleteStage.{DeleteStage}
-use Rattle.bl_proc.specs.declared.deleting.DeleteStage.TheVariants as delete
+use Rattle.bl_model.specs.declared.deciding.KeyWrite.{KeyWrite}
+use Rattle.bl_model.specs.declared.deciding.KeyWrite.TheVariants.{Insert, Delete, Change}
+use Rattle.bl_model.specs.declared.operation.KeyReply.TheVariants.{Changed, Differs}
+use Rattle.bl_model.specs.declared.deciding.Effect.TheVariants.{Keep, Replace}
+use Rattle.bl_model.specs.declared.deciding.Decided.{Decided}
+use Rattle.bl_model.specs.Replies.{reply_of}
+use Rattle.bl_model.specs.Writes.{decided, effect_of, replied}
+use Rattle.bl_proc.specs.declared.writing.WriteReply.{WriteReply}
+use Rattle.bl_proc.specs.declared.writing.WriteReply.TheVariants as written
+use Rattle.bl_proc.specs.declared.writing.WriteStage.{WriteStage}
+use Rattle.bl_proc.specs.declared.writing.WriteStage.TheVariants as write
 use Rattle.bl_proc.specs.declared.kinds.Proc.{Proc}
 use Rattle.bl_proc.specs.declared.kinds.Proc.TheVariants as proc
-use Rattle.bl_proc_base.specs.Thin.{thin_hint}
 use Rattle.bl_proc.specs.Searches.{find_answer_in}
 use Rattle.bl_proc.specs.Parts.{part_answer_in}
-use Rattle.bl_proc.specs.Inserts.{inserted_answer, insert_answer_in}
-use Rattle.bl_proc.specs.Deletes.{deleted_answer, delete_answer_in}
+use Rattle.bl_proc.specs.Writes.{write_answer, write_answer_in}
 use Rattle.bl_proc.specs.Processes.{answer_of}
-use Rattle.bl_proc_meanings.specs.Hinted.{MeansInserted, MeansDeleted}
+use Rattle.bl_proc_meanings.specs.Hinted.{MeansWritten}
 use Rattle.bl_proc_invariant.specs.Beside.{MeansBeside}
-use Rattle.bl_proc_invariant.specs.Logs.{inserted_log, insert_log, deleted_log, delete_log, proc_log}
+use Rattle.bl_proc_invariant.specs.Logs.{effect_log, written_log, write_log, proc_log}
 
 some_answer : (a b : Answer) → Some a ≡ Some b → a ≡ b
 some_answer a b e = cc
@@ -39,15 +42,31 @@ same_reply p q h i e = cc
 same_hint : (p q : Reply) (h i : Option Hint) → answer.Op p h ≡ answer.Op q i → h ≡ i
 same_hint p q h i e = cc
 
-insert_beside : (r : InsertReply) (reply : Reply) (h : Option Hint) (marks : Trail) → inserted_answer r ≡ answer.Op reply h → inserted_log r marks → MeansInserted reply h marks
-insert_beside (inserted.Inserted separator) reply h marks e log = subst (λ z. MeansInserted z h marks) (same_reply _ _ _ _ e) (separator, log, sym (same_hint _ _ _ _ e))
-insert_beside (inserted.Present there) reply h marks e log = subst (λ z. MeansInserted z h marks) (same_reply _ _ _ _ e) (log, sym (same_hint _ _ _ _ e))
-insert_beside inserted.NoRoom reply h marks e log = subst (λ z. MeansInserted z h marks) (same_reply _ _ _ _ e) (log, sym (same_hint _ _ _ _ e))
+as_decided : (d e : Decided) → d ≡ e → (h : Option Hint) (marks : Trail) → (effect_log e.effect h marks → MeansWritten (reply_of e.reply) h marks) → effect_log d.effect h marks → MeansWritten (reply_of d.reply) h marks
+as_decided d e is h marks = subst (λ z. effect_log z.effect h marks → MeansWritten (reply_of z.reply) h marks) (sym is)
 
-delete_beside : (r : DeleteReply) (reply : Reply) (h : Option Hint) (marks : Trail) → deleted_answer r ≡ answer.Op reply h → deleted_log r marks → MeansDeleted reply h marks
-delete_beside (deleted.Deleted removed) reply h marks e log = subst (λ z. MeansDeleted z h marks) (same_reply _ _ _ _ e) (log.0, log.1, log.2, subst (λ z. h ≡ thin_hint 1 z) log.3 (sym (same_hint _ _ _ _ e)))
-delete_beside deleted.Absent reply h marks e log = subst (λ z. MeansDeleted z h marks) (same_reply _ _ _ _ e) (log, sym (same_hint _ _ _ _ e))
-delete_beside deleted.NoRoom reply h marks e log = subst (λ z. MeansDeleted z h marks) (same_reply _ _ _ _ e) (log, sym (same_hint _ _ _ _ e))
+-- what was done with the leaf, and what is answered for it
+effect_means : (does : KeyWrite) (there : Option ℕ) (h : Option Hint) (marks : Trail) → effect_log (effect_of does there) h marks → MeansWritten (replied does there) h marks
+effect_means (Insert value) None h marks = λ log. log
+effect_means (Insert value) (Some there) h marks = λ log. log
+effect_means Delete None h marks = λ log. log
+effect_means Delete (Some there) h marks = λ log. log
+effect_means (Change old new) None h marks = λ log. log
+effect_means (Change old new) (Some there) h marks = elim (cases_eq there old) [
+  | inl same ↦
+      let e : (there == old) ≡ true = grind (arith, same) in
+      let is : decided (Change old new) (Some there) ≡ record { effect = Replace new; reply = Changed } = rw e refl in
+      as_decided (decided (Change old new) (Some there)) (record { effect = Replace new; reply = Changed }) is h marks (λ log. log)
+  | inr other ↦
+      let e : (there == old) ≡ false = grind (arith, other) in
+      let is : decided (Change old new) (Some there) ≡ record { effect = Keep; reply = Differs there } = rw e refl in
+      as_decided (decided (Change old new) (Some there)) (record { effect = Keep; reply = Differs there }) is h marks (λ log. log)
+]
+
+write_beside : (does : KeyWrite) (r : WriteReply) (reply : Reply) (h : Option Hint) (marks : Trail) → write_answer does r ≡ answer.Op reply h → written_log does r marks → MeansWritten reply h marks
+write_beside does (written.Done there hint) reply h marks e log =
+    subst (λ z. MeansWritten z h marks) (same_reply _ _ _ _ e) (subst (λ z. MeansWritten (replied does there) z marks) (same_hint _ _ _ _ e) (effect_means does there hint marks log))
+write_beside does written.NoRoom reply h marks e log = subst (λ z. MeansWritten z h marks) (same_reply _ _ _ _ e) (log, sym (same_hint _ _ _ _ e))
 
 find_beside : (stage : FindStage) (reply : Reply) (h : Option Hint) (marks : Trail) → find_answer_in stage ≡ Some (answer.Op reply h) → writes_of marks ≡ [] → (writes_of marks ≡ []) × (h ≡ None)
 find_beside (find.Over (Some value)) reply h marks e log = (log, sym (same_hint _ _ _ _ (some_answer _ _ e)))
@@ -58,18 +77,13 @@ part_beside : (stage : PartStage) (reply : Reply) (h : Option Hint) (marks : Tra
 part_beside (part.Over r) reply h marks e log = (log, sym (same_hint _ _ _ _ (some_answer _ _ e)))
 part_beside old reply h marks e log = absurd (let f = e in cc)
 
-insert_stage : (stage : InsertStage) (reply : Reply) (h : Option Hint) (marks : Trail) → insert_answer_in stage ≡ Some (answer.Op reply h) → insert_log stage marks → MeansInserted reply h marks
-insert_stage (insert.Over r) reply h marks e log = insert_beside r reply h marks (some_answer _ _ e) log
-insert_stage old reply h marks e log = absurd (let f = e in cc)
-
-delete_stage : (stage : DeleteStage) (reply : Reply) (h : Option Hint) (marks : Trail) → delete_answer_in stage ≡ Some (answer.Op reply h) → delete_log stage marks → MeansDeleted reply h marks
-delete_stage (delete.Over r) reply h marks e log = delete_beside r reply h marks (some_answer _ _ e) log
-delete_stage old reply h marks e log = absurd (let f = e in cc)
+write_stage : (does : KeyWrite) (stage : WriteStage) (reply : Reply) (h : Option Hint) (marks : Trail) → write_answer_in does stage ≡ Some (answer.Op reply h) → write_log does stage marks → MeansWritten reply h marks
+write_stage does (write.Over r) reply h marks e log = write_beside does r reply h marks (some_answer _ _ e) log
+write_stage does old reply h marks e log = absurd (let f = e in cc)
 
 pub beside_means : (p : Proc) (reply : Reply) (h : Option Hint) (marks : Trail) → answer_of p ≡ Some (answer.Op reply h) → proc_log p marks → MeansBeside p reply h marks
 beside_means (proc.Find p) reply h marks e log = find_beside p.stage reply h marks e log
-beside_means (proc.Insert p) reply h marks e log = insert_stage p.stage reply h marks e log
-beside_means (proc.Delete p) reply h marks e log = delete_stage p.stage reply h marks e log
+beside_means (proc.Write p) reply h marks e log = write_stage p.write p.stage reply h marks e log
 beside_means (proc.Post p) reply h marks e log = tt
 beside_means (proc.Part p) reply h marks e log = part_beside p.stage reply h marks e log
 beside_means (proc.Compress p) reply h marks e log = tt

@@ -120,7 +120,7 @@ pub refused_maps : {P : Type 0} (know : P → Know) (w : World P) (aim : Aim) (x
 refused_maps know w aim x g fine live due =
     let before : w.map aim.level aim.key ≡ aim.was =
     (let e = g.tree.agree x aim.key (rw live live_live) due.covers in let l = due.level in sym (rw l at e) ∙ due.was) in
-    fine.refused (w.map 0) (λ zero. rw zero at before)
+    fine.refused (w.map 0) due.changes (λ zero. rw zero at before)
 
 module _ {P : Type 0} (know : P → Know) (w : World P) (g : IsGood know w) (p : Name) (b : P) (aim : Aim) (fine : IsAim aim) (got : ℕ → Page) where
   -- the page is put, with the pair

@@ -1,6 +1,7 @@
 -- What a process gets next is page 0, or a page that is or was of the tree and that it may still get. So it is no page that
 -- was never put.
 use Rattle.std.proofs.Common.{ℕ, ◌≡◌, ◌⊎◌, ◌∙◌, None, Some, ap, sym, inl, inr, refl}
+use Rattle.bl_model.specs.declared.deciding.KeyWrite.{KeyWrite}
 use Rattle.bl_page.specs.declared.page.Page.{Page}
 use Rattle.bl_page.specs.Machine.{Name}
 use Rattle.bl_core.specs.Worlds.{Stage, World, was_in, IsStage, MayGet, IsHeld, IsSure, IsGood}
@@ -18,10 +19,8 @@ use Rattle.bl_proc.specs.declared.searching.FindStage.{FindStage}
 use Rattle.bl_proc.specs.declared.searching.FindStage.TheVariants as find
 use Rattle.bl_proc.specs.declared.parts.PartStage.{PartStage}
 use Rattle.bl_proc.specs.declared.parts.PartStage.TheVariants as part
-use Rattle.bl_proc.specs.declared.inserting.InsertStage.{InsertStage}
-use Rattle.bl_proc.specs.declared.inserting.InsertStage.TheVariants as insert
-use Rattle.bl_proc.specs.declared.deleting.DeleteStage.{DeleteStage}
-use Rattle.bl_proc.specs.declared.deleting.DeleteStage.TheVariants as delete
+use Rattle.bl_proc.specs.declared.writing.WriteStage.{WriteStage}
+use Rattle.bl_proc.specs.declared.writing.WriteStage.TheVariants as write
 use Rattle.bl_proc.specs.declared.posting.PostStage.{PostStage}
 use Rattle.bl_proc.specs.declared.posting.PostStage.TheVariants as post
 use Rattle.bl_proc.specs.declared.reclaiming.ReclaimStage.{ReclaimStage}
@@ -36,7 +35,7 @@ use Rattle.bl_proc_compress.specs.declared.compressing.Compression.TheVariants.{
 use Rattle.bl_proc_compress.specs.declared.squeezing.CompressStage.{CompressStage}
 use Rattle.bl_proc_compress.specs.declared.squeezing.CompressStage.TheVariants as compress
 use Rattle.bl_proc.specs.declared.kinds.Proc.{Proc}
-use Rattle.bl_proc.specs.declared.kinds.Proc.TheVariants.{Find, Insert, Delete, Post, Part, Compress, Reclaim, Lower}
+use Rattle.bl_proc.specs.declared.kinds.Proc.TheVariants.{Find, Write, Post, Part, Compress, Reclaim, Lower}
 use Rattle.bl_proc_base.specs.Descents.{descent_next}
 use Rattle.bl_proc_base.specs.Approaches.{approach_next}
 use Rattle.bl_proc_base.specs.Edits.{edit_next}
@@ -47,8 +46,7 @@ use Rattle.bl_proc_compress.specs.declared.compressing.Puts.{Puts}
 use Rattle.bl_proc_base.specs.Growths.{growth_next}
 use Rattle.bl_proc.specs.Searches.{find_next_in}
 use Rattle.bl_proc.specs.Parts.{part_next_in}
-use Rattle.bl_proc.specs.Inserts.{insert_next_in}
-use Rattle.bl_proc.specs.Deletes.{delete_next_in}
+use Rattle.bl_proc.specs.Writes.{write_next_in}
 use Rattle.bl_proc.specs.Posts.{post_next_in}
 use Rattle.bl_proc_compress.specs.Compresses.{compress_next_in}
 use Rattle.bl_proc.specs.Reclaims.{reclaim_next_in}
@@ -57,7 +55,7 @@ use Rattle.bl_proc_base.specs.Lowerings.{lowering_next}
 use Rattle.bl_proc.specs.Processes.{next_of}
 use Rattle.bl_proc_invariant.specs.Compressing.{know_squeeze}
 use Rattle.bl_proc_invariant.specs.Tables.{Aim, holds_live, know_descent, know_approach, know_edit}
-use Rattle.bl_proc_invariant.specs.Knowing.{know_growth, know_find, know_part, know_insert, know_delete, know_post, know_compress, know_reclaim, know_lower, know_of, Run, know}
+use Rattle.bl_proc_invariant.specs.Knowing.{know_growth, know_find, know_part, know_write, know_post, know_compress, know_reclaim, know_lower, know_of, Run, know}
 
 -- page 0, or one that it may get
 abbrev pub IsGot : {P : Type 0} → World P → Name → Action → Type 0
@@ -109,21 +107,13 @@ module _ {P : Type 0} (w : World P) (p : Name) where
   part_got from (part.Ending r) is = tt
   part_got from (part.Over r) is = tt
 
-  insert_got : (key value : ℕ) (got : ℕ → Page) (a : InsertStage) → IsSure w p (know_insert key value got a) → IsGot w p (insert_next_in a)
-  insert_got key value got insert.New is = tt
-  insert_got key value got (insert.Coming a) is = approach_got 0 key a is
-  insert_got key value got (insert.Present x v) is = tt
-  insert_got key value got (insert.Editing c) is = edit_got _ got c is
-  insert_got key value got (insert.Ending r) is = tt
-  insert_got key value got (insert.Over r) is = tt
-
-  delete_got : (key : ℕ) (got : ℕ → Page) (a : DeleteStage) → IsSure w p (know_delete key got a) → IsGot w p (delete_next_in a)
-  delete_got key got delete.New is = tt
-  delete_got key got (delete.Coming a) is = approach_got 0 key a is
-  delete_got key got (delete.Absent x) is = tt
-  delete_got key got (delete.Editing v c) is = edit_got _ got c is
-  delete_got key got (delete.Ending r) is = tt
-  delete_got key got (delete.Over r) is = tt
+  write_got : (key : ℕ) (does : KeyWrite) (got : ℕ → Page) (a : WriteStage) → IsSure w p (know_write key does got a) → IsGot w p (write_next_in a)
+  write_got key does got write.New is = tt
+  write_got key does got (write.Coming a) is = approach_got 0 key a is
+  write_got key does got (write.Keeping x there) is = tt
+  write_got key does got (write.Editing noted c) is = edit_got _ got c is
+  write_got key does got (write.Ending r) is = tt
+  write_got key does got (write.Over r) is = tt
 
   post_got : (level key : ℕ) (got : ℕ → Page) (child : ℕ) (a : PostStage) → IsSure w p (know_post level key got child a) → IsGot w p (post_next_in a)
   post_got level key got child post.New is = tt
@@ -191,8 +181,7 @@ module _ {P : Type 0} (w : World P) (p : Name) where
 
   of_got : (got : ℕ → Page) (child time : ℕ) (state : Proc) → IsSure w p (know_of got child time state) → IsGot w p (next_of state)
   of_got got child time (Find a) is = find_got a.key a.stage is
-  of_got got child time (Insert a) is = insert_got a.key a.value got a.stage is
-  of_got got child time (Delete a) is = delete_got a.key got a.stage is
+  of_got got child time (Write a) is = write_got a.key a.write got a.stage is
   of_got got child time (Post a) is = post_got a.level a.key got child a.stage is
   of_got got child time (Part a) is = part_got a.from a.stage is
   of_got got child time (Compress a) is = compress_got a.level a.key got a.stage is

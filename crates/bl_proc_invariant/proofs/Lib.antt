@@ -9,8 +9,7 @@ pub mod Descending
 pub mod Finding
 pub mod Listing
 pub mod Entering
-pub mod Inserting
-pub mod Deleting
+pub mod Writing
 pub mod Growing
 pub mod Lowering
 pub mod LoweringLogs

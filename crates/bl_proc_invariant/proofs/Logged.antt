@@ -1,6 +1,7 @@
 -- What each process has done, through every turn.
 use Rattle.std.proofs.Common.{ℕ, ◌≡◌, ◌++◌, Option, Some, None, [], ◌∷◌, ap, sym, ◌∙◌, refl, subst, inl, inr}
 use Rattle.bl_model.specs.declared.operation.Reply.{Reply}
+use Rattle.bl_model.specs.declared.deciding.KeyWrite.{KeyWrite}
 use Rattle.bl_page.specs.declared.page.Page.{Page}
 use Rattle.bl_page.specs.declared.machine.Missed.{Missed}
 use Rattle.bl_page.specs.Machine.{Name, State, Act}
@@ -17,10 +18,8 @@ use Rattle.bl_proc_base.specs.declared.acts.Seen.TheVariants as seen
 use Rattle.bl_proc_base.specs.declared.approaching.Approach.TheVariants as way
 use Rattle.bl_proc_base.specs.declared.editing.Edit.TheVariants as edit
 use Rattle.bl_proc_base.specs.declared.growing.Growth.TheVariants as growth
-use Rattle.bl_proc.specs.declared.inserting.InsertStage.{InsertStage}
-use Rattle.bl_proc.specs.declared.inserting.InsertStage.TheVariants as insert
-use Rattle.bl_proc.specs.declared.deleting.DeleteStage.{DeleteStage}
-use Rattle.bl_proc.specs.declared.deleting.DeleteStage.TheVariants as delete
+use Rattle.bl_proc.specs.declared.writing.WriteStage.{WriteStage}
+use Rattle.bl_proc.specs.declared.writing.WriteStage.TheVariants as write
 use Rattle.bl_proc.specs.declared.posting.PostStage.{PostStage}
 use Rattle.bl_proc.specs.declared.posting.PostStage.TheVariants as post
 use Rattle.bl_proc_compress.specs.declared.compressing.Compression.TheVariants.{LatchingLeft}
@@ -30,17 +29,17 @@ use Rattle.bl_proc.specs.declared.lowering.LowerStage.{LowerStage}
 use Rattle.bl_proc.specs.declared.lowering.LowerStage.TheVariants as lower
 use Rattle.bl_proc_base.specs.declared.lowering.Lowering.TheVariants.{Looking}
 use Rattle.bl_proc.specs.declared.kinds.Proc.{Proc}
-use Rattle.bl_proc.specs.declared.kinds.Proc.TheVariants.{Find, Insert, Delete, Post, Part, Compress, Reclaim, Lower}
+use Rattle.bl_proc.specs.declared.kinds.Proc.TheVariants.{Find, Write, Post, Part, Compress, Reclaim, Lower}
 use Rattle.bl_proc.specs.Processes.{next_of, Takes}
 use Rattle.bl_proc_invariant.specs.Turns.{event_of, IsObserved, Turned}
-use Rattle.bl_proc_invariant.specs.Logs.{proc_log, insert_log, delete_log, post_log, compress_log, lower_log, AllLogs}
-use Rattle.bl_proc_invariant.specs.Knowing.{Run, know_of, know, know_insert, know_delete, know_post, know_compress, know_lower, end_of_proc, run_next}
+use Rattle.bl_proc_invariant.specs.Logs.{proc_log, write_log, post_log, compress_log, lower_log, AllLogs}
+use Rattle.bl_proc_invariant.specs.Knowing.{Run, know_of, know, know_write, know_post, know_compress, know_lower, end_of_proc, run_next}
 use Rattle.bl_proc_invariant.proofs.Logging.{post_on, post_stays}
 use Rattle.bl_proc_invariant.proofs.Doing.{compress_on, compress_stays}
 use Rattle.bl_proc_invariant.proofs.LoweringLogs.{lower_on, lower_stays}
 use Rattle.bl_proc_invariant.proofs.Looking.{looking_on, find_on, part_on}
-use Rattle.bl_proc_invariant.proofs.Putting.{insert_on, insert_stays, delete_on, delete_stays}
-use Rattle.bl_proc_unique.proofs.KindCases.{find_case, part_case, insert_case, delete_case, post_case, compress_case, lower_case}
+use Rattle.bl_proc_invariant.proofs.Putting.{write_on, write_stays}
+use Rattle.bl_proc_unique.proofs.KindCases.{find_case, part_case, write_case, post_case, compress_case, lower_case}
 
 -- a process that has not begun has nothing to tell
 early_post : (level key : ℕ) (got : ℕ → Page) (child : ℕ) (a : PostStage) → (know_post level key got child a).stage ≡ Stage.Early → (marks : Trail) → post_log level key a marks
@@ -58,19 +57,12 @@ early_press level key got (compress.Coming (way.Leaving x None)) e marks = absur
 early_press level key got (compress.Compressing (LatchingLeft h)) e marks = absurd (let f = e in cc)
 early_press level key got old e marks = absurd (let f = e in cc)
 
-early_insert : (key value : ℕ) (got : ℕ → Page) (a : InsertStage) → (know_insert key value got a).stage ≡ Stage.Early → (marks : Trail) → insert_log a marks
-early_insert key value got insert.New e marks = tt
-early_insert key value got (insert.Coming way.Start) e marks = absurd (let f = e in cc)
-early_insert key value got (insert.Coming (way.Leaving x None)) e marks = absurd (let f = e in cc)
-early_insert key value got (insert.Editing (edit.Putting x page)) e marks = absurd (let f = e in cc)
-early_insert key value got old e marks = absurd (let f = e in cc)
-
-early_delete : (key : ℕ) (got : ℕ → Page) (a : DeleteStage) → (know_delete key got a).stage ≡ Stage.Early → (marks : Trail) → delete_log a marks
-early_delete key got delete.New e marks = tt
-early_delete key got (delete.Coming way.Start) e marks = absurd (let f = e in cc)
-early_delete key got (delete.Coming (way.Leaving x None)) e marks = absurd (let f = e in cc)
-early_delete key got (delete.Editing v (edit.Putting x page)) e marks = absurd (let f = e in cc)
-early_delete key got old e marks = absurd (let f = e in cc)
+early_write : (key : ℕ) (does : KeyWrite) (got : ℕ → Page) (a : WriteStage) → (know_write key does got a).stage ≡ Stage.Early → (marks : Trail) → write_log does a marks
+early_write key does got write.New e marks = tt
+early_write key does got (write.Coming way.Start) e marks = absurd (let f = e in cc)
+early_write key does got (write.Coming (way.Leaving x None)) e marks = absurd (let f = e in cc)
+early_write key does got (write.Editing noted (edit.Putting x page)) e marks = absurd (let f = e in cc)
+early_write key does got old e marks = absurd (let f = e in cc)
 
 early_lower : (got : ℕ → Page) (a : LowerStage) → (know_lower got a).stage ≡ Stage.Early → (marks : Trail) → lower_log a marks
 early_lower got lower.New e marks = tt
@@ -79,8 +71,7 @@ early_lower got old e marks = absurd (let f = e in cc)
 
 early_state : (got : ℕ → Page) (child time : ℕ) (a : Proc) → (know_of got child time a).stage ≡ Stage.Early → (marks : Trail) → writes_of marks ≡ [] → proc_log a marks
 early_state got child time (Find a) e marks none = none
-early_state got child time (Insert a) e marks none = early_insert a.key a.value got a.stage e marks
-early_state got child time (Delete a) e marks none = early_delete a.key got a.stage e marks
+early_state got child time (Write a) e marks none = early_write a.key a.write got a.stage e marks
 early_state got child time (Post a) e marks none = early_post a.level a.key got child a.stage e marks
 early_state got child time (Part a) e marks none = none
 early_state got child time (Compress a) e marks none = early_press a.level a.key got a.stage e marks
@@ -112,8 +103,8 @@ saw_words reply s size saw old what observed is y d e f = absurd (let g = f in c
 pub log_turn : (old new : Proc) (what : Seen) (marks : Trail) (m : Mark) → Takes old what new → m.event.act ≡ event_of (end_of_proc old) (next_of old) what → ((x : ℕ) (c : Page) → m.event.act ≡ Get x → what ≡ seen.Words c → m.saw ≡ Some c) → proc_log old marks → proc_log new (marks ++ m ∷ [])
 log_turn (Post a) (Post c) what marks m t did saw h =
     subst (λ l. post_log l c.key c.stage (marks ++ m ∷ [])) (sym t.0) (subst (λ k. post_log a.level k c.stage (marks ++ m ∷ [])) (sym t.1) (post_on marks m a.level a.key a.least (post_case a.level a.key a.stage what c.stage t.2) did saw h))
-log_turn (Insert a) (Insert c) what marks m t did saw h = insert_on marks m (insert_case a.key a.value a.stage what c.stage t.2) did h
-log_turn (Delete a) (Delete c) what marks m t did saw h = delete_on marks m (delete_case a.key a.stage what c.stage t.1) did h
+log_turn (Write a) (Write c) what marks m t did saw h =
+    subst (λ d. write_log d c.stage (marks ++ m ∷ [])) (sym t.1) (write_on marks m (write_case a.key a.write a.stage what c.stage t.2) did h)
 log_turn (Reclaim a) (Reclaim c) what marks m t did saw h = tt
 log_turn (Compress a) (Compress c) what marks m t did saw h =
     subst (λ l. compress_log l c.key c.stage (marks ++ m ∷ [])) (sym t.0) (subst (λ k. compress_log a.level k c.stage (marks ++ m ∷ [])) (sym t.1) (compress_on marks m a.level a.key a.least (compress_case a.level a.key a.stage what c.stage t.2) did saw h))
@@ -124,8 +115,7 @@ log_turn old new what marks m t did saw h = absurd t
 
 log_stays : {what : Missed} (old : Proc) (marks : Trail) (m : Mark) → m.event.act ≡ Miss what → proc_log old marks → proc_log old (marks ++ m ∷ [])
 log_stays (Find a) marks m did h = looking_on marks m (ap writes_in did) h
-log_stays (Insert a) marks m did h = insert_stays marks m (ap writes_in did) a.stage h
-log_stays (Delete a) marks m did h = delete_stays marks m (ap writes_in did) a.stage h
+log_stays (Write a) marks m did h = write_stays marks m (ap writes_in did) a.write a.stage h
 log_stays (Part a) marks m did h = looking_on marks m (ap writes_in did) h
 log_stays (Compress a) marks m did h = compress_stays marks m a.level a.key did a.stage h
 log_stays (Reclaim a) marks m did h = tt

@@ -5,6 +5,7 @@ use Rattle.bl_core_tree.specs.Trees.{is_live, IsLive}
 use Rattle.bl_claims.specs.Pages.{roots_of}
 use Rattle.bl_proc_base.specs.Onwards.{top_of}
 use Rattle.std.proofs.lemmas.Bool.{false≢true}
+use Rattle.bl_model.specs.declared.deciding.KeyWrite.{KeyWrite}
 use Rattle.bl_page.specs.declared.page.Page.{Page}
 use Rattle.bl_page.specs.Machine.{Name}
 use Rattle.bl_page.specs.Machine.Owner.{Released, Held}
@@ -24,10 +25,8 @@ use Rattle.bl_proc.specs.declared.searching.FindStage.{FindStage}
 use Rattle.bl_proc.specs.declared.searching.FindStage.TheVariants as find
 use Rattle.bl_proc.specs.declared.parts.PartStage.{PartStage}
 use Rattle.bl_proc.specs.declared.parts.PartStage.TheVariants as part
-use Rattle.bl_proc.specs.declared.inserting.InsertStage.{InsertStage}
-use Rattle.bl_proc.specs.declared.inserting.InsertStage.TheVariants as insert
-use Rattle.bl_proc.specs.declared.deleting.DeleteStage.{DeleteStage}
-use Rattle.bl_proc.specs.declared.deleting.DeleteStage.TheVariants as delete
+use Rattle.bl_proc.specs.declared.writing.WriteStage.{WriteStage}
+use Rattle.bl_proc.specs.declared.writing.WriteStage.TheVariants as write
 use Rattle.bl_proc.specs.declared.posting.PostStage.{PostStage}
 use Rattle.bl_proc.specs.declared.posting.PostStage.TheVariants as post
 use Rattle.bl_proc.specs.declared.reclaiming.ReclaimStage.{ReclaimStage}
@@ -42,7 +41,7 @@ use Rattle.bl_proc_compress.specs.declared.compressing.Compression.TheVariants.{
 use Rattle.bl_proc_compress.specs.declared.squeezing.CompressStage.{CompressStage}
 use Rattle.bl_proc_compress.specs.declared.squeezing.CompressStage.TheVariants as compress
 use Rattle.bl_proc.specs.declared.kinds.Proc.{Proc}
-use Rattle.bl_proc.specs.declared.kinds.Proc.TheVariants.{Find, Insert, Delete, Post, Part, Compress, Reclaim, Lower}
+use Rattle.bl_proc.specs.declared.kinds.Proc.TheVariants.{Find, Write, Post, Part, Compress, Reclaim, Lower}
 use Rattle.bl_proc_base.specs.Approaches.{approach_next}
 use Rattle.bl_proc_base.specs.Edits.{edit_next}
 use Rattle.bl_proc_compress.specs.Compressions.{put_of, other, compression_next}
@@ -52,8 +51,7 @@ use Rattle.bl_proc_compress.specs.declared.compressing.Puts.{Puts}
 use Rattle.bl_proc_base.specs.Growths.{growth_next}
 use Rattle.bl_proc.specs.Searches.{find_next_in}
 use Rattle.bl_proc.specs.Parts.{part_next_in}
-use Rattle.bl_proc.specs.Inserts.{insert_next_in}
-use Rattle.bl_proc.specs.Deletes.{delete_next_in}
+use Rattle.bl_proc.specs.Writes.{write_next_in}
 use Rattle.bl_proc.specs.Posts.{post_next_in}
 use Rattle.bl_proc_compress.specs.Compresses.{compress_next_in}
 use Rattle.bl_proc.specs.Reclaims.{reclaim_next_in}
@@ -62,7 +60,7 @@ use Rattle.bl_proc_base.specs.Lowerings.{lowering_next}
 use Rattle.bl_proc.specs.Processes.{next_of}
 use Rattle.bl_proc_invariant.specs.Compressing.{know_squeeze}
 use Rattle.bl_proc_invariant.specs.Tables.{Aim, know_approach, know_edit}
-use Rattle.bl_proc_invariant.specs.Knowing.{know_growth, know_find, know_part, know_insert, know_delete, know_post, know_compress, know_reclaim, know_lower, know_of, Run, know}
+use Rattle.bl_proc_invariant.specs.Knowing.{know_growth, know_find, know_part, know_write, know_post, know_compress, know_reclaim, know_lower, know_of, Run, know}
 use Rattle.bl_proc_invariant.proofs.Descending.{descent_there}
 
 abbrev pub IsNear : {P : Type 0} → World P → Name → Action → Type 0
@@ -120,21 +118,13 @@ module _ {P : Type 0} (know : P → Know) (w : World P) (g : IsGood know w) (p :
   part_near from (part.Ending r) is = tt
   part_near from (part.Over r) is = tt
 
-  insert_near : (key value : ℕ) (got : ℕ → Page) (a : InsertStage) → IsSure w p (know_insert key value got a) → IsNear w p (insert_next_in a)
-  insert_near key value got insert.New is = tt
-  insert_near key value got (insert.Coming a) is = approach_near 0 key a is
-  insert_near key value got (insert.Present x v) is = is.holds.0.owner
-  insert_near key value got (insert.Editing c) is = edit_near _ got c is
-  insert_near key value got (insert.Ending r) is = tt
-  insert_near key value got (insert.Over r) is = tt
-
-  delete_near : (key : ℕ) (got : ℕ → Page) (a : DeleteStage) → IsSure w p (know_delete key got a) → IsNear w p (delete_next_in a)
-  delete_near key got delete.New is = tt
-  delete_near key got (delete.Coming a) is = approach_near 0 key a is
-  delete_near key got (delete.Absent x) is = is.holds.0.owner
-  delete_near key got (delete.Editing v c) is = edit_near _ got c is
-  delete_near key got (delete.Ending r) is = tt
-  delete_near key got (delete.Over r) is = tt
+  write_near : (key : ℕ) (does : KeyWrite) (got : ℕ → Page) (a : WriteStage) → IsSure w p (know_write key does got a) → IsNear w p (write_next_in a)
+  write_near key does got write.New is = tt
+  write_near key does got (write.Coming a) is = approach_near 0 key a is
+  write_near key does got (write.Keeping x there) is = is.holds.0.owner
+  write_near key does got (write.Editing noted c) is = edit_near _ got c is
+  write_near key does got (write.Ending r) is = tt
+  write_near key does got (write.Over r) is = tt
 
   post_near : (level key : ℕ) (got : ℕ → Page) (child : ℕ) (a : PostStage) → IsSure w p (know_post level key got child a) → IsNear w p (post_next_in a)
   post_near level key got child post.New is = tt
@@ -204,8 +194,7 @@ module _ {P : Type 0} (know : P → Know) (w : World P) (g : IsGood know w) (p :
 
   of_near : (got : ℕ → Page) (child time : ℕ) (state : Proc) → IsSure w p (know_of got child time state) → IsNear w p (next_of state)
   of_near got child time (Find a) is = find_near a.key a.stage is
-  of_near got child time (Insert a) is = insert_near a.key a.value got a.stage is
-  of_near got child time (Delete a) is = delete_near a.key got a.stage is
+  of_near got child time (Write a) is = write_near a.key a.write got a.stage is
   of_near got child time (Post a) is = post_near a.level a.key got child a.stage is
   of_near got child time (Part a) is = part_near a.from a.stage is
   of_near got child time (Compress a) is = compress_near a.level a.key got a.stage is

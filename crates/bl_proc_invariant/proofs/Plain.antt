@@ -1,5 +1,6 @@
 -- Which processes may be in the middle of a compression.
 use Rattle.std.proofs.Common.{ℕ, ◌≡◌, ◌⊎◌, None, Some, refl, inl, inr}
+use Rattle.bl_model.specs.declared.deciding.KeyWrite.{KeyWrite}
 use Rattle.bl_page.specs.declared.page.Page.{Page}
 use Rattle.bl_claims.specs.Trails.{Trail}
 use Rattle.bl_core.specs.Worlds.{Know}
@@ -13,10 +14,8 @@ use Rattle.bl_proc.specs.declared.searching.FindStage.{FindStage}
 use Rattle.bl_proc.specs.declared.searching.FindStage.TheVariants as find
 use Rattle.bl_proc.specs.declared.parts.PartStage.{PartStage}
 use Rattle.bl_proc.specs.declared.parts.PartStage.TheVariants as part
-use Rattle.bl_proc.specs.declared.inserting.InsertStage.{InsertStage}
-use Rattle.bl_proc.specs.declared.inserting.InsertStage.TheVariants as insert
-use Rattle.bl_proc.specs.declared.deleting.DeleteStage.{DeleteStage}
-use Rattle.bl_proc.specs.declared.deleting.DeleteStage.TheVariants as delete
+use Rattle.bl_proc.specs.declared.writing.WriteStage.{WriteStage}
+use Rattle.bl_proc.specs.declared.writing.WriteStage.TheVariants as write
 use Rattle.bl_proc.specs.declared.posting.PostStage.{PostStage}
 use Rattle.bl_proc.specs.declared.posting.PostStage.TheVariants as post
 use Rattle.bl_proc.specs.declared.reclaiming.ReclaimStage.{ReclaimStage}
@@ -32,10 +31,10 @@ use Rattle.bl_proc_compress.specs.declared.squeezing.CompressStage.{CompressStag
 use Rattle.bl_proc_compress.specs.declared.squeezing.CompressStage.TheVariants as compress
 use Rattle.bl_proc_compress.specs.declared.squeezing.Compress.{Compress as Press}
 use Rattle.bl_proc.specs.declared.kinds.Proc.{Proc}
-use Rattle.bl_proc.specs.declared.kinds.Proc.TheVariants.{Find, Insert, Delete, Post, Part, Compress, Reclaim, Lower}
+use Rattle.bl_proc.specs.declared.kinds.Proc.TheVariants.{Find, Write, Post, Part, Compress, Reclaim, Lower}
 use Rattle.bl_proc_invariant.specs.Compressing.{know_squeeze}
 use Rattle.bl_proc_invariant.specs.Tables.{Aim, know_approach, know_edit}
-use Rattle.bl_proc_invariant.specs.Knowing.{know_growth, know_find, know_part, know_insert, know_delete, know_post, know_compress, know_reclaim, know_lower, know_of, Run, know}
+use Rattle.bl_proc_invariant.specs.Knowing.{know_growth, know_find, know_part, know_write, know_post, know_compress, know_reclaim, know_lower, know_of, Run, know}
 
 -- it is not in the middle of a compression
 record IsPlain (k : Know) : Type 1 where
@@ -81,21 +80,13 @@ part_plain from (part.Descending d) = record { middle = refl }
 part_plain from (part.Ending r) = record { middle = refl }
 part_plain from (part.Over r) = record { middle = refl }
 
-insert_plain : (key value : ℕ) (got : ℕ → Page) (a : InsertStage) → IsPlain (know_insert key value got a)
-insert_plain key value got insert.New = record { middle = refl }
-insert_plain key value got (insert.Present x v) = record { middle = refl }
-insert_plain key value got (insert.Ending r) = record { middle = refl }
-insert_plain key value got (insert.Over r) = record { middle = refl }
-insert_plain key value got (insert.Coming a) = approach_plain 0 key a
-insert_plain key value got (insert.Editing c) = edit_plain _ got c
-
-delete_plain : (key : ℕ) (got : ℕ → Page) (a : DeleteStage) → IsPlain (know_delete key got a)
-delete_plain key got delete.New = record { middle = refl }
-delete_plain key got (delete.Absent x) = record { middle = refl }
-delete_plain key got (delete.Ending r) = record { middle = refl }
-delete_plain key got (delete.Over r) = record { middle = refl }
-delete_plain key got (delete.Coming a) = approach_plain 0 key a
-delete_plain key got (delete.Editing v c) = edit_plain _ got c
+write_plain : (key : ℕ) (does : KeyWrite) (got : ℕ → Page) (a : WriteStage) → IsPlain (know_write key does got a)
+write_plain key does got write.New = record { middle = refl }
+write_plain key does got (write.Keeping x there) = record { middle = refl }
+write_plain key does got (write.Ending r) = record { middle = refl }
+write_plain key does got (write.Over r) = record { middle = refl }
+write_plain key does got (write.Coming a) = approach_plain 0 key a
+write_plain key does got (write.Editing noted c) = edit_plain _ got c
 
 post_plain : (level key : ℕ) (got : ℕ → Page) (child : ℕ) (a : PostStage) → IsPlain (know_post level key got child a)
 post_plain level key got child post.New = record { middle = refl }
@@ -134,8 +125,7 @@ lower_plain got (lower.Over r) = record { middle = refl }
 -- whoever is in the middle of a compression compresses
 pub of_middle : (got : ℕ → Page) (child time : ℕ) (state : Proc) → ((know_of got child time state).middle ≡ None) ⊎ ((p : Press) × (state ≡ Compress p))
 of_middle got child time (Find p) = inl (find_plain p.key p.stage).middle
-of_middle got child time (Insert p) = inl (insert_plain p.key p.value got p.stage).middle
-of_middle got child time (Delete p) = inl (delete_plain p.key got p.stage).middle
+of_middle got child time (Write p) = inl (write_plain p.key p.write got p.stage).middle
 of_middle got child time (Post p) = inl (post_plain p.level p.key got child p.stage).middle
 of_middle got child time (Part p) = inl (part_plain p.from p.stage).middle
 of_middle got child time (Compress p) = inr (p, refl)

@@ -43,7 +43,7 @@ post_fine level key child above = record {
     | inl e ↦ subst (λ z. m' z ≡ m z) (sym e) (up (λ z. omega (arith, z)))
     | inr i ↦ rest k i
   ];
-  refused = λ m h k. refl;
+  refused = λ m c h k. refl;
   lists = λ w p x d h l c e f. subst (λ z. IsChild (tree_of w) l key z) (same child c f) (record { alive = h.0.alive; level_is = omega (arith, d, h.0.level, e); sep_is = h.0.sep });
 }
   where
@@ -71,7 +71,7 @@ module _ {P : Type 0} (know : P → Know) (w : World P) (g : IsGood know w) (p :
         goes = (to, tt);
         children = tt;
         passed = tt;
-        sound = (is.sound, record { level = ap (λ z. (node_of z).shape.level) (sym page) ∙ l.2; covers = rw page at l.1; was = unlisted }, t.1);
+        sound = (is.sound, record { level = ap (λ z. (node_of z).shape.level) (sym page) ∙ l.2; covers = rw page at l.1; was = unlisted; changes = refl }, t.1);
       })
 
   -- on the walk to the child
@@ -121,7 +121,7 @@ module _ {P : Type 0} (know : P → Know) (w : World P) (g : IsGood know w) (p :
         let aim = post_aim level key v.child in
         let page = InnerPage v.parent in
         let key_is : v.key ≡ key = is.sound.2 in
-        let due : IsDue aim page = record { level = is.sound.1.level; covers = is.sound.1.covers; was = is.sound.1.was } in
+        let due : IsDue aim page = record { level = is.sound.1.level; covers = is.sound.1.covers; was = is.sound.1.was; changes = refl } in
         let enters : EntersPair v.at page key v.child c = subst (λ z. EntersPair v.at page z v.child c) key_is t.2 in
         let covers : Covers (nodes w.now v.at).shape key = rw held.page due.covers in
         let level_is : (nodes w.now v.at).shape.level ≡ level = rw held.page due.level in

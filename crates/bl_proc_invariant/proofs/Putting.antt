@@ -1,4 +1,4 @@
--- What an insertion or a deletion has put, and one event more: what is told of it in the next state.
+-- What a write of one key has put, and one event more: what is told of it in the next state.
 use Rattle.std.proofs.Common.{ℕ, ◌≡◌, ◌++◌, Option, [], ◌∷◌, None, Some, ap, sym, refl, subst}
 use Rattle.bl_page.specs.declared.page.Page.{Page}
 use Rattle.bl_page.specs.declared.machine.Missed.TheVariants as missed
@@ -17,25 +17,26 @@ use Rattle.bl_proc_base.specs.declared.editing.Edit.TheVariants as edit
 use Rattle.bl_proc_base.specs.declared.editing.Edited.TheVariants as changed
 use Rattle.bl_proc_base.specs.Approaches.{approach_next, Approaches}
 use Rattle.bl_proc_base.specs.Edits.{edit_next}
-use Rattle.bl_proc.specs.declared.inserting.InsertReply.{InsertReply}
-use Rattle.bl_proc.specs.declared.inserting.InsertReply.TheVariants as inserted
-use Rattle.bl_proc.specs.declared.inserting.InsertStage.{InsertStage}
-use Rattle.bl_proc.specs.declared.inserting.InsertStage.TheVariants as insert
-use Rattle.bl_proc.specs.declared.deleting.Removed.{Removed}
-use Rattle.bl_proc.specs.declared.deleting.DeleteReply.{DeleteReply}
-use Rattle.bl_proc.specs.declared.deleting.DeleteReply.TheVariants as deleted
-use Rattle.bl_proc.specs.declared.deleting.DeleteStage.{DeleteStage}
-use Rattle.bl_proc.specs.declared.deleting.DeleteStage.TheVariants as delete
-use Rattle.bl_proc.specs.Inserts.{insert_reply, insert_next_in, InsertArrives}
-use Rattle.bl_proc.specs.Deletes.{delete_reply, delete_next_in, DeleteArrives}
+use Rattle.bl_model.specs.declared.deciding.KeyWrite.{KeyWrite}
+use Rattle.bl_model.specs.declared.deciding.Effect.{Effect}
+use Rattle.bl_model.specs.declared.deciding.Effect.TheVariants.{Keep, Enter, Remove, Replace}
+use Rattle.bl_model.specs.Writes.{effect_of}
+use Rattle.bl_proc_base.specs.declared.answers.Hint.{Hint}
+use Rattle.bl_proc.specs.declared.writing.Noted.{Noted}
+use Rattle.bl_proc.specs.declared.writing.WriteReply.{WriteReply}
+use Rattle.bl_proc.specs.declared.writing.WriteReply.TheVariants as written
+use Rattle.bl_proc.specs.declared.writing.WriteStage.{WriteStage}
+use Rattle.bl_proc.specs.declared.writing.WriteStage.TheVariants as write
+use Rattle.bl_proc_base.specs.Thin.{thin_hint}
+use Rattle.bl_proc.specs.Writes.{post_hint, Performs, thin_by, write_reply, write_next_in}
 use Rattle.bl_proc_invariant.specs.Turns.{event_of}
 use Rattle.bl_proc_meanings.specs.Hinted.{WroteLeaf}
-use Rattle.bl_proc_invariant.specs.Logs.{way_log, put_log, entry_log, AnyPage, inserted_log, insert_log, IsThinAs, deleted_log, delete_log}
-use Rattle.bl_proc_invariant.specs.Knowing.{insert_end, delete_end}
+use Rattle.bl_proc_invariant.specs.Logs.{way_log, put_log, entry_log, IsAsNoted, MaySplit, effect_log, written_log, write_log}
+use Rattle.bl_proc_invariant.specs.Knowing.{write_end}
 use Rattle.bl_proc_invariant.proofs.Holdings.{cut_low}
 use Rattle.bl_proc_invariant.proofs.Logging.{way_stays, way_goes}
 use Rattle.bl_proc_unique.proofs.WayCases.{EditCase, edit_case}
-use Rattle.bl_proc_unique.proofs.KindCases.{InsertCase, DeleteCase}
+use Rattle.bl_proc_unique.proofs.KindCases.{WriteCase}
 
 module _ (marks : Trail) (m : Mark) where
   abbrev more : Trail
@@ -59,34 +60,26 @@ module _ (marks : Trail) (m : Mark) where
     entry_stays Whole Parts (edit.OpeningNew x new separator) h = outcome_stays Whole Parts (outcome.SplitAt separator) h
     entry_stays Whole Parts (edit.Opening x o) h = outcome_stays Whole Parts o h
 
-    inserted_stays : (r : InsertReply) → inserted_log r marks → inserted_log r more
-    inserted_stays (inserted.Inserted separator) h = leaf_stays separator h
-    inserted_stays (inserted.Present there) h = unwritten_on marks m quiet h
-    inserted_stays inserted.NoRoom h = unwritten_on marks m quiet h
+    effect_stays : (e : Effect) (hint : Option Hint) → effect_log e hint marks → effect_log e hint more
+    effect_stays Keep hint h = (unwritten_on marks m quiet h.0, h.1)
+    effect_stays (Enter value) hint h = (h.0, leaf_stays h.0 h.1, h.2)
+    effect_stays Remove hint h = (h.0, h.1, held_still marks m quiet h.2, h.3)
+    effect_stays (Replace value) hint h = (h.0, h.1, held_still marks m quiet h.2, h.3)
 
-    deleted_stays : (r : DeleteReply) → deleted_log r marks → deleted_log r more
-    deleted_stays (deleted.Deleted removed) h = (h.0, h.1, held_still marks m quiet h.2, h.3)
-    deleted_stays deleted.Absent h = unwritten_on marks m quiet h
-    deleted_stays deleted.NoRoom h = unwritten_on marks m quiet h
+    written_stays : (does : KeyWrite) (r : WriteReply) → written_log does r marks → written_log does r more
+    written_stays does (written.Done there hint) h = effect_stays (effect_of does there) hint h
+    written_stays does written.NoRoom h = unwritten_on marks m quiet h
 
     way_still : (a : Approach) → way_log a marks → way_log a more
     way_still a h = way_stays (unwritten_on marks m quiet) (λ x k. held_still marks m quiet k) a h
 
-    pub insert_stays : (a : InsertStage) → insert_log a marks → insert_log a more
-    insert_stays insert.New h = tt
-    insert_stays (insert.Coming a) h = way_still a h
-    insert_stays (insert.Present x there) h = unwritten_on marks m quiet h
-    insert_stays (insert.Editing c) h = entry_stays AnyPage (Unit {0}) c h
-    insert_stays (insert.Ending r) h = inserted_stays r h
-    insert_stays (insert.Over r) h = inserted_stays r h
-
-    pub delete_stays : (a : DeleteStage) → delete_log a marks → delete_log a more
-    delete_stays delete.New h = tt
-    delete_stays (delete.Coming a) h = way_still a h
-    delete_stays (delete.Absent x) h = unwritten_on marks m quiet h
-    delete_stays (delete.Editing removed c) h = entry_stays (IsThinAs removed) ⊥ c h
-    delete_stays (delete.Ending r) h = deleted_stays r h
-    delete_stays (delete.Over r) h = deleted_stays r h
+    pub write_stays : (does : KeyWrite) (a : WriteStage) → write_log does a marks → write_log does a more
+    write_stays does write.New h = tt
+    write_stays does (write.Coming a) h = way_still a h
+    write_stays does (write.Keeping x there) h = (unwritten_on marks m quiet h.0, h.1)
+    write_stays does (write.Editing noted c) h = entry_stays (IsAsNoted (effect_of does noted.there) noted) (MaySplit (effect_of does noted.there)) c h
+    write_stays does (write.Ending r) h = written_stays does r h
+    write_stays does (write.Over r) h = written_stays does r h
 
   -- on the way
   coming_on : (key : ℕ) (a b : Approach) (what : Seen) → Approaches 0 key a what (came.On b) → m.event.act ≡ event_of None (approach_next a) what → way_log a marks → way_log b more
@@ -122,43 +115,45 @@ module _ (marks : Trail) (m : Mark) where
     entry_end : {c : Edit} {o : Outcome} {what : Seen} → EditCase c what (changed.Over o) → m.event.act ≡ event_of None (edit_next c) what → entry_log Whole Parts c marks → put_log Whole Parts o more
     entry_end (EditCase.Opened x q o t) did h = subst (λ z. put_log Whole Parts z more) (sym t) (opened x q did h)
 
-  -- an insertion
-  outcome_inserted : (o : Outcome) → put_log AnyPage (Unit {0}) o more → inserted_log (insert_reply o) more
-  outcome_inserted outcome.Edited h = (h.0, Put h.0 h.1 ∷ [], h.1 ∷ [], h.2, WritesBack.Whole h.1)
-  outcome_inserted (outcome.SplitAt separator) h = h.0
-  outcome_inserted outcome.Refused h = h
+  -- what has become of the leaf, by what was to be done with it
+  edited_log : (e : Effect) (noted : Noted) → put_log (IsAsNoted e noted) (MaySplit e) outcome.Edited more → effect_log e (thin_hint 1 noted.thin) more
+  edited_log Keep noted h = absurd h.3
+  edited_log (Enter value) noted h = (None, (h.0, Put h.0 h.1 ∷ [], h.1 ∷ [], h.2, WritesBack.Whole h.1), ap (thin_hint 1) h.3)
+  edited_log Remove noted h = (h.0, h.1, h.2, ap (thin_hint 1) h.3)
+  edited_log (Replace value) noted h = (h.0, h.1, h.2, ap (thin_hint 1) h.3)
 
-  arrived_insert : (key value x : ℕ) (c : Page) (d : Edit) → InsertArrives key value x c (insert.Editing d) → WroteHeld more x [] → entry_log AnyPage (Unit {0}) d more
-  arrived_insert key value x c (edit.Putting y page) t h = (subst (λ z. WroteHeld more z []) (sym t.1.0) h, tt)
-  arrived_insert key value x c (edit.Taking full) t h = (subst (λ z. WroteHeld more z []) (sym t.1.0) h, tt)
-  arrived_insert key value x c old t h = absurd t.1
+  split_log : (e : Effect) (noted : Noted) (separator : ℕ) → put_log (IsAsNoted e noted) (MaySplit e) (outcome.SplitAt separator) more → effect_log e (post_hint 1 (Some separator)) more
+  split_log (Enter value) noted separator h = (Some separator, h.0, refl)
+  split_log e noted separator h = absurd h.1
 
-  pub insert_on : {key value : ℕ} {old new : InsertStage} {what : Seen} → InsertCase key value old what new → m.event.act ≡ event_of (insert_end old) (insert_next_in old) what → insert_log old marks → insert_log new more
-  insert_on (InsertCase.Began a t) did h = subst (λ z. way_log z more) (sym t) (begun_now marks m (λ acts. acts ≡ []) did refl)
-  insert_on {key = key} (InsertCase.Came a what b t) did h = coming_on key a b what t did h
-  insert_on (InsertCase.Found x c y there l t) did h = unwritten_on marks m (ap writes_in did) (latched_unwritten h)
-  insert_on {key = key} {value = value} (InsertCase.Entered x c d l t) did h = arrived_insert key value x c d t (held_still marks m (ap writes_in did) h)
-  insert_on (InsertCase.Opened x there last t) did h = subst (λ z. inserted_log z more) (sym t) (unwritten_on marks m (ap writes_in did) h)
-  insert_on (InsertCase.Edited c what d t) did h = entry_on AnyPage (Unit {0}) (edit_case c what _ t) did h
-  insert_on (InsertCase.Finished c what last t) did h = subst (λ z. inserted_log z more) (sym t.2) (outcome_inserted t.0 (entry_end AnyPage (Unit {0}) (edit_case c what _ t.1) did h))
-  insert_on (InsertCase.Ended r last t) did h = subst (λ z. inserted_log z more) (sym t) (inserted_stays (ap writes_in did) r h)
+  outcome_written : (does : KeyWrite) (noted : Noted) (o : Outcome) → put_log (IsAsNoted (effect_of does noted.there) noted) (MaySplit (effect_of does noted.there)) o more → written_log does (write_reply noted o) more
+  outcome_written does noted outcome.Edited h = edited_log (effect_of does noted.there) noted h
+  outcome_written does noted (outcome.SplitAt separator) h = split_log (effect_of does noted.there) noted separator h
+  outcome_written does noted outcome.Refused h = h
 
-  -- a deletion
-  outcome_deleted : (removed : Removed) (o : Outcome) → put_log (IsThinAs removed) ⊥ o more → deleted_log (delete_reply removed o) more
-  outcome_deleted removed outcome.Edited h = h
-  outcome_deleted removed (outcome.SplitAt separator) h = absurd h.1
-  outcome_deleted removed outcome.Refused h = h
+  -- at the leaf
+  arrived_write : (e : Effect) (key x : ℕ) (c : Page) (noted : Noted) (d : Edit) → Performs e x c key d → noted.thin ≡ thin_by e d → WroteHeld more x [] → entry_log (IsAsNoted e noted) (MaySplit e) d more
+  arrived_write Keep key x c noted d t thin h = absurd t
+  arrived_write (Enter value) key x c noted (edit.Putting y page) t thin h = (subst (λ z. WroteHeld more z []) (sym t.0) h, thin)
+  arrived_write (Enter value) key x c noted (edit.Taking full) t thin h = (subst (λ z. WroteHeld more z []) (sym t.0) h, tt)
+  arrived_write (Enter value) key x c noted old t thin h = absurd t
+  arrived_write Remove key x c noted (edit.Putting y page) t thin h = (subst (λ z. WroteHeld more z []) (sym t.0) h, thin)
+  arrived_write Remove key x c noted old t thin h = absurd t
+  arrived_write (Replace value) key x c noted (edit.Putting y page) t thin h = (subst (λ z. WroteHeld more z []) (sym t.0) h, thin)
+  arrived_write (Replace value) key x c noted old t thin h = absurd t
 
-  arrived_delete : (key x : ℕ) (c : Page) (removed : Removed) (d : Edit) → DeleteArrives key x c (delete.Editing removed d) → WroteHeld more x [] → entry_log (IsThinAs removed) ⊥ d more
-  arrived_delete key x c removed (edit.Putting y page) t h = (subst (λ z. WroteHeld more z []) (sym t.1.0) h, t.2)
-  arrived_delete key x c removed old t h = absurd t.1
+  kept_log : (e : Effect) → e ≡ Keep → Unwritten more → effect_log e None more
+  kept_log e is h = subst (λ z. effect_log z None more) (sym is) (h, refl)
 
-  pub delete_on : {key : ℕ} {old new : DeleteStage} {what : Seen} → DeleteCase key old what new → m.event.act ≡ event_of (delete_end old) (delete_next_in old) what → delete_log old marks → delete_log new more
-  delete_on (DeleteCase.Began a t) did h = subst (λ z. way_log z more) (sym t) (begun_now marks m (λ acts. acts ≡ []) did refl)
-  delete_on {key = key} (DeleteCase.Came a what b t) did h = coming_on key a b what t did h
-  delete_on (DeleteCase.Missing x c y l t) did h = unwritten_on marks m (ap writes_in did) (latched_unwritten h)
-  delete_on {key = key} (DeleteCase.Dropped x c v d l t) did h = arrived_delete key x c v d t (held_still marks m (ap writes_in did) h)
-  delete_on (DeleteCase.Opened x last t) did h = subst (λ z. deleted_log z more) (sym t) (unwritten_on marks m (ap writes_in did) h)
-  delete_on (DeleteCase.Edited removed c what same d t) did h = subst (λ z. entry_log (IsThinAs z) ⊥ d more) (sym t.0) (entry_on (IsThinAs removed) ⊥ (edit_case c what _ t.1) did h)
-  delete_on (DeleteCase.Finished removed c what last t) did h = subst (λ z. deleted_log z more) (sym t.2) (outcome_deleted removed t.0 (entry_end (IsThinAs removed) ⊥ (edit_case c what _ t.1) did h))
-  delete_on (DeleteCase.Ended r last t) did h = subst (λ z. deleted_log z more) (sym t) (deleted_stays (ap writes_in did) r h)
+  -- a write
+  pub write_on : {key : ℕ} {does : KeyWrite} {old new : WriteStage} {what : Seen} → WriteCase key does old what new → m.event.act ≡ event_of (write_end does old) (write_next_in old) what → write_log does old marks → write_log does new more
+  write_on (WriteCase.Began a t) did h = subst (λ z. way_log z more) (sym t) (begun_now marks m (λ acts. acts ≡ []) did refl)
+  write_on {key = key} (WriteCase.Came a what b t) did h = coming_on key a b what t did h
+  write_on (WriteCase.Kept x c y there l t) did h = (unwritten_on marks m (ap writes_in did) (latched_unwritten h), t.2)
+  write_on {key = key} {does = does} (WriteCase.Changed x c noted d l t) did h = arrived_write (effect_of does noted.there) key x c noted d t.1 t.2 (held_still marks m (ap writes_in did) h)
+  write_on {does = does} (WriteCase.Opened x there last t) did h = subst (λ z. written_log does z more) (sym t) (kept_log (effect_of does there) h.1 (unwritten_on marks m (ap writes_in did) h.0))
+  write_on {does = does} (WriteCase.Edited noted c what same d t) did h =
+      subst (λ z. entry_log (IsAsNoted (effect_of does z.there) z) (MaySplit (effect_of does z.there)) d more) (sym t.0) (entry_on (IsAsNoted (effect_of does noted.there) noted) (MaySplit (effect_of does noted.there)) (edit_case c what _ t.1) did h)
+  write_on {does = does} (WriteCase.Finished noted c what last t) did h =
+      subst (λ z. written_log does z more) (sym t.2) (outcome_written does noted t.0 (entry_end (IsAsNoted (effect_of does noted.there) noted) (MaySplit (effect_of does noted.there)) (edit_case c what _ t.1) did h))
+  write_on {does = does} (WriteCase.Ended r last t) did h = subst (λ z. written_log does z more) (sym t) (written_stays (ap writes_in did) does r h)

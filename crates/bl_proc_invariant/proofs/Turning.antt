@@ -10,28 +10,25 @@ use Rattle.bl_core.specs.Worlds.{World, IsHeld, IsRelied, IsGood, silent}
 use Rattle.bl_core.proofs.Frames.{Each-map}
 use Rattle.bl_proc_base.specs.declared.acts.Seen.{Seen}
 use Rattle.bl_proc.specs.declared.kinds.Proc.{Proc}
-use Rattle.bl_proc.specs.declared.kinds.Proc.TheVariants.{Find, Insert, Delete, Post, Part, Compress, Reclaim, Lower}
+use Rattle.bl_proc.specs.declared.kinds.Proc.TheVariants.{Find, Write, Post, Part, Compress, Reclaim, Lower}
 use Rattle.bl_proc.specs.Processes.{next_of, Takes}
 use Rattle.bl_proc_invariant.specs.Turns.{event_of, IsObserved, IsShown, Does, Turned}
-use Rattle.bl_proc_invariant.specs.Knowing.{Run, know_of, know, know_find, know_part, know_insert, know_delete, know_post, know_compress, compress_got, insert_got, delete_got, post_got, post_child, end_of_proc, got_next, child_next, time_next, run_next}
+use Rattle.bl_proc_invariant.specs.Knowing.{Run, know_of, know, know_find, know_part, know_write, know_post, know_compress, compress_got, write_got, post_got, post_child, end_of_proc, got_next, child_next, time_next, run_next}
 use Rattle.bl_proc_invariant.proofs.Acts.{watched}
 use Rattle.bl_proc_invariant.proofs.Finding.{find_turn}
 use Rattle.bl_proc_invariant.proofs.Listing.{part_turn}
-use Rattle.bl_proc_invariant.proofs.Inserting.{insert_turn}
-use Rattle.bl_proc_invariant.proofs.Deleting.{delete_turn}
+use Rattle.bl_proc_invariant.proofs.Writing.{write_turn}
 use Rattle.bl_proc_invariant.proofs.Posting.{post_turn}
 use Rattle.bl_proc_invariant.proofs.Pressing.{compress_turn}
 use Rattle.bl_proc_invariant.proofs.Reclaiming.{reclaim_turn}
 use Rattle.bl_proc_invariant.proofs.Lowering.{lower_turn}
-use Rattle.bl_proc_unique.proofs.KindCases.{insert_case, delete_case, post_case, compress_case, reclaim_case, lower_case}
+use Rattle.bl_proc_unique.proofs.KindCases.{write_case, post_case, compress_case, reclaim_case, lower_case}
 
 state_turn : (w : World Run) (p : Name) (got : ℕ → Page) (child time : ℕ) (old new : Proc) (b : Run) (what : Seen) (s : State Page) → IsGood know w → know (w.proc p) ≡ know_of got child time old → know b ≡ know_of (got_next got old what) (child_next child old) (time_next w.now time old) new → Takes old what new → IsObserved w.now w.size (next_of old) what → IsShown w.now p time (next_of old) what → Does w.now p (event_of (end_of_proc old) (next_of old) what) s → Turned know w p (event_of (end_of_proc old) (next_of old) what) s b
 state_turn w p got child time (Find a) (Find c) b what s g before then t observed shown does =
     find_turn know w g p b a.key a.stage c.stage what s before (subst (λ k. know b ≡ know_find k c.stage) t.0 then) t.1 observed does
-state_turn w p got child time (Insert a) (Insert c) b what s g before then t observed shown does =
-    insert_turn know w g p b a.key a.value (insert_case a.key a.value a.stage what c.stage t.2) got s before (subst (λ k. know b ≡ know_insert k a.value (insert_got got a.stage what) c.stage) t.0 (subst (λ v. know b ≡ know_insert c.key v (insert_got got a.stage what) c.stage) t.1 then)) observed does
-state_turn w p got child time (Delete a) (Delete c) b what s g before then t observed shown does =
-    delete_turn know w g p b a.key (delete_case a.key a.stage what c.stage t.1) got s before (subst (λ k. know b ≡ know_delete k (delete_got got a.stage what) c.stage) t.0 then) observed does
+state_turn w p got child time (Write a) (Write c) b what s g before then t observed shown does =
+    write_turn know w g p b a.key a.write (write_case a.key a.write a.stage what c.stage t.2) got s before (subst (λ k. know b ≡ know_write k a.write (write_got got a.stage what) c.stage) t.0 (subst (λ d. know b ≡ know_write c.key d (write_got got a.stage what) c.stage) t.1 then)) observed does
 state_turn w p got child time (Post a) (Post c) b what s g before then t observed shown does =
     post_turn know w g p b a.level a.key a.least a.most (post_case a.level a.key a.stage what c.stage t.2) got child s before (subst (λ l. know b ≡ know_post l a.key (post_got got a.stage what) (post_child child a.stage) c.stage) t.0 (subst (λ k. know b ≡ know_post c.level k (post_got got a.stage what) (post_child child a.stage) c.stage) t.1 then)) observed does
 state_turn w p got child time (Part a) (Part c) b what s g before then t observed shown does =

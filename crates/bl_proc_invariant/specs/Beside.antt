@@ -6,13 +6,12 @@ use Rattle.bl_proc_base.specs.declared.answers.Hint.{Hint}
 use Rattle.bl_proc.specs.declared.kinds.Proc.{Proc}
 use Rattle.bl_proc.specs.declared.kinds.Proc.TheVariants as proc
 use Rattle.bl_claims.specs.Meanings.{writes_of}
-use Rattle.bl_proc_meanings.specs.Hinted.{MeansInserted, MeansDeleted}
+use Rattle.bl_proc_meanings.specs.Hinted.{MeansWritten}
 
 -- Beside a reply of any kind of process. Searches and parts give no hint, and have written nothing.
 abbrev pub MeansBeside : Proc → Reply → Option Hint → Trail → Type 0
 MeansBeside (proc.Find p) reply hint marks = (writes_of marks ≡ []) × (hint ≡ None)
-MeansBeside (proc.Insert p) reply hint marks = MeansInserted reply hint marks
-MeansBeside (proc.Delete p) reply hint marks = MeansDeleted reply hint marks
+MeansBeside (proc.Write p) reply hint marks = MeansWritten reply hint marks
 MeansBeside (proc.Post p) reply hint marks = Unit {0}
 MeansBeside (proc.Part p) reply hint marks = (writes_of marks ≡ []) × (hint ≡ None)
 MeansBeside (proc.Compress p) reply hint marks = Unit {0}

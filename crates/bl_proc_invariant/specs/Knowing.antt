@@ -1,8 +1,12 @@
 -- What each kind of process knows.
-use Rattle.std.specs.Prelude.{◌≡◌, ◌≢◌, ℕ, ◌-◌, ◌<◌, Option, Some, None, List, [], ◌∷◌, length}
+use Rattle.std.specs.Prelude.{◌≡◌, ◌≢◌, ℕ, ◌-◌, ◌<◌, Bool, true, false, Option, Some, None, List, [], ◌∷◌, length}
 use Rattle.bl_model.specs.declared.operation.Op.TheVariants as op
 use Rattle.bl_model.specs.declared.operation.Reply.{Reply}
 use Rattle.bl_model.specs.declared.operation.Reply.TheVariants as reply
+use Rattle.bl_model.specs.declared.deciding.KeyWrite.{KeyWrite}
+use Rattle.bl_model.specs.declared.deciding.Effect.{Effect}
+use Rattle.bl_model.specs.declared.deciding.Effect.TheVariants.{Keep, Enter, Remove, Replace}
+use Rattle.bl_model.specs.Writes.{write_op, effect_of, effected, replied}
 use Rattle.bl_page.specs.declared.page.Page.{Page}
 use Rattle.bl_page.specs.declared.page.Page.TheVariants.{Anchor, Inner}
 use Rattle.bl_page.specs.Machine.{Owner, State}
@@ -15,15 +19,11 @@ use Rattle.bl_proc_base.specs.declared.acts.Seen.{Seen}
 use Rattle.bl_proc_base.specs.declared.acts.Seen.TheVariants as seen
 use Rattle.bl_proc.specs.declared.searching.FindStage.TheVariants as find
 use Rattle.bl_proc.specs.declared.searching.FindStage.{FindStage}
-use Rattle.bl_proc.specs.declared.inserting.InsertStage.{InsertStage}
-use Rattle.bl_proc.specs.declared.inserting.InsertStage.TheVariants as insert
-use Rattle.bl_proc.specs.declared.inserting.InsertReply.{InsertReply}
-use Rattle.bl_proc.specs.declared.inserting.InsertReply.TheVariants as inserted
-use Rattle.bl_proc.specs.declared.deleting.Removed.{Removed}
-use Rattle.bl_proc.specs.declared.deleting.DeleteStage.{DeleteStage}
-use Rattle.bl_proc.specs.declared.deleting.DeleteStage.TheVariants as delete
-use Rattle.bl_proc.specs.declared.deleting.DeleteReply.{DeleteReply}
-use Rattle.bl_proc.specs.declared.deleting.DeleteReply.TheVariants as deleted
+use Rattle.bl_proc.specs.declared.writing.Noted.{Noted}
+use Rattle.bl_proc.specs.declared.writing.WriteReply.{WriteReply}
+use Rattle.bl_proc.specs.declared.writing.WriteReply.TheVariants as written
+use Rattle.bl_proc.specs.declared.writing.WriteStage.{WriteStage}
+use Rattle.bl_proc.specs.declared.writing.WriteStage.TheVariants as write
 use Rattle.bl_proc.specs.declared.parts.PartRows.{PartRows}
 use Rattle.bl_proc.specs.declared.parts.PartStage.{PartStage}
 use Rattle.bl_proc.specs.declared.parts.PartStage.TheVariants as part
@@ -40,8 +40,7 @@ use Rattle.bl_proc.specs.declared.lowering.LowerStage.{LowerStage}
 use Rattle.bl_proc.specs.declared.lowering.LowerStage.TheVariants as lower
 use Rattle.bl_proc.specs.declared.kinds.Proc.{Proc}
 use Rattle.bl_proc.specs.declared.kinds.Proc.TheVariants as proc
-use Rattle.bl_proc.specs.Inserts.{insert_reply}
-use Rattle.bl_proc.specs.Deletes.{delete_reply}
+use Rattle.bl_proc.specs.Writes.{write_reply}
 use Rattle.bl_proc_base.specs.Growths.{Raises, IsAnchor}
 use Rattle.bl_proc_invariant.specs.Compressing.{know_squeeze, compression_got}
 use Rattle.bl_proc_invariant.specs.Lowering.{know_lowering, lowering_got}
@@ -85,47 +84,39 @@ know_part from (part.Descending d) = know_descent from d
 know_part from (part.Ending r) = ending (listed from r)
 know_part from (part.Over r) = late (listed from r)
 
--- Insertions
+-- Writes of one key
 
-abbrev pub inserted_reply : InsertReply → Reply
-inserted_reply (inserted.Inserted separator) = reply.Inserted
-inserted_reply (inserted.Present there) = reply.Present there
-inserted_reply inserted.NoRoom = reply.NoRoom
+abbrev pub written_reply : KeyWrite → WriteReply → Reply
+written_reply does (written.Done there hint) = replied does there
+written_reply does written.NoRoom = reply.NoRoom
 
-abbrev pub inserts : ℕ → ℕ → InsertReply → Option Said
-inserts key value r = Some (record { op = op.Insert key value; reply = inserted_reply r })
+abbrev pub writes : ℕ → KeyWrite → WriteReply → Option Said
+writes key does r = Some (record { op = write_op key does; reply = written_reply does r })
 
-abbrev pub insert_aim : ℕ → ℕ → Aim
-insert_aim key value = record { level = 0; key = key; was = None; word = Some value; said = λ o. inserts key value (insert_reply o); children = λ x. [] }
+abbrev pub is_change : Effect → Bool
+is_change Keep = false
+is_change (Enter value) = true
+is_change Remove = true
+is_change (Replace value) = true
 
-abbrev pub know_insert : ℕ → ℕ → (ℕ → Page) → InsertStage → Know
-know_insert key value got insert.New = early key
-know_insert key value got (insert.Coming a) = know_approach 0 key a
-know_insert key value got (insert.Present x there) = record (ending (inserts key value (inserted.Present there))) { holds = holds_live x ∷ [] }
-know_insert key value got (insert.Editing c) = know_edit (insert_aim key value) got c
-know_insert key value got (insert.Ending r) = ending (inserts key value r)
-know_insert key value got (insert.Over r) = late (inserts key value r)
+abbrev pub write_aim : ℕ → KeyWrite → Noted → Aim
+write_aim key does noted = record {
+  level = 0;
+  key = key;
+  was = noted.there;
+  word = effected (effect_of does noted.there) noted.there;
+  changes = is_change (effect_of does noted.there);
+  said = λ o. writes key does (write_reply noted o);
+  children = λ x. [];
+}
 
--- Deletions
-
-abbrev pub deleted_reply : DeleteReply → Reply
-deleted_reply (deleted.Deleted removed) = reply.Deleted removed.value
-deleted_reply deleted.Absent = reply.Absent
-deleted_reply deleted.NoRoom = reply.NoRoom
-
-abbrev pub deletes : ℕ → DeleteReply → Option Said
-deletes key r = Some (record { op = op.Delete key; reply = deleted_reply r })
-
-abbrev pub delete_aim : ℕ → Removed → Aim
-delete_aim key removed = record { level = 0; key = key; was = Some removed.value; word = None; said = λ o. deletes key (delete_reply removed o); children = λ x. [] }
-
-abbrev pub know_delete : ℕ → (ℕ → Page) → DeleteStage → Know
-know_delete key got delete.New = early key
-know_delete key got (delete.Coming a) = know_approach 0 key a
-know_delete key got (delete.Absent x) = record (ending (deletes key deleted.Absent)) { holds = holds_live x ∷ [] }
-know_delete key got (delete.Editing removed c) = know_edit (delete_aim key removed) got c
-know_delete key got (delete.Ending r) = ending (deletes key r)
-know_delete key got (delete.Over r) = late (deletes key r)
+abbrev pub know_write : ℕ → KeyWrite → (ℕ → Page) → WriteStage → Know
+know_write key does got write.New = early key
+know_write key does got (write.Coming a) = know_approach 0 key a
+know_write key does got (write.Keeping x there) = record (ending (writes key does (written.Done there None))) { holds = holds_live x ∷ [] }
+know_write key does got (write.Editing noted c) = know_edit (write_aim key does noted) got c
+know_write key does got (write.Ending r) = ending (writes key does r)
+know_write key does got (write.Over r) = late (writes key does r)
 
 -- Growths: page 0 is held, and as the process got it
 
@@ -148,7 +139,7 @@ know_growth level key got growth.OpeningRefused = record (idle Stage.Busy) { hol
 -- Posts: they answer no operation of the map. While a parent is held, it is known that it does not list the key.
 
 abbrev pub post_aim : ℕ → ℕ → ℕ → Aim
-post_aim level key child = record { level = level; key = key; was = None; word = Some child; said = λ o. None; children = λ x. record { parent = x; at = child; key = key } ∷ [] }
+post_aim level key child = record { level = level; key = key; was = None; word = Some child; changes = true; said = λ o. None; children = λ x. record { parent = x; at = child; key = key } ∷ [] }
 
 abbrev pub know_post : ℕ → ℕ → (ℕ → Page) → ℕ → PostStage → Know
 know_post level key got child post.New = early key
@@ -207,8 +198,7 @@ pub record Run : Type 0 where
 
 abbrev pub know_of : (ℕ → Page) → ℕ → ℕ → Proc → Know
 know_of got child time (proc.Find p) = know_find p.key p.stage
-know_of got child time (proc.Insert p) = know_insert p.key p.value got p.stage
-know_of got child time (proc.Delete p) = know_delete p.key got p.stage
+know_of got child time (proc.Write p) = know_write p.key p.write got p.stage
 know_of got child time (proc.Post p) = know_post p.level p.key got child p.stage
 know_of got child time (proc.Part p) = know_part p.from p.stage
 know_of got child time (proc.Compress p) = know_compress p.level p.key got p.stage
@@ -234,26 +224,17 @@ part_end (part.Descending d) = None
 part_end (part.Ending r) = Some (reply.Rows r.rows r.next)
 part_end (part.Over r) = None
 
-abbrev pub insert_end : InsertStage → Option Reply
-insert_end insert.New = None
-insert_end (insert.Coming a) = None
-insert_end (insert.Present x there) = None
-insert_end (insert.Editing c) = None
-insert_end (insert.Ending r) = Some (inserted_reply r)
-insert_end (insert.Over r) = None
-
-abbrev pub delete_end : DeleteStage → Option Reply
-delete_end delete.New = None
-delete_end (delete.Coming a) = None
-delete_end (delete.Absent x) = None
-delete_end (delete.Editing removed c) = None
-delete_end (delete.Ending r) = Some (deleted_reply r)
-delete_end (delete.Over r) = None
+abbrev pub write_end : KeyWrite → WriteStage → Option Reply
+write_end does write.New = None
+write_end does (write.Coming a) = None
+write_end does (write.Keeping x there) = None
+write_end does (write.Editing noted c) = None
+write_end does (write.Ending r) = Some (written_reply does r)
+write_end does (write.Over r) = None
 
 abbrev pub end_of_proc : Proc → Option Reply
 end_of_proc (proc.Find p) = find_end p.stage
-end_of_proc (proc.Insert p) = insert_end p.stage
-end_of_proc (proc.Delete p) = delete_end p.stage
+end_of_proc (proc.Write p) = write_end p.write p.stage
 end_of_proc (proc.Post p) = None
 end_of_proc (proc.Part p) = part_end p.stage
 end_of_proc (proc.Compress p) = None
@@ -261,13 +242,9 @@ end_of_proc (proc.Reclaim p) = None
 end_of_proc (proc.Lower p) = None
 
 -- what a process has got of the pages that it holds, after it was told this
-abbrev pub insert_got : (ℕ → Page) → InsertStage → Seen → ℕ → Page
-insert_got got (insert.Coming a) (seen.Words c) = λ x. c
-insert_got got stage what = got
-
-abbrev pub delete_got : (ℕ → Page) → DeleteStage → Seen → ℕ → Page
-delete_got got (delete.Coming a) (seen.Words c) = λ x. c
-delete_got got stage what = got
+abbrev pub write_got : (ℕ → Page) → WriteStage → Seen → ℕ → Page
+write_got got (write.Coming a) (seen.Words c) = λ x. c
+write_got got stage what = got
 
 abbrev pub post_got : (ℕ → Page) → PostStage → Seen → ℕ → Page
 post_got got (post.Growing g) (seen.Words c) = λ x. c
@@ -288,8 +265,7 @@ post_child child stage = child
 
 abbrev pub got_next : (ℕ → Page) → Proc → Seen → ℕ → Page
 got_next got (proc.Find p) what = got
-got_next got (proc.Insert p) what = insert_got got p.stage what
-got_next got (proc.Delete p) what = delete_got got p.stage what
+got_next got (proc.Write p) what = write_got got p.stage what
 got_next got (proc.Post p) what = post_got got p.stage what
 got_next got (proc.Part p) what = got
 got_next got (proc.Compress p) what = compress_got got p.stage what
@@ -298,8 +274,7 @@ got_next got (proc.Lower p) what = lower_got got p.stage what
 
 abbrev pub child_next : ℕ → Proc → ℕ
 child_next child (proc.Find p) = child
-child_next child (proc.Insert p) = child
-child_next child (proc.Delete p) = child
+child_next child (proc.Write p) = child
 child_next child (proc.Post p) = post_child child p.stage
 child_next child (proc.Part p) = child
 child_next child (proc.Compress p) = child
@@ -321,8 +296,7 @@ reclaim_time now time page (reclaim.Over what) = time
 
 abbrev pub time_next : State Page → ℕ → Proc → ℕ
 time_next now time (proc.Find p) = time
-time_next now time (proc.Insert p) = time
-time_next now time (proc.Delete p) = time
+time_next now time (proc.Write p) = time
 time_next now time (proc.Post p) = time
 time_next now time (proc.Part p) = time
 time_next now time (proc.Compress p) = time

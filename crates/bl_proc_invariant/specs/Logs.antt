@@ -36,16 +36,17 @@ use Rattle.bl_proc_compress.specs.declared.squeezing.CompressStage.{CompressStag
 use Rattle.bl_proc_compress.specs.declared.squeezing.CompressStage.TheVariants as compress
 use Rattle.bl_proc_meanings.specs.Squeezed.{Since, AtFamily, AtLeft, AtBoth, to_left, to_right, put_child, MeansMerged, MeansEvened, MeansEnough, MeansUnposted, MeansAlone, MeansNoPlace}
 use Rattle.bl_proc_compress.specs.Compressions.{Decides, other}
-use Rattle.bl_proc.specs.declared.inserting.InsertReply.{InsertReply}
-use Rattle.bl_proc.specs.declared.inserting.InsertReply.TheVariants as inserted
-use Rattle.bl_proc.specs.declared.inserting.InsertStage.{InsertStage}
-use Rattle.bl_proc.specs.declared.inserting.InsertStage.TheVariants as insert
-use Rattle.bl_proc.specs.declared.deleting.Removed.{Removed}
-use Rattle.bl_proc.specs.declared.deleting.DeleteReply.{DeleteReply}
-use Rattle.bl_proc.specs.declared.deleting.DeleteReply.TheVariants as deleted
-use Rattle.bl_proc.specs.declared.deleting.DeleteStage.{DeleteStage}
-use Rattle.bl_proc.specs.declared.deleting.DeleteStage.TheVariants as delete
-use Rattle.bl_proc_base.specs.Thin.{thin_low}
+use Rattle.bl_model.specs.declared.deciding.KeyWrite.{KeyWrite}
+use Rattle.bl_model.specs.declared.deciding.Effect.{Effect}
+use Rattle.bl_model.specs.declared.deciding.Effect.TheVariants.{Keep, Enter, Remove, Replace}
+use Rattle.bl_model.specs.Writes.{effect_of}
+use Rattle.bl_proc.specs.declared.writing.Noted.{Noted}
+use Rattle.bl_proc.specs.declared.writing.WriteReply.{WriteReply}
+use Rattle.bl_proc.specs.declared.writing.WriteReply.TheVariants as written
+use Rattle.bl_proc.specs.declared.writing.WriteStage.{WriteStage}
+use Rattle.bl_proc.specs.declared.writing.WriteStage.TheVariants as write
+use Rattle.bl_proc.specs.Writes.{post_hint}
+use Rattle.bl_proc_base.specs.Thin.{thin_low, thin_hint}
 use Rattle.bl_proc_meanings.specs.Hinted.{WroteLeaf}
 use Rattle.bl_proc_meanings.specs.Lowered.{MeansLowered}
 use Rattle.bl_proc_invariant.specs.LoweringLog.{lowering_log}
@@ -150,7 +151,7 @@ post_log level key (post.Over r) marks = reply_log level key r marks
 abbrev pub way_log : Approach → Trail → Type 0
 way_log a marks = on_way (Unwritten marks) (λ x. WroteHeld marks x []) a
 
--- Insertions and deletions: the leaf that was put is whole, and so, or it was split, if it may be.
+-- Writes of one key: the leaf that was put is whole, and so, or it was split, if it may be.
 
 abbrev pub put_log : (Page → Type 0) → Type 0 → Outcome → Trail → Type 0
 put_log Whole Parts outcome.Edited marks = (x : ℕ) × (page : Page) × WroteHeld marks x (Put x page ∷ []) × Whole page
@@ -165,38 +166,35 @@ entry_log Whole Parts (edit.PuttingOld p) marks = WroteHeld marks p.at (Take p.n
 entry_log Whole Parts (edit.OpeningNew x new separator) marks = put_log Whole Parts (outcome.SplitAt separator) marks
 entry_log Whole Parts (edit.Opening x o) marks = put_log Whole Parts o marks
 
-abbrev pub AnyPage : Page → Type 0
-AnyPage page = Unit {0}
+-- what was noted of the page that is put: whether it is thin where it loses the pair
+abbrev pub IsAsNoted : Effect → Noted → Page → Type 0
+IsAsNoted Keep noted page = ⊥
+IsAsNoted (Enter value) noted page = noted.thin ≡ None
+IsAsNoted Remove noted page = noted.thin ≡ thin_low page
+IsAsNoted (Replace value) noted page = noted.thin ≡ None
 
-abbrev pub inserted_log : InsertReply → Trail → Type 0
-inserted_log (inserted.Inserted separator) marks = WroteLeaf separator marks
-inserted_log (inserted.Present there) marks = Unwritten marks
-inserted_log inserted.NoRoom marks = Unwritten marks
+-- only a pair that enters may split a leaf
+abbrev pub MaySplit : Effect → Type 0
+MaySplit (Enter value) = Unit {0}
+MaySplit effect = ⊥
 
-abbrev pub insert_log : InsertStage → Trail → Type 0
-insert_log insert.New marks = Unit {0}
-insert_log (insert.Coming a) marks = way_log a marks
-insert_log (insert.Present x there) marks = Unwritten marks
-insert_log (insert.Editing c) marks = entry_log AnyPage (Unit {0}) c marks
-insert_log (insert.Ending r) marks = inserted_log r marks
-insert_log (insert.Over r) marks = inserted_log r marks
+abbrev pub effect_log : Effect → Option Hint → Trail → Type 0
+effect_log Keep hint marks = Unwritten marks × (hint ≡ None)
+effect_log (Enter value) hint marks = (separator : Option ℕ) × WroteLeaf separator marks × (hint ≡ post_hint 1 separator)
+effect_log Remove hint marks = (x : ℕ) × (page : Page) × WroteHeld marks x (Put x page ∷ []) × (hint ≡ thin_hint 1 (thin_low page))
+effect_log (Replace value) hint marks = (x : ℕ) × (page : Page) × WroteHeld marks x (Put x page ∷ []) × (hint ≡ None)
 
--- the page is thin as the deletion says
-abbrev pub IsThinAs : Removed → Page → Type 0
-IsThinAs removed page = removed.thin ≡ thin_low page
+abbrev pub written_log : KeyWrite → WriteReply → Trail → Type 0
+written_log does (written.Done there hint) marks = effect_log (effect_of does there) hint marks
+written_log does written.NoRoom marks = Unwritten marks
 
-abbrev pub deleted_log : DeleteReply → Trail → Type 0
-deleted_log (deleted.Deleted removed) marks = (x : ℕ) × (page : Page) × WroteHeld marks x (Put x page ∷ []) × IsThinAs removed page
-deleted_log deleted.Absent marks = Unwritten marks
-deleted_log deleted.NoRoom marks = Unwritten marks
-
-abbrev pub delete_log : DeleteStage → Trail → Type 0
-delete_log delete.New marks = Unit {0}
-delete_log (delete.Coming a) marks = way_log a marks
-delete_log (delete.Absent x) marks = Unwritten marks
-delete_log (delete.Editing removed c) marks = entry_log (IsThinAs removed) ⊥ c marks
-delete_log (delete.Ending r) marks = deleted_log r marks
-delete_log (delete.Over r) marks = deleted_log r marks
+abbrev pub write_log : KeyWrite → WriteStage → Trail → Type 0
+write_log does write.New marks = Unit {0}
+write_log does (write.Coming a) marks = way_log a marks
+write_log does (write.Keeping x there) marks = Unwritten marks × (effect_of does there ≡ Keep)
+write_log does (write.Editing noted c) marks = entry_log (IsAsNoted (effect_of does noted.there) noted) (MaySplit (effect_of does noted.there)) c marks
+write_log does (write.Ending r) marks = written_log does r marks
+write_log does (write.Over r) marks = written_log does r marks
 
 -- Compressions
 
@@ -271,8 +269,7 @@ lower_log (lower.Over r) marks = MeansLowered r marks
 -- Searches and parts write nothing.
 abbrev pub proc_log : Proc → Trail → Type 0
 proc_log (proc.Find p) marks = writes_of marks ≡ []
-proc_log (proc.Insert p) marks = insert_log p.stage marks
-proc_log (proc.Delete p) marks = delete_log p.stage marks
+proc_log (proc.Write p) marks = write_log p.write p.stage marks
 proc_log (proc.Post p) marks = post_log p.level p.key p.stage marks
 proc_log (proc.Part p) marks = writes_of marks ≡ []
 proc_log (proc.Compress p) marks = compress_log p.level p.key p.stage marks

@@ -1,5 +1,5 @@
 -- What a process knows in each of its states.
-use Rattle.std.specs.Prelude.{◌≡◌, ◌≢◌, ℕ, ◌<◌, Option, Some, None, List, [], ◌∷◌}
+use Rattle.std.specs.Prelude.{◌≡◌, ◌≢◌, ℕ, ◌<◌, Bool, true, Option, Some, None, List, [], ◌∷◌}
 use Rattle.bl_page.specs.declared.page.Page.{Page}
 use Rattle.bl_claims.specs.Nodes.{Covers, unbounded}
 use Rattle.bl_core_tree.specs.Trees.Status.{Fresh, Live, Anchored}
@@ -55,20 +55,21 @@ know_approach level key (Latched x) = record (idle Stage.Busy) { holds = holds_l
 know_approach level key (Leaving x None) = record (idle Stage.Busy) { holds = holds_live x ∷ []; sound = key < unbounded }
 know_approach level key (Leaving x (Some y)) = record (idle Stage.Busy) { holds = holds_live x ∷ []; goes = goes_to y level level ∷ []; sound = key < unbounded }
 
--- What a change is to do: on that level the key had this listed with it, and is to have that. What the process has said by
--- the end, and the children that it relies on until then.
+-- What a change is to do: on that level the key had this listed with it, and is to have that. Whether it is a change that may be
+-- refused, what the process has said by the end, and the children that it relies on until then.
 pub record Aim : Type 0 where
   pub level : ℕ
   pub key : ℕ
   pub was : Option ℕ
   pub word : Option ℕ
+  pub changes : Bool
   pub said : Outcome → Option Said
   pub children : ℕ → List Child
 
 -- What is said fits what is done, to the map on level 0, and to nothing that the map knows above it.
 pub record IsAim (aim : Aim) : Type 1 where
   pub changed : (o : Outcome) → o ≢ outcome.Refused → (m m' : Map) → (aim.level ≡ 0 → (m aim.key ≡ aim.was) × (m' aim.key ≡ aim.word)) → (aim.level ≢ 0 → m' aim.key ≡ m aim.key) → ((j : ℕ) → j ≢ aim.key → m' j ≡ m j) → MapsTo m m' (aim.said o)
-  pub refused : (m : Map) → (aim.level ≡ 0 → m aim.key ≡ aim.was) → MapsTo m m (aim.said outcome.Refused)
+  pub refused : (m : Map) → aim.changes ≡ true → (aim.level ≡ 0 → m aim.key ≡ aim.was) → MapsTo m m (aim.said outcome.Refused)
   -- what is to be listed on a level above 0 is a child that the process relies on
   pub lists : {P : Type 0} (w : World P) (p : Name) (x : ℕ) → (nodes w.now x).shape.level ≡ aim.level → Each (IsRelied w p) (aim.children x) → MayList (tree_of w) aim.level aim.key aim.word
 
@@ -77,6 +78,7 @@ pub record IsDue (aim : Aim) (c : Page) : Type 0 where
   pub level : (node_of c).shape.level ≡ aim.level
   pub covers : Covers (node_of c).shape aim.key
   pub was : (node_of c).look aim.key ≡ aim.was
+  pub changes : aim.changes ≡ true
 
 -- got is what the process got of the page under its latch.
 abbrev pub know_edit : Aim → (ℕ → Page) → Edit → Know

@@ -5,7 +5,7 @@ use Rattle.bl_claims.specs.Meanings.{MeansDone, MeansAlready, MeansStale, MeansT
 use Rattle.bl_proc_base.specs.declared.answers.Hint.{Hint}
 use Rattle.bl_proc_base.specs.declared.answers.Posted.{Posted}
 use Rattle.bl_proc_base.specs.declared.answers.Posted.TheVariants as posted
-use Rattle.bl_proc.specs.Inserts.{post_hint}
+use Rattle.bl_proc.specs.Writes.{post_hint}
 
 -- of a post of that key to that level, by what its process has done
 abbrev pub MeansPosted : ℕ → ℕ → Posted → Trail → Type 0

@@ -1,4 +1,4 @@
--- What an insertion and a deletion have written, and what the hint beside the reply means.
+-- What a write of one key has written, and what the hint beside its reply means.
 use Rattle.std.specs.Prelude.{◌≡◌, ℕ, Option, None, List, [], ◌∷◌}
 use Rattle.bl_model.specs.declared.operation.Reply.{Reply}
 use Rattle.bl_model.specs.declared.operation.Reply.TheVariants as reply
@@ -9,20 +9,17 @@ use Rattle.bl_claims.specs.Trails.{Trail}
 use Rattle.bl_claims.specs.Meanings.{Unwritten, WroteHeld, WritesBack}
 use Rattle.bl_proc_base.specs.declared.answers.Hint.{Hint}
 use Rattle.bl_proc_base.specs.Thin.{thin_low, thin_hint}
-use Rattle.bl_proc.specs.Inserts.{post_hint}
+use Rattle.bl_proc.specs.Writes.{post_hint}
 
 -- It has written back the page that it latched, whole or split at that separator, and has written nothing else.
 abbrev pub WroteLeaf : Option ℕ → Trail → Type 0
 WroteLeaf separator marks = (x : ℕ) × (acts : List (Act Page Reply)) × (pages : List Page) × WroteHeld marks x acts × WritesBack x separator pages acts
 
--- Inserted: the leaf was written back; where it was split, the hint is that the upper half is to be listed, by its low. Any other
--- answer: nothing was written, and there is no hint.
-abbrev pub MeansInserted : Reply → Option Hint → Trail → Type 0
-MeansInserted reply.Inserted hint marks = (separator : Option ℕ) × WroteLeaf separator marks × (hint ≡ post_hint 1 separator)
-MeansInserted other hint marks = Unwritten marks × (hint ≡ None)
-
--- Deleted: the leaf was put, and nothing else was written; where it is thin now, the hint is that it is to be merged or evened
--- out, by its low. Any other answer: nothing was written, and there is no hint.
-abbrev pub MeansDeleted : Reply → Option Hint → Trail → Type 0
-MeansDeleted (reply.Deleted value) hint marks = (x : ℕ) × (page : Page) × WroteHeld marks x (Put x page ∷ []) × (hint ≡ thin_hint 1 (thin_low page))
-MeansDeleted other hint marks = Unwritten marks × (hint ≡ None)
+-- Inserted: the leaf was written back; where it was split, the hint is that the upper half is to be listed, by its low. Deleted:
+-- the leaf was put, and nothing else was written; where it is thin now, the hint is that it is to be merged or evened out, by its
+-- low. Changed: the leaf was put, and nothing else was written. Any other answer: nothing was written. There is no other hint.
+abbrev pub MeansWritten : Reply → Option Hint → Trail → Type 0
+MeansWritten reply.Inserted hint marks = (separator : Option ℕ) × WroteLeaf separator marks × (hint ≡ post_hint 1 separator)
+MeansWritten (reply.Deleted value) hint marks = (x : ℕ) × (page : Page) × WroteHeld marks x (Put x page ∷ []) × (hint ≡ thin_hint 1 (thin_low page))
+MeansWritten reply.Changed hint marks = (x : ℕ) × (page : Page) × WroteHeld marks x (Put x page ∷ []) × (hint ≡ None)
+MeansWritten other hint marks = Unwritten marks × (hint ≡ None)
