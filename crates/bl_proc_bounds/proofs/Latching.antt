@@ -151,13 +151,13 @@ growth_alone : (level key : ℕ) (got : ℕ → Page) (g : Growth) (x : ℕ) →
 growth_alone level key got growth.Latching x e = refl
 growth_alone level key got old x e = absurd (cc e)
 
-write_alone : (key : ℕ) (given : KeyWrite) (got : ℕ → Page) (a : WriteStage) (x : ℕ) → write_next_in a ≡ act.Latch x → (know_write key given got a).holds ≡ []
-write_alone key given got write.New x e = refl
-write_alone key given got (write.Coming a) x e = approach_alone 0 key a x e
-write_alone key given got (write.Keeping y there) x e = absurd (cc e)
-write_alone key given got (write.Editing noted c) x e = absurd (edit_never c x e)
-write_alone key given got (write.Ending r) x e = refl
-write_alone key given got (write.Over r) x e = refl
+write_alone : (key : ℕ) (does : KeyWrite) (got : ℕ → Page) (a : WriteStage) (x : ℕ) → write_next_in a ≡ act.Latch x → (know_write key does got a).holds ≡ []
+write_alone key does got write.New x e = refl
+write_alone key does got (write.Coming a) x e = approach_alone 0 key a x e
+write_alone key does got (write.Keeping y there) x e = absurd (cc e)
+write_alone key does got (write.Editing noted c) x e = absurd (edit_never c x e)
+write_alone key does got (write.Ending r) x e = refl
+write_alone key does got (write.Over r) x e = refl
 
 post_alone : (level key : ℕ) (got : ℕ → Page) (child : ℕ) (a : PostStage) (x : ℕ) → post_next_in a ≡ act.Latch x → (know_post level key got child a).holds ≡ []
 post_alone level key got child post.New x e = refl

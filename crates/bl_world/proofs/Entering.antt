@@ -54,11 +54,11 @@ part_blank k (part.Near x) small e = record { stage = refl; said = refl; holds =
 part_blank k part.New small e = record { stage = refl; said = refl; holds = refl; goes = refl; children = refl; passed = refl; sound = small }
 part_blank k old small e = absurd cc
 
-write_blank : (k : ℕ) (given : KeyWrite) (got : ℕ → Page) (a : WriteStage) → k < 2 ^ 64 → write_next_in a ≡ act.Begin → IsBlank (know_write k given got a)
-write_blank k given got write.New small e = record { stage = refl; said = refl; holds = refl; goes = refl; children = refl; passed = refl; sound = small }
-write_blank k given got (write.Coming a) small e = approach_begins a e
-write_blank k given got (write.Editing noted c) small e = edit_begins c e
-write_blank k given got old small e = absurd cc
+write_blank : (k : ℕ) (does : KeyWrite) (got : ℕ → Page) (a : WriteStage) → k < 2 ^ 64 → write_next_in a ≡ act.Begin → IsBlank (know_write k does got a)
+write_blank k does got write.New small e = record { stage = refl; said = refl; holds = refl; goes = refl; children = refl; passed = refl; sound = small }
+write_blank k does got (write.Coming a) small e = approach_begins a e
+write_blank k does got (write.Editing noted c) small e = edit_begins c e
+write_blank k does got old small e = absurd cc
 
 post_blank : (l k : ℕ) (got : ℕ → Page) (child : ℕ) (a : PostStage) → k < 2 ^ 64 → post_next_in a ≡ act.Begin → IsBlank (know_post l k got child a)
 post_blank l k got child post.New small e = record { stage = refl; said = refl; holds = refl; goes = refl; children = refl; passed = refl; sound = small }

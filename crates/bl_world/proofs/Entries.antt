@@ -115,13 +115,13 @@ part_op k (part.Descending d) s e = none_said s e
 part_op k (part.Ending r) s e = same_op _ s e
 part_op k (part.Over r) s e = same_op _ s e
 
-write_says : (k : ℕ) (given : KeyWrite) (got : ℕ → Page) (a : WriteStage) (s : Said) → (know_write k given got a).said ≡ Some s → Some (write_op k given) ≡ Some s.op
-write_says k given got write.New s e = none_said s e
-write_says k given got (write.Coming a) s e = none_said s (sym (approach_said 0 k a) ∙ e)
-write_says k given got (write.Keeping x there) s e = same_op _ s e
-write_says k given got (write.Editing noted c) s e = same_op _ s (edit_said (write_aim k given noted) got c s e).1
-write_says k given got (write.Ending r) s e = same_op _ s e
-write_says k given got (write.Over r) s e = same_op _ s e
+write_says : (k : ℕ) (does : KeyWrite) (got : ℕ → Page) (a : WriteStage) (s : Said) → (know_write k does got a).said ≡ Some s → Some (write_op k does) ≡ Some s.op
+write_says k does got write.New s e = none_said s e
+write_says k does got (write.Coming a) s e = none_said s (sym (approach_said 0 k a) ∙ e)
+write_says k does got (write.Keeping x there) s e = same_op _ s e
+write_says k does got (write.Editing noted c) s e = same_op _ s (edit_said (write_aim k does noted) got c s e).1
+write_says k does got (write.Ending r) s e = same_op _ s e
+write_says k does got (write.Over r) s e = same_op _ s e
 
 post_none : {X : Type 0} (l k : ℕ) (got : ℕ → Page) (child : ℕ) (a : PostStage) (s : Said) → (know_post l k got child a).said ≡ Some s → X
 post_none l k got child post.New s e = none_said s e
@@ -219,14 +219,14 @@ part_answered k (part.Descending d) reply hint e = none_answer _ e
 part_answered k (part.Ending r) reply hint e = none_answer _ e
 part_answered k (part.Over r) reply hint e = record { it = _; is = refl; reply_is = same_reply _ _ _ _ e }
 
-write_answered : (k : ℕ) (given : KeyWrite) (got : ℕ → Page) (a : WriteStage) (reply : Reply) (hint : Option Hint) → write_answer_in given a ≡ Some (answer.Op reply hint) → HasAnswered (know_write k given got a).said reply
-write_answered k given got write.New reply hint e = none_answer _ e
-write_answered k given got (write.Coming a) reply hint e = none_answer _ e
-write_answered k given got (write.Keeping x there) reply hint e = none_answer _ e
-write_answered k given got (write.Editing noted c) reply hint e = none_answer _ e
-write_answered k given got (write.Ending r) reply hint e = none_answer _ e
-write_answered k given got (write.Over (Done there left)) reply hint e = record { it = _; is = refl; reply_is = same_reply _ _ _ _ e }
-write_answered k given got (write.Over NoRoom) reply hint e = record { it = _; is = refl; reply_is = same_reply _ _ _ _ e }
+write_answered : (k : ℕ) (does : KeyWrite) (got : ℕ → Page) (a : WriteStage) (reply : Reply) (hint : Option Hint) → write_answer_in does a ≡ Some (answer.Op reply hint) → HasAnswered (know_write k does got a).said reply
+write_answered k does got write.New reply hint e = none_answer _ e
+write_answered k does got (write.Coming a) reply hint e = none_answer _ e
+write_answered k does got (write.Keeping x there) reply hint e = none_answer _ e
+write_answered k does got (write.Editing noted c) reply hint e = none_answer _ e
+write_answered k does got (write.Ending r) reply hint e = none_answer _ e
+write_answered k does got (write.Over (Done there left)) reply hint e = record { it = _; is = refl; reply_is = same_reply _ _ _ _ e }
+write_answered k does got (write.Over NoRoom) reply hint e = record { it = _; is = refl; reply_is = same_reply _ _ _ _ e }
 
 post_answered : {X : Type 0} (l : ℕ) (a : PostStage) (reply : Reply) (hint : Option Hint) → post_answer_in l a ≡ Some (answer.Op reply hint) → X
 post_answered l post.New reply hint e = none_answer _ e
@@ -292,13 +292,13 @@ part_late k (part.Descending d) b e = none_answer _ e
 part_late k (part.Ending r) b e = none_answer _ e
 part_late k (part.Over r) b e = refl
 
-write_late : (k : ℕ) (given : KeyWrite) (got : ℕ → Page) (a : WriteStage) (b : Answer) → write_answer_in given a ≡ Some b → (know_write k given got a).stage ≡ Stage.Late
-write_late k given got write.New b e = none_answer _ e
-write_late k given got (write.Coming a) b e = none_answer _ e
-write_late k given got (write.Keeping x there) b e = none_answer _ e
-write_late k given got (write.Editing noted c) b e = none_answer _ e
-write_late k given got (write.Ending r) b e = none_answer _ e
-write_late k given got (write.Over r) b e = refl
+write_late : (k : ℕ) (does : KeyWrite) (got : ℕ → Page) (a : WriteStage) (b : Answer) → write_answer_in does a ≡ Some b → (know_write k does got a).stage ≡ Stage.Late
+write_late k does got write.New b e = none_answer _ e
+write_late k does got (write.Coming a) b e = none_answer _ e
+write_late k does got (write.Keeping x there) b e = none_answer _ e
+write_late k does got (write.Editing noted c) b e = none_answer _ e
+write_late k does got (write.Ending r) b e = none_answer _ e
+write_late k does got (write.Over r) b e = refl
 
 post_late : (l k : ℕ) (got : ℕ → Page) (child : ℕ) (a : PostStage) (b : Answer) → post_answer_in l a ≡ Some b → (know_post l k got child a).stage ≡ Stage.Late
 post_late l k got child post.New b e = none_answer _ e
