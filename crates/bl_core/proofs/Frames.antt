@@ -6,7 +6,7 @@ use Rattle.bl_core_tree.specs.Trees.{IsLive}
 use Rattle.bl_claims.specs.Trails.{Mark}
 use Rattle.bl_core.specs.Worlds.{Hold, Goes, Child, Passed, Know, World, nodes, was_in, MayGet, IsHeld, IsGoes, IsRelied, IsPassed, IsSure, Extends}
 use Rattle.bl_claims.specs.Walks.{Each}
-use Rattle.bl_core.proofs.Pushes.{name_cases, HasSaid-other, marks_of-other}
+use Rattle.bl_core.proofs.Pushes.{name_cases, HasSaid-other}
 
 pub Each-map : {A : Type 0} (P Q : A → Type 0) (xs : List A) → ((x : A) → P x → Q x) → Each P xs → Each Q xs
 Each-map P Q [] f h = tt

@@ -1,12 +1,12 @@
 -- The two puts by which the height falls keep a world good.
-use Rattle.std.proofs.Common.{ℕ, ◌≡◌, ◌≢◌, None, suc, arith, ap, sym, ◌∙◌, inl, inr}
+use Rattle.std.proofs.Common.{ℕ, ◌≡◌, ◌≢◌, None, arith, ap, sym, ◌∙◌, inl, inr}
 use Rattle.std.proofs.lemmas.Bool.{cases_eq, false≢true}
 use Rattle.bl_page.specs.declared.page.Page.{Page}
 use Rattle.bl_page.specs.Machine.{Name}
 use Rattle.bl_page.specs.Machine.Owner.{Held}
 use Rattle.bl_claims.specs.Nodes.{unbounded}
 use Rattle.bl_core_tree.specs.Trees.{Status, IsLive}
-use Rattle.bl_core_tree.specs.Trees.Status.{Free, Fresh, Live, Right, Uprooted, Gone, Anchored}
+use Rattle.bl_core_tree.specs.Trees.Status.{Free, Fresh, Right, Uprooted, Gone, Anchored}
 use Rattle.bl_core_tree.proofs.Statuses.{live_live, uprooted_live}
 use Rattle.bl_core_tree.proofs.Lowerings.{Lowers-keeps, Falls-keeps}
 use Rattle.bl_claims.specs.Pages.{node_of}

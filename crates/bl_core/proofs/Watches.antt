@@ -1,15 +1,15 @@
 -- Gets, looks and misses, latches and opens: what a process learns by them, and that the world stays good.
-use Rattle.std.proofs.Common.{ℕ, ◌≡◌, ◌≢◌, ◌++◌, Some, None, [], ◌∷◌, arith, ap, sym, ◌∙◌, refl, inl, inr}
+use Rattle.std.proofs.Common.{ℕ, ◌≡◌, ◌≢◌, ◌++◌, Some, None, [], ◌∷◌, arith, ap, sym, ◌∙◌, inl, inr}
 use Rattle.bl_model.specs.declared.operation.Reply.{Reply}
 use Rattle.bl_page.specs.declared.page.Page.{Page}
 use Rattle.bl_page.specs.Machine.{Name, State, Act, Changes, SameContents, SameOwners}
 use Rattle.bl_page.specs.Machine.Owner.{Held}
 use Rattle.bl_page.specs.Machine.Phase.{Running}
 use Rattle.bl_page.specs.Machine.Act.{Begin, End, Get, Put, Take, Latch, Retire, Look, Release, Miss}
-use Rattle.bl_claims.specs.Trails.{Said, Mark, marks_of, HasSaid, IsPhase}
+use Rattle.bl_claims.specs.Trails.{Said, Mark, HasSaid, IsPhase}
 use Rattle.bl_core.specs.Worlds.{Know, World, MapsTo, IsStage, IfKnown, IsHeld, IsGoes, IsRelied, IsPassed, IsSure, HoldsPage, IsGood, Extends}
 use Rattle.bl_claims.specs.Walks.{Each}
-use Rattle.bl_core.proofs.Pushes.{MaySay, marks_of-own}
+use Rattle.bl_core.proofs.Pushes.{MaySay}
 use Rattle.bl_core.proofs.Frames.{Each-map}
 use Rattle.bl_core.proofs.Steady.{may_still, passed_still}
 use Rattle.bl_core.proofs.Records.{IsInner}

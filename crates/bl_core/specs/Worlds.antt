@@ -14,7 +14,7 @@ use Rattle.bl_claims.specs.Walks.{Each}
 use Rattle.bl_core_tree.specs.Trees.{Status, IsLive, Tree, IsTree}
 use Rattle.bl_core_tree.specs.Trees.Status.{Free, Fresh, Live, Left, Right, Uprooted, Gone, Anchored}
 use Rattle.bl_claims.specs.Pages.{node_of, roots_of}
-use Rattle.bl_claims.specs.Trails.{Said, Mark, Trail, history_of, marks_of, IsMarked, Saw, LeadsOn, IsPhase, HasSaid}
+use Rattle.bl_claims.specs.Trails.{Said, Mark, Trail, history_of, IsMarked, Saw, LeadsOn, IsPhase, HasSaid}
 use Rattle.bl_claims.specs.Moments.{IsFresh}
 
 -- What a process knows

@@ -4,7 +4,6 @@ use Rattle.std.specs.Prelude.{◌==◌}
 use Rattle.std.proofs.lemmas.Bool.{cases_eq}
 use Rattle.bl_model.specs.declared.deciding.KeyWrite.{KeyWrite}
 use Rattle.bl_model.specs.declared.deciding.KeyWrite.TheVariants.{Insert, Delete, Change}
-use Rattle.bl_model.specs.declared.deciding.Effect.TheVariants.{Keep}
 use Rattle.bl_model.specs.Map.{Map, with_pair, without_key, SameMap}
 use Rattle.bl_model.specs.Writes.{MayHave, decided, IsDecided, effect_of}
 use Rattle.bl_model.proofs.Maps.{with_pair-same, with_pair-other, without_key-same, without_key-other}

@@ -1,5 +1,5 @@
 -- What a compression and a lowering have done, told by the pages that they got and put.
-use Rattle.std.proofs.Common.{ℕ, ◌≡◌, ◌==◌, ◌++◌, if◌then◌else◌, List, [], ◌∷◌, Option, None, Some, ap, sym, ◌∙◌, subst, inl, inr}
+use Rattle.std.proofs.Common.{ℕ, ◌≡◌, ◌==◌, ◌++◌, if◌then◌else◌, List, [], ◌∷◌, Option, Some, ap, sym, ◌∙◌, subst}
 use Rattle.bl_model.specs.declared.operation.Reply.{Reply}
 use Rattle.bl_page.specs.declared.page.Page.{Page}
 use Rattle.bl_page.specs.declared.page.Page.TheVariants.{Inner as InnerPage}
@@ -12,7 +12,6 @@ use Rattle.bl_rearrange.specs.declared.sides.Evened.{Evened}
 use Rattle.bl_rearrange.specs.declared.sides.Side.{Side}
 use Rattle.bl_rearrange.specs.declared.sides.Side.TheVariants as side
 use Rattle.bl_claims.specs.Trails.{Trail}
-use Rattle.bl_proc_base.specs.declared.answers.Hint.{Hint}
 use Rattle.bl_proc_compress.specs.declared.compressing.Siblings.{Siblings}
 use Rattle.bl_proc_compress.specs.declared.compressing.Family.{Family}
 use Rattle.bl_proc_compress.specs.declared.compressing.Puts.{Puts}

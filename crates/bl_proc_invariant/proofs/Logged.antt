@@ -9,8 +9,7 @@ use Rattle.bl_page.specs.Machine.Act.{Get, Miss}
 use Rattle.bl_claims.specs.Trails.{Mark, Trail, Saw, marks_of}
 use Rattle.bl_claims.specs.Meanings.{writes_in, writes_of}
 use Rattle.bl_core.proofs.Pushes.{name_cases, marks_of-own, marks_of-other}
-use Rattle.bl_core.specs.Worlds.{Stage, World, IsGood}
-use Rattle.bl_core.specs.Blank.{IsBlank}
+use Rattle.bl_core.specs.Worlds.{Stage, World}
 use Rattle.bl_proc_base.specs.declared.acts.Action.{Action}
 use Rattle.bl_proc_base.specs.declared.acts.Action.TheVariants as act
 use Rattle.bl_proc_base.specs.declared.acts.Seen.{Seen}

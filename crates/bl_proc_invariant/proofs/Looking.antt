@@ -6,7 +6,7 @@ use Rattle.bl_page.specs.declared.page.Page.{Page}
 use Rattle.bl_page.specs.Machine.{Act}
 use Rattle.bl_claims.specs.Trails.{Mark, Trail}
 use Rattle.bl_claims.specs.Meanings.{writes_in, writes_of}
-use Rattle.bl_claims.specs.Latches.{LatchesNone, IsLook, OnlyLooks}
+use Rattle.bl_claims.specs.Latches.{LatchesNone, OnlyLooks}
 use Rattle.bl_core.proofs.Meant.{writes_of-push}
 use Rattle.bl_proc_base.specs.declared.acts.Seen.{Seen}
 use Rattle.bl_proc.specs.declared.searching.FindStage.{FindStage}

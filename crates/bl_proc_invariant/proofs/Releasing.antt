@@ -9,7 +9,6 @@ use Rattle.bl_core_tree.specs.Trees.{Status, IsLive}
 use Rattle.bl_core_tree.specs.Trees.Status.{Free, Gone}
 use Rattle.bl_core_tree.proofs.Statuses.{gone_dead, not_dead}
 use Rattle.bl_claims.specs.Pages.{node_of}
-use Rattle.bl_claims.specs.Trails.{marks_of}
 use Rattle.bl_core.proofs.Pushes.{HasSaid-silent}
 use Rattle.bl_core.specs.Worlds.{Hold, Goes, Child, Passed, World, nodes, was_in, IsStage, IfKnown, MayGet, IsHeld, IsGoes, IsRelied, IsPassed, IsSure, IsGood, silent}
 use Rattle.bl_core.proofs.Frames.{Each-map}

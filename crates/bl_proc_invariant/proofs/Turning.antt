@@ -1,10 +1,10 @@
 -- Every turn of every process keeps a world good, and the world after it is given.
-use Rattle.std.proofs.Common.{ℕ, ◌≡◌, ◌++◌, None, [], ◌∷◌, ap, ◌∙◌, refl, subst}
+use Rattle.std.proofs.Common.{ℕ, ◌≡◌, None, ap, ◌∙◌, refl, subst}
 use Rattle.bl_page.specs.declared.machine.Missed.{Missed}
 use Rattle.bl_page.specs.Machine.{Name, State}
 use Rattle.bl_page.specs.Machine.Act.{Miss}
 use Rattle.bl_page.specs.declared.page.Page.{Page}
-use Rattle.bl_claims.specs.Trails.{Mark, marks_of}
+use Rattle.bl_claims.specs.Trails.{Mark}
 use Rattle.bl_core.proofs.Pushes.{HasSaid-silent}
 use Rattle.bl_core.specs.Worlds.{World, IsHeld, IsRelied, IsGood, silent}
 use Rattle.bl_core.proofs.Frames.{Each-map}

@@ -1,7 +1,6 @@
-use Rattle.std.proofs.Common.{◌≤◌, sym, subst}
+use Rattle.std.proofs.Common.{◌≤◌, subst}
 use Rattle.bl_model.specs.Map.{ListsPairs}
 use Rattle.bl_model.specs.Rows.{map_of}
-use Rattle.bl_proc.specs.Parts.{IsPartOf}
 use Rattle.bl_proc.proofs.parts.part_of.Goals as goal
 
 pub returns : goal.returns

@@ -1,4 +1,4 @@
-use Rattle.std.proofs.Common.{◌≡◌, ℕ, List, ◌++◌, length, take, drop, set, ap, refl, ◌∙◌, ◌-◌, arith, length-set}
+use Rattle.std.proofs.Common.{◌≡◌, ℕ, List, length, set, ap, refl, ◌∙◌, ◌-◌, arith, length-set}
 use Rattle.std.specs.List.{refill}
 use Rattle.std.proofs.lemmas.Grind.{common_steps}
 use Rattle.bl_model.specs.Rows.{map_of}
