@@ -51,8 +51,7 @@ part_early size contents trail p k old e = absurd (cc e)
 
 early_of : (size : ℕ) (contents : ℕ → Page) (trail : Trail) (p : Name) (got : ℕ → Page) (child time : ℕ) (a : Proc) → (know_of got child time a).stage ≡ Stage.Early → IsKept size contents trail p (sought a) (place_of a)
 early_of size contents trail p got child time (proc.Find a) e = find_early size contents trail p a.key a.stage e
-early_of size contents trail p got child time (proc.Insert a) e = tt
-early_of size contents trail p got child time (proc.Delete a) e = tt
+early_of size contents trail p got child time (proc.Write a) e = tt
 early_of size contents trail p got child time (proc.Post a) e = tt
 early_of size contents trail p got child time (proc.Part a) e = part_early size contents trail p a.from a.stage e
 early_of size contents trail p got child time (proc.Compress a) e = tt

@@ -63,8 +63,7 @@ part_knows w p k (part.Over r) is = tt
 
 knows_of : (w : World Run) (p : Name) (got : ℕ → Page) (child time : ℕ) (a : Proc) → IsSure w p (know_of got child time a) → Knows w p (sought a) (place_of a)
 knows_of w p got child time (proc.Find a) is = find_knows w p a.key a.stage is
-knows_of w p got child time (proc.Insert a) is = tt
-knows_of w p got child time (proc.Delete a) is = tt
+knows_of w p got child time (proc.Write a) is = tt
 knows_of w p got child time (proc.Post a) is = tt
 knows_of w p got child time (proc.Part a) is = part_knows w p a.from a.stage is
 knows_of w p got child time (proc.Compress a) is = tt
@@ -122,8 +121,7 @@ part_moved s size k old what new h observed = absurd h
 moved : (s : State Page) (size : ℕ) (old : Proc) (what : Seen) (new : Proc) → Takes old what new → IsObserved s size (next_of old) what → (sought new ≡ sought old) × Moved s (sought old) (place_of old) what (event_of (end_of_proc old) (next_of old) what) (place_of new)
 moved s size (proc.Find a) what (proc.Find c) t observed = (t.0, find_moved s size a.key a.stage what c.stage t.1 observed)
 moved s size (proc.Part a) what (proc.Part c) t observed = (t.0, part_moved s size a.from a.stage what c.stage t.1 observed)
-moved s size (proc.Insert a) what (proc.Insert c) t observed = (refl, record { goes = tt; act = tt; observed = tt })
-moved s size (proc.Delete a) what (proc.Delete c) t observed = (refl, record { goes = tt; act = tt; observed = tt })
+moved s size (proc.Write a) what (proc.Write c) t observed = (refl, record { goes = tt; act = tt; observed = tt })
 moved s size (proc.Post a) what (proc.Post c) t observed = (refl, record { goes = tt; act = tt; observed = tt })
 moved s size (proc.Compress a) what (proc.Compress c) t observed = (refl, record { goes = tt; act = tt; observed = tt })
 moved s size (proc.Reclaim a) what (proc.Reclaim c) t observed = (refl, record { goes = tt; act = tt; observed = tt })

@@ -1,6 +1,7 @@
 -- What a process holds at its latches, by its kind.
 use Rattle.std.proofs.Common.{ℕ, ◌≡◌, ◌≢◌, ◌⊎◌, ◌<◌, ◌++◌, Option, Some, zero, suc, [], ◌∷◌, length, take, slice_get, arith, ap, sym, ◌∙◌, refl, inl, inr, subst}
 use Rattle.bl_model.specs.declared.operation.Reply.{Reply}
+use Rattle.bl_model.specs.declared.deciding.KeyWrite.{KeyWrite}
 use Rattle.bl_page.specs.declared.page.Page.{Page}
 use Rattle.bl_page.specs.Machine.{Name}
 use Rattle.bl_page.specs.Machine.Act.{Latch}
@@ -33,10 +34,8 @@ use Rattle.bl_proc.specs.declared.searching.FindStage.{FindStage}
 use Rattle.bl_proc.specs.declared.searching.FindStage.TheVariants as find
 use Rattle.bl_proc.specs.declared.parts.PartStage.{PartStage}
 use Rattle.bl_proc.specs.declared.parts.PartStage.TheVariants as part
-use Rattle.bl_proc.specs.declared.inserting.InsertStage.{InsertStage}
-use Rattle.bl_proc.specs.declared.inserting.InsertStage.TheVariants as insert
-use Rattle.bl_proc.specs.declared.deleting.DeleteStage.{DeleteStage}
-use Rattle.bl_proc.specs.declared.deleting.DeleteStage.TheVariants as delete
+use Rattle.bl_proc.specs.declared.writing.WriteStage.{WriteStage}
+use Rattle.bl_proc.specs.declared.writing.WriteStage.TheVariants as write
 use Rattle.bl_proc.specs.declared.posting.Post.{Post}
 use Rattle.bl_proc.specs.declared.posting.PostStage.{PostStage}
 use Rattle.bl_proc.specs.declared.posting.PostStage.TheVariants as post
@@ -50,8 +49,7 @@ use Rattle.bl_proc.specs.declared.kinds.Proc.{Proc}
 use Rattle.bl_proc.specs.declared.kinds.Proc.TheVariants as proc
 use Rattle.bl_proc.specs.Searches.{find_next_in}
 use Rattle.bl_proc.specs.Parts.{part_next_in}
-use Rattle.bl_proc.specs.Inserts.{insert_next_in}
-use Rattle.bl_proc.specs.Deletes.{delete_next_in}
+use Rattle.bl_proc.specs.Writes.{write_next_in}
 use Rattle.bl_proc.specs.Posts.{post_next_in}
 use Rattle.bl_proc.specs.Processes.{next_of, Takes}
 use Rattle.bl_proc_invariant.specs.Turns.{event_of}
@@ -59,7 +57,7 @@ use Rattle.bl_proc_invariant.specs.Tables.{know_approach}
 use Rattle.bl_proc_invariant.specs.Logs.{squeeze_log, compress_log, proc_log}
 use Rattle.bl_proc_invariant.specs.Compressing.{know_squeeze}
 use Rattle.bl_proc_invariant.specs.Lowering.{know_lowering}
-use Rattle.bl_proc_invariant.specs.Knowing.{Run, know_growth, know_insert, know_delete, know_post, know_compress, know_lower, know_of, know, end_of_proc}
+use Rattle.bl_proc_invariant.specs.Knowing.{Run, know_growth, know_write, know_post, know_compress, know_lower, know_of, know, end_of_proc}
 use Rattle.bl_core.proofs.After.{is_put_name}
 use Rattle.bl_proc_invariant.proofs.Starting.{with_proc}
 use Rattle.bl_proc_bounds.specs.Searches.{IsSearch}
@@ -153,21 +151,13 @@ growth_alone : (level key : ℕ) (got : ℕ → Page) (g : Growth) (x : ℕ) →
 growth_alone level key got growth.Latching x e = refl
 growth_alone level key got old x e = absurd (cc e)
 
-insert_alone : (key value : ℕ) (got : ℕ → Page) (a : InsertStage) (x : ℕ) → insert_next_in a ≡ act.Latch x → (know_insert key value got a).holds ≡ []
-insert_alone key value got insert.New x e = refl
-insert_alone key value got (insert.Coming a) x e = approach_alone 0 key a x e
-insert_alone key value got (insert.Present y v) x e = absurd (cc e)
-insert_alone key value got (insert.Editing c) x e = absurd (edit_never c x e)
-insert_alone key value got (insert.Ending r) x e = refl
-insert_alone key value got (insert.Over r) x e = refl
-
-delete_alone : (key : ℕ) (got : ℕ → Page) (a : DeleteStage) (x : ℕ) → delete_next_in a ≡ act.Latch x → (know_delete key got a).holds ≡ []
-delete_alone key got delete.New x e = refl
-delete_alone key got (delete.Coming a) x e = approach_alone 0 key a x e
-delete_alone key got (delete.Absent y) x e = absurd (cc e)
-delete_alone key got (delete.Editing v c) x e = absurd (edit_never c x e)
-delete_alone key got (delete.Ending r) x e = refl
-delete_alone key got (delete.Over r) x e = refl
+write_alone : (key : ℕ) (does : KeyWrite) (got : ℕ → Page) (a : WriteStage) (x : ℕ) → write_next_in a ≡ act.Latch x → (know_write key does got a).holds ≡ []
+write_alone key does got write.New x e = refl
+write_alone key does got (write.Coming a) x e = approach_alone 0 key a x e
+write_alone key does got (write.Keeping y there) x e = absurd (cc e)
+write_alone key does got (write.Editing noted c) x e = absurd (edit_never c x e)
+write_alone key does got (write.Ending r) x e = refl
+write_alone key does got (write.Over r) x e = refl
 
 post_alone : (level key : ℕ) (got : ℕ → Page) (child : ℕ) (a : PostStage) (x : ℕ) → post_next_in a ≡ act.Latch x → (know_post level key got child a).holds ≡ []
 post_alone level key got child post.New x e = refl
@@ -232,8 +222,7 @@ module _ (w : World Run) (p : Name) (g : IsGood know w) (owned : AllOwned w) whe
   state_turn : (m : Mark) (got : ℕ → Page) (child time : ℕ) (old new : Proc) (what : Seen) → know (w.proc p) ≡ know_of got child time old → proc_log old (marks_of p w.trail) → Takes old what new → m.event.act ≡ event_of (end_of_proc old) (next_of old) what → IsTidy old (marks_of p w.trail) → IsTidy new (marks_of p w.trail ++ m ∷ [])
   state_turn m got child time (proc.Find a) (proc.Find c) what is log t e h = none_on (marks_of p w.trail) m h (λ x f. find_looks a.stage x (latch_next _ _ what x (sym e ∙ f)))
   state_turn m got child time (proc.Part a) (proc.Part c) what is log t e h = none_on (marks_of p w.trail) m h (λ x f. part_looks a.stage x (latch_next _ _ what x (sym e ∙ f)))
-  state_turn m got child time (proc.Insert a) (proc.Insert c) what is log t e h = alone_turn m h (λ x f. ap (λ k. k.holds) is ∙ insert_alone a.key a.value got a.stage x (latch_next _ _ what x (sym e ∙ f)))
-  state_turn m got child time (proc.Delete a) (proc.Delete c) what is log t e h = alone_turn m h (λ x f. ap (λ k. k.holds) is ∙ delete_alone a.key got a.stage x (latch_next _ _ what x (sym e ∙ f)))
+  state_turn m got child time (proc.Write a) (proc.Write c) what is log t e h = alone_turn m h (λ x f. ap (λ k. k.holds) is ∙ write_alone a.key a.write got a.stage x (latch_next _ _ what x (sym e ∙ f)))
   state_turn m got child time (proc.Post a) (proc.Post c) what is log t e h = alone_turn m h (λ x f. ap (λ k. k.holds) is ∙ post_alone a.level a.key got child a.stage x (latch_next _ _ what x (sym e ∙ f)))
   state_turn m got child time (proc.Compress a) (proc.Compress c) what is log t e h =
       let old : LatchesBeside a.level a.key (marks_of p w.trail ++ m ∷ []) = beside_on (marks_of p w.trail) m a.level a.key h (λ x f. compress_few a.level a.key got a.stage x (marks_of p w.trail) (latch_next _ _ what x (sym e ∙ f)) log (holds_kept (know_compress a.level a.key got a.stage) is)) in
@@ -246,8 +235,7 @@ module _ (w : World Run) (p : Name) (g : IsGood know w) (owned : AllOwned w) whe
   still_turn : (m : Mark) (a : Proc) → ((x : ℕ) → m.event.act ≢ Latch x) → IsTidy a (marks_of p w.trail) → IsTidy a (marks_of p w.trail ++ m ∷ [])
   still_turn m (proc.Find a) none h = none_on (marks_of p w.trail) m h none
   still_turn m (proc.Part a) none h = none_on (marks_of p w.trail) m h none
-  still_turn m (proc.Insert a) none h = alone_turn m h (λ x f. absurd (none x f))
-  still_turn m (proc.Delete a) none h = alone_turn m h (λ x f. absurd (none x f))
+  still_turn m (proc.Write a) none h = alone_turn m h (λ x f. absurd (none x f))
   still_turn m (proc.Post a) none h = alone_turn m h (λ x f. absurd (none x f))
   still_turn m (proc.Compress a) none h = beside_on (marks_of p w.trail) m a.level a.key h (λ x f. absurd (none x f))
   still_turn m (proc.Reclaim a) none h = tt
@@ -303,8 +291,7 @@ none_at i m e = absurd (cc e)
 nothing_done : (a : Proc) (marks : Trail) → marks ≡ [] → IsTidy a marks
 nothing_done (proc.Find a) marks e = λ i m x is does. none_at i m (sym (ap (λ (t : Trail). slice_get t i) e) ∙ is)
 nothing_done (proc.Part a) marks e = λ i m x is does. none_at i m (sym (ap (λ (t : Trail). slice_get t i) e) ∙ is)
-nothing_done (proc.Insert a) marks e = λ i m x y is does keeps. none_at i m (sym (ap (λ (t : Trail). slice_get t i) e) ∙ is)
-nothing_done (proc.Delete a) marks e = λ i m x y is does keeps. none_at i m (sym (ap (λ (t : Trail). slice_get t i) e) ∙ is)
+nothing_done (proc.Write a) marks e = λ i m x y is does keeps. none_at i m (sym (ap (λ (t : Trail). slice_get t i) e) ∙ is)
 nothing_done (proc.Post a) marks e = λ i m x y is does keeps. none_at i m (sym (ap (λ (t : Trail). slice_get t i) e) ∙ is)
 nothing_done (proc.Compress a) marks e = λ i m x is does. none_at i m (sym (ap (λ (t : Trail). slice_get t i) e) ∙ is)
 nothing_done (proc.Reclaim a) marks e = tt

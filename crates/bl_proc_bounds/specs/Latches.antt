@@ -13,8 +13,7 @@ use Rattle.bl_proc_invariant.specs.Knowing.{Run}
 -- What holds of each kind of process. One that releases pages has no latch, which is not said here.
 abbrev pub IsTidy : Proc → Trail → Type 0
 IsTidy (proc.Find p) marks = LatchesNone marks
-IsTidy (proc.Insert p) marks = LatchesAlone marks
-IsTidy (proc.Delete p) marks = LatchesAlone marks
+IsTidy (proc.Write p) marks = LatchesAlone marks
 IsTidy (proc.Post p) marks = LatchesAlone marks
 IsTidy (proc.Part p) marks = LatchesNone marks
 IsTidy (proc.Compress p) marks = LatchesBeside p.level p.key marks

@@ -67,8 +67,7 @@ part_place (part.Over r) = After
 
 abbrev pub place_of : Proc → Place
 place_of (proc.Find p) = find_place p.stage
-place_of (proc.Insert p) = Nowhere
-place_of (proc.Delete p) = Nowhere
+place_of (proc.Write p) = Nowhere
 place_of (proc.Post p) = Nowhere
 place_of (proc.Part p) = part_place p.stage
 place_of (proc.Compress p) = Nowhere
@@ -78,8 +77,7 @@ place_of (proc.Lower p) = Nowhere
 -- the key that it seeks
 abbrev pub sought : Proc → ℕ
 sought (proc.Find p) = p.key
-sought (proc.Insert p) = 0
-sought (proc.Delete p) = 0
+sought (proc.Write p) = 0
 sought (proc.Post p) = 0
 sought (proc.Part p) = p.from
 sought (proc.Compress p) = 0

@@ -7,8 +7,7 @@ use Rattle.bl_proc_bounds.specs.Paces.Place.{Nowhere, Before, Trying, Going, Aft
 -- a search for a key, or a part
 abbrev pub IsSearch : Proc → Type 0
 IsSearch (proc.Find p) = Unit {0}
-IsSearch (proc.Insert p) = ⊥
-IsSearch (proc.Delete p) = ⊥
+IsSearch (proc.Write p) = ⊥
 IsSearch (proc.Post p) = ⊥
 IsSearch (proc.Part p) = Unit {0}
 IsSearch (proc.Compress p) = ⊥

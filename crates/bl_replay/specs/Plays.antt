@@ -1,6 +1,7 @@
 -- What a script prints: the text of its commands, one after the other, on what stands in a world.
 use Rattle.std.specs.Prelude.{◌≡◌, ◌⊎◌, ℕ, ◌+◌, ◌≤◌, Option, Some, None, List, [], ◌∷◌, ◌++◌, true, slice_get}
 use Rattle.bl_model.specs.declared.operation.Op.TheVariants as op
+use Rattle.bl_model.specs.declared.deciding.KeyWrite.TheVariants as write
 use Rattle.bl_replay_script.specs.declared.command.Start.{Start}
 use Rattle.bl_replay_script.specs.declared.command.Start.TheVariants as start
 use Rattle.bl_replay_script.specs.declared.command.Command.{Command}
@@ -12,7 +13,7 @@ use Rattle.bl_proc_base.specs.declared.answers.Answer.{Answer}
 use Rattle.bl_proc.specs.declared.kinds.Proc.{Proc}
 use Rattle.bl_proc.specs.declared.kinds.Proc.TheVariants as proc
 use Rattle.bl_proc.specs.declared.parts.PartStage.TheVariants as part
-use Rattle.bl_proc.specs.Processes.{answer_of, IsFind, IsInsert, IsDelete, IsChange, IsPost, IsPart, IsCompress, IsReclaim, IsLower}
+use Rattle.bl_proc.specs.Processes.{answer_of, IsFind, IsWrite, IsPost, IsPart, IsCompress, IsReclaim, IsLower}
 use Rattle.bl_world.specs.declared.turns.Event.{Event}
 use Rattle.bl_world.specs.declared.turns.Turn.{Turn}
 use Rattle.bl_world.specs.declared.turns.Turn.TheVariants as turn
@@ -66,9 +67,9 @@ IsPartNear from page p = ⊥
 -- a process that a script starts, which has done nothing yet
 abbrev pub IsStart : Start → Proc → Type 0
 IsStart (start.Operation (op.Find key)) p = IsFind key p
-IsStart (start.Operation (op.Insert key value)) p = IsInsert key value p
-IsStart (start.Operation (op.Delete key)) p = IsDelete key p
-IsStart (start.Operation (op.Change key old new)) p = IsChange key old new p
+IsStart (start.Operation (op.Insert key value)) p = IsWrite key (write.Insert value) p
+IsStart (start.Operation (op.Delete key)) p = IsWrite key write.Delete p
+IsStart (start.Operation (op.Change key old new)) p = IsWrite key (write.Change old new) p
 IsStart (start.Operation (op.Part from)) p = IsPart from p
 IsStart (start.PartNear from page) p = IsPartNear from page p
 IsStart (start.Post level key) p = IsPost level key p

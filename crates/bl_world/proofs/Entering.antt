@@ -1,6 +1,7 @@
 -- A process enters a world.
 use Rattle.std.proofs.Common.{ℕ, ◌≡◌, ◌≢◌, ◌⊎◌, ◌^◌, ◌<◌, ◌++◌, suc, List, [], ◌∷◌, length, arith, ap, sym, ◌∙◌, refl, subst, inl, inr, append-nil}
 use Rattle.std.proofs.lemmas.Option.{slice_get_within}
+use Rattle.bl_model.specs.declared.deciding.KeyWrite.{KeyWrite}
 use Rattle.bl_page.specs.declared.page.Page.{Page}
 use Rattle.bl_page.specs.Machine.{Name}
 use Rattle.bl_core.proofs.After.{put_name, is_put_name}
@@ -10,10 +11,8 @@ use Rattle.bl_proc.specs.declared.searching.FindStage.{FindStage}
 use Rattle.bl_proc.specs.declared.searching.FindStage.TheVariants as find
 use Rattle.bl_proc.specs.declared.parts.PartStage.{PartStage}
 use Rattle.bl_proc.specs.declared.parts.PartStage.TheVariants as part
-use Rattle.bl_proc.specs.declared.inserting.InsertStage.{InsertStage}
-use Rattle.bl_proc.specs.declared.inserting.InsertStage.TheVariants as insert
-use Rattle.bl_proc.specs.declared.deleting.DeleteStage.{DeleteStage}
-use Rattle.bl_proc.specs.declared.deleting.DeleteStage.TheVariants as delete
+use Rattle.bl_proc.specs.declared.writing.WriteStage.{WriteStage}
+use Rattle.bl_proc.specs.declared.writing.WriteStage.TheVariants as write
 use Rattle.bl_proc.specs.declared.posting.PostStage.{PostStage}
 use Rattle.bl_proc.specs.declared.posting.PostStage.TheVariants as post
 use Rattle.bl_proc_compress.specs.declared.squeezing.CompressStage.{CompressStage}
@@ -28,13 +27,12 @@ use Rattle.bl_proc.specs.declared.kinds.Proc.TheVariants as proc
 use Rattle.bl_proc.specs.Processes.{next_of, IsReclaim}
 use Rattle.bl_proc.specs.Searches.{find_next_in}
 use Rattle.bl_proc.specs.Parts.{part_next_in}
-use Rattle.bl_proc.specs.Inserts.{insert_next_in}
-use Rattle.bl_proc.specs.Deletes.{delete_next_in}
+use Rattle.bl_proc.specs.Writes.{write_next_in}
 use Rattle.bl_proc.specs.Posts.{post_next_in}
 use Rattle.bl_proc_compress.specs.Compresses.{compress_next_in}
 use Rattle.bl_proc.specs.Reclaims.{reclaim_next_in}
 use Rattle.bl_proc.specs.Lowers.{lower_next_in}
-use Rattle.bl_proc_invariant.specs.Knowing.{Run, know_of, know_find, know_part, know_insert, know_delete, know_post, know_compress, know_reclaim, know_lower}
+use Rattle.bl_proc_invariant.specs.Knowing.{Run, know_of, know_find, know_part, know_write, know_post, know_compress, know_reclaim, know_lower}
 use Rattle.bl_proc_invariant.proofs.Starting.{with_proc, enters_good, enters_logs}
 use Rattle.bl_proc_bounds.proofs.Kept.{enter_kept}
 use Rattle.bl_world.specs.declared.turns.Event.{Event}
@@ -56,17 +54,11 @@ part_blank k (part.Near x) small e = record { stage = refl; said = refl; holds =
 part_blank k part.New small e = record { stage = refl; said = refl; holds = refl; goes = refl; children = refl; passed = refl; sound = small }
 part_blank k old small e = absurd cc
 
-insert_blank : (k v : ℕ) (got : ℕ → Page) (a : InsertStage) → k < 2 ^ 64 → insert_next_in a ≡ act.Begin → IsBlank (know_insert k v got a)
-insert_blank k v got insert.New small e = record { stage = refl; said = refl; holds = refl; goes = refl; children = refl; passed = refl; sound = small }
-insert_blank k v got (insert.Coming a) small e = approach_begins a e
-insert_blank k v got (insert.Editing c) small e = edit_begins c e
-insert_blank k v got old small e = absurd cc
-
-delete_blank : (k : ℕ) (got : ℕ → Page) (a : DeleteStage) → k < 2 ^ 64 → delete_next_in a ≡ act.Begin → IsBlank (know_delete k got a)
-delete_blank k got delete.New small e = record { stage = refl; said = refl; holds = refl; goes = refl; children = refl; passed = refl; sound = small }
-delete_blank k got (delete.Coming a) small e = approach_begins a e
-delete_blank k got (delete.Editing v c) small e = edit_begins c e
-delete_blank k got old small e = absurd cc
+write_blank : (k : ℕ) (does : KeyWrite) (got : ℕ → Page) (a : WriteStage) → k < 2 ^ 64 → write_next_in a ≡ act.Begin → IsBlank (know_write k does got a)
+write_blank k does got write.New small e = record { stage = refl; said = refl; holds = refl; goes = refl; children = refl; passed = refl; sound = small }
+write_blank k does got (write.Coming a) small e = approach_begins a e
+write_blank k does got (write.Editing noted c) small e = edit_begins c e
+write_blank k does got old small e = absurd cc
 
 post_blank : (l k : ℕ) (got : ℕ → Page) (child : ℕ) (a : PostStage) → k < 2 ^ 64 → post_next_in a ≡ act.Begin → IsBlank (know_post l k got child a)
 post_blank l k got child post.New small e = record { stage = refl; said = refl; holds = refl; goes = refl; children = refl; passed = refl; sound = small }
@@ -101,16 +93,14 @@ reclaim_blank time a e = rw e (record { stage = refl; said = refl; holds = refl;
 
 pub blank : (size : ℕ) (got : ℕ → Page) (child time : ℕ) (p : Proc) → key_in p < 2 ^ 64 → IsNew size p → IsBlank (know_of got child time p)
 blank size got child time (proc.Find p) small (inl e) = find_blank p.key p.stage small e
-blank size got child time (proc.Insert p) small (inl e) = insert_blank p.key p.value got p.stage small e
-blank size got child time (proc.Delete p) small (inl e) = delete_blank p.key got p.stage small e
+blank size got child time (proc.Write p) small (inl e) = write_blank p.key p.write got p.stage small e
 blank size got child time (proc.Post p) small (inl e) = post_blank p.level p.key got child p.stage small e
 blank size got child time (proc.Part p) small (inl e) = part_blank p.from p.stage small e
 blank size got child time (proc.Compress p) small (inl e) = compress_blank p.level p.key got p.stage small e
 blank size got child time (proc.Reclaim p) small (inl e) = reclaim_begins p.page p.stage e
 blank size got child time (proc.Lower p) small (inl e) = lower_blank got p.stage e
 blank size got child time (proc.Find p) small (inr r) = absurd r.2
-blank size got child time (proc.Insert p) small (inr r) = absurd r.2
-blank size got child time (proc.Delete p) small (inr r) = absurd r.2
+blank size got child time (proc.Write p) small (inr r) = absurd r.2
 blank size got child time (proc.Post p) small (inr r) = absurd r.2
 blank size got child time (proc.Part p) small (inr r) = absurd r.2
 blank size got child time (proc.Compress p) small (inr r) = absurd r.2

@@ -2,6 +2,8 @@
 use Rattle.std.proofs.Common.{ℕ, ◌≡◌, Option, Some, None, ap, sym, ◌∙◌, refl}
 use Rattle.bl_model.specs.declared.operation.Op.TheVariants as op
 use Rattle.bl_model.specs.declared.operation.Reply.{Reply}
+use Rattle.bl_model.specs.declared.deciding.KeyWrite.{KeyWrite}
+use Rattle.bl_model.specs.Writes.{write_op}
 use Rattle.bl_page.specs.declared.page.Page.{Page}
 use Rattle.bl_claims.specs.Trails.{Said}
 use Rattle.bl_core.specs.Worlds.{Stage}
@@ -19,12 +21,9 @@ use Rattle.bl_proc.specs.declared.searching.FindStage.{FindStage}
 use Rattle.bl_proc.specs.declared.searching.FindStage.TheVariants as find
 use Rattle.bl_proc.specs.declared.parts.PartStage.{PartStage}
 use Rattle.bl_proc.specs.declared.parts.PartStage.TheVariants as part
-use Rattle.bl_proc.specs.declared.inserting.InsertStage.{InsertStage}
-use Rattle.bl_proc.specs.declared.inserting.InsertStage.TheVariants as insert
-use Rattle.bl_proc.specs.declared.inserting.InsertReply.TheVariants as inserted
-use Rattle.bl_proc.specs.declared.deleting.DeleteStage.{DeleteStage}
-use Rattle.bl_proc.specs.declared.deleting.DeleteStage.TheVariants as delete
-use Rattle.bl_proc.specs.declared.deleting.DeleteReply.TheVariants as deleted
+use Rattle.bl_proc.specs.declared.writing.WriteStage.{WriteStage}
+use Rattle.bl_proc.specs.declared.writing.WriteStage.TheVariants as write
+use Rattle.bl_proc.specs.declared.writing.WriteReply.TheVariants.{Done, NoRoom}
 use Rattle.bl_proc.specs.declared.posting.PostStage.{PostStage}
 use Rattle.bl_proc.specs.declared.posting.PostStage.TheVariants as post
 use Rattle.bl_proc.specs.declared.posting.PostReply.TheVariants as listed
@@ -44,8 +43,7 @@ use Rattle.bl_proc.specs.declared.kinds.Proc.TheVariants as proc
 use Rattle.bl_proc.specs.Processes.{answer_of}
 use Rattle.bl_proc.specs.Searches.{find_answer_in}
 use Rattle.bl_proc.specs.Parts.{part_answer_in}
-use Rattle.bl_proc.specs.Inserts.{insert_answer_in}
-use Rattle.bl_proc.specs.Deletes.{delete_answer_in}
+use Rattle.bl_proc.specs.Writes.{write_answer_in}
 use Rattle.bl_proc.specs.Posts.{post_answer_in}
 use Rattle.bl_proc_compress.specs.Compresses.{compress_answer_in}
 use Rattle.bl_proc.specs.Lowers.{lower_answer_in}
@@ -53,7 +51,7 @@ use Rattle.bl_proc.specs.Reclaims.{reclaim_answer_in}
 use Rattle.bl_proc_invariant.specs.Tables.{Aim, know_approach, know_edit}
 use Rattle.bl_proc_invariant.specs.Compressing.{know_squeeze}
 use Rattle.bl_proc_invariant.specs.Lowering.{know_lowering}
-use Rattle.bl_proc_invariant.specs.Knowing.{know_of, know_find, know_part, know_insert, know_delete, know_post, know_compress, know_reclaim, know_lower, know_growth, insert_aim, delete_aim, post_aim}
+use Rattle.bl_proc_invariant.specs.Knowing.{know_of, know_find, know_part, know_write, know_post, know_compress, know_reclaim, know_lower, know_growth, write_aim, post_aim}
 use Rattle.bl_world.specs.Accounts.{op_of, HasEnd}
 
 none_said : {X : Type 0} (s : Said) → None ≡ Some s → X
@@ -117,21 +115,13 @@ part_op k (part.Descending d) s e = none_said s e
 part_op k (part.Ending r) s e = same_op _ s e
 part_op k (part.Over r) s e = same_op _ s e
 
-insert_op : (k v : ℕ) (got : ℕ → Page) (a : InsertStage) (s : Said) → (know_insert k v got a).said ≡ Some s → Some (op.Insert k v) ≡ Some s.op
-insert_op k v got insert.New s e = none_said s e
-insert_op k v got (insert.Coming a) s e = none_said s (sym (approach_said 0 k a) ∙ e)
-insert_op k v got (insert.Present x there) s e = same_op _ s e
-insert_op k v got (insert.Editing c) s e = same_op _ s (edit_said (insert_aim k v) got c s e).1
-insert_op k v got (insert.Ending r) s e = same_op _ s e
-insert_op k v got (insert.Over r) s e = same_op _ s e
-
-delete_op : (k : ℕ) (got : ℕ → Page) (a : DeleteStage) (s : Said) → (know_delete k got a).said ≡ Some s → Some (op.Delete k) ≡ Some s.op
-delete_op k got delete.New s e = none_said s e
-delete_op k got (delete.Coming a) s e = none_said s (sym (approach_said 0 k a) ∙ e)
-delete_op k got (delete.Absent x) s e = same_op _ s e
-delete_op k got (delete.Editing v c) s e = same_op _ s (edit_said (delete_aim k v) got c s e).1
-delete_op k got (delete.Ending r) s e = same_op _ s e
-delete_op k got (delete.Over r) s e = same_op _ s e
+write_says : (k : ℕ) (does : KeyWrite) (got : ℕ → Page) (a : WriteStage) (s : Said) → (know_write k does got a).said ≡ Some s → Some (write_op k does) ≡ Some s.op
+write_says k does got write.New s e = none_said s e
+write_says k does got (write.Coming a) s e = none_said s (sym (approach_said 0 k a) ∙ e)
+write_says k does got (write.Keeping x there) s e = same_op _ s e
+write_says k does got (write.Editing noted c) s e = same_op _ s (edit_said (write_aim k does noted) got c s e).1
+write_says k does got (write.Ending r) s e = same_op _ s e
+write_says k does got (write.Over r) s e = same_op _ s e
 
 post_none : {X : Type 0} (l k : ℕ) (got : ℕ → Page) (child : ℕ) (a : PostStage) (s : Said) → (know_post l k got child a).said ≡ Some s → X
 post_none l k got child post.New s e = none_said s e
@@ -177,8 +167,7 @@ lower_none got (lower.Over r) s e = none_said s e
 
 pub said_op : (got : ℕ → Page) (child time : ℕ) (p : Proc) (s : Said) → (know_of got child time p).said ≡ Some s → op_of p ≡ Some s.op
 said_op got child time (proc.Find p) s e = find_op p.key p.stage s e
-said_op got child time (proc.Insert p) s e = insert_op p.key p.value got p.stage s e
-said_op got child time (proc.Delete p) s e = delete_op p.key got p.stage s e
+said_op got child time (proc.Write p) s e = write_says p.key p.write got p.stage s e
 said_op got child time (proc.Post p) s e = post_none p.level p.key got child p.stage s e
 said_op got child time (proc.Part p) s e = part_op p.from p.stage s e
 said_op got child time (proc.Compress p) s e = compress_none p.level p.key got p.stage s e
@@ -230,25 +219,14 @@ part_answered k (part.Descending d) reply hint e = none_answer _ e
 part_answered k (part.Ending r) reply hint e = none_answer _ e
 part_answered k (part.Over r) reply hint e = record { it = _; is = refl; reply_is = same_reply _ _ _ _ e }
 
-insert_answered : (k v : ℕ) (got : ℕ → Page) (a : InsertStage) (reply : Reply) (hint : Option Hint) → insert_answer_in a ≡ Some (answer.Op reply hint) → HasAnswered (know_insert k v got a).said reply
-insert_answered k v got insert.New reply hint e = none_answer _ e
-insert_answered k v got (insert.Coming a) reply hint e = none_answer _ e
-insert_answered k v got (insert.Present x there) reply hint e = none_answer _ e
-insert_answered k v got (insert.Editing c) reply hint e = none_answer _ e
-insert_answered k v got (insert.Ending r) reply hint e = none_answer _ e
-insert_answered k v got (insert.Over (inserted.Inserted s)) reply hint e = record { it = _; is = refl; reply_is = same_reply _ _ _ _ e }
-insert_answered k v got (insert.Over (inserted.Present w)) reply hint e = record { it = _; is = refl; reply_is = same_reply _ _ _ _ e }
-insert_answered k v got (insert.Over inserted.NoRoom) reply hint e = record { it = _; is = refl; reply_is = same_reply _ _ _ _ e }
-
-delete_answered : (k : ℕ) (got : ℕ → Page) (a : DeleteStage) (reply : Reply) (hint : Option Hint) → delete_answer_in a ≡ Some (answer.Op reply hint) → HasAnswered (know_delete k got a).said reply
-delete_answered k got delete.New reply hint e = none_answer _ e
-delete_answered k got (delete.Coming a) reply hint e = none_answer _ e
-delete_answered k got (delete.Absent x) reply hint e = none_answer _ e
-delete_answered k got (delete.Editing v c) reply hint e = none_answer _ e
-delete_answered k got (delete.Ending r) reply hint e = none_answer _ e
-delete_answered k got (delete.Over (deleted.Deleted v)) reply hint e = record { it = _; is = refl; reply_is = same_reply _ _ _ _ e }
-delete_answered k got (delete.Over deleted.Absent) reply hint e = record { it = _; is = refl; reply_is = same_reply _ _ _ _ e }
-delete_answered k got (delete.Over deleted.NoRoom) reply hint e = record { it = _; is = refl; reply_is = same_reply _ _ _ _ e }
+write_answered : (k : ℕ) (does : KeyWrite) (got : ℕ → Page) (a : WriteStage) (reply : Reply) (hint : Option Hint) → write_answer_in does a ≡ Some (answer.Op reply hint) → HasAnswered (know_write k does got a).said reply
+write_answered k does got write.New reply hint e = none_answer _ e
+write_answered k does got (write.Coming a) reply hint e = none_answer _ e
+write_answered k does got (write.Keeping x there) reply hint e = none_answer _ e
+write_answered k does got (write.Editing noted c) reply hint e = none_answer _ e
+write_answered k does got (write.Ending r) reply hint e = none_answer _ e
+write_answered k does got (write.Over (Done there left)) reply hint e = record { it = _; is = refl; reply_is = same_reply _ _ _ _ e }
+write_answered k does got (write.Over NoRoom) reply hint e = record { it = _; is = refl; reply_is = same_reply _ _ _ _ e }
 
 post_answered : {X : Type 0} (l : ℕ) (a : PostStage) (reply : Reply) (hint : Option Hint) → post_answer_in l a ≡ Some (answer.Op reply hint) → X
 post_answered l post.New reply hint e = none_answer _ e
@@ -291,8 +269,7 @@ lower_answered (lower.Over what) reply hint e = absurd (let f : Some (answer.Low
 
 pub answered_said : (got : ℕ → Page) (child time : ℕ) (p : Proc) (reply : Reply) (hint : Option Hint) → answer_of p ≡ Some (answer.Op reply hint) → HasAnswered (know_of got child time p).said reply
 answered_said got child time (proc.Find p) reply hint e = find_answered p.key p.stage reply hint e
-answered_said got child time (proc.Insert p) reply hint e = insert_answered p.key p.value got p.stage reply hint e
-answered_said got child time (proc.Delete p) reply hint e = delete_answered p.key got p.stage reply hint e
+answered_said got child time (proc.Write p) reply hint e = write_answered p.key p.write got p.stage reply hint e
 answered_said got child time (proc.Post p) reply hint e = post_answered p.level p.stage reply hint e
 answered_said got child time (proc.Part p) reply hint e = part_answered p.from p.stage reply hint e
 answered_said got child time (proc.Compress p) reply hint e = compress_answered p.stage reply hint e
@@ -315,21 +292,13 @@ part_late k (part.Descending d) b e = none_answer _ e
 part_late k (part.Ending r) b e = none_answer _ e
 part_late k (part.Over r) b e = refl
 
-insert_late : (k v : ℕ) (got : ℕ → Page) (a : InsertStage) (b : Answer) → insert_answer_in a ≡ Some b → (know_insert k v got a).stage ≡ Stage.Late
-insert_late k v got insert.New b e = none_answer _ e
-insert_late k v got (insert.Coming a) b e = none_answer _ e
-insert_late k v got (insert.Present x there) b e = none_answer _ e
-insert_late k v got (insert.Editing c) b e = none_answer _ e
-insert_late k v got (insert.Ending r) b e = none_answer _ e
-insert_late k v got (insert.Over r) b e = refl
-
-delete_late : (k : ℕ) (got : ℕ → Page) (a : DeleteStage) (b : Answer) → delete_answer_in a ≡ Some b → (know_delete k got a).stage ≡ Stage.Late
-delete_late k got delete.New b e = none_answer _ e
-delete_late k got (delete.Coming a) b e = none_answer _ e
-delete_late k got (delete.Absent x) b e = none_answer _ e
-delete_late k got (delete.Editing v c) b e = none_answer _ e
-delete_late k got (delete.Ending r) b e = none_answer _ e
-delete_late k got (delete.Over r) b e = refl
+write_late : (k : ℕ) (does : KeyWrite) (got : ℕ → Page) (a : WriteStage) (b : Answer) → write_answer_in does a ≡ Some b → (know_write k does got a).stage ≡ Stage.Late
+write_late k does got write.New b e = none_answer _ e
+write_late k does got (write.Coming a) b e = none_answer _ e
+write_late k does got (write.Keeping x there) b e = none_answer _ e
+write_late k does got (write.Editing noted c) b e = none_answer _ e
+write_late k does got (write.Ending r) b e = none_answer _ e
+write_late k does got (write.Over r) b e = refl
 
 post_late : (l k : ℕ) (got : ℕ → Page) (child : ℕ) (a : PostStage) (b : Answer) → post_answer_in l a ≡ Some b → (know_post l k got child a).stage ≡ Stage.Late
 post_late l k got child post.New b e = none_answer _ e
@@ -357,8 +326,7 @@ lower_late got (lower.Over r) b e = refl
 
 pub answered_late : (got : ℕ → Page) (child time : ℕ) (p : Proc) (b : Answer) → HasEnd p → answer_of p ≡ Some b → (know_of got child time p).stage ≡ Stage.Late
 answered_late got child time (proc.Find p) b ends e = find_late p.key p.stage b e
-answered_late got child time (proc.Insert p) b ends e = insert_late p.key p.value got p.stage b e
-answered_late got child time (proc.Delete p) b ends e = delete_late p.key got p.stage b e
+answered_late got child time (proc.Write p) b ends e = write_late p.key p.write got p.stage b e
 answered_late got child time (proc.Post p) b ends e = post_late p.level p.key got child p.stage b e
 answered_late got child time (proc.Part p) b ends e = part_late p.from p.stage b e
 answered_late got child time (proc.Compress p) b ends e = compress_late p.level p.key got p.stage b e

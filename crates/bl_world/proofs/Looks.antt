@@ -17,10 +17,8 @@ use Rattle.bl_proc.specs.declared.searching.FindStage.{FindStage}
 use Rattle.bl_proc.specs.declared.searching.FindStage.TheVariants as find
 use Rattle.bl_proc.specs.declared.parts.PartStage.{PartStage}
 use Rattle.bl_proc.specs.declared.parts.PartStage.TheVariants as part
-use Rattle.bl_proc.specs.declared.inserting.InsertStage.{InsertStage}
-use Rattle.bl_proc.specs.declared.inserting.InsertStage.TheVariants as insert
-use Rattle.bl_proc.specs.declared.deleting.DeleteStage.{DeleteStage}
-use Rattle.bl_proc.specs.declared.deleting.DeleteStage.TheVariants as delete
+use Rattle.bl_proc.specs.declared.writing.WriteStage.{WriteStage}
+use Rattle.bl_proc.specs.declared.writing.WriteStage.TheVariants as write
 use Rattle.bl_proc.specs.declared.posting.PostStage.{PostStage}
 use Rattle.bl_proc.specs.declared.posting.PostStage.TheVariants as post
 use Rattle.bl_rearrange.specs.declared.sides.Side.{Side}
@@ -41,8 +39,7 @@ use Rattle.bl_proc.specs.declared.lowering.LowerStage.TheVariants as lower
 use Rattle.bl_proc.specs.declared.kinds.Proc.TheVariants as proc
 use Rattle.bl_proc.specs.Searches.{find_next_in}
 use Rattle.bl_proc.specs.Parts.{part_next_in}
-use Rattle.bl_proc.specs.Inserts.{insert_next_in}
-use Rattle.bl_proc.specs.Deletes.{delete_next_in}
+use Rattle.bl_proc.specs.Writes.{write_next_in}
 use Rattle.bl_proc.specs.Posts.{post_next_in}
 use Rattle.bl_proc_compress.specs.Compresses.{compress_next_in}
 use Rattle.bl_proc.specs.Reclaims.{reclaim_next_in}
@@ -121,21 +118,13 @@ part_tree (part.Descending d) = tt
 part_tree (part.Ending r) = tt
 part_tree (part.Over r) = tt
 
-insert_tree : (a : InsertStage) → IsOfTree (insert_next_in a)
-insert_tree insert.New = tt
-insert_tree (insert.Coming a) = approach_tree a
-insert_tree (insert.Present x v) = tt
-insert_tree (insert.Editing c) = edit_tree c
-insert_tree (insert.Ending r) = tt
-insert_tree (insert.Over r) = tt
-
-delete_tree : (a : DeleteStage) → IsOfTree (delete_next_in a)
-delete_tree delete.New = tt
-delete_tree (delete.Coming a) = approach_tree a
-delete_tree (delete.Absent x) = tt
-delete_tree (delete.Editing v c) = edit_tree c
-delete_tree (delete.Ending r) = tt
-delete_tree (delete.Over r) = tt
+write_tree : (a : WriteStage) → IsOfTree (write_next_in a)
+write_tree write.New = tt
+write_tree (write.Coming a) = approach_tree a
+write_tree (write.Keeping x there) = tt
+write_tree (write.Editing noted c) = edit_tree c
+write_tree (write.Ending r) = tt
+write_tree (write.Over r) = tt
 
 post_tree : (a : PostStage) → IsOfTree (post_next_in a)
 post_tree post.New = tt
@@ -181,8 +170,7 @@ reclaim_tree page (reclaim.Over what) h = h
 
 pub reclaims : (p : Proc) → (IsOfTree (next_of p) → ⊥) → (q : Reclaim) × (p ≡ proc.Reclaim q)
 reclaims (proc.Find p) h = absurd (h (find_tree p.stage))
-reclaims (proc.Insert p) h = absurd (h (insert_tree p.stage))
-reclaims (proc.Delete p) h = absurd (h (delete_tree p.stage))
+reclaims (proc.Write p) h = absurd (h (write_tree p.stage))
 reclaims (proc.Post p) h = absurd (h (post_tree p.stage))
 reclaims (proc.Part p) h = absurd (h (part_tree p.stage))
 reclaims (proc.Compress p) h = absurd (h (compress_tree p.stage))
@@ -192,8 +180,7 @@ reclaims (proc.Lower p) h = absurd (h (lower_tree p.stage))
 -- what a process is told of an action on the tree makes none of this kind of it
 pub takes_tree : (p : Proc) (what : Seen) (q : Reclaim) → IsOfTree (next_of p) → Takes p what (proc.Reclaim q) → ⊥
 takes_tree (proc.Find p) what q h t = t
-takes_tree (proc.Insert p) what q h t = t
-takes_tree (proc.Delete p) what q h t = t
+takes_tree (proc.Write p) what q h t = t
 takes_tree (proc.Post p) what q h t = t
 takes_tree (proc.Part p) what q h t = t
 takes_tree (proc.Compress p) what q h t = t

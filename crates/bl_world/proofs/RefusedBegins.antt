@@ -1,10 +1,8 @@
 -- A process that is to begin does not go on without room.
 use Rattle.std.proofs.Common.{ℕ, ◌≡◌}
 use Rattle.bl_proc_base.specs.declared.acts.Action.TheVariants as act
-use Rattle.bl_proc.specs.declared.inserting.InsertStage.{InsertStage}
-use Rattle.bl_proc.specs.declared.inserting.InsertStage.TheVariants as insert
-use Rattle.bl_proc.specs.declared.deleting.DeleteStage.{DeleteStage}
-use Rattle.bl_proc.specs.declared.deleting.DeleteStage.TheVariants as delete
+use Rattle.bl_proc.specs.declared.writing.WriteStage.{WriteStage}
+use Rattle.bl_proc.specs.declared.writing.WriteStage.TheVariants as write
 use Rattle.bl_proc.specs.declared.posting.PostStage.{PostStage}
 use Rattle.bl_proc.specs.declared.posting.PostStage.TheVariants as post
 use Rattle.bl_proc_compress.specs.declared.squeezing.CompressStage.{CompressStage}
@@ -14,31 +12,22 @@ use Rattle.bl_proc.specs.declared.lowering.LowerStage.{LowerStage}
 use Rattle.bl_proc.specs.declared.lowering.LowerStage.TheVariants as lower
 use Rattle.bl_proc.specs.declared.kinds.Proc.TheVariants as proc
 use Rattle.bl_proc.specs.Processes.{next_of, IsReclaim}
-use Rattle.bl_proc.specs.Inserts.{insert_next_in}
-use Rattle.bl_proc.specs.Deletes.{delete_next_in}
+use Rattle.bl_proc.specs.Writes.{write_next_in}
 use Rattle.bl_proc.specs.Posts.{post_next_in}
 use Rattle.bl_proc_compress.specs.Compresses.{compress_next_in}
 use Rattle.bl_proc.specs.Lowers.{lower_next_in}
-use Rattle.bl_proc_unique.specs.Refusals.{InsertRefused, DeleteRefused, PostRefused, CompressRefused, LowerRefused, IsRefused}
+use Rattle.bl_proc_unique.specs.Refusals.{WriteRefused, PostRefused, CompressRefused, LowerRefused, IsRefused}
 use Rattle.bl_world.proofs.Begins.{edit_begins, growth_begins, squeeze_begins, lowering_begins}
 
 -- A process that is to begin was not refused.
 
-insert_free : (a : InsertStage) → insert_next_in a ≡ act.Begin → InsertRefused a → ⊥
-insert_free insert.New e r = r
-insert_free (insert.Coming a) e r = r
-insert_free (insert.Present x v) e r = r
-insert_free (insert.Editing c) e r = edit_begins c e
-insert_free (insert.Ending x) e r = cc
-insert_free (insert.Over x) e r = cc
-
-delete_free : (a : DeleteStage) → delete_next_in a ≡ act.Begin → DeleteRefused a → ⊥
-delete_free delete.New e r = r
-delete_free (delete.Coming a) e r = r
-delete_free (delete.Absent x) e r = r
-delete_free (delete.Editing v c) e r = edit_begins c e
-delete_free (delete.Ending x) e r = cc
-delete_free (delete.Over x) e r = cc
+write_free : (a : WriteStage) → write_next_in a ≡ act.Begin → WriteRefused a → ⊥
+write_free write.New e r = r
+write_free (write.Coming a) e r = r
+write_free (write.Keeping x there) e r = r
+write_free (write.Editing noted c) e r = edit_begins c e
+write_free (write.Ending x) e r = cc
+write_free (write.Over x) e r = cc
 
 post_free : (a : PostStage) → post_next_in a ≡ act.Begin → PostRefused a → ⊥
 post_free post.New e r = r
@@ -66,8 +55,7 @@ lower_free (lower.Over q) e r = cc
 
 pub begins_free : (p : Proc) → next_of p ≡ act.Begin → IsRefused p → ⊥
 begins_free (proc.Find p) e r = r
-begins_free (proc.Insert p) e r = insert_free p.stage e r
-begins_free (proc.Delete p) e r = delete_free p.stage e r
+begins_free (proc.Write p) e r = write_free p.stage e r
 begins_free (proc.Post p) e r = post_free p.stage e r
 begins_free (proc.Part p) e r = r
 begins_free (proc.Compress p) e r = compress_free p.stage e r
@@ -78,8 +66,7 @@ begins_free (proc.Lower p) e r = lower_free p.stage e r
 pub reclaim_free : (x : ℕ) (p : Proc) → IsReclaim x p → IsRefused p → ⊥
 reclaim_free x (proc.Reclaim p) e r = r
 reclaim_free x (proc.Find p) e r = e
-reclaim_free x (proc.Insert p) e r = e
-reclaim_free x (proc.Delete p) e r = e
+reclaim_free x (proc.Write p) e r = e
 reclaim_free x (proc.Post p) e r = e
 reclaim_free x (proc.Part p) e r = e
 reclaim_free x (proc.Compress p) e r = e

@@ -10,10 +10,8 @@ use Rattle.bl_proc_base.specs.declared.growing.Growth.TheVariants as growth
 use Rattle.bl_proc_base.specs.Edits.{edit_next, edit_needs}
 use Rattle.bl_proc_base.specs.Growths.{growth_next, growth_needs}
 use Rattle.bl_proc_compress.specs.Compressions.{put_of, compression_next, compression_needs}
-use Rattle.bl_proc.specs.declared.inserting.InsertStage.{InsertStage}
-use Rattle.bl_proc.specs.declared.inserting.InsertStage.TheVariants as insert
-use Rattle.bl_proc.specs.declared.deleting.DeleteStage.{DeleteStage}
-use Rattle.bl_proc.specs.declared.deleting.DeleteStage.TheVariants as delete
+use Rattle.bl_proc.specs.declared.writing.WriteStage.{WriteStage}
+use Rattle.bl_proc.specs.declared.writing.WriteStage.TheVariants as write
 use Rattle.bl_proc.specs.declared.posting.PostStage.{PostStage}
 use Rattle.bl_proc.specs.declared.posting.PostStage.TheVariants as post
 use Rattle.bl_rearrange.specs.declared.sides.Side.{Side}
@@ -30,8 +28,7 @@ use Rattle.bl_proc.specs.declared.lowering.LowerStage.{LowerStage}
 use Rattle.bl_proc.specs.declared.lowering.LowerStage.TheVariants as lower
 use Rattle.bl_proc.specs.declared.kinds.Proc.TheVariants as proc
 use Rattle.bl_proc.specs.Processes.{next_of, needs_of}
-use Rattle.bl_proc.specs.Inserts.{insert_next_in, insert_needs_in}
-use Rattle.bl_proc.specs.Deletes.{delete_next_in, delete_needs_in}
+use Rattle.bl_proc.specs.Writes.{write_next_in, write_needs_in}
 use Rattle.bl_proc.specs.Posts.{post_next_in, post_needs_in}
 use Rattle.bl_proc_compress.specs.Compresses.{compress_next_in, compress_needs_in}
 use Rattle.bl_proc_base.specs.Lowerings.{lowering_next, lowering_needs}
@@ -73,13 +70,9 @@ squeeze_reserves : (c : Compression) → IsSome (compression_needs c) → Reserv
 squeeze_reserves (PuttingFirst u) h = put_reserves u.gains u
 squeeze_reserves old h = absurd (false≢true h)
 
-insert_reserves : (a : InsertStage) → IsSome (insert_needs_in a) → Reserves (insert_next_in a)
-insert_reserves (insert.Editing c) h = edit_reserves c h
-insert_reserves old h = absurd (false≢true h)
-
-delete_reserves : (a : DeleteStage) → IsSome (delete_needs_in a) → Reserves (delete_next_in a)
-delete_reserves (delete.Editing v c) h = edit_reserves c h
-delete_reserves old h = absurd (false≢true h)
+write_reserves : (a : WriteStage) → IsSome (write_needs_in a) → Reserves (write_next_in a)
+write_reserves (write.Editing noted c) h = edit_reserves c h
+write_reserves old h = absurd (false≢true h)
 
 post_reserves : (a : PostStage) → IsSome (post_needs_in a) → Reserves (post_next_in a)
 post_reserves (post.Growing g) h = growth_reserves g h
@@ -99,8 +92,7 @@ lower_reserves (lower.Sinking l) h = lowering_reserves l h
 lower_reserves old h = absurd (false≢true h)
 
 pub reserves : (p : Proc) → IsSome (needs_of p) → Reserves (next_of p)
-reserves (proc.Insert p) h = insert_reserves p.stage h
-reserves (proc.Delete p) h = delete_reserves p.stage h
+reserves (proc.Write p) h = write_reserves p.stage h
 reserves (proc.Post p) h = post_reserves p.stage h
 reserves (proc.Compress p) h = compress_reserves p.stage h
 reserves (proc.Lower p) h = lower_reserves p.stage h

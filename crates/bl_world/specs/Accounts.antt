@@ -5,6 +5,7 @@ use Rattle.bl_model.specs.History.{IsLegalFrom, final_map}
 use Rattle.bl_model.specs.declared.operation.Op.{Op}
 use Rattle.bl_model.specs.declared.operation.Op.TheVariants as op
 use Rattle.bl_model.specs.declared.operation.Reply.{Reply}
+use Rattle.bl_model.specs.Writes.{write_op}
 use Rattle.bl_page.specs.declared.page.Page.{Page}
 use Rattle.bl_page.specs.Machine.{Name, State}
 use Rattle.bl_page.specs.Machine.Act.{Begin, End, Get}
@@ -55,8 +56,7 @@ IsOrdered trail = (i j end begin : ℕ) (p q : Name) (said other : Said) (reply 
 -- the operation that a process is, if it is one on the map
 abbrev pub op_of : Proc → Option Op
 op_of (proc.Find p) = Some (op.Find p.key)
-op_of (proc.Insert p) = Some (op.Insert p.key p.value)
-op_of (proc.Delete p) = Some (op.Delete p.key)
+op_of (proc.Write p) = Some (write_op p.key p.write)
 op_of (proc.Post p) = None
 op_of (proc.Part p) = Some (op.Part p.from)
 op_of (proc.Compress p) = None
@@ -127,8 +127,8 @@ pub record Account (v : View) : Type 0 where
   pub releases : ReleasesSeen v.events
   -- a search, and a part, gets no more pages than its bound beside the puts of others, at every moment so far
   pub bounded : (n : ℕ) (p : Proc) → slice_get v.processes n ≡ Some p → IsSearch p → IsWithinBound (length v.pages) (name_of (n + 1)) trail
-  -- when they latch a page, an insertion, a deletion and a post hold none, a compression the parent and the left child at most,
-  -- and a lowering the anchor at most; a search and a part latch, take and put nothing
+  -- when they latch a page, a write of one key and a post hold none, a compression the parent and the left child at most, and a
+  -- lowering the anchor at most; a search and a part latch, take and put nothing
   pub latches : (n : ℕ) (p : Proc) → slice_get v.processes n ≡ Some p → IsTidy p (marks_of (name_of (n + 1)) trail)
   -- whichever the turns were: a process answers that there was no room only where one of them was a fit refusal of it
   pub refused : (way : Way v) (n : ℕ) (p : Proc) (a : Answer) → slice_get v.processes n ≡ Some p → answer_of p ≡ Some a → IsNoRoom a → WasRefused way.opened way.world_steps n

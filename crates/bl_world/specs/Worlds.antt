@@ -28,8 +28,7 @@ use Rattle.bl_world.specs.Accounts.{AllNumbered}
 -- the key that a process is about
 abbrev pub key_in : Proc → ℕ
 key_in (proc.Find p) = p.key
-key_in (proc.Insert p) = p.key
-key_in (proc.Delete p) = p.key
+key_in (proc.Write p) = p.key
 key_in (proc.Post p) = p.key
 key_in (proc.Part p) = p.from
 key_in (proc.Compress p) = p.key

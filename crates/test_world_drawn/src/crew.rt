@@ -25,7 +25,7 @@ pub(crate) fn change_of(running: &mut Running, act: Act, tree: &Tree) -> Result<
             Ok(Op::Delete(key))
         }
         Job::Change(key, old, new) => Ok(Op::Change(key, old, new)),
-        _ => Err("only insertions, deletions and changes of values change rows"),
+        _ => Err("only insertions, deletions and changes change rows"),
     }
 }
 

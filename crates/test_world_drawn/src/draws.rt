@@ -115,31 +115,11 @@ impl Draws {
         }
     }
 
-    /// A change of the value that a key has, or now and then of another one. Few of them put the value that is there.
-    fn change_of_value(&mut self, tree: &Tree, key: u64, started: usize) -> Job {
-        let there = tree.value_at(key).unwrap_or(0);
-        let old = if self.below(4) == 0 {
-            there.wrapping_add(1)
-        } else {
-            there
-        };
-        let new = if self.below(8) == 0 {
-            old
-        } else {
-            started as u64
-        };
-        Job::Change(key, old, new)
-    }
-
-    /// An insertion or a deletion, by the season, or a change of a value. Most deletions are from one quarter of the rows, and
-    /// many insertions into the one before or behind it.
+    /// An insertion or a deletion, by the season. Most deletions are from one quarter of the rows, and many insertions into
+    /// the one before or behind it.
     fn change(&mut self, tree: &Tree, size: &Size, started: usize) -> Job {
         let seasons = size.seasons(started);
         let quarter = (seasons / 2).wrapping_add(size.pages as usize);
-        if self.below(12) == 0 {
-            let key = self.key_of(tree, size.keys, quarter);
-            return self.change_of_value(tree, key, started);
-        }
         let insertions = if seasons & 1 == 0 { 15 } else { 4 };
         if self.below(16) >= insertions {
             return Job::Delete(self.key_of(tree, size.keys, quarter));
@@ -147,6 +127,22 @@ impl Draws {
         let behind = if size.crowd & 1 == 0 { 1 } else { 3 };
         let key = self.key_of(tree, size.keys, quarter.wrapping_add(behind));
         Job::Insert(key.saturating_add(self.below(3)), started as u64)
+    }
+
+    /// A change of a key. Mostly the key has a value, and mostly the change is from that one; now and then it is to the same.
+    fn change_of_value(&mut self, tree: &Tree, keys: u64, started: usize) -> Job {
+        let quarter = self.below(4) as usize;
+        let key = self.key_of(tree, keys, quarter);
+        let old = match tree.value_at(key) {
+            Some(value) if self.below(3) > 0 => value,
+            _ => self.below((started as u64).saturating_add(1)),
+        };
+        let new = if self.below(6) == 0 {
+            old
+        } else {
+            started as u64
+        };
+        Job::Change(key, old, new)
     }
 }
 
@@ -261,12 +257,13 @@ impl Lots {
 
     fn job_on_tree(&mut self, tree: &Tree, started: usize) -> Job {
         let key = self.draws.key(self.size.keys);
-        match self.draws.below(28) {
+        match self.draws.below(30) {
             0..=3 => Job::Find(key),
             4 | 5 => self.part(key),
             6 | 7 => self.post(tree),
             8..=11 => self.compression(tree),
             12 => Job::Lower,
+            13 | 14 => self.draws.change_of_value(tree, self.size.keys, started),
             _ => self.draws.change(tree, &self.size, started),
         }
     }

@@ -2,9 +2,9 @@
 
 use bl_model::Reply;
 use bl_proc::{Answer, Hint, Lowered, Posted, Reclaimed, Squeezed};
-use test_world_walks::{Squeeze, Way, is_to_post};
+use test_world_walks::{Job, Squeeze, Way, is_to_post};
 
-/// Answers of operations.
+/// Answers of operations, but for changes of a value.
 #[derive(Clone, Copy, Debug)]
 struct Operations {
     found: u32,
@@ -12,9 +12,18 @@ struct Operations {
     inserted: u32,
     present: u32,
     deleted: u32,
-    changed: u32,
-    differing: u32,
     parts: u32,
+    without_room: u32,
+}
+
+/// Answers of changes of a value.
+#[derive(Clone, Copy, Debug)]
+struct Changes {
+    changed: u32,
+    /// Those that have put the value that was there.
+    put_again: u32,
+    differs: u32,
+    absent: u32,
     without_room: u32,
 }
 
@@ -76,6 +85,7 @@ struct Shapes {
 #[derive(Clone, Copy, Debug)]
 pub(crate) struct Tally {
     operations: Operations,
+    changes: Changes,
     posts: Posts,
     compressions: Compressions,
     lowerings: Lowerings,
@@ -102,9 +112,14 @@ pub(crate) const NONE: Tally = Tally {
         inserted: 0,
         present: 0,
         deleted: 0,
-        changed: 0,
-        differing: 0,
         parts: 0,
+        without_room: 0,
+    },
+    changes: Changes {
+        changed: 0,
+        put_again: 0,
+        differs: 0,
+        absent: 0,
         without_room: 0,
     },
     posts: Posts {
@@ -154,10 +169,9 @@ impl Operations {
             Reply::Inserted => &mut self.inserted,
             Reply::Present(_) => &mut self.present,
             Reply::Deleted(_) => &mut self.deleted,
-            Reply::Changed => &mut self.changed,
-            Reply::Differs(_) => &mut self.differing,
             Reply::Rows(_, _) => &mut self.parts,
             Reply::NoRoom => &mut self.without_room,
+            Reply::Changed | Reply::Differs(_) => return,
         };
         one_more(count);
     }
@@ -168,10 +182,27 @@ impl Operations {
             .min(self.inserted)
             .min(self.present)
             .min(self.deleted)
-            .min(self.changed)
-            .min(self.differing)
             .min(self.parts)
             .min(self.without_room)
+    }
+}
+
+impl Changes {
+    /// It was to put that value in place of the other, or of the same.
+    fn answered(&mut self, is_same: bool, reply: &Reply) {
+        let count = match reply {
+            Reply::Changed if is_same => &mut self.put_again,
+            Reply::Changed => &mut self.changed,
+            Reply::Differs(_) => &mut self.differs,
+            Reply::Absent => &mut self.absent,
+            _ => &mut self.without_room,
+        };
+        one_more(count);
+    }
+
+    fn least(&self) -> u32 {
+        let puts = self.changed.min(self.put_again).min(self.without_room);
+        puts.min(self.differs).min(self.absent)
     }
 }
 
@@ -262,9 +293,13 @@ impl Shapes {
 }
 
 impl Tally {
-    pub(crate) fn answered(&mut self, answer: &Answer) {
+    /// A process that was to do this has answered.
+    pub(crate) fn answered(&mut self, job: Job, answer: &Answer) {
         match answer {
-            Answer::Op(reply, _) => self.operations.answered(reply),
+            Answer::Op(reply, _) => match job {
+                Job::Change(_, old, new) => self.changes.answered(old == new, reply),
+                _ => self.operations.answered(reply),
+            },
             Answer::Post(posted, _) => self.posts.answered(posted),
             Answer::Compress(squeezed, _) => self.compressions.answered(squeezed),
             Answer::Reclaim(reclaimed) => self.pages.answered(reclaimed),
@@ -313,7 +348,8 @@ impl Tally {
             .min(self.posts.stale);
         let shapes = self.leaves.split.min(self.leaves.thin);
         let others = self.compressions.least().min(self.pages.least());
-        self.operations.least().min(posts).min(shapes) > 9
+        let operations = self.operations.least().min(self.changes.least());
+        operations.min(posts).min(shapes) > 9
             && others.min(self.waits).min(self.posts.refused) > 3
             && self.lowerings.least() > 1
     }

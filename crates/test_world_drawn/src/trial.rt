@@ -556,7 +556,7 @@ fn answered(
     if running.missed {
         one_more(&mut tally.pages.missed);
     }
-    tally.answered(&answer);
+    tally.answered(running.job, &answer);
     let hint = hint_of(&answer);
     if let Some(hint) = &hint {
         tally.hinted(&answer, hint);

@@ -15,6 +15,7 @@ pub enum Job {
     Find(u64),
     Insert(u64, u64),
     Delete(u64),
+    /// A change of that key from the one value to the other.
     Change(u64, u64, u64),
     Post(u32, u64),
     Part(u64),
