@@ -45,7 +45,7 @@ use Rattle.bl_index_rule.specs.declared.known.PassState.{PassState}
 use Rattle.bl_index_write.specs.Events.{posting, IsToEnter, IsWalking, HasPosted, IsPostOver}
 use Rattle.bl_index_steps.specs.Runs.{IsSameProcess, OpensLast}
 use Rattle.bl_index_steps.proofs.Standing.{same_all}
-use Rattle.bl_index_write.proofs.Written.{spelled}
+use Rattle.bl_index_write.proofs.Spreading.{spelled}
 
 -- a change by which a pair enters, by whether there is room
 module _ (x key word : ℕ) (words : List ℕ) (c : Edit) (enter : IsToEnter x key word words c) where

@@ -1,5 +1,5 @@
 -- A write at its leaf.
-use Rattle.std.proofs.Common.{ℕ, Bool, true, false, ◌≡◌, ◌<◌, ◌≤◌, List, Option, Some, None, length, refl, sym, ap, ◌∙◌, subst, arith}
+use Rattle.std.proofs.Common.{ℕ, Bool, true, false, ◌≡◌, ◌<◌, ◌≤◌, ◌+◌, List, Option, Some, None, length, get_or, refl, sym, ap, ◌∙◌, subst, arith}
 use Rattle.std.specs.Prelude.{IsSome}
 use Rattle.bl_model.specs.Rows.{map_of}
 use Rattle.bl_model.specs.Writes.{MayHave, effect_of}
@@ -9,8 +9,9 @@ use Rattle.bl_model.specs.declared.deciding.Effect.TheVariants.{Keep, Enter, Rem
 use Rattle.bl_model.proofs.Decisions.{may_have}
 use Rattle.bl_page.specs.declared.page.Page.{Page}
 use Rattle.bl_page.specs.declared.page.Page.TheVariants as page
-use Rattle.bl_page.specs.Pairs.{RisesFrom}
-use Rattle.bl_page.specs.Words.{head, layout, entries_of, words_of}
+use Rattle.bl_page.specs.Pairs.{place}
+use Rattle.bl_page.specs.Faults.{count_in, pairs_of as pairs_in_words}
+use Rattle.bl_page.specs.Words.{words_of}
 use Rattle.bl_claims.specs.Pages.{node_of, IsTreePage}
 use Rattle.bl_rearrange.specs.Entered.{dropped, replaced}
 use Rattle.bl_rearrange.specs.Rearranged.{pairs_of, KeepsFrame}
@@ -19,9 +20,12 @@ use Rattle.bl_proc_base.specs.declared.acts.Seen.TheVariants as seen
 use Rattle.bl_proc_base.specs.declared.approaching.Approach.TheVariants as approach
 use Rattle.bl_proc_base.specs.declared.editing.Edit.{Edit}
 use Rattle.bl_proc_base.specs.declared.editing.Edit.TheVariants as edit
+use Rattle.bl_proc_base.specs.declared.editing.Full.{Full}
 use Rattle.bl_proc_base.specs.declared.editing.Outcome.{Outcome}
+use Rattle.bl_proc_base.specs.declared.editing.Outcome.TheVariants as outcome
 use Rattle.bl_proc_base.specs.Respelled.{words_by}
 use Rattle.bl_proc_base.specs.Thin.{thin_low}
+use Rattle.bl_proc_base.proofs.Spellings.{tree_lists, pairs_counted}
 use Rattle.bl_proc.specs.declared.writing.Noted.{Noted}
 use Rattle.bl_proc.specs.declared.writing.Write.{Write}
 use Rattle.bl_proc.specs.declared.writing.WriteReply.{WriteReply}
@@ -29,36 +33,31 @@ use Rattle.bl_proc.specs.declared.writing.WriteReply.TheVariants.{Done}
 use Rattle.bl_proc.specs.declared.writing.WriteStage.{WriteStage}
 use Rattle.bl_proc.specs.declared.writing.WriteStage.TheVariants as write
 use Rattle.bl_proc.specs.declared.kinds.Proc.{Proc}
-use Rattle.bl_proc.specs.Writes.{write_reply, thin_by, Performs, WriteGoes}
+use Rattle.bl_proc.specs.Writes.{write_reply, write_answer, thin_by, Performs, WriteGoes}
 use Rattle.bl_proc_unique.specs.Courses.{GoesOn}
-use Rattle.bl_proc_unique.proofs.Rows.{rows_one}
 use Rattle.bl_proc_unique.proofs.Pages.{without_some, value_some, rising}
 use Rattle.bl_proc_unique.proofs.Edits.{enter_one}
 use Rattle.bl_proc_unique.proofs.Leaves.{leaf_covers, leaf_lists, leaf_holds, leaf_loses, leaf_has}
 use Rattle.bl_proc_unique.proofs.Writings.{write_goes}
+use Rattle.bl_layout.specs.declared.layout.Layout.{Layout}
+use Rattle.atomic_table.specs.declared.shared.Seat.{Seat}
+use Rattle.bl_store.specs.declared.view.View.{View}
+use Rattle.bl_store.specs.Drafts.{IsSpread}
+use Rattle.bl_store.specs.Hands.{known, read_words, HasNoStock, IsSameHand, IsSameRefusal, WasRefused}
+use Rattle.bl_store.specs.declared.put.Spread.{Spread}
+use Rattle.bl_store.specs.declared.store.Hand.{Hand}
 use Rattle.bl_index_rule.specs.declared.known.PassState.{PassState}
 use Rattle.bl_index_rule.specs.Observed.{Goes}
-use Rattle.bl_index_steps.specs.Runs.{OpensLast}
-use Rattle.bl_index_steps.proofs.Standing.{put_gave, goes_to, course_at}
-use Rattle.bl_index_write.specs.Events.{writing, outcome_by, IsAtLeaf, IsToEnter}
+use Rattle.bl_index_steps.specs.Held.{KeepsLatch}
+use Rattle.bl_index_steps.specs.Runs.{IsOn, IsSince, Rests, OpensLast}
+use Rattle.bl_index_steps.proofs.Held.{goes_keeps, keeps_both, put_latches_not}
+use Rattle.bl_index_steps.proofs.Rooms.{lacks_frame, refused_on, write_refused}
+use Rattle.bl_index_steps.proofs.Standing.{put_gave, goes_to, same_goes, course_at, on_held}
+use Rattle.bl_index_write.specs.Events.{writing, outcome_by, HasWritten, IsAtLeaf, IsThere, IsToEnter, EndsWrite}
+use Rattle.bl_index_write.proofs.Parents.{enters_putting, enters_taking}
+use Rattle.bl_index_write.proofs.Spreading.{spelled, spread_entered}
 
--- a page of the same kind, bounds and link is spelled by its pairs
-spelled_by : (c p : Page) (pairs : List (ℕ × ℕ)) → KeepsFrame c p → pairs_of p ≡ pairs → words_of p ≡ words_by c pairs
-spelled_by (page.Leaf c) (page.Leaf p) pairs f e = λ i. layout (head 2 0 (length (e i))) (f.0 i) (f.1 i) (f.2 i) (entries_of (e i))
-spelled_by (page.Inner c) (page.Inner p) pairs f e = λ i. layout (head 3 (f.0 i) (length (e i))) (f.1 i) (f.2 i) (f.3 i) (entries_of (e i))
-spelled_by (page.Leaf c) (page.Anchor p) pairs f e = absurd f
-spelled_by (page.Leaf c) (page.Inner p) pairs f e = absurd f
-spelled_by (page.Leaf c) (page.Dead p) pairs f e = absurd f
-spelled_by (page.Inner c) (page.Anchor p) pairs f e = absurd f
-spelled_by (page.Inner c) (page.Leaf p) pairs f e = absurd f
-spelled_by (page.Inner c) (page.Dead p) pairs f e = absurd f
-spelled_by (page.Anchor c) p pairs f e = absurd f
-spelled_by (page.Dead c) p pairs f e = absurd f
-
-pub spelled : (c p : Page) (pairs : List (ℕ × ℕ)) → KeepsFrame c p → RisesFrom 0 pairs → ((j : ℕ) → map_of (pairs_of p) j ≡ map_of pairs j) → words_of p ≡ words_by c pairs
-spelled c p pairs frame rises same = spelled_by c p pairs frame (rows_one 0 (pairs_of p) pairs (rising p) rises same)
-
--- and it stays a leaf or an inner page
+-- a page that keeps its frame stays a leaf or an inner page
 frame_tree : (c p : Page) → KeepsFrame c p → IsTreePage p
 frame_tree (page.Leaf c) (page.Leaf p) f = tt
 frame_tree (page.Inner c) (page.Inner p) f = tt
@@ -161,3 +160,58 @@ module _ (key : ℕ) (does : KeyWrite) (at : ℕ) where
     pub stands_opening : (p : Page) (b : Bool) (d e : PassState) → d.state ≡ writing key does (write.Editing noted (edit.Putting at p)) → Goes (put_gave b) d e → e.state ≡ writing key does (write.Editing noted (edit.Opening at (outcome_by b)))
     stands_opening p true d e is goes = goes_to seen.Done d e _ _ goes is (refl, refl, (refl, refl))
     stands_opening p false d e is goes = goes_to seen.Refused d e _ _ goes is (refl, refl, (refl, refl))
+
+-- The words of its leaf have been looked at, so that it knows what that lists.
+pub at_leaf : (key : ℕ) (does : KeyWrite) (at : ℕ) (h one two last : Hand PassState) (there : Option ℕ) → one ≡ h → two ≡ one → last ≡ two → IsThere 0 key (writing key does (write.Coming (approach.Latched at))) (read_words h.seat) (known h.seat) → there ≡ map_of (pairs_in_words (read_words two.seat)) key → IsAtLeaf key does at there (read_words last.seat) (known last.seat)
+at_leaf key does at h one two last there e f g here listed =
+    let row = listed ∙ (ap (λ (z : Hand PassState). map_of (pairs_in_words (read_words z.seat)) key) (f ∙ e) ∙ ap (λ (look : ℕ → Option ℕ). look key) (tree_lists here.page (read_words h.seat) here.leads.0 here.is)) in
+    subst (λ (z : Hand PassState). IsAtLeaf key does at there (read_words z.seat) (known z.seat)) (sym (g ∙ (f ∙ e))) (record { here = here; lists = sym row })
+
+-- a pair enters only where the key is not listed
+pub entering_none : (key : ℕ) (does : KeyWrite) (at : ℕ) (there : Option ℕ) (words : List ℕ) (d : PassState) (value : ℕ) → effect_of does there ≡ Enter value → IsAtLeaf key does at there words d → IsAtLeaf key does at None words d
+entering_none key does at there words d value e h = subst (λ z. IsAtLeaf key does at z words d) (subst (λ z. MayHave z there) e (may_have does there)) h
+
+-- where a pair is to enter it
+module _ (key : ℕ) (does : KeyWrite) (at : ℕ) (words : List ℕ) (d : PassState) (h : IsAtLeaf key does at None words d) where
+  -- with room, by its words spread so
+  pub enters_spread : (s : Spread) → effect_of does None ≡ Enter s.word → count_in words < 14 → s.first ≡ get_or words 0 0 + 1 → s.place ≡ place key (pairs_in_words words) → s.key ≡ key → (p : Page) × IsSpread s words (words_of p) × (d.state ≡ writing key does (write.Editing (unthinned None) (edit.Putting at p)))
+  enters_spread s e room first there same =
+      let stands = stands_entering key does at None words d h s.word e in
+      let enter = stands.1 in
+      let few : length (pairs_of enter.page) < 14 = omega (arith, pairs_counted enter.page words enter.tree enter.is, room) in
+      let put = enters_putting at key s.word words stands.0 enter few in
+      let spread = spread_entered enter.page put.0 key s.word (get_or words 0 0) s.place enter.tree few put.1 (ap (λ (w : List ℕ). get_or w 0 0) enter.is) (there ∙ ap (λ (w : List ℕ). place key (pairs_in_words w)) enter.is) in (
+        put.0,
+        subst (λ (z : Spread × List ℕ). IsSpread z.0 z.1 (words_of put.0)) (λ i. (record { first = sym first i; place = s.place; key = sym same i; word = s.word }, sym enter.is i)) spread,
+        stands.2 ∙ ap (λ (z : Edit). writing key does (write.Editing (unthinned None) z)) put.2,
+      )
+
+  -- with none, by a split
+  pub enters_full : (value : ℕ) → effect_of does None ≡ Enter value → 14 ≤ count_in words → (f : Full) × (f.at ≡ at) × (f.key ≡ key) × (f.word ≡ value) × (words ≡ words_of f.page) × (d.state ≡ writing key does (write.Editing (unthinned None) (edit.Taking f)))
+  enters_full value e full =
+      let stands = stands_entering key does at None words d h value e in
+      let enter = stands.1 in
+      let many : 14 ≤ length (pairs_of enter.page) = omega (arith, pairs_counted enter.page words enter.tree enter.is, full) in
+      let take = enters_taking at key value words stands.0 enter many in
+      (take.0, take.1, take.2, take.3, take.4, stands.2 ∙ ap (λ (z : Edit). writing key does (write.Editing (unthinned None) z)) take.5)
+
+refused_by : (b : Bool) → outcome_by b ≡ outcome.Refused → b ≡ false
+refused_by true e = absurd (let f : outcome.Edited ≡ outcome.Refused = e in cc)
+refused_by false e = refl
+
+abbrev H : Type 0
+H = Seat (Unit {0}) (View PassState)
+
+-- its leaf was to be put, and it has ended with its reply
+pub ends_put : (l : Layout) (key : ℕ) (does : KeyWrite) (at : ℕ) (noted : Noted) (p : Page) (b : Bool) (h m h' : H) (r : WriteReply) → IsOn l (known h) (writing key does (write.Editing noted (edit.Putting at p))) → IsSameHand h m → Goes (put_gave b) (known h) (known m) → (b ≡ false → WasRefused m 0 1)
+    → IsSameHand m h' → Rests h' → HasNoStock h' → ((pass : ℕ) (old : PassState) → IsSince pass old (known m) → HasWritten pass old (known h') key does (write_answer does r)) → IsSameRefusal m h' → KeepsLatch (known m) (known h') → r ≡ write_reply noted (outcome_by b) → EndsWrite h h' key does r
+ends_put l key does at noted p b h m h' r on same goes asked same' rests empty wrote refusal keeps e = record {
+  same = (same'.0 ∙ same.0, same'.1 ∙ same.1, same'.2 ∙ same.2);
+  rests = rests;
+  empty = empty;
+  wrote = λ pass old since. wrote pass old (same_goes (put_gave b) (known h) (known m) goes pass old since);
+  no_room = λ none.
+      let was = asked (refused_by b (write_refused noted (outcome_by b) (sym e ∙ none))) in
+      let latch = keeps_both (known h) (known m) (known h') (goes_keeps (put_gave b) (known h) (known m) goes (put_latches_not (known h) _ at p on.state refl)) keeps in
+      lacks_frame key does at p (known h) h' (on_held l (known h) _ on) latch (refused_on m h' 0 1 refusal was);
+}
