@@ -13,10 +13,9 @@ use Rattle.bl_proc_compress.specs.declared.squeezing.CompressStage.{CompressStag
 use Rattle.bl_proc_compress.specs.declared.squeezing.CompressStage.TheVariants as compress
 use Rattle.bl_proc.specs.declared.searching.FindStage.{FindStage}
 use Rattle.bl_proc.specs.declared.searching.FindStage.TheVariants as find
-use Rattle.bl_proc.specs.declared.inserting.InsertStage.{InsertStage}
-use Rattle.bl_proc.specs.declared.inserting.InsertStage.TheVariants as insert
-use Rattle.bl_proc.specs.declared.deleting.DeleteStage.{DeleteStage}
-use Rattle.bl_proc.specs.declared.deleting.DeleteStage.TheVariants as delete
+use Rattle.bl_model.specs.declared.deciding.KeyWrite.{KeyWrite}
+use Rattle.bl_proc.specs.declared.writing.WriteStage.{WriteStage}
+use Rattle.bl_proc.specs.declared.writing.WriteStage.TheVariants as write
 use Rattle.bl_proc.specs.declared.parts.PartStage.{PartStage}
 use Rattle.bl_proc.specs.declared.parts.PartStage.TheVariants as part
 use Rattle.bl_proc.specs.declared.posting.PostStage.{PostStage}
@@ -32,7 +31,7 @@ use Rattle.bl_proc.specs.declared.kinds.Proc.{Proc}
 use Rattle.bl_proc.specs.declared.kinds.Proc.TheVariants as proc
 use Rattle.bl_proc_invariant.specs.Tables.{Aim, know_approach, know_edit}
 use Rattle.bl_proc_invariant.specs.Compressing.{know_squeeze}
-use Rattle.bl_proc_invariant.specs.Knowing.{Run, know, know_of, know_find, know_part, know_insert, know_delete, know_growth, know_post, know_compress, know_reclaim, know_lower}
+use Rattle.bl_proc_invariant.specs.Knowing.{Run, know, know_of, know_find, know_part, know_write, know_growth, know_post, know_compress, know_reclaim, know_lower}
 use Rattle.bl_proc_compress.specs.declared.compressing.Compression.{Compression}
 use Rattle.bl_proc_compress.specs.declared.compressing.Compression.TheVariants as compression
 
@@ -93,21 +92,13 @@ part_holds key (part.Descending d) = inr refl
 part_holds key (part.Ending r) = inr refl
 part_holds key (part.Over r) = inr refl
 
-insert_holds : (key value : ℕ) (got : ℕ → Page) (a : InsertStage) → MayHold (know_insert key value got a)
-insert_holds key value got insert.New = inr refl
-insert_holds key value got (insert.Coming a) = inl (approach_holds 0 key a)
-insert_holds key value got (insert.Present x there) = inl refl
-insert_holds key value got (insert.Editing c) = inl (edit_holds _ got c)
-insert_holds key value got (insert.Ending r) = inr refl
-insert_holds key value got (insert.Over r) = inr refl
-
-delete_holds : (key : ℕ) (got : ℕ → Page) (a : DeleteStage) → MayHold (know_delete key got a)
-delete_holds key got delete.New = inr refl
-delete_holds key got (delete.Coming a) = inl (approach_holds 0 key a)
-delete_holds key got (delete.Absent x) = inl refl
-delete_holds key got (delete.Editing removed c) = inl (edit_holds _ got c)
-delete_holds key got (delete.Ending r) = inr refl
-delete_holds key got (delete.Over r) = inr refl
+write_holds : (key : ℕ) (does : KeyWrite) (got : ℕ → Page) (a : WriteStage) → MayHold (know_write key does got a)
+write_holds key does got write.New = inr refl
+write_holds key does got (write.Coming a) = inl (approach_holds 0 key a)
+write_holds key does got (write.Keeping x there) = inl refl
+write_holds key does got (write.Editing noted c) = inl (edit_holds _ got c)
+write_holds key does got (write.Ending r) = inr refl
+write_holds key does got (write.Over r) = inr refl
 
 post_holds : (level key : ℕ) (got : ℕ → Page) (child : ℕ) (a : PostStage) → MayHold (know_post level key got child a)
 post_holds level key got child post.New = inr refl
@@ -153,8 +144,7 @@ lower_holds got (lower.Over r) = inr refl
 
 proc_holds : (got : ℕ → Page) (child time : ℕ) (p : Proc) → MayHold (know_of got child time p)
 proc_holds got child time (proc.Find p) = find_holds p.key p.stage
-proc_holds got child time (proc.Insert p) = insert_holds p.key p.value got p.stage
-proc_holds got child time (proc.Delete p) = delete_holds p.key got p.stage
+proc_holds got child time (proc.Write p) = write_holds p.key p.write got p.stage
 proc_holds got child time (proc.Post p) = post_holds p.level p.key got child p.stage
 proc_holds got child time (proc.Part p) = part_holds p.from p.stage
 proc_holds got child time (proc.Compress p) = compress_holds p.level p.key got p.stage

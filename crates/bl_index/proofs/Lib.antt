@@ -4,6 +4,7 @@ pub mod Firsts
 pub mod Taken
 pub mod Alone
 pub mod Released
+pub mod Changes
 pub mod Posts
 pub mod Pressed
 pub mod Lowerings

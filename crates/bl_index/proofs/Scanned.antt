@@ -12,7 +12,7 @@ use Rattle.bl_model.specs.declared.operation.Entry.{Entry}
 use Rattle.bl_model.specs.declared.operation.Next.TheVariants.{More, End}
 use Rattle.bl_model.specs.declared.operation.Op.TheVariants.{Part}
 use Rattle.bl_model.specs.declared.operation.Reply.{Reply}
-use Rattle.bl_model.specs.declared.operation.Reply.TheVariants.{Found, Absent, Inserted, Present, Deleted, Rows, NoRoom}
+use Rattle.bl_model.specs.declared.operation.Reply.TheVariants.{Rows}
 use Rattle.bl_page.specs.declared.page.Page.{Page}
 use Rattle.bl_claims.specs.Seeing.{first_map}
 use Rattle.bl_index_read.specs.LeafRows.{IsBelow, is_below}
@@ -42,22 +42,12 @@ part_is m from (Rows rows End) may = record {
   further = tt;
   pairs = λ key value. let both = may.pairs key value in (λ c. let there = both.0 c in (there.0, there.1, tt), λ (is, low, high). both.1 (is, low));
 }
-part_is m from (Found v) may = absurd may
-part_is m from Absent may = absurd may
-part_is m from Inserted may = absurd may
-part_is m from (Present v) may = absurd may
-part_is m from (Deleted v) may = absurd may
-part_is m from NoRoom may = absurd may
+part_is m from reply may = absurd may
 
 -- nothing but rows answers a part
 pub only_rows : (m : Map) (from : ℕ) (reply : Reply) → MayAnswer m (Part from) reply → ((rows : _) (next : _) → reply ≢ Rows rows next) → ⊥
 only_rows m from (Rows rows next) may none = none rows next refl
-only_rows m from (Found v) may none = may
-only_rows m from Absent may none = may
-only_rows m from Inserted may none = may
-only_rows m from (Present v) may none = may
-only_rows m from (Deleted v) may none = may
-only_rows m from NoRoom may none = may
+only_rows m from reply may none = may
 
 -- ---- where an entry stands
 

@@ -2,8 +2,9 @@
 use Rattle.std.specs.Prelude.{◌≡◌, ◌≢◌, ℕ, ◌++◌, Option, Some, None, List, length, ◌≤◌}
 use Rattle.bl_model.specs.Map.{Map, IsMapStep}
 use Rattle.bl_model.specs.History.{final_map}
+use Rattle.bl_model.specs.declared.deciding.KeyWrite.{KeyWrite}
+use Rattle.bl_model.specs.declared.deciding.KeyWrite.TheVariants.{Insert, Delete, Change}
 use Rattle.bl_model.specs.declared.operation.Op.{Op}
-use Rattle.bl_model.specs.declared.operation.Op.TheVariants as op
 use Rattle.bl_model.specs.declared.operation.Reply.{Reply}
 use Rattle.bl_model.specs.declared.operation.Reply.TheVariants as reply
 use Rattle.bl_page.specs.declared.page.Page.{Page}
@@ -16,7 +17,7 @@ use Rattle.bl_proc_base.specs.declared.answers.Posted.{Posted}
 use Rattle.bl_proc_base.specs.declared.answers.Squeezed.{Squeezed}
 use Rattle.bl_proc_base.specs.declared.lowering.Lowered.{Lowered}
 use Rattle.bl_proc_meanings.specs.Answers.{MeansPosted, MeansHint}
-use Rattle.bl_proc_meanings.specs.Hinted.{MeansInserted, MeansDeleted}
+use Rattle.bl_proc_meanings.specs.Hinted.{MeansWritten}
 use Rattle.bl_proc_meanings.specs.Squeezed.{MeansSqueezed}
 use Rattle.bl_proc_meanings.specs.Lowered.{MeansLowered}
 use Rattle.bl_store.specs.Hands.{known, WasRefused}
@@ -65,6 +66,12 @@ MetNoRoom pass pages frames = WasRefused pass.hand.seat pages frames
 abbrev pub InsertLacks : Pass → ℕ → Pass → Type 0
 InsertLacks old key new = InCall (number_of old) (Some reply.NoRoom) (trail old) (trail new) (λ marks. LacksForPage 0 key marks (MetNoRoom new))
 
+-- So did any write of it.
+abbrev pub WriteLacks : Pass → ℕ → KeyWrite → Pass → Type 0
+WriteLacks old key (Insert value) new = InsertLacks old key new
+WriteLacks old key Delete new = MetNoRoom new 0 1
+WriteLacks old key (Change was next) new = MetNoRoom new 0 1
+
 -- A post of that key to that level found none for its parent, or for a new top level.
 abbrev pub PostLacks : Pass → ℕ → ℕ → Pass → Type 0
 PostLacks old level key new = InCall (number_of old) None (trail old) (trail new) (λ marks. LacksForPost level key marks (MetNoRoom new))
@@ -90,17 +97,11 @@ pub record Sweeps (first : List (Option Page)) (pass answer : ℕ) (old new : Tr
   pub seen : IsSeen first old → IsSeen first new
   pub none : own pass new ≡ own pass old
 
--- An insertion is answered, and the hint beside its reply means what its process has put. It held no page when it latched
--- one.
-pub record Inserts (first : List (Option Page)) (pass key value : ℕ) (reply : Reply) (next : Option Hint) (old new : Trail) : Type 0 where
-  pub answers : Answers first pass (op.Insert key value) reply old new
-  pub hint : MeansInserted reply next (marks_of (name pass answers.number) new)
-  pub latches : LatchesAlone (marks_of (name pass answers.number) new)
-
--- The same of a deletion.
-pub record Deletes (first : List (Option Page)) (pass key : ℕ) (reply : Reply) (next : Option Hint) (old new : Trail) : Type 0 where
-  pub answers : Answers first pass (op.Delete key) reply old new
-  pub hint : MeansDeleted reply next (marks_of (name pass answers.number) new)
+-- An insertion, a deletion or a change is answered, and its process has written what its reply means with the hint beside it. It
+-- held no page when it latched one.
+pub record Writes (first : List (Option Page)) (pass : ℕ) (op : Op) (reply : Reply) (next : Option Hint) (old new : Trail) : Type 0 where
+  pub answers : Answers first pass op reply old new
+  pub hint : MeansWritten reply next (marks_of (name pass answers.number) new)
   pub latches : LatchesAlone (marks_of (name pass answers.number) new)
 
 -- A post is answered: it says nothing of the map, and what its process has done is what its answer and its hint mean. It held no

@@ -1,18 +1,39 @@
-//! Insertions and deletions.
+//! Insertions, deletions and changes.
 
-ghost use Rattle.std.specs.Prelude.{◌≡◌};
+ghost use Rattle.std.specs.Prelude.{◌≡◌, ℕ, None};
+ghost use Rattle.bl_model.specs.declared.deciding.KeyWrite.TheVariants as key_write;
 ghost use Rattle.bl_model.specs.declared.operation.Op.TheVariants as op;
 ghost use Rattle.bl_model.specs.declared.operation.KeyReply.TheVariants as replies;
 ghost use Rattle.bl_model.specs.Replies.{reply_of};
+ghost use Rattle.bl_model.specs.Writes.{write_op};
 
 use crate::index::{Index, Pass};
-use bl_index_write::{delete_key, insert_pair};
-use bl_model::KeyReply;
+use bl_index_write::write_key;
+use bl_model::{KeyReply, KeyWrite};
 use bl_proc::Hint;
 use std::sync::Wait;
 
 impl Index {
-    ghost use Rattle.bl_index.specs.Calls.{first_of, IsPassOf, IsSamePass, number_of, trail, Inserts, Deletes, InsertLacks, MetNoRoom, StepsAlone};
+    ghost use Rattle.bl_index.specs.Calls.{first_of, IsPassOf, IsSamePass, number_of, trail, Writes, InsertLacks, WriteLacks, MetNoRoom, StepsAlone};
+
+    // Carries a write of the key out.
+    #[inline(always)]
+    fn write<R: Wait>(
+        &self,
+        rt: &R,
+        pass: &mut Pass,
+        key: u64,
+        write: KeyWrite,
+    ) -> (KeyReply, Option<Hint>)
+        requires { IsPassOf self.now pass.old }
+        ensures same { IsSamePass pass.old pass.new }
+        ensures writes { Writes (first_of self.now) (number_of pass.old) (write_op key write) (reply_of result.0) result.1 (trail pass.old) (trail pass.new) }
+        ensures unhinted { (old : ℕ) (new : ℕ) → write ≡ key_write.Change old new → result.1 ≡ None }
+        ensures no_room { result.0 ≡ replies.NoRoom → WriteLacks pass.old key write pass.new }
+        ensures alone { StepsAlone (first_of self.now) self.now (write_op key write) (reply_of result.0) (trail pass.old) (trail pass.new) }
+    {
+        write_key(&self.tree, rt, &mut pass.hand, key, write)
+    }
 
     /// Puts the value at the key, where the key has none. Where the leaf was split, there is a hint to post its upper part.
     pub fn insert<R: Wait>(
@@ -24,21 +45,41 @@ impl Index {
     ) -> (KeyReply, Option<Hint>)
         requires { IsPassOf self.now pass.old }
         ensures same { IsSamePass pass.old pass.new }
-        ensures inserts { Inserts (first_of self.now) (number_of pass.old) key value (reply_of result.0) result.1 (trail pass.old) (trail pass.new) }
+        ensures inserts { Writes (first_of self.now) (number_of pass.old) (op.Insert key value) (reply_of result.0) result.1 (trail pass.old) (trail pass.new) }
         ensures no_room { result.0 ≡ replies.NoRoom → InsertLacks pass.old key pass.new }
         ensures alone { StepsAlone (first_of self.now) self.now (op.Insert key value) (reply_of result.0) (trail pass.old) (trail pass.new) }
     {
-        insert_pair(&self.tree, rt, &mut pass.hand, key, value)
+        self.write(rt, pass, key, KeyWrite::Insert(value))
     }
 
     /// Takes the key and its value away. Where the leaf is thin then, there is a hint to merge it or even it out.
     pub fn delete<R: Wait>(&self, rt: &R, pass: &mut Pass, key: u64) -> (KeyReply, Option<Hint>)
         requires { IsPassOf self.now pass.old }
         ensures same { IsSamePass pass.old pass.new }
-        ensures deletes { Deletes (first_of self.now) (number_of pass.old) key (reply_of result.0) result.1 (trail pass.old) (trail pass.new) }
+        ensures deletes { Writes (first_of self.now) (number_of pass.old) (op.Delete key) (reply_of result.0) result.1 (trail pass.old) (trail pass.new) }
         ensures no_room { result.0 ≡ replies.NoRoom → MetNoRoom pass.new 0 1 }
         ensures alone { StepsAlone (first_of self.now) self.now (op.Delete key) (reply_of result.0) (trail pass.old) (trail pass.new) }
     {
-        delete_key(&self.tree, rt, &mut pass.hand, key)
+        self.write(rt, pass, key, KeyWrite::Delete)
+    }
+
+    /// Puts the new value at the key in place of the old one, where the key has that, in one step: no other call sees the key
+    /// without a value meanwhile. It answers `Changed`; `Differs` with the value that the key has, where that is another one;
+    /// `Absent`; or `NoRoom`. A change takes one frame, also where the new value is the old one; the other answers take none.
+    pub fn change<R: Wait>(
+        &self,
+        rt: &R,
+        pass: &mut Pass,
+        key: u64,
+        old: u64,
+        new: u64,
+    ) -> KeyReply
+        requires { IsPassOf self.now pass.old }
+        ensures same { IsSamePass pass.old pass.new }
+        ensures changes { Writes (first_of self.now) (number_of pass.old) (op.Change key old new) (reply_of result) None (trail pass.old) (trail pass.new) }
+        ensures no_room { result ≡ replies.NoRoom → MetNoRoom pass.new 0 1 }
+        ensures alone { StepsAlone (first_of self.now) self.now (op.Change key old new) (reply_of result) (trail pass.old) (trail pass.new) }
+    {
+        self.write(rt, pass, key, KeyWrite::Change(old, new)).0
     }
 }

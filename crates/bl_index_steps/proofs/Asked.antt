@@ -9,20 +9,22 @@ use Rattle.bl_proc_base.specs.declared.growing.Growth.{Growth}
 use Rattle.bl_proc_base.specs.declared.growing.Growth.TheVariants as growth
 use Rattle.bl_proc_base.specs.Edits.{edit_next, edit_needs}
 use Rattle.bl_proc_base.specs.Growths.{growth_next, growth_needs}
-use Rattle.bl_proc.specs.declared.inserting.InsertStage.{InsertStage}
-use Rattle.bl_proc.specs.declared.inserting.InsertStage.TheVariants as insert
+use Rattle.bl_model.specs.declared.deciding.KeyWrite.{KeyWrite}
+use Rattle.bl_model.specs.declared.deciding.KeyWrite.TheVariants.{Insert, Delete, Change}
+use Rattle.bl_proc.specs.declared.writing.WriteStage.{WriteStage}
+use Rattle.bl_proc.specs.declared.writing.WriteStage.TheVariants as write
 use Rattle.bl_proc.specs.declared.posting.Post.{Post as PostIs}
 use Rattle.bl_proc.specs.declared.posting.PostStage.{PostStage}
 use Rattle.bl_proc.specs.declared.posting.PostStage.TheVariants as post
 use Rattle.bl_proc.specs.declared.kinds.Proc.{Proc}
-use Rattle.bl_proc.specs.declared.kinds.Proc.TheVariants.{Find, Insert, Delete, Post, Part, Compress, Reclaim, Lower}
-use Rattle.bl_proc.specs.Inserts.{insert_next_in, insert_needs_in}
+use Rattle.bl_proc.specs.declared.kinds.Proc.TheVariants.{Find, Write, Post, Part, Compress, Reclaim, Lower}
+use Rattle.bl_proc.specs.Writes.{write_next_in, write_needs_in}
 use Rattle.bl_proc.specs.Posts.{post_next_in, post_needs_in}
 use Rattle.bl_proc.specs.Processes.{next_of, needs_of, Takes}
 use Rattle.bl_index_rule.specs.declared.known.PassState.{PassState}
 use Rattle.bl_index_rule.specs.Observed.{Goes}
 use Rattle.bl_index_steps.specs.Refused.{HasRoom, IsFull, GotAnchor}
-use Rattle.bl_index_steps.specs.Held.{own_marks, KeepsLatch, edit_held, growth_held, insert_held, post_held, proc_held, AsksForPage, AsksFor}
+use Rattle.bl_index_steps.specs.Held.{own_marks, KeepsLatch, edit_held, growth_held, leaf_held, write_held, post_held, proc_held, AsksForPage, AsksForLeaf, AsksFor}
 use Rattle.bl_index_steps.proofs.Held.{goes_keeps, keeps_held, keeps_anchor}
 
 same_ask : {a b : ℕ × ℕ} → Some a ≡ Some b → b ≡ a
@@ -50,13 +52,18 @@ growth_asks level (growth.OpeningTop x) ask marks e held = no_ask e
 growth_asks level growth.OpeningGrown ask marks e held = no_ask e
 growth_asks level growth.OpeningRefused ask marks e held = no_ask e
 
-insert_asks : (key : ℕ) (a : InsertStage) (ask : ℕ × ℕ) (marks : Trail) → insert_needs_in a ≡ Some ask → insert_held key a marks → AsksForPage 0 key ask marks
-insert_asks key insert.New ask marks e held = no_ask e
-insert_asks key (insert.Coming a) ask marks e held = no_ask e
-insert_asks key (insert.Present x there) ask marks e held = no_ask e
-insert_asks key (insert.Editing c) ask marks e held = edit_asks 0 key c ask marks e held
-insert_asks key (insert.Ending r) ask marks e held = no_ask e
-insert_asks key (insert.Over r) ask marks e held = no_ask e
+leaf_asks : (key : ℕ) (does : KeyWrite) (c : Edit) (ask : ℕ × ℕ) (marks : Trail) → edit_needs c ≡ Some ask → leaf_held key does c marks → AsksForLeaf key does ask marks
+leaf_asks key (Insert value) c ask marks e held = edit_asks 0 key c ask marks e held
+leaf_asks key Delete c ask marks e held = tt
+leaf_asks key (Change old new) c ask marks e held = tt
+
+write_asks : (key : ℕ) (does : KeyWrite) (a : WriteStage) (ask : ℕ × ℕ) (marks : Trail) → write_needs_in a ≡ Some ask → write_held key does a marks → AsksForLeaf key does ask marks
+write_asks key does (write.Editing noted c) ask marks e held = leaf_asks key does c ask marks e held
+write_asks key does write.New ask marks e held = no_ask e
+write_asks key does (write.Coming a) ask marks e held = no_ask e
+write_asks key does (write.Keeping x there) ask marks e held = no_ask e
+write_asks key does (write.Ending r) ask marks e held = no_ask e
+write_asks key does (write.Over r) ask marks e held = no_ask e
 
 post_asks : (p : PostIs) (ask : ℕ × ℕ) (marks : Trail) → needs_of (Post p) ≡ Some ask → proc_held (Post p) marks → AsksFor (Post p) ask marks
 post_asks p ask marks e held = by p.stage e held
@@ -90,13 +97,13 @@ growth_away (growth.OpeningTop y) ask needs x e = cc
 growth_away growth.OpeningGrown ask needs x e = cc
 growth_away growth.OpeningRefused ask needs x e = cc
 
-insert_away : (a : InsertStage) (ask : ℕ × ℕ) → insert_needs_in a ≡ Some ask → (x : ℕ) → insert_next_in a ≢ act.Latch x
-insert_away insert.New ask needs x e = cc
-insert_away (insert.Coming a) ask needs x e = no_ask needs
-insert_away (insert.Present y there) ask needs x e = cc
-insert_away (insert.Editing c) ask needs x e = edit_away c x e
-insert_away (insert.Ending r) ask needs x e = cc
-insert_away (insert.Over r) ask needs x e = cc
+write_away : (a : WriteStage) (ask : ℕ × ℕ) → write_needs_in a ≡ Some ask → (x : ℕ) → write_next_in a ≢ act.Latch x
+write_away write.New ask needs x e = cc
+write_away (write.Coming a) ask needs x e = no_ask needs
+write_away (write.Keeping y there) ask needs x e = cc
+write_away (write.Editing noted c) ask needs x e = edit_away c x e
+write_away (write.Ending r) ask needs x e = cc
+write_away (write.Over r) ask needs x e = cc
 
 post_away : (a : PostStage) (ask : ℕ × ℕ) → post_needs_in a ≡ Some ask → (x : ℕ) → post_next_in a ≢ act.Latch x
 post_away post.New ask needs x e = cc
@@ -115,10 +122,14 @@ page_keeps level key ask d e latch asks = elim asks [
   | inr two ↦ inr (two.0, keeps_held level key IsFull d e latch two.1)
 ]
 
+leaf_keeps : (key : ℕ) (does : KeyWrite) (ask : ℕ × ℕ) (d e : PassState) → KeepsLatch d e → AsksForLeaf key does ask (own_marks d) → AsksForLeaf key does ask (own_marks e)
+leaf_keeps key (Insert value) ask d e latch asks = page_keeps 0 key ask d e latch asks
+leaf_keeps key Delete ask d e latch asks = tt
+leaf_keeps key (Change old new) ask d e latch asks = tt
+
 pub asks_keep : (p : Proc) (ask : ℕ × ℕ) (d e : PassState) → KeepsLatch d e → AsksFor p ask (own_marks d) → AsksFor p ask (own_marks e)
 asks_keep (Find p) ask d e latch asks = tt
-asks_keep (Insert p) ask d e latch asks = page_keeps 0 p.key ask d e latch asks
-asks_keep (Delete p) ask d e latch asks = tt
+asks_keep (Write p) ask d e latch asks = leaf_keeps p.key p.write ask d e latch asks
 asks_keep (Post p) ask d e latch asks = elim asks [
   | inl page ↦ inl (page_keeps p.level p.key ask d e latch page)
   | inr top ↦ inr (top.0, keeps_anchor p.level d e latch top.1)
@@ -131,8 +142,7 @@ asks_keep (Lower p) ask d e latch asks = tt
 -- by the event at which it was refused
 pub asks_observed : (p : Proc) (ask : ℕ × ℕ) (d e : PassState) (what : Seen) → d.state ≡ p → needs_of p ≡ Some ask → proc_held p (own_marks d) → Goes what d e → AsksFor p ask (own_marks e)
 asks_observed (Find p) ask d e what is needs held goes = tt
-asks_observed (Insert p) ask d e what is needs held goes = asks_keep (Insert p) ask d e (goes_keeps what d e goes (λ x l. insert_away p.stage ask needs x (ap next_of (sym is) ∙ l))) (insert_asks p.key p.stage ask (own_marks d) needs held)
-asks_observed (Delete p) ask d e what is needs held goes = tt
+asks_observed (Write p) ask d e what is needs held goes = asks_keep (Write p) ask d e (goes_keeps what d e goes (λ x l. write_away p.stage ask needs x (ap next_of (sym is) ∙ l))) (write_asks p.key p.write p.stage ask (own_marks d) needs held)
 asks_observed (Post p) ask d e what is needs held goes = asks_keep (Post p) ask d e (goes_keeps what d e goes (λ x l. post_away p.stage ask needs x (ap next_of (sym is) ∙ l))) (post_asks p ask (own_marks d) needs held)
 asks_observed (Part p) ask d e what is needs held goes = tt
 asks_observed (Compress p) ask d e what is needs held goes = tt
@@ -141,13 +151,12 @@ asks_observed (Lower p) ask d e what is needs held goes = tt
 
 -- the process goes on
 pub asks_on : (p : Proc) (what : Seen) (q : Proc) (ask : ℕ × ℕ) (marks : Trail) → Takes p what q → AsksFor p ask marks → AsksFor q ask marks
-asks_on (Insert p) what (Insert q) ask marks t asks = subst (λ (k : ℕ). AsksForPage 0 k ask marks) (sym t.0) asks
+asks_on (Write p) what (Write q) ask marks t asks = subst (λ (z : ℕ × KeyWrite). AsksForLeaf z.0 z.1 ask marks) (λ i. (sym t.0 i, sym t.1 i)) asks
 asks_on (Post p) what (Post q) ask marks t asks = elim asks [
   | inl page ↦ inl (subst (λ (z : ℕ × ℕ). AsksForPage z.0 z.1 ask marks) (λ i. (sym t.0 i, sym t.1 i)) page)
   | inr top ↦ inr (top.0, subst (λ (k : ℕ). GotAnchor k marks) (sym t.0) top.1)
 ]
 asks_on old what (Find q) ask marks t asks = tt
-asks_on old what (Delete q) ask marks t asks = tt
 asks_on old what (Part q) ask marks t asks = tt
 asks_on old what (Compress q) ask marks t asks = tt
 asks_on old what (Reclaim q) ask marks t asks = tt

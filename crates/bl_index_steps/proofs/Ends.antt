@@ -1,9 +1,11 @@
 -- What is said at the end of an operation.
 use Rattle.std.proofs.Common.{ℕ, ◌≡◌, ◌≢◌, ◌+◌, Option, Some, None, List, sym, ap, ◌∙◌, subst}
+use Rattle.bl_model.specs.declared.deciding.KeyWrite.{KeyWrite}
 use Rattle.bl_model.specs.declared.operation.Op.{Op as Operation}
 use Rattle.bl_model.specs.declared.operation.Op.TheVariants as op
 use Rattle.bl_model.specs.declared.operation.Reply.{Reply}
 use Rattle.bl_model.specs.declared.operation.Reply.TheVariants.{Rows}
+use Rattle.bl_model.specs.Writes.{write_op}
 use Rattle.bl_page.specs.declared.page.Page.{Page}
 use Rattle.bl_claims.specs.Trails.{Trail, marks_of}
 use Rattle.bl_proc_base.specs.declared.acts.Action.TheVariants as act
@@ -17,14 +19,10 @@ use Rattle.bl_proc_base.specs.declared.editing.Edit.{Edit}
 use Rattle.bl_proc_base.specs.declared.editing.Edit.TheVariants as edit
 use Rattle.bl_proc_base.specs.Approaches.{approach_next}
 use Rattle.bl_proc_base.specs.Edits.{edit_next}
-use Rattle.bl_proc.specs.declared.inserting.InsertStage.{InsertStage}
-use Rattle.bl_proc.specs.declared.inserting.InsertStage.TheVariants as insert
-use Rattle.bl_proc.specs.declared.inserting.InsertReply.{InsertReply}
-use Rattle.bl_proc.specs.declared.inserting.InsertReply.TheVariants as inserted
-use Rattle.bl_proc.specs.declared.deleting.DeleteStage.{DeleteStage}
-use Rattle.bl_proc.specs.declared.deleting.DeleteStage.TheVariants as delete
-use Rattle.bl_proc.specs.declared.deleting.DeleteReply.{DeleteReply}
-use Rattle.bl_proc.specs.declared.deleting.DeleteReply.TheVariants as deleted
+use Rattle.bl_proc.specs.declared.writing.WriteStage.{WriteStage}
+use Rattle.bl_proc.specs.declared.writing.WriteStage.TheVariants as write
+use Rattle.bl_proc.specs.declared.writing.WriteReply.{WriteReply}
+use Rattle.bl_proc.specs.declared.writing.WriteReply.TheVariants as written
 use Rattle.bl_proc.specs.declared.searching.FindStage.{FindStage}
 use Rattle.bl_proc.specs.declared.searching.FindStage.TheVariants as find
 use Rattle.bl_proc.specs.declared.parts.PartRows.{PartRows}
@@ -32,14 +30,13 @@ use Rattle.bl_proc.specs.declared.parts.PartStage.{PartStage}
 use Rattle.bl_proc.specs.declared.parts.PartStage.TheVariants as part
 use Rattle.bl_proc.specs.declared.kinds.Proc.{Proc}
 use Rattle.bl_proc.specs.declared.kinds.Proc.TheVariants as proc
-use Rattle.bl_proc.specs.Inserts.{inserted_answer, insert_next_in, insert_answer_in, InsertGoes}
-use Rattle.bl_proc.specs.Deletes.{deleted_answer, delete_next_in, delete_answer_in, DeleteGoes}
+use Rattle.bl_proc.specs.Writes.{write_answer, write_next_in, write_answer_in, WriteGoes}
 use Rattle.bl_proc.specs.Searches.{found_answer, find_next_in, find_answer_in, FindGoes}
 use Rattle.bl_proc.specs.Parts.{part_next_in, part_answer_in, PartGoes}
 use Rattle.bl_proc.specs.Processes.{next_of, answer_of, Takes}
 use Rattle.bl_proc_invariant.specs.Beside.{MeansBeside}
 use Rattle.bl_proc_invariant.proofs.Beside.{beside_means}
-use Rattle.bl_proc_invariant.specs.Knowing.{Run, know, know_of, inserted_reply, deleted_reply, found_reply, know_find, know_part, know_insert, know_delete, find_end, part_end, insert_end, delete_end, end_of_proc}
+use Rattle.bl_proc_invariant.specs.Knowing.{Run, know, know_of, written_reply, found_reply, know_find, know_part, know_write, find_end, part_end, write_end, end_of_proc}
 use Rattle.bl_proc_unique.specs.Frames.{op_of}
 use Rattle.bl_index_rule.specs.declared.known.PassState.{PassState}
 use Rattle.bl_claims.specs.Seeing.{Holds, name}
@@ -66,47 +63,24 @@ not_end (edit.PuttingOld p) e = cc
 not_end (edit.OpeningNew x new s) e = cc
 not_end (edit.Opening x what) e = cc
 
-insert_reply_said : (q : InsertReply) (reply : Reply) (hint : Option Hint) → inserted_answer q ≡ Op reply hint → inserted_reply q ≡ reply
-insert_reply_said (inserted.Inserted s) reply hint e = cc
-insert_reply_said (inserted.Present v) reply hint e = cc
-insert_reply_said inserted.NoRoom reply hint e = cc
+same_reply : (a b : Reply) (hint other : Option Hint) → Op a hint ≡ Op b other → a ≡ b
+same_reply a b hint other e = cc
 
-insert_ends : (key value : ℕ) (a b : InsertStage) (reply : Reply) (hint : Option Hint) → insert_next_in a ≡ act.End → InsertGoes key value a seen.Done b → insert_answer_in b ≡ Some (Op reply hint) → (insert_end a ≡ Some reply) × ((got : ℕ → Page) → (know_insert key value got a).said ≡ Some (record { op = op.Insert key value; reply = reply }))
-insert_ends key value insert.New b reply hint e t h = cc
-insert_ends key value (insert.Coming w) b reply hint e t h = absurd (not_end_way w e)
-insert_ends key value (insert.Present x there) b reply hint e t h = cc
-insert_ends key value (insert.Editing c) b reply hint e t h = absurd (not_end c e)
-insert_ends key value (insert.Over r) b reply hint e t h = absurd t
-insert_ends key value (insert.Ending r) insert.New reply hint e t h = absurd t
-insert_ends key value (insert.Ending r) (insert.Coming w) reply hint e t h = absurd t
-insert_ends key value (insert.Ending r) (insert.Present y z) reply hint e t h = absurd t
-insert_ends key value (insert.Ending r) (insert.Editing c) reply hint e t h = absurd t
-insert_ends key value (insert.Ending r) (insert.Ending q) reply hint e t h = absurd t
-insert_ends key value (insert.Ending r) (insert.Over q) reply hint e t h =
-    let some : inserted_answer q ≡ Op reply hint = some_one h in
-    let is : inserted_reply r ≡ reply = ap inserted_reply (sym t) ∙ insert_reply_said q reply hint some in
-    (ap (λ (z : Reply). Some z) is, λ got. ap (λ (z : Reply). Some (record { op = op.Insert key value; reply = z })) is)
+write_reply_said : (does : KeyWrite) (q : WriteReply) (reply : Reply) (hint : Option Hint) → write_answer does q ≡ Op reply hint → written_reply does q ≡ reply
+write_reply_said does (written.Done there h) reply hint e = same_reply _ _ _ _ e
+write_reply_said does written.NoRoom reply hint e = cc
 
-delete_reply_said : (q : DeleteReply) (reply : Reply) (hint : Option Hint) → deleted_answer q ≡ Op reply hint → deleted_reply q ≡ reply
-delete_reply_said (deleted.Deleted v) reply hint e = cc
-delete_reply_said deleted.Absent reply hint e = cc
-delete_reply_said deleted.NoRoom reply hint e = cc
-
-delete_ends : (key : ℕ) (a b : DeleteStage) (reply : Reply) (hint : Option Hint) → delete_next_in a ≡ act.End → DeleteGoes key a seen.Done b → delete_answer_in b ≡ Some (Op reply hint) → (delete_end a ≡ Some reply) × ((got : ℕ → Page) → (know_delete key got a).said ≡ Some (record { op = op.Delete key; reply = reply }))
-delete_ends key delete.New b reply hint e t h = cc
-delete_ends key (delete.Coming w) b reply hint e t h = absurd (not_end_way w e)
-delete_ends key (delete.Absent x) b reply hint e t h = cc
-delete_ends key (delete.Editing v c) b reply hint e t h = absurd (not_end c e)
-delete_ends key (delete.Over r) b reply hint e t h = absurd t
-delete_ends key (delete.Ending r) delete.New reply hint e t h = absurd t
-delete_ends key (delete.Ending r) (delete.Coming w) reply hint e t h = absurd t
-delete_ends key (delete.Ending r) (delete.Absent y) reply hint e t h = absurd t
-delete_ends key (delete.Ending r) (delete.Editing v c) reply hint e t h = absurd t
-delete_ends key (delete.Ending r) (delete.Ending q) reply hint e t h = absurd t
-delete_ends key (delete.Ending r) (delete.Over q) reply hint e t h =
-    let some : deleted_answer q ≡ Op reply hint = some_one h in
-    let is : deleted_reply r ≡ reply = ap deleted_reply (sym t) ∙ delete_reply_said q reply hint some in
-    (ap (λ (z : Reply). Some z) is, λ got. ap (λ (z : Reply). Some (record { op = op.Delete key; reply = z })) is)
+write_ends : (key : ℕ) (does : KeyWrite) (a b : WriteStage) (reply : Reply) (hint : Option Hint) → write_next_in a ≡ act.End → WriteGoes key does a seen.Done b → write_answer_in does b ≡ Some (Op reply hint) → (write_end does a ≡ Some reply) × ((got : ℕ → Page) → (know_write key does got a).said ≡ Some (record { op = write_op key does; reply = reply }))
+write_ends key does write.New b reply hint e t h = cc
+write_ends key does (write.Coming w) b reply hint e t h = absurd (not_end_way w e)
+write_ends key does (write.Keeping x there) b reply hint e t h = cc
+write_ends key does (write.Editing noted c) b reply hint e t h = absurd (not_end c e)
+write_ends key does (write.Over r) b reply hint e t h = absurd t
+write_ends key does (write.Ending r) (write.Over q) reply hint e t h =
+    let some : write_answer does q ≡ Op reply hint = some_one h in
+    let is : written_reply does r ≡ reply = ap (written_reply does) (sym t) ∙ write_reply_said does q reply hint some in
+    (ap (λ (z : Reply). Some z) is, λ got. ap (λ (z : Reply). Some (record { op = write_op key does; reply = z })) is)
+write_ends key does (write.Ending r) b reply hint e t h = absurd t
 
 find_reply_said : (v : Option ℕ) (reply : Reply) (hint : Option Hint) → found_answer v ≡ Op reply hint → found_reply v ≡ reply
 find_reply_said (Some v) reply hint e = cc
@@ -123,9 +97,6 @@ find_ends key (find.Ending v) (find.Over u) reply hint e t h =
     let some : found_answer u ≡ Op reply hint = some_one h in
     let is : found_reply v ≡ reply = ap found_reply (sym t) ∙ find_reply_said u reply hint some in
     (ap (λ (z : Reply). Some z) is, ap (λ (z : Reply). Some (record { op = op.Find key; reply = z })) is)
-
-same_reply : (a b : Reply) (hint other : Option Hint) → Op a hint ≡ Op b other → a ≡ b
-same_reply a b hint other e = cc
 
 abbrev rows_of : PartRows → Reply
 rows_of r = Rows r.rows r.next
@@ -162,8 +133,10 @@ says_of before o o' reply end said e = record {
 
 pub end_says : (before last : Proc) (o : Operation) (reply : Reply) (hint : Option Hint) → op_of before ≡ Some o → next_of before ≡ act.End → Takes before seen.Done last → answer_of last ≡ Some (Op reply hint) → Says before o reply
 end_says (proc.Find p) (proc.Find q) o reply hint i e t h = (let s = find_ends p.key p.stage q.stage reply hint e t.1 h in says_of (proc.Find p) o (op.Find p.key) reply s.0 (λ got child time. s.1) i)
-end_says (proc.Insert p) (proc.Insert q) o reply hint i e t h = (let s = insert_ends p.key p.value p.stage q.stage reply hint e t.2 h in says_of (proc.Insert p) o (op.Insert p.key p.value) reply s.0 (λ got child time. s.1 got) i)
-end_says (proc.Delete p) (proc.Delete q) o reply hint i e t h = (let s = delete_ends p.key p.stage q.stage reply hint e t.1 h in says_of (proc.Delete p) o (op.Delete p.key) reply s.0 (λ got child time. s.1 got) i)
+end_says (proc.Write p) (proc.Write q) o reply hint i e t h =
+    let answer = subst (λ z. write_answer_in z q.stage ≡ Some (Op reply hint)) t.1 h in
+    let s = write_ends p.key p.write p.stage q.stage reply hint e t.2 answer in
+    says_of (proc.Write p) o (write_op p.key p.write) reply s.0 (λ got child time. s.1 got) i
 end_says (proc.Part p) (proc.Part q) o reply hint i e t h = (let s = part_ends p.from p.stage q.stage reply hint e t.1 h in says_of (proc.Part p) o (op.Part p.from) reply s.0 (λ got child time. s.1) i)
 end_says (proc.Post p) last o reply hint i e t h = cc
 end_says (proc.Compress p) last o reply hint i e t h = cc

@@ -1,5 +1,5 @@
 -- What a process has got of the page that it latched last, and one event more.
-use Rattle.std.proofs.Common.{ℕ, ◌≡◌, ◌≢◌, ◌++◌, ◌≤◌, [], ◌∷◌, None, Some, length, ap, sym, ◌∙◌, refl, subst, inl, inr, append_assoc}
+use Rattle.std.proofs.Common.{ℕ, ◌≡◌, ◌≢◌, ◌++◌, ◌≤◌, Option, [], ◌∷◌, None, Some, length, ap, sym, ◌∙◌, refl, subst, inl, inr, append_assoc}
 use Rattle.std.proofs.lemmas.List.Elements.{Contains-push_cases}
 use Rattle.bl_page.specs.declared.page.Page.{Page}
 use Rattle.bl_page.specs.declared.page.Page.TheVariants.{Inner}
@@ -22,23 +22,26 @@ use Rattle.bl_proc_base.specs.declared.growing.Grew.TheVariants as grew
 use Rattle.bl_proc_base.specs.Approaches.{approach_next, Approaches}
 use Rattle.bl_proc_base.specs.Edits.{edit_next, EntersPair}
 use Rattle.bl_proc_base.specs.Growths.{growth_next}
-use Rattle.bl_proc.specs.declared.inserting.InsertStage.{InsertStage}
-use Rattle.bl_proc.specs.declared.inserting.InsertStage.TheVariants as insert
+use Rattle.bl_model.specs.declared.deciding.KeyWrite.{KeyWrite}
+use Rattle.bl_model.specs.declared.deciding.KeyWrite.TheVariants.{Insert, Delete, Change}
+use Rattle.bl_model.specs.Writes.{effect_of}
+use Rattle.bl_proc.specs.declared.writing.WriteStage.{WriteStage}
+use Rattle.bl_proc.specs.declared.writing.WriteStage.TheVariants as write
 use Rattle.bl_proc.specs.declared.posting.PostStage.{PostStage}
 use Rattle.bl_proc.specs.declared.posting.PostStage.TheVariants as post
 use Rattle.bl_proc.specs.declared.kinds.Proc.{Proc}
-use Rattle.bl_proc.specs.declared.kinds.Proc.TheVariants.{Find, Insert, Delete, Post, Part, Compress, Reclaim, Lower}
-use Rattle.bl_proc.specs.Inserts.{insert_next_in}
+use Rattle.bl_proc.specs.declared.kinds.Proc.TheVariants.{Find, Write, Post, Part, Compress, Reclaim, Lower}
+use Rattle.bl_proc.specs.Writes.{write_next_in, Performs}
 use Rattle.bl_proc.specs.Posts.{post_next_in}
 use Rattle.bl_proc.specs.Processes.{next_of, Takes}
 use Rattle.bl_proc_unique.proofs.WayCases.{approach_case, EditCase, edit_case, GrowthCase, growth_case}
-use Rattle.bl_proc_unique.proofs.KindCases.{InsertCase, insert_case, PostCase, post_case}
+use Rattle.bl_proc_unique.proofs.KindCases.{WriteCase, write_case, PostCase, post_case}
 use Rattle.bl_proc_invariant.specs.Turns.{event_of}
-use Rattle.bl_proc_invariant.specs.Knowing.{insert_end, end_of_proc}
+use Rattle.bl_proc_invariant.specs.Knowing.{write_end, end_of_proc}
 use Rattle.bl_proc_invariant.proofs.Holdings.{none_of}
 use Rattle.bl_proc_invariant.proofs.Logging.{latched_on}
 use Rattle.bl_index_steps.specs.Refused.{GotLatched, GotHeld, GotAnchor}
-use Rattle.bl_index_steps.specs.Held.{LatchedLast, GotAt, approach_held, edit_held, growth_held, insert_held, post_held, proc_held}
+use Rattle.bl_index_steps.specs.Held.{LatchedLast, GotAt, approach_held, edit_held, growth_held, leaf_held, write_held, post_held, proc_held}
 
 module _ (marks : Trail) (m : Mark) where
   abbrev more : Trail
@@ -102,16 +105,27 @@ module _ (marks : Trail) (m : Mark) where
   editing level key (EditCase.PutOld p d t) = subst (λ (z : Edit). edit_held level key z more) (sym t) tt
   editing level key (EditCase.OpenedNew x y separator d t) = subst (λ (z : Edit). edit_held level key z more) (sym t) tt
 
-  -- an insertion
-  inserting : {key value : ℕ} {old new : InsertStage} {what : Seen} → InsertCase key value old what new → m.event.act ≡ event_of (insert_end old) (insert_next_in old) what → ((x : ℕ) (c : Page) → m.event.act ≡ Get x → what ≡ seen.Words c → m.saw ≡ Some c) → insert_held key old marks → insert_held key new more
-  inserting (InsertCase.Began a t) did saw h = subst (λ (z : Approach). approach_held z more) (sym t) tt
-  inserting {key = key} (InsertCase.Came a what b t) did saw h = descend 0 key a b what t did
-  inserting (InsertCase.Found x c y there l t) did saw h = tt
-  inserting {key = key} {value = value} (InsertCase.Entered x c d l t) did saw h = entering 0 key x value c d t.1 (record { got = got_now x c did (saw x c did refl) h; level_is = l.2; covers = l.1 })
-  inserting (InsertCase.Opened x there last t) did saw h = tt
-  inserting {key = key} (InsertCase.Edited c what d t) did saw h = editing 0 key (edit_case c what _ t)
-  inserting (InsertCase.Finished c what last t) did saw h = tt
-  inserting (InsertCase.Ended r last t) did saw h = tt
+  -- a write
+  changing : (key : ℕ) (does : KeyWrite) (there : Option ℕ) (x : ℕ) (c : Page) (d : Edit) → Performs (effect_of does there) x c key d → GotAt 0 key more x c → leaf_held key does d more
+  changing key (Insert value) None x c d t h = entering 0 key x value c d t h
+  changing key (Insert value) (Some there) x c d t h = absurd t
+  changing key Delete there x c d t h = tt
+  changing key (Change old new) there x c d t h = tt
+
+  changed_on : (key : ℕ) (does : KeyWrite) {c d : Edit} {what : Seen} → EditCase c what (changed.On d) → leaf_held key does d more
+  changed_on key (Insert value) t = editing 0 key t
+  changed_on key Delete t = tt
+  changed_on key (Change old new) t = tt
+
+  writing : {key : ℕ} {does : KeyWrite} {old new : WriteStage} {what : Seen} → WriteCase key does old what new → m.event.act ≡ event_of (write_end does old) (write_next_in old) what → ((x : ℕ) (c : Page) → m.event.act ≡ Get x → what ≡ seen.Words c → m.saw ≡ Some c) → write_held key does old marks → write_held key does new more
+  writing (WriteCase.Began a t) did saw h = subst (λ (z : Approach). approach_held z more) (sym t) tt
+  writing {key = key} (WriteCase.Came a what b t) did saw h = descend 0 key a b what t did
+  writing (WriteCase.Kept x c y there l t) did saw h = tt
+  writing {key = key} {does = does} (WriteCase.Changed x c noted d l t) did saw h = changing key does noted.there x c d t.1 (record { got = got_now x c did (saw x c did refl) h; level_is = l.2; covers = l.1 })
+  writing (WriteCase.Opened x there last t) did saw h = tt
+  writing {key = key} {does = does} (WriteCase.Edited noted c what same d t) did saw h = changed_on key does (edit_case c what _ t.1)
+  writing (WriteCase.Finished noted c what last t) did saw h = tt
+  writing (WriteCase.Ended r last t) did saw h = tt
 
   -- a post
   growing : (level : ℕ) {g k : Growth} {what : Seen} → GrowthCase level g what (grew.On k) → m.event.act ≡ event_of None (growth_next g) what → ((x : ℕ) (c : Page) → m.event.act ≡ Get x → what ≡ seen.Words c → m.saw ≡ Some c) → growth_held level g marks → growth_held level k more
@@ -151,10 +165,9 @@ module _ (marks : Trail) (m : Mark) where
 
 -- A turn of a process of any kind.
 pub held_turn : (old new : Proc) (what : Seen) (marks : Trail) (m : Mark) → Takes old what new → m.event.act ≡ event_of (end_of_proc old) (next_of old) what → ((x : ℕ) (c : Page) → m.event.act ≡ Get x → what ≡ seen.Words c → m.saw ≡ Some c) → proc_held old marks → proc_held new (marks ++ m ∷ [])
-held_turn (Insert a) (Insert c) what marks m t did saw h = subst (λ (k : ℕ). insert_held k c.stage (marks ++ m ∷ [])) (sym t.0) (inserting marks m (insert_case a.key a.value a.stage what c.stage t.2) did saw h)
+held_turn (Write a) (Write c) what marks m t did saw h = subst (λ (z : ℕ × KeyWrite). write_held z.0 z.1 c.stage (marks ++ m ∷ [])) (λ i. (sym t.0 i, sym t.1 i)) (writing marks m (write_case a.key a.write a.stage what c.stage t.2) did saw h)
 held_turn (Post a) (Post c) what marks m t did saw h = subst (λ (z : ℕ × ℕ). post_held z.0 z.1 c.stage (marks ++ m ∷ [])) (λ i. (sym t.0 i, sym t.1 i)) (posting marks m (post_case a.level a.key a.stage what c.stage t.2) did saw h)
 held_turn old (Find c) what marks m t did saw h = tt
-held_turn old (Delete c) what marks m t did saw h = tt
 held_turn old (Part c) what marks m t did saw h = tt
 held_turn old (Compress c) what marks m t did saw h = tt
 held_turn old (Reclaim c) what marks m t did saw h = tt
@@ -187,13 +200,18 @@ waiting_growth level (growth.OpeningTop x) e marks = tt
 waiting_growth level growth.OpeningGrown e marks = tt
 waiting_growth level growth.OpeningRefused e marks = tt
 
-waiting_insert : (key : ℕ) (a : InsertStage) → insert_next_in a ≡ act.Begin → (marks : Trail) → insert_held key a marks
-waiting_insert key insert.New e marks = tt
-waiting_insert key (insert.Coming a) e marks = waiting_way a e marks
-waiting_insert key (insert.Present x there) e marks = tt
-waiting_insert key (insert.Editing c) e marks = waiting_edit 0 key c e marks
-waiting_insert key (insert.Ending r) e marks = tt
-waiting_insert key (insert.Over r) e marks = tt
+waiting_leaf : (key : ℕ) (does : KeyWrite) (c : Edit) → edit_next c ≡ act.Begin → (marks : Trail) → leaf_held key does c marks
+waiting_leaf key (Insert value) c e marks = waiting_edit 0 key c e marks
+waiting_leaf key Delete c e marks = tt
+waiting_leaf key (Change old new) c e marks = tt
+
+waiting_write : (key : ℕ) (does : KeyWrite) (a : WriteStage) → write_next_in a ≡ act.Begin → (marks : Trail) → write_held key does a marks
+waiting_write key does write.New e marks = tt
+waiting_write key does (write.Coming a) e marks = waiting_way a e marks
+waiting_write key does (write.Keeping x there) e marks = tt
+waiting_write key does (write.Editing noted c) e marks = waiting_leaf key does c e marks
+waiting_write key does (write.Ending r) e marks = tt
+waiting_write key does (write.Over r) e marks = tt
 
 waiting_post : (level key : ℕ) (a : PostStage) → post_next_in a ≡ act.Begin → (marks : Trail) → post_held level key a marks
 waiting_post level key post.New e marks = tt
@@ -207,8 +225,7 @@ waiting_post level key (post.Over r) e marks = tt
 
 pub waiting_held : (p : Proc) → next_of p ≡ act.Begin → (marks : Trail) → proc_held p marks
 waiting_held (Find p) e marks = tt
-waiting_held (Insert p) e marks = waiting_insert p.key p.stage e marks
-waiting_held (Delete p) e marks = tt
+waiting_held (Write p) e marks = waiting_write p.key p.write p.stage e marks
 waiting_held (Post p) e marks = waiting_post p.level p.key p.stage e marks
 waiting_held (Part p) e marks = tt
 waiting_held (Compress p) e marks = tt

@@ -1,6 +1,10 @@
 -- What a hand was refused that found no room, from one event of its process to the next.
 use Rattle.std.proofs.Common.{ℕ, List, ◌≡◌, ◌≢◌, None, Some, inl, inr, refl, sym, ap, subst, ◌∙◌}
 use Rattle.atomic_table.specs.declared.shared.Seat.{Seat}
+use Rattle.bl_model.specs.declared.deciding.KeyWrite.{KeyWrite}
+use Rattle.bl_model.specs.declared.deciding.KeyWrite.TheVariants.{Insert, Delete, Change}
+use Rattle.bl_model.specs.declared.deciding.Effect.TheVariants.{Keep, Enter}
+use Rattle.bl_model.specs.Writes.{effect_of}
 use Rattle.bl_proc_base.specs.declared.acts.Action.TheVariants as act
 use Rattle.bl_proc_base.specs.declared.acts.Seen.{Seen}
 use Rattle.bl_proc_base.specs.declared.acts.Seen.TheVariants as seen
@@ -14,6 +18,7 @@ use Rattle.bl_store.specs.declared.view.View.{View}
 use Rattle.bl_layout.specs.declared.layout.Layout.{Layout}
 use Rattle.bl_store.specs.Hands.{known, IsWhyOf, WasRefused, IsSameRefusal}
 use Rattle.bl_index_rule.specs.declared.known.PassState.{PassState}
+use Rattle.bl_proc_base.specs.declared.editing.Edit.TheVariants as edit
 use Rattle.bl_proc_base.specs.declared.editing.Outcome.{Outcome}
 use Rattle.bl_proc_base.specs.declared.editing.Outcome.TheVariants as outcome
 use Rattle.bl_proc.specs.declared.posting.PostReply.TheVariants as reply
@@ -21,12 +26,14 @@ use Rattle.bl_proc.specs.declared.posting.Post.{Post}
 use Rattle.bl_proc.specs.declared.kinds.Proc.TheVariants as proc
 use Rattle.bl_proc.specs.declared.lowering.Lower.{Lower}
 use Rattle.bl_proc_compress.specs.declared.squeezing.Compress.{Compress}
-use Rattle.bl_proc.specs.declared.inserting.InsertReply.TheVariants as inserted
-use Rattle.bl_proc.specs.Inserts.{insert_reply}
+use Rattle.bl_proc.specs.declared.writing.Noted.{Noted}
+use Rattle.bl_proc.specs.declared.writing.WriteReply.TheVariants.{Done, NoRoom}
+use Rattle.bl_proc.specs.Writes.{write_reply, post_hint}
+use Rattle.bl_proc_base.specs.Thin.{thin_hint}
 use Rattle.bl_proc.specs.Posts.{post_reply}
-use Rattle.bl_index_steps.specs.Refused.{HasRoom, IsFull}
-use Rattle.bl_index_steps.specs.Held.{own_marks, KeepsLatch, proc_held, AsksFor}
-use Rattle.bl_index_steps.specs.Rooms.{LacksPage, LacksPost, LacksAsked, TellsRoom}
+use Rattle.bl_index_steps.specs.Refused.{HasRoom, IsFull, GotHeld}
+use Rattle.bl_index_steps.specs.Held.{own_marks, KeepsLatch, leaf_held, proc_held, AsksFor}
+use Rattle.bl_index_steps.specs.Rooms.{LacksPage, LacksWrite, LacksPost, LacksAsked, TellsRoom}
 use Rattle.bl_index_steps.specs.Runs.{Moves}
 use Rattle.bl_index_steps.proofs.Held.{goes_keeps, keeps_held}
 use Rattle.bl_index_steps.proofs.Asked.{asks_on, asks_keep, asks_observed}
@@ -104,6 +111,18 @@ lacks_on level key h h' same latch lacks = elim lacks [
   | inr two ↦ inr (refused_on h h' 1 2 same two.0, keeps_held level key IsFull (known h) (known h') latch two.1)
 ]
 
+-- for a frame, where its leaf was to be put
+pub lacks_frame : (key : ℕ) (does : KeyWrite) (at : ℕ) (p : Page) (d : PassState) (h : H) → leaf_held key does (edit.Putting at p) (own_marks d) → KeepsLatch d (known h) → WasRefused h 0 1 → LacksWrite key does h
+lacks_frame key (Insert value) at p d h held latch was = inl (was, keeps_held 0 key HasRoom d (known h) latch held)
+lacks_frame key Delete at p d h held latch was = was
+lacks_frame key (Change old new) at p d h held latch was = was
+
+-- for a page and two frames, where it was to be split
+pub lacks_split : (key : ℕ) (does : KeyWrite) (value : ℕ) (h : H) → effect_of does None ≡ Enter value → WasRefused h 1 2 → GotHeld 0 key (own_marks (known h)) IsFull → LacksWrite key does h
+lacks_split key (Insert v) value h e was got = inr (was, got)
+lacks_split key Delete value h e was got = absurd (let f : Keep ≡ Enter value = e in cc)
+lacks_split key (Change old new) value h e was got = absurd (let f : Keep ≡ Enter value = e in cc)
+
 pub lacks_asked : (h : H) (p : Post) → LacksAsked h (proc.Post p) → LacksPost p.level p.key h
 lacks_asked h p lacks = elim lacks.3 [
   | inl page ↦ elim page [
@@ -130,7 +149,7 @@ words_not_refused c e = (let f : seen.Words c ≡ seen.Refused = e in cc)
 pub done_not_refused : seen.Done ≡ seen.Refused → ⊥
 done_not_refused e = (let f : seen.Done ≡ seen.Refused = e in cc)
 
-pub insert_refused : (o : Outcome) → insert_reply o ≡ inserted.NoRoom → o ≡ outcome.Refused
-insert_refused outcome.Edited e = absurd (let f : inserted.Inserted None ≡ inserted.NoRoom = e in cc)
-insert_refused (outcome.SplitAt k) e = absurd (let f : inserted.Inserted (Some k) ≡ inserted.NoRoom = e in cc)
-insert_refused outcome.Refused e = refl
+pub write_refused : (noted : Noted) (o : Outcome) → write_reply noted o ≡ NoRoom → o ≡ outcome.Refused
+write_refused noted outcome.Edited e = absurd (let f : Done noted.there (thin_hint 1 noted.thin) ≡ NoRoom = e in cc)
+write_refused noted (outcome.SplitAt k) e = absurd (let f : Done noted.there (post_hint 1 (Some k)) ≡ NoRoom = e in cc)
+write_refused noted outcome.Refused e = refl

@@ -16,8 +16,10 @@ use Rattle.bl_proc_base.specs.declared.editing.Edit.{Edit}
 use Rattle.bl_proc_base.specs.declared.editing.Edit.TheVariants as edit
 use Rattle.bl_proc_base.specs.declared.growing.Growth.{Growth}
 use Rattle.bl_proc_base.specs.declared.growing.Growth.TheVariants as growth
-use Rattle.bl_proc.specs.declared.inserting.InsertStage.{InsertStage}
-use Rattle.bl_proc.specs.declared.inserting.InsertStage.TheVariants as insert
+use Rattle.bl_model.specs.declared.deciding.KeyWrite.{KeyWrite}
+use Rattle.bl_model.specs.declared.deciding.KeyWrite.TheVariants.{Insert, Delete, Change}
+use Rattle.bl_proc.specs.declared.writing.WriteStage.{WriteStage}
+use Rattle.bl_proc.specs.declared.writing.WriteStage.TheVariants as write
 use Rattle.bl_proc.specs.declared.posting.PostStage.{PostStage}
 use Rattle.bl_proc.specs.declared.posting.PostStage.TheVariants as post
 use Rattle.bl_proc.specs.declared.kinds.Proc.{Proc}
@@ -70,13 +72,19 @@ growth_held level (growth.OpeningTop x) marks = Unit {0}
 growth_held level growth.OpeningGrown marks = Unit {0}
 growth_held level growth.OpeningRefused marks = Unit {0}
 
-abbrev pub insert_held : ℕ → InsertStage → Trail → Type 0
-insert_held key insert.New marks = Unit {0}
-insert_held key (insert.Coming a) marks = approach_held a marks
-insert_held key (insert.Present x there) marks = Unit {0}
-insert_held key (insert.Editing c) marks = edit_held 0 key c marks
-insert_held key (insert.Ending r) marks = Unit {0}
-insert_held key (insert.Over r) marks = Unit {0}
+-- of its leaf; only an insertion needs to know what that had room for
+abbrev pub leaf_held : ℕ → KeyWrite → Edit → Trail → Type 0
+leaf_held key (Insert value) c marks = edit_held 0 key c marks
+leaf_held key Delete c marks = Unit {0}
+leaf_held key (Change old new) c marks = Unit {0}
+
+abbrev pub write_held : ℕ → KeyWrite → WriteStage → Trail → Type 0
+write_held key does write.New marks = Unit {0}
+write_held key does (write.Coming a) marks = approach_held a marks
+write_held key does (write.Keeping x there) marks = Unit {0}
+write_held key does (write.Editing noted c) marks = leaf_held key does c marks
+write_held key does (write.Ending r) marks = Unit {0}
+write_held key does (write.Over r) marks = Unit {0}
 
 abbrev pub post_held : ℕ → ℕ → PostStage → Trail → Type 0
 post_held level key post.New marks = Unit {0}
@@ -90,8 +98,7 @@ post_held level key (post.Over r) marks = Unit {0}
 
 abbrev pub proc_held : Proc → Trail → Type 0
 proc_held (proc.Find p) marks = Unit {0}
-proc_held (proc.Insert p) marks = insert_held p.key p.stage marks
-proc_held (proc.Delete p) marks = Unit {0}
+proc_held (proc.Write p) marks = write_held p.key p.write p.stage marks
 proc_held (proc.Post p) marks = post_held p.level p.key p.stage marks
 proc_held (proc.Part p) marks = Unit {0}
 proc_held (proc.Compress p) marks = Unit {0}
@@ -102,10 +109,14 @@ proc_held (proc.Lower p) marks = Unit {0}
 abbrev pub AsksForPage : ℕ → ℕ → ℕ × ℕ → Trail → Type 0
 AsksForPage level key ask marks = ((ask ≡ (0, 1)) × GotHeld level key marks HasRoom) ⊎ ((ask ≡ (1, 2)) × GotHeld level key marks IsFull)
 
+abbrev pub AsksForLeaf : ℕ → KeyWrite → ℕ × ℕ → Trail → Type 0
+AsksForLeaf key (Insert value) ask marks = AsksForPage 0 key ask marks
+AsksForLeaf key Delete ask marks = Unit {0}
+AsksForLeaf key (Change old new) ask marks = Unit {0}
+
 abbrev pub AsksFor : Proc → ℕ × ℕ → Trail → Type 0
 AsksFor (proc.Find p) ask marks = Unit {0}
-AsksFor (proc.Insert p) ask marks = AsksForPage 0 p.key ask marks
-AsksFor (proc.Delete p) ask marks = Unit {0}
+AsksFor (proc.Write p) ask marks = AsksForLeaf p.key p.write ask marks
 AsksFor (proc.Post p) ask marks = AsksForPage p.level p.key ask marks ⊎ ((ask ≡ (1, 2)) × GotAnchor p.level marks)
 AsksFor (proc.Part p) ask marks = Unit {0}
 AsksFor (proc.Compress p) ask marks = Unit {0}

@@ -1,5 +1,7 @@
 -- What a call that found no room was refused, by the page that its process held.
 use Rattle.std.specs.Prelude.{◌≡◌, ◌⊎◌, ℕ, ◌<◌, ◌≤◌, Some, ◌∷◌, length}
+use Rattle.bl_model.specs.declared.deciding.KeyWrite.{KeyWrite}
+use Rattle.bl_model.specs.declared.deciding.KeyWrite.TheVariants.{Insert, Delete, Change}
 use Rattle.bl_page.specs.declared.page.Page.{Page}
 use Rattle.bl_page.specs.Machine.Act.{Get, Latch}
 use Rattle.bl_claims.specs.Nodes.{Covers}
@@ -44,6 +46,12 @@ pub record GotAnchor (level : ℕ) (marks : Trail) : Type 0 where
 -- page was full, and was to be split. How many pages and frames were refused is said by WasRefused.
 abbrev pub LacksForPage : ℕ → ℕ → Trail → (ℕ → ℕ → Type 0) → Type 0
 LacksForPage level key marks WasRefused = (WasRefused 0 1 × GotHeld level key marks HasRoom) ⊎ (WasRefused 1 2 × GotHeld level key marks IsFull)
+
+-- The same for an insertion; or a frame, for a deletion or a change, whatever the leaf had room for.
+abbrev pub LacksForWrite : ℕ → KeyWrite → Trail → (ℕ → ℕ → Type 0) → Type 0
+LacksForWrite key (Insert value) marks WasRefused = LacksForPage 0 key marks WasRefused
+LacksForWrite key Delete marks WasRefused = WasRefused 0 1
+LacksForWrite key (Change old new) marks WasRefused = WasRefused 0 1
 
 -- The same for a post; or a page and two frames, where it held the anchor, for a new top level.
 abbrev pub LacksForPost : ℕ → ℕ → Trail → (ℕ → ℕ → Type 0) → Type 0

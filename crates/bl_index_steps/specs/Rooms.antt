@@ -4,13 +4,14 @@ use Rattle.atomic_table.specs.declared.shared.Seat.{Seat}
 use Rattle.bl_proc_base.specs.declared.acts.Action.TheVariants as act
 use Rattle.bl_proc_base.specs.declared.acts.Seen.{Seen}
 use Rattle.bl_proc_base.specs.declared.acts.Seen.TheVariants as seen
+use Rattle.bl_model.specs.declared.deciding.KeyWrite.{KeyWrite}
 use Rattle.bl_proc.specs.declared.kinds.Proc.{Proc}
 use Rattle.bl_proc.specs.Processes.{next_of, needs_of}
 use Rattle.bl_proc_unique.specs.Refusals.{MayAsk}
 use Rattle.bl_store.specs.declared.view.View.{View}
 use Rattle.bl_store.specs.Hands.{known, WasRefused, IsSameRefusal}
 use Rattle.bl_index_rule.specs.declared.known.PassState.{PassState}
-use Rattle.bl_index_steps.specs.Refused.{LacksForPage, LacksForPost}
+use Rattle.bl_index_steps.specs.Refused.{LacksForPage, LacksForWrite, LacksForPost}
 use Rattle.bl_index_steps.specs.Held.{own_marks, AsksFor}
 
 abbrev H : Type 0
@@ -19,6 +20,10 @@ H = Seat (Unit {0}) (View PassState)
 -- for the page of that level that it held, which covers the key
 abbrev pub LacksPage : ℕ → ℕ → H → Type 0
 LacksPage level key h = LacksForPage level key (own_marks (known h)) (WasRefused h)
+
+-- for the leaf of that key, by what is written there
+abbrev pub LacksWrite : ℕ → KeyWrite → H → Type 0
+LacksWrite key does h = LacksForWrite key does (own_marks (known h)) (WasRefused h)
 
 -- for a post of that key to that level
 abbrev pub LacksPost : ℕ → ℕ → H → Type 0

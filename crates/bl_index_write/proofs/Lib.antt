@@ -1,6 +1,5 @@
-pub mod Inserted
+pub mod Written
 pub mod Spreading
 pub mod Splits
-pub mod Deleted
 pub mod Parents
 pub mod PostEnds

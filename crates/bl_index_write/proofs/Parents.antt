@@ -34,7 +34,6 @@ use Rattle.bl_proc_unique.proofs.Edits.{enter_one}
 use Rattle.bl_proc_unique.proofs.Onwards.{right_small}
 use Rattle.bl_proc_unique.proofs.Pages.{fits_some, rising}
 use Rattle.bl_proc_unique.proofs.Posts.{post_goes}
-use Rattle.bl_proc_unique.proofs.Rows.{rows_one}
 use Rattle.bl_index_write.specs.declared.targets.Posting.{Posting}
 use Rattle.atomic_table.specs.declared.shared.Seat.{Seat}
 use Rattle.bl_layout.specs.declared.layout.Layout.{Layout}
@@ -46,7 +45,7 @@ use Rattle.bl_index_rule.specs.declared.known.PassState.{PassState}
 use Rattle.bl_index_write.specs.Events.{posting, IsToEnter, IsWalking, HasPosted, IsPostOver}
 use Rattle.bl_index_steps.specs.Runs.{IsSameProcess, OpensLast}
 use Rattle.bl_index_steps.proofs.Standing.{same_all}
-use Rattle.bl_index_write.proofs.Inserted.{spelled_by}
+use Rattle.bl_index_write.proofs.Spreading.{spelled}
 
 -- a change by which a pair enters, by whether there is room
 module _ (x key word : ℕ) (words : List ℕ) (c : Edit) (enter : IsToEnter x key word words c) where
@@ -54,9 +53,9 @@ module _ (x key word : ℕ) (words : List ℕ) (c : Edit) (enter : IsToEnter x k
   enters_putting room =
       let page = enter.page in
       let fits = fits_some page key word 0 enter.covers enter.absent enter.fits room in
-      let pairs : pairs_of fits.0 ≡ entered key word (pairs_of page) = rows_one 0 (pairs_of fits.0) (entered key word (pairs_of page)) (rising fits.0) (RisesFrom-entered key word 0 (pairs_of page) (omega arith) enter.absent (rising page)) (λ j. fits.1.2 j ∙ sym (map_of-entered key word (pairs_of page) enter.absent j)) in
+      let words = spelled page fits.0 (entered key word (pairs_of page)) fits.1.1 (RisesFrom-entered key word 0 (pairs_of page) (omega arith) enter.absent (rising page)) (λ j. fits.1.2 j ∙ sym (map_of-entered key word (pairs_of page) enter.absent j)) in
       let one = enter_one x page key word enter.covers enter.absent enter.fits in
-      (fits.0, spelled_by page fits.0 (entered key word (pairs_of page)) fits.1.1 pairs, one.only c enter.enters ∙ sym (one.only (edit.Putting x fits.0) (refl, fits.1)))
+      (fits.0, words, one.only c enter.enters ∙ sym (one.only (edit.Putting x fits.0) (refl, fits.1)))
 
   pub enters_taking : 14 ≤ length (pairs_of enter.page) → (f : Full) × (f.at ≡ x) × (f.key ≡ key) × (f.word ≡ word) × (words ≡ words_of f.page) × (c ≡ edit.Taking f)
   enters_taking full =

@@ -1,37 +1,35 @@
 -- A process of which a pass has no value: it knows where the process stands.
-use Rattle.std.specs.Prelude.{◌≡◌, ◌<◌, ℕ, false, Option, Some, None, List}
+use Rattle.std.specs.Prelude.{◌≡◌, ◌<◌, ℕ, Bool, true, false, Option, Some, None, List}
 use Rattle.atomic_table.specs.declared.shared.Seat.{Seat}
 use Rattle.bl_model.specs.Rows.{map_of}
 use Rattle.bl_page.specs.declared.page.Page.{Page}
 use Rattle.bl_page.specs.declared.page.Page.TheVariants.{Inner}
 use Rattle.bl_page.specs.Pages.{Covers}
-use Rattle.bl_claims.specs.Pages.{IsTreePage}
+use Rattle.bl_claims.specs.Pages.{node_of, IsTreePage}
 use Rattle.bl_rearrange.specs.Rearranged.{pairs_of, MayHold}
 use Rattle.bl_page.specs.Words.{words_of}
 use Rattle.bl_layout.specs.declared.layout.Layout.{Layout}
-use Rattle.bl_model.specs.declared.operation.Reply.{Reply}
+use Rattle.bl_model.specs.declared.deciding.KeyWrite.{KeyWrite}
 use Rattle.bl_store.specs.declared.view.View.{View}
 use Rattle.bl_store.specs.declared.store.Glance.{Glance}
-use Rattle.bl_store.specs.Hands.{known, read_words, IsIdle, IsRunning, HasNoStock, ReadsFrom}
+use Rattle.bl_store.specs.Hands.{known, read_words, IsIdle, IsRunning, IsSameHand, HasNoStock, ReadsFrom}
 use Rattle.bl_proc_base.specs.declared.acts.Seen.TheVariants as seen
-use Rattle.bl_proc_base.specs.declared.answers.Answer.TheVariants.{Op}
 use Rattle.bl_proc_base.specs.declared.answers.Answer.TheVariants as answer
 use Rattle.bl_proc_base.specs.declared.answers.Hint.{Hint}
 use Rattle.bl_proc_base.specs.declared.answers.Posted.{Posted}
 use Rattle.bl_proc_base.specs.declared.approaching.Approach.{Approach}
 use Rattle.bl_proc_base.specs.declared.approaching.Approach.TheVariants.{Start, At, Latching, Latched, Leaving}
 use Rattle.bl_proc_base.specs.declared.editing.Edit.{Edit}
+use Rattle.bl_proc_base.specs.declared.editing.Outcome.{Outcome}
+use Rattle.bl_proc_base.specs.declared.editing.Outcome.TheVariants as outcome
 use Rattle.bl_proc_base.specs.declared.onwards.Step.TheVariants.{Here}
 use Rattle.bl_proc_base.specs.Edits.{EntersPair}
 use Rattle.bl_proc_base.specs.Onwards.{Leads}
-use Rattle.bl_proc.specs.declared.inserting.Insert.{Insert}
-use Rattle.bl_proc.specs.declared.inserting.InsertReply.{InsertReply}
-use Rattle.bl_proc.specs.declared.inserting.InsertStage.{InsertStage}
-use Rattle.bl_proc.specs.declared.deleting.DeleteStage.{DeleteStage}
-use Rattle.bl_proc.specs.declared.deleting.DeleteReply.{DeleteReply}
-use Rattle.bl_proc.specs.Inserts.{inserted_answer}
-use Rattle.bl_proc.specs.Deletes.{deleted_answer}
-use Rattle.bl_proc.specs.declared.deleting.Delete.{Delete}
+use Rattle.bl_proc.specs.declared.writing.WriteStage.{WriteStage}
+use Rattle.bl_proc.specs.declared.writing.WriteStage.TheVariants as write
+use Rattle.bl_proc.specs.declared.writing.WriteReply.{WriteReply}
+use Rattle.bl_proc.specs.declared.writing.WriteReply.TheVariants.{NoRoom}
+use Rattle.bl_proc.specs.Writes.{write_answer}
 use Rattle.bl_proc.specs.declared.posting.Post.{Post}
 use Rattle.bl_proc.specs.declared.posting.PostStage.{PostStage}
 use Rattle.bl_proc.specs.declared.posting.PostStage.TheVariants as post
@@ -47,8 +45,8 @@ use Rattle.bl_index_write.specs.declared.descend.Arrived.TheVariants.{There, Awa
 use Rattle.bl_index_write.specs.declared.targets.Posting.{Posting}
 use Rattle.bl_index_write.specs.declared.posting.Walked.{Walked}
 use Rattle.bl_index_write.specs.declared.posting.Walked.TheVariants.{On, Found, Stale, Lost}
-use Rattle.bl_index_steps.specs.Runs.{IsOn, IsSince, IsWithin, IsDone, IsSameProcess}
-use Rattle.bl_index_steps.specs.Rooms.{LacksPost}
+use Rattle.bl_index_steps.specs.Runs.{IsOn, IsSince, IsWithin, IsDone, IsSameProcess, Rests}
+use Rattle.bl_index_steps.specs.Rooms.{LacksPost, LacksWrite}
 use Rattle.bl_proc_base.specs.declared.answers.Posted.TheVariants as posted
 use Rattle.bl_proc_base.specs.declared.answers.Answer.{Answer}
 
@@ -77,34 +75,35 @@ abbrev pub HasCome : ℕ → ℕ → (Approach → Proc) → Layout → Seat (Un
 HasCome level key at l h (Some t) = ReadsFrom h t.1 × IsThere level key (at (Latched t.0)) (read_words h) (known h) × IsOn l (known h) (known h).state
 HasCome level key at l h None = IsOn l (known h) (at Start)
 
--- an insertion that has come so far
-abbrev pub inserting : ℕ → ℕ → InsertStage → Proc
-inserting key value stage = proc.Insert (record { key = key; value = value; stage = stage })
+-- a write of that key that has come so far
+abbrev pub writing : ℕ → KeyWrite → WriteStage → Proc
+writing key does stage = proc.Write (record { key = key; write = does; stage = stage })
 
--- a deletion
-abbrev pub deleting : ℕ → DeleteStage → Proc
-deleting key stage = proc.Delete (record { key = key; stage = stage })
+-- It has got its leaf, which it holds: the leaf has these words, and lists that with the key.
+pub record IsAtLeaf (key : ℕ) (does : KeyWrite) (at : ℕ) (there : Option ℕ) (words : List ℕ) (d : PassState) : Type 0 where
+  pub here : IsThere 0 key (writing key does (write.Coming (Latched at))) words d
+  pub lists : (node_of here.page).look key ≡ there
 
--- The insertion that began as first has ended, and has answered that.
-pub record HasInserted (pass : ℕ) (old e : PassState) (first : Proc) (reply : Reply) (hint : Option Hint) : Type 0 where
-  pub last : Insert
-  pub done : IsDone pass old e first (proc.Insert last)
-  pub answer : answer_of (proc.Insert last) ≡ Some (Op reply hint)
+-- what became of a leaf that was to be put, by whether there was room
+abbrev pub outcome_by : Bool → Outcome
+outcome_by true = outcome.Edited
+outcome_by false = outcome.Refused
 
--- It has ended with that reply, which says what it answers.
-abbrev pub HasInsertedBy : ℕ → PassState → PassState → Proc → InsertReply → Type 0
-HasInsertedBy pass old e first r = (reply : Reply) (hint : Option Hint) → inserted_answer r ≡ Op reply hint → HasInserted pass old e first reply hint
+-- The write has ended, and has answered that.
+pub record HasWritten (pass : ℕ) (old e : PassState) (key : ℕ) (does : KeyWrite) (said : Answer) : Type 0 where
+  pub reply : WriteReply
+  pub done : IsDone pass old e (writing key does write.New) (writing key does (write.Over reply))
+  pub answer : write_answer does reply ≡ said
 
--- The same of a deletion.
-pub record HasDeleted (pass : ℕ) (old e : PassState) (first : Proc) (reply : Reply) (hint : Option Hint) : Type 0 where
-  pub last : Delete
-  pub done : IsDone pass old e first (proc.Delete last)
-  pub answer : answer_of (proc.Delete last) ≡ Some (Op reply hint)
+-- From where it held its leaf it has gone on to its end, and its reply is that.
+pub record EndsWrite (h h' : Seat (Unit {0}) (View PassState)) (key : ℕ) (does : KeyWrite) (r : WriteReply) : Type 0 where
+  pub same : IsSameHand h h'
+  pub rests : Rests h'
+  pub empty : HasNoStock h'
+  pub wrote : (pass : ℕ) (old : PassState) → IsSince pass old (known h) → HasWritten pass old (known h') key does (write_answer does r)
+  pub no_room : r ≡ NoRoom → LacksWrite key does h'
 
-abbrev pub HasDeletedBy : ℕ → PassState → PassState → Proc → DeleteReply → Type 0
-HasDeletedBy pass old e first r = (reply : Reply) (hint : Option Hint) → deleted_answer r ≡ Op reply hint → HasDeleted pass old e first reply hint
-
--- The same of a post.
+-- The post that began as first has ended, and has answered that.
 pub record HasPosted (pass : ℕ) (old e : PassState) (first : Proc) (what : Posted) (hint : Option Hint) : Type 0 where
   pub last : Post
   pub done : IsDone pass old e first (proc.Post last)

@@ -1,8 +1,10 @@
 //! Who changes a page that it holds.
 
-ghost use Rattle.std.specs.Prelude.{◌<◌};
+ghost use Rattle.std.specs.Prelude.{◌≡◌, ◌<◌, None};
+ghost use Rattle.bl_model.specs.declared.deciding.Effect.TheVariants as effects;
+ghost use Rattle.bl_model.specs.Writes.{effect_of};
 
-use crate::targets::{Inserting, Posting};
+use crate::targets::{Posting, Writing};
 
 /// Who changes a page that it holds and has got. There is a process that does so, of which there is no value.
 pub(crate) trait Editor {
@@ -36,25 +38,34 @@ pub(crate) trait Editor {
     ghost holds: { (j : Self) (c : Edit) (marks : Trail) → proc_held (editing j c) marks → edit_held (level_at j) (key_at j) c marks };
 }
 
-impl Editor for Inserting {
-    ghost use Rattle.std.specs.Prelude.{refl};
-    ghost use Rattle.bl_proc.specs.declared.kinds.Proc.TheVariants as proc;
-    ghost use Rattle.bl_proc.specs.declared.inserting.InsertStage.TheVariants as insert;
-    ghost use Rattle.bl_proc_unique.proofs.Insertions.{insert_goes};
+/// The entry of a pair in its leaf.
+#[derive(Clone, Copy)]
+pub(crate) struct Entering {
+    pub(crate) target: Writing,
+    pub(crate) value: u64,
+    pub(crate) ghost enters: { effect_of target.write None ≡ effects.Enter value },
+}
 
-    ghost editing = { λ j c. proc.Insert (record { key = j.key; value = j.value; stage = insert.Editing c }) };
+impl Editor for Entering {
+    ghost use Rattle.std.specs.Prelude.{refl, None};
+    ghost use Rattle.bl_proc.specs.declared.writing.WriteStage.TheVariants as stages;
+    ghost use Rattle.bl_proc_unique.proofs.Writings.{write_goes};
+    ghost use Rattle.bl_index_steps.proofs.Held.{enters_held};
+    ghost use Rattle.bl_index_write.specs.Events.{writing};
+
+    ghost editing = { λ j c. writing j.target.key j.target.write (stages.Editing (record { there = None; thin = None }) c) };
 
     ghost level_at = { λ j. 0 };
 
-    ghost key_at = { λ j. j.key };
+    ghost key_at = { λ j. j.target.key };
 
     ghost acts = { λ j c. refl };
 
-    ghost courses = { λ j c what g. insert_goes (record { key = j.key; value = j.value; stage = insert.Editing c }) what refl g };
+    ghost courses = { λ j c what g. write_goes (record { key = j.target.key; write = j.target.write; stage = stages.Editing (record { there = None; thin = None }) c }) what refl g };
 
-    ghost goes = { λ j c d what t. (refl, refl, t) };
+    ghost goes = { λ j c d what t. (refl, refl, (refl, t)) };
 
-    ghost holds = { λ j c marks held. held };
+    ghost holds = { λ j c marks held. enters_held j.target.key j.target.write j.value c marks j.enters held };
 }
 
 /// The listing of a child in its parent, which is below the last level that a tree may have.

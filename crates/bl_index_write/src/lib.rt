@@ -1,20 +1,18 @@
-//! Writers over the pages that threads share: insertions, deletions and posts.
+//! Writers over the pages that threads share: writes of one key, and posts.
 //!
 //! Promised to the index: what each answers, with its hint, and that its process did what a process of its kind does. They go by
 //! their events and by the words of the pages, so that no page is made of words that are only looked at. Where a tree is to get one
 //! more level, which is rare, a post goes by a process value.
 #![tactic(auto)]
 
-mod deleting;
 mod descend;
 mod editors;
 mod halves;
-mod inserting;
 mod placing;
 mod posting;
 mod splitting;
 mod targets;
+mod writing;
 
-pub use deleting::{begin_deletion, delete_key, end_deletion};
-pub use inserting::insert_pair;
 pub use posting::post_key;
+pub use writing::{begin_write, end_write, write_key};

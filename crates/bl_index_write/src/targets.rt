@@ -2,6 +2,8 @@
 
 ghost use Rattle.std.specs.Prelude.{◌<◌, ◌≤◌};
 
+use bl_model::KeyWrite;
+
 /// What a writer comes to a page for. There is a process with this target, of which there is no value.
 pub(crate) trait Target {
     ghost use Rattle.std.specs.Prelude.{◌≡◌, ℕ, None};
@@ -53,23 +55,23 @@ pub(crate) trait Target {
     ghost goes: { (j : Self) (a b : Approach) (what : Seen) → IsPast a → Approaches (level_of j) (key_of j) a what (came.On b) → Takes (at j a) what (at j b) };
 }
 
-/// The insertion of a key with a value.
+/// The write of a key.
 #[derive(Clone, Copy)]
-pub(crate) struct Inserting {
+pub(crate) struct Writing {
     pub(crate) key: u64,
-    pub(crate) value: u64,
+    pub(crate) write: KeyWrite,
 }
 
-impl Target for Inserting {
+impl Target for Writing {
     ghost use Rattle.std.specs.Prelude.{refl};
-    ghost use Rattle.bl_proc.specs.declared.kinds.Proc.TheVariants as proc;
-    ghost use Rattle.bl_proc.specs.declared.inserting.InsertStage.TheVariants as insert;
+    ghost use Rattle.bl_proc.specs.declared.writing.WriteStage.TheVariants as stages;
     ghost use Rattle.bl_proc_base.specs.declared.acts.Seen.TheVariants as seen;
-    ghost use Rattle.bl_proc_unique.proofs.Insertions.{insert_goes};
+    ghost use Rattle.bl_proc_unique.proofs.Writings.{write_goes};
+    ghost use Rattle.bl_index_write.specs.Events.{writing};
 
-    ghost unborn = { λ j. proc.Insert (record { key = j.key; value = j.value; stage = insert.New }) };
+    ghost unborn = { λ j. writing j.key j.write stages.New };
 
-    ghost at = { λ j a. proc.Insert (record { key = j.key; value = j.value; stage = insert.Coming a }) };
+    ghost at = { λ j a. writing j.key j.write (stages.Coming a) };
 
     ghost level_of = { λ j. 0 };
 
@@ -89,65 +91,17 @@ impl Target for Inserting {
 
     ghost begins = { λ j. refl };
 
-    ghost starts = { λ j. insert_goes (record { key = j.key; value = j.value; stage = insert.New }) seen.Done refl tt };
+    ghost starts = { λ j. write_goes (record { key = j.key; write = j.write; stage = stages.New }) seen.Done refl tt };
 
     ghost started = { λ j. (refl, refl, refl) };
 
     ghost acts = { λ j a. refl };
 
-    ghost courses = { λ j a what g. insert_goes (record { key = j.key; value = j.value; stage = insert.Coming a }) what refl g };
+    ghost courses = { λ j a what g. write_goes (record { key = j.key; write = j.write; stage = stages.Coming a }) what refl g };
 
     ghost enters = { λ j a c led t. (refl, refl, t) };
 
     ghost goes = { λ j a b what past t. (refl, refl, t) };
-}
-
-/// The deletion of a key.
-#[derive(Clone, Copy)]
-pub(crate) struct Deleting {
-    pub(crate) key: u64,
-}
-
-impl Target for Deleting {
-    ghost use Rattle.std.specs.Prelude.{refl};
-    ghost use Rattle.bl_proc.specs.declared.kinds.Proc.TheVariants as proc;
-    ghost use Rattle.bl_proc.specs.declared.deleting.DeleteStage.TheVariants as delete;
-    ghost use Rattle.bl_proc_base.specs.declared.acts.Seen.TheVariants as seen;
-    ghost use Rattle.bl_proc_unique.proofs.Deletions.{delete_goes};
-
-    ghost unborn = { λ j. proc.Delete (record { key = j.key; stage = delete.New }) };
-
-    ghost at = { λ j a. proc.Delete (record { key = j.key; stage = delete.Coming a }) };
-
-    ghost level_of = { λ j. 0 };
-
-    ghost key_of = { λ j. j.key };
-
-    ghost IsLedBy = { λ j c. Unit {0} };
-
-    #[inline(always)]
-    fn level(&self) -> u32 {
-        0
-    }
-
-    #[inline(always)]
-    fn key(&self) -> u64 {
-        self.key
-    }
-
-    ghost begins = { λ j. refl };
-
-    ghost starts = { λ j. delete_goes (record { key = j.key; stage = delete.New }) seen.Done refl tt };
-
-    ghost started = { λ j. (refl, refl) };
-
-    ghost acts = { λ j a. refl };
-
-    ghost courses = { λ j a what g. delete_goes (record { key = j.key; stage = delete.Coming a }) what refl g };
-
-    ghost enters = { λ j a c led t. (refl, t) };
-
-    ghost goes = { λ j a b what past t. (refl, t) };
 }
 
 /// The post of a key to a level.

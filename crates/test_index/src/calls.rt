@@ -96,3 +96,18 @@ fn two_threads_insert(rt: HostRuntime) -> Result<(), Fail> {
     assert!(rt; x == 7 && y == 7);
     Ok(())
 }
+
+// A change puts its new value only where the key has the old one.
+#[test]
+fn a_change_looks_at_the_old_value(rt: HostRuntime) -> Result<(), Fail> {
+    let (index, pass, _other) = two_passes(rt.alloc()).ok_or("no index")?;
+    let mut pass = pass;
+    let (inserted, _hint) = index.insert(&rt, &mut pass, 5, 50);
+    assert!(rt; inserted == KeyReply::Inserted);
+    assert!(rt; index.change(&rt, &mut pass, 5, 50, 60) == KeyReply::Changed);
+    assert!(rt; index.change(&rt, &mut pass, 5, 50, 70) == KeyReply::Differs(60));
+    assert!(rt; index.change(&rt, &mut pass, 5, 60, 60) == KeyReply::Changed);
+    assert!(rt; index.change(&rt, &mut pass, 6, 1, 2) == KeyReply::Absent);
+    assert!(rt; index.find(&mut pass, 5, 2) == Ok(KeyReply::Found(60)));
+    Ok(())
+}

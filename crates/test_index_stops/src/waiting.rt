@@ -6,7 +6,8 @@ ghost use Rattle.test_index_stops.specs.Stopped.{IsHeld};
 use crate::begun::{fill, opened};
 use bl_index::{Index, KeyReply, Pass};
 use bl_index_rule::PassState;
-use bl_index_write::{begin_deletion, end_deletion};
+use bl_index_write::{begin_write, end_write};
+use bl_model::KeyWrite;
 use bl_proc::{Hint, Level};
 use bl_store::{Glance, Hand};
 use std::sync::Wait;
@@ -53,7 +54,7 @@ fn hold<R: Wait>(rt: &R, index: &Index, pass: Pass) -> (Hand<PassState>, u32, Gl
     ensures { IsHeld index.now.tree result.0 2 result.1 result.2 }
 {
     let mut hand = pass.into_hand();
-    let (at, glance) = begin_deletion(index.tree(), rt, &mut hand, 2);
+    let (at, glance) = begin_write(index.tree(), rt, &mut hand, 2, KeyWrite::Delete);
     (hand, at, glance)
 }
 
@@ -75,7 +76,7 @@ fn go_on(
     }
     course.goes.store(true, Ordering::SeqCst);
     let answered = is_raised(&course.answered);
-    let (reply, hint) = end_deletion(index.tree(), &mut hand, at, 2, glance);
+    let (reply, hint) = end_write(index.tree(), &mut hand, at, 2, KeyWrite::Delete, glance);
     (waits && answered, reply, hint)
 }
 
