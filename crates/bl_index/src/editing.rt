@@ -16,9 +16,9 @@ use std::sync::Wait;
 impl Index {
     ghost use Rattle.bl_index.specs.Calls.{first_of, IsPassOf, IsSamePass, number_of, trail, Writes, InsertLacks, WriteLacks, MetNoRoom, StepsAlone};
 
-    // Carries a write of the key out.
+    /// Writes the key so: an insertion, a deletion or a change, each of which is also a call of its own, below.
     #[inline(always)]
-    fn write<R: Wait>(
+    pub fn write<R: Wait>(
         &self,
         rt: &R,
         pass: &mut Pass,
