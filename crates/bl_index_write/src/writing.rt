@@ -336,10 +336,8 @@ pub fn end_write(
     ensures wrote { (pass : ℕ) (old : Knows) → IsSince pass old (known hand.old.seat) → HasWritten pass old (known hand.new.seat) key write (answers.Op (reply_of result.0) result.1) }
     ensures no_room { result.0 ≡ replies.NoRoom → LacksWrite key write hand.new.seat }
 {
-    answer_of(
-        write,
-        write_there(tree, hand, at, Writing { key, write }, glance),
-    )
+    let reply = write_there(tree, hand, at, Writing { key, write }, glance);
+    answer_of(write, reply)
 }
 
 /// Carries a write out, from its begin to its end.
