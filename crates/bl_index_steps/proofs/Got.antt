@@ -41,7 +41,17 @@ use Rattle.bl_proc_invariant.specs.Knowing.{write_end, end_of_proc}
 use Rattle.bl_proc_invariant.proofs.Holdings.{none_of}
 use Rattle.bl_proc_invariant.proofs.Logging.{latched_on}
 use Rattle.bl_index_steps.specs.Refused.{GotLatched, GotHeld, GotAnchor}
-use Rattle.bl_index_steps.specs.Held.{LatchedLast, GotAt, approach_held, edit_held, growth_held, leaf_held, write_held, post_held, proc_held}
+use Rattle.bl_index_steps.specs.Held.{LatchedLast, GotAt, approach_held, edit_held, growth_held, IfInsert, write_held, post_held, proc_held}
+
+pub if_insert : (does : KeyWrite) {P Q : Type 0} → (P → Q) → IfInsert does P → IfInsert does Q
+if_insert (Insert value) f p = f p
+if_insert Delete f p = tt
+if_insert (Change old new) f p = tt
+
+insert_all : (does : KeyWrite) {P : Type 0} → P → IfInsert does P
+insert_all (Insert value) p = p
+insert_all Delete p = tt
+insert_all (Change old new) p = tt
 
 module _ (marks : Trail) (m : Mark) where
   abbrev more : Trail
@@ -106,16 +116,11 @@ module _ (marks : Trail) (m : Mark) where
   editing level key (EditCase.OpenedNew x y separator d t) = subst (λ (z : Edit). edit_held level key z more) (sym t) tt
 
   -- a write
-  changing : (key : ℕ) (does : KeyWrite) (there : Option ℕ) (x : ℕ) (c : Page) (d : Edit) → Performs (effect_of does there) x c key d → GotAt 0 key more x c → leaf_held key does d more
+  changing : (key : ℕ) (does : KeyWrite) (there : Option ℕ) (x : ℕ) (c : Page) (d : Edit) → Performs (effect_of does there) x c key d → GotAt 0 key more x c → IfInsert does (edit_held 0 key d more)
   changing key (Insert value) None x c d t h = entering 0 key x value c d t h
   changing key (Insert value) (Some there) x c d t h = absurd t
   changing key Delete there x c d t h = tt
   changing key (Change old new) there x c d t h = tt
-
-  changed_on : (key : ℕ) (does : KeyWrite) {c d : Edit} {what : Seen} → EditCase c what (changed.On d) → leaf_held key does d more
-  changed_on key (Insert value) t = editing 0 key t
-  changed_on key Delete t = tt
-  changed_on key (Change old new) t = tt
 
   writing : {key : ℕ} {does : KeyWrite} {old new : WriteStage} {what : Seen} → WriteCase key does old what new → m.event.act ≡ event_of (write_end does old) (write_next_in old) what → ((x : ℕ) (c : Page) → m.event.act ≡ Get x → what ≡ seen.Words c → m.saw ≡ Some c) → write_held key does old marks → write_held key does new more
   writing (WriteCase.Began a t) did saw h = subst (λ (z : Approach). approach_held z more) (sym t) tt
@@ -123,7 +128,7 @@ module _ (marks : Trail) (m : Mark) where
   writing (WriteCase.Kept x c y there l t) did saw h = tt
   writing {key = key} {does = does} (WriteCase.Changed x c noted d l t) did saw h = changing key does noted.there x c d t.1 (record { got = got_now x c did (saw x c did refl) h; level_is = l.2; covers = l.1 })
   writing (WriteCase.Opened x there last t) did saw h = tt
-  writing {key = key} {does = does} (WriteCase.Edited noted c what same d t) did saw h = changed_on key does (edit_case c what _ t.1)
+  writing {key = key} {does = does} (WriteCase.Edited noted c what same d t) did saw h = insert_all does (editing 0 key (edit_case c what _ t.1))
   writing (WriteCase.Finished noted c what last t) did saw h = tt
   writing (WriteCase.Ended r last t) did saw h = tt
 
@@ -200,16 +205,11 @@ waiting_growth level (growth.OpeningTop x) e marks = tt
 waiting_growth level growth.OpeningGrown e marks = tt
 waiting_growth level growth.OpeningRefused e marks = tt
 
-waiting_leaf : (key : ℕ) (does : KeyWrite) (c : Edit) → edit_next c ≡ act.Begin → (marks : Trail) → leaf_held key does c marks
-waiting_leaf key (Insert value) c e marks = waiting_edit 0 key c e marks
-waiting_leaf key Delete c e marks = tt
-waiting_leaf key (Change old new) c e marks = tt
-
 waiting_write : (key : ℕ) (does : KeyWrite) (a : WriteStage) → write_next_in a ≡ act.Begin → (marks : Trail) → write_held key does a marks
 waiting_write key does write.New e marks = tt
 waiting_write key does (write.Coming a) e marks = waiting_way a e marks
 waiting_write key does (write.Keeping x there) e marks = tt
-waiting_write key does (write.Editing noted c) e marks = waiting_leaf key does c e marks
+waiting_write key does (write.Editing noted c) e marks = insert_all does (waiting_edit 0 key c e marks)
 waiting_write key does (write.Ending r) e marks = tt
 waiting_write key does (write.Over r) e marks = tt
 

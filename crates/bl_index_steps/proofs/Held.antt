@@ -26,7 +26,7 @@ use Rattle.bl_index_rule.specs.declared.known.PassState.{PassState}
 use Rattle.bl_index_rule.specs.Observed.{Notes, Begins, Goes, Finishes}
 use Rattle.bl_index_rule.proofs.Marks.{no_marks}
 use Rattle.bl_index_steps.specs.Refused.{GotHeld, GotAnchor}
-use Rattle.bl_index_steps.specs.Held.{own_marks, KeepsLatch, edit_held, leaf_held, proc_held}
+use Rattle.bl_index_steps.specs.Held.{own_marks, KeepsLatch, edit_held, IfInsert, proc_held}
 use Rattle.bl_index_steps.proofs.Got.{held_still, anchor_still, held_turn, waiting_held}
 
 -- events of other passes
@@ -122,7 +122,7 @@ pub open_latches_not : (d : PassState) (x : ℕ) → next_of d.state ≡ act.Ope
 open_latches_not d x next y latches = (let f : act.Open x ≡ act.Latch y = sym next ∙ latches in cc)
 
 -- only an insertion enters a pair
-pub enters_held : (key : ℕ) (does : KeyWrite) (value : ℕ) (c : Edit) (marks : Trail) → effect_of does None ≡ Enter value → leaf_held key does c marks → edit_held 0 key c marks
+pub enters_held : (key : ℕ) (does : KeyWrite) (value : ℕ) (c : Edit) (marks : Trail) → effect_of does None ≡ Enter value → IfInsert does (edit_held 0 key c marks) → edit_held 0 key c marks
 enters_held key (Insert v) value c marks e held = held
 enters_held key Delete value c marks e held = absurd (let f : Keep ≡ Enter value = e in cc)
 enters_held key (Change old new) value c marks e held = absurd (let f : Keep ≡ Enter value = e in cc)

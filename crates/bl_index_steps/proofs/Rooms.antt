@@ -32,7 +32,7 @@ use Rattle.bl_proc.specs.Writes.{write_reply, post_hint}
 use Rattle.bl_proc_base.specs.Thin.{thin_hint}
 use Rattle.bl_proc.specs.Posts.{post_reply}
 use Rattle.bl_index_steps.specs.Refused.{HasRoom, IsFull, GotHeld}
-use Rattle.bl_index_steps.specs.Held.{own_marks, KeepsLatch, leaf_held, proc_held, AsksFor}
+use Rattle.bl_index_steps.specs.Held.{own_marks, KeepsLatch, IfInsert, edit_held, proc_held, AsksFor}
 use Rattle.bl_index_steps.specs.Rooms.{LacksPage, LacksWrite, LacksPost, LacksAsked, TellsRoom}
 use Rattle.bl_index_steps.specs.Runs.{Moves}
 use Rattle.bl_index_steps.proofs.Held.{goes_keeps, keeps_held}
@@ -112,7 +112,7 @@ lacks_on level key h h' same latch lacks = elim lacks [
 ]
 
 -- for a frame, where its leaf was to be put
-pub lacks_frame : (key : ℕ) (does : KeyWrite) (at : ℕ) (p : Page) (d : PassState) (h : H) → leaf_held key does (edit.Putting at p) (own_marks d) → KeepsLatch d (known h) → WasRefused h 0 1 → LacksWrite key does h
+pub lacks_frame : (key : ℕ) (does : KeyWrite) (at : ℕ) (p : Page) (d : PassState) (h : H) → IfInsert does (edit_held 0 key (edit.Putting at p) (own_marks d)) → KeepsLatch d (known h) → WasRefused h 0 1 → LacksWrite key does h
 lacks_frame key (Insert value) at p d h held latch was = inl (was, keeps_held 0 key HasRoom d (known h) latch held)
 lacks_frame key Delete at p d h held latch was = was
 lacks_frame key (Change old new) at p d h held latch was = was

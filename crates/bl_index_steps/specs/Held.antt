@@ -72,17 +72,17 @@ growth_held level (growth.OpeningTop x) marks = Unit {0}
 growth_held level growth.OpeningGrown marks = Unit {0}
 growth_held level growth.OpeningRefused marks = Unit {0}
 
--- of its leaf; only an insertion needs to know what that had room for
-abbrev pub leaf_held : ℕ → KeyWrite → Edit → Trail → Type 0
-leaf_held key (Insert value) c marks = edit_held 0 key c marks
-leaf_held key Delete c marks = Unit {0}
-leaf_held key (Change old new) c marks = Unit {0}
+-- what only an insertion needs to know: a deletion or a change asks for the same whatever its leaf had room for
+abbrev pub IfInsert : KeyWrite → Type 0 → Type 0
+IfInsert (Insert value) P = P
+IfInsert Delete P = Unit {0}
+IfInsert (Change old new) P = Unit {0}
 
 abbrev pub write_held : ℕ → KeyWrite → WriteStage → Trail → Type 0
 write_held key does write.New marks = Unit {0}
 write_held key does (write.Coming a) marks = approach_held a marks
 write_held key does (write.Keeping x there) marks = Unit {0}
-write_held key does (write.Editing noted c) marks = leaf_held key does c marks
+write_held key does (write.Editing noted c) marks = IfInsert does (edit_held 0 key c marks)
 write_held key does (write.Ending r) marks = Unit {0}
 write_held key does (write.Over r) marks = Unit {0}
 
@@ -109,14 +109,9 @@ proc_held (proc.Lower p) marks = Unit {0}
 abbrev pub AsksForPage : ℕ → ℕ → ℕ × ℕ → Trail → Type 0
 AsksForPage level key ask marks = ((ask ≡ (0, 1)) × GotHeld level key marks HasRoom) ⊎ ((ask ≡ (1, 2)) × GotHeld level key marks IsFull)
 
-abbrev pub AsksForLeaf : ℕ → KeyWrite → ℕ × ℕ → Trail → Type 0
-AsksForLeaf key (Insert value) ask marks = AsksForPage 0 key ask marks
-AsksForLeaf key Delete ask marks = Unit {0}
-AsksForLeaf key (Change old new) ask marks = Unit {0}
-
 abbrev pub AsksFor : Proc → ℕ × ℕ → Trail → Type 0
 AsksFor (proc.Find p) ask marks = Unit {0}
-AsksFor (proc.Write p) ask marks = AsksForLeaf p.key p.write ask marks
+AsksFor (proc.Write p) ask marks = IfInsert p.write (AsksForPage 0 p.key ask marks)
 AsksFor (proc.Post p) ask marks = AsksForPage p.level p.key ask marks ⊎ ((ask ≡ (1, 2)) × GotAnchor p.level marks)
 AsksFor (proc.Part p) ask marks = Unit {0}
 AsksFor (proc.Compress p) ask marks = Unit {0}
