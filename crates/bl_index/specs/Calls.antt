@@ -66,7 +66,7 @@ MetNoRoom pass pages frames = WasRefused pass.hand.seat pages frames
 abbrev pub InsertLacks : Pass → ℕ → Pass → Type 0
 InsertLacks old key new = InCall (number_of old) (Some reply.NoRoom) (trail old) (trail new) (λ marks. LacksForPage 0 key marks (MetNoRoom new))
 
--- So did any write of it.
+-- The same of any write of it: a deletion or a change puts its leaf again, and wants one frame.
 abbrev pub WriteLacks : Pass → ℕ → KeyWrite → Pass → Type 0
 WriteLacks old key (Insert value) new = InsertLacks old key new
 WriteLacks old key Delete new = MetNoRoom new 0 1

@@ -11,7 +11,6 @@ use Rattle.bl_claims.specs.Trails.{Trail, history_of}
 use Rattle.bl_claims.specs.Seeing.{first_map, IsSeen, own, GoesOnFrom}
 use Rattle.bl_index_read.specs.Searching.{Finds, RunsOut}
 use Rattle.bl_index_read.specs.declared.leaf_rows.Behind.{Behind}
-use Rattle.bl_index_read.specs.declared.leaf_rows.Behind.TheVariants as behind
 use Rattle.bl_index.specs.declared.scanning.ScanFault.{ScanFault}
 use Rattle.bl_index.specs.declared.scanning.ScanFault.TheVariants.{Memory, OutOfTurns}
 use Rattle.bl_index_read.specs.LeafRows.{is_below, IsBelow, IsOver, GoesOnWithin}

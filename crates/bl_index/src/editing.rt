@@ -16,9 +16,9 @@ use std::sync::Wait;
 impl Index {
     ghost use Rattle.bl_index.specs.Calls.{first_of, IsPassOf, IsSamePass, number_of, trail, Writes, InsertLacks, WriteLacks, MetNoRoom, StepsAlone};
 
-    // Carries a write of the key out.
+    /// Writes the key so: an insertion, a deletion or a change, each of which is also a call of its own, below.
     #[inline(always)]
-    fn write<R: Wait>(
+    pub fn write<R: Wait>(
         &self,
         rt: &R,
         pass: &mut Pass,
@@ -66,14 +66,7 @@ impl Index {
     /// Puts the new value at the key in place of the old one, where the key has that, in one step: no other call sees the key
     /// without a value meanwhile. It answers `Changed`; `Differs` with the value that the key has, where that is another one;
     /// `Absent`; or `NoRoom`. A change takes one frame, also where the new value is the old one; the other answers take none.
-    pub fn change<R: Wait>(
-        &self,
-        rt: &R,
-        pass: &mut Pass,
-        key: u64,
-        old: u64,
-        new: u64,
-    ) -> KeyReply
+    pub fn change<R: Wait>(&self, rt: &R, pass: &mut Pass, key: u64, old: u64, new: u64) -> KeyReply
         requires { IsPassOf self.now pass.old }
         ensures same { IsSamePass pass.old pass.new }
         ensures changes { Writes (first_of self.now) (number_of pass.old) (op.Change key old new) (reply_of result) None (trail pass.old) (trail pass.new) }

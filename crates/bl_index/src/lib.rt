@@ -25,7 +25,7 @@ mod scanning;
 mod sweeping;
 
 pub use bl_index_read::OutOfTurns;
-pub use bl_model::{KeyReply, Next, Reply};
+pub use bl_model::{KeyReply, KeyWrite, Next, Reply};
 pub use bl_proc::{Hint, Level, Lowered, Posted, Squeezed};
 pub use config::{CloseFault, Config, OpenFault};
 pub use index::{Index, Pass};

@@ -34,9 +34,7 @@ use bl_index_steps::{FrameView, Tree};
 use bl_model::{Effect, KeyReply, KeyWrite, decide};
 use bl_page::{LEVEL_UNIT, place_in, word, words_from};
 use bl_proc::{Hint, Noted, WriteReply};
-use bl_proc_base::{
-    Level, Outcome, hint_of_thin, thin_in, words_with_value, words_without,
-};
+use bl_proc_base::{Level, Outcome, hint_of_thin, thin_in, words_with_value, words_without};
 use bl_store::{Glance, Hand, Spread};
 use std::sync::Wait;
 
@@ -338,7 +336,8 @@ pub fn end_write(
     ensures wrote { (pass : ℕ) (old : Knows) → IsSince pass old (known hand.old.seat) → HasWritten pass old (known hand.new.seat) key write (answers.Op (reply_of result.0) result.1) }
     ensures no_room { result.0 ≡ replies.NoRoom → LacksWrite key write hand.new.seat }
 {
-    answer_of(write, write_there(tree, hand, at, Writing { key, write }, glance))
+    let reply = write_there(tree, hand, at, Writing { key, write }, glance);
+    answer_of(write, reply)
 }
 
 /// Carries a write out, from its begin to its end.

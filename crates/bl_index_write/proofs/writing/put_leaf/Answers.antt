@@ -1,4 +1,4 @@
-use Rattle.std.proofs.Common.{refl, ap, ◌∙◌}
+use Rattle.std.proofs.Common.{ap, ◌∙◌}
 use Rattle.bl_proc.specs.Processes.{next_of}
 use Rattle.bl_proc.specs.Writes.{write_reply}
 use Rattle.bl_index_steps.proofs.Standing.{goes_put}
