@@ -269,9 +269,10 @@ fn seated<'a>(
     requires { AreSeatsOf map.now seats.items }
     ensures { IfOk result (λ workers. All (IsOf map.now) workers.items) }
 {
+    let mut seats = seats;
     let mut workers = Vec::new(alloc);
     let mut drawn = load.seed;
-    for seat in seats {
+    while let Some(seat) = seats.pop() {
         drawn = after(drawn ^ 0x9e37_79b9);
         workers.push(Worker {
             handle: map.handle(seat),
@@ -290,8 +291,9 @@ fn seats_of(alloc: Global, map: &Map, workers: Vec<Worker<'_>>) -> Result<Vec<Se
     requires { All (IsOf map.now) workers.items }
     ensures { IfOk result (λ seats. AreSeatsOf map.now seats.items) }
 {
+    let mut workers = workers;
     let mut seats = Vec::new(alloc);
-    for worker in workers {
+    while let Some(worker) = workers.pop() {
         seats.push(worker.handle.into_seat())?;
     }
     Ok(seats)
