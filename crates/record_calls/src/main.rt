@@ -299,6 +299,16 @@ fn seats_of(alloc: Global, map: &Map, workers: Vec<Worker<'_>>) -> Result<Vec<Se
     Ok(seats)
 }
 
+/// Whether a worker has failed.
+fn has_failed(workers: &[Worker<'_>]) -> bool {
+    for worker in workers {
+        if worker.has_failed {
+            return true;
+        }
+    }
+    false
+}
+
 /// Prints the calls of a round.
 fn print<W: Write + Drop>(out: &mut W, workers: &[Worker<'_>]) -> io::Result<()> {
     for (thread, worker) in workers.iter().enumerate() {
@@ -311,9 +321,6 @@ fn print<W: Write + Drop>(out: &mut W, workers: &[Worker<'_>]) -> io::Result<()>
                 reply,
             } = *call;
             writeln!(out, "{thread} {begin} {end} {key} {asked:?} {reply:?}")?;
-        }
-        if worker.has_failed {
-            writeln!(out, "failed")?;
         }
     }
     writeln!(out, "round")
@@ -333,6 +340,9 @@ fn take_round<R: Threads + Wait + Clock + Sync, W: Write + Drop>(
 {
     let mut workers = seated(alloc, map, seats, round.load)?;
     work_all(rt, map, workers.as_mut_slice(), round);
+    if has_failed(workers.as_slice()) {
+        anyhow::bail!("there was no memory for a call, or the clock failed");
+    }
     if round.load.is_printed {
         print(out, workers.as_slice())?;
     }
