@@ -6,7 +6,9 @@ use Rattle.bl_model.specs.declared.deciding.KeyWrite.{KeyWrite}
 use Rattle.bl_model.specs.declared.deciding.KeyWrite.TheVariants.{Insert, Delete, Change}
 use Rattle.bl_model.specs.declared.operation.Reply.{Reply}
 use Rattle.bl_model.specs.declared.operation.Reply.TheVariants as reply
-use Rattle.bl_model.specs.Writes.{replied}
+use Rattle.bl_model.specs.declared.deciding.Effect.{Effect}
+use Rattle.bl_model.specs.declared.deciding.Effect.TheVariants.{Keep, Enter, Remove, Replace}
+use Rattle.bl_model.specs.Writes.{effect_of, replied}
 use Rattle.bl_page.specs.declared.page.Page.{Page}
 use Rattle.bl_claims.specs.Trails.{Trail}
 use Rattle.bl_proc_base.specs.declared.answers.Answer.TheVariants.{Op}
@@ -16,12 +18,13 @@ use Rattle.bl_proc.specs.declared.writing.WriteReply.TheVariants as written
 use Rattle.bl_proc.specs.Writes.{write_answer}
 use Rattle.bl_proc_meanings.specs.Hinted.{MeansWritten}
 use Rattle.bl_store.specs.Hands.{known, WasRefused}
-use Rattle.bl_index_steps.specs.Refused.{LacksForPage}
+use Rattle.bl_index_steps.specs.Refused.{LacksForPage, LacksForEffect}
+use Rattle.bl_index_steps.specs.Held.{own_marks}
 use Rattle.bl_index_steps.specs.Rooms.{LacksWrite}
 use Rattle.bl_index_steps.proofs.Ends.{op_in_call}
 use Rattle.bl_index_write.specs.Events.{HasWritten}
 use Rattle.bl_index.specs.declared.index.Pass.{Pass}
-use Rattle.bl_index.specs.Calls.{number_of, WriteLacks}
+use Rattle.bl_index.specs.Calls.{number_of, MetNoRoom, InsertLacks, EffectLacks, WriteLacks}
 
 same_reply : (a b : Reply) (h i : Option Hint) → Op a h ≡ Op b i → a ≡ b
 same_reply a b h i e = cc
@@ -43,7 +46,27 @@ change_unhinted does old new (written.Done there h) said hint marks is e means =
 change_unhinted does old new written.NoRoom said hint marks is e means = sym (same_hint _ _ _ _ e)
 
 -- what a call lacks that found no room
+effect_lacks : (first : List (Option Page)) (old new : Pass) (key : ℕ) (does : KeyWrite) (hint : Option Hint) (effect : Effect) → HasWritten (number_of old) (known old.hand.seat) (known new.hand.seat) key does (Op reply.NoRoom hint) → (known old.hand.seat).first ≡ first → LacksForEffect effect key (own_marks (known new.hand.seat)) (WasRefused new.hand.seat) → EffectLacks effect old key new
+effect_lacks first old new key does hint Keep wrote is lacks = absurd lacks
+effect_lacks first old new key does hint (Enter value) wrote is lacks = op_in_call first _ _ (known new.hand.seat) _ _ _ _ _ (λ marks. LacksForPage 0 key marks (WasRefused new.hand.seat)) wrote.done is refl (ap Some wrote.answer) lacks
+effect_lacks first old new key does hint Remove wrote is lacks = lacks
+effect_lacks first old new key does hint (Replace value) wrote is lacks = lacks
+
 pub write_lacks : (first : List (Option Page)) (old new : Pass) (key : ℕ) (does : KeyWrite) (hint : Option Hint) → HasWritten (number_of old) (known old.hand.seat) (known new.hand.seat) key does (Op reply.NoRoom hint) → (known old.hand.seat).first ≡ first → LacksWrite key does new.hand.seat → WriteLacks old key does new
-write_lacks first old new key (Insert value) hint wrote is lacks = op_in_call first _ _ (known new.hand.seat) _ _ _ _ _ (λ marks. LacksForPage 0 key marks (WasRefused new.hand.seat)) wrote.done is refl (ap Some wrote.answer) lacks
-write_lacks first old new key Delete hint wrote is lacks = lacks
-write_lacks first old new key (Change was next) hint wrote is lacks = lacks
+write_lacks first old new key does hint wrote is (there, lacks) = (there, effect_lacks first old new key does hint (effect_of does there) wrote is lacks)
+
+-- an insertion enters a pair; a deletion and a change put a leaf again
+pub insert_lacks : (old new : Pass) (key value : ℕ) → WriteLacks old key (Insert value) new → InsertLacks old key new
+insert_lacks old new key value (None, lacks) = lacks
+insert_lacks old new key value (Some there, lacks) = absurd lacks
+
+pub delete_lacks : (old new : Pass) (key : ℕ) → WriteLacks old key Delete new → MetNoRoom new 0 1
+delete_lacks old new key (None, lacks) = absurd lacks
+delete_lacks old new key (Some there, lacks) = lacks
+
+pub change_lacks : (old new : Pass) (key was next : ℕ) → WriteLacks old key (Change was next) new → MetNoRoom new 0 1
+change_lacks old new key was next (None, lacks) = absurd lacks
+change_lacks old new key was next (Some there, lacks) = elim (cases_eq there was) [
+  | inl same ↦ (let e : (there == was) ≡ true = grind arith in subst (λ z. EffectLacks z old key new) (let f : effect_of (Change was next) (Some there) ≡ Replace next = rw e refl in f) lacks)
+  | inr other ↦ (let e : (there == was) ≡ false = grind (arith, other) in absurd (subst (λ z. EffectLacks z old key new) (let f : effect_of (Change was next) (Some there) ≡ Keep = rw e refl in f) lacks))
+]

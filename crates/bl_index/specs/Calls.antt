@@ -3,7 +3,9 @@ use Rattle.std.specs.Prelude.{◌≡◌, ◌≢◌, ℕ, ◌++◌, Option, Some,
 use Rattle.bl_model.specs.Map.{Map, IsMapStep}
 use Rattle.bl_model.specs.History.{final_map}
 use Rattle.bl_model.specs.declared.deciding.KeyWrite.{KeyWrite}
-use Rattle.bl_model.specs.declared.deciding.KeyWrite.TheVariants.{Insert, Delete, Change}
+use Rattle.bl_model.specs.declared.deciding.Effect.{Effect}
+use Rattle.bl_model.specs.declared.deciding.Effect.TheVariants.{Keep, Enter, Remove, Replace}
+use Rattle.bl_model.specs.Writes.{effect_of}
 use Rattle.bl_model.specs.declared.operation.Op.{Op}
 use Rattle.bl_model.specs.declared.operation.Reply.{Reply}
 use Rattle.bl_model.specs.declared.operation.Reply.TheVariants as reply
@@ -66,11 +68,16 @@ MetNoRoom pass pages frames = WasRefused pass.hand.seat pages frames
 abbrev pub InsertLacks : Pass → ℕ → Pass → Type 0
 InsertLacks old key new = InCall (number_of old) (Some reply.NoRoom) (trail old) (trail new) (λ marks. LacksForPage 0 key marks (MetNoRoom new))
 
--- The same of any write of it: a deletion or a change puts its leaf again, and wants one frame.
+-- The same of any write of it, by what it is to do: a leaf that loses the pair, or gets another value with the key, is put again, and
+-- wants one frame; and a leaf that stays wants none.
+abbrev pub EffectLacks : Effect → Pass → ℕ → Pass → Type 0
+EffectLacks Keep old key new = ⊥
+EffectLacks (Enter value) old key new = InsertLacks old key new
+EffectLacks Remove old key new = MetNoRoom new 0 1
+EffectLacks (Replace value) old key new = MetNoRoom new 0 1
+
 abbrev pub WriteLacks : Pass → ℕ → KeyWrite → Pass → Type 0
-WriteLacks old key (Insert value) new = InsertLacks old key new
-WriteLacks old key Delete new = MetNoRoom new 0 1
-WriteLacks old key (Change was next) new = MetNoRoom new 0 1
+WriteLacks old key does new = (there : Option ℕ) × EffectLacks (effect_of does there) old key new
 
 -- A post of that key to that level found none for its parent, or for a new top level.
 abbrev pub PostLacks : Pass → ℕ → ℕ → Pass → Type 0

@@ -10,6 +10,7 @@ use Rattle.bl_proc_base.specs.declared.growing.Growth.TheVariants as growth
 use Rattle.bl_proc_base.specs.Edits.{edit_next, edit_needs}
 use Rattle.bl_proc_base.specs.Growths.{growth_next, growth_needs}
 use Rattle.bl_model.specs.declared.deciding.KeyWrite.{KeyWrite}
+use Rattle.bl_model.specs.Writes.{effect_of}
 use Rattle.bl_proc.specs.declared.writing.WriteStage.{WriteStage}
 use Rattle.bl_proc.specs.declared.writing.WriteStage.TheVariants as write
 use Rattle.bl_proc.specs.declared.posting.Post.{Post as PostIs}
@@ -23,9 +24,9 @@ use Rattle.bl_proc.specs.Processes.{next_of, needs_of, Takes}
 use Rattle.bl_index_rule.specs.declared.known.PassState.{PassState}
 use Rattle.bl_index_rule.specs.Observed.{Goes}
 use Rattle.bl_index_steps.specs.Refused.{HasRoom, IsFull, GotAnchor}
-use Rattle.bl_index_steps.specs.Held.{own_marks, KeepsLatch, edit_held, growth_held, IfInsert, write_held, post_held, proc_held, AsksForPage, AsksFor}
+use Rattle.bl_index_steps.specs.Held.{own_marks, KeepsLatch, edit_held, growth_held, write_held, post_held, proc_held, AsksForPage, AsksForWrite, AsksFor}
 use Rattle.bl_index_steps.proofs.Held.{goes_keeps, keeps_held, keeps_anchor}
-use Rattle.bl_index_steps.proofs.Got.{if_insert}
+use Rattle.bl_index_steps.proofs.Got.{if_enters}
 
 same_ask : {a b : ℕ × ℕ} → Some a ≡ Some b → b ≡ a
 same_ask {a} {b} e = (let f : b ≡ a = cc in f)
@@ -52,8 +53,8 @@ growth_asks level (growth.OpeningTop x) ask marks e held = no_ask e
 growth_asks level growth.OpeningGrown ask marks e held = no_ask e
 growth_asks level growth.OpeningRefused ask marks e held = no_ask e
 
-write_asks : (key : ℕ) (does : KeyWrite) (a : WriteStage) (ask : ℕ × ℕ) (marks : Trail) → write_needs_in a ≡ Some ask → write_held key does a marks → IfInsert does (AsksForPage 0 key ask marks)
-write_asks key does (write.Editing noted c) ask marks e held = if_insert does (edit_asks 0 key c ask marks e) held
+write_asks : (key : ℕ) (does : KeyWrite) (a : WriteStage) (ask : ℕ × ℕ) (marks : Trail) → write_needs_in a ≡ Some ask → write_held key does a marks → AsksForWrite key does ask marks
+write_asks key does (write.Editing noted c) ask marks e held = (noted.there, if_enters (effect_of does noted.there) (edit_asks 0 key c ask marks e) held)
 write_asks key does write.New ask marks e held = no_ask e
 write_asks key does (write.Coming a) ask marks e held = no_ask e
 write_asks key does (write.Keeping x there) ask marks e held = no_ask e
@@ -119,7 +120,7 @@ page_keeps level key ask d e latch asks = elim asks [
 
 pub asks_keep : (p : Proc) (ask : ℕ × ℕ) (d e : PassState) → KeepsLatch d e → AsksFor p ask (own_marks d) → AsksFor p ask (own_marks e)
 asks_keep (Find p) ask d e latch asks = tt
-asks_keep (Write p) ask d e latch asks = if_insert p.write (page_keeps 0 p.key ask d e latch) asks
+asks_keep (Write p) ask d e latch asks = (asks.0, if_enters (effect_of p.write asks.0) (page_keeps 0 p.key ask d e latch) asks.1)
 asks_keep (Post p) ask d e latch asks = elim asks [
   | inl page ↦ inl (page_keeps p.level p.key ask d e latch page)
   | inr top ↦ inr (top.0, keeps_anchor p.level d e latch top.1)
@@ -141,7 +142,7 @@ asks_observed (Lower p) ask d e what is needs held goes = tt
 
 -- the process goes on
 pub asks_on : (p : Proc) (what : Seen) (q : Proc) (ask : ℕ × ℕ) (marks : Trail) → Takes p what q → AsksFor p ask marks → AsksFor q ask marks
-asks_on (Write p) what (Write q) ask marks t asks = subst (λ (z : ℕ × KeyWrite). IfInsert z.1 (AsksForPage 0 z.0 ask marks)) (λ i. (sym t.0 i, sym t.1 i)) asks
+asks_on (Write p) what (Write q) ask marks t asks = subst (λ (z : ℕ × KeyWrite). AsksForWrite z.0 z.1 ask marks) (λ i. (sym t.0 i, sym t.1 i)) asks
 asks_on (Post p) what (Post q) ask marks t asks = elim asks [
   | inl page ↦ inl (subst (λ (z : ℕ × ℕ). AsksForPage z.0 z.1 ask marks) (λ i. (sym t.0 i, sym t.1 i)) page)
   | inr top ↦ inr (top.0, subst (λ (k : ℕ). GotAnchor k marks) (sym t.0) top.1)

@@ -23,8 +23,10 @@ use Rattle.bl_proc_base.specs.Approaches.{approach_next, Approaches}
 use Rattle.bl_proc_base.specs.Edits.{edit_next, EntersPair}
 use Rattle.bl_proc_base.specs.Growths.{growth_next}
 use Rattle.bl_model.specs.declared.deciding.KeyWrite.{KeyWrite}
-use Rattle.bl_model.specs.declared.deciding.KeyWrite.TheVariants.{Insert, Delete, Change}
+use Rattle.bl_model.specs.declared.deciding.Effect.{Effect}
+use Rattle.bl_model.specs.declared.deciding.Effect.TheVariants.{Keep, Enter, Remove, Replace}
 use Rattle.bl_model.specs.Writes.{effect_of}
+use Rattle.bl_proc.specs.declared.writing.Noted.{Noted}
 use Rattle.bl_proc.specs.declared.writing.WriteStage.{WriteStage}
 use Rattle.bl_proc.specs.declared.writing.WriteStage.TheVariants as write
 use Rattle.bl_proc.specs.declared.posting.PostStage.{PostStage}
@@ -41,17 +43,13 @@ use Rattle.bl_proc_invariant.specs.Knowing.{write_end, end_of_proc}
 use Rattle.bl_proc_invariant.proofs.Holdings.{none_of}
 use Rattle.bl_proc_invariant.proofs.Logging.{latched_on}
 use Rattle.bl_index_steps.specs.Refused.{GotLatched, GotHeld, GotAnchor}
-use Rattle.bl_index_steps.specs.Held.{LatchedLast, GotAt, approach_held, edit_held, growth_held, IfInsert, write_held, post_held, proc_held}
+use Rattle.bl_index_steps.specs.Held.{LatchedLast, GotAt, approach_held, edit_held, growth_held, IfEnters, write_held, post_held, proc_held}
 
-pub if_insert : (does : KeyWrite) {P Q : Type 0} → (P → Q) → IfInsert does P → IfInsert does Q
-if_insert (Insert value) f p = f p
-if_insert Delete f p = tt
-if_insert (Change old new) f p = tt
-
-insert_all : (does : KeyWrite) {P : Type 0} → P → IfInsert does P
-insert_all (Insert value) p = p
-insert_all Delete p = tt
-insert_all (Change old new) p = tt
+pub if_enters : (effect : Effect) {P Q : Type 0} → (P → Q) → IfEnters effect P → IfEnters effect Q
+if_enters Keep f p = absurd p
+if_enters (Enter value) f p = f p
+if_enters Remove f p = tt
+if_enters (Replace value) f p = tt
 
 module _ (marks : Trail) (m : Mark) where
   abbrev more : Trail
@@ -116,19 +114,20 @@ module _ (marks : Trail) (m : Mark) where
   editing level key (EditCase.OpenedNew x y separator d t) = subst (λ (z : Edit). edit_held level key z more) (sym t) tt
 
   -- a write
-  changing : (key : ℕ) (does : KeyWrite) (there : Option ℕ) (x : ℕ) (c : Page) (d : Edit) → Performs (effect_of does there) x c key d → GotAt 0 key more x c → IfInsert does (edit_held 0 key d more)
-  changing key (Insert value) None x c d t h = entering 0 key x value c d t h
-  changing key (Insert value) (Some there) x c d t h = absurd t
-  changing key Delete there x c d t h = tt
-  changing key (Change old new) there x c d t h = tt
+  changing : (key : ℕ) (effect : Effect) (x : ℕ) (c : Page) (d : Edit) → Performs effect x c key d → GotAt 0 key more x c → IfEnters effect (edit_held 0 key d more)
+  changing key Keep x c d t h = absurd t
+  changing key (Enter value) x c d t h = entering 0 key x value c d t h
+  changing key Remove x c d t h = tt
+  changing key (Replace value) x c d t h = tt
 
   writing : {key : ℕ} {does : KeyWrite} {old new : WriteStage} {what : Seen} → WriteCase key does old what new → m.event.act ≡ event_of (write_end does old) (write_next_in old) what → ((x : ℕ) (c : Page) → m.event.act ≡ Get x → what ≡ seen.Words c → m.saw ≡ Some c) → write_held key does old marks → write_held key does new more
   writing (WriteCase.Began a t) did saw h = subst (λ (z : Approach). approach_held z more) (sym t) tt
   writing {key = key} (WriteCase.Came a what b t) did saw h = descend 0 key a b what t did
   writing (WriteCase.Kept x c y there l t) did saw h = tt
-  writing {key = key} {does = does} (WriteCase.Changed x c noted d l t) did saw h = changing key does noted.there x c d t.1 (record { got = got_now x c did (saw x c did refl) h; level_is = l.2; covers = l.1 })
+  writing {key = key} {does = does} (WriteCase.Changed x c noted d l t) did saw h = changing key (effect_of does noted.there) x c d t.1 (record { got = got_now x c did (saw x c did refl) h; level_is = l.2; covers = l.1 })
   writing (WriteCase.Opened x there last t) did saw h = tt
-  writing {key = key} {does = does} (WriteCase.Edited noted c what same d t) did saw h = insert_all does (editing 0 key (edit_case c what _ t.1))
+  writing {key = key} {does = does} (WriteCase.Edited noted c what same d t) did saw h =
+      subst (λ (z : Noted). IfEnters (effect_of does z.there) (edit_held 0 key d more)) (sym t.0) (if_enters (effect_of does noted.there) (λ e. editing 0 key (edit_case c what _ t.1)) h)
   writing (WriteCase.Finished noted c what last t) did saw h = tt
   writing (WriteCase.Ended r last t) did saw h = tt
 

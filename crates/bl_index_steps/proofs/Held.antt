@@ -1,8 +1,8 @@
 -- What a process has got of the page that it latched last, by its pass's events.
 use Rattle.std.proofs.Common.{ℕ, if◌then◌else◌, ◌≡◌, ◌≢◌, ◌+◌, ◌++◌, Option, None, List, [], ◌∷◌, ap, sym, ◌∙◌, subst, append_assoc, append-nil}
 use Rattle.bl_model.specs.declared.deciding.KeyWrite.{KeyWrite}
-use Rattle.bl_model.specs.declared.deciding.KeyWrite.TheVariants.{Insert, Delete, Change}
-use Rattle.bl_model.specs.declared.deciding.Effect.TheVariants.{Keep, Enter}
+use Rattle.bl_model.specs.declared.deciding.Effect.{Effect}
+use Rattle.bl_model.specs.declared.deciding.Effect.TheVariants.{Enter}
 use Rattle.bl_model.specs.declared.operation.Reply.{Reply}
 use Rattle.bl_model.specs.Writes.{effect_of}
 use Rattle.bl_page.specs.declared.page.Page.{Page}
@@ -26,7 +26,7 @@ use Rattle.bl_index_rule.specs.declared.known.PassState.{PassState}
 use Rattle.bl_index_rule.specs.Observed.{Notes, Begins, Goes, Finishes}
 use Rattle.bl_index_rule.proofs.Marks.{no_marks}
 use Rattle.bl_index_steps.specs.Refused.{GotHeld, GotAnchor}
-use Rattle.bl_index_steps.specs.Held.{own_marks, KeepsLatch, edit_held, IfInsert, proc_held}
+use Rattle.bl_index_steps.specs.Held.{own_marks, KeepsLatch, edit_held, IfEnters, proc_held}
 use Rattle.bl_index_steps.proofs.Got.{held_still, anchor_still, held_turn, waiting_held}
 
 -- events of other passes
@@ -121,8 +121,6 @@ take_latches_not d p is next y latches = (let f : act.Take ≡ act.Latch y = sym
 pub open_latches_not : (d : PassState) (x : ℕ) → next_of d.state ≡ act.Open x → (y : ℕ) → next_of d.state ≢ act.Latch y
 open_latches_not d x next y latches = (let f : act.Open x ≡ act.Latch y = sym next ∙ latches in cc)
 
--- only an insertion enters a pair
-pub enters_held : (key : ℕ) (does : KeyWrite) (value : ℕ) (c : Edit) (marks : Trail) → effect_of does None ≡ Enter value → IfInsert does (edit_held 0 key c marks) → edit_held 0 key c marks
-enters_held key (Insert v) value c marks e held = held
-enters_held key Delete value c marks e held = absurd (let f : Keep ≡ Enter value = e in cc)
-enters_held key (Change old new) value c marks e held = absurd (let f : Keep ≡ Enter value = e in cc)
+-- where a pair enters
+pub enters_held : (key : ℕ) (does : KeyWrite) (value : ℕ) (c : Edit) (marks : Trail) → effect_of does None ≡ Enter value → IfEnters (effect_of does None) (edit_held 0 key c marks) → edit_held 0 key c marks
+enters_held key does value c marks e held = subst (λ (z : Effect). IfEnters z (edit_held 0 key c marks)) e held

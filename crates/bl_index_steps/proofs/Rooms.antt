@@ -1,9 +1,9 @@
 -- What a hand was refused that found no room, from one event of its process to the next.
-use Rattle.std.proofs.Common.{ℕ, List, ◌≡◌, ◌≢◌, None, Some, inl, inr, refl, sym, ap, subst, ◌∙◌}
+use Rattle.std.proofs.Common.{ℕ, List, Option, ◌≡◌, ◌≢◌, None, Some, inl, inr, refl, sym, ap, subst, ◌∙◌}
 use Rattle.atomic_table.specs.declared.shared.Seat.{Seat}
 use Rattle.bl_model.specs.declared.deciding.KeyWrite.{KeyWrite}
-use Rattle.bl_model.specs.declared.deciding.KeyWrite.TheVariants.{Insert, Delete, Change}
-use Rattle.bl_model.specs.declared.deciding.Effect.TheVariants.{Keep, Enter}
+use Rattle.bl_model.specs.declared.deciding.Effect.{Effect}
+use Rattle.bl_model.specs.declared.deciding.Effect.TheVariants.{Keep, Enter, Remove, Replace}
 use Rattle.bl_model.specs.Writes.{effect_of}
 use Rattle.bl_proc_base.specs.declared.acts.Action.TheVariants as act
 use Rattle.bl_proc_base.specs.declared.acts.Seen.{Seen}
@@ -31,8 +31,8 @@ use Rattle.bl_proc.specs.declared.writing.WriteReply.TheVariants.{Done, NoRoom}
 use Rattle.bl_proc.specs.Writes.{write_reply, post_hint}
 use Rattle.bl_proc_base.specs.Thin.{thin_hint}
 use Rattle.bl_proc.specs.Posts.{post_reply}
-use Rattle.bl_index_steps.specs.Refused.{HasRoom, IsFull, GotHeld}
-use Rattle.bl_index_steps.specs.Held.{own_marks, KeepsLatch, IfInsert, edit_held, proc_held, AsksFor}
+use Rattle.bl_index_steps.specs.Refused.{HasRoom, IsFull, GotHeld, LacksForEffect}
+use Rattle.bl_index_steps.specs.Held.{own_marks, KeepsLatch, IfEnters, edit_held, proc_held, AsksFor}
 use Rattle.bl_index_steps.specs.Rooms.{LacksPage, LacksWrite, LacksPost, LacksAsked, TellsRoom}
 use Rattle.bl_index_steps.specs.Runs.{Moves}
 use Rattle.bl_index_steps.proofs.Held.{goes_keeps, keeps_held}
@@ -112,16 +112,18 @@ lacks_on level key h h' same latch lacks = elim lacks [
 ]
 
 -- for a frame, where its leaf was to be put
-pub lacks_frame : (key : ℕ) (does : KeyWrite) (at : ℕ) (p : Page) (d : PassState) (h : H) → IfInsert does (edit_held 0 key (edit.Putting at p) (own_marks d)) → KeepsLatch d (known h) → WasRefused h 0 1 → LacksWrite key does h
-lacks_frame key (Insert value) at p d h held latch was = inl (was, keeps_held 0 key HasRoom d (known h) latch held)
-lacks_frame key Delete at p d h held latch was = was
-lacks_frame key (Change old new) at p d h held latch was = was
+lacks_put : (effect : Effect) (key at : ℕ) (p : Page) (d : PassState) (h : H) → IfEnters effect (edit_held 0 key (edit.Putting at p) (own_marks d)) → KeepsLatch d (known h) → WasRefused h 0 1 → LacksForEffect effect key (own_marks (known h)) (WasRefused h)
+lacks_put Keep key at p d h held latch was = absurd held
+lacks_put (Enter value) key at p d h held latch was = inl (was, keeps_held 0 key HasRoom d (known h) latch held)
+lacks_put Remove key at p d h held latch was = was
+lacks_put (Replace value) key at p d h held latch was = was
+
+pub lacks_frame : (key : ℕ) (does : KeyWrite) (there : Option ℕ) (at : ℕ) (p : Page) (d : PassState) (h : H) → IfEnters (effect_of does there) (edit_held 0 key (edit.Putting at p) (own_marks d)) → KeepsLatch d (known h) → WasRefused h 0 1 → LacksWrite key does h
+lacks_frame key does there at p d h held latch was = (there, lacks_put (effect_of does there) key at p d h held latch was)
 
 -- for a page and two frames, where it was to be split
 pub lacks_split : (key : ℕ) (does : KeyWrite) (value : ℕ) (h : H) → effect_of does None ≡ Enter value → WasRefused h 1 2 → GotHeld 0 key (own_marks (known h)) IsFull → LacksWrite key does h
-lacks_split key (Insert v) value h e was got = inr (was, got)
-lacks_split key Delete value h e was got = absurd (let f : Keep ≡ Enter value = e in cc)
-lacks_split key (Change old new) value h e was got = absurd (let f : Keep ≡ Enter value = e in cc)
+lacks_split key does value h e was got = (None, subst (λ (z : Effect). LacksForEffect z key (own_marks (known h)) (WasRefused h)) (sym e) (inr (was, got)))
 
 pub lacks_asked : (h : H) (p : Post) → LacksAsked h (proc.Post p) → LacksPost p.level p.key h
 lacks_asked h p lacks = elim lacks.3 [

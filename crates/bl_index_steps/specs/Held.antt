@@ -1,6 +1,6 @@
 -- What a process has got of the page that it latched last, in each of its states: enough to tell in the end for which page it
 -- was refused what it asked for.
-use Rattle.std.specs.Prelude.{◌≡◌, ◌≢◌, ◌⊎◌, ◌++◌, ℕ, []}
+use Rattle.std.specs.Prelude.{◌≡◌, ◌≢◌, ◌⊎◌, ◌++◌, ℕ, Option, []}
 use Rattle.bl_page.specs.declared.page.Page.{Page}
 use Rattle.bl_page.specs.declared.page.Page.TheVariants.{Inner}
 use Rattle.bl_page.specs.Machine.Act.{Latch}
@@ -17,7 +17,9 @@ use Rattle.bl_proc_base.specs.declared.editing.Edit.TheVariants as edit
 use Rattle.bl_proc_base.specs.declared.growing.Growth.{Growth}
 use Rattle.bl_proc_base.specs.declared.growing.Growth.TheVariants as growth
 use Rattle.bl_model.specs.declared.deciding.KeyWrite.{KeyWrite}
-use Rattle.bl_model.specs.declared.deciding.KeyWrite.TheVariants.{Insert, Delete, Change}
+use Rattle.bl_model.specs.declared.deciding.Effect.{Effect}
+use Rattle.bl_model.specs.declared.deciding.Effect.TheVariants.{Keep, Enter, Remove, Replace}
+use Rattle.bl_model.specs.Writes.{effect_of}
 use Rattle.bl_proc.specs.declared.writing.WriteStage.{WriteStage}
 use Rattle.bl_proc.specs.declared.writing.WriteStage.TheVariants as write
 use Rattle.bl_proc.specs.declared.posting.PostStage.{PostStage}
@@ -72,17 +74,19 @@ growth_held level (growth.OpeningTop x) marks = Unit {0}
 growth_held level growth.OpeningGrown marks = Unit {0}
 growth_held level growth.OpeningRefused marks = Unit {0}
 
--- what only an insertion needs to know: a deletion or a change asks for the same whatever its leaf had room for
-abbrev pub IfInsert : KeyWrite → Type 0 → Type 0
-IfInsert (Insert value) P = P
-IfInsert Delete P = Unit {0}
-IfInsert (Change old new) P = Unit {0}
+-- What is to be known where a pair enters its leaf: where it leaves or gets another value, the same is asked for whatever the leaf
+-- had room for. A leaf that stays asks for nothing.
+abbrev pub IfEnters : Effect → Type 0 → Type 0
+IfEnters Keep P = ⊥
+IfEnters (Enter value) P = P
+IfEnters Remove P = Unit {0}
+IfEnters (Replace value) P = Unit {0}
 
 abbrev pub write_held : ℕ → KeyWrite → WriteStage → Trail → Type 0
 write_held key does write.New marks = Unit {0}
 write_held key does (write.Coming a) marks = approach_held a marks
 write_held key does (write.Keeping x there) marks = Unit {0}
-write_held key does (write.Editing noted c) marks = IfInsert does (edit_held 0 key c marks)
+write_held key does (write.Editing noted c) marks = IfEnters (effect_of does noted.there) (edit_held 0 key c marks)
 write_held key does (write.Ending r) marks = Unit {0}
 write_held key does (write.Over r) marks = Unit {0}
 
@@ -109,9 +113,12 @@ proc_held (proc.Lower p) marks = Unit {0}
 abbrev pub AsksForPage : ℕ → ℕ → ℕ × ℕ → Trail → Type 0
 AsksForPage level key ask marks = ((ask ≡ (0, 1)) × GotHeld level key marks HasRoom) ⊎ ((ask ≡ (1, 2)) × GotHeld level key marks IsFull)
 
+abbrev pub AsksForWrite : ℕ → KeyWrite → ℕ × ℕ → Trail → Type 0
+AsksForWrite key does ask marks = (there : Option ℕ) × IfEnters (effect_of does there) (AsksForPage 0 key ask marks)
+
 abbrev pub AsksFor : Proc → ℕ × ℕ → Trail → Type 0
 AsksFor (proc.Find p) ask marks = Unit {0}
-AsksFor (proc.Write p) ask marks = IfInsert p.write (AsksForPage 0 p.key ask marks)
+AsksFor (proc.Write p) ask marks = AsksForWrite p.key p.write ask marks
 AsksFor (proc.Post p) ask marks = AsksForPage p.level p.key ask marks ⊎ ((ask ≡ (1, 2)) × GotAnchor p.level marks)
 AsksFor (proc.Part p) ask marks = Unit {0}
 AsksFor (proc.Compress p) ask marks = Unit {0}

@@ -1,7 +1,9 @@
 -- What a call that found no room was refused, by the page that its process held.
-use Rattle.std.specs.Prelude.{◌≡◌, ◌⊎◌, ℕ, ◌<◌, ◌≤◌, Some, ◌∷◌, length}
+use Rattle.std.specs.Prelude.{◌≡◌, ◌⊎◌, ℕ, ◌<◌, ◌≤◌, Option, Some, ◌∷◌, length}
 use Rattle.bl_model.specs.declared.deciding.KeyWrite.{KeyWrite}
-use Rattle.bl_model.specs.declared.deciding.KeyWrite.TheVariants.{Insert, Delete, Change}
+use Rattle.bl_model.specs.declared.deciding.Effect.{Effect}
+use Rattle.bl_model.specs.declared.deciding.Effect.TheVariants.{Keep, Enter, Remove, Replace}
+use Rattle.bl_model.specs.Writes.{effect_of}
 use Rattle.bl_page.specs.declared.page.Page.{Page}
 use Rattle.bl_page.specs.Machine.Act.{Get, Latch}
 use Rattle.bl_claims.specs.Nodes.{Covers}
@@ -47,11 +49,17 @@ pub record GotAnchor (level : ℕ) (marks : Trail) : Type 0 where
 abbrev pub LacksForPage : ℕ → ℕ → Trail → (ℕ → ℕ → Type 0) → Type 0
 LacksForPage level key marks WasRefused = (WasRefused 0 1 × GotHeld level key marks HasRoom) ⊎ (WasRefused 1 2 × GotHeld level key marks IsFull)
 
--- The same for an insertion; or a frame, for a deletion or a change, whatever the leaf had room for.
+-- The same where a pair enters a leaf; or a frame, where it leaves or gets another value, whatever the leaf had room for. A leaf that
+-- stays lacks nothing.
+abbrev pub LacksForEffect : Effect → ℕ → Trail → (ℕ → ℕ → Type 0) → Type 0
+LacksForEffect Keep key marks WasRefused = ⊥
+LacksForEffect (Enter value) key marks WasRefused = LacksForPage 0 key marks WasRefused
+LacksForEffect Remove key marks WasRefused = WasRefused 0 1
+LacksForEffect (Replace value) key marks WasRefused = WasRefused 0 1
+
+-- of a write, by what the leaf listed with the key
 abbrev pub LacksForWrite : ℕ → KeyWrite → Trail → (ℕ → ℕ → Type 0) → Type 0
-LacksForWrite key (Insert value) marks WasRefused = LacksForPage 0 key marks WasRefused
-LacksForWrite key Delete marks WasRefused = WasRefused 0 1
-LacksForWrite key (Change old new) marks WasRefused = WasRefused 0 1
+LacksForWrite key does marks WasRefused = (there : Option ℕ) × LacksForEffect (effect_of does there) key marks WasRefused
 
 -- The same for a post; or a page and two frames, where it held the anchor, for a new top level.
 abbrev pub LacksForPost : ℕ → ℕ → Trail → (ℕ → ℕ → Type 0) → Type 0

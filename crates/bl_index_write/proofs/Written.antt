@@ -213,5 +213,5 @@ ends_put l key does at noted p b h m h' r on same goes asked same' rests empty w
   no_room = λ none.
       let was = asked (refused_by b (write_refused noted (outcome_by b) (sym e ∙ none))) in
       let latch = keeps_both (known h) (known m) (known h') (goes_keeps (put_gave b) (known h) (known m) goes (put_latches_not (known h) _ at p on.state refl)) keeps in
-      lacks_frame key does at p (known h) h' (on_held l (known h) _ on) latch (refused_on m h' 0 1 refusal was);
+      lacks_frame key does noted.there at p (known h) h' (on_held l (known h) _ on) latch (refused_on m h' 0 1 refusal was);
 }

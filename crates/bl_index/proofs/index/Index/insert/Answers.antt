@@ -1,0 +1,5 @@
+use Rattle.bl_index.proofs.Changes.{insert_lacks}
+use Rattle.bl_index.proofs.index.Index.insert.Goals as goal
+
+pub returns-clause-no_room : goal.returns-clause-no_room
+returns-clause-no_room g c = λ none. let a = c.args in insert_lacks a.pass.now c.write.new.pass a.key a.value (c.write.ensures.no_room none)
