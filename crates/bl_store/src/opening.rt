@@ -6,7 +6,7 @@ ghost use Rattle.bl_store.specs.Opening.{first_pages, is_blank, Laid, IsDealt};
 ghost use Rattle.bl_store.specs.declared.view.Sealing.TheVariants.{Unsealed};
 
 use crate::rule::PageRule;
-use crate::store::{Hand, RING, Store};
+use crate::store::{APART, Hand, RING, Store};
 use crate::view::{Ground, View};
 use atomic_table::{Seat, Split, Table};
 use bl_layout::Layout;
@@ -77,7 +77,9 @@ impl<D, R: PageRule<D>> Store<D, R, Global> {
             heads: layout.page_cell(0),
             firsts: layout.frame_word_cell(0, 0),
             stamps: layout.process_cell(0),
+            apart: [0; APART],
             least_free: AtomicU64::new(1),
+            behind: [0; APART],
         };
         let hands = store.deal(alloc, seat)?;
         Ok((store, hands))
@@ -120,6 +122,7 @@ impl<D> Hand<D> {
             untried: 0,
             unswept: 0,
             owed: 0,
+            apart: [0; APART],
         }
     }
 }

@@ -19,6 +19,10 @@ use std::sync::atomic::AtomicU64;
 /// How many frames a hand keeps in sight that it has retired, and that it has released.
 pub(crate) const RING: usize = 128;
 
+/// So many words keep what one thread writes out of the cache lines of others: two lines of 64 bytes, since processors fetch lines in
+/// pairs.
+pub(crate) const APART: usize = 16;
+
 /// One who reads and writes pages. Hands are numbered from 0, and no two of a store share a number.
 #[derive(Drop)]
 pub struct Hand<D> {
@@ -39,6 +43,8 @@ pub struct Hand<D> {
     // How many it has retired since its last sweep, and how many sweeps it owes.
     pub(crate) unswept: u32,
     pub(crate) owed: u32,
+    // It keeps two hands that stand beside each other apart: each put writes to the fields above, and each call reads the first ones.
+    pub(crate) apart: [u64; APART],
     pub ghost own: { (number ≡ seat.me.0.number) × (number < seat.me.0.layout.passes) × (seat.me.0.sealing ≡ Unsealed) × (seat.me.1 ≡ []) },
 }
 
@@ -59,8 +65,12 @@ pub struct Store<D, R: PageRule<D>, A: Allocator = Global> {
     pub(crate) heads: usize,
     pub(crate) firsts: usize,
     pub(crate) stamps: usize,
+    // It keeps the hint, which each take writes, apart from the fields above, which each call reads.
+    pub(crate) apart: [u64; APART],
     // The least page that may be released, as one thread alone sees it. No proof rests on it.
     pub(crate) least_free: AtomicU64,
+    // And apart from what stands behind the store.
+    pub(crate) behind: [u64; APART],
     pub ghost key: { table.shared.key.layout ≡ layout },
     pub ghost heads_at: { heads ≡ page_at layout 0 },
     pub ghost firsts_at: { firsts ≡ place_at layout 0 0 },
