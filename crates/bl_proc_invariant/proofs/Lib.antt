@@ -3,6 +3,7 @@ pub mod Logging
 pub mod Looking
 pub mod Acts
 pub mod Approaching
+pub mod Going
 pub mod Editing
 pub mod Ends
 pub mod Descending

@@ -1,5 +1,5 @@
 -- What each process has done, through every turn.
-use Rattle.std.proofs.Common.{ℕ, ◌≡◌, ◌++◌, Option, Some, None, [], ◌∷◌, ap, sym, ◌∙◌, refl, subst, inl, inr}
+use Rattle.std.proofs.Common.{ℕ, ◌≡◌, ◌++◌, Option, Some, None, List, [], ◌∷◌, ap, sym, ◌∙◌, refl, subst, inl, inr}
 use Rattle.bl_model.specs.declared.operation.Reply.{Reply}
 use Rattle.bl_model.specs.declared.deciding.KeyWrite.{KeyWrite}
 use Rattle.bl_page.specs.declared.page.Page.{Page}
@@ -9,7 +9,7 @@ use Rattle.bl_page.specs.Machine.Act.{Get, Miss}
 use Rattle.bl_claims.specs.Trails.{Mark, Trail, Saw, marks_of}
 use Rattle.bl_claims.specs.Meanings.{writes_in, writes_of}
 use Rattle.bl_core.proofs.Pushes.{name_cases, marks_of-own, marks_of-other}
-use Rattle.bl_core.specs.Worlds.{Stage, World}
+use Rattle.bl_core.specs.Worlds.{Goes, Stage, World}
 use Rattle.bl_proc_base.specs.declared.acts.Action.{Action}
 use Rattle.bl_proc_base.specs.declared.acts.Action.TheVariants as act
 use Rattle.bl_proc_base.specs.declared.acts.Seen.{Seen}
@@ -32,6 +32,7 @@ use Rattle.bl_proc.specs.declared.kinds.Proc.TheVariants.{Find, Write, Post, Par
 use Rattle.bl_proc.specs.Processes.{next_of, Takes}
 use Rattle.bl_proc_invariant.specs.Turns.{event_of, IsObserved, Turned}
 use Rattle.bl_proc_invariant.specs.Logs.{proc_log, write_log, post_log, compress_log, lower_log, AllLogs}
+use Rattle.bl_proc_invariant.specs.Tables.{Keeps, alone}
 use Rattle.bl_proc_invariant.specs.Knowing.{Run, know_of, know, know_write, know_post, know_compress, know_lower, end_of_proc, run_next}
 use Rattle.bl_proc_invariant.proofs.Logging.{post_on, post_stays}
 use Rattle.bl_proc_invariant.proofs.Doing.{compress_on, compress_stays}
@@ -41,13 +42,13 @@ use Rattle.bl_proc_invariant.proofs.Putting.{write_on, write_stays}
 use Rattle.bl_proc_unique.proofs.KindCases.{find_case, part_case, write_case, post_case, compress_case, lower_case}
 
 -- a process that has not begun has nothing to tell
-early_post : (level key : ℕ) (got : ℕ → Page) (child : ℕ) (a : PostStage) → (know_post level key got child a).stage ≡ Stage.Early → (marks : Trail) → post_log level key a marks
-early_post level key got child post.New e marks = tt
-early_post level key got child (post.Coming way.Start) e marks = absurd (let f = e in cc)
-early_post level key got child (post.Coming (way.Leaving x None)) e marks = absurd (let f = e in cc)
-early_post level key got child (post.Growing growth.Latching) e marks = absurd (let f = e in cc)
-early_post level key got child (post.Editing (edit.Putting x page)) e marks = absurd (let f = e in cc)
-early_post level key got child old e marks = absurd (let f = e in cc)
+early_post : (keeps : Keeps) → (level key : ℕ) (got : ℕ → Page) (child : ℕ) (a : PostStage) → (know_post keeps level key got child a).stage ≡ Stage.Early → (marks : Trail) → post_log level key a marks
+early_post keeps level key got child post.New e marks = tt
+early_post keeps level key got child (post.Coming way.Start) e marks = absurd (let f = e in cc)
+early_post keeps level key got child (post.Coming (way.Leaving x None)) e marks = absurd (let f = e in cc)
+early_post keeps level key got child (post.Growing growth.Latching) e marks = absurd (let f = e in cc)
+early_post keeps level key got child (post.Editing (edit.Putting x page)) e marks = absurd (let f = e in cc)
+early_post keeps level key got child old e marks = absurd (let f = e in cc)
 
 early_press : (level key : ℕ) (got : ℕ → Page) (a : CompressStage) → (know_compress level key got a).stage ≡ Stage.Early → (marks : Trail) → compress_log level key a marks
 early_press level key got compress.New e marks = tt
@@ -56,12 +57,12 @@ early_press level key got (compress.Coming (way.Leaving x None)) e marks = absur
 early_press level key got (compress.Compressing (LatchingLeft h)) e marks = absurd (let f = e in cc)
 early_press level key got old e marks = absurd (let f = e in cc)
 
-early_write : (key : ℕ) (does : KeyWrite) (got : ℕ → Page) (a : WriteStage) → (know_write key does got a).stage ≡ Stage.Early → (marks : Trail) → write_log does a marks
-early_write key does got write.New e marks = tt
-early_write key does got (write.Coming way.Start) e marks = absurd (let f = e in cc)
-early_write key does got (write.Coming (way.Leaving x None)) e marks = absurd (let f = e in cc)
-early_write key does got (write.Editing noted (edit.Putting x page)) e marks = absurd (let f = e in cc)
-early_write key does got old e marks = absurd (let f = e in cc)
+early_write : (goes : List Goes) → (key : ℕ) (does : KeyWrite) (got : ℕ → Page) (a : WriteStage) → (know_write goes key does got a).stage ≡ Stage.Early → (marks : Trail) → write_log does a marks
+early_write goes key does got write.New e marks = tt
+early_write goes key does got (write.Coming way.Start) e marks = absurd (let f = e in cc)
+early_write goes key does got (write.Coming (way.Leaving x None)) e marks = absurd (let f = e in cc)
+early_write goes key does got (write.Editing noted (edit.Putting x page)) e marks = absurd (let f = e in cc)
+early_write goes key does got old e marks = absurd (let f = e in cc)
 
 early_lower : (got : ℕ → Page) (a : LowerStage) → (know_lower got a).stage ≡ Stage.Early → (marks : Trail) → lower_log a marks
 early_lower got lower.New e marks = tt
@@ -70,8 +71,8 @@ early_lower got old e marks = absurd (let f = e in cc)
 
 early_state : (got : ℕ → Page) (child time : ℕ) (a : Proc) → (know_of got child time a).stage ≡ Stage.Early → (marks : Trail) → writes_of marks ≡ [] → proc_log a marks
 early_state got child time (Find a) e marks none = none
-early_state got child time (Write a) e marks none = early_write a.key a.write got a.stage e marks
-early_state got child time (Post a) e marks none = early_post a.level a.key got child a.stage e marks
+early_state got child time (Write a) e marks none = early_write [] a.key a.write got a.stage e marks
+early_state got child time (Post a) e marks none = early_post alone a.level a.key got child a.stage e marks
 early_state got child time (Part a) e marks none = none
 early_state got child time (Compress a) e marks none = early_press a.level a.key got a.stage e marks
 early_state got child time (Reclaim a) e marks none = tt

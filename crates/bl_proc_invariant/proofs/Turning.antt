@@ -1,5 +1,5 @@
 -- Every turn of every process keeps a world good, and the world after it is given.
-use Rattle.std.proofs.Common.{ℕ, ◌≡◌, None, ap, ◌∙◌, refl, subst}
+use Rattle.std.proofs.Common.{ℕ, ◌≡◌, None, [], ap, ◌∙◌, refl, subst}
 use Rattle.bl_page.specs.declared.machine.Missed.{Missed}
 use Rattle.bl_page.specs.Machine.{Name, State}
 use Rattle.bl_page.specs.Machine.Act.{Miss}
@@ -13,6 +13,7 @@ use Rattle.bl_proc.specs.declared.kinds.Proc.{Proc}
 use Rattle.bl_proc.specs.declared.kinds.Proc.TheVariants.{Find, Write, Post, Part, Compress, Reclaim, Lower}
 use Rattle.bl_proc.specs.Processes.{next_of, Takes}
 use Rattle.bl_proc_invariant.specs.Turns.{event_of, IsObserved, IsShown, Does, Turned}
+use Rattle.bl_proc_invariant.specs.Tables.{alone}
 use Rattle.bl_proc_invariant.specs.Knowing.{Run, know_of, know, know_find, know_part, know_write, know_post, know_compress, compress_got, write_got, post_got, post_child, end_of_proc, got_next, child_next, time_next, run_next}
 use Rattle.bl_proc_invariant.proofs.Acts.{watched}
 use Rattle.bl_proc_invariant.proofs.Finding.{find_turn}
@@ -28,9 +29,9 @@ state_turn : (w : World Run) (p : Name) (got : ℕ → Page) (child time : ℕ) 
 state_turn w p got child time (Find a) (Find c) b what s g before then t observed shown does =
     find_turn know w g p b a.key a.stage c.stage what s before (subst (λ k. know b ≡ know_find k c.stage) t.0 then) t.1 observed does
 state_turn w p got child time (Write a) (Write c) b what s g before then t observed shown does =
-    write_turn know w g p b a.key a.write (write_case a.key a.write a.stage what c.stage t.2) got s before (subst (λ k. know b ≡ know_write k a.write (write_got got a.stage what) c.stage) t.0 (subst (λ d. know b ≡ know_write c.key d (write_got got a.stage what) c.stage) t.1 then)) observed does
+    write_turn know w g p b [] a.key a.write (write_case a.key a.write a.stage what c.stage t.2) got s before (subst (λ k. know b ≡ know_write [] k a.write (write_got got a.stage what) c.stage) t.0 (subst (λ d. know b ≡ know_write [] c.key d (write_got got a.stage what) c.stage) t.1 then)) observed does
 state_turn w p got child time (Post a) (Post c) b what s g before then t observed shown does =
-    post_turn know w g p b a.level a.key a.least a.most (post_case a.level a.key a.stage what c.stage t.2) got child s before (subst (λ l. know b ≡ know_post l a.key (post_got got a.stage what) (post_child child a.stage) c.stage) t.0 (subst (λ k. know b ≡ know_post c.level k (post_got got a.stage what) (post_child child a.stage) c.stage) t.1 then)) observed does
+    post_turn know w g p b alone a.level a.key a.least a.most (post_case a.level a.key a.stage what c.stage t.2) got child s before (subst (λ l. know b ≡ know_post alone l a.key (post_got got a.stage what) (post_child child a.stage) c.stage) t.0 (subst (λ k. know b ≡ know_post alone c.level k (post_got got a.stage what) (post_child child a.stage) c.stage) t.1 then)) observed does
 state_turn w p got child time (Part a) (Part c) b what s g before then t observed shown does =
     part_turn know w g p b a.from a.stage c.stage what s before (subst (λ k. know b ≡ know_part k c.stage) t.0 then) t.1 observed does
 state_turn w p got child time (Reclaim a) (Reclaim c) b what s g before then t observed shown does =

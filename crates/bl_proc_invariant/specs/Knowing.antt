@@ -14,7 +14,7 @@ use Rattle.bl_page.specs.Machine.Owner.{Released, Held, Retired}
 use Rattle.bl_claims.specs.Nodes.{unbounded}
 use Rattle.bl_core_tree.specs.Trees.Status.{Fresh}
 use Rattle.bl_claims.specs.Trails.{Said}
-use Rattle.bl_core.specs.Worlds.{Passed, Stage, Know}
+use Rattle.bl_core.specs.Worlds.{Goes, Passed, Stage, Know}
 use Rattle.bl_proc_base.specs.declared.acts.Seen.{Seen}
 use Rattle.bl_proc_base.specs.declared.acts.Seen.TheVariants as seen
 use Rattle.bl_proc.specs.declared.searching.FindStage.TheVariants as find
@@ -44,7 +44,7 @@ use Rattle.bl_proc.specs.Writes.{write_reply}
 use Rattle.bl_proc_base.specs.Growths.{Raises, IsAnchor}
 use Rattle.bl_proc_invariant.specs.Compressing.{know_squeeze, compression_got}
 use Rattle.bl_proc_invariant.specs.Lowering.{know_lowering, lowering_got}
-use Rattle.bl_proc_invariant.specs.Tables.{idle, holds_live, holds_known, anchor_known, goes_to, know_descent, know_approach, Aim, IsDue, know_edit}
+use Rattle.bl_proc_invariant.specs.Tables.{idle, Keeps, unsaid, alone, keeping, holds_live, holds_known, anchor_known, goes_to, know_descent, know_approach, Aim, IsDue, know_edit}
 
 -- it is to begin; it is to end, or has ended, with what it said
 abbrev pub early : ℕ → Know
@@ -99,24 +99,26 @@ is_change (Enter value) = true
 is_change Remove = true
 is_change (Replace value) = true
 
-abbrev pub write_aim : ℕ → KeyWrite → Noted → Aim
-write_aim key does noted = record {
+abbrev pub write_aim : List Goes → ℕ → KeyWrite → Noted → Aim
+write_aim goes key does noted = record {
   level = 0;
   key = key;
   was = noted.there;
   word = effected (effect_of does noted.there) noted.there;
   changes = is_change (effect_of does noted.there);
+  keeps = unsaid goes;
+  says = λ o. writes key does (write_reply noted o);
   said = λ o. writes key does (write_reply noted o);
   children = λ x. [];
 }
 
-abbrev pub know_write : ℕ → KeyWrite → (ℕ → Page) → WriteStage → Know
-know_write key does got write.New = early key
-know_write key does got (write.Coming a) = know_approach 0 key a
-know_write key does got (write.Keeping x there) = record (ending (writes key does (written.Done there None))) { holds = holds_live x ∷ [] }
-know_write key does got (write.Editing noted c) = know_edit (write_aim key does noted) got c
-know_write key does got (write.Ending r) = ending (writes key does r)
-know_write key does got (write.Over r) = late (writes key does r)
+abbrev pub know_write : List Goes → ℕ → KeyWrite → (ℕ → Page) → WriteStage → Know
+know_write goes key does got write.New = record (early key) { goes = goes }
+know_write goes key does got (write.Coming a) = know_approach (unsaid goes) 0 key a
+know_write goes key does got (write.Keeping x there) = record (ending (writes key does (written.Done there None))) { holds = holds_live x ∷ []; goes = goes }
+know_write goes key does got (write.Editing noted c) = know_edit (write_aim goes key does noted) got c
+know_write goes key does got (write.Ending r) = record (ending (writes key does r)) { goes = goes }
+know_write goes key does got (write.Over r) = late (writes key does r)
 
 -- Growths: page 0 is held, and as the process got it
 
@@ -126,36 +128,46 @@ pub record MayRise (level : ℕ) (c : Page) (leftmost : List ℕ) : Type 0 where
   pub levels : length leftmost ≡ level
   pub room : level < 12
 
-abbrev pub know_growth : ℕ → ℕ → (ℕ → Page) → Growth → Know
-know_growth level key got growth.Latching = record (idle Stage.Busy) { sound = key < unbounded }
-know_growth level key got growth.Latched = record (idle Stage.Busy) { holds = anchor_known None ∷ []; sound = key < unbounded }
-know_growth level key got (growth.Taking rise) = record (idle Stage.Busy) { holds = anchor_known (Some (Anchor rise.anchor)) ∷ []; sound = (key < unbounded) × MayRise level (Anchor rise.anchor) rise.anchor.leftmost.items × (got 0 ≡ Anchor rise.anchor) }
-know_growth level key got (growth.PuttingTop r) = record (idle Stage.Busy) { holds = anchor_known (Some (got 0)) ∷ record { at = r.new; status = Fresh; sep = None; page = None } ∷ []; sound = (key < unbounded) × ((leftmost : List ℕ) × MayRise level (got 0) leftmost × Raises leftmost r.new r.top r.anchor) }
-know_growth level key got (growth.PuttingAnchor r) = record (idle Stage.Busy) { holds = anchor_known (Some (got 0)) ∷ record { at = r.new; status = Fresh; sep = Some 0; page = Some r.top } ∷ []; sound = (key < unbounded) × ((leftmost : List ℕ) × MayRise level (got 0) leftmost × Raises leftmost r.new r.top r.anchor) }
-know_growth level key got (growth.OpeningTop x) = record (idle Stage.Busy) { holds = anchor_known None ∷ holds_live x ∷ []; sound = (key < unbounded) × (0 ≢ x) }
-know_growth level key got growth.OpeningGrown = record (idle Stage.Busy) { holds = anchor_known None ∷ []; sound = key < unbounded }
-know_growth level key got growth.OpeningRefused = record (idle Stage.Busy) { holds = anchor_known None ∷ [] }
+abbrev pub know_growth : Keeps → ℕ → ℕ → (ℕ → Page) → Growth → Know
+know_growth keeps level key got growth.Latching = record (keeping keeps) { sound = key < unbounded }
+know_growth keeps level key got growth.Latched = record (keeping keeps) { holds = anchor_known None ∷ []; sound = key < unbounded }
+know_growth keeps level key got (growth.Taking rise) = record (keeping keeps) { holds = anchor_known (Some (Anchor rise.anchor)) ∷ []; sound = (key < unbounded) × MayRise level (Anchor rise.anchor) rise.anchor.leftmost.items × (got 0 ≡ Anchor rise.anchor) }
+know_growth keeps level key got (growth.PuttingTop r) = record (keeping keeps) { holds = anchor_known (Some (got 0)) ∷ record { at = r.new; status = Fresh; sep = None; page = None } ∷ []; sound = (key < unbounded) × ((leftmost : List ℕ) × MayRise level (got 0) leftmost × Raises leftmost r.new r.top r.anchor) }
+know_growth keeps level key got (growth.PuttingAnchor r) = record (keeping keeps) { holds = anchor_known (Some (got 0)) ∷ record { at = r.new; status = Fresh; sep = Some 0; page = Some r.top } ∷ []; sound = (key < unbounded) × ((leftmost : List ℕ) × MayRise level (got 0) leftmost × Raises leftmost r.new r.top r.anchor) }
+know_growth keeps level key got (growth.OpeningTop x) = record (keeping keeps) { holds = anchor_known None ∷ holds_live x ∷ []; sound = (key < unbounded) × (0 ≢ x) }
+know_growth keeps level key got growth.OpeningGrown = record (keeping keeps) { holds = anchor_known None ∷ []; sound = key < unbounded }
+know_growth keeps level key got growth.OpeningRefused = record (keeping keeps) { holds = anchor_known None ∷ [] }
 
 -- Posts: they answer no operation of the map. While a parent is held, it is known that it does not list the key.
 
-abbrev pub post_aim : ℕ → ℕ → ℕ → Aim
-post_aim level key child = record { level = level; key = key; was = None; word = Some child; changes = true; said = λ o. None; children = λ x. record { parent = x; at = child; key = key } ∷ [] }
+abbrev pub post_aim : Keeps → ℕ → ℕ → ℕ → Aim
+post_aim keeps level key child = record {
+  level = level;
+  key = key;
+  was = None;
+  word = Some child;
+  changes = true;
+  keeps = keeps;
+  says = λ o. None;
+  said = λ o. keeps.said;
+  children = λ x. record { parent = x; at = child; key = key } ∷ [];
+}
 
-abbrev pub know_post : ℕ → ℕ → (ℕ → Page) → ℕ → PostStage → Know
-know_post level key got child post.New = early key
-know_post level key got child (post.Coming a) = know_approach level key a
-know_post level key got child (post.Growing g) = know_growth level key got g
-know_post level key got child (post.Walking w) = record (idle Stage.Busy) { holds = holds_known w.at (Inner w.parent) ∷ []; goes = goes_to w.child (level - 1) (level - 1) ∷ []; sound = (key < unbounded) × IsDue (post_aim level key 0) (Inner w.parent) × (w.key ≡ key) }
-know_post level key got child (post.Editing c) = know_edit (post_aim level key child) got c
-know_post level key got child (post.Staying x r) = record (idle Stage.Busy) { holds = holds_live x ∷ [] }
-know_post level key got child (post.Ending r) = ending None
-know_post level key got child (post.Over r) = late None
+abbrev pub know_post : Keeps → ℕ → ℕ → (ℕ → Page) → ℕ → PostStage → Know
+know_post keeps level key got child post.New = record (early key) { said = keeps.said; goes = keeps.goes }
+know_post keeps level key got child (post.Coming a) = know_approach keeps level key a
+know_post keeps level key got child (post.Growing g) = know_growth keeps level key got g
+know_post keeps level key got child (post.Walking w) = record (keeping keeps) { holds = holds_known w.at (Inner w.parent) ∷ []; goes = goes_to w.child (level - 1) (level - 1) ∷ keeps.goes; sound = (key < unbounded) × IsDue (post_aim keeps level key 0) (Inner w.parent) × (w.key ≡ key) }
+know_post keeps level key got child (post.Editing c) = know_edit (post_aim keeps level key child) got c
+know_post keeps level key got child (post.Staying x r) = record (keeping keeps) { holds = holds_live x ∷ [] }
+know_post keeps level key got child (post.Ending r) = record (ending keeps.said) { goes = keeps.goes }
+know_post keeps level key got child (post.Over r) = late keeps.said
 
 -- Compressions: they answer no operation of the map
 
 abbrev pub know_compress : ℕ → ℕ → (ℕ → Page) → CompressStage → Know
 know_compress level key got compress.New = early key
-know_compress level key got (compress.Coming a) = know_approach level key a
+know_compress level key got (compress.Coming a) = know_approach alone level key a
 know_compress level key got (compress.Compressing c) = know_squeeze level key got c
 know_compress level key got (compress.Staying x) = record (idle Stage.Busy) { holds = holds_live x ∷ [] }
 know_compress level key got (compress.Ending r) = ending None
@@ -198,8 +210,8 @@ pub record Run : Type 0 where
 
 abbrev pub know_of : (ℕ → Page) → ℕ → ℕ → Proc → Know
 know_of got child time (proc.Find p) = know_find p.key p.stage
-know_of got child time (proc.Write p) = know_write p.key p.write got p.stage
-know_of got child time (proc.Post p) = know_post p.level p.key got child p.stage
+know_of got child time (proc.Write p) = know_write [] p.key p.write got p.stage
+know_of got child time (proc.Post p) = know_post alone p.level p.key got child p.stage
 know_of got child time (proc.Part p) = know_part p.from p.stage
 know_of got child time (proc.Compress p) = know_compress p.level p.key got p.stage
 know_of got child time (proc.Reclaim p) = know_reclaim time p.stage
