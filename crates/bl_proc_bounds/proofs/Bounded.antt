@@ -14,7 +14,7 @@ use Rattle.bl_proc.specs.declared.parts.PartStage.TheVariants as part
 use Rattle.bl_proc.specs.declared.kinds.Proc.{Proc}
 use Rattle.bl_proc.specs.declared.kinds.Proc.TheVariants as proc
 use Rattle.bl_proc_invariant.specs.Knowing.{Run, know_find, know_part, know_of, know}
-use Rattle.bl_proc_invariant.proofs.Starting.{with_proc}
+use Rattle.bl_proc_invariant.proofs.Instead.{with_proc}
 use Rattle.bl_claims.specs.Bounds.{gets_in, puts_in, IsWithinBound, IsBelowBound}
 use Rattle.bl_proc_bounds.specs.Searches.{IsSearch, IsGoing, IsUnderWay}
 use Rattle.bl_proc_bounds.proofs.Counts.{own_gets_own, within_none}

@@ -59,7 +59,7 @@ use Rattle.bl_proc_invariant.specs.Compressing.{know_squeeze}
 use Rattle.bl_proc_invariant.specs.Lowering.{know_lowering}
 use Rattle.bl_proc_invariant.specs.Knowing.{Run, know_growth, know_write, know_post, know_compress, know_lower, know_of, know, end_of_proc}
 use Rattle.bl_core.proofs.After.{is_put_name}
-use Rattle.bl_proc_invariant.proofs.Starting.{with_proc}
+use Rattle.bl_proc_invariant.proofs.Instead.{with_proc}
 use Rattle.bl_proc_bounds.specs.Searches.{IsSearch}
 use Rattle.bl_claims.specs.Latches.{Keeps, LatchesNone, LatchesAlone, LatchesBelowAnchor}
 use Rattle.bl_proc_meanings.specs.Families.{HoldsFamily, LatchesBeside}

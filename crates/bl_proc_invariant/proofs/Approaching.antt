@@ -215,9 +215,9 @@ module _ {P : Type 0} (know : P → Know) (w : World P) (g : IsGood know w) (p :
         watched know w g p b _ _ before then (Get x) (Some (w.now.contents x)) None s tt (is.stage, not_released know w g p x is.goes.0.may) does refl refl (λ y h. h) (λ it e. cc) (λ j. refl)
         (walks_held w _ p (Get x) (Some (w.now.contents x)) keeps.said x keeps.goes (Unit {0}) is.stage is.said (does.changes.1 x ∙ is.holds.0.owner) is.holds.0.status is.goes.1 tt)
 
-    pub stay_turn : (x : ℕ) (s : State Page) → know (w.proc p) ≡ record (keeping keeps) { holds = holds_live x ∷ [] } → know b ≡ record (ending keeps.said) { goes = keeps.goes } → Does w.now p (Act.Open x) s → Turned know w p (Act.Open x) s b
-    stay_turn x s before then does =
-        let is : IsSure w p (record (keeping keeps) { holds = holds_live x ∷ [] }) = rw before at (g.sure p) in
+    pub stay_turn : (x : ℕ) (S : Type 0) (s : State Page) → know (w.proc p) ≡ record (keeping keeps) { holds = holds_live x ∷ []; sound = S } → know b ≡ record (ending keeps.said) { goes = keeps.goes; sound = S } → Does w.now p (Act.Open x) s → Turned know w p (Act.Open x) s b
+    stay_turn x S s before then does =
+        let is : IsSure w p (record (keeping keeps) { holds = holds_live x ∷ []; sound = S }) = rw before at (g.sure p) in
         opened know w g p b _ _ before then x s is.holds.0.owner does (inl is.holds.0.status) refl refl ((λ e. cc, λ e. cc), tt)
         (λ z n h. elim h [ inl e ↦ absurd (n (sym e)) | inr u ↦ absurd u ])
-        (walks w _ p (Act.Open x) None keeps.said keeps.goes (Unit {0}) is.stage is.said is.goes tt)
+        (walks w _ p (Act.Open x) None keeps.said keeps.goes S is.stage is.said is.goes is.sound)

@@ -1,5 +1,5 @@
 -- A process changes one pair of a page that it holds: each of its turns keeps a world good.
-use Rattle.std.proofs.Common.{ℕ, ◌≡◌, ◌≢◌, ◌<◌, ◌++◌, false, Option, Some, None, List, [], ◌∷◌, length, arith, ap, sym, ◌∙◌, refl, subst, inl, inr}
+use Rattle.std.proofs.Common.{ℕ, ◌≡◌, ◌≢◌, ◌<◌, ◌≤◌, ◌++◌, true, false, Option, Some, None, List, [], ◌∷◌, length, arith, ap, sym, ◌∙◌, refl, subst, inl, inr}
 use Rattle.std.proofs.lemmas.Bool.{cases_eq, false≢true}
 use Rattle.bl_page.specs.declared.page.Page.{Page}
 use Rattle.bl_page.specs.declared.machine.Missed.{Missed}
@@ -8,7 +8,7 @@ use Rattle.bl_page.specs.Machine.Owner.{Released}
 use Rattle.bl_page.specs.Machine.Act.{Put, Take, Miss}
 use Rattle.bl_rearrange.specs.declared.fitted.Fitted.TheVariants.{Split}
 use Rattle.bl_rearrange.specs.Rearranged.{IsFitted}
-use Rattle.bl_claims.specs.Nodes.{Look}
+use Rattle.bl_claims.specs.Nodes.{Look, unbounded}
 use Rattle.bl_core_tree.specs.Trees.{Status, is_live, IsLive}
 use Rattle.bl_core_tree.specs.Trees.Status.{Free, Fresh, Live}
 use Rattle.bl_core_tree.specs.Moves.{IsMapRow, IsRow, IsCut}
@@ -31,8 +31,9 @@ use Rattle.bl_proc_base.specs.declared.editing.Full.{Full}
 use Rattle.bl_proc_base.specs.declared.editing.Splitting.{Splitting}
 use Rattle.bl_proc_base.specs.declared.editing.Edit.{Edit}
 use Rattle.bl_proc_base.specs.declared.editing.Edit.TheVariants.{Putting, Taking, PuttingNew, PuttingOld, OpeningNew, Opening}
-use Rattle.bl_proc_invariant.specs.Tables.{keeping, holds_known, Aim, IsAim, IsDue, know_edit}
+use Rattle.bl_proc_invariant.specs.Tables.{keeping, holds_known, Aim, IsAim, IsDue, IsBelow, know_edit}
 use Rattle.bl_proc_invariant.proofs.Acts.{of_held, not_gone, watched, opened, taken}
+use Rattle.bl_proc_invariant.proofs.Holdings.{cut_low}
 use Rattle.bl_proc_invariant.proofs.Going.{goes_still, put_steady, take_steady, was_put, was_fresh}
 use Rattle.bl_proc_unique.proofs.WayCases.{EditCase}
 
@@ -172,7 +173,7 @@ module _ {P : Type 0} (know : P → Know) (w : World P) (g : IsGood know w) (p :
               goes = goes_still w next p aim.keeps.goes (put_steady w next p x page does (λ y h. h) (λ h. ap (λ n. n.level) row.shape)) is.goes;
               children = tt;
               passed = tt;
-              sound = tt;
+              sound = (due.changes, tt);
             });
           };
           live = held.status;
@@ -202,7 +203,7 @@ module _ {P : Type 0} (know : P → Know) (w : World P) (g : IsGood know w) (p :
         goes = is.goes;
         children = tt;
         passed = tt;
-        sound = tt;
+        sound = (due.changes, tt);
       })
 
   -- a page is taken for the upper part
@@ -223,6 +224,9 @@ module _ {P : Type 0} (know : P → Know) (w : World P) (g : IsGood know w) (p :
       let cut : IsCut y full.key (Some full.word) (node_of full.page) (node_of t.left) (node_of t.right) =
       split_cut full.page t.left t.right full.key full.word y t.separator fitted (rw key due.covers) in
       let cut_here : IsCut y aim.key aim.word (node_of (got full.at)) (node_of t.left) (node_of t.right) = rw known (rw (key, word) at cut) in
+      let low : (node_of t.right).shape.low ≡ t.separator = cut_low full.page t.left t.right full.key full.word y t.separator fitted in
+      let end : (node_of full.page).shape.end ≤ unbounded = subst (λ v. (node_of v).shape.end ≤ unbounded) held.page (g.tree.side.within full.at (rw held.status live_live)) in
+      let below : t.separator < unbounded = (let c = cut.below in omega (arith, low, end)) in
       let still : IsHeld next p (holds_known full.at full.page) = aside_held w next p y (holds_known full.at full.page) aside n held in
       taken know w g p b _ _ before then y s free within does refl
       (inr (inl new)) (λ z h. elim h [ inl e ↦ inl (at ∙ e) | inr e ↦ absurd e ])
@@ -236,7 +240,7 @@ module _ {P : Type 0} (know : P → Know) (w : World P) (g : IsGood know w) (p :
         goes = goes_still w next p aim.keeps.goes (take_steady w next p y does free was status) is.goes;
         children = rw at (Each-map (IsRelied w p) (IsRelied next p) (aim.children full.at) (λ c r. aside_relied w next p y c aside r) is.children);
         passed = tt;
-        sound = (rw (at, known) due, rw (at, new) cut_here);
+        sound = (rw (at, known) due, rw (at, new) cut_here, below);
       })
 
   -- the upper part is put first, in the page that nobody names yet
@@ -329,7 +333,7 @@ module _ {P : Type 0} (know : P → Know) (w : World P) (g : IsGood know w) (p :
               goes = goes_still w next p aim.keeps.goes (put_steady w next p t.at t.left does (was_put t.new w.status next.status status) (λ h. cut.level)) is.goes;
               children = tt;
               passed = tt;
-              sound = n;
+              sound = (n, due.changes, is.sound.2);
             });
           };
           live = held.status;
@@ -355,16 +359,16 @@ module _ {P : Type 0} (know : P → Know) (w : World P) (g : IsGood know w) (p :
       (record {
         stage = is.stage;
         said = HasSaid-silent w.trail (silent p (Act.Open y)) p (aim.said (outcome.SplitAt separator)) refl is.said;
-        holds = ((does.changes.1.others x is.sound ∙ is.holds.0.owner, is.holds.0.status, tt, tt), tt);
+        holds = ((does.changes.1.others x is.sound.0 ∙ is.holds.0.owner, is.holds.0.status, tt, tt), tt);
         goes = is.goes;
         children = tt;
         passed = tt;
-        sound = tt;
+        sound = (is.sound.1, is.sound.2);
       })
 
   -- the old page is opened, and the change is over
-  pub over_turn : (x : ℕ) (o : Outcome) (S : Type 0) (s : State Page) → know (w.proc p) ≡ know_edit aim got (Opening x o) → know b ≡ record (keeping aim.keeps) { said = aim.said o; sound = S } → S → Does w.now p (Act.Open x) s → Turned know w p (Act.Open x) s b
-  over_turn x o S s before then sound does =
+  pub over_turn : (x : ℕ) (o : Outcome) (S : Type 0) (s : State Page) → know (w.proc p) ≡ know_edit aim got (Opening x o) → know b ≡ record (keeping aim.keeps) { said = aim.said o; sound = S } → ((aim.changes ≡ true) × IsBelow o → S) → Does w.now p (Act.Open x) s → Turned know w p (Act.Open x) s b
+  over_turn x o S s before then on does =
       let is : IsSure w p (know_edit aim got (Opening x o)) = rw before at (g.sure p) in
       opened know w g p b _ _ before then x s is.holds.0.owner does (inl is.holds.0.status) refl refl ((λ e. cc, λ e. cc), tt)
       (λ z i h. elim h [ inl e ↦ absurd (i (sym e)) | inr u ↦ absurd u ])
@@ -375,7 +379,7 @@ module _ {P : Type 0} (know : P → Know) (w : World P) (g : IsGood know w) (p :
         goes = is.goes;
         children = tt;
         passed = tt;
-        sound = sound;
+        sound = on is.sound;
       })
 
   -- every turn of a change that does not end it
@@ -393,6 +397,6 @@ module _ {P : Type 0} (know : P → Know) (w : World P) (g : IsGood know w) (p :
   edit_turn (EditCase.OpenedNew x y separator d t) s before then observed does = open_new_turn x y separator s before (subst (λ e. know b ≡ know_edit aim got e) t then) does
 
   -- every turn that ends a change
-  pub finish_turn : {c : Edit} {o : Outcome} {what : Seen} → EditCase c what (Over o) → (S : Type 0) (s : State Page) → know (w.proc p) ≡ know_edit aim got c → know b ≡ record (keeping aim.keeps) { said = aim.said o; sound = S } → S → Does w.now p (event_of None (edit_next c) what) s → Turned know w p (event_of None (edit_next c) what) s b
-  finish_turn (EditCase.Opened x u o t) S s before then sound does =
-      over_turn x u S s before (subst (λ z. know b ≡ record (keeping aim.keeps) { said = aim.said z; sound = S }) t then) sound does
+  pub finish_turn : {c : Edit} {o : Outcome} {what : Seen} → EditCase c what (Over o) → (S : Type 0) (s : State Page) → know (w.proc p) ≡ know_edit aim got c → know b ≡ record (keeping aim.keeps) { said = aim.said o; sound = S } → ((aim.changes ≡ true) × IsBelow o → S) → Does w.now p (event_of None (edit_next c) what) s → Turned know w p (event_of None (edit_next c) what) s b
+  finish_turn (EditCase.Opened x u o t) S s before then on does =
+      over_turn x u S s before (subst (λ z. know b ≡ record (keeping aim.keeps) { said = aim.said z; sound = S }) t then) (λ h. on (h.0, subst IsBelow (sym t) h.1)) does

@@ -42,9 +42,9 @@ module _ {P : Type 0} (know : P → Know) (w : World P) (g : IsGood know w) (p :
   pub begin_turn : (keeps : Keeps) (key : ℕ) (s : State _) → know (w.proc p) ≡ record (early key) { said = keeps.said; goes = keeps.goes } → know b ≡ record (keeping keeps) { sound = key < unbounded } → Does w.now p Begin s → Turned know w p Begin s b
   begin_turn keeps key s before then does = start_turn keeps (key < unbounded) s before then does
 
-  pub end_turn : (said : Option Said) (goes : List Goes) (s : State _) → know (w.proc p) ≡ record (ending said) { goes = goes } → know b ≡ late said → Does w.now p (End (reply_said said)) s → Turned know w p (End (reply_said said)) s b
-  end_turn said goes s before then does =
-      let is : IsSure w p (record (ending said) { goes = goes }) = rw before at (g.sure p) in
+  pub end_turn : (said : Option Said) (goes : List Goes) (S : Type 0) (s : State _) → know (w.proc p) ≡ record (ending said) { goes = goes; sound = S } → know b ≡ late said → Does w.now p (End (reply_said said)) s → Turned know w p (End (reply_said said)) s b
+  end_turn said goes S s before then does =
+      let is : IsSure w p (record (ending said) { goes = goes; sound = S }) = rw before at (g.sure p) in
       finished know w g p b _ _ before then (reply_said said) s (is.stage, λ x o. rw before at (g.owned.held x p o)) does (observed_said w p said is.said) refl (λ x h. h)
       (record {
         stage = does.changes.2.at;

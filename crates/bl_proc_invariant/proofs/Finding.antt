@@ -28,6 +28,6 @@ module _ {P : Type 0} (know : P → Know) (w : World P) (g : IsGood know w) (p :
       let look : value ≡ (nodes w.now (descent_page d)).look key = rw observed at t.1 in
       leaf_turn know w g p b key d c s before observed does (found key value) then t.0 (λ may l. answers value (look ∙ leaf_says know w g p (descent_page d) key may l.0 l.2 l.1))
   find_turn (Ending value) (Over last) seen.Done s before then t observed does =
-      end_turn know w g p b (found key value) [] s before (rw t at then) does
+      end_turn know w g p b (found key value) [] (Unit {0}) s before (rw t at then) does
   find_turn a a' (seen.Words page) s before then t observed does = absurd t
   find_turn a a' old s before then t observed does = absurd t

@@ -23,6 +23,7 @@ pub mod Middles
 pub mod Logged
 pub mod Near
 pub mod Turning
+pub mod Instead
 pub mod Starting
 pub mod Answered
 pub mod Beside

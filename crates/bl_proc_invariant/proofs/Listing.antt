@@ -88,6 +88,6 @@ module _ {P : Type 0} (know : P → Know) (w : World P) (g : IsGood know w) (p :
       let part : IsPartOf (w.now.contents (descent_page d)) from r = rw observed at t.1 in
       leaf_turn know w g p b from d c s before observed does (listed from r) then t.0 (λ may l. (lists (descent_page d) r part may l, λ k. refl))
   part_turn (Ending r) (Over last) seen.Done s before then t observed does =
-      end_turn know w g p b (listed from r) [] s before (rw t at then) does
+      end_turn know w g p b (listed from r) [] (Unit {0}) s before (rw t at then) does
   part_turn a a' (seen.Words page) s before then t observed does = absurd t
   part_turn a a' old s before then t observed does = absurd t

@@ -373,4 +373,4 @@ module _ {P : Type 0} (know : P → Know) (w : World P) (g : IsGood know w) (p :
   lower_turn (LowerCase.Began l t) got s before then observed does = start_turn know w g p b alone (Unit {0}) s before (subst (λ z. know b ≡ know_lowering got z) t then) does
   lower_turn (LowerCase.Sank l what m t) got s before then observed does = lowering_turn (lowering_case l what _ t) got s before then observed does
   lower_turn (LowerCase.Finished l what r t) got s before then observed does = lowering_over_turn (lowering_case l what _ t) got s before then does
-  lower_turn (LowerCase.Ended r last t) got s before then observed does = end_turn know w g p b None [] s before then does
+  lower_turn (LowerCase.Ended r last t) got s before then observed does = end_turn know w g p b None [] (Unit {0}) s before then does

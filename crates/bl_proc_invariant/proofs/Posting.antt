@@ -18,16 +18,19 @@ use Rattle.bl_core.proofs.Children.{child_found}
 use Rattle.bl_proc_base.specs.declared.acts.Seen.{Seen}
 use Rattle.bl_proc_base.specs.declared.onwards.Step.TheVariants.{Here}
 use Rattle.bl_proc_base.specs.declared.approaching.Approach.TheVariants as way
+use Rattle.bl_proc_base.specs.declared.editing.Outcome.{Outcome}
+use Rattle.bl_proc_base.specs.declared.editing.Outcome.TheVariants as outcome
 use Rattle.bl_proc_base.specs.declared.editing.Edit.{Edit}
 use Rattle.bl_proc.specs.declared.walking.Walk.{Walk}
+use Rattle.bl_proc.specs.declared.posting.PostReply.{PostReply}
 use Rattle.bl_proc.specs.declared.posting.PostStage.{PostStage}
 use Rattle.bl_proc.specs.declared.posting.PostStage.TheVariants as post
 use Rattle.bl_proc_base.specs.Onwards.{Leads}
 use Rattle.bl_proc_base.specs.Edits.{EntersPair}
-use Rattle.bl_proc.specs.Posts.{post_next_in, PostArrives, PostWalks}
+use Rattle.bl_proc.specs.Posts.{post_reply, post_next_in, PostArrives, PostWalks}
 use Rattle.bl_proc_invariant.specs.Turns.{event_of, IsObserved, Does, Turned}
-use Rattle.bl_proc_invariant.specs.Tables.{Keeps, keeping, holds_live, goes_to, IsAim, IsDue, know_approach, know_edit}
-use Rattle.bl_proc_invariant.specs.Knowing.{post_aim, know_post, post_got, post_child}
+use Rattle.bl_proc_invariant.specs.Tables.{Keeps, keeping, holds_live, goes_to, IsAim, IsDue, IsBelow, know_approach, know_edit}
+use Rattle.bl_proc_invariant.specs.Knowing.{post_aim, know_post, LeavesPost, post_got, post_child}
 use Rattle.bl_proc_invariant.proofs.Acts.{watched}
 use Rattle.bl_proc_invariant.proofs.Approaching.{walks_held, wider, to_right, got_goes, approach_turn, give_up_turn, kept_turn, stay_turn}
 use Rattle.bl_proc_invariant.proofs.Editing.{edit_turn, finish_turn}
@@ -50,6 +53,11 @@ post_fine keeps level key child above = record {
   where
     same : (a c : ℕ) → Some a ≡ Some c → a ≡ c
     same a c f = cc
+
+post_leaves : (o : Outcome) → IsBelow o → LeavesPost (post_reply o)
+post_leaves outcome.Edited h = tt
+post_leaves (outcome.SplitAt separator) h = h
+post_leaves outcome.Refused h = tt
 
 module _ {P : Type 0} (know : P → Know) (w : World P) (g : IsGood know w) (p : Name) (b : P) (keeps : Keeps) (level key : ℕ) (least : 0 < level) (limit : level ≤ 12) where
   -- at the parent
@@ -141,25 +149,25 @@ module _ {P : Type 0} (know : P → Know) (w : World P) (g : IsGood know w) (p :
           children = ((does.changes.1 v.at ∙ held.owner, found), tt);
         }) refl enters)
 
-  -- every turn of a post
-  pub post_turn : {a a' : PostStage} {what : Seen} → PostCase level key a what a' → (got : ℕ → Page) (child : ℕ) (s : State Page) → know (w.proc p) ≡ know_post keeps level key got child a → know b ≡ know_post keeps level key (post_got got a what) (post_child child a) a' → IsObserved w.now w.size (post_next_in a) what → Does w.now p (event_of None (post_next_in a) what) s → Turned know w p (event_of None (post_next_in a) what) s b
-  post_turn (PostCase.Began a t) got child s before then observed does = begin_turn know w g p b keeps key s before (rw t at then) does
-  post_turn (PostCase.NoLevel c t) got child s before then observed does = give_up_turn know w g p b keeps level key s before then does
-  post_turn (PostCase.Tallest c t) got child s before then observed does = give_up_turn know w g p b keeps level key s before then does
-  post_turn (PostCase.ToGrow c t) got child s before then observed does =
+  -- Every turn of a post. Where it ends it answers nothing, so it has said nothing.
+  pub post_turn : {a a' : PostStage} {what : Seen} → PostCase level key a what a' → ((r : PostReply) → a ≡ post.Ending r → keeps.said ≡ None) → (got : ℕ → Page) (child : ℕ) (s : State Page) → know (w.proc p) ≡ know_post keeps level key got child a → know b ≡ know_post keeps level key (post_got got a what) (post_child child a) a' → IsObserved w.now w.size (post_next_in a) what → Does w.now p (event_of None (post_next_in a) what) s → Turned know w p (event_of None (post_next_in a) what) s b
+  post_turn (PostCase.Began a t) ends got child s before then observed does = begin_turn know w g p b keeps key s before (rw t at then) does
+  post_turn (PostCase.NoLevel c t) ends got child s before then observed does = give_up_turn know w g p b keeps level key s before then does
+  post_turn (PostCase.Tallest c t) ends got child s before then observed does = give_up_turn know w g p b keeps level key s before then does
+  post_turn (PostCase.ToGrow c t) ends got child s before then observed does =
       let is : IsSure w p (know_approach keeps level key way.Start) = rw before at (g.sure p) in
       got_goes know w g p b keeps level key _ 0 s keeps.goes before refl refl then is.stage is.said (anchor_not_released know w g) does is.sound is.goes
-  post_turn (PostCase.Came a what a' t) got child s before then observed does = approach_turn know w g p b keeps level key a a' what s limit before then t observed does
-  post_turn (PostCase.Listed x parent y l t) got child s before then observed does = kept_turn know w g p b keeps level key x s before (rw t.0 at then) does
-  post_turn (PostCase.ToWalk x parent v l t) got child s before then observed does = walk_turn x parent v got child s before then observed l t does
-  post_turn (PostCase.Grew h what d t) got child s before then observed does = growing.growth_turn know w g p b keeps level key (growth_case level h what _ t) got s before then observed does
-  post_turn (PostCase.Grown h what a t) got child s before then observed does = growing.over_turn know w g p b keeps level key (growth_case level h what _ t.0) got s before (rw t.1 at then) does
-  post_turn (PostCase.NoRoom h what r t) got child s before then observed does = growing.no_room_turn know w g p b keeps level key (growth_case level h what _ t.0) got s before then does
-  post_turn (PostCase.Walked v c u t) got child s before then observed does = step_turn v got child s before does u (λ z. InnerPage v.parent) v.child then (subst (λ z. PostWalks level v z (post.Walking u)) observed t)
-  post_turn (PostCase.Entered v c d t) got child s before then observed does = list_turn v got child s before does d then (subst (λ z. PostWalks level v z (post.Editing d)) observed t)
-  post_turn (PostCase.Stale v c x t) got child s before then observed does = lost_turn v got child s before does (rw t.0 at then)
-  post_turn (PostCase.Lost v c a t) got child s before then observed does = again_turn v got child s before does (rw t.0 at then)
-  post_turn (PostCase.Edited c what d t) got child s before then observed does = edit_turn know w g p b (post_aim keeps level key child) (post_fine keeps level key child least) got (edit_case c what _ t) s before then observed does
-  post_turn (PostCase.Finished c what r (o, t, same)) got child s before then observed does = finish_turn know w g p b (post_aim keeps level key child) (post_fine keeps level key child least) got (edit_case c what _ t) _ s before then tt does
-  post_turn (PostCase.Opened x r last t) got child s before then observed does = stay_turn know w g p b keeps level key x s before then does
-  post_turn (PostCase.Ended r last t) got child s before then observed does = end_turn know w g p b keeps.said keeps.goes s before then does
+  post_turn (PostCase.Came a what a' t) ends got child s before then observed does = approach_turn know w g p b keeps level key a a' what s limit before then t observed does
+  post_turn (PostCase.Listed x parent y l t) ends got child s before then observed does = kept_turn know w g p b keeps level key x s before (rw t.0 at then) does
+  post_turn (PostCase.ToWalk x parent v l t) ends got child s before then observed does = walk_turn x parent v got child s before then observed l t does
+  post_turn (PostCase.Grew h what d t) ends got child s before then observed does = growing.growth_turn know w g p b keeps level key (growth_case level h what _ t) got s before then observed does
+  post_turn (PostCase.Grown h what a t) ends got child s before then observed does = growing.over_turn know w g p b keeps level key (growth_case level h what _ t.0) got s before (rw t.1 at then) does
+  post_turn (PostCase.NoRoom h what r t) ends got child s before then observed does = growing.no_room_turn know w g p b keeps level key (growth_case level h what _ t.0) got s before (rw t.1 at then) does
+  post_turn (PostCase.Walked v c u t) ends got child s before then observed does = step_turn v got child s before does u (λ z. InnerPage v.parent) v.child then (subst (λ z. PostWalks level v z (post.Walking u)) observed t)
+  post_turn (PostCase.Entered v c d t) ends got child s before then observed does = list_turn v got child s before does d then (subst (λ z. PostWalks level v z (post.Editing d)) observed t)
+  post_turn (PostCase.Stale v c x t) ends got child s before then observed does = lost_turn v got child s before does (rw t.0 at then)
+  post_turn (PostCase.Lost v c a t) ends got child s before then observed does = again_turn v got child s before does (rw t.0 at then)
+  post_turn (PostCase.Edited c what d t) ends got child s before then observed does = edit_turn know w g p b (post_aim keeps level key child) (post_fine keeps level key child least) got (edit_case c what _ t) s before then observed does
+  post_turn (PostCase.Finished c what r (o, t, same)) ends got child s before then observed does = finish_turn know w g p b (post_aim keeps level key child) (post_fine keeps level key child least) got (edit_case c what _ t) (LeavesPost r) s before then (λ h. subst LeavesPost (sym same) (post_leaves o h.1)) does
+  post_turn (PostCase.Opened x r last t) ends got child s before then observed does = stay_turn know w g p b keeps level key x (LeavesPost r) s before (rw t at then) does
+  post_turn (PostCase.Ended r last t) ends got child s before then observed does = end_turn know w g p b None keeps.goes (LeavesPost r) s (rw (ends r refl) at before) (rw (ends r refl) at then) does

@@ -88,5 +88,5 @@ module _ {P : Type 0} (know : P → Know) (w : World P) (g : IsGood know w) (p :
   compress_turn (CompressCase.Squeezed c what d t) got s before then observed does = compression_turn know w g p b level key least got c d what s before then t observed does
   compress_turn (CompressCase.Lost c what a (decision, t, none, start)) got s before then observed does = over_turn (squeeze_case c what _ t) (key < unbounded) got s before (rw start at then) (λ e. e) does
   compress_turn (CompressCase.Finished c what r (decision, t, some)) got s before then observed does = over_turn (squeeze_case c what _ t) (Unit {0}) got s before then (λ e. tt) does
-  compress_turn (CompressCase.Opened x r t) got s before then observed does = stay_turn know w g p b alone level key x s before then does
-  compress_turn (CompressCase.Ended r last t) got s before then observed does = end_turn know w g p b None [] s before then does
+  compress_turn (CompressCase.Opened x r t) got s before then observed does = stay_turn know w g p b alone level key x (Unit {0}) s before then does
+  compress_turn (CompressCase.Ended r last t) got s before then observed does = end_turn know w g p b None [] (Unit {0}) s before then does

@@ -31,7 +31,7 @@ state_turn w p got child time (Find a) (Find c) b what s g before then t observe
 state_turn w p got child time (Write a) (Write c) b what s g before then t observed shown does =
     write_turn know w g p b [] a.key a.write (write_case a.key a.write a.stage what c.stage t.2) got s before (subst (λ k. know b ≡ know_write [] k a.write (write_got got a.stage what) c.stage) t.0 (subst (λ d. know b ≡ know_write [] c.key d (write_got got a.stage what) c.stage) t.1 then)) observed does
 state_turn w p got child time (Post a) (Post c) b what s g before then t observed shown does =
-    post_turn know w g p b alone a.level a.key a.least a.most (post_case a.level a.key a.stage what c.stage t.2) got child s before (subst (λ l. know b ≡ know_post alone l a.key (post_got got a.stage what) (post_child child a.stage) c.stage) t.0 (subst (λ k. know b ≡ know_post alone c.level k (post_got got a.stage what) (post_child child a.stage) c.stage) t.1 then)) observed does
+    post_turn know w g p b alone a.level a.key a.least a.most (post_case a.level a.key a.stage what c.stage t.2) (λ r e. refl) got child s before (subst (λ l. know b ≡ know_post alone l a.key (post_got got a.stage what) (post_child child a.stage) c.stage) t.0 (subst (λ k. know b ≡ know_post alone c.level k (post_got got a.stage what) (post_child child a.stage) c.stage) t.1 then)) observed does
 state_turn w p got child time (Part a) (Part c) b what s g before then t observed shown does =
     part_turn know w g p b a.from a.stage c.stage what s before (subst (λ k. know b ≡ know_part k c.stage) t.0 then) t.1 observed does
 state_turn w p got child time (Reclaim a) (Reclaim c) b what s g before then t observed shown does =

@@ -26,10 +26,11 @@ use Rattle.bl_proc.specs.declared.writing.WriteStage.{WriteStage}
 use Rattle.bl_proc.specs.declared.writing.WriteStage.TheVariants as write
 use Rattle.bl_proc.specs.declared.writing.WriteReply.TheVariants as written
 use Rattle.bl_proc_base.specs.Onwards.{Leads}
+use Rattle.bl_proc_base.specs.Thin.{thin_hint}
 use Rattle.bl_proc.specs.Writes.{Performs, write_reply, write_next_in}
 use Rattle.bl_proc_invariant.specs.Turns.{event_of, IsObserved, Does, Turned}
-use Rattle.bl_proc_invariant.specs.Tables.{unsaid, IsAim, know_approach, know_edit}
-use Rattle.bl_proc_invariant.specs.Knowing.{writes, is_change, write_aim, know_write, write_got, write_end}
+use Rattle.bl_proc_invariant.specs.Tables.{unsaid, IsAim, IsBelow, know_approach, know_edit}
+use Rattle.bl_proc_invariant.specs.Knowing.{writes, is_change, write_aim, LeavesWrite, know_write, write_got, write_end}
 use Rattle.bl_proc_invariant.proofs.Acts.{watched, opened}
 use Rattle.bl_proc_invariant.proofs.Approaching.{approach_turn}
 use Rattle.bl_proc_invariant.proofs.Editing.{says, edit_turn, finish_turn}
@@ -96,6 +97,16 @@ module _ {P : Type 0} (know : P → Know) (w : World P) (g : IsGood know w) (p :
         children = tt;
       }) refl performs)
 
+  -- only the hint of a split leaves a post
+  write_leaves : (noted : Noted) (o : Outcome) → (is_change (effect_of does noted.there) ≡ true) × IsBelow o → LeavesWrite does (write_reply noted o)
+  write_leaves noted outcome.Edited h = thin_leaves noted.there noted.thin
+    where
+      thin_leaves : (there thin : Option ℕ) → LeavesWrite does (written.Done there (thin_hint 1 thin))
+      thin_leaves there None = tt
+      thin_leaves there (Some low) = tt
+  write_leaves noted (outcome.SplitAt separator) h = h
+  write_leaves noted outcome.Refused h = tt
+
   stay_turn : (x : ℕ) (there : Option ℕ) (got : ℕ → Page) (s : State Page) → know (w.proc p) ≡ know_write goes key does got (write.Keeping x there) → know b ≡ know_write goes key does got (write.Ending (written.Done there None)) → Does w.now p (Act.Open x) s → Turned know w p (Act.Open x) s b
   stay_turn x there got s before then does_it =
       let is : IsSure w p (know_write goes key does got (write.Keeping x there)) = rw before at (g.sure p) in
@@ -114,5 +125,5 @@ module _ {P : Type 0} (know : P → Know) (w : World P) (g : IsGood know w) (p :
   write_turn (WriteCase.Edited noted c what same d t) got s before then observed does_it =
       edit_turn know w g p b (write_aim goes key does noted) (write_fine goes key does noted) got (edit_case c what _ t.1) s before (subst (λ z. know b ≡ know_edit (write_aim goes key does z) got d) t.0 then) observed does_it
   write_turn (WriteCase.Finished noted c what r (o, t, same)) got s before then observed does_it =
-      finish_turn know w g p b (write_aim goes key does noted) (write_fine goes key does noted) got (edit_case c what _ t) _ s before (subst (λ z. know b ≡ know_write goes key does got (write.Ending z)) same then) tt does_it
-  write_turn (WriteCase.Ended r last t) got s before then observed does_it = end_turn know w g p b (writes key does r) goes s before (rw t at then) does_it
+      finish_turn know w g p b (write_aim goes key does noted) (write_fine goes key does noted) got (edit_case c what _ t) (LeavesWrite does (write_reply noted o)) s before (subst (λ z. know b ≡ know_write goes key does got (write.Ending z)) same then) (write_leaves noted o) does_it
+  write_turn (WriteCase.Ended r last t) got s before then observed does_it = end_turn know w g p b (writes key does r) goes (LeavesWrite does r) s before (rw t at then) does_it

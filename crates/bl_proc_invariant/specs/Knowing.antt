@@ -17,6 +17,7 @@ use Rattle.bl_claims.specs.Trails.{Said}
 use Rattle.bl_core.specs.Worlds.{Goes, Passed, Stage, Know}
 use Rattle.bl_proc_base.specs.declared.acts.Seen.{Seen}
 use Rattle.bl_proc_base.specs.declared.acts.Seen.TheVariants as seen
+use Rattle.bl_proc_base.specs.declared.answers.Hint.TheVariants as hint
 use Rattle.bl_proc.specs.declared.searching.FindStage.TheVariants as find
 use Rattle.bl_proc.specs.declared.searching.FindStage.{FindStage}
 use Rattle.bl_proc.specs.declared.writing.Noted.{Noted}
@@ -29,6 +30,8 @@ use Rattle.bl_proc.specs.declared.parts.PartStage.{PartStage}
 use Rattle.bl_proc.specs.declared.parts.PartStage.TheVariants as part
 use Rattle.bl_proc_base.specs.declared.growing.Growth.{Growth}
 use Rattle.bl_proc_base.specs.declared.growing.Growth.TheVariants as growth
+use Rattle.bl_proc.specs.declared.posting.PostReply.{PostReply}
+use Rattle.bl_proc.specs.declared.posting.PostReply.TheVariants as posted
 use Rattle.bl_proc.specs.declared.posting.PostStage.{PostStage}
 use Rattle.bl_proc.specs.declared.posting.PostStage.TheVariants as post
 use Rattle.bl_proc.specs.declared.reclaiming.Round.{Round}
@@ -87,7 +90,7 @@ know_part from (part.Over r) = late (listed from r)
 -- Writes of one key
 
 abbrev pub written_reply : KeyWrite → WriteReply → Reply
-written_reply does (written.Done there hint) = replied does there
+written_reply does (written.Done there left) = replied does there
 written_reply does written.NoRoom = reply.NoRoom
 
 abbrev pub writes : ℕ → KeyWrite → WriteReply → Option Said
@@ -112,12 +115,17 @@ write_aim goes key does noted = record {
   children = λ x. [];
 }
 
+-- what is known of the post that a write leaves: the pair was changed, and the separator is a key of the tree
+abbrev pub LeavesWrite : KeyWrite → WriteReply → Type 0
+LeavesWrite does (written.Done there (Some (hint.Post level separator))) = (is_change (effect_of does there) ≡ true) × (separator < unbounded)
+LeavesWrite does r = Unit {0}
+
 abbrev pub know_write : List Goes → ℕ → KeyWrite → (ℕ → Page) → WriteStage → Know
 know_write goes key does got write.New = record (early key) { goes = goes }
 know_write goes key does got (write.Coming a) = know_approach (unsaid goes) 0 key a
 know_write goes key does got (write.Keeping x there) = record (ending (writes key does (written.Done there None))) { holds = holds_live x ∷ []; goes = goes }
 know_write goes key does got (write.Editing noted c) = know_edit (write_aim goes key does noted) got c
-know_write goes key does got (write.Ending r) = record (ending (writes key does r)) { goes = goes }
+know_write goes key does got (write.Ending r) = record (ending (writes key does r)) { goes = goes; sound = LeavesWrite does r }
 know_write goes key does got (write.Over r) = late (writes key does r)
 
 -- Growths: page 0 is held, and as the process got it
@@ -153,14 +161,19 @@ post_aim keeps level key child = record {
   children = λ x. record { parent = x; at = child; key = key } ∷ [];
 }
 
+-- and of the one that a post leaves
+abbrev pub LeavesPost : PostReply → Type 0
+LeavesPost (posted.Done (Some separator)) = separator < unbounded
+LeavesPost r = Unit {0}
+
 abbrev pub know_post : Keeps → ℕ → ℕ → (ℕ → Page) → ℕ → PostStage → Know
 know_post keeps level key got child post.New = record (early key) { said = keeps.said; goes = keeps.goes }
 know_post keeps level key got child (post.Coming a) = know_approach keeps level key a
 know_post keeps level key got child (post.Growing g) = know_growth keeps level key got g
 know_post keeps level key got child (post.Walking w) = record (keeping keeps) { holds = holds_known w.at (Inner w.parent) ∷ []; goes = goes_to w.child (level - 1) (level - 1) ∷ keeps.goes; sound = (key < unbounded) × IsDue (post_aim keeps level key 0) (Inner w.parent) × (w.key ≡ key) }
 know_post keeps level key got child (post.Editing c) = know_edit (post_aim keeps level key child) got c
-know_post keeps level key got child (post.Staying x r) = record (keeping keeps) { holds = holds_live x ∷ [] }
-know_post keeps level key got child (post.Ending r) = record (ending keeps.said) { goes = keeps.goes }
+know_post keeps level key got child (post.Staying x r) = record (keeping keeps) { holds = holds_live x ∷ []; sound = LeavesPost r }
+know_post keeps level key got child (post.Ending r) = record (ending keeps.said) { goes = keeps.goes; sound = LeavesPost r }
 know_post keeps level key got child (post.Over r) = late keeps.said
 
 -- Compressions: they answer no operation of the map

@@ -100,11 +100,17 @@ pub record IsDue (aim : Aim) (c : Page) : Type 0 where
   pub was : (node_of c).look aim.key ≡ aim.was
   pub changes : aim.changes ≡ true
 
+-- the separator of a page that was split is a key of the tree
+abbrev pub IsBelow : Outcome → Type 0
+IsBelow outcome.Edited = Unit {0}
+IsBelow (outcome.SplitAt separator) = separator < unbounded
+IsBelow outcome.Refused = Unit {0}
+
 -- got is what the process got of the page under its latch.
 abbrev pub know_edit : Aim → (ℕ → Page) → Edit → Know
 know_edit aim got (Putting x page) = record (keeping aim.keeps) { holds = holds_known x (got x) ∷ []; children = aim.children x; sound = IsDue aim (got x) × IsRow aim.key aim.word (node_of (got x)) (node_of page) }
 know_edit aim got (Taking full) = record (keeping aim.keeps) { holds = holds_known full.at full.page ∷ []; children = aim.children full.at; sound = IsDue aim full.page × (full.key ≡ aim.key) × (Some full.word ≡ aim.word) × (got full.at ≡ full.page) }
-know_edit aim got (PuttingNew p) = record (keeping aim.keeps) { holds = holds_known p.at (got p.at) ∷ record { at = p.new; status = Fresh; sep = None; page = None } ∷ []; children = aim.children p.at; sound = IsDue aim (got p.at) × IsCut p.new aim.key aim.word (node_of (got p.at)) (node_of p.left) (node_of p.right) }
-know_edit aim got (PuttingOld p) = record (keeping aim.keeps) { holds = holds_known p.at (got p.at) ∷ record { at = p.new; status = Fresh; sep = Some (node_of p.right).shape.low; page = Some p.right } ∷ []; children = aim.children p.at; sound = IsDue aim (got p.at) × IsCut p.new aim.key aim.word (node_of (got p.at)) (node_of p.left) (node_of p.right) }
-know_edit aim got (OpeningNew x new separator) = record (keeping aim.keeps) { said = aim.said (outcome.SplitAt separator); holds = holds_live x ∷ holds_live new ∷ []; sound = x ≢ new }
-know_edit aim got (Opening x o) = record (keeping aim.keeps) { said = aim.said o; holds = holds_live x ∷ [] }
+know_edit aim got (PuttingNew p) = record (keeping aim.keeps) { holds = holds_known p.at (got p.at) ∷ record { at = p.new; status = Fresh; sep = None; page = None } ∷ []; children = aim.children p.at; sound = IsDue aim (got p.at) × IsCut p.new aim.key aim.word (node_of (got p.at)) (node_of p.left) (node_of p.right) × (p.separator < unbounded) }
+know_edit aim got (PuttingOld p) = record (keeping aim.keeps) { holds = holds_known p.at (got p.at) ∷ record { at = p.new; status = Fresh; sep = Some (node_of p.right).shape.low; page = Some p.right } ∷ []; children = aim.children p.at; sound = IsDue aim (got p.at) × IsCut p.new aim.key aim.word (node_of (got p.at)) (node_of p.left) (node_of p.right) × (p.separator < unbounded) }
+know_edit aim got (OpeningNew x new separator) = record (keeping aim.keeps) { said = aim.said (outcome.SplitAt separator); holds = holds_live x ∷ holds_live new ∷ []; sound = (x ≢ new) × (aim.changes ≡ true) × (separator < unbounded) }
+know_edit aim got (Opening x o) = record (keeping aim.keeps) { said = aim.said o; holds = holds_live x ∷ []; sound = (aim.changes ≡ true) × IsBelow o }
