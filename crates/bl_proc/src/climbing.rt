@@ -15,7 +15,7 @@ pub struct InsertPost {
     pub value: u64,
     pub path: Path,
     pub stage: ClimbStage,
-    ghost stands: { Stands key value stage } by { Stands-prop key value stage },
+    ghost stands: { Stands key value path stage } by { Stands-prop key value path stage },
 }
 
 /// How far such an insertion has come.

@@ -243,9 +243,9 @@ impl Process for InsertPost {
     }
 
     fn took(&mut self, seen: Seen) {
-        note(&mut self.path, &self.stage, &seen);
         let held = ClimbStage::Ending(Climbed::Unsplit(WriteReply::NoRoom));
         let stage = mem::replace(&mut self.stage, held);
+        note(&mut self.path, &stage, &seen);
         self.stage = went(&self.path, stage, seen);
     }
 }
