@@ -5,7 +5,7 @@ use Rattle.bl_claims.specs.Pages.{node_of}
 use Rattle.bl_proc_base.specs.declared.acts.Seen.{Seen}
 use Rattle.bl_proc_base.specs.declared.acts.Seen.TheVariants as seen
 use Rattle.bl_proc_base.specs.declared.onwards.Step.{Step}
-use Rattle.bl_proc_base.specs.declared.onwards.Step.TheVariants.{Again, Right, Down, Here}
+use Rattle.bl_proc_base.specs.declared.onwards.Step.TheVariants.{Down}
 use Rattle.bl_proc_base.specs.declared.approaching.Approach.{Approach}
 use Rattle.bl_proc_base.specs.declared.approaching.Approach.TheVariants.{Start, At, Latching}
 use Rattle.bl_proc_base.specs.Onwards.{Leads}

@@ -2,11 +2,9 @@
 -- insertion is further already.) No page is noted before it begins.
 use Rattle.std.specs.Prelude.{◌≡◌, ℕ}
 use Rattle.std.proofs.Props.{props}
-use Rattle.bl_model.specs.declared.deciding.KeyWrite.{KeyWrite}
-use Rattle.bl_model.specs.declared.deciding.KeyWrite.TheVariants.{Insert, Delete, Change}
+use Rattle.bl_model.specs.declared.deciding.KeyWrite.TheVariants.{Insert}
 use Rattle.bl_proc.specs.declared.paths.Path.{Path}
 use Rattle.bl_proc.specs.Paths.{IsBlank}
-use Rattle.bl_proc.specs.declared.posting.Post.{Post}
 use Rattle.bl_proc.specs.declared.posting.PostStage.{PostStage}
 use Rattle.bl_proc.specs.declared.posting.PostStage.TheVariants as post
 use Rattle.bl_proc.specs.declared.writing.Write.{Write}

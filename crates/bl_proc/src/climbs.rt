@@ -1,10 +1,12 @@
 //! The steps of an insertion that posts what it splits.
 
-ghost use Rattle.std.specs.Prelude.{◌≡◌, ◌<◌, ◌≤◌, None};
+ghost use Rattle.std.specs.Prelude.{◌≡◌, ◌<◌, ◌≤◌, ℕ, Option, None, MatchOption};
 ghost use Rattle.bl_proc_base.specs.declared.acts.Seen.{Seen};
+ghost use Rattle.bl_proc_base.specs.declared.answers.Hint.TheVariants as hint;
 ghost use Rattle.bl_proc_base.specs.Given.{Gives};
 ghost use Rattle.bl_proc.specs.declared.writing.Write.{Write};
 ghost use Rattle.bl_proc.specs.declared.writing.WriteStage.TheVariants as write_stage;
+ghost use Rattle.bl_proc.specs.declared.writing.WriteReply.TheVariants as written;
 ghost use Rattle.bl_proc.specs.declared.posting.Post.{Post};
 ghost use Rattle.bl_proc.specs.declared.posting.PostStage.TheVariants as post_stage;
 ghost use Rattle.bl_proc.specs.declared.climbing.ClimbStage.TheVariants as climb_stage;
@@ -13,7 +15,7 @@ ghost use Rattle.bl_proc.specs.Paths.{IsBlank};
 ghost use Rattle.bl_proc.specs.Stands.{IsWriting, IsPosting, IsClimbing};
 ghost use Rattle.bl_proc.specs.Writes.{write_next_of, write_needs_of, WriteGoes, WriteTakes};
 ghost use Rattle.bl_proc.specs.Posts.{post_next, post_needs, PostGoes, PostTakes};
-ghost use Rattle.bl_proc.specs.Climbs.{inserted_reply, posted_as, left_hint, climbed_answer, climb_next, climb_needs, climb_answer, climb_next_in, climb_needs_in, ClimbNotes, PostsFrom, ClimbGoes, ClimbTakes, IsToBegin};
+ghost use Rattle.bl_proc.specs.Climbs.{inserted_reply, posted_as, left_hint, climbed_answer, climb_next, climb_needs, climb_answer, climb_next_in, climb_needs_in, ClimbNotes, PostsFrom, IsUnsplit, ClimbGoes, ClimbTakes, IsToBegin};
 
 use crate::climbing::{ClimbStage, Climbed, InsertPost};
 use crate::paths::Path;
@@ -55,17 +57,27 @@ fn post_from(path: &Path, level: u32, key: u64) -> Post
     }
 }
 
+/// The level and the key that are to be posted, if a write has split its leaf.
+fn split_by(reply: &WriteReply) -> Option<(u32, u64)>
+    ensures { MatchOption result (IsUnsplit reply.now)
+        (λ p. (0 < p.0) × (p.0 ≤ 12) × ((there : Option ℕ) × (reply.now ≡ written.Done there (Some (hint.Post p.0 p.1))))) }
+{
+    match reply {
+        WriteReply::Done(_, Some(hint)) => match hint {
+            Hint::Post { .. } => Some((hint.level(), hint.key())),
+            Hint::Thin { .. } => None,
+        },
+        WriteReply::Done(_, None) | WriteReply::NoRoom => None,
+    }
+}
+
 /// The write is to end. Where it has split its leaf, that is to be posted.
 fn written(path: &Path, reply: WriteReply) -> ClimbStage
     ensures { (w : Write) → (what : Seen) → WriteGoes w.key w.write w.stage what (write_stage.Ending reply) → ClimbGoes path.now (climb_stage.Writing w) what result }
 {
-    match reply {
-        WriteReply::Done(_, Some(Hint::Post { level, key })) => {
-            ClimbStage::Posting(post_from(path, level.number(), key))
-        }
-        WriteReply::Done(_, Some(Hint::Thin { .. }))
-        | WriteReply::Done(_, None)
-        | WriteReply::NoRoom => ClimbStage::Ending(Climbed::Unsplit(reply)),
+    match split_by(&reply) {
+        Some((level, key)) => ClimbStage::Posting(post_from(path, level, key)),
+        None => ClimbStage::Ending(Climbed::Unsplit(reply)),
     }
 }
 
