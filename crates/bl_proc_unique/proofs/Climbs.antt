@@ -31,7 +31,6 @@ use Rattle.bl_proc.specs.declared.writing.WriteReply.TheVariants as written
 use Rattle.bl_proc.specs.declared.climbing.InsertPost.{InsertPost}
 use Rattle.bl_proc.specs.declared.climbing.ClimbStage.{ClimbStage}
 use Rattle.bl_proc.specs.declared.climbing.ClimbStage.TheVariants.{Writing, Posting, Ending, Over}
-use Rattle.bl_proc.specs.declared.climbing.Climbed.{Climbed}
 use Rattle.bl_proc.specs.declared.climbing.Climbed.TheVariants.{Unsplit, Posted}
 use Rattle.bl_proc.specs.declared.kinds.Proc.{Proc}
 use Rattle.bl_proc.specs.declared.kinds.Proc.TheVariants as proc
@@ -40,7 +39,7 @@ use Rattle.bl_proc.specs.Paths.{page_at, noted, from_page, NotesBy, Notes}
 use Rattle.bl_proc.specs.Stands.{IsWriting, IsPosting, Stands, Stands-prop}
 use Rattle.bl_proc.specs.Writes.{write_reply, write_answer_in, WriteGoes}
 use Rattle.bl_proc.specs.Posts.{post_answer_in, PostGoes}
-use Rattle.bl_proc.specs.Climbs.{climb_next_in, climb_needs_in, climb_answer_in, WriteNotes, PostNotes, ClimbNotes, PostsFrom, IsUnsplit, IsLast, ClimbGoes}
+use Rattle.bl_proc.specs.Climbs.{climb_next_in, climb_needs_in, climb_answer_in, WriteNotes, PostNotes, ClimbNotes, IsUnsplit, IsLast, ClimbGoes}
 use Rattle.bl_proc.specs.Processes.{Takes}
 use Rattle.bl_proc.proofs.Below.{goes_below}
 use Rattle.bl_proc.proofs.Stepping.{goes_stands}
