@@ -28,6 +28,11 @@ use Rattle.bl_proc.specs.declared.lowering.LowerStage.{LowerStage}
 use Rattle.bl_proc.specs.declared.lowering.LowerStage.TheVariants as lower
 use Rattle.bl_proc_base.specs.declared.lowering.Lowering.{Lowering}
 use Rattle.bl_proc_base.specs.declared.lowering.Lowering.TheVariants as lowering
+use Rattle.bl_model.specs.declared.deciding.KeyWrite.TheVariants.{Insert}
+use Rattle.bl_proc.specs.declared.paths.Path.{Path}
+use Rattle.bl_proc.specs.declared.climbing.ClimbStage.{ClimbStage}
+use Rattle.bl_proc.specs.declared.climbing.ClimbStage.TheVariants as climb
+use Rattle.bl_proc.specs.Climbs.{climb_next_in}
 use Rattle.bl_proc_invariant.specs.Lowering.{know_lowering}
 use Rattle.bl_proc.specs.declared.reclaiming.ReclaimStage.TheVariants as reclaim
 use Rattle.bl_proc_compress.specs.declared.compressing.Compression.{Compression}
@@ -35,7 +40,7 @@ use Rattle.bl_proc_compress.specs.declared.compressing.Compression.TheVariants.{
 use Rattle.bl_proc_compress.specs.declared.squeezing.CompressStage.{CompressStage}
 use Rattle.bl_proc_compress.specs.declared.squeezing.CompressStage.TheVariants as compress
 use Rattle.bl_proc.specs.declared.kinds.Proc.{Proc}
-use Rattle.bl_proc.specs.declared.kinds.Proc.TheVariants.{Find, Write, Post, Part, Compress, Reclaim, Lower}
+use Rattle.bl_proc.specs.declared.kinds.Proc.TheVariants.{Find, Write, Post, Part, Compress, Reclaim, Lower, InsertPost}
 use Rattle.bl_proc_base.specs.Descents.{descent_next}
 use Rattle.bl_proc_base.specs.Approaches.{approach_next}
 use Rattle.bl_proc_base.specs.Edits.{edit_next}
@@ -55,7 +60,7 @@ use Rattle.bl_proc_base.specs.Lowerings.{lowering_next}
 use Rattle.bl_proc.specs.Processes.{next_of}
 use Rattle.bl_proc_invariant.specs.Compressing.{know_squeeze}
 use Rattle.bl_proc_invariant.specs.Tables.{Keeps, unsaid, alone, Aim, holds_live, know_descent, know_approach, know_edit}
-use Rattle.bl_proc_invariant.specs.Knowing.{know_growth, know_find, know_part, know_write, know_post, know_compress, know_reclaim, know_lower, know_of, Run, know}
+use Rattle.bl_proc_invariant.specs.Knowing.{know_growth, know_find, know_part, know_write, path_goes, inserted, know_climb, know_post, know_compress, know_reclaim, know_lower, know_of, Run, know}
 
 -- page 0, or one that it may get
 abbrev pub IsGot : {P : Type 0} → World P → Name → Action → Type 0
@@ -179,6 +184,12 @@ module _ {P : Type 0} (w : World P) (p : Name) where
   lower_gets got (lower.Ending r) is = tt
   lower_gets got (lower.Over r) is = tt
 
+  climb_got : (key value : ℕ) (path : Path) (got : ℕ → Page) (child : ℕ) (a : ClimbStage) → IsSure w p (know_climb key value path got child a) → IsGot w p (climb_next_in a)
+  climb_got key value path got child (climb.Writing v) is = write_got (path_goes path) key (Insert value) got v.stage is
+  climb_got key value path got child (climb.Posting q) is = post_got (inserted key value path) q.level q.key got child q.stage is
+  climb_got key value path got child (climb.Ending r) is = tt
+  climb_got key value path got child (climb.Over r) is = tt
+
   of_got : (got : ℕ → Page) (child time : ℕ) (state : Proc) → IsSure w p (know_of got child time state) → IsGot w p (next_of state)
   of_got got child time (Find a) is = find_got a.key a.stage is
   of_got got child time (Write a) is = write_got [] a.key a.write got a.stage is
@@ -187,6 +198,7 @@ module _ {P : Type 0} (w : World P) (p : Name) where
   of_got got child time (Compress a) is = compress_got a.level a.key got a.stage is
   of_got got child time (Reclaim a) is = reclaim_got a.page time a.stage is
   of_got got child time (Lower a) is = lower_gets got a.stage is
+  of_got got child time (InsertPost a) is = climb_got a.key a.value a.path got child a.stage is
 
 pub got_next_is : (w : World Run) (p : Name) → IsGood know w → IsGot w p (next_of (w.proc p).state)
 got_next_is w p g = of_got w p (w.proc p).got (w.proc p).child (w.proc p).time (w.proc p).state (g.sure p)

@@ -24,6 +24,9 @@ pub mod Logged
 pub mod Near
 pub mod Turning
 pub mod Instead
+pub mod Noting
+pub mod Climbing
+pub mod ClimbingLogs
 pub mod Starting
 pub mod Answered
 pub mod Beside

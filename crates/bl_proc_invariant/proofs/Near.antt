@@ -34,6 +34,11 @@ use Rattle.bl_proc.specs.declared.lowering.LowerStage.{LowerStage}
 use Rattle.bl_proc.specs.declared.lowering.LowerStage.TheVariants as lower
 use Rattle.bl_proc_base.specs.declared.lowering.Lowering.{Lowering}
 use Rattle.bl_proc_base.specs.declared.lowering.Lowering.TheVariants as lowering
+use Rattle.bl_model.specs.declared.deciding.KeyWrite.TheVariants.{Insert}
+use Rattle.bl_proc.specs.declared.paths.Path.{Path}
+use Rattle.bl_proc.specs.declared.climbing.ClimbStage.{ClimbStage}
+use Rattle.bl_proc.specs.declared.climbing.ClimbStage.TheVariants as climb
+use Rattle.bl_proc.specs.Climbs.{climb_next_in}
 use Rattle.bl_proc_invariant.specs.Lowering.{know_lowering}
 use Rattle.bl_proc.specs.declared.reclaiming.ReclaimStage.TheVariants as reclaim
 use Rattle.bl_proc_compress.specs.declared.compressing.Compression.{Compression}
@@ -41,7 +46,7 @@ use Rattle.bl_proc_compress.specs.declared.compressing.Compression.TheVariants.{
 use Rattle.bl_proc_compress.specs.declared.squeezing.CompressStage.{CompressStage}
 use Rattle.bl_proc_compress.specs.declared.squeezing.CompressStage.TheVariants as compress
 use Rattle.bl_proc.specs.declared.kinds.Proc.{Proc}
-use Rattle.bl_proc.specs.declared.kinds.Proc.TheVariants.{Find, Write, Post, Part, Compress, Reclaim, Lower}
+use Rattle.bl_proc.specs.declared.kinds.Proc.TheVariants.{Find, Write, Post, Part, Compress, Reclaim, Lower, InsertPost}
 use Rattle.bl_proc_base.specs.Approaches.{approach_next}
 use Rattle.bl_proc_base.specs.Edits.{edit_next}
 use Rattle.bl_proc_compress.specs.Compressions.{put_of, other, compression_next}
@@ -60,7 +65,7 @@ use Rattle.bl_proc_base.specs.Lowerings.{lowering_next}
 use Rattle.bl_proc.specs.Processes.{next_of}
 use Rattle.bl_proc_invariant.specs.Compressing.{know_squeeze}
 use Rattle.bl_proc_invariant.specs.Tables.{Keeps, unsaid, alone, Aim, know_approach, know_edit}
-use Rattle.bl_proc_invariant.specs.Knowing.{know_growth, know_find, know_part, know_write, know_post, know_compress, know_reclaim, know_lower, know_of, Run, know}
+use Rattle.bl_proc_invariant.specs.Knowing.{know_growth, know_find, know_part, know_write, path_goes, inserted, know_climb, know_post, know_compress, know_reclaim, know_lower, know_of, Run, know}
 use Rattle.bl_proc_invariant.proofs.Descending.{descent_there}
 
 abbrev pub IsNear : {P : Type 0} → World P → Name → Action → Type 0
@@ -192,6 +197,12 @@ module _ {P : Type 0} (know : P → Know) (w : World P) (g : IsGood know w) (p :
   lower_near got (lower.Ending r) is = tt
   lower_near got (lower.Over r) is = tt
 
+  climb_near : (key value : ℕ) (path : Path) (got : ℕ → Page) (child : ℕ) (a : ClimbStage) → IsSure w p (know_climb key value path got child a) → IsNear w p (climb_next_in a)
+  climb_near key value path got child (climb.Writing v) is = write_near (path_goes path) key (Insert value) got v.stage is
+  climb_near key value path got child (climb.Posting q) is = post_near (inserted key value path) q.level q.key got child q.stage is
+  climb_near key value path got child (climb.Ending r) is = tt
+  climb_near key value path got child (climb.Over r) is = tt
+
   of_near : (got : ℕ → Page) (child time : ℕ) (state : Proc) → IsSure w p (know_of got child time state) → IsNear w p (next_of state)
   of_near got child time (Find a) is = find_near a.key a.stage is
   of_near got child time (Write a) is = write_near [] a.key a.write got a.stage is
@@ -200,6 +211,7 @@ module _ {P : Type 0} (know : P → Know) (w : World P) (g : IsGood know w) (p :
   of_near got child time (Compress a) is = compress_near a.level a.key got a.stage is
   of_near got child time (Reclaim a) is = reclaim_near a.page time a.stage is
   of_near got child time (Lower a) is = lower_near got a.stage is
+  of_near got child time (InsertPost a) is = climb_near a.key a.value a.path got child a.stage is
 
 pub near : (w : World Run) (p : Name) → IsGood know w → IsNear w p (next_of (w.proc p).state)
 near w p g = of_near know w g p (w.proc p).got (w.proc p).child (w.proc p).time (w.proc p).state (g.sure p)

@@ -1,9 +1,10 @@
 -- What each kind of process knows.
-use Rattle.std.specs.Prelude.{◌≡◌, ◌≢◌, ℕ, ◌-◌, ◌<◌, Bool, true, false, Option, Some, None, List, [], ◌∷◌, length}
+use Rattle.std.specs.Prelude.{◌≡◌, ◌≢◌, ℕ, zero, suc, ◌-◌, ◌<◌, Bool, true, false, Option, Some, None, List, [], ◌∷◌, length}
 use Rattle.bl_model.specs.declared.operation.Op.TheVariants as op
 use Rattle.bl_model.specs.declared.operation.Reply.{Reply}
 use Rattle.bl_model.specs.declared.operation.Reply.TheVariants as reply
 use Rattle.bl_model.specs.declared.deciding.KeyWrite.{KeyWrite}
+use Rattle.bl_model.specs.declared.deciding.KeyWrite.TheVariants.{Insert}
 use Rattle.bl_model.specs.declared.deciding.Effect.{Effect}
 use Rattle.bl_model.specs.declared.deciding.Effect.TheVariants.{Keep, Enter, Remove, Replace}
 use Rattle.bl_model.specs.Writes.{write_op, effect_of, effected, replied}
@@ -41,6 +42,11 @@ use Rattle.bl_proc_compress.specs.declared.squeezing.CompressStage.{CompressStag
 use Rattle.bl_proc_compress.specs.declared.squeezing.CompressStage.TheVariants as compress
 use Rattle.bl_proc.specs.declared.lowering.LowerStage.{LowerStage}
 use Rattle.bl_proc.specs.declared.lowering.LowerStage.TheVariants as lower
+use Rattle.bl_proc.specs.declared.paths.Path.{Path}
+use Rattle.bl_proc.specs.declared.climbing.Climbed.{Climbed}
+use Rattle.bl_proc.specs.declared.climbing.Climbed.TheVariants as climbed
+use Rattle.bl_proc.specs.declared.climbing.ClimbStage.{ClimbStage}
+use Rattle.bl_proc.specs.declared.climbing.ClimbStage.TheVariants as climb
 use Rattle.bl_proc.specs.declared.kinds.Proc.{Proc}
 use Rattle.bl_proc.specs.declared.kinds.Proc.TheVariants as proc
 use Rattle.bl_proc.specs.Writes.{write_reply}
@@ -176,6 +182,38 @@ know_post keeps level key got child (post.Staying x r) = record (keeping keeps) 
 know_post keeps level key got child (post.Ending r) = record (ending keeps.said) { goes = keeps.goes; sound = LeavesPost r }
 know_post keeps level key got child (post.Over r) = late keeps.said
 
+-- Insertions that post: all the time they may go to each page that they have noted, which is of the level for which it is noted.
+
+-- the pages that are noted from that level on
+abbrev pub goes_above : ℕ → List ℕ → List Goes
+goes_above level [] = []
+goes_above level (zero ∷ rest) = goes_above (suc level) rest
+goes_above level (suc x ∷ rest) = goes_to (suc x) level level ∷ goes_above (suc level) rest
+
+abbrev pub path_goes : Path → List Goes
+path_goes path = goes_above 1 path.pages
+
+abbrev pub climbed_reply : ℕ → Climbed → Reply
+climbed_reply value (climbed.Unsplit r) = written_reply (Insert value) r
+climbed_reply value (climbed.Posted level k r) = reply.Inserted
+
+abbrev pub climbed_said : ℕ → ℕ → Climbed → Option Said
+climbed_said key value r = Some (record { op = write_op key (Insert value); reply = climbed_reply value r })
+
+abbrev pub LeavesClimb : ℕ → Climbed → Type 0
+LeavesClimb value (climbed.Unsplit r) = LeavesWrite (Insert value) r
+LeavesClimb value (climbed.Posted level k r) = LeavesPost r
+
+-- when it posts it has said that its pair has entered
+abbrev pub inserted : ℕ → ℕ → Path → Keeps
+inserted key value path = record { said = Some (record { op = write_op key (Insert value); reply = reply.Inserted }); goes = path_goes path }
+
+abbrev pub know_climb : ℕ → ℕ → Path → (ℕ → Page) → ℕ → ClimbStage → Know
+know_climb key value path got child (climb.Writing w) = know_write (path_goes path) key (Insert value) got w.stage
+know_climb key value path got child (climb.Posting p) = know_post (inserted key value path) p.level p.key got child p.stage
+know_climb key value path got child (climb.Ending r) = record (ending (climbed_said key value r)) { goes = path_goes path; sound = LeavesClimb value r }
+know_climb key value path got child (climb.Over r) = late (climbed_said key value r)
+
 -- Compressions: they answer no operation of the map
 
 abbrev pub know_compress : ℕ → ℕ → (ℕ → Page) → CompressStage → Know
@@ -229,6 +267,7 @@ know_of got child time (proc.Part p) = know_part p.from p.stage
 know_of got child time (proc.Compress p) = know_compress p.level p.key got p.stage
 know_of got child time (proc.Reclaim p) = know_reclaim time p.stage
 know_of got child time (proc.Lower p) = know_lower got p.stage
+know_of got child time (proc.InsertPost p) = know_climb p.key p.value p.path got child p.stage
 
 -- by its state alone
 abbrev pub know : Run → Know
@@ -257,6 +296,12 @@ write_end does (write.Editing noted c) = None
 write_end does (write.Ending r) = Some (written_reply does r)
 write_end does (write.Over r) = None
 
+abbrev pub climb_end : ℕ → ClimbStage → Option Reply
+climb_end value (climb.Writing w) = write_end (Insert value) w.stage
+climb_end value (climb.Posting p) = None
+climb_end value (climb.Ending r) = Some (climbed_reply value r)
+climb_end value (climb.Over r) = None
+
 abbrev pub end_of_proc : Proc → Option Reply
 end_of_proc (proc.Find p) = find_end p.stage
 end_of_proc (proc.Write p) = write_end p.write p.stage
@@ -265,6 +310,7 @@ end_of_proc (proc.Part p) = part_end p.stage
 end_of_proc (proc.Compress p) = None
 end_of_proc (proc.Reclaim p) = None
 end_of_proc (proc.Lower p) = None
+end_of_proc (proc.InsertPost p) = climb_end p.value p.stage
 
 -- what a process has got of the pages that it holds, after it was told this
 abbrev pub write_got : (ℕ → Page) → WriteStage → Seen → ℕ → Page
@@ -284,9 +330,21 @@ abbrev pub lower_got : (ℕ → Page) → LowerStage → Seen → ℕ → Page
 lower_got got (lower.Sinking l) what = lowering_got got l what
 lower_got got stage what = got
 
+abbrev pub climb_got : (ℕ → Page) → ClimbStage → Seen → ℕ → Page
+climb_got got (climb.Writing w) what = write_got got w.stage what
+climb_got got (climb.Posting p) what = post_got got p.stage what
+climb_got got (climb.Ending r) what = got
+climb_got got (climb.Over r) what = got
+
 abbrev pub post_child : ℕ → PostStage → ℕ
 post_child child (post.Walking w) = w.child
 post_child child stage = child
+
+abbrev pub climb_child : ℕ → ClimbStage → ℕ
+climb_child child (climb.Writing w) = child
+climb_child child (climb.Posting p) = post_child child p.stage
+climb_child child (climb.Ending r) = child
+climb_child child (climb.Over r) = child
 
 abbrev pub got_next : (ℕ → Page) → Proc → Seen → ℕ → Page
 got_next got (proc.Find p) what = got
@@ -296,6 +354,7 @@ got_next got (proc.Part p) what = got
 got_next got (proc.Compress p) what = compress_got got p.stage what
 got_next got (proc.Reclaim p) what = got
 got_next got (proc.Lower p) what = lower_got got p.stage what
+got_next got (proc.InsertPost p) what = climb_got got p.stage what
 
 abbrev pub child_next : ℕ → Proc → ℕ
 child_next child (proc.Find p) = child
@@ -305,6 +364,7 @@ child_next child (proc.Part p) = child
 child_next child (proc.Compress p) = child
 child_next child (proc.Reclaim p) = child
 child_next child (proc.Lower p) = child
+child_next child (proc.InsertPost p) = climb_child child p.stage
 
 -- since when the page is retired, if it is, at which a release looks
 abbrev pub retired_since : Owner → ℕ → ℕ
@@ -327,6 +387,7 @@ time_next now time (proc.Part p) = time
 time_next now time (proc.Compress p) = time
 time_next now time (proc.Reclaim p) = reclaim_time now time p.page p.stage
 time_next now time (proc.Lower p) = time
+time_next now time (proc.InsertPost p) = time
 
 -- the process after it was told this of these pages, in that state
 abbrev pub run_next : State Page → Run → Seen → Proc → Run
