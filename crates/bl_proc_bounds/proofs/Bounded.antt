@@ -57,6 +57,7 @@ early_of size contents trail p got child time (proc.Part a) e = part_early size 
 early_of size contents trail p got child time (proc.Compress a) e = tt
 early_of size contents trail p got child time (proc.Reclaim a) e = tt
 early_of size contents trail p got child time (proc.Lower a) e = tt
+early_of size contents trail p got child time (proc.InsertPost a) e = tt
 
 early : (size : ℕ) (contents : ℕ → Page) (trail : Trail) (p : Name) (b : Run) → (know b).stage ≡ Stage.Early → IsKept size contents trail p (sought b.state) (place_of b.state)
 early size contents trail p b e = early_of size contents trail p b.got b.child b.time b.state e

@@ -27,6 +27,7 @@ pub mod Instead
 pub mod Noting
 pub mod Climbing
 pub mod ClimbingLogs
+pub mod ClimbingAnswers
 pub mod Starting
 pub mod Answered
 pub mod Beside
