@@ -16,7 +16,7 @@ use Rattle.bl_core_tree.proofs.Statuses.{live_live, free_dead, fresh_dead}
 use Rattle.bl_claims.specs.Pages.{node_of}
 use Rattle.bl_claims.specs.Trails.{Said, Mark, HasSaid}
 use Rattle.bl_core.proofs.Pushes.{HasSaid-silent, SaysAt-last}
-use Rattle.bl_core.specs.Worlds.{Hold, Child, Stage, Know, World, nodes, MapsTo, IsHeld, IsRelied, IsSure, IsBounded, IsGood, silent, put_mark}
+use Rattle.bl_core.specs.Worlds.{Hold, Child, Know, World, nodes, MapsTo, IsHeld, IsRelied, IsSure, IsBounded, IsGood, silent, put_mark}
 use Rattle.bl_core.proofs.Frames.{Each-map}
 use Rattle.bl_core.proofs.After.{after, Extends-after, put_at, is_put_at}
 use Rattle.bl_core.proofs.Moves.{PutsFresh-keeps, PutsRow-keeps, PutsSplit-keeps}

@@ -1,5 +1,5 @@
 -- A process notes the page from which it goes down: it may go there again, as a writer of that page's level.
-use Rattle.std.proofs.Common.{ℕ, ◌≡◌, ◌+◌, ◌-◌, ◌<◌, zero, suc, List, [], ◌∷◌, None, Some, Option, set, get_or, arith, ap, sym, ◌∙◌, refl, subst}
+use Rattle.std.proofs.Common.{ℕ, ◌≡◌, ◌+◌, ◌-◌, ◌<◌, zero, suc, List, [], ◌∷◌, None, Option, set, get_or, arith, ap, sym, ◌∙◌, refl, subst}
 use Rattle.bl_model.specs.declared.deciding.KeyWrite.{KeyWrite}
 use Rattle.bl_page.specs.declared.page.Page.{Page}
 use Rattle.bl_page.specs.Machine.{Name}
@@ -22,7 +22,7 @@ use Rattle.bl_proc.specs.Writes.{write_next_in}
 use Rattle.bl_proc.specs.Posts.{post_next_in}
 use Rattle.bl_proc.specs.Climbs.{WriteNotes, PostNotes}
 use Rattle.bl_proc_invariant.specs.Turns.{IsObserved}
-use Rattle.bl_proc_invariant.specs.Tables.{Carried, unsaid, goes_to, know_approach}
+use Rattle.bl_proc_invariant.specs.Tables.{Carried, goes_to, know_approach}
 use Rattle.bl_proc_invariant.specs.Knowing.{goes_above, path_goes, know_write, know_post}
 use Rattle.bl_proc_invariant.proofs.Instead.{with_proc, instead_good}
 use Rattle.bl_proc_unique.proofs.KindCases.{NoteCase, note_case}

@@ -12,7 +12,7 @@ use Rattle.bl_claims.specs.Pages.{node_of}
 use Rattle.bl_claims.specs.Walks.{IsChildOf}
 use Rattle.bl_claims.specs.Trails.{Mark}
 use Rattle.bl_core.proofs.Pushes.{HasSaid-silent}
-use Rattle.bl_core.specs.Worlds.{HoldsPage, Stage, Know, World, nodes, tree_of, IsGoes, IsSure, IsGood}
+use Rattle.bl_core.specs.Worlds.{HoldsPage, Know, World, nodes, tree_of, IsGoes, IsSure, IsGood}
 use Rattle.bl_core.proofs.Descents.{goes_down, not_released, anchor_not_released}
 use Rattle.bl_core.proofs.Children.{child_found}
 use Rattle.bl_proc_base.specs.declared.acts.Seen.{Seen}
