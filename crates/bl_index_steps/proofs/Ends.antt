@@ -1,5 +1,5 @@
 -- What is said at the end of an operation.
-use Rattle.std.proofs.Common.{ℕ, ◌≡◌, ◌≢◌, ◌+◌, Option, Some, None, List, sym, ap, ◌∙◌, subst}
+use Rattle.std.proofs.Common.{ℕ, ◌≡◌, ◌≢◌, ◌+◌, Option, Some, None, List, [], sym, ap, ◌∙◌, subst}
 use Rattle.bl_model.specs.declared.deciding.KeyWrite.{KeyWrite}
 use Rattle.bl_model.specs.declared.operation.Op.{Op as Operation}
 use Rattle.bl_model.specs.declared.operation.Op.TheVariants as op
@@ -34,6 +34,10 @@ use Rattle.bl_proc.specs.Writes.{write_answer, write_next_in, write_answer_in, W
 use Rattle.bl_proc.specs.Searches.{found_answer, find_next_in, find_answer_in, FindGoes}
 use Rattle.bl_proc.specs.Parts.{part_next_in, part_answer_in, PartGoes}
 use Rattle.bl_proc.specs.Processes.{next_of, answer_of, Takes}
+use Rattle.bl_proc.specs.declared.climbing.Climbed.TheVariants as climbed
+use Rattle.bl_proc.specs.declared.climbing.ClimbStage.{ClimbStage}
+use Rattle.bl_proc.specs.declared.climbing.ClimbStage.TheVariants as climb
+use Rattle.bl_proc.specs.Climbs.{climb_answer_in}
 use Rattle.bl_proc_invariant.specs.Beside.{MeansBeside}
 use Rattle.bl_proc_invariant.proofs.Beside.{beside_means}
 use Rattle.bl_proc_invariant.specs.Knowing.{Run, know, know_of, written_reply, found_reply, know_find, know_part, know_write, find_end, part_end, write_end, end_of_proc}
@@ -70,7 +74,7 @@ write_reply_said : (does : KeyWrite) (q : WriteReply) (reply : Reply) (hint : Op
 write_reply_said does (written.Done there h) reply hint e = same_reply _ _ _ _ e
 write_reply_said does written.NoRoom reply hint e = cc
 
-write_ends : (key : ℕ) (does : KeyWrite) (a b : WriteStage) (reply : Reply) (hint : Option Hint) → write_next_in a ≡ act.End → WriteGoes key does a seen.Done b → write_answer_in does b ≡ Some (Op reply hint) → (write_end does a ≡ Some reply) × ((got : ℕ → Page) → (know_write key does got a).said ≡ Some (record { op = write_op key does; reply = reply }))
+write_ends : (key : ℕ) (does : KeyWrite) (a b : WriteStage) (reply : Reply) (hint : Option Hint) → write_next_in a ≡ act.End → WriteGoes key does a seen.Done b → write_answer_in does b ≡ Some (Op reply hint) → (write_end does a ≡ Some reply) × ((got : ℕ → Page) → (know_write [] key does got a).said ≡ Some (record { op = write_op key does; reply = reply }))
 write_ends key does write.New b reply hint e t h = cc
 write_ends key does (write.Coming w) b reply hint e t h = absurd (not_end_way w e)
 write_ends key does (write.Keeping x there) b reply hint e t h = cc
@@ -117,6 +121,14 @@ part_ends from (part.Ending r) (part.Over q) reply hint e t h =
     let is : rows_of r ≡ reply = ap rows_of (sym t) ∙ same_reply _ _ _ _ some in
     (ap (λ (z : Reply). Some z) is, ap (λ (z : Reply). Some (record { op = op.Part from; reply = z })) is)
 
+-- an insertion that posts has an answer of its own
+climb_ends : {X : Type 0} (value : ℕ) (a : ClimbStage) (reply : Reply) (hint : Option Hint) → climb_answer_in value a ≡ Some (Op reply hint) → X
+climb_ends value (climb.Writing w) reply hint h = absurd (let f = h in cc)
+climb_ends value (climb.Posting p) reply hint h = absurd (let f = h in cc)
+climb_ends value (climb.Ending r) reply hint h = absurd (let f = h in cc)
+climb_ends value (climb.Over (climbed.Unsplit r)) reply hint h = absurd (let f = h in cc)
+climb_ends value (climb.Over (climbed.Posted level key r)) reply hint h = absurd (let f = h in cc)
+
 -- what a process that ended with this answer had said
 pub record Says (before : Proc) (o : Operation) (reply : Reply) : Type 0 where
   pub end : end_of_proc before ≡ Some reply
@@ -142,6 +154,7 @@ end_says (proc.Post p) last o reply hint i e t h = cc
 end_says (proc.Compress p) last o reply hint i e t h = cc
 end_says (proc.Reclaim p) last o reply hint i e t h = cc
 end_says (proc.Lower p) last o reply hint i e t h = cc
+end_says (proc.InsertPost p) (proc.InsertPost q) o reply hint i e t h = climb_ends q.value q.stage reply hint h
 end_says before last o reply hint i e t h = absurd t
 
 -- what the index began with, as the pass knows when a process has ended

@@ -33,6 +33,13 @@ use Rattle.bl_proc_base.specs.Edits.{Changes, edit_needs}
 use Rattle.bl_proc.specs.Writes.{WriteGoes, write_reply, write_answer}
 use Rattle.bl_proc_base.specs.Growths.{Grows, Raises}
 use Rattle.bl_proc.specs.Posts.{PostGoes, posted_answer}
+use Rattle.bl_proc.specs.declared.paths.Path.{Path}
+use Rattle.bl_proc.specs.declared.posting.Post.{Post}
+use Rattle.bl_proc.specs.declared.writing.Write.{Write}
+use Rattle.bl_proc.specs.declared.climbing.ClimbStage.TheVariants.{Writing, Posting}
+use Rattle.bl_proc.specs.declared.climbing.Climbed.TheVariants.{Posted}
+use Rattle.bl_proc.specs.Paths.{Notes}
+use Rattle.bl_proc.specs.Climbs.{climbed_answer, ClimbGoes}
 
 abbrev left_leaf : Page
 left_leaf = page.Leaf (record { low = 0; high = 9; right = 2; rows = record { items = (1, 10) ∷ [] }; bounds = omega arith; link = omega arith; few = omega arith; order = (omega arith, tt); cover = ((omega arith, omega arith), tt) })
@@ -155,3 +162,37 @@ post_goes_to_the_parent = (come.On (approach.Latching 3), (omega arith, (refl, r
 
 post_of_a_parent : posted_answer 1 (listed.Done (Some 40)) ≡ answer.Post posted.Done (Some (hint.Post 2 40))
 post_of_a_parent = refl
+
+-- an insertion that posts: it notes page 3, the parent, when it goes down from there to its leaf
+abbrev no_path : Path
+no_path = record { pages = 0 ∷ 0 ∷ 0 ∷ 0 ∷ 0 ∷ 0 ∷ 0 ∷ 0 ∷ 0 ∷ 0 ∷ 0 ∷ [] }
+
+abbrev by_three : Path
+by_three = record { pages = 3 ∷ 0 ∷ 0 ∷ 0 ∷ 0 ∷ 0 ∷ 0 ∷ 0 ∷ 0 ∷ 0 ∷ 0 ∷ [] }
+
+note_down : Notes 0 12 (approach.At 3) (seen.Words parent) no_path by_three
+note_down = (onward.Down 1, parent_leads_down, refl)
+
+-- its leaf was split at 9, which is to be posted to level 1, from that page on
+abbrev splitting : Write
+splitting = record { key = 12; write = Insert 5; stage = write.Editing (record { there = None; thin = None }) (edit.Opening 1 (outcome.SplitAt 9)) }
+
+abbrev post_of_nine : Post
+post_of_nine = record { level = 1; key = 9; stage = post.Coming (approach.Latching 3); least = omega arith; most = omega arith; below = tt }
+
+goes_up : ClimbGoes by_three (Writing splitting) seen.Done (Posting post_of_nine)
+goes_up = (None, 1, 9, (outcome.SplitAt 9, refl, refl), (refl, refl, refl))
+
+-- with no page noted it would begin at the anchor
+abbrev post_from_the_anchor : Post
+post_from_the_anchor = record { level = 1; key = 9; stage = post.Coming approach.Start; least = omega arith; most = omega arith; below = tt }
+
+goes_by_the_anchor : ClimbGoes no_path (Writing splitting) seen.Done (Posting post_from_the_anchor)
+goes_by_the_anchor = (None, 1, 9, (outcome.SplitAt 9, refl, refl), (refl, refl, refl))
+
+-- what it answers: the last post has listed its key, or met no room
+climbed_it : climbed_answer 5 (Posted 1 9 (listed.Done None)) ≡ answer.InsertPost reply.Inserted (Some posted.Done) None
+climbed_it = refl
+
+met_no_room : climbed_answer 5 (Posted 1 9 listed.NoRoom) ≡ answer.InsertPost reply.Inserted (Some posted.NoRoom) (Some (hint.Post 1 9))
+met_no_room = refl

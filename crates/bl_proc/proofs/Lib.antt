@@ -2,4 +2,5 @@ pub mod Arrivals
 pub mod Below
 pub mod Named
 pub mod Rising
+pub mod Stepping
 mod Examples

@@ -5,7 +5,7 @@ use Rattle.bl_proc_base.specs.declared.acts.Action.{Action}
 use Rattle.bl_proc_base.specs.declared.acts.Seen.{Seen}
 use Rattle.bl_proc_base.specs.declared.answers.Answer.{Answer}
 use Rattle.bl_proc.specs.declared.kinds.Proc.{Proc}
-use Rattle.bl_proc.specs.declared.kinds.Proc.TheVariants.{Find, Write, Post, Part, Compress, Reclaim, Lower}
+use Rattle.bl_proc.specs.declared.kinds.Proc.TheVariants.{Find, Write, Post, Part, Compress, Reclaim, Lower, InsertPost}
 use Rattle.bl_proc.specs.declared.searching.FindStage.TheVariants as find
 use Rattle.bl_proc.specs.declared.writing.WriteStage.TheVariants as write_stage
 use Rattle.bl_proc.specs.declared.posting.PostStage.TheVariants as post
@@ -20,6 +20,8 @@ use Rattle.bl_proc_compress.specs.Compresses.{compress_next, compress_needs, com
 use Rattle.bl_proc.specs.Parts.{part_next, part_needs, part_answer, PartTakes}
 use Rattle.bl_proc.specs.Reclaims.{reclaim_next, reclaim_needs, reclaim_answer, ReclaimTakes}
 use Rattle.bl_proc.specs.Lowers.{lower_next, lower_needs, lower_answer, LowerTakes}
+use Rattle.bl_proc.specs.Paths.{IsBlank}
+use Rattle.bl_proc.specs.Climbs.{IsToBegin, climb_next, climb_needs, climb_answer, ClimbTakes}
 
 abbrev pub next_of : Proc → Action
 next_of (Find p) = find_next p
@@ -29,6 +31,7 @@ next_of (Part p) = part_next p
 next_of (Compress p) = compress_next p
 next_of (Reclaim p) = reclaim_next p
 next_of (Lower p) = lower_next p
+next_of (InsertPost p) = climb_next p
 
 -- pages and frames
 abbrev pub needs_of : Proc → Option (ℕ × ℕ)
@@ -39,6 +42,7 @@ needs_of (Part p) = part_needs p
 needs_of (Compress p) = compress_needs p
 needs_of (Reclaim p) = reclaim_needs p
 needs_of (Lower p) = lower_needs p
+needs_of (InsertPost p) = climb_needs p
 
 abbrev pub answer_of : Proc → Option Answer
 answer_of (Find p) = find_answer p
@@ -48,6 +52,7 @@ answer_of (Part p) = part_answer p
 answer_of (Compress p) = compress_answer p
 answer_of (Reclaim p) = reclaim_answer p
 answer_of (Lower p) = lower_answer p
+answer_of (InsertPost p) = climb_answer p
 
 abbrev pub Takes : Proc → Seen → Proc → Type 0
 Takes (Find old) what (Find new) = FindTakes old what new
@@ -57,6 +62,7 @@ Takes (Part old) what (Part new) = PartTakes old what new
 Takes (Compress old) what (Compress new) = CompressTakes old what new
 Takes (Reclaim old) what (Reclaim new) = ReclaimTakes old what new
 Takes (Lower old) what (Lower new) = LowerTakes old what new
+Takes (InsertPost old) what (InsertPost new) = ClimbTakes old what new
 Takes old what new = ⊥
 
 -- Processes that are to begin.
@@ -89,3 +95,8 @@ IsReclaim page p = ⊥
 abbrev pub IsLower : Proc → Type 0
 IsLower (Lower p) = p.stage ≡ lower.New
 IsLower p = ⊥
+
+-- It has noted no page.
+abbrev pub IsInsertPost : ℕ → ℕ → Proc → Type 0
+IsInsertPost key value (InsertPost p) = (p.key ≡ key) × (p.value ≡ value) × IsBlank p.path × IsToBegin p.stage
+IsInsertPost key value p = ⊥

@@ -3,8 +3,9 @@
 ghost use Rattle.std.specs.Prelude.{◌≡◌, ◌<◌, ◌≤◌};
 ghost use Rattle.bl_model.specs.declared.deciding.KeyWrite.TheVariants as key_write;
 ghost use Rattle.bl_proc_base.specs.declared.acts.Action.TheVariants as act;
-ghost use Rattle.bl_proc.specs.Processes.{next_of, needs_of, answer_of, Takes, IsFind, IsWrite, IsPost, IsPart, IsCompress, IsReclaim, IsLower};
+ghost use Rattle.bl_proc.specs.Processes.{next_of, needs_of, answer_of, Takes, IsFind, IsWrite, IsPost, IsPart, IsCompress, IsReclaim, IsLower, IsInsertPost};
 
+use crate::climbing::InsertPost;
 use crate::lowering::Lower;
 use crate::parts::Part;
 use crate::posting::Post;
@@ -32,6 +33,8 @@ pub enum Proc {
     Reclaim(Reclaim),
     /// Takes the top level away.
     Lower(Lower),
+    /// Inserts a key, and posts what it splits.
+    InsertPost(InsertPost),
 }
 
 impl Proc {
@@ -57,6 +60,15 @@ impl Proc {
         ensures begins { next_of result ≡ act.Begin }
     {
         Proc::write(key, KeyWrite::Insert(value))
+    }
+
+    /// A process that is to put the value at the key, where the key has none, and then to list in its parent each page
+    /// that it splits, from the pages on that it has gone down by.
+    pub fn insert_posting(key: u64, value: u64) -> Proc
+        ensures made { IsInsertPost key value result }
+        ensures begins { next_of result ≡ act.Begin }
+    {
+        Proc::InsertPost(InsertPost::new(key, value))
     }
 
     /// A process that is to take the key and its value away.
@@ -139,6 +151,7 @@ impl Process for Proc {
             Proc::Compress(process) => process.next(),
             Proc::Reclaim(process) => process.next(),
             Proc::Lower(process) => process.next(),
+            Proc::InsertPost(process) => process.next(),
         }
     }
 
@@ -151,6 +164,7 @@ impl Process for Proc {
             Proc::Compress(process) => process.needs(),
             Proc::Reclaim(process) => process.needs(),
             Proc::Lower(process) => process.needs(),
+            Proc::InsertPost(process) => process.needs(),
         }
     }
 
@@ -163,6 +177,7 @@ impl Process for Proc {
             Proc::Compress(process) => process.answer(),
             Proc::Reclaim(process) => process.answer(),
             Proc::Lower(process) => process.answer(),
+            Proc::InsertPost(process) => process.answer(),
         }
     }
 
@@ -175,6 +190,7 @@ impl Process for Proc {
             Proc::Compress(process) => process.took(seen),
             Proc::Reclaim(process) => process.took(seen),
             Proc::Lower(process) => process.took(seen),
+            Proc::InsertPost(process) => process.took(seen),
         }
     }
 }

@@ -7,9 +7,12 @@
 //! operations on B*-trees with overtaking" (JCSS 33, 1986). Nothing is allocated, and a search carries no pages.
 #![tactic(auto)]
 
+mod climbing;
+mod climbs;
 mod kinds;
 mod lowering;
 mod parts;
+mod paths;
 mod posting;
 mod posts;
 mod reclaiming;
@@ -23,9 +26,11 @@ pub use bl_proc_base::{
     row_in, step_in,
 };
 pub use bl_proc_compress::{Compress, CompressReply, CompressStage};
+pub use climbing::{ClimbStage, Climbed, InsertPost};
 pub use kinds::Proc;
 pub use lowering::{Lower, LowerStage};
 pub use parts::{Part, PartRows, PartStage, first_way};
+pub use paths::Path;
 pub use posting::{Post, PostReply, PostStage};
 pub use reclaiming::{Reclaim, ReclaimStage, Round};
 pub use searching::{Find, FindStage};

@@ -143,4 +143,6 @@ pub enum Answer {
     Reclaim(Reclaimed),
     /// What became of a top level that was to be taken away.
     Lower(Lowered),
+    /// The reply to an insertion, what became of its last post, if it has split anything, and that post, if it met no room.
+    InsertPost(Reply, Option<Posted>, Option<Hint>),
 }

@@ -3,3 +3,4 @@ pub mod Answers
 pub mod Squeezed
 pub mod Lowered
 pub mod Families
+pub mod Climbed

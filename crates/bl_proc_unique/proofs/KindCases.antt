@@ -1,6 +1,6 @@
 -- Which turns a process of each kind can take, each with what it gives. Whoever takes a turn of a process apart has one
 -- clause for each of them, and none for what cannot be.
-use Rattle.std.proofs.Common.{ℕ, ◌≡◌, ◌≢◌, ◌-◌, ◌<◌, ◌≤◌, Bool, true, false, Option, Some, None, refl, sym, subst}
+use Rattle.std.proofs.Common.{ℕ, ◌≡◌, ◌≢◌, ◌+◌, ◌-◌, ◌<◌, ◌≤◌, Bool, true, false, Option, Some, None, refl, sym, subst, inl, inr}
 use Rattle.bl_model.specs.declared.deciding.KeyWrite.{KeyWrite}
 use Rattle.bl_model.specs.declared.deciding.Effect.TheVariants.{Keep}
 use Rattle.bl_model.specs.Writes.{effect_of}
@@ -10,10 +10,11 @@ use Rattle.bl_page.specs.declared.page.Inner.{Inner}
 use Rattle.bl_claims.specs.Pages.{node_of, roots_of}
 use Rattle.bl_proc_base.specs.declared.acts.Seen.{Seen}
 use Rattle.bl_proc_base.specs.declared.acts.Seen.TheVariants as seen
+use Rattle.bl_proc_base.specs.declared.answers.Hint.TheVariants as hint
 use Rattle.bl_proc_base.specs.declared.answers.Reclaimed.{Reclaimed}
 use Rattle.bl_proc_base.specs.declared.answers.Reclaimed.TheVariants as reclaimed
 use Rattle.bl_proc_base.specs.declared.onwards.Step.{Step}
-use Rattle.bl_proc_base.specs.declared.onwards.Step.TheVariants.{Right, Here}
+use Rattle.bl_proc_base.specs.declared.onwards.Step.TheVariants.{Again, Right, Down, Here}
 use Rattle.bl_proc_base.specs.declared.descent.Descent.{Descent}
 use Rattle.bl_proc_base.specs.declared.descent.Descent.TheVariants as descent
 use Rattle.bl_proc_base.specs.declared.descent.Descended.TheVariants as descended
@@ -48,11 +49,18 @@ use Rattle.bl_proc.specs.declared.writing.WriteReply.{WriteReply}
 use Rattle.bl_proc.specs.declared.writing.WriteReply.TheVariants as written
 use Rattle.bl_proc.specs.declared.writing.WriteStage.{WriteStage}
 use Rattle.bl_proc.specs.declared.writing.WriteStage.TheVariants as write
+use Rattle.bl_proc.specs.declared.writing.Write.{Write}
 use Rattle.bl_proc.specs.declared.walking.Walk.{Walk}
+use Rattle.bl_proc.specs.declared.posting.Post.{Post}
 use Rattle.bl_proc.specs.declared.posting.PostStage.{PostStage}
 use Rattle.bl_proc.specs.declared.posting.PostStage.TheVariants as post
 use Rattle.bl_proc.specs.declared.posting.PostReply.{PostReply}
 use Rattle.bl_proc.specs.declared.posting.PostReply.TheVariants as listed
+use Rattle.bl_proc.specs.declared.paths.Path.{Path}
+use Rattle.bl_proc.specs.declared.climbing.Climbed.{Climbed}
+use Rattle.bl_proc.specs.declared.climbing.Climbed.TheVariants as climbed
+use Rattle.bl_proc.specs.declared.climbing.ClimbStage.{ClimbStage}
+use Rattle.bl_proc.specs.declared.climbing.ClimbStage.TheVariants as climb
 use Rattle.bl_proc.specs.declared.reclaiming.Round.{Round}
 use Rattle.bl_proc.specs.declared.reclaiming.ReclaimStage.{ReclaimStage}
 use Rattle.bl_proc.specs.declared.reclaiming.ReclaimStage.TheVariants as reclaim
@@ -73,6 +81,9 @@ use Rattle.bl_proc.specs.Searches.{FindGoes}
 use Rattle.bl_proc.specs.Parts.{IsPartOf, way_by, PartGoes}
 use Rattle.bl_proc.specs.Writes.{Performs, thin_by, write_reply, WriteArrives, WriteGoes}
 use Rattle.bl_proc.specs.Posts.{post_reply, IsLost, PostLacks, PostArrives, PostComes, PostGoes}
+use Rattle.bl_proc.specs.Paths.{noted, Notes}
+use Rattle.bl_proc.specs.Stands.{IsWriting, IsPosting}
+use Rattle.bl_proc.specs.Climbs.{PostsFrom, IsUnsplit, IsLast, ClimbGoes}
 use Rattle.bl_proc.specs.Reclaims.{GoesPast, ReclaimGoes}
 use Rattle.bl_proc.specs.Lowers.{LowerGoes}
 use Rattle.bl_proc_unique.proofs.WayCases.{ApproachCase, approach_case}
@@ -274,3 +285,35 @@ lower_case (lower.Sinking l) what (lower.Sinking m) t = Sank l what m t
 lower_case (lower.Sinking l) what (lower.Ending r) t = Finished l what r t
 lower_case (lower.Ending r) seen.Done (lower.Over last) t = Ended r last t
 lower_case a what b t = absurd t
+
+-- What was seen leads down, and then the page is noted; else the path stays.
+pub data NoteCase (level key : ℕ) : Approach → Seen → Path → Path → Type 0 where
+  WentDown : (x : ℕ) (c : Page) (y : ℕ) (old new : Path) → Leads c key level (Down y) → new ≡ noted (node_of c).shape.level x old → NoteCase level key (way.At x) (seen.Words c) old new
+  Stayed : (a : Approach) (what : Seen) (old new : Path) → new ≡ old → NoteCase level key a what old new
+
+pub note_case : (level key : ℕ) (a : Approach) (what : Seen) (old new : Path) → Notes level key a what old new → NoteCase level key a what old new
+note_case level key (way.At x) (seen.Words c) old new (Down y, h, t) = WentDown x c y old new h t
+note_case level key (way.At x) (seen.Words c) old new (Again, h, t) = Stayed (way.At x) (seen.Words c) old new t
+note_case level key (way.At x) (seen.Words c) old new (Right y, h, t) = Stayed (way.At x) (seen.Words c) old new t
+note_case level key (way.At x) (seen.Words c) old new (Here, h, t) = Stayed (way.At x) (seen.Words c) old new t
+note_case level key a what old new t = Stayed a what old new t
+
+-- The write goes on, or is over, and has split its leaf or not; then a post goes on, or goes on a level higher, or is over.
+pub data ClimbCase (path : Path) : ClimbStage → Seen → ClimbStage → Type 0 where
+  Wrote : (w : Write) (what : Seen) (v : Write) → WriteCase w.key w.write w.stage what v.stage → (v.key ≡ w.key) × (v.write ≡ w.write) × IsWriting v.stage → ClimbCase path (climb.Writing w) what (climb.Writing v)
+  Split : (w : Write) (what : Seen) (there : Option ℕ) (level separator : ℕ) (p : Post) → WriteCase w.key w.write w.stage what (write.Ending (written.Done there (Some (hint.Post level separator)))) → PostsFrom path level separator p → ClimbCase path (climb.Writing w) what (climb.Posting p)
+  Unsplit : (w : Write) (what : Seen) (r : WriteReply) (last : Climbed) → WriteCase w.key w.write w.stage what (write.Ending r) → IsUnsplit r × (last ≡ climbed.Unsplit r) → ClimbCase path (climb.Writing w) what (climb.Ending last)
+  Posted : (p : Post) (what : Seen) (q : Post) → PostCase p.level p.key p.stage what q.stage → (q.level ≡ p.level) × (q.key ≡ p.key) × IsPosting q.stage → ClimbCase path (climb.Posting p) what (climb.Posting q)
+  Higher : (p : Post) (what : Seen) (separator : ℕ) (q : Post) → PostCase p.level p.key p.stage what (post.Ending (listed.Done (Some separator))) → PostsFrom path (p.level + 1) separator q → ClimbCase path (climb.Posting p) what (climb.Posting q)
+  Finished : (p : Post) (what : Seen) (r : PostReply) (last : Climbed) → PostCase p.level p.key p.stage what (post.Ending r) → IsLast r × (last ≡ climbed.Posted p.level p.key r) → ClimbCase path (climb.Posting p) what (climb.Ending last)
+  Ended : (r last : Climbed) → last ≡ r → ClimbCase path (climb.Ending r) seen.Done (climb.Over last)
+
+pub climb_case : (path : Path) (a : ClimbStage) (what : Seen) (b : ClimbStage) → ClimbGoes path a what b → ClimbCase path a what b
+climb_case path (climb.Writing w) what (climb.Writing v) t = Wrote w what v (write_case w.key w.write w.stage what v.stage t.0.2) (t.0.0, t.0.1, t.1)
+climb_case path (climb.Writing w) what (climb.Posting p) (there, level, separator, t, u) = Split w what there level separator p (write_case w.key w.write w.stage what _ t) u
+climb_case path (climb.Writing w) what (climb.Ending last) (r, t, u, e) = Unsplit w what r last (write_case w.key w.write w.stage what (write.Ending r) t) (u, e)
+climb_case path (climb.Posting p) what (climb.Posting q) (inl t) = Posted p what q (post_case p.level p.key p.stage what q.stage t.0.2) (t.0.0, t.0.1, t.1)
+climb_case path (climb.Posting p) what (climb.Posting q) (inr (separator, t, u)) = Higher p what separator q (post_case p.level p.key p.stage what _ t) u
+climb_case path (climb.Posting p) what (climb.Ending last) (r, t, u, e) = Finished p what r last (post_case p.level p.key p.stage what (post.Ending r) t) (u, e)
+climb_case path (climb.Ending r) seen.Done (climb.Over last) t = Ended r last t
+climb_case path a what b t = absurd t

@@ -16,6 +16,7 @@ pub mod Parts
 pub mod Leaves
 pub mod Writings
 pub mod Posts
+pub mod Climbs
 pub mod Following
 pub mod PostsFollowing
 pub mod Neighbours

@@ -202,7 +202,7 @@ module _ (level key : ℕ) where
   ended_only : {q : PostReply} {b : PostStage} → PostCase level key (Ending q) seen.Done b → b ≡ Over q
   ended_only (PostCase.Ended q last t) = ap Over t
 
-  stage_one : 0 < level → (a : PostStage) (what : Seen) → post_answer_in level a ≡ None → Gives (post_next_in a) (post_needs_in a) what → One (PostGoes level key a what)
+  pub stage_one : 0 < level → (a : PostStage) (what : Seen) → post_answer_in level a ≡ None → Gives (post_next_in a) (post_needs_in a) what → One (PostGoes level key a what)
   stage_one least (Coming a) what r g =
       let way = come_one level key a what least g in
       let h = one_after way (after_way level key a what way.new way.goes) in

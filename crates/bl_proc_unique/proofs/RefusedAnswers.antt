@@ -3,6 +3,7 @@ use Rattle.std.proofs.Common.{ℕ, ◌≡◌, ◌≢◌, Option, Some, None, ref
 use Rattle.bl_model.specs.declared.operation.Reply.{Reply}
 use Rattle.bl_model.specs.declared.operation.Reply.TheVariants as reply
 use Rattle.bl_model.specs.declared.deciding.KeyWrite.{KeyWrite}
+use Rattle.bl_model.specs.declared.deciding.KeyWrite.TheVariants.{Insert}
 use Rattle.bl_model.specs.Writes.{replied}
 use Rattle.bl_model.proofs.Decisions.{is_decided}
 use Rattle.bl_proc_base.specs.declared.answers.Answer.{Answer}
@@ -26,6 +27,9 @@ use Rattle.bl_proc.specs.declared.reclaiming.ReclaimStage.TheVariants as reclaim
 use Rattle.bl_proc_base.specs.declared.lowering.Lowered.TheVariants as lowered
 use Rattle.bl_proc.specs.declared.lowering.LowerStage.{LowerStage}
 use Rattle.bl_proc.specs.declared.lowering.LowerStage.TheVariants as lower
+use Rattle.bl_proc.specs.declared.climbing.Climbed.TheVariants as climbed
+use Rattle.bl_proc.specs.declared.climbing.ClimbStage.{ClimbStage}
+use Rattle.bl_proc.specs.declared.climbing.ClimbStage.TheVariants as climb
 use Rattle.bl_proc.specs.declared.kinds.Proc.{Proc}
 use Rattle.bl_proc.specs.declared.kinds.Proc.TheVariants as proc
 use Rattle.bl_proc.specs.Processes.{answer_of}
@@ -36,7 +40,8 @@ use Rattle.bl_proc.specs.Posts.{post_answer_in}
 use Rattle.bl_proc_compress.specs.Compresses.{compress_answer_in}
 use Rattle.bl_proc.specs.Reclaims.{reclaim_answer_in}
 use Rattle.bl_proc.specs.Lowers.{lower_answer_in}
-use Rattle.bl_proc_unique.specs.Refusals.{IsNoRoom, WriteRefused, PostRefused, CompressRefused, LowerRefused, IsRefused}
+use Rattle.bl_proc.specs.Climbs.{climb_answer_in}
+use Rattle.bl_proc_unique.specs.Refusals.{IsNoRoom, WriteRefused, PostRefused, CompressRefused, LowerRefused, ClimbRefused, IsRefused}
 
 -- An answer
 
@@ -116,6 +121,23 @@ lower_answers (lower.Over lowered.Lowered) b e r = no_room _ b e r
 lower_answers (lower.Over lowered.Needed) b e r = no_room _ b e r
 lower_answers (lower.Over lowered.NoRoom) b e r = tt
 
+-- nor does an insertion that has split nothing
+never_unsplit : (q : Reply) → q ≢ reply.NoRoom → IsNoRoom (answer.InsertPost q None None) → ⊥
+never_unsplit reply.NoRoom other r = other refl
+never_unsplit q other r = r
+
+climb_answers : (value : ℕ) (a : ClimbStage) (b : Answer) → climb_answer_in value a ≡ Some b → IsNoRoom b → ClimbRefused a
+climb_answers value (climb.Writing w) b e r = none_answer b e
+climb_answers value (climb.Posting p) b e r = none_answer b e
+climb_answers value (climb.Ending q) b e r = none_answer b e
+climb_answers value (climb.Over (climbed.Unsplit (written.Done there h))) b e r = absurd (never_unsplit (replied (Insert value) there) (is_decided (Insert value) there).room (no_room _ b e r))
+climb_answers value (climb.Over (climbed.Unsplit written.NoRoom)) b e r = tt
+climb_answers value (climb.Over (climbed.Posted level key (listed.Done s))) b e r = no_room _ b e r
+climb_answers value (climb.Over (climbed.Posted level key listed.Already)) b e r = no_room _ b e r
+climb_answers value (climb.Over (climbed.Posted level key listed.Stale)) b e r = no_room _ b e r
+climb_answers value (climb.Over (climbed.Posted level key listed.NoRoom)) b e r = tt
+climb_answers value (climb.Over (climbed.Posted level key listed.TooTall)) b e r = no_room _ b e r
+
 pub answers_refused : (p : Proc) (a : Answer) → answer_of p ≡ Some a → IsNoRoom a → IsRefused p
 answers_refused (proc.Find p) a e r = find_answers p.stage a e r
 answers_refused (proc.Write p) a e r = write_answers p.write p.stage a e r
@@ -124,3 +146,4 @@ answers_refused (proc.Part p) a e r = part_answers p.stage a e r
 answers_refused (proc.Compress p) a e r = compress_answers p.stage a e r
 answers_refused (proc.Reclaim p) a e r = reclaim_answers p.stage a e r
 answers_refused (proc.Lower p) a e r = lower_answers p.stage a e r
+answers_refused (proc.InsertPost p) a e r = climb_answers p.value p.stage a e r

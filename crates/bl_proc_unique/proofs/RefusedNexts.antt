@@ -25,12 +25,15 @@ use Rattle.bl_proc_base.specs.Lowerings.{lowering_next, lowering_needs}
 use Rattle.bl_proc.specs.declared.lowering.LowerStage.{LowerStage}
 use Rattle.bl_proc.specs.declared.lowering.LowerStage.TheVariants as lower
 use Rattle.bl_proc.specs.Lowers.{lower_next_in, lower_needs_in}
+use Rattle.bl_proc.specs.declared.climbing.ClimbStage.{ClimbStage}
+use Rattle.bl_proc.specs.declared.climbing.ClimbStage.TheVariants as climb
+use Rattle.bl_proc.specs.Climbs.{climb_next_in, climb_needs_in}
 use Rattle.bl_proc.specs.declared.kinds.Proc.{Proc}
 use Rattle.bl_proc.specs.declared.kinds.Proc.TheVariants as proc
 use Rattle.bl_proc.specs.Writes.{write_next_in, write_needs_in}
 use Rattle.bl_proc.specs.Posts.{post_next_in, post_needs_in}
 use Rattle.bl_proc.specs.Processes.{next_of, needs_of, Takes}
-use Rattle.bl_proc_unique.specs.Refusals.{EditRefused, GrowthRefused, WriteRefused, PostRefused, SqueezeRefused, CompressRefused, LoweringRefused, LowerRefused, IsRefused, SqueezePuts, CompressPuts, PutsRefused, MayAsk}
+use Rattle.bl_proc_unique.specs.Refusals.{EditRefused, GrowthRefused, WriteRefused, PostRefused, SqueezeRefused, CompressRefused, LoweringRefused, LowerRefused, ClimbRefused, IsRefused, SqueezePuts, CompressPuts, PutsRefused, MayAsk}
 
 -- it opens a page, or ends
 abbrev pub OpensOrEnds : Action → Type 0
@@ -85,11 +88,18 @@ lower_opens (lower.Ending a) r = inr refl
 lower_opens (lower.Over a) r = inr refl
 lower_opens old r = absurd r
 
+climb_opens : (s : ClimbStage) → ClimbRefused s → OpensOrEnds (climb_next_in s)
+climb_opens (climb.Writing w) r = write_opens w.stage r
+climb_opens (climb.Posting p) r = post_opens p.stage r
+climb_opens (climb.Ending a) r = inr refl
+climb_opens (climb.Over a) r = inr refl
+
 pub refused_opens : (p : Proc) → IsRefused p → (PutsRefused p → ⊥) → OpensOrEnds (next_of p)
 refused_opens (proc.Write p) r not = write_opens p.stage r
 refused_opens (proc.Post p) r not = post_opens p.stage r
 refused_opens (proc.Compress p) r not = compress_opens p.stage r not
 refused_opens (proc.Lower p) r not = lower_opens p.stage r
+refused_opens (proc.InsertPost p) r not = climb_opens p.stage r
 refused_opens old r not = absurd r
 
 -- What it asks for
@@ -175,6 +185,12 @@ lower_asks (lower.Sinking l) b e = lowering_asks l b e
 lower_asks (lower.Ending a) b e = none_asks b e
 lower_asks (lower.Over a) b e = none_asks b e
 
+climb_asks : (s : ClimbStage) (b : ℕ × ℕ) → climb_needs_in s ≡ Some b → (b ≡ (0, 1)) ⊎ (b ≡ (1, 2))
+climb_asks (climb.Writing w) b e = write_asks w.stage b e
+climb_asks (climb.Posting p) b e = post_asks p.stage b e
+climb_asks (climb.Ending a) b e = none_asks b e
+climb_asks (climb.Over a) b e = none_asks b e
+
 pub may_ask : (p : Proc) (b : ℕ × ℕ) → needs_of p ≡ Some b → MayAsk p b
 may_ask (proc.Find p) b e = none_asks b e
 may_ask (proc.Write p) b e = write_asks p.stage b e
@@ -183,6 +199,7 @@ may_ask (proc.Part p) b e = none_asks b e
 may_ask (proc.Compress p) b e = compress_asks p.stage b e
 may_ask (proc.Reclaim p) b e = none_asks b e
 may_ask (proc.Lower p) b e = lower_asks p.stage b e
+may_ask (proc.InsertPost p) b e = climb_asks p.stage b e
 
 -- A step of a process leaves what its kind may ask for.
 pub may_ask_on : (p : Proc) (what : Seen) (q : Proc) (b : ℕ × ℕ) → Takes p what q → MayAsk p b → MayAsk q b
@@ -193,4 +210,5 @@ may_ask_on (proc.Part p) what (proc.Part q) b t m = m
 may_ask_on (proc.Compress p) what (proc.Compress q) b t m = m
 may_ask_on (proc.Reclaim p) what (proc.Reclaim q) b t m = m
 may_ask_on (proc.Lower p) what (proc.Lower q) b t m = m
+may_ask_on (proc.InsertPost p) what (proc.InsertPost q) b t m = m
 may_ask_on old what new b t m = absurd t

@@ -13,16 +13,18 @@ use Rattle.bl_proc_base.specs.declared.lowering.Lowering.{Lowering}
 use Rattle.bl_proc_base.specs.declared.lowering.Sank.{Sank}
 use Rattle.bl_proc_base.specs.declared.lowering.Sank.TheVariants.{On, Over}
 use Rattle.bl_proc.specs.declared.lowering.LowerStage.{LowerStage}
+use Rattle.bl_proc.specs.declared.paths.Path.{Path}
+use Rattle.bl_proc.specs.declared.climbing.ClimbStage.{ClimbStage}
 use Rattle.bl_proc.specs.declared.kinds.Proc.{Proc}
 use Rattle.bl_proc.specs.declared.kinds.Proc.TheVariants as proc
 use Rattle.bl_proc.specs.Processes.{Takes}
 use Rattle.bl_proc.specs.Writes.{write_reply}
 use Rattle.bl_proc.specs.Posts.{post_reply}
-use Rattle.bl_proc_unique.specs.Refusals.{OutcomeRefused, WriteNoRoom, WriteRefused, PostNoRoom, PostRefused, LowerNoRoom, LoweringRefused, LowerRefused, IsRefused, PutsRefused}
+use Rattle.bl_proc_unique.specs.Refusals.{OutcomeRefused, WriteNoRoom, WriteRefused, PostNoRoom, PostRefused, LowerNoRoom, LoweringRefused, LowerRefused, ClimbNoRoom, ClimbRefused, IsRefused, PutsRefused}
 use Rattle.bl_proc_unique.proofs.RefusedCompressions.{compress_refused, compress_puts}
 use Rattle.bl_proc_unique.proofs.Refusals.{changes_refused, changes_over, grows_refused, grows_over, enters_not, performs_not}
 use Rattle.bl_proc_unique.proofs.WayCases.{edit_case, growth_case}
-use Rattle.bl_proc_unique.proofs.KindCases.{WriteCase, write_case, PostCase, post_case, compress_case, LowerCase, lower_case}
+use Rattle.bl_proc_unique.proofs.KindCases.{WriteCase, write_case, PostCase, post_case, compress_case, LowerCase, lower_case, ClimbCase, climb_case}
 use Rattle.bl_proc_unique.proofs.Lowerings.{LoweringCase, lowering_case}
 
 write_outcome : (noted : Noted) (o : Outcome) → WriteNoRoom (write_reply noted o) → OutcomeRefused o
@@ -82,6 +84,16 @@ lower_refused (LowerCase.Sank l what m t) r = lowers_refused (lowering_case l wh
 lower_refused (LowerCase.Finished l what q t) r = lowers_refused (lowering_case l what _ t) r
 lower_refused (LowerCase.Ended q last t) r = inl (subst LowerNoRoom t r)
 
+-- a post that is to begin goes on with room
+climb_refused : {path : Path} {a b : ClimbStage} {what : Seen} → ClimbCase path a what b → ClimbRefused b → ClimbRefused a ⊎ (what ≡ seen.Refused)
+climb_refused (ClimbCase.Wrote w what v h t) r = write_refused h r
+climb_refused (ClimbCase.Split w what there level separator p h t) r = absurd (subst PostRefused t.2 r)
+climb_refused (ClimbCase.Unsplit w what q last h t) r = write_refused h (subst ClimbNoRoom t.1 r)
+climb_refused (ClimbCase.Posted p what q h t) r = post_refused h r
+climb_refused (ClimbCase.Higher p what separator q h t) r = absurd (subst PostRefused t.2 r)
+climb_refused (ClimbCase.Finished p what q last h t) r = post_refused h (subst ClimbNoRoom t.1 r)
+climb_refused (ClimbCase.Ended q last t) r = inl (subst ClimbNoRoom t r)
+
 pub takes_refused : (p : Proc) (what : Seen) (q : Proc) → Takes p what q → IsRefused q → IsRefused p ⊎ (what ≡ seen.Refused)
 takes_refused p what (proc.Find q) t r = absurd r
 takes_refused p what (proc.Part q) t r = absurd r
@@ -90,6 +102,7 @@ takes_refused (proc.Write p) what (proc.Write q) t r = write_refused (write_case
 takes_refused (proc.Post p) what (proc.Post q) t r = post_refused (post_case p.level p.key p.stage what q.stage t.2) r
 takes_refused (proc.Compress p) what (proc.Compress q) t r = compress_refused (compress_case p.level p.key p.stage what q.stage t.2) r
 takes_refused (proc.Lower p) what (proc.Lower q) t r = lower_refused (lower_case p.stage what q.stage t) r
+takes_refused (proc.InsertPost p) what (proc.InsertPost q) t r = climb_refused (climb_case q.path p.stage what q.stage t.3) r
 takes_refused p what old t r = absurd t
 
 -- nor does one come to such puts

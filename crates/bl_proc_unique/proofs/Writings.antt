@@ -116,7 +116,7 @@ module _ (key : ℕ) (does : KeyWrite) where
   ended_only : {q : WriteReply} {b : WriteStage} → WriteCase key does (Ending q) seen.Done b → b ≡ Over q
   ended_only (WriteCase.Ended q last t) = ap Over t
 
-  stage_one : (a : WriteStage) (what : Seen) → write_answer_in does a ≡ None → Gives (write_next_in a) (write_needs_in a) what → One (WriteGoes key does a what)
+  pub stage_one : (a : WriteStage) (what : Seen) → write_answer_in does a ≡ None → Gives (write_next_in a) (write_needs_in a) what → One (WriteGoes key does a what)
   stage_one (Coming a) what r g = (let h = approach_one 0 key a what g in coming_by key does a what h.new h.goes h.only)
   stage_one (Editing noted d) what r g = (let h = edit_one d what g in record { new = after_edit noted h.new; goes = edit_goes key does noted d what h.new h.goes; only = λ b t. edit_only h.new h.only (write_case key does (Editing noted d) what b t) })
   stage_one New seen.Done r g = record { new = Coming Start; goes = refl; only = λ b t. begun_only (write_case key does New seen.Done b t) }

@@ -2,6 +2,7 @@
 use Rattle.std.specs.Prelude.{◌≡◌, ◌≢◌, ◌≤◌, ℕ, suc, Option, Some, None}
 use Rattle.bl_model.specs.declared.operation.Op.{Op}
 use Rattle.bl_model.specs.declared.operation.Op.TheVariants as op
+use Rattle.bl_model.specs.declared.deciding.KeyWrite.TheVariants.{Insert}
 use Rattle.bl_model.specs.Writes.{write_op}
 use Rattle.bl_proc_base.specs.declared.acts.Action.{Action}
 use Rattle.bl_proc_base.specs.declared.acts.Action.TheVariants as act
@@ -21,6 +22,8 @@ use Rattle.bl_proc_compress.specs.declared.compressing.Compression.{Compression}
 use Rattle.bl_proc_compress.specs.declared.compressing.Compression.TheVariants as compression
 use Rattle.bl_proc_compress.specs.declared.squeezing.CompressStage.{CompressStage}
 use Rattle.bl_proc_compress.specs.declared.squeezing.CompressStage.TheVariants as compress
+use Rattle.bl_proc.specs.declared.climbing.ClimbStage.{ClimbStage}
+use Rattle.bl_proc.specs.declared.climbing.ClimbStage.TheVariants as climb
 use Rattle.bl_proc.specs.declared.lowering.LowerStage.{LowerStage}
 use Rattle.bl_proc.specs.declared.lowering.LowerStage.TheVariants as lower
 use Rattle.bl_proc.specs.declared.kinds.Proc.{Proc}
@@ -105,6 +108,12 @@ lower_frames (lower.Sinking l) = lowering_frames l
 lower_frames (lower.Ending r) = 0
 lower_frames (lower.Over r) = 0
 
+abbrev pub climb_frames : ClimbStage → ℕ
+climb_frames (climb.Writing w) = write_frames w.stage
+climb_frames (climb.Posting p) = post_frames p.stage
+climb_frames (climb.Ending r) = 0
+climb_frames (climb.Over r) = 0
+
 abbrev pub frames_of : Proc → ℕ
 frames_of (proc.Find p) = 0
 frames_of (proc.Write p) = write_frames p.stage
@@ -113,6 +122,7 @@ frames_of (proc.Part p) = 0
 frames_of (proc.Compress p) = compress_frames p.stage
 frames_of (proc.Reclaim p) = 0
 frames_of (proc.Lower p) = lower_frames p.stage
+frames_of (proc.InsertPost p) = climb_frames p.stage
 
 -- the operation that a process carries out, if it has one
 abbrev pub op_of : Proc → Option Op
@@ -123,6 +133,7 @@ op_of (proc.Part p) = Some (op.Part p.from)
 op_of (proc.Compress p) = None
 op_of (proc.Reclaim p) = None
 op_of (proc.Lower p) = None
+op_of (proc.InsertPost p) = Some (write_op p.key (Insert p.value))
 
 -- the level and the key of a post or a compression
 abbrev pub work_of : Proc → Option (ℕ × ℕ)
@@ -133,6 +144,7 @@ work_of (proc.Part p) = None
 work_of (proc.Compress p) = Some (p.level, p.key)
 work_of (proc.Reclaim p) = None
 work_of (proc.Lower p) = None
+work_of (proc.InsertPost p) = None
 
 -- A process that has so many frames: a put asks for some, up to three, where it has none, and a take for a page and two
 -- frames. An index has sweeps for those that look or release, and no value of a part, which alone probes.

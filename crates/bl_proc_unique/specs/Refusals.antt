@@ -1,5 +1,5 @@
 -- Where a process goes on without room, and what it may have asked for.
-use Rattle.std.specs.Prelude.{◌≡◌, ◌⊎◌, ℕ}
+use Rattle.std.specs.Prelude.{◌≡◌, ◌⊎◌, ℕ, Some}
 use Rattle.bl_model.specs.declared.operation.Reply.TheVariants as reply
 use Rattle.bl_proc_base.specs.declared.answers.Answer.{Answer}
 use Rattle.bl_proc_base.specs.declared.answers.Answer.TheVariants as answer
@@ -31,17 +31,23 @@ use Rattle.bl_proc.specs.declared.posting.PostStage.{PostStage}
 use Rattle.bl_proc.specs.declared.posting.PostStage.TheVariants as post
 use Rattle.bl_proc.specs.declared.posting.PostReply.{PostReply}
 use Rattle.bl_proc.specs.declared.posting.PostReply.TheVariants as listed
+use Rattle.bl_proc.specs.declared.climbing.Climbed.{Climbed}
+use Rattle.bl_proc.specs.declared.climbing.Climbed.TheVariants as climbed
+use Rattle.bl_proc.specs.declared.climbing.ClimbStage.{ClimbStage}
+use Rattle.bl_proc.specs.declared.climbing.ClimbStage.TheVariants as climb
 use Rattle.bl_proc.specs.declared.lowering.LowerStage.{LowerStage}
 use Rattle.bl_proc.specs.declared.lowering.LowerStage.TheVariants as lower
 use Rattle.bl_proc.specs.declared.kinds.Proc.{Proc}
 use Rattle.bl_proc.specs.declared.kinds.Proc.TheVariants as proc
 
--- the answer is that there was no room
+-- The answer is that there was no room. An insertion that posts may lack it for its own pair, and for its last post.
 abbrev pub IsNoRoom : Answer → Type 0
 IsNoRoom (answer.Op reply.NoRoom hint) = Unit {0}
 IsNoRoom (answer.Post posted.NoRoom hint) = Unit {0}
 IsNoRoom (answer.Compress squeezed.NoRoom hint) = Unit {0}
 IsNoRoom (answer.Lower lowered.NoRoom) = Unit {0}
+IsNoRoom (answer.InsertPost reply.NoRoom last hint) = Unit {0}
+IsNoRoom (answer.InsertPost other (Some posted.NoRoom) hint) = Unit {0}
 IsNoRoom other = ⊥
 
 -- It goes on without room. Puts with such a fate count too, though none are ever decided.
@@ -157,6 +163,16 @@ LowerRefused (lower.Sinking l) = LoweringRefused l
 LowerRefused (lower.Ending r) = LowerNoRoom r
 LowerRefused (lower.Over r) = LowerNoRoom r
 
+abbrev pub ClimbNoRoom : Climbed → Type 0
+ClimbNoRoom (climbed.Unsplit r) = WriteNoRoom r
+ClimbNoRoom (climbed.Posted level key r) = PostNoRoom r
+
+abbrev pub ClimbRefused : ClimbStage → Type 0
+ClimbRefused (climb.Writing w) = WriteRefused w.stage
+ClimbRefused (climb.Posting p) = PostRefused p.stage
+ClimbRefused (climb.Ending r) = ClimbNoRoom r
+ClimbRefused (climb.Over r) = ClimbNoRoom r
+
 abbrev pub IsRefused : Proc → Type 0
 IsRefused (proc.Find p) = ⊥
 IsRefused (proc.Write p) = WriteRefused p.stage
@@ -165,6 +181,7 @@ IsRefused (proc.Part p) = ⊥
 IsRefused (proc.Compress p) = CompressRefused p.stage
 IsRefused (proc.Reclaim p) = ⊥
 IsRefused (proc.Lower p) = LowerRefused p.stage
+IsRefused (proc.InsertPost p) = ClimbRefused p.stage
 
 -- It is to put what was decided with such a fate, or to retire a page after it. None is ever decided.
 abbrev pub SqueezePuts : Compression → Type 0
@@ -196,6 +213,7 @@ PutsRefused (proc.Part p) = ⊥
 PutsRefused (proc.Compress p) = CompressPuts p.stage
 PutsRefused (proc.Reclaim p) = ⊥
 PutsRefused (proc.Lower p) = ⊥
+PutsRefused (proc.InsertPost p) = ⊥
 
 -- What a process of this kind asks for, pages and frames: for a put of one page; for one of two pages, of which one is
 -- new; for those of a compression; for the two of a lowering.
@@ -207,3 +225,4 @@ MayAsk (proc.Part p) ask = ⊥
 MayAsk (proc.Compress p) ask = ask ≡ (0, 3)
 MayAsk (proc.Reclaim p) ask = ⊥
 MayAsk (proc.Lower p) ask = ask ≡ (0, 2)
+MayAsk (proc.InsertPost p) ask = (ask ≡ (0, 1)) ⊎ (ask ≡ (1, 2))

@@ -50,6 +50,11 @@ posted_text posted.Stale = codes "stale"
 posted_text posted.NoRoom = codes "noroom"
 posted_text posted.TooTall = codes "tootall"
 
+-- what became of the last post of an insertion, where it has split anything
+abbrev pub last_text : Option Posted → List ℕ
+last_text None = []
+last_text (Some what) = codes " " ++ posted_text what
+
 -- what became of a compression
 abbrev pub squeezed_text : Squeezed → List ℕ
 squeezed_text squeezed.Merged = codes "merged"
@@ -76,6 +81,7 @@ answer_text (answer.Post posted hint) = posted_text posted ++ hint_text hint
 answer_text (answer.Compress squeezed hint) = squeezed_text squeezed ++ hint_text hint
 answer_text (answer.Reclaim what) = reclaimed_text what
 answer_text (answer.Lower what) = lowered_text what
+answer_text (answer.InsertPost reply last hint) = reply_text reply ++ last_text last ++ hint_text hint
 
 -- the line of the answer of the process with that number
 abbrev pub answer_line : ℕ → Answer → List ℕ

@@ -29,6 +29,7 @@ fn process_of(start: Start) -> Proc
     match start {
         Start::Operation(Op::Find(key)) => Proc::find(key),
         Start::Operation(Op::Insert(key, value)) => Proc::insert(key, value),
+        Start::InsertPost { key, value } => Proc::insert_posting(key, value),
         Start::Operation(Op::Delete(key)) => Proc::delete(key),
         Start::Operation(Op::Change(key, old, new)) => Proc::change(key, old, new),
         Start::Post { level, key } => Proc::post(level, key),

@@ -1,7 +1,7 @@
 //! The printed form of events and answers.
 
 ghost use Rattle.std.specs.Prelude.{◌≡◌, ◌++◌, OnOk, Some};
-ghost use Rattle.bl_replay.specs.Texts.{act_text, event_line, hint_text, posted_text, squeezed_text, reclaimed_text, lowered_text, answer_text, answer_line};
+ghost use Rattle.bl_replay.specs.Texts.{act_text, event_line, hint_text, posted_text, last_text, squeezed_text, reclaimed_text, lowered_text, answer_text, answer_line};
 
 use bl_proc::{Answer, Hint, Lowered, Posted, Reclaimed, Squeezed};
 use bl_serve_lines::print::{push_number, push_reply};
@@ -73,6 +73,19 @@ fn push_posted(out: &mut Vec<u8>, posted: Posted) -> Result<(), AllocError>
     }
 }
 
+/// Appends what became of the last post of an insertion, if it has split anything.
+fn push_last(out: &mut Vec<u8>, last: Option<Posted>) -> Result<(), AllocError>
+    ensures { OnOk result (out.new.items ≡ out.old.items ++ last_text last) }
+{
+    match last {
+        None => Ok(()),
+        Some(posted) => {
+            out.extend_from_slice(b" ")?;
+            push_posted(out, posted)
+        }
+    }
+}
+
 /// Appends what became of a compression.
 fn push_squeezed(out: &mut Vec<u8>, squeezed: Squeezed) -> Result<(), AllocError>
     ensures { OnOk result (out.new.items ≡ out.old.items ++ squeezed_text squeezed) }
@@ -127,6 +140,11 @@ fn push_answer(out: &mut Vec<u8>, answer: &Answer) -> Result<(), AllocError>
         }
         Answer::Reclaim(what) => push_reclaimed(out, *what),
         Answer::Lower(what) => push_lowered(out, *what),
+        Answer::InsertPost(reply, last, hint) => {
+            push_reply(out, reply)?;
+            push_last(out, *last)?;
+            push_hint(out, hint)
+        }
     }
 }
 

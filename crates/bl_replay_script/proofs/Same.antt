@@ -5,7 +5,7 @@ use Rattle.std.proofs.lemmas.Fmt.{digits_decimal}
 use Rattle.std.proofs.lemmas.Str.Parse.{not_in_digits}
 use Rattle.bl_serve_lines.proofs.Numbers.{own, at_middle}
 use Rattle.bl_model.specs.declared.operation.Op.TheVariants.{Find, Insert, Delete, Change, Part}
-use Rattle.bl_replay_script.specs.declared.command.Start.TheVariants.{Operation, PartNear, Post, Compress, Reclaim, Lower}
+use Rattle.bl_replay_script.specs.declared.command.Start.TheVariants.{Operation, InsertPost, PartNear, Post, Compress, Reclaim, Lower}
 use Rattle.bl_replay_script.specs.declared.command.Command.{Command}
 use Rattle.bl_replay_script.specs.declared.command.Command.TheVariants as command
 use Rattle.bl_replay_script.specs.declared.command.Kinds.{Kinds}
@@ -28,6 +28,7 @@ small_page page pages count lt = omega (arith, count.1)
 pub line_text : (kinds : Kinds) (pages started : ℕ) → IsPageCount pages → (c : Command) → MayStand kinds pages started c → IsPlain (command_text c)
 line_text kinds pages started count (command.Start (Operation (Find a))) h = plain_one (codes "find ") a refl (omega arith) h
 line_text kinds pages started count (command.Start (Operation (Insert a b))) h = plain_two (codes "insert ") a b refl (omega arith) h.0 h.1
+line_text kinds pages started count (command.Start (InsertPost a b)) h = plain_two (codes "insertpost ") a b refl (omega arith) h.0 h.1
 line_text kinds pages started count (command.Start (Operation (Delete a))) h = plain_one (codes "delete ") a refl (omega arith) h
 line_text kinds pages started count (command.Start (Operation (Change a b c))) h = plain_three (codes "change ") a b c refl (omega arith) h.0 h.1 h.2
 line_text kinds pages started count (command.Start (Operation (Part a))) h = plain_one (codes "part ") a refl (omega arith) h.1
@@ -48,6 +49,7 @@ letters text = get_or text 0 0 * 65536 + get_or text 1 0 * 256 + get_or text 2 0
 abbrev kind_of : Command → ℕ
 kind_of (command.Start (Operation (Find a))) = 6711662
 kind_of (command.Start (Operation (Insert a b))) = 6909555
+kind_of (command.Start (InsertPost a b)) = 6909555
 kind_of (command.Start (Operation (Delete a))) = 6579564
 kind_of (command.Start (Operation (Change a b c))) = 6514785
 kind_of (command.Start (Operation (Part a))) = 7364978
@@ -64,6 +66,7 @@ kind_of (command.Run a b) = 7501166
 kind_is : (c : Command) → letters (command_text c) ≡ kind_of c
 kind_is (command.Start (Operation (Find a))) = refl
 kind_is (command.Start (Operation (Insert a b))) = refl
+kind_is (command.Start (InsertPost a b)) = refl
 kind_is (command.Start (Operation (Delete a))) = refl
 kind_is (command.Start (Operation (Change a b c))) = refl
 kind_is (command.Start (Operation (Part a))) = refl
@@ -83,6 +86,9 @@ other_kind c d e apart = apart (sym (kind_is c) ∙ (ap letters e ∙ kind_is d)
 pub text_same : (kinds : Kinds) (pages started : ℕ) → IsPageCount pages → (c d : Command) → MayStand kinds pages started c → MayStand kinds pages started d → command_text c ≡ command_text d → c ≡ d
 text_same kinds pages started count (command.Start (Operation (Find a))) (command.Start (Operation (Find c))) h k e = ap (λ z. (command.Start (Operation (Find z)))) (one_same a c h k (append_cancel_left (codes "find ") (one a) (one c) e))
 text_same kinds pages started count (command.Start (Operation (Insert a b))) (command.Start (Operation (Insert c d))) h k e = let same = two_same a b c d h.0 h.1 k.0 k.1 (append_cancel_left (codes "insert ") (two a b) (two c d) e) in ap (λ z. (command.Start (Operation (Insert z b)))) same.0 ∙ ap (λ z. (command.Start (Operation (Insert c z)))) same.1
+text_same kinds pages started count (command.Start (Operation (Insert a b))) (command.Start (InsertPost c d)) h k e = absurd (let at : 32 ≡ 112 = ap (λ t. get_or t 6 0) e in omega arith)
+text_same kinds pages started count (command.Start (InsertPost a b)) (command.Start (Operation (Insert c d))) h k e = absurd (let at : 112 ≡ 32 = ap (λ t. get_or t 6 0) e in omega arith)
+text_same kinds pages started count (command.Start (InsertPost a b)) (command.Start (InsertPost c d)) h k e = let same = two_same a b c d h.0 h.1 k.0 k.1 (append_cancel_left (codes "insertpost ") (two a b) (two c d) e) in ap (λ z. (command.Start (InsertPost z b))) same.0 ∙ ap (λ z. (command.Start (InsertPost c z))) same.1
 text_same kinds pages started count (command.Start (Operation (Delete a))) (command.Start (Operation (Delete c))) h k e = ap (λ z. (command.Start (Operation (Delete z)))) (one_same a c h k (append_cancel_left (codes "delete ") (one a) (one c) e))
 text_same kinds pages started count (command.Start (Operation (Change a b c))) (command.Start (Operation (Change x y z))) h k e = let same = three_same a b c x y z h.0 h.1 h.2 k.0 k.1 k.2 (append_cancel_left (codes "change ") (three a b c) (three x y z) e) in ap (λ n. (command.Start (Operation (Change n b c)))) same.0 ∙ ap (λ n. (command.Start (Operation (Change x n c)))) same.1 ∙ ap (λ n. (command.Start (Operation (Change x y n)))) same.2
 text_same kinds pages started count (command.Start (Operation (Part a))) (command.Start (Operation (Part c))) h k e = ap (λ z. (command.Start (Operation (Part z)))) (one_same a c h.1 k.1 (append_cancel_left (codes "part ") (one a) (one c) e))

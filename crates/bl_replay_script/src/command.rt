@@ -14,6 +14,13 @@ pub enum Start {
         /// The page, from which its way may be short.
         page: u32,
     },
+    /// Inserts a key, and posts what it splits.
+    InsertPost {
+        /// The key.
+        key: u64,
+        /// Its value.
+        value: u64,
+    },
     /// Lists a child in its parent.
     Post {
         /// The level of the parent, 1 to 12.

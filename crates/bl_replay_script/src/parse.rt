@@ -168,6 +168,9 @@ fn start_of(kinds: Kinds, pages: u32, line: &[u8]) -> Option<Start>
     if let Some((key, value)) = two_within(line, b"insert ", 0, MOST, MOST) {
         return Some(Start::Operation(Op::Insert(key, value)));
     }
+    if let Some((key, value)) = two_within(line, b"insertpost ", 0, MOST, MOST) {
+        return Some(Start::InsertPost { key, value });
+    }
     if let Some(key) = one_within(line, b"delete ", 0, MOST) {
         return Some(Start::Operation(Op::Delete(key)));
     }
