@@ -17,6 +17,7 @@ use Rattle.bl_proc_base.specs.declared.editing.Edit.TheVariants as edit
 use Rattle.bl_proc_base.specs.declared.growing.Growth.{Growth}
 use Rattle.bl_proc_base.specs.declared.growing.Growth.TheVariants as growth
 use Rattle.bl_model.specs.declared.deciding.KeyWrite.{KeyWrite}
+use Rattle.bl_model.specs.declared.deciding.KeyWrite.TheVariants.{Insert}
 use Rattle.bl_model.specs.declared.deciding.Effect.{Effect}
 use Rattle.bl_model.specs.declared.deciding.Effect.TheVariants.{Keep, Enter, Remove, Replace}
 use Rattle.bl_model.specs.Writes.{effect_of}
@@ -24,6 +25,10 @@ use Rattle.bl_proc.specs.declared.writing.WriteStage.{WriteStage}
 use Rattle.bl_proc.specs.declared.writing.WriteStage.TheVariants as write
 use Rattle.bl_proc.specs.declared.posting.PostStage.{PostStage}
 use Rattle.bl_proc.specs.declared.posting.PostStage.TheVariants as post
+use Rattle.bl_proc.specs.declared.climbing.Climbed.{Climbed}
+use Rattle.bl_proc.specs.declared.climbing.Climbed.TheVariants as climbed
+use Rattle.bl_proc.specs.declared.climbing.ClimbStage.{ClimbStage}
+use Rattle.bl_proc.specs.declared.climbing.ClimbStage.TheVariants as climb
 use Rattle.bl_proc.specs.declared.kinds.Proc.{Proc}
 use Rattle.bl_proc.specs.declared.kinds.Proc.TheVariants as proc
 use Rattle.bl_index_rule.specs.declared.known.PassState.{PassState}
@@ -100,6 +105,12 @@ post_held level key (post.Staying x r) marks = Unit {0}
 post_held level key (post.Ending r) marks = Unit {0}
 post_held level key (post.Over r) marks = Unit {0}
 
+abbrev pub climb_held : ClimbStage → Trail → Type 0
+climb_held (climb.Writing w) marks = write_held w.key w.write w.stage marks
+climb_held (climb.Posting p) marks = post_held p.level p.key p.stage marks
+climb_held (climb.Ending r) marks = Unit {0}
+climb_held (climb.Over r) marks = Unit {0}
+
 abbrev pub proc_held : Proc → Trail → Type 0
 proc_held (proc.Find p) marks = Unit {0}
 proc_held (proc.Write p) marks = write_held p.key p.write p.stage marks
@@ -108,7 +119,7 @@ proc_held (proc.Part p) marks = Unit {0}
 proc_held (proc.Compress p) marks = Unit {0}
 proc_held (proc.Reclaim p) marks = Unit {0}
 proc_held (proc.Lower p) marks = Unit {0}
-proc_held (proc.InsertPost p) marks = Unit {0}
+proc_held (proc.InsertPost p) marks = climb_held p.stage marks
 
 -- What it asks for, pages and frames, is what that page takes.
 abbrev pub AsksForPage : ℕ → ℕ → ℕ × ℕ → Trail → Type 0
@@ -117,12 +128,26 @@ AsksForPage level key ask marks = ((ask ≡ (0, 1)) × GotHeld level key marks H
 abbrev pub AsksForWrite : ℕ → KeyWrite → ℕ × ℕ → Trail → Type 0
 AsksForWrite key does ask marks = (there : Option ℕ) × IfEnters (effect_of does there) (AsksForPage 0 key ask marks)
 
+abbrev pub AsksForPost : ℕ → ℕ → ℕ × ℕ → Trail → Type 0
+AsksForPost level key ask marks = AsksForPage level key ask marks ⊎ ((ask ≡ (1, 2)) × GotAnchor level marks)
+
+-- of an insertion of that value with its posts, by what became of it
+abbrev pub AsksWhen : ℕ → ℕ → Climbed → ℕ × ℕ → Trail → Type 0
+AsksWhen key value (climbed.Unsplit r) ask marks = AsksForWrite key (Insert value) ask marks
+AsksWhen key value (climbed.Posted level separator r) ask marks = AsksForPost level separator ask marks
+
+abbrev pub AsksForClimb : ℕ → ℕ → ClimbStage → ℕ × ℕ → Trail → Type 0
+AsksForClimb key value (climb.Writing w) ask marks = AsksForWrite w.key w.write ask marks
+AsksForClimb key value (climb.Posting p) ask marks = AsksForPost p.level p.key ask marks
+AsksForClimb key value (climb.Ending r) ask marks = AsksWhen key value r ask marks
+AsksForClimb key value (climb.Over r) ask marks = AsksWhen key value r ask marks
+
 abbrev pub AsksFor : Proc → ℕ × ℕ → Trail → Type 0
 AsksFor (proc.Find p) ask marks = Unit {0}
 AsksFor (proc.Write p) ask marks = AsksForWrite p.key p.write ask marks
-AsksFor (proc.Post p) ask marks = AsksForPage p.level p.key ask marks ⊎ ((ask ≡ (1, 2)) × GotAnchor p.level marks)
+AsksFor (proc.Post p) ask marks = AsksForPost p.level p.key ask marks
 AsksFor (proc.Part p) ask marks = Unit {0}
 AsksFor (proc.Compress p) ask marks = Unit {0}
 AsksFor (proc.Reclaim p) ask marks = Unit {0}
 AsksFor (proc.Lower p) ask marks = Unit {0}
-AsksFor (proc.InsertPost p) ask marks = Unit {0}
+AsksFor (proc.InsertPost p) ask marks = AsksForClimb p.key p.value p.stage ask marks
