@@ -14,7 +14,7 @@ use Rattle.bl_proc.specs.declared.parts.PartStage.TheVariants as part
 use Rattle.bl_proc.specs.declared.kinds.Proc.{Proc}
 use Rattle.bl_proc.specs.declared.kinds.Proc.TheVariants as proc
 use Rattle.bl_proc_invariant.specs.Knowing.{Run, know_find, know_part, know_of, know}
-use Rattle.bl_proc_invariant.proofs.Starting.{with_proc}
+use Rattle.bl_proc_invariant.proofs.Instead.{with_proc}
 use Rattle.bl_claims.specs.Bounds.{gets_in, puts_in, IsWithinBound, IsBelowBound}
 use Rattle.bl_proc_bounds.specs.Searches.{IsSearch, IsGoing, IsUnderWay}
 use Rattle.bl_proc_bounds.proofs.Counts.{own_gets_own, within_none}
@@ -57,6 +57,7 @@ early_of size contents trail p got child time (proc.Part a) e = part_early size 
 early_of size contents trail p got child time (proc.Compress a) e = tt
 early_of size contents trail p got child time (proc.Reclaim a) e = tt
 early_of size contents trail p got child time (proc.Lower a) e = tt
+early_of size contents trail p got child time (proc.InsertPost a) e = tt
 
 early : (size : ℕ) (contents : ℕ → Page) (trail : Trail) (p : Name) (b : Run) → (know b).stage ≡ Stage.Early → IsKept size contents trail p (sought b.state) (place_of b.state)
 early size contents trail p b e = early_of size contents trail p b.got b.child b.time b.state e

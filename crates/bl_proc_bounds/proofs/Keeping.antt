@@ -69,6 +69,7 @@ knows_of w p got child time (proc.Part a) is = part_knows w p a.from a.stage is
 knows_of w p got child time (proc.Compress a) is = tt
 knows_of w p got child time (proc.Reclaim a) is = tt
 knows_of w p got child time (proc.Lower a) is = tt
+knows_of w p got child time (proc.InsertPost a) is = tt
 
 pub knows : (w : World Run) (p : Name) → IsGood know w → Knows w p (sought (w.proc p).state) (place_of (w.proc p).state)
 knows w p g = knows_of w p (w.proc p).got (w.proc p).child (w.proc p).time (w.proc p).state (g.sure p)
@@ -126,6 +127,7 @@ moved s size (proc.Post a) what (proc.Post c) t observed = (refl, record { goes 
 moved s size (proc.Compress a) what (proc.Compress c) t observed = (refl, record { goes = tt; act = tt; observed = tt })
 moved s size (proc.Reclaim a) what (proc.Reclaim c) t observed = (refl, record { goes = tt; act = tt; observed = tt })
 moved s size (proc.Lower a) what (proc.Lower c) t observed = (refl, record { goes = tt; act = tt; observed = tt })
+moved s size (proc.InsertPost a) what (proc.InsertPost c) t observed = (refl, record { goes = tt; act = tt; observed = tt })
 moved s size old what new t observed = absurd t
 
 -- Events

@@ -11,7 +11,7 @@ use Rattle.bl_proc.specs.Processes.{next_of, Takes}
 use Rattle.bl_proc_invariant.specs.Logs.{proc_log}
 use Rattle.bl_proc_invariant.specs.Turns.{event_of, IsObserved}
 use Rattle.bl_proc_invariant.specs.Knowing.{Run, know, end_of_proc}
-use Rattle.bl_proc_invariant.proofs.Starting.{with_proc}
+use Rattle.bl_proc_invariant.proofs.Instead.{with_proc}
 use Rattle.bl_claims.specs.Bounds.{gets_in, puts_in}
 use Rattle.bl_proc_bounds.specs.Searches.{IsSearch}
 use Rattle.bl_proc_bounds.specs.Paces.{place_of, AllKept}

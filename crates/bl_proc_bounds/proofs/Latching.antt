@@ -1,5 +1,5 @@
 -- What a process holds at its latches, by its kind.
-use Rattle.std.proofs.Common.{ℕ, ◌≡◌, ◌≢◌, ◌⊎◌, ◌<◌, ◌++◌, Option, Some, zero, suc, [], ◌∷◌, length, take, slice_get, arith, ap, sym, ◌∙◌, refl, inl, inr, subst}
+use Rattle.std.proofs.Common.{ℕ, ◌≡◌, ◌≢◌, ◌⊎◌, ◌<◌, ◌++◌, Option, Some, zero, suc, List, [], ◌∷◌, length, take, slice_get, arith, ap, sym, ◌∙◌, refl, inl, inr, subst}
 use Rattle.bl_model.specs.declared.operation.Reply.{Reply}
 use Rattle.bl_model.specs.declared.deciding.KeyWrite.{KeyWrite}
 use Rattle.bl_page.specs.declared.page.Page.{Page}
@@ -7,7 +7,7 @@ use Rattle.bl_page.specs.Machine.{Name}
 use Rattle.bl_page.specs.Machine.Act.{Latch}
 use Rattle.bl_claims.specs.Trails.{Mark, Trail, marks_of}
 use Rattle.bl_core.proofs.Pushes.{name_cases, marks_of-own, marks_of-other}
-use Rattle.bl_core.specs.Worlds.{Know, World, HoldsPage, IsGood, Extends}
+use Rattle.bl_core.specs.Worlds.{Goes, Know, World, HoldsPage, IsGood, Extends}
 use Rattle.bl_proc_base.specs.declared.acts.Action.{Action}
 use Rattle.bl_proc_base.specs.declared.acts.Action.TheVariants as act
 use Rattle.bl_proc_base.specs.declared.acts.Seen.{Seen}
@@ -52,14 +52,19 @@ use Rattle.bl_proc.specs.Parts.{part_next_in}
 use Rattle.bl_proc.specs.Writes.{write_next_in}
 use Rattle.bl_proc.specs.Posts.{post_next_in}
 use Rattle.bl_proc.specs.Processes.{next_of, Takes}
+use Rattle.bl_model.specs.declared.deciding.KeyWrite.TheVariants.{Insert}
+use Rattle.bl_proc.specs.declared.paths.Path.{Path}
+use Rattle.bl_proc.specs.declared.climbing.ClimbStage.{ClimbStage}
+use Rattle.bl_proc.specs.declared.climbing.ClimbStage.TheVariants as climb
+use Rattle.bl_proc.specs.Climbs.{climb_next_in}
 use Rattle.bl_proc_invariant.specs.Turns.{event_of}
-use Rattle.bl_proc_invariant.specs.Tables.{know_approach}
+use Rattle.bl_proc_invariant.specs.Tables.{Keeps, unsaid, alone, know_approach}
 use Rattle.bl_proc_invariant.specs.Logs.{squeeze_log, compress_log, proc_log}
 use Rattle.bl_proc_invariant.specs.Compressing.{know_squeeze}
 use Rattle.bl_proc_invariant.specs.Lowering.{know_lowering}
-use Rattle.bl_proc_invariant.specs.Knowing.{Run, know_growth, know_write, know_post, know_compress, know_lower, know_of, know, end_of_proc}
+use Rattle.bl_proc_invariant.specs.Knowing.{Run, path_goes, inserted, know_growth, know_write, know_post, know_climb, know_compress, know_lower, know_of, know, end_of_proc}
 use Rattle.bl_core.proofs.After.{is_put_name}
-use Rattle.bl_proc_invariant.proofs.Starting.{with_proc}
+use Rattle.bl_proc_invariant.proofs.Instead.{with_proc}
 use Rattle.bl_proc_bounds.specs.Searches.{IsSearch}
 use Rattle.bl_claims.specs.Latches.{Keeps, LatchesNone, LatchesAlone, LatchesBelowAnchor}
 use Rattle.bl_proc_meanings.specs.Families.{HoldsFamily, LatchesBeside}
@@ -132,12 +137,12 @@ latch_next reply a what x e = absurd (let f = e in cc)
 
 -- What it holds then
 
-approach_alone : (level key : ℕ) (a : Approach) (x : ℕ) → approach_next a ≡ act.Latch x → (know_approach level key a).holds ≡ []
-approach_alone level key way.Start x e = cc (e)
-approach_alone level key (way.At y) x e = cc (e)
-approach_alone level key (way.Latching y) x e = refl
-approach_alone level key (way.Latched y) x e = absurd (cc e)
-approach_alone level key (way.Leaving y to) x e = absurd (cc e)
+approach_alone : (keeps : Keeps) → (level key : ℕ) (a : Approach) (x : ℕ) → approach_next a ≡ act.Latch x → (know_approach keeps level key a).holds ≡ []
+approach_alone keeps level key way.Start x e = cc (e)
+approach_alone keeps level key (way.At y) x e = cc (e)
+approach_alone keeps level key (way.Latching y) x e = refl
+approach_alone keeps level key (way.Latched y) x e = absurd (cc e)
+approach_alone keeps level key (way.Leaving y to) x e = absurd (cc e)
 
 edit_never : (c : Edit) (x : ℕ) → edit_next c ≢ act.Latch x
 edit_never (edit.Putting y page) x e = cc
@@ -147,27 +152,33 @@ edit_never (edit.PuttingOld p) x e = cc
 edit_never (edit.OpeningNew y new separator) x e = cc
 edit_never (edit.Opening y what) x e = cc
 
-growth_alone : (level key : ℕ) (got : ℕ → Page) (g : Growth) (x : ℕ) → growth_next g ≡ act.Latch x → (know_growth level key got g).holds ≡ []
-growth_alone level key got growth.Latching x e = refl
-growth_alone level key got old x e = absurd (cc e)
+growth_alone : (keeps : Keeps) → (level key : ℕ) (got : ℕ → Page) (g : Growth) (x : ℕ) → growth_next g ≡ act.Latch x → (know_growth keeps level key got g).holds ≡ []
+growth_alone keeps level key got growth.Latching x e = refl
+growth_alone keeps level key got old x e = absurd (cc e)
 
-write_alone : (key : ℕ) (does : KeyWrite) (got : ℕ → Page) (a : WriteStage) (x : ℕ) → write_next_in a ≡ act.Latch x → (know_write key does got a).holds ≡ []
-write_alone key does got write.New x e = refl
-write_alone key does got (write.Coming a) x e = approach_alone 0 key a x e
-write_alone key does got (write.Keeping y there) x e = absurd (cc e)
-write_alone key does got (write.Editing noted c) x e = absurd (edit_never c x e)
-write_alone key does got (write.Ending r) x e = refl
-write_alone key does got (write.Over r) x e = refl
+write_alone : (goes : List Goes) → (key : ℕ) (does : KeyWrite) (got : ℕ → Page) (a : WriteStage) (x : ℕ) → write_next_in a ≡ act.Latch x → (know_write goes key does got a).holds ≡ []
+write_alone goes key does got write.New x e = refl
+write_alone goes key does got (write.Coming a) x e = approach_alone (unsaid goes) 0 key a x e
+write_alone goes key does got (write.Keeping y there) x e = absurd (cc e)
+write_alone goes key does got (write.Editing noted c) x e = absurd (edit_never c x e)
+write_alone goes key does got (write.Ending r) x e = refl
+write_alone goes key does got (write.Over r) x e = refl
 
-post_alone : (level key : ℕ) (got : ℕ → Page) (child : ℕ) (a : PostStage) (x : ℕ) → post_next_in a ≡ act.Latch x → (know_post level key got child a).holds ≡ []
-post_alone level key got child post.New x e = refl
-post_alone level key got child (post.Coming a) x e = approach_alone level key a x e
-post_alone level key got child (post.Growing g) x e = growth_alone level key got g x e
-post_alone level key got child (post.Walking w) x e = absurd (cc e)
-post_alone level key got child (post.Editing c) x e = absurd (edit_never c x e)
-post_alone level key got child (post.Staying y r) x e = absurd (cc e)
-post_alone level key got child (post.Ending r) x e = refl
-post_alone level key got child (post.Over r) x e = refl
+post_alone : (keeps : Keeps) → (level key : ℕ) (got : ℕ → Page) (child : ℕ) (a : PostStage) (x : ℕ) → post_next_in a ≡ act.Latch x → (know_post keeps level key got child a).holds ≡ []
+post_alone keeps level key got child post.New x e = refl
+post_alone keeps level key got child (post.Coming a) x e = approach_alone keeps level key a x e
+post_alone keeps level key got child (post.Growing g) x e = growth_alone keeps level key got g x e
+post_alone keeps level key got child (post.Walking w) x e = absurd (cc e)
+post_alone keeps level key got child (post.Editing c) x e = absurd (edit_never c x e)
+post_alone keeps level key got child (post.Staying y r) x e = absurd (cc e)
+post_alone keeps level key got child (post.Ending r) x e = refl
+post_alone keeps level key got child (post.Over r) x e = refl
+
+climb_alone : (key value : ℕ) (path : Path) (got : ℕ → Page) (child : ℕ) (a : ClimbStage) (x : ℕ) → climb_next_in a ≡ act.Latch x → (know_climb key value path got child a).holds ≡ []
+climb_alone key value path got child (climb.Writing v) x e = write_alone (path_goes path) key (Insert value) got v.stage x e
+climb_alone key value path got child (climb.Posting q) x e = post_alone (inserted key value path) q.level q.key got child q.stage x e
+climb_alone key value path got child (climb.Ending r) x e = refl
+climb_alone key value path got child (climb.Over r) x e = refl
 
 put_never : (sd : Side) (p : Puts) (x : ℕ) → put_of sd p ≢ act.Latch x
 put_never side.Left p x e = cc
@@ -181,7 +192,7 @@ squeeze_few level key got (PuttingLast p) x marks e log h = absurd (put_never (o
 squeeze_few level key got old x marks e log h = absurd (cc e)
 
 compress_few : (level key : ℕ) (got : ℕ → Page) (a : CompressStage) (x : ℕ) (marks : Trail) → compress_next_in a ≡ act.Latch x → compress_log level key a marks → ((y : ℕ) → Keeps marks y → HoldsPage (know_compress level key got a).holds y) → HoldsFew level key marks
-compress_few level key got (compress.Coming a) x marks e log h = inl (λ y keeps. subst (λ hs. HoldsPage hs y) (approach_alone level key a x e) (h y keeps))
+compress_few level key got (compress.Coming a) x marks e log h = inl (λ y keeps. subst (λ hs. HoldsPage hs y) (approach_alone alone level key a x e) (h y keeps))
 compress_few level key got (compress.Compressing c) x marks e log h = squeeze_few level key got c x marks e log h
 compress_few level key got old x marks e log h = absurd (cc e)
 
@@ -222,13 +233,14 @@ module _ (w : World Run) (p : Name) (g : IsGood know w) (owned : AllOwned w) whe
   state_turn : (m : Mark) (got : ℕ → Page) (child time : ℕ) (old new : Proc) (what : Seen) → know (w.proc p) ≡ know_of got child time old → proc_log old (marks_of p w.trail) → Takes old what new → m.event.act ≡ event_of (end_of_proc old) (next_of old) what → IsTidy old (marks_of p w.trail) → IsTidy new (marks_of p w.trail ++ m ∷ [])
   state_turn m got child time (proc.Find a) (proc.Find c) what is log t e h = none_on (marks_of p w.trail) m h (λ x f. find_looks a.stage x (latch_next _ _ what x (sym e ∙ f)))
   state_turn m got child time (proc.Part a) (proc.Part c) what is log t e h = none_on (marks_of p w.trail) m h (λ x f. part_looks a.stage x (latch_next _ _ what x (sym e ∙ f)))
-  state_turn m got child time (proc.Write a) (proc.Write c) what is log t e h = alone_turn m h (λ x f. ap (λ k. k.holds) is ∙ write_alone a.key a.write got a.stage x (latch_next _ _ what x (sym e ∙ f)))
-  state_turn m got child time (proc.Post a) (proc.Post c) what is log t e h = alone_turn m h (λ x f. ap (λ k. k.holds) is ∙ post_alone a.level a.key got child a.stage x (latch_next _ _ what x (sym e ∙ f)))
+  state_turn m got child time (proc.Write a) (proc.Write c) what is log t e h = alone_turn m h (λ x f. ap (λ k. k.holds) is ∙ write_alone [] a.key a.write got a.stage x (latch_next _ _ what x (sym e ∙ f)))
+  state_turn m got child time (proc.Post a) (proc.Post c) what is log t e h = alone_turn m h (λ x f. ap (λ k. k.holds) is ∙ post_alone alone a.level a.key got child a.stage x (latch_next _ _ what x (sym e ∙ f)))
   state_turn m got child time (proc.Compress a) (proc.Compress c) what is log t e h =
       let old : LatchesBeside a.level a.key (marks_of p w.trail ++ m ∷ []) = beside_on (marks_of p w.trail) m a.level a.key h (λ x f. compress_few a.level a.key got a.stage x (marks_of p w.trail) (latch_next _ _ what x (sym e ∙ f)) log (holds_kept (know_compress a.level a.key got a.stage) is)) in
       subst (λ (z : ℕ × ℕ). LatchesBeside z.0 z.1 (marks_of p w.trail ++ m ∷ [])) (λ i. (sym t.0 i, sym t.1 i)) old
   state_turn m got child time (proc.Reclaim a) (proc.Reclaim c) what is log t e h = tt
   state_turn m got child time (proc.Lower a) (proc.Lower c) what is log t e h = below_on (marks_of p w.trail) m h (λ x y f keeps. lower_below got a.stage x y (latch_next _ _ what x (sym e ∙ f)) (holds_kept (know_lower got a.stage) is y keeps))
+  state_turn m got child time (proc.InsertPost a) (proc.InsertPost c) what is log t e h = alone_turn m h (λ x f. ap (λ k. k.holds) is ∙ climb_alone a.key a.value a.path got child a.stage x (latch_next _ _ what x (sym e ∙ f)))
   state_turn m got child time old new what is log t e h = absurd t
 
   -- an act by which nothing is latched leaves any process as it may be
@@ -240,6 +252,7 @@ module _ (w : World Run) (p : Name) (g : IsGood know w) (owned : AllOwned w) whe
   still_turn m (proc.Compress a) none h = beside_on (marks_of p w.trail) m a.level a.key h (λ x f. absurd (none x f))
   still_turn m (proc.Reclaim a) none h = tt
   still_turn m (proc.Lower a) none h = below_on (marks_of p w.trail) m h (λ x y f. absurd (none x f))
+  still_turn m (proc.InsertPost a) none h = alone_turn m h (λ x f. absurd (none x f))
 
 -- what the others have done stays
 tidy_on : (w w' : World Run) (m : Mark) (b : Run) → Extends w w' m b → ((p : Name) → p ≡ m.event.process → IsTidy b.state (marks_of p w.trail ++ m ∷ [])) → AllTidy w → AllTidy w'
@@ -296,6 +309,7 @@ nothing_done (proc.Post a) marks e = λ i m x y is does keeps. none_at i m (sym 
 nothing_done (proc.Compress a) marks e = λ i m x is does. none_at i m (sym (ap (λ (t : Trail). slice_get t i) e) ∙ is)
 nothing_done (proc.Reclaim a) marks e = tt
 nothing_done (proc.Lower a) marks e = λ i m x y is does keeps. none_at i m (sym (ap (λ (t : Trail). slice_get t i) e) ∙ is)
+nothing_done (proc.InsertPost a) marks e = λ i m x y is does keeps. none_at i m (sym (ap (λ (t : Trail). slice_get t i) e) ∙ is)
 
 -- enters a world
 pub tidy_enter : (w : World Run) (p : Name) (b : Run) → marks_of p w.trail ≡ [] → AllTidy w → AllTidy (with_proc w p b)

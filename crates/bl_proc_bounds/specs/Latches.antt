@@ -19,6 +19,7 @@ IsTidy (proc.Part p) marks = LatchesNone marks
 IsTidy (proc.Compress p) marks = LatchesBeside p.level p.key marks
 IsTidy (proc.Reclaim p) marks = Unit {0}
 IsTidy (proc.Lower p) marks = LatchesBelowAnchor marks
+IsTidy (proc.InsertPost p) marks = LatchesAlone marks
 
 -- what is kept by the marks is owned
 abbrev pub AllOwned : {P : Type 0} → World P → Type 0

@@ -73,6 +73,7 @@ place_of (proc.Part p) = part_place p.stage
 place_of (proc.Compress p) = Nowhere
 place_of (proc.Reclaim p) = Nowhere
 place_of (proc.Lower p) = Nowhere
+place_of (proc.InsertPost p) = Nowhere
 
 -- the key that it seeks
 abbrev pub sought : Proc → ℕ
@@ -83,6 +84,7 @@ sought (proc.Part p) = p.from
 sought (proc.Compress p) = 0
 sought (proc.Reclaim p) = 0
 sought (proc.Lower p) = 0
+sought (proc.InsertPost p) = 0
 
 -- The bound of a search that has begun. While it looks at a page first, it has got none, and may go by the anchor.
 abbrev pub IsKept : ℕ → (ℕ → Page) → Trail → Name → ℕ → Place → Type 0

@@ -13,6 +13,7 @@ IsSearch (proc.Part p) = Unit {0}
 IsSearch (proc.Compress p) = ⊥
 IsSearch (proc.Reclaim p) = ⊥
 IsSearch (proc.Lower p) = ⊥
+IsSearch (proc.InsertPost p) = ⊥
 
 abbrev pub IsGoing : Place → Type 0
 IsGoing Nowhere = ⊥

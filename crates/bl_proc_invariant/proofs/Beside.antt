@@ -37,7 +37,7 @@ same_hint : (p q : Reply) (h i : Option Hint) → answer.Op p h ≡ answer.Op q 
 same_hint p q h i e = cc
 
 -- what was done with the leaf, and what is answered for it
-effect_means : (does : KeyWrite) (there : Option ℕ) (h : Option Hint) (marks : Trail) → effect_log (effect_of does there) h marks → MeansWritten (replied does there) h marks
+pub effect_means : (does : KeyWrite) (there : Option ℕ) (h : Option Hint) (marks : Trail) → effect_log (effect_of does there) h marks → MeansWritten (replied does there) h marks
 effect_means does there h marks = subst (λ d. WroteFor d h marks) (sym (is_decided does there).told)
 
 write_beside : (does : KeyWrite) (r : WriteReply) (reply : Reply) (h : Option Hint) (marks : Trail) → write_answer does r ≡ answer.Op reply h → written_log does r marks → MeansWritten reply h marks
@@ -66,3 +66,4 @@ beside_means (proc.Part p) reply h marks e log = part_beside p.stage reply h mar
 beside_means (proc.Compress p) reply h marks e log = tt
 beside_means (proc.Reclaim p) reply h marks e log = tt
 beside_means (proc.Lower p) reply h marks e log = tt
+beside_means (proc.InsertPost p) reply h marks e log = tt

@@ -15,7 +15,7 @@ use Rattle.bl_proc_base.specs.declared.descent.Descended.TheVariants.{On, Here}
 use Rattle.bl_proc_base.specs.Onwards.{Leads}
 use Rattle.bl_proc_base.specs.Descents.{descent_page, Descends}
 use Rattle.bl_proc_invariant.specs.Turns.{Does, Turned}
-use Rattle.bl_proc_invariant.specs.Tables.{goes_to, descent_goes, know_descent}
+use Rattle.bl_proc_invariant.specs.Tables.{alone, goes_to, descent_goes, know_descent}
 use Rattle.bl_proc_invariant.specs.Knowing.{ending}
 use Rattle.bl_proc_invariant.proofs.Acts.{watched}
 use Rattle.bl_proc_invariant.proofs.Approaching.{got_goes, to_right, wider}
@@ -62,7 +62,7 @@ module _ {P : Type 0} (know : P → Know) (w : World P) (g : IsGood know w) (p :
     pub descent_turn : (e : Descent) → know b ≡ know_descent key e → Descends key d c (On e) → Turned know w p (Get (descent_page d)) s b
     descent_turn e then t =
         let is : IsSure w p (know_descent key d) = rw before at (g.sure p) in
-        got_goes know w g p b 0 key _ (descent_page d) s (descent_goes e) before refl refl then is.stage is.said (descent_there key d is) does is.sound (goes_on key d e c is t observed)
+        got_goes know w g p b alone 0 key _ (descent_page d) s (descent_goes e) before refl refl then is.stage is.said (descent_there key d is) does is.sound (goes_on key d e c is t observed)
 
     -- at the get of its leaf it says what is true of the map
     pub leaf_turn : (said : Option Said) → know b ≡ ending said → Descends key d c Here → (MayGet w p (descent_page d) → Leads (w.now.contents (descent_page d)) key 0 onward.Here → MapsTo (w.map 0) (w.map 0) said) → Turned know w p (Get (descent_page d)) s b

@@ -1,5 +1,5 @@
 -- A process changes one pair of a page that it holds: each of its turns keeps a world good.
-use Rattle.std.proofs.Common.{ℕ, ◌≡◌, ◌≢◌, ◌<◌, ◌++◌, false, Option, Some, None, List, [], ◌∷◌, length, arith, ap, sym, ◌∙◌, refl, subst, inl, inr}
+use Rattle.std.proofs.Common.{ℕ, ◌≡◌, ◌≢◌, ◌<◌, ◌≤◌, ◌++◌, true, false, Option, Some, None, List, [], ◌∷◌, length, arith, ap, sym, ◌∙◌, refl, subst, inl, inr}
 use Rattle.std.proofs.lemmas.Bool.{cases_eq, false≢true}
 use Rattle.bl_page.specs.declared.page.Page.{Page}
 use Rattle.bl_page.specs.declared.machine.Missed.{Missed}
@@ -8,7 +8,7 @@ use Rattle.bl_page.specs.Machine.Owner.{Released}
 use Rattle.bl_page.specs.Machine.Act.{Put, Take, Miss}
 use Rattle.bl_rearrange.specs.declared.fitted.Fitted.TheVariants.{Split}
 use Rattle.bl_rearrange.specs.Rearranged.{IsFitted}
-use Rattle.bl_claims.specs.Nodes.{Look}
+use Rattle.bl_claims.specs.Nodes.{Look, unbounded}
 use Rattle.bl_core_tree.specs.Trees.{Status, is_live, IsLive}
 use Rattle.bl_core_tree.specs.Trees.Status.{Free, Fresh, Live}
 use Rattle.bl_core_tree.specs.Moves.{IsMapRow, IsRow, IsCut}
@@ -31,8 +31,10 @@ use Rattle.bl_proc_base.specs.declared.editing.Full.{Full}
 use Rattle.bl_proc_base.specs.declared.editing.Splitting.{Splitting}
 use Rattle.bl_proc_base.specs.declared.editing.Edit.{Edit}
 use Rattle.bl_proc_base.specs.declared.editing.Edit.TheVariants.{Putting, Taking, PuttingNew, PuttingOld, OpeningNew, Opening}
-use Rattle.bl_proc_invariant.specs.Tables.{idle, holds_known, Aim, IsAim, IsDue, know_edit}
+use Rattle.bl_proc_invariant.specs.Tables.{keeping, holds_known, Aim, IsAim, IsDue, IsBelow, know_edit}
 use Rattle.bl_proc_invariant.proofs.Acts.{of_held, not_gone, watched, opened, taken}
+use Rattle.bl_proc_invariant.proofs.Holdings.{cut_low}
+use Rattle.bl_proc_invariant.proofs.Going.{goes_still, put_steady, take_steady, was_put, was_fresh}
 use Rattle.bl_proc_unique.proofs.WayCases.{EditCase}
 
 -- one row of one level
@@ -56,6 +58,22 @@ says w m none = by_said m.said refl
     by_said : (said : Option Said) → m.said ≡ said → HasSaid (w.trail ++ m ∷ []) m.event.process said
     by_said None e = HasSaid-silent w.trail m m.event.process None e none
     by_said (Some it) e = (length w.trail, SaysAt-last w.trail m e)
+
+-- who says something by a change has said nothing before
+pub said_none : {P : Type 0} (w : World P) (p : Name) (aim : Aim) (o : Outcome) (it : Said) → IsAim aim → aim.says o ≡ Some it → HasSaid w.trail p aim.keeps.said → HasSaid w.trail p None
+said_none w p aim o it fine e h = elim (fine.once o) [
+  | inl n ↦ absurd (let c : None ≡ Some it = sym n.0 ∙ e in cc)
+  | inr n ↦ subst (HasSaid w.trail p) n.0 h
+]
+
+-- what it has said after it
+pub said_after : {P : Type 0} (w : World P) (m : Mark) (aim : Aim) (o : Outcome) → IsAim aim → m.said ≡ aim.says o → HasSaid w.trail m.event.process aim.keeps.said → HasSaid (w.trail ++ m ∷ []) m.event.process (aim.said o)
+said_after w m aim o fine e h =
+    let Has = HasSaid (w.trail ++ m ∷ []) m.event.process in
+    elim (fine.once o) [
+      | inl n ↦ subst Has (sym n.1) (HasSaid-silent w.trail m m.event.process aim.keeps.said (e ∙ n.0) h)
+      | inr n ↦ subst Has (sym n.1) (subst Has e (says w m (subst (HasSaid w.trail m.event.process) n.0 h)))
+    ]
 
 -- what a page that is not in the tree has to do with pages that are
 pub record Aside {P : Type 0} (w w' : World P) (y : ℕ) : Type 0 where
@@ -90,7 +108,7 @@ aside_relied w w' p y c a is =
     }
 
 -- what a page that lists a pair more or less says to the map
-pub row_maps : {P : Type 0} (know : P → Know) (w : World P) (aim : Aim) (o : Outcome) (x : ℕ) → IsGood know w → IsAim aim → o ≢ outcome.Refused → w.status x ≡ Live → IsDue aim (w.now.contents x) → MapsTo (w.map 0) (row_at aim.level aim.key aim.word w.map 0) (aim.said o)
+pub row_maps : {P : Type 0} (know : P → Know) (w : World P) (aim : Aim) (o : Outcome) (x : ℕ) → IsGood know w → IsAim aim → o ≢ outcome.Refused → w.status x ≡ Live → IsDue aim (w.now.contents x) → MapsTo (w.map 0) (row_at aim.level aim.key aim.word w.map 0) (aim.says o)
 row_maps know w aim o x g fine n live due =
     let row = is_row_at aim.level aim.key aim.word w.map in
     let before : w.map aim.level aim.key ≡ aim.was =
@@ -116,7 +134,7 @@ row_bounded know w aim x g live due k v h =
       ]
     ]
 
-pub refused_maps : {P : Type 0} (know : P → Know) (w : World P) (aim : Aim) (x : ℕ) → IsGood know w → IsAim aim → w.status x ≡ Live → IsDue aim (w.now.contents x) → MapsTo (w.map 0) (w.map 0) (aim.said outcome.Refused)
+pub refused_maps : {P : Type 0} (know : P → Know) (w : World P) (aim : Aim) (x : ℕ) → IsGood know w → IsAim aim → w.status x ≡ Live → IsDue aim (w.now.contents x) → MapsTo (w.map 0) (w.map 0) (aim.says outcome.Refused)
 refused_maps know w aim x g fine live due =
     let before : w.map aim.level aim.key ≡ aim.was =
     (let e = g.tree.agree x aim.key (rw live live_live) due.covers in let l = due.level in sym (rw l at e) ∙ due.was) in
@@ -127,7 +145,7 @@ module _ {P : Type 0} (know : P → Know) (w : World P) (g : IsGood know w) (p :
   pub row_turn : (x : ℕ) (page : Page) (s : State Page) → know (w.proc p) ≡ know_edit aim got (Putting x page) → know b ≡ know_edit aim got (Opening x outcome.Edited) → Does w.now p (Put x page) s → Turned know w p (Put x page) s b
   row_turn x page s before then does =
       let is : IsSure w p (know_edit aim got (Putting x page)) = rw before at (g.sure p) in
-      let m : Mark = put_mark p x page (aim.said outcome.Edited) in
+      let m : Mark = put_mark p x page (aim.says outcome.Edited) in
       let next : World P = after w s m b w.status w.sep (row_at aim.level aim.key aim.word w.map) in
       let held = is.holds.0 in
       let extends = Extends-after w s m b w.status w.sep (row_at aim.level aim.key aim.word w.map) (record { enabled = held.owner; changes = does.changes; on = does.on }) tt in
@@ -137,25 +155,25 @@ module _ {P : Type 0} (know : P → Know) (w : World P) (g : IsGood know w) (p :
       record {
         next = next;
         saw = None;
-        said = aim.said outcome.Edited;
+        said = aim.says outcome.Edited;
         extends = extends;
         now = refl;
-        good = PutsRow-keeps know w next p x aim.key aim.word page (aim.said outcome.Edited) b (record {
+        good = PutsRow-keeps know w next p x aim.key aim.word page (aim.says outcome.Edited) b (record {
           owes = record {
             extends = extends;
             no_dead = not_gone know w g p b _ _ before then (λ e. cc, tt);
             places = λ y h. rw then (rw before at h);
-            point = λ it e. (is.stage, is.said);
+            point = λ it e. (is.stage, said_none w p aim outcome.Edited it fine e is.said);
             maps = row_maps know w aim outcome.Edited x g fine (λ e. cc) held.status due;
             bounded = row_bounded know w aim x g held.status due;
             own = rw then (record {
               stage = rw (does.changes.2 p) is.stage;
-              said = says w m is.said;
+              said = said_after w m aim outcome.Edited fine refl is.said;
               holds = (record { owner = does.changes.1 x ∙ held.owner; status = held.status; sep = tt; page = tt }, tt);
-              goes = tt;
+              goes = goes_still w next p aim.keeps.goes (put_steady w next p x page does (λ y h. h) (λ h. ap (λ n. n.level) row.shape)) is.goes;
               children = tt;
               passed = tt;
-              sound = tt;
+              sound = (due.changes, tt);
             });
           };
           live = held.status;
@@ -170,22 +188,22 @@ module _ {P : Type 0} (know : P → Know) (w : World P) (g : IsGood know w) (p :
       }
 
   -- there is no room, and the page stays as it is
-  pub refuse_turn : {what : Missed} (x : ℕ) (c : Page) (kids : List Child) (S : Type 0) (s : State Page) → know (w.proc p) ≡ record (idle Stage.Busy) { holds = holds_known x c ∷ []; children = kids; sound = S } → know b ≡ know_edit aim got (Opening x outcome.Refused) → IsDue aim c → Does w.now p (Miss what) s → Turned know w p (Miss what) s b
+  pub refuse_turn : {what : Missed} (x : ℕ) (c : Page) (kids : List Child) (S : Type 0) (s : State Page) → know (w.proc p) ≡ record (keeping aim.keeps) { holds = holds_known x c ∷ []; children = kids; sound = S } → know b ≡ know_edit aim got (Opening x outcome.Refused) → IsDue aim c → Does w.now p (Miss what) s → Turned know w p (Miss what) s b
   refuse_turn {what} x c kids S s before then due does =
-      let is : IsSure w p (record (idle Stage.Busy) { holds = holds_known x c ∷ []; children = kids; sound = S }) = rw before at (g.sure p) in
+      let is : IsSure w p (record (keeping aim.keeps) { holds = holds_known x c ∷ []; children = kids; sound = S }) = rw before at (g.sure p) in
       let held = is.holds.0 in
-      let m : Mark = record { event = record { process = p; act = Miss what }; saw = None; said = aim.said outcome.Refused } in
+      let m : Mark = record { event = record { process = p; act = Miss what }; saw = None; said = aim.says outcome.Refused } in
       let here : IsDue aim (w.now.contents x) = rw (← held.page) at due in
-      watched know w g p b _ _ before then (Miss what) None (aim.said outcome.Refused) s tt tt does tt refl (λ y h. h) (λ it e. (is.stage, is.said))
+      watched know w g p b _ _ before then (Miss what) None (aim.says outcome.Refused) s tt tt does tt refl (λ y h. h) (λ it e. (is.stage, said_none w p aim outcome.Refused it fine e is.said))
       (refused_maps know w aim x g fine held.status here)
       (record {
         stage = is.stage;
-        said = says w m is.said;
+        said = said_after w m aim outcome.Refused fine refl is.said;
         holds = ((does.changes.1 x ∙ held.owner, held.status, tt, tt), tt);
-        goes = tt;
+        goes = is.goes;
         children = tt;
         passed = tt;
-        sound = tt;
+        sound = (due.changes, tt);
       })
 
   -- a page is taken for the upper part
@@ -206,20 +224,23 @@ module _ {P : Type 0} (know : P → Know) (w : World P) (g : IsGood know w) (p :
       let cut : IsCut y full.key (Some full.word) (node_of full.page) (node_of t.left) (node_of t.right) =
       split_cut full.page t.left t.right full.key full.word y t.separator fitted (rw key due.covers) in
       let cut_here : IsCut y aim.key aim.word (node_of (got full.at)) (node_of t.left) (node_of t.right) = rw known (rw (key, word) at cut) in
+      let low : (node_of t.right).shape.low ≡ t.separator = cut_low full.page t.left t.right full.key full.word y t.separator fitted in
+      let end : (node_of full.page).shape.end ≤ unbounded = subst (λ v. (node_of v).shape.end ≤ unbounded) held.page (g.tree.side.within full.at (rw held.status live_live)) in
+      let below : t.separator < unbounded = (let c = cut.below in omega (arith, low, end)) in
       let still : IsHeld next p (holds_known full.at full.page) = aside_held w next p y (holds_known full.at full.page) aside n held in
       taken know w g p b _ _ before then y s free within does refl
       (inr (inl new)) (λ z h. elim h [ inl e ↦ inl (at ∙ e) | inr e ↦ absurd e ])
       (record {
         stage = rw (does.changes.2 p) is.stage;
-        said = HasSaid-silent w.trail m p None refl is.said;
+        said = HasSaid-silent w.trail m p aim.keeps.said refl is.said;
         holds = (
           record { owner = ap s.owner at ∙ still.owner; status = ap next.status at ∙ still.status; sep = tt; page = ap s.contents at ∙ (still.page ∙ (sym known ∙ ap got (sym at))) },
           (record { owner = ap s.owner new ∙ does.changes.1.at; status = ap next.status new ∙ status.at; sep = tt; page = tt }, tt),
         );
-        goes = tt;
+        goes = goes_still w next p aim.keeps.goes (take_steady w next p y does free was status) is.goes;
         children = rw at (Each-map (IsRelied w p) (IsRelied next p) (aim.children full.at) (λ c r. aside_relied w next p y c aside r) is.children);
         passed = tt;
-        sound = (rw (at, known) due, rw (at, new) cut_here);
+        sound = (rw (at, known) due, rw (at, new) cut_here, below);
       })
 
   -- the upper part is put first, in the page that nobody names yet
@@ -251,12 +272,12 @@ module _ {P : Type 0} (know : P → Know) (w : World P) (g : IsGood know w) (p :
             bounded = g.bounded;
             own = rw then (record {
               stage = rw (does.changes.2 p) is.stage;
-              said = HasSaid-silent w.trail m p None refl is.said;
+              said = HasSaid-silent w.trail m p aim.keeps.said refl is.said;
               holds = (
                 aside_held w next p t.new (holds_known t.at (got t.at)) aside n held,
                 (record { owner = does.changes.1 t.new ∙ fresh.owner; status = fresh.status; sep = sep.at; page = does.changes.0.at }, tt),
               );
-              goes = tt;
+              goes = goes_still w next p aim.keeps.goes (put_steady w next p t.new t.right does (λ y h. h) (λ h. was_fresh (w.status t.new) fresh.status h)) is.goes;
               children = Each-map (IsRelied w p) (IsRelied next p) (aim.children t.at) (λ c r. aside_relied w next p t.new c aside r) is.children;
               passed = tt;
               sound = is.sound;
@@ -275,7 +296,7 @@ module _ {P : Type 0} (know : P → Know) (w : World P) (g : IsGood know w) (p :
   pub split_turn : (t : Splitting) (s : State Page) → know (w.proc p) ≡ know_edit aim got (PuttingOld t) → know b ≡ know_edit aim got (OpeningNew t.at t.new t.separator) → Does w.now p (Put t.at t.left) s → Turned know w p (Put t.at t.left) s b
   split_turn t s before then does =
       let is : IsSure w p (know_edit aim got (PuttingOld t)) = rw before at (g.sure p) in
-      let said = aim.said (outcome.SplitAt t.separator) in
+      let said = aim.says (outcome.SplitAt t.separator) in
       let m : Mark = put_mark p t.at t.left said in
       let map = row_at aim.level aim.key aim.word w.map in
       let next : World P = after w s m b (put_at t.new Live w.status) w.sep map in
@@ -299,20 +320,20 @@ module _ {P : Type 0} (know : P → Know) (w : World P) (g : IsGood know w) (p :
             extends = extends;
             no_dead = not_gone know w g p b _ _ before then (λ e. cc, (λ e. cc, tt));
             places = λ y h. rw then (rw before at h);
-            point = λ it e. (is.stage, is.said);
+            point = λ it e. (is.stage, said_none w p aim (outcome.SplitAt t.separator) it fine e is.said);
             maps = row_maps know w aim (outcome.SplitAt t.separator) t.at g fine (λ e. cc) held.status due;
             bounded = row_bounded know w aim t.at g held.status due;
             own = rw then (record {
               stage = rw (does.changes.2 p) is.stage;
-              said = says w m is.said;
+              said = said_after w m aim (outcome.SplitAt t.separator) fine refl is.said;
               holds = (
                 record { owner = does.changes.1 t.at ∙ held.owner; status = status.others t.at n ∙ held.status; sep = tt; page = tt },
                 (record { owner = does.changes.1 t.new ∙ fresh.owner; status = status.at; sep = tt; page = tt }, tt),
               );
-              goes = tt;
+              goes = goes_still w next p aim.keeps.goes (put_steady w next p t.at t.left does (was_put t.new w.status next.status status) (λ h. cut.level)) is.goes;
               children = tt;
               passed = tt;
-              sound = n;
+              sound = (n, due.changes, is.sound.2);
             });
           };
           live = held.status;
@@ -338,16 +359,16 @@ module _ {P : Type 0} (know : P → Know) (w : World P) (g : IsGood know w) (p :
       (record {
         stage = is.stage;
         said = HasSaid-silent w.trail (silent p (Act.Open y)) p (aim.said (outcome.SplitAt separator)) refl is.said;
-        holds = ((does.changes.1.others x is.sound ∙ is.holds.0.owner, is.holds.0.status, tt, tt), tt);
-        goes = tt;
+        holds = ((does.changes.1.others x is.sound.0 ∙ is.holds.0.owner, is.holds.0.status, tt, tt), tt);
+        goes = is.goes;
         children = tt;
         passed = tt;
-        sound = tt;
+        sound = (is.sound.1, is.sound.2);
       })
 
   -- the old page is opened, and the change is over
-  pub over_turn : (x : ℕ) (o : Outcome) (S : Type 0) (s : State Page) → know (w.proc p) ≡ know_edit aim got (Opening x o) → know b ≡ record (idle Stage.Busy) { said = aim.said o; sound = S } → S → Does w.now p (Act.Open x) s → Turned know w p (Act.Open x) s b
-  over_turn x o S s before then sound does =
+  pub over_turn : (x : ℕ) (o : Outcome) (S : Type 0) (s : State Page) → know (w.proc p) ≡ know_edit aim got (Opening x o) → know b ≡ record (keeping aim.keeps) { said = aim.said o; sound = S } → ((aim.changes ≡ true) × IsBelow o → S) → Does w.now p (Act.Open x) s → Turned know w p (Act.Open x) s b
+  over_turn x o S s before then on does =
       let is : IsSure w p (know_edit aim got (Opening x o)) = rw before at (g.sure p) in
       opened know w g p b _ _ before then x s is.holds.0.owner does (inl is.holds.0.status) refl refl ((λ e. cc, λ e. cc), tt)
       (λ z i h. elim h [ inl e ↦ absurd (i (sym e)) | inr u ↦ absurd u ])
@@ -355,10 +376,10 @@ module _ {P : Type 0} (know : P → Know) (w : World P) (g : IsGood know w) (p :
         stage = is.stage;
         said = HasSaid-silent w.trail (silent p (Act.Open x)) p (aim.said o) refl is.said;
         holds = tt;
-        goes = tt;
+        goes = is.goes;
         children = tt;
         passed = tt;
-        sound = sound;
+        sound = on is.sound;
       })
 
   -- every turn of a change that does not end it
@@ -376,6 +397,6 @@ module _ {P : Type 0} (know : P → Know) (w : World P) (g : IsGood know w) (p :
   edit_turn (EditCase.OpenedNew x y separator d t) s before then observed does = open_new_turn x y separator s before (subst (λ e. know b ≡ know_edit aim got e) t then) does
 
   -- every turn that ends a change
-  pub finish_turn : {c : Edit} {o : Outcome} {what : Seen} → EditCase c what (Over o) → (S : Type 0) (s : State Page) → know (w.proc p) ≡ know_edit aim got c → know b ≡ record (idle Stage.Busy) { said = aim.said o; sound = S } → S → Does w.now p (event_of None (edit_next c) what) s → Turned know w p (event_of None (edit_next c) what) s b
-  finish_turn (EditCase.Opened x u o t) S s before then sound does =
-      over_turn x u S s before (subst (λ z. know b ≡ record (idle Stage.Busy) { said = aim.said z; sound = S }) t then) sound does
+  pub finish_turn : {c : Edit} {o : Outcome} {what : Seen} → EditCase c what (Over o) → (S : Type 0) (s : State Page) → know (w.proc p) ≡ know_edit aim got c → know b ≡ record (keeping aim.keeps) { said = aim.said o; sound = S } → ((aim.changes ≡ true) × IsBelow o → S) → Does w.now p (event_of None (edit_next c) what) s → Turned know w p (event_of None (edit_next c) what) s b
+  finish_turn (EditCase.Opened x u o t) S s before then on does =
+      over_turn x u S s before (subst (λ z. know b ≡ record (keeping aim.keeps) { said = aim.said z; sound = S }) t then) (λ h. on (h.0, subst IsBelow (sym t) h.1)) does

@@ -9,7 +9,7 @@ use Rattle.bl_page.specs.Machine.Owner.{Held}
 use Rattle.bl_core_tree.specs.Trees.Status.{Live}
 use Rattle.bl_claims.specs.Trails.{HasSaid}
 use Rattle.bl_core.proofs.Pushes.{HasSaid-silent}
-use Rattle.bl_core.specs.Worlds.{Stage, World, IsStage, IsRelied, HoldsPage}
+use Rattle.bl_core.specs.Worlds.{Stage, World, IsStage, IsGoes, IsRelied, HoldsPage}
 use Rattle.bl_claims.specs.Walks.{Each}
 use Rattle.bl_core.proofs.Watches.{Learns}
 use Rattle.bl_core.proofs.Fitted.{fits_row, without_row, value_row}
@@ -22,7 +22,8 @@ use Rattle.bl_proc_invariant.specs.Tables.{Aim, IsDue, know_edit}
 -- What it has of page x, which is c, when a change of it begins.
 pub record Begun {P : Type 0} (w w' : World P) (p : Name) (aim : Aim) (x : ℕ) (c : Page) : Type 0 where
   pub stage : IsStage Stage.Busy (w.now.phase p)
-  pub said : HasSaid w.trail p None
+  pub said : HasSaid w.trail p aim.keeps.said
+  pub goes : Each (IsGoes w p) aim.keeps.goes
   pub held : w'.now.owner x ≡ Held p
   pub live : w.status x ≡ Live
   pub is : w.now.contents x ≡ c
@@ -32,18 +33,18 @@ pub record Begun {P : Type 0} (w w' : World P) (p : Name) (aim : Aim) (x : ℕ) 
 pub enters_learns : {P : Type 0} (w w' : World P) (p : Name) (a : Act Page _) (saw : Option Page) (aim : Aim) (x word : ℕ) (c : Page) (edit : Edit) → Begun w w' p aim x c → aim.word ≡ Some word → EntersPair x c aim.key word edit → Learns w w' (record { event = record { process = p; act = a }; saw = saw; said = None }) (know_edit aim (λ z. c) edit)
 enters_learns w w' p a saw aim x word c (Putting y page) h is e = record {
   stage = h.stage;
-  said = HasSaid-silent w.trail (record { event = record { process = p; act = a }; saw = saw; said = None }) p None refl h.said;
+  said = HasSaid-silent w.trail (record { event = record { process = p; act = a }; saw = saw; said = None }) p aim.keeps.said refl h.said;
   holds = ((ap w'.now.owner e.0 ∙ h.held, ap w.status e.0 ∙ h.live, tt, ap w.now.contents e.0 ∙ h.is), tt);
-  goes = tt;
+  goes = h.goes;
   children = subst (λ z. Each (λ k. (w'.now.owner k.parent ≡ Held p) × IsRelied w p k) (aim.children z)) (sym e.0) h.children;
   passed = tt;
   sound = (h.due, rw is (fits_row c page aim.key word 0 e.1 h.due.covers));
 }
 enters_learns w w' p a saw aim x word c (Taking full) h is e = record {
   stage = h.stage;
-  said = HasSaid-silent w.trail (record { event = record { process = p; act = a }; saw = saw; said = None }) p None refl h.said;
+  said = HasSaid-silent w.trail (record { event = record { process = p; act = a }; saw = saw; said = None }) p aim.keeps.said refl h.said;
   holds = ((ap w'.now.owner e.0 ∙ h.held, ap w.status e.0 ∙ h.live, tt, ap w.now.contents e.0 ∙ (h.is ∙ sym e.3)), tt);
-  goes = tt;
+  goes = h.goes;
   children = subst (λ z. Each (λ k. (w'.now.owner k.parent ≡ Held p) × IsRelied w p k) (aim.children z)) (sym e.0) h.children;
   passed = tt;
   sound = (rw e.3 h.due, e.1, ap Some e.2 ∙ sym is, sym e.3);
@@ -56,9 +57,9 @@ enters_learns w w' p a saw aim x word c (Opening y o) h is e = absurd e
 pub drops_learns : {P : Type 0} (w w' : World P) (p : Name) (a : Act Page _) (saw : Option Page) (aim : Aim) (x : ℕ) (c : Page) (edit : Edit) → Begun w w' p aim x c → aim.word ≡ None → DropsPair x c aim.key edit → Learns w w' (record { event = record { process = p; act = a }; saw = saw; said = None }) (know_edit aim (λ z. c) edit)
 drops_learns w w' p a saw aim x c (Putting y page) h is e = record {
   stage = h.stage;
-  said = HasSaid-silent w.trail (record { event = record { process = p; act = a }; saw = saw; said = None }) p None refl h.said;
+  said = HasSaid-silent w.trail (record { event = record { process = p; act = a }; saw = saw; said = None }) p aim.keeps.said refl h.said;
   holds = ((ap w'.now.owner e.0 ∙ h.held, ap w.status e.0 ∙ h.live, tt, ap w.now.contents e.0 ∙ h.is), tt);
-  goes = tt;
+  goes = h.goes;
   children = subst (λ z. Each (λ k. (w'.now.owner k.parent ≡ Held p) × IsRelied w p k) (aim.children z)) (sym e.0) h.children;
   passed = tt;
   sound = (h.due, rw is (without_row c page aim.key e.1 h.due.covers));
@@ -72,9 +73,9 @@ drops_learns w w' p a saw aim x c (Opening y o) h is e = absurd e
 pub gives_learns : {P : Type 0} (w w' : World P) (p : Name) (a : Act Page _) (saw : Option Page) (aim : Aim) (x value : ℕ) (c : Page) (edit : Edit) → Begun w w' p aim x c → aim.word ≡ Some value → GivesValue x c aim.key value edit → Learns w w' (record { event = record { process = p; act = a }; saw = saw; said = None }) (know_edit aim (λ z. c) edit)
 gives_learns w w' p a saw aim x value c (Putting y page) h is e = record {
   stage = h.stage;
-  said = HasSaid-silent w.trail (record { event = record { process = p; act = a }; saw = saw; said = None }) p None refl h.said;
+  said = HasSaid-silent w.trail (record { event = record { process = p; act = a }; saw = saw; said = None }) p aim.keeps.said refl h.said;
   holds = ((ap w'.now.owner e.0 ∙ h.held, ap w.status e.0 ∙ h.live, tt, ap w.now.contents e.0 ∙ h.is), tt);
-  goes = tt;
+  goes = h.goes;
   children = subst (λ z. Each (λ k. (w'.now.owner k.parent ≡ Held p) × IsRelied w p k) (aim.children z)) (sym e.0) h.children;
   passed = tt;
   sound = (h.due, rw is (value_row c page aim.key value e.1 h.due.covers));

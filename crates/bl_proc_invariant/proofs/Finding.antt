@@ -1,5 +1,5 @@
 -- Every turn of a search keeps a world good.
-use Rattle.std.proofs.Common.{ℕ, ◌≡◌, Option, Some, None, sym, ◌∙◌, refl}
+use Rattle.std.proofs.Common.{ℕ, ◌≡◌, Option, Some, None, [], sym, ◌∙◌, refl}
 use Rattle.bl_page.specs.declared.page.Page.{Page}
 use Rattle.bl_page.specs.Machine.{Name, State}
 use Rattle.bl_core.specs.Worlds.{Know, World, nodes, MapsTo, IsGood}
@@ -11,6 +11,7 @@ use Rattle.bl_proc.specs.declared.searching.FindStage.TheVariants.{New, Descendi
 use Rattle.bl_proc_base.specs.Descents.{descent_page}
 use Rattle.bl_proc.specs.Searches.{find_next_in, FindGoes}
 use Rattle.bl_proc_invariant.specs.Turns.{event_of, IsObserved, Does, Turned}
+use Rattle.bl_proc_invariant.specs.Tables.{alone}
 use Rattle.bl_proc_invariant.specs.Knowing.{found, know_find, find_end}
 use Rattle.bl_proc_invariant.proofs.Descending.{descent_turn, leaf_turn}
 use Rattle.bl_proc_invariant.proofs.Ends.{begin_turn, end_turn}
@@ -21,12 +22,12 @@ module _ {P : Type 0} (know : P → Know) (w : World P) (g : IsGood know w) (p :
   answers None e = (sym e, λ k. refl)
 
   pub find_turn : (a a' : FindStage) (what : Seen) (s : State Page) → know (w.proc p) ≡ know_find key a → know b ≡ know_find key a' → FindGoes key a what a' → IsObserved w.now w.size (find_next_in a) what → Does w.now p (event_of (find_end a) (find_next_in a) what) s → Turned know w p (event_of (find_end a) (find_next_in a) what) s b
-  find_turn New (Descending d) seen.Done s before then t observed does = begin_turn know w g p b key s before (rw t at then) does
+  find_turn New (Descending d) seen.Done s before then t observed does = begin_turn know w g p b alone key s before (rw t at then) does
   find_turn (Descending d) (Descending e) (seen.Words c) s before then t observed does = descent_turn know w g p b key d c s before observed does e then t
   find_turn (Descending d) (Ending value) (seen.Words c) s before then t observed does =
       let look : value ≡ (nodes w.now (descent_page d)).look key = rw observed at t.1 in
       leaf_turn know w g p b key d c s before observed does (found key value) then t.0 (λ may l. answers value (look ∙ leaf_says know w g p (descent_page d) key may l.0 l.2 l.1))
   find_turn (Ending value) (Over last) seen.Done s before then t observed does =
-      end_turn know w g p b (found key value) s before (rw t at then) does
+      end_turn know w g p b (found key value) [] (Unit {0}) s before (rw t at then) does
   find_turn a a' (seen.Words page) s before then t observed does = absurd t
   find_turn a a' old s before then t observed does = absurd t

@@ -1,10 +1,10 @@
 -- What a process gets next is page 0, or a page that is or was of the tree and that it may still get. So it is no page that
 -- was never put.
-use Rattle.std.proofs.Common.{ℕ, ◌≡◌, ◌⊎◌, ◌∙◌, None, Some, ap, sym, inl, inr, refl}
+use Rattle.std.proofs.Common.{ℕ, ◌≡◌, ◌⊎◌, ◌∙◌, None, Some, List, [], ap, sym, inl, inr, refl}
 use Rattle.bl_model.specs.declared.deciding.KeyWrite.{KeyWrite}
 use Rattle.bl_page.specs.declared.page.Page.{Page}
 use Rattle.bl_page.specs.Machine.{Name}
-use Rattle.bl_core.specs.Worlds.{Stage, World, was_in, IsStage, MayGet, IsHeld, IsSure, IsGood}
+use Rattle.bl_core.specs.Worlds.{Goes, Stage, World, was_in, IsStage, MayGet, IsHeld, IsSure, IsGood}
 use Rattle.bl_proc_base.specs.declared.acts.Action.{Action}
 use Rattle.bl_proc_base.specs.declared.acts.Action.TheVariants as act
 use Rattle.bl_proc_base.specs.declared.descent.Descent.{Descent}
@@ -28,6 +28,11 @@ use Rattle.bl_proc.specs.declared.lowering.LowerStage.{LowerStage}
 use Rattle.bl_proc.specs.declared.lowering.LowerStage.TheVariants as lower
 use Rattle.bl_proc_base.specs.declared.lowering.Lowering.{Lowering}
 use Rattle.bl_proc_base.specs.declared.lowering.Lowering.TheVariants as lowering
+use Rattle.bl_model.specs.declared.deciding.KeyWrite.TheVariants.{Insert}
+use Rattle.bl_proc.specs.declared.paths.Path.{Path}
+use Rattle.bl_proc.specs.declared.climbing.ClimbStage.{ClimbStage}
+use Rattle.bl_proc.specs.declared.climbing.ClimbStage.TheVariants as climb
+use Rattle.bl_proc.specs.Climbs.{climb_next_in}
 use Rattle.bl_proc_invariant.specs.Lowering.{know_lowering}
 use Rattle.bl_proc.specs.declared.reclaiming.ReclaimStage.TheVariants as reclaim
 use Rattle.bl_proc_compress.specs.declared.compressing.Compression.{Compression}
@@ -35,7 +40,7 @@ use Rattle.bl_proc_compress.specs.declared.compressing.Compression.TheVariants.{
 use Rattle.bl_proc_compress.specs.declared.squeezing.CompressStage.{CompressStage}
 use Rattle.bl_proc_compress.specs.declared.squeezing.CompressStage.TheVariants as compress
 use Rattle.bl_proc.specs.declared.kinds.Proc.{Proc}
-use Rattle.bl_proc.specs.declared.kinds.Proc.TheVariants.{Find, Write, Post, Part, Compress, Reclaim, Lower}
+use Rattle.bl_proc.specs.declared.kinds.Proc.TheVariants.{Find, Write, Post, Part, Compress, Reclaim, Lower, InsertPost}
 use Rattle.bl_proc_base.specs.Descents.{descent_next}
 use Rattle.bl_proc_base.specs.Approaches.{approach_next}
 use Rattle.bl_proc_base.specs.Edits.{edit_next}
@@ -54,8 +59,8 @@ use Rattle.bl_proc.specs.Lowers.{lower_next_in}
 use Rattle.bl_proc_base.specs.Lowerings.{lowering_next}
 use Rattle.bl_proc.specs.Processes.{next_of}
 use Rattle.bl_proc_invariant.specs.Compressing.{know_squeeze}
-use Rattle.bl_proc_invariant.specs.Tables.{Aim, holds_live, know_descent, know_approach, know_edit}
-use Rattle.bl_proc_invariant.specs.Knowing.{know_growth, know_find, know_part, know_write, know_post, know_compress, know_reclaim, know_lower, know_of, Run, know}
+use Rattle.bl_proc_invariant.specs.Tables.{Keeps, unsaid, alone, Aim, holds_live, know_descent, know_approach, know_edit}
+use Rattle.bl_proc_invariant.specs.Knowing.{know_growth, know_find, know_part, know_write, path_goes, inserted, know_climb, know_post, know_compress, know_reclaim, know_lower, know_of, Run, know}
 
 -- page 0, or one that it may get
 abbrev pub IsGot : {P : Type 0} → World P → Name → Action → Type 0
@@ -63,13 +68,13 @@ IsGot w p (act.Get x) = (x ≡ 0) ⊎ MayGet w p x
 IsGot w p action = Unit {0}
 
 module _ {P : Type 0} (w : World P) (p : Name) where
-  approach_got : (level key : ℕ) (a : Approach) → IsSure w p (know_approach level key a) → IsGot w p (approach_next a)
-  approach_got level key way.Start is = inl refl
-  approach_got level key (way.At x) is = inr is.goes.0.may
-  approach_got level key (way.Latching x) is = tt
-  approach_got level key (way.Latched x) is = inr is.goes.0.may
-  approach_got level key (way.Leaving x None) is = tt
-  approach_got level key (way.Leaving x (Some y)) is = tt
+  approach_got : (keeps : Keeps) → (level key : ℕ) (a : Approach) → IsSure w p (know_approach keeps level key a) → IsGot w p (approach_next a)
+  approach_got keeps level key way.Start is = inl refl
+  approach_got keeps level key (way.At x) is = inr is.goes.0.may
+  approach_got keeps level key (way.Latching x) is = tt
+  approach_got keeps level key (way.Latched x) is = inr is.goes.0.may
+  approach_got keeps level key (way.Leaving x None) is = tt
+  approach_got keeps level key (way.Leaving x (Some y)) is = tt
 
   edit_got : (aim : Aim) (got : ℕ → Page) (c : Edit) → IsSure w p (know_edit aim got c) → IsGot w p (edit_next c)
   edit_got aim got (edit.Putting x page) is = tt
@@ -79,15 +84,15 @@ module _ {P : Type 0} (w : World P) (p : Name) where
   edit_got aim got (edit.OpeningNew x y s) is = tt
   edit_got aim got (edit.Opening x o) is = tt
 
-  growth_got : (level key : ℕ) (got : ℕ → Page) (a : Growth) → IsSure w p (know_growth level key got a) → IsGot w p (growth_next a)
-  growth_got level key got growth.Latching is = tt
-  growth_got level key got growth.Latched is = inl refl
-  growth_got level key got (growth.Taking r) is = tt
-  growth_got level key got (growth.PuttingTop r) is = tt
-  growth_got level key got (growth.PuttingAnchor r) is = tt
-  growth_got level key got (growth.OpeningTop x) is = tt
-  growth_got level key got growth.OpeningGrown is = tt
-  growth_got level key got growth.OpeningRefused is = tt
+  growth_got : (keeps : Keeps) → (level key : ℕ) (got : ℕ → Page) (a : Growth) → IsSure w p (know_growth keeps level key got a) → IsGot w p (growth_next a)
+  growth_got keeps level key got growth.Latching is = tt
+  growth_got keeps level key got growth.Latched is = inl refl
+  growth_got keeps level key got (growth.Taking r) is = tt
+  growth_got keeps level key got (growth.PuttingTop r) is = tt
+  growth_got keeps level key got (growth.PuttingAnchor r) is = tt
+  growth_got keeps level key got (growth.OpeningTop x) is = tt
+  growth_got keeps level key got growth.OpeningGrown is = tt
+  growth_got keeps level key got growth.OpeningRefused is = tt
 
   descent_got : (key : ℕ) (d : Descent) → IsSure w p (know_descent key d) → IsGot w p (descent_next d)
   descent_got key descent.AtAnchor is = inl refl
@@ -107,23 +112,23 @@ module _ {P : Type 0} (w : World P) (p : Name) where
   part_got from (part.Ending r) is = tt
   part_got from (part.Over r) is = tt
 
-  write_got : (key : ℕ) (does : KeyWrite) (got : ℕ → Page) (a : WriteStage) → IsSure w p (know_write key does got a) → IsGot w p (write_next_in a)
-  write_got key does got write.New is = tt
-  write_got key does got (write.Coming a) is = approach_got 0 key a is
-  write_got key does got (write.Keeping x there) is = tt
-  write_got key does got (write.Editing noted c) is = edit_got _ got c is
-  write_got key does got (write.Ending r) is = tt
-  write_got key does got (write.Over r) is = tt
+  write_got : (goes : List Goes) → (key : ℕ) (does : KeyWrite) (got : ℕ → Page) (a : WriteStage) → IsSure w p (know_write goes key does got a) → IsGot w p (write_next_in a)
+  write_got goes key does got write.New is = tt
+  write_got goes key does got (write.Coming a) is = approach_got (unsaid goes) 0 key a is
+  write_got goes key does got (write.Keeping x there) is = tt
+  write_got goes key does got (write.Editing noted c) is = edit_got _ got c is
+  write_got goes key does got (write.Ending r) is = tt
+  write_got goes key does got (write.Over r) is = tt
 
-  post_got : (level key : ℕ) (got : ℕ → Page) (child : ℕ) (a : PostStage) → IsSure w p (know_post level key got child a) → IsGot w p (post_next_in a)
-  post_got level key got child post.New is = tt
-  post_got level key got child (post.Coming a) is = approach_got level key a is
-  post_got level key got child (post.Growing h) is = growth_got level key got h is
-  post_got level key got child (post.Walking v) is = inr is.goes.0.may
-  post_got level key got child (post.Editing c) is = edit_got _ got c is
-  post_got level key got child (post.Staying x r) is = tt
-  post_got level key got child (post.Ending r) is = tt
-  post_got level key got child (post.Over r) is = tt
+  post_got : (keeps : Keeps) → (level key : ℕ) (got : ℕ → Page) (child : ℕ) (a : PostStage) → IsSure w p (know_post keeps level key got child a) → IsGot w p (post_next_in a)
+  post_got keeps level key got child post.New is = tt
+  post_got keeps level key got child (post.Coming a) is = approach_got keeps level key a is
+  post_got keeps level key got child (post.Growing h) is = growth_got keeps level key got h is
+  post_got keeps level key got child (post.Walking v) is = inr is.goes.0.may
+  post_got keeps level key got child (post.Editing c) is = edit_got _ got c is
+  post_got keeps level key got child (post.Staying x r) is = tt
+  post_got keeps level key got child (post.Ending r) is = tt
+  post_got keeps level key got child (post.Over r) is = tt
 
   put_got : (u : Puts) (sd : Side) → IsGot w p (put_of sd u)
   put_got u side.Left = tt
@@ -144,7 +149,7 @@ module _ {P : Type 0} (w : World P) (p : Name) where
 
   compress_got : (level key : ℕ) (got : ℕ → Page) (a : CompressStage) → IsSure w p (know_compress level key got a) → IsGot w p (compress_next_in a)
   compress_got level key got compress.New is = tt
-  compress_got level key got (compress.Coming a) is = approach_got level key a is
+  compress_got level key got (compress.Coming a) is = approach_got alone level key a is
   compress_got level key got (compress.Compressing c) is = squeeze_got level key got c is
   compress_got level key got (compress.Staying x) is = tt
   compress_got level key got (compress.Ending r) is = tt
@@ -179,14 +184,21 @@ module _ {P : Type 0} (w : World P) (p : Name) where
   lower_gets got (lower.Ending r) is = tt
   lower_gets got (lower.Over r) is = tt
 
+  climb_got : (key value : ℕ) (path : Path) (got : ℕ → Page) (child : ℕ) (a : ClimbStage) → IsSure w p (know_climb key value path got child a) → IsGot w p (climb_next_in a)
+  climb_got key value path got child (climb.Writing v) is = write_got (path_goes path) key (Insert value) got v.stage is
+  climb_got key value path got child (climb.Posting q) is = post_got (inserted key value path) q.level q.key got child q.stage is
+  climb_got key value path got child (climb.Ending r) is = tt
+  climb_got key value path got child (climb.Over r) is = tt
+
   of_got : (got : ℕ → Page) (child time : ℕ) (state : Proc) → IsSure w p (know_of got child time state) → IsGot w p (next_of state)
   of_got got child time (Find a) is = find_got a.key a.stage is
-  of_got got child time (Write a) is = write_got a.key a.write got a.stage is
-  of_got got child time (Post a) is = post_got a.level a.key got child a.stage is
+  of_got got child time (Write a) is = write_got [] a.key a.write got a.stage is
+  of_got got child time (Post a) is = post_got alone a.level a.key got child a.stage is
   of_got got child time (Part a) is = part_got a.from a.stage is
   of_got got child time (Compress a) is = compress_got a.level a.key got a.stage is
   of_got got child time (Reclaim a) is = reclaim_got a.page time a.stage is
   of_got got child time (Lower a) is = lower_gets got a.stage is
+  of_got got child time (InsertPost a) is = climb_got a.key a.value a.path got child a.stage is
 
 pub got_next_is : (w : World Run) (p : Name) → IsGood know w → IsGot w p (next_of (w.proc p).state)
 got_next_is w p g = of_got w p (w.proc p).got (w.proc p).child (w.proc p).time (w.proc p).state (g.sure p)

@@ -3,6 +3,7 @@ pub mod Logging
 pub mod Looking
 pub mod Acts
 pub mod Approaching
+pub mod Going
 pub mod Editing
 pub mod Ends
 pub mod Descending
@@ -22,6 +23,11 @@ pub mod Middles
 pub mod Logged
 pub mod Near
 pub mod Turning
+pub mod Instead
+pub mod Noting
+pub mod Climbing
+pub mod ClimbingLogs
+pub mod ClimbingAnswers
 pub mod Starting
 pub mod Answered
 pub mod Beside

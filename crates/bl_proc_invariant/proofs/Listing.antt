@@ -1,5 +1,5 @@
 -- Every turn of a part keeps a world good.
-use Rattle.std.proofs.Common.{ℕ, ◌≡◌, ◌<◌, ◌≤◌, zero, suc, Bool, true, false, None, Some, List, sym, ◌∙◌, refl, inl, inr, arith}
+use Rattle.std.proofs.Common.{ℕ, ◌≡◌, ◌<◌, ◌≤◌, zero, suc, Bool, true, false, None, Some, List, [], sym, ◌∙◌, refl, inl, inr, arith}
 use Rattle.bl_model.specs.declared.operation.Next.{Next}
 use Rattle.bl_model.specs.declared.operation.Next.TheVariants.{More, End}
 use Rattle.bl_model.specs.Map.{Map, ListsPairs, IsPart}
@@ -28,7 +28,7 @@ use Rattle.bl_proc.specs.declared.parts.PartStage.TheVariants.{New, Near, Probin
 use Rattle.bl_proc.specs.Parts.{GoesOnAt, IsPartOf, part_next_in, way_by, PartGoes}
 use Rattle.bl_proc_invariant.specs.Turns.{event_of, IsObserved, Does, Turned}
 use Rattle.bl_proc_invariant.specs.Knowing.{listed, know_part, part_end}
-use Rattle.bl_proc_invariant.specs.Tables.{descent_goes}
+use Rattle.bl_proc_invariant.specs.Tables.{alone, descent_goes}
 use Rattle.bl_proc_invariant.proofs.Acts.{watched}
 use Rattle.bl_proc_invariant.proofs.Descending.{descent_turn, leaf_turn}
 use Rattle.bl_proc_invariant.proofs.Ends.{begin_turn, end_turn}
@@ -76,8 +76,8 @@ module _ {P : Type 0} (know : P → Know) (w : World P) (g : IsGood know w) (p :
       (record { may = may_live know w g p busy.0 (suc x) busy.1 live; least = omega arith; most = omega (arith, above, few) }, tt)
 
   pub part_turn : (a a' : PartStage) (what : Seen) (s : State Page) → know (w.proc p) ≡ know_part from a → know b ≡ know_part from a' → PartGoes from a what a' → IsObserved w.now w.size (part_next_in a) what → Does w.now p (event_of (part_end a) (part_next_in a) what) s → Turned know w p (event_of (part_end a) (part_next_in a) what) s b
-  part_turn New (Descending d) seen.Done s before then t observed does = begin_turn know w g p b from s before (rw t at then) does
-  part_turn (Near x) (Probing y) seen.Done s before then t observed does = begin_turn know w g p b from s before then does
+  part_turn New (Descending d) seen.Done s before then t observed does = begin_turn know w g p b alone from s before (rw t at then) does
+  part_turn (Near x) (Probing y) seen.Done s before then t observed does = begin_turn know w g p b alone from s before then does
   part_turn (Probing x) (Descending d) (seen.Probed free) s before then t observed does =
       let is : IsSure w p (know_part from (Probing x)) = rw before at (g.sure p) in
       let m : Mark = silent p (Looks (OfPage x)) in
@@ -88,6 +88,6 @@ module _ {P : Type 0} (know : P → Know) (w : World P) (g : IsGood know w) (p :
       let part : IsPartOf (w.now.contents (descent_page d)) from r = rw observed at t.1 in
       leaf_turn know w g p b from d c s before observed does (listed from r) then t.0 (λ may l. (lists (descent_page d) r part may l, λ k. refl))
   part_turn (Ending r) (Over last) seen.Done s before then t observed does =
-      end_turn know w g p b (listed from r) s before (rw t at then) does
+      end_turn know w g p b (listed from r) [] (Unit {0}) s before (rw t at then) does
   part_turn a a' (seen.Words page) s before then t observed does = absurd t
   part_turn a a' old s before then t observed does = absurd t

@@ -1,5 +1,5 @@
 -- What each process has done, through every turn.
-use Rattle.std.proofs.Common.{ℕ, ◌≡◌, ◌++◌, Option, Some, None, [], ◌∷◌, ap, sym, ◌∙◌, refl, subst, inl, inr}
+use Rattle.std.proofs.Common.{ℕ, ◌≡◌, ◌++◌, Option, Some, None, List, [], ◌∷◌, ap, sym, ◌∙◌, refl, subst, inl, inr}
 use Rattle.bl_model.specs.declared.operation.Reply.{Reply}
 use Rattle.bl_model.specs.declared.deciding.KeyWrite.{KeyWrite}
 use Rattle.bl_page.specs.declared.page.Page.{Page}
@@ -9,7 +9,7 @@ use Rattle.bl_page.specs.Machine.Act.{Get, Miss}
 use Rattle.bl_claims.specs.Trails.{Mark, Trail, Saw, marks_of}
 use Rattle.bl_claims.specs.Meanings.{writes_in, writes_of}
 use Rattle.bl_core.proofs.Pushes.{name_cases, marks_of-own, marks_of-other}
-use Rattle.bl_core.specs.Worlds.{Stage, World}
+use Rattle.bl_core.specs.Worlds.{Goes, Stage, World}
 use Rattle.bl_proc_base.specs.declared.acts.Action.{Action}
 use Rattle.bl_proc_base.specs.declared.acts.Action.TheVariants as act
 use Rattle.bl_proc_base.specs.declared.acts.Seen.{Seen}
@@ -28,26 +28,33 @@ use Rattle.bl_proc.specs.declared.lowering.LowerStage.{LowerStage}
 use Rattle.bl_proc.specs.declared.lowering.LowerStage.TheVariants as lower
 use Rattle.bl_proc_base.specs.declared.lowering.Lowering.TheVariants.{Looking}
 use Rattle.bl_proc.specs.declared.kinds.Proc.{Proc}
-use Rattle.bl_proc.specs.declared.kinds.Proc.TheVariants.{Find, Write, Post, Part, Compress, Reclaim, Lower}
+use Rattle.bl_proc.specs.declared.kinds.Proc.TheVariants.{Find, Write, Post, Part, Compress, Reclaim, Lower, InsertPost}
 use Rattle.bl_proc.specs.Processes.{next_of, Takes}
+use Rattle.bl_model.specs.declared.deciding.KeyWrite.TheVariants.{Insert}
+use Rattle.bl_proc.specs.declared.paths.Path.{Path}
+use Rattle.bl_proc.specs.declared.climbing.ClimbStage.{ClimbStage}
+use Rattle.bl_proc.specs.declared.climbing.ClimbStage.TheVariants as climb
+use Rattle.bl_proc.specs.Stands.{IsPosting, Stands}
+use Rattle.bl_proc_invariant.proofs.ClimbingLogs.{climb_on, climb_stays}
 use Rattle.bl_proc_invariant.specs.Turns.{event_of, IsObserved, Turned}
-use Rattle.bl_proc_invariant.specs.Logs.{proc_log, write_log, post_log, compress_log, lower_log, AllLogs}
-use Rattle.bl_proc_invariant.specs.Knowing.{Run, know_of, know, know_write, know_post, know_compress, know_lower, end_of_proc, run_next}
+use Rattle.bl_proc_invariant.specs.Logs.{climb_log, proc_log, write_log, post_log, compress_log, lower_log, AllLogs}
+use Rattle.bl_proc_invariant.specs.Tables.{Keeps, alone}
+use Rattle.bl_proc_invariant.specs.Knowing.{Run, know_of, know, know_write, path_goes, inserted, know_climb, know_post, know_compress, know_lower, end_of_proc, run_next}
 use Rattle.bl_proc_invariant.proofs.Logging.{post_on, post_stays}
 use Rattle.bl_proc_invariant.proofs.Doing.{compress_on, compress_stays}
 use Rattle.bl_proc_invariant.proofs.LoweringLogs.{lower_on, lower_stays}
 use Rattle.bl_proc_invariant.proofs.Looking.{looking_on, find_on, part_on}
 use Rattle.bl_proc_invariant.proofs.Putting.{write_on, write_stays}
-use Rattle.bl_proc_unique.proofs.KindCases.{find_case, part_case, write_case, post_case, compress_case, lower_case}
+use Rattle.bl_proc_unique.proofs.KindCases.{find_case, part_case, write_case, post_case, compress_case, lower_case, climb_case}
 
 -- a process that has not begun has nothing to tell
-early_post : (level key : ℕ) (got : ℕ → Page) (child : ℕ) (a : PostStage) → (know_post level key got child a).stage ≡ Stage.Early → (marks : Trail) → post_log level key a marks
-early_post level key got child post.New e marks = tt
-early_post level key got child (post.Coming way.Start) e marks = absurd (let f = e in cc)
-early_post level key got child (post.Coming (way.Leaving x None)) e marks = absurd (let f = e in cc)
-early_post level key got child (post.Growing growth.Latching) e marks = absurd (let f = e in cc)
-early_post level key got child (post.Editing (edit.Putting x page)) e marks = absurd (let f = e in cc)
-early_post level key got child old e marks = absurd (let f = e in cc)
+early_post : (keeps : Keeps) → (level key : ℕ) (got : ℕ → Page) (child : ℕ) (a : PostStage) → (know_post keeps level key got child a).stage ≡ Stage.Early → (marks : Trail) → post_log level key a marks
+early_post keeps level key got child post.New e marks = tt
+early_post keeps level key got child (post.Coming way.Start) e marks = absurd (let f = e in cc)
+early_post keeps level key got child (post.Coming (way.Leaving x None)) e marks = absurd (let f = e in cc)
+early_post keeps level key got child (post.Growing growth.Latching) e marks = absurd (let f = e in cc)
+early_post keeps level key got child (post.Editing (edit.Putting x page)) e marks = absurd (let f = e in cc)
+early_post keeps level key got child old e marks = absurd (let f = e in cc)
 
 early_press : (level key : ℕ) (got : ℕ → Page) (a : CompressStage) → (know_compress level key got a).stage ≡ Stage.Early → (marks : Trail) → compress_log level key a marks
 early_press level key got compress.New e marks = tt
@@ -56,26 +63,41 @@ early_press level key got (compress.Coming (way.Leaving x None)) e marks = absur
 early_press level key got (compress.Compressing (LatchingLeft h)) e marks = absurd (let f = e in cc)
 early_press level key got old e marks = absurd (let f = e in cc)
 
-early_write : (key : ℕ) (does : KeyWrite) (got : ℕ → Page) (a : WriteStage) → (know_write key does got a).stage ≡ Stage.Early → (marks : Trail) → write_log does a marks
-early_write key does got write.New e marks = tt
-early_write key does got (write.Coming way.Start) e marks = absurd (let f = e in cc)
-early_write key does got (write.Coming (way.Leaving x None)) e marks = absurd (let f = e in cc)
-early_write key does got (write.Editing noted (edit.Putting x page)) e marks = absurd (let f = e in cc)
-early_write key does got old e marks = absurd (let f = e in cc)
+-- a post within an insertion has begun
+not_early : (keeps : Keeps) → (level key : ℕ) (got : ℕ → Page) (child : ℕ) (a : PostStage) → IsPosting a → (know_post keeps level key got child a).stage ≡ Stage.Early → ⊥
+not_early keeps level key got child post.New h e = absurd h
+not_early keeps level key got child (post.Coming way.Start) h e = (let f = e in cc)
+not_early keeps level key got child (post.Coming (way.Leaving x None)) h e = (let f = e in cc)
+not_early keeps level key got child (post.Growing growth.Latching) h e = (let f = e in cc)
+not_early keeps level key got child (post.Editing (edit.Putting x page)) h e = (let f = e in cc)
+not_early keeps level key got child old h e = (let f = e in cc)
+
+early_write : (goes : List Goes) → (key : ℕ) (does : KeyWrite) (got : ℕ → Page) (a : WriteStage) → (know_write goes key does got a).stage ≡ Stage.Early → (marks : Trail) → write_log does a marks
+early_write goes key does got write.New e marks = tt
+early_write goes key does got (write.Coming way.Start) e marks = absurd (let f = e in cc)
+early_write goes key does got (write.Coming (way.Leaving x None)) e marks = absurd (let f = e in cc)
+early_write goes key does got (write.Editing noted (edit.Putting x page)) e marks = absurd (let f = e in cc)
+early_write goes key does got old e marks = absurd (let f = e in cc)
 
 early_lower : (got : ℕ → Page) (a : LowerStage) → (know_lower got a).stage ≡ Stage.Early → (marks : Trail) → lower_log a marks
 early_lower got lower.New e marks = tt
 early_lower got (lower.Sinking Looking) e marks = absurd (let f = e in cc)
 early_lower got old e marks = absurd (let f = e in cc)
 
+early_climb : (key value : ℕ) (path : Path) (got : ℕ → Page) (child : ℕ) (a : ClimbStage) → Stands key value path a → (know_climb key value path got child a).stage ≡ Stage.Early → (marks : Trail) → climb_log value a marks
+early_climb key value path got child (climb.Writing v) stands e marks = early_write (path_goes path) key (Insert value) got v.stage e marks
+early_climb key value path got child (climb.Posting q) stands e marks = absurd (not_early (inserted key value path) q.level q.key got child q.stage stands e)
+early_climb key value path got child old stands e marks = absurd (let f = e in cc)
+
 early_state : (got : ℕ → Page) (child time : ℕ) (a : Proc) → (know_of got child time a).stage ≡ Stage.Early → (marks : Trail) → writes_of marks ≡ [] → proc_log a marks
 early_state got child time (Find a) e marks none = none
-early_state got child time (Write a) e marks none = early_write a.key a.write got a.stage e marks
-early_state got child time (Post a) e marks none = early_post a.level a.key got child a.stage e marks
+early_state got child time (Write a) e marks none = early_write [] a.key a.write got a.stage e marks
+early_state got child time (Post a) e marks none = early_post alone a.level a.key got child a.stage e marks
 early_state got child time (Part a) e marks none = none
 early_state got child time (Compress a) e marks none = early_press a.level a.key got a.stage e marks
 early_state got child time (Reclaim a) e marks none = tt
 early_state got child time (Lower a) e marks none = early_lower got a.stage e marks
+early_state got child time (InsertPost a) e marks none = early_climb a.key a.value a.path got child a.stage a.stands e marks
 
 pub early_log : (b : Run) → (know b).stage ≡ Stage.Early → (marks : Trail) → writes_of marks ≡ [] → proc_log b.state marks
 early_log b e marks none = early_state b.got b.child b.time b.state e marks none
@@ -110,6 +132,8 @@ log_turn (Compress a) (Compress c) what marks m t did saw h =
 log_turn (Lower a) (Lower c) what marks m t did saw h = lower_on marks m (lower_case a.stage what c.stage t) did saw h
 log_turn (Find a) (Find c) what marks m t did saw h = find_on marks m (find_case a.key a.stage what c.stage t.1) did h
 log_turn (Part a) (Part c) what marks m t did saw h = part_on marks m (part_case a.from a.stage what c.stage t.1) did h
+log_turn (InsertPost a) (InsertPost c) what marks m t did saw h =
+    subst (λ v. climb_log v c.stage (marks ++ m ∷ [])) (sym t.1) (climb_on marks m a.key a.value a.path c.path (climb_case c.path a.stage what c.stage t.3) a.stands did saw h)
 log_turn old new what marks m t did saw h = absurd t
 
 log_stays : {what : Missed} (old : Proc) (marks : Trail) (m : Mark) → m.event.act ≡ Miss what → proc_log old marks → proc_log old (marks ++ m ∷ [])
@@ -119,6 +143,7 @@ log_stays (Part a) marks m did h = looking_on marks m (ap writes_in did) h
 log_stays (Compress a) marks m did h = compress_stays marks m a.level a.key did a.stage h
 log_stays (Reclaim a) marks m did h = tt
 log_stays (Lower a) marks m did h = lower_stays marks m did a.stage h
+log_stays (InsertPost a) marks m did h = climb_stays marks m (ap writes_in did) (λ x o. (let e = sym did ∙ o in cc)) a.value a.stage h
 log_stays (Post a) marks m did h = post_stays marks m a.level a.key a.least (ap writes_in did) (λ x o. (let e = sym did ∙ o in cc)) a.stage h
 
 -- the logs of all processes after a turn of p

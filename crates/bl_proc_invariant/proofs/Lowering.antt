@@ -30,7 +30,7 @@ use Rattle.bl_proc_base.specs.Onwards.{top_of}
 use Rattle.bl_proc_base.specs.Lowerings.{lowering_next, IsSole, IsFallen, Sinks}
 use Rattle.bl_proc_base.proofs.Tops.{length_take}
 use Rattle.bl_proc_invariant.specs.Turns.{event_of, IsObserved, Does, Turned}
-use Rattle.bl_proc_invariant.specs.Tables.{idle}
+use Rattle.bl_proc_invariant.specs.Tables.{idle, alone}
 use Rattle.bl_proc_invariant.specs.Lowering.{got_top, know_lowering, lowering_got}
 use Rattle.bl_proc_unique.proofs.Lowerings.{LoweringCase, lowering_case}
 use Rattle.bl_proc_unique.proofs.KindCases.{LowerCase}
@@ -69,34 +69,34 @@ module _ {P : Type 0} (know : P → Know) (w : World P) (g : IsGood know w) (p :
   look_turn s before then does =
       let is : IsSure w p (idle Stage.Busy) = rw before at (g.sure p) in
       watched know w g p b _ _ before then (Get 0) (Some (w.now.contents 0)) None s tt (is.stage, anchor_not_released know w g) does refl refl (λ y h. h) (λ it e. cc) (λ j. refl)
-      (walks w _ p (Get 0) (Some (w.now.contents 0)) [] (Unit {0}) is.stage is.said tt tt)
+      (walks w _ p (Get 0) (Some (w.now.contents 0)) None [] (Unit {0}) is.stage is.said tt tt)
 
   -- the anchor is latched, or missed
   pub latch_turn : (got : ℕ → Page) (s : State Page) → know (w.proc p) ≡ know_lowering got lowering.LatchingAnchor → know b ≡ know_lowering got lowering.LatchedAnchor → w.now.owner 0 ≡ Owner.Open → Does w.now p (Latch 0) s → Turned know w p (Latch 0) s b
   latch_turn got s before then observed does =
       let is : IsSure w p (know_lowering got lowering.LatchingAnchor) = rw before at (g.sure p) in
       latched know w g p b _ _ before then 0 s observed does refl (inl refl) (λ y h. absurd h)
-      (holds_anchor w _ p (Latch 0) None None _ is.stage is.said does.changes.1.at g.tree.anchored tt tt)
+      (holds_anchor w _ p (Latch 0) None alone None _ is.stage is.said is.goes does.changes.1.at g.tree.anchored tt tt)
 
   pub miss_turn : {what : Missed} (got : ℕ → Page) (s : State Page) → know (w.proc p) ≡ know_lowering got lowering.LatchingAnchor → know b ≡ know_lowering got lowering.LatchingAnchor → Does w.now p (Miss what) s → Turned know w p (Miss what) s b
   miss_turn {what} got s before then does =
       let is : IsSure w p (know_lowering got lowering.LatchingAnchor) = rw before at (g.sure p) in
       watched know w g p b _ _ before then (Miss what) None None s tt tt does tt refl (λ y h. h) (λ it e. cc) (λ j. refl)
-      (walks w _ p (Miss what) None [] (Unit {0}) is.stage is.said tt tt)
+      (walks w _ p (Miss what) None None [] (Unit {0}) is.stage is.said tt tt)
 
   -- the anchor is got under its latch: the tree has no other level
   pub low_turn : (got got' : ℕ → Page) (what : Lowered) (s : State Page) → know (w.proc p) ≡ know_lowering got lowering.LatchedAnchor → know b ≡ know_lowering got' (lowering.OpeningAnchor what) → Does w.now p (Get 0) s → Turned know w p (Get 0) s b
   low_turn got got' what s before then does =
       let is : IsSure w p (know_lowering got lowering.LatchedAnchor) = rw before at (g.sure p) in
       watched know w g p b _ _ before then (Get 0) (Some (w.now.contents 0)) None s tt (is.stage, anchor_not_released know w g) does refl refl (λ y h. h) (λ it e. cc) (λ j. refl)
-      (holds_anchor w _ p (Get 0) (Some (w.now.contents 0)) None _ is.stage is.said (does.changes.1 0 ∙ is.holds.0.owner) is.holds.0.status tt tt)
+      (holds_anchor w _ p (Get 0) (Some (w.now.contents 0)) alone None _ is.stage is.said is.goes (does.changes.1 0 ∙ is.holds.0.owner) is.holds.0.status tt tt)
 
   -- or it has
   pub tall_turn : (got got' : ℕ → Page) (t : Summit) (c : Page) (s : State Page) → know (w.proc p) ≡ know_lowering got lowering.LatchedAnchor → know b ≡ know_lowering got' (lowering.LatchingTop t) → c ≡ w.now.contents 0 → c ≡ Anchor t.anchor → t.top ≡ top_of (roots_of c) → Does w.now p (Get 0) s → Turned know w p (Get 0) s b
   tall_turn got got' t c s before then observed is_anchor top does =
       let is : IsSure w p (know_lowering got lowering.LatchedAnchor) = rw before at (g.sure p) in
       watched know w g p b _ _ before then (Get 0) (Some (w.now.contents 0)) None s tt (is.stage, anchor_not_released know w g) does refl refl (λ y h. h) (λ it e. cc) (λ j. refl)
-      (holds_anchor w _ p (Get 0) (Some (w.now.contents 0)) (Some (Anchor t.anchor)) _ is.stage is.said (does.changes.1 0 ∙ is.holds.0.owner) is.holds.0.status (sym observed ∙ is_anchor) (top ∙ ap (λ z. top_of (roots_of z)) is_anchor))
+      (holds_anchor w _ p (Get 0) (Some (w.now.contents 0)) alone (Some (Anchor t.anchor)) _ is.stage is.said is.goes (does.changes.1 0 ∙ is.holds.0.owner) is.holds.0.status (sym observed ∙ is_anchor) (top ∙ ap (λ z. top_of (roots_of z)) is_anchor))
 
   -- the top page is latched, or missed
   pub latch_top_turn : (got : ℕ → Page) (t : Summit) (s : State Page) → know (w.proc p) ≡ know_lowering got (lowering.LatchingTop t) → know b ≡ know_lowering got (lowering.LatchedTop t) → w.now.owner t.top ≡ Owner.Open → Does w.now p (Latch t.top) s → Turned know w p (Latch t.top) s b
@@ -119,7 +119,7 @@ module _ {P : Type 0} (know : P → Know) (w : World P) (g : IsGood know w) (p :
   miss_top_turn {what} got t s before then does =
       let is : IsSure w p (know_lowering got (lowering.LatchingTop t)) = rw before at (g.sure p) in
       watched know w g p b _ _ before then (Miss what) None None s tt tt does tt refl (λ y h. h) (λ it e. cc) (λ j. refl)
-      (holds_anchor w _ p (Miss what) None (Some (Anchor t.anchor)) _ is.stage is.said (does.changes.1 0 ∙ is.holds.0.owner) is.holds.0.status is.holds.0.page is.sound)
+      (holds_anchor w _ p (Miss what) None alone (Some (Anchor t.anchor)) _ is.stage is.said is.goes (does.changes.1 0 ∙ is.holds.0.owner) is.holds.0.status is.holds.0.page is.sound)
 
   -- the top page is got under its latch: it is not needed
   pub sink_turn : (got : ℕ → Page) (t : Summit) (k : Sinking) (c : Page) (s : State Page) → know (w.proc p) ≡ know_lowering got (lowering.LatchedTop t) → know b ≡ know_lowering (got_top (Anchor t.anchor) c) (lowering.PuttingAnchor k) → c ≡ w.now.contents t.top → k.top ≡ t.top → IsSole c → Sinks t.anchor.leftmost.items k → Does w.now p (Get t.top) s → Turned know w p (Get t.top) s b
@@ -340,11 +340,11 @@ module _ {P : Type 0} (know : P → Know) (w : World P) (g : IsGood know w) (p :
       let is : IsSure w p (know_lowering got (lowering.OpeningTop x what)) = rw before at (g.sure p) in
       opened know w g p b _ _ before then x s is.holds.1.0.owner does (inl is.holds.1.0.status) refl refl ((λ e. cc, λ e. cc), ((λ e. cc, λ e. cc), tt))
       (λ z i h. elim h [ inl e ↦ inl e | inr r ↦ elim r [ inl e ↦ absurd (i (sym e)) | inr u ↦ inr u ] ])
-      (holds_anchor w _ p (Act.Open x) None None _ is.stage is.said (does.changes.1.others 0 is.sound ∙ is.holds.0.owner) is.holds.0.status tt tt)
+      (holds_anchor w _ p (Act.Open x) None alone None _ is.stage is.said is.goes (does.changes.1.others 0 is.sound ∙ is.holds.0.owner) is.holds.0.status tt tt)
 
   -- the anchor is opened
   pub open_turn : (got : ℕ → Page) (what : Lowered) (s : State Page) → know (w.proc p) ≡ know_lowering got (lowering.OpeningAnchor what) → know b ≡ idle Stage.Busy → Does w.now p (Act.Open 0) s → Turned know w p (Act.Open 0) s b
-  open_turn got what s before then does = anchor_open_turn know w g p b 0 0 (Unit {0}) (Unit {0}) s before then (λ h. h) does
+  open_turn got what s before then does = anchor_open_turn know w g p b alone 0 0 (Unit {0}) (Unit {0}) s before then (λ h. h) does
 
   -- every turn of a lowering that does not end it
   pub lowering_turn : {l m : Lowering} {what : Seen} → LoweringCase l what (On m) → (got : ℕ → Page) (s : State Page) → know (w.proc p) ≡ know_lowering got l → know b ≡ know_lowering (lowering_got got l what) m → IsObserved w.now w.size (lowering_next l) what → Does w.now p (event_of None (lowering_next l) what) s → Turned know w p (event_of None (lowering_next l) what) s b
@@ -370,7 +370,7 @@ module _ {P : Type 0} (know : P → Know) (w : World P) (g : IsGood know w) (p :
 
   -- every turn of its process
   pub lower_turn : {a a' : LowerStage} {what : Seen} → LowerCase a what a' → (got : ℕ → Page) (s : State Page) → know (w.proc p) ≡ know_lower got a → know b ≡ know_lower (lower_got got a what) a' → IsObserved w.now w.size (lower_next_in a) what → Does w.now p (event_of None (lower_next_in a) what) s → Turned know w p (event_of None (lower_next_in a) what) s b
-  lower_turn (LowerCase.Began l t) got s before then observed does = start_turn know w g p b (Unit {0}) s before (subst (λ z. know b ≡ know_lowering got z) t then) does
+  lower_turn (LowerCase.Began l t) got s before then observed does = start_turn know w g p b alone (Unit {0}) s before (subst (λ z. know b ≡ know_lowering got z) t then) does
   lower_turn (LowerCase.Sank l what m t) got s before then observed does = lowering_turn (lowering_case l what _ t) got s before then observed does
   lower_turn (LowerCase.Finished l what r t) got s before then observed does = lowering_over_turn (lowering_case l what _ t) got s before then does
-  lower_turn (LowerCase.Ended r last t) got s before then observed does = end_turn know w g p b None s before then does
+  lower_turn (LowerCase.Ended r last t) got s before then observed does = end_turn know w g p b None [] (Unit {0}) s before then does

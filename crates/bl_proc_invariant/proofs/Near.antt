@@ -1,6 +1,6 @@
 -- What a process does next is possible: the pages that it gets are not released, and those that it puts, opens or retires are
 -- its own.
-use Rattle.std.proofs.Common.{ℕ, ◌≡◌, ◌≢◌, ◌-◌, None, Some, ap, sym, ◌∙◌, subst, arith}
+use Rattle.std.proofs.Common.{ℕ, ◌≡◌, ◌≢◌, ◌-◌, None, Some, List, [], ap, sym, ◌∙◌, subst, arith}
 use Rattle.bl_core_tree.specs.Trees.{is_live, IsLive}
 use Rattle.bl_claims.specs.Pages.{roots_of}
 use Rattle.bl_proc_base.specs.Onwards.{top_of}
@@ -10,7 +10,7 @@ use Rattle.bl_page.specs.declared.page.Page.{Page}
 use Rattle.bl_page.specs.Machine.{Name}
 use Rattle.bl_page.specs.Machine.Owner.{Released, Held}
 use Rattle.bl_core_tree.specs.Trees.Status.{Free}
-use Rattle.bl_core.specs.Worlds.{Know, World, was_in, MayGet, IsSure, IsGood}
+use Rattle.bl_core.specs.Worlds.{Goes, Know, World, was_in, MayGet, IsSure, IsGood}
 use Rattle.bl_core.proofs.Steady.{free_not}
 use Rattle.bl_core.proofs.Descents.{not_released, anchor_not_released}
 use Rattle.bl_proc_base.specs.declared.acts.Action.{Action}
@@ -34,6 +34,11 @@ use Rattle.bl_proc.specs.declared.lowering.LowerStage.{LowerStage}
 use Rattle.bl_proc.specs.declared.lowering.LowerStage.TheVariants as lower
 use Rattle.bl_proc_base.specs.declared.lowering.Lowering.{Lowering}
 use Rattle.bl_proc_base.specs.declared.lowering.Lowering.TheVariants as lowering
+use Rattle.bl_model.specs.declared.deciding.KeyWrite.TheVariants.{Insert}
+use Rattle.bl_proc.specs.declared.paths.Path.{Path}
+use Rattle.bl_proc.specs.declared.climbing.ClimbStage.{ClimbStage}
+use Rattle.bl_proc.specs.declared.climbing.ClimbStage.TheVariants as climb
+use Rattle.bl_proc.specs.Climbs.{climb_next_in}
 use Rattle.bl_proc_invariant.specs.Lowering.{know_lowering}
 use Rattle.bl_proc.specs.declared.reclaiming.ReclaimStage.TheVariants as reclaim
 use Rattle.bl_proc_compress.specs.declared.compressing.Compression.{Compression}
@@ -41,7 +46,7 @@ use Rattle.bl_proc_compress.specs.declared.compressing.Compression.TheVariants.{
 use Rattle.bl_proc_compress.specs.declared.squeezing.CompressStage.{CompressStage}
 use Rattle.bl_proc_compress.specs.declared.squeezing.CompressStage.TheVariants as compress
 use Rattle.bl_proc.specs.declared.kinds.Proc.{Proc}
-use Rattle.bl_proc.specs.declared.kinds.Proc.TheVariants.{Find, Write, Post, Part, Compress, Reclaim, Lower}
+use Rattle.bl_proc.specs.declared.kinds.Proc.TheVariants.{Find, Write, Post, Part, Compress, Reclaim, Lower, InsertPost}
 use Rattle.bl_proc_base.specs.Approaches.{approach_next}
 use Rattle.bl_proc_base.specs.Edits.{edit_next}
 use Rattle.bl_proc_compress.specs.Compressions.{put_of, other, compression_next}
@@ -59,8 +64,8 @@ use Rattle.bl_proc.specs.Lowers.{lower_next_in}
 use Rattle.bl_proc_base.specs.Lowerings.{lowering_next}
 use Rattle.bl_proc.specs.Processes.{next_of}
 use Rattle.bl_proc_invariant.specs.Compressing.{know_squeeze}
-use Rattle.bl_proc_invariant.specs.Tables.{Aim, know_approach, know_edit}
-use Rattle.bl_proc_invariant.specs.Knowing.{know_growth, know_find, know_part, know_write, know_post, know_compress, know_reclaim, know_lower, know_of, Run, know}
+use Rattle.bl_proc_invariant.specs.Tables.{Keeps, unsaid, alone, Aim, know_approach, know_edit}
+use Rattle.bl_proc_invariant.specs.Knowing.{know_growth, know_find, know_part, know_write, path_goes, inserted, know_climb, know_post, know_compress, know_reclaim, know_lower, know_of, Run, know}
 use Rattle.bl_proc_invariant.proofs.Descending.{descent_there}
 
 abbrev pub IsNear : {P : Type 0} → World P → Name → Action → Type 0
@@ -78,13 +83,13 @@ module _ {P : Type 0} (know : P → Know) (w : World P) (g : IsGood know w) (p :
   anchor_not_free : w.status 0 ≢ Free
   anchor_not_free e = (let a = g.tree.anchored in cc)
 
-  approach_near : (level key : ℕ) (a : Approach) → IsSure w p (know_approach level key a) → IsNear w p (approach_next a)
-  approach_near level key way.Start is = anchor_not_released know w g
-  approach_near level key (way.At x) is = not_released know w g p x is.goes.0.may
-  approach_near level key (way.Latching x) is = not_free x is.goes.0.may
-  approach_near level key (way.Latched x) is = not_released know w g p x is.goes.0.may
-  approach_near level key (way.Leaving x None) is = is.holds.0.owner
-  approach_near level key (way.Leaving x (Some y)) is = is.holds.0.owner
+  approach_near : (keeps : Keeps) → (level key : ℕ) (a : Approach) → IsSure w p (know_approach keeps level key a) → IsNear w p (approach_next a)
+  approach_near keeps level key way.Start is = anchor_not_released know w g
+  approach_near keeps level key (way.At x) is = not_released know w g p x is.goes.0.may
+  approach_near keeps level key (way.Latching x) is = not_free x is.goes.0.may
+  approach_near keeps level key (way.Latched x) is = not_released know w g p x is.goes.0.may
+  approach_near keeps level key (way.Leaving x None) is = is.holds.0.owner
+  approach_near keeps level key (way.Leaving x (Some y)) is = is.holds.0.owner
 
   edit_near : (aim : Aim) (got : ℕ → Page) (c : Edit) → IsSure w p (know_edit aim got c) → IsNear w p (edit_next c)
   edit_near aim got (edit.Putting x page) is = is.holds.0.owner
@@ -94,15 +99,15 @@ module _ {P : Type 0} (know : P → Know) (w : World P) (g : IsGood know w) (p :
   edit_near aim got (edit.OpeningNew x y s) is = is.holds.1.0.owner
   edit_near aim got (edit.Opening x o) is = is.holds.0.owner
 
-  growth_near : (level key : ℕ) (got : ℕ → Page) (a : Growth) → IsSure w p (know_growth level key got a) → IsNear w p (growth_next a)
-  growth_near level key got growth.Latching is = anchor_not_free
-  growth_near level key got growth.Latched is = anchor_not_released know w g
-  growth_near level key got (growth.Taking r) is = tt
-  growth_near level key got (growth.PuttingTop r) is = is.holds.1.0.owner
-  growth_near level key got (growth.PuttingAnchor r) is = is.holds.0.owner
-  growth_near level key got (growth.OpeningTop x) is = is.holds.1.0.owner
-  growth_near level key got growth.OpeningGrown is = is.holds.0.owner
-  growth_near level key got growth.OpeningRefused is = is.holds.0.owner
+  growth_near : (keeps : Keeps) → (level key : ℕ) (got : ℕ → Page) (a : Growth) → IsSure w p (know_growth keeps level key got a) → IsNear w p (growth_next a)
+  growth_near keeps level key got growth.Latching is = anchor_not_free
+  growth_near keeps level key got growth.Latched is = anchor_not_released know w g
+  growth_near keeps level key got (growth.Taking r) is = tt
+  growth_near keeps level key got (growth.PuttingTop r) is = is.holds.1.0.owner
+  growth_near keeps level key got (growth.PuttingAnchor r) is = is.holds.0.owner
+  growth_near keeps level key got (growth.OpeningTop x) is = is.holds.1.0.owner
+  growth_near keeps level key got growth.OpeningGrown is = is.holds.0.owner
+  growth_near keeps level key got growth.OpeningRefused is = is.holds.0.owner
 
   find_near : (key : ℕ) (a : FindStage) → IsSure w p (know_find key a) → IsNear w p (find_next_in a)
   find_near key find.New is = tt
@@ -118,23 +123,23 @@ module _ {P : Type 0} (know : P → Know) (w : World P) (g : IsGood know w) (p :
   part_near from (part.Ending r) is = tt
   part_near from (part.Over r) is = tt
 
-  write_near : (key : ℕ) (does : KeyWrite) (got : ℕ → Page) (a : WriteStage) → IsSure w p (know_write key does got a) → IsNear w p (write_next_in a)
-  write_near key does got write.New is = tt
-  write_near key does got (write.Coming a) is = approach_near 0 key a is
-  write_near key does got (write.Keeping x there) is = is.holds.0.owner
-  write_near key does got (write.Editing noted c) is = edit_near _ got c is
-  write_near key does got (write.Ending r) is = tt
-  write_near key does got (write.Over r) is = tt
+  write_near : (goes : List Goes) → (key : ℕ) (does : KeyWrite) (got : ℕ → Page) (a : WriteStage) → IsSure w p (know_write goes key does got a) → IsNear w p (write_next_in a)
+  write_near goes key does got write.New is = tt
+  write_near goes key does got (write.Coming a) is = approach_near (unsaid goes) 0 key a is
+  write_near goes key does got (write.Keeping x there) is = is.holds.0.owner
+  write_near goes key does got (write.Editing noted c) is = edit_near _ got c is
+  write_near goes key does got (write.Ending r) is = tt
+  write_near goes key does got (write.Over r) is = tt
 
-  post_near : (level key : ℕ) (got : ℕ → Page) (child : ℕ) (a : PostStage) → IsSure w p (know_post level key got child a) → IsNear w p (post_next_in a)
-  post_near level key got child post.New is = tt
-  post_near level key got child (post.Coming a) is = approach_near level key a is
-  post_near level key got child (post.Growing h) is = growth_near level key got h is
-  post_near level key got child (post.Walking v) is = not_released know w g p v.child is.goes.0.may
-  post_near level key got child (post.Editing c) is = edit_near _ got c is
-  post_near level key got child (post.Staying x r) is = is.holds.0.owner
-  post_near level key got child (post.Ending r) is = tt
-  post_near level key got child (post.Over r) is = tt
+  post_near : (keeps : Keeps) → (level key : ℕ) (got : ℕ → Page) (child : ℕ) (a : PostStage) → IsSure w p (know_post keeps level key got child a) → IsNear w p (post_next_in a)
+  post_near keeps level key got child post.New is = tt
+  post_near keeps level key got child (post.Coming a) is = approach_near keeps level key a is
+  post_near keeps level key got child (post.Growing h) is = growth_near keeps level key got h is
+  post_near keeps level key got child (post.Walking v) is = not_released know w g p v.child is.goes.0.may
+  post_near keeps level key got child (post.Editing c) is = edit_near _ got c is
+  post_near keeps level key got child (post.Staying x r) is = is.holds.0.owner
+  post_near keeps level key got child (post.Ending r) is = tt
+  post_near keeps level key got child (post.Over r) is = tt
 
   put_near : (u : Puts) (sd : Side) → w.now.owner u.at.left ≡ Held p → w.now.owner u.at.right ≡ Held p → IsNear w p (put_of sd u)
   put_near u side.Left left right = left
@@ -155,7 +160,7 @@ module _ {P : Type 0} (know : P → Know) (w : World P) (g : IsGood know w) (p :
 
   compress_near : (level key : ℕ) (got : ℕ → Page) (a : CompressStage) → IsSure w p (know_compress level key got a) → IsNear w p (compress_next_in a)
   compress_near level key got compress.New is = tt
-  compress_near level key got (compress.Coming a) is = approach_near level key a is
+  compress_near level key got (compress.Coming a) is = approach_near alone level key a is
   compress_near level key got (compress.Compressing c) is = squeeze_near level key got c is
   compress_near level key got (compress.Staying x) is = is.holds.0.owner
   compress_near level key got (compress.Ending r) is = tt
@@ -192,14 +197,21 @@ module _ {P : Type 0} (know : P → Know) (w : World P) (g : IsGood know w) (p :
   lower_near got (lower.Ending r) is = tt
   lower_near got (lower.Over r) is = tt
 
+  climb_near : (key value : ℕ) (path : Path) (got : ℕ → Page) (child : ℕ) (a : ClimbStage) → IsSure w p (know_climb key value path got child a) → IsNear w p (climb_next_in a)
+  climb_near key value path got child (climb.Writing v) is = write_near (path_goes path) key (Insert value) got v.stage is
+  climb_near key value path got child (climb.Posting q) is = post_near (inserted key value path) q.level q.key got child q.stage is
+  climb_near key value path got child (climb.Ending r) is = tt
+  climb_near key value path got child (climb.Over r) is = tt
+
   of_near : (got : ℕ → Page) (child time : ℕ) (state : Proc) → IsSure w p (know_of got child time state) → IsNear w p (next_of state)
   of_near got child time (Find a) is = find_near a.key a.stage is
-  of_near got child time (Write a) is = write_near a.key a.write got a.stage is
-  of_near got child time (Post a) is = post_near a.level a.key got child a.stage is
+  of_near got child time (Write a) is = write_near [] a.key a.write got a.stage is
+  of_near got child time (Post a) is = post_near alone a.level a.key got child a.stage is
   of_near got child time (Part a) is = part_near a.from a.stage is
   of_near got child time (Compress a) is = compress_near a.level a.key got a.stage is
   of_near got child time (Reclaim a) is = reclaim_near a.page time a.stage is
   of_near got child time (Lower a) is = lower_near got a.stage is
+  of_near got child time (InsertPost a) is = climb_near a.key a.value a.path got child a.stage is
 
 pub near : (w : World Run) (p : Name) → IsGood know w → IsNear w p (next_of (w.proc p).state)
 near w p g = of_near know w g p (w.proc p).got (w.proc p).child (w.proc p).time (w.proc p).state (g.sure p)

@@ -1,8 +1,8 @@
 -- Which processes may be in the middle of a compression.
-use Rattle.std.proofs.Common.{ℕ, ◌≡◌, ◌⊎◌, None, Some, refl, inl, inr}
+use Rattle.std.proofs.Common.{ℕ, ◌≡◌, ◌⊎◌, None, Some, List, [], refl, inl, inr}
 use Rattle.bl_model.specs.declared.deciding.KeyWrite.{KeyWrite}
 use Rattle.bl_page.specs.declared.page.Page.{Page}
-use Rattle.bl_core.specs.Worlds.{Know}
+use Rattle.bl_core.specs.Worlds.{Goes, Know}
 use Rattle.bl_proc_base.specs.declared.approaching.Approach.{Approach}
 use Rattle.bl_proc_base.specs.declared.approaching.Approach.TheVariants as way
 use Rattle.bl_proc_base.specs.declared.editing.Edit.{Edit}
@@ -22,25 +22,29 @@ use Rattle.bl_proc.specs.declared.lowering.LowerStage.{LowerStage}
 use Rattle.bl_proc.specs.declared.lowering.LowerStage.TheVariants as lower
 use Rattle.bl_proc_base.specs.declared.lowering.Lowering.{Lowering}
 use Rattle.bl_proc_base.specs.declared.lowering.Lowering.TheVariants as lowering
+use Rattle.bl_model.specs.declared.deciding.KeyWrite.TheVariants.{Insert}
+use Rattle.bl_proc.specs.declared.paths.Path.{Path}
+use Rattle.bl_proc.specs.declared.climbing.ClimbStage.{ClimbStage}
+use Rattle.bl_proc.specs.declared.climbing.ClimbStage.TheVariants as climb
 use Rattle.bl_proc_invariant.specs.Lowering.{know_lowering}
 use Rattle.bl_proc.specs.declared.reclaiming.ReclaimStage.TheVariants as reclaim
 use Rattle.bl_proc_compress.specs.declared.squeezing.Compress.{Compress as Press}
 use Rattle.bl_proc.specs.declared.kinds.Proc.{Proc}
-use Rattle.bl_proc.specs.declared.kinds.Proc.TheVariants.{Find, Write, Post, Part, Compress, Reclaim, Lower}
-use Rattle.bl_proc_invariant.specs.Tables.{Aim, know_approach, know_edit}
-use Rattle.bl_proc_invariant.specs.Knowing.{know_growth, know_find, know_part, know_write, know_post, know_reclaim, know_lower, know_of}
+use Rattle.bl_proc.specs.declared.kinds.Proc.TheVariants.{Find, Write, Post, Part, Compress, Reclaim, Lower, InsertPost}
+use Rattle.bl_proc_invariant.specs.Tables.{Keeps, unsaid, alone, Aim, know_approach, know_edit}
+use Rattle.bl_proc_invariant.specs.Knowing.{know_growth, know_find, know_part, know_write, path_goes, inserted, know_climb, know_post, know_reclaim, know_lower, know_of}
 
 -- it is not in the middle of a compression
 record IsPlain (k : Know) : Type 1 where
   pub middle : k.middle ≡ None
 
-approach_plain : (level key : ℕ) (a : Approach) → IsPlain (know_approach level key a)
-approach_plain level key way.Start = record { middle = refl }
-approach_plain level key (way.At x) = record { middle = refl }
-approach_plain level key (way.Latching x) = record { middle = refl }
-approach_plain level key (way.Latched x) = record { middle = refl }
-approach_plain level key (way.Leaving x None) = record { middle = refl }
-approach_plain level key (way.Leaving x (Some y)) = record { middle = refl }
+approach_plain : (keeps : Keeps) → (level key : ℕ) (a : Approach) → IsPlain (know_approach keeps level key a)
+approach_plain keeps level key way.Start = record { middle = refl }
+approach_plain keeps level key (way.At x) = record { middle = refl }
+approach_plain keeps level key (way.Latching x) = record { middle = refl }
+approach_plain keeps level key (way.Latched x) = record { middle = refl }
+approach_plain keeps level key (way.Leaving x None) = record { middle = refl }
+approach_plain keeps level key (way.Leaving x (Some y)) = record { middle = refl }
 
 edit_plain : (aim : Aim) (got : ℕ → Page) (c : Edit) → IsPlain (know_edit aim got c)
 edit_plain aim got (edit.Putting x page) = record { middle = refl }
@@ -50,15 +54,15 @@ edit_plain aim got (edit.PuttingOld t) = record { middle = refl }
 edit_plain aim got (edit.OpeningNew x y s) = record { middle = refl }
 edit_plain aim got (edit.Opening x o) = record { middle = refl }
 
-growth_plain : (level key : ℕ) (got : ℕ → Page) (a : Growth) → IsPlain (know_growth level key got a)
-growth_plain level key got growth.Latching = record { middle = refl }
-growth_plain level key got growth.Latched = record { middle = refl }
-growth_plain level key got (growth.Taking r) = record { middle = refl }
-growth_plain level key got (growth.PuttingTop r) = record { middle = refl }
-growth_plain level key got (growth.PuttingAnchor r) = record { middle = refl }
-growth_plain level key got (growth.OpeningTop x) = record { middle = refl }
-growth_plain level key got growth.OpeningGrown = record { middle = refl }
-growth_plain level key got growth.OpeningRefused = record { middle = refl }
+growth_plain : (keeps : Keeps) → (level key : ℕ) (got : ℕ → Page) (a : Growth) → IsPlain (know_growth keeps level key got a)
+growth_plain keeps level key got growth.Latching = record { middle = refl }
+growth_plain keeps level key got growth.Latched = record { middle = refl }
+growth_plain keeps level key got (growth.Taking r) = record { middle = refl }
+growth_plain keeps level key got (growth.PuttingTop r) = record { middle = refl }
+growth_plain keeps level key got (growth.PuttingAnchor r) = record { middle = refl }
+growth_plain keeps level key got (growth.OpeningTop x) = record { middle = refl }
+growth_plain keeps level key got growth.OpeningGrown = record { middle = refl }
+growth_plain keeps level key got growth.OpeningRefused = record { middle = refl }
 
 find_plain : (key : ℕ) (a : FindStage) → IsPlain (know_find key a)
 find_plain key find.New = record { middle = refl }
@@ -74,23 +78,23 @@ part_plain from (part.Descending d) = record { middle = refl }
 part_plain from (part.Ending r) = record { middle = refl }
 part_plain from (part.Over r) = record { middle = refl }
 
-write_plain : (key : ℕ) (does : KeyWrite) (got : ℕ → Page) (a : WriteStage) → IsPlain (know_write key does got a)
-write_plain key does got write.New = record { middle = refl }
-write_plain key does got (write.Keeping x there) = record { middle = refl }
-write_plain key does got (write.Ending r) = record { middle = refl }
-write_plain key does got (write.Over r) = record { middle = refl }
-write_plain key does got (write.Coming a) = approach_plain 0 key a
-write_plain key does got (write.Editing noted c) = edit_plain _ got c
+write_plain : (goes : List Goes) → (key : ℕ) (does : KeyWrite) (got : ℕ → Page) (a : WriteStage) → IsPlain (know_write goes key does got a)
+write_plain goes key does got write.New = record { middle = refl }
+write_plain goes key does got (write.Keeping x there) = record { middle = refl }
+write_plain goes key does got (write.Ending r) = record { middle = refl }
+write_plain goes key does got (write.Over r) = record { middle = refl }
+write_plain goes key does got (write.Coming a) = approach_plain (unsaid goes) 0 key a
+write_plain goes key does got (write.Editing noted c) = edit_plain _ got c
 
-post_plain : (level key : ℕ) (got : ℕ → Page) (child : ℕ) (a : PostStage) → IsPlain (know_post level key got child a)
-post_plain level key got child post.New = record { middle = refl }
-post_plain level key got child (post.Walking v) = record { middle = refl }
-post_plain level key got child (post.Staying x r) = record { middle = refl }
-post_plain level key got child (post.Ending r) = record { middle = refl }
-post_plain level key got child (post.Over r) = record { middle = refl }
-post_plain level key got child (post.Coming a) = approach_plain level key a
-post_plain level key got child (post.Growing h) = growth_plain level key got h
-post_plain level key got child (post.Editing c) = edit_plain _ got c
+post_plain : (keeps : Keeps) → (level key : ℕ) (got : ℕ → Page) (child : ℕ) (a : PostStage) → IsPlain (know_post keeps level key got child a)
+post_plain keeps level key got child post.New = record { middle = refl }
+post_plain keeps level key got child (post.Walking v) = record { middle = refl }
+post_plain keeps level key got child (post.Staying x r) = record { middle = refl }
+post_plain keeps level key got child (post.Ending r) = record { middle = refl }
+post_plain keeps level key got child (post.Over r) = record { middle = refl }
+post_plain keeps level key got child (post.Coming a) = approach_plain keeps level key a
+post_plain keeps level key got child (post.Growing h) = growth_plain keeps level key got h
+post_plain keeps level key got child (post.Editing c) = edit_plain _ got c
 
 reclaim_plain : (time : ℕ) (a : ReclaimStage) → IsPlain (know_reclaim time a)
 reclaim_plain time reclaim.Seeing = record { middle = refl }
@@ -116,12 +120,19 @@ lower_plain got (lower.Sinking l) = lowering_plain got l
 lower_plain got (lower.Ending r) = record { middle = refl }
 lower_plain got (lower.Over r) = record { middle = refl }
 
+climb_plain : (key value : ℕ) (path : Path) (got : ℕ → Page) (child : ℕ) (a : ClimbStage) → IsPlain (know_climb key value path got child a)
+climb_plain key value path got child (climb.Writing v) = write_plain (path_goes path) key (Insert value) got v.stage
+climb_plain key value path got child (climb.Posting q) = post_plain (inserted key value path) q.level q.key got child q.stage
+climb_plain key value path got child (climb.Ending r) = record { middle = refl }
+climb_plain key value path got child (climb.Over r) = record { middle = refl }
+
 -- whoever is in the middle of a compression compresses
 pub of_middle : (got : ℕ → Page) (child time : ℕ) (state : Proc) → ((know_of got child time state).middle ≡ None) ⊎ ((p : Press) × (state ≡ Compress p))
 of_middle got child time (Find p) = inl (find_plain p.key p.stage).middle
-of_middle got child time (Write p) = inl (write_plain p.key p.write got p.stage).middle
-of_middle got child time (Post p) = inl (post_plain p.level p.key got child p.stage).middle
+of_middle got child time (Write p) = inl (write_plain [] p.key p.write got p.stage).middle
+of_middle got child time (Post p) = inl (post_plain alone p.level p.key got child p.stage).middle
 of_middle got child time (Part p) = inl (part_plain p.from p.stage).middle
 of_middle got child time (Compress p) = inr (p, refl)
 of_middle got child time (Reclaim p) = inl (reclaim_plain time p.stage).middle
 of_middle got child time (Lower p) = inl (lower_plain got p.stage).middle
+of_middle got child time (InsertPost p) = inl (climb_plain p.key p.value p.path got child p.stage).middle

@@ -1,5 +1,5 @@
 -- Every turn of a process that compresses keeps a world good.
-use Rattle.std.proofs.Common.{ℕ, suc, ◌≡◌, ◌-◌, ◌<◌, ◌≤◌, List, length, get_or, Some, None, arith, ap, sym, ◌∙◌, refl, subst, inl, inr}
+use Rattle.std.proofs.Common.{ℕ, suc, ◌≡◌, ◌-◌, ◌<◌, ◌≤◌, List, [], length, get_or, Some, None, arith, ap, sym, ◌∙◌, refl, subst, inl, inr}
 use Rattle.std.proofs.lemmas.Bool.{cases_lt}
 use Rattle.bl_model.specs.Rows.{map_of}
 use Rattle.bl_page.specs.declared.page.Page.{Page}
@@ -27,7 +27,7 @@ use Rattle.bl_proc_compress.proofs.Places.{listed_at}
 use Rattle.bl_proc_compress.specs.declared.squeezing.CompressStage.{CompressStage}
 use Rattle.bl_proc_compress.specs.Compresses.{compress_next_in}
 use Rattle.bl_proc_invariant.specs.Turns.{event_of, IsObserved, Does, Turned}
-use Rattle.bl_proc_invariant.specs.Tables.{idle, goes_to, know_approach}
+use Rattle.bl_proc_invariant.specs.Tables.{idle, alone, goes_to, know_approach}
 use Rattle.bl_proc_invariant.specs.Compressing.{know_squeeze}
 use Rattle.bl_proc_invariant.specs.Knowing.{know_compress, compress_got}
 use Rattle.bl_proc_invariant.proofs.Acts.{watched}
@@ -51,11 +51,11 @@ module _ {P : Type 0} (know : P → Know) (w : World P) (g : IsGood know w) (p :
       goes_down know w g p x (level - 1) k c may (subst IsTreePage (sym page) tt) (ap (λ v. (node_of v).shape.level) page ∙ (at ∙ (let e : level ≡ suc (level - 1) = omega (arith, least) in e)))
       (record { key = k; listed = ap (λ v. (node_of v).look k) page ∙ listed; reached = omega arith; greatest = λ j other e le. le })
 
-  family_turn : (x : ℕ) (parent : Inner) (f : Family) (got : ℕ → Page) (s : State Page) → know (w.proc p) ≡ know_approach level key (way.Latched x) → know b ≡ know_squeeze level key got (LatchingLeft f) → w.now.contents x ≡ InnerPage parent → parent.level ≡ level → AreSiblings x key parent (Some f) → Does w.now p (Get x) s → Turned know w p (Get x) s b
+  family_turn : (x : ℕ) (parent : Inner) (f : Family) (got : ℕ → Page) (s : State Page) → know (w.proc p) ≡ know_approach alone level key (way.Latched x) → know b ≡ know_squeeze level key got (LatchingLeft f) → w.now.contents x ≡ InnerPage parent → parent.level ≡ level → AreSiblings x key parent (Some f) → Does w.now p (Get x) s → Turned know w p (Get x) s b
   family_turn x parent f got s before then page at_level siblings does =
       let two = siblings.0 in
       let family = siblings.1 in
-      let is : IsSure w p (know_approach level key (way.Latched x)) = rw before at (g.sure p) in
+      let is : IsSure w p (know_approach alone level key (way.Latched x)) = rw before at (g.sure p) in
       let held = is.holds.0 in
       let may = is.goes.0.may in
       let m : Mark = record { event = record { process = p; act = Get x }; saw = Some (w.now.contents x); said = None } in
@@ -80,13 +80,13 @@ module _ {P : Type 0} (know : P → Know) (w : World P) (g : IsGood know w) (p :
   over_turn (SqueezeCase.OpenedParent x f _ t) S got s before then on does = open_parent_turn know w g p b level key got 0 0 x f S s before then on does
 
   pub compress_turn : {a a' : CompressStage} {what : Seen} → CompressCase level key a what a' → (got : ℕ → Page) (s : State Page) → know (w.proc p) ≡ know_compress level key got a → know b ≡ know_compress level key (compress_got got a what) a' → IsObserved w.now w.size (compress_next_in a) what → Does w.now p (event_of None (compress_next_in a) what) s → Turned know w p (event_of None (compress_next_in a) what) s b
-  compress_turn (CompressCase.Began a t) got s before then observed does = begin_turn know w g p b key s before (rw t at then) does
-  compress_turn (CompressCase.NoLevel c t) got s before then observed does = give_up_turn know w g p b level key s before then does
-  compress_turn (CompressCase.Came a what a' t) got s before then observed does = approach_turn know w g p b level key a a' what s limit before then t observed does
+  compress_turn (CompressCase.Began a t) got s before then observed does = begin_turn know w g p b alone key s before (rw t at then) does
+  compress_turn (CompressCase.NoLevel c t) got s before then observed does = give_up_turn know w g p b alone level key s before then does
+  compress_turn (CompressCase.Came a what a' t) got s before then observed does = approach_turn know w g p b alone level key a a' what s limit before then t observed does
   compress_turn (CompressCase.Met x parent f l t) got s before then observed does = family_turn x parent f got s before then (sym observed) l.2 t does
-  compress_turn (CompressCase.Single x parent y l t) got s before then observed does = kept_turn know w g p b level key x s before (rw t.0 at then) does
+  compress_turn (CompressCase.Single x parent y l t) got s before then observed does = kept_turn know w g p b alone level key x s before (rw t.0 at then) does
   compress_turn (CompressCase.Squeezed c what d t) got s before then observed does = compression_turn know w g p b level key least got c d what s before then t observed does
   compress_turn (CompressCase.Lost c what a (decision, t, none, start)) got s before then observed does = over_turn (squeeze_case c what _ t) (key < unbounded) got s before (rw start at then) (λ e. e) does
   compress_turn (CompressCase.Finished c what r (decision, t, some)) got s before then observed does = over_turn (squeeze_case c what _ t) (Unit {0}) got s before then (λ e. tt) does
-  compress_turn (CompressCase.Opened x r t) got s before then observed does = stay_turn know w g p b level key x s before then does
-  compress_turn (CompressCase.Ended r last t) got s before then observed does = end_turn know w g p b None s before then does
+  compress_turn (CompressCase.Opened x r t) got s before then observed does = stay_turn know w g p b alone level key x (Unit {0}) s before then does
+  compress_turn (CompressCase.Ended r last t) got s before then observed does = end_turn know w g p b None [] (Unit {0}) s before then does

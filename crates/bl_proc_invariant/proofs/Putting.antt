@@ -44,7 +44,7 @@ module _ (marks : Trail) (m : Mark) where
 
   -- a mark that writes nothing
   module _ (quiet : writes_in m.event.act ≡ []) where
-    leaf_stays : (separator : Option ℕ) → WroteLeaf separator marks → WroteLeaf separator more
+    pub leaf_stays : (separator : Option ℕ) → WroteLeaf separator marks → WroteLeaf separator more
     leaf_stays separator h = (h.0, h.1, h.2, held_still marks m quiet h.3, h.4)
 
     outcome_stays : (Whole : Page → Type 0) (Parts : Type 0) (o : Outcome) → put_log Whole Parts o marks → put_log Whole Parts o more
@@ -66,7 +66,7 @@ module _ (marks : Trail) (m : Mark) where
     effect_stays Remove hint h = (h.0, h.1, held_still marks m quiet h.2, h.3)
     effect_stays (Replace value) hint h = (h.0, h.1, held_still marks m quiet h.2, h.3)
 
-    written_stays : (does : KeyWrite) (r : WriteReply) → written_log does r marks → written_log does r more
+    pub written_stays : (does : KeyWrite) (r : WriteReply) → written_log does r marks → written_log does r more
     written_stays does (written.Done there hint) h = effect_stays (effect_of does there) hint h
     written_stays does written.NoRoom h = unwritten_on marks m quiet h
 

@@ -17,3 +17,4 @@ MeansBeside (proc.Part p) reply hint marks = (writes_of marks ≡ []) × (hint �
 MeansBeside (proc.Compress p) reply hint marks = Unit {0}
 MeansBeside (proc.Reclaim p) reply hint marks = Unit {0}
 MeansBeside (proc.Lower p) reply hint marks = Unit {0}
+MeansBeside (proc.InsertPost p) reply hint marks = Unit {0}

@@ -1,9 +1,10 @@
 -- What each kind of process knows.
-use Rattle.std.specs.Prelude.{◌≡◌, ◌≢◌, ℕ, ◌-◌, ◌<◌, Bool, true, false, Option, Some, None, List, [], ◌∷◌, length}
+use Rattle.std.specs.Prelude.{◌≡◌, ◌≢◌, ℕ, zero, suc, ◌-◌, ◌<◌, Bool, true, false, Option, Some, None, List, [], ◌∷◌, length}
 use Rattle.bl_model.specs.declared.operation.Op.TheVariants as op
 use Rattle.bl_model.specs.declared.operation.Reply.{Reply}
 use Rattle.bl_model.specs.declared.operation.Reply.TheVariants as reply
 use Rattle.bl_model.specs.declared.deciding.KeyWrite.{KeyWrite}
+use Rattle.bl_model.specs.declared.deciding.KeyWrite.TheVariants.{Insert}
 use Rattle.bl_model.specs.declared.deciding.Effect.{Effect}
 use Rattle.bl_model.specs.declared.deciding.Effect.TheVariants.{Keep, Enter, Remove, Replace}
 use Rattle.bl_model.specs.Writes.{write_op, effect_of, effected, replied}
@@ -14,9 +15,10 @@ use Rattle.bl_page.specs.Machine.Owner.{Released, Held, Retired}
 use Rattle.bl_claims.specs.Nodes.{unbounded}
 use Rattle.bl_core_tree.specs.Trees.Status.{Fresh}
 use Rattle.bl_claims.specs.Trails.{Said}
-use Rattle.bl_core.specs.Worlds.{Passed, Stage, Know}
+use Rattle.bl_core.specs.Worlds.{Goes, Passed, Stage, Know}
 use Rattle.bl_proc_base.specs.declared.acts.Seen.{Seen}
 use Rattle.bl_proc_base.specs.declared.acts.Seen.TheVariants as seen
+use Rattle.bl_proc_base.specs.declared.answers.Hint.TheVariants as hint
 use Rattle.bl_proc.specs.declared.searching.FindStage.TheVariants as find
 use Rattle.bl_proc.specs.declared.searching.FindStage.{FindStage}
 use Rattle.bl_proc.specs.declared.writing.Noted.{Noted}
@@ -29,6 +31,8 @@ use Rattle.bl_proc.specs.declared.parts.PartStage.{PartStage}
 use Rattle.bl_proc.specs.declared.parts.PartStage.TheVariants as part
 use Rattle.bl_proc_base.specs.declared.growing.Growth.{Growth}
 use Rattle.bl_proc_base.specs.declared.growing.Growth.TheVariants as growth
+use Rattle.bl_proc.specs.declared.posting.PostReply.{PostReply}
+use Rattle.bl_proc.specs.declared.posting.PostReply.TheVariants as posted
 use Rattle.bl_proc.specs.declared.posting.PostStage.{PostStage}
 use Rattle.bl_proc.specs.declared.posting.PostStage.TheVariants as post
 use Rattle.bl_proc.specs.declared.reclaiming.Round.{Round}
@@ -38,13 +42,18 @@ use Rattle.bl_proc_compress.specs.declared.squeezing.CompressStage.{CompressStag
 use Rattle.bl_proc_compress.specs.declared.squeezing.CompressStage.TheVariants as compress
 use Rattle.bl_proc.specs.declared.lowering.LowerStage.{LowerStage}
 use Rattle.bl_proc.specs.declared.lowering.LowerStage.TheVariants as lower
+use Rattle.bl_proc.specs.declared.paths.Path.{Path}
+use Rattle.bl_proc.specs.declared.climbing.Climbed.{Climbed}
+use Rattle.bl_proc.specs.declared.climbing.Climbed.TheVariants as climbed
+use Rattle.bl_proc.specs.declared.climbing.ClimbStage.{ClimbStage}
+use Rattle.bl_proc.specs.declared.climbing.ClimbStage.TheVariants as climb
 use Rattle.bl_proc.specs.declared.kinds.Proc.{Proc}
 use Rattle.bl_proc.specs.declared.kinds.Proc.TheVariants as proc
 use Rattle.bl_proc.specs.Writes.{write_reply}
 use Rattle.bl_proc_base.specs.Growths.{Raises, IsAnchor}
 use Rattle.bl_proc_invariant.specs.Compressing.{know_squeeze, compression_got}
 use Rattle.bl_proc_invariant.specs.Lowering.{know_lowering, lowering_got}
-use Rattle.bl_proc_invariant.specs.Tables.{idle, holds_live, holds_known, anchor_known, goes_to, know_descent, know_approach, Aim, IsDue, know_edit}
+use Rattle.bl_proc_invariant.specs.Tables.{idle, Keeps, unsaid, alone, keeping, holds_live, holds_known, anchor_known, goes_to, know_descent, know_approach, Aim, IsDue, know_edit}
 
 -- it is to begin; it is to end, or has ended, with what it said
 abbrev pub early : ℕ → Know
@@ -87,7 +96,7 @@ know_part from (part.Over r) = late (listed from r)
 -- Writes of one key
 
 abbrev pub written_reply : KeyWrite → WriteReply → Reply
-written_reply does (written.Done there hint) = replied does there
+written_reply does (written.Done there left) = replied does there
 written_reply does written.NoRoom = reply.NoRoom
 
 abbrev pub writes : ℕ → KeyWrite → WriteReply → Option Said
@@ -99,24 +108,31 @@ is_change (Enter value) = true
 is_change Remove = true
 is_change (Replace value) = true
 
-abbrev pub write_aim : ℕ → KeyWrite → Noted → Aim
-write_aim key does noted = record {
+abbrev pub write_aim : List Goes → ℕ → KeyWrite → Noted → Aim
+write_aim goes key does noted = record {
   level = 0;
   key = key;
   was = noted.there;
   word = effected (effect_of does noted.there) noted.there;
   changes = is_change (effect_of does noted.there);
+  keeps = unsaid goes;
+  says = λ o. writes key does (write_reply noted o);
   said = λ o. writes key does (write_reply noted o);
   children = λ x. [];
 }
 
-abbrev pub know_write : ℕ → KeyWrite → (ℕ → Page) → WriteStage → Know
-know_write key does got write.New = early key
-know_write key does got (write.Coming a) = know_approach 0 key a
-know_write key does got (write.Keeping x there) = record (ending (writes key does (written.Done there None))) { holds = holds_live x ∷ [] }
-know_write key does got (write.Editing noted c) = know_edit (write_aim key does noted) got c
-know_write key does got (write.Ending r) = ending (writes key does r)
-know_write key does got (write.Over r) = late (writes key does r)
+-- what is known of the post that a write leaves: the pair was changed, and the separator is a key of the tree
+abbrev pub LeavesWrite : KeyWrite → WriteReply → Type 0
+LeavesWrite does (written.Done there (Some (hint.Post level separator))) = (is_change (effect_of does there) ≡ true) × (separator < unbounded)
+LeavesWrite does r = Unit {0}
+
+abbrev pub know_write : List Goes → ℕ → KeyWrite → (ℕ → Page) → WriteStage → Know
+know_write goes key does got write.New = record (early key) { goes = goes }
+know_write goes key does got (write.Coming a) = know_approach (unsaid goes) 0 key a
+know_write goes key does got (write.Keeping x there) = record (ending (writes key does (written.Done there None))) { holds = holds_live x ∷ []; goes = goes }
+know_write goes key does got (write.Editing noted c) = know_edit (write_aim goes key does noted) got c
+know_write goes key does got (write.Ending r) = record (ending (writes key does r)) { goes = goes; sound = LeavesWrite does r }
+know_write goes key does got (write.Over r) = late (writes key does r)
 
 -- Growths: page 0 is held, and as the process got it
 
@@ -126,36 +142,83 @@ pub record MayRise (level : ℕ) (c : Page) (leftmost : List ℕ) : Type 0 where
   pub levels : length leftmost ≡ level
   pub room : level < 12
 
-abbrev pub know_growth : ℕ → ℕ → (ℕ → Page) → Growth → Know
-know_growth level key got growth.Latching = record (idle Stage.Busy) { sound = key < unbounded }
-know_growth level key got growth.Latched = record (idle Stage.Busy) { holds = anchor_known None ∷ []; sound = key < unbounded }
-know_growth level key got (growth.Taking rise) = record (idle Stage.Busy) { holds = anchor_known (Some (Anchor rise.anchor)) ∷ []; sound = (key < unbounded) × MayRise level (Anchor rise.anchor) rise.anchor.leftmost.items × (got 0 ≡ Anchor rise.anchor) }
-know_growth level key got (growth.PuttingTop r) = record (idle Stage.Busy) { holds = anchor_known (Some (got 0)) ∷ record { at = r.new; status = Fresh; sep = None; page = None } ∷ []; sound = (key < unbounded) × ((leftmost : List ℕ) × MayRise level (got 0) leftmost × Raises leftmost r.new r.top r.anchor) }
-know_growth level key got (growth.PuttingAnchor r) = record (idle Stage.Busy) { holds = anchor_known (Some (got 0)) ∷ record { at = r.new; status = Fresh; sep = Some 0; page = Some r.top } ∷ []; sound = (key < unbounded) × ((leftmost : List ℕ) × MayRise level (got 0) leftmost × Raises leftmost r.new r.top r.anchor) }
-know_growth level key got (growth.OpeningTop x) = record (idle Stage.Busy) { holds = anchor_known None ∷ holds_live x ∷ []; sound = (key < unbounded) × (0 ≢ x) }
-know_growth level key got growth.OpeningGrown = record (idle Stage.Busy) { holds = anchor_known None ∷ []; sound = key < unbounded }
-know_growth level key got growth.OpeningRefused = record (idle Stage.Busy) { holds = anchor_known None ∷ [] }
+abbrev pub know_growth : Keeps → ℕ → ℕ → (ℕ → Page) → Growth → Know
+know_growth keeps level key got growth.Latching = record (keeping keeps) { sound = key < unbounded }
+know_growth keeps level key got growth.Latched = record (keeping keeps) { holds = anchor_known None ∷ []; sound = key < unbounded }
+know_growth keeps level key got (growth.Taking rise) = record (keeping keeps) { holds = anchor_known (Some (Anchor rise.anchor)) ∷ []; sound = (key < unbounded) × MayRise level (Anchor rise.anchor) rise.anchor.leftmost.items × (got 0 ≡ Anchor rise.anchor) }
+know_growth keeps level key got (growth.PuttingTop r) = record (keeping keeps) { holds = anchor_known (Some (got 0)) ∷ record { at = r.new; status = Fresh; sep = None; page = None } ∷ []; sound = (key < unbounded) × ((leftmost : List ℕ) × MayRise level (got 0) leftmost × Raises leftmost r.new r.top r.anchor) }
+know_growth keeps level key got (growth.PuttingAnchor r) = record (keeping keeps) { holds = anchor_known (Some (got 0)) ∷ record { at = r.new; status = Fresh; sep = Some 0; page = Some r.top } ∷ []; sound = (key < unbounded) × ((leftmost : List ℕ) × MayRise level (got 0) leftmost × Raises leftmost r.new r.top r.anchor) }
+know_growth keeps level key got (growth.OpeningTop x) = record (keeping keeps) { holds = anchor_known None ∷ holds_live x ∷ []; sound = (key < unbounded) × (0 ≢ x) }
+know_growth keeps level key got growth.OpeningGrown = record (keeping keeps) { holds = anchor_known None ∷ []; sound = key < unbounded }
+know_growth keeps level key got growth.OpeningRefused = record (keeping keeps) { holds = anchor_known None ∷ [] }
 
 -- Posts: they answer no operation of the map. While a parent is held, it is known that it does not list the key.
 
-abbrev pub post_aim : ℕ → ℕ → ℕ → Aim
-post_aim level key child = record { level = level; key = key; was = None; word = Some child; changes = true; said = λ o. None; children = λ x. record { parent = x; at = child; key = key } ∷ [] }
+abbrev pub post_aim : Keeps → ℕ → ℕ → ℕ → Aim
+post_aim keeps level key child = record {
+  level = level;
+  key = key;
+  was = None;
+  word = Some child;
+  changes = true;
+  keeps = keeps;
+  says = λ o. None;
+  said = λ o. keeps.said;
+  children = λ x. record { parent = x; at = child; key = key } ∷ [];
+}
 
-abbrev pub know_post : ℕ → ℕ → (ℕ → Page) → ℕ → PostStage → Know
-know_post level key got child post.New = early key
-know_post level key got child (post.Coming a) = know_approach level key a
-know_post level key got child (post.Growing g) = know_growth level key got g
-know_post level key got child (post.Walking w) = record (idle Stage.Busy) { holds = holds_known w.at (Inner w.parent) ∷ []; goes = goes_to w.child (level - 1) (level - 1) ∷ []; sound = (key < unbounded) × IsDue (post_aim level key 0) (Inner w.parent) × (w.key ≡ key) }
-know_post level key got child (post.Editing c) = know_edit (post_aim level key child) got c
-know_post level key got child (post.Staying x r) = record (idle Stage.Busy) { holds = holds_live x ∷ [] }
-know_post level key got child (post.Ending r) = ending None
-know_post level key got child (post.Over r) = late None
+-- and of the one that a post leaves
+abbrev pub LeavesPost : PostReply → Type 0
+LeavesPost (posted.Done (Some separator)) = separator < unbounded
+LeavesPost r = Unit {0}
+
+abbrev pub know_post : Keeps → ℕ → ℕ → (ℕ → Page) → ℕ → PostStage → Know
+know_post keeps level key got child post.New = record (early key) { said = keeps.said; goes = keeps.goes }
+know_post keeps level key got child (post.Coming a) = know_approach keeps level key a
+know_post keeps level key got child (post.Growing g) = know_growth keeps level key got g
+know_post keeps level key got child (post.Walking w) = record (keeping keeps) { holds = holds_known w.at (Inner w.parent) ∷ []; goes = goes_to w.child (level - 1) (level - 1) ∷ keeps.goes; sound = (key < unbounded) × IsDue (post_aim keeps level key 0) (Inner w.parent) × (w.key ≡ key) }
+know_post keeps level key got child (post.Editing c) = know_edit (post_aim keeps level key child) got c
+know_post keeps level key got child (post.Staying x r) = record (keeping keeps) { holds = holds_live x ∷ []; sound = LeavesPost r }
+know_post keeps level key got child (post.Ending r) = record (ending keeps.said) { goes = keeps.goes; sound = LeavesPost r }
+know_post keeps level key got child (post.Over r) = late keeps.said
+
+-- Insertions that post: all the time they may go to each page that they have noted, which is of the level for which it is noted.
+
+-- the pages that are noted from that level on
+abbrev pub goes_above : ℕ → List ℕ → List Goes
+goes_above level [] = []
+goes_above level (zero ∷ rest) = goes_above (suc level) rest
+goes_above level (suc x ∷ rest) = goes_to (suc x) level level ∷ goes_above (suc level) rest
+
+abbrev pub path_goes : Path → List Goes
+path_goes path = goes_above 1 path.pages
+
+abbrev pub climbed_reply : ℕ → Climbed → Reply
+climbed_reply value (climbed.Unsplit r) = written_reply (Insert value) r
+climbed_reply value (climbed.Posted level k r) = reply.Inserted
+
+abbrev pub climbed_said : ℕ → ℕ → Climbed → Option Said
+climbed_said key value r = Some (record { op = write_op key (Insert value); reply = climbed_reply value r })
+
+abbrev pub LeavesClimb : ℕ → Climbed → Type 0
+LeavesClimb value (climbed.Unsplit r) = LeavesWrite (Insert value) r
+LeavesClimb value (climbed.Posted level k r) = LeavesPost r
+
+-- when it posts it has said that its pair has entered
+abbrev pub inserted : ℕ → ℕ → Path → Keeps
+inserted key value path = record { said = Some (record { op = write_op key (Insert value); reply = reply.Inserted }); goes = path_goes path }
+
+abbrev pub know_climb : ℕ → ℕ → Path → (ℕ → Page) → ℕ → ClimbStage → Know
+know_climb key value path got child (climb.Writing w) = know_write (path_goes path) key (Insert value) got w.stage
+know_climb key value path got child (climb.Posting p) = know_post (inserted key value path) p.level p.key got child p.stage
+know_climb key value path got child (climb.Ending r) = record (ending (climbed_said key value r)) { goes = path_goes path; sound = LeavesClimb value r }
+know_climb key value path got child (climb.Over r) = late (climbed_said key value r)
 
 -- Compressions: they answer no operation of the map
 
 abbrev pub know_compress : ℕ → ℕ → (ℕ → Page) → CompressStage → Know
 know_compress level key got compress.New = early key
-know_compress level key got (compress.Coming a) = know_approach level key a
+know_compress level key got (compress.Coming a) = know_approach alone level key a
 know_compress level key got (compress.Compressing c) = know_squeeze level key got c
 know_compress level key got (compress.Staying x) = record (idle Stage.Busy) { holds = holds_live x ∷ [] }
 know_compress level key got (compress.Ending r) = ending None
@@ -198,12 +261,13 @@ pub record Run : Type 0 where
 
 abbrev pub know_of : (ℕ → Page) → ℕ → ℕ → Proc → Know
 know_of got child time (proc.Find p) = know_find p.key p.stage
-know_of got child time (proc.Write p) = know_write p.key p.write got p.stage
-know_of got child time (proc.Post p) = know_post p.level p.key got child p.stage
+know_of got child time (proc.Write p) = know_write [] p.key p.write got p.stage
+know_of got child time (proc.Post p) = know_post alone p.level p.key got child p.stage
 know_of got child time (proc.Part p) = know_part p.from p.stage
 know_of got child time (proc.Compress p) = know_compress p.level p.key got p.stage
 know_of got child time (proc.Reclaim p) = know_reclaim time p.stage
 know_of got child time (proc.Lower p) = know_lower got p.stage
+know_of got child time (proc.InsertPost p) = know_climb p.key p.value p.path got child p.stage
 
 -- by its state alone
 abbrev pub know : Run → Know
@@ -232,6 +296,12 @@ write_end does (write.Editing noted c) = None
 write_end does (write.Ending r) = Some (written_reply does r)
 write_end does (write.Over r) = None
 
+abbrev pub climb_end : ℕ → ClimbStage → Option Reply
+climb_end value (climb.Writing w) = write_end (Insert value) w.stage
+climb_end value (climb.Posting p) = None
+climb_end value (climb.Ending r) = Some (climbed_reply value r)
+climb_end value (climb.Over r) = None
+
 abbrev pub end_of_proc : Proc → Option Reply
 end_of_proc (proc.Find p) = find_end p.stage
 end_of_proc (proc.Write p) = write_end p.write p.stage
@@ -240,6 +310,7 @@ end_of_proc (proc.Part p) = part_end p.stage
 end_of_proc (proc.Compress p) = None
 end_of_proc (proc.Reclaim p) = None
 end_of_proc (proc.Lower p) = None
+end_of_proc (proc.InsertPost p) = climb_end p.value p.stage
 
 -- what a process has got of the pages that it holds, after it was told this
 abbrev pub write_got : (ℕ → Page) → WriteStage → Seen → ℕ → Page
@@ -259,9 +330,21 @@ abbrev pub lower_got : (ℕ → Page) → LowerStage → Seen → ℕ → Page
 lower_got got (lower.Sinking l) what = lowering_got got l what
 lower_got got stage what = got
 
+abbrev pub climb_got : (ℕ → Page) → ClimbStage → Seen → ℕ → Page
+climb_got got (climb.Writing w) what = write_got got w.stage what
+climb_got got (climb.Posting p) what = post_got got p.stage what
+climb_got got (climb.Ending r) what = got
+climb_got got (climb.Over r) what = got
+
 abbrev pub post_child : ℕ → PostStage → ℕ
 post_child child (post.Walking w) = w.child
 post_child child stage = child
+
+abbrev pub climb_child : ℕ → ClimbStage → ℕ
+climb_child child (climb.Writing w) = child
+climb_child child (climb.Posting p) = post_child child p.stage
+climb_child child (climb.Ending r) = child
+climb_child child (climb.Over r) = child
 
 abbrev pub got_next : (ℕ → Page) → Proc → Seen → ℕ → Page
 got_next got (proc.Find p) what = got
@@ -271,6 +354,7 @@ got_next got (proc.Part p) what = got
 got_next got (proc.Compress p) what = compress_got got p.stage what
 got_next got (proc.Reclaim p) what = got
 got_next got (proc.Lower p) what = lower_got got p.stage what
+got_next got (proc.InsertPost p) what = climb_got got p.stage what
 
 abbrev pub child_next : ℕ → Proc → ℕ
 child_next child (proc.Find p) = child
@@ -280,6 +364,7 @@ child_next child (proc.Part p) = child
 child_next child (proc.Compress p) = child
 child_next child (proc.Reclaim p) = child
 child_next child (proc.Lower p) = child
+child_next child (proc.InsertPost p) = climb_child child p.stage
 
 -- since when the page is retired, if it is, at which a release looks
 abbrev pub retired_since : Owner → ℕ → ℕ
@@ -302,6 +387,7 @@ time_next now time (proc.Part p) = time
 time_next now time (proc.Compress p) = time
 time_next now time (proc.Reclaim p) = reclaim_time now time p.page p.stage
 time_next now time (proc.Lower p) = time
+time_next now time (proc.InsertPost p) = time
 
 -- the process after it was told this of these pages, in that state
 abbrev pub run_next : State Page → Run → Seen → Proc → Run

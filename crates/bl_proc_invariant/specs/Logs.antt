@@ -4,7 +4,7 @@ use Rattle.bl_model.specs.declared.operation.Reply.{Reply}
 use Rattle.bl_page.specs.declared.page.Page.{Page}
 use Rattle.bl_page.specs.declared.page.Page.TheVariants.{Inner}
 use Rattle.bl_page.specs.Machine.{Name, Act}
-use Rattle.bl_page.specs.Machine.Act.{Get, Put, Take, Latch}
+use Rattle.bl_page.specs.Machine.Act.{Begin, Get, Put, Take, Latch}
 use Rattle.bl_claims.specs.Nodes.{Covers}
 use Rattle.bl_claims.specs.Pages.{node_of}
 use Rattle.bl_core.specs.Worlds.{World}
@@ -26,6 +26,7 @@ use Rattle.bl_rearrange.specs.declared.sides.Side.{Side}
 use Rattle.bl_proc_compress.specs.declared.compressing.Puts.{Puts}
 use Rattle.bl_proc_compress.specs.declared.compressing.Family.{Family}
 use Rattle.bl_proc_base.specs.declared.answers.Hint.{Hint}
+use Rattle.bl_proc_base.specs.declared.answers.Posted.{Posted}
 use Rattle.bl_proc_compress.specs.declared.compressing.Decision.{Decision}
 use Rattle.bl_proc_compress.specs.declared.compressing.Decision.TheVariants as decision
 use Rattle.bl_proc_compress.specs.declared.compressing.Compression.{Compression}
@@ -37,6 +38,7 @@ use Rattle.bl_proc_compress.specs.declared.squeezing.CompressStage.TheVariants a
 use Rattle.bl_proc_meanings.specs.Squeezed.{Since, AtFamily, AtLeft, AtBoth, to_left, to_right, put_child, MeansMerged, MeansEvened, MeansEnough, MeansUnposted, MeansAlone, MeansNoPlace}
 use Rattle.bl_proc_compress.specs.Compressions.{Decides, other}
 use Rattle.bl_model.specs.declared.deciding.KeyWrite.{KeyWrite}
+use Rattle.bl_model.specs.declared.deciding.KeyWrite.TheVariants.{Insert}
 use Rattle.bl_model.specs.declared.deciding.Effect.{Effect}
 use Rattle.bl_model.specs.declared.deciding.Effect.TheVariants.{Keep, Enter, Remove, Replace}
 use Rattle.bl_model.specs.Writes.{effect_of, deed_of}
@@ -48,8 +50,14 @@ use Rattle.bl_proc.specs.declared.writing.WriteStage.TheVariants as write
 use Rattle.bl_proc_base.specs.Thin.{thin_low}
 use Rattle.bl_proc_meanings.specs.Hinted.{WroteLeaf, WroteFor}
 use Rattle.bl_proc_meanings.specs.Lowered.{MeansLowered}
+use Rattle.bl_proc_meanings.specs.Climbed.{PostsUp, WroteAndPosted}
 use Rattle.bl_proc_invariant.specs.LoweringLog.{lowering_log}
 use Rattle.bl_proc_invariant.specs.Knowing.{Run}
+use Rattle.bl_proc.specs.declared.climbing.Climbed.{Climbed}
+use Rattle.bl_proc.specs.declared.climbing.Climbed.TheVariants as climbed
+use Rattle.bl_proc.specs.declared.climbing.ClimbStage.{ClimbStage}
+use Rattle.bl_proc.specs.declared.climbing.ClimbStage.TheVariants as climb
+use Rattle.bl_proc.specs.Climbs.{posted_as, left_hint, IsUnsplit}
 use Rattle.bl_proc.specs.declared.lowering.LowerStage.{LowerStage}
 use Rattle.bl_proc.specs.declared.lowering.LowerStage.TheVariants as lower
 use Rattle.bl_proc.specs.declared.kinds.Proc.{Proc}
@@ -262,6 +270,29 @@ lower_log (lower.Sinking l) marks = lowering_log l marks
 lower_log (lower.Ending r) marks = MeansLowered r marks
 lower_log (lower.Over r) marks = MeansLowered r marks
 
+-- Insertions that post
+
+-- It has entered its pair, split its leaf, and done some posts; the next one is of that key to that level, and has done that since, as
+-- if the process had begun with it. Whatever this post and those that follow it come to, is what all comes to.
+pub record IsPostingOn (Does : Trail → Type 0) (level key : ℕ) (marks : Trail) : Type 0 where
+  pub begin : Mark
+  pub begun : begin.event.act ≡ Begin
+  pub before : Trail
+  pub rest : Trail
+  pub split : marks ≡ before ++ rest
+  pub does : Does (begin ∷ rest)
+  pub whole : (a : Posted) (left : Option Hint) (more : Trail) → PostsUp begin a left level key more → WroteAndPosted a left (before ++ more)
+
+abbrev pub climbed_log : ℕ → Climbed → Trail → Type 0
+climbed_log value (climbed.Unsplit r) marks = written_log (Insert value) r marks × IsUnsplit r
+climbed_log value (climbed.Posted level key r) marks = WroteAndPosted (posted_as r) (left_hint level key (posted_as r)) marks
+
+abbrev pub climb_log : ℕ → ClimbStage → Trail → Type 0
+climb_log value (climb.Writing w) marks = write_log (Insert value) w.stage marks
+climb_log value (climb.Posting p) marks = IsPostingOn (post_log p.level p.key p.stage) p.level p.key marks
+climb_log value (climb.Ending r) marks = climbed_log value r marks
+climb_log value (climb.Over r) marks = climbed_log value r marks
+
 -- Searches and parts write nothing.
 abbrev pub proc_log : Proc → Trail → Type 0
 proc_log (proc.Find p) marks = writes_of marks ≡ []
@@ -271,6 +302,7 @@ proc_log (proc.Part p) marks = writes_of marks ≡ []
 proc_log (proc.Compress p) marks = compress_log p.level p.key p.stage marks
 proc_log (proc.Reclaim p) marks = Unit {0}
 proc_log (proc.Lower p) marks = lower_log p.stage marks
+proc_log (proc.InsertPost p) marks = climb_log p.value p.stage marks
 
 -- Each process has done what its state tells of.
 abbrev pub AllLogs : World Run → Type 0

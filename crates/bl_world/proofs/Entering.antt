@@ -33,7 +33,8 @@ use Rattle.bl_proc_compress.specs.Compresses.{compress_next_in}
 use Rattle.bl_proc.specs.Reclaims.{reclaim_next_in}
 use Rattle.bl_proc.specs.Lowers.{lower_next_in}
 use Rattle.bl_proc_invariant.specs.Knowing.{Run, know_of, know_find, know_part, know_write, know_post, know_compress, know_reclaim, know_lower}
-use Rattle.bl_proc_invariant.proofs.Starting.{with_proc, enters_good, enters_logs}
+use Rattle.bl_proc_invariant.proofs.Instead.{with_proc}
+use Rattle.bl_proc_invariant.proofs.Starting.{enters_good, enters_logs}
 use Rattle.bl_proc_bounds.proofs.Kept.{enter_kept}
 use Rattle.bl_world.specs.declared.turns.Event.{Event}
 use Rattle.bl_world.specs.declared.owners.Owner.{Owner}
