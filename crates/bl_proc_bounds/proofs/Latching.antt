@@ -58,7 +58,7 @@ use Rattle.bl_proc.specs.declared.climbing.ClimbStage.{ClimbStage}
 use Rattle.bl_proc.specs.declared.climbing.ClimbStage.TheVariants as climb
 use Rattle.bl_proc.specs.Climbs.{climb_next_in}
 use Rattle.bl_proc_invariant.specs.Turns.{event_of}
-use Rattle.bl_proc_invariant.specs.Tables.{Keeps, unsaid, alone, know_approach}
+use Rattle.bl_proc_invariant.specs.Tables.{Carried, unsaid, alone, know_approach}
 use Rattle.bl_proc_invariant.specs.Logs.{squeeze_log, compress_log, proc_log}
 use Rattle.bl_proc_invariant.specs.Compressing.{know_squeeze}
 use Rattle.bl_proc_invariant.specs.Lowering.{know_lowering}
@@ -137,12 +137,12 @@ latch_next reply a what x e = absurd (let f = e in cc)
 
 -- What it holds then
 
-approach_alone : (keeps : Keeps) → (level key : ℕ) (a : Approach) (x : ℕ) → approach_next a ≡ act.Latch x → (know_approach keeps level key a).holds ≡ []
-approach_alone keeps level key way.Start x e = cc (e)
-approach_alone keeps level key (way.At y) x e = cc (e)
-approach_alone keeps level key (way.Latching y) x e = refl
-approach_alone keeps level key (way.Latched y) x e = absurd (cc e)
-approach_alone keeps level key (way.Leaving y to) x e = absurd (cc e)
+approach_alone : (carried : Carried) → (level key : ℕ) (a : Approach) (x : ℕ) → approach_next a ≡ act.Latch x → (know_approach carried level key a).holds ≡ []
+approach_alone carried level key way.Start x e = cc (e)
+approach_alone carried level key (way.At y) x e = cc (e)
+approach_alone carried level key (way.Latching y) x e = refl
+approach_alone carried level key (way.Latched y) x e = absurd (cc e)
+approach_alone carried level key (way.Leaving y to) x e = absurd (cc e)
 
 edit_never : (c : Edit) (x : ℕ) → edit_next c ≢ act.Latch x
 edit_never (edit.Putting y page) x e = cc
@@ -152,9 +152,9 @@ edit_never (edit.PuttingOld p) x e = cc
 edit_never (edit.OpeningNew y new separator) x e = cc
 edit_never (edit.Opening y what) x e = cc
 
-growth_alone : (keeps : Keeps) → (level key : ℕ) (got : ℕ → Page) (g : Growth) (x : ℕ) → growth_next g ≡ act.Latch x → (know_growth keeps level key got g).holds ≡ []
-growth_alone keeps level key got growth.Latching x e = refl
-growth_alone keeps level key got old x e = absurd (cc e)
+growth_alone : (carried : Carried) → (level key : ℕ) (got : ℕ → Page) (g : Growth) (x : ℕ) → growth_next g ≡ act.Latch x → (know_growth carried level key got g).holds ≡ []
+growth_alone carried level key got growth.Latching x e = refl
+growth_alone carried level key got old x e = absurd (cc e)
 
 write_alone : (goes : List Goes) → (key : ℕ) (does : KeyWrite) (got : ℕ → Page) (a : WriteStage) (x : ℕ) → write_next_in a ≡ act.Latch x → (know_write goes key does got a).holds ≡ []
 write_alone goes key does got write.New x e = refl
@@ -164,15 +164,15 @@ write_alone goes key does got (write.Editing noted c) x e = absurd (edit_never c
 write_alone goes key does got (write.Ending r) x e = refl
 write_alone goes key does got (write.Over r) x e = refl
 
-post_alone : (keeps : Keeps) → (level key : ℕ) (got : ℕ → Page) (child : ℕ) (a : PostStage) (x : ℕ) → post_next_in a ≡ act.Latch x → (know_post keeps level key got child a).holds ≡ []
-post_alone keeps level key got child post.New x e = refl
-post_alone keeps level key got child (post.Coming a) x e = approach_alone keeps level key a x e
-post_alone keeps level key got child (post.Growing g) x e = growth_alone keeps level key got g x e
-post_alone keeps level key got child (post.Walking w) x e = absurd (cc e)
-post_alone keeps level key got child (post.Editing c) x e = absurd (edit_never c x e)
-post_alone keeps level key got child (post.Staying y r) x e = absurd (cc e)
-post_alone keeps level key got child (post.Ending r) x e = refl
-post_alone keeps level key got child (post.Over r) x e = refl
+post_alone : (carried : Carried) → (level key : ℕ) (got : ℕ → Page) (child : ℕ) (a : PostStage) (x : ℕ) → post_next_in a ≡ act.Latch x → (know_post carried level key got child a).holds ≡ []
+post_alone carried level key got child post.New x e = refl
+post_alone carried level key got child (post.Coming a) x e = approach_alone carried level key a x e
+post_alone carried level key got child (post.Growing g) x e = growth_alone carried level key got g x e
+post_alone carried level key got child (post.Walking w) x e = absurd (cc e)
+post_alone carried level key got child (post.Editing c) x e = absurd (edit_never c x e)
+post_alone carried level key got child (post.Staying y r) x e = absurd (cc e)
+post_alone carried level key got child (post.Ending r) x e = refl
+post_alone carried level key got child (post.Over r) x e = refl
 
 climb_alone : (key value : ℕ) (path : Path) (got : ℕ → Page) (child : ℕ) (a : ClimbStage) (x : ℕ) → climb_next_in a ≡ act.Latch x → (know_climb key value path got child a).holds ≡ []
 climb_alone key value path got child (climb.Writing v) x e = write_alone (path_goes path) key (Insert value) got v.stage x e

@@ -1,9 +1,8 @@
 -- Every turn of an insertion that posts keeps a world good: the write or the post within it takes its turn, after the page from
 -- which it goes down is noted; and where that is to end, the next post may stand there instead.
-use Rattle.std.proofs.Common.{ℕ, ◌≡◌, ◌+◌, ◌<◌, Option, None, Some, true, arith, ap, sym, ◌∙◌, refl, subst}
+use Rattle.std.proofs.Common.{ℕ, ◌≡◌, ◌+◌, ◌<◌, Option, None, Some, true, arith, ap, ◌∙◌, refl, subst}
 use Rattle.std.proofs.lemmas.Bool.{false≢true}
 use Rattle.bl_model.specs.declared.operation.Reply.TheVariants as reply
-use Rattle.bl_model.specs.declared.deciding.KeyWrite.{KeyWrite}
 use Rattle.bl_model.specs.declared.deciding.KeyWrite.TheVariants.{Insert}
 use Rattle.bl_model.specs.Writes.{write_op, effect_of, replied}
 use Rattle.bl_page.specs.declared.page.Page.{Page}
@@ -16,11 +15,8 @@ use Rattle.bl_proc_base.specs.declared.acts.Seen.{Seen}
 use Rattle.bl_proc_base.specs.declared.answers.Hint.TheVariants as hint
 use Rattle.bl_proc.specs.declared.paths.Path.{Path}
 use Rattle.bl_proc.specs.declared.posting.Post.{Post}
-use Rattle.bl_proc.specs.declared.posting.PostReply.{PostReply}
 use Rattle.bl_proc.specs.declared.posting.PostReply.TheVariants as listed
-use Rattle.bl_proc.specs.declared.posting.PostStage.TheVariants as post
 use Rattle.bl_proc.specs.declared.writing.Write.{Write}
-use Rattle.bl_proc.specs.declared.writing.WriteReply.{WriteReply}
 use Rattle.bl_proc.specs.declared.writing.WriteReply.TheVariants as written
 use Rattle.bl_proc.specs.declared.writing.WriteStage.{WriteStage}
 use Rattle.bl_proc.specs.declared.writing.WriteStage.TheVariants as write
@@ -31,10 +27,10 @@ use Rattle.bl_proc.specs.declared.climbing.ClimbStage.TheVariants as climb
 use Rattle.bl_proc.specs.declared.kinds.Proc.TheVariants as proc
 use Rattle.bl_proc.specs.Paths.{page_at, from_page}
 use Rattle.bl_proc.specs.Stands.{IsPosting, BeginsBlank, Stands}
-use Rattle.bl_proc.specs.Climbs.{WriteNotes, ClimbNotes, PostsFrom, climb_next_in}
+use Rattle.bl_proc.specs.Climbs.{WriteNotes, ClimbNotes, climb_next_in}
 use Rattle.bl_proc_invariant.specs.Turns.{event_of, IsObserved, Does, Turned}
 use Rattle.bl_proc_invariant.specs.Tables.{know_approach}
-use Rattle.bl_proc_invariant.specs.Knowing.{Run, know, is_change, path_goes, LeavesPost, climbed_said, LeavesClimb, inserted, know_write, know_post, know_climb, climb_end, climb_got, climb_child, write_got, post_got, post_child}
+use Rattle.bl_proc_invariant.specs.Knowing.{Run, know, is_change, path_goes, climbed_said, LeavesClimb, inserted, know_write, know_post, know_climb, climb_end, climb_got, climb_child, write_got, post_got, post_child}
 use Rattle.bl_proc_invariant.proofs.Ends.{end_turn}
 use Rattle.bl_proc_invariant.proofs.Instead.{with_proc, turned_instead, then_instead}
 use Rattle.bl_proc_invariant.proofs.Noting.{from_sure, from_holds, write_noted, post_noted}

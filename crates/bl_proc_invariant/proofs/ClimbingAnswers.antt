@@ -1,10 +1,7 @@
 -- What an insertion that posts has answered means what it says.
-use Rattle.std.proofs.Common.{ℕ, ◌≡◌, Option, None, Some, refl, sym, subst}
+use Rattle.std.proofs.Common.{ℕ, ◌≡◌, Option, None, Some, refl, subst}
 use Rattle.bl_model.specs.declared.operation.Reply.{Reply}
-use Rattle.bl_model.specs.declared.operation.Reply.TheVariants as reply
 use Rattle.bl_model.specs.declared.deciding.KeyWrite.TheVariants.{Insert}
-use Rattle.bl_model.specs.declared.deciding.Effect.{Effect}
-use Rattle.bl_model.specs.declared.deciding.Effect.TheVariants.{Keep, Enter, Remove, Replace}
 use Rattle.bl_model.specs.Writes.{effect_of, replied}
 use Rattle.bl_page.specs.Machine.{Name}
 use Rattle.bl_claims.specs.Trails.{Trail, marks_of}
@@ -23,7 +20,7 @@ use Rattle.bl_proc.specs.declared.climbing.ClimbStage.{ClimbStage}
 use Rattle.bl_proc.specs.declared.climbing.ClimbStage.TheVariants as climb
 use Rattle.bl_proc.specs.declared.kinds.Proc.TheVariants as proc
 use Rattle.bl_proc.specs.Writes.{post_hint}
-use Rattle.bl_proc.specs.Climbs.{inserted_reply, posted_as, left_hint, climbed_answer, IsUnsplit, climb_answer_in}
+use Rattle.bl_proc.specs.Climbs.{inserted_reply, climbed_answer, IsUnsplit, climb_answer_in}
 use Rattle.bl_proc_meanings.specs.Hinted.{MeansWritten}
 use Rattle.bl_proc_meanings.specs.Climbed.{MeansClimbed}
 use Rattle.bl_proc_invariant.specs.Logs.{effect_log, written_log, climbed_log, climb_log, proc_log, AllLogs}

@@ -1,16 +1,14 @@
 -- What an insertion that posts has done, and one event more: what is told of it in the next state, and what its answer means.
-use Rattle.std.proofs.Common.{ℕ, ◌≡◌, ◌≢◌, ◌+◌, ◌<◌, ◌++◌, zero, suc, List, [], ◌∷◌, Option, None, Some, Contains, arith, ap, sym, ◌∙◌, refl, subst, append_assoc, append-nil}
+use Rattle.std.proofs.Common.{ℕ, ◌≡◌, ◌≢◌, ◌+◌, ◌++◌, zero, suc, List, [], ◌∷◌, Option, None, Some, Contains, ap, sym, ◌∙◌, refl, subst, append_assoc, append-nil}
 use Rattle.std.proofs.lemmas.List.Elements.{Contains-push, Contains-append_left, Contains-append_right}
 use Rattle.bl_model.specs.declared.operation.Reply.{Reply}
-use Rattle.bl_model.specs.declared.operation.Reply.TheVariants as reply
-use Rattle.bl_model.specs.declared.deciding.KeyWrite.{KeyWrite}
 use Rattle.bl_model.specs.declared.deciding.KeyWrite.TheVariants.{Insert}
 use Rattle.bl_model.specs.Writes.{effect_of}
 use Rattle.bl_page.specs.declared.page.Page.{Page}
 use Rattle.bl_page.specs.Machine.{Act}
 use Rattle.bl_page.specs.Machine.Act.{Begin, Get}
 use Rattle.bl_claims.specs.Trails.{Mark, Trail}
-use Rattle.bl_claims.specs.Meanings.{writes_in, Wrote, HasRaised, RaisesOnly, WroteHeld, MeansDone}
+use Rattle.bl_claims.specs.Meanings.{writes_in, HasRaised, RaisesOnly, WroteHeld, MeansDone}
 use Rattle.bl_proc_base.specs.declared.acts.Seen.{Seen}
 use Rattle.bl_proc_base.specs.declared.acts.Seen.TheVariants as seen
 use Rattle.bl_proc_base.specs.declared.answers.Hint.{Hint}
@@ -24,27 +22,24 @@ use Rattle.bl_proc.specs.declared.posting.PostReply.TheVariants as listed
 use Rattle.bl_proc.specs.declared.posting.PostStage.{PostStage}
 use Rattle.bl_proc.specs.declared.posting.PostStage.TheVariants as post
 use Rattle.bl_proc.specs.declared.writing.Write.{Write}
-use Rattle.bl_proc.specs.declared.writing.WriteReply.{WriteReply}
-use Rattle.bl_proc.specs.declared.writing.WriteReply.TheVariants as written
 use Rattle.bl_proc.specs.declared.writing.WriteStage.{WriteStage}
-use Rattle.bl_proc.specs.declared.writing.WriteStage.TheVariants as write
 use Rattle.bl_proc.specs.declared.climbing.Climbed.{Climbed}
 use Rattle.bl_proc.specs.declared.climbing.Climbed.TheVariants as climbed
 use Rattle.bl_proc.specs.declared.climbing.ClimbStage.{ClimbStage}
 use Rattle.bl_proc.specs.declared.climbing.ClimbStage.TheVariants as climb
 use Rattle.bl_proc.specs.Paths.{page_at, from_page}
 use Rattle.bl_proc.specs.Stands.{Stands}
-use Rattle.bl_proc.specs.Climbs.{posted_as, left_hint, IsUnsplit, IsLast, climb_next_in}
+use Rattle.bl_proc.specs.Climbs.{posted_as, left_hint, IsLast, climb_next_in}
 use Rattle.bl_proc.specs.Writes.{post_hint, write_next_in}
-use Rattle.bl_proc_meanings.specs.Hinted.{WroteLeaf, MeansWritten}
+use Rattle.bl_proc_meanings.specs.Hinted.{WroteLeaf}
 use Rattle.bl_proc_meanings.specs.Answers.{MeansPosted, MeansHint}
 use Rattle.bl_proc_meanings.specs.Climbed.{PostsUp, WroteAndPosted}
 use Rattle.bl_core.proofs.Meant.{done_on, already_on, stale_on, tall_on, no_room_on}
 use Rattle.bl_proc_invariant.specs.Turns.{event_of}
 use Rattle.bl_proc_invariant.specs.Knowing.{write_end, climb_end}
-use Rattle.bl_proc_invariant.specs.Logs.{approach_log, reply_log, post_log, effect_log, written_log, write_log, IsPostingOn, climbed_log, climb_log}
-use Rattle.bl_proc_invariant.proofs.Logging.{reply_on, post_on, post_stays}
-use Rattle.bl_proc_invariant.proofs.Putting.{leaf_stays, written_stays, write_on, write_stays}
+use Rattle.bl_proc_invariant.specs.Logs.{approach_log, reply_log, post_log, effect_log, write_log, IsPostingOn, climbed_log, climb_log}
+use Rattle.bl_proc_invariant.proofs.Logging.{post_on, post_stays}
+use Rattle.bl_proc_invariant.proofs.Putting.{written_stays, write_on, write_stays}
 use Rattle.bl_proc_unique.proofs.KindCases.{WriteCase, PostCase, ClimbCase}
 
 -- Where the leaf was split

@@ -16,7 +16,7 @@ use Rattle.bl_core_tree.proofs.Statuses.{live_live, free_dead, fresh_dead}
 use Rattle.bl_claims.specs.Pages.{node_of}
 use Rattle.bl_claims.specs.Trails.{Said, Mark, HasSaid}
 use Rattle.bl_core.proofs.Pushes.{HasSaid-silent, SaysAt-last}
-use Rattle.bl_core.specs.Worlds.{Hold, Child, Stage, Know, World, nodes, MapsTo, IsHeld, IsRelied, IsSure, IsBounded, IsGood, silent, put_mark}
+use Rattle.bl_core.specs.Worlds.{Hold, Child, Know, World, nodes, MapsTo, IsHeld, IsRelied, IsSure, IsBounded, IsGood, silent, put_mark}
 use Rattle.bl_core.proofs.Frames.{Each-map}
 use Rattle.bl_core.proofs.After.{after, Extends-after, put_at, is_put_at}
 use Rattle.bl_core.proofs.Moves.{PutsFresh-keeps, PutsRow-keeps, PutsSplit-keeps}
@@ -31,7 +31,7 @@ use Rattle.bl_proc_base.specs.declared.editing.Full.{Full}
 use Rattle.bl_proc_base.specs.declared.editing.Splitting.{Splitting}
 use Rattle.bl_proc_base.specs.declared.editing.Edit.{Edit}
 use Rattle.bl_proc_base.specs.declared.editing.Edit.TheVariants.{Putting, Taking, PuttingNew, PuttingOld, OpeningNew, Opening}
-use Rattle.bl_proc_invariant.specs.Tables.{keeping, holds_known, Aim, IsAim, IsDue, IsBelow, know_edit}
+use Rattle.bl_proc_invariant.specs.Tables.{carrying, holds_known, Aim, IsAim, IsDue, IsBelow, know_edit}
 use Rattle.bl_proc_invariant.proofs.Acts.{of_held, not_gone, watched, opened, taken}
 use Rattle.bl_proc_invariant.proofs.Holdings.{cut_low}
 use Rattle.bl_proc_invariant.proofs.Going.{goes_still, put_steady, take_steady, was_put, was_fresh}
@@ -60,18 +60,18 @@ says w m none = by_said m.said refl
     by_said (Some it) e = (length w.trail, SaysAt-last w.trail m e)
 
 -- who says something by a change has said nothing before
-pub said_none : {P : Type 0} (w : World P) (p : Name) (aim : Aim) (o : Outcome) (it : Said) → IsAim aim → aim.says o ≡ Some it → HasSaid w.trail p aim.keeps.said → HasSaid w.trail p None
+pub said_none : {P : Type 0} (w : World P) (p : Name) (aim : Aim) (o : Outcome) (it : Said) → IsAim aim → aim.says o ≡ Some it → HasSaid w.trail p aim.carried.said → HasSaid w.trail p None
 said_none w p aim o it fine e h = elim (fine.once o) [
   | inl n ↦ absurd (let c : None ≡ Some it = sym n.0 ∙ e in cc)
   | inr n ↦ subst (HasSaid w.trail p) n.0 h
 ]
 
 -- what it has said after it
-pub said_after : {P : Type 0} (w : World P) (m : Mark) (aim : Aim) (o : Outcome) → IsAim aim → m.said ≡ aim.says o → HasSaid w.trail m.event.process aim.keeps.said → HasSaid (w.trail ++ m ∷ []) m.event.process (aim.said o)
+pub said_after : {P : Type 0} (w : World P) (m : Mark) (aim : Aim) (o : Outcome) → IsAim aim → m.said ≡ aim.says o → HasSaid w.trail m.event.process aim.carried.said → HasSaid (w.trail ++ m ∷ []) m.event.process (aim.said o)
 said_after w m aim o fine e h =
     let Has = HasSaid (w.trail ++ m ∷ []) m.event.process in
     elim (fine.once o) [
-      | inl n ↦ subst Has (sym n.1) (HasSaid-silent w.trail m m.event.process aim.keeps.said (e ∙ n.0) h)
+      | inl n ↦ subst Has (sym n.1) (HasSaid-silent w.trail m m.event.process aim.carried.said (e ∙ n.0) h)
       | inr n ↦ subst Has (sym n.1) (subst Has e (says w m (subst (HasSaid w.trail m.event.process) n.0 h)))
     ]
 
@@ -170,7 +170,7 @@ module _ {P : Type 0} (know : P → Know) (w : World P) (g : IsGood know w) (p :
               stage = rw (does.changes.2 p) is.stage;
               said = said_after w m aim outcome.Edited fine refl is.said;
               holds = (record { owner = does.changes.1 x ∙ held.owner; status = held.status; sep = tt; page = tt }, tt);
-              goes = goes_still w next p aim.keeps.goes (put_steady w next p x page does (λ y h. h) (λ h. ap (λ n. n.level) row.shape)) is.goes;
+              goes = goes_still w next p aim.carried.goes (put_steady w next p x page does (λ y h. h) (λ h. ap (λ n. n.level) row.shape)) is.goes;
               children = tt;
               passed = tt;
               sound = (due.changes, tt);
@@ -188,9 +188,9 @@ module _ {P : Type 0} (know : P → Know) (w : World P) (g : IsGood know w) (p :
       }
 
   -- there is no room, and the page stays as it is
-  pub refuse_turn : {what : Missed} (x : ℕ) (c : Page) (kids : List Child) (S : Type 0) (s : State Page) → know (w.proc p) ≡ record (keeping aim.keeps) { holds = holds_known x c ∷ []; children = kids; sound = S } → know b ≡ know_edit aim got (Opening x outcome.Refused) → IsDue aim c → Does w.now p (Miss what) s → Turned know w p (Miss what) s b
+  pub refuse_turn : {what : Missed} (x : ℕ) (c : Page) (kids : List Child) (S : Type 0) (s : State Page) → know (w.proc p) ≡ record (carrying aim.carried) { holds = holds_known x c ∷ []; children = kids; sound = S } → know b ≡ know_edit aim got (Opening x outcome.Refused) → IsDue aim c → Does w.now p (Miss what) s → Turned know w p (Miss what) s b
   refuse_turn {what} x c kids S s before then due does =
-      let is : IsSure w p (record (keeping aim.keeps) { holds = holds_known x c ∷ []; children = kids; sound = S }) = rw before at (g.sure p) in
+      let is : IsSure w p (record (carrying aim.carried) { holds = holds_known x c ∷ []; children = kids; sound = S }) = rw before at (g.sure p) in
       let held = is.holds.0 in
       let m : Mark = record { event = record { process = p; act = Miss what }; saw = None; said = aim.says outcome.Refused } in
       let here : IsDue aim (w.now.contents x) = rw (← held.page) at due in
@@ -232,12 +232,12 @@ module _ {P : Type 0} (know : P → Know) (w : World P) (g : IsGood know w) (p :
       (inr (inl new)) (λ z h. elim h [ inl e ↦ inl (at ∙ e) | inr e ↦ absurd e ])
       (record {
         stage = rw (does.changes.2 p) is.stage;
-        said = HasSaid-silent w.trail m p aim.keeps.said refl is.said;
+        said = HasSaid-silent w.trail m p aim.carried.said refl is.said;
         holds = (
           record { owner = ap s.owner at ∙ still.owner; status = ap next.status at ∙ still.status; sep = tt; page = ap s.contents at ∙ (still.page ∙ (sym known ∙ ap got (sym at))) },
           (record { owner = ap s.owner new ∙ does.changes.1.at; status = ap next.status new ∙ status.at; sep = tt; page = tt }, tt),
         );
-        goes = goes_still w next p aim.keeps.goes (take_steady w next p y does free was status) is.goes;
+        goes = goes_still w next p aim.carried.goes (take_steady w next p y does free was status) is.goes;
         children = rw at (Each-map (IsRelied w p) (IsRelied next p) (aim.children full.at) (λ c r. aside_relied w next p y c aside r) is.children);
         passed = tt;
         sound = (rw (at, known) due, rw (at, new) cut_here, below);
@@ -272,12 +272,12 @@ module _ {P : Type 0} (know : P → Know) (w : World P) (g : IsGood know w) (p :
             bounded = g.bounded;
             own = rw then (record {
               stage = rw (does.changes.2 p) is.stage;
-              said = HasSaid-silent w.trail m p aim.keeps.said refl is.said;
+              said = HasSaid-silent w.trail m p aim.carried.said refl is.said;
               holds = (
                 aside_held w next p t.new (holds_known t.at (got t.at)) aside n held,
                 (record { owner = does.changes.1 t.new ∙ fresh.owner; status = fresh.status; sep = sep.at; page = does.changes.0.at }, tt),
               );
-              goes = goes_still w next p aim.keeps.goes (put_steady w next p t.new t.right does (λ y h. h) (λ h. was_fresh (w.status t.new) fresh.status h)) is.goes;
+              goes = goes_still w next p aim.carried.goes (put_steady w next p t.new t.right does (λ y h. h) (λ h. was_fresh (w.status t.new) fresh.status h)) is.goes;
               children = Each-map (IsRelied w p) (IsRelied next p) (aim.children t.at) (λ c r. aside_relied w next p t.new c aside r) is.children;
               passed = tt;
               sound = is.sound;
@@ -330,7 +330,7 @@ module _ {P : Type 0} (know : P → Know) (w : World P) (g : IsGood know w) (p :
                 record { owner = does.changes.1 t.at ∙ held.owner; status = status.others t.at n ∙ held.status; sep = tt; page = tt },
                 (record { owner = does.changes.1 t.new ∙ fresh.owner; status = status.at; sep = tt; page = tt }, tt),
               );
-              goes = goes_still w next p aim.keeps.goes (put_steady w next p t.at t.left does (was_put t.new w.status next.status status) (λ h. cut.level)) is.goes;
+              goes = goes_still w next p aim.carried.goes (put_steady w next p t.at t.left does (was_put t.new w.status next.status status) (λ h. cut.level)) is.goes;
               children = tt;
               passed = tt;
               sound = (n, due.changes, is.sound.2);
@@ -367,7 +367,7 @@ module _ {P : Type 0} (know : P → Know) (w : World P) (g : IsGood know w) (p :
       })
 
   -- the old page is opened, and the change is over
-  pub over_turn : (x : ℕ) (o : Outcome) (S : Type 0) (s : State Page) → know (w.proc p) ≡ know_edit aim got (Opening x o) → know b ≡ record (keeping aim.keeps) { said = aim.said o; sound = S } → ((aim.changes ≡ true) × IsBelow o → S) → Does w.now p (Act.Open x) s → Turned know w p (Act.Open x) s b
+  pub over_turn : (x : ℕ) (o : Outcome) (S : Type 0) (s : State Page) → know (w.proc p) ≡ know_edit aim got (Opening x o) → know b ≡ record (carrying aim.carried) { said = aim.said o; sound = S } → ((aim.changes ≡ true) × IsBelow o → S) → Does w.now p (Act.Open x) s → Turned know w p (Act.Open x) s b
   over_turn x o S s before then on does =
       let is : IsSure w p (know_edit aim got (Opening x o)) = rw before at (g.sure p) in
       opened know w g p b _ _ before then x s is.holds.0.owner does (inl is.holds.0.status) refl refl ((λ e. cc, λ e. cc), tt)
@@ -397,6 +397,6 @@ module _ {P : Type 0} (know : P → Know) (w : World P) (g : IsGood know w) (p :
   edit_turn (EditCase.OpenedNew x y separator d t) s before then observed does = open_new_turn x y separator s before (subst (λ e. know b ≡ know_edit aim got e) t then) does
 
   -- every turn that ends a change
-  pub finish_turn : {c : Edit} {o : Outcome} {what : Seen} → EditCase c what (Over o) → (S : Type 0) (s : State Page) → know (w.proc p) ≡ know_edit aim got c → know b ≡ record (keeping aim.keeps) { said = aim.said o; sound = S } → ((aim.changes ≡ true) × IsBelow o → S) → Does w.now p (event_of None (edit_next c) what) s → Turned know w p (event_of None (edit_next c) what) s b
+  pub finish_turn : {c : Edit} {o : Outcome} {what : Seen} → EditCase c what (Over o) → (S : Type 0) (s : State Page) → know (w.proc p) ≡ know_edit aim got c → know b ≡ record (carrying aim.carried) { said = aim.said o; sound = S } → ((aim.changes ≡ true) × IsBelow o → S) → Does w.now p (event_of None (edit_next c) what) s → Turned know w p (event_of None (edit_next c) what) s b
   finish_turn (EditCase.Opened x u o t) S s before then on does =
-      over_turn x u S s before (subst (λ z. know b ≡ record (keeping aim.keeps) { said = aim.said z; sound = S }) t then) (λ h. on (h.0, subst IsBelow (sym t) h.1)) does
+      over_turn x u S s before (subst (λ z. know b ≡ record (carrying aim.carried) { said = aim.said z; sound = S }) t then) (λ h. on (h.0, subst IsBelow (sym t) h.1)) does

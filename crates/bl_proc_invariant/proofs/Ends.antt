@@ -10,7 +10,7 @@ use Rattle.bl_core.proofs.Pushes.{HasSaid-silent}
 use Rattle.bl_core.specs.Worlds.{Goes, Stage, Know, World, IsGoes, IsSure, IsGood, silent}
 use Rattle.bl_core.proofs.Frames.{Each-map}
 use Rattle.bl_proc_invariant.specs.Turns.{Does, Turned}
-use Rattle.bl_proc_invariant.specs.Tables.{idle, Keeps, keeping}
+use Rattle.bl_proc_invariant.specs.Tables.{idle, Carried, carrying}
 use Rattle.bl_proc_invariant.specs.Knowing.{early, ending, late}
 use Rattle.bl_proc_invariant.proofs.Acts.{began, finished}
 
@@ -25,22 +25,22 @@ observed_said w p None h = h
 
 module _ {P : Type 0} (know : P → Know) (w : World P) (g : IsGood know w) (p : Name) (b : P) where
   -- who has not begun may go nowhere yet
-  pub start_turn : (keeps : Keeps) (S : Type 0) (s : State _) → know (w.proc p) ≡ record (idle Stage.Early) { said = keeps.said; goes = keeps.goes; sound = S } → know b ≡ record (keeping keeps) { sound = S } → Does w.now p Begin s → Turned know w p Begin s b
-  start_turn keeps S s before then does =
-      let is : IsSure w p (record (idle Stage.Early) { said = keeps.said; goes = keeps.goes; sound = S }) = rw before at (g.sure p) in
+  pub start_turn : (carried : Carried) (S : Type 0) (s : State _) → know (w.proc p) ≡ record (idle Stage.Early) { said = carried.said; goes = carried.goes; sound = S } → know b ≡ record (carrying carried) { sound = S } → Does w.now p Begin s → Turned know w p Begin s b
+  start_turn carried S s before then does =
+      let is : IsSure w p (record (idle Stage.Early) { said = carried.said; goes = carried.goes; sound = S }) = rw before at (g.sure p) in
       began know w g p b _ _ before then s is.stage does refl (λ x h. h)
       (record {
         stage = (does.changes.2.0, does.changes.2.3.at);
-        said = HasSaid-silent w.trail (silent p Begin) p keeps.said refl is.said;
+        said = HasSaid-silent w.trail (silent p Begin) p carried.said refl is.said;
         holds = tt;
-        goes = Each-map (IsGoes w p) _ keeps.goes (λ k o. absurd (let e : Waiting ≡ Running o.may.since = sym is.stage ∙ o.may.runs in cc)) is.goes;
+        goes = Each-map (IsGoes w p) _ carried.goes (λ k o. absurd (let e : Waiting ≡ Running o.may.since = sym is.stage ∙ o.may.runs in cc)) is.goes;
         children = tt;
         passed = tt;
         sound = is.sound;
       })
 
-  pub begin_turn : (keeps : Keeps) (key : ℕ) (s : State _) → know (w.proc p) ≡ record (early key) { said = keeps.said; goes = keeps.goes } → know b ≡ record (keeping keeps) { sound = key < unbounded } → Does w.now p Begin s → Turned know w p Begin s b
-  begin_turn keeps key s before then does = start_turn keeps (key < unbounded) s before then does
+  pub begin_turn : (carried : Carried) (key : ℕ) (s : State _) → know (w.proc p) ≡ record (early key) { said = carried.said; goes = carried.goes } → know b ≡ record (carrying carried) { sound = key < unbounded } → Does w.now p Begin s → Turned know w p Begin s b
+  begin_turn carried key s before then does = start_turn carried (key < unbounded) s before then does
 
   pub end_turn : (said : Option Said) (goes : List Goes) (S : Type 0) (s : State _) → know (w.proc p) ≡ record (ending said) { goes = goes; sound = S } → know b ≡ late said → Does w.now p (End (reply_said said)) s → Turned know w p (End (reply_said said)) s b
   end_turn said goes S s before then does =

@@ -22,8 +22,8 @@ use Rattle.bl_proc_invariant.specs.Tables.{Aim, IsDue, know_edit}
 -- What it has of page x, which is c, when a change of it begins.
 pub record Begun {P : Type 0} (w w' : World P) (p : Name) (aim : Aim) (x : ℕ) (c : Page) : Type 0 where
   pub stage : IsStage Stage.Busy (w.now.phase p)
-  pub said : HasSaid w.trail p aim.keeps.said
-  pub goes : Each (IsGoes w p) aim.keeps.goes
+  pub said : HasSaid w.trail p aim.carried.said
+  pub goes : Each (IsGoes w p) aim.carried.goes
   pub held : w'.now.owner x ≡ Held p
   pub live : w.status x ≡ Live
   pub is : w.now.contents x ≡ c
@@ -33,7 +33,7 @@ pub record Begun {P : Type 0} (w w' : World P) (p : Name) (aim : Aim) (x : ℕ) 
 pub enters_learns : {P : Type 0} (w w' : World P) (p : Name) (a : Act Page _) (saw : Option Page) (aim : Aim) (x word : ℕ) (c : Page) (edit : Edit) → Begun w w' p aim x c → aim.word ≡ Some word → EntersPair x c aim.key word edit → Learns w w' (record { event = record { process = p; act = a }; saw = saw; said = None }) (know_edit aim (λ z. c) edit)
 enters_learns w w' p a saw aim x word c (Putting y page) h is e = record {
   stage = h.stage;
-  said = HasSaid-silent w.trail (record { event = record { process = p; act = a }; saw = saw; said = None }) p aim.keeps.said refl h.said;
+  said = HasSaid-silent w.trail (record { event = record { process = p; act = a }; saw = saw; said = None }) p aim.carried.said refl h.said;
   holds = ((ap w'.now.owner e.0 ∙ h.held, ap w.status e.0 ∙ h.live, tt, ap w.now.contents e.0 ∙ h.is), tt);
   goes = h.goes;
   children = subst (λ z. Each (λ k. (w'.now.owner k.parent ≡ Held p) × IsRelied w p k) (aim.children z)) (sym e.0) h.children;
@@ -42,7 +42,7 @@ enters_learns w w' p a saw aim x word c (Putting y page) h is e = record {
 }
 enters_learns w w' p a saw aim x word c (Taking full) h is e = record {
   stage = h.stage;
-  said = HasSaid-silent w.trail (record { event = record { process = p; act = a }; saw = saw; said = None }) p aim.keeps.said refl h.said;
+  said = HasSaid-silent w.trail (record { event = record { process = p; act = a }; saw = saw; said = None }) p aim.carried.said refl h.said;
   holds = ((ap w'.now.owner e.0 ∙ h.held, ap w.status e.0 ∙ h.live, tt, ap w.now.contents e.0 ∙ (h.is ∙ sym e.3)), tt);
   goes = h.goes;
   children = subst (λ z. Each (λ k. (w'.now.owner k.parent ≡ Held p) × IsRelied w p k) (aim.children z)) (sym e.0) h.children;
@@ -57,7 +57,7 @@ enters_learns w w' p a saw aim x word c (Opening y o) h is e = absurd e
 pub drops_learns : {P : Type 0} (w w' : World P) (p : Name) (a : Act Page _) (saw : Option Page) (aim : Aim) (x : ℕ) (c : Page) (edit : Edit) → Begun w w' p aim x c → aim.word ≡ None → DropsPair x c aim.key edit → Learns w w' (record { event = record { process = p; act = a }; saw = saw; said = None }) (know_edit aim (λ z. c) edit)
 drops_learns w w' p a saw aim x c (Putting y page) h is e = record {
   stage = h.stage;
-  said = HasSaid-silent w.trail (record { event = record { process = p; act = a }; saw = saw; said = None }) p aim.keeps.said refl h.said;
+  said = HasSaid-silent w.trail (record { event = record { process = p; act = a }; saw = saw; said = None }) p aim.carried.said refl h.said;
   holds = ((ap w'.now.owner e.0 ∙ h.held, ap w.status e.0 ∙ h.live, tt, ap w.now.contents e.0 ∙ h.is), tt);
   goes = h.goes;
   children = subst (λ z. Each (λ k. (w'.now.owner k.parent ≡ Held p) × IsRelied w p k) (aim.children z)) (sym e.0) h.children;
@@ -73,7 +73,7 @@ drops_learns w w' p a saw aim x c (Opening y o) h is e = absurd e
 pub gives_learns : {P : Type 0} (w w' : World P) (p : Name) (a : Act Page _) (saw : Option Page) (aim : Aim) (x value : ℕ) (c : Page) (edit : Edit) → Begun w w' p aim x c → aim.word ≡ Some value → GivesValue x c aim.key value edit → Learns w w' (record { event = record { process = p; act = a }; saw = saw; said = None }) (know_edit aim (λ z. c) edit)
 gives_learns w w' p a saw aim x value c (Putting y page) h is e = record {
   stage = h.stage;
-  said = HasSaid-silent w.trail (record { event = record { process = p; act = a }; saw = saw; said = None }) p aim.keeps.said refl h.said;
+  said = HasSaid-silent w.trail (record { event = record { process = p; act = a }; saw = saw; said = None }) p aim.carried.said refl h.said;
   holds = ((ap w'.now.owner e.0 ∙ h.held, ap w.status e.0 ∙ h.live, tt, ap w.now.contents e.0 ∙ h.is), tt);
   goes = h.goes;
   children = subst (λ z. Each (λ k. (w'.now.owner k.parent ≡ Held p) × IsRelied w p k) (aim.children z)) (sym e.0) h.children;

@@ -59,7 +59,7 @@ use Rattle.bl_proc.specs.Lowers.{lower_next_in}
 use Rattle.bl_proc_base.specs.Lowerings.{lowering_next}
 use Rattle.bl_proc.specs.Processes.{next_of}
 use Rattle.bl_proc_invariant.specs.Compressing.{know_squeeze}
-use Rattle.bl_proc_invariant.specs.Tables.{Keeps, unsaid, alone, Aim, holds_live, know_descent, know_approach, know_edit}
+use Rattle.bl_proc_invariant.specs.Tables.{Carried, unsaid, alone, Aim, holds_live, know_descent, know_approach, know_edit}
 use Rattle.bl_proc_invariant.specs.Knowing.{know_growth, know_find, know_part, know_write, path_goes, inserted, know_climb, know_post, know_compress, know_reclaim, know_lower, know_of, Run, know}
 
 -- page 0, or one that it may get
@@ -68,13 +68,13 @@ IsGot w p (act.Get x) = (x ≡ 0) ⊎ MayGet w p x
 IsGot w p action = Unit {0}
 
 module _ {P : Type 0} (w : World P) (p : Name) where
-  approach_got : (keeps : Keeps) → (level key : ℕ) (a : Approach) → IsSure w p (know_approach keeps level key a) → IsGot w p (approach_next a)
-  approach_got keeps level key way.Start is = inl refl
-  approach_got keeps level key (way.At x) is = inr is.goes.0.may
-  approach_got keeps level key (way.Latching x) is = tt
-  approach_got keeps level key (way.Latched x) is = inr is.goes.0.may
-  approach_got keeps level key (way.Leaving x None) is = tt
-  approach_got keeps level key (way.Leaving x (Some y)) is = tt
+  approach_got : (carried : Carried) → (level key : ℕ) (a : Approach) → IsSure w p (know_approach carried level key a) → IsGot w p (approach_next a)
+  approach_got carried level key way.Start is = inl refl
+  approach_got carried level key (way.At x) is = inr is.goes.0.may
+  approach_got carried level key (way.Latching x) is = tt
+  approach_got carried level key (way.Latched x) is = inr is.goes.0.may
+  approach_got carried level key (way.Leaving x None) is = tt
+  approach_got carried level key (way.Leaving x (Some y)) is = tt
 
   edit_got : (aim : Aim) (got : ℕ → Page) (c : Edit) → IsSure w p (know_edit aim got c) → IsGot w p (edit_next c)
   edit_got aim got (edit.Putting x page) is = tt
@@ -84,15 +84,15 @@ module _ {P : Type 0} (w : World P) (p : Name) where
   edit_got aim got (edit.OpeningNew x y s) is = tt
   edit_got aim got (edit.Opening x o) is = tt
 
-  growth_got : (keeps : Keeps) → (level key : ℕ) (got : ℕ → Page) (a : Growth) → IsSure w p (know_growth keeps level key got a) → IsGot w p (growth_next a)
-  growth_got keeps level key got growth.Latching is = tt
-  growth_got keeps level key got growth.Latched is = inl refl
-  growth_got keeps level key got (growth.Taking r) is = tt
-  growth_got keeps level key got (growth.PuttingTop r) is = tt
-  growth_got keeps level key got (growth.PuttingAnchor r) is = tt
-  growth_got keeps level key got (growth.OpeningTop x) is = tt
-  growth_got keeps level key got growth.OpeningGrown is = tt
-  growth_got keeps level key got growth.OpeningRefused is = tt
+  growth_got : (carried : Carried) → (level key : ℕ) (got : ℕ → Page) (a : Growth) → IsSure w p (know_growth carried level key got a) → IsGot w p (growth_next a)
+  growth_got carried level key got growth.Latching is = tt
+  growth_got carried level key got growth.Latched is = inl refl
+  growth_got carried level key got (growth.Taking r) is = tt
+  growth_got carried level key got (growth.PuttingTop r) is = tt
+  growth_got carried level key got (growth.PuttingAnchor r) is = tt
+  growth_got carried level key got (growth.OpeningTop x) is = tt
+  growth_got carried level key got growth.OpeningGrown is = tt
+  growth_got carried level key got growth.OpeningRefused is = tt
 
   descent_got : (key : ℕ) (d : Descent) → IsSure w p (know_descent key d) → IsGot w p (descent_next d)
   descent_got key descent.AtAnchor is = inl refl
@@ -120,15 +120,15 @@ module _ {P : Type 0} (w : World P) (p : Name) where
   write_got goes key does got (write.Ending r) is = tt
   write_got goes key does got (write.Over r) is = tt
 
-  post_got : (keeps : Keeps) → (level key : ℕ) (got : ℕ → Page) (child : ℕ) (a : PostStage) → IsSure w p (know_post keeps level key got child a) → IsGot w p (post_next_in a)
-  post_got keeps level key got child post.New is = tt
-  post_got keeps level key got child (post.Coming a) is = approach_got keeps level key a is
-  post_got keeps level key got child (post.Growing h) is = growth_got keeps level key got h is
-  post_got keeps level key got child (post.Walking v) is = inr is.goes.0.may
-  post_got keeps level key got child (post.Editing c) is = edit_got _ got c is
-  post_got keeps level key got child (post.Staying x r) is = tt
-  post_got keeps level key got child (post.Ending r) is = tt
-  post_got keeps level key got child (post.Over r) is = tt
+  post_got : (carried : Carried) → (level key : ℕ) (got : ℕ → Page) (child : ℕ) (a : PostStage) → IsSure w p (know_post carried level key got child a) → IsGot w p (post_next_in a)
+  post_got carried level key got child post.New is = tt
+  post_got carried level key got child (post.Coming a) is = approach_got carried level key a is
+  post_got carried level key got child (post.Growing h) is = growth_got carried level key got h is
+  post_got carried level key got child (post.Walking v) is = inr is.goes.0.may
+  post_got carried level key got child (post.Editing c) is = edit_got _ got c is
+  post_got carried level key got child (post.Staying x r) is = tt
+  post_got carried level key got child (post.Ending r) is = tt
+  post_got carried level key got child (post.Over r) is = tt
 
   put_got : (u : Puts) (sd : Side) → IsGot w p (put_of sd u)
   put_got u side.Left = tt

@@ -30,7 +30,7 @@ use Rattle.bl_proc_base.specs.declared.approaching.Approach.TheVariants.{Start}
 use Rattle.bl_proc.specs.declared.posting.PostStage.TheVariants.{Growing}
 use Rattle.bl_proc_base.specs.Growths.{growth_next, IsTop, IsAnchor, Raises}
 use Rattle.bl_proc_invariant.specs.Turns.{event_of, IsObserved, Does, Turned}
-use Rattle.bl_proc_invariant.specs.Tables.{Keeps, keeping, know_approach, anchor_known}
+use Rattle.bl_proc_invariant.specs.Tables.{Carried, carrying, know_approach, anchor_known}
 use Rattle.bl_proc_invariant.specs.Knowing.{ending, know_growth, post_got}
 use Rattle.bl_proc_invariant.proofs.Acts.{of_held, not_gone, watched, latched, opened, taken}
 use Rattle.bl_proc_invariant.proofs.Approaching.{walks}
@@ -83,10 +83,10 @@ top_says level below (Leaf l) h = absurd h
 top_says level below (Dead d) h = absurd h
 
 -- a process that holds the anchor
-pub holds_anchor : {P : Type 0} (w w' : World P) (p : Name) (a : Act Page _) (saw : Option Page) (keeps : Keeps) (c : Option Page) (S : Type 0) → IsStage Stage.Busy (w.now.phase p) → HasSaid w.trail p keeps.said → Each (IsGoes w p) keeps.goes → w'.now.owner 0 ≡ Held p → w.status 0 ≡ Anchored → IfKnown c (w.now.contents 0) → S → Learns w w' (record { event = record { process = p; act = a }; saw = saw; said = None }) (record (keeping keeps) { holds = anchor_known c ∷ []; sound = S })
-holds_anchor w w' p a saw keeps c S stage said may held anchored known s = record {
+pub holds_anchor : {P : Type 0} (w w' : World P) (p : Name) (a : Act Page _) (saw : Option Page) (carried : Carried) (c : Option Page) (S : Type 0) → IsStage Stage.Busy (w.now.phase p) → HasSaid w.trail p carried.said → Each (IsGoes w p) carried.goes → w'.now.owner 0 ≡ Held p → w.status 0 ≡ Anchored → IfKnown c (w.now.contents 0) → S → Learns w w' (record { event = record { process = p; act = a }; saw = saw; said = None }) (record (carrying carried) { holds = anchor_known c ∷ []; sound = S })
+holds_anchor w w' p a saw carried c S stage said may held anchored known s = record {
   stage = stage;
-  said = HasSaid-silent w.trail (record { event = record { process = p; act = a }; saw = saw; said = None }) p keeps.said refl said;
+  said = HasSaid-silent w.trail (record { event = record { process = p; act = a }; saw = saw; said = None }) p carried.said refl said;
   holds = ((held, anchored, tt, known), tt);
   goes = may;
   children = tt;
@@ -94,43 +94,43 @@ holds_anchor w w' p a saw keeps c S stage said may held anchored known s = recor
   sound = s;
 }
 
-module _ {P : Type 0} (know : P → Know) (w : World P) (g : IsGood know w) (p : Name) (b : P) (keeps : Keeps) (level key : ℕ) where
-  latch_turn : (got : ℕ → Page) (s : State Page) → know (w.proc p) ≡ know_growth keeps level key got growth.Latching → know b ≡ know_growth keeps level key got growth.Latched → w.now.owner 0 ≡ Owner.Open → Does w.now p (Latch 0) s → Turned know w p (Latch 0) s b
+module _ {P : Type 0} (know : P → Know) (w : World P) (g : IsGood know w) (p : Name) (b : P) (carried : Carried) (level key : ℕ) where
+  latch_turn : (got : ℕ → Page) (s : State Page) → know (w.proc p) ≡ know_growth carried level key got growth.Latching → know b ≡ know_growth carried level key got growth.Latched → w.now.owner 0 ≡ Owner.Open → Does w.now p (Latch 0) s → Turned know w p (Latch 0) s b
   latch_turn got s before then observed does =
-      let is : IsSure w p (know_growth keeps level key got growth.Latching) = rw before at (g.sure p) in
+      let is : IsSure w p (know_growth carried level key got growth.Latching) = rw before at (g.sure p) in
       latched know w g p b _ _ before then 0 s observed does refl (inl refl) (λ y h. absurd h)
-      (holds_anchor w _ p (Latch 0) None keeps None _ is.stage is.said is.goes does.changes.1.at g.tree.anchored tt is.sound)
+      (holds_anchor w _ p (Latch 0) None carried None _ is.stage is.said is.goes does.changes.1.at g.tree.anchored tt is.sound)
 
-  miss_turn : {what : Missed} (got : ℕ → Page) (s : State Page) → know (w.proc p) ≡ know_growth keeps level key got growth.Latching → know b ≡ know_growth keeps level key got growth.Latching → Does w.now p (Miss what) s → Turned know w p (Miss what) s b
+  miss_turn : {what : Missed} (got : ℕ → Page) (s : State Page) → know (w.proc p) ≡ know_growth carried level key got growth.Latching → know b ≡ know_growth carried level key got growth.Latching → Does w.now p (Miss what) s → Turned know w p (Miss what) s b
   miss_turn {what} got s before then does =
-      let is : IsSure w p (know_growth keeps level key got growth.Latching) = rw before at (g.sure p) in
+      let is : IsSure w p (know_growth carried level key got growth.Latching) = rw before at (g.sure p) in
       watched know w g p b _ _ before then (Miss what) None None s tt tt does tt refl (λ y h. h) (λ it e. cc) (λ j. refl)
-      (walks w _ p (Miss what) None keeps.said keeps.goes (key < unbounded) is.stage is.said is.goes is.sound)
+      (walks w _ p (Miss what) None carried.said carried.goes (key < unbounded) is.stage is.said is.goes is.sound)
 
   -- the anchor is got under its latch
-  grown_turn : (got got' : ℕ → Page) (s : State Page) → know (w.proc p) ≡ know_growth keeps level key got growth.Latched → know b ≡ know_growth keeps level key got' growth.OpeningGrown → Does w.now p (Get 0) s → Turned know w p (Get 0) s b
+  grown_turn : (got got' : ℕ → Page) (s : State Page) → know (w.proc p) ≡ know_growth carried level key got growth.Latched → know b ≡ know_growth carried level key got' growth.OpeningGrown → Does w.now p (Get 0) s → Turned know w p (Get 0) s b
   grown_turn got got' s before then does =
-      let is : IsSure w p (know_growth keeps level key got growth.Latched) = rw before at (g.sure p) in
+      let is : IsSure w p (know_growth carried level key got growth.Latched) = rw before at (g.sure p) in
       watched know w g p b _ _ before then (Get 0) (Some (w.now.contents 0)) None s tt (is.stage, anchor_not_released know w g) does refl refl (λ y h. h) (λ it e. cc) (λ j. refl)
-      (holds_anchor w _ p (Get 0) (Some (w.now.contents 0)) keeps None _ is.stage is.said is.goes (does.changes.1 0 ∙ is.holds.0.owner) is.holds.0.status tt is.sound)
+      (holds_anchor w _ p (Get 0) (Some (w.now.contents 0)) carried None _ is.stage is.said is.goes (does.changes.1 0 ∙ is.holds.0.owner) is.holds.0.status tt is.sound)
 
-  rise_turn : (got : ℕ → Page) (rise : Rise) (c : Page) (s : State Page) → know (w.proc p) ≡ know_growth keeps level key got growth.Latched → know b ≡ know_growth keeps level key (λ z. c) (growth.Taking rise) → c ≡ w.now.contents 0 → c ≡ Anchor rise.anchor → (roots_of c).levels ≡ level → Does w.now p (Get 0) s → Turned know w p (Get 0) s b
+  rise_turn : (got : ℕ → Page) (rise : Rise) (c : Page) (s : State Page) → know (w.proc p) ≡ know_growth carried level key got growth.Latched → know b ≡ know_growth carried level key (λ z. c) (growth.Taking rise) → c ≡ w.now.contents 0 → c ≡ Anchor rise.anchor → (roots_of c).levels ≡ level → Does w.now p (Get 0) s → Turned know w p (Get 0) s b
   rise_turn got rise c s before then observed is_anchor levels does =
-      let is : IsSure w p (know_growth keeps level key got growth.Latched) = rw before at (g.sure p) in
+      let is : IsSure w p (know_growth carried level key got growth.Latched) = rw before at (g.sure p) in
       let count : length rise.anchor.leftmost.items ≡ level = ap (λ z. (roots_of z).levels) (sym is_anchor) ∙ levels in
       watched know w g p b _ _ before then (Get 0) (Some (w.now.contents 0)) None s tt (is.stage, anchor_not_released know w g) does refl refl (λ y h. h) (λ it e. cc) (λ j. refl)
-      (holds_anchor w _ p (Get 0) (Some (w.now.contents 0)) keeps (Some (Anchor rise.anchor)) _ is.stage is.said is.goes (does.changes.1 0 ∙ is.holds.0.owner) is.holds.0.status (sym observed ∙ is_anchor)
+      (holds_anchor w _ p (Get 0) (Some (w.now.contents 0)) carried (Some (Anchor rise.anchor)) _ is.stage is.said is.goes (does.changes.1 0 ∙ is.holds.0.owner) is.holds.0.status (sym observed ∙ is_anchor)
       (is.sound, record { anchor = refl; levels = count; room = (let r = rise.room in omega (arith, count)) }, is_anchor))
 
-  refuse_turn : {what : Missed} (got : ℕ → Page) (rise : Rise) (s : State Page) → know (w.proc p) ≡ know_growth keeps level key got (growth.Taking rise) → know b ≡ know_growth keeps level key got growth.OpeningRefused → Does w.now p (Miss what) s → Turned know w p (Miss what) s b
+  refuse_turn : {what : Missed} (got : ℕ → Page) (rise : Rise) (s : State Page) → know (w.proc p) ≡ know_growth carried level key got (growth.Taking rise) → know b ≡ know_growth carried level key got growth.OpeningRefused → Does w.now p (Miss what) s → Turned know w p (Miss what) s b
   refuse_turn {what} got rise s before then does =
-      let is : IsSure w p (know_growth keeps level key got (growth.Taking rise)) = rw before at (g.sure p) in
+      let is : IsSure w p (know_growth carried level key got (growth.Taking rise)) = rw before at (g.sure p) in
       watched know w g p b _ _ before then (Miss what) None None s tt tt does tt refl (λ y h. h) (λ it e. cc) (λ j. refl)
-      (holds_anchor w _ p (Miss what) None keeps None _ is.stage is.said is.goes (does.changes.1 0 ∙ is.holds.0.owner) is.holds.0.status tt tt)
+      (holds_anchor w _ p (Miss what) None carried None _ is.stage is.said is.goes (does.changes.1 0 ∙ is.holds.0.owner) is.holds.0.status tt tt)
 
-  take_turn : (got : ℕ → Page) (rise : Rise) (y : ℕ) (r : Raising) (s : State Page) → know (w.proc p) ≡ know_growth keeps level key got (growth.Taking rise) → know b ≡ know_growth keeps level key got (growth.PuttingTop r) → w.now.owner y ≡ Released → y < w.size → (r.new ≡ y) → Raises rise.anchor.leftmost.items y r.top r.anchor → Does w.now p (Take y) s → Turned know w p (Take y) s b
+  take_turn : (got : ℕ → Page) (rise : Rise) (y : ℕ) (r : Raising) (s : State Page) → know (w.proc p) ≡ know_growth carried level key got (growth.Taking rise) → know b ≡ know_growth carried level key got (growth.PuttingTop r) → w.now.owner y ≡ Released → y < w.size → (r.new ≡ y) → Raises rise.anchor.leftmost.items y r.top r.anchor → Does w.now p (Take y) s → Turned know w p (Take y) s b
   take_turn got rise y r s before then free within new raises does =
-      let is : IsSure w p (know_growth keeps level key got (growth.Taking rise)) = rw before at (g.sure p) in
+      let is : IsSure w p (know_growth carried level key got (growth.Taking rise)) = rw before at (g.sure p) in
       let m : Mark = silent p (Take y) in
       let next : World P = after w s m b (put_at y Fresh w.status) w.sep w.map in
       let status = is_put_at y Fresh w.status in
@@ -143,21 +143,21 @@ module _ {P : Type 0} (know : P → Know) (w : World P) (g : IsGood know w) (p :
       (inr (inl new)) (λ z h. elim h [ inl e ↦ inl e | inr e ↦ absurd e ])
       (record {
         stage = rw (does.changes.2 p) is.stage;
-        said = HasSaid-silent w.trail m p keeps.said refl is.said;
+        said = HasSaid-silent w.trail m p carried.said refl is.said;
         holds = (
           record { owner = still.owner; status = still.status; sep = tt; page = still.page ∙ sym known },
           (record { owner = ap s.owner new ∙ does.changes.1.at; status = ap next.status new ∙ status.at; sep = tt; page = tt }, tt),
         );
-        goes = goes_still w next p keeps.goes (take_steady w next p y does free was status) is.goes;
+        goes = goes_still w next p carried.goes (take_steady w next p y does free was status) is.goes;
         children = tt;
         passed = tt;
         sound = (is.sound.0, (rise.anchor.leftmost.items, rw known is.sound.1, rw new raises));
       })
 
   -- the new top page is put, which nobody names yet
-  top_turn : (got : ℕ → Page) (r : Raising) (s : State Page) → know (w.proc p) ≡ know_growth keeps level key got (growth.PuttingTop r) → know b ≡ know_growth keeps level key got (growth.PuttingAnchor r) → Does w.now p (Put r.new r.top) s → Turned know w p (Put r.new r.top) s b
+  top_turn : (got : ℕ → Page) (r : Raising) (s : State Page) → know (w.proc p) ≡ know_growth carried level key got (growth.PuttingTop r) → know b ≡ know_growth carried level key got (growth.PuttingAnchor r) → Does w.now p (Put r.new r.top) s → Turned know w p (Put r.new r.top) s b
   top_turn got r s before then does =
-      let is : IsSure w p (know_growth keeps level key got (growth.PuttingTop r)) = rw before at (g.sure p) in
+      let is : IsSure w p (know_growth carried level key got (growth.PuttingTop r)) = rw before at (g.sure p) in
       let m : Mark = put_mark p r.new r.top None in
       let next : World P = after w s m b w.status (put_at r.new 0 w.sep) w.map in
       let fresh = is.holds.1.0 in
@@ -181,12 +181,12 @@ module _ {P : Type 0} (know : P → Know) (w : World P) (g : IsGood know w) (p :
             bounded = g.bounded;
             own = rw then (record {
               stage = rw (does.changes.2 p) is.stage;
-              said = HasSaid-silent w.trail m p keeps.said refl is.said;
+              said = HasSaid-silent w.trail m p carried.said refl is.said;
               holds = (
                 aside_held w next p r.new (anchor_known (Some (got 0))) aside n is.holds.0,
                 (record { owner = does.changes.1 r.new ∙ fresh.owner; status = fresh.status; sep = sep.at; page = does.changes.0.at }, tt),
               );
-              goes = goes_still w next p keeps.goes (put_steady w next p r.new r.top does (λ y h. h) (λ h. was_fresh (w.status r.new) fresh.status h)) is.goes;
+              goes = goes_still w next p carried.goes (put_steady w next p r.new r.top does (λ y h. h) (λ h. was_fresh (w.status r.new) fresh.status h)) is.goes;
               children = tt;
               passed = tt;
               sound = is.sound;
@@ -202,9 +202,9 @@ module _ {P : Type 0} (know : P → Know) (w : World P) (g : IsGood know w) (p :
       }
 
   -- then the anchor, which names it
-  anchor_turn : (got : ℕ → Page) (r : Raising) (s : State Page) → know (w.proc p) ≡ know_growth keeps level key got (growth.PuttingAnchor r) → know b ≡ know_growth keeps level key got (growth.OpeningTop r.new) → Does w.now p (Put 0 r.anchor) s → Turned know w p (Put 0 r.anchor) s b
+  anchor_turn : (got : ℕ → Page) (r : Raising) (s : State Page) → know (w.proc p) ≡ know_growth carried level key got (growth.PuttingAnchor r) → know b ≡ know_growth carried level key got (growth.OpeningTop r.new) → Does w.now p (Put 0 r.anchor) s → Turned know w p (Put 0 r.anchor) s b
   anchor_turn got r s before then does =
-      let is : IsSure w p (know_growth keeps level key got (growth.PuttingAnchor r)) = rw before at (g.sure p) in
+      let is : IsSure w p (know_growth carried level key got (growth.PuttingAnchor r)) = rw before at (g.sure p) in
       let m : Mark = put_mark p 0 r.anchor None in
       let fresh = is.holds.1.0 in
       let held = is.holds.0 in
@@ -241,12 +241,12 @@ module _ {P : Type 0} (know : P → Know) (w : World P) (g : IsGood know w) (p :
             bounded = subst IsBounded (sym rows) g.bounded;
             own = rw then (record {
               stage = rw (does.changes.2 p) is.stage;
-              said = HasSaid-silent w.trail m p keeps.said refl is.said;
+              said = HasSaid-silent w.trail m p carried.said refl is.said;
               holds = (
                 record { owner = does.changes.1 0 ∙ held.owner; status = status.others 0 n ∙ held.status; sep = tt; page = tt },
                 (record { owner = does.changes.1 r.new ∙ fresh.owner; status = status.at; sep = tt; page = tt }, tt),
               );
-              goes = goes_still w next p keeps.goes (put_steady w next p 0 r.anchor does (was_put r.new w.status next.status status) (λ h. was_anchored (w.status 0) g.tree.anchored h)) is.goes;
+              goes = goes_still w next p carried.goes (put_steady w next p 0 r.anchor does (was_put r.new w.status next.status status) (λ h. was_anchored (w.status 0) g.tree.anchored h)) is.goes;
               children = tt;
               passed = tt;
               sound = (is.sound.0, n);
@@ -288,36 +288,36 @@ module _ {P : Type 0} (know : P → Know) (w : World P) (g : IsGood know w) (p :
             others = λ l n. ap (λ u. u l) new ∙ (h.others l (λ i. n (i ∙ (e ∙ sym d))) ∙ sym (ap (λ u. u l) old));
           }
 
-  open_top_turn : (got : ℕ → Page) (x : ℕ) (s : State Page) → know (w.proc p) ≡ know_growth keeps level key got (growth.OpeningTop x) → know b ≡ know_growth keeps level key got growth.OpeningGrown → Does w.now p (Act.Open x) s → Turned know w p (Act.Open x) s b
+  open_top_turn : (got : ℕ → Page) (x : ℕ) (s : State Page) → know (w.proc p) ≡ know_growth carried level key got (growth.OpeningTop x) → know b ≡ know_growth carried level key got growth.OpeningGrown → Does w.now p (Act.Open x) s → Turned know w p (Act.Open x) s b
   open_top_turn got x s before then does =
-      let is : IsSure w p (know_growth keeps level key got (growth.OpeningTop x)) = rw before at (g.sure p) in
+      let is : IsSure w p (know_growth carried level key got (growth.OpeningTop x)) = rw before at (g.sure p) in
       opened know w g p b _ _ before then x s is.holds.1.0.owner does (inl is.holds.1.0.status) refl refl ((λ e. cc, λ e. cc), ((λ e. cc, λ e. cc), tt))
       (λ z i h. elim h [ inl e ↦ inl e | inr r ↦ elim r [ inl e ↦ absurd (i (sym e)) | inr u ↦ inr u ] ])
-      (holds_anchor w _ p (Act.Open x) None keeps None _ is.stage is.said is.goes (does.changes.1.others 0 is.sound.1 ∙ is.holds.0.owner) is.holds.0.status tt is.sound.0)
+      (holds_anchor w _ p (Act.Open x) None carried None _ is.stage is.said is.goes (does.changes.1.others 0 is.sound.1 ∙ is.holds.0.owner) is.holds.0.status tt is.sound.0)
 
   -- the anchor is opened
-  pub anchor_open_turn : (S S' : Type 0) (s : State Page) → know (w.proc p) ≡ record (keeping keeps) { holds = anchor_known None ∷ []; sound = S } → know b ≡ record (keeping keeps) { sound = S' } → (S → S') → Does w.now p (Act.Open 0) s → Turned know w p (Act.Open 0) s b
+  pub anchor_open_turn : (S S' : Type 0) (s : State Page) → know (w.proc p) ≡ record (carrying carried) { holds = anchor_known None ∷ []; sound = S } → know b ≡ record (carrying carried) { sound = S' } → (S → S') → Does w.now p (Act.Open 0) s → Turned know w p (Act.Open 0) s b
   anchor_open_turn S S' s before then on does =
-      let is : IsSure w p (record (keeping keeps) { holds = anchor_known None ∷ []; sound = S }) = rw before at (g.sure p) in
+      let is : IsSure w p (record (carrying carried) { holds = anchor_known None ∷ []; sound = S }) = rw before at (g.sure p) in
       opened know w g p b _ _ before then 0 s is.holds.0.owner does (inr is.holds.0.status) refl refl ((λ e. cc, λ e. cc), tt)
       (λ z i h. elim h [ inl e ↦ absurd (i (sym e)) | inr u ↦ absurd u ])
-      (walks w _ p (Act.Open 0) None keeps.said keeps.goes S' is.stage is.said is.goes (on is.sound))
+      (walks w _ p (Act.Open 0) None carried.said carried.goes S' is.stage is.said is.goes (on is.sound))
 
   -- every turn of a growth that does not end it
-  pub growth_turn : {a a' : Growth} {what : Seen} → GrowthCase level a what (On a') → (got : ℕ → Page) (s : State Page) → know (w.proc p) ≡ know_growth keeps level key got a → know b ≡ know_growth keeps level key (post_got got (Growing a) what) a' → IsObserved w.now w.size (growth_next a) what → Does w.now p (event_of None (growth_next a) what) s → Turned know w p (event_of None (growth_next a) what) s b
-  growth_turn (GrowthCase.LatchedAnchor h t) got s before then observed does = latch_turn got s before (subst (λ z. know b ≡ know_growth keeps level key got z) t then) observed does
-  growth_turn (GrowthCase.Missed h t) got s before then observed does = miss_turn got s before (subst (λ z. know b ≡ know_growth keeps level key got z) t then) does
+  pub growth_turn : {a a' : Growth} {what : Seen} → GrowthCase level a what (On a') → (got : ℕ → Page) (s : State Page) → know (w.proc p) ≡ know_growth carried level key got a → know b ≡ know_growth carried level key (post_got got (Growing a) what) a' → IsObserved w.now w.size (growth_next a) what → Does w.now p (event_of None (growth_next a) what) s → Turned know w p (event_of None (growth_next a) what) s b
+  growth_turn (GrowthCase.LatchedAnchor h t) got s before then observed does = latch_turn got s before (subst (λ z. know b ≡ know_growth carried level key got z) t then) observed does
+  growth_turn (GrowthCase.Missed h t) got s before then observed does = miss_turn got s before (subst (λ z. know b ≡ know_growth carried level key got z) t then) does
   growth_turn (GrowthCase.Rises c rise t) got s before then observed does = rise_turn got rise c s before then observed t.0 t.1 does
   growth_turn (GrowthCase.Stands c t) got s before then observed does = grown_turn got (λ z. c) s before then does
   growth_turn (GrowthCase.TookTop rise y r t) got s before then observed does = take_turn got rise y r s before then observed.0 observed.1 t.0 t.1 does
-  growth_turn (GrowthCase.TopRefused rise h t) got s before then observed does = refuse_turn got rise s before (subst (λ z. know b ≡ know_growth keeps level key got z) t then) does
-  growth_turn (GrowthCase.PutTop r h t) got s before then observed does = top_turn got r s before (subst (λ z. know b ≡ know_growth keeps level key got z) t then) does
-  growth_turn (GrowthCase.PutAnchor r h t) got s before then observed does = anchor_turn got r s before (subst (λ z. know b ≡ know_growth keeps level key got z) t then) does
-  growth_turn (GrowthCase.OpenedTop x h t) got s before then observed does = open_top_turn got x s before (subst (λ z. know b ≡ know_growth keeps level key got z) t then) does
+  growth_turn (GrowthCase.TopRefused rise h t) got s before then observed does = refuse_turn got rise s before (subst (λ z. know b ≡ know_growth carried level key got z) t then) does
+  growth_turn (GrowthCase.PutTop r h t) got s before then observed does = top_turn got r s before (subst (λ z. know b ≡ know_growth carried level key got z) t then) does
+  growth_turn (GrowthCase.PutAnchor r h t) got s before then observed does = anchor_turn got r s before (subst (λ z. know b ≡ know_growth carried level key got z) t then) does
+  growth_turn (GrowthCase.OpenedTop x h t) got s before then observed does = open_top_turn got x s before (subst (λ z. know b ≡ know_growth carried level key got z) t then) does
 
   -- a growth is over when the anchor is open
-  pub over_turn : {a : Growth} {what : Seen} → GrowthCase level a what Grown → (got : ℕ → Page) (s : State Page) → know (w.proc p) ≡ know_growth keeps level key got a → know b ≡ know_approach keeps level key Start → Does w.now p (event_of None (growth_next a) what) s → Turned know w p (event_of None (growth_next a) what) s b
+  pub over_turn : {a : Growth} {what : Seen} → GrowthCase level a what Grown → (got : ℕ → Page) (s : State Page) → know (w.proc p) ≡ know_growth carried level key got a → know b ≡ know_approach carried level key Start → Does w.now p (event_of None (growth_next a) what) s → Turned know w p (event_of None (growth_next a) what) s b
   over_turn GrowthCase.OpenedGrown got s before then does = anchor_open_turn _ _ s before then (λ h. h) does
 
-  pub no_room_turn : {a : Growth} {what : Seen} → GrowthCase level a what Refused → (got : ℕ → Page) (s : State Page) → know (w.proc p) ≡ know_growth keeps level key got a → know b ≡ record (ending keeps.said) { goes = keeps.goes } → Does w.now p (event_of None (growth_next a) what) s → Turned know w p (event_of None (growth_next a) what) s b
+  pub no_room_turn : {a : Growth} {what : Seen} → GrowthCase level a what Refused → (got : ℕ → Page) (s : State Page) → know (w.proc p) ≡ know_growth carried level key got a → know b ≡ record (ending carried.said) { goes = carried.goes } → Does w.now p (event_of None (growth_next a) what) s → Turned know w p (event_of None (growth_next a) what) s b
   no_room_turn GrowthCase.OpenedRefused got s before then does = anchor_open_turn _ _ s before then (λ h. tt) does

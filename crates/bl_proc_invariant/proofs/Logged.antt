@@ -38,7 +38,7 @@ use Rattle.bl_proc.specs.Stands.{IsPosting, Stands}
 use Rattle.bl_proc_invariant.proofs.ClimbingLogs.{climb_on, climb_stays}
 use Rattle.bl_proc_invariant.specs.Turns.{event_of, IsObserved, Turned}
 use Rattle.bl_proc_invariant.specs.Logs.{climb_log, proc_log, write_log, post_log, compress_log, lower_log, AllLogs}
-use Rattle.bl_proc_invariant.specs.Tables.{Keeps, alone}
+use Rattle.bl_proc_invariant.specs.Tables.{Carried, alone}
 use Rattle.bl_proc_invariant.specs.Knowing.{Run, know_of, know, know_write, path_goes, inserted, know_climb, know_post, know_compress, know_lower, end_of_proc, run_next}
 use Rattle.bl_proc_invariant.proofs.Logging.{post_on, post_stays}
 use Rattle.bl_proc_invariant.proofs.Doing.{compress_on, compress_stays}
@@ -48,13 +48,13 @@ use Rattle.bl_proc_invariant.proofs.Putting.{write_on, write_stays}
 use Rattle.bl_proc_unique.proofs.KindCases.{find_case, part_case, write_case, post_case, compress_case, lower_case, climb_case}
 
 -- a process that has not begun has nothing to tell
-early_post : (keeps : Keeps) → (level key : ℕ) (got : ℕ → Page) (child : ℕ) (a : PostStage) → (know_post keeps level key got child a).stage ≡ Stage.Early → (marks : Trail) → post_log level key a marks
-early_post keeps level key got child post.New e marks = tt
-early_post keeps level key got child (post.Coming way.Start) e marks = absurd (let f = e in cc)
-early_post keeps level key got child (post.Coming (way.Leaving x None)) e marks = absurd (let f = e in cc)
-early_post keeps level key got child (post.Growing growth.Latching) e marks = absurd (let f = e in cc)
-early_post keeps level key got child (post.Editing (edit.Putting x page)) e marks = absurd (let f = e in cc)
-early_post keeps level key got child old e marks = absurd (let f = e in cc)
+early_post : (carried : Carried) → (level key : ℕ) (got : ℕ → Page) (child : ℕ) (a : PostStage) → (know_post carried level key got child a).stage ≡ Stage.Early → (marks : Trail) → post_log level key a marks
+early_post carried level key got child post.New e marks = tt
+early_post carried level key got child (post.Coming way.Start) e marks = absurd (let f = e in cc)
+early_post carried level key got child (post.Coming (way.Leaving x None)) e marks = absurd (let f = e in cc)
+early_post carried level key got child (post.Growing growth.Latching) e marks = absurd (let f = e in cc)
+early_post carried level key got child (post.Editing (edit.Putting x page)) e marks = absurd (let f = e in cc)
+early_post carried level key got child old e marks = absurd (let f = e in cc)
 
 early_press : (level key : ℕ) (got : ℕ → Page) (a : CompressStage) → (know_compress level key got a).stage ≡ Stage.Early → (marks : Trail) → compress_log level key a marks
 early_press level key got compress.New e marks = tt
@@ -64,13 +64,13 @@ early_press level key got (compress.Compressing (LatchingLeft h)) e marks = absu
 early_press level key got old e marks = absurd (let f = e in cc)
 
 -- a post within an insertion has begun
-not_early : (keeps : Keeps) → (level key : ℕ) (got : ℕ → Page) (child : ℕ) (a : PostStage) → IsPosting a → (know_post keeps level key got child a).stage ≡ Stage.Early → ⊥
-not_early keeps level key got child post.New h e = absurd h
-not_early keeps level key got child (post.Coming way.Start) h e = (let f = e in cc)
-not_early keeps level key got child (post.Coming (way.Leaving x None)) h e = (let f = e in cc)
-not_early keeps level key got child (post.Growing growth.Latching) h e = (let f = e in cc)
-not_early keeps level key got child (post.Editing (edit.Putting x page)) h e = (let f = e in cc)
-not_early keeps level key got child old h e = (let f = e in cc)
+not_early : (carried : Carried) → (level key : ℕ) (got : ℕ → Page) (child : ℕ) (a : PostStage) → IsPosting a → (know_post carried level key got child a).stage ≡ Stage.Early → ⊥
+not_early carried level key got child post.New h e = absurd h
+not_early carried level key got child (post.Coming way.Start) h e = (let f = e in cc)
+not_early carried level key got child (post.Coming (way.Leaving x None)) h e = (let f = e in cc)
+not_early carried level key got child (post.Growing growth.Latching) h e = (let f = e in cc)
+not_early carried level key got child (post.Editing (edit.Putting x page)) h e = (let f = e in cc)
+not_early carried level key got child old h e = (let f = e in cc)
 
 early_write : (goes : List Goes) → (key : ℕ) (does : KeyWrite) (got : ℕ → Page) (a : WriteStage) → (know_write goes key does got a).stage ≡ Stage.Early → (marks : Trail) → write_log does a marks
 early_write goes key does got write.New e marks = tt

@@ -64,7 +64,7 @@ use Rattle.bl_proc.specs.Lowers.{lower_next_in}
 use Rattle.bl_proc_base.specs.Lowerings.{lowering_next}
 use Rattle.bl_proc.specs.Processes.{next_of}
 use Rattle.bl_proc_invariant.specs.Compressing.{know_squeeze}
-use Rattle.bl_proc_invariant.specs.Tables.{Keeps, unsaid, alone, Aim, know_approach, know_edit}
+use Rattle.bl_proc_invariant.specs.Tables.{Carried, unsaid, alone, Aim, know_approach, know_edit}
 use Rattle.bl_proc_invariant.specs.Knowing.{know_growth, know_find, know_part, know_write, path_goes, inserted, know_climb, know_post, know_compress, know_reclaim, know_lower, know_of, Run, know}
 use Rattle.bl_proc_invariant.proofs.Descending.{descent_there}
 
@@ -83,13 +83,13 @@ module _ {P : Type 0} (know : P → Know) (w : World P) (g : IsGood know w) (p :
   anchor_not_free : w.status 0 ≢ Free
   anchor_not_free e = (let a = g.tree.anchored in cc)
 
-  approach_near : (keeps : Keeps) → (level key : ℕ) (a : Approach) → IsSure w p (know_approach keeps level key a) → IsNear w p (approach_next a)
-  approach_near keeps level key way.Start is = anchor_not_released know w g
-  approach_near keeps level key (way.At x) is = not_released know w g p x is.goes.0.may
-  approach_near keeps level key (way.Latching x) is = not_free x is.goes.0.may
-  approach_near keeps level key (way.Latched x) is = not_released know w g p x is.goes.0.may
-  approach_near keeps level key (way.Leaving x None) is = is.holds.0.owner
-  approach_near keeps level key (way.Leaving x (Some y)) is = is.holds.0.owner
+  approach_near : (carried : Carried) → (level key : ℕ) (a : Approach) → IsSure w p (know_approach carried level key a) → IsNear w p (approach_next a)
+  approach_near carried level key way.Start is = anchor_not_released know w g
+  approach_near carried level key (way.At x) is = not_released know w g p x is.goes.0.may
+  approach_near carried level key (way.Latching x) is = not_free x is.goes.0.may
+  approach_near carried level key (way.Latched x) is = not_released know w g p x is.goes.0.may
+  approach_near carried level key (way.Leaving x None) is = is.holds.0.owner
+  approach_near carried level key (way.Leaving x (Some y)) is = is.holds.0.owner
 
   edit_near : (aim : Aim) (got : ℕ → Page) (c : Edit) → IsSure w p (know_edit aim got c) → IsNear w p (edit_next c)
   edit_near aim got (edit.Putting x page) is = is.holds.0.owner
@@ -99,15 +99,15 @@ module _ {P : Type 0} (know : P → Know) (w : World P) (g : IsGood know w) (p :
   edit_near aim got (edit.OpeningNew x y s) is = is.holds.1.0.owner
   edit_near aim got (edit.Opening x o) is = is.holds.0.owner
 
-  growth_near : (keeps : Keeps) → (level key : ℕ) (got : ℕ → Page) (a : Growth) → IsSure w p (know_growth keeps level key got a) → IsNear w p (growth_next a)
-  growth_near keeps level key got growth.Latching is = anchor_not_free
-  growth_near keeps level key got growth.Latched is = anchor_not_released know w g
-  growth_near keeps level key got (growth.Taking r) is = tt
-  growth_near keeps level key got (growth.PuttingTop r) is = is.holds.1.0.owner
-  growth_near keeps level key got (growth.PuttingAnchor r) is = is.holds.0.owner
-  growth_near keeps level key got (growth.OpeningTop x) is = is.holds.1.0.owner
-  growth_near keeps level key got growth.OpeningGrown is = is.holds.0.owner
-  growth_near keeps level key got growth.OpeningRefused is = is.holds.0.owner
+  growth_near : (carried : Carried) → (level key : ℕ) (got : ℕ → Page) (a : Growth) → IsSure w p (know_growth carried level key got a) → IsNear w p (growth_next a)
+  growth_near carried level key got growth.Latching is = anchor_not_free
+  growth_near carried level key got growth.Latched is = anchor_not_released know w g
+  growth_near carried level key got (growth.Taking r) is = tt
+  growth_near carried level key got (growth.PuttingTop r) is = is.holds.1.0.owner
+  growth_near carried level key got (growth.PuttingAnchor r) is = is.holds.0.owner
+  growth_near carried level key got (growth.OpeningTop x) is = is.holds.1.0.owner
+  growth_near carried level key got growth.OpeningGrown is = is.holds.0.owner
+  growth_near carried level key got growth.OpeningRefused is = is.holds.0.owner
 
   find_near : (key : ℕ) (a : FindStage) → IsSure w p (know_find key a) → IsNear w p (find_next_in a)
   find_near key find.New is = tt
@@ -131,15 +131,15 @@ module _ {P : Type 0} (know : P → Know) (w : World P) (g : IsGood know w) (p :
   write_near goes key does got (write.Ending r) is = tt
   write_near goes key does got (write.Over r) is = tt
 
-  post_near : (keeps : Keeps) → (level key : ℕ) (got : ℕ → Page) (child : ℕ) (a : PostStage) → IsSure w p (know_post keeps level key got child a) → IsNear w p (post_next_in a)
-  post_near keeps level key got child post.New is = tt
-  post_near keeps level key got child (post.Coming a) is = approach_near keeps level key a is
-  post_near keeps level key got child (post.Growing h) is = growth_near keeps level key got h is
-  post_near keeps level key got child (post.Walking v) is = not_released know w g p v.child is.goes.0.may
-  post_near keeps level key got child (post.Editing c) is = edit_near _ got c is
-  post_near keeps level key got child (post.Staying x r) is = is.holds.0.owner
-  post_near keeps level key got child (post.Ending r) is = tt
-  post_near keeps level key got child (post.Over r) is = tt
+  post_near : (carried : Carried) → (level key : ℕ) (got : ℕ → Page) (child : ℕ) (a : PostStage) → IsSure w p (know_post carried level key got child a) → IsNear w p (post_next_in a)
+  post_near carried level key got child post.New is = tt
+  post_near carried level key got child (post.Coming a) is = approach_near carried level key a is
+  post_near carried level key got child (post.Growing h) is = growth_near carried level key got h is
+  post_near carried level key got child (post.Walking v) is = not_released know w g p v.child is.goes.0.may
+  post_near carried level key got child (post.Editing c) is = edit_near _ got c is
+  post_near carried level key got child (post.Staying x r) is = is.holds.0.owner
+  post_near carried level key got child (post.Ending r) is = tt
+  post_near carried level key got child (post.Over r) is = tt
 
   put_near : (u : Puts) (sd : Side) → w.now.owner u.at.left ≡ Held p → w.now.owner u.at.right ≡ Held p → IsNear w p (put_of sd u)
   put_near u side.Left left right = left

@@ -1,5 +1,5 @@
 -- A process notes the page from which it goes down: it may go there again, as a writer of that page's level.
-use Rattle.std.proofs.Common.{ℕ, ◌≡◌, ◌+◌, ◌-◌, ◌<◌, zero, suc, List, [], ◌∷◌, None, Some, Option, set, get_or, arith, ap, sym, ◌∙◌, refl, subst}
+use Rattle.std.proofs.Common.{ℕ, ◌≡◌, ◌+◌, ◌-◌, ◌<◌, zero, suc, List, [], ◌∷◌, None, Option, set, get_or, arith, ap, sym, ◌∙◌, refl, subst}
 use Rattle.bl_model.specs.declared.deciding.KeyWrite.{KeyWrite}
 use Rattle.bl_page.specs.declared.page.Page.{Page}
 use Rattle.bl_page.specs.Machine.{Name}
@@ -22,7 +22,7 @@ use Rattle.bl_proc.specs.Writes.{write_next_in}
 use Rattle.bl_proc.specs.Posts.{post_next_in}
 use Rattle.bl_proc.specs.Climbs.{WriteNotes, PostNotes}
 use Rattle.bl_proc_invariant.specs.Turns.{IsObserved}
-use Rattle.bl_proc_invariant.specs.Tables.{Keeps, unsaid, goes_to, know_approach}
+use Rattle.bl_proc_invariant.specs.Tables.{Carried, goes_to, know_approach}
 use Rattle.bl_proc_invariant.specs.Knowing.{goes_above, path_goes, know_write, know_post}
 use Rattle.bl_proc_invariant.proofs.Instead.{with_proc, instead_good}
 use Rattle.bl_proc_unique.proofs.KindCases.{NoteCase, note_case}
@@ -49,9 +49,9 @@ module _ {P : Type 0} (w : World P) (p : Name) where
   goes_set (suc x ∷ xs) level (suc i) y all h = (all.0, goes_set xs (suc level) i y all.1 (subst (λ n. IsGoes w p (goes_to y n n)) (omega arith) h))
 
   -- a writer may begin at the page that is noted for its level
-  pub from_sure : (keeps : Keeps) (path : Path) (level key x : ℕ) → keeps.goes ≡ path_goes path → page_at path level ≡ x → 0 < level → key < unbounded → IsStage Stage.Busy (w.now.phase p) → HasSaid w.trail p keeps.said → Each (IsGoes w p) keeps.goes → IsSure w p (know_approach keeps level key (from_page x))
-  from_sure keeps path level key zero same at least below stage said all = record { stage = stage; said = said; holds = tt; goes = all; children = tt; passed = tt; sound = below }
-  from_sure keeps path level key (suc x) same at least below stage said all =
+  pub from_sure : (carried : Carried) (path : Path) (level key x : ℕ) → carried.goes ≡ path_goes path → page_at path level ≡ x → 0 < level → key < unbounded → IsStage Stage.Busy (w.now.phase p) → HasSaid w.trail p carried.said → Each (IsGoes w p) carried.goes → IsSure w p (know_approach carried level key (from_page x))
+  from_sure carried path level key zero same at least below stage said all = record { stage = stage; said = said; holds = tt; goes = all; children = tt; passed = tt; sound = below }
+  from_sure carried path level key (suc x) same at least below stage said all =
       let here : IsGoes w p (goes_to (suc x) (1 + (level - 1)) (1 + (level - 1))) = goes_at path.pages 1 (level - 1) x (rw same at all) at in
       record { stage = stage; said = said; holds = tt; goes = (subst (λ n. IsGoes w p (goes_to (suc x) n n)) (omega (arith, least)) here, all); children = tt; passed = tt; sound = below }
 
@@ -64,9 +64,9 @@ none_above (suc x ∷ xs) level h = absurd (let e = h 0 in cc)
 pub blank_goes : (path : Path) → IsBlank path → path_goes path ≡ []
 blank_goes path h = none_above path.pages 1 (λ i. subst (λ n. get_or path.pages n 0 ≡ 0) (omega arith) (h (suc i)))
 
-pub from_holds : (keeps : Keeps) (level key x : ℕ) → ((know_approach keeps level key (from_page x)).holds ≡ []) × ((know_approach keeps level key (from_page x)).middle ≡ None)
-from_holds keeps level key zero = (refl, refl)
-from_holds keeps level key (suc x) = (refl, refl)
+pub from_holds : (carried : Carried) (level key x : ℕ) → ((know_approach carried level key (from_page x)).holds ≡ []) × ((know_approach carried level key (from_page x)).middle ≡ None)
+from_holds carried level key zero = (refl, refl)
+from_holds carried level key (suc x) = (refl, refl)
 
 module _ {P : Type 0} (know : P → Know) (w : World P) (g : IsGood know w) (p : Name) (a : P) where
   -- it knows the same

@@ -31,20 +31,20 @@ use Rattle.bl_proc.specs.declared.reclaiming.ReclaimStage.TheVariants as reclaim
 use Rattle.bl_proc_compress.specs.declared.squeezing.Compress.{Compress as Press}
 use Rattle.bl_proc.specs.declared.kinds.Proc.{Proc}
 use Rattle.bl_proc.specs.declared.kinds.Proc.TheVariants.{Find, Write, Post, Part, Compress, Reclaim, Lower, InsertPost}
-use Rattle.bl_proc_invariant.specs.Tables.{Keeps, unsaid, alone, Aim, know_approach, know_edit}
+use Rattle.bl_proc_invariant.specs.Tables.{Carried, unsaid, alone, Aim, know_approach, know_edit}
 use Rattle.bl_proc_invariant.specs.Knowing.{know_growth, know_find, know_part, know_write, path_goes, inserted, know_climb, know_post, know_reclaim, know_lower, know_of}
 
 -- it is not in the middle of a compression
 record IsPlain (k : Know) : Type 1 where
   pub middle : k.middle ≡ None
 
-approach_plain : (keeps : Keeps) → (level key : ℕ) (a : Approach) → IsPlain (know_approach keeps level key a)
-approach_plain keeps level key way.Start = record { middle = refl }
-approach_plain keeps level key (way.At x) = record { middle = refl }
-approach_plain keeps level key (way.Latching x) = record { middle = refl }
-approach_plain keeps level key (way.Latched x) = record { middle = refl }
-approach_plain keeps level key (way.Leaving x None) = record { middle = refl }
-approach_plain keeps level key (way.Leaving x (Some y)) = record { middle = refl }
+approach_plain : (carried : Carried) → (level key : ℕ) (a : Approach) → IsPlain (know_approach carried level key a)
+approach_plain carried level key way.Start = record { middle = refl }
+approach_plain carried level key (way.At x) = record { middle = refl }
+approach_plain carried level key (way.Latching x) = record { middle = refl }
+approach_plain carried level key (way.Latched x) = record { middle = refl }
+approach_plain carried level key (way.Leaving x None) = record { middle = refl }
+approach_plain carried level key (way.Leaving x (Some y)) = record { middle = refl }
 
 edit_plain : (aim : Aim) (got : ℕ → Page) (c : Edit) → IsPlain (know_edit aim got c)
 edit_plain aim got (edit.Putting x page) = record { middle = refl }
@@ -54,15 +54,15 @@ edit_plain aim got (edit.PuttingOld t) = record { middle = refl }
 edit_plain aim got (edit.OpeningNew x y s) = record { middle = refl }
 edit_plain aim got (edit.Opening x o) = record { middle = refl }
 
-growth_plain : (keeps : Keeps) → (level key : ℕ) (got : ℕ → Page) (a : Growth) → IsPlain (know_growth keeps level key got a)
-growth_plain keeps level key got growth.Latching = record { middle = refl }
-growth_plain keeps level key got growth.Latched = record { middle = refl }
-growth_plain keeps level key got (growth.Taking r) = record { middle = refl }
-growth_plain keeps level key got (growth.PuttingTop r) = record { middle = refl }
-growth_plain keeps level key got (growth.PuttingAnchor r) = record { middle = refl }
-growth_plain keeps level key got (growth.OpeningTop x) = record { middle = refl }
-growth_plain keeps level key got growth.OpeningGrown = record { middle = refl }
-growth_plain keeps level key got growth.OpeningRefused = record { middle = refl }
+growth_plain : (carried : Carried) → (level key : ℕ) (got : ℕ → Page) (a : Growth) → IsPlain (know_growth carried level key got a)
+growth_plain carried level key got growth.Latching = record { middle = refl }
+growth_plain carried level key got growth.Latched = record { middle = refl }
+growth_plain carried level key got (growth.Taking r) = record { middle = refl }
+growth_plain carried level key got (growth.PuttingTop r) = record { middle = refl }
+growth_plain carried level key got (growth.PuttingAnchor r) = record { middle = refl }
+growth_plain carried level key got (growth.OpeningTop x) = record { middle = refl }
+growth_plain carried level key got growth.OpeningGrown = record { middle = refl }
+growth_plain carried level key got growth.OpeningRefused = record { middle = refl }
 
 find_plain : (key : ℕ) (a : FindStage) → IsPlain (know_find key a)
 find_plain key find.New = record { middle = refl }
@@ -86,15 +86,15 @@ write_plain goes key does got (write.Over r) = record { middle = refl }
 write_plain goes key does got (write.Coming a) = approach_plain (unsaid goes) 0 key a
 write_plain goes key does got (write.Editing noted c) = edit_plain _ got c
 
-post_plain : (keeps : Keeps) → (level key : ℕ) (got : ℕ → Page) (child : ℕ) (a : PostStage) → IsPlain (know_post keeps level key got child a)
-post_plain keeps level key got child post.New = record { middle = refl }
-post_plain keeps level key got child (post.Walking v) = record { middle = refl }
-post_plain keeps level key got child (post.Staying x r) = record { middle = refl }
-post_plain keeps level key got child (post.Ending r) = record { middle = refl }
-post_plain keeps level key got child (post.Over r) = record { middle = refl }
-post_plain keeps level key got child (post.Coming a) = approach_plain keeps level key a
-post_plain keeps level key got child (post.Growing h) = growth_plain keeps level key got h
-post_plain keeps level key got child (post.Editing c) = edit_plain _ got c
+post_plain : (carried : Carried) → (level key : ℕ) (got : ℕ → Page) (child : ℕ) (a : PostStage) → IsPlain (know_post carried level key got child a)
+post_plain carried level key got child post.New = record { middle = refl }
+post_plain carried level key got child (post.Walking v) = record { middle = refl }
+post_plain carried level key got child (post.Staying x r) = record { middle = refl }
+post_plain carried level key got child (post.Ending r) = record { middle = refl }
+post_plain carried level key got child (post.Over r) = record { middle = refl }
+post_plain carried level key got child (post.Coming a) = approach_plain carried level key a
+post_plain carried level key got child (post.Growing h) = growth_plain carried level key got h
+post_plain carried level key got child (post.Editing c) = edit_plain _ got c
 
 reclaim_plain : (time : ℕ) (a : ReclaimStage) → IsPlain (know_reclaim time a)
 reclaim_plain time reclaim.Seeing = record { middle = refl }

@@ -12,7 +12,7 @@ use Rattle.bl_claims.specs.Pages.{node_of}
 use Rattle.bl_claims.specs.Walks.{IsChildOf}
 use Rattle.bl_claims.specs.Trails.{Mark}
 use Rattle.bl_core.proofs.Pushes.{HasSaid-silent}
-use Rattle.bl_core.specs.Worlds.{HoldsPage, Stage, Know, World, nodes, tree_of, IsGoes, IsSure, IsGood}
+use Rattle.bl_core.specs.Worlds.{HoldsPage, Know, World, nodes, tree_of, IsGoes, IsSure, IsGood}
 use Rattle.bl_core.proofs.Descents.{goes_down, not_released, anchor_not_released}
 use Rattle.bl_core.proofs.Children.{child_found}
 use Rattle.bl_proc_base.specs.declared.acts.Seen.{Seen}
@@ -29,7 +29,7 @@ use Rattle.bl_proc_base.specs.Onwards.{Leads}
 use Rattle.bl_proc_base.specs.Edits.{EntersPair}
 use Rattle.bl_proc.specs.Posts.{post_reply, post_next_in, PostArrives, PostWalks}
 use Rattle.bl_proc_invariant.specs.Turns.{event_of, IsObserved, Does, Turned}
-use Rattle.bl_proc_invariant.specs.Tables.{Keeps, keeping, holds_live, goes_to, IsAim, IsDue, IsBelow, know_approach, know_edit}
+use Rattle.bl_proc_invariant.specs.Tables.{Carried, carrying, holds_live, goes_to, IsAim, IsDue, IsBelow, know_approach, know_edit}
 use Rattle.bl_proc_invariant.specs.Knowing.{post_aim, know_post, LeavesPost, post_got, post_child}
 use Rattle.bl_proc_invariant.proofs.Acts.{watched}
 use Rattle.bl_proc_invariant.proofs.Approaching.{walks_held, wider, to_right, got_goes, approach_turn, give_up_turn, kept_turn, stay_turn}
@@ -40,8 +40,8 @@ use Rattle.bl_proc_invariant.proofs.Growing as growing
 use Rattle.bl_proc_unique.proofs.WayCases.{edit_case, growth_case}
 use Rattle.bl_proc_unique.proofs.KindCases.{PostCase}
 
-pub post_fine : (keeps : Keeps) (level key child : ℕ) → 0 < level → IsAim (post_aim keeps level key child)
-post_fine keeps level key child above = record {
+pub post_fine : (carried : Carried) (level key child : ℕ) → 0 < level → IsAim (post_aim carried level key child)
+post_fine carried level key child above = record {
   once = λ o. inl (refl, refl);
   changed = λ o n m m' at up rest k. elim (cases_eq k key) [
     | inl e ↦ subst (λ z. m' z ≡ m z) (sym e) (up (λ z. omega (arith, z)))
@@ -59,11 +59,11 @@ post_leaves outcome.Edited h = tt
 post_leaves (outcome.SplitAt separator) h = h
 post_leaves outcome.Refused h = tt
 
-module _ {P : Type 0} (know : P → Know) (w : World P) (g : IsGood know w) (p : Name) (b : P) (keeps : Keeps) (level key : ℕ) (least : 0 < level) (limit : level ≤ 12) where
+module _ {P : Type 0} (know : P → Know) (w : World P) (g : IsGood know w) (p : Name) (b : P) (carried : Carried) (level key : ℕ) (least : 0 < level) (limit : level ≤ 12) where
   -- at the parent
-  walk_turn : (x : ℕ) (parent : Inner) (v : Walk) (got : ℕ → Page) (child : ℕ) (s : State Page) → know (w.proc p) ≡ know_approach keeps level key (way.Latched x) → know b ≡ know_post keeps level key got child (post.Walking v) → InnerPage parent ≡ w.now.contents x → Leads (InnerPage parent) key level Here → PostArrives key x parent (post.Walking v) → Does w.now p (Get x) s → Turned know w p (Get x) s b
+  walk_turn : (x : ℕ) (parent : Inner) (v : Walk) (got : ℕ → Page) (child : ℕ) (s : State Page) → know (w.proc p) ≡ know_approach carried level key (way.Latched x) → know b ≡ know_post carried level key got child (post.Walking v) → InnerPage parent ≡ w.now.contents x → Leads (InnerPage parent) key level Here → PostArrives key x parent (post.Walking v) → Does w.now p (Get x) s → Turned know w p (Get x) s b
   walk_turn x parent v got child s before then observed leads t does =
-      let is : IsSure w p (know_approach keeps level key (way.Latched x)) = rw before at (g.sure p) in
+      let is : IsSure w p (know_approach carried level key (way.Latched x)) = rw before at (g.sure p) in
       let held = is.holds.0 in
       let may = is.goes.0.may in
       let m : Mark = record { event = record { process = p; act = Get x }; saw = Some (w.now.contents x); said = None } in
@@ -75,7 +75,7 @@ module _ {P : Type 0} (know : P → Know) (w : World P) (g : IsGood know w) (p :
       (λ y h. elim h [ inl e ↦ inl (t.0 ∙ e) | inr u ↦ absurd u ]) (λ it e. cc) (λ j. refl)
       (record {
         stage = is.stage;
-        said = HasSaid-silent w.trail m p keeps.said refl is.said;
+        said = HasSaid-silent w.trail m p carried.said refl is.said;
         holds = ((ap s.owner t.0 ∙ (does.changes.1 x ∙ held.owner), ap w.status t.0 ∙ held.status, tt, ap w.now.contents t.0 ∙ page), tt);
         goes = (to, is.goes.1);
         children = tt;
@@ -84,11 +84,11 @@ module _ {P : Type 0} (know : P → Know) (w : World P) (g : IsGood know w) (p :
       })
 
   -- on the walk to the child
-  module _ (v : Walk) (got : ℕ → Page) (child : ℕ) (s : State Page) (before : know (w.proc p) ≡ know_post keeps level key got child (post.Walking v)) (does : Does w.now p (Get v.child) s) where
-    walking : IsSure w p (know_post keeps level key got child (post.Walking v))
+  module _ (v : Walk) (got : ℕ → Page) (child : ℕ) (s : State Page) (before : know (w.proc p) ≡ know_post carried level key got child (post.Walking v)) (does : Does w.now p (Get v.child) s) where
+    walking : IsSure w p (know_post carried level key got child (post.Walking v))
     walking = rw before at (g.sure p)
 
-    step_turn : (u : Walk) (got' : ℕ → Page) (child' : ℕ) → know b ≡ know_post keeps level key got' child' (post.Walking u) → PostWalks level v (w.now.contents v.child) (post.Walking u) → Turned know w p (Get v.child) s b
+    step_turn : (u : Walk) (got' : ℕ → Page) (child' : ℕ) → know b ≡ know_post carried level key got' child' (post.Walking u) → PostWalks level v (w.now.contents v.child) (post.Walking u) → Turned know w p (Get v.child) s b
     step_turn u got' child' then t =
         let is = walking in
         let held = is.holds.0 in
@@ -102,32 +102,32 @@ module _ {P : Type 0} (know : P → Know) (w : World P) (g : IsGood know w) (p :
         (λ y h. elim h [ inl e ↦ inl (t.0 ∙ e) | inr n ↦ absurd n ]) (λ it e. cc) (λ j. refl)
         (record {
           stage = is.stage;
-          said = HasSaid-silent w.trail m p keeps.said refl is.said;
+          said = HasSaid-silent w.trail m p carried.said refl is.said;
           holds = ((ap s.owner t.0 ∙ (does.changes.1 v.at ∙ held.owner), ap w.status t.0 ∙ held.status, tt, ap w.now.contents t.0 ∙ (held.page ∙ parent)), tt);
           goes = (goes, is.goes.1);
           children = tt;
           passed = tt;
-          sound = (is.sound.0, subst (λ z. IsDue (post_aim keeps level key 0) z) parent is.sound.1, t.1 ∙ key_is);
+          sound = (is.sound.0, subst (λ z. IsDue (post_aim carried level key 0) z) parent is.sound.1, t.1 ∙ key_is);
         })
 
-    lost_turn : know b ≡ record (keeping keeps) { holds = holds_live v.at ∷ [] } → Turned know w p (Get v.child) s b
+    lost_turn : know b ≡ record (carrying carried) { holds = holds_live v.at ∷ [] } → Turned know w p (Get v.child) s b
     lost_turn then =
         let is = walking in
         watched know w g p b _ _ before then (Get v.child) (Some (w.now.contents v.child)) None s tt (is.stage, not_released know w g p v.child is.goes.0.may) does refl refl (λ y h. h) (λ it e. cc) (λ j. refl)
-        (walks_held w _ p (Get v.child) (Some (w.now.contents v.child)) keeps.said v.at keeps.goes (Unit {0}) is.stage is.said (does.changes.1 v.at ∙ is.holds.0.owner) is.holds.0.status is.goes.1 tt)
+        (walks_held w _ p (Get v.child) (Some (w.now.contents v.child)) carried.said v.at carried.goes (Unit {0}) is.stage is.said (does.changes.1 v.at ∙ is.holds.0.owner) is.holds.0.status is.goes.1 tt)
 
-    again_turn : know b ≡ know_approach keeps level key (way.Leaving v.at None) → Turned know w p (Get v.child) s b
+    again_turn : know b ≡ know_approach carried level key (way.Leaving v.at None) → Turned know w p (Get v.child) s b
     again_turn then =
         let is = walking in
         watched know w g p b _ _ before then (Get v.child) (Some (w.now.contents v.child)) None s tt (is.stage, not_released know w g p v.child is.goes.0.may) does refl refl (λ y h. h) (λ it e. cc) (λ j. refl)
-        (walks_held w _ p (Get v.child) (Some (w.now.contents v.child)) keeps.said v.at keeps.goes (key < unbounded) is.stage is.said (does.changes.1 v.at ∙ is.holds.0.owner) is.holds.0.status is.goes.1 is.sound.0)
+        (walks_held w _ p (Get v.child) (Some (w.now.contents v.child)) carried.said v.at carried.goes (key < unbounded) is.stage is.said (does.changes.1 v.at ∙ is.holds.0.owner) is.holds.0.status is.goes.1 is.sound.0)
 
-    list_turn : (c : Edit) → know b ≡ know_edit (post_aim keeps level key v.child) (λ z. InnerPage v.parent) c → PostWalks level v (w.now.contents v.child) (post.Editing c) → Turned know w p (Get v.child) s b
+    list_turn : (c : Edit) → know b ≡ know_edit (post_aim carried level key v.child) (λ z. InnerPage v.parent) c → PostWalks level v (w.now.contents v.child) (post.Editing c) → Turned know w p (Get v.child) s b
     list_turn c then t =
         let is = walking in
         let held = is.holds.0 in
         let to = is.goes.0 in
-        let aim = post_aim keeps level key v.child in
+        let aim = post_aim carried level key v.child in
         let page = InnerPage v.parent in
         let key_is : v.key ≡ key = is.sound.2 in
         let due : IsDue aim page = record { level = is.sound.1.level; covers = is.sound.1.covers; was = is.sound.1.was; changes = refl } in
@@ -150,24 +150,24 @@ module _ {P : Type 0} (know : P → Know) (w : World P) (g : IsGood know w) (p :
         }) refl enters)
 
   -- Every turn of a post. Where it ends it answers nothing, so it has said nothing.
-  pub post_turn : {a a' : PostStage} {what : Seen} → PostCase level key a what a' → ((r : PostReply) → a ≡ post.Ending r → keeps.said ≡ None) → (got : ℕ → Page) (child : ℕ) (s : State Page) → know (w.proc p) ≡ know_post keeps level key got child a → know b ≡ know_post keeps level key (post_got got a what) (post_child child a) a' → IsObserved w.now w.size (post_next_in a) what → Does w.now p (event_of None (post_next_in a) what) s → Turned know w p (event_of None (post_next_in a) what) s b
-  post_turn (PostCase.Began a t) ends got child s before then observed does = begin_turn know w g p b keeps key s before (rw t at then) does
-  post_turn (PostCase.NoLevel c t) ends got child s before then observed does = give_up_turn know w g p b keeps level key s before then does
-  post_turn (PostCase.Tallest c t) ends got child s before then observed does = give_up_turn know w g p b keeps level key s before then does
+  pub post_turn : {a a' : PostStage} {what : Seen} → PostCase level key a what a' → ((r : PostReply) → a ≡ post.Ending r → carried.said ≡ None) → (got : ℕ → Page) (child : ℕ) (s : State Page) → know (w.proc p) ≡ know_post carried level key got child a → know b ≡ know_post carried level key (post_got got a what) (post_child child a) a' → IsObserved w.now w.size (post_next_in a) what → Does w.now p (event_of None (post_next_in a) what) s → Turned know w p (event_of None (post_next_in a) what) s b
+  post_turn (PostCase.Began a t) ends got child s before then observed does = begin_turn know w g p b carried key s before (rw t at then) does
+  post_turn (PostCase.NoLevel c t) ends got child s before then observed does = give_up_turn know w g p b carried level key s before then does
+  post_turn (PostCase.Tallest c t) ends got child s before then observed does = give_up_turn know w g p b carried level key s before then does
   post_turn (PostCase.ToGrow c t) ends got child s before then observed does =
-      let is : IsSure w p (know_approach keeps level key way.Start) = rw before at (g.sure p) in
-      got_goes know w g p b keeps level key _ 0 s keeps.goes before refl refl then is.stage is.said (anchor_not_released know w g) does is.sound is.goes
-  post_turn (PostCase.Came a what a' t) ends got child s before then observed does = approach_turn know w g p b keeps level key a a' what s limit before then t observed does
-  post_turn (PostCase.Listed x parent y l t) ends got child s before then observed does = kept_turn know w g p b keeps level key x s before (rw t.0 at then) does
+      let is : IsSure w p (know_approach carried level key way.Start) = rw before at (g.sure p) in
+      got_goes know w g p b carried level key _ 0 s carried.goes before refl refl then is.stage is.said (anchor_not_released know w g) does is.sound is.goes
+  post_turn (PostCase.Came a what a' t) ends got child s before then observed does = approach_turn know w g p b carried level key a a' what s limit before then t observed does
+  post_turn (PostCase.Listed x parent y l t) ends got child s before then observed does = kept_turn know w g p b carried level key x s before (rw t.0 at then) does
   post_turn (PostCase.ToWalk x parent v l t) ends got child s before then observed does = walk_turn x parent v got child s before then observed l t does
-  post_turn (PostCase.Grew h what d t) ends got child s before then observed does = growing.growth_turn know w g p b keeps level key (growth_case level h what _ t) got s before then observed does
-  post_turn (PostCase.Grown h what a t) ends got child s before then observed does = growing.over_turn know w g p b keeps level key (growth_case level h what _ t.0) got s before (rw t.1 at then) does
-  post_turn (PostCase.NoRoom h what r t) ends got child s before then observed does = growing.no_room_turn know w g p b keeps level key (growth_case level h what _ t.0) got s before (rw t.1 at then) does
+  post_turn (PostCase.Grew h what d t) ends got child s before then observed does = growing.growth_turn know w g p b carried level key (growth_case level h what _ t) got s before then observed does
+  post_turn (PostCase.Grown h what a t) ends got child s before then observed does = growing.over_turn know w g p b carried level key (growth_case level h what _ t.0) got s before (rw t.1 at then) does
+  post_turn (PostCase.NoRoom h what r t) ends got child s before then observed does = growing.no_room_turn know w g p b carried level key (growth_case level h what _ t.0) got s before (rw t.1 at then) does
   post_turn (PostCase.Walked v c u t) ends got child s before then observed does = step_turn v got child s before does u (λ z. InnerPage v.parent) v.child then (subst (λ z. PostWalks level v z (post.Walking u)) observed t)
   post_turn (PostCase.Entered v c d t) ends got child s before then observed does = list_turn v got child s before does d then (subst (λ z. PostWalks level v z (post.Editing d)) observed t)
   post_turn (PostCase.Stale v c x t) ends got child s before then observed does = lost_turn v got child s before does (rw t.0 at then)
   post_turn (PostCase.Lost v c a t) ends got child s before then observed does = again_turn v got child s before does (rw t.0 at then)
-  post_turn (PostCase.Edited c what d t) ends got child s before then observed does = edit_turn know w g p b (post_aim keeps level key child) (post_fine keeps level key child least) got (edit_case c what _ t) s before then observed does
-  post_turn (PostCase.Finished c what r (o, t, same)) ends got child s before then observed does = finish_turn know w g p b (post_aim keeps level key child) (post_fine keeps level key child least) got (edit_case c what _ t) (LeavesPost r) s before then (λ h. subst LeavesPost (sym same) (post_leaves o h.1)) does
-  post_turn (PostCase.Opened x r last t) ends got child s before then observed does = stay_turn know w g p b keeps level key x (LeavesPost r) s before (rw t at then) does
-  post_turn (PostCase.Ended r last t) ends got child s before then observed does = end_turn know w g p b None keeps.goes (LeavesPost r) s (rw (ends r refl) at before) (rw (ends r refl) at then) does
+  post_turn (PostCase.Edited c what d t) ends got child s before then observed does = edit_turn know w g p b (post_aim carried level key child) (post_fine carried level key child least) got (edit_case c what _ t) s before then observed does
+  post_turn (PostCase.Finished c what r (o, t, same)) ends got child s before then observed does = finish_turn know w g p b (post_aim carried level key child) (post_fine carried level key child least) got (edit_case c what _ t) (LeavesPost r) s before then (λ h. subst LeavesPost (sym same) (post_leaves o h.1)) does
+  post_turn (PostCase.Opened x r last t) ends got child s before then observed does = stay_turn know w g p b carried level key x (LeavesPost r) s before (rw t at then) does
+  post_turn (PostCase.Ended r last t) ends got child s before then observed does = end_turn know w g p b None carried.goes (LeavesPost r) s (rw (ends r refl) at before) (rw (ends r refl) at then) does

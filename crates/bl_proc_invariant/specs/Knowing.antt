@@ -53,7 +53,7 @@ use Rattle.bl_proc.specs.Writes.{write_reply}
 use Rattle.bl_proc_base.specs.Growths.{Raises, IsAnchor}
 use Rattle.bl_proc_invariant.specs.Compressing.{know_squeeze, compression_got}
 use Rattle.bl_proc_invariant.specs.Lowering.{know_lowering, lowering_got}
-use Rattle.bl_proc_invariant.specs.Tables.{idle, Keeps, unsaid, alone, keeping, holds_live, holds_known, anchor_known, goes_to, know_descent, know_approach, Aim, IsDue, know_edit}
+use Rattle.bl_proc_invariant.specs.Tables.{idle, Carried, unsaid, alone, carrying, holds_live, holds_known, anchor_known, goes_to, know_descent, know_approach, Aim, IsDue, know_edit}
 
 -- it is to begin; it is to end, or has ended, with what it said
 abbrev pub early : ℕ → Know
@@ -115,7 +115,7 @@ write_aim goes key does noted = record {
   was = noted.there;
   word = effected (effect_of does noted.there) noted.there;
   changes = is_change (effect_of does noted.there);
-  keeps = unsaid goes;
+  carried = unsaid goes;
   says = λ o. writes key does (write_reply noted o);
   said = λ o. writes key does (write_reply noted o);
   children = λ x. [];
@@ -142,28 +142,28 @@ pub record MayRise (level : ℕ) (c : Page) (leftmost : List ℕ) : Type 0 where
   pub levels : length leftmost ≡ level
   pub room : level < 12
 
-abbrev pub know_growth : Keeps → ℕ → ℕ → (ℕ → Page) → Growth → Know
-know_growth keeps level key got growth.Latching = record (keeping keeps) { sound = key < unbounded }
-know_growth keeps level key got growth.Latched = record (keeping keeps) { holds = anchor_known None ∷ []; sound = key < unbounded }
-know_growth keeps level key got (growth.Taking rise) = record (keeping keeps) { holds = anchor_known (Some (Anchor rise.anchor)) ∷ []; sound = (key < unbounded) × MayRise level (Anchor rise.anchor) rise.anchor.leftmost.items × (got 0 ≡ Anchor rise.anchor) }
-know_growth keeps level key got (growth.PuttingTop r) = record (keeping keeps) { holds = anchor_known (Some (got 0)) ∷ record { at = r.new; status = Fresh; sep = None; page = None } ∷ []; sound = (key < unbounded) × ((leftmost : List ℕ) × MayRise level (got 0) leftmost × Raises leftmost r.new r.top r.anchor) }
-know_growth keeps level key got (growth.PuttingAnchor r) = record (keeping keeps) { holds = anchor_known (Some (got 0)) ∷ record { at = r.new; status = Fresh; sep = Some 0; page = Some r.top } ∷ []; sound = (key < unbounded) × ((leftmost : List ℕ) × MayRise level (got 0) leftmost × Raises leftmost r.new r.top r.anchor) }
-know_growth keeps level key got (growth.OpeningTop x) = record (keeping keeps) { holds = anchor_known None ∷ holds_live x ∷ []; sound = (key < unbounded) × (0 ≢ x) }
-know_growth keeps level key got growth.OpeningGrown = record (keeping keeps) { holds = anchor_known None ∷ []; sound = key < unbounded }
-know_growth keeps level key got growth.OpeningRefused = record (keeping keeps) { holds = anchor_known None ∷ [] }
+abbrev pub know_growth : Carried → ℕ → ℕ → (ℕ → Page) → Growth → Know
+know_growth carried level key got growth.Latching = record (carrying carried) { sound = key < unbounded }
+know_growth carried level key got growth.Latched = record (carrying carried) { holds = anchor_known None ∷ []; sound = key < unbounded }
+know_growth carried level key got (growth.Taking rise) = record (carrying carried) { holds = anchor_known (Some (Anchor rise.anchor)) ∷ []; sound = (key < unbounded) × MayRise level (Anchor rise.anchor) rise.anchor.leftmost.items × (got 0 ≡ Anchor rise.anchor) }
+know_growth carried level key got (growth.PuttingTop r) = record (carrying carried) { holds = anchor_known (Some (got 0)) ∷ record { at = r.new; status = Fresh; sep = None; page = None } ∷ []; sound = (key < unbounded) × ((leftmost : List ℕ) × MayRise level (got 0) leftmost × Raises leftmost r.new r.top r.anchor) }
+know_growth carried level key got (growth.PuttingAnchor r) = record (carrying carried) { holds = anchor_known (Some (got 0)) ∷ record { at = r.new; status = Fresh; sep = Some 0; page = Some r.top } ∷ []; sound = (key < unbounded) × ((leftmost : List ℕ) × MayRise level (got 0) leftmost × Raises leftmost r.new r.top r.anchor) }
+know_growth carried level key got (growth.OpeningTop x) = record (carrying carried) { holds = anchor_known None ∷ holds_live x ∷ []; sound = (key < unbounded) × (0 ≢ x) }
+know_growth carried level key got growth.OpeningGrown = record (carrying carried) { holds = anchor_known None ∷ []; sound = key < unbounded }
+know_growth carried level key got growth.OpeningRefused = record (carrying carried) { holds = anchor_known None ∷ [] }
 
 -- Posts: they answer no operation of the map. While a parent is held, it is known that it does not list the key.
 
-abbrev pub post_aim : Keeps → ℕ → ℕ → ℕ → Aim
-post_aim keeps level key child = record {
+abbrev pub post_aim : Carried → ℕ → ℕ → ℕ → Aim
+post_aim carried level key child = record {
   level = level;
   key = key;
   was = None;
   word = Some child;
   changes = true;
-  keeps = keeps;
+  carried = carried;
   says = λ o. None;
-  said = λ o. keeps.said;
+  said = λ o. carried.said;
   children = λ x. record { parent = x; at = child; key = key } ∷ [];
 }
 
@@ -172,15 +172,15 @@ abbrev pub LeavesPost : PostReply → Type 0
 LeavesPost (posted.Done (Some separator)) = separator < unbounded
 LeavesPost r = Unit {0}
 
-abbrev pub know_post : Keeps → ℕ → ℕ → (ℕ → Page) → ℕ → PostStage → Know
-know_post keeps level key got child post.New = record (early key) { said = keeps.said; goes = keeps.goes }
-know_post keeps level key got child (post.Coming a) = know_approach keeps level key a
-know_post keeps level key got child (post.Growing g) = know_growth keeps level key got g
-know_post keeps level key got child (post.Walking w) = record (keeping keeps) { holds = holds_known w.at (Inner w.parent) ∷ []; goes = goes_to w.child (level - 1) (level - 1) ∷ keeps.goes; sound = (key < unbounded) × IsDue (post_aim keeps level key 0) (Inner w.parent) × (w.key ≡ key) }
-know_post keeps level key got child (post.Editing c) = know_edit (post_aim keeps level key child) got c
-know_post keeps level key got child (post.Staying x r) = record (keeping keeps) { holds = holds_live x ∷ []; sound = LeavesPost r }
-know_post keeps level key got child (post.Ending r) = record (ending keeps.said) { goes = keeps.goes; sound = LeavesPost r }
-know_post keeps level key got child (post.Over r) = late keeps.said
+abbrev pub know_post : Carried → ℕ → ℕ → (ℕ → Page) → ℕ → PostStage → Know
+know_post carried level key got child post.New = record (early key) { said = carried.said; goes = carried.goes }
+know_post carried level key got child (post.Coming a) = know_approach carried level key a
+know_post carried level key got child (post.Growing g) = know_growth carried level key got g
+know_post carried level key got child (post.Walking w) = record (carrying carried) { holds = holds_known w.at (Inner w.parent) ∷ []; goes = goes_to w.child (level - 1) (level - 1) ∷ carried.goes; sound = (key < unbounded) × IsDue (post_aim carried level key 0) (Inner w.parent) × (w.key ≡ key) }
+know_post carried level key got child (post.Editing c) = know_edit (post_aim carried level key child) got c
+know_post carried level key got child (post.Staying x r) = record (carrying carried) { holds = holds_live x ∷ []; sound = LeavesPost r }
+know_post carried level key got child (post.Ending r) = record (ending carried.said) { goes = carried.goes; sound = LeavesPost r }
+know_post carried level key got child (post.Over r) = late carried.said
 
 -- Insertions that post: all the time they may go to each page that they have noted, which is of the level for which it is noted.
 
@@ -205,7 +205,7 @@ LeavesClimb value (climbed.Unsplit r) = LeavesWrite (Insert value) r
 LeavesClimb value (climbed.Posted level k r) = LeavesPost r
 
 -- when it posts it has said that its pair has entered
-abbrev pub inserted : ℕ → ℕ → Path → Keeps
+abbrev pub inserted : ℕ → ℕ → Path → Carried
 inserted key value path = record { said = Some (record { op = write_op key (Insert value); reply = reply.Inserted }); goes = path_goes path }
 
 abbrev pub know_climb : ℕ → ℕ → Path → (ℕ → Page) → ℕ → ClimbStage → Know

@@ -46,32 +46,32 @@ descent_goes (descent.At x) = goes_to x 0 12 ∷ []
 abbrev pub know_descent : ℕ → Descent → Know
 know_descent key d = record (idle Stage.Busy) { goes = descent_goes d; sound = key < unbounded }
 
--- What a process keeps beside what it is at: what it has said before, and pages that it may still go to.
-pub record Keeps : Type 0 where
+-- What a process carries along beside what it is at: what it has said before, and pages that it may still go to.
+pub record Carried : Type 0 where
   pub said : Option Said
   pub goes : List Goes
 
 -- it has said nothing; and it has nothing of both
-abbrev pub unsaid : List Goes → Keeps
+abbrev pub unsaid : List Goes → Carried
 unsaid goes = record { said = None; goes = goes }
 
-abbrev pub alone : Keeps
+abbrev pub alone : Carried
 alone = unsaid []
 
-abbrev pub keeping : Keeps → Know
-keeping keeps = record (idle Stage.Busy) { said = keeps.said; goes = keeps.goes }
+abbrev pub carrying : Carried → Know
+carrying carried = record (idle Stage.Busy) { said = carried.said; goes = carried.goes }
 
 -- A writer on its way. Every page that it may get is of its level or above; those that it latches are of its level.
-abbrev pub know_approach : Keeps → ℕ → ℕ → Approach → Know
-know_approach keeps level key Start = record (keeping keeps) { sound = key < unbounded }
-know_approach keeps level key (At x) = record (keeping keeps) { goes = goes_to x level 12 ∷ keeps.goes; sound = key < unbounded }
-know_approach keeps level key (Latching x) = record (keeping keeps) { goes = goes_to x level level ∷ keeps.goes; sound = key < unbounded }
-know_approach keeps level key (Latched x) = record (keeping keeps) { holds = holds_live x ∷ []; goes = goes_to x level level ∷ keeps.goes; sound = key < unbounded }
-know_approach keeps level key (Leaving x None) = record (keeping keeps) { holds = holds_live x ∷ []; sound = key < unbounded }
-know_approach keeps level key (Leaving x (Some y)) = record (keeping keeps) { holds = holds_live x ∷ []; goes = goes_to y level level ∷ keeps.goes; sound = key < unbounded }
+abbrev pub know_approach : Carried → ℕ → ℕ → Approach → Know
+know_approach carried level key Start = record (carrying carried) { sound = key < unbounded }
+know_approach carried level key (At x) = record (carrying carried) { goes = goes_to x level 12 ∷ carried.goes; sound = key < unbounded }
+know_approach carried level key (Latching x) = record (carrying carried) { goes = goes_to x level level ∷ carried.goes; sound = key < unbounded }
+know_approach carried level key (Latched x) = record (carrying carried) { holds = holds_live x ∷ []; goes = goes_to x level level ∷ carried.goes; sound = key < unbounded }
+know_approach carried level key (Leaving x None) = record (carrying carried) { holds = holds_live x ∷ []; sound = key < unbounded }
+know_approach carried level key (Leaving x (Some y)) = record (carrying carried) { holds = holds_live x ∷ []; goes = goes_to y level level ∷ carried.goes; sound = key < unbounded }
 
 -- What a change is to do: on that level the key had this listed with it, and is to have that. Whether it is a change that may be
--- refused, what the process keeps beside it, what it says by the change, what it has said by the end, and the children that it
+-- refused, what the process carries along, what it says by the change, what it has said by the end, and the children that it
 -- relies on until then.
 pub record Aim : Type 0 where
   pub level : ℕ
@@ -79,7 +79,7 @@ pub record Aim : Type 0 where
   pub was : Option ℕ
   pub word : Option ℕ
   pub changes : Bool
-  pub keeps : Keeps
+  pub carried : Carried
   pub says : Outcome → Option Said
   pub said : Outcome → Option Said
   pub children : ℕ → List Child
@@ -87,7 +87,7 @@ pub record Aim : Type 0 where
 -- What is said fits what is done, to the map on level 0, and to nothing that the map knows above it. Only who has said nothing
 -- before says something.
 pub record IsAim (aim : Aim) : Type 1 where
-  pub once : (o : Outcome) → ((aim.says o ≡ None) × (aim.said o ≡ aim.keeps.said)) ⊎ ((aim.keeps.said ≡ None) × (aim.said o ≡ aim.says o))
+  pub once : (o : Outcome) → ((aim.says o ≡ None) × (aim.said o ≡ aim.carried.said)) ⊎ ((aim.carried.said ≡ None) × (aim.said o ≡ aim.says o))
   pub changed : (o : Outcome) → o ≢ outcome.Refused → (m m' : Map) → (aim.level ≡ 0 → (m aim.key ≡ aim.was) × (m' aim.key ≡ aim.word)) → (aim.level ≢ 0 → m' aim.key ≡ m aim.key) → ((j : ℕ) → j ≢ aim.key → m' j ≡ m j) → MapsTo m m' (aim.says o)
   pub refused : (m : Map) → aim.changes ≡ true → (aim.level ≡ 0 → m aim.key ≡ aim.was) → MapsTo m m (aim.says outcome.Refused)
   -- what is to be listed on a level above 0 is a child that the process relies on
@@ -108,9 +108,9 @@ IsBelow outcome.Refused = Unit {0}
 
 -- got is what the process got of the page under its latch.
 abbrev pub know_edit : Aim → (ℕ → Page) → Edit → Know
-know_edit aim got (Putting x page) = record (keeping aim.keeps) { holds = holds_known x (got x) ∷ []; children = aim.children x; sound = IsDue aim (got x) × IsRow aim.key aim.word (node_of (got x)) (node_of page) }
-know_edit aim got (Taking full) = record (keeping aim.keeps) { holds = holds_known full.at full.page ∷ []; children = aim.children full.at; sound = IsDue aim full.page × (full.key ≡ aim.key) × (Some full.word ≡ aim.word) × (got full.at ≡ full.page) }
-know_edit aim got (PuttingNew p) = record (keeping aim.keeps) { holds = holds_known p.at (got p.at) ∷ record { at = p.new; status = Fresh; sep = None; page = None } ∷ []; children = aim.children p.at; sound = IsDue aim (got p.at) × IsCut p.new aim.key aim.word (node_of (got p.at)) (node_of p.left) (node_of p.right) × (p.separator < unbounded) }
-know_edit aim got (PuttingOld p) = record (keeping aim.keeps) { holds = holds_known p.at (got p.at) ∷ record { at = p.new; status = Fresh; sep = Some (node_of p.right).shape.low; page = Some p.right } ∷ []; children = aim.children p.at; sound = IsDue aim (got p.at) × IsCut p.new aim.key aim.word (node_of (got p.at)) (node_of p.left) (node_of p.right) × (p.separator < unbounded) }
-know_edit aim got (OpeningNew x new separator) = record (keeping aim.keeps) { said = aim.said (outcome.SplitAt separator); holds = holds_live x ∷ holds_live new ∷ []; sound = (x ≢ new) × (aim.changes ≡ true) × (separator < unbounded) }
-know_edit aim got (Opening x o) = record (keeping aim.keeps) { said = aim.said o; holds = holds_live x ∷ []; sound = (aim.changes ≡ true) × IsBelow o }
+know_edit aim got (Putting x page) = record (carrying aim.carried) { holds = holds_known x (got x) ∷ []; children = aim.children x; sound = IsDue aim (got x) × IsRow aim.key aim.word (node_of (got x)) (node_of page) }
+know_edit aim got (Taking full) = record (carrying aim.carried) { holds = holds_known full.at full.page ∷ []; children = aim.children full.at; sound = IsDue aim full.page × (full.key ≡ aim.key) × (Some full.word ≡ aim.word) × (got full.at ≡ full.page) }
+know_edit aim got (PuttingNew p) = record (carrying aim.carried) { holds = holds_known p.at (got p.at) ∷ record { at = p.new; status = Fresh; sep = None; page = None } ∷ []; children = aim.children p.at; sound = IsDue aim (got p.at) × IsCut p.new aim.key aim.word (node_of (got p.at)) (node_of p.left) (node_of p.right) × (p.separator < unbounded) }
+know_edit aim got (PuttingOld p) = record (carrying aim.carried) { holds = holds_known p.at (got p.at) ∷ record { at = p.new; status = Fresh; sep = Some (node_of p.right).shape.low; page = Some p.right } ∷ []; children = aim.children p.at; sound = IsDue aim (got p.at) × IsCut p.new aim.key aim.word (node_of (got p.at)) (node_of p.left) (node_of p.right) × (p.separator < unbounded) }
+know_edit aim got (OpeningNew x new separator) = record (carrying aim.carried) { said = aim.said (outcome.SplitAt separator); holds = holds_live x ∷ holds_live new ∷ []; sound = (x ≢ new) × (aim.changes ≡ true) × (separator < unbounded) }
+know_edit aim got (Opening x o) = record (carrying aim.carried) { said = aim.said o; holds = holds_live x ∷ []; sound = (aim.changes ≡ true) × IsBelow o }
