@@ -55,7 +55,7 @@ use Rattle.bl_proc_compress.specs.Compresses.{compress_answer_in}
 use Rattle.bl_proc.specs.Lowers.{lower_answer_in}
 use Rattle.bl_proc.specs.Climbs.{climb_answer_in}
 use Rattle.bl_proc.specs.Reclaims.{reclaim_answer_in}
-use Rattle.bl_proc_invariant.specs.Tables.{Keeps, unsaid, alone, Aim, know_approach, know_edit}
+use Rattle.bl_proc_invariant.specs.Tables.{Carried, unsaid, alone, Aim, know_approach, know_edit}
 use Rattle.bl_proc_invariant.specs.Compressing.{know_squeeze}
 use Rattle.bl_proc_invariant.specs.Lowering.{know_lowering}
 use Rattle.bl_proc_invariant.specs.Knowing.{know_of, know_find, know_part, know_write, know_post, know_compress, know_reclaim, know_lower, know_growth, write_aim, post_aim, path_goes, inserted, know_climb}
@@ -67,16 +67,16 @@ none_said s e = absurd (let f : None ≡ Some s = e in cc)
 same_op : (a b : Said) → Some a ≡ Some b → Some a.op ≡ Some b.op
 same_op a b e = (let f : a ≡ b = cc in ap (λ z. Some z.op) f)
 
-approach_said : (keeps : Keeps) (level key : ℕ) (a : Approach) → (know_approach keeps level key a).said ≡ keeps.said
-approach_said keeps level key way.Start = refl
-approach_said keeps level key (way.At x) = refl
-approach_said keeps level key (way.Latching x) = refl
-approach_said keeps level key (way.Latched x) = refl
-approach_said keeps level key (way.Leaving x None) = refl
-approach_said keeps level key (way.Leaving x (Some y)) = refl
+approach_said : (carried : Carried) (level key : ℕ) (a : Approach) → (know_approach carried level key a).said ≡ carried.said
+approach_said carried level key way.Start = refl
+approach_said carried level key (way.At x) = refl
+approach_said carried level key (way.Latching x) = refl
+approach_said carried level key (way.Latched x) = refl
+approach_said carried level key (way.Leaving x None) = refl
+approach_said carried level key (way.Leaving x (Some y)) = refl
 
 -- what it said before its change, or by it
-edit_said : (aim : Aim) (got : ℕ → Page) (c : Edit) (s : Said) → (know_edit aim got c).said ≡ Some s → (aim.keeps.said ≡ Some s) ⊎ ((o : Outcome) × (aim.said o ≡ Some s))
+edit_said : (aim : Aim) (got : ℕ → Page) (c : Edit) (s : Said) → (know_edit aim got c).said ≡ Some s → (aim.carried.said ≡ Some s) ⊎ ((o : Outcome) × (aim.said o ≡ Some s))
 edit_said aim got (edit.Putting x page) s e = inl e
 edit_said aim got (edit.Taking full) s e = inl e
 edit_said aim got (edit.PuttingNew t) s e = inl e
@@ -84,15 +84,15 @@ edit_said aim got (edit.PuttingOld t) s e = inl e
 edit_said aim got (edit.OpeningNew x y k) s e = inr (_, e)
 edit_said aim got (edit.Opening x o) s e = inr (_, e)
 
-growth_said : (keeps : Keeps) (level key : ℕ) (got : ℕ → Page) (g : Growth) → (know_growth keeps level key got g).said ≡ keeps.said
-growth_said keeps level key got growth.Latching = refl
-growth_said keeps level key got growth.Latched = refl
-growth_said keeps level key got (growth.Taking r) = refl
-growth_said keeps level key got (growth.PuttingTop r) = refl
-growth_said keeps level key got (growth.PuttingAnchor r) = refl
-growth_said keeps level key got (growth.OpeningTop x) = refl
-growth_said keeps level key got growth.OpeningGrown = refl
-growth_said keeps level key got growth.OpeningRefused = refl
+growth_said : (carried : Carried) (level key : ℕ) (got : ℕ → Page) (g : Growth) → (know_growth carried level key got g).said ≡ carried.said
+growth_said carried level key got growth.Latching = refl
+growth_said carried level key got growth.Latched = refl
+growth_said carried level key got (growth.Taking r) = refl
+growth_said carried level key got (growth.PuttingTop r) = refl
+growth_said carried level key got (growth.PuttingAnchor r) = refl
+growth_said carried level key got (growth.OpeningTop x) = refl
+growth_said carried level key got growth.OpeningGrown = refl
+growth_said carried level key got growth.OpeningRefused = refl
 
 squeeze_said : (level key : ℕ) (got : ℕ → Page) (c : Compression) → (know_squeeze level key got c).said ≡ None
 squeeze_said level key got (LatchingLeft f) = refl
@@ -132,15 +132,15 @@ write_says goes k does got (write.Ending r) s e = same_op _ s e
 write_says goes k does got (write.Over r) s e = same_op _ s e
 
 -- A post says nothing, and keeps what was said before it.
-post_keeps : (keeps : Keeps) (l k : ℕ) (got : ℕ → Page) (child : ℕ) (a : PostStage) (s : Said) → (know_post keeps l k got child a).said ≡ Some s → keeps.said ≡ Some s
-post_keeps keeps l k got child post.New s e = e
-post_keeps keeps l k got child (post.Coming a) s e = sym (approach_said keeps l k a) ∙ e
-post_keeps keeps l k got child (post.Growing g) s e = sym (growth_said keeps l k got g) ∙ e
-post_keeps keeps l k got child (post.Walking w) s e = e
-post_keeps keeps l k got child (post.Editing c) s e = elim (edit_said (post_aim keeps l k child) got c s e) [ inl before ↦ before | inr by ↦ by.1 ]
-post_keeps keeps l k got child (post.Staying x r) s e = e
-post_keeps keeps l k got child (post.Ending r) s e = e
-post_keeps keeps l k got child (post.Over r) s e = e
+post_keeps : (carried : Carried) (l k : ℕ) (got : ℕ → Page) (child : ℕ) (a : PostStage) (s : Said) → (know_post carried l k got child a).said ≡ Some s → carried.said ≡ Some s
+post_keeps carried l k got child post.New s e = e
+post_keeps carried l k got child (post.Coming a) s e = sym (approach_said carried l k a) ∙ e
+post_keeps carried l k got child (post.Growing g) s e = sym (growth_said carried l k got g) ∙ e
+post_keeps carried l k got child (post.Walking w) s e = e
+post_keeps carried l k got child (post.Editing c) s e = elim (edit_said (post_aim carried l k child) got c s e) [ inl before ↦ before | inr by ↦ by.1 ]
+post_keeps carried l k got child (post.Staying x r) s e = e
+post_keeps carried l k got child (post.Ending r) s e = e
+post_keeps carried l k got child (post.Over r) s e = e
 
 climb_says : (k value : ℕ) (path : Path) (got : ℕ → Page) (child : ℕ) (a : ClimbStage) (s : Said) → (know_climb k value path got child a).said ≡ Some s → Some (write_op k (Insert value)) ≡ Some s.op
 climb_says k value path got child (climb.Writing w) s e = write_says (path_goes path) k (Insert value) got w.stage s e
@@ -351,15 +351,15 @@ write_late goes k does got (write.Editing noted c) b e = none_answer _ e
 write_late goes k does got (write.Ending r) b e = none_answer _ e
 write_late goes k does got (write.Over r) b e = refl
 
-post_late : (keeps : Keeps) (l k : ℕ) (got : ℕ → Page) (child : ℕ) (a : PostStage) (b : Answer) → post_answer_in l a ≡ Some b → (know_post keeps l k got child a).stage ≡ Stage.Late
-post_late keeps l k got child post.New b e = none_answer _ e
-post_late keeps l k got child (post.Coming a) b e = none_answer _ e
-post_late keeps l k got child (post.Growing g) b e = none_answer _ e
-post_late keeps l k got child (post.Walking w) b e = none_answer _ e
-post_late keeps l k got child (post.Editing c) b e = none_answer _ e
-post_late keeps l k got child (post.Staying x r) b e = none_answer _ e
-post_late keeps l k got child (post.Ending r) b e = none_answer _ e
-post_late keeps l k got child (post.Over r) b e = refl
+post_late : (carried : Carried) (l k : ℕ) (got : ℕ → Page) (child : ℕ) (a : PostStage) (b : Answer) → post_answer_in l a ≡ Some b → (know_post carried l k got child a).stage ≡ Stage.Late
+post_late carried l k got child post.New b e = none_answer _ e
+post_late carried l k got child (post.Coming a) b e = none_answer _ e
+post_late carried l k got child (post.Growing g) b e = none_answer _ e
+post_late carried l k got child (post.Walking w) b e = none_answer _ e
+post_late carried l k got child (post.Editing c) b e = none_answer _ e
+post_late carried l k got child (post.Staying x r) b e = none_answer _ e
+post_late carried l k got child (post.Ending r) b e = none_answer _ e
+post_late carried l k got child (post.Over r) b e = refl
 
 compress_late : (l k : ℕ) (got : ℕ → Page) (a : CompressStage) (b : Answer) → compress_answer_in a ≡ Some b → (know_compress l k got a).stage ≡ Stage.Late
 compress_late l k got compress.New b e = none_answer _ e
