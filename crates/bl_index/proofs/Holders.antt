@@ -2,7 +2,7 @@
 use Rattle.std.proofs.Common.{ℕ, ◌≡◌, ◌⊎◌, None, Some, List, [], refl, inl, inr, subst}
 use Rattle.bl_page.specs.Machine.{Phase}
 use Rattle.bl_page.specs.declared.page.Page.{Page}
-use Rattle.bl_core.specs.Worlds.{Hold, Stage, Know, HoldsPage, IsStage}
+use Rattle.bl_core.specs.Worlds.{Hold, Goes, Stage, Know, HoldsPage, IsStage}
 use Rattle.bl_proc_base.specs.declared.approaching.Approach.{Approach}
 use Rattle.bl_proc_base.specs.declared.approaching.Approach.TheVariants as approach
 use Rattle.bl_proc_base.specs.declared.editing.Edit.{Edit}
@@ -14,6 +14,10 @@ use Rattle.bl_proc_compress.specs.declared.squeezing.CompressStage.TheVariants a
 use Rattle.bl_proc.specs.declared.searching.FindStage.{FindStage}
 use Rattle.bl_proc.specs.declared.searching.FindStage.TheVariants as find
 use Rattle.bl_model.specs.declared.deciding.KeyWrite.{KeyWrite}
+use Rattle.bl_model.specs.declared.deciding.KeyWrite.TheVariants.{Insert}
+use Rattle.bl_proc.specs.declared.paths.Path.{Path}
+use Rattle.bl_proc.specs.declared.climbing.ClimbStage.{ClimbStage}
+use Rattle.bl_proc.specs.declared.climbing.ClimbStage.TheVariants as climb
 use Rattle.bl_proc.specs.declared.writing.WriteStage.{WriteStage}
 use Rattle.bl_proc.specs.declared.writing.WriteStage.TheVariants as write
 use Rattle.bl_proc.specs.declared.parts.PartStage.{PartStage}
@@ -29,9 +33,9 @@ use Rattle.bl_proc.specs.declared.lowering.LowerStage.TheVariants as lower
 use Rattle.bl_proc_invariant.specs.Lowering.{know_lowering}
 use Rattle.bl_proc.specs.declared.kinds.Proc.{Proc}
 use Rattle.bl_proc.specs.declared.kinds.Proc.TheVariants as proc
-use Rattle.bl_proc_invariant.specs.Tables.{Aim, know_approach, know_edit}
+use Rattle.bl_proc_invariant.specs.Tables.{Carried, unsaid, alone, Aim, know_approach, know_edit}
 use Rattle.bl_proc_invariant.specs.Compressing.{know_squeeze}
-use Rattle.bl_proc_invariant.specs.Knowing.{Run, know, know_of, know_find, know_part, know_write, know_growth, know_post, know_compress, know_reclaim, know_lower}
+use Rattle.bl_proc_invariant.specs.Knowing.{Run, know, know_of, know_find, know_part, know_write, know_growth, know_post, know_compress, know_reclaim, know_lower, path_goes, inserted, know_climb}
 use Rattle.bl_proc_compress.specs.declared.compressing.Compression.{Compression}
 use Rattle.bl_proc_compress.specs.declared.compressing.Compression.TheVariants as compression
 
@@ -39,13 +43,13 @@ use Rattle.bl_proc_compress.specs.declared.compressing.Compression.TheVariants a
 abbrev MayHold : Know → Type 0
 MayHold k = (k.stage ≡ Stage.Busy) ⊎ (k.holds ≡ [])
 
-approach_holds : (level key : ℕ) (a : Approach) → (know_approach level key a).stage ≡ Stage.Busy
-approach_holds level key approach.Start = refl
-approach_holds level key (approach.At x) = refl
-approach_holds level key (approach.Latching x) = refl
-approach_holds level key (approach.Latched x) = refl
-approach_holds level key (approach.Leaving x None) = refl
-approach_holds level key (approach.Leaving x (Some y)) = refl
+approach_holds : (carried : Carried) (level key : ℕ) (a : Approach) → (know_approach carried level key a).stage ≡ Stage.Busy
+approach_holds carried level key approach.Start = refl
+approach_holds carried level key (approach.At x) = refl
+approach_holds carried level key (approach.Latching x) = refl
+approach_holds carried level key (approach.Latched x) = refl
+approach_holds carried level key (approach.Leaving x None) = refl
+approach_holds carried level key (approach.Leaving x (Some y)) = refl
 
 edit_holds : (aim : Aim) (got : ℕ → Page) (c : Edit) → (know_edit aim got c).stage ≡ Stage.Busy
 edit_holds aim got (edit.Putting x page) = refl
@@ -55,15 +59,15 @@ edit_holds aim got (edit.PuttingOld p) = refl
 edit_holds aim got (edit.OpeningNew x new separator) = refl
 edit_holds aim got (edit.Opening x o) = refl
 
-growth_holds : (level key : ℕ) (got : ℕ → Page) (g : Growth) → (know_growth level key got g).stage ≡ Stage.Busy
-growth_holds level key got growth.Latching = refl
-growth_holds level key got growth.Latched = refl
-growth_holds level key got (growth.Taking rise) = refl
-growth_holds level key got (growth.PuttingTop r) = refl
-growth_holds level key got (growth.PuttingAnchor r) = refl
-growth_holds level key got (growth.OpeningTop x) = refl
-growth_holds level key got growth.OpeningGrown = refl
-growth_holds level key got growth.OpeningRefused = refl
+growth_holds : (carried : Carried) (level key : ℕ) (got : ℕ → Page) (g : Growth) → (know_growth carried level key got g).stage ≡ Stage.Busy
+growth_holds carried level key got growth.Latching = refl
+growth_holds carried level key got growth.Latched = refl
+growth_holds carried level key got (growth.Taking rise) = refl
+growth_holds carried level key got (growth.PuttingTop r) = refl
+growth_holds carried level key got (growth.PuttingAnchor r) = refl
+growth_holds carried level key got (growth.OpeningTop x) = refl
+growth_holds carried level key got growth.OpeningGrown = refl
+growth_holds carried level key got growth.OpeningRefused = refl
 
 squeeze_holds : (level key : ℕ) (got : ℕ → Page) (c : Compression) → (know_squeeze level key got c).stage ≡ Stage.Busy
 squeeze_holds level key got (compression.LatchingLeft f) = refl
@@ -92,27 +96,27 @@ part_holds key (part.Descending d) = inr refl
 part_holds key (part.Ending r) = inr refl
 part_holds key (part.Over r) = inr refl
 
-write_holds : (key : ℕ) (does : KeyWrite) (got : ℕ → Page) (a : WriteStage) → MayHold (know_write key does got a)
-write_holds key does got write.New = inr refl
-write_holds key does got (write.Coming a) = inl (approach_holds 0 key a)
-write_holds key does got (write.Keeping x there) = inl refl
-write_holds key does got (write.Editing noted c) = inl (edit_holds _ got c)
-write_holds key does got (write.Ending r) = inr refl
-write_holds key does got (write.Over r) = inr refl
+write_holds : (goes : List Goes) (key : ℕ) (does : KeyWrite) (got : ℕ → Page) (a : WriteStage) → MayHold (know_write goes key does got a)
+write_holds goes key does got write.New = inr refl
+write_holds goes key does got (write.Coming a) = inl (approach_holds (unsaid goes) 0 key a)
+write_holds goes key does got (write.Keeping x there) = inl refl
+write_holds goes key does got (write.Editing noted c) = inl (edit_holds _ got c)
+write_holds goes key does got (write.Ending r) = inr refl
+write_holds goes key does got (write.Over r) = inr refl
 
-post_holds : (level key : ℕ) (got : ℕ → Page) (child : ℕ) (a : PostStage) → MayHold (know_post level key got child a)
-post_holds level key got child post.New = inr refl
-post_holds level key got child (post.Coming a) = inl (approach_holds level key a)
-post_holds level key got child (post.Growing g) = inl (growth_holds level key got g)
-post_holds level key got child (post.Walking w) = inl refl
-post_holds level key got child (post.Editing c) = inl (edit_holds _ got c)
-post_holds level key got child (post.Staying x r) = inl refl
-post_holds level key got child (post.Ending r) = inr refl
-post_holds level key got child (post.Over r) = inr refl
+post_holds : (carried : Carried) (level key : ℕ) (got : ℕ → Page) (child : ℕ) (a : PostStage) → MayHold (know_post carried level key got child a)
+post_holds carried level key got child post.New = inr refl
+post_holds carried level key got child (post.Coming a) = inl (approach_holds carried level key a)
+post_holds carried level key got child (post.Growing g) = inl (growth_holds carried level key got g)
+post_holds carried level key got child (post.Walking w) = inl refl
+post_holds carried level key got child (post.Editing c) = inl (edit_holds _ got c)
+post_holds carried level key got child (post.Staying x r) = inl refl
+post_holds carried level key got child (post.Ending r) = inr refl
+post_holds carried level key got child (post.Over r) = inr refl
 
 compress_holds : (level key : ℕ) (got : ℕ → Page) (a : CompressStage) → MayHold (know_compress level key got a)
 compress_holds level key got compress.New = inr refl
-compress_holds level key got (compress.Coming a) = inl (approach_holds level key a)
+compress_holds level key got (compress.Coming a) = inl (approach_holds alone level key a)
 compress_holds level key got (compress.Compressing c) = inl (squeeze_holds level key got c)
 compress_holds level key got (compress.Staying x) = inl refl
 compress_holds level key got (compress.Ending r) = inr refl
@@ -142,14 +146,21 @@ lower_holds got (lower.Sinking l) = inl (lowering_holds got l)
 lower_holds got (lower.Ending r) = inr refl
 lower_holds got (lower.Over r) = inr refl
 
+climb_holds : (key value : ℕ) (path : Path) (got : ℕ → Page) (child : ℕ) (a : ClimbStage) → MayHold (know_climb key value path got child a)
+climb_holds key value path got child (climb.Writing w) = write_holds (path_goes path) key (Insert value) got w.stage
+climb_holds key value path got child (climb.Posting p) = post_holds (inserted key value path) p.level p.key got child p.stage
+climb_holds key value path got child (climb.Ending r) = inr refl
+climb_holds key value path got child (climb.Over r) = inr refl
+
 proc_holds : (got : ℕ → Page) (child time : ℕ) (p : Proc) → MayHold (know_of got child time p)
 proc_holds got child time (proc.Find p) = find_holds p.key p.stage
-proc_holds got child time (proc.Write p) = write_holds p.key p.write got p.stage
-proc_holds got child time (proc.Post p) = post_holds p.level p.key got child p.stage
+proc_holds got child time (proc.Write p) = write_holds [] p.key p.write got p.stage
+proc_holds got child time (proc.Post p) = post_holds alone p.level p.key got child p.stage
 proc_holds got child time (proc.Part p) = part_holds p.from p.stage
 proc_holds got child time (proc.Compress p) = compress_holds p.level p.key got p.stage
 proc_holds got child time (proc.Reclaim p) = reclaim_holds time p.stage
 proc_holds got child time (proc.Lower p) = lower_holds got p.stage
+proc_holds got child time (proc.InsertPost p) = climb_holds p.key p.value p.path got child p.stage
 
 pub held_busy : (r : Run) (x : ℕ) (phase : Phase) → IsStage (know r).stage phase → HoldsPage (know r).holds x → (since : ℕ) × (phase ≡ Phase.Running since)
 held_busy r x phase stage holds = elim (proc_holds r.got r.child r.time r.state) [

@@ -13,6 +13,7 @@ use Rattle.bl_proc.specs.declared.kinds.Proc.{Proc}
 use Rattle.bl_proc.specs.declared.kinds.Proc.TheVariants as proc
 use Rattle.bl_proc.specs.Posts.{post_next_in, post_answer}
 use Rattle.bl_proc_meanings.specs.Answers.{MeansPosted, MeansHint}
+use Rattle.bl_proc_invariant.specs.Tables.{alone}
 use Rattle.bl_proc_invariant.specs.Knowing.{know_of, know_post}
 use Rattle.bl_proc_invariant.proofs.Answered.{stage_means, stage_hints}
 use Rattle.bl_proc_unique.specs.Frames.{work_of}
@@ -26,7 +27,7 @@ use Rattle.bl_index_steps.proofs.Quiet.{quiet_adds}
 use Rattle.bl_index_steps.proofs.Ends.{not_end_way, not_end, own_done}
 use Rattle.bl_index_write.proofs.PostEnds.{not_end_growth, posting}
 
-silent_at_end : (level key : ℕ) (got : ℕ → Page) (child : ℕ) (a : PostStage) → post_next_in a ≡ act.End → (know_post level key got child a).said ≡ None
+silent_at_end : (level key : ℕ) (got : ℕ → Page) (child : ℕ) (a : PostStage) → post_next_in a ≡ act.End → (know_post alone level key got child a).said ≡ None
 silent_at_end level key got child post.New e = cc
 silent_at_end level key got child (post.Coming a) e = absurd (not_end_way a e)
 silent_at_end level key got child (post.Growing g) e = absurd (not_end_growth g e)

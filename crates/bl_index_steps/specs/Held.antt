@@ -104,6 +104,7 @@ proc_held (proc.Part p) marks = Unit {0}
 proc_held (proc.Compress p) marks = Unit {0}
 proc_held (proc.Reclaim p) marks = Unit {0}
 proc_held (proc.Lower p) marks = Unit {0}
+proc_held (proc.InsertPost p) marks = Unit {0}
 
 -- What it asks for, pages and frames, is what that page takes.
 abbrev pub AsksForPage : ℕ → ℕ → ℕ × ℕ → Trail → Type 0
@@ -117,3 +118,4 @@ AsksFor (proc.Part p) ask marks = Unit {0}
 AsksFor (proc.Compress p) ask marks = Unit {0}
 AsksFor (proc.Reclaim p) ask marks = Unit {0}
 AsksFor (proc.Lower p) ask marks = Unit {0}
+AsksFor (proc.InsertPost p) ask marks = Unit {0}
