@@ -2,7 +2,7 @@
 use Rattle.std.proofs.Common.{ℕ, ◌≡◌, ◌⊎◌, None, Some, List, [], refl, inl, inr, subst}
 use Rattle.bl_page.specs.Machine.{Phase}
 use Rattle.bl_page.specs.declared.page.Page.{Page}
-use Rattle.bl_core.specs.Worlds.{Hold, Goes, Stage, Know, HoldsPage, IsStage}
+use Rattle.bl_core.specs.Worlds.{Goes, Hold, Stage, Know, HoldsPage, IsStage}
 use Rattle.bl_proc_base.specs.declared.approaching.Approach.{Approach}
 use Rattle.bl_proc_base.specs.declared.approaching.Approach.TheVariants as approach
 use Rattle.bl_proc_base.specs.declared.editing.Edit.{Edit}
@@ -14,10 +14,6 @@ use Rattle.bl_proc_compress.specs.declared.squeezing.CompressStage.TheVariants a
 use Rattle.bl_proc.specs.declared.searching.FindStage.{FindStage}
 use Rattle.bl_proc.specs.declared.searching.FindStage.TheVariants as find
 use Rattle.bl_model.specs.declared.deciding.KeyWrite.{KeyWrite}
-use Rattle.bl_model.specs.declared.deciding.KeyWrite.TheVariants.{Insert}
-use Rattle.bl_proc.specs.declared.paths.Path.{Path}
-use Rattle.bl_proc.specs.declared.climbing.ClimbStage.{ClimbStage}
-use Rattle.bl_proc.specs.declared.climbing.ClimbStage.TheVariants as climb
 use Rattle.bl_proc.specs.declared.writing.WriteStage.{WriteStage}
 use Rattle.bl_proc.specs.declared.writing.WriteStage.TheVariants as write
 use Rattle.bl_proc.specs.declared.parts.PartStage.{PartStage}
@@ -30,12 +26,16 @@ use Rattle.bl_proc_base.specs.declared.lowering.Lowering.{Lowering}
 use Rattle.bl_proc_base.specs.declared.lowering.Lowering.TheVariants as lowering
 use Rattle.bl_proc.specs.declared.lowering.LowerStage.{LowerStage}
 use Rattle.bl_proc.specs.declared.lowering.LowerStage.TheVariants as lower
+use Rattle.bl_model.specs.declared.deciding.KeyWrite.TheVariants.{Insert}
+use Rattle.bl_proc.specs.declared.paths.Path.{Path}
+use Rattle.bl_proc.specs.declared.climbing.ClimbStage.{ClimbStage}
+use Rattle.bl_proc.specs.declared.climbing.ClimbStage.TheVariants as climb
 use Rattle.bl_proc_invariant.specs.Lowering.{know_lowering}
 use Rattle.bl_proc.specs.declared.kinds.Proc.{Proc}
 use Rattle.bl_proc.specs.declared.kinds.Proc.TheVariants as proc
 use Rattle.bl_proc_invariant.specs.Tables.{Carried, unsaid, alone, Aim, know_approach, know_edit}
 use Rattle.bl_proc_invariant.specs.Compressing.{know_squeeze}
-use Rattle.bl_proc_invariant.specs.Knowing.{Run, know, know_of, know_find, know_part, know_write, know_growth, know_post, know_compress, know_reclaim, know_lower, path_goes, inserted, know_climb}
+use Rattle.bl_proc_invariant.specs.Knowing.{Run, know, know_of, know_find, know_part, know_write, path_goes, inserted, know_climb, know_growth, know_post, know_compress, know_reclaim, know_lower}
 use Rattle.bl_proc_compress.specs.declared.compressing.Compression.{Compression}
 use Rattle.bl_proc_compress.specs.declared.compressing.Compression.TheVariants as compression
 
@@ -43,7 +43,7 @@ use Rattle.bl_proc_compress.specs.declared.compressing.Compression.TheVariants a
 abbrev MayHold : Know → Type 0
 MayHold k = (k.stage ≡ Stage.Busy) ⊎ (k.holds ≡ [])
 
-approach_holds : (carried : Carried) (level key : ℕ) (a : Approach) → (know_approach carried level key a).stage ≡ Stage.Busy
+approach_holds : (carried : Carried) → (level key : ℕ) (a : Approach) → (know_approach carried level key a).stage ≡ Stage.Busy
 approach_holds carried level key approach.Start = refl
 approach_holds carried level key (approach.At x) = refl
 approach_holds carried level key (approach.Latching x) = refl
@@ -59,7 +59,7 @@ edit_holds aim got (edit.PuttingOld p) = refl
 edit_holds aim got (edit.OpeningNew x new separator) = refl
 edit_holds aim got (edit.Opening x o) = refl
 
-growth_holds : (carried : Carried) (level key : ℕ) (got : ℕ → Page) (g : Growth) → (know_growth carried level key got g).stage ≡ Stage.Busy
+growth_holds : (carried : Carried) → (level key : ℕ) (got : ℕ → Page) (g : Growth) → (know_growth carried level key got g).stage ≡ Stage.Busy
 growth_holds carried level key got growth.Latching = refl
 growth_holds carried level key got growth.Latched = refl
 growth_holds carried level key got (growth.Taking rise) = refl
@@ -96,7 +96,7 @@ part_holds key (part.Descending d) = inr refl
 part_holds key (part.Ending r) = inr refl
 part_holds key (part.Over r) = inr refl
 
-write_holds : (goes : List Goes) (key : ℕ) (does : KeyWrite) (got : ℕ → Page) (a : WriteStage) → MayHold (know_write goes key does got a)
+write_holds : (goes : List Goes) → (key : ℕ) (does : KeyWrite) (got : ℕ → Page) (a : WriteStage) → MayHold (know_write goes key does got a)
 write_holds goes key does got write.New = inr refl
 write_holds goes key does got (write.Coming a) = inl (approach_holds (unsaid goes) 0 key a)
 write_holds goes key does got (write.Keeping x there) = inl refl
@@ -104,7 +104,7 @@ write_holds goes key does got (write.Editing noted c) = inl (edit_holds _ got c)
 write_holds goes key does got (write.Ending r) = inr refl
 write_holds goes key does got (write.Over r) = inr refl
 
-post_holds : (carried : Carried) (level key : ℕ) (got : ℕ → Page) (child : ℕ) (a : PostStage) → MayHold (know_post carried level key got child a)
+post_holds : (carried : Carried) → (level key : ℕ) (got : ℕ → Page) (child : ℕ) (a : PostStage) → MayHold (know_post carried level key got child a)
 post_holds carried level key got child post.New = inr refl
 post_holds carried level key got child (post.Coming a) = inl (approach_holds carried level key a)
 post_holds carried level key got child (post.Growing g) = inl (growth_holds carried level key got g)

@@ -16,7 +16,7 @@ use Rattle.bl_proc.specs.declared.posting.Post.{Post as PostIs}
 use Rattle.bl_proc.specs.declared.posting.PostStage.{PostStage}
 use Rattle.bl_proc.specs.declared.posting.PostStage.TheVariants as post
 use Rattle.bl_proc.specs.declared.kinds.Proc.{Proc}
-use Rattle.bl_proc.specs.declared.kinds.Proc.TheVariants.{Find, Write, Post, Part, Compress, Reclaim, Lower}
+use Rattle.bl_proc.specs.declared.kinds.Proc.TheVariants.{Find, Write, Post, Part, Compress, Reclaim, Lower, InsertPost}
 use Rattle.bl_proc.specs.Writes.{write_next_in, write_needs_in}
 use Rattle.bl_proc.specs.Posts.{post_next_in, post_needs_in}
 use Rattle.bl_proc.specs.Processes.{next_of, needs_of, Takes}
@@ -128,6 +128,7 @@ asks_keep (Part p) ask d e latch asks = tt
 asks_keep (Compress p) ask d e latch asks = tt
 asks_keep (Reclaim p) ask d e latch asks = tt
 asks_keep (Lower p) ask d e latch asks = tt
+asks_keep (InsertPost p) ask d e latch asks = tt
 
 -- by the event at which it was refused
 pub asks_observed : (p : Proc) (ask : ℕ × ℕ) (d e : PassState) (what : Seen) → d.state ≡ p → needs_of p ≡ Some ask → proc_held p (own_marks d) → Goes what d e → AsksFor p ask (own_marks e)
@@ -138,6 +139,7 @@ asks_observed (Part p) ask d e what is needs held goes = tt
 asks_observed (Compress p) ask d e what is needs held goes = tt
 asks_observed (Reclaim p) ask d e what is needs held goes = tt
 asks_observed (Lower p) ask d e what is needs held goes = tt
+asks_observed (InsertPost p) ask d e what is needs held goes = tt
 
 -- the process goes on
 pub asks_on : (p : Proc) (what : Seen) (q : Proc) (ask : ℕ × ℕ) (marks : Trail) → Takes p what q → AsksFor p ask marks → AsksFor q ask marks
@@ -151,4 +153,5 @@ asks_on old what (Part q) ask marks t asks = tt
 asks_on old what (Compress q) ask marks t asks = tt
 asks_on old what (Reclaim q) ask marks t asks = tt
 asks_on old what (Lower q) ask marks t asks = tt
+asks_on old what (InsertPost q) ask marks t asks = tt
 asks_on old what new ask marks t asks = absurd t

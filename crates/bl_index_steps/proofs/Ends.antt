@@ -28,17 +28,16 @@ use Rattle.bl_proc.specs.declared.searching.FindStage.TheVariants as find
 use Rattle.bl_proc.specs.declared.parts.PartRows.{PartRows}
 use Rattle.bl_proc.specs.declared.parts.PartStage.{PartStage}
 use Rattle.bl_proc.specs.declared.parts.PartStage.TheVariants as part
-use Rattle.bl_proc.specs.declared.climbing.Climbed.TheVariants as climbed
-use Rattle.bl_proc.specs.declared.climbing.ClimbStage.{ClimbStage}
-use Rattle.bl_proc.specs.declared.climbing.ClimbStage.TheVariants as climb
 use Rattle.bl_proc.specs.declared.kinds.Proc.{Proc}
 use Rattle.bl_proc.specs.declared.kinds.Proc.TheVariants as proc
 use Rattle.bl_proc.specs.Writes.{write_answer, write_next_in, write_answer_in, WriteGoes}
 use Rattle.bl_proc.specs.Searches.{found_answer, find_next_in, find_answer_in, FindGoes}
 use Rattle.bl_proc.specs.Parts.{part_next_in, part_answer_in, PartGoes}
-use Rattle.bl_proc.specs.Climbs.{climb_answer_in}
 use Rattle.bl_proc.specs.Processes.{next_of, answer_of, Takes}
-use Rattle.bl_core.specs.Worlds.{Goes}
+use Rattle.bl_proc.specs.declared.climbing.Climbed.TheVariants as climbed
+use Rattle.bl_proc.specs.declared.climbing.ClimbStage.{ClimbStage}
+use Rattle.bl_proc.specs.declared.climbing.ClimbStage.TheVariants as climb
+use Rattle.bl_proc.specs.Climbs.{climb_answer_in}
 use Rattle.bl_proc_invariant.specs.Beside.{MeansBeside}
 use Rattle.bl_proc_invariant.proofs.Beside.{beside_means}
 use Rattle.bl_proc_invariant.specs.Knowing.{Run, know, know_of, written_reply, found_reply, know_find, know_part, know_write, find_end, part_end, write_end, end_of_proc}
@@ -75,17 +74,17 @@ write_reply_said : (does : KeyWrite) (q : WriteReply) (reply : Reply) (hint : Op
 write_reply_said does (written.Done there h) reply hint e = same_reply _ _ _ _ e
 write_reply_said does written.NoRoom reply hint e = cc
 
-write_ends : (goes : List Goes) (key : ℕ) (does : KeyWrite) (a b : WriteStage) (reply : Reply) (hint : Option Hint) → write_next_in a ≡ act.End → WriteGoes key does a seen.Done b → write_answer_in does b ≡ Some (Op reply hint) → (write_end does a ≡ Some reply) × ((got : ℕ → Page) → (know_write goes key does got a).said ≡ Some (record { op = write_op key does; reply = reply }))
-write_ends goes key does write.New b reply hint e t h = cc
-write_ends goes key does (write.Coming w) b reply hint e t h = absurd (not_end_way w e)
-write_ends goes key does (write.Keeping x there) b reply hint e t h = cc
-write_ends goes key does (write.Editing noted c) b reply hint e t h = absurd (not_end c e)
-write_ends goes key does (write.Over r) b reply hint e t h = absurd t
-write_ends goes key does (write.Ending r) (write.Over q) reply hint e t h =
+write_ends : (key : ℕ) (does : KeyWrite) (a b : WriteStage) (reply : Reply) (hint : Option Hint) → write_next_in a ≡ act.End → WriteGoes key does a seen.Done b → write_answer_in does b ≡ Some (Op reply hint) → (write_end does a ≡ Some reply) × ((got : ℕ → Page) → (know_write [] key does got a).said ≡ Some (record { op = write_op key does; reply = reply }))
+write_ends key does write.New b reply hint e t h = cc
+write_ends key does (write.Coming w) b reply hint e t h = absurd (not_end_way w e)
+write_ends key does (write.Keeping x there) b reply hint e t h = cc
+write_ends key does (write.Editing noted c) b reply hint e t h = absurd (not_end c e)
+write_ends key does (write.Over r) b reply hint e t h = absurd t
+write_ends key does (write.Ending r) (write.Over q) reply hint e t h =
     let some : write_answer does q ≡ Op reply hint = some_one h in
     let is : written_reply does r ≡ reply = ap (written_reply does) (sym t) ∙ write_reply_said does q reply hint some in
     (ap (λ (z : Reply). Some z) is, λ got. ap (λ (z : Reply). Some (record { op = write_op key does; reply = z })) is)
-write_ends goes key does (write.Ending r) b reply hint e t h = absurd t
+write_ends key does (write.Ending r) b reply hint e t h = absurd t
 
 find_reply_said : (v : Option ℕ) (reply : Reply) (hint : Option Hint) → found_answer v ≡ Op reply hint → found_reply v ≡ reply
 find_reply_said (Some v) reply hint e = cc
@@ -122,13 +121,13 @@ part_ends from (part.Ending r) (part.Over q) reply hint e t h =
     let is : rows_of r ≡ reply = ap rows_of (sym t) ∙ same_reply _ _ _ _ some in
     (ap (λ (z : Reply). Some z) is, ap (λ (z : Reply). Some (record { op = op.Part from; reply = z })) is)
 
--- an insertion that posts has an answer of its own kind
-no_op : (value : ℕ) (a : ClimbStage) (reply : Reply) (hint : Option Hint) → climb_answer_in value a ≡ Some (Op reply hint) → ⊥
-no_op value (climb.Writing w) reply hint e = cc
-no_op value (climb.Posting p) reply hint e = cc
-no_op value (climb.Ending r) reply hint e = cc
-no_op value (climb.Over (climbed.Unsplit r)) reply hint e = cc
-no_op value (climb.Over (climbed.Posted level key r)) reply hint e = cc
+-- an insertion that posts has an answer of its own
+climb_ends : {X : Type 0} (value : ℕ) (a : ClimbStage) (reply : Reply) (hint : Option Hint) → climb_answer_in value a ≡ Some (Op reply hint) → X
+climb_ends value (climb.Writing w) reply hint h = absurd (let f = h in cc)
+climb_ends value (climb.Posting p) reply hint h = absurd (let f = h in cc)
+climb_ends value (climb.Ending r) reply hint h = absurd (let f = h in cc)
+climb_ends value (climb.Over (climbed.Unsplit r)) reply hint h = absurd (let f = h in cc)
+climb_ends value (climb.Over (climbed.Posted level key r)) reply hint h = absurd (let f = h in cc)
 
 -- what a process that ended with this answer had said
 pub record Says (before : Proc) (o : Operation) (reply : Reply) : Type 0 where
@@ -148,14 +147,14 @@ pub end_says : (before last : Proc) (o : Operation) (reply : Reply) (hint : Opti
 end_says (proc.Find p) (proc.Find q) o reply hint i e t h = (let s = find_ends p.key p.stage q.stage reply hint e t.1 h in says_of (proc.Find p) o (op.Find p.key) reply s.0 (λ got child time. s.1) i)
 end_says (proc.Write p) (proc.Write q) o reply hint i e t h =
     let answer = subst (λ z. write_answer_in z q.stage ≡ Some (Op reply hint)) t.1 h in
-    let s = write_ends [] p.key p.write p.stage q.stage reply hint e t.2 answer in
+    let s = write_ends p.key p.write p.stage q.stage reply hint e t.2 answer in
     says_of (proc.Write p) o (write_op p.key p.write) reply s.0 (λ got child time. s.1 got) i
 end_says (proc.Part p) (proc.Part q) o reply hint i e t h = (let s = part_ends p.from p.stage q.stage reply hint e t.1 h in says_of (proc.Part p) o (op.Part p.from) reply s.0 (λ got child time. s.1) i)
 end_says (proc.Post p) last o reply hint i e t h = cc
 end_says (proc.Compress p) last o reply hint i e t h = cc
 end_says (proc.Reclaim p) last o reply hint i e t h = cc
 end_says (proc.Lower p) last o reply hint i e t h = cc
-end_says (proc.InsertPost p) (proc.InsertPost q) o reply hint i e t h = absurd (no_op q.value q.stage reply hint h)
+end_says (proc.InsertPost p) (proc.InsertPost q) o reply hint i e t h = climb_ends q.value q.stage reply hint h
 end_says before last o reply hint i e t h = absurd t
 
 -- what the index began with, as the pass knows when a process has ended

@@ -30,7 +30,7 @@ use Rattle.bl_proc.specs.declared.writing.WriteStage.TheVariants as write
 use Rattle.bl_proc.specs.declared.posting.PostStage.{PostStage}
 use Rattle.bl_proc.specs.declared.posting.PostStage.TheVariants as post
 use Rattle.bl_proc.specs.declared.kinds.Proc.{Proc}
-use Rattle.bl_proc.specs.declared.kinds.Proc.TheVariants.{Find, Write, Post, Part, Compress, Reclaim, Lower}
+use Rattle.bl_proc.specs.declared.kinds.Proc.TheVariants.{Find, Write, Post, Part, Compress, Reclaim, Lower, InsertPost}
 use Rattle.bl_proc.specs.Writes.{write_next_in, Performs}
 use Rattle.bl_proc.specs.Posts.{post_next_in}
 use Rattle.bl_proc.specs.Processes.{next_of, Takes}
@@ -177,6 +177,7 @@ held_turn old (Part c) what marks m t did saw h = tt
 held_turn old (Compress c) what marks m t did saw h = tt
 held_turn old (Reclaim c) what marks m t did saw h = tt
 held_turn old (Lower c) what marks m t did saw h = tt
+held_turn old (InsertPost c) what marks m t did saw h = tt
 held_turn old new what marks m t did saw h = absurd t
 
 -- One that is to begin has latched nothing.
@@ -231,3 +232,4 @@ waiting_held (Part p) e marks = tt
 waiting_held (Compress p) e marks = tt
 waiting_held (Reclaim p) e marks = tt
 waiting_held (Lower p) e marks = tt
+waiting_held (InsertPost p) e marks = tt

@@ -153,3 +153,4 @@ IsPostAnswer (Some (answer.Post what hint)) = Unit {0}
 IsPostAnswer (Some (answer.Reclaim what)) = ⊥
 IsPostAnswer (Some (answer.Compress what hint)) = ⊥
 IsPostAnswer (Some (answer.Lower what)) = ⊥
+IsPostAnswer (Some (answer.InsertPost reply last hint)) = ⊥
