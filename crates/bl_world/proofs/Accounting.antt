@@ -17,6 +17,7 @@ use Rattle.bl_proc.specs.declared.posting.Post.{Post}
 use Rattle.bl_proc_base.specs.declared.answers.Squeezed.{Squeezed}
 use Rattle.bl_proc_base.specs.declared.lowering.Lowered.{Lowered}
 use Rattle.bl_proc.specs.declared.lowering.Lower.{Lower}
+use Rattle.bl_proc.specs.declared.climbing.InsertPost.{InsertPost}
 use Rattle.bl_proc_compress.specs.declared.squeezing.Compress.{Compress}
 use Rattle.bl_proc_base.specs.declared.answers.Reclaimed.{Reclaimed}
 use Rattle.bl_proc.specs.declared.reclaiming.ReclaimStage.{ReclaimStage}
@@ -29,12 +30,14 @@ use Rattle.bl_proc_invariant.specs.Knowing.{Run, know_of, know}
 use Rattle.bl_proc_meanings.specs.Answers.{MeansPosted, MeansHint}
 use Rattle.bl_proc_meanings.specs.Squeezed.{MeansSqueezed}
 use Rattle.bl_proc_meanings.specs.Lowered.{MeansLowered}
+use Rattle.bl_proc_meanings.specs.Climbed.{MeansClimbed}
 use Rattle.bl_proc_invariant.proofs.Answered.{post_means, post_hints}
 use Rattle.bl_proc_invariant.proofs.Beside.{beside_means}
 use Rattle.bl_proc_invariant.specs.Beside.{MeansBeside}
 use Rattle.bl_proc_invariant.specs.Logs.{proc_log}
 use Rattle.bl_proc_invariant.proofs.Pressed.{compress_means}
 use Rattle.bl_proc_invariant.proofs.LoweringLogs.{lower_means}
+use Rattle.bl_proc_invariant.proofs.ClimbingAnswers.{climb_means}
 use Rattle.bl_proc_invariant.proofs.Starting.{run_laws}
 use Rattle.bl_claims.specs.Bounds.{IsWithinBound}
 use Rattle.bl_proc_bounds.specs.Searches.{IsSearch}
@@ -51,7 +54,7 @@ use Rattle.bl_world.proofs.Arms.{stands}
 use Rattle.bl_world.proofs.ReclaimArms.{named}
 use Rattle.bl_world.proofs.Moments.{world_map}
 use Rattle.bl_world.proofs.Orders.{ordered, ended_in, none_released}
-use Rattle.bl_world.proofs.Entries.{said_op, answered_said, answered_late}
+use Rattle.bl_world.proofs.Entries.{said_op, answered_said, climb_answered, answered_late}
 use Rattle.bl_proc_unique.proofs.RefusedAnswers.{answers_refused}
 use Rattle.bl_world.proofs.Ways.{events_count, first_refused}
 use Rattle.bl_world.proofs.Keeping.{Has, GrowsTo}
@@ -125,6 +128,16 @@ module _ (v : View) (h : Has v) where
   lowered : (n : ℕ) (p : Lower) (a : Lowered) → slice_get v.processes n ≡ Some (proc.Lower p) → answer_of (proc.Lower p) ≡ Some (answer.Lower a) → MeansLowered a (marks_of (name_of (n + 1)) h.world.trail)
   lowered n p a stood e = subst (λ k. MeansLowered a (marks_of (name_of k) h.world.trail)) (sym (one_more n)) (lower_means h.world (name_of (suc n)) p a h.logs (h.runs n (proc.Lower p) stood) e)
 
+  climbed : (n : ℕ) (p : InsertPost) (reply : _) (last : Option Posted) (left : Option Hint) → slice_get v.processes n ≡ Some (proc.InsertPost p) → answer_of (proc.InsertPost p) ≡ Some (answer.InsertPost reply last left)
+      → Replies h.world.trail (name_of (n + 1)) (op_of (proc.InsertPost p)) reply × MeansClimbed reply last left (marks_of (name_of (n + 1)) h.world.trail)
+  climbed n p reply last left stood e =
+      let r = h.world.proc (name_of (suc n)) in
+      let a = climb_answered p.key p.value p.path r.got r.child p.stage reply last left e in
+      let has : HasSaid h.world.trail (name_of (suc n)) (Some a.it) = subst (HasSaid h.world.trail (name_of (suc n))) a.is (sure_of n (proc.InsertPost p) stood).said in (
+        rw (one_more n) (record { place = has.0; said = a.it; says = has.1; op = said_op r.got r.child r.time (proc.InsertPost p) a.it a.is; reply = a.reply_is }),
+        subst (λ k. MeansClimbed reply last left (marks_of (name_of k) h.world.trail)) (sym (one_more n)) (climb_means h.world (name_of (suc n)) p reply last left h.logs (h.runs n (proc.InsertPost p) stood) e),
+      )
+
   bounded : (n : ℕ) (p : Proc) → slice_get v.processes n ≡ Some p → IsSearch p → IsWithinBound (length v.pages) (name_of (n + 1)) h.world.trail
   bounded n p stood search =
       let name = name_of (suc n) in
@@ -166,6 +179,7 @@ module _ (v : View) (h : Has v) where
         beside = beside;
         squeezed = squeezed;
         lowered = lowered;
+        climbed = climbed;
         ended = λ n p a stood ends e. (let x = ended n p a stood ends e in (x.0, x.1.0, x.1.1));
         reclaimed = λ n p a stood e. rw (one_more n) (over_means v.events (suc n) p.page (w.proc (name_of (suc n))).time p.stage a e (h.reclaiming n p stood));
         releases = h.releases;

@@ -1,11 +1,13 @@
 -- A process enters a world.
-use Rattle.std.proofs.Common.{ℕ, ◌≡◌, ◌≢◌, ◌⊎◌, ◌^◌, ◌<◌, ◌++◌, suc, List, [], ◌∷◌, length, arith, ap, sym, ◌∙◌, refl, subst, inl, inr, append-nil}
+use Rattle.std.proofs.Common.{ℕ, ◌≡◌, ◌≢◌, ◌⊎◌, ◌^◌, ◌-◌, ◌<◌, ◌++◌, zero, suc, slice_index, List, [], ◌∷◌, length, arith, ap, sym, ◌∙◌, refl, subst, inl, inr, append-nil}
 use Rattle.std.proofs.lemmas.Option.{slice_get_within}
 use Rattle.bl_model.specs.declared.deciding.KeyWrite.{KeyWrite}
+use Rattle.bl_model.specs.declared.deciding.KeyWrite.TheVariants.{Insert}
 use Rattle.bl_page.specs.declared.page.Page.{Page}
 use Rattle.bl_page.specs.Machine.{Name}
 use Rattle.bl_core.proofs.After.{put_name, is_put_name}
 use Rattle.bl_core.specs.Blank.{IsBlank}
+use Rattle.bl_core.specs.Worlds.{Goes}
 use Rattle.bl_proc_base.specs.declared.acts.Action.TheVariants as act
 use Rattle.bl_proc.specs.declared.searching.FindStage.{FindStage}
 use Rattle.bl_proc.specs.declared.searching.FindStage.TheVariants as find
@@ -20,6 +22,9 @@ use Rattle.bl_proc_compress.specs.declared.squeezing.CompressStage.TheVariants a
 use Rattle.bl_proc.specs.declared.reclaiming.Reclaim.{Reclaim}
 use Rattle.bl_proc.specs.declared.reclaiming.ReclaimStage.{ReclaimStage}
 use Rattle.bl_proc.specs.declared.reclaiming.ReclaimStage.TheVariants as reclaim
+use Rattle.bl_proc.specs.declared.paths.Path.{Path}
+use Rattle.bl_proc.specs.declared.climbing.ClimbStage.{ClimbStage}
+use Rattle.bl_proc.specs.declared.climbing.ClimbStage.TheVariants as climb
 use Rattle.bl_proc.specs.declared.kinds.Proc.{Proc}
 use Rattle.bl_proc.specs.declared.lowering.LowerStage.{LowerStage}
 use Rattle.bl_proc.specs.declared.lowering.LowerStage.TheVariants as lower
@@ -32,7 +37,11 @@ use Rattle.bl_proc.specs.Posts.{post_next_in}
 use Rattle.bl_proc_compress.specs.Compresses.{compress_next_in}
 use Rattle.bl_proc.specs.Reclaims.{reclaim_next_in}
 use Rattle.bl_proc.specs.Lowers.{lower_next_in}
-use Rattle.bl_proc_invariant.specs.Knowing.{Run, know_of, know_find, know_part, know_write, know_post, know_compress, know_reclaim, know_lower}
+use Rattle.bl_proc.specs.Paths.{IsBlank as IsUnnoted}
+use Rattle.bl_proc.specs.Stands.{BeginsBlank, IsPosting, Stands}
+use Rattle.bl_proc.specs.Climbs.{climb_next_in}
+use Rattle.bl_proc_invariant.specs.Knowing.{Run, know_of, know_find, know_part, know_write, know_post, know_compress, know_reclaim, know_lower, goes_above, path_goes, know_climb}
+use Rattle.bl_proc_invariant.specs.Tables.{Carried, alone}
 use Rattle.bl_proc_invariant.proofs.Instead.{with_proc}
 use Rattle.bl_proc_invariant.proofs.Starting.{enters_good, enters_logs}
 use Rattle.bl_proc_bounds.proofs.Kept.{enter_kept}
@@ -55,18 +64,41 @@ part_blank k (part.Near x) small e = record { stage = refl; said = refl; holds =
 part_blank k part.New small e = record { stage = refl; said = refl; holds = refl; goes = refl; children = refl; passed = refl; sound = small }
 part_blank k old small e = absurd cc
 
-write_blank : (k : ℕ) (does : KeyWrite) (got : ℕ → Page) (a : WriteStage) → k < 2 ^ 64 → write_next_in a ≡ act.Begin → IsBlank (know_write k does got a)
-write_blank k does got write.New small e = record { stage = refl; said = refl; holds = refl; goes = refl; children = refl; passed = refl; sound = small }
-write_blank k does got (write.Coming a) small e = approach_begins a e
-write_blank k does got (write.Editing noted c) small e = edit_begins c e
-write_blank k does got old small e = absurd cc
+-- where no page is noted there is none to go to
+blank_goes : (level : ℕ) (pages : List ℕ) → ((i : ℕ) → slice_index pages i ≡ 0) → goes_above level pages ≡ []
+blank_goes level [] none = refl
+blank_goes level (zero ∷ rest) none = blank_goes (suc level) rest (λ i. none (suc i))
+blank_goes level (suc x ∷ rest) none = absurd (let e : suc x ≡ 0 = none 0 in omega (arith, e))
 
-post_blank : (l k : ℕ) (got : ℕ → Page) (child : ℕ) (a : PostStage) → k < 2 ^ 64 → post_next_in a ≡ act.Begin → IsBlank (know_post l k got child a)
+no_goes : (path : Path) → IsUnnoted path → path_goes path ≡ []
+no_goes path none = blank_goes 1 path.pages (λ i. (let e : suc i - 1 ≡ i = omega arith in subst (λ k. slice_index path.pages k ≡ 0) e (none (suc i))))
+
+write_blank : (goes : List Goes) (k : ℕ) (does : KeyWrite) (got : ℕ → Page) (a : WriteStage) → k < 2 ^ 64 → write_next_in a ≡ act.Begin → (a ≡ write.New → goes ≡ []) → IsBlank (know_write goes k does got a)
+write_blank goes k does got write.New small e none = record { stage = refl; said = refl; holds = refl; goes = none refl; children = refl; passed = refl; sound = small }
+write_blank goes k does got (write.Coming a) small e none = approach_begins a e
+write_blank goes k does got (write.Editing noted c) small e none = edit_begins c e
+write_blank goes k does got old small e none = absurd cc
+
+post_blank : (l k : ℕ) (got : ℕ → Page) (child : ℕ) (a : PostStage) → k < 2 ^ 64 → post_next_in a ≡ act.Begin → IsBlank (know_post alone l k got child a)
 post_blank l k got child post.New small e = record { stage = refl; said = refl; holds = refl; goes = refl; children = refl; passed = refl; sound = small }
 post_blank l k got child (post.Coming a) small e = approach_begins a e
 post_blank l k got child (post.Growing g) small e = growth_begins g e
 post_blank l k got child (post.Editing c) small e = edit_begins c e
 post_blank l k got child old small e = absurd cc
+
+-- a post within an insertion has begun
+post_begun : {X : Type 0} (a : PostStage) → IsPosting a → post_next_in a ≡ act.Begin → X
+post_begun post.New i e = absurd i
+post_begun (post.Coming a) i e = approach_begins a e
+post_begun (post.Growing g) i e = growth_begins g e
+post_begun (post.Editing c) i e = edit_begins c e
+post_begun old i e = absurd cc
+
+climb_blank : (k value : ℕ) (path : Path) (got : ℕ → Page) (child : ℕ) (a : ClimbStage) → Stands k value path a → k < 2 ^ 64 → climb_next_in a ≡ act.Begin → IsBlank (know_climb k value path got child a)
+climb_blank k value path got child (climb.Writing w) h small e = write_blank (path_goes path) k (Insert value) got w.stage small e (λ new. no_goes path (subst (BeginsBlank path) new h.3))
+climb_blank k value path got child (climb.Posting p) h small e = post_begun p.stage h e
+climb_blank k value path got child (climb.Ending r) h small e = absurd cc
+climb_blank k value path got child (climb.Over r) h small e = absurd cc
 
 compress_blank : (l k : ℕ) (got : ℕ → Page) (a : CompressStage) → k < 2 ^ 64 → compress_next_in a ≡ act.Begin → IsBlank (know_compress l k got a)
 compress_blank l k got compress.New small e = record { stage = refl; said = refl; holds = refl; goes = refl; children = refl; passed = refl; sound = small }
@@ -94,12 +126,13 @@ reclaim_blank time a e = rw e (record { stage = refl; said = refl; holds = refl;
 
 pub blank : (size : ℕ) (got : ℕ → Page) (child time : ℕ) (p : Proc) → key_in p < 2 ^ 64 → IsNew size p → IsBlank (know_of got child time p)
 blank size got child time (proc.Find p) small (inl e) = find_blank p.key p.stage small e
-blank size got child time (proc.Write p) small (inl e) = write_blank p.key p.write got p.stage small e
+blank size got child time (proc.Write p) small (inl e) = write_blank [] p.key p.write got p.stage small e (λ new. refl)
 blank size got child time (proc.Post p) small (inl e) = post_blank p.level p.key got child p.stage small e
 blank size got child time (proc.Part p) small (inl e) = part_blank p.from p.stage small e
 blank size got child time (proc.Compress p) small (inl e) = compress_blank p.level p.key got p.stage small e
 blank size got child time (proc.Reclaim p) small (inl e) = reclaim_begins p.page p.stage e
 blank size got child time (proc.Lower p) small (inl e) = lower_blank got p.stage e
+blank size got child time (proc.InsertPost p) small (inl e) = climb_blank p.key p.value p.path got child p.stage p.stands small e
 blank size got child time (proc.Find p) small (inr r) = absurd r.2
 blank size got child time (proc.Write p) small (inr r) = absurd r.2
 blank size got child time (proc.Post p) small (inr r) = absurd r.2
@@ -107,6 +140,7 @@ blank size got child time (proc.Part p) small (inr r) = absurd r.2
 blank size got child time (proc.Compress p) small (inr r) = absurd r.2
 blank size got child time (proc.Reclaim p) small (inr r) = reclaim_blank time p.stage r.2.1
 blank size got child time (proc.Lower p) small (inr r) = absurd r.2
+blank size got child time (proc.InsertPost p) small (inr r) = absurd r.2
 
 -- a process that is to release a page is to look at the owner of a page of the world
 new_reclaim : (size : ℕ) (q : Reclaim) → IsNew size (proc.Reclaim q) → (q.page < size) × (q.stage ≡ reclaim.Seeing)

@@ -1,12 +1,13 @@
 -- What a process has said, by its state: its own operation, with the reply that it answers.
-use Rattle.std.proofs.Common.{ℕ, ◌≡◌, Option, Some, None, ap, sym, ◌∙◌, refl}
+use Rattle.std.proofs.Common.{ℕ, ◌≡◌, ◌⊎◌, Option, Some, None, List, [], ap, sym, ◌∙◌, refl, inl, inr}
 use Rattle.bl_model.specs.declared.operation.Op.TheVariants as op
 use Rattle.bl_model.specs.declared.operation.Reply.{Reply}
 use Rattle.bl_model.specs.declared.deciding.KeyWrite.{KeyWrite}
+use Rattle.bl_model.specs.declared.deciding.KeyWrite.TheVariants.{Insert}
 use Rattle.bl_model.specs.Writes.{write_op}
 use Rattle.bl_page.specs.declared.page.Page.{Page}
 use Rattle.bl_claims.specs.Trails.{Said}
-use Rattle.bl_core.specs.Worlds.{Stage}
+use Rattle.bl_core.specs.Worlds.{Goes, Stage}
 use Rattle.bl_proc_base.specs.declared.approaching.Approach.{Approach}
 use Rattle.bl_proc_base.specs.declared.approaching.Approach.TheVariants as way
 use Rattle.bl_proc_base.specs.declared.editing.Outcome.{Outcome}
@@ -17,6 +18,7 @@ use Rattle.bl_proc_base.specs.declared.growing.Growth.TheVariants as growth
 use Rattle.bl_proc_base.specs.declared.answers.Answer.{Answer}
 use Rattle.bl_proc_base.specs.declared.answers.Answer.TheVariants as answer
 use Rattle.bl_proc_base.specs.declared.answers.Hint.{Hint}
+use Rattle.bl_proc_base.specs.declared.answers.Posted.{Posted}
 use Rattle.bl_proc.specs.declared.searching.FindStage.{FindStage}
 use Rattle.bl_proc.specs.declared.searching.FindStage.TheVariants as find
 use Rattle.bl_proc.specs.declared.parts.PartStage.{PartStage}
@@ -34,6 +36,10 @@ use Rattle.bl_proc_compress.specs.declared.squeezing.CompressStage.{CompressStag
 use Rattle.bl_proc_compress.specs.declared.squeezing.CompressStage.TheVariants as compress
 use Rattle.bl_proc.specs.declared.reclaiming.ReclaimStage.{ReclaimStage}
 use Rattle.bl_proc.specs.declared.reclaiming.ReclaimStage.TheVariants as reclaim
+use Rattle.bl_proc.specs.declared.paths.Path.{Path}
+use Rattle.bl_proc.specs.declared.climbing.Climbed.TheVariants as climbed
+use Rattle.bl_proc.specs.declared.climbing.ClimbStage.{ClimbStage}
+use Rattle.bl_proc.specs.declared.climbing.ClimbStage.TheVariants as climb
 use Rattle.bl_proc.specs.declared.kinds.Proc.{Proc}
 use Rattle.bl_proc_base.specs.declared.lowering.Lowering.{Lowering}
 use Rattle.bl_proc_base.specs.declared.lowering.Lowering.TheVariants as lowering
@@ -47,11 +53,12 @@ use Rattle.bl_proc.specs.Writes.{write_answer_in}
 use Rattle.bl_proc.specs.Posts.{post_answer_in}
 use Rattle.bl_proc_compress.specs.Compresses.{compress_answer_in}
 use Rattle.bl_proc.specs.Lowers.{lower_answer_in}
+use Rattle.bl_proc.specs.Climbs.{climb_answer_in}
 use Rattle.bl_proc.specs.Reclaims.{reclaim_answer_in}
-use Rattle.bl_proc_invariant.specs.Tables.{Aim, know_approach, know_edit}
+use Rattle.bl_proc_invariant.specs.Tables.{Carried, unsaid, alone, Aim, know_approach, know_edit}
 use Rattle.bl_proc_invariant.specs.Compressing.{know_squeeze}
 use Rattle.bl_proc_invariant.specs.Lowering.{know_lowering}
-use Rattle.bl_proc_invariant.specs.Knowing.{know_of, know_find, know_part, know_write, know_post, know_compress, know_reclaim, know_lower, know_growth, write_aim, post_aim}
+use Rattle.bl_proc_invariant.specs.Knowing.{know_of, know_find, know_part, know_write, know_post, know_compress, know_reclaim, know_lower, know_growth, write_aim, post_aim, path_goes, inserted, know_climb}
 use Rattle.bl_world.specs.Accounts.{op_of, HasEnd}
 
 none_said : {X : Type 0} (s : Said) → None ≡ Some s → X
@@ -60,31 +67,32 @@ none_said s e = absurd (let f : None ≡ Some s = e in cc)
 same_op : (a b : Said) → Some a ≡ Some b → Some a.op ≡ Some b.op
 same_op a b e = (let f : a ≡ b = cc in ap (λ z. Some z.op) f)
 
-approach_said : (level key : ℕ) (a : Approach) → (know_approach level key a).said ≡ None
-approach_said level key way.Start = refl
-approach_said level key (way.At x) = refl
-approach_said level key (way.Latching x) = refl
-approach_said level key (way.Latched x) = refl
-approach_said level key (way.Leaving x None) = refl
-approach_said level key (way.Leaving x (Some y)) = refl
+approach_said : (carried : Carried) (level key : ℕ) (a : Approach) → (know_approach carried level key a).said ≡ carried.said
+approach_said carried level key way.Start = refl
+approach_said carried level key (way.At x) = refl
+approach_said carried level key (way.Latching x) = refl
+approach_said carried level key (way.Latched x) = refl
+approach_said carried level key (way.Leaving x None) = refl
+approach_said carried level key (way.Leaving x (Some y)) = refl
 
-edit_said : (aim : Aim) (got : ℕ → Page) (c : Edit) (s : Said) → (know_edit aim got c).said ≡ Some s → (o : Outcome) × (aim.said o ≡ Some s)
-edit_said aim got (edit.Putting x page) s e = none_said s e
-edit_said aim got (edit.Taking full) s e = none_said s e
-edit_said aim got (edit.PuttingNew t) s e = none_said s e
-edit_said aim got (edit.PuttingOld t) s e = none_said s e
-edit_said aim got (edit.OpeningNew x y k) s e = (_, e)
-edit_said aim got (edit.Opening x o) s e = (_, e)
+-- what it said before its change, or by it
+edit_said : (aim : Aim) (got : ℕ → Page) (c : Edit) (s : Said) → (know_edit aim got c).said ≡ Some s → (aim.carried.said ≡ Some s) ⊎ ((o : Outcome) × (aim.said o ≡ Some s))
+edit_said aim got (edit.Putting x page) s e = inl e
+edit_said aim got (edit.Taking full) s e = inl e
+edit_said aim got (edit.PuttingNew t) s e = inl e
+edit_said aim got (edit.PuttingOld t) s e = inl e
+edit_said aim got (edit.OpeningNew x y k) s e = inr (_, e)
+edit_said aim got (edit.Opening x o) s e = inr (_, e)
 
-growth_said : (level key : ℕ) (got : ℕ → Page) (g : Growth) → (know_growth level key got g).said ≡ None
-growth_said level key got growth.Latching = refl
-growth_said level key got growth.Latched = refl
-growth_said level key got (growth.Taking r) = refl
-growth_said level key got (growth.PuttingTop r) = refl
-growth_said level key got (growth.PuttingAnchor r) = refl
-growth_said level key got (growth.OpeningTop x) = refl
-growth_said level key got growth.OpeningGrown = refl
-growth_said level key got growth.OpeningRefused = refl
+growth_said : (carried : Carried) (level key : ℕ) (got : ℕ → Page) (g : Growth) → (know_growth carried level key got g).said ≡ carried.said
+growth_said carried level key got growth.Latching = refl
+growth_said carried level key got growth.Latched = refl
+growth_said carried level key got (growth.Taking r) = refl
+growth_said carried level key got (growth.PuttingTop r) = refl
+growth_said carried level key got (growth.PuttingAnchor r) = refl
+growth_said carried level key got (growth.OpeningTop x) = refl
+growth_said carried level key got growth.OpeningGrown = refl
+growth_said carried level key got growth.OpeningRefused = refl
 
 squeeze_said : (level key : ℕ) (got : ℕ → Page) (c : Compression) → (know_squeeze level key got c).said ≡ None
 squeeze_said level key got (LatchingLeft f) = refl
@@ -115,27 +123,34 @@ part_op k (part.Descending d) s e = none_said s e
 part_op k (part.Ending r) s e = same_op _ s e
 part_op k (part.Over r) s e = same_op _ s e
 
-write_says : (k : ℕ) (does : KeyWrite) (got : ℕ → Page) (a : WriteStage) (s : Said) → (know_write k does got a).said ≡ Some s → Some (write_op k does) ≡ Some s.op
-write_says k does got write.New s e = none_said s e
-write_says k does got (write.Coming a) s e = none_said s (sym (approach_said 0 k a) ∙ e)
-write_says k does got (write.Keeping x there) s e = same_op _ s e
-write_says k does got (write.Editing noted c) s e = same_op _ s (edit_said (write_aim k does noted) got c s e).1
-write_says k does got (write.Ending r) s e = same_op _ s e
-write_says k does got (write.Over r) s e = same_op _ s e
+write_says : (goes : List Goes) (k : ℕ) (does : KeyWrite) (got : ℕ → Page) (a : WriteStage) (s : Said) → (know_write goes k does got a).said ≡ Some s → Some (write_op k does) ≡ Some s.op
+write_says goes k does got write.New s e = none_said s e
+write_says goes k does got (write.Coming a) s e = none_said s (sym (approach_said (unsaid goes) 0 k a) ∙ e)
+write_says goes k does got (write.Keeping x there) s e = same_op _ s e
+write_says goes k does got (write.Editing noted c) s e = elim (edit_said (write_aim goes k does noted) got c s e) [ inl before ↦ none_said s before | inr by ↦ same_op _ s by.1 ]
+write_says goes k does got (write.Ending r) s e = same_op _ s e
+write_says goes k does got (write.Over r) s e = same_op _ s e
 
-post_none : {X : Type 0} (l k : ℕ) (got : ℕ → Page) (child : ℕ) (a : PostStage) (s : Said) → (know_post l k got child a).said ≡ Some s → X
-post_none l k got child post.New s e = none_said s e
-post_none l k got child (post.Coming a) s e = none_said s (sym (approach_said l k a) ∙ e)
-post_none l k got child (post.Growing g) s e = none_said s (sym (growth_said l k got g) ∙ e)
-post_none l k got child (post.Walking w) s e = none_said s e
-post_none l k got child (post.Editing c) s e = none_said s (edit_said (post_aim l k child) got c s e).1
-post_none l k got child (post.Staying x r) s e = none_said s e
-post_none l k got child (post.Ending r) s e = none_said s e
-post_none l k got child (post.Over r) s e = none_said s e
+-- A post says nothing, and keeps what was said before it.
+post_keeps : (carried : Carried) (l k : ℕ) (got : ℕ → Page) (child : ℕ) (a : PostStage) (s : Said) → (know_post carried l k got child a).said ≡ Some s → carried.said ≡ Some s
+post_keeps carried l k got child post.New s e = e
+post_keeps carried l k got child (post.Coming a) s e = sym (approach_said carried l k a) ∙ e
+post_keeps carried l k got child (post.Growing g) s e = sym (growth_said carried l k got g) ∙ e
+post_keeps carried l k got child (post.Walking w) s e = e
+post_keeps carried l k got child (post.Editing c) s e = elim (edit_said (post_aim carried l k child) got c s e) [ inl before ↦ before | inr by ↦ by.1 ]
+post_keeps carried l k got child (post.Staying x r) s e = e
+post_keeps carried l k got child (post.Ending r) s e = e
+post_keeps carried l k got child (post.Over r) s e = e
+
+climb_says : (k value : ℕ) (path : Path) (got : ℕ → Page) (child : ℕ) (a : ClimbStage) (s : Said) → (know_climb k value path got child a).said ≡ Some s → Some (write_op k (Insert value)) ≡ Some s.op
+climb_says k value path got child (climb.Writing w) s e = write_says (path_goes path) k (Insert value) got w.stage s e
+climb_says k value path got child (climb.Posting p) s e = same_op _ s (post_keeps (inserted k value path) p.level p.key got child p.stage s e)
+climb_says k value path got child (climb.Ending r) s e = same_op _ s e
+climb_says k value path got child (climb.Over r) s e = same_op _ s e
 
 compress_none : {X : Type 0} (l k : ℕ) (got : ℕ → Page) (a : CompressStage) (s : Said) → (know_compress l k got a).said ≡ Some s → X
 compress_none l k got compress.New s e = none_said s e
-compress_none l k got (compress.Coming a) s e = none_said s (sym (approach_said l k a) ∙ e)
+compress_none l k got (compress.Coming a) s e = none_said s (sym (approach_said alone l k a) ∙ e)
 compress_none l k got (compress.Compressing c) s e = none_said s (sym (squeeze_said l k got c) ∙ e)
 compress_none l k got (compress.Staying x) s e = none_said s e
 compress_none l k got (compress.Ending r) s e = none_said s e
@@ -167,12 +182,13 @@ lower_none got (lower.Over r) s e = none_said s e
 
 pub said_op : (got : ℕ → Page) (child time : ℕ) (p : Proc) (s : Said) → (know_of got child time p).said ≡ Some s → op_of p ≡ Some s.op
 said_op got child time (proc.Find p) s e = find_op p.key p.stage s e
-said_op got child time (proc.Write p) s e = write_says p.key p.write got p.stage s e
-said_op got child time (proc.Post p) s e = post_none p.level p.key got child p.stage s e
+said_op got child time (proc.Write p) s e = write_says [] p.key p.write got p.stage s e
+said_op got child time (proc.Post p) s e = none_said s (post_keeps alone p.level p.key got child p.stage s e)
 said_op got child time (proc.Part p) s e = part_op p.from p.stage s e
 said_op got child time (proc.Compress p) s e = compress_none p.level p.key got p.stage s e
 said_op got child time (proc.Reclaim p) s e = reclaim_none time p.stage s e
 said_op got child time (proc.Lower p) s e = lower_none got p.stage s e
+said_op got child time (proc.InsertPost p) s e = climb_says p.key p.value p.path got child p.stage s e
 
 -- What it answers
 
@@ -185,6 +201,7 @@ reply_in (answer.Post posted hint) = None
 reply_in (answer.Compress squeezed hint) = None
 reply_in (answer.Reclaim what) = None
 reply_in (answer.Lower what) = None
+reply_in (answer.InsertPost reply last left) = Some reply
 
 same_reply : (a b : Reply) (hint other : Option Hint) → Some (answer.Op a hint) ≡ Some (answer.Op b other) → a ≡ b
 same_reply a b hint other e =
@@ -197,6 +214,24 @@ no_post p b hint other e = absurd (let f : answer.Post p hint ≡ answer.Op b ot
 
 no_press : {X : Type 0} (p : _) (b : Reply) (hint other : Option Hint) → Some (answer.Compress p hint) ≡ Some (answer.Op b other) → X
 no_press p b hint other e = absurd (let f : answer.Compress p hint ≡ answer.Op b other = cc in let g : None ≡ Some b = ap reply_in f in cc)
+
+same_inserted : (a b : Reply) (last other : Option Posted) (left hint : Option Hint) → Some (answer.InsertPost a last left) ≡ Some (answer.InsertPost b other hint) → a ≡ b
+same_inserted a b last other left hint e =
+    let f : answer.InsertPost a last left ≡ answer.InsertPost b other hint = cc in
+    let g : Some a ≡ Some b = ap reply_in f in
+    cc
+
+-- an answer of the one kind is none of the other
+abbrev is_op : Answer → Option Reply
+is_op (answer.Op reply hint) = Some reply
+is_op (answer.Post posted hint) = None
+is_op (answer.Compress squeezed hint) = None
+is_op (answer.Reclaim what) = None
+is_op (answer.Lower what) = None
+is_op (answer.InsertPost reply last left) = None
+
+no_climb : {X : Type 0} (a b : Reply) (last : Option Posted) (left hint : Option Hint) → Some (answer.InsertPost a last left) ≡ Some (answer.Op b hint) → X
+no_climb a b last left hint e = absurd (let f : answer.InsertPost a last left ≡ answer.Op b hint = cc in let g : None ≡ Some b = ap is_op f in cc)
 
 -- it has said that reply to its operation
 pub record HasAnswered (said : Option Said) (reply : Reply) : Type 0 where
@@ -219,14 +254,14 @@ part_answered k (part.Descending d) reply hint e = none_answer _ e
 part_answered k (part.Ending r) reply hint e = none_answer _ e
 part_answered k (part.Over r) reply hint e = record { it = _; is = refl; reply_is = same_reply _ _ _ _ e }
 
-write_answered : (k : ℕ) (does : KeyWrite) (got : ℕ → Page) (a : WriteStage) (reply : Reply) (hint : Option Hint) → write_answer_in does a ≡ Some (answer.Op reply hint) → HasAnswered (know_write k does got a).said reply
-write_answered k does got write.New reply hint e = none_answer _ e
-write_answered k does got (write.Coming a) reply hint e = none_answer _ e
-write_answered k does got (write.Keeping x there) reply hint e = none_answer _ e
-write_answered k does got (write.Editing noted c) reply hint e = none_answer _ e
-write_answered k does got (write.Ending r) reply hint e = none_answer _ e
-write_answered k does got (write.Over (Done there left)) reply hint e = record { it = _; is = refl; reply_is = same_reply _ _ _ _ e }
-write_answered k does got (write.Over NoRoom) reply hint e = record { it = _; is = refl; reply_is = same_reply _ _ _ _ e }
+write_answered : (goes : List Goes) (k : ℕ) (does : KeyWrite) (got : ℕ → Page) (a : WriteStage) (reply : Reply) (hint : Option Hint) → write_answer_in does a ≡ Some (answer.Op reply hint) → HasAnswered (know_write goes k does got a).said reply
+write_answered goes k does got write.New reply hint e = none_answer _ e
+write_answered goes k does got (write.Coming a) reply hint e = none_answer _ e
+write_answered goes k does got (write.Keeping x there) reply hint e = none_answer _ e
+write_answered goes k does got (write.Editing noted c) reply hint e = none_answer _ e
+write_answered goes k does got (write.Ending r) reply hint e = none_answer _ e
+write_answered goes k does got (write.Over (Done there left)) reply hint e = record { it = _; is = refl; reply_is = same_reply _ _ _ _ e }
+write_answered goes k does got (write.Over NoRoom) reply hint e = record { it = _; is = refl; reply_is = same_reply _ _ _ _ e }
 
 post_answered : {X : Type 0} (l : ℕ) (a : PostStage) (reply : Reply) (hint : Option Hint) → post_answer_in l a ≡ Some (answer.Op reply hint) → X
 post_answered l post.New reply hint e = none_answer _ e
@@ -267,14 +302,30 @@ lower_answered (lower.Sinking l) reply hint e = none_answer _ e
 lower_answered (lower.Ending r) reply hint e = none_answer _ e
 lower_answered (lower.Over what) reply hint e = absurd (let f : Some (answer.Lower what) ≡ Some (answer.Op reply hint) = e in cc)
 
+climb_not_op : {X : Type 0} (value : ℕ) (a : ClimbStage) (reply : Reply) (hint : Option Hint) → climb_answer_in value a ≡ Some (answer.Op reply hint) → X
+climb_not_op value (climb.Writing w) reply hint e = none_answer _ e
+climb_not_op value (climb.Posting p) reply hint e = none_answer _ e
+climb_not_op value (climb.Ending r) reply hint e = none_answer _ e
+climb_not_op value (climb.Over (climbed.Unsplit r)) reply hint e = no_climb _ _ _ _ _ e
+climb_not_op value (climb.Over (climbed.Posted level key r)) reply hint e = no_climb _ _ _ _ _ e
+
+pub climb_answered : (k value : ℕ) (path : Path) (got : ℕ → Page) (child : ℕ) (a : ClimbStage) (reply : Reply) (last : Option Posted) (left : Option Hint) → climb_answer_in value a ≡ Some (answer.InsertPost reply last left) → HasAnswered (know_climb k value path got child a).said reply
+climb_answered k value path got child (climb.Writing w) reply last left e = none_answer _ e
+climb_answered k value path got child (climb.Posting p) reply last left e = none_answer _ e
+climb_answered k value path got child (climb.Ending r) reply last left e = none_answer _ e
+climb_answered k value path got child (climb.Over (climbed.Unsplit (Done there hint))) reply last left e = record { it = _; is = refl; reply_is = same_inserted _ _ _ _ _ _ e }
+climb_answered k value path got child (climb.Over (climbed.Unsplit NoRoom)) reply last left e = record { it = _; is = refl; reply_is = same_inserted _ _ _ _ _ _ e }
+climb_answered k value path got child (climb.Over (climbed.Posted level key r)) reply last left e = record { it = _; is = refl; reply_is = same_inserted _ _ _ _ _ _ e }
+
 pub answered_said : (got : ℕ → Page) (child time : ℕ) (p : Proc) (reply : Reply) (hint : Option Hint) → answer_of p ≡ Some (answer.Op reply hint) → HasAnswered (know_of got child time p).said reply
 answered_said got child time (proc.Find p) reply hint e = find_answered p.key p.stage reply hint e
-answered_said got child time (proc.Write p) reply hint e = write_answered p.key p.write got p.stage reply hint e
+answered_said got child time (proc.Write p) reply hint e = write_answered [] p.key p.write got p.stage reply hint e
 answered_said got child time (proc.Post p) reply hint e = post_answered p.level p.stage reply hint e
 answered_said got child time (proc.Part p) reply hint e = part_answered p.from p.stage reply hint e
 answered_said got child time (proc.Compress p) reply hint e = compress_answered p.stage reply hint e
 answered_said got child time (proc.Reclaim p) reply hint e = reclaim_answered p.stage reply hint e
 answered_said got child time (proc.Lower p) reply hint e = lower_answered p.stage reply hint e
+answered_said got child time (proc.InsertPost p) reply hint e = climb_not_op p.value p.stage reply hint e
 
 -- It has ended
 
@@ -292,23 +343,23 @@ part_late k (part.Descending d) b e = none_answer _ e
 part_late k (part.Ending r) b e = none_answer _ e
 part_late k (part.Over r) b e = refl
 
-write_late : (k : ℕ) (does : KeyWrite) (got : ℕ → Page) (a : WriteStage) (b : Answer) → write_answer_in does a ≡ Some b → (know_write k does got a).stage ≡ Stage.Late
-write_late k does got write.New b e = none_answer _ e
-write_late k does got (write.Coming a) b e = none_answer _ e
-write_late k does got (write.Keeping x there) b e = none_answer _ e
-write_late k does got (write.Editing noted c) b e = none_answer _ e
-write_late k does got (write.Ending r) b e = none_answer _ e
-write_late k does got (write.Over r) b e = refl
+write_late : (goes : List Goes) (k : ℕ) (does : KeyWrite) (got : ℕ → Page) (a : WriteStage) (b : Answer) → write_answer_in does a ≡ Some b → (know_write goes k does got a).stage ≡ Stage.Late
+write_late goes k does got write.New b e = none_answer _ e
+write_late goes k does got (write.Coming a) b e = none_answer _ e
+write_late goes k does got (write.Keeping x there) b e = none_answer _ e
+write_late goes k does got (write.Editing noted c) b e = none_answer _ e
+write_late goes k does got (write.Ending r) b e = none_answer _ e
+write_late goes k does got (write.Over r) b e = refl
 
-post_late : (l k : ℕ) (got : ℕ → Page) (child : ℕ) (a : PostStage) (b : Answer) → post_answer_in l a ≡ Some b → (know_post l k got child a).stage ≡ Stage.Late
-post_late l k got child post.New b e = none_answer _ e
-post_late l k got child (post.Coming a) b e = none_answer _ e
-post_late l k got child (post.Growing g) b e = none_answer _ e
-post_late l k got child (post.Walking w) b e = none_answer _ e
-post_late l k got child (post.Editing c) b e = none_answer _ e
-post_late l k got child (post.Staying x r) b e = none_answer _ e
-post_late l k got child (post.Ending r) b e = none_answer _ e
-post_late l k got child (post.Over r) b e = refl
+post_late : (carried : Carried) (l k : ℕ) (got : ℕ → Page) (child : ℕ) (a : PostStage) (b : Answer) → post_answer_in l a ≡ Some b → (know_post carried l k got child a).stage ≡ Stage.Late
+post_late carried l k got child post.New b e = none_answer _ e
+post_late carried l k got child (post.Coming a) b e = none_answer _ e
+post_late carried l k got child (post.Growing g) b e = none_answer _ e
+post_late carried l k got child (post.Walking w) b e = none_answer _ e
+post_late carried l k got child (post.Editing c) b e = none_answer _ e
+post_late carried l k got child (post.Staying x r) b e = none_answer _ e
+post_late carried l k got child (post.Ending r) b e = none_answer _ e
+post_late carried l k got child (post.Over r) b e = refl
 
 compress_late : (l k : ℕ) (got : ℕ → Page) (a : CompressStage) (b : Answer) → compress_answer_in a ≡ Some b → (know_compress l k got a).stage ≡ Stage.Late
 compress_late l k got compress.New b e = none_answer _ e
@@ -324,11 +375,18 @@ lower_late got (lower.Sinking l) b e = none_answer _ e
 lower_late got (lower.Ending r) b e = none_answer _ e
 lower_late got (lower.Over r) b e = refl
 
+climb_late : (k value : ℕ) (path : Path) (got : ℕ → Page) (child : ℕ) (a : ClimbStage) (b : Answer) → climb_answer_in value a ≡ Some b → (know_climb k value path got child a).stage ≡ Stage.Late
+climb_late k value path got child (climb.Writing w) b e = none_answer _ e
+climb_late k value path got child (climb.Posting p) b e = none_answer _ e
+climb_late k value path got child (climb.Ending r) b e = none_answer _ e
+climb_late k value path got child (climb.Over r) b e = refl
+
 pub answered_late : (got : ℕ → Page) (child time : ℕ) (p : Proc) (b : Answer) → HasEnd p → answer_of p ≡ Some b → (know_of got child time p).stage ≡ Stage.Late
 answered_late got child time (proc.Find p) b ends e = find_late p.key p.stage b e
-answered_late got child time (proc.Write p) b ends e = write_late p.key p.write got p.stage b e
-answered_late got child time (proc.Post p) b ends e = post_late p.level p.key got child p.stage b e
+answered_late got child time (proc.Write p) b ends e = write_late [] p.key p.write got p.stage b e
+answered_late got child time (proc.Post p) b ends e = post_late alone p.level p.key got child p.stage b e
 answered_late got child time (proc.Part p) b ends e = part_late p.from p.stage b e
 answered_late got child time (proc.Compress p) b ends e = compress_late p.level p.key got p.stage b e
 answered_late got child time (proc.Reclaim p) b ends e = absurd ends
 answered_late got child time (proc.Lower p) b ends e = lower_late got p.stage b e
+answered_late got child time (proc.InsertPost p) b ends e = climb_late p.key p.value p.path got child p.stage b e

@@ -45,6 +45,9 @@ use Rattle.bl_proc_compress.specs.Compresses.{compress_next_in}
 use Rattle.bl_proc.specs.Reclaims.{reclaim_next_in}
 use Rattle.bl_proc_base.specs.Lowerings.{lowering_next}
 use Rattle.bl_proc.specs.Lowers.{lower_next_in}
+use Rattle.bl_proc.specs.declared.climbing.ClimbStage.{ClimbStage}
+use Rattle.bl_proc.specs.declared.climbing.ClimbStage.TheVariants as climb
+use Rattle.bl_proc.specs.Climbs.{climb_next_in}
 use Rattle.bl_proc.specs.Processes.{next_of, Takes}
 
 abbrev pub IsOfTree : Action → Type 0
@@ -162,6 +165,12 @@ lower_tree (lower.Sinking l) = lowering_tree l
 lower_tree (lower.Ending r) = tt
 lower_tree (lower.Over r) = tt
 
+climb_tree : (a : ClimbStage) → IsOfTree (climb_next_in a)
+climb_tree (climb.Writing w) = write_tree w.stage
+climb_tree (climb.Posting p) = post_tree p.stage
+climb_tree (climb.Ending r) = tt
+climb_tree (climb.Over r) = tt
+
 reclaim_tree : (page : ℕ) (a : ReclaimStage) → IsOfTree (reclaim_next_in page a) → ⊥
 reclaim_tree page reclaim.Seeing h = h
 reclaim_tree page (reclaim.Looking r) h = h
@@ -176,6 +185,7 @@ reclaims (proc.Part p) h = absurd (h (part_tree p.stage))
 reclaims (proc.Compress p) h = absurd (h (compress_tree p.stage))
 reclaims (proc.Reclaim p) h = (p, refl)
 reclaims (proc.Lower p) h = absurd (h (lower_tree p.stage))
+reclaims (proc.InsertPost p) h = absurd (h (climb_tree p.stage))
 
 -- what a process is told of an action on the tree makes none of this kind of it
 pub takes_tree : (p : Proc) (what : Seen) (q : Reclaim) → IsOfTree (next_of p) → Takes p what (proc.Reclaim q) → ⊥
@@ -186,6 +196,7 @@ takes_tree (proc.Part p) what q h t = t
 takes_tree (proc.Compress p) what q h t = t
 takes_tree (proc.Reclaim p) what q h t = reclaim_tree p.page p.stage h
 takes_tree (proc.Lower p) what q h t = t
+takes_tree (proc.InsertPost p) what q h t = t
 
 pub see_page : (page x : ℕ) (a : ReclaimStage) → reclaim_next_in page a ≡ act.See x → page ≡ x
 see_page page x reclaim.Seeing e = (let f : act.See page ≡ act.See x = e in cc)

@@ -16,7 +16,10 @@ use Rattle.bl_proc.specs.Writes.{write_next_in}
 use Rattle.bl_proc.specs.Posts.{post_next_in}
 use Rattle.bl_proc_compress.specs.Compresses.{compress_next_in}
 use Rattle.bl_proc.specs.Lowers.{lower_next_in}
-use Rattle.bl_proc_unique.specs.Refusals.{WriteRefused, PostRefused, CompressRefused, LowerRefused, IsRefused}
+use Rattle.bl_proc.specs.declared.climbing.ClimbStage.{ClimbStage}
+use Rattle.bl_proc.specs.declared.climbing.ClimbStage.TheVariants as climb
+use Rattle.bl_proc.specs.Climbs.{climb_next_in}
+use Rattle.bl_proc_unique.specs.Refusals.{WriteRefused, PostRefused, CompressRefused, LowerRefused, ClimbRefused, IsRefused}
 use Rattle.bl_world.proofs.Begins.{edit_begins, growth_begins, squeeze_begins, lowering_begins}
 
 -- A process that is to begin was not refused.
@@ -53,6 +56,12 @@ lower_free (lower.Sinking l) e r = lowering_begins l e
 lower_free (lower.Ending q) e r = cc
 lower_free (lower.Over q) e r = cc
 
+climb_free : (a : ClimbStage) → climb_next_in a ≡ act.Begin → ClimbRefused a → ⊥
+climb_free (climb.Writing w) e r = write_free w.stage e r
+climb_free (climb.Posting p) e r = post_free p.stage e r
+climb_free (climb.Ending q) e r = cc
+climb_free (climb.Over q) e r = cc
+
 pub begins_free : (p : Proc) → next_of p ≡ act.Begin → IsRefused p → ⊥
 begins_free (proc.Find p) e r = r
 begins_free (proc.Write p) e r = write_free p.stage e r
@@ -61,6 +70,7 @@ begins_free (proc.Part p) e r = r
 begins_free (proc.Compress p) e r = compress_free p.stage e r
 begins_free (proc.Reclaim p) e r = r
 begins_free (proc.Lower p) e r = lower_free p.stage e r
+begins_free (proc.InsertPost p) e r = climb_free p.stage e r
 
 -- Nor is one that is to release a page.
 pub reclaim_free : (x : ℕ) (p : Proc) → IsReclaim x p → IsRefused p → ⊥
@@ -71,3 +81,4 @@ reclaim_free x (proc.Post p) e r = e
 reclaim_free x (proc.Part p) e r = e
 reclaim_free x (proc.Compress p) e r = e
 reclaim_free x (proc.Lower p) e r = e
+reclaim_free x (proc.InsertPost p) e r = e

@@ -32,6 +32,9 @@ use Rattle.bl_proc.specs.Writes.{write_next_in, write_needs_in}
 use Rattle.bl_proc.specs.Posts.{post_next_in, post_needs_in}
 use Rattle.bl_proc_compress.specs.Compresses.{compress_next_in, compress_needs_in}
 use Rattle.bl_proc_base.specs.Lowerings.{lowering_next, lowering_needs}
+use Rattle.bl_proc.specs.declared.climbing.ClimbStage.{ClimbStage}
+use Rattle.bl_proc.specs.declared.climbing.ClimbStage.TheVariants as climb
+use Rattle.bl_proc.specs.Climbs.{climb_next_in, climb_needs_in}
 use Rattle.bl_proc.specs.Lowers.{lower_next_in, lower_needs_in}
 
 abbrev pub Reserves : Action → Type 0
@@ -91,9 +94,15 @@ lower_reserves : (a : LowerStage) → IsSome (lower_needs_in a) → Reserves (lo
 lower_reserves (lower.Sinking l) h = lowering_reserves l h
 lower_reserves old h = absurd (false≢true h)
 
+climb_reserves : (a : ClimbStage) → IsSome (climb_needs_in a) → Reserves (climb_next_in a)
+climb_reserves (climb.Writing w) h = write_reserves w.stage h
+climb_reserves (climb.Posting p) h = post_reserves p.stage h
+climb_reserves old h = absurd (false≢true h)
+
 pub reserves : (p : Proc) → IsSome (needs_of p) → Reserves (next_of p)
 reserves (proc.Write p) h = write_reserves p.stage h
 reserves (proc.Post p) h = post_reserves p.stage h
 reserves (proc.Compress p) h = compress_reserves p.stage h
 reserves (proc.Lower p) h = lower_reserves p.stage h
+reserves (proc.InsertPost p) h = climb_reserves p.stage h
 reserves old h = absurd (false≢true h)

@@ -5,6 +5,7 @@ use Rattle.bl_model.specs.History.{IsLegalFrom, final_map}
 use Rattle.bl_model.specs.declared.operation.Op.{Op}
 use Rattle.bl_model.specs.declared.operation.Op.TheVariants as op
 use Rattle.bl_model.specs.declared.operation.Reply.{Reply}
+use Rattle.bl_model.specs.declared.deciding.KeyWrite.TheVariants.{Insert}
 use Rattle.bl_model.specs.Writes.{write_op}
 use Rattle.bl_page.specs.declared.page.Page.{Page}
 use Rattle.bl_page.specs.Machine.{Name, State}
@@ -22,9 +23,11 @@ use Rattle.bl_proc.specs.declared.posting.Post.{Post}
 use Rattle.bl_proc_base.specs.declared.answers.Squeezed.{Squeezed}
 use Rattle.bl_proc_base.specs.declared.lowering.Lowered.{Lowered}
 use Rattle.bl_proc.specs.declared.lowering.Lower.{Lower}
+use Rattle.bl_proc.specs.declared.climbing.InsertPost.{InsertPost}
 use Rattle.bl_proc_compress.specs.declared.squeezing.Compress.{Compress}
 use Rattle.bl_proc_meanings.specs.Squeezed.{MeansSqueezed}
 use Rattle.bl_proc_meanings.specs.Lowered.{MeansLowered}
+use Rattle.bl_proc_meanings.specs.Climbed.{MeansClimbed}
 use Rattle.bl_proc_base.specs.declared.answers.Reclaimed.{Reclaimed}
 use Rattle.bl_proc.specs.declared.reclaiming.Reclaim.{Reclaim}
 use Rattle.bl_proc.specs.declared.kinds.Proc.{Proc}
@@ -62,6 +65,7 @@ op_of (proc.Part p) = Some (op.Part p.from)
 op_of (proc.Compress p) = None
 op_of (proc.Reclaim p) = None
 op_of (proc.Lower p) = None
+op_of (proc.InsertPost p) = Some (write_op p.key (Insert p.value))
 
 -- a process that releases a page has neither a begin nor an end
 abbrev pub HasEnd : Proc → Type 0
@@ -122,12 +126,15 @@ pub record Account (v : View) : Type 0 where
   pub squeezed : (n : ℕ) (p : Compress) (a : Squeezed) (hint : Option Hint) → slice_get v.processes n ≡ Some (proc.Compress p) → answer_of (proc.Compress p) ≡ Some (answer.Compress a hint) → MeansSqueezed p.level p.key a hint (marks_of (name_of (n + 1)) trail)
   -- so does what a lowering answered
   pub lowered : (n : ℕ) (p : Lower) (a : Lowered) → slice_get v.processes n ≡ Some (proc.Lower p) → answer_of (proc.Lower p) ≡ Some (answer.Lower a) → MeansLowered a (marks_of (name_of (n + 1)) trail)
+  -- So does what an insertion that posts answered, with the post that it left; and the reply in it is what its entry says.
+  pub climbed : (n : ℕ) (p : InsertPost) (reply : Reply) (last : Option Posted) (left : Option Hint) → slice_get v.processes n ≡ Some (proc.InsertPost p) → answer_of (proc.InsertPost p) ≡ Some (answer.InsertPost reply last left)
+      → Replies trail (name_of (n + 1)) (op_of (proc.InsertPost p)) reply × MeansClimbed reply last left (marks_of (name_of (n + 1)) trail)
   -- so does the answer of a process that was to release a page; and each release is of the retirement that its process saw
   pub reclaimed : (n : ℕ) (p : Reclaim) (a : Reclaimed) → slice_get v.processes n ≡ Some (proc.Reclaim p) → answer_of (proc.Reclaim p) ≡ Some (answer.Reclaim a) → MeansReclaimed v.events (n + 1) p.page a
   pub releases : ReleasesSeen v.events
   -- a search, and a part, gets no more pages than its bound beside the puts of others, at every moment so far
   pub bounded : (n : ℕ) (p : Proc) → slice_get v.processes n ≡ Some p → IsSearch p → IsWithinBound (length v.pages) (name_of (n + 1)) trail
-  -- when they latch a page, a write of one key and a post hold none, a compression the parent and the left child at most, and a
+  -- when they latch a page, a write of one key, a post, and an insertion that posts hold none, a compression the parent and the left child at most, and a
   -- lowering the anchor at most; a search and a part latch, take and put nothing
   pub latches : (n : ℕ) (p : Proc) → slice_get v.processes n ≡ Some p → IsTidy p (marks_of (name_of (n + 1)) trail)
   -- whichever the turns were: a process answers that there was no room only where one of them was a fit refusal of it

@@ -34,6 +34,7 @@ key_in (proc.Part p) = p.from
 key_in (proc.Compress p) = p.key
 key_in (proc.Reclaim p) = 0
 key_in (proc.Lower p) = 0
+key_in (proc.InsertPost p) = p.key
 
 -- none of the processes of that many has this name
 abbrev pub IsUnknown : ℕ → Name → Type 0

@@ -43,6 +43,7 @@ fn key_of(process: &Proc) -> u64
     match process {
         Proc::Find(process) => process.key,
         Proc::Write(process) => process.key,
+        Proc::InsertPost(process) => process.key,
         Proc::Post(process) => process.key,
         Proc::Part(process) => process.from,
         Proc::Compress(process) => process.key,

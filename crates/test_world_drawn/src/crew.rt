@@ -17,7 +17,7 @@ pub(crate) struct Crew {
 /// The change that a running process has made by that event, which led to this tree. A deletion may leave its leaf thin.
 pub(crate) fn change_of(running: &mut Running, act: Act, tree: &Tree) -> Result<Op, Law> {
     match running.job {
-        Job::Insert(key, value) => Ok(Op::Insert(key, value)),
+        Job::Insert(key, value) | Job::InsertPost(key, value) => Ok(Op::Insert(key, value)),
         Job::Delete(key) => {
             if let Act::Put(page) = act {
                 running.thin = tree.thin_low(page)?;
@@ -60,6 +60,18 @@ pub(crate) fn puts_in_compression(
         compressing.retain(|other| *other != number);
     }
     Ok(())
+}
+
+/// An insertion that posts has listed what it split, where this tree lists it and the one before did not.
+pub(crate) fn lists_own(running: &mut Running, before: &Tree, tree: &Tree) {
+    if let Job::InsertPost(_, _) = running.job
+        && let Some((level, key)) = running.split
+        && tree.lists(level, key)
+        && !before.lists(level, key)
+    {
+        running.listed = running.split;
+        running.split = None;
+    }
 }
 
 /// A post answers that it is done where this tree lists its key and the one before it did not. A new top level lists the key 0,

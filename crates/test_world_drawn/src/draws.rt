@@ -126,7 +126,12 @@ impl Draws {
         }
         let behind = if size.crowd & 1 == 0 { 1 } else { 3 };
         let key = self.key_of(tree, size.keys, quarter.wrapping_add(behind));
-        Job::Insert(key.saturating_add(self.below(3)), started as u64)
+        let key = key.saturating_add(self.below(3));
+        if self.below(3) == 0 {
+            Job::InsertPost(key, started as u64)
+        } else {
+            Job::Insert(key, started as u64)
+        }
     }
 
     /// A change of a key. Mostly the key has a value, and mostly the change is from that one; now and then it is to the same.

@@ -36,6 +36,15 @@ struct Posts {
     refused: u32,
 }
 
+/// Last posts of insertions that have split a page.
+#[derive(Clone, Copy, Debug)]
+struct OwnPosts {
+    done: u32,
+    already: u32,
+    stale: u32,
+    refused: u32,
+}
+
 /// Answers of compressions, and by their way those that put all.
 #[derive(Clone, Copy, Debug)]
 struct Compressions {
@@ -87,6 +96,7 @@ pub(crate) struct Tally {
     operations: Operations,
     changes: Changes,
     posts: Posts,
+    own_posts: OwnPosts,
     compressions: Compressions,
     lowerings: Lowerings,
     pub pages: Pages,
@@ -123,6 +133,12 @@ pub(crate) const NONE: Tally = Tally {
         without_room: 0,
     },
     posts: Posts {
+        done: 0,
+        already: 0,
+        stale: 0,
+        refused: 0,
+    },
+    own_posts: OwnPosts {
         done: 0,
         already: 0,
         stale: 0,
@@ -207,6 +223,18 @@ impl Changes {
 }
 
 impl Posts {
+    fn answered(&mut self, posted: &Posted) {
+        let count = match posted {
+            Posted::Done => &mut self.done,
+            Posted::Already => &mut self.already,
+            Posted::Stale => &mut self.stale,
+            _ => &mut self.refused,
+        };
+        one_more(count);
+    }
+}
+
+impl OwnPosts {
     fn answered(&mut self, posted: &Posted) {
         let count = match posted {
             Posted::Done => &mut self.done,
@@ -304,6 +332,12 @@ impl Tally {
             Answer::Compress(squeezed, _) => self.compressions.answered(squeezed),
             Answer::Reclaim(reclaimed) => self.pages.answered(reclaimed),
             Answer::Lower(lowered) => self.lowerings.answered(lowered),
+            Answer::InsertPost(reply, last, _) => {
+                self.operations.answered(reply);
+                if let Some(posted) = last {
+                    self.own_posts.answered(posted);
+                }
+            }
         }
     }
 

@@ -1,7 +1,9 @@
 //! Small worlds with processes of all kinds, in an order of turns that is drawn by lot. After each turn the laws of the tree
 //! are checked by plain walks over the pages, apart from all definitions and proofs.
 
-use crate::crew::{Crew, change_of, goes_on, lists_first, lowers, parts, puts_in_compression};
+use crate::crew::{
+    Crew, change_of, goes_on, lists_first, lists_own, lowers, parts, puts_in_compression,
+};
 use crate::draws::{Lots, Size};
 use crate::owners::{held_page, keeps_owners, number_of, owns, page_of};
 use crate::tally::{NONE, Tally, one_more};
@@ -242,6 +244,7 @@ impl Trial {
             return Ok(());
         };
         lists_first(running, &self.standing.tree, tree);
+        lists_own(running, &self.standing.tree, tree);
         if let Act::Put(page) = event.act {
             lowers(running, page, &self.standing.tree, tree)?;
         }

@@ -89,6 +89,10 @@ impl Twins {
                 Proc::insert(key, value),
                 Proc::insert(key, value),
             ),
+            Job::InsertPost(key, value) => self.begin(
+                Proc::insert_posting(key, value),
+                Proc::insert_posting(key, value),
+            ),
             Job::Delete(key) => self.begin(Proc::delete(key), Proc::delete(key)),
             Job::Change(key, old, new) => self.begin(
                 Proc::change(key, old, new),

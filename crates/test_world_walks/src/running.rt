@@ -14,6 +14,8 @@ use std::alloc::Global;
 pub enum Job {
     Find(u64),
     Insert(u64, u64),
+    /// An insertion that posts what it splits.
+    InsertPost(u64, u64),
     Delete(u64),
     /// A change of that key from the one value to the other.
     Change(u64, u64, u64),
@@ -41,6 +43,8 @@ pub struct Running {
     pub thin: Option<u64>,
     /// The level and the low of the page that it has split from another one.
     pub split: Option<(usize, u64)>,
+    /// The same of one that an insertion has listed itself.
+    pub listed: Option<(usize, u64)>,
     /// It compresses, and has put a page.
     pub squeeze: Option<Squeeze>,
     /// Its children have shown that it is in the middle of an evening.
@@ -67,7 +71,7 @@ fn reply_in(job: Job, value: Option<u64>) -> Option<Reply> {
     match (job, value) {
         (Job::Find(_), Some(value)) => Some(Reply::Found(value)),
         (Job::Find(_) | Job::Delete(_) | Job::Change(_, _, _), None) => Some(Reply::Absent),
-        (Job::Insert(_, _), Some(value)) => Some(Reply::Present(value)),
+        (Job::Insert(_, _) | Job::InsertPost(_, _), Some(value)) => Some(Reply::Present(value)),
         (Job::Change(_, old, _), Some(value)) if value != old => Some(Reply::Differs(value)),
         // it puts the value that is there
         (Job::Change(_, old, new), Some(_)) if old == new => Some(Reply::Changed),
@@ -99,7 +103,11 @@ fn rights_of_part(tree: &Tree, from: u64, right: &mut Vec<Answer>) -> Result<(),
 /// Adds what are right answers in this tree, of a process that changes nothing.
 fn rights_in(tree: &Tree, job: Job, right: &mut Vec<Answer>) -> Result<(), Law> {
     match job {
-        Job::Find(key) | Job::Insert(key, _) | Job::Delete(key) | Job::Change(key, _, _) => {
+        Job::Find(key)
+        | Job::Insert(key, _)
+        | Job::InsertPost(key, _)
+        | Job::Delete(key)
+        | Job::Change(key, _, _) => {
             match reply_in(job, tree.value_at(key)) {
                 Some(reply) => add(right, Answer::Op(reply, None)),
                 None => Ok(()),
@@ -127,7 +135,7 @@ fn repeats(answers: &[Answer], place: usize) -> bool {
     place > 0 && answers.get(place) == answers.get(place.wrapping_sub(1))
 }
 
-/// The answer, of an operation or a post without its hint.
+/// The answer, of an operation or a post without its hint, and of an insertion without its posts.
 fn without_hint(answer: Answer) -> Answer {
     match answer {
         Answer::Op(reply, _) => Answer::Op(reply, None),
@@ -135,6 +143,7 @@ fn without_hint(answer: Answer) -> Answer {
         Answer::Compress(squeezed, hint) => Answer::Compress(squeezed, hint),
         Answer::Reclaim(what) => Answer::Reclaim(what),
         Answer::Lower(what) => Answer::Lower(what),
+        Answer::InsertPost(reply, _, _) => Answer::Op(reply, None),
     }
 }
 
@@ -143,6 +152,7 @@ pub fn hint_of(answer: &Answer) -> Option<Hint> {
         Answer::Op(_, hint) => *hint,
         Answer::Post(_, hint) => *hint,
         Answer::Compress(_, hint) => *hint,
+        Answer::InsertPost(_, _, hint) => *hint,
         Answer::Reclaim(_) | Answer::Lower(_) => None,
     }
 }
@@ -161,6 +171,7 @@ fn is_no_room(answer: &Answer) -> bool {
         Answer::Compress(squeezed, _) => *squeezed == Squeezed::NoRoom,
         Answer::Lower(what) => *what == Lowered::NoRoom,
         Answer::Reclaim(_) => false,
+        Answer::InsertPost(reply, _, _) => *reply == Reply::NoRoom,
     }
 }
 
@@ -179,6 +190,7 @@ impl Running {
             own: None,
             thin: None,
             split: None,
+            listed: None,
             squeeze: None,
             evens: false,
             sunk: Vec::new(alloc),
@@ -199,12 +211,25 @@ impl Running {
             return Ok(());
         }
         let before = self.right.len();
-        rights_in(tree, self.job, &mut self.right)?;
+        self.look_for_own(tree)?;
         // the same as the last one need not stand there twice
         if self.right.len() == before.saturating_add(1) && repeats(self.right.as_slice(), before) {
             self.right.pop();
         }
         Ok(())
+    }
+
+    /// Of an insertion that has split a page, what is right of its post; else of its job.
+    fn look_for_own(&mut self, tree: &Tree) -> Result<(), Law> {
+        if let Job::InsertPost(_, _) = self.job
+            && let Some((level, key)) = self.split
+        {
+            return match posted_in(tree, level, key) {
+                Some(posted) => add(&mut self.right, Answer::Post(posted, None)),
+                None => Ok(()),
+            };
+        }
+        rights_in(tree, self.job, &mut self.right)
     }
 
     /// It has done this in its turn by the event at that place, and that was the owner of the page that the event names.
@@ -391,12 +416,51 @@ impl Running {
         holds(self.retired == has_put, "a lowering retires the dead page")
     }
 
+    /// It has answered that this became of the last post of its insertion, and has left this hint.
+    fn judge_posts(&self, last: Option<Posted>, hint: Option<Hint>) -> Result<(), Law> {
+        let Some(posted) = last else {
+            keep!(hint.is_none(), "who has split nothing leaves no post");
+            return holds(
+                self.split.is_none() && self.listed.is_none(),
+                "who has split a page posts it",
+            );
+        };
+        self.judge_left(posted, hint)?;
+        match posted {
+            Posted::Done => holds(
+                self.split.is_none() && self.listed.is_some(),
+                "who has posted has listed what it split",
+            ),
+            Posted::NoRoom => holds(self.refused, "who has no room was refused"),
+            _ => self.was_right(&Answer::Post(posted, None)),
+        }
+    }
+
+    /// Its last post, of which this became, is left where it met no room, and only there.
+    fn judge_left(&self, posted: Posted, hint: Option<Hint>) -> Result<(), Law> {
+        let Some(hint) = hint else {
+            return holds(
+                posted != Posted::NoRoom,
+                "a post that met no room is left as a hint",
+            );
+        };
+        keep!(
+            posted == Posted::NoRoom && is_to_post(&hint),
+            "only a post that met no room is left"
+        );
+        holds(
+            Some((hint.level() as usize, hint.key())) == self.split,
+            "the post that is left is of the page that was split",
+        )
+    }
+
     /// It has answered this.
     pub fn judge(&self, answer: Answer) -> Result<(), Law> {
         match &answer {
             Answer::Reclaim(what) => return self.judge_of_page(*what),
             Answer::Compress(what, _) => self.judge_of_children(*what)?,
             Answer::Lower(what) => self.judge_of_height(*what)?,
+            Answer::InsertPost(_, last, hint) => self.judge_posts(*last, *hint)?,
             _ => self.judge_hint(hint_of(&answer))?,
         }
         keep!(self.begun.is_some(), "who answers has begun");
@@ -412,6 +476,11 @@ impl Running {
         if is_no_room(answer) {
             return holds(self.refused, "who has no room was refused");
         }
+        self.was_right(answer)
+    }
+
+    /// This was a right answer of an unchanged tree.
+    fn was_right(&self, answer: &Answer) -> Result<(), Law> {
         for right in self.right.as_slice() {
             if answer == right {
                 return Ok(());
