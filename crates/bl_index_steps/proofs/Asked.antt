@@ -24,7 +24,7 @@ use Rattle.bl_proc.specs.Processes.{next_of, needs_of, Takes}
 use Rattle.bl_index_rule.specs.declared.known.PassState.{PassState}
 use Rattle.bl_index_rule.specs.Observed.{Goes}
 use Rattle.bl_index_steps.specs.Refused.{HasRoom, IsFull, GotAnchor}
-use Rattle.bl_index_steps.specs.Held.{own_marks, KeepsLatch, edit_held, growth_held, write_held, post_held, proc_held, AsksForPage, AsksForWrite, AsksFor}
+use Rattle.bl_index_steps.specs.Held.{own_marks, KeepsLatch, edit_held, growth_held, write_held, post_held, climb_held, proc_held, AsksForPage, AsksForWrite, AsksForPost, AsksWhen, AsksForClimb, AsksFor}
 use Rattle.bl_index_steps.proofs.Held.{goes_keeps, keeps_held, keeps_anchor}
 use Rattle.bl_index_steps.proofs.Got.{if_enters}
 
@@ -33,6 +33,9 @@ same_ask {a} {b} e = (let f : b ≡ a = cc in f)
 
 no_ask : {X : Type 0} {b : ℕ × ℕ} → None ≡ Some b → X
 no_ask {b = b} e = absurd (let f : None ≡ Some b = e in cc)
+
+from_room : (x : ℕ) → PostRefused (post.Coming (from_page x)) → ⊥
+from_room x h = h
 
 -- it asks for what the page takes that it holds
 edit_asks : (level key : ℕ) (c : Edit) (ask : ℕ × ℕ) (marks : Trail) → edit_needs c ≡ Some ask → edit_held level key c marks → AsksForPage level key ask marks
@@ -111,6 +114,18 @@ post_away (post.Staying y r) ask needs x e = cc
 post_away (post.Ending r) ask needs x e = cc
 post_away (post.Over r) ask needs x e = cc
 
+climb_asks : (key value : ℕ) (a : ClimbStage) (ask : ℕ × ℕ) (marks : Trail) → climb_needs_in a ≡ Some ask → climb_held a marks → AsksForClimb key value a ask marks
+climb_asks key value (climb.Writing w) ask marks e held = write_asks w.key w.write w.stage ask marks e held
+climb_asks key value (climb.Posting p) ask marks e held = post_asks p ask marks e held
+climb_asks key value (climb.Ending r) ask marks e held = no_ask e
+climb_asks key value (climb.Over r) ask marks e held = no_ask e
+
+climb_away : (a : ClimbStage) (ask : ℕ × ℕ) → climb_needs_in a ≡ Some ask → (x : ℕ) → climb_next_in a ≢ act.Latch x
+climb_away (climb.Writing w) ask needs x e = write_away w.stage ask needs x e
+climb_away (climb.Posting p) ask needs x e = post_away p.stage ask needs x e
+climb_away (climb.Ending r) ask needs x e = no_ask needs
+climb_away (climb.Over r) ask needs x e = no_ask needs
+
 -- that page stays the one that it latched last
 page_keeps : (level key : ℕ) (ask : ℕ × ℕ) (d e : PassState) → KeepsLatch d e → AsksForPage level key ask (own_marks d) → AsksForPage level key ask (own_marks e)
 page_keeps level key ask d e latch asks = elim asks [
@@ -118,18 +133,34 @@ page_keeps level key ask d e latch asks = elim asks [
   | inr two ↦ inr (two.0, keeps_held level key IsFull d e latch two.1)
 ]
 
+write_keeps : (key : ℕ) (does : KeyWrite) (ask : ℕ × ℕ) (d e : PassState) → KeepsLatch d e → AsksForWrite key does ask (own_marks d) → AsksForWrite key does ask (own_marks e)
+write_keeps key does ask d e latch asks = (asks.0, if_enters (effect_of does asks.0) (page_keeps 0 key ask d e latch) asks.1)
+
+post_keeps : (level key : ℕ) (ask : ℕ × ℕ) (d e : PassState) → KeepsLatch d e → AsksForPost level key ask (own_marks d) → AsksForPost level key ask (own_marks e)
+post_keeps level key ask d e latch asks = elim asks [
+  | inl page ↦ inl (page_keeps level key ask d e latch page)
+  | inr top ↦ inr (top.0, keeps_anchor level d e latch top.1)
+]
+
+when_keeps : (key value : ℕ) (r : Climbed) (ask : ℕ × ℕ) (d e : PassState) → KeepsLatch d e → AsksWhen key value r ask (own_marks d) → AsksWhen key value r ask (own_marks e)
+when_keeps key value (climbed.Unsplit r) ask d e latch asks = write_keeps key (Insert value) ask d e latch asks
+when_keeps key value (climbed.Posted level separator r) ask d e latch asks = post_keeps level separator ask d e latch asks
+
+climb_keeps : (key value : ℕ) (a : ClimbStage) (ask : ℕ × ℕ) (d e : PassState) → KeepsLatch d e → AsksForClimb key value a ask (own_marks d) → AsksForClimb key value a ask (own_marks e)
+climb_keeps key value (climb.Writing w) ask d e latch asks = write_keeps w.key w.write ask d e latch asks
+climb_keeps key value (climb.Posting p) ask d e latch asks = post_keeps p.level p.key ask d e latch asks
+climb_keeps key value (climb.Ending r) ask d e latch asks = when_keeps key value r ask d e latch asks
+climb_keeps key value (climb.Over r) ask d e latch asks = when_keeps key value r ask d e latch asks
+
 pub asks_keep : (p : Proc) (ask : ℕ × ℕ) (d e : PassState) → KeepsLatch d e → AsksFor p ask (own_marks d) → AsksFor p ask (own_marks e)
 asks_keep (Find p) ask d e latch asks = tt
-asks_keep (Write p) ask d e latch asks = (asks.0, if_enters (effect_of p.write asks.0) (page_keeps 0 p.key ask d e latch) asks.1)
-asks_keep (Post p) ask d e latch asks = elim asks [
-  | inl page ↦ inl (page_keeps p.level p.key ask d e latch page)
-  | inr top ↦ inr (top.0, keeps_anchor p.level d e latch top.1)
-]
+asks_keep (Write p) ask d e latch asks = write_keeps p.key p.write ask d e latch asks
+asks_keep (Post p) ask d e latch asks = post_keeps p.level p.key ask d e latch asks
 asks_keep (Part p) ask d e latch asks = tt
 asks_keep (Compress p) ask d e latch asks = tt
 asks_keep (Reclaim p) ask d e latch asks = tt
 asks_keep (Lower p) ask d e latch asks = tt
-asks_keep (InsertPost p) ask d e latch asks = tt
+asks_keep (InsertPost p) ask d e latch asks = climb_keeps p.key p.value p.stage ask d e latch asks
 
 -- by the event at which it was refused
 pub asks_observed : (p : Proc) (ask : ℕ × ℕ) (d e : PassState) (what : Seen) → d.state ≡ p → needs_of p ≡ Some ask → proc_held p (own_marks d) → Goes what d e → AsksFor p ask (own_marks e)
@@ -140,19 +171,31 @@ asks_observed (Part p) ask d e what is needs held goes = tt
 asks_observed (Compress p) ask d e what is needs held goes = tt
 asks_observed (Reclaim p) ask d e what is needs held goes = tt
 asks_observed (Lower p) ask d e what is needs held goes = tt
-asks_observed (InsertPost p) ask d e what is needs held goes = tt
+asks_observed (InsertPost p) ask d e what is needs held goes = asks_keep (InsertPost p) ask d e (goes_keeps what d e goes (λ x l. climb_away p.stage ask needs x (ap next_of (sym is) ∙ l))) (climb_asks p.key p.value p.stage ask (own_marks d) needs held)
+
+-- An insertion that goes on without room does not post what it has split.
+climb_on : (key value : ℕ) (old path : Path) {a b : ClimbStage} {what : Seen} (ask : ℕ × ℕ) (marks : Trail) → ClimbCase path a what b → Stands key value old a → ClimbRefused b → AsksForClimb key value a ask marks → AsksForClimb key value b ask marks
+climb_on key value old path ask marks (ClimbCase.Wrote w what v h t) stands refused asks = subst (λ (z : ℕ × KeyWrite). AsksForWrite z.0 z.1 ask marks) (λ i. (sym t.0 i, sym t.1 i)) asks
+climb_on key value old path ask marks (ClimbCase.Split w what there level separator q h t) stands refused asks = absurd (from_room (page_at path level) (subst PostRefused t.2 refused))
+climb_on key value old path ask marks (ClimbCase.Unsplit w what r last h t) stands refused asks =
+    subst (λ (z : Climbed). AsksWhen key value z ask marks) (sym t.1) (subst (λ (z : ℕ × KeyWrite). AsksForWrite z.0 z.1 ask marks) (λ i. (stands.0 i, stands.1 i)) asks)
+climb_on key value old path ask marks (ClimbCase.Posted p what q h t) stands refused asks = subst (λ (z : ℕ × ℕ). AsksForPost z.0 z.1 ask marks) (λ i. (sym t.0 i, sym t.1 i)) asks
+climb_on key value old path ask marks (ClimbCase.Higher p what separator q h t) stands refused asks = absurd (from_room (page_at path (p.level + 1)) (subst PostRefused t.2 refused))
+climb_on key value old path ask marks (ClimbCase.Finished p what r last h t) stands refused asks = subst (λ (z : Climbed). AsksWhen key value z ask marks) (sym t.1) asks
+climb_on key value old path ask marks (ClimbCase.Ended r last t) stands refused asks = subst (λ (z : Climbed). AsksWhen key value z ask marks) (sym t) asks
 
 -- the process goes on
-pub asks_on : (p : Proc) (what : Seen) (q : Proc) (ask : ℕ × ℕ) (marks : Trail) → Takes p what q → AsksFor p ask marks → AsksFor q ask marks
-asks_on (Write p) what (Write q) ask marks t asks = subst (λ (z : ℕ × KeyWrite). AsksForWrite z.0 z.1 ask marks) (λ i. (sym t.0 i, sym t.1 i)) asks
-asks_on (Post p) what (Post q) ask marks t asks = elim asks [
+pub asks_on : (p : Proc) (what : Seen) (q : Proc) (ask : ℕ × ℕ) (marks : Trail) → Takes p what q → IsRefused q → AsksFor p ask marks → AsksFor q ask marks
+asks_on (Write p) what (Write q) ask marks t refused asks = subst (λ (z : ℕ × KeyWrite). AsksForWrite z.0 z.1 ask marks) (λ i. (sym t.0 i, sym t.1 i)) asks
+asks_on (InsertPost p) what (InsertPost q) ask marks t refused asks =
+    subst (λ (z : ℕ × ℕ). AsksForClimb z.0 z.1 q.stage ask marks) (λ i. (sym t.0 i, sym t.1 i)) (climb_on p.key p.value p.path q.path ask marks (climb_case q.path p.stage what q.stage t.3) p.stands refused asks)
+asks_on (Post p) what (Post q) ask marks t refused asks = elim asks [
   | inl page ↦ inl (subst (λ (z : ℕ × ℕ). AsksForPage z.0 z.1 ask marks) (λ i. (sym t.0 i, sym t.1 i)) page)
   | inr top ↦ inr (top.0, subst (λ (k : ℕ). GotAnchor k marks) (sym t.0) top.1)
 ]
-asks_on old what (Find q) ask marks t asks = tt
-asks_on old what (Part q) ask marks t asks = tt
-asks_on old what (Compress q) ask marks t asks = tt
-asks_on old what (Reclaim q) ask marks t asks = tt
-asks_on old what (Lower q) ask marks t asks = tt
-asks_on old what (InsertPost q) ask marks t asks = tt
-asks_on old what new ask marks t asks = absurd t
+asks_on old what (Find q) ask marks t refused asks = tt
+asks_on old what (Part q) ask marks t refused asks = tt
+asks_on old what (Compress q) ask marks t refused asks = tt
+asks_on old what (Reclaim q) ask marks t refused asks = tt
+asks_on old what (Lower q) ask marks t refused asks = tt
+asks_on old what new ask marks t refused asks = absurd t

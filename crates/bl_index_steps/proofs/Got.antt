@@ -1,5 +1,5 @@
 -- What a process has got of the page that it latched last, and one event more.
-use Rattle.std.proofs.Common.{ℕ, ◌≡◌, ◌≢◌, ◌++◌, ◌≤◌, Option, [], ◌∷◌, None, Some, length, ap, sym, ◌∙◌, refl, subst, inl, inr, append_assoc}
+use Rattle.std.proofs.Common.{ℕ, zero, suc, ◌≡◌, ◌≢◌, ◌+◌, ◌++◌, ◌≤◌, Option, [], ◌∷◌, None, Some, length, ap, sym, ◌∙◌, refl, subst, inl, inr, append_assoc}
 use Rattle.std.proofs.lemmas.List.Elements.{Contains-push_cases}
 use Rattle.bl_page.specs.declared.page.Page.{Page}
 use Rattle.bl_page.specs.declared.page.Page.TheVariants.{Inner}
@@ -31,25 +31,37 @@ use Rattle.bl_proc.specs.declared.writing.WriteStage.{WriteStage}
 use Rattle.bl_proc.specs.declared.writing.WriteStage.TheVariants as write
 use Rattle.bl_proc.specs.declared.posting.PostStage.{PostStage}
 use Rattle.bl_proc.specs.declared.posting.PostStage.TheVariants as post
+use Rattle.bl_proc.specs.declared.paths.Path.{Path}
+use Rattle.bl_proc.specs.declared.climbing.ClimbStage.{ClimbStage}
+use Rattle.bl_proc.specs.declared.climbing.ClimbStage.TheVariants as climb
+use Rattle.bl_proc.specs.Paths.{page_at, from_page}
+use Rattle.bl_proc.specs.Stands.{Stands}
+use Rattle.bl_proc.specs.Climbs.{climb_next_in}
 use Rattle.bl_proc.specs.declared.kinds.Proc.{Proc}
 use Rattle.bl_proc.specs.declared.kinds.Proc.TheVariants.{Find, Write, Post, Part, Compress, Reclaim, Lower, InsertPost}
 use Rattle.bl_proc.specs.Writes.{write_next_in, Performs}
 use Rattle.bl_proc.specs.Posts.{post_next_in}
 use Rattle.bl_proc.specs.Processes.{next_of, Takes}
+use Rattle.bl_proc_unique.proofs.Following.{not_begin}
 use Rattle.bl_proc_unique.proofs.WayCases.{approach_case, EditCase, edit_case, GrowthCase, growth_case}
-use Rattle.bl_proc_unique.proofs.KindCases.{WriteCase, write_case, PostCase, post_case}
+use Rattle.bl_proc_unique.proofs.KindCases.{WriteCase, write_case, PostCase, post_case, ClimbCase, climb_case}
 use Rattle.bl_proc_invariant.specs.Turns.{event_of}
-use Rattle.bl_proc_invariant.specs.Knowing.{write_end, end_of_proc}
+use Rattle.bl_proc_invariant.specs.Knowing.{write_end, climb_end, end_of_proc}
 use Rattle.bl_proc_invariant.proofs.Holdings.{none_of}
 use Rattle.bl_proc_invariant.proofs.Logging.{latched_on}
 use Rattle.bl_index_steps.specs.Refused.{GotLatched, GotHeld, GotAnchor}
-use Rattle.bl_index_steps.specs.Held.{LatchedLast, GotAt, approach_held, edit_held, growth_held, IfEnters, write_held, post_held, proc_held}
+use Rattle.bl_index_steps.specs.Held.{LatchedLast, GotAt, approach_held, edit_held, growth_held, IfEnters, write_held, post_held, climb_held, proc_held}
 
 pub if_enters : (effect : Effect) {P Q : Type 0} → (P → Q) → IfEnters effect P → IfEnters effect Q
 if_enters Keep f p = absurd p
 if_enters (Enter value) f p = f p
 if_enters Remove f p = tt
 if_enters (Replace value) f p = tt
+
+-- a post that begins at a page has latched nothing
+from_held : (x : ℕ) (marks : Trail) → approach_held (from_page x) marks
+from_held zero marks = tt
+from_held (suc x) marks = tt
 
 module _ (marks : Trail) (m : Mark) where
   abbrev more : Trail
@@ -167,16 +179,28 @@ module _ (marks : Trail) (m : Mark) where
   posting (PostCase.Opened x r last t) did saw h = tt
   posting (PostCase.Ended r last t) did saw h = tt
 
+  -- an insertion that posts: its write, and then a post on each level
+  climbing : (key value : ℕ) (old path : Path) {a b : ClimbStage} {what : Seen} → ClimbCase path a what b → Stands key value old a → m.event.act ≡ event_of (climb_end value a) (climb_next_in a) what → ((x : ℕ) (c : Page) → m.event.act ≡ Get x → what ≡ seen.Words c → m.saw ≡ Some c) → climb_held a marks → climb_held b more
+  climbing key value old path {what = what} (ClimbCase.Wrote w _ v h t) stands did saw held =
+      let by = subst (λ (d : KeyWrite). m.event.act ≡ event_of (write_end d w.stage) (write_next_in w.stage) what) (sym stands.1) did in
+      subst (λ (z : ℕ × KeyWrite). write_held z.0 z.1 v.stage more) (λ i. (sym t.0 i, sym t.1 i)) (writing h by saw held)
+  climbing key value old path (ClimbCase.Split w what there level separator q h t) stands did saw held = subst (λ (z : PostStage). post_held q.level q.key z more) (sym t.2) (from_held (page_at path level) more)
+  climbing key value old path (ClimbCase.Unsplit w what r last h t) stands did saw held = tt
+  climbing key value old path (ClimbCase.Posted p what q h t) stands did saw held = subst (λ (z : ℕ × ℕ). post_held z.0 z.1 q.stage more) (λ i. (sym t.0 i, sym t.1 i)) (posting h did saw held)
+  climbing key value old path (ClimbCase.Higher p what separator q h t) stands did saw held = subst (λ (z : PostStage). post_held q.level q.key z more) (sym t.2) (from_held (page_at path (p.level + 1)) more)
+  climbing key value old path (ClimbCase.Finished p what r last h t) stands did saw held = tt
+  climbing key value old path (ClimbCase.Ended r last t) stands did saw held = tt
+
 -- A turn of a process of any kind.
 pub held_turn : (old new : Proc) (what : Seen) (marks : Trail) (m : Mark) → Takes old what new → m.event.act ≡ event_of (end_of_proc old) (next_of old) what → ((x : ℕ) (c : Page) → m.event.act ≡ Get x → what ≡ seen.Words c → m.saw ≡ Some c) → proc_held old marks → proc_held new (marks ++ m ∷ [])
 held_turn (Write a) (Write c) what marks m t did saw h = subst (λ (z : ℕ × KeyWrite). write_held z.0 z.1 c.stage (marks ++ m ∷ [])) (λ i. (sym t.0 i, sym t.1 i)) (writing marks m (write_case a.key a.write a.stage what c.stage t.2) did saw h)
 held_turn (Post a) (Post c) what marks m t did saw h = subst (λ (z : ℕ × ℕ). post_held z.0 z.1 c.stage (marks ++ m ∷ [])) (λ i. (sym t.0 i, sym t.1 i)) (posting marks m (post_case a.level a.key a.stage what c.stage t.2) did saw h)
+held_turn (InsertPost a) (InsertPost c) what marks m t did saw h = climbing marks m a.key a.value a.path c.path (climb_case c.path a.stage what c.stage t.3) a.stands did saw h
 held_turn old (Find c) what marks m t did saw h = tt
 held_turn old (Part c) what marks m t did saw h = tt
 held_turn old (Compress c) what marks m t did saw h = tt
 held_turn old (Reclaim c) what marks m t did saw h = tt
 held_turn old (Lower c) what marks m t did saw h = tt
-held_turn old (InsertPost c) what marks m t did saw h = tt
 held_turn old new what marks m t did saw h = absurd t
 
 -- One that is to begin has latched nothing.
@@ -209,7 +233,7 @@ waiting_write : (key : ℕ) (does : KeyWrite) (a : WriteStage) → write_next_in
 waiting_write key does write.New e marks = tt
 waiting_write key does (write.Coming a) e marks = waiting_way a e marks
 waiting_write key does (write.Keeping x there) e marks = tt
-waiting_write key does (write.Editing noted c) e marks = insert_all does (waiting_edit 0 key c e marks)
+waiting_write key does (write.Editing noted c) e marks = absurd (not_begin c e)
 waiting_write key does (write.Ending r) e marks = tt
 waiting_write key does (write.Over r) e marks = tt
 
@@ -223,6 +247,12 @@ waiting_post level key (post.Staying x r) e marks = tt
 waiting_post level key (post.Ending r) e marks = tt
 waiting_post level key (post.Over r) e marks = tt
 
+waiting_climb : (a : ClimbStage) → climb_next_in a ≡ act.Begin → (marks : Trail) → climb_held a marks
+waiting_climb (climb.Writing w) e marks = waiting_write w.key w.write w.stage e marks
+waiting_climb (climb.Posting p) e marks = waiting_post p.level p.key p.stage e marks
+waiting_climb (climb.Ending r) e marks = tt
+waiting_climb (climb.Over r) e marks = tt
+
 pub waiting_held : (p : Proc) → next_of p ≡ act.Begin → (marks : Trail) → proc_held p marks
 waiting_held (Find p) e marks = tt
 waiting_held (Write p) e marks = waiting_write p.key p.write p.stage e marks
@@ -231,4 +261,4 @@ waiting_held (Part p) e marks = tt
 waiting_held (Compress p) e marks = tt
 waiting_held (Reclaim p) e marks = tt
 waiting_held (Lower p) e marks = tt
-waiting_held (InsertPost p) e marks = tt
+waiting_held (InsertPost p) e marks = waiting_climb p.stage e marks

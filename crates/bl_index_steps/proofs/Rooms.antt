@@ -83,12 +83,12 @@ keeps_room h h' p what q is held moves takes tells going keeps = (
       | inl opens ↦
           let lacks = keeps.0 was in
           let latch = goes_keeps moves.0 (known h) (known h') moves.1 (λ x l. (let f : act.Open opens.0 ≡ act.Latch x = sym opens.1 ∙ (ap next_of (sym is) ∙ l) in cc)) in
-          (lacks.0, may_ask_on p what q lacks.0 takes lacks.1, refused_on h h' _ _ (tells.1 opens.0 opens.1) lacks.2, asks_on p what q lacks.0 (own_marks (known h')) takes (asks_keep p lacks.0 (known h) (known h') latch lacks.3))
+          (lacks.0, may_ask_on p what q lacks.0 takes lacks.1, refused_on h h' _ _ (tells.1 opens.0 opens.1) lacks.2, asks_on p what q lacks.0 (own_marks (known h')) takes r (asks_keep p lacks.0 (known h) (known h') latch lacks.3))
       | inr end ↦ absurd (going end)
     ]
     | inr observed ↦
         let asked = tells.0 observed in
-        (asked.0, may_ask_on p what q asked.0 takes (may_ask p asked.0 asked.1), asked.2, asks_on p what q asked.0 (own_marks (known h')) takes (asks_observed p asked.0 (known h) (known h') moves.0 is asked.1 held moves.1))
+        (asked.0, may_ask_on p what q asked.0 takes (may_ask p asked.0 asked.1), asked.2, asks_on p what q asked.0 (own_marks (known h')) takes r (asks_observed p asked.0 (known h) (known h') moves.0 is asked.1 held moves.1))
   ]),
   λ r. keeps.1 (takes_puts p what q takes r),
 )
@@ -100,7 +100,7 @@ stays_room h h' p q is same still keeps = subst (KeepsRoom h') (sym is) ((λ r. 
 -- and it ends so
 pub ends_room : (h h' : H) (p q : Proc) → Takes p seen.Done q → IsSameRefusal h h' → KeepsLatch (known h) (known h') → KeepsRoom h p → IsRefused q → LacksAsked h' q
 ends_room h h' p q takes same latch keeps r = elim (takes_refused p seen.Done q takes r) [
-  | inl was ↦ let lacks = keeps.0 was in (lacks.0, may_ask_on p seen.Done q lacks.0 takes lacks.1, refused_on h h' _ _ same lacks.2, asks_on p seen.Done q lacks.0 (own_marks (known h')) takes (asks_keep p lacks.0 (known h) (known h') latch lacks.3))
+  | inl was ↦ let lacks = keeps.0 was in (lacks.0, may_ask_on p seen.Done q lacks.0 takes lacks.1, refused_on h h' _ _ same lacks.2, asks_on p seen.Done q lacks.0 (own_marks (known h')) takes r (asks_keep p lacks.0 (known h) (known h') latch lacks.3))
   | inr observed ↦ absurd (let f : seen.Done ≡ seen.Refused = observed in cc)
 ]
 
