@@ -8,6 +8,7 @@ pub mod Changes
 pub mod Posts
 pub mod Pressed
 pub mod Lowerings
+pub mod Climbings
 pub mod Learning
 pub mod Encounters
 pub mod Scanned

@@ -7,6 +7,7 @@ use Rattle.bl_model.specs.declared.deciding.Effect.{Effect}
 use Rattle.bl_model.specs.declared.deciding.Effect.TheVariants.{Keep, Enter, Remove, Replace}
 use Rattle.bl_model.specs.Writes.{effect_of}
 use Rattle.bl_model.specs.declared.operation.Op.{Op}
+use Rattle.bl_model.specs.declared.operation.Op.TheVariants as op
 use Rattle.bl_model.specs.declared.operation.Reply.{Reply}
 use Rattle.bl_model.specs.declared.operation.Reply.TheVariants as reply
 use Rattle.bl_page.specs.declared.page.Page.{Page}
@@ -20,6 +21,7 @@ use Rattle.bl_proc_base.specs.declared.answers.Squeezed.{Squeezed}
 use Rattle.bl_proc_base.specs.declared.lowering.Lowered.{Lowered}
 use Rattle.bl_proc_meanings.specs.Answers.{MeansPosted, MeansHint}
 use Rattle.bl_proc_meanings.specs.Hinted.{MeansWritten}
+use Rattle.bl_proc_meanings.specs.Climbed.{MeansClimbed}
 use Rattle.bl_proc_meanings.specs.Squeezed.{MeansSqueezed}
 use Rattle.bl_proc_meanings.specs.Lowered.{MeansLowered}
 use Rattle.bl_store.specs.Hands.{known, WasRefused}
@@ -83,6 +85,10 @@ WriteLacks old key does new = (there : Option ℕ) × EffectLacks (effect_of doe
 abbrev pub PostLacks : Pass → ℕ → ℕ → Pass → Type 0
 PostLacks old level key new = InCall (number_of old) None (trail old) (trail new) (λ marks. LacksForPost level key marks (MetNoRoom new))
 
+-- An insertion that has entered its pair found none for a post of that key to that level.
+abbrev pub ClimbLacks : Pass → ℕ → ℕ → Pass → Type 0
+ClimbLacks old level key new = InCall (number_of old) (Some reply.Inserted) (trail old) (trail new) (λ marks. LacksForPost level key marks (MetNoRoom new))
+
 -- The same pass of the same index
 abbrev pub IsSamePass : Pass → Pass → Type 0
 IsSamePass old new = (new.hand.seat.table_id ≡ old.hand.seat.table_id) × (new.hand.seat.me.0.layout ≡ old.hand.seat.me.0.layout) × (new.hand.number ≡ old.hand.number) × ((known new.hand.seat).first ≡ (known old.hand.seat).first)
@@ -109,6 +115,12 @@ pub record Sweeps (first : List (Option Page)) (pass answer : ℕ) (old new : Tr
 pub record Writes (first : List (Option Page)) (pass : ℕ) (op : Op) (reply : Reply) (next : Option Hint) (old new : Trail) : Type 0 where
   pub answers : Answers first pass op reply old new
   pub hint : MeansWritten reply next (marks_of (name pass answers.number) new)
+  pub latches : LatchesAlone (marks_of (name pass answers.number) new)
+
+-- An insertion with its posts is answered, and what its process has done is what its answer means. It held no page when it latched one.
+pub record Climbs (first : List (Option Page)) (pass key value : ℕ) (reply : Reply) (last : Option Posted) (left : Option Hint) (old new : Trail) : Type 0 where
+  pub answers : Answers first pass (op.Insert key value) reply old new
+  pub means : MeansClimbed reply last left (marks_of (name pass answers.number) new)
   pub latches : LatchesAlone (marks_of (name pass answers.number) new)
 
 -- A post is answered: it says nothing of the map, and what its process has done is what its answer and its hint mean. It held no

@@ -10,6 +10,7 @@
 //! their hints, mean what they did.
 #![tactic(auto)]
 
+mod climbing;
 mod closing;
 mod compressing;
 mod config;

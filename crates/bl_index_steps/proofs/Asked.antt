@@ -10,17 +10,27 @@ use Rattle.bl_proc_base.specs.declared.growing.Growth.TheVariants as growth
 use Rattle.bl_proc_base.specs.Edits.{edit_next, edit_needs}
 use Rattle.bl_proc_base.specs.Growths.{growth_next, growth_needs}
 use Rattle.bl_model.specs.declared.deciding.KeyWrite.{KeyWrite}
+use Rattle.bl_model.specs.declared.deciding.KeyWrite.TheVariants.{Insert}
 use Rattle.bl_model.specs.Writes.{effect_of}
 use Rattle.bl_proc.specs.declared.writing.WriteStage.{WriteStage}
 use Rattle.bl_proc.specs.declared.writing.WriteStage.TheVariants as write
 use Rattle.bl_proc.specs.declared.posting.Post.{Post as PostIs}
 use Rattle.bl_proc.specs.declared.posting.PostStage.{PostStage}
 use Rattle.bl_proc.specs.declared.posting.PostStage.TheVariants as post
+use Rattle.bl_proc.specs.declared.paths.Path.{Path}
+use Rattle.bl_proc.specs.declared.climbing.Climbed.{Climbed}
+use Rattle.bl_proc.specs.declared.climbing.Climbed.TheVariants as climbed
+use Rattle.bl_proc.specs.declared.climbing.ClimbStage.{ClimbStage}
+use Rattle.bl_proc.specs.declared.climbing.ClimbStage.TheVariants as climb
 use Rattle.bl_proc.specs.declared.kinds.Proc.{Proc}
 use Rattle.bl_proc.specs.declared.kinds.Proc.TheVariants.{Find, Write, Post, Part, Compress, Reclaim, Lower, InsertPost}
 use Rattle.bl_proc.specs.Writes.{write_next_in, write_needs_in}
 use Rattle.bl_proc.specs.Posts.{post_next_in, post_needs_in}
+use Rattle.bl_proc.specs.Stands.{Stands}
+use Rattle.bl_proc.specs.Climbs.{climb_next_in, climb_needs_in}
 use Rattle.bl_proc.specs.Processes.{next_of, needs_of, Takes}
+use Rattle.bl_proc_unique.specs.Refusals.{PostRefused, ClimbRefused, IsRefused}
+use Rattle.bl_proc_unique.proofs.KindCases.{ClimbCase, climb_case}
 use Rattle.bl_index_rule.specs.declared.known.PassState.{PassState}
 use Rattle.bl_index_rule.specs.Observed.{Goes}
 use Rattle.bl_index_steps.specs.Refused.{HasRoom, IsFull, GotAnchor}
@@ -33,9 +43,6 @@ same_ask {a} {b} e = (let f : b ≡ a = cc in f)
 
 no_ask : {X : Type 0} {b : ℕ × ℕ} → None ≡ Some b → X
 no_ask {b = b} e = absurd (let f : None ≡ Some b = e in cc)
-
-from_room : (x : ℕ) → PostRefused (post.Coming (from_page x)) → ⊥
-from_room x h = h
 
 -- it asks for what the page takes that it holds
 edit_asks : (level key : ℕ) (c : Edit) (ask : ℕ × ℕ) (marks : Trail) → edit_needs c ≡ Some ask → edit_held level key c marks → AsksForPage level key ask marks
@@ -176,11 +183,11 @@ asks_observed (InsertPost p) ask d e what is needs held goes = asks_keep (Insert
 -- An insertion that goes on without room does not post what it has split.
 climb_on : (key value : ℕ) (old path : Path) {a b : ClimbStage} {what : Seen} (ask : ℕ × ℕ) (marks : Trail) → ClimbCase path a what b → Stands key value old a → ClimbRefused b → AsksForClimb key value a ask marks → AsksForClimb key value b ask marks
 climb_on key value old path ask marks (ClimbCase.Wrote w what v h t) stands refused asks = subst (λ (z : ℕ × KeyWrite). AsksForWrite z.0 z.1 ask marks) (λ i. (sym t.0 i, sym t.1 i)) asks
-climb_on key value old path ask marks (ClimbCase.Split w what there level separator q h t) stands refused asks = absurd (from_room (page_at path level) (subst PostRefused t.2 refused))
+climb_on key value old path ask marks (ClimbCase.Split w what there level separator q h t) stands refused asks = absurd (subst PostRefused t.2 refused)
 climb_on key value old path ask marks (ClimbCase.Unsplit w what r last h t) stands refused asks =
     subst (λ (z : Climbed). AsksWhen key value z ask marks) (sym t.1) (subst (λ (z : ℕ × KeyWrite). AsksForWrite z.0 z.1 ask marks) (λ i. (stands.0 i, stands.1 i)) asks)
 climb_on key value old path ask marks (ClimbCase.Posted p what q h t) stands refused asks = subst (λ (z : ℕ × ℕ). AsksForPost z.0 z.1 ask marks) (λ i. (sym t.0 i, sym t.1 i)) asks
-climb_on key value old path ask marks (ClimbCase.Higher p what separator q h t) stands refused asks = absurd (from_room (page_at path (p.level + 1)) (subst PostRefused t.2 refused))
+climb_on key value old path ask marks (ClimbCase.Higher p what separator q h t) stands refused asks = absurd (subst PostRefused t.2 refused)
 climb_on key value old path ask marks (ClimbCase.Finished p what r last h t) stands refused asks = subst (λ (z : Climbed). AsksWhen key value z ask marks) (sym t.1) asks
 climb_on key value old path ask marks (ClimbCase.Ended r last t) stands refused asks = subst (λ (z : Climbed). AsksWhen key value z ask marks) (sym t) asks
 

@@ -1,6 +1,7 @@
 -- What is said at the end of an operation.
-use Rattle.std.proofs.Common.{ℕ, ◌≡◌, ◌≢◌, ◌+◌, Option, Some, None, List, [], sym, ap, ◌∙◌, subst}
+use Rattle.std.proofs.Common.{ℕ, ◌≡◌, ◌≢◌, ◌+◌, Option, Some, None, List, [], refl, sym, ap, ◌∙◌, subst}
 use Rattle.bl_model.specs.declared.deciding.KeyWrite.{KeyWrite}
+use Rattle.bl_model.specs.declared.deciding.KeyWrite.TheVariants.{Insert}
 use Rattle.bl_model.specs.declared.operation.Op.{Op as Operation}
 use Rattle.bl_model.specs.declared.operation.Op.TheVariants as op
 use Rattle.bl_model.specs.declared.operation.Reply.{Reply}
@@ -12,11 +13,15 @@ use Rattle.bl_proc_base.specs.declared.acts.Action.TheVariants as act
 use Rattle.bl_proc_base.specs.declared.acts.Seen.TheVariants as seen
 use Rattle.bl_proc_base.specs.declared.answers.Hint.{Hint}
 use Rattle.bl_proc_base.specs.declared.answers.Answer.{Answer}
-use Rattle.bl_proc_base.specs.declared.answers.Answer.TheVariants.{Op}
+use Rattle.bl_proc_base.specs.declared.answers.Answer.TheVariants.{Op, InsertPost}
 use Rattle.bl_proc_base.specs.declared.approaching.Approach.{Approach}
 use Rattle.bl_proc_base.specs.declared.approaching.Approach.TheVariants as way
 use Rattle.bl_proc_base.specs.declared.editing.Edit.{Edit}
 use Rattle.bl_proc_base.specs.declared.editing.Edit.TheVariants as edit
+use Rattle.bl_proc_base.specs.declared.answers.Posted.{Posted}
+use Rattle.bl_proc_base.specs.declared.growing.Growth.{Growth}
+use Rattle.bl_proc_base.specs.declared.growing.Growth.TheVariants as growth
+use Rattle.bl_proc_base.specs.Growths.{growth_next}
 use Rattle.bl_proc_base.specs.Approaches.{approach_next}
 use Rattle.bl_proc_base.specs.Edits.{edit_next}
 use Rattle.bl_proc.specs.declared.writing.WriteStage.{WriteStage}
@@ -34,13 +39,20 @@ use Rattle.bl_proc.specs.Writes.{write_answer, write_next_in, write_answer_in, W
 use Rattle.bl_proc.specs.Searches.{found_answer, find_next_in, find_answer_in, FindGoes}
 use Rattle.bl_proc.specs.Parts.{part_next_in, part_answer_in, PartGoes}
 use Rattle.bl_proc.specs.Processes.{next_of, answer_of, Takes}
+use Rattle.bl_proc.specs.declared.posting.PostStage.{PostStage}
+use Rattle.bl_proc.specs.declared.posting.PostStage.TheVariants as post
+use Rattle.bl_proc.specs.declared.paths.Path.{Path}
+use Rattle.bl_proc.specs.declared.climbing.InsertPost.{InsertPost as InsertPostIs}
+use Rattle.bl_proc.specs.declared.climbing.Climbed.{Climbed}
 use Rattle.bl_proc.specs.declared.climbing.Climbed.TheVariants as climbed
 use Rattle.bl_proc.specs.declared.climbing.ClimbStage.{ClimbStage}
 use Rattle.bl_proc.specs.declared.climbing.ClimbStage.TheVariants as climb
-use Rattle.bl_proc.specs.Climbs.{climb_answer_in}
+use Rattle.bl_proc.specs.Posts.{post_next_in}
+use Rattle.bl_proc.specs.Stands.{IsWriting, IsPosting, Stands}
+use Rattle.bl_proc.specs.Climbs.{climb_next_in, climb_answer_in, climbed_answer, ClimbGoes}
 use Rattle.bl_proc_invariant.specs.Beside.{MeansBeside}
 use Rattle.bl_proc_invariant.proofs.Beside.{beside_means}
-use Rattle.bl_proc_invariant.specs.Knowing.{Run, know, know_of, written_reply, found_reply, know_find, know_part, know_write, find_end, part_end, write_end, end_of_proc}
+use Rattle.bl_proc_invariant.specs.Knowing.{Run, know, know_of, written_reply, found_reply, climbed_reply, know_find, know_part, know_write, know_climb, climb_end, find_end, part_end, write_end, end_of_proc}
 use Rattle.bl_proc_unique.specs.Frames.{op_of}
 use Rattle.bl_index_rule.specs.declared.known.PassState.{PassState}
 use Rattle.bl_claims.specs.Seeing.{Holds, name}
@@ -165,23 +177,98 @@ done_first pass old e first last d = d.observed.notes.first ∙ d.since.beginnin
 pub op_beside : (pass : ℕ) (old e : PassState) (first last : Proc) (reply : Reply) (hint : Option Hint) → IsDone pass old e first last → answer_of last ≡ Some (Op reply hint) → MeansBeside last reply hint (marks_of (name pass (old.number + 1)) e.trail)
 op_beside pass old e first last reply hint d answer = beside_means last reply hint (marks_of (name pass (old.number + 1)) e.trail) answer d.log
 
+-- A call whose process has said that is answered so.
+abbrev pub answered_by : (from : List (Option Page)) (pass : ℕ) (old e : PassState) (first last : Proc) (o : Operation) (reply : Reply) → (d : IsDone pass old e first last) → old.first ≡ from → Says d.before o reply → Answers from pass o reply old.trail e.trail
+answered_by from pass old e first last o reply d begins s = record {
+  number = old.number + 1;
+  holds = subst (λ (z : Option Reply). Holds (name pass (old.number + 1)) z old.trail e.trail) s.end (since_end pass (end_of_proc d.before) old d.d e d.since d.observed);
+  seen = (end_seen pass (end_of_proc d.before) old d.d e from d.since d.observed begins).1;
+  once = since_said pass (end_of_proc d.before) old d.d e (Some (record { op = o; reply = reply })) d.since d.observed (λ r h. s.said r (h ∙ d.state));
+}
+
 abbrev pub op_answered : (from : List (Option Page)) (pass : ℕ) (old e : PassState) (first last : Proc) (o : Operation) (reply : Reply) (hint : Option Hint) → IsDone pass old e first last → old.first ≡ from → op_of first ≡ Some o → answer_of last ≡ Some (Op reply hint) → Answers from pass o reply old.trail e.trail
 op_answered from pass old e first last o reply hint d begins is answer =
-    let s = end_says d.before last o reply hint (d.op ∙ is) d.at_end d.takes answer in
-    record {
-      number = old.number + 1;
-      holds = subst (λ (z : Option Reply). Holds (name pass (old.number + 1)) z old.trail e.trail) s.end (since_end pass (end_of_proc d.before) old d.d e d.since d.observed);
-      seen = (end_seen pass (end_of_proc d.before) old d.d e from d.since d.observed begins).1;
-      once = since_said pass (end_of_proc d.before) old d.d e (Some (record { op = o; reply = reply })) d.since d.observed (λ r h. s.said r (h ∙ d.state));
-    }
+    answered_by from pass old e first last o reply d begins (end_says d.before last o reply hint (d.op ∙ is) d.at_end d.takes answer)
 
 -- what its process has done, by its name in the call
 pub own_done : (pass : ℕ) (old e : PassState) (first last : Proc) → IsDone pass old e first last → own_marks e ≡ marks_of (name pass (old.number + 1)) e.trail
 own_done pass old e first last d = ap (λ (z : ℕ × ℕ). marks_of (name z.0 z.1) e.trail) (λ i. ((d.observed.notes.pass ∙ d.since.named) i, (d.observed.notes.number ∙ d.since.number) i))
 
-pub op_in_call : (from : List (Option Page)) (pass : ℕ) (old e : PassState) (first last : Proc) (o : Operation) (reply : Reply) (hint : Option Hint) (IsSo : Trail → Type 0) → IsDone pass old e first last → old.first ≡ from → op_of first ≡ Some o → answer_of last ≡ Some (Op reply hint) → IsSo (own_marks e) → InCall pass (Some reply) old.trail e.trail IsSo
-op_in_call from pass old e first last o reply hint IsSo d begins is answer so = record {
+pub in_call_by : (from : List (Option Page)) (pass : ℕ) (old e : PassState) (first last : Proc) (o : Operation) (reply : Reply) (IsSo : Trail → Type 0) → (d : IsDone pass old e first last) → old.first ≡ from → Says d.before o reply → IsSo (own_marks e) → InCall pass (Some reply) old.trail e.trail IsSo
+in_call_by from pass old e first last o reply IsSo d begins s so = record {
   number = old.number + 1;
-  holds = (op_answered from pass old e first last o reply hint d begins is answer).holds;
+  holds = (answered_by from pass old e first last o reply d begins s).holds;
   is = subst IsSo (own_done pass old e first last d) so;
 }
+
+pub op_in_call : (from : List (Option Page)) (pass : ℕ) (old e : PassState) (first last : Proc) (o : Operation) (reply : Reply) (hint : Option Hint) (IsSo : Trail → Type 0) → IsDone pass old e first last → old.first ≡ from → op_of first ≡ Some o → answer_of last ≡ Some (Op reply hint) → IsSo (own_marks e) → InCall pass (Some reply) old.trail e.trail IsSo
+op_in_call from pass old e first last o reply hint IsSo d begins is answer so = in_call_by from pass old e first last o reply IsSo d begins (end_says d.before last o reply hint (d.op ∙ is) d.at_end d.takes answer) so
+
+-- An insertion that posts
+
+not_end_growth : (g : Growth) → growth_next g ≢ act.End
+not_end_growth growth.Latching e = cc
+not_end_growth growth.Latched e = cc
+not_end_growth (growth.Taking rise) e = cc
+not_end_growth (growth.PuttingTop r) e = cc
+not_end_growth (growth.PuttingAnchor r) e = cc
+not_end_growth (growth.OpeningTop x) e = cc
+not_end_growth growth.OpeningGrown e = cc
+not_end_growth growth.OpeningRefused e = cc
+
+not_end_write : (a : WriteStage) → IsWriting a → write_next_in a ≢ act.End
+not_end_write write.New is e = cc
+not_end_write (write.Coming a) is e = not_end_way a e
+not_end_write (write.Keeping x there) is e = cc
+not_end_write (write.Editing noted c) is e = not_end c e
+not_end_write (write.Ending r) is e = is
+not_end_write (write.Over r) is e = is
+
+not_end_post : (a : PostStage) → IsPosting a → post_next_in a ≢ act.End
+not_end_post post.New is e = is
+not_end_post (post.Coming a) is e = not_end_way a e
+not_end_post (post.Growing g) is e = not_end_growth g e
+not_end_post (post.Walking w) is e = cc
+not_end_post (post.Editing c) is e = not_end c e
+not_end_post (post.Staying x r) is e = cc
+not_end_post (post.Ending r) is e = is
+not_end_post (post.Over r) is e = is
+
+same_inserted : (a b : Reply) (last other : Option Posted) (left right : Option Hint) → InsertPost a last left ≡ InsertPost b other right → a ≡ b
+same_inserted a b last other left right e = cc
+
+climbed_reply_said : (value : ℕ) (r : Climbed) (reply : Reply) (last : Option Posted) (left : Option Hint) → climbed_answer value r ≡ InsertPost reply last left → climbed_reply value r ≡ reply
+climbed_reply_said value (climbed.Unsplit (written.Done there h)) reply last left e = same_inserted _ _ _ _ _ _ e
+climbed_reply_said value (climbed.Unsplit written.NoRoom) reply last left e = same_inserted _ _ _ _ _ _ e
+climbed_reply_said value (climbed.Posted level key r) reply last left e = same_inserted _ _ _ _ _ _ e
+
+climbs_end : (key value : ℕ) (path after : Path) (a b : ClimbStage) (reply : Reply) (last : Option Posted) (left : Option Hint) → Stands key value path a → climb_next_in a ≡ act.End → ClimbGoes after a seen.Done b → climb_answer_in value b ≡ Some (InsertPost reply last left) → (climb_end value a ≡ Some reply) × ((got : ℕ → Page) (child : ℕ) → (know_climb key value path got child a).said ≡ Some (record { op = write_op key (Insert value); reply = reply }))
+climbs_end key value path after (climb.Writing w) b reply last left stands e t h = absurd (not_end_write w.stage stands.2 e)
+climbs_end key value path after (climb.Posting p) b reply last left stands e t h = absurd (not_end_post p.stage stands e)
+climbs_end key value path after (climb.Over r) b reply last left stands e t h = absurd t
+climbs_end key value path after (climb.Ending r) (climb.Over q) reply last left stands e t h =
+    let is : climbed_reply value r ≡ reply = ap (climbed_reply value) (sym t) ∙ climbed_reply_said value q reply last left (some_one h) in
+    (ap (λ (z : Reply). Some z) is, λ got child. ap (λ (z : Reply). Some (record { op = write_op key (Insert value); reply = z })) is)
+climbs_end key value path after (climb.Ending r) b reply last left stands e t h = absurd t
+
+pub climb_says : (before : Proc) (q : InsertPostIs) (o : Operation) (reply : Reply) (last : Option Posted) (left : Option Hint) → op_of before ≡ Some o → next_of before ≡ act.End → Takes before seen.Done (proc.InsertPost q) → climb_answer_in q.value q.stage ≡ Some (InsertPost reply last left) → Says before o reply
+climb_says (proc.InsertPost p) q o reply last left i e t h =
+    let answer = subst (λ z. climb_answer_in z q.stage ≡ Some (InsertPost reply last left)) t.1 h in
+    let s = climbs_end p.key p.value p.path q.path p.stage q.stage reply last left p.stands e t.3 answer in
+    says_of (proc.InsertPost p) o (write_op p.key (Insert p.value)) reply s.0 (λ got child time. s.1 got child) i
+climb_says before q o reply last left i e t h = absurd t
+
+-- it has ended, and is of that key and value
+pub climb_over : (before : Proc) (q : InsertPostIs) (key value : ℕ) → op_of before ≡ Some (op.Insert key value) → next_of before ≡ act.End → Takes before seen.Done (proc.InsertPost q) → (r : Climbed) × (q.stage ≡ climb.Over r) × (q.key ≡ key) × (q.value ≡ value)
+climb_over (proc.InsertPost p) q key value i e t = over p.stage q.stage p.stands e t.3
+  where
+    same : op.Insert p.key p.value ≡ op.Insert key value
+    same = op_one i
+
+    over : (a b : ClimbStage) → Stands p.key p.value p.path a → climb_next_in a ≡ act.End → ClimbGoes q.path a seen.Done b → (r : Climbed) × (b ≡ climb.Over r) × (q.key ≡ key) × (q.value ≡ value)
+    over (climb.Writing w) b stands e g = absurd (not_end_write w.stage stands.2 e)
+    over (climb.Posting c) b stands e g = absurd (not_end_post c.stage stands e)
+    over (climb.Over r) b stands e g = absurd g
+    over (climb.Ending r) (climb.Over last) stands e g = (last, refl, t.0 ∙ (let f = same in cc), t.1 ∙ (let f = same in cc))
+    over (climb.Ending r) b stands e g = absurd g
+climb_over before q key value i e t = absurd t

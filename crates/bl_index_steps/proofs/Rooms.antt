@@ -23,6 +23,11 @@ use Rattle.bl_proc_base.specs.declared.editing.Outcome.{Outcome}
 use Rattle.bl_proc_base.specs.declared.editing.Outcome.TheVariants as outcome
 use Rattle.bl_proc.specs.declared.posting.PostReply.TheVariants as reply
 use Rattle.bl_proc.specs.declared.posting.Post.{Post}
+use Rattle.bl_proc.specs.declared.climbing.InsertPost.{InsertPost}
+use Rattle.bl_proc.specs.declared.climbing.Climbed.{Climbed}
+use Rattle.bl_proc.specs.declared.climbing.Climbed.TheVariants as climbed
+use Rattle.bl_proc.specs.declared.climbing.ClimbStage.{ClimbStage}
+use Rattle.bl_proc.specs.declared.climbing.ClimbStage.TheVariants as climb
 use Rattle.bl_proc.specs.declared.kinds.Proc.TheVariants as proc
 use Rattle.bl_proc.specs.declared.lowering.Lower.{Lower}
 use Rattle.bl_proc_compress.specs.declared.squeezing.Compress.{Compress}
@@ -32,7 +37,7 @@ use Rattle.bl_proc.specs.Writes.{write_reply, post_hint}
 use Rattle.bl_proc_base.specs.Thin.{thin_hint}
 use Rattle.bl_proc.specs.Posts.{post_reply}
 use Rattle.bl_index_steps.specs.Refused.{HasRoom, IsFull, GotHeld, LacksForEffect}
-use Rattle.bl_index_steps.specs.Held.{own_marks, KeepsLatch, IfEnters, edit_held, proc_held, AsksFor}
+use Rattle.bl_index_steps.specs.Held.{own_marks, KeepsLatch, IfEnters, edit_held, proc_held, AsksForPage, AsksForPost, AsksWhen, AsksForClimb, AsksFor}
 use Rattle.bl_index_steps.specs.Rooms.{LacksPage, LacksWrite, LacksPost, LacksAsked, TellsRoom}
 use Rattle.bl_index_steps.specs.Runs.{Moves}
 use Rattle.bl_index_steps.proofs.Held.{goes_keeps, keeps_held}
@@ -125,14 +130,34 @@ lacks_frame key does there at p d h held latch was = (there, lacks_put (effect_o
 pub lacks_split : (key : ℕ) (does : KeyWrite) (value : ℕ) (h : H) → effect_of does None ≡ Enter value → WasRefused h 1 2 → GotHeld 0 key (own_marks (known h)) IsFull → LacksWrite key does h
 lacks_split key does value h e was got = (None, subst (λ (z : Effect). LacksForEffect z key (own_marks (known h)) (WasRefused h)) (sym e) (inr (was, got)))
 
-pub lacks_asked : (h : H) (p : Post) → LacksAsked h (proc.Post p) → LacksPost p.level p.key h
-lacks_asked h p lacks = elim lacks.3 [
-  | inl page ↦ elim page [
-    | inl one ↦ inl (inl (subst (λ (z : ℕ × ℕ). WasRefused h z.0 z.1) one.0 lacks.2, one.1))
-    | inr two ↦ inl (inr (subst (λ (z : ℕ × ℕ). WasRefused h z.0 z.1) two.0 lacks.2, two.1))
-  ]
-  | inr top ↦ inr (subst (λ (z : ℕ × ℕ). WasRefused h z.0 z.1) top.0 lacks.2, top.1)
+-- by what was asked for the page that it held
+lacks_page : (level key : ℕ) (ask : ℕ × ℕ) (h : H) → WasRefused h ask.0 ask.1 → AsksForPage level key ask (own_marks (known h)) → LacksPage level key h
+lacks_page level key ask h was asks = elim asks [
+  | inl one ↦ inl (subst (λ (z : ℕ × ℕ). WasRefused h z.0 z.1) one.0 was, one.1)
+  | inr two ↦ inr (subst (λ (z : ℕ × ℕ). WasRefused h z.0 z.1) two.0 was, two.1)
 ]
+
+lacks_post : (level key : ℕ) (ask : ℕ × ℕ) (h : H) → WasRefused h ask.0 ask.1 → AsksForPost level key ask (own_marks (known h)) → LacksPost level key h
+lacks_post level key ask h was asks = elim asks [
+  | inl page ↦ inl (lacks_page level key ask h was page)
+  | inr top ↦ inr (subst (λ (z : ℕ × ℕ). WasRefused h z.0 z.1) top.0 was, top.1)
+]
+
+pub lacks_asked : (h : H) (p : Post) → LacksAsked h (proc.Post p) → LacksPost p.level p.key h
+lacks_asked h p lacks = lacks_post p.level p.key lacks.0 h lacks.2 lacks.3
+
+-- an insertion with its posts, by what became of it
+abbrev pub LacksClimb : H → ℕ → Climbed → Type 0
+LacksClimb h key (climbed.Unsplit r) = LacksPage 0 key h
+LacksClimb h key (climbed.Posted level separator r) = LacksPost level separator h
+
+lacks_when : (h : H) (key value : ℕ) (r : Climbed) (ask : ℕ × ℕ) → WasRefused h ask.0 ask.1 → AsksWhen key value r ask (own_marks (known h)) → LacksClimb h key r
+lacks_when h key value (climbed.Unsplit r) ask was (None, asks) = lacks_page 0 key ask h was asks
+lacks_when h key value (climbed.Unsplit r) ask was (Some there, asks) = absurd asks
+lacks_when h key value (climbed.Posted level separator r) ask was asks = lacks_post level separator ask h was asks
+
+pub lacks_climb : (h : H) (p : InsertPost) (r : Climbed) → p.stage ≡ climb.Over r → LacksAsked h (proc.InsertPost p) → LacksClimb h p.key r
+lacks_climb h p r is lacks = lacks_when h p.key p.value r lacks.0 lacks.2 (subst (λ (z : ClimbStage). AsksForClimb p.key p.value z lacks.0 (own_marks (known h))) is lacks.3)
 
 pub lacks_three : (h : H) (p : Compress) → LacksAsked h (proc.Compress p) → WasRefused h 0 3
 lacks_three h p lacks = subst (λ (z : ℕ × ℕ). WasRefused h z.0 z.1) lacks.1 lacks.2

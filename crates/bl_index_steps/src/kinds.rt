@@ -1,6 +1,6 @@
 //! Kinds of processes, each by its own type.
 
-use bl_proc::{Compress, Find, Lower, Post, Process, Reader};
+use bl_proc::{Compress, Find, InsertPost, Lower, Post, Process, Reader};
 
 /// A kind of process that the index carries out: each is one of the kinds that the world of processes knows, and goes on
 /// in one way.
@@ -134,4 +134,29 @@ impl Kind for Lower {
     ghost follows = { lower_follows };
 
     ghost retires = { lower_retires };
+}
+
+impl Kind for InsertPost {
+    ghost use Rattle.std.specs.Prelude.{refl};
+    ghost use Rattle.bl_proc.specs.declared.kinds.Proc.TheVariants as proc;
+    ghost use Rattle.bl_proc_unique.proofs.Climbs.{climb_goes};
+    ghost use Rattle.bl_proc_unique.proofs.ClimbsFollowing.{climb_wants, climb_follows, climb_retires};
+
+    ghost proc_of = { λ p. proc.InsertPost p };
+
+    ghost acts = { λ p. refl };
+
+    ghost asks = { λ p. refl };
+
+    ghost answers = { λ p. refl };
+
+    ghost goes = { λ p q what t. t };
+
+    ghost courses = { climb_goes };
+
+    ghost wants = { climb_wants };
+
+    ghost follows = { climb_follows };
+
+    ghost retires = { climb_retires };
 }

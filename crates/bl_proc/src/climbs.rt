@@ -22,7 +22,7 @@ use crate::paths::Path;
 use crate::posting::{Post, PostReply, PostStage};
 use crate::writing::{Write, WriteReply, WriteStage, hint_to_post};
 use bl_model::{KeyWrite, Reply, decide};
-use bl_proc_base::{Action, Answer, Hint, Level, Posted, Process, Seen};
+use bl_proc_base::{Action, Answer, Hint, Level, Posted, Process, Reader, Seen};
 use std::mem;
 
 /// Notes the page from which it goes down, if it does, by what it saw.
@@ -261,3 +261,5 @@ impl Process for InsertPost {
         self.stage = went(&self.path, stage, seen);
     }
 }
+
+impl Reader for InsertPost {}

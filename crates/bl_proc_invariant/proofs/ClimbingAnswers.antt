@@ -63,7 +63,7 @@ climbed_means : (value : ℕ) (r : Climbed) (p : Reply) (a : Option Posted) (h :
 climbed_means value (climbed.Unsplit r) p a h marks e log = means_same _ _ _ _ _ _ marks e (unsplit_means value r marks log.0 log.1, refl)
 climbed_means value (climbed.Posted level key r) p a h marks e log = means_same _ _ _ _ _ _ marks e (refl, log)
 
-stage_climbed : (value : ℕ) (stage : ClimbStage) (p : Reply) (a : Option Posted) (h : Option Hint) (marks : Trail) → climb_answer_in value stage ≡ Some (answer.InsertPost p a h) → climb_log value stage marks → MeansClimbed p a h marks
+pub stage_climbed : (value : ℕ) (stage : ClimbStage) (p : Reply) (a : Option Posted) (h : Option Hint) (marks : Trail) → climb_answer_in value stage ≡ Some (answer.InsertPost p a h) → climb_log value stage marks → MeansClimbed p a h marks
 stage_climbed value (climb.Over r) p a h marks e log = climbed_means value r p a h marks (some_answer _ _ e) log
 stage_climbed value old p a h marks e log = absurd (let f = e in cc)
 

@@ -27,6 +27,7 @@ pub mod CompressionSteps
 pub mod Compressions
 pub mod CompressionsFollowing
 pub mod Retirements
+pub mod ClimbsFollowing
 pub mod Refusals
 pub mod RefusedCompressions
 pub mod RefusedTurns

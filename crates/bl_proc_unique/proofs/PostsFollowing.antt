@@ -69,7 +69,7 @@ not_begin_growth (growth.OpeningTop u) e = cc
 not_begin_growth growth.OpeningGrown e = cc
 not_begin_growth growth.OpeningRefused e = cc
 
-post_leaves : {level key : ℕ} {a b : PostStage} {what : Seen} → PostCase level key a what b → Leaves (post_next_in a) (post_needs_in a) what (post_frames a) (post_frames b)
+pub post_leaves : {level key : ℕ} {a b : PostStage} {what : Seen} → PostCase level key a what b → Leaves (post_next_in a) (post_needs_in a) what (post_frames a) (post_frames b)
 post_leaves (PostCase.Came a what b t) = approach_leaves a what
 post_leaves {level = level} (PostCase.Grew g what h t) = growth_leaves (growth_case level g what _ t)
 post_leaves {level = level} (PostCase.Grown g what a t) = grown_leaves (growth_case level g what _ t.0)
@@ -79,7 +79,7 @@ post_leaves (PostCase.Edited c what d t) = edit_leaves (edit_case c what _ t)
 post_leaves (PostCase.Finished c what r t) = edit_over (edit_case c what _ t.1)
 post_leaves other = refl
 
-post_begun : {level key : ℕ} {a b : PostStage} {what : Seen} → PostCase level key a what b → post_next_in b ≢ act.Begin
+pub post_begun : {level key : ℕ} {a b : PostStage} {what : Seen} → PostCase level key a what b → post_next_in b ≢ act.Begin
 post_begun (PostCase.Began a t) = not_begin_way a
 post_begun (PostCase.Came a what b t) = not_begin_way b
 post_begun (PostCase.Grew g what h t) = not_begin_growth h

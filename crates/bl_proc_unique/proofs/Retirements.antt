@@ -18,6 +18,9 @@ use Rattle.bl_rearrange.specs.declared.sides.Side.TheVariants as side
 use Rattle.bl_proc.specs.declared.searching.Find.{Find}
 use Rattle.bl_proc.specs.declared.searching.FindStage.{FindStage}
 use Rattle.bl_proc.specs.declared.searching.FindStage.TheVariants as find
+use Rattle.bl_proc.specs.declared.writing.WriteStage.{WriteStage}
+use Rattle.bl_proc.specs.declared.writing.WriteStage.TheVariants as write
+use Rattle.bl_proc.specs.Writes.{write_next_in}
 use Rattle.bl_proc.specs.declared.posting.Post.{Post}
 use Rattle.bl_proc.specs.declared.posting.PostStage.{PostStage}
 use Rattle.bl_proc.specs.declared.posting.PostStage.TheVariants as post
@@ -71,7 +74,15 @@ module _ (old : Action) (what : Seen) where
   find_none (find.Ending v) = tt
   find_none (find.Over v) = tt
 
-  post_none : (a : PostStage) → RetiresAfter old what (post_next_in a)
+  pub write_none : (a : WriteStage) → RetiresAfter old what (write_next_in a)
+  write_none write.New = tt
+  write_none (write.Coming a) = approach_none a
+  write_none (write.Keeping x there) = tt
+  write_none (write.Editing noted c) = edit_none c
+  write_none (write.Ending r) = tt
+  write_none (write.Over r) = tt
+
+  pub post_none : (a : PostStage) → RetiresAfter old what (post_next_in a)
   post_none post.New = tt
   post_none (post.Coming w) = approach_none w
   post_none (post.Growing g) = growth_none g

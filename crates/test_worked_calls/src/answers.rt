@@ -20,6 +20,14 @@ pub fn changed(
     observed(alloc, &Answer::Op(reply.reply(), hint))
 }
 
+/// What an insertion with its posts got.
+pub fn climbed(
+    alloc: Global,
+    (reply, last, left): (KeyReply, Option<Posted>, Option<Hint>),
+) -> Result<Vec<u8>, AllocError> {
+    observed(alloc, &Answer::InsertPost(reply.reply(), last, left))
+}
+
 /// What a change of a value got.
 pub fn replied(alloc: Global, reply: KeyReply) -> Result<Vec<u8>, AllocError> {
     observed(alloc, &Answer::Op(reply.reply(), None))

@@ -27,6 +27,7 @@ pub enum Call {
 #[derive(Clone, Copy)]
 pub enum PassCall {
     Insert(u64, u64),
+    InsertPost(u64, u64),
     Delete(u64),
     Change(u64, u64, u64),
     Find(u64, u32),
@@ -97,12 +98,17 @@ fn map_call(words: &[&str]) -> Option<PassCall> {
     match *words {
         ["delete", key] => key.parse().ok().map(PassCall::Delete),
         ["insert", key, value] => insert_of(key, value),
+        ["insertpost", key, value] => insert_post_of(key, value),
         [call, key, turns] => search_of(call, key, turns),
         ["change", key, old, new] => change_of(key, old, new),
         ["scan", from, end, turns] => scan_of(from, end, turns),
         ["near", from, page, turns] => near_of(from, page, turns),
         _ => None,
     }
+}
+
+fn insert_post_of(key: &str, value: &str) -> Option<PassCall> {
+    Some(PassCall::InsertPost(key.parse().ok()?, value.parse().ok()?))
 }
 
 fn insert_of(key: &str, value: &str) -> Option<PassCall> {

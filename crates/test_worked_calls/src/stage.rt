@@ -3,7 +3,7 @@
 ghost use Rattle.bl_index.specs.Calls.{IsPassOf};
 
 use crate::answers::{
-    changed, compressed, found, listed, listed_near, lowered, posted, replied, scanned, yes,
+    changed, climbed, compressed, found, listed, listed_near, lowered, posted, replied, scanned, yes,
 };
 use crate::calls::PassCall;
 use crate::races::{Race, raced};
@@ -37,6 +37,9 @@ fn answer<R: Wait>(
 {
     match call {
         PassCall::Insert(key, value) => changed(alloc, index.insert(rt, pass, key, value)),
+        PassCall::InsertPost(key, value) => {
+            climbed(alloc, index.insert_posting(rt, pass, key, value))
+        }
         PassCall::Delete(key) => changed(alloc, index.delete(rt, pass, key)),
         PassCall::Change(key, old, new) => replied(alloc, index.change(rt, pass, key, old, new)),
         PassCall::Find(key, turns) => found(alloc, index.find(pass, key, turns)),
