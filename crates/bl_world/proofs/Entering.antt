@@ -41,7 +41,7 @@ use Rattle.bl_proc.specs.Paths.{IsBlank as IsUnnoted}
 use Rattle.bl_proc.specs.Stands.{BeginsBlank, IsPosting, Stands}
 use Rattle.bl_proc.specs.Climbs.{climb_next_in}
 use Rattle.bl_proc_invariant.specs.Knowing.{Run, know_of, know_find, know_part, know_write, know_post, know_compress, know_reclaim, know_lower, goes_above, path_goes, know_climb}
-use Rattle.bl_proc_invariant.specs.Tables.{Carried, alone}
+use Rattle.bl_proc_invariant.specs.Tables.{alone}
 use Rattle.bl_proc_invariant.proofs.Instead.{with_proc}
 use Rattle.bl_proc_invariant.proofs.Starting.{enters_good, enters_logs}
 use Rattle.bl_proc_bounds.proofs.Kept.{enter_kept}

@@ -127,7 +127,7 @@ impl Draws {
         let behind = if size.crowd & 1 == 0 { 1 } else { 3 };
         let key = self.key_of(tree, size.keys, quarter.wrapping_add(behind));
         let key = key.saturating_add(self.below(3));
-        if self.below(3) == 0 {
+        if self.below(2) == 0 {
             Job::InsertPost(key, started as u64)
         } else {
             Job::Insert(key, started as u64)

@@ -2,7 +2,7 @@
 
 use bl_model::Reply;
 use bl_proc::{Answer, Hint, Lowered, Posted, Reclaimed, Squeezed};
-use test_world_walks::{Job, Squeeze, Way, is_to_post};
+use test_world_walks::{Job, Running, Squeeze, Way, is_to_post};
 
 /// Answers of operations, but for changes of a value.
 #[derive(Clone, Copy, Debug)]
@@ -358,6 +358,16 @@ impl Tally {
         self.shapes(hint.level() == 1).hinted(is_split);
     }
 
+    /// An insertion that posts has split the named page from another one, of which it tells nobody.
+    pub(crate) fn split_by(&mut self, running: &Running, named: Option<u32>) {
+        if let Job::InsertPost(_, _) = running.job
+            && let Some((level, _)) = running.split
+            && named.is_some()
+        {
+            self.shapes(level == 1).hinted(true);
+        }
+    }
+
     /// A compression has put all.
     pub(crate) fn squeezed(&mut self, squeeze: &Squeeze) {
         let way = squeeze.way();
@@ -386,6 +396,7 @@ impl Tally {
         operations.min(posts).min(shapes) > 9
             && others.min(self.waits).min(self.posts.refused) > 3
             && self.lowerings.least() > 1
+            && self.own_posts.done > 9
     }
 
     /// Enough of all that wide worlds are to meet.

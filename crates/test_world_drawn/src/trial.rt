@@ -250,6 +250,7 @@ impl Trial {
         }
         if event.act != Act::Put(0) {
             parts(running, tree, named)?;
+            self.tally.split_by(running, named);
         }
         has_squeezed(alloc, running, self.twins.lists(), tree, &mut self.tally)
     }
@@ -494,10 +495,16 @@ impl Trial {
         Ok(())
     }
 
-    /// Inserts even keys in rising order, and posts what they part.
+    /// Inserts even keys in rising order, and posts what they part, where they do not so themselves.
     fn fill(&mut self, alloc: Global) -> Result<(), Law> {
         for count in 0..self.lots.size.filled {
-            self.carry_out(alloc, Job::Insert(count.saturating_mul(2), count))?;
+            let key = count.saturating_mul(2);
+            let job = if count % 3 == 0 {
+                Job::Insert(key, count)
+            } else {
+                Job::InsertPost(key, count)
+            };
+            self.carry_out(alloc, job)?;
             self.post(alloc)?;
         }
         Ok(())
