@@ -34,8 +34,22 @@ pub fn observed(alloc: Global, answer: &Answer) -> Result<Vec<u8>, AllocError> {
         }
         Answer::Reclaim(what) => text.extend_from_slice(reclaimed_word(*what).as_bytes())?,
         Answer::Lower(what) => text.extend_from_slice(lowered_word(*what).as_bytes())?,
+        Answer::InsertPost(reply, last, hint) => {
+            push_reply(&mut text, reply)?;
+            push_last(&mut text, *last)?;
+            push_hint(&mut text, hint)?;
+        }
     }
     Ok(text)
+}
+
+/// What became of the last post of an insertion, if it has split anything.
+fn push_last(text: &mut Vec<u8>, last: Option<Posted>) -> Result<(), AllocError> {
+    if let Some(posted) = last {
+        text.extend_from_slice(b" ")?;
+        text.extend_from_slice(posted_word(posted).as_bytes())?;
+    }
+    Ok(())
 }
 
 fn posted_word(posted: Posted) -> &'static str {
