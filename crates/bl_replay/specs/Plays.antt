@@ -1,7 +1,9 @@
 -- What a script prints: the text of its commands, one after the other, on what stands in a world.
 use Rattle.std.specs.Prelude.{◌≡◌, ◌⊎◌, ℕ, ◌+◌, ◌≤◌, Option, Some, None, List, [], ◌∷◌, ◌++◌, true, slice_get}
 use Rattle.bl_model.specs.declared.operation.Op.TheVariants as op
-use Rattle.bl_model.specs.declared.deciding.KeyWrite.TheVariants as write
+use Rattle.bl_model.specs.declared.operation.Op.{Op}
+use Rattle.bl_model.specs.declared.deciding.KeyWrite.{KeyWrite}
+use Rattle.bl_model.specs.Writes.{write_op}
 use Rattle.bl_replay_script.specs.declared.command.Start.{Start}
 use Rattle.bl_replay_script.specs.declared.command.Start.TheVariants as start
 use Rattle.bl_replay_script.specs.declared.command.Command.{Command}
@@ -64,14 +66,20 @@ abbrev pub IsPartNear : ℕ → ℕ → Proc → Type 0
 IsPartNear from page (proc.Part p) = (p.from ≡ from) × (p.stage ≡ part.Near page)
 IsPartNear from page p = ⊥
 
+-- a process that is to read so
+abbrev pub Reads : Op → Proc → Type 0
+Reads (op.Find key) p = IsFind key p
+Reads (op.Part from) p = IsPart from p
+Reads o p = ⊥
+
+-- a process that is to carry that operation out: it reads, or writes one key
+abbrev pub Carries : Op → Proc → Type 0
+Carries o p = Reads o p ⊎ ((key : ℕ) × (does : KeyWrite) × (write_op key does ≡ o) × IsWrite key does p)
+
 -- a process that a script starts, which has done nothing yet
 abbrev pub IsStart : Start → Proc → Type 0
-IsStart (start.Operation (op.Find key)) p = IsFind key p
-IsStart (start.Operation (op.Insert key value)) p = IsWrite key (write.Insert value) p
+IsStart (start.Operation o) p = Carries o p
 IsStart (start.InsertPost key value) p = IsInsertPost key value p
-IsStart (start.Operation (op.Delete key)) p = IsWrite key write.Delete p
-IsStart (start.Operation (op.Change key old new)) p = IsWrite key (write.Change old new) p
-IsStart (start.Operation (op.Part from)) p = IsPart from p
 IsStart (start.PartNear from page) p = IsPartNear from page p
 IsStart (start.Post level key) p = IsPost level key p
 IsStart (start.Compress level key) p = IsCompress level key p

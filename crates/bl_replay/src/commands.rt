@@ -8,7 +8,10 @@ ghost use Rattle.bl_world.specs.Views.{View, number_in};
 ghost use Rattle.bl_world.specs.Turns.{IsStarted};
 ghost use Rattle.bl_world.specs.WorldSteps.{MayStart as MayBegin};
 ghost use Rattle.bl_replay.specs.declared.fault.ReplayFault.TheVariants as fault;
-ghost use Rattle.bl_replay.specs.Plays.{Prints, PrintsChosen, PrintsTurns, IsStart, Does, all_kinds};
+ghost use Rattle.bl_model.specs.Writes.{IsRead};
+ghost use Rattle.bl_proc_base.specs.declared.acts.Action.TheVariants as act;
+ghost use Rattle.bl_proc.specs.Processes.{next_of};
+ghost use Rattle.bl_replay.specs.Plays.{Prints, PrintsChosen, PrintsTurns, Reads, Carries, IsStart, Does, all_kinds};
 ghost use Rattle.bl_replay.specs.Emits.{Emits, Partly};
 
 use crate::fault::ReplayFault;
@@ -20,6 +23,30 @@ use bl_replay_script::{Command, Start};
 use bl_world::{Turn, World, WorldFault};
 use std::io::Write;
 
+/// The process that reads so.
+fn reader_of(op: Op) -> Proc
+    requires { IsRead op }
+    ensures made { Reads op result }
+    ensures begins { next_of result ≡ act.Begin }
+{
+    match op {
+        Op::Find(key) => Proc::find(key),
+        Op::Part(from) => Proc::part(from),
+        _ => unreachable!(),
+    }
+}
+
+/// The process that carries the operation out.
+fn process_for(op: Op) -> Proc
+    ensures made { Carries op result }
+    ensures begins { next_of result ≡ act.Begin }
+{
+    match op.write() {
+        Some((key, write)) => Proc::write(key, write),
+        None => reader_of(op),
+    }
+}
+
 /// The process that a script starts.
 fn process_of(start: Start) -> Proc
     requires { (pages : ℕ) × MayStart all_kinds pages start }
@@ -27,13 +54,9 @@ fn process_of(start: Start) -> Proc
     ensures begins { (v : View) → MayStart all_kinds (length v.pages) start → MayBegin v result }
 {
     match start {
-        Start::Operation(Op::Find(key)) => Proc::find(key),
-        Start::Operation(Op::Insert(key, value)) => Proc::insert(key, value),
+        Start::Operation(op) => process_for(op),
         Start::InsertPost { key, value } => Proc::insert_posting(key, value),
-        Start::Operation(Op::Delete(key)) => Proc::delete(key),
-        Start::Operation(Op::Change(key, old, new)) => Proc::change(key, old, new),
         Start::Post { level, key } => Proc::post(level, key),
-        Start::Operation(Op::Part(from)) => Proc::part(from),
         Start::PartNear { from, page } => Proc::Part(Part::near(from, page)),
         Start::Compress { level, key } => Proc::compress(level, key),
         Start::Reclaim(page) => Proc::reclaim(page),
