@@ -24,7 +24,8 @@ use Rattle.bl_proc.specs.Processes.{next_of}
 use Rattle.bl_proc_invariant.specs.Logs.{proc_log}
 use Rattle.bl_proc_invariant.specs.Turns.{Does, Turned}
 use Rattle.bl_proc_invariant.specs.Knowing.{Run, know, end_of_proc, run_next}
-use Rattle.bl_proc_invariant.proofs.Starting.{with_proc, enters_good}
+use Rattle.bl_proc_invariant.proofs.Instead.{with_proc}
+use Rattle.bl_proc_invariant.proofs.Starting.{enters_good}
 use Rattle.bl_proc_invariant.proofs.Logged.{early_log}
 use Rattle.bl_proc_invariant.proofs.Middles.{KeepsLogs}
 use Rattle.bl_proc_invariant.proofs.GivingUp.{given_up, give_up}
