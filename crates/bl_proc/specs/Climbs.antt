@@ -112,11 +112,14 @@ IsLast r = Unit {0}
 abbrev pub ClimbGoes : Path → ClimbStage → Seen → ClimbStage → Type 0
 ClimbGoes path (Writing w) what (Writing v) = WriteTakes w what v × IsWriting v.stage
 ClimbGoes path (Writing w) what (Posting p) =
-    (there : Option ℕ) × (level : ℕ) × (separator : ℕ) × WriteGoes w.key w.write w.stage what (write.Ending (written.Done there (Some (hint.Post level separator)))) × PostsFrom path level separator p
+    (there : Option ℕ) × (level : ℕ) × (separator : ℕ) × WriteGoes w.key w.write w.stage what (write.Ending (written.Done there (Some (hint.Post level separator))))
+    × PostsFrom path level separator p
 ClimbGoes path (Writing w) what (Ending last) = (r : WriteReply) × WriteGoes w.key w.write w.stage what (write.Ending r) × IsUnsplit r × (last ≡ Unsplit r)
 ClimbGoes path (Posting p) what (Posting q) =
-    (PostTakes p what q × IsPosting q.stage) ⊎ ((separator : ℕ) × PostGoes p.level p.key p.stage what (post.Ending (listed.Done (Some separator))) × PostsFrom path (p.level + 1) separator q)
-ClimbGoes path (Posting p) what (Ending last) = (r : PostReply) × PostGoes p.level p.key p.stage what (post.Ending r) × IsLast r × (last ≡ Posted p.level p.key r)
+    (PostTakes p what q × IsPosting q.stage)
+    ⊎ ((separator : ℕ) × PostGoes p.level p.key p.stage what (post.Ending (listed.Done (Some separator))) × PostsFrom path (p.level + 1) separator q)
+ClimbGoes path (Posting p) what (Ending last) =
+    (r : PostReply) × PostGoes p.level p.key p.stage what (post.Ending r) × IsLast r × (last ≡ Posted p.level p.key r)
 ClimbGoes path (Ending r) seen.Done (Over last) = last ≡ r
 ClimbGoes path old what new = ⊥
 
@@ -131,7 +134,8 @@ climb_answer p = climb_answer_in p.value p.stage
 
 -- What was seen is noted before it is taken.
 abbrev pub ClimbTakes : InsertPost → Seen → InsertPost → Type 0
-ClimbTakes old what new = (new.key ≡ old.key) × (new.value ≡ old.value) × ClimbNotes old.stage what old.path new.path × ClimbGoes new.path old.stage what new.stage
+ClimbTakes old what new =
+    (new.key ≡ old.key) × (new.value ≡ old.value) × ClimbNotes old.stage what old.path new.path × ClimbGoes new.path old.stage what new.stage
 
 -- it is to begin
 abbrev pub IsToBegin : ClimbStage → Type 0

@@ -16,10 +16,10 @@ use Rattle.bl_proc_meanings.specs.Answers.{MeansPosted, MeansHint}
 -- before on, as if it had begun with that. Each but the last has listed its key and split the parent, and the next one is of that
 -- separator, one level higher. The last one has that answer, and splits no parent; where it met no room, it is the hint.
 pub data PostsUp (begin : Mark) (a : Posted) (left : Option Hint) : ℕ → ℕ → Trail → Type 0 where
-  Last : (level key : ℕ) (marks : Trail) → MeansPosted level key a (begin ∷ marks) × MeansHint level key a None (begin ∷ marks) × (left ≡ left_hint level key a)
-      → PostsUp begin a left level key marks
-  Higher : (level key separator : ℕ) (marks more : Trail) → MeansDone level key (Some separator) (begin ∷ marks) → PostsUp begin a left (level + 1) separator more
-      → PostsUp begin a left level key (marks ++ more)
+  Last : (level key : ℕ) (marks : Trail) → MeansPosted level key a (begin ∷ marks) × MeansHint level key a None (begin ∷ marks)
+      × (left ≡ left_hint level key a) → PostsUp begin a left level key marks
+  Higher : (level key separator : ℕ) (marks more : Trail) → MeansDone level key (Some separator) (begin ∷ marks)
+      → PostsUp begin a left (level + 1) separator more → PostsUp begin a left level key (marks ++ more)
 
 -- It has entered its pair and split its leaf at that separator, and has posted that.
 pub record WroteAndPosted (a : Posted) (left : Option Hint) (marks : Trail) : Type 0 where
