@@ -9,11 +9,14 @@
 //! is one legal history of the map in which each answer stands at its point. Upkeep adds no entry.
 #![tactic(auto)]
 
-mod calls;
+pub mod calls;
+mod changes;
 mod handle;
 mod map;
-mod upkeep;
+mod telling;
+pub mod upkeep;
+mod waiting;
 
 pub use bl_index::{CloseFault, KeyReply, KeyWrite, OpenFault, Pass as Seat};
-pub use handle::Handle;
+pub use handle::{Backlog, Handle};
 pub use map::Map;
