@@ -10,7 +10,7 @@ use Rattle.bl_model.specs.declared.operation.Next.TheVariants.{More, End}
 use Rattle.bl_model.specs.declared.operation.Op.TheVariants.{Part}
 use Rattle.bl_model.specs.declared.operation.Reply.{Reply}
 use Rattle.bl_model.specs.declared.operation.Reply.TheVariants.{Rows}
-use Rattle.bl_model.specs.Parts.{ended_at, next_key}
+use Rattle.bl_model.specs.Parts.{rows_of, ended_at, next_key}
 use Rattle.bl_page.specs.declared.page.Page.{Page}
 use Rattle.bl_claims.specs.Trails.{Trail, history_of}
 use Rattle.bl_claims.specs.Seeing.{first_map, own}
@@ -78,6 +78,10 @@ module _ (first : List (Option Page)) (pass at : ℕ) (reply : Reply) (mid new :
         within = from_more first pass at at to old [] old (history_of new) entry none is_part (sym (append-nil old)) stands_there refl (omega arith) (All-nil (IsFrom at (Some at)));
         right = right_more first pass at at to old [] old (history_of new) entry none is_part (sym (append-nil old)) stands_there refl (omega arith) (All-nil (IsFrom at (Some at))) (λ key low high below_to. absurd (omega arith));
       }
+
+-- the rows of the part as they were listed
+pub told_as : {F : Type 0} (leads : F → ℕ × ℕ → F → Type 0) (to : Option ℕ) (reply : Reply) (rows : List (ℕ × ℕ)) (before after : F) → rows_of reply ≡ rows → FoldsTo leads before (filter (λ x. is_below to x.0) rows) after → FoldsTo leads before (rows_below to reply) after
+told_as leads to reply rows before after is told = subst (λ (z : List (ℕ × ℕ)). FoldsTo leads before (filter (λ x. is_below to x.0) z) after) (sym is) told
 
 further_than : (at : ℕ) (end : Option ℕ) → IsBehind at end → IsFurther (Some at) end
 further_than at None b = tt

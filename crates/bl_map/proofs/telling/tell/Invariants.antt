@@ -3,12 +3,12 @@ use Rattle.bl_index.specs.Calls.{first_of, IsSamePass, number_of, trail}
 use Rattle.bl_map.proofs.Told.{HasTold}
 use Rattle.bl_map.proofs.telling.tell.Given as goal
 
-abbrev pub invariant-loop-at : goal.invariant-loop-at
-invariant-loop-at g l = record {
+abbrev pub invariant-loop-to : goal.invariant-loop-to
+invariant-loop-to g l = record {
   same : IsSamePass l.fn.pass l.pass;
   callable : goal.F-IsAlwaysCallable g l.visit;
   so_far : HasTold (λ p x q. goal.F-step g p x tt q) (first_of l.index) (number_of l.fn.pass) l.from l.to l.at l.fn.visit l.visit (trail l.fn.pass) (trail l.pass);
 }
 
-abbrev pub decreases-loop-at : goal.decreases-loop-at
-decreases-loop-at g l = 2 ^ 64 - l.at
+abbrev pub decreases-loop-to : goal.decreases-loop-to
+decreases-loop-to g l = 2 ^ 64 - l.at
