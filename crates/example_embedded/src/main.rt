@@ -4,7 +4,8 @@
 #![tactic(auto)]
 
 ghost use Rattle.std.specs.Prelude.{◌≡◌, All, IfSome};
-ghost use Rattle.bl_map.specs.Maps.{AreSeatsOf};
+ghost use Rattle.bl_map.specs.Handles.{AreOfOne};
+ghost use Rattle.bl_map.specs.Maps.{AreSeatsOf, IsSeatOf};
 ghost use Rattle.example_embedded.specs.Handles.{IsOf};
 
 use bl_map::{Handle, KeyReply, Map, Seat};
@@ -107,40 +108,55 @@ fn count<R: Wait>(rt: &R, handle: &mut Handle<'_>) -> u64 {
     rows
 }
 
-/// The last handle meets the other one, so that it knows all that has happened. It finds a row that the other one has inserted, and
-/// lists the rows on both sides of where its own begin. A close takes all seats, so both handles give theirs back.
-fn look<R: Wait>(
-    rt: &R,
-    alloc: Global,
-    map: &Map,
-    handles: Vec<Handle<'_>>,
-) -> Option<(u64, Vec<(u64, u64)>, Vec<Seat>)>
+/// The two handles.
+fn both<'a>(map: &Map, handles: Vec<Handle<'a>>) -> Option<(Handle<'a>, Handle<'a>)>
     requires { All (IsOf map.now) handles.items }
-    ensures { IfSome result (λ t. AreSeatsOf map.now t.2.items) }
+    ensures { IfSome result (λ t. IsOf map.now t.0 × IsOf map.now t.1) }
 {
     let mut handles = handles;
-    let mut last = handles.pop()?;
-    let mut other = handles.pop()?;
-    last.meet(&mut other);
-    let value = value_of(rt, &mut last, 50)?;
-    let mut rows = Vec::new(alloc);
-    last.scan(rt, 79, Some(103), &mut rows).ok()?;
-    let mut seats = Vec::new(alloc);
-    seats.push(last.into_seat()).ok()?;
-    seats.push(other.into_seat()).ok()?;
-    Some((value, rows, seats))
+    let last = handles.pop()?;
+    let other = handles.pop()?;
+    Some((other, last))
 }
 
-/// Closes the map and opens one with a single seat from its image. Gives the value of a key there, and how many rows there are.
-fn reopened<R: Wait>(rt: &R, alloc: Global, map: Map, seats: Vec<Seat>) -> Option<(u64, u64)>
+/// A handle meets the other one, so that it knows all that has happened. It finds a row that the other one has inserted, and lists the
+/// rows on both sides of where its own begin.
+fn look<'a, R: Wait>(
+    rt: &R,
+    alloc: Global,
+    handle: &mut Handle<'a>,
+    other: &mut Handle<'a>,
+) -> Option<(u64, Vec<(u64, u64)>)>
+    requires { AreOfOne handle.old other.old }
+    ensures { (handle.new.map ≡ handle.old.map) × (other.new.map ≡ other.old.map) }
+{
+    handle.meet(other);
+    let value = value_of(rt, handle, 50)?;
+    let mut rows = Vec::new(alloc);
+    handle.scan(rt, 79, Some(103), &mut rows).ok()?;
+    Some((value, rows))
+}
+
+/// A close takes all seats, so both handles give theirs back.
+fn seats_of(alloc: Global, map: &Map, one: Handle<'_>, two: Handle<'_>) -> Option<Vec<Seat>>
+    requires { IsOf map.now one × IsOf map.now two }
+    ensures { IfSome result (λ seats. AreSeatsOf map.now seats.items) }
+{
+    let mut seats = Vec::new(alloc);
+    seats.push(one.into_seat()).ok()?;
+    seats.push(two.into_seat()).ok()?;
+    Some(seats)
+}
+
+/// Closes the map and opens one with a single seat from its image.
+fn reopened(alloc: Global, map: Map, seats: Vec<Seat>) -> Option<(Map, Seat)>
     requires { AreSeatsOf map seats.items }
+    ensures { IfSome result (λ t. IsSeatOf t.0 t.1) }
 {
     let image = map.close(alloc, seats).ok()?;
     let (map, mut seats) = Map::open_image(alloc, image, 1).ok()?;
     let seat = seats.pop()?;
-    let mut handle = map.handle(seat);
-    let value = value_of(rt, &mut handle, 42)?;
-    Some((value, count(rt, &mut handle)))
+    Some((map, seat))
 }
 
 fn main(rt: HostRuntime) -> anyhow::Result<()> {
@@ -158,16 +174,26 @@ fn main(rt: HostRuntime) -> anyhow::Result<()> {
     let inserted = counts.inserted.load(Ordering::SeqCst);
     let deleted = counts.deleted.load(Ordering::SeqCst);
     println!(rt; "inserted {inserted}, deleted {deleted}")?;
-    let Some((value, rows, seats)) = look(&rt, rt.alloc(), &map, handles) else {
+    let Some((mut one, mut two)) = both(&map, handles) else {
+        anyhow::bail!("a handle is missing");
+    };
+    let Some((value, rows)) = look(&rt, rt.alloc(), &mut two, &mut one) else {
         anyhow::bail!("a row is missing, or memory");
     };
     println!(rt; "50 has {value}")?;
     for (key, value) in rows.as_slice() {
         println!(rt; "{key} {value}")?;
     }
-    let Some((value, rows)) = reopened(&rt, rt.alloc(), map, seats) else {
+    let Some(seats) = seats_of(rt.alloc(), &map, one, two) else {
+        anyhow::bail!("out of memory");
+    };
+    let Some((map, seat)) = reopened(rt.alloc(), map, seats) else {
         anyhow::bail!("no map from the image");
     };
-    println!(rt; "from the image: {rows} rows, 42 has {value}")?;
+    let mut handle = map.handle(seat);
+    let rows = count(&rt, &mut handle);
+    if let Some(value) = value_of(&rt, &mut handle, 42) {
+        println!(rt; "from the image: {rows} rows, 42 has {value}")?;
+    }
     Ok(())
 }
