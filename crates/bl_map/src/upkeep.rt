@@ -83,12 +83,7 @@ fn compress<R: Wait>(rt: &R, index: &Index, pass: &mut Pass, hint: Hint) -> (Fol
 }
 
 /// Posts or compresses. Says too whether the top level may be one that is not needed.
-fn post_or_compress<R: Wait>(
-    rt: &R,
-    index: &Index,
-    pass: &mut Pass,
-    hint: Hint,
-) -> (Followed, bool)
+fn post_or_compress<R: Wait>(rt: &R, index: &Index, pass: &mut Pass, hint: Hint) -> (Followed, bool)
     requires { IsPassOf index.now pass.old }
     ensures same { IsSamePass pass.old pass.new }
     ensures tries { Tries (first_of index.now) (number_of pass.old) hint result.0 (trail pass.old) (trail pass.new) }
@@ -151,12 +146,7 @@ fn follow_once<R: Wait>(rt: &R, index: &Index, pass: &mut Pass, hint: Hint) -> (
 
 /// Follows the hint of a change, and those that following it gives. Gives back the hint that found no room, or that is left behind
 /// so many of them.
-pub fn follow<R: Wait>(
-    rt: &R,
-    index: &Index,
-    pass: &mut Pass,
-    hint: Option<Hint>,
-) -> Option<Hint>
+pub fn follow<R: Wait>(rt: &R, index: &Index, pass: &mut Pass, hint: Option<Hint>) -> Option<Hint>
     requires { IsPassOf index.now pass.old }
     ensures same { IsSamePass pass.old pass.new }
     ensures follows { FollowsHints (first_of index.now) (number_of pass.old) hint result (trail pass.old) (trail pass.new) }

@@ -104,7 +104,12 @@ fn value_of<R: Wait>(rt: &R, handle: &mut Handle<'_>, key: u64) -> Option<u64>
 /// How many rows there are: a callback is told each of them.
 fn count<R: Wait>(rt: &R, handle: &mut Handle<'_>) -> u64 {
     let mut rows = 0u64;
-    handle.scan_with(rt, 0, None, &mut |_row: (u64, u64)| rows = rows.wrapping_add(1));
+    handle.scan_with(
+        rt,
+        0,
+        None,
+        &mut |_row: (u64, u64)| rows = rows.wrapping_add(1),
+    );
     rows
 }
 

@@ -110,12 +110,7 @@ fn many_rows_come_and_go(rt: HostRuntime) {
 }
 
 /// The rows of a range, as a callback is told them.
-fn told<R: Wait>(
-    rt: &R,
-    handle: &mut Handle<'_>,
-    from: u64,
-    to: Option<u64>,
-) -> (u64, u64, bool) {
+fn told<R: Wait>(rt: &R, handle: &mut Handle<'_>, from: u64, to: Option<u64>) -> (u64, u64, bool) {
     let mut count = 0u64;
     let mut last = 0u64;
     let mut are_rising = true;
