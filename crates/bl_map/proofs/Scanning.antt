@@ -23,7 +23,7 @@ use Rattle.bl_map.specs.Works.{Adds}
 use Rattle.bl_map.specs.Scans.{HasScanned, Scanned}
 use Rattle.bl_map.proofs.Adding.{call_adds}
 
-history_append : (xs ys : Trail) → history_of (xs ++ ys) ≡ history_of xs ++ history_of ys
+pub history_append : (xs ys : Trail) → history_of (xs ++ ys) ≡ history_of xs ++ history_of ys
 history_append [] ys = refl
 history_append (m ∷ ms) ys = ap (λ (z : List Entry). entries_at m.event.process m.said ++ z) (history_append ms ys) ∙ sym (append_assoc (entries_at m.event.process m.said) (history_of ms) (history_of ys))
 

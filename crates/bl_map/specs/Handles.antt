@@ -10,6 +10,7 @@ use Rattle.bl_index.specs.declared.index.Pass.{Pass}
 use Rattle.bl_map.specs.declared.handle.Handle.{Handle}
 use Rattle.bl_map.specs.declared.map.Map.{Map}
 use Rattle.bl_map.specs.Works.{Works, Adds}
+use Rattle.bl_map.specs.Waits.{hints_of, Changes, TriesAgain, IsNone}
 
 -- what the map began with
 abbrev pub first_map_of : Handle → List (Option Page)
@@ -48,10 +49,25 @@ HaveMet old_one old_two new_one new_two = Meet (first_map_of old_one) (number_of
 abbrev pub seat_of : Handle → Pass
 seat_of handle = handle.pass
 
--- how many pieces of upkeep wait
+-- how many hints wait, and how many were dropped since 32 waited
 abbrev pub waiting_of : Handle → ℕ
-waiting_of handle = length handle.waiting.items
+waiting_of handle = length (hints_of handle.waiting)
+
+abbrev pub dropped_of : Handle → ℕ
+dropped_of handle = handle.waiting.dropped
+
+-- The same hints wait.
+abbrev pub KeepsHints : Handle → Handle → Type 0
+KeepsHints old new = new.waiting ≡ old.waiting
+
+-- A key was written, and what that left to do is done or kept.
+abbrev pub HasChanged : Op → Reply → Handle → Handle → Type 0
+HasChanged op reply old new = Changes (first_map_of old) (number_of_seat old) op reply old.waiting new.waiting (seen_by old) (seen_by new)
+
+-- Hints that wait were tried, so many at most, and what is left of them is kept.
+abbrev pub HasTriedAgain : ℕ → Handle → Handle → Type 0
+HasTriedAgain most old new = TriesAgain (first_map_of old) (number_of_seat old) most old.waiting new.waiting (seen_by old) (seen_by new)
 
 -- The handle is one of this map, works from that seat, and has nothing to keep up.
 abbrev pub IsNewHandle : Map → Pass → Handle → Type 0
-IsNewHandle map seat handle = (handle.map.now ≡ map) × (handle.pass ≡ seat) × (waiting_of handle ≡ 0)
+IsNewHandle map seat handle = (handle.map.now ≡ map) × (handle.pass ≡ seat) × IsNone handle.waiting

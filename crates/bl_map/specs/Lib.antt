@@ -1,4 +1,6 @@
 pub mod Works
+pub mod Follows
+pub mod Waits
 pub mod Handles
 pub mod Seats
 pub mod Scans

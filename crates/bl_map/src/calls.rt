@@ -1,20 +1,21 @@
-//! Calls of a pass, each with its upkeep.
+//! Calls of a pass: each looks for room before it changes something, and is made again where it ran out of turns.
 
 ghost use Rattle.std.specs.Prelude.{◌≡◌};
 ghost use Rattle.bl_model.specs.declared.operation.Op.TheVariants as op;
 ghost use Rattle.bl_index.specs.Calls.{first_of, IsPassOf, IsSamePass, number_of, trail};
 ghost use Rattle.bl_model.specs.Replies.{reply_of};
 ghost use Rattle.bl_model.specs.Writes.{write_op};
-ghost use Rattle.bl_map.specs.Works.{Works, Adds};
+ghost use Rattle.bl_map.specs.Works.{Works};
+ghost use Rattle.bl_map.specs.Follows.{Written};
 ghost use Rattle.bl_map.specs.Scans.{Scanned};
 
-use crate::upkeep::{Waiting, follow, sweep, wait_for_frames};
-use bl_index::{Index, KeyReply, KeyWrite, Pass, ScanFault};
+use crate::upkeep::wait_for_frames;
+use bl_index::{Hint, Index, KeyReply, KeyWrite, Pass, Reply, ScanFault};
 use std::alloc::AllocError;
 use std::sync::Wait;
 
-/// The value of a key, or that the key is absent. A search that ran out of turns is made again.
-pub(crate) fn find<R: Wait>(rt: &R, index: &Index, pass: &mut Pass, key: u64) -> KeyReply
+/// The value of a key, or that the key is absent.
+pub fn find<R: Wait>(rt: &R, index: &Index, pass: &mut Pass, key: u64) -> KeyReply
     requires { IsPassOf index.now pass.old }
     ensures same { IsSamePass pass.old pass.new }
     ensures works { Works (first_of index.now) (number_of pass.old) (op.Find key) (reply_of result) (trail pass.old) (trail pass.new) }
@@ -28,24 +29,42 @@ pub(crate) fn find<R: Wait>(rt: &R, index: &Index, pass: &mut Pass, key: u64) ->
     unreachable!()
 }
 
-/// Writes a key, and does what is due behind it: lists the pages that were split, and merges the page where few rows are left.
-pub(crate) fn write<R: Wait>(
+/// The rows of one leaf from a key on. It looks first at the page that is near, if there is one, and leaves there the page to which
+/// the leaf links.
+pub fn part<R: Wait>(
     rt: &R,
     index: &Index,
     pass: &mut Pass,
-    waiting: &mut Waiting,
-    key: u64,
-    write: KeyWrite,
-) -> KeyReply
+    from: u64,
+    near: &mut Option<u32>,
+) -> Reply
     requires { IsPassOf index.now pass.old }
     ensures same { IsSamePass pass.old pass.new }
-    ensures works { Works (first_of index.now) (number_of pass.old) (write_op key write) (reply_of result) (trail pass.old) (trail pass.new) }
+    ensures works { Works (first_of index.now) (number_of pass.old) (op.Part from) result (trail pass.old) (trail pass.new) }
+{
+    let turns = index.patience();
+    for _ in rt.forever() {
+        if let Ok(reply) = index.part_near(pass, from, near, turns) {
+            return reply;
+        }
+    }
+    unreachable!()
+}
+
+/// Writes a key. The hint is what there is to do behind it: see [`crate::upkeep::follow`].
+pub fn write<R: Wait>(
+    rt: &R,
+    index: &Index,
+    pass: &mut Pass,
+    key: u64,
+    write: KeyWrite,
+) -> (KeyReply, Option<Hint>)
+    requires { IsPassOf index.now pass.old }
+    ensures same { IsSamePass pass.old pass.new }
+    ensures written { Written (first_of index.now) (number_of pass.old) (write_op key write) (reply_of result.0) result.1 (trail pass.old) (trail pass.new) }
 {
     wait_for_frames(index, pass);
-    let (reply, hint) = index.write(rt, pass, key, write);
-    follow(rt, index, pass, waiting, hint);
-    sweep(index, pass);
-    reply
+    index.write(rt, pass, key, write)
 }
 
 /// Appends the rows from a key on and below an end, if there is one. Where a part ran out of turns the scan goes on from there.

@@ -7,13 +7,21 @@ ghost use Rattle.bl_model.specs.Writes.{write_op};
 ghost use Rattle.bl_index.specs.Calls.{IsPassOf};
 ghost use Rattle.bl_map.specs.Seats.{IsPassOf-prop};
 
-use crate::calls;
 use crate::map::Map;
-use crate::upkeep::{self, Waiting};
-use arrayvec::ArrayVec;
+use crate::waiting::Waiting;
+use crate::{calls, changes, telling};
 use bl_index::{KeyReply, KeyWrite, Pass};
 use std::alloc::AllocError;
 use std::sync::Wait;
+
+/// Upkeep that is not done.
+#[derive(Clone, Copy, Debug, PartialEq, Eq)]
+pub struct Backlog {
+    /// So many pieces wait for room, 32 at most.
+    pub waiting: u32,
+    /// So many were dropped, since 32 waited.
+    pub dropped: u64,
+}
 
 /// One thread's way into a map.
 #[derive(Drop)]
@@ -25,8 +33,9 @@ pub struct Handle<'a> {
 }
 
 impl<'a> Handle<'a> {
-    ghost use Rattle.bl_map.specs.Handles.{IsSameHandle, HasCalled, HasKeptUp, HaveMet, AreOfOne, first_map_of, number_of_seat, seat_of, seen_by, waiting_of, IsNewHandle};
-    ghost use Rattle.bl_map.specs.Scans.{Scanned};
+    ghost use Rattle.bl_map.specs.Handles.{IsSameHandle, HasCalled, HasChanged, HasKeptUp, HasTriedAgain, HaveMet, KeepsHints, AreOfOne};
+    ghost use Rattle.bl_map.specs.Handles.{first_map_of, number_of_seat, seat_of, seen_by, waiting_of, dropped_of, IsNewHandle};
+    ghost use Rattle.bl_map.specs.Scans.{Scanned, Tells};
 
     pub(crate) fn new(map: &'a Map, pass: Pass) -> Handle<'a>
         requires { IsPassOf map.now.index pass }
@@ -35,7 +44,7 @@ impl<'a> Handle<'a> {
         Handle {
             map,
             pass,
-            waiting: ArrayVec::new(),
+            waiting: Waiting::new(),
         }
     }
 
@@ -43,6 +52,7 @@ impl<'a> Handle<'a> {
     pub fn find<R: Wait>(&mut self, rt: &R, key: u64) -> KeyReply
         ensures same { IsSameHandle self.old self.new }
         ensures called { HasCalled (op.Find key) (reply_of result) self.old self.new }
+        ensures keeps { KeepsHints self.old self.new }
     {
         calls::find(rt, &self.map.index, &mut self.pass, key)
     }
@@ -51,15 +61,17 @@ impl<'a> Handle<'a> {
     pub fn write<R: Wait>(&mut self, rt: &R, key: u64, write: KeyWrite) -> KeyReply
         ensures same { IsSameHandle self.old self.new }
         ensures called { HasCalled (write_op key write) (reply_of result) self.old self.new }
+        ensures changed { HasChanged (write_op key write) (reply_of result) self.old self.new }
     {
         let index = &self.map.index;
-        calls::write(rt, index, &mut self.pass, &mut self.waiting, key, write)
+        changes::write(rt, index, &mut self.pass, &mut self.waiting, key, write)
     }
 
     /// Inserts the value if the key is absent: `Inserted`, or `Present` with the value that stays, or `NoRoom`.
     pub fn insert<R: Wait>(&mut self, rt: &R, key: u64, value: u64) -> KeyReply
         ensures same { IsSameHandle self.old self.new }
         ensures called { HasCalled (op.Insert key value) (reply_of result) self.old self.new }
+        ensures changed { HasChanged (op.Insert key value) (reply_of result) self.old self.new }
     {
         self.write(rt, key, KeyWrite::Insert(value))
     }
@@ -68,6 +80,7 @@ impl<'a> Handle<'a> {
     pub fn delete<R: Wait>(&mut self, rt: &R, key: u64) -> KeyReply
         ensures same { IsSameHandle self.old self.new }
         ensures called { HasCalled (op.Delete key) (reply_of result) self.old self.new }
+        ensures changed { HasChanged (op.Delete key) (reply_of result) self.old self.new }
     {
         self.write(rt, key, KeyWrite::Delete)
     }
@@ -76,6 +89,7 @@ impl<'a> Handle<'a> {
     pub fn change<R: Wait>(&mut self, rt: &R, key: u64, old: u64, new: u64) -> KeyReply
         ensures same { IsSameHandle self.old self.new }
         ensures called { HasCalled (op.Change key old new) (reply_of result) self.old self.new }
+        ensures changed { HasChanged (op.Change key old new) (reply_of result) self.old self.new }
     {
         self.write(rt, key, KeyWrite::Change(old, new))
     }
@@ -91,19 +105,41 @@ impl<'a> Handle<'a> {
     ) -> Result<(), AllocError>
         ensures same { IsSameHandle self.old self.new }
         ensures scanned { Scanned (first_map_of self.old) (number_of_seat self.old) from to result rows.old.items rows.new.items (seen_by self.old) (seen_by self.new) }
+        ensures keeps { KeepsHints self.old self.new }
     {
         calls::scan(rt, &self.map.index, &mut self.pass, from, to, rows)
     }
 
+    /// Tells a callback the rows from a key on and below an end, if there is one, by rising keys: the rows of [`Handle::scan`], each
+    /// once, and without a vector that holds them all.
+    pub fn scan_with<R: Wait, F: FnMut((u64, u64))>(
+        &mut self,
+        rt: &R,
+        from: u64,
+        to: Option<u64>,
+        visit: &mut F,
+    )
+        requires { F.IsAlwaysCallable visit.old }
+        ensures same { IsSameHandle self.old self.new }
+        ensures tells { Tells (λ p x q. F.step p x tt q) (first_map_of self.old) (number_of_seat self.old) from to visit.old visit.new (seen_by self.old) (seen_by self.new) }
+        ensures keeps { KeepsHints self.old self.new }
+    {
+        telling::tell(rt, &self.map.index, &mut self.pass, from, to, visit);
+    }
+
     /// Gives idle time to the map: tries again at most so many pieces of upkeep that had found no room, and gives back what was
-    /// swapped out. Says how many pieces wait still.
-    pub fn upkeep<R: Wait>(&mut self, rt: &R, most: u32) -> u32
+    /// swapped out. Says how many pieces wait still, and how many were dropped, since as many waited as can.
+    pub fn upkeep<R: Wait>(&mut self, rt: &R, most: u32) -> Backlog
         ensures same { IsSameHandle self.old self.new }
         ensures kept { HasKeptUp self.old self.new }
-        ensures waits { result ≡ waiting_of self.new }
+        ensures tried { HasTriedAgain most self.old self.new }
+        ensures waits { (result.waiting ≡ waiting_of self.new) × (result.dropped ≡ dropped_of self.new) }
     {
-        upkeep::try_again(rt, &self.map.index, &mut self.pass, &mut self.waiting, most);
-        self.waiting.len() as u32
+        changes::try_again(rt, &self.map.index, &mut self.pass, &mut self.waiting, most);
+        Backlog {
+            waiting: self.waiting.len(),
+            dropped: self.waiting.dropped,
+        }
     }
 
     /// The two handles meet: each then has seen all that has happened in the map, and so all that the other one had seen.
@@ -111,6 +147,7 @@ impl<'a> Handle<'a> {
         requires { AreOfOne self.old other.old }
         ensures same { IsSameHandle self.old self.new × IsSameHandle other.old other.new }
         ensures met { HaveMet self.old other.old self.new other.new }
+        ensures keeps { KeepsHints self.old self.new × KeepsHints other.old other.new }
     {
         self.map.index.meet(&mut self.pass, &mut other.pass);
     }

@@ -1,26 +1,36 @@
-//! What keeps a tree in order behind a change.
+//! What keeps a tree in order: a pass looks for room before a change, and follows the hint that a change has left behind.
 
 ghost use Rattle.std.specs.Prelude.{◌≡◌};
 ghost use Rattle.bl_index.specs.Calls.{first_of, IsPassOf, IsSamePass, number_of, trail};
 ghost use Rattle.bl_map.specs.Works.{Adds};
+ghost use Rattle.bl_map.specs.Follows.{Tries, TriesPost, TriesCompression, TriesHint, FollowsHint, FollowsOnce, FollowsHints, FollowsSplit};
+ghost use Rattle.bl_proc_base.specs.Hints.{level_of, key_of};
 
-use arrayvec::ArrayVec;
 use bl_index::{Hint, Index, Lowered, Pass, Posted, Squeezed};
 use std::sync::Wait;
 use std::thread;
 
-/// Pieces of upkeep that found no room wait, so many at most. Further ones are left out: a page that no parent lists is reached by the
-/// link of the page to its left, and a page with few rows is in nobody's way.
-pub(crate) type Waiting = ArrayVec<Option<Hint>, 32>;
-
-/// A tree has so many levels at most, and so many hints are followed behind one change.
+/// How many levels a tree may have: a split is followed by at most one post on each.
 const LEVELS: u32 = 12;
 
-/// How often a pass looks for free frames at most before a change.
+/// How often a pass looks for free frames at most before a change, a post or a compression. With 1,024 pages so many looks take a tenth of a
+/// second, by estimate, and longer with more: longer than a thread waits for a processor that it has lost within a process, even where
+/// there are ten threads for each.
 const LOOKS: u32 = 32_768;
 
-/// Waits until enough frames are free for a change, where others hold back what is retired.
-pub(crate) fn wait_for_frames(index: &Index, pass: &mut Pass)
+/// What became of a hint that was followed.
+#[derive(Clone, Copy, Debug, PartialEq, Eq)]
+pub enum Followed {
+    /// What it asked for is done, and that has left this hint.
+    Done(Option<Hint>),
+    /// There was no room for it.
+    NoRoom,
+}
+
+/// Waits before a change, a post or a compression that may find too few frames while some wait to be released: others may hold back
+/// what is retired, for as long as they run a process. The pass runs none meanwhile. It sweeps and lets others run, so many times at
+/// most.
+pub fn wait_for_frames(index: &Index, pass: &mut Pass)
     requires { IsPassOf index.now pass.old }
     ensures same { IsSamePass pass.old pass.new }
     ensures adds { Adds (first_of index.now) (number_of pass.old) (trail pass.old) (trail pass.new) }
@@ -35,7 +45,7 @@ pub(crate) fn wait_for_frames(index: &Index, pass: &mut Pass)
 }
 
 /// Gives back what was swapped out, where that is due.
-pub(crate) fn sweep(index: &Index, pass: &mut Pass)
+pub fn sweep_if_due(index: &Index, pass: &mut Pass)
     requires { IsPassOf index.now pass.old }
     ensures same { IsSamePass pass.old pass.new }
     ensures adds { Adds (first_of index.now) (number_of pass.old) (trail pass.old) (trail pass.new) }
@@ -45,40 +55,62 @@ pub(crate) fn sweep(index: &Index, pass: &mut Pass)
     }
 }
 
-/// The hint waits, where there is room for it.
-fn keep(waiting: &mut Waiting, hint: Hint) {
-    if waiting.len() < waiting.capacity() {
-        waiting.push(Some(hint));
-    }
-}
-
-/// Posts once. A hint that met no room waits.
-fn post<R: Wait>(
-    rt: &R,
-    index: &Index,
-    pass: &mut Pass,
-    waiting: &mut Waiting,
-    hint: Hint,
-) -> Option<Hint>
+/// Posts.
+fn post<R: Wait>(rt: &R, index: &Index, pass: &mut Pass, hint: Hint) -> Followed
     requires { IsPassOf index.now pass.old }
     ensures same { IsSamePass pass.old pass.new }
-    ensures adds { Adds (first_of index.now) (number_of pass.old) (trail pass.old) (trail pass.new) }
+    ensures tries { TriesPost (first_of index.now) (number_of pass.old) (level_of hint) (key_of hint) result (trail pass.old) (trail pass.new) }
 {
-    let again = hint;
     let (posted, more) = index.post(rt, pass, hint);
-    if posted == Posted::NoRoom {
-        keep(waiting, again);
+    match posted {
+        Posted::NoRoom => Followed::NoRoom,
+        _ => Followed::Done(more),
     }
-    more
 }
 
-/// Takes top levels away that are not needed, one after another, where a compression may have left one.
-fn lower<R: Wait>(rt: &R, index: &Index, pass: &mut Pass, squeezed: Squeezed)
+/// Compresses. Says too whether the top level may be one that is not needed: it had too few children to compress, or has one fewer now.
+fn compress<R: Wait>(rt: &R, index: &Index, pass: &mut Pass, hint: Hint) -> (Followed, bool)
+    requires { IsPassOf index.now pass.old }
+    ensures same { IsSamePass pass.old pass.new }
+    ensures tries { TriesCompression (first_of index.now) (number_of pass.old) (level_of hint) (key_of hint) result.0 (trail pass.old) (trail pass.new) }
+{
+    let (squeezed, more) = index.compress(rt, pass, hint);
+    match squeezed {
+        Squeezed::NoRoom => (Followed::NoRoom, false),
+        Squeezed::Merged | Squeezed::Alone => (Followed::Done(more), true),
+        _ => (Followed::Done(more), false),
+    }
+}
+
+/// Posts or compresses. Says too whether the top level may be one that is not needed.
+fn post_or_compress<R: Wait>(rt: &R, index: &Index, pass: &mut Pass, hint: Hint) -> (Followed, bool)
+    requires { IsPassOf index.now pass.old }
+    ensures same { IsSamePass pass.old pass.new }
+    ensures tries { Tries (first_of index.now) (number_of pass.old) hint result.0 (trail pass.old) (trail pass.new) }
+{
+    match hint {
+        Hint::Post { .. } => (post(rt, index, pass, hint), false),
+        Hint::Thin { .. } => compress(rt, index, pass, hint),
+    }
+}
+
+/// Waits for frames, and posts or compresses, as the hint asks. Says too whether [`lower`] is due then.
+pub fn try_hint<R: Wait>(rt: &R, index: &Index, pass: &mut Pass, hint: Hint) -> (Followed, bool)
+    requires { IsPassOf index.now pass.old }
+    ensures same { IsSamePass pass.old pass.new }
+    ensures tries { TriesHint (first_of index.now) (number_of pass.old) hint result.0 (trail pass.old) (trail pass.new) }
+{
+    wait_for_frames(index, pass);
+    post_or_compress(rt, index, pass, hint)
+}
+
+/// Takes top levels away that are not needed, one after another. Before each it waits for frames.
+pub fn lower<R: Wait>(rt: &R, index: &Index, pass: &mut Pass, may_fall: bool)
     requires { IsPassOf index.now pass.old }
     ensures same { IsSamePass pass.old pass.new }
     ensures adds { Adds (first_of index.now) (number_of pass.old) (trail pass.old) (trail pass.new) }
 {
-    let mut may_fall = matches!(squeezed, Squeezed::Merged | Squeezed::Alone);
+    let mut may_fall = may_fall;
     for _level in 1..LEVELS {
         if !may_fall {
             return;
@@ -88,88 +120,64 @@ fn lower<R: Wait>(rt: &R, index: &Index, pass: &mut Pass, squeezed: Squeezed)
     }
 }
 
-/// Compresses once, and takes the top level away where it is not needed any more. A hint that met no room waits.
-fn compress<R: Wait>(
-    rt: &R,
-    index: &Index,
-    pass: &mut Pass,
-    waiting: &mut Waiting,
-    hint: Hint,
-) -> Option<Hint>
+/// Follows a hint: posts or compresses, and takes the top level away where it is not needed any more.
+fn follow_hint<R: Wait>(rt: &R, index: &Index, pass: &mut Pass, hint: Hint) -> Followed
     requires { IsPassOf index.now pass.old }
     ensures same { IsSamePass pass.old pass.new }
-    ensures adds { Adds (first_of index.now) (number_of pass.old) (trail pass.old) (trail pass.new) }
+    ensures follows { FollowsHint (first_of index.now) (number_of pass.old) hint result (trail pass.old) (trail pass.new) }
+{
+    let (followed, may_fall) = try_hint(rt, index, pass, hint);
+    lower(rt, index, pass, may_fall);
+    followed
+}
+
+/// The same. Gives back what doing it has left, and that there was room; or the hint, and that there was none.
+fn follow_once<R: Wait>(rt: &R, index: &Index, pass: &mut Pass, hint: Hint) -> (Option<Hint>, bool)
+    requires { IsPassOf index.now pass.old }
+    ensures same { IsSamePass pass.old pass.new }
+    ensures follows { FollowsOnce (first_of index.now) (number_of pass.old) hint result.0 result.1 (trail pass.old) (trail pass.new) }
 {
     let again = hint;
-    let (squeezed, more) = index.compress(rt, pass, hint);
-    if squeezed == Squeezed::NoRoom {
-        keep(waiting, again);
-    }
-    lower(rt, index, pass, squeezed);
-    more
-}
-
-/// Follows a hint once.
-fn follow_once<R: Wait>(
-    rt: &R,
-    index: &Index,
-    pass: &mut Pass,
-    waiting: &mut Waiting,
-    hint: Hint,
-) -> Option<Hint>
-    requires { IsPassOf index.now pass.old }
-    ensures same { IsSamePass pass.old pass.new }
-    ensures adds { Adds (first_of index.now) (number_of pass.old) (trail pass.old) (trail pass.new) }
-{
-    match hint {
-        Hint::Post { .. } => post(rt, index, pass, waiting, hint),
-        Hint::Thin { .. } => compress(rt, index, pass, waiting, hint),
+    match follow_hint(rt, index, pass, hint) {
+        Followed::Done(next) => (next, true),
+        Followed::NoRoom => (Some(again), false),
     }
 }
 
-/// Follows the hint of a change and those that following it gives. Before each it waits for frames. What is left waits.
-pub(crate) fn follow<R: Wait>(
-    rt: &R,
-    index: &Index,
-    pass: &mut Pass,
-    waiting: &mut Waiting,
-    hint: Option<Hint>,
-)
+/// Follows the hint of a change, and those that following it gives. Gives back the hint that found no room, or that is left behind
+/// so many of them.
+pub fn follow<R: Wait>(rt: &R, index: &Index, pass: &mut Pass, hint: Option<Hint>) -> Option<Hint>
     requires { IsPassOf index.now pass.old }
     ensures same { IsSamePass pass.old pass.new }
-    ensures adds { Adds (first_of index.now) (number_of pass.old) (trail pass.old) (trail pass.new) }
+    ensures follows { FollowsHints (first_of index.now) (number_of pass.old) hint result (trail pass.old) (trail pass.new) }
 {
     let mut hint = hint;
     for _level in 0..LEVELS {
         let Some(next) = hint else {
-            return;
+            return None;
         };
-        wait_for_frames(index, pass);
-        hint = follow_once(rt, index, pass, waiting, next);
+        let (left, had_room) = follow_once(rt, index, pass, next);
+        hint = left;
+        if !had_room {
+            return hint;
+        }
     }
-    if let Some(left) = hint {
-        keep(waiting, left);
-    }
+    hint
 }
 
-/// Follows at most so many of the hints that wait, the oldest first, and sweeps.
-pub(crate) fn try_again<R: Wait>(
+/// The same for the hint of a split alone. That of a thin page it gives back.
+pub fn follow_split<R: Wait>(
     rt: &R,
     index: &Index,
     pass: &mut Pass,
-    waiting: &mut Waiting,
-    most: u32,
-)
+    hint: Option<Hint>,
+) -> Option<Hint>
     requires { IsPassOf index.now pass.old }
     ensures same { IsSamePass pass.old pass.new }
-    ensures adds { Adds (first_of index.now) (number_of pass.old) (trail pass.old) (trail pass.new) }
+    ensures follows { FollowsSplit (first_of index.now) (number_of pass.old) hint result (trail pass.old) (trail pass.new) }
 {
-    for _hint in 0..most {
-        if waiting.is_empty() {
-            break;
-        }
-        let hint = waiting.remove(0);
-        follow(rt, index, pass, waiting, hint);
+    match hint {
+        Some(Hint::Thin { .. }) => hint,
+        _ => follow(rt, index, pass, hint),
     }
-    index.sweep(pass);
 }

@@ -11,7 +11,7 @@ use Rattle.bl_page.specs.declared.page.Page.{Page}
 use Rattle.bl_claims.specs.Trails.{Trail}
 use Rattle.bl_claims.specs.Seeing.{own}
 use Rattle.bl_serve_worker.specs.declared.chunk.BatchOutput.{BatchOutput}
-use Rattle.bl_serve_worker.specs.Works.{Adds}
+use Rattle.bl_map.specs.Works.{Adds}
 use Rattle.bl_serve_worker.specs.Answering.{answers_text, AnswersLines}
 use Rattle.bl_serve_worker.specs.Batches.{Piece, IsPiece, Logs, lines_in}
 use Rattle.bl_serve_worker.proofs.Lines.{goes_on, stays}

@@ -1,4 +1,3 @@
-pub mod Requests
 pub mod Lines
 pub mod Batches
 pub mod Scanning

@@ -14,7 +14,7 @@ use Rattle.bl_serve_lines.specs.Text.{numbered, reply_text, row_text}
 use Rattle.bl_page.specs.declared.page.Page.{Page}
 use Rattle.bl_claims.specs.Trails.{Trail, entries_at, history_of}
 use Rattle.bl_claims.specs.Seeing.{own, GoesOnFrom}
-use Rattle.bl_serve_worker.specs.Works.{Works, Adds}
+use Rattle.bl_map.specs.Works.{Works, Adds}
 use Rattle.bl_serve_worker.specs.Answering.IsFor.{Replies, Scans, Syncs, Refuses}
 use Rattle.bl_serve_worker.specs.Answering.{IsFor, answers_text, AnswersLine, AnswersLines, WritesRows}
 

@@ -16,7 +16,7 @@ use Rattle.bl_page.specs.declared.page.Page.{Page}
 use Rattle.bl_claims.specs.Trails.{Trail, history_of}
 use Rattle.bl_claims.specs.Seeing.{first_map, IsSeen, own, GoesOnFrom}
 use Rattle.bl_index.proofs.Scanned.{Answered, IsBehind, answered, part_is, only_rows}
-use Rattle.bl_serve_worker.specs.Works.{Works}
+use Rattle.bl_map.specs.Works.{Works}
 use Rattle.bl_serve_worker.specs.Answering.{WritesPart, WritesRows}
 use Rattle.bl_serve_worker.proofs.Lines.{goes_on, stays, history_append}
 

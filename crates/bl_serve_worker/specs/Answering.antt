@@ -13,7 +13,7 @@ use Rattle.bl_serve_lines.specs.Text.{numbered, row_text}
 use Rattle.bl_page.specs.declared.page.Page.{Page}
 use Rattle.bl_claims.specs.Trails.{Trail}
 use Rattle.bl_claims.specs.Seeing.{IsSeen, own, GoesOnFrom}
-use Rattle.bl_serve_worker.specs.Works.{Works}
+use Rattle.bl_map.specs.Works.{Works}
 
 -- the answer is one to what was asked
 pub data IsFor : Option Request → Answer → Type 0 where

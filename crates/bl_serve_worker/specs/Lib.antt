@@ -1,3 +1,2 @@
-pub mod Works
 pub mod Answering
 pub mod Batches

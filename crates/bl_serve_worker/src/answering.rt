@@ -5,15 +5,16 @@ ghost use Rattle.bl_model.specs.declared.operation.Op.TheVariants as op;
 ghost use Rattle.bl_index.specs.Calls.{first_of, IsPassOf, IsSamePass, number_of, trail};
 ghost use Rattle.bl_model.specs.Replies.{reply_of};
 ghost use Rattle.bl_model.specs.Writes.{write_op, IsRead};
-ghost use Rattle.bl_serve_worker.specs.Works.{Works, Adds};
+ghost use Rattle.bl_map.specs.Works.{Works, Adds};
 ghost use Rattle.bl_serve_worker.specs.Answering.{AnswersLine, AnswersLines, WritesPart, WritesRows};
 
-use crate::compressing::tidy;
-use crate::frames::wait_for_frames;
+use crate::compressing::enqueue;
 use crate::gate::Gate;
 use crate::service::Service;
 use bl_hints::Hints;
 use bl_index::{Index, KeyReply, Pass};
+use bl_map::calls::{self, find, part};
+use bl_map::upkeep::{follow_split, sweep_if_due};
 use bl_model::{KeyWrite, Next, Op, Reply};
 use bl_serve_lines::print::{
     Response, push_key_line, push_line, push_number, push_rows_below, push_word_line,
@@ -30,49 +31,18 @@ const LINES_TO_SWEEP: u64 = 256;
 /// So many bytes of output are made room for at once for each line: an answer about one key has few more.
 const ROOM: usize = 32;
 
-/// The value of a key, or that the key is absent.
-fn find<R: Wait>(rt: &R, index: &Index, pass: &mut Pass, key: u64) -> KeyReply
-    requires { IsPassOf index.now pass.old }
-    ensures same { IsSamePass pass.old pass.new }
-    ensures works { Works (first_of index.now) (number_of pass.old) (op.Find key) (reply_of result) (trail pass.old) (trail pass.new) }
-{
-    let turns = index.patience();
-    for _ in rt.forever() {
-        if let Ok(reply) = index.find(pass, key, turns) {
-            return reply;
-        }
-    }
-    unreachable!()
-}
-
-/// The rows of one leaf from a key on. It looks first at the page that is near, if there is one, and leaves there the page to which
-/// the leaf links.
-fn part<R: Wait>(rt: &R, index: &Index, pass: &mut Pass, from: u64, near: &mut Option<u32>) -> Reply
-    requires { IsPassOf index.now pass.old }
-    ensures same { IsSamePass pass.old pass.new }
-    ensures works { Works (first_of index.now) (number_of pass.old) (op.Part from) result (trail pass.old) (trail pass.new) }
-{
-    let turns = index.patience();
-    for _ in rt.forever() {
-        if let Ok(reply) = index.part_near(pass, from, near, turns) {
-            return reply;
-        }
-    }
-    unreachable!()
-}
-
 /// Sweeps, where the pass may and a sweep is due.
-fn sweep_if_due(index: &Index, pass: &mut Pass, may_sweep: bool)
+fn sweep_if_may(index: &Index, pass: &mut Pass, may_sweep: bool)
     requires { IsPassOf index.now pass.old }
     ensures same { IsSamePass pass.old pass.new }
     ensures adds { Adds (first_of index.now) (number_of pass.old) (trail pass.old) (trail pass.new) }
 {
-    if may_sweep && pass.is_due() {
-        index.sweep(pass);
+    if may_sweep {
+        sweep_if_due(index, pass);
     }
 }
 
-/// Writes a key. A split is posted, and a hint of a thin page waits for a compressor.
+/// Writes a key. A split is posted. The hint of a thin page waits for a compressor, and so does that of a post that found no room.
 fn write<R: Wait>(
     rt: &R,
     index: &Index,
@@ -85,9 +55,9 @@ fn write<R: Wait>(
     ensures same { IsSamePass pass.old pass.new }
     ensures works { Works (first_of index.now) (number_of pass.old) (write_op key write) (reply_of result) (trail pass.old) (trail pass.new) }
 {
-    wait_for_frames(index, pass);
-    let (reply, hint) = index.write(rt, pass, key, write);
-    tidy(rt, index, hints, pass, hint);
+    let (reply, hint) = calls::write(rt, index, pass, key, write);
+    let left = follow_split(rt, index, pass, hint);
+    enqueue(rt, hints, left);
     reply
 }
 
@@ -275,7 +245,7 @@ pub(crate) fn answer_lines<R: Wait, G: Gate>(
         number += 1;
         answer(rt, service, pass, number, *request, &mut text)?;
         let may_sweep = number % LINES_TO_SWEEP == 0 || lines.len() == 1;
-        sweep_if_due(service.index, pass, may_sweep);
+        sweep_if_may(service.index, pass, may_sweep);
     }
     Ok(text)
 }

@@ -1,7 +1,7 @@
 //! One worker of the server: what a thread does by its pass of the index.
 //!
 //! A worker answers the lines of a batch, one after another: it carries a request out, posts the split that an insertion left, and
-//! prints the reply. A compressor follows the hints that workers leave, and rests where none waits. Before each change a pass waits
+//! prints the reply. What a call takes and what keeps the tree in order is `bl_map`'s. A compressor follows the hints that workers leave, and rests where none waits. Before each change a pass waits
 //! until enough frames are free, and it sweeps now and then.
 //!
 //! Promised to `bl_serve`, which makes threads of them: a turn of a pass adds to what the pass has seen the entries of the lines that it
@@ -12,7 +12,6 @@
 mod answering;
 mod chunk;
 mod compressing;
-mod frames;
 mod gate;
 mod service;
 mod wakeup;

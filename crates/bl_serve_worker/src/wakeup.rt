@@ -2,7 +2,7 @@
 
 ghost use Rattle.std.specs.Prelude.{◌≡◌};
 ghost use Rattle.bl_index.specs.Calls.{first_of, IsPassOf, IsSamePass, number_of, trail};
-ghost use Rattle.bl_serve_worker.specs.Works.{Adds};
+ghost use Rattle.bl_map.specs.Works.{Adds};
 
 use crate::compressing::follow_hint;
 use bl_hints::Hints;

@@ -3,7 +3,7 @@
 ghost use Rattle.std.specs.Prelude.{◌≡◌, suc, ◌+◌, ◌<◌, ◌^◌, [], length, OnOk};
 ghost use Rattle.bl_index.specs.Calls.{first_of, IsPassOf, IsSamePass, number_of, trail};
 ghost use Rattle.bl_serve_worker.specs.Batches.{Logs, TakesTurn};
-ghost use Rattle.bl_serve_worker.specs.Works.{Adds};
+ghost use Rattle.bl_map.specs.Works.{Adds};
 
 use crate::answering::answer_lines;
 use crate::chunk::{Batch, BatchOutput, Chunk, Role, Slot};

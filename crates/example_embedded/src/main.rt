@@ -1,19 +1,21 @@
-//! How a program embeds the index. Two threads share it, each by a pass of its own: each inserts a hundred rows and deletes the
-//! last twenty of them. Their passes meet, and one of them finds a row of the other and lists rows of both. The index is closed,
-//! and another one opened from its image. What it prints is the same whatever the schedule. `docs/EMBEDDING.md` goes through it.
+//! How a program embeds the map. Two threads share it, each by a handle of its own: each inserts a hundred rows and deletes the
+//! last twenty of them. Their handles meet, and one of them finds a row of the other and lists rows of both. The map is closed, and
+//! another one opened from its image. What it prints is the same whatever the schedule. `docs/EMBEDDING.md` goes through it.
 #![tactic(auto)]
 
-ghost use Rattle.std.specs.Prelude.{All, IfSome};
-ghost use Rattle.bl_index.specs.Calls.{IsPassOf};
+ghost use Rattle.std.specs.Prelude.{◌≡◌, All, IfSome};
+ghost use Rattle.bl_map.specs.Handles.{AreOfOne};
+ghost use Rattle.bl_map.specs.Maps.{AreSeatsOf, IsSeatOf};
+ghost use Rattle.example_embedded.specs.Handles.{IsOf};
 
-use bl_index::{Config, Hint, Index, KeyReply, Pass};
+use bl_map::{Handle, KeyReply, Map, Seat};
 use std::alloc::Global;
 use std::sync::Wait;
 use std::sync::atomic::{AtomicU64, Ordering};
 use std::thread;
 use std::thread::Threads;
 
-/// How many threads there are, each with a pass of its own.
+/// How many threads there are, each with a handle of its own.
 const THREADS: u32 = 2;
 
 /// How many rows each thread inserts: the first one those with the keys 1 to 100, the second one those from 101 on.
@@ -22,9 +24,6 @@ const ROWS: u64 = 100;
 /// How many of its rows each thread keeps.
 const KEPT: u64 = 80;
 
-/// How many levels a tree may have. So many hints are followed behind one change, and more are left.
-const LEVELS: u32 = 12;
-
 /// How many rows the threads have inserted and deleted.
 #[derive(Drop)]
 struct Counts {
@@ -32,201 +31,174 @@ struct Counts {
     deleted: AtomicU64,
 }
 
-/// An index without rows, with a pass for each thread. A page has room for 14 rows, so 512 pages are far more than these rows
-/// need.
-fn opened(alloc: Global) -> Option<(Index, Vec<Pass>)>
-    ensures { IfSome result (λ t. All (IsPassOf t.0) t.1.items) }
+/// A map without rows, with a seat for each thread. A page has room for 14 rows, so 512 pages are far more than these rows need.
+fn opened(alloc: Global) -> Option<(Map, Vec<Seat>)>
+    ensures { IfSome result (λ t. AreSeatsOf t.0 t.1.items) }
 {
-    let config = Config {
-        pages: 512,
-        passes: THREADS,
-    };
-    match Index::open(alloc, config) {
-        Ok((index, passes)) => Some((index, passes)),
-        Err(_) => None,
-    }
+    Map::open(alloc, 512, THREADS).ok()
 }
 
-/// Follows a hint, and those that following it gives: a page that its parent does not list yet is listed there, so that searches
-/// need not come by its left neighbour, and one with few rows is merged with a neighbour or evened out.
-fn follow<R: Wait>(rt: &R, index: &Index, pass: &mut Pass, hint: Option<Hint>)
-    requires { IsPassOf index.now pass.old }
-    ensures { IsPassOf index.now pass.new }
+/// A handle for each seat.
+fn handles_of<'a>(alloc: Global, map: &'a Map, seats: Vec<Seat>) -> Option<Vec<Handle<'a>>>
+    requires { AreSeatsOf map.now seats.items }
+    ensures { IfSome result (λ handles. All (IsOf map.now) handles.items) }
 {
-    let mut hint = hint;
-    for _level in 0..LEVELS {
-        let Some(next) = hint else {
-            return;
-        };
-        hint = match next {
-            Hint::Post { .. } => index.post(rt, pass, next).1,
-            Hint::Thin { .. } => index.compress(rt, pass, next).1,
-        };
+    let mut seats = seats;
+    let mut handles = Vec::new(alloc);
+    while let Some(seat) = seats.pop() {
+        handles.push(map.handle(seat)).ok()?;
     }
-}
-
-/// What is due behind a change: to follow its hint, and to sweep now and then, so that pages and frames serve again that no call
-/// reads any more.
-fn tidy<R: Wait>(rt: &R, index: &Index, pass: &mut Pass, hint: Option<Hint>)
-    requires { IsPassOf index.now pass.old }
-    ensures { IsPassOf index.now pass.new }
-{
-    follow(rt, index, pass, hint);
-    if pass.is_due() {
-        index.sweep(pass);
-    }
+    Some(handles)
 }
 
 /// Inserts the rows of a thread, whose keys are behind that one. The value of each is ten times its key.
-fn fill<R: Wait>(rt: &R, index: &Index, pass: &mut Pass, behind: u64, counts: &Counts)
-    requires { IsPassOf index.now pass.old }
-    ensures { IsPassOf index.now pass.new }
+fn fill<R: Wait>(rt: &R, handle: &mut Handle<'_>, behind: u64, counts: &Counts)
+    ensures { handle.new.map ≡ handle.old.map }
 {
     for row in 1..=ROWS {
         let key = behind.wrapping_add(row);
-        let (reply, hint) = index.insert(rt, pass, key, key.wrapping_mul(10));
-        if let KeyReply::Inserted = reply {
+        if handle.insert(rt, key, key.wrapping_mul(10)) == KeyReply::Inserted {
             counts.inserted.fetch_add(1, Ordering::SeqCst);
         }
-        tidy(rt, index, pass, hint);
     }
 }
 
 /// Deletes those of them that are not kept. Leaves get thin by it, and are merged or evened out while the other thread works.
-fn shrink<R: Wait>(rt: &R, index: &Index, pass: &mut Pass, behind: u64, counts: &Counts)
-    requires { IsPassOf index.now pass.old }
-    ensures { IsPassOf index.now pass.new }
+fn shrink<R: Wait>(rt: &R, handle: &mut Handle<'_>, behind: u64, counts: &Counts)
+    ensures { handle.new.map ≡ handle.old.map }
 {
     for row in KEPT + 1..=ROWS {
-        let (reply, hint) = index.delete(rt, pass, behind.wrapping_add(row));
-        if let KeyReply::Deleted(_) = reply {
+        if let KeyReply::Deleted(_) = handle.delete(rt, behind.wrapping_add(row)) {
             counts.deleted.fetch_add(1, Ordering::SeqCst);
         }
-        tidy(rt, index, pass, hint);
     }
 }
 
-/// Each pass works in a thread of its own. The threads have ended when this returns.
-fn work<R: Threads + Wait + Sync>(rt: &R, index: &Index, passes: &mut [Pass], counts: &Counts)
-    requires { All (IsPassOf index.now) passes.old }
-    ensures { All (IsPassOf index.now) passes.new }
+/// Each handle works in a thread of its own. The threads have ended when this returns.
+fn work<R: Threads + Wait + Sync>(rt: &R, map: &Map, handles: &mut [Handle<'_>], counts: &Counts)
+    requires { All (IsOf map.now) handles.old }
+    ensures { All (IsOf map.now) handles.new }
 {
     thread::for_each_mut(
         rt,
-        passes,
+        handles,
         THREADS as usize,
-        &|place, pass| {
+        &|place, handle| {
             let behind = ROWS.wrapping_mul(place as u64);
-            fill(rt, index, pass, behind, counts);
-            shrink(rt, index, pass, behind, counts);
+            fill(rt, handle, behind, counts);
+            shrink(rt, handle, behind, counts);
         },
     );
 }
 
-/// The value of a key, if it has one. A search that others' changes have kept from its leaf for so many turns is made again.
-fn find<R: Wait>(rt: &R, index: &Index, pass: &mut Pass, key: u64) -> Option<u64>
-    requires { IsPassOf index.now pass.old }
-    ensures { IsPassOf index.now pass.new }
+/// The value of a key, if it has one.
+fn value_of<R: Wait>(rt: &R, handle: &mut Handle<'_>, key: u64) -> Option<u64>
+    ensures { handle.new.map ≡ handle.old.map }
 {
-    let turns = index.patience();
-    for _ in rt.forever() {
-        match index.find(pass, key, turns) {
-            Ok(KeyReply::Found(value)) => return Some(value),
-            Ok(_) => return None,
-            Err(_) => {}
-        }
-    }
-    unreachable!()
-}
-
-/// The rows of a range, in the order of their keys. Nobody else changes pages now, so only want of memory can stop the scan.
-fn listed(
-    alloc: Global,
-    index: &Index,
-    pass: &mut Pass,
-    from: u64,
-    to: Option<u64>,
-) -> Option<Vec<(u64, u64)>>
-    requires { IsPassOf index.now pass.old }
-    ensures { IsPassOf index.now pass.new }
-{
-    let mut rows = Vec::new(alloc);
-    match index.scan_into(pass, from, to, index.patience(), &mut rows) {
-        Ok(()) => Some(rows),
-        Err(_) => None,
+    match handle.find(rt, key) {
+        KeyReply::Found(value) => Some(value),
+        _ => None,
     }
 }
 
-/// The pass meets each of the others, so that it knows all that they have done, and they what it has done.
-fn meet_each(index: &Index, one: &mut Pass, others: &mut [Pass])
-    requires { IsPassOf index.now one.old × All (IsPassOf index.now) others.old }
-    ensures { IsPassOf index.now one.new × All (IsPassOf index.now) others.new }
-{
-    for number in 0..others.len() {
-        index.meet(one, &mut others[number]);
-    }
+/// How many rows there are: a callback is told each of them.
+fn count<R: Wait>(rt: &R, handle: &mut Handle<'_>) -> u64 {
+    let mut rows = 0u64;
+    handle.scan_with(
+        rt,
+        0,
+        None,
+        &mut |_row: (u64, u64)| rows = rows.wrapping_add(1),
+    );
+    rows
 }
 
-/// The last pass meets the other one, so that it knows all that has happened. It finds a row that the other one has inserted, and
-/// lists the rows on both sides of where its own begin. Then it is put back, since a close takes all passes.
-fn look<R: Wait>(
+/// The two handles.
+fn both<'a>(map: &Map, handles: Vec<Handle<'a>>) -> Option<(Handle<'a>, Handle<'a>)>
+    requires { All (IsOf map.now) handles.items }
+    ensures { IfSome result (λ t. IsOf map.now t.0 × IsOf map.now t.1) }
+{
+    let mut handles = handles;
+    let last = handles.pop()?;
+    let other = handles.pop()?;
+    Some((other, last))
+}
+
+/// A handle meets the other one, so that it knows all that has happened. It finds a row that the other one has inserted, and lists the
+/// rows on both sides of where its own begin.
+fn look<'a, R: Wait>(
     rt: &R,
     alloc: Global,
-    index: &Index,
-    passes: &mut Vec<Pass>,
+    handle: &mut Handle<'a>,
+    other: &mut Handle<'a>,
 ) -> Option<(u64, Vec<(u64, u64)>)>
-    requires { All (IsPassOf index.now) passes.old.items }
-    ensures { All (IsPassOf index.now) passes.new.items }
+    requires { AreOfOne handle.old other.old }
+    ensures { (handle.new.map ≡ handle.old.map) × (other.new.map ≡ other.old.map) }
 {
-    let mut last = passes.pop()?;
-    meet_each(index, &mut last, passes.as_mut_slice());
-    let value = find(rt, index, &mut last, 50)?;
-    let rows = listed(alloc, index, &mut last, 79, Some(103))?;
-    passes.push(last).ok()?;
+    handle.meet(other);
+    let value = value_of(rt, handle, 50)?;
+    let mut rows = Vec::new(alloc);
+    handle.scan(rt, 79, Some(103), &mut rows).ok()?;
     Some((value, rows))
 }
 
-/// Closes the index and opens one with a single pass from its image. Gives the value of a key there, and how many rows there are.
-fn reopened<R: Wait>(rt: &R, alloc: Global, index: Index, passes: Vec<Pass>) -> Option<(u64, usize)>
-    requires { All (IsPassOf index) passes.items }
+/// A close takes all seats, so both handles give theirs back.
+fn seats_of(alloc: Global, map: &Map, one: Handle<'_>, two: Handle<'_>) -> Option<Vec<Seat>>
+    requires { IsOf map.now one × IsOf map.now two }
+    ensures { IfSome result (λ seats. AreSeatsOf map.now seats.items) }
 {
-    let quiet = index.close(alloc, passes).ok()?;
-    match Index::open_image(alloc, quiet, 1) {
-        Ok((index, mut passes)) => {
-            let mut pass = passes.pop()?;
-            let value = find(rt, &index, &mut pass, 42)?;
-            let rows = listed(alloc, &index, &mut pass, 0, None)?;
-            Some((value, rows.len()))
-        }
-        Err(_) => None,
-    }
+    let mut seats = Vec::new(alloc);
+    seats.push(one.into_seat()).ok()?;
+    seats.push(two.into_seat()).ok()?;
+    Some(seats)
+}
+
+/// Closes the map and opens one with a single seat from its image.
+fn reopened(alloc: Global, map: Map, seats: Vec<Seat>) -> Option<(Map, Seat)>
+    requires { AreSeatsOf map seats.items }
+    ensures { IfSome result (λ t. IsSeatOf t.0 t.1) }
+{
+    let image = map.close(alloc, seats).ok()?;
+    let (map, mut seats) = Map::open_image(alloc, image, 1).ok()?;
+    let seat = seats.pop()?;
+    Some((map, seat))
 }
 
 fn main(rt: HostRuntime) -> anyhow::Result<()> {
-    let Some((index, mut passes)) = opened(rt.alloc()) else {
-        eprintln!(&rt; "out of memory")?;
-        return Ok(());
+    let Some((map, seats)) = opened(rt.alloc()) else {
+        anyhow::bail!("out of memory");
+    };
+    let Some(mut handles) = handles_of(rt.alloc(), &map, seats) else {
+        anyhow::bail!("out of memory");
     };
     let counts = Counts {
         inserted: AtomicU64::new(0),
         deleted: AtomicU64::new(0),
     };
-    work(&rt, &index, passes.as_mut_slice(), &counts);
+    work(&rt, &map, handles.as_mut_slice(), &counts);
     let inserted = counts.inserted.load(Ordering::SeqCst);
     let deleted = counts.deleted.load(Ordering::SeqCst);
     println!(rt; "inserted {inserted}, deleted {deleted}")?;
-    let Some((value, rows)) = look(&rt, rt.alloc(), &index, &mut passes) else {
-        eprintln!(&rt; "a row is missing, or memory")?;
-        return Ok(());
+    let Some((mut one, mut two)) = both(&map, handles) else {
+        anyhow::bail!("a handle is missing");
+    };
+    let Some((value, rows)) = look(&rt, rt.alloc(), &mut two, &mut one) else {
+        anyhow::bail!("a row is missing, or memory");
     };
     println!(rt; "50 has {value}")?;
     for (key, value) in rows.as_slice() {
         println!(rt; "{key} {value}")?;
     }
-    let Some((value, rows)) = reopened(&rt, rt.alloc(), index, passes) else {
-        eprintln!(&rt; "no index from the image")?;
-        return Ok(());
+    let Some(seats) = seats_of(rt.alloc(), &map, one, two) else {
+        anyhow::bail!("out of memory");
     };
-    println!(rt; "from the image: {rows} rows, 42 has {value}")?;
+    let Some((map, seat)) = reopened(rt.alloc(), map, seats) else {
+        anyhow::bail!("no map from the image");
+    };
+    let mut handle = map.handle(seat);
+    let rows = count(&rt, &mut handle);
+    if let Some(value) = value_of(&rt, &mut handle, 42) {
+        println!(rt; "from the image: {rows} rows, 42 has {value}")?;
+    }
     Ok(())
 }

@@ -3,7 +3,7 @@
 ghost use Rattle.std.specs.Prelude.{IfSome};
 ghost use Rattle.bl_map.specs.Maps.{IsSeatOf};
 
-use bl_map::{Handle, KeyReply, Map, OpenFault, Seat};
+use bl_map::{Backlog, Handle, KeyReply, Map, OpenFault, Seat};
 use std::alloc::Global;
 use std::sync::Wait;
 use std::thread;
@@ -98,10 +98,42 @@ fn many_rows_come_and_go(rt: HostRuntime) {
     let mut handle = map.handle(seat);
     assert!(rt; fill(&rt, &mut handle, 0, MANY) == MANY);
     assert!(rt; shrink(&rt, &mut handle) == GONE);
-    assert!(rt; handle.upkeep(&rt, 100) == 0);
+    let backlog = handle.upkeep(&rt, 100);
+    let none = Backlog {
+        waiting: 0,
+        dropped: 0,
+    };
+    assert!(rt; backlog == none);
     let mut rows = Vec::new(rt.alloc());
     assert!(rt; handle.scan(&rt, 3, Some(4_993), &mut rows).is_ok());
     assert!(rt; rows.as_slice() == [(4_990, 49_900), (4_991, 49_910), (4_992, 49_920)].as_slice());
+}
+
+/// The rows of a range, as a callback is told them.
+fn told<R: Wait>(rt: &R, handle: &mut Handle<'_>, from: u64, to: Option<u64>) -> (u64, u64, bool) {
+    let mut count = 0u64;
+    let mut last = 0u64;
+    let mut are_rising = true;
+    let mut visit = |row: (u64, u64)| {
+        are_rising = are_rising && (count == 0 || last < row.0);
+        count = count.wrapping_add(1);
+        last = row.0;
+    };
+    handle.scan_with(rt, from, to, &mut visit);
+    (count, last, are_rising)
+}
+
+#[test]
+fn a_callback_is_told_each_row_once(rt: HostRuntime) {
+    let Some((map, seat)) = opened(rt.alloc(), 1_024) else {
+        return;
+    };
+    let mut handle = map.handle(seat);
+    assert!(rt; fill(&rt, &mut handle, 0, MANY) == MANY);
+    let all = told(&rt, &mut handle, 0, None);
+    let some = told(&rt, &mut handle, 100, Some(150));
+    let none = told(&rt, &mut handle, 150, Some(150));
+    assert!(rt; all == (MANY, 4_999, true) && some == (50, 149, true) && none == (0, 0, true));
 }
 
 fn fill_all<R: Threads + Wait + Sync>(rt: &R, handles: &mut [Handle<'_>]) {

@@ -1,5 +1,5 @@
-use Rattle.bl_index.specs.Calls.{IsPassOf}
+use Rattle.std.proofs.Common.{◌≡◌}
 use Rattle.example_embedded.proofs.fill.Given as goal
 
 abbrev pub invariant-loop-row : goal.invariant-loop-row
-invariant-loop-row g l = IsPassOf l.index l.pass
+invariant-loop-row g l = l.handle.map ≡ l.fn.handle.map

@@ -1,6 +1,8 @@
-use Rattle.bl_map.proofs.Adding.{then_adds, adds_as, call_adds}
-use Rattle.std.proofs.Common.{refl}
+use Rattle.bl_map.proofs.Following.{compressed, compression_refused}
 use Rattle.bl_map.proofs.upkeep.compress.Goals as goal
 
-pub returns-clause-adds : goal.returns-clause-adds
-returns-clause-adds g c = then_adds _ _ _ _ _ (call_adds _ _ _ _ _ refl c.compress-squeezed.ensures.compresses.adds) (adds_as _ _ _ _ _ c.compress-squeezed.ensures.same.2 c.lower.ensures.adds)
+pub returns-in-NoRoom-clause-tries : goal.returns-in-NoRoom-clause-tries
+returns-in-NoRoom-clause-tries g c = compression_refused _ _ _ _ _ _ _ _ c.in-NoRoom.is c.compress-squeezed.ensures.compresses
+
+pub returns-in_default-clause-tries : goal.returns-in_default-clause-tries
+returns-in_default-clause-tries g c = compressed _ _ _ _ _ _ _ _ c.in_default.not-NoRoom c.compress-squeezed.ensures.compresses

@@ -1,12 +1,27 @@
-use Rattle.std.proofs.Common.{◌∙◌, rules}
-use Rattle.bl_map.proofs.Adding.{nothing, then_adds, adds_as}
+use Rattle.std.proofs.Common.{rules, ◌++◌, [], ◌∷◌, refl, arith}
+use Rattle.bl_map.proofs.Following.{done_more, one_longer, stops_there, stops_last, stops_none}
 use Rattle.bl_map.proofs.upkeep.follow.Goals as goal
 
 pub loop-level-init : goal.loop-level-init
-loop-level-init g c = record { same = search rules; adds = nothing _ _ _ }
+loop-level-init g c = record { same = search rules; hints = []; count = refl; are_done = (refl, refl) }
 
 pub loop-level-preserved : goal.loop-level-preserved
-loop-level-preserved g c = record {
-  same = search rules;
-  adds = then_adds _ _ _ _ _ (then_adds _ _ _ _ _ c.loop-level.invariant.adds (adds_as _ _ _ _ _ c.loop-level.invariant.same.2 c.wait_for_frames.ensures.adds)) (adds_as _ _ _ _ _ (c.wait_for_frames.ensures.same.2 ∙ c.loop-level.invariant.same.2) c.follow_once-hint.ensures.adds);
-}
+loop-level-preserved g c =
+    let inv = c.loop-level.invariant in
+    record {
+      same = search rules;
+      hints = inv.hints ++ c.in-Some.next ∷ [];
+      count = one_longer _ _ _ inv.count;
+      are_done = done_more _ _ _ _ _ _ _ _ _ _ _ _ inv.same.2 c.in-Some.is (search rules) inv.are_done c.follow_once-left.ensures.follows;
+    }
+
+pub returns-then-not-had_room-clause-follows : goal.returns-then-not-had_room-clause-follows
+returns-then-not-had_room-clause-follows g c =
+    let inv = c.loop-level.invariant in
+    stops_there _ _ _ _ _ _ _ _ _ _ _ _ inv.same.2 c.in-Some.is (search rules) inv.are_done c.follow_once-left.ensures.follows
+
+pub returns-in_default-clause-follows : goal.returns-in_default-clause-follows
+returns-in_default-clause-follows g c = let inv = c.loop-level.invariant in stops_none _ _ _ _ _ _ _ (search rules) inv.are_done
+
+pub returns-clause-follows : goal.returns-clause-follows
+returns-clause-follows g c = let inv = c.loop-level.invariant in stops_last _ _ _ _ inv.hints _ _ (omega (arith, inv.count)) inv.are_done

@@ -7,7 +7,7 @@ loop-request-init g c = record { number = omega arith; same = search rules; so_f
 
 pub loop-request-preserved : goal.loop-request-preserved
 loop-request-preserved g c =
-    let line = then_idle _ _ _ _ _ _ _ _ _ _ c.in_ok-answer.ensures.same.2 c.in_ok-answer.ensures.answers c.sweep_if_due.ensures.adds in record {
+    let line = then_idle _ _ _ _ _ _ _ _ _ _ c.in_ok-answer.ensures.same.2 c.in_ok-answer.ensures.answers c.sweep_if_may.ensures.adds in record {
       number = omega arith;
       same = search rules;
       so_far = next_line _ _ _ _ _ _ c.args.lines.now _ _ _ _ _ _ _ c.loop-request.invariant.same.2 c.loop-request-test.true refl (omega arith) c.loop-request.invariant.so_far line;

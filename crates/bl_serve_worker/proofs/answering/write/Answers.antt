@@ -1,8 +1,6 @@
-use Rattle.std.proofs.Common.{◌∙◌}
-use Rattle.bl_serve_worker.proofs.Requests.{call_works, adds_as, adds_works, works_on}
+use Rattle.bl_map.proofs.Following.{written_on, split_adds}
 use Rattle.bl_serve_worker.proofs.answering.write.Goals as goal
 
 pub returns-clause-works : goal.returns-clause-works
 returns-clause-works g c =
-    let number = c.write-reply.ensures.same.2 ∙ c.wait_for_frames.ensures.same.2 in
-    adds_works _ _ _ _ _ _ _ c.wait_for_frames.ensures.adds (works_on _ _ _ _ _ _ _ (call_works _ _ _ _ _ _ _ c.wait_for_frames.ensures.same.2 c.write-reply.ensures.writes.answers) (adds_as _ _ _ _ _ number c.tidy.ensures.adds))
+    written_on _ _ _ _ _ _ _ _ _ c.write-reply.ensures.same.2 c.write-reply.ensures.written (split_adds _ _ _ _ _ _ c.follow_split-left.ensures.follows)

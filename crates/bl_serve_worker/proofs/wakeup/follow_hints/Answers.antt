@@ -1,5 +1,5 @@
 use Rattle.std.proofs.Common.{rules}
-use Rattle.bl_serve_worker.proofs.Requests.{then_adds, adds_as}
+use Rattle.bl_map.proofs.Adding.{then_adds, adds_as}
 use Rattle.bl_serve_worker.proofs.wakeup.follow_hints.Goals as goal
 
 pub loop-init : goal.loop-init

@@ -1,5 +1,5 @@
 use Rattle.std.proofs.Common.{rules}
-use Rattle.bl_serve_worker.proofs.Requests.{nothing, then_adds, adds_as}
+use Rattle.bl_map.proofs.Adding.{nothing, then_adds, adds_as}
 use Rattle.bl_serve_worker.proofs.wakeup.follow_some.Goals as goal
 
 pub loop-number-init : goal.loop-number-init

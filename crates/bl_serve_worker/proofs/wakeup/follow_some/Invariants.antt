@@ -1,5 +1,5 @@
 use Rattle.bl_index.specs.Calls.{first_of, IsSamePass, number_of, trail}
-use Rattle.bl_serve_worker.specs.Works.{Adds}
+use Rattle.bl_map.specs.Works.{Adds}
 use Rattle.bl_serve_worker.proofs.wakeup.follow_some.Given as goal
 
 abbrev pub invariant-loop-number : goal.invariant-loop-number

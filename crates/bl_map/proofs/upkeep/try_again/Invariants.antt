@@ -1,9 +1,0 @@
-use Rattle.bl_index.specs.Calls.{first_of, IsSamePass, number_of, trail}
-use Rattle.bl_map.specs.Works.{Adds}
-use Rattle.bl_map.proofs.upkeep.try_again.Given as goal
-
-abbrev pub invariant-loop-hint : goal.invariant-loop-hint
-invariant-loop-hint g l = record {
-  same : IsSamePass l.fn.pass l.pass;
-  adds : Adds (first_of l.index) (number_of l.fn.pass) (trail l.fn.pass) (trail l.pass);
-}

@@ -1,0 +1,79 @@
+-- What becomes of the hints that calls leave.
+use Rattle.std.specs.Prelude.{◌≡◌, ◌≢◌, ◌⊎◌, ℕ, Bool, true, false, Option, Some, None, List, [], ◌∷◌, length}
+use Rattle.bl_model.specs.declared.operation.Op.{Op}
+use Rattle.bl_model.specs.declared.operation.Reply.{Reply}
+use Rattle.bl_page.specs.declared.page.Page.{Page}
+use Rattle.bl_claims.specs.Trails.{Trail}
+use Rattle.bl_proc_base.specs.declared.answers.Hint.{Hint}
+use Rattle.bl_proc_base.specs.declared.answers.Hint.TheVariants as hint
+use Rattle.bl_proc_base.specs.declared.answers.Posted.{Posted}
+use Rattle.bl_proc_base.specs.declared.answers.Posted.TheVariants as posted
+use Rattle.bl_proc_base.specs.declared.answers.Squeezed.{Squeezed}
+use Rattle.bl_proc_base.specs.declared.answers.Squeezed.TheVariants as squeezed
+use Rattle.bl_index.specs.Calls.{Writes, Posts, Compresses}
+use Rattle.bl_map.specs.declared.upkeep.Followed.{Followed}
+use Rattle.bl_map.specs.declared.upkeep.Followed.TheVariants as followed
+use Rattle.bl_map.specs.Works.{Adds}
+
+-- A key was written: the pass waited for frames, and then a call of it was answered so, with this hint.
+pub record Written (first : List (Option Page)) (pass : ℕ) (op : Op) (reply : Reply) (next : Option Hint) (old new : Trail) : Type 0 where
+  pub mid : Trail
+  pub waits : Adds first pass old mid
+  pub writes : Writes first pass op reply next mid new
+
+-- The pass has made one post of that key to that level, which is done and has left a next hint, or found no room.
+abbrev pub TriesPost : List (Option Page) → ℕ → ℕ → ℕ → Followed → Trail → Trail → Type 0
+TriesPost first pass level key (followed.Done next) old new = (answer : Posted) × (answer ≢ posted.NoRoom) × Posts first pass level key answer next old new
+TriesPost first pass level key followed.NoRoom old new = Posts first pass level key posted.NoRoom None old new
+
+-- The same of a compression.
+abbrev pub TriesCompression : List (Option Page) → ℕ → ℕ → ℕ → Followed → Trail → Trail → Type 0
+TriesCompression first pass level key (followed.Done next) old new = (answer : Squeezed) × (answer ≢ squeezed.NoRoom) × Compresses first pass level key answer next old new
+TriesCompression first pass level key followed.NoRoom old new = Compresses first pass level key squeezed.NoRoom None old new
+
+-- The call for which a hint asks.
+abbrev pub Tries : List (Option Page) → ℕ → Hint → Followed → Trail → Trail → Type 0
+Tries first pass (hint.Post level key) result old new = TriesPost first pass level key result old new
+Tries first pass (hint.Thin level key) result old new = TriesCompression first pass level key result old new
+
+-- The pass waited for frames, and made the call for which the hint asks.
+pub record TriesHint (first : List (Option Page)) (pass : ℕ) (hint : Hint) (result : Followed) (old new : Trail) : Type 0 where
+  pub mid : Trail
+  pub waits : Adds first pass old mid
+  pub tries : Tries first pass hint result mid new
+
+-- A hint was followed: and then top levels were taken away that are not needed.
+pub record FollowsHint (first : List (Option Page)) (pass : ℕ) (hint : Hint) (result : Followed) (old new : Trail) : Type 0 where
+  pub mid : Trail
+  pub tries : TriesHint first pass hint result old mid
+  pub lowers : Adds first pass mid new
+
+-- The same, with what is left then: what doing it has left, where there was room, or else the hint itself.
+abbrev pub FollowsOnce : List (Option Page) → ℕ → Hint → Option Hint → Bool → Trail → Trail → Type 0
+FollowsOnce first pass hint left true old new = FollowsHint first pass hint (followed.Done left) old new
+FollowsOnce first pass hint left false old new = (left ≡ Some hint) × FollowsHint first pass hint followed.NoRoom old new
+
+-- These hints were done one after another: the first is the one that there was, and each further one is what the one before it has
+-- left. What the last one has left is left.
+abbrev pub AreDone : List (Option Page) → ℕ → List Hint → Option Hint → Option Hint → Trail → Trail → Type 0
+AreDone first pass [] start left old new = (left ≡ start) × (new ≡ old)
+AreDone first pass (hint ∷ hints) start left old new =
+    (start ≡ Some hint) × (next : Option Hint) × (mid : Trail) × FollowsHint first pass hint (followed.Done next) old mid × AreDone first pass hints next left mid new
+
+-- Why a hint is left behind so many that were done: it found no room, or there were twelve, as many as a tree has levels.
+abbrev pub StopsAt : List (Option Page) → ℕ → Option Hint → ℕ → Trail → Trail → Type 0
+StopsAt first pass None count old new = new ≡ old
+StopsAt first pass (Some hint) count old new = FollowsHint first pass hint followed.NoRoom old new ⊎ ((count ≡ 12) × (new ≡ old))
+
+-- The hint that a call has left, and those that following it gave, were followed, until none was left, or this one.
+pub record FollowsHints (first : List (Option Page)) (pass : ℕ) (start left : Option Hint) (old new : Trail) : Type 0 where
+  pub hints : List Hint
+  pub mid : Trail
+  pub are_done : AreDone first pass hints start left old mid
+  pub stops : StopsAt first pass left (length hints) mid new
+
+-- The hint of a split was followed so. That of a thin page is left.
+abbrev pub FollowsSplit : List (Option Page) → ℕ → Option Hint → Option Hint → Trail → Trail → Type 0
+FollowsSplit first pass None left old new = FollowsHints first pass None left old new
+FollowsSplit first pass (Some (hint.Post level key)) left old new = FollowsHints first pass (Some (hint.Post level key)) left old new
+FollowsSplit first pass (Some (hint.Thin level key)) left old new = (left ≡ Some (hint.Thin level key)) × (new ≡ old)

@@ -1,9 +1,0 @@
-use Rattle.bl_index.specs.Calls.{first_of, IsSamePass, number_of, trail}
-use Rattle.bl_serve_worker.specs.Works.{Adds}
-use Rattle.bl_serve_worker.proofs.compressing.post.Given as goal
-
-abbrev pub invariant-loop-level : goal.invariant-loop-level
-invariant-loop-level g l = record {
-  same : IsSamePass l.fn.pass l.pass;
-  adds : Adds (first_of l.index) (number_of l.fn.pass) (trail l.fn.pass) (trail l.pass);
-}

@@ -1,0 +1,13 @@
+use Rattle.std.proofs.Common.{All, length}
+use Rattle.bl_map.specs.Maps.{AreSeatsOf}
+use Rattle.example_embedded.specs.Handles.{IsOf}
+use Rattle.example_embedded.proofs.handles_of.Given as goal
+
+abbrev pub invariant-loop-seat : goal.invariant-loop-seat
+invariant-loop-seat l = record {
+  seats : AreSeatsOf l.map l.seats.items;
+  handles : All (IsOf l.map) l.handles.items;
+}
+
+abbrev pub decreases-loop-seat : goal.decreases-loop-seat
+decreases-loop-seat l = length l.seats.items
