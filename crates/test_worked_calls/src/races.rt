@@ -210,13 +210,7 @@ fn clear<R: Wait>(rt: &R, index: &Index, pass: &mut Pass, counts: &Counts)
 }
 
 // Puts the last key's value up by one, trying again with the value that the key has. What the value is then.
-fn count_one<R: Wait>(
-    rt: &R,
-    index: &Index,
-    pass: &mut Pass,
-    value: u64,
-    counts: &Counts,
-) -> u64
+fn count_one<R: Wait>(rt: &R, index: &Index, pass: &mut Pass, value: u64, counts: &Counts) -> u64
     requires { IsPassOf index.now pass.old }
     ensures { IsPassOf index.now pass.new }
 {

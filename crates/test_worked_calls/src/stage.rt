@@ -3,7 +3,8 @@
 ghost use Rattle.bl_index.specs.Calls.{IsPassOf};
 
 use crate::answers::{
-    changed, climbed, compressed, found, listed, listed_near, lowered, posted, replied, scanned, yes,
+    changed, climbed, compressed, found, listed, listed_near, lowered, posted, replied, scanned,
+    yes,
 };
 use crate::calls::PassCall;
 use crate::races::{Race, raced};
