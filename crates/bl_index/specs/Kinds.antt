@@ -1,7 +1,7 @@
 -- The kind of an answer.
 use Rattle.std.specs.Prelude.{Option, None, Some}
 use Rattle.bl_proc_base.specs.declared.answers.Answer.{Answer}
-use Rattle.bl_proc_base.specs.declared.answers.Answer.TheVariants.{Op, Post, Compress, Reclaim, Lower}
+use Rattle.bl_proc_base.specs.declared.answers.Answer.TheVariants.{Op, Post, Compress, Reclaim, Lower, InsertPost}
 
 -- the answer of a compression
 abbrev pub IsCompressAnswer : Option Answer → Type 0
@@ -11,6 +11,7 @@ IsCompressAnswer (Some (Post what hint)) = ⊥
 IsCompressAnswer (Some (Reclaim what)) = ⊥
 IsCompressAnswer (Some (Compress what hint)) = Unit {0}
 IsCompressAnswer (Some (Lower what)) = ⊥
+IsCompressAnswer (Some (InsertPost reply last hint)) = ⊥
 
 -- the answer of a lowering
 abbrev pub IsLowerAnswer : Option Answer → Type 0
@@ -20,3 +21,4 @@ IsLowerAnswer (Some (Post what hint)) = ⊥
 IsLowerAnswer (Some (Reclaim what)) = ⊥
 IsLowerAnswer (Some (Compress what hint)) = ⊥
 IsLowerAnswer (Some (Lower what)) = Unit {0}
+IsLowerAnswer (Some (InsertPost reply last hint)) = ⊥
