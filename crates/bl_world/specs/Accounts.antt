@@ -127,7 +127,8 @@ pub record Account (v : View) : Type 0 where
   -- so does what a lowering answered
   pub lowered : (n : ℕ) (p : Lower) (a : Lowered) → slice_get v.processes n ≡ Some (proc.Lower p) → answer_of (proc.Lower p) ≡ Some (answer.Lower a) → MeansLowered a (marks_of (name_of (n + 1)) trail)
   -- So does what an insertion that posts answered, with the post that it left; and the reply in it is what its entry says.
-  pub climbed : (n : ℕ) (p : InsertPost) (reply : Reply) (last : Option Posted) (left : Option Hint) → slice_get v.processes n ≡ Some (proc.InsertPost p) → answer_of (proc.InsertPost p) ≡ Some (answer.InsertPost reply last left)
+  pub climbed : (n : ℕ) (p : InsertPost) (reply : Reply) (last : Option Posted) (left : Option Hint)
+      → slice_get v.processes n ≡ Some (proc.InsertPost p) → answer_of (proc.InsertPost p) ≡ Some (answer.InsertPost reply last left)
       → Replies trail (name_of (n + 1)) (op_of (proc.InsertPost p)) reply × MeansClimbed reply last left (marks_of (name_of (n + 1)) trail)
   -- so does the answer of a process that was to release a page; and each release is of the retirement that its process saw
   pub reclaimed : (n : ℕ) (p : Reclaim) (a : Reclaimed) → slice_get v.processes n ≡ Some (proc.Reclaim p) → answer_of (proc.Reclaim p) ≡ Some (answer.Reclaim a) → MeansReclaimed v.events (n + 1) p.page a
