@@ -3,13 +3,13 @@
 //! another one opened from its image. What it prints is the same whatever the schedule. `docs/EMBEDDING.md` goes through it.
 #![tactic(auto)]
 
-ghost use Rattle.std.specs.Prelude.{◌≡◌, All, IfSome};
+ghost use Rattle.std.specs.Prelude.{◌≡◌, All, IfSome, IfOk};
 ghost use Rattle.bl_map.specs.Handles.{AreOfOne};
 ghost use Rattle.bl_map.specs.Maps.{AreSeatsOf, IsSeatOf};
 ghost use Rattle.example_embedded.specs.Handles.{IsOf};
 
 use bl_map::{Handle, KeyReply, Map, Seat};
-use std::alloc::Global;
+use std::alloc::{AllocError, Global};
 use std::sync::Wait;
 use std::sync::atomic::{AtomicU64, Ordering};
 use std::thread;
@@ -143,14 +143,19 @@ fn look<'a, R: Wait>(
 }
 
 /// A close takes all seats, so both handles give theirs back.
-fn seats_of(alloc: Global, map: &Map, one: Handle<'_>, two: Handle<'_>) -> Option<Vec<Seat>>
+fn seats_of(
+    alloc: Global,
+    map: &Map,
+    one: Handle<'_>,
+    two: Handle<'_>,
+) -> Result<Vec<Seat>, AllocError>
     requires { IsOf map.now one × IsOf map.now two }
-    ensures { IfSome result (λ seats. AreSeatsOf map.now seats.items) }
+    ensures { IfOk result (λ seats. AreSeatsOf map.now seats.items) }
 {
     let mut seats = Vec::new(alloc);
-    seats.push(one.into_seat()).ok()?;
-    seats.push(two.into_seat()).ok()?;
-    Some(seats)
+    seats.push(one.into_seat())?;
+    seats.push(two.into_seat())?;
+    Ok(seats)
 }
 
 /// Closes the map and opens one with a single seat from its image.
@@ -189,9 +194,7 @@ fn main(rt: HostRuntime) -> anyhow::Result<()> {
     for (key, value) in rows.as_slice() {
         println!(rt; "{key} {value}")?;
     }
-    let Some(seats) = seats_of(rt.alloc(), &map, one, two) else {
-        anyhow::bail!("out of memory");
-    };
+    let seats = seats_of(rt.alloc(), &map, one, two)?;
     let Some((map, seat)) = reopened(rt.alloc(), map, seats) else {
         anyhow::bail!("no map from the image");
     };
