@@ -8,7 +8,7 @@ use Rattle.bl_model.specs.declared.operation.Reply.{Reply}
 use Rattle.bl_model.specs.declared.operation.Reply.TheVariants as reply
 use Rattle.bl_model.specs.declared.deciding.Effect.{Effect}
 use Rattle.bl_model.specs.declared.deciding.Effect.TheVariants.{Keep, Enter, Remove, Replace}
-use Rattle.bl_model.specs.Writes.{effect_of, replied}
+use Rattle.bl_model.specs.Writes.{decided, effect_of, replied}
 use Rattle.bl_page.specs.declared.page.Page.{Page}
 use Rattle.bl_claims.specs.Trails.{Trail}
 use Rattle.bl_proc_base.specs.declared.answers.Answer.TheVariants.{Op}
@@ -67,6 +67,6 @@ delete_lacks old new key (Some there, lacks) = lacks
 pub change_lacks : (old new : Pass) (key was next : ℕ) → WriteLacks old key (Change was next) new → MetNoRoom new 0 1
 change_lacks old new key was next (None, lacks) = absurd lacks
 change_lacks old new key was next (Some there, lacks) = elim (cases_eq there was) [
-  | inl same ↦ (let e : (there == was) ≡ true = grind arith in subst (λ z. EffectLacks z old key new) (let f : effect_of (Change was next) (Some there) ≡ Replace next = rw e refl in f) lacks)
-  | inr other ↦ (let e : (there == was) ≡ false = grind (arith, other) in absurd (subst (λ z. EffectLacks z old key new) (let f : effect_of (Change was next) (Some there) ≡ Keep = rw e refl in f) lacks))
+  | inl same ↦ (let e : (there == was) ≡ true = grind arith in subst (λ z. EffectLacks z old key new) (let f : (decided (Change was next) (Some there)).effect ≡ Replace next = rw e refl in f) lacks)
+  | inr other ↦ (let e : (there == was) ≡ false = grind (arith, other) in absurd (subst (λ z. EffectLacks z old key new) (let f : (decided (Change was next) (Some there)).effect ≡ Keep = rw e refl in f) lacks))
 ]

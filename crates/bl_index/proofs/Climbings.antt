@@ -19,6 +19,7 @@ use Rattle.bl_proc_base.specs.declared.answers.Posted.{Posted}
 use Rattle.bl_proc_base.specs.declared.answers.Posted.TheVariants as posted
 use Rattle.bl_proc.specs.declared.posting.PostReply.{PostReply}
 use Rattle.bl_proc.specs.declared.posting.PostReply.TheVariants as listed
+use Rattle.bl_proc.specs.declared.writing.WriteReply.TheVariants as written
 use Rattle.bl_proc.specs.declared.writing.WriteStage.{WriteStage}
 use Rattle.bl_proc.specs.declared.writing.WriteStage.TheVariants as write
 use Rattle.bl_proc.specs.declared.climbing.InsertPost.{InsertPost}
@@ -43,10 +44,10 @@ use Rattle.bl_index_steps.specs.Held.{own_marks}
 use Rattle.bl_index_steps.specs.Rooms.{LacksPage, LacksPost}
 use Rattle.bl_index_steps.specs.Runs.{IsDone}
 use Rattle.bl_index_steps.specs.Answered.{InCall}
-use Rattle.bl_index_steps.proofs.Ends.{answered_by, in_call_by, climb_says}
+use Rattle.bl_index_steps.proofs.Ends.{answered_by, in_call_by, climb_says, climb_over}
 use Rattle.bl_index_steps.proofs.Rooms.{LacksClimb}
 use Rattle.bl_index.specs.Calls.{Climbs}
-use Rattle.bl_index.specs.Kinds.{IsOver}
+use Rattle.bl_index.specs.Kinds.{IsClimbAnswer}
 
 -- one that is to begin is blank
 new_blank : (p : InsertPost) (got : ℕ → Page) → IsNone p.path → p.key < unbounded → IsBlank (know_write (path_goes p.path) p.key (Insert p.value) got write.New)
@@ -68,11 +69,32 @@ climb_new value (climb.Posting q) b = absurd b
 climb_new value (climb.Ending c) b = absurd b
 climb_new value (climb.Over c) b = absurd b
 
-pub is_over : (a : ClimbStage) (r : Climbed) → a ≡ climb.Over r → IsOver a
-is_over a r e = subst IsOver (sym e) tt
+-- It has ended, and is of that key and value.
+pub record IsEnded (q : InsertPost) (key value : ℕ) : Type 0 where
+  pub end : Climbed
+  pub stage : q.stage ≡ climb.Over end
+  pub key_is : q.key ≡ key
 
-pub answered_as : (q : InsertPost) (value : ℕ) (r : Climbed) (x : Answer) → q.stage ≡ climb.Over r → q.value ≡ value → climbed_answer value r ≡ x → climb_answer_in q.value q.stage ≡ Some x
-answered_as q value r x stage is e = (λ i. climb_answer_in (is i) (stage i)) ∙ ap Some e
+pub first_is : (p : InsertPost) (key value : ℕ) → p.key ≡ key → p.value ≡ value → op_of (proc.InsertPost p) ≡ Some (op.Insert key value)
+first_is p key value k v = λ i. Some (op.Insert (k i) (v i))
+
+pub ended : (pass : ℕ) (old e : PassState) (first : Proc) (q : InsertPost) (key value : ℕ) → IsDone pass old e first (proc.InsertPost q) → op_of first ≡ Some (op.Insert key value) → IsEnded q key value
+ended pass old e first q key value d is = (let over = climb_over d.before q key value (d.op ∙ is) d.at_end d.takes in record { end = over.0; stage = over.1; key_is = over.2 })
+
+insert_answers : (value : ℕ) (r : Climbed) → IsClimbAnswer (Some (climbed_answer value r))
+insert_answers value (climbed.Unsplit (written.Done None left)) = tt
+insert_answers value (climbed.Unsplit (written.Done (Some there) left)) = tt
+insert_answers value (climbed.Unsplit written.NoRoom) = tt
+insert_answers value (climbed.Posted level key r) = tt
+
+pub has_answer : (q : InsertPost) (key value : ℕ) (a : Option Answer) → IsEnded q key value → a ≡ climb_answer_in q.value q.stage → IsClimbAnswer a
+has_answer q key value a is e = subst IsClimbAnswer (sym (e ∙ ap (climb_answer_in q.value) is.stage)) (insert_answers q.value is.end)
+
+some_one : {a b : Answer} → Some a ≡ Some b → a ≡ b
+some_one e = cc
+
+pub said_by : (q : InsertPost) (key value : ℕ) (x : Answer) → (is : IsEnded q key value) → climb_answer_in q.value q.stage ≡ Some x → climbed_answer q.value is.end ≡ x
+said_by q key value x is e = some_one (sym (ap (climb_answer_in q.value) is.stage) ∙ e)
 
 pub climb_answered : (from : List (Option Page)) (pass : ℕ) (old e : PassState) (first : Proc) (q : InsertPost) (key value : ℕ) (said : Reply) (last : Option Posted) (left : Option Hint) → IsDone pass old e first (proc.InsertPost q) → old.first ≡ from → op_of first ≡ Some (op.Insert key value) → climb_answer_in q.value q.stage ≡ Some (Answered said last left) → Climbs from pass key value said last left old.trail e.trail
 climb_answered from pass old e first q key value said last left d begins is a = record {
@@ -103,7 +125,7 @@ no_room_page h key value (climbed.Unsplit r) last left e lacks = lacks
 no_room_page h key value (climbed.Posted level separator r) last left e lacks = absurd (let f : reply.Inserted ≡ reply.NoRoom = same_said _ _ _ _ _ _ e in cc)
 
 -- a post that is left met no room
-record IsLeft (h : H) (level separator : ℕ) (last : Option Posted) (said : Reply) (Lacks : Type 0) : Type 0 where
+pub record IsLeft (h : H) (level separator : ℕ) (last : Option Posted) (said : Reply) (Lacks : Type 0) : Type 0 where
   pub lacks : Lacks → LacksPost level separator h
   pub last_is : last ≡ Some posted.NoRoom
   pub said_is : said ≡ reply.Inserted
@@ -114,7 +136,7 @@ post_left h l k level separator listed.Already e = absurd (let f = e in cc)
 post_left h l k level separator listed.Stale e = absurd (let f = e in cc)
 post_left h l k level separator listed.NoRoom e = (refl, λ lacks. subst (λ (z : ℕ × ℕ). LacksPost z.0 z.1 h) (same e) lacks)
   where
-    same : {a b c d : ℕ} → Some (hint.Post a b) ≡ Some (hint.Post c d) → (a, b) ≡ (c, d)
+    same : {a b c d : ℕ} → Some (hint.Post a b) ≡ Some (hint.Post c d) → ◌≡◌ {A = ℕ × ℕ} (a, b) (c, d)
     same f = cc
 post_left h l k level separator listed.TooTall e = absurd (let f = e in cc)
 

@@ -1,7 +1,7 @@
 -- The kind of an answer.
 use Rattle.std.specs.Prelude.{Option, None, Some}
-use Rattle.bl_proc.specs.declared.climbing.ClimbStage.{ClimbStage}
-use Rattle.bl_proc.specs.declared.climbing.ClimbStage.TheVariants as climb
+use Rattle.bl_model.specs.declared.operation.Reply.{Reply}
+use Rattle.bl_model.specs.declared.operation.Reply.TheVariants as reply
 use Rattle.bl_proc_base.specs.declared.answers.Answer.{Answer}
 use Rattle.bl_proc_base.specs.declared.answers.Answer.TheVariants.{Op, Post, Compress, Reclaim, Lower, InsertPost}
 
@@ -25,9 +25,14 @@ IsLowerAnswer (Some (Compress what hint)) = ⊥
 IsLowerAnswer (Some (Lower what)) = Unit {0}
 IsLowerAnswer (Some (InsertPost reply last left)) = ⊥
 
--- an insertion that posts has ended
-abbrev pub IsOver : ClimbStage → Type 0
-IsOver (climb.Writing w) = ⊥
-IsOver (climb.Posting p) = ⊥
-IsOver (climb.Ending r) = ⊥
-IsOver (climb.Over r) = Unit {0}
+-- a reply of an insertion
+abbrev pub IsOfInsertion : Reply → Type 0
+IsOfInsertion reply.Inserted = Unit {0}
+IsOfInsertion (reply.Present value) = Unit {0}
+IsOfInsertion reply.NoRoom = Unit {0}
+IsOfInsertion other = ⊥
+
+-- the answer of an insertion that posts
+abbrev pub IsClimbAnswer : Option Answer → Type 0
+IsClimbAnswer (Some (InsertPost reply last left)) = IsOfInsertion reply
+IsClimbAnswer other = ⊥

@@ -6,67 +6,34 @@ ghost use Rattle.bl_model.specs.declared.operation.Op.TheVariants as op;
 ghost use Rattle.bl_model.specs.Replies.{reply_of};
 ghost use Rattle.bl_proc_base.specs.declared.answers.Answer.TheVariants as answers;
 ghost use Rattle.bl_proc_base.specs.declared.answers.Hint.TheVariants as hints;
-ghost use Rattle.bl_proc.specs.declared.climbing.ClimbStage.TheVariants as climb;
-ghost use Rattle.bl_proc.specs.Climbs.{climbed_answer, posted_as, left_hint};
-ghost use Rattle.bl_index.specs.Kinds.{IsOver};
+ghost use Rattle.bl_index.specs.Kinds.{IsOfInsertion, IsClimbAnswer};
 
 use crate::index::{Index, Pass};
-use bl_model::{KeyReply, KeyWrite, decide};
-use bl_proc::{ClimbStage, Climbed, Hint, InsertPost, Level, PostReply, Posted, WriteReply};
+use bl_model::{KeyReply, Reply};
+use bl_proc::{Answer, Hint, InsertPost, Posted, Process};
 use std::sync::Wait;
 
-/// What became of an insertion that has ended.
-fn over(stage: ClimbStage) -> Climbed
-    requires { IsOver stage }
-    ensures { stage ≡ climb.Over result }
+/// The reply of an insertion.
+fn inserted(reply: Reply) -> KeyReply
+    requires { IsOfInsertion reply }
+    ensures { reply_of result ≡ reply }
 {
-    match stage {
-        ClimbStage::Over(climbed) => climbed,
+    match reply {
+        Reply::Inserted => KeyReply::Inserted,
+        Reply::Present(value) => KeyReply::Present(value),
+        Reply::NoRoom => KeyReply::NoRoom,
         _ => unreachable!(),
     }
 }
 
-/// What became of a post.
-fn posted_by(reply: PostReply) -> Posted
-    ensures { result ≡ posted_as reply }
+/// What became of an insertion and of its last post, and the hint.
+fn climbed(answer: Option<Answer>) -> (KeyReply, Option<Posted>, Option<Hint>)
+    requires { IsClimbAnswer answer }
+    ensures { answer ≡ Some (answers.InsertPost (reply_of result.0) result.1 result.2) }
 {
-    match reply {
-        PostReply::Done(_) => Posted::Done,
-        PostReply::Already => Posted::Already,
-        PostReply::Stale => Posted::Stale,
-        PostReply::NoRoom => Posted::NoRoom,
-        PostReply::TooTall => Posted::TooTall,
-    }
-}
-
-/// The hint that is left of a post.
-fn left_of(level: Level, key: u64, posted: Posted) -> Option<Hint>
-    ensures { result ≡ left_hint level key posted }
-{
-    match posted {
-        Posted::NoRoom => Some(Hint::Post { level, key }),
-        _ => None,
-    }
-}
-
-/// What an insertion of that value answers, with what became of its last post, and the hint.
-fn answer_of(value: u64, climbed: Climbed) -> (KeyReply, Option<Posted>, Option<Hint>)
-    ensures { climbed_answer value climbed ≡ answers.InsertPost (reply_of result.0) result.1 result.2 }
-{
-    match climbed {
-        Climbed::Unsplit(WriteReply::Done(there, _)) => {
-            let decided = decide(KeyWrite::Insert(value), there);
-            (decided.reply, None, None)
-        }
-        Climbed::Unsplit(WriteReply::NoRoom) => (KeyReply::NoRoom, None, None),
-        Climbed::Posted { level, key, reply } => {
-            let posted = posted_by(reply);
-            (
-                KeyReply::Inserted,
-                Some(posted),
-                left_of(level, key, posted),
-            )
-        }
+    match answer {
+        Some(Answer::InsertPost(reply, last, left)) => (inserted(reply), last, left),
+        _ => unreachable!(),
     }
 }
 
@@ -93,7 +60,6 @@ impl Index {
     {
         let insertion = InsertPost::new(key, value);
         let process = self.tree.carry_out(rt, &mut pass.hand, insertion);
-        let InsertPost { stage, .. } = process;
-        answer_of(value, over(stage))
+        climbed(process.answer())
     }
 }
