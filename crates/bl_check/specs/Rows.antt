@@ -9,7 +9,8 @@ use Rattle.bl_check.specs.Spans.{leftmost}
 -- the rows of the leaf x, and then those of the leaves to its right; the last has no link
 pub data RowsFrom (pages : List (Option Page)) : ℕ → List (ℕ × ℕ) → Type 0 where
   Last : {x : ℕ} (leaf : Leaf) → page_at pages x ≡ Some (page.Leaf leaf) → leaf.right ≡ 0 → RowsFrom pages x leaf.rows.items
-  Next : {x : ℕ} {rest : List (ℕ × ℕ)} (leaf : Leaf) → page_at pages x ≡ Some (page.Leaf leaf) → leaf.right ≢ 0 → RowsFrom pages leaf.right rest → RowsFrom pages x (leaf.rows.items ++ rest)
+  Next : {x : ℕ} {rest : List (ℕ × ℕ)} (leaf : Leaf) → page_at pages x ≡ Some (page.Leaf leaf) → leaf.right ≢ 0 → RowsFrom pages leaf.right rest
+      → RowsFrom pages x (leaf.rows.items ++ rest)
 
 -- The rows of an image begin with those of the leftmost leaf.
 abbrev pub AreRowsOf : List (Option Page) → List (ℕ × ℕ) → Type 0

@@ -8,7 +8,8 @@ Agreement t map = (x k : ℕ) → t.live x → (t.node x).shape.level ≡ 0 → 
 
 -- Two live pages of one level cover a common key only in the middle of a compression of the two.
 abbrev pub Overlap : Snapshot → Type 0
-Overlap t = (x y k : ℕ) → t.live x → t.live y → (t.node x).shape.level ≡ (t.node y).shape.level → Covers (t.node x).shape k → Covers (t.node y).shape k → (x ≡ y) ⊎ (t.middle x y ⊎ t.middle y x)
+Overlap t = (x y k : ℕ) → t.live x → t.live y → (t.node x).shape.level ≡ (t.node y).shape.level → Covers (t.node x).shape k → Covers (t.node y).shape k
+    → (x ≡ y) ⊎ (t.middle x y ⊎ t.middle y x)
 
 -- One page of the chain and the next: the bound is the next page's low, or greater in the middle of a compression.
 pub record IsLinked (t : Snapshot) (x y : ℕ) : Type 0 where

@@ -50,7 +50,8 @@ pub record IsNewTop (level x : ℕ) (top anchor : Page) : Type 0 where
 -- These write new top levels alone, one or more or none: each time a page is taken and put, and then the anchor that names it.
 pub data RaisesOnly (level : ℕ) : List (Act Page Reply) → Type 0 where
   Never : RaisesOnly level []
-  Again : {acts : List (Act Page Reply)} (x : ℕ) (top anchor : Page) → RaisesOnly level acts → IsNewTop level x top anchor → RaisesOnly level (acts ++ Take x ∷ Put x top ∷ Put 0 anchor ∷ [])
+  Again : {acts : List (Act Page Reply)} (x : ℕ) (top anchor : Page) → RaisesOnly level acts → IsNewTop level x top anchor
+      → RaisesOnly level (acts ++ Take x ∷ Put x top ∷ Put 0 anchor ∷ [])
 
 -- it has begun, and has written nothing since but new top levels
 abbrev pub HasRaised : ℕ → Trail → Type 0
@@ -60,7 +61,8 @@ HasRaised level marks = Wrote marks (RaisesOnly level)
 -- whose low the separator is, before x is put as the lower one.
 pub data WritesBack (x : ℕ) : Option ℕ → List Page → List (Act Page Reply) → Type 0 where
   Whole : (page : Page) → WritesBack x None (page ∷ []) (Put x page ∷ [])
-  Split : (new separator : ℕ) (upper lower : Page) → (node_of upper).shape.low ≡ separator → WritesBack x (Some separator) (upper ∷ lower ∷ []) (Take new ∷ Put new upper ∷ Put x lower ∷ [])
+  Split : (new separator : ℕ) (upper lower : Page) → (node_of upper).shape.low ≡ separator
+      → WritesBack x (Some separator) (upper ∷ lower ∷ []) (Take new ∷ Put new upper ∷ Put x lower ∷ [])
 
 -- The time during which the process held page x for its work: it latched the page, when it had written nothing but new top
 -- levels, and has not opened it in what it did then; and it has written nothing since.

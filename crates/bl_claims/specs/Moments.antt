@@ -76,7 +76,13 @@ pub record InEvening (s : State Page) (trail : Trail) (y : ℕ) : Type 0 where
 
 -- the tree at that moment
 abbrev pub snapshot_of : State Page → Trail → Snapshot
-snapshot_of s trail = record { live = IsLivePage s trail; node = λ x. node_of (s.contents x); roots = roots_of (s.contents 0); middle = InMiddle s trail; evened = InEvening s trail }
+snapshot_of s trail = record {
+  live = IsLivePage s trail;
+  node = λ x. node_of (s.contents x);
+  roots = roots_of (s.contents 0);
+  middle = InMiddle s trail;
+  evened = InEvening s trail;
+}
 
 -- The laws of the tree: its live leaves agree with the map, live pages overlap only in the middle of a compression, each level
 -- has its chain, children are listed as they are, and the lone walk of each key finds its leaf.

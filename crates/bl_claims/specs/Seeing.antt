@@ -71,7 +71,8 @@ AreOnlyOf p marks = Each (λ (m : Mark). m.event.process.pass ≡ p.pass → m.e
 
 -- The first that the pass of p does there is the begin of p.
 abbrev pub BeginsBy : Name → Trail → Type 0
-BeginsBy p marks = (before : Trail) × (first : Mark) × (rest : Trail) × (marks ≡ before ++ first ∷ rest) × (first.event ≡ record { process = p; act = Begin }) × AreElse p.pass before
+BeginsBy p marks = (before : Trail) × (first : Mark) × (rest : Trail) × (marks ≡ before ++ first ∷ rest) × (first.event ≡ record { process = p; act = Begin })
+    × AreElse p.pass before
 
 -- The last event of all is the end of p, with that answer.
 abbrev pub EndsBy : Name → Option Reply → Trail → Type 0

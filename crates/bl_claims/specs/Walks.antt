@@ -14,7 +14,8 @@ pub record IsChildOf (look : Look) (k c : ℕ) : Type 0 where
 pub data IsWalk (node : ℕ → Node) (k : ℕ) : ℕ → List ℕ → ℕ → Type 0 where
   Ends : {x : ℕ} → (node x).shape.level ≡ 0 → Covers (node x).shape k → IsWalk node k x (x ∷ []) x
   Right : {x leaf : ℕ} {pages : List ℕ} → (node x).shape.end ≤ k → IsWalk node k (node x).shape.right pages leaf → IsWalk node k x (x ∷ pages) leaf
-  Down : {x c leaf : ℕ} {pages : List ℕ} → 0 < (node x).shape.level → Covers (node x).shape k → IsChildOf (node x).look k c → IsWalk node k c pages leaf → IsWalk node k x (x ∷ pages) leaf
+  Down : {x c leaf : ℕ} {pages : List ℕ} → 0 < (node x).shape.level → Covers (node x).shape k → IsChildOf (node x).look k c → IsWalk node k c pages leaf
+      → IsWalk node k x (x ∷ pages) leaf
 
 -- it holds of each of these
 abbrev pub Each : {A : Type 0} → (A → Type 0) → List A → Type 0

@@ -44,7 +44,8 @@ pub record PutsRow {P : Type 0} (know : P → Know) (w w' : World P) (p : Name) 
   pub map : IsMapRow (nodes w.now x).shape.level k v w.map w'.map
 
 -- The old page of a split is put, with the pair of k changed to v; it names the fresh page y.
-pub record PutsSplit {P : Type 0} (know : P → Know) (w w' : World P) (p : Name) (x y k : ℕ) (v : Option ℕ) (c : Page) (said : Option Said) (b : P) : Type 0 where
+pub record PutsSplit {P : Type 0} (know : P → Know) (w w' : World P) (p : Name) (x y k : ℕ) (v : Option ℕ) (c : Page) (said : Option Said) (b : P)
+    : Type 0 where
   pub owes : Owes know w w' p x c said b
   pub live : w.status x ≡ Live
   pub fresh : w.status y ≡ Fresh

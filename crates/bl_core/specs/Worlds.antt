@@ -166,8 +166,10 @@ pub record HasMiddle {P : Type 0} (know : P → Know) (w : World P) (x y : ℕ) 
 -- it is retired, one process holds both; so the page that it leads to is retired later, if it is, and dead pages lead in no
 -- circle.
 pub record LeadsLeft {P : Type 0} (w : World P) (x : ℕ) : Type 0 where
-  pub leads : (p : Name) → MayGet w p x → MayGet w p (nodes w.now x).shape.right × ((nodes w.now (nodes w.now x).shape.right).shape.level ≡ (nodes w.now x).shape.level)
-  pub not_yet : (q : Name) → w.now.owner x ≡ Held q → (w.now.owner (nodes w.now x).shape.right ≡ Held q) × IsLive (w.status (nodes w.now x).shape.right) × ((nodes w.now (nodes w.now x).shape.right).shape.level ≡ (nodes w.now x).shape.level)
+  pub leads : (p : Name) → MayGet w p x → MayGet w p (nodes w.now x).shape.right
+      × ((nodes w.now (nodes w.now x).shape.right).shape.level ≡ (nodes w.now x).shape.level)
+  pub not_yet : (q : Name) → w.now.owner x ≡ Held q → (w.now.owner (nodes w.now x).shape.right ≡ Held q) × IsLive (w.status (nodes w.now x).shape.right)
+      × ((nodes w.now (nodes w.now x).shape.right).shape.level ≡ (nodes w.now x).shape.level)
   pub later : (p : Name) (time next : ℕ) → MayGet w p x → w.now.owner x ≡ Retired time → w.now.owner (nodes w.now x).shape.right ≡ Retired next → time < next
 
 -- A dead page covers no key. It leads to the left, unless it was the top page of the tree: then it has no link, and was above the

@@ -41,7 +41,8 @@ pub record IsShape (top : ℕ) (st : ℕ → Status) (shape : ℕ → Shape) (se
   pub link_same : (x : ℕ) → IsLive (st x) → (shape x).end < top → st x ≢ Left (shape x).right → (shape (shape x).right).low ≡ (shape x).end
   pub left : (x y : ℕ) → st x ≡ Left y → st y ≡ Right x
   pub right : (x y : ℕ) → st y ≡ Right x → st x ≡ Left y
-  pub apart : (x y k : ℕ) → IsLive (st x) → IsLive (st y) → (shape x).level ≡ (shape y).level → Covers (shape x) k → Covers (shape y) k → st x ≢ Left y → st x ≢ Right y → x ≡ y
+  pub apart : (x y k : ℕ) → IsLive (st x) → IsLive (st y) → (shape x).level ≡ (shape y).level → Covers (shape x) k → Covers (shape y) k → st x ≢ Left y
+      → st x ≢ Right y → x ≡ y
   pub sep_low : (x : ℕ) → IsLive (st x) → (shape x).low ≤ sep x
   pub sep_same : (x : ℕ) → IsLive (st x) → ((y : ℕ) → st x ≢ Right y) → (shape x).low ≡ sep x
 

@@ -44,7 +44,8 @@ first_of index = index.tree.store.table.shared.key.known.value.first
 
 -- the pass is of this index, and knows what it began with
 abbrev pub IsPassOf : Index → Pass → Type 0
-IsPassOf index pass = (pass.hand.seat.table_id ≡ index.tree.store.table.shared.table_id) × (pass.hand.seat.me.0.layout ≡ index.tree.store.layout) × ((known pass.hand.seat).first ≡ first_of index)
+IsPassOf index pass = (pass.hand.seat.table_id ≡ index.tree.store.table.shared.table_id) × (pass.hand.seat.me.0.layout ≡ index.tree.store.layout)
+    × ((known pass.hand.seat).first ≡ first_of index)
 
 abbrev pub number_of : Pass → ℕ
 number_of pass = pass.hand.number
@@ -91,14 +92,16 @@ ClimbLacks old level key new = InCall (number_of old) (Some reply.Inserted) (tra
 
 -- The same pass of the same index
 abbrev pub IsSamePass : Pass → Pass → Type 0
-IsSamePass old new = (new.hand.seat.table_id ≡ old.hand.seat.table_id) × (new.hand.seat.me.0.layout ≡ old.hand.seat.me.0.layout) × (new.hand.number ≡ old.hand.number) × ((known new.hand.seat).first ≡ (known old.hand.seat).first)
+IsSamePass old new = (new.hand.seat.table_id ≡ old.hand.seat.table_id) × (new.hand.seat.me.0.layout ≡ old.hand.seat.me.0.layout)
+    × (new.hand.number ≡ old.hand.number) × ((known new.hand.seat).first ≡ (known old.hand.seat).first)
 
 -- In an index of one pass each call is a step of one map.
 abbrev pub StepsAlone : List (Option Page) → Index → Op → Reply → Trail → Trail → Type 0
 StepsAlone first index op reply old new = passes_of index ≡ 1 → IsMapStep (map_after first old) op reply (map_after first new)
 
 -- A sweep of the pass that answered a number. Its events are releases of pages, no more than that number, all of them by one
--- process of its own, which had done nothing before and does not begin. The entries of the pass are those of before, and if what the pass had seen was a trail that an index
+-- process of its own, which had done nothing before and does not begin. The entries of the pass are those of before, and if
+-- what the pass had seen was a trail that an index
 -- may have, then so is what it has seen now.
 pub record Sweeps (first : List (Option Page)) (pass answer : ℕ) (old new : Trail) : Type 0 where
   pub number : ℕ

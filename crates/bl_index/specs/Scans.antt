@@ -29,7 +29,8 @@ AreParts pass to (Some from) (e ∷ es) upto = (e.pass ≡ pass) × (e.op ≡ Pa
 -- The pass has made calls that were answered so, one after another, each with so many turns, and nothing else.
 abbrev pub AreCalls : List (Option Page) → ℕ → ℕ → ℕ → List Entry → Trail → Trail → Type 0
 AreCalls first pages pass turns [] old new = new ≡ old
-AreCalls first pages pass turns (e ∷ es) old new = (mid : Trail) × Finds first pages pass turns e.op e.reply old mid × AreCalls first pages pass turns es mid new
+AreCalls first pages pass turns (e ∷ es) old new =
+    (mid : Trail) × Finds first pages pass turns e.op e.reply old mid × AreCalls first pages pass turns es mid new
 
 -- A scan answers a key right: its rows list the key with the value that the map had for it, or do not list it, as the map stood
 -- where one of its parts stands in the history. The history was old before the scan, and is new after it.
@@ -78,33 +79,38 @@ StopsAt first pages pass turns to room (Memory from) old new = FindsNoRoom first
 StopsAt first pages pass turns to room (OutOfTurns from) old new = RunsOut first pages pass turns old new
 
 -- A scan has stopped at a part below its end. Up to there it has scanned, and nothing of that part is among its rows.
-pub record StopsScan (first : List (Option Page)) (pages pass turns from : ℕ) (to : Option ℕ) (room : ℕ) (fault : ScanFault) (rows : List (ℕ × ℕ)) (old new : Trail) : Type 0 where
+pub record StopsScan (first : List (Option Page)) (pages pass turns from : ℕ) (to : Option ℕ) (room : ℕ) (fault : ScanFault) (rows : List (ℕ × ℕ))
+    (old new : Trail) : Type 0 where
   pub mid : Trail
   pub scans : Scans first pages pass turns from to (Some (left_from fault)) rows old mid
   pub left : IsBelow to (left_from fault)
   pub stops : StopsAt first pages pass turns to room fault mid new
 
 -- A scan has ended or stopped, and its rows stand behind those of before. There is room for so many more.
-pub record MayScan (first : List (Option Page)) (pages pass turns from : ℕ) (to : Option ℕ) (room : ℕ) (result : Result (Unit {0}) ScanFault) (before after : List (ℕ × ℕ)) (old new : Trail) : Type 0 where
+pub record MayScan (first : List (Option Page)) (pages pass turns from : ℕ) (to : Option ℕ) (room : ℕ) (result : Result (Unit {0}) ScanFault)
+    (before after : List (ℕ × ℕ)) (old new : Trail) : Type 0 where
   pub rows : List (ℕ × ℕ)
   pub appended : after ≡ before ++ rows
   pub ended : OnOk result (EndsScan first pages pass turns from to rows old new)
   pub stopped : IfErr result (λ fault. StopsScan first pages pass turns from to room fault rows old new)
 
 -- One part of a scan was answered, and its rows below the scan's end stand behind those of before.
-pub record AppendsPart (first : List (Option Page)) (pages pass turns from : ℕ) (to : Option ℕ) (behind : Behind) (before after : List (ℕ × ℕ)) (old new : Trail) : Type 0 where
+pub record AppendsPart (first : List (Option Page)) (pages pass turns from : ℕ) (to : Option ℕ) (behind : Behind) (before after : List (ℕ × ℕ))
+    (old new : Trail) : Type 0 where
   pub reply : Reply
   pub finds : Finds first pages pass turns (Part from) reply old new
   pub ends : GoesOnWithin to (ended_at reply) behind
   pub appended : after ≡ before ++ rows_below to reply
 
 -- The scan stops at that part, and the rows are those of before.
-pub record LeavesPart (first : List (Option Page)) (pages pass turns from : ℕ) (to : Option ℕ) (room : ℕ) (fault : ScanFault) (before after : List (ℕ × ℕ)) (old new : Trail) : Type 0 where
+pub record LeavesPart (first : List (Option Page)) (pages pass turns from : ℕ) (to : Option ℕ) (room : ℕ) (fault : ScanFault) (before after : List (ℕ × ℕ))
+    (old new : Trail) : Type 0 where
   pub key : left_from fault ≡ from
   pub kept : after ≡ before
   pub stops : StopsAt first pages pass turns to room fault old new
 
 -- One or the other.
-pub record MayAppend (first : List (Option Page)) (pages pass turns from : ℕ) (to : Option ℕ) (room : ℕ) (result : Result Behind ScanFault) (before after : List (ℕ × ℕ)) (old new : Trail) : Type 0 where
+pub record MayAppend (first : List (Option Page)) (pages pass turns from : ℕ) (to : Option ℕ) (room : ℕ) (result : Result Behind ScanFault)
+    (before after : List (ℕ × ℕ)) (old new : Trail) : Type 0 where
   pub listed : IfOk result (λ behind. AppendsPart first pages pass turns from to behind before after old new)
   pub left : IfErr result (λ fault. LeavesPart first pages pass turns from to room fault before after old new)

@@ -78,7 +78,8 @@ impl Index {
         requires idle { IsIdle other.old.seat × HasNoStock other.old.seat }
         requires names { (hand.old.number ≡ J.pass) × (other.old.number ≡ J.other) × (self.now.tree.store.layout.passes ≡ J.passes) }
         ensures same { Keeps hand.old.seat hand.new.seat }
-        ensures other { IsSameHand other.old.seat other.new.seat × IsIdle other.new.seat × HasNoStock other.new.seat × (known other.new.seat ≡ known other.old.seat) }
+        ensures other { IsSameHand other.old.seat other.new.seat × IsIdle other.new.seat × HasNoStock other.new.seat
+            × (known other.new.seat ≡ known other.old.seat) }
         ensures observed { learned J.pass J.other J.passes (known hand.old.seat) (known other.old.seat) (known hand.new.seat) }
     {
         self.tree.store.meet::<Learned<J>>(hand, other);
@@ -101,7 +102,8 @@ impl Index {
         requires names { hand.old.number ≡ J.pass }
         requires begins { GoesOnFrom (known hand.old.seat).trail (known other.old.seat).trail }
         ensures same { Keeps hand.old.seat hand.new.seat }
-        ensures other { IsSameHand other.old.seat other.new.seat × IsIdle other.new.seat × HasNoStock other.new.seat × (known other.new.seat ≡ known other.old.seat) }
+        ensures other { IsSameHand other.old.seat other.new.seat × IsIdle other.new.seat × HasNoStock other.new.seat
+            × (known other.new.seat ≡ known other.old.seat) }
         ensures observed { heard J.pass (known hand.old.seat) (known other.old.seat) (known hand.new.seat) }
     {
         self.tree.store.meet::<Heard<J>>(hand, other);

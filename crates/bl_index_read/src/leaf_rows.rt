@@ -193,7 +193,8 @@ pub fn portion_in<W: Words>(source: &W, hand: &mut W::Hand, from: u64, to: Optio
     ensures same { hand.new ≡ hand.old }
     ensures first { IsPlaceOf (pairs_of (W.shown source.now hand.old)) from result.first }
     ensures last { EndsBefore (pairs_of (W.shown source.now hand.old)) to result.first result.last }
-    ensures behind { (c : Page) (next : Next) → IsTreePage c → W.shown source.now hand.old ≡ words_of c → GoesOnAt (node_of c).shape.end next → GoesOnWithin to (next_key next) result.behind }
+    ensures behind { (c : Page) (next : Next) → IsTreePage c → W.shown source.now hand.old ≡ words_of c → GoesOnAt (node_of c).shape.end next
+        → GoesOnWithin to (next_key next) result.behind }
 {
     let count = (word(source, hand, 0) % LEVEL_UNIT) as usize;
     let first = first_from(source, hand, count, from);

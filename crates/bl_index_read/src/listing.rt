@@ -76,7 +76,8 @@ pub fn list_part(
 fn launch_part<J: Launch>(tree: &Tree, hand: &mut Hand<PassState>, from: u64, near: Option<u32>)
     requires own { IsHandOf tree.now.store hand.old }
     requires idle { IsIdle hand.old.seat }
-    requires names { (hand.old.number ≡ J.pass) × (tree.now.store.layout.pages ≡ J.pages) × (tree.now.store.layout.passes ≡ J.passes) × (listing from (first_stage near) ≡ J.process) }
+    requires names { (hand.old.number ≡ J.pass) × (tree.now.store.layout.pages ≡ J.pages) × (tree.now.store.layout.passes ≡ J.passes)
+        × (listing from (first_stage near) ≡ J.process) }
     requires next { next_of J.process ≡ act.Begin }
     requires unborn { IsUnborn J.process }
     requires course { GoesOn J.process seen.Done }
@@ -183,7 +184,9 @@ fn seek_leaf(
 ) -> Option<Glance>
     requires runs { Runs tree.now hand.old (part_at from way) }
     ensures same { IsSameHand hand.old.seat hand.new.seat × IsSameStock hand.old.seat hand.new.seat }
-    ensures came { (old : Knows) (pass got : ℕ) → IsSince pass old (known hand.old.seat) → IsAtTurn tree.now.store.layout.pages pass (old.number + 1) got (known hand.old.seat).trail → MatchOption result (HasGivenUp tree.now.store.layout pass (got + turns) old hand.new.seat) (HasLeaf tree.now.store.layout pass from (got + turns) old hand.new.seat) }
+    ensures came { (old : Knows) (pass got : ℕ) → IsSince pass old (known hand.old.seat)
+        → IsAtTurn tree.now.store.layout.pages pass (old.number + 1) got (known hand.old.seat).trail
+        → MatchOption result (HasGivenUp tree.now.store.layout pass (got + turns) old hand.new.seat) (HasLeaf tree.now.store.layout pass from (got + turns) old hand.new.seat) }
 {
     let mut way = way;
     for _turn in 0..turns {

@@ -61,7 +61,9 @@ owner_in hands (Retired time) = machine.Retired time
 -- none, the last one holds no page any more.
 abbrev pub IsAtStage : World Run → ℕ → Stage → PassState → Type 0
 IsAtStage w n Idle d = (d.runs ≡ false) × ((x : ℕ) → w.now.owner x ≢ machine.Held (name n d.number))
-IsAtStage w n (Running since) d = (d.runs ≡ true) × (d.number ≢ 0) × (w.now.phase (name n d.number) ≡ machine.Running since) × ((w.proc (name n d.number)).state ≡ d.state) × (own n w.trail ≡ d.past ++ entries_at (name n d.number) (know (w.proc (name n d.number))).said) × proc_log d.state (marks_of (name n d.number) w.trail)
+IsAtStage w n (Running since) d =
+    (d.runs ≡ true) × (d.number ≢ 0) × (w.now.phase (name n d.number) ≡ machine.Running since) × ((w.proc (name n d.number)).state ≡ d.state)
+    × (own n w.trail ≡ d.past ++ entries_at (name n d.number) (know (w.proc (name n d.number))).said) × proc_log d.state (marks_of (name n d.number) w.trail)
 
 -- the processes of that pass among these events have numbers up to that one
 abbrev pub AreUpTo : ℕ → ℕ → Trail → Type 0

@@ -36,4 +36,5 @@ LacksAsked h p = (ask : ℕ × ℕ) × MayAsk p ask × WasRefused h ask.0 ask.1 
 -- One event of the process p, by which it was told that: where it was refused, the hand was refused what it had asked for; and
 -- at an open nothing changes of what the hand was refused.
 abbrev pub TellsRoom : H → H → Proc → Seen → Type 0
-TellsRoom h h' p what = (what ≡ seen.Refused → (ask : ℕ × ℕ) × (needs_of p ≡ Some ask) × WasRefused h' ask.0 ask.1) × ((x : ℕ) → next_of p ≡ act.Open x → IsSameRefusal h h')
+TellsRoom h h' p what =
+    (what ≡ seen.Refused → (ask : ℕ × ℕ) × (needs_of p ≡ Some ask) × WasRefused h' ask.0 ask.1) × ((x : ℕ) → next_of p ≡ act.Open x → IsSameRefusal h h')

@@ -111,5 +111,7 @@ pub record IsDone (pass : ℕ) (old e : PassState) (first last : Proc) : Type 0 
 
 -- After a step of the process p, which is then q: it has gone on by one event; or it is to end, and nothing has happened.
 abbrev pub IsAfter : Layout → Seat (Unit {0}) (View PassState) → Seat (Unit {0}) (View PassState) → Proc → Proc → Stepped → Type 0
-IsAfter l h h' p q (On held) = IsOn l (known h') q × Moves (known h) (known h') × HasReserved h' held q × ((what : Seen) × Follows p what q × Takes p what q × TellsRoom h h' p what) × (next_of p ≢ act.End)
+IsAfter l h h' p q (On held) =
+    IsOn l (known h') q × Moves (known h) (known h') × HasReserved h' held q × ((what : Seen) × Follows p what q × Takes p what q × TellsRoom h h' p what)
+    × (next_of p ≢ act.End)
 IsAfter l h h' p q AtEnd = (next_of p ≡ act.End) × (q ≡ p) × (known h' ≡ known h) × HasNoStock h' × IsSameRefusal h h'

@@ -46,7 +46,8 @@ impl Tree {
         ensures same { IsSameHand hand.old.seat hand.new.seat }
         ensures rests { Rests hand.new.seat }
         ensures empty { HasNoStock hand.new.seat }
-        ensures done { (pass : ℕ) (old : Knows) → IsSince pass old (known hand.old.seat) → IsDone pass old (known hand.new.seat) (P.proc_of process) (P.proc_of result) }
+        ensures done { (pass : ℕ) (old : Knows) → IsSince pass old (known hand.old.seat)
+            → IsDone pass old (known hand.new.seat) (P.proc_of process) (P.proc_of result) }
         ensures no_room { (a : AnswerIs) → P.answer_of result ≡ Some a → IsNoRoom a → LacksAsked hand.new.seat (P.proc_of result) }
     {
         let backoff = Backoff::new();

@@ -139,7 +139,8 @@ impl Tree {
         requires course { ((y : ℕ) → IsChild y → GoesOn (known hand.old.seat).state (seen.Took y)) × GoesOn (known hand.old.seat).state seen.Refused }
         requires empty { HasNoStock hand.old.seat }
         ensures same { IsSameHand hand.old.seat hand.new.seat × IsSameStage hand.old.seat hand.new.seat }
-        ensures took { MatchOption result (HasNoStock hand.new.seat × Goes seen.Refused (known hand.old.seat) (known hand.new.seat)) (λ t. IsChild t.0 × IsStockOf hand.new.seat t.1 × (t.1.count ≡ 2) × Goes (seen.Took t.0) (known hand.old.seat) (known hand.new.seat)) }
+        ensures took { MatchOption result (HasNoStock hand.new.seat × Goes seen.Refused (known hand.old.seat) (known hand.new.seat)) (λ t. IsChild t.0
+            × IsStockOf hand.new.seat t.1 × (t.1.count ≡ 2) × Goes (seen.Took t.0) (known hand.old.seat) (known hand.new.seat)) }
         ensures asked { IfNone result (WasRefused hand.new.seat 1 2) }
     {
         match self.store.reserve::<Took, Refused>(hand, 1, 2) {
@@ -177,7 +178,9 @@ impl Tree {
         requires opens { (ending : Proc) × (last : Proc) × OpensLast (known hand.old.seat).state page ending last }
         ensures same { IsSameHand hand.old.seat hand.new.seat × IsSameStock hand.old.seat hand.new.seat }
         ensures rests { Rests hand.new.seat }
-        ensures done { (pass : ℕ) (old : Knows) (first ending last : Proc) → IsSince pass old (known hand.old.seat) → OpensLast (known hand.old.seat).state page ending last → op_of ending ≡ op_of first → work_of ending ≡ work_of first → IsDone pass old (known hand.new.seat) first last }
+        ensures done { (pass : ℕ) (old : Knows) (first ending last : Proc) → IsSince pass old (known hand.old.seat)
+            → OpensLast (known hand.old.seat).state page ending last → op_of ending ≡ op_of first → work_of ending ≡ work_of first
+            → IsDone pass old (known hand.new.seat) first last }
         ensures refusal { IsSameRefusal hand.old.seat hand.new.seat }
         ensures keeps { KeepsLatch (known hand.old.seat) (known hand.new.seat) }
     {

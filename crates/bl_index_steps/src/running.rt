@@ -32,7 +32,8 @@ impl Tree {
     fn launch<J: Launch, P: Kind>(&self, hand: &mut Hand<PassState>, process: &P)
         requires own { IsHandOf self.now.store hand.old }
         requires idle { IsIdle hand.old.seat }
-        requires names { (hand.old.number ≡ J.pass) × (self.now.store.layout.pages ≡ J.pages) × (self.now.store.layout.passes ≡ J.passes) × (P.proc_of process.now ≡ J.process) }
+        requires names { (hand.old.number ≡ J.pass) × (self.now.store.layout.pages ≡ J.pages) × (self.now.store.layout.passes ≡ J.passes)
+            × (P.proc_of process.now ≡ J.process) }
         requires next { next_of J.process ≡ act.Begin }
         requires unborn { IsUnborn J.process }
         requires course { GoesOn J.process seen.Done }

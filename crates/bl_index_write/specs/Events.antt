@@ -67,7 +67,8 @@ pub record IsThere (level key : ℕ) (latched : Proc) (words : List ℕ) (d : Pa
 
 -- It is there; or it is to open the page, and goes on as that says.
 abbrev pub HasArrived : ℕ → ℕ → (Approach → Proc) → ℕ → Layout → Seat (Unit {0}) (View PassState) → Arrived → Type 0
-HasArrived level key at x l h (There glance) = ReadsFrom h glance × IsThere level key (at (Latched x)) (read_words h) (known h) × IsOn l (known h) (known h).state
+HasArrived level key at x l h (There glance) =
+    ReadsFrom h glance × IsThere level key (at (Latched x)) (read_words h) (known h) × IsOn l (known h) (known h).state
 HasArrived level key at x l h (Away to) = IsOn l (known h) (at (Leaving x to))
 
 -- It is at the page of its level that covers its key; or its way begins again.
@@ -142,7 +143,9 @@ HasWalked l j x words y d Lost = IsOn l d (posting j (post.Coming (Leaving x Non
 
 -- It has ended, and has answered that; or its way begins again.
 abbrev pub IsPostOver : Layout → Posting → PassState → Seat (Unit {0}) (View PassState) → Option (Posted × Option Hint) → Type 0
-IsPostOver l j d h (Some t) = (IsIdle h × HasNoStock h) × IsWithin h × ((known h).runs ≡ false) × (t.0 ≡ posted.NoRoom → LacksPost j.level j.key h) × ((pass : ℕ) (old : PassState) → IsSince pass old d → HasPosted pass old (known h) (posting j post.New tt) t.0 t.1)
+IsPostOver l j d h (Some t) =
+    (IsIdle h × HasNoStock h) × IsWithin h × ((known h).runs ≡ false) × (t.0 ≡ posted.NoRoom → LacksPost j.level j.key h)
+    × ((pass : ℕ) (old : PassState) → IsSince pass old d → HasPosted pass old (known h) (posting j post.New tt) t.0 t.1)
 IsPostOver l j d h None = (IsRunning h × HasNoStock h) × IsOn l (known h) (posting j (post.Coming Start) tt) × IsSameProcess d (known h)
 
 -- the answer of a post

@@ -18,7 +18,8 @@ IsPast (Latched x) = Unit {0}
 IsPast (Leaving x to) = Unit {0}
 
 -- a post goes on as any writer then
-pub nears : (level key : ℕ) (a b : Approach) (what : Seen) → IsPast a → Approaches level key a what (came.On b) → PostGoes level key (post.Coming a) what (post.Coming b)
+pub nears : (level key : ℕ) (a b : Approach) (what : Seen) → IsPast a → Approaches level key a what (came.On b)
+    → PostGoes level key (post.Coming a) what (post.Coming b)
 nears level key Start b what past t = absurd past
 nears level key (At x) b what past t = (descend.On b, (tt, t), refl)
 nears level key (Latching x) b what past t = (descend.On b, (tt, t), refl)

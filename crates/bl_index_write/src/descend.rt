@@ -36,7 +36,8 @@ pub(crate) enum Arrived {
 fn begin_process<L: Launch, J: Target>(tree: &Tree, hand: &mut Hand<PassState>, target: &J)
     requires own { IsHandOf tree.now.store hand.old }
     requires idle { IsIdle hand.old.seat }
-    requires names { (hand.old.number ≡ L.pass) × (tree.now.store.layout.pages ≡ L.pages) × (tree.now.store.layout.passes ≡ L.passes) × (J.unborn target.now ≡ L.process) }
+    requires names { (hand.old.number ≡ L.pass) × (tree.now.store.layout.pages ≡ L.pages) × (tree.now.store.layout.passes ≡ L.passes)
+        × (J.unborn target.now ≡ L.process) }
     requires next { next_of L.process ≡ act.Begin }
     requires unborn { IsUnborn L.process }
     requires course { GoesOn L.process seen.Done }

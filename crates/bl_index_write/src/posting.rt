@@ -145,7 +145,8 @@ fn list(
 ) -> (Posted, Option<Hint>)
     requires own { IsHandOf tree.now.store hand.old }
     requires running { IsRunning hand.old.seat × HasNoStock hand.old.seat }
-    requires page { (below : target.level < 12) × (c : Edit) × IsToEnter at target.key child parent.now c × IsOn tree.now.store.layout (known hand.old.seat) (posting target (post.Editing c) below) }
+    requires page { (below : target.level < 12) × (c : Edit) × IsToEnter at target.key child parent.now c
+        × IsOn tree.now.store.layout (known hand.old.seat) (posting target (post.Editing c) below) }
     ensures same { IsSameHand hand.old.seat hand.new.seat }
     ensures over { IsPostOver tree.now.store.layout target (known hand.old.seat) hand.new.seat (Some result) }
 {
@@ -270,7 +271,8 @@ fn post_above<R: Wait>(
     requires empty { HasNoStock hand.old.seat }
     requires reads { ReadsFrom hand.old.seat glance }
     requires since { (pass : ℕ) × (old : Knows) × IsSince pass old (known hand.old.seat) }
-    requires anchor { (c : Page) × (read_words hand.old.seat ≡ words_of c) × Takes (posting target (post.Coming approach.Start) tt) (seen.Words c) (known hand.old.seat).state }
+    requires anchor { (c : Page) × (read_words hand.old.seat ≡ words_of c)
+        × Takes (posting target (post.Coming approach.Start) tt) (seen.Words c) (known hand.old.seat).state }
     ensures same { IsSameHand hand.old.seat hand.new.seat }
     ensures over { IsPostOver tree.now.store.layout target (known hand.old.seat) hand.new.seat (Some result) }
 {
@@ -353,7 +355,8 @@ pub fn post_key<R: Wait>(
     ensures same { IsSameHand hand.old.seat hand.new.seat }
     ensures rests { Rests hand.new.seat }
     ensures empty { HasNoStock hand.new.seat }
-    ensures posted { (first : Proc) × (work_of first ≡ Some (level, key)) × HasPosted hand.old.number (known hand.old.seat) (known hand.new.seat) first result.0 result.1 }
+    ensures posted { (first : Proc) × (work_of first ≡ Some (level, key))
+        × HasPosted hand.old.number (known hand.old.seat) (known hand.new.seat) first result.0 result.1 }
     ensures no_room { result.0 ≡ postings.NoRoom → LacksPost level key hand.new.seat }
 {
     let target = Posting { level, key };

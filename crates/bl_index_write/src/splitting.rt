@@ -39,7 +39,14 @@ fn put_parts<J: Editor>(
     requires own { IsHandOf tree.now.store hand.old }
     requires running { IsRunning hand.old.seat }
     requires stock { IsStockOf hand.old.seat stock × (stock.count ≡ 2) }
-    requires process { (left : Page) × (right : Page) × AreParts new words.now entries.now left right × IsOn tree.now.store.layout (known hand.old.seat) (J.editing editor.now (edit.PuttingNew (record { at = at; new = new; left = left; right = right; separator = slice_index entries.now 16 }))) }
+    requires process { (left : Page) × (right : Page) × AreParts new words.now entries.now left right
+        × IsOn tree.now.store.layout (known hand.old.seat) (J.editing editor.now (edit.PuttingNew (record {
+          at = at;
+          new = new;
+          left = left;
+          right = right;
+          separator = slice_index entries.now 16;
+        }))) }
     requires head { 14 ≤ slice_index words.now 0 }
     ensures same { IsSameHand hand.old.seat hand.new.seat × IsSameStage hand.old.seat hand.new.seat }
     ensures empty { HasNoStock hand.new.seat }
@@ -78,12 +85,14 @@ pub(crate) fn split_full<J: Editor>(
 ) -> Outcome
     requires own { IsHandOf tree.now.store hand.old }
     requires running { IsRunning hand.old.seat × HasNoStock hand.old.seat }
-    requires full { (f : Full) × (f.at ≡ at) × (f.key ≡ key) × (f.word ≡ word) × (words.now ≡ words_of f.page) × IsOn tree.now.store.layout (known hand.old.seat) (J.editing editor.now (edit.Taking f)) }
+    requires full { (f : Full) × (f.at ≡ at) × (f.key ≡ key) × (f.word ≡ word) × (words.now ≡ words_of f.page)
+        × IsOn tree.now.store.layout (known hand.old.seat) (J.editing editor.now (edit.Taking f)) }
     ensures same { IsSameHand hand.old.seat hand.new.seat × IsSameStage hand.old.seat hand.new.seat }
     ensures empty { HasNoStock hand.new.seat }
     ensures runs { Runs tree.now hand.new (J.editing editor.now (edit.Opening at result)) }
     ensures since { IsSameProcess (known hand.old.seat) (known hand.new.seat) }
-    ensures asked { result ≡ outcomes.Refused → WasRefused hand.new.seat 1 2 × GotHeld (J.level_at editor.now) (J.key_at editor.now) (own_marks (known hand.new.seat)) IsFull }
+    ensures asked { result ≡ outcomes.Refused → WasRefused hand.new.seat 1 2
+        × GotHeld (J.level_at editor.now) (J.key_at editor.now) (own_marks (known hand.new.seat)) IsFull }
 {
     match tree.take_page(hand) {
         Some((new, stock)) => {

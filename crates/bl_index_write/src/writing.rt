@@ -106,7 +106,8 @@ fn end_with(
     ensures same { IsSameHand hand.old.seat hand.new.seat }
     ensures rests { Rests hand.new.seat }
     ensures empty { HasNoStock hand.new.seat }
-    ensures wrote { (pass : ℕ) (old : Knows) → IsSince pass old (known hand.old.seat) → HasWritten pass old (known hand.new.seat) target.key target.write (write_answer target.write result) }
+    ensures wrote { (pass : ℕ) (old : Knows) → IsSince pass old (known hand.old.seat)
+        → HasWritten pass old (known hand.new.seat) target.key target.write (write_answer target.write result) }
     ensures refusal { IsSameRefusal hand.old.seat hand.new.seat }
     ensures keeps { KeepsLatch (known hand.old.seat) (known hand.new.seat) }
     ensures reply { result ≡ reply }
@@ -128,7 +129,8 @@ fn put_leaf(
 ) -> WriteReply
     requires own { IsHandOf tree.now.store hand.old }
     requires running { IsRunning hand.old.seat × HasNoStock hand.old.seat }
-    requires page { (p : Page) × (words.now ≡ words_of p) × IsOn tree.now.store.layout (known hand.old.seat) (writing target.key target.write (stages.Editing noted (edit.Putting at p))) }
+    requires page { (p : Page) × (words.now ≡ words_of p)
+        × IsOn tree.now.store.layout (known hand.old.seat) (writing target.key target.write (stages.Editing noted (edit.Putting at p))) }
     ensures { EndsWrite hand.old.seat hand.new.seat target.key target.write result }
 {
     let changed = tree.replace(hand, at, words);
@@ -333,7 +335,8 @@ pub fn end_write(
     ensures same { IsSameHand hand.old.seat hand.new.seat }
     ensures rests { Rests hand.new.seat }
     ensures empty { HasNoStock hand.new.seat }
-    ensures wrote { (pass : ℕ) (old : Knows) → IsSince pass old (known hand.old.seat) → HasWritten pass old (known hand.new.seat) key write (answers.Op (reply_of result.0) result.1) }
+    ensures wrote { (pass : ℕ) (old : Knows) → IsSince pass old (known hand.old.seat)
+        → HasWritten pass old (known hand.new.seat) key write (answers.Op (reply_of result.0) result.1) }
     ensures no_room { result.0 ≡ replies.NoRoom → LacksWrite key write hand.new.seat }
 {
     let reply = write_there(tree, hand, at, Writing { key, write }, glance);

@@ -12,7 +12,11 @@ pub record Stream (T : Type 0) : Type 0 where
 -- a watched stream is stored as its parts
 abbrev pub stream_code : {T : Type 0} → Coded T → Coded (Stream T)
 stream_code {T} code =
-    code_by (T × (Bool × Bool)) (coded× code (coded× coded_bool coded_bool)) (λ s. (s.inner, (s.failed, s.pending))) (λ p. record { inner = p.0; failed = p.1.0; pending = p.1.1 }) (λ _. refl)
+    code_by (T × (Bool × Bool)) (coded× code (coded× coded_bool coded_bool)) (λ s. (s.inner, (s.failed, s.pending))) (λ p. record {
+      inner = p.0;
+      failed = p.1.0;
+      pending = p.1.1;
+    }) (λ _. refl)
 
 -- a write failed: it gave an error, or took nothing of a piece that isn't empty
 abbrev pub write_failed : {E : Type 0} → Result ℕ E → List ℕ → Bool

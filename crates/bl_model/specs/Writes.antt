@@ -66,7 +66,8 @@ decided (Insert value) (Some there) = record { effect = Keep; reply = Present th
 decided Delete None = record { effect = Keep; reply = Absent }
 decided Delete (Some there) = record { effect = Remove; reply = Deleted there }
 decided (Change old new) None = record { effect = Keep; reply = Absent }
-decided (Change old new) (Some there) = if there == old then record { effect = Replace new; reply = Changed } else record { effect = Keep; reply = Differs there }
+decided (Change old new) (Some there) =
+    if there == old then record { effect = Replace new; reply = Changed } else record { effect = Keep; reply = Differs there }
 
 abbrev pub effect_of : KeyWrite → Option ℕ → Effect
 effect_of write there = (decided write there).effect
@@ -78,7 +79,8 @@ replied write there = reply_of (decided write there).reply
 -- The answer is the map's, tells what is done, and leaves the key as the effect says, on every map in which the key has that;
 -- where the effect is a change, there may have been no room for it.
 pub record IsDecided (write : KeyWrite) (there : Option ℕ) (d : Decided) : Type 0 where
-  pub step : (key : ℕ) (m m' : Map) → m key ≡ there → m' key ≡ effected d.effect there → ((j : ℕ) → j ≢ key → m' j ≡ m j) → IsMapStep m (write_op key write) (reply_of d.reply) m'
+  pub step : (key : ℕ) (m m' : Map) → m key ≡ there → m' key ≡ effected d.effect there → ((j : ℕ) → j ≢ key → m' j ≡ m j)
+      → IsMapStep m (write_op key write) (reply_of d.reply) m'
   pub fits : MayHave d.effect there
   pub told : deed_told (reply_of d.reply) ≡ deed_of d.effect
   pub room : reply_of d.reply ≢ reply.NoRoom

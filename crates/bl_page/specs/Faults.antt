@@ -82,7 +82,8 @@ OrderFits Dead words = Unit {0}
 abbrev pub CoverFits : Kind → List ℕ → Type 0
 CoverFits Anchor words = AreChildren (take (count_in words) (drop 4 words))
 CoverFits Leaf words = AllWithin (slice_index words 1) (slice_index words 2) (pairs_of words)
-CoverFits Inner words = AllWithin (slice_index words 1) (slice_index words 2) (pairs_of words) × BeginsWith (slice_index words 1) (pairs_of words) × NameChildren (pairs_of words)
+CoverFits Inner words =
+    AllWithin (slice_index words 1) (slice_index words 2) (pairs_of words) × BeginsWith (slice_index words 1) (pairs_of words) × NameChildren (pairs_of words)
 CoverFits Dead words = Unit {0}
 
 abbrev pub RestFits : Kind → List ℕ → Type 0
@@ -95,5 +96,8 @@ IsFault fault.Level words = (kind : Kind) × IsOf kind words × ¬ LevelFits kin
 IsFault fault.Count words = (kind : Kind) × IsOf kind words × LevelFits kind words × ¬ CountFits kind words
 IsFault fault.Bounds words = (kind : Kind) × IsOf kind words × LevelFits kind words × CountFits kind words × ¬ BoundsFit kind words
 IsFault fault.Order words = (kind : Kind) × IsOf kind words × LevelFits kind words × CountFits kind words × BoundsFit kind words × ¬ OrderFits kind words
-IsFault fault.Cover words = (kind : Kind) × IsOf kind words × LevelFits kind words × CountFits kind words × BoundsFit kind words × OrderFits kind words × ¬ CoverFits kind words
-IsFault fault.Rest words = (kind : Kind) × IsOf kind words × LevelFits kind words × CountFits kind words × BoundsFit kind words × OrderFits kind words × CoverFits kind words × ¬ RestFits kind words
+IsFault fault.Cover words =
+    (kind : Kind) × IsOf kind words × LevelFits kind words × CountFits kind words × BoundsFit kind words × OrderFits kind words × ¬ CoverFits kind words
+IsFault fault.Rest words =
+    (kind : Kind) × IsOf kind words × LevelFits kind words × CountFits kind words × BoundsFit kind words × OrderFits kind words × CoverFits kind words
+    × ¬ RestFits kind words

@@ -112,7 +112,8 @@ IsLast r = Unit {0}
 abbrev pub ClimbGoes : Path → ClimbStage → Seen → ClimbStage → Type 0
 ClimbGoes path (Writing w) what (Writing v) = WriteTakes w what v × IsWriting v.stage
 ClimbGoes path (Writing w) what (Posting p) =
-    (there : Option ℕ) × (level : ℕ) × (separator : ℕ) × WriteGoes w.key w.write w.stage what (write.Ending (written.Done there (Some (hint.Post level separator))))
+    (there : Option ℕ) × (level : ℕ) × (separator : ℕ)
+    × WriteGoes w.key w.write w.stage what (write.Ending (written.Done there (Some (hint.Post level separator))))
     × PostsFrom path level separator p
 ClimbGoes path (Writing w) what (Ending last) = (r : WriteReply) × WriteGoes w.key w.write w.stage what (write.Ending r) × IsUnsplit r × (last ≡ Unsplit r)
 ClimbGoes path (Posting p) what (Posting q) =

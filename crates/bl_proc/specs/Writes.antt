@@ -94,7 +94,8 @@ Performs (Replace value) x c key d = GivesValue x c key value d
 -- At the leaf x that covers the key, which is c: it stays as it is, or changes, by what it lists with the key.
 abbrev pub WriteArrives : ℕ → KeyWrite → ℕ → Page → WriteStage → Type 0
 WriteArrives key write x c (Keeping y there) = (y ≡ x) × ((node_of c).look key ≡ there) × (effect_of write there ≡ Keep)
-WriteArrives key write x c (Editing noted d) = ((node_of c).look key ≡ noted.there) × Performs (effect_of write noted.there) x c key d × (noted.thin ≡ thin_by (effect_of write noted.there) d)
+WriteArrives key write x c (Editing noted d) =
+    ((node_of c).look key ≡ noted.there) × Performs (effect_of write noted.there) x c key d × (noted.thin ≡ thin_by (effect_of write noted.there) d)
 WriteArrives key write x c stage = ⊥
 
 abbrev pub WriteGoes : ℕ → KeyWrite → WriteStage → Seen → WriteStage → Type 0

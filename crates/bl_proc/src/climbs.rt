@@ -73,7 +73,8 @@ fn split_by(reply: &WriteReply) -> Option<(u32, u64)>
 
 /// The write is to end. Where it has split its leaf, that is to be posted.
 fn written(path: &Path, reply: WriteReply) -> ClimbStage
-    ensures { (w : Write) → (what : Seen) → WriteGoes w.key w.write w.stage what (write_stage.Ending reply) → ClimbGoes path.now (climb_stage.Writing w) what result }
+    ensures { (w : Write) → (what : Seen) → WriteGoes w.key w.write w.stage what (write_stage.Ending reply)
+        → ClimbGoes path.now (climb_stage.Writing w) what result }
 {
     match split_by(&reply) {
         Some((level, key)) => ClimbStage::Posting(post_from(path, level, key)),
@@ -107,7 +108,8 @@ fn posted(path: &Path, level: u32, key: u64, reply: PostReply) -> ClimbStage
     requires least { 0 < level }
     requires most { level ≤ 12 }
     requires may { MayReply level reply }
-    ensures { (p : Post) → (what : Seen) → p.level ≡ level → p.key ≡ key → PostGoes level key p.stage what (post_stage.Ending reply) → ClimbGoes path.now (climb_stage.Posting p) what result }
+    ensures { (p : Post) → (what : Seen) → p.level ≡ level → p.key ≡ key → PostGoes level key p.stage what (post_stage.Ending reply)
+        → ClimbGoes path.now (climb_stage.Posting p) what result }
 {
     match reply {
         PostReply::Done(Some(separator)) => {

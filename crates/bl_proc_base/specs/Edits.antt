@@ -51,7 +51,8 @@ GivesValue x c key value edit = ⊥
 abbrev pub Changes : Edit → Seen → Edited → Type 0
 Changes (Putting x page) seen.Done (On new) = new ≡ Opening x outcome.Edited
 Changes (Putting x page) seen.Refused (On new) = new ≡ Opening x outcome.Refused
-Changes (Taking full) (seen.Took y) (On (PuttingNew p)) = (p.at ≡ full.at) × (p.new ≡ y) × IsFitted full.page full.key full.word y (Split p.left p.right p.separator)
+Changes (Taking full) (seen.Took y) (On (PuttingNew p)) =
+    (p.at ≡ full.at) × (p.new ≡ y) × IsFitted full.page full.key full.word y (Split p.left p.right p.separator)
 Changes (Taking full) seen.Refused (On new) = new ≡ Opening full.at outcome.Refused
 Changes (PuttingNew p) seen.Done (On new) = new ≡ PuttingOld p
 Changes (PuttingOld p) seen.Done (On new) = new ≡ OpeningNew p.at p.new p.separator

@@ -23,7 +23,8 @@ IsDead (Dead d) = Unit {0}
 -- key leads down while it is above the level, and is the one that was looked for on the level. From a page whose low is above
 -- the key, or that is below the level, the way begins again, and so it does from a dead page without a link.
 abbrev pub Leads : Page → ℕ → ℕ → Step → Type 0
-Leads c key level Again = (IsDead c → (node_of c).shape.right ≡ 0) × (IsTreePage c → (key < (node_of c).shape.low) ⊎ (Covers (node_of c).shape key × (node_of c).shape.level < level))
+Leads c key level Again =
+    (IsDead c → (node_of c).shape.right ≡ 0) × (IsTreePage c → (key < (node_of c).shape.low) ⊎ (Covers (node_of c).shape key × (node_of c).shape.level < level))
 Leads c key level (Right x) = (x ≡ (node_of c).shape.right) × ((IsDead c × ((node_of c).shape.right ≢ 0)) ⊎ (IsTreePage c × (node_of c).shape.end ≤ key))
 Leads c key level (Down x) = IsTreePage c × Covers (node_of c).shape key × (level < (node_of c).shape.level) × IsChildOf (node_of c).look key x
 Leads c key level Here = IsTreePage c × Covers (node_of c).shape key × ((node_of c).shape.level ≡ level)

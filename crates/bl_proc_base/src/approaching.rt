@@ -1,7 +1,8 @@
 //! The way of a writer to the page of its level that covers its key.
 
 ghost use Rattle.std.specs.Prelude.{◌≡◌, ◌<◌, ℕ, None};
-ghost use Rattle.bl_claims.specs.Pages.{roots_of};
+ghost use Rattle.bl_page.specs.declared.page.Page.{Page};
+ghost use Rattle.bl_claims.specs.Pages.{node_of, roots_of};
 ghost use Rattle.bl_proc_base.specs.declared.acts.Seen.TheVariants as seen;
 ghost use Rattle.bl_proc_base.specs.declared.approaching.Approach.TheVariants as approach;
 ghost use Rattle.bl_proc_base.specs.declared.approaching.Approached.TheVariants as approached;
@@ -71,26 +72,10 @@ fn entered(level: u32, anchor: &Page) -> Approach
     }
 }
 
-/// From a page that was got without a latch.
-fn turned(level: u32, at: u32, page: &Page, key: u64, way: Step) -> Approach
-    requires { Leads page.now key level way }
-    ensures { Turns level at page.now way result }
-{
-    match way {
-        Step::Again => Approach::Start,
-        Step::Right(next) if level_of(page) == level => Approach::Latching(next),
-        Step::Right(next) => Approach::At(next),
-        Step::Down(next) if level_of(page) - 1 == level => Approach::Latching(next),
-        Step::Down(next) => Approach::At(next),
-        Step::Here => Approach::Latching(at),
-    }
-}
-
 fn turned_by(level: u32, key: u64, at: u32, page: &Page) -> Approach
     ensures { Approaches level key (approach.At at) (seen.Words page.now) (approached.On result) }
 {
-    let way = way_from(page, key, level);
-    turned(level, at, page, key, way)
+    way_from(page, key, level).approach(level, level_of(page), at)
 }
 
 /// From a page that is held.
@@ -166,6 +151,25 @@ fn neared(approach: Approach, level: u32, key: u64, seen: Seen) -> Came
             Page::Inner(parent) => Came::ToParent(at, parent),
             _ => unreachable!(),
         },
+    }
+}
+
+impl Step {
+    /// How a writer of that level goes on from the page `at`, which it has got without a latch, and which is of the level `own`
+    /// and leads it so.
+    #[inline(always)]
+    pub fn approach(self, level: u32, own: u32, at: u32) -> Approach
+        requires { (c : Page) × (key : ℕ) × Leads c key level self × (own ≡ (node_of c).shape.level) }
+        ensures { (c : Page) → own ≡ (node_of c).shape.level → Turns level at c self result }
+    {
+        match self {
+            Step::Again => Approach::Start,
+            Step::Right(next) if own == level => Approach::Latching(next),
+            Step::Right(next) => Approach::At(next),
+            Step::Down(next) if own - 1 == level => Approach::Latching(next),
+            Step::Down(next) => Approach::At(next),
+            Step::Here => Approach::Latching(at),
+        }
     }
 }
 

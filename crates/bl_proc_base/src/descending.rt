@@ -10,7 +10,6 @@ ghost use Rattle.bl_proc_base.specs.declared.approaching.Approached.TheVariants 
 ghost use Rattle.bl_proc_base.specs.Approaches.{Enters, Approaches, IsToLook};
 
 use crate::approaching::Approach;
-use crate::onwards::Step;
 use crate::spelled::{level_in, levels_in, step_in, top_in};
 use bl_page::Words;
 
@@ -43,14 +42,7 @@ fn turned_in<W: Words>(source: &W, hand: &mut W::Hand, level: u32, key: u64, at:
     ensures turns { (c : Page) → W.shown source.now hand.old ≡ words_of c → Approaches level key (approach.At at) (seen.Words c) (approached.On result) }
 {
     let own = level_in(source, hand);
-    match step_in(source, hand, &mut 0, key, level) {
-        Step::Again => Approach::Start,
-        Step::Right(next) if own == level => Approach::Latching(next),
-        Step::Right(next) => Approach::At(next),
-        Step::Down(next) if own - 1 == level => Approach::Latching(next),
-        Step::Down(next) => Approach::At(next),
-        Step::Here => Approach::Latching(at),
-    }
+    step_in(source, hand, &mut 0, key, level).approach(level, own, at)
 }
 
 impl Approach {

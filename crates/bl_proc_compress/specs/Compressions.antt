@@ -106,8 +106,10 @@ pub record Merges (f : Family) (c d : Page) (p : Puts) : Type 0 where
 -- The parent lists the child by the new key in place of the old one. It does so where it covers the new key and, without the
 -- old one, does not list it.
 abbrev pub Relists : Inner → ℕ → ℕ → ℕ → Option Page → Type 0
-Relists parent old new child (Some page) = (middle : Page) × IsWithout (InnerPage parent) old middle × IsFitted middle new child 0 (Fits page) × (map_of (pairs_of middle) new ≡ None)
-Relists parent old new child None = (¬ IsWithin parent.low parent.high new) ⊎ ((middle : Page) × IsWithout (InnerPage parent) old middle × (map_of (pairs_of middle) new ≢ None))
+Relists parent old new child (Some page) =
+    (middle : Page) × IsWithout (InnerPage parent) old middle × IsFitted middle new child 0 (Fits page) × (map_of (pairs_of middle) new ≡ None)
+Relists parent old new child None =
+    (¬ IsWithin parent.low parent.high new) ⊎ ((middle : Page) × IsWithout (InnerPage parent) old middle × (map_of (pairs_of middle) new ≢ None))
 
 abbrev pub IsFew : Page → Type 0
 IsFew page = length (pairs_of page) < 7
@@ -132,7 +134,8 @@ pub record Evens (f : Family) (c d : Page) (p : Puts) : Type 0 where
 abbrev pub Decides : Family → Page → Page → Compression → Type 0
 Decides f c d (PuttingFirst p) = (AreNeighbours c d × Merges f c d p) ⊎ Evens f c d p
 Decides f c d (OpeningRight at Enough) = (at ≡ f.at) × AreNeighbours c d × (14 < together c d) × (¬ IsFew c) × (¬ IsFew d)
-Decides f c d (OpeningRight at Lost) = (at ≡ f.at) × ((¬ AreNeighbours c d) ⊎ (MayEven c d × ((e : Evened) × IsEvened c d e × Relists f.parent f.key e.separator f.at.right None)))
+Decides f c d (OpeningRight at Lost) =
+    (at ≡ f.at) × ((¬ AreNeighbours c d) ⊎ (MayEven c d × ((e : Evened) × IsEvened c d e × Relists f.parent f.key e.separator f.at.right None)))
 Decides f c d new = ⊥
 
 -- The left child c, which is held and was got: it links to the right one, or a page stands between them.

@@ -145,10 +145,23 @@ pub record MayRise (level : ℕ) (c : Page) (leftmost : List ℕ) : Type 0 where
 abbrev pub know_growth : Carried → ℕ → ℕ → (ℕ → Page) → Growth → Know
 know_growth carried level key got growth.Latching = record (carrying carried) { sound = key < unbounded }
 know_growth carried level key got growth.Latched = record (carrying carried) { holds = anchor_known None ∷ []; sound = key < unbounded }
-know_growth carried level key got (growth.Taking rise) = record (carrying carried) { holds = anchor_known (Some (Anchor rise.anchor)) ∷ []; sound = (key < unbounded) × MayRise level (Anchor rise.anchor) rise.anchor.leftmost.items × (got 0 ≡ Anchor rise.anchor) }
-know_growth carried level key got (growth.PuttingTop r) = record (carrying carried) { holds = anchor_known (Some (got 0)) ∷ record { at = r.new; status = Fresh; sep = None; page = None } ∷ []; sound = (key < unbounded) × ((leftmost : List ℕ) × MayRise level (got 0) leftmost × Raises leftmost r.new r.top r.anchor) }
-know_growth carried level key got (growth.PuttingAnchor r) = record (carrying carried) { holds = anchor_known (Some (got 0)) ∷ record { at = r.new; status = Fresh; sep = Some 0; page = Some r.top } ∷ []; sound = (key < unbounded) × ((leftmost : List ℕ) × MayRise level (got 0) leftmost × Raises leftmost r.new r.top r.anchor) }
-know_growth carried level key got (growth.OpeningTop x) = record (carrying carried) { holds = anchor_known None ∷ holds_live x ∷ []; sound = (key < unbounded) × (0 ≢ x) }
+know_growth carried level key got (growth.Taking rise) =
+    record (carrying carried) {
+      holds = anchor_known (Some (Anchor rise.anchor)) ∷ [];
+      sound = (key < unbounded) × MayRise level (Anchor rise.anchor) rise.anchor.leftmost.items × (got 0 ≡ Anchor rise.anchor);
+    }
+know_growth carried level key got (growth.PuttingTop r) =
+    record (carrying carried) {
+      holds = anchor_known (Some (got 0)) ∷ record { at = r.new; status = Fresh; sep = None; page = None } ∷ [];
+      sound = (key < unbounded) × ((leftmost : List ℕ) × MayRise level (got 0) leftmost × Raises leftmost r.new r.top r.anchor);
+    }
+know_growth carried level key got (growth.PuttingAnchor r) =
+    record (carrying carried) {
+      holds = anchor_known (Some (got 0)) ∷ record { at = r.new; status = Fresh; sep = Some 0; page = Some r.top } ∷ [];
+      sound = (key < unbounded) × ((leftmost : List ℕ) × MayRise level (got 0) leftmost × Raises leftmost r.new r.top r.anchor);
+    }
+know_growth carried level key got (growth.OpeningTop x) =
+    record (carrying carried) { holds = anchor_known None ∷ holds_live x ∷ []; sound = (key < unbounded) × (0 ≢ x) }
 know_growth carried level key got growth.OpeningGrown = record (carrying carried) { holds = anchor_known None ∷ []; sound = key < unbounded }
 know_growth carried level key got growth.OpeningRefused = record (carrying carried) { holds = anchor_known None ∷ [] }
 
@@ -176,7 +189,12 @@ abbrev pub know_post : Carried → ℕ → ℕ → (ℕ → Page) → ℕ → Po
 know_post carried level key got child post.New = record (early key) { said = carried.said; goes = carried.goes }
 know_post carried level key got child (post.Coming a) = know_approach carried level key a
 know_post carried level key got child (post.Growing g) = know_growth carried level key got g
-know_post carried level key got child (post.Walking w) = record (carrying carried) { holds = holds_known w.at (Inner w.parent) ∷ []; goes = goes_to w.child (level - 1) (level - 1) ∷ carried.goes; sound = (key < unbounded) × IsDue (post_aim carried level key 0) (Inner w.parent) × (w.key ≡ key) }
+know_post carried level key got child (post.Walking w) =
+    record (carrying carried) {
+      holds = holds_known w.at (Inner w.parent) ∷ [];
+      goes = goes_to w.child (level - 1) (level - 1) ∷ carried.goes;
+      sound = (key < unbounded) × IsDue (post_aim carried level key 0) (Inner w.parent) × (w.key ≡ key);
+    }
 know_post carried level key got child (post.Editing c) = know_edit (post_aim carried level key child) got c
 know_post carried level key got child (post.Staying x r) = record (carrying carried) { holds = holds_live x ∷ []; sound = LeavesPost r }
 know_post carried level key got child (post.Ending r) = record (ending carried.said) { goes = carried.goes; sound = LeavesPost r }

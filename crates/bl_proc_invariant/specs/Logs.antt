@@ -117,8 +117,10 @@ outcome_log level key outcome.Refused marks = MeansNoRoom level marks
 abbrev pub edit_log : ℕ → ℕ → Edit → Trail → Type 0
 edit_log level key (edit.Putting x page) marks = IsToPut level key marks x [] (page ∷ [])
 edit_log level key (edit.Taking full) marks = HoldsBoth level key marks full.at full.page full.word [] × (full.key ≡ key)
-edit_log level key (edit.PuttingNew p) marks = IsToPut level key marks p.at (Take p.new ∷ []) (p.right ∷ p.left ∷ []) × ((node_of p.right).shape.low ≡ p.separator)
-edit_log level key (edit.PuttingOld p) marks = IsToPut level key marks p.at (Take p.new ∷ Put p.new p.right ∷ []) (p.right ∷ p.left ∷ []) × ((node_of p.right).shape.low ≡ p.separator)
+edit_log level key (edit.PuttingNew p) marks =
+    IsToPut level key marks p.at (Take p.new ∷ []) (p.right ∷ p.left ∷ []) × ((node_of p.right).shape.low ≡ p.separator)
+edit_log level key (edit.PuttingOld p) marks =
+    IsToPut level key marks p.at (Take p.new ∷ Put p.new p.right ∷ []) (p.right ∷ p.left ∷ []) × ((node_of p.right).shape.low ≡ p.separator)
 edit_log level key (edit.OpeningNew x new separator) marks = MeansDone level key (Some separator) marks
 edit_log level key (edit.Opening x o) marks = outcome_log level key o marks
 
@@ -169,7 +171,8 @@ abbrev pub entry_log : (Page → Type 0) → Type 0 → Edit → Trail → Type 
 entry_log Whole Parts (edit.Putting x page) marks = WroteHeld marks x [] × Whole page
 entry_log Whole Parts (edit.Taking full) marks = WroteHeld marks full.at [] × Parts
 entry_log Whole Parts (edit.PuttingNew p) marks = WroteHeld marks p.at (Take p.new ∷ []) × ((node_of p.right).shape.low ≡ p.separator) × Parts
-entry_log Whole Parts (edit.PuttingOld p) marks = WroteHeld marks p.at (Take p.new ∷ Put p.new p.right ∷ []) × ((node_of p.right).shape.low ≡ p.separator) × Parts
+entry_log Whole Parts (edit.PuttingOld p) marks =
+    WroteHeld marks p.at (Take p.new ∷ Put p.new p.right ∷ []) × ((node_of p.right).shape.low ≡ p.separator) × Parts
 entry_log Whole Parts (edit.OpeningNew x new separator) marks = put_log Whole Parts (outcome.SplitAt separator) marks
 entry_log Whole Parts (edit.Opening x o) marks = put_log Whole Parts o marks
 
@@ -243,7 +246,8 @@ squeeze_log level key (LatchedRight f c) marks = AtLeft level key marks f c (Get
 squeeze_log level key (PuttingFirst p) marks = IsToSqueeze level key marks p (to_right p.at)
 squeeze_log level key (PuttingParent p) marks = IsToSqueeze level key marks p (to_first p)
 squeeze_log level key (PuttingLast p) marks = IsToSqueeze level key marks p (to_second p)
-squeeze_log level key (Retiring at last) marks = (p : Puts) × (p.at ≡ at) × IsToSqueeze level key marks p (to_last p) × (p.decision ≡ last) × ((hint : Option Hint) × (last ≡ decision.Merged hint))
+squeeze_log level key (Retiring at last) marks =
+    (p : Puts) × (p.at ≡ at) × IsToSqueeze level key marks p (to_last p) × (p.decision ≡ last) × ((hint : Option Hint) × (last ≡ decision.Merged hint))
 squeeze_log level key (OpeningRight at last) marks = decision_log level key last marks
 squeeze_log level key (OpeningLeft at last) marks = decision_log level key last marks
 squeeze_log level key (OpeningParent x last) marks = decision_log level key last marks

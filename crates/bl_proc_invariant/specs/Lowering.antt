@@ -33,11 +33,22 @@ abbrev pub know_lowering : (ℕ → Page) → Lowering → Know
 know_lowering got Looking = idle Stage.Busy
 know_lowering got LatchingAnchor = idle Stage.Busy
 know_lowering got LatchedAnchor = record (idle Stage.Busy) { holds = anchor_known None ∷ [] }
-know_lowering got (LatchingTop t) = record (idle Stage.Busy) { holds = anchor_known (Some (Anchor t.anchor)) ∷ []; sound = t.top ≡ top_of (roots_of (Anchor t.anchor)) }
-know_lowering got (LatchedTop t) = record (idle Stage.Busy) { holds = anchor_known (Some (Anchor t.anchor)) ∷ holds_live t.top ∷ []; sound = (t.top ≡ top_of (roots_of (Anchor t.anchor))) × (0 ≢ t.top) }
-know_lowering got (PuttingAnchor s) = record (idle Stage.Busy) { holds = anchor_known (Some (got 0)) ∷ holds_known s.top (got s.top) ∷ []; sound = IsToSink got s }
-know_lowering got (PuttingDead s) = record (idle Stage.Busy) { holds = anchor_known None ∷ record { at = s.top; status = Uprooted; sep = None; page = Some (got s.top) } ∷ []; sound = (0 ≢ s.top) × IsFallen (node_of (got s.top)).shape.level s.dead }
-know_lowering got (Retiring x) = record (idle Stage.Busy) { holds = anchor_known None ∷ record { at = x; status = Gone; sep = None; page = None } ∷ []; sound = 0 ≢ x }
+know_lowering got (LatchingTop t) =
+    record (idle Stage.Busy) { holds = anchor_known (Some (Anchor t.anchor)) ∷ []; sound = t.top ≡ top_of (roots_of (Anchor t.anchor)) }
+know_lowering got (LatchedTop t) =
+    record (idle Stage.Busy) {
+      holds = anchor_known (Some (Anchor t.anchor)) ∷ holds_live t.top ∷ [];
+      sound = (t.top ≡ top_of (roots_of (Anchor t.anchor))) × (0 ≢ t.top);
+    }
+know_lowering got (PuttingAnchor s) =
+    record (idle Stage.Busy) { holds = anchor_known (Some (got 0)) ∷ holds_known s.top (got s.top) ∷ []; sound = IsToSink got s }
+know_lowering got (PuttingDead s) =
+    record (idle Stage.Busy) {
+      holds = anchor_known None ∷ record { at = s.top; status = Uprooted; sep = None; page = Some (got s.top) } ∷ [];
+      sound = (0 ≢ s.top) × IsFallen (node_of (got s.top)).shape.level s.dead;
+    }
+know_lowering got (Retiring x) =
+    record (idle Stage.Busy) { holds = anchor_known None ∷ record { at = x; status = Gone; sep = None; page = None } ∷ []; sound = 0 ≢ x }
 know_lowering got (OpeningTop x what) = record (idle Stage.Busy) { holds = anchor_known None ∷ holds_live x ∷ []; sound = 0 ≢ x }
 know_lowering got (OpeningAnchor what) = record (idle Stage.Busy) { holds = anchor_known None ∷ [] }
 

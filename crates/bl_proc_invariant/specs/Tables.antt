@@ -66,9 +66,11 @@ abbrev pub know_approach : Carried → ℕ → ℕ → Approach → Know
 know_approach carried level key Start = record (carrying carried) { sound = key < unbounded }
 know_approach carried level key (At x) = record (carrying carried) { goes = goes_to x level 12 ∷ carried.goes; sound = key < unbounded }
 know_approach carried level key (Latching x) = record (carrying carried) { goes = goes_to x level level ∷ carried.goes; sound = key < unbounded }
-know_approach carried level key (Latched x) = record (carrying carried) { holds = holds_live x ∷ []; goes = goes_to x level level ∷ carried.goes; sound = key < unbounded }
+know_approach carried level key (Latched x) =
+    record (carrying carried) { holds = holds_live x ∷ []; goes = goes_to x level level ∷ carried.goes; sound = key < unbounded }
 know_approach carried level key (Leaving x None) = record (carrying carried) { holds = holds_live x ∷ []; sound = key < unbounded }
-know_approach carried level key (Leaving x (Some y)) = record (carrying carried) { holds = holds_live x ∷ []; goes = goes_to y level level ∷ carried.goes; sound = key < unbounded }
+know_approach carried level key (Leaving x (Some y)) =
+    record (carrying carried) { holds = holds_live x ∷ []; goes = goes_to y level level ∷ carried.goes; sound = key < unbounded }
 
 -- What a change is to do: on that level the key had this listed with it, and is to have that. Whether it is a change that may be
 -- refused, what the process carries along, what it says by the change, what it has said by the end, and the children that it
@@ -88,10 +90,12 @@ pub record Aim : Type 0 where
 -- before says something.
 pub record IsAim (aim : Aim) : Type 1 where
   pub once : (o : Outcome) → ((aim.says o ≡ None) × (aim.said o ≡ aim.carried.said)) ⊎ ((aim.carried.said ≡ None) × (aim.said o ≡ aim.says o))
-  pub changed : (o : Outcome) → o ≢ outcome.Refused → (m m' : Map) → (aim.level ≡ 0 → (m aim.key ≡ aim.was) × (m' aim.key ≡ aim.word)) → (aim.level ≢ 0 → m' aim.key ≡ m aim.key) → ((j : ℕ) → j ≢ aim.key → m' j ≡ m j) → MapsTo m m' (aim.says o)
+  pub changed : (o : Outcome) → o ≢ outcome.Refused → (m m' : Map) → (aim.level ≡ 0 → (m aim.key ≡ aim.was) × (m' aim.key ≡ aim.word))
+      → (aim.level ≢ 0 → m' aim.key ≡ m aim.key) → ((j : ℕ) → j ≢ aim.key → m' j ≡ m j) → MapsTo m m' (aim.says o)
   pub refused : (m : Map) → aim.changes ≡ true → (aim.level ≡ 0 → m aim.key ≡ aim.was) → MapsTo m m (aim.says outcome.Refused)
   -- what is to be listed on a level above 0 is a child that the process relies on
-  pub lists : {P : Type 0} (w : World P) (p : Name) (x : ℕ) → (nodes w.now x).shape.level ≡ aim.level → Each (IsRelied w p) (aim.children x) → MayList (tree_of w) aim.level aim.key aim.word
+  pub lists : {P : Type 0} (w : World P) (p : Name) (x : ℕ) → (nodes w.now x).shape.level ≡ aim.level → Each (IsRelied w p) (aim.children x)
+      → MayList (tree_of w) aim.level aim.key aim.word
 
 -- a page that is to be changed
 pub record IsDue (aim : Aim) (c : Page) : Type 0 where
@@ -108,9 +112,39 @@ IsBelow outcome.Refused = Unit {0}
 
 -- got is what the process got of the page under its latch.
 abbrev pub know_edit : Aim → (ℕ → Page) → Edit → Know
-know_edit aim got (Putting x page) = record (carrying aim.carried) { holds = holds_known x (got x) ∷ []; children = aim.children x; sound = IsDue aim (got x) × IsRow aim.key aim.word (node_of (got x)) (node_of page) }
-know_edit aim got (Taking full) = record (carrying aim.carried) { holds = holds_known full.at full.page ∷ []; children = aim.children full.at; sound = IsDue aim full.page × (full.key ≡ aim.key) × (Some full.word ≡ aim.word) × (got full.at ≡ full.page) }
-know_edit aim got (PuttingNew p) = record (carrying aim.carried) { holds = holds_known p.at (got p.at) ∷ record { at = p.new; status = Fresh; sep = None; page = None } ∷ []; children = aim.children p.at; sound = IsDue aim (got p.at) × IsCut p.new aim.key aim.word (node_of (got p.at)) (node_of p.left) (node_of p.right) × (p.separator < unbounded) }
-know_edit aim got (PuttingOld p) = record (carrying aim.carried) { holds = holds_known p.at (got p.at) ∷ record { at = p.new; status = Fresh; sep = Some (node_of p.right).shape.low; page = Some p.right } ∷ []; children = aim.children p.at; sound = IsDue aim (got p.at) × IsCut p.new aim.key aim.word (node_of (got p.at)) (node_of p.left) (node_of p.right) × (p.separator < unbounded) }
-know_edit aim got (OpeningNew x new separator) = record (carrying aim.carried) { said = aim.said (outcome.SplitAt separator); holds = holds_live x ∷ holds_live new ∷ []; sound = (x ≢ new) × (aim.changes ≡ true) × (separator < unbounded) }
+know_edit aim got (Putting x page) =
+    record (carrying aim.carried) {
+      holds = holds_known x (got x) ∷ [];
+      children = aim.children x;
+      sound = IsDue aim (got x) × IsRow aim.key aim.word (node_of (got x)) (node_of page);
+    }
+know_edit aim got (Taking full) =
+    record (carrying aim.carried) {
+      holds = holds_known full.at full.page ∷ [];
+      children = aim.children full.at;
+      sound = IsDue aim full.page × (full.key ≡ aim.key) × (Some full.word ≡ aim.word) × (got full.at ≡ full.page);
+    }
+know_edit aim got (PuttingNew p) =
+    record (carrying aim.carried) {
+      holds = holds_known p.at (got p.at) ∷ record { at = p.new; status = Fresh; sep = None; page = None } ∷ [];
+      children = aim.children p.at;
+      sound = IsDue aim (got p.at) × IsCut p.new aim.key aim.word (node_of (got p.at)) (node_of p.left) (node_of p.right) × (p.separator < unbounded);
+    }
+know_edit aim got (PuttingOld p) =
+    record (carrying aim.carried) {
+      holds = holds_known p.at (got p.at) ∷ record {
+        at = p.new;
+        status = Fresh;
+        sep = Some (node_of p.right).shape.low;
+        page = Some p.right;
+      } ∷ [];
+      children = aim.children p.at;
+      sound = IsDue aim (got p.at) × IsCut p.new aim.key aim.word (node_of (got p.at)) (node_of p.left) (node_of p.right) × (p.separator < unbounded);
+    }
+know_edit aim got (OpeningNew x new separator) =
+    record (carrying aim.carried) {
+      said = aim.said (outcome.SplitAt separator);
+      holds = holds_live x ∷ holds_live new ∷ [];
+      sound = (x ≢ new) × (aim.changes ≡ true) × (separator < unbounded);
+    }
 know_edit aim got (Opening x o) = record (carrying aim.carried) { said = aim.said o; holds = holds_live x ∷ []; sound = (aim.changes ≡ true) × IsBelow o }

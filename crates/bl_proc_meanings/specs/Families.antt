@@ -19,4 +19,6 @@ pub record HoldsFamily (level key : ℕ) (marks : Trail) : Type 0 where
 
 -- It holds no more than that when it latches a page.
 abbrev pub LatchesBeside : ℕ → ℕ → Trail → Type 0
-LatchesBeside level key marks = (i : ℕ) (m : Mark) (x : ℕ) → slice_get marks i ≡ Some m → m.event.act ≡ Latch x → ((y : ℕ) → Keeps (take i marks) y → ⊥) ⊎ HoldsFamily level key (take i marks)
+LatchesBeside level key marks =
+    (i : ℕ) (m : Mark) (x : ℕ) → slice_get marks i ≡ Some m → m.event.act ≡ Latch x
+    → ((y : ℕ) → Keeps (take i marks) y → ⊥) ⊎ HoldsFamily level key (take i marks)

@@ -78,10 +78,12 @@ put_child side.Right at left right = Put at.right right
 -- Up to the end of a merge: the left child is put, then the parent, then the right child, which is retired. Up to the end of an
 -- evening: the child that gains is put, then the parent, then the other child.
 abbrev pub to_merged : Siblings → Page → Page → Page → List (Act Page Reply)
-to_merged at merged parent dead = Get at.parent ∷ Latch at.left ∷ Get at.left ∷ Latch at.right ∷ Get at.right ∷ Put at.left merged ∷ Put at.parent parent ∷ Put at.right dead ∷ Retire at.right ∷ []
+to_merged at merged parent dead =
+    Get at.parent ∷ Latch at.left ∷ Get at.left ∷ Latch at.right ∷ Get at.right ∷ Put at.left merged ∷ Put at.parent parent ∷ Put at.right dead ∷ Retire at.right ∷ []
 
 abbrev pub to_evened : Siblings → Evened → Page → List (Act Page Reply)
-to_evened at now parent = Get at.parent ∷ Latch at.left ∷ Get at.left ∷ Latch at.right ∷ Get at.right ∷ put_child now.gains at now.left now.right ∷ Put at.parent parent ∷ put_child (other now.gains) at now.left now.right ∷ []
+to_evened at now parent =
+    Get at.parent ∷ Latch at.left ∷ Get at.left ∷ Latch at.right ∷ Get at.right ∷ put_child now.gains at now.left now.right ∷ Put at.parent parent ∷ put_child (other now.gains) at now.left now.right ∷ []
 
 -- What a merge of two children puts: the left one with the pairs of both, the parent without the right one, and the right one
 -- dead, which leads to the left one.
@@ -194,7 +196,8 @@ pub record LacksPlace (level key : ℕ) (marks : Trail) : Type 0 where
   pub left : Page
   pub right : Page
   pub both : AtBoth level key until family left right (to_right family.at)
-  pub due : ((merged : Page) × (parent : Page) × (dead : Page) × IsMergeOf family left right merged parent dead) ⊎ ((now : Evened) × (parent : Page) × IsEveningOf family left right now parent)
+  pub due : ((merged : Page) × (parent : Page) × (dead : Page) × IsMergeOf family left right merged parent dead)
+      ⊎ ((now : Evened) × (parent : Page) × IsEveningOf family left right now parent)
 
 abbrev pub MeansNoPlace : ℕ → ℕ → Trail → Type 0
 MeansNoPlace level key marks = Once marks (LacksPlace level key)

@@ -22,7 +22,8 @@ together left right = length (pairs_of left) + length (pairs_of right)
 -- of the right one. There is no such page exactly where they are more than 14.
 abbrev pub IsMerged : Page → Page → Option Page → Type 0
 IsMerged left right None = 14 < together left right
-IsMerged left right (Some page) = (together left right ≤ 14) × IsNow (low_of left) (high_of right) (right_of right) left page × (pairs_of page ≡ pairs_of left ++ pairs_of right)
+IsMerged left right (Some page) =
+    (together left right ≤ 14) × IsNow (low_of left) (high_of right) (right_of right) left page × (pairs_of page ≡ pairs_of left ++ pairs_of right)
 
 -- The side that gains, where the left page had so many pairs and has so many now, and the bound between the two pages
 -- has moved: the left page has lost no pair and covers no less, or the right page has more pairs and covers more.

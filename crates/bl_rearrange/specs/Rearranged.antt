@@ -68,7 +68,8 @@ pub record IsWithValue (page : Page) (key word : ℕ) (new : Page) : Type 0 wher
 -- What fits is in the page, beside all that was there. Of 15 pairs the lower 8 stay and the upper 7 go to the new
 -- page; the key that parts them is the first of the upper ones, and above the low of the page.
 abbrev pub IsFitted : Page → ℕ → ℕ → ℕ → Fitted → Type 0
-IsFitted page key word new_page (Fits new) = (length (pairs_of page) < 14) × KeepsFrame page new × SameMap (with_pair (map_of (pairs_of page)) key word) (map_of (pairs_of new))
+IsFitted page key word new_page (Fits new) =
+    (length (pairs_of page) < 14) × KeepsFrame page new × SameMap (with_pair (map_of (pairs_of page)) key word) (map_of (pairs_of new))
 IsFitted page key word new_page (Split left right separator) =
     (14 ≤ length (pairs_of page)) × (length (pairs_of left) ≡ 8) × (length (pairs_of right) ≡ 7)
     × IsNow (low_of page) separator new_page page left × IsNow separator (high_of page) (right_of page) page right

@@ -12,4 +12,6 @@ Emits old new pending left text = (out : List ℕ) × Appends old new out × (pe
 
 -- A command printed this before it was broken off: nothing, all of its text, or that of some turns of a run.
 abbrev pub Partly : View → Command → List ℕ → Type 0
-Partly v c text = (text ≡ []) ⊎ (((v' : View) × Does v c text v') ⊎ ((number : ℕ) × (most : ℕ) × (count : ℕ) × (v' : View) × (c ≡ command.Run number most) × (count ≤ most) × PrintsTurns number v count text v'))
+Partly v c text = (text ≡ [])
+    ⊎ (((v' : View) × Does v c text v')
+    ⊎ ((number : ℕ) × (most : ℕ) × (count : ℕ) × (v' : View) × (c ≡ command.Run number most) × (count ≤ most) × PrintsTurns number v count text v'))

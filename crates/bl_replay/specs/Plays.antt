@@ -58,7 +58,8 @@ PrintsChosen v number page text v' = (turn : Turn) × Chooses v number page turn
 -- Turns of a process that had not answered before any of them, so many.
 pub data PrintsTurns (number : ℕ) (v : View) : ℕ → List ℕ → View → Type 0 where
   Still : PrintsTurns number v 0 [] v
-  More : (count : ℕ) (text more : List ℕ) (mid v' : View) → PrintsTurns number v count text mid → HasAnswer mid number None → PrintsChosen mid number None more v'
+  More : (count : ℕ) (text more : List ℕ) (mid v' : View) → PrintsTurns number v count text mid → HasAnswer mid number None
+      → PrintsChosen mid number None more v'
       → PrintsTurns number v (count + 1) (text ++ more) v'
 
 -- a part that is to begin, and to look at that page then
@@ -92,17 +93,20 @@ Does v (command.Start start) text v' = (p : Proc) × IsStart start p × Starts v
 Does v (command.Turn number) text v' = PrintsChosen v number None text v'
 Does v (command.TurnAt number page) text v' = PrintsChosen v number (Some page) text v'
 Does v (command.Refuse number) text v' = Prints v number (turn.Refuse number) text v'
-Does v (command.Run number most) text v' = (count : ℕ) × (count ≤ most) × PrintsTurns number v count text v' × ((count ≡ most) ⊎ ((a : Answer) × HasAnswer v' number (Some a)))
+Does v (command.Run number most) text v' =
+    (count : ℕ) × (count ≤ most) × PrintsTurns number v count text v' × ((count ≡ most) ⊎ ((a : Answer) × HasAnswer v' number (Some a)))
 
 -- What a list of commands does and prints.
 pub data Plays (v : View) : List Command → List ℕ → View → Type 0 where
   Nothing : Plays v [] [] v
-  Then : (commands : List Command) (next : Command) (text more : List ℕ) (mid v' : View) → Plays v commands text mid → Does mid next more v' → Plays v (commands ++ next ∷ []) (text ++ more) v'
+  Then : (commands : List Command) (next : Command) (text more : List ℕ) (mid v' : View) → Plays v commands text mid → Does mid next more v'
+      → Plays v (commands ++ next ∷ []) (text ++ more) v'
 
 -- A list of commands was broken off: behind some of them, and maybe behind some turns of a run.
 pub data BreaksOff (v : View) (commands : List Command) : List ℕ → Type 0 where
   Behind : (done rest : List Command) (text : List ℕ) (v' : View) → commands ≡ done ++ rest → Plays v done text v' → BreaksOff v commands text
-  Within : (done rest : List Command) (number most count : ℕ) (text more : List ℕ) (mid v' : View) → commands ≡ done ++ command.Run number most ∷ rest → Plays v done text mid
+  Within : (done rest : List Command) (number most count : ℕ) (text more : List ℕ) (mid v' : View) → commands ≡ done ++ command.Run number most ∷ rest
+      → Plays v done text mid
       → count ≤ most → PrintsTurns number mid count more v' → BreaksOff v commands (text ++ more)
 
 -- What a script that was carried out has printed; and what may be believed of the world in the end.

@@ -39,7 +39,8 @@ state_at l f = front l + 2 * l.pages + f
 abbrev pub place_at : Layout → ℕ → ℕ → ℕ
 place_at l f k = front l + 2 * l.pages + frame_count l + 32 * f + k
 
--- What a frame with words is used for: reserved by the hand q as the k-th of its stock, the contents of the page x, taken from a page by the hand q, the same since the hand drew the time t, or retired at t.
+-- What a frame with words is used for: reserved by the hand q as the k-th of its stock, the contents of the page x, taken from
+-- a page by the hand q, the same since the hand drew the time t, or retired at t.
 pub data Use : Type 0 where
   drafted : ℕ → ℕ → Use
   shown : ℕ → Use
@@ -71,7 +72,8 @@ Full (retired t) xs = length xs ≡ 32
 
 abbrev pub FrameIs : Layout → List ℕ → ℕ → Frame → Type 0
 FrameIs l ws f free = slice_index ws (state_at l f) ≡ 0
-FrameIs l ws f (used u xs) = StateIs (slice_index ws (state_at l f)) u × Full u xs × (length xs ≤ 32) × ((k : ℕ) → k < length xs → slice_index ws (place_at l f k) ≡ slice_index xs k)
+FrameIs l ws f (used u xs) =
+    StateIs (slice_index ws (state_at l f)) u × Full u xs × (length xs ≤ 32) × ((k : ℕ) → k < length xs → slice_index ws (place_at l f k) ≡ slice_index xs k)
 
 -- The page x has these words, where its word is n. A page that was never put has zeros.
 abbrev pub PageIs : List Frame → ℕ → ℕ → List ℕ → Type 0
@@ -167,7 +169,25 @@ module _ {D : Type 0} where
 
   -- what a hand knows that has done nothing, has the number n, and deals out the numbers from the next one up to m
   abbrev pub share : Layout → D → ℕ → ℕ → View D
-  share l d n m = record { layout = l; number = n; upto = m; stamp = Out; reading = Nowhere; stock = []; dropping = Empty; sealing = Unsealed; sweep = Still; puts = 0; retires = 0; releases = 0; seen = []; got = []; refused = None; known = d; joined = [] }
+  share l d n m = record {
+    layout = l;
+    number = n;
+    upto = m;
+    stamp = Out;
+    reading = Nowhere;
+    stock = [];
+    dropping = Empty;
+    sealing = Unsealed;
+    sweep = Still;
+    puts = 0;
+    retires = 0;
+    releases = 0;
+    seen = [];
+    got = [];
+    refused = None;
+    known = d;
+    joined = [];
+  }
 
   abbrev pub joined : ℕ → D → Joined D
   joined n d = record { number = n; known = d }
@@ -189,7 +209,25 @@ module _ {D : Type 0} where
 
   -- what a seat knows that has given its hand to another: its number is no hand's
   abbrev pub spent_view : D → View D
-  spent_view d = record { layout = smallest; number = 1; upto = 0; stamp = Out; reading = Nowhere; stock = []; dropping = Empty; sealing = Unsealed; sweep = Still; puts = 0; retires = 0; releases = 0; seen = []; got = []; refused = None; known = d; joined = [] }
+  spent_view d = record {
+    layout = smallest;
+    number = 1;
+    upto = 0;
+    stamp = Out;
+    reading = Nowhere;
+    stock = [];
+    dropping = Empty;
+    sealing = Unsealed;
+    sweep = Still;
+    puts = 0;
+    retires = 0;
+    releases = 0;
+    seen = [];
+    got = [];
+    refused = None;
+    known = d;
+    joined = [];
+  }
 
   -- and one that has no hand yet
   abbrev pub without_hand : View D → View D
@@ -231,13 +269,17 @@ pub record Shows {D : Type 0} (l : Layout) (ws : List ℕ) (s : Pages D) (fs : L
 
 -- Two seats with hands have and deal out other numbers, and no hand that is taken in has any of them, or the number of another that is taken in.
 pub record IsApart {D : Type 0} (vs : List (View D)) : Type 0 where
-  pub hands : (i j : ℕ) (v w : View D) → get_elem? vs i ≡ some v → get_elem? vs j ≡ some w → IsLive v → IsLive w → i ≢ j → (v.upto ≤ w.number) ⊎ (w.upto ≤ v.number)
-  pub joined : (i j : ℕ) (v w : View D) → get_elem? vs i ≡ some v → get_elem? vs j ≡ some w → IsLive v → IsLive w → (k : ℕ) (h : Joined D) → get_elem? v.joined k ≡ some h → (h.number < w.number) ⊎ (w.upto ≤ h.number)
-  pub taken : (i j : ℕ) (v w : View D) → get_elem? vs i ≡ some v → get_elem? vs j ≡ some w → IsLive v → IsLive w → (k m : ℕ) (g h : Joined D) → get_elem? v.joined k ≡ some g → get_elem? w.joined m ≡ some h → (i ≢ j) ⊎ (k ≢ m) → g.number ≢ h.number
+  pub hands : (i j : ℕ) (v w : View D) → get_elem? vs i ≡ some v → get_elem? vs j ≡ some w → IsLive v → IsLive w → i ≢ j
+      → (v.upto ≤ w.number) ⊎ (w.upto ≤ v.number)
+  pub joined : (i j : ℕ) (v w : View D) → get_elem? vs i ≡ some v → get_elem? vs j ≡ some w → IsLive v → IsLive w → (k : ℕ) (h : Joined D)
+      → get_elem? v.joined k ≡ some h → (h.number < w.number) ⊎ (w.upto ≤ h.number)
+  pub taken : (i j : ℕ) (v w : View D) → get_elem? vs i ≡ some v → get_elem? vs j ≡ some w → IsLive v → IsLive w → (k m : ℕ) (g h : Joined D)
+      → get_elem? v.joined k ≡ some g → get_elem? w.joined m ≡ some h → (i ≢ j) ⊎ (k ≢ m) → g.number ≢ h.number
 
 -- The owner word of a retired page shows it, or a hand has retired it just now.
 abbrev pub IsSealing : {D : Type 0} → Layout → List ℕ → List Owner → List (View D) → Type 0
-IsSealing l ws os vs = (x t : ℕ) → get_elem? os x ≡ some (Retired t) → (slice_index ws (owner_at l x) ≡ 4 * t + 3) ⊎ ((j : ℕ) × (v : View _) × (get_elem? vs j ≡ some v) × IsLive v × (v.sealing ≡ Sealed x t))
+IsSealing l ws os vs = (x t : ℕ) → get_elem? os x ≡ some (Retired t) → (slice_index ws (owner_at l x) ≡ 4 * t + 3)
+    ⊎ ((j : ℕ) × (v : View _) × (get_elem? vs j ≡ some v) × IsLive v × (v.sealing ≡ Sealed x t))
 
 pub record Kept {S D : Type 0} (l : Layout) (first : D) (holds : Pages D → Type 0) (st : State S (View D)) : Type 0 where
   pub pages : Pages D

@@ -139,4 +139,5 @@ module _ {D : Type 0} where
 
   -- all but the stock and what it saw taken is as before
   abbrev pub IsQuiet : Seat (Unit {0}) (View D) → Seat (Unit {0}) (View D) → Type 0
-  IsQuiet h h' = (h'.table_id ≡ h.table_id) × (h'.me.0.layout ≡ h.me.0.layout) × (h'.me.0.number ≡ h.me.0.number) × (h'.me.0.stamp ≡ h.me.0.stamp) × (h'.me.0.known ≡ h.me.0.known) × (h'.me.0.puts ≡ h.me.0.puts) × (h'.me.0.retires ≡ h.me.0.retires)
+  IsQuiet h h' = (h'.table_id ≡ h.table_id) × (h'.me.0.layout ≡ h.me.0.layout) × (h'.me.0.number ≡ h.me.0.number) × (h'.me.0.stamp ≡ h.me.0.stamp)
+      × (h'.me.0.known ≡ h.me.0.known) × (h'.me.0.puts ≡ h.me.0.puts) × (h'.me.0.retires ≡ h.me.0.retires)

@@ -79,16 +79,20 @@ module _ {D : Type 0} where
 
   -- a load of the clock by which a reservation begins
   abbrev pub allotted : Play → Sat D → ℕ → Sat D → Type 0
-  allotted st m r m' = IsThere m m' × (m'.0.stamp ≡ m.0.stamp) × (m'.0.known ≡ m.0.known) × (m'.0.stock ≡ m.0.stock) × (r < 1152921504606846976 → (m'.0.puts ≡ 3) × (m'.0.retires ≡ 1) × (m'.0.seen ≡ []) × (m'.0.got ≡ [])) × (1152921504606846976 ≤ r → m'.0.seen ≡ st.word ∷ []) × (m'.0.reading ≡ m.0.reading)
+  allotted st m r m' = IsThere m m' × (m'.0.stamp ≡ m.0.stamp) × (m'.0.known ≡ m.0.known) × (m'.0.stock ≡ m.0.stock)
+      × (r < 1152921504606846976 → (m'.0.puts ≡ 3) × (m'.0.retires ≡ 1) × (m'.0.seen ≡ []) × (m'.0.got ≡ []))
+      × (1152921504606846976 ≤ r → m'.0.seen ≡ st.word ∷ []) × (m'.0.reading ≡ m.0.reading)
 
   -- a look at an owner word, of which the hand notes whether it was taken; the clock, which is word 0, is none
   abbrev pub noted : Play → Sat D → ℕ → Sat D → Type 0
-  noted st m r m' = IsSilent m m' × (r ≢ 0 → st.word ≢ 0 → m'.0.seen ≡ st.word ∷ m.0.seen) × (r ≡ 0 → m'.0.seen ≡ m.0.seen) × (m'.0.got ≡ m.0.got) × (m'.0.reading ≡ m.0.reading) × (st.word ≡ 0 → m'.0.seen ≡ m.0.seen)
+  noted st m r m' = IsSilent m m' × (r ≢ 0 → st.word ≢ 0 → m'.0.seen ≡ st.word ∷ m.0.seen) × (r ≡ 0 → m'.0.seen ≡ m.0.seen) × (m'.0.got ≡ m.0.got)
+      × (m'.0.reading ≡ m.0.reading) × (st.word ≡ 0 → m'.0.seen ≡ m.0.seen)
 
   -- a frame that was free is the hand's
   abbrev pub reserved : Play → Sat D → ℕ → Sat D → Type 0
   reserved st m r m' = IsThere m m' × (m'.0.stamp ≡ m.0.stamp) × (m'.0.known ≡ m.0.known) × HasTicks m.0 m'.0
-      × ((f : ℕ) → st.word ≡ state_at m.0.layout f → (r ≡ 0 → (m'.0.stock ≡ draft f [] ∷ m.0.stock) × (m'.0.seen ≡ m.0.seen) × (m'.0.got ≡ f ∷ m.0.got)) × (r ≢ 0 → (m'.0.stock ≡ m.0.stock) × (m'.0.seen ≡ st.word ∷ m.0.seen) × (m'.0.got ≡ m.0.got))) × (m'.0.reading ≡ m.0.reading)
+      × ((f : ℕ) → st.word ≡ state_at m.0.layout f → (r ≡ 0 → (m'.0.stock ≡ draft f [] ∷ m.0.stock) × (m'.0.seen ≡ m.0.seen) × (m'.0.got ≡ f ∷ m.0.got))
+      × (r ≢ 0 → (m'.0.stock ≡ m.0.stock) × (m'.0.seen ≡ st.word ∷ m.0.seen) × (m'.0.got ≡ m.0.got))) × (m'.0.reading ≡ m.0.reading)
 
   -- the frame that was reserved last is free again
   abbrev pub returned : Play → Sat D → ℕ → Sat D → Type 0
@@ -102,7 +106,8 @@ module _ {D : Type 0} where
   -- a look at the next word of the frame that was reserved last, which is one more word of it where it is 0
   abbrev pub confirmed : Play → Sat D → ℕ → Sat D → Type 0
   confirmed st m r m' = IsThere m m' × (m'.0.stamp ≡ m.0.stamp) × (m'.0.known ≡ m.0.known) × HasTicks m.0 m'.0
-      × ((f : ℕ) (xs : List ℕ) (ds : List Draft) → m.0.stock ≡ draft f xs ∷ ds → (r ≡ 0 → m'.0.stock ≡ draft f (xs ++ 0 ∷ []) ∷ ds) × (r ≢ 0 → m'.0.stock ≡ draft f xs ∷ ds)) × (m'.0.reading ≡ m.0.reading)
+      × ((f : ℕ) (xs : List ℕ) (ds : List Draft) → m.0.stock ≡ draft f xs ∷ ds
+      → (r ≡ 0 → m'.0.stock ≡ draft f (xs ++ 0 ∷ []) ∷ ds) × (r ≢ 0 → m'.0.stock ≡ draft f xs ∷ ds)) × (m'.0.reading ≡ m.0.reading)
 
   -- the one event of a put: the frame that the page had is now the hand's to retire
   abbrev pub swapped : (D → ℕ → Owner → List ℕ → D → Type 0) → Play → Sat D → ℕ → Sat D → Type 0
@@ -113,7 +118,8 @@ module _ {D : Type 0} where
 
   -- a tick of the clock for the frame that the hand took from a page
   abbrev pub drew : Play → Sat D → ℕ → Sat D → Type 0
-  drew st m r m' = IsThere m m' × (m'.0.stamp ≡ m.0.stamp) × (m'.0.known ≡ m.0.known) × (m'.0.stock ≡ m.0.stock) × (m'.0.puts + 1 ≡ m.0.puts) × (m'.0.retires ≡ m.0.retires)
+  drew st m r m' = IsThere m m' × (m'.0.stamp ≡ m.0.stamp) × (m'.0.known ≡ m.0.known) × (m'.0.stock ≡ m.0.stock) × (m'.0.puts + 1 ≡ m.0.puts)
+      × (m'.0.retires ≡ m.0.retires)
       × (r < 2305843009213693952) × ((f : ℕ) → m.0.dropping ≡ Dropped f → m'.0.dropping ≡ Timed f r)
 
   -- the owner word of the frame that the hand took from a page shows that it is retired, at the time that was drawn
@@ -123,7 +129,8 @@ module _ {D : Type 0} where
   -- the event of a page that is taken, where it was found released
   abbrev pub took : (D → ℕ → Owner → List ℕ → D → Type 0) → Play → Sat D → ℕ → Sat D → Type 0
   took then st m r m' = IsThere m m' × (m'.0.stamp ≡ m.0.stamp) × IsStocked m.0 m'.0
-      × ((x : ℕ) → st.word ≡ owner_at m.0.layout x → (r ≡ 0 → (xs : List ℕ) × then m.0.known x Released xs m'.0.known) × (r ≢ 0 → (m'.0.known ≡ m.0.known) × (m'.0.seen ≡ st.word ∷ m.0.seen)))
+      × ((x : ℕ) → st.word ≡ owner_at m.0.layout x → (r ≡ 0 → (xs : List ℕ) × then m.0.known x Released xs m'.0.known)
+      × (r ≢ 0 → (m'.0.known ≡ m.0.known) × (m'.0.seen ≡ st.word ∷ m.0.seen)))
 
   -- the event of a latch, or of one that is missed
   abbrev pub tried : (D → ℕ → Owner → List ℕ → D → Type 0) → Play → Sat D → ℕ → Sat D → Type 0
@@ -150,16 +157,19 @@ module _ {D : Type 0} where
 
   -- a load of the next process word
   abbrev pub passed : Play → Sat D → ℕ → Sat D → Type 0
-  passed st m r m' = IsSilent m m' × (m'.0.releases ≡ m.0.releases) × ((n k : ℕ) → m.0.sweep ≡ Over n k → st.word ≡ process_at m.0.layout k → m'.0.sweep ≡ Over (lower n r) (k + 1)) × (m'.0.reading ≡ m.0.reading)
+  passed st m r m' = IsSilent m m' × (m'.0.releases ≡ m.0.releases)
+      × ((n k : ℕ) → m.0.sweep ≡ Over n k → st.word ≡ process_at m.0.layout k → m'.0.sweep ≡ Over (lower n r) (k + 1)) × (m'.0.reading ≡ m.0.reading)
 
   -- a frame that was found retired is free
   abbrev pub released : Play → Sat D → ℕ → Sat D → Type 0
-  released st m r m' = IsSilent m m' × (m'.0.sweep ≡ m.0.sweep) × (r ≡ st.first → m'.0.releases ≡ m.0.releases + 1) × (r ≢ st.first → m'.0.releases ≡ m.0.releases) × (m'.0.reading ≡ m.0.reading)
+  released st m r m' = IsSilent m m' × (m'.0.sweep ≡ m.0.sweep) × (r ≡ st.first → m'.0.releases ≡ m.0.releases + 1)
+      × (r ≢ st.first → m'.0.releases ≡ m.0.releases) × (m'.0.reading ≡ m.0.reading)
 
   -- the event of a page that is released, where it was found retired
   abbrev pub freed : (D → D → Type 0) → Play → Sat D → ℕ → Sat D → Type 0
   freed then st m r m' = IsThere m m' × (m'.0.stamp ≡ m.0.stamp) × IsStocked m.0 m'.0 × (m'.0.sweep ≡ m.0.sweep)
-      × (r ≡ st.first → then m.0.known m'.0.known × (m'.0.releases ≡ m.0.releases + 1)) × (r ≢ st.first → (m'.0.known ≡ m.0.known) × (m'.0.releases ≡ m.0.releases))
+      × (r ≡ st.first → then m.0.known m'.0.known × (m'.0.releases ≡ m.0.releases + 1))
+      × (r ≢ st.first → (m'.0.known ≡ m.0.known) × (m'.0.releases ≡ m.0.releases))
 
   -- a load at which the hand learns of the one that it took in last
   abbrev pub met : (D → D → D → Type 0) → Play → Sat D → ℕ → Sat D → Type 0
@@ -168,4 +178,6 @@ module _ {D : Type 0} where
 
   -- the event of a reservation that is refused, of so many pages and frames
   abbrev pub refused : ℕ → ℕ → (D → ℕ → D → Type 0) → Play → Sat D → ℕ → Sat D → Type 0
-  refused pages frames then st m r m' = IsThere m m' × (m'.0.stamp ≡ m.0.stamp) × IsStocked m.0 m'.0 × (m'.0.seen ≡ m.0.seen) × (m'.0.got ≡ m.0.got) × (m'.0.refused ≡ Some (wanted pages frames)) × ((now : ℕ) × then m.0.known now m'.0.known)
+  refused pages frames then st m r m' =
+      IsThere m m' × (m'.0.stamp ≡ m.0.stamp) × IsStocked m.0 m'.0 × (m'.0.seen ≡ m.0.seen) × (m'.0.got ≡ m.0.got)
+      × (m'.0.refused ≡ Some (wanted pages frames)) × ((now : ℕ) × then m.0.known now m'.0.known)

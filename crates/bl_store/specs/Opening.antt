@@ -29,11 +29,13 @@ pub record Laid (l : Layout) (contents : List (List ℕ)) (ws : List ℕ) (x : �
   pub shows : Shows l ws pages frames
   pub hands : pages.hands ≡ replicate l.passes (Idle, tt)
   pub clock : pages.clock ≡ 0
-  pub done : (y : ℕ) (words : List ℕ) → y < x → get_elem? contents y ≡ some words → (get_elem? pages.contents y ≡ some words) × (get_elem? pages.owners y ≡ some (first_owner words))
+  pub done : (y : ℕ) (words : List ℕ) → y < x → get_elem? contents y ≡ some words
+      → (get_elem? pages.contents y ≡ some words) × (get_elem? pages.owners y ≡ some (first_owner words))
   pub rest : (y : ℕ) → x ≤ y → y < l.pages → (get_elem? pages.contents y ≡ some (replicate 32 0)) × (get_elem? pages.owners y ≡ some Released)
   pub free : (f : ℕ) → x ≤ f → f < frame_count l → get_elem? frames f ≡ some free
 
 -- One hand for each pass, in the order of their numbers. None has begun, has anything reserved, or knows more than at first.
 pub record IsDealt {D : Type 0} (table : TableId) (l : Layout) (first : D) (passes : ℕ) (hands : List (Hand D)) : Type 0 where
   pub count : length hands ≡ passes
-  pub each : (n : ℕ) (hand : Hand D) → get_elem? hands n ≡ some hand → (hand.number ≡ n) × (hand.seat.table_id ≡ table) × (hand.seat.me.0 ≡ share l first n (n + 1))
+  pub each : (n : ℕ) (hand : Hand D) → get_elem? hands n ≡ some hand → (hand.number ≡ n) × (hand.seat.table_id ≡ table)
+      × (hand.seat.me.0 ≡ share l first n (n + 1))

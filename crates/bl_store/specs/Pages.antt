@@ -1,5 +1,6 @@
 -- The pages as a user of the store sees them, and what each call asks of the user's rule.
--- Each demand is of one shape: whatever the pages are when the event happens, if the rule holds of them and the hand n knows d, then the event is one that may happen, and the hand can be given new data with which the rule holds after it.
+-- Each demand is of one shape: whatever the pages are when the event happens, if the rule holds of them and the hand n knows d,
+-- then the event is one that may happen, and the hand can be given new data with which the rule holds after it.
 use Rattle.std.specs.Prelude.{◌≡◌, ◌≢◌, ℕ, ◌+◌, ◌<◌, ◌≤◌, List, length, slice_set}
 use mathlib.Core.Option.{some}
 use lib.ListN.{get_elem?}
@@ -95,7 +96,8 @@ module _ {D : Type 0} (holds : Pages D → Type 0) (l : Layout) (n : ℕ) (d : D
 
   -- the latch of the page x, which was not open, is missed
   abbrev pub Misses : ℕ → (D → ℕ → Owner → List ℕ → D → Type 0) → Type 0
-  Misses x then = (s : Pages D) (st : Stage) (words : List ℕ) (owner : Owner) → holds s → IsOrderly l s → Stands s n st d → IsPage s x words owner → owner ≢ Open
+  Misses x then = (s : Pages D) (st : Stage) (words : List ℕ) (owner : Owner) → holds s → IsOrderly l s → Stands s n st d → IsPage s x words owner
+      → owner ≢ Open
       → (d' : D) × holds (observed s n st d') × then d x owner words d'
 
   -- the page x is looked at, whether it is open
@@ -125,9 +127,12 @@ module _ {D : Type 0} (holds : Pages D → Type 0) (l : Layout) (n : ℕ) (d : D
 
   -- the page x is released, which was retired at that time; every process that runs began after it
   abbrev pub Releases : ℕ → ℕ → (D → Type 0) → Type 0
-  Releases x time then = (s : Pages D) (st : Stage) (words : List ℕ) → holds s → IsOrderly l s → Stands s n st d → IsPage s x words (Retired time) → AllBeganAfter s time
+  Releases x time then = (s : Pages D) (st : Stage) (words : List ℕ) → holds s → IsOrderly l s → Stands s n st d → IsPage s x words (Retired time)
+      → AllBeganAfter s time
       → (d' : D) × holds (observed (owned s x Released) n st d') × then d'
 
 -- Any number of releases by the hand n, in their order: what they tell goes on from one to the next, and counts the pages.
 abbrev pub ReleasesMany : {D : Type 0} → (Pages D → Type 0) → Layout → ℕ → D → (D → ℕ → D → Type 0) → Type 0
-ReleasesMany {D} holds l n d then = then d 0 d × ((e f : D) (k : ℕ) → then d k e → then e 1 f → then d (k + 1) f) × ((e : D) (k x time : ℕ) → then d k e → Releases holds l n e x time (then e 1))
+ReleasesMany {D} holds l n d then =
+    then d 0 d × ((e f : D) (k : ℕ) → then d k e → then e 1 f → then d (k + 1) f)
+    × ((e : D) (k x time : ℕ) → then d k e → Releases holds l n e x time (then e 1))

@@ -57,7 +57,8 @@ impl<D, R: PageRule<D>, A: Allocator> Store<D, R, A> {
         requires other { IsIdle other.old.seat × HasNoStock other.old.seat }
         requires rule { Meets R.holds self.now.layout hand.old.number (known hand.old.seat) other.old.number (known other.old.seat) M.then }
         ensures same { IsSameHand hand.old.seat hand.new.seat × IsSameStage hand.old.seat hand.new.seat × IsSameStock hand.old.seat hand.new.seat }
-        ensures other { IsSameHand other.old.seat other.new.seat × IsIdle other.new.seat × HasNoStock other.new.seat × (known other.new.seat ≡ known other.old.seat) }
+        ensures other { IsSameHand other.old.seat other.new.seat × IsIdle other.new.seat × HasNoStock other.new.seat
+            × (known other.new.seat ≡ known other.old.seat) }
         ensures observed { M.then (known hand.old.seat) (known other.old.seat) (known hand.new.seat) }
     {
         let shared = &self.table.shared;

@@ -24,7 +24,8 @@ impl<D, R: PageRule<D>, A: Allocator> Store<D, R, A> {
         requires latches { Latches R.holds self.now.layout hand.old.number (known hand.old.seat) page M.then }
         requires misses { Misses R.holds self.now.layout hand.old.number (known hand.old.seat) page M.then }
         ensures same { IsSameHand hand.old.seat hand.new.seat × IsSameStage hand.old.seat hand.new.seat × IsSameStock hand.old.seat hand.new.seat }
-        ensures observed { (owner : Owner) × (words : List ℕ) × (IsTrue result ↔ (owner ≡ Owner.Open)) × M.then (known hand.old.seat) page owner words (known hand.new.seat) }
+        ensures observed { (owner : Owner) × (words : List ℕ) × (IsTrue result ↔ (owner ≡ Owner.Open))
+            × M.then (known hand.old.seat) page owner words (known hand.new.seat) }
     {
         let mine = held_by(hand.number);
         let at = self.layout.page_owner_cell(page);
@@ -41,7 +42,8 @@ impl<D, R: PageRule<D>, A: Allocator> Store<D, R, A> {
         requires page { page < self.now.layout.pages }
         requires rule { Probes R.holds self.now.layout hand.old.number (known hand.old.seat) page M.then }
         ensures same { IsSameHand hand.old.seat hand.new.seat × IsSameStage hand.old.seat hand.new.seat × IsSameStock hand.old.seat hand.new.seat }
-        ensures observed { (owner : Owner) × (words : List ℕ) × (IsTrue result ↔ (owner ≡ Owner.Open)) × M.then (known hand.old.seat) page owner words (known hand.new.seat) }
+        ensures observed { (owner : Owner) × (words : List ℕ) × (IsTrue result ↔ (owner ≡ Owner.Open))
+            × M.then (known hand.old.seat) page owner words (known hand.new.seat) }
     {
         let at = self.layout.page_owner_cell(page);
         self.table.shared.load::<Try<M>>(&mut hand.seat, at) == 1

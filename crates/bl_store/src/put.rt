@@ -49,7 +49,8 @@ impl<D, R: PageRule<D>, A: Allocator> Store<D, R, A> {
         requires page { page < self.now.layout.pages }
         requires stock { IsStockOf hand.old.seat stock.old × (0 < stock.old.count) }
         requires rule { Puts R.holds self.now.layout hand.old.number (known hand.old.seat) page words.now M.then }
-        ensures same { IsSameHand hand.old.seat hand.new.seat × IsSameStage hand.old.seat hand.new.seat × (hand.new.seat.me.0.retires ≡ hand.old.seat.me.0.retires) }
+        ensures same { IsSameHand hand.old.seat hand.new.seat × IsSameStage hand.old.seat hand.new.seat
+            × (hand.new.seat.me.0.retires ≡ hand.old.seat.me.0.retires) }
         ensures stock { IsStockOf hand.new.seat stock.new × (stock.new.count + 1 ≡ stock.old.count) × (stock.new.page ≡ stock.old.page) }
         ensures observed { (old : List ℕ) × M.then (known hand.old.seat) page (Held hand.old.number) old (known hand.new.seat) }
         ensures retired { HasRetired hand.new.seat }
@@ -77,8 +78,10 @@ impl<D, R: PageRule<D>, A: Allocator> Store<D, R, A> {
         requires reads { ReadsFrom hand.old.seat glance }
         requires place { change.place < 14 }
         requires stock { IsStockOf hand.old.seat stock.old × (0 < stock.old.count) }
-        requires rule { (words : List ℕ) × IsSpread change (read_words hand.old.seat) words × Puts R.holds self.now.layout hand.old.number (known hand.old.seat) page words M.then }
-        ensures same { IsSameHand hand.old.seat hand.new.seat × IsSameStage hand.old.seat hand.new.seat × (hand.new.seat.me.0.retires ≡ hand.old.seat.me.0.retires) }
+        requires rule { (words : List ℕ) × IsSpread change (read_words hand.old.seat) words
+            × Puts R.holds self.now.layout hand.old.number (known hand.old.seat) page words M.then }
+        ensures same { IsSameHand hand.old.seat hand.new.seat × IsSameStage hand.old.seat hand.new.seat
+            × (hand.new.seat.me.0.retires ≡ hand.old.seat.me.0.retires) }
         ensures stock { IsStockOf hand.new.seat stock.new × (stock.new.count + 1 ≡ stock.old.count) × (stock.new.page ≡ stock.old.page) }
         ensures observed { (old : List ℕ) × M.then (known hand.old.seat) page (Held hand.old.number) old (known hand.new.seat) }
         ensures retired { HasRetired hand.new.seat }
@@ -97,7 +100,8 @@ impl<D, R: PageRule<D>, A: Allocator> Store<D, R, A> {
         requires ticks { 0 < hand.old.seat.me.0.puts }
         requires draft { HasDraft hand.old.seat frame 32 }
         requires rule { Puts R.holds self.now.layout hand.old.number (known hand.old.seat) page (draft_words hand.old.seat) M.then }
-        ensures same { IsSameHand hand.old.seat hand.new.seat × IsSameStage hand.old.seat hand.new.seat × (hand.new.seat.me.0.retires ≡ hand.old.seat.me.0.retires) }
+        ensures same { IsSameHand hand.old.seat hand.new.seat × IsSameStage hand.old.seat hand.new.seat
+            × (hand.new.seat.me.0.retires ≡ hand.old.seat.me.0.retires) }
         ensures stock { (hand.new.seat.me.0.stock ≡ other_drafts hand.old.seat) × (hand.old.seat.me.0.puts ≤ hand.new.seat.me.0.puts + 1) }
         ensures observed { (old : List ℕ) × M.then (known hand.old.seat) page (Held hand.old.number) old (known hand.new.seat) }
         ensures retired { HasRetired hand.new.seat }
@@ -206,7 +210,8 @@ impl<D, R: PageRule<D>, A: Allocator> Store<D, R, A> {
         ensures same { IsQuiet hand.old.seat hand.new.seat × IsSameReading hand.old.seat hand.new.seat }
         ensures draft { HasDraft hand.new.seat frame (from + 2 * pairs) × (other_drafts hand.new.seat ≡ other_drafts hand.old.seat) }
         ensures kept { (k : ℕ) → k < from → slice_index (draft_words hand.new.seat) k ≡ slice_index (draft_words hand.old.seat) k }
-        ensures carried { (k : ℕ) → from ≤ k → k < from + 2 * pairs → slice_index (draft_words hand.new.seat) k ≡ slice_index (read_words hand.old.seat) (k - from + source) }
+        ensures carried { (k : ℕ) → from ≤ k → k < from + 2 * pairs
+            → slice_index (draft_words hand.new.seat) k ≡ slice_index (read_words hand.old.seat) (k - from + source) }
     {
         for pair in 0..pairs {
             let one = self.seen_word(hand, glance, source + 2 * pair);
@@ -272,7 +277,8 @@ impl<D, R: PageRule<D>, A: Allocator> Store<D, R, A> {
         requires frame { (frame < frame_count self.now.layout) × (hand.old.seat.me.0.dropping ≡ Dropped frame) }
         requires ticks { 0 < hand.old.seat.me.0.puts }
         ensures same { IsSameHand hand.old.seat hand.new.seat × IsSameStage hand.old.seat hand.new.seat × (known hand.new.seat ≡ known hand.old.seat) }
-        ensures stock { (hand.new.seat.me.0.stock ≡ hand.old.seat.me.0.stock) × (hand.new.seat.me.0.puts + 1 ≡ hand.old.seat.me.0.puts) × (hand.new.seat.me.0.retires ≡ hand.old.seat.me.0.retires) }
+        ensures stock { (hand.new.seat.me.0.stock ≡ hand.old.seat.me.0.stock) × (hand.new.seat.me.0.puts + 1 ≡ hand.old.seat.me.0.puts)
+            × (hand.new.seat.me.0.retires ≡ hand.old.seat.me.0.retires) }
         ensures retired { HasRetired hand.new.seat }
     {
         let time = self

@@ -40,7 +40,9 @@ impl<D, R: PageRule<D>, A: Allocator> Store<D, R, A> {
         ensures same { IsSameHand hand.old.seat hand.new.seat × IsSameStage hand.old.seat hand.new.seat }
         ensures stock { IfOk result (λ s. IsStockOf hand.new.seat s × (s.count ≡ frames) × MayRetire hand.new.seat) }
         ensures no_page { pages ≡ 0 → IfOk result (λ s. (s.page ≡ None) × (known hand.new.seat ≡ known hand.old.seat)) }
-        ensures page { pages ≡ 1 → IfOk result (λ s. (x : ℕ) × (s.page ≡ Some x) × (0 < x) × (x < self.now.layout.pages) × ((words : List ℕ) × T.then (known hand.old.seat) x Released words (known hand.new.seat))) }
+        ensures page { pages ≡ 1
+            → IfOk result (λ s. (x : ℕ) × (s.page ≡ Some x) × (0 < x) × (x < self.now.layout.pages)
+            × ((words : List ℕ) × T.then (known hand.old.seat) x Released words (known hand.new.seat))) }
         ensures refused { IfErr result (λ _. HasNoStock hand.new.seat × ((now : ℕ) × M.then (known hand.old.seat) now (known hand.new.seat))) }
         ensures why { IfErr result (IsWhy hand.new.seat pages frames) }
         ensures asked { IfErr result (λ _. WasRefused hand.new.seat pages frames) }
@@ -83,7 +85,8 @@ impl<D, R: PageRule<D>, A: Allocator> Store<D, R, A> {
         requires asked { (pages ≡ J.pages) × (frames ≡ J.frames) }
         requires refuses { Refuses R.holds self.now.layout hand.old.number (known hand.old.seat) M.then }
         ensures same { IsSameHand hand.old.seat hand.new.seat × IsSameStage hand.old.seat hand.new.seat }
-        ensures stock { (hand.new.seat.me.0.stock ≡ hand.old.seat.me.0.stock) × (hand.new.seat.me.0.seen ≡ hand.old.seat.me.0.seen) × (hand.new.seat.me.0.got ≡ hand.old.seat.me.0.got) }
+        ensures stock { (hand.new.seat.me.0.stock ≡ hand.old.seat.me.0.stock) × (hand.new.seat.me.0.seen ≡ hand.old.seat.me.0.seen)
+            × (hand.new.seat.me.0.got ≡ hand.old.seat.me.0.got) }
         ensures refused { hand.new.seat.me.0.refused ≡ Some (wanted pages frames) }
         ensures observed { (now : ℕ) × M.then (known hand.old.seat) now (known hand.new.seat) }
     {
@@ -137,7 +140,8 @@ impl<D, R: PageRule<D>, A: Allocator> Store<D, R, A> {
     #[inline(always)]
     fn prepare(&self, hand: &mut Hand<D>, frames: u32)
         requires own { IsHandOf self.now hand.old }
-        ensures same { IsSameHand hand.old.seat hand.new.seat × IsSameStage hand.old.seat hand.new.seat × IsSameStock hand.old.seat hand.new.seat × (known hand.new.seat ≡ known hand.old.seat) }
+        ensures same { IsSameHand hand.old.seat hand.new.seat × IsSameStage hand.old.seat hand.new.seat × IsSameStock hand.old.seat hand.new.seat
+            × (known hand.new.seat ≡ known hand.old.seat) }
         ensures reads { IsSameReading hand.old.seat hand.new.seat }
     {
         if hand.ready < frames && hand.untried >= RETIRED_TO_TRY {
@@ -221,7 +225,8 @@ impl<D, R: PageRule<D>, A: Allocator> Store<D, R, A> {
     fn give_back(&self, hand: &mut Hand<D>, stock: &mut Stock)
         requires own { IsHandOf self.now hand.old }
         requires stock { IsStockOf hand.old.seat stock.old }
-        ensures same { IsQuiet hand.old.seat hand.new.seat × (hand.new.seat.me.0.seen ≡ hand.old.seat.me.0.seen) × (hand.new.seat.me.0.got ≡ hand.old.seat.me.0.got) }
+        ensures same { IsQuiet hand.old.seat hand.new.seat × (hand.new.seat.me.0.seen ≡ hand.old.seat.me.0.seen)
+            × (hand.new.seat.me.0.got ≡ hand.old.seat.me.0.got) }
         ensures stock { HasNoStock hand.new.seat }
     {
         while stock.count > 0 {
@@ -242,8 +247,10 @@ impl<D, R: PageRule<D>, A: Allocator> Store<D, R, A> {
         requires own { IsHandOf self.now hand.old }
         requires takes { (x : ℕ) → Takes R.holds self.now.layout hand.old.number (known hand.old.seat) x T.then }
         ensures same { IsSameHand hand.old.seat hand.new.seat × IsSameStage hand.old.seat hand.new.seat × IsSameStock hand.old.seat hand.new.seat }
-        ensures page { IfSome result (λ x. (0 < x) × (x < self.now.layout.pages) × ((words : List ℕ) × T.then (known hand.old.seat) x Released words (known hand.new.seat))) }
-        ensures none { IfNone result ((known hand.new.seat ≡ known hand.old.seat) × ((x : ℕ) → 0 < x → x < self.now.layout.pages → SawTaken hand.new.seat (owner_at self.now.layout x))) }
+        ensures page { IfSome result (λ x. (0 < x) × (x < self.now.layout.pages)
+            × ((words : List ℕ) × T.then (known hand.old.seat) x Released words (known hand.new.seat))) }
+        ensures none { IfNone result ((known hand.new.seat ≡ known hand.old.seat)
+            × ((x : ℕ) → 0 < x → x < self.now.layout.pages → SawTaken hand.new.seat (owner_at self.now.layout x))) }
     {
         let pages = self.layout.pages;
         let hint = self.least_free.load(Ordering::SeqCst);
@@ -263,8 +270,11 @@ impl<D, R: PageRule<D>, A: Allocator> Store<D, R, A> {
         requires range { (0 < from) × (from ≤ to) × (to ≤ self.now.layout.pages) }
         requires takes { (x : ℕ) → Takes R.holds self.now.layout hand.old.number (known hand.old.seat) x T.then }
         ensures same { IsSameHand hand.old.seat hand.new.seat × IsSameStage hand.old.seat hand.new.seat × IsSameStock hand.old.seat hand.new.seat }
-        ensures page { IfSome result (λ x. (0 < x) × (x < self.now.layout.pages) × ((words : List ℕ) × T.then (known hand.old.seat) x Released words (known hand.new.seat))) }
-        ensures none { IfNone result ((known hand.new.seat ≡ known hand.old.seat) × ((x : ℕ) → from ≤ x → x < to → SawTaken hand.new.seat (owner_at self.now.layout x)) × ((i : ℕ) → SawTaken hand.old.seat i → SawTaken hand.new.seat i)) }
+        ensures page { IfSome result (λ x. (0 < x) × (x < self.now.layout.pages)
+            × ((words : List ℕ) × T.then (known hand.old.seat) x Released words (known hand.new.seat))) }
+        ensures none { IfNone result ((known hand.new.seat ≡ known hand.old.seat)
+            × ((x : ℕ) → from ≤ x → x < to → SawTaken hand.new.seat (owner_at self.now.layout x))
+            × ((i : ℕ) → SawTaken hand.old.seat i → SawTaken hand.new.seat i)) }
     {
         for page in from..to {
             if self.try_page::<T>(hand, page) {
@@ -282,7 +292,8 @@ impl<D, R: PageRule<D>, A: Allocator> Store<D, R, A> {
         requires takes { Takes R.holds self.now.layout hand.old.number (known hand.old.seat) page T.then }
         ensures same { IsSameHand hand.old.seat hand.new.seat × IsSameStage hand.old.seat hand.new.seat × IsSameStock hand.old.seat hand.new.seat }
         ensures taken { result ≡ true → (words : List ℕ) × T.then (known hand.old.seat) page Released words (known hand.new.seat) }
-        ensures missed { result ≡ false → (known hand.new.seat ≡ known hand.old.seat) × SawTaken hand.new.seat (owner_at self.now.layout page) × ((i : ℕ) → SawTaken hand.old.seat i → SawTaken hand.new.seat i) }
+        ensures missed { result ≡ false → (known hand.new.seat ≡ known hand.old.seat) × SawTaken hand.new.seat (owner_at self.now.layout page)
+            × ((i : ℕ) → SawTaken hand.old.seat i → SawTaken hand.new.seat i) }
     {
         let at = self.layout.page_owner_cell(page);
         if self.table.shared.load::<Note>(&mut hand.seat, at) != 0 {

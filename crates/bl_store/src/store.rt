@@ -165,7 +165,8 @@ impl<D, R: PageRule<D>, A: Allocator> Store<D, R, A> {
         requires page { page < self.now.layout.pages }
         requires rule { Gets R.holds self.now.layout hand.old.number (known hand.old.seat) page M.then }
         ensures same { IsSameHand hand.old.seat hand.new.seat × IsSameStage hand.old.seat hand.new.seat × IsSameStock hand.old.seat hand.new.seat }
-        ensures observed { (owner : Owner) × (words : List ℕ) × HasSeen result hand.new.seat words × M.then (known hand.old.seat) page owner words (known hand.new.seat) }
+        ensures observed { (owner : Owner) × (words : List ℕ) × HasSeen result hand.new.seat words
+            × M.then (known hand.old.seat) page owner words (known hand.new.seat) }
         ensures unread { (glance : Glance) → result ≡ Some glance → glance.used ≡ 0 }
     {
         let found = self

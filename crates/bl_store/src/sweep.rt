@@ -80,7 +80,8 @@ impl<D, R: PageRule<D>, A: Allocator> Store<D, R, A> {
     // A time at which or after which each process began that still runs.
     fn oldest(&self, hand: &mut Hand<D>) -> u64
         requires own { IsHandOf self.now hand.old }
-        ensures same { IsSameHand hand.old.seat hand.new.seat × IsSameStage hand.old.seat hand.new.seat × IsSameStock hand.old.seat hand.new.seat × (known hand.new.seat ≡ known hand.old.seat) × (hand.new.seat.me.0.releases ≡ hand.old.seat.me.0.releases) }
+        ensures same { IsSameHand hand.old.seat hand.new.seat × IsSameStage hand.old.seat hand.new.seat × IsSameStock hand.old.seat hand.new.seat
+            × (known hand.new.seat ≡ known hand.old.seat) × (hand.new.seat.me.0.releases ≡ hand.old.seat.me.0.releases) }
         ensures swept { hand.new.seat.me.0.sweep ≡ Over result self.now.layout.passes }
         ensures reads { IsSameReading hand.old.seat hand.new.seat }
     {
@@ -104,7 +105,8 @@ impl<D, R: PageRule<D>, A: Allocator> Store<D, R, A> {
     #[inline(never)]
     pub(crate) fn recycle(&self, hand: &mut Hand<D>)
         requires own { IsHandOf self.now hand.old }
-        ensures same { IsSameHand hand.old.seat hand.new.seat × IsSameStage hand.old.seat hand.new.seat × IsSameStock hand.old.seat hand.new.seat × (known hand.new.seat ≡ known hand.old.seat) }
+        ensures same { IsSameHand hand.old.seat hand.new.seat × IsSameStage hand.old.seat hand.new.seat × IsSameStock hand.old.seat hand.new.seat
+            × (known hand.new.seat ≡ known hand.old.seat) }
         ensures reads { IsSameReading hand.old.seat hand.new.seat }
     {
         hand.untried = 0;
@@ -138,7 +140,8 @@ impl<D, R: PageRule<D>, A: Allocator> Store<D, R, A> {
         requires frame { frame < frame_count self.now.layout }
         requires state { (state % 4 ≡ 3) × (state / 4 < oldest) }
         requires swept { hand.old.seat.me.0.sweep ≡ Over oldest self.now.layout.passes }
-        ensures same { IsSameHand hand.old.seat hand.new.seat × IsSameStage hand.old.seat hand.new.seat × IsSameStock hand.old.seat hand.new.seat × (known hand.new.seat ≡ known hand.old.seat) × (hand.new.seat.me.0.sweep ≡ hand.old.seat.me.0.sweep) }
+        ensures same { IsSameHand hand.old.seat hand.new.seat × IsSameStage hand.old.seat hand.new.seat × IsSameStock hand.old.seat hand.new.seat
+            × (known hand.new.seat ≡ known hand.old.seat) × (hand.new.seat.me.0.sweep ≡ hand.old.seat.me.0.sweep) }
         ensures kept { (hand.new.retired ≡ hand.old.retired) × (hand.new.waiting ≡ hand.old.waiting) }
         ensures reads { IsSameReading hand.old.seat hand.new.seat }
     {
@@ -160,7 +163,8 @@ impl<D, R: PageRule<D>, A: Allocator> Store<D, R, A> {
         requires state { (state % 4 ≡ 3) × (state / 4 < oldest) }
         requires swept { hand.old.seat.me.0.sweep ≡ Over oldest self.now.layout.passes }
         requires rule { (x time : ℕ) → Releases R.holds self.now.layout hand.old.number (known hand.old.seat) x time (M.then (known hand.old.seat) 1) }
-        ensures same { IsSameHand hand.old.seat hand.new.seat × IsSameStage hand.old.seat hand.new.seat × IsSameStock hand.old.seat hand.new.seat × (hand.new.seat.me.0.sweep ≡ hand.old.seat.me.0.sweep) }
+        ensures same { IsSameHand hand.old.seat hand.new.seat × IsSameStage hand.old.seat hand.new.seat × IsSameStock hand.old.seat hand.new.seat
+            × (hand.new.seat.me.0.sweep ≡ hand.old.seat.me.0.sweep) }
         ensures observed { ((result ≡ true) × M.then (known hand.old.seat) 1 (known hand.new.seat)) ⊎ (known hand.new.seat ≡ known hand.old.seat) }
         ensures yes { result ≡ true → hand.new.seat.me.0.releases ≡ hand.old.seat.me.0.releases + 1 }
         ensures no { result ≡ false → hand.new.seat.me.0.releases ≡ hand.old.seat.me.0.releases }

@@ -46,7 +46,8 @@ use Rattle.bl_world.specs.WorldSteps.{Way, turns_in, WasRefused}
 
 -- no released page is got: before each get its page is not released
 abbrev pub NoneReleased : State Page → Trail → Type 0
-NoneReleased start trail = (i : ℕ) (q : Name) (x : ℕ) → DoesAt trail i q (Get x) → (before : State Page) × LeadsOn start (take i trail) before × (before.owner x ≢ Released)
+NoneReleased start trail =
+    (i : ℕ) (q : Name) (x : ℕ) → DoesAt trail i q (Get x) → (before : State Page) × LeadsOn start (take i trail) before × (before.owner x ≢ Released)
 
 -- each event is of a process of this world
 abbrev pub AllNumbered : Trail → Type 0
@@ -54,7 +55,8 @@ AllNumbered trail = (i : ℕ) (m : Mark) → slice_get trail i ≡ Some m → m.
 
 -- an operation that ended before another began has its point before the other's
 abbrev pub IsOrdered : Trail → Type 0
-IsOrdered trail = (i j end begin : ℕ) (p q : Name) (said other : Said) (reply : Option Reply) → SaysAt trail i p said → SaysAt trail j q other → DoesAt trail end p (End reply) → DoesAt trail begin q Begin → end < begin → i < j
+IsOrdered trail = (i j end begin : ℕ) (p q : Name) (said other : Said) (reply : Option Reply) → SaysAt trail i p said → SaysAt trail j q other
+    → DoesAt trail end p (End reply) → DoesAt trail begin q Begin → end < begin → i < j
 
 -- the operation that a process is, if it is one on the map
 abbrev pub op_of : Proc → Option Op
@@ -115,23 +117,31 @@ pub record Account (v : View) : Type 0 where
   pub ordered : IsOrdered trail
   -- each entry is the operation of a process that was started; and what a process answered is what its entry says
   pub own : (i : ℕ) (q : Name) (said : Said) → SaysAt trail i q said → IsOwn v q said
-  pub answers : (n : ℕ) (p : Proc) (reply : Reply) (hint : Option Hint) → slice_get v.processes n ≡ Some p → answer_of p ≡ Some (answer.Op reply hint) → Replies trail (name_of (n + 1)) (op_of p) reply
-  pub ended : (n : ℕ) (p : Proc) (a : Answer) → slice_get v.processes n ≡ Some p → HasEnd p → answer_of p ≡ Some a → (i : ℕ) × (reply : Option Reply) × DoesAt trail i (name_of (n + 1)) (End reply)
+  pub answers : (n : ℕ) (p : Proc) (reply : Reply) (hint : Option Hint) → slice_get v.processes n ≡ Some p → answer_of p ≡ Some (answer.Op reply hint)
+      → Replies trail (name_of (n + 1)) (op_of p) reply
+  pub ended : (n : ℕ) (p : Proc) (a : Answer) → slice_get v.processes n ≡ Some p → HasEnd p → answer_of p ≡ Some a
+      → (i : ℕ) × (reply : Option Reply) × DoesAt trail i (name_of (n + 1)) (End reply)
   -- what a post answered means what it says, and so does its hint, by what its process has done
-  pub posted : (n : ℕ) (p : Post) (a : Posted) (hint : Option Hint) → slice_get v.processes n ≡ Some (proc.Post p) → answer_of (proc.Post p) ≡ Some (answer.Post a hint) → MeansPosted p.level p.key a (marks_of (name_of (n + 1)) trail)
-  pub hinted : (n : ℕ) (p : Post) (a : Posted) (hint : Option Hint) → slice_get v.processes n ≡ Some (proc.Post p) → answer_of (proc.Post p) ≡ Some (answer.Post a hint) → MeansHint p.level p.key a hint (marks_of (name_of (n + 1)) trail)
+  pub posted : (n : ℕ) (p : Post) (a : Posted) (hint : Option Hint) → slice_get v.processes n ≡ Some (proc.Post p)
+      → answer_of (proc.Post p) ≡ Some (answer.Post a hint) → MeansPosted p.level p.key a (marks_of (name_of (n + 1)) trail)
+  pub hinted : (n : ℕ) (p : Post) (a : Posted) (hint : Option Hint) → slice_get v.processes n ≡ Some (proc.Post p)
+      → answer_of (proc.Post p) ≡ Some (answer.Post a hint) → MeansHint p.level p.key a hint (marks_of (name_of (n + 1)) trail)
   -- so does the hint beside the reply of an operation
-  pub beside : (n : ℕ) (p : Proc) (reply : Reply) (hint : Option Hint) → slice_get v.processes n ≡ Some p → answer_of p ≡ Some (answer.Op reply hint) → MeansBeside p reply hint (marks_of (name_of (n + 1)) trail)
+  pub beside : (n : ℕ) (p : Proc) (reply : Reply) (hint : Option Hint) → slice_get v.processes n ≡ Some p → answer_of p ≡ Some (answer.Op reply hint)
+      → MeansBeside p reply hint (marks_of (name_of (n + 1)) trail)
   -- so does what a compression answered, with the hint beside it
-  pub squeezed : (n : ℕ) (p : Compress) (a : Squeezed) (hint : Option Hint) → slice_get v.processes n ≡ Some (proc.Compress p) → answer_of (proc.Compress p) ≡ Some (answer.Compress a hint) → MeansSqueezed p.level p.key a hint (marks_of (name_of (n + 1)) trail)
+  pub squeezed : (n : ℕ) (p : Compress) (a : Squeezed) (hint : Option Hint) → slice_get v.processes n ≡ Some (proc.Compress p)
+      → answer_of (proc.Compress p) ≡ Some (answer.Compress a hint) → MeansSqueezed p.level p.key a hint (marks_of (name_of (n + 1)) trail)
   -- so does what a lowering answered
-  pub lowered : (n : ℕ) (p : Lower) (a : Lowered) → slice_get v.processes n ≡ Some (proc.Lower p) → answer_of (proc.Lower p) ≡ Some (answer.Lower a) → MeansLowered a (marks_of (name_of (n + 1)) trail)
+  pub lowered : (n : ℕ) (p : Lower) (a : Lowered) → slice_get v.processes n ≡ Some (proc.Lower p) → answer_of (proc.Lower p) ≡ Some (answer.Lower a)
+      → MeansLowered a (marks_of (name_of (n + 1)) trail)
   -- So does what an insertion that posts answered, with the post that it left; and the reply in it is what its entry says.
   pub climbed : (n : ℕ) (p : InsertPost) (reply : Reply) (last : Option Posted) (left : Option Hint)
       → slice_get v.processes n ≡ Some (proc.InsertPost p) → answer_of (proc.InsertPost p) ≡ Some (answer.InsertPost reply last left)
       → Replies trail (name_of (n + 1)) (op_of (proc.InsertPost p)) reply × MeansClimbed reply last left (marks_of (name_of (n + 1)) trail)
   -- so does the answer of a process that was to release a page; and each release is of the retirement that its process saw
-  pub reclaimed : (n : ℕ) (p : Reclaim) (a : Reclaimed) → slice_get v.processes n ≡ Some (proc.Reclaim p) → answer_of (proc.Reclaim p) ≡ Some (answer.Reclaim a) → MeansReclaimed v.events (n + 1) p.page a
+  pub reclaimed : (n : ℕ) (p : Reclaim) (a : Reclaimed) → slice_get v.processes n ≡ Some (proc.Reclaim p)
+      → answer_of (proc.Reclaim p) ≡ Some (answer.Reclaim a) → MeansReclaimed v.events (n + 1) p.page a
   pub releases : ReleasesSeen v.events
   -- a search, and a part, gets no more pages than its bound beside the puts of others, at every moment so far
   pub bounded : (n : ℕ) (p : Proc) → slice_get v.processes n ≡ Some p → IsSearch p → IsWithinBound (length v.pages) (name_of (n + 1)) trail
@@ -139,7 +149,8 @@ pub record Account (v : View) : Type 0 where
   -- lowering the anchor at most; a search and a part latch, take and put nothing
   pub latches : (n : ℕ) (p : Proc) → slice_get v.processes n ≡ Some p → IsTidy p (marks_of (name_of (n + 1)) trail)
   -- whichever the turns were: a process answers that there was no room only where one of them was a fit refusal of it
-  pub refused : (way : Way v) (n : ℕ) (p : Proc) (a : Answer) → slice_get v.processes n ≡ Some p → answer_of p ≡ Some a → IsNoRoom a → WasRefused way.opened way.world_steps n
+  pub refused : (way : Way v) (n : ℕ) (p : Proc) (a : Answer) → slice_get v.processes n ≡ Some p → answer_of p ≡ Some a → IsNoRoom a
+      → WasRefused way.opened way.world_steps n
 
 -- The account of what stands after goes on from that of what stood before.
 pub record Continues (v v' : View) : Type 0 where

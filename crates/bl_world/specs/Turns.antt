@@ -72,21 +72,29 @@ Carries v n p act.Begin v' = Stays v v' × Tells v n p shown.Begin seen.Done v'
 Carries v n p act.End v' = Stays v v' × Tells v n p shown.End seen.Done v'
 Carries v n p (act.Get x) v' = (c : Page) × (slice_get v.pages x ≡ Some c) × Stays v v' × Tells v n p (shown.Get x) (seen.Words c) v'
 Carries v n p (act.Put x c) v' = Puts v x c v' × Tells v n p (shown.Put x) seen.Done v'
-Carries v n p (act.Latch x) v' = ((slice_get v.owners x ≡ Some own.Open) × Owns v x (own.Held (n + 1)) v' × Tells v n p (shown.Latch x) seen.Done v') ⊎ ((slice_get v.owners x ≢ Some own.Open) × Stays v v' × Tells v n p shown.Miss seen.Missed v')
+Carries v n p (act.Latch x) v' =
+    ((slice_get v.owners x ≡ Some own.Open) × Owns v x (own.Held (n + 1)) v' × Tells v n p (shown.Latch x) seen.Done v')
+    ⊎ ((slice_get v.owners x ≢ Some own.Open) × Stays v v' × Tells v n p shown.Miss seen.Missed v')
 Carries v n p (act.Open x) v' = Owns v x own.Open v' × Tells v n p (shown.Open x) seen.Done v'
 Carries v n p act.Take v' = ⊥
 Carries v n p (act.Retire x) v' = Owns v x (own.Retired (length v.events)) v' × Tells v n p (shown.Retire x) seen.Done v'
-Carries v n p (act.Look q) v' = (x : ℕ) × (k : ℕ) × (blocks : Bool) × IsToRelease p x × HasSeen v.events (n + 1) x k (length v.events) × (IsTrue blocks ↔ Blocks v.events q k (length v.events)) × Stays v v' × Tells v n p (shown.Look q) (seen.Blocks blocks) v'
-Carries v n p (act.See x) v' = (o : Owner) × (slice_get v.owners x ≡ Some o) × Stays v v' × Tells v n p (shown.See x) (seen.Owner (is_retired o) (length v.processes) (n + 1)) v'
+Carries v n p (act.Look q) v' =
+    (x : ℕ) × (k : ℕ) × (blocks : Bool) × IsToRelease p x × HasSeen v.events (n + 1) x k (length v.events)
+    × (IsTrue blocks ↔ Blocks v.events q k (length v.events)) × Stays v v' × Tells v n p (shown.Look q) (seen.Blocks blocks) v'
+Carries v n p (act.See x) v' =
+    (o : Owner) × (slice_get v.owners x ≡ Some o) × Stays v v' × Tells v n p (shown.See x) (seen.Owner (is_retired o) (length v.processes) (n + 1)) v'
 Carries v n p (act.Probe x) v' = Stays v v' × Tells v n p (shown.See x) (seen.Probed (is_open (slice_get v.owners x))) v'
-Carries v n p (act.Release x) v' = (MayRelease v n x × Owns v x own.Released v' × Tells v n p (shown.Release x) seen.Done v') ⊎ ((¬ MayRelease v n x) × Stays v v' × Tells v n p shown.Miss seen.Missed v')
+Carries v n p (act.Release x) v' =
+    (MayRelease v n x × Owns v x own.Released v' × Tells v n p (shown.Release x) seen.Done v')
+    ⊎ ((¬ MayRelease v n x) × Stays v v' × Tells v n p shown.Miss seen.Missed v')
 
 -- The three kinds of turn of the process at place n, which is p.
 abbrev pub StepsTo : View → ℕ → Proc → View → Type 0
 StepsTo v n p v' = (MayStep p × Carries v n p (next_of p) v') ⊎ ((¬ MayStep p) × Idles v n v')
 
 abbrev pub TakesTo : View → ℕ → Proc → ℕ → View → Type 0
-TakesTo v n p x v' = (MayTake p × IsFree v x × Owns v x (own.Held (n + 1)) v' × Tells v n p (shown.Take x) (seen.Took x) v') ⊎ ((¬ (MayTake p × IsFree v x)) × Idles v n v')
+TakesTo v n p x v' = (MayTake p × IsFree v x × Owns v x (own.Held (n + 1)) v' × Tells v n p (shown.Take x) (seen.Took x) v')
+    ⊎ ((¬ (MayTake p × IsFree v x)) × Idles v n v')
 
 abbrev pub RefusesTo : View → ℕ → Proc → View → Type 0
 RefusesTo v n p v' = (MayRefuse p × Stays v v' × Tells v n p shown.Miss seen.Refused v') ⊎ ((¬ MayRefuse p) × Idles v n v')

@@ -76,7 +76,8 @@ pub record HasWorld (pages : List Page) (owners : List Owner) (processes : List 
   pub moments : HasMoments empty world.start world.trail
   pub times : HasTimes world events
   pub inside : (n : ℕ) (p : Reclaim) → slice_get processes n ≡ Some (proc.Reclaim p) → p.page < length pages
-  pub reclaiming : (n : ℕ) (p : Reclaim) → slice_get processes n ≡ Some (proc.Reclaim p) → IsReclaiming events (suc n) p.page (world.proc (name_of (suc n))).time p.stage
+  pub reclaiming : (n : ℕ) (p : Reclaim) → slice_get processes n ≡ Some (proc.Reclaim p)
+      → IsReclaiming events (suc n) p.page (world.proc (name_of (suc n))).time p.stage
   pub releases : ReleasesSeen events
 
 -- There is such a world.

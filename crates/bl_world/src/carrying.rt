@@ -38,7 +38,8 @@ fn record(events: &mut Vec<Event>, index: usize, act: Act) -> Result<(), AllocEr
 fn advance(processes: &mut Vec<Proc>, index: usize, seen: Seen)
     requires started { index < length processes.old.items }
     requires given { (p : Proc) → slice_get processes.old.items index ≡ Some p → (answer_of p ≡ None) × Gives (next_of p) (needs_of p) seen }
-    ensures { (p : Proc) → slice_get processes.old.items index ≡ Some p → (new : Proc) × Takes p seen new × (processes.new.items ≡ slice_set processes.old.items index new) }
+    ensures { (p : Proc) → slice_get processes.old.items index ≡ Some p
+        → (new : Proc) × Takes p seen new × (processes.new.items ≡ slice_set processes.old.items index new) }
 {
     processes[index].took(seen);
 }
@@ -58,7 +59,8 @@ impl Lists {
     fn observed(&mut self, index: usize, act: Act, seen: Seen) -> Result<(), AllocError>
         requires started { index < length self.old.processes.items }
         requires given { (p : Proc) → slice_get self.old.processes.items index ≡ Some p → (answer_of p ≡ None) × Gives (next_of p) (needs_of p) seen }
-        ensures ok { OnOk result ((p : Proc) → slice_get self.old.processes.items index ≡ Some p → Stays (view_of self.old) (view_of self.new) × Tells (view_of self.old) index p act seen (view_of self.new)) }
+        ensures ok { OnOk result ((p : Proc) → slice_get self.old.processes.items index ≡ Some p
+            → Stays (view_of self.old) (view_of self.new) × Tells (view_of self.old) index p act seen (view_of self.new)) }
         ensures err { OnErr result (view_of self.new ≡ view_of self.old) }
     {
         record(&mut self.events, index, act)?;
@@ -71,7 +73,8 @@ impl Lists {
         requires world { IsWorld (view_of self.old) }
         requires started { index < length self.old.processes.items }
         requires next { (p : Proc) → slice_get self.old.processes.items index ≡ Some p → (answer_of p ≡ None) × (next_of p ≡ act.Put at page) }
-        ensures ok { OnOk result ((p : Proc) → slice_get self.old.processes.items index ≡ Some p → Carries (view_of self.old) index p (act.Put at page) (view_of self.new)) }
+        ensures ok { OnOk result ((p : Proc) → slice_get self.old.processes.items index ≡ Some p
+            → Carries (view_of self.old) index p (act.Put at page) (view_of self.new)) }
         ensures err { OnErr result (view_of self.new ≡ view_of self.old) }
     {
         record(&mut self.events, index, Act::Put(at))?;
@@ -92,7 +95,8 @@ impl Lists {
         requires started { index < length self.old.processes.items }
         requires within { at < length self.old.owners.items }
         requires given { (p : Proc) → slice_get self.old.processes.items index ≡ Some p → (answer_of p ≡ None) × Gives (next_of p) (needs_of p) seen }
-        ensures ok { OnOk result ((p : Proc) → slice_get self.old.processes.items index ≡ Some p → Owns (view_of self.old) at owner (view_of self.new) × Tells (view_of self.old) index p act seen (view_of self.new)) }
+        ensures ok { OnOk result ((p : Proc) → slice_get self.old.processes.items index ≡ Some p
+            → Owns (view_of self.old) at owner (view_of self.new) × Tells (view_of self.old) index p act seen (view_of self.new)) }
         ensures err { OnErr result (view_of self.new ≡ view_of self.old) }
     {
         record(&mut self.events, index, act)?;
@@ -106,7 +110,8 @@ impl Lists {
         requires world { IsWorld (view_of self.old) }
         requires started { index < length self.old.processes.items }
         requires next { (p : Proc) → slice_get self.old.processes.items index ≡ Some p → (answer_of p ≡ None) × (next_of p ≡ act.Latch at) }
-        ensures ok { OnOk result ((p : Proc) → slice_get self.old.processes.items index ≡ Some p → Carries (view_of self.old) index p (act.Latch at) (view_of self.new)) }
+        ensures ok { OnOk result ((p : Proc) → slice_get self.old.processes.items index ≡ Some p
+            → Carries (view_of self.old) index p (act.Latch at) (view_of self.new)) }
         ensures err { OnErr result (view_of self.new ≡ view_of self.old) }
     {
         match self.owners[at as usize] {
@@ -128,7 +133,8 @@ impl Lists {
         requires world { IsWorld (view_of self.old) }
         requires started { index < length self.old.processes.items }
         requires next { (p : Proc) → slice_get self.old.processes.items index ≡ Some p → (answer_of p ≡ None) × (next_of p ≡ act.Get at) }
-        ensures ok { OnOk result ((p : Proc) → slice_get self.old.processes.items index ≡ Some p → Carries (view_of self.old) index p (act.Get at) (view_of self.new)) }
+        ensures ok { OnOk result ((p : Proc) → slice_get self.old.processes.items index ≡ Some p
+            → Carries (view_of self.old) index p (act.Get at) (view_of self.new)) }
         ensures err { OnErr result (view_of self.new ≡ view_of self.old) }
     {
         let page = self.pages[at as usize].copied();
@@ -140,7 +146,8 @@ impl Lists {
         requires world { IsWorld (view_of self.old) }
         requires started { index < length self.old.processes.items }
         requires next { (p : Proc) → slice_get self.old.processes.items index ≡ Some p → (answer_of p ≡ None) × (next_of p ≡ act.Open at) }
-        ensures ok { OnOk result ((p : Proc) → slice_get self.old.processes.items index ≡ Some p → Carries (view_of self.old) index p (act.Open at) (view_of self.new)) }
+        ensures ok { OnOk result ((p : Proc) → slice_get self.old.processes.items index ≡ Some p
+            → Carries (view_of self.old) index p (act.Open at) (view_of self.new)) }
         ensures err { OnErr result (view_of self.new ≡ view_of self.old) }
     {
         self.own(index, at, Owner::Open, Act::Open(at), Seen::Done)
@@ -151,7 +158,8 @@ impl Lists {
         requires world { IsWorld (view_of self.old) }
         requires started { index < length self.old.processes.items }
         requires next { (p : Proc) → slice_get self.old.processes.items index ≡ Some p → (answer_of p ≡ None) × (next_of p ≡ act.Retire at) }
-        ensures ok { OnOk result ((p : Proc) → slice_get self.old.processes.items index ≡ Some p → Carries (view_of self.old) index p (act.Retire at) (view_of self.new)) }
+        ensures ok { OnOk result ((p : Proc) → slice_get self.old.processes.items index ≡ Some p
+            → Carries (view_of self.old) index p (act.Retire at) (view_of self.new)) }
         ensures err { OnErr result (view_of self.new ≡ view_of self.old) }
     {
         let place = self.events.len();
@@ -169,7 +177,8 @@ impl Lists {
         requires world { IsWorld (view_of self.old) }
         requires started { index < length self.old.processes.items }
         requires next { (p : Proc) → slice_get self.old.processes.items index ≡ Some p → (answer_of p ≡ None) × (next_of p ≡ act.See at) }
-        ensures ok { OnOk result ((p : Proc) → slice_get self.old.processes.items index ≡ Some p → Carries (view_of self.old) index p (act.See at) (view_of self.new)) }
+        ensures ok { OnOk result ((p : Proc) → slice_get self.old.processes.items index ≡ Some p
+            → Carries (view_of self.old) index p (act.See at) (view_of self.new)) }
         ensures err { OnErr result (view_of self.new ≡ view_of self.old) }
     {
         let retired = is_retired(self.owners[at as usize]);
@@ -189,7 +198,8 @@ impl Lists {
     fn probe(&mut self, index: usize, at: u32) -> Result<(), AllocError>
         requires started { index < length self.old.processes.items }
         requires next { (p : Proc) → slice_get self.old.processes.items index ≡ Some p → (answer_of p ≡ None) × (next_of p ≡ act.Probe at) }
-        ensures ok { OnOk result ((p : Proc) → slice_get self.old.processes.items index ≡ Some p → Carries (view_of self.old) index p (act.Probe at) (view_of self.new)) }
+        ensures ok { OnOk result ((p : Proc) → slice_get self.old.processes.items index ≡ Some p
+            → Carries (view_of self.old) index p (act.Probe at) (view_of self.new)) }
         ensures err { OnErr result (view_of self.new ≡ view_of self.old) }
     {
         let owner = self.owners.as_slice().get(at as usize).copied();
@@ -199,8 +209,10 @@ impl Lists {
     /// Since which event the process at that place has seen its page retired, if it is to release one.
     fn retired_for(&self, index: usize) -> Option<usize>
         requires { index < length self.now.processes.items }
-        ensures some { (p : Proc) (k : ℕ) → slice_get self.now.processes.items index ≡ Some p → result ≡ Some k → (x : ℕ) × IsToRelease p x × HasSeen self.now.events.items (index + 1) x k (length self.now.events.items) }
-        ensures none { (p : Proc) (x k : ℕ) → slice_get self.now.processes.items index ≡ Some p → result ≡ None → IsToRelease p x → ¬ HasSeen self.now.events.items (index + 1) x k (length self.now.events.items) }
+        ensures some { (p : Proc) (k : ℕ) → slice_get self.now.processes.items index ≡ Some p → result ≡ Some k
+            → (x : ℕ) × IsToRelease p x × HasSeen self.now.events.items (index + 1) x k (length self.now.events.items) }
+        ensures none { (p : Proc) (x k : ℕ) → slice_get self.now.processes.items index ≡ Some p → result ≡ None → IsToRelease p x
+            → ¬ HasSeen self.now.events.items (index + 1) x k (length self.now.events.items) }
     {
         match &self.processes[index] {
             Proc::Reclaim(reclaim) => {
@@ -215,7 +227,8 @@ impl Lists {
         requires world { IsWorld (view_of self.old) }
         requires started { index < length self.old.processes.items }
         requires next { (p : Proc) → slice_get self.old.processes.items index ≡ Some p → (answer_of p ≡ None) × (next_of p ≡ act.Look number) }
-        ensures ok { OnOk result ((p : Proc) → slice_get self.old.processes.items index ≡ Some p → Carries (view_of self.old) index p (act.Look number) (view_of self.new)) }
+        ensures ok { OnOk result ((p : Proc) → slice_get self.old.processes.items index ≡ Some p
+            → Carries (view_of self.old) index p (act.Look number) (view_of self.new)) }
         ensures err { OnErr result (view_of self.new ≡ view_of self.old) }
     {
         match self.retired_for(index) {
@@ -232,7 +245,8 @@ impl Lists {
         requires world { IsWorld (view_of self.old) }
         requires started { index < length self.old.processes.items }
         requires next { (p : Proc) → slice_get self.old.processes.items index ≡ Some p → (answer_of p ≡ None) × (next_of p ≡ act.Release at) }
-        ensures ok { OnOk result ((p : Proc) → slice_get self.old.processes.items index ≡ Some p → Carries (view_of self.old) index p (act.Release at) (view_of self.new)) }
+        ensures ok { OnOk result ((p : Proc) → slice_get self.old.processes.items index ≡ Some p
+            → Carries (view_of self.old) index p (act.Release at) (view_of self.new)) }
         ensures err { OnErr result (view_of self.new ≡ view_of self.old) }
     {
         if !self.may_release(index, at) {
