@@ -24,15 +24,3 @@ IsLowerAnswer (Some (Reclaim what)) = ⊥
 IsLowerAnswer (Some (Compress what hint)) = ⊥
 IsLowerAnswer (Some (Lower what)) = Unit {0}
 IsLowerAnswer (Some (InsertPost reply last left)) = ⊥
-
--- a reply of an insertion
-abbrev pub IsOfInsertion : Reply → Type 0
-IsOfInsertion reply.Inserted = Unit {0}
-IsOfInsertion (reply.Present value) = Unit {0}
-IsOfInsertion reply.NoRoom = Unit {0}
-IsOfInsertion other = ⊥
-
--- the answer of an insertion that posts
-abbrev pub IsClimbAnswer : Option Answer → Type 0
-IsClimbAnswer (Some (InsertPost reply last left)) = IsOfInsertion reply
-IsClimbAnswer other = ⊥

@@ -1,5 +1,5 @@
 -- What a process has got of the page that it latched last, and one event more.
-use Rattle.std.proofs.Common.{ℕ, zero, suc, ◌≡◌, ◌≢◌, ◌+◌, ◌++◌, ◌≤◌, Option, [], ◌∷◌, None, Some, length, ap, sym, ◌∙◌, refl, subst, inl, inr, append_assoc}
+use Rattle.std.proofs.Common.{ℕ, zero, suc, ◌≡◌, ◌≢◌, ◌+◌, ◌++◌, ◌≤◌, [], ◌∷◌, None, Some, length, ap, sym, ◌∙◌, refl, subst, inl, inr, append_assoc}
 use Rattle.std.proofs.lemmas.List.Elements.{Contains-push_cases}
 use Rattle.bl_page.specs.declared.page.Page.{Page}
 use Rattle.bl_page.specs.declared.page.Page.TheVariants.{Inner}

@@ -10,13 +10,12 @@ use Rattle.bl_proc.specs.Processes.{Takes}
 use Rattle.bl_proc_unique.specs.Courses.{GoesOn}
 use Rattle.bl_proc_unique.specs.Frames.{op_of, work_of}
 use Rattle.bl_proc_bounds.specs.Latches.{IsTidy}
-use Rattle.bl_proc_invariant.specs.Knowing.{end_of_proc}
 use Rattle.bl_proc_invariant.specs.Logs.{proc_log}
 use Rattle.bl_index_rule.specs.declared.known.PassState.{PassState}
 use Rattle.bl_claims.specs.Seeing.{name}
-use Rattle.bl_index_rule.specs.Observed.{Goes, Finishes, ends}
+use Rattle.bl_index_rule.specs.Observed.{Goes, ends}
 use Rattle.bl_index_steps.specs.Held.{own_marks, proc_held}
-use Rattle.bl_index_steps.specs.Runs.{IsOn, IsSince, IsDone, IsSameProcess, OpensLast}
+use Rattle.bl_index_steps.specs.Runs.{IsOn, IsSince, IsDone, IsSameProcess, EndsAs, OpensLast}
 use Rattle.bl_index_steps.proofs.Calls.{since_step}
 use Rattle.bl_index_steps.proofs.Held.{goes_held}
 
@@ -88,26 +87,30 @@ goes_put false d e done refused = refused refl
 pub course_at : (what : Seen) (p q : Proc) → p ≡ q → GoesOn q what → GoesOn p what
 course_at what p q is course = subst (λ (z : Proc). GoesOn z what) (sym is) course
 
--- a process that has opened its last page and ended
-pub opened_and_ended : (pass page : ℕ) (old d e f : PassState) (first ending last : Proc) → IsSince pass old d → OpensLast d.state page ending last → Goes seen.Done d e → ends e 0 f → op_of ending ≡ op_of first → work_of ending ≡ work_of first → IsDone pass old f first last
-opened_and_ended pass page old d e f first ending last since opens goes observed op work =
-    let stands : e.state ≡ ending = goes_to seen.Done d e d.state ending goes refl opens.opened in
-    let after = same_goes seen.Done d e goes pass old since in
+-- a process that has ended
+pub is_over : (pass : ℕ) (old d e : PassState) (first last : Proc) → IsSince pass old d → EndsAs d.state last → ends d 0 e → op_of d.state ≡ op_of first → work_of d.state ≡ work_of first → IsDone pass old e first last
+is_over pass old d e first last since ending observed op work =
     let done = observed.1 in
-    let is_last : done.course.new ≡ last = sym (done.course.only last (subst (λ (z : Proc). Takes z seen.Done last) (sym stands) opens.ended)) in
+    let is_last : done.course.new ≡ last = sym (done.course.only last ending.ended) in
     record {
-      d = e;
-      before = ending;
-      since = after;
-      state = stands;
-      at_end = opens.at_end;
-      observed = subst (λ (z : Proc). Finishes (end_of_proc z) e f) stands observed.0;
-      takes = opens.ended;
+      d = d;
+      before = d.state;
+      since = since;
+      state = refl;
+      at_end = ending.at_end;
+      observed = observed.0;
+      takes = ending.ended;
       op = op;
       work = work;
-      log = subst (λ (z : Proc × Name). proc_log z.0 (marks_of z.1 f.trail)) (λ i. (is_last i, name (after.named i) (after.number i))) done.log;
-      tidy = subst (λ (z : Proc × Name). IsTidy z.0 (marks_of z.1 f.trail)) (λ i. ((done.state ∙ is_last) i, name (after.named i) (after.number i))) observed.0.notes.tidy;
+      log = subst (λ (z : Proc × Name). proc_log z.0 (marks_of z.1 e.trail)) (λ i. (is_last i, name (since.named i) (since.number i))) done.log;
+      tidy = subst (λ (z : Proc × Name). IsTidy z.0 (marks_of z.1 e.trail)) (λ i. ((done.state ∙ is_last) i, name (since.named i) (since.number i))) observed.0.notes.tidy;
     }
+
+-- by how it opened its last page
+pub ends_opened : (page : ℕ) (d e : PassState) (ending last : Proc) → Goes seen.Done d e → OpensLast d.state page ending last → (e.state ≡ ending) × EndsAs e.state last
+ends_opened page d e ending last goes opens =
+    let stands : e.state ≡ ending = goes_to seen.Done d e d.state ending goes refl opens.opened in
+    (stands, subst (λ (z : Proc). EndsAs z last) (sym stands) (record { at_end = opens.at_end; over = opens.over; ended = opens.ended }))
 
 -- the same, from an earlier state of the process on
 pub done_from : (pass : ℕ) (old e : PassState) (earlier first last : Proc) → IsDone pass old e first last → op_of first ≡ op_of earlier → work_of first ≡ work_of earlier → IsDone pass old e earlier last

@@ -86,6 +86,18 @@ abbrev pub HasReserved : Seat (Unit {0}) (View PassState) → Option Stock → P
 HasReserved h None p = (frames_of p ≡ 0) × HasNoStock h × ((x : ℕ) → next_of p ≢ act.Retire x)
 HasReserved h (Some stock) p = IsStockOf h stock × (stock.count ≡ frames_of p) × MayRetire h
 
+-- The process is to end, and is the last one then.
+pub record EndsAs (state last : Proc) : Type 0 where
+  pub at_end : next_of state ≡ act.End
+  pub over : GoesOn state seen.Done
+  pub ended : Takes state seen.Done last
+
+-- The process opens that page, and is the next one then.
+pub record OpensTo (state : Proc) (page : ℕ) (next : Proc) : Type 0 where
+  pub act : next_of state ≡ act.Open page
+  pub course : GoesOn state seen.Done
+  pub opened : Takes state seen.Done next
+
 -- The process opens that page, then ends, and is the last one then.
 pub record OpensLast (state : Proc) (page : ℕ) (ending last : Proc) : Type 0 where
   pub next : next_of state ≡ act.Open page

@@ -3,3 +3,4 @@ pub mod Spreading
 pub mod Splits
 pub mod Parents
 pub mod PostEnds
+pub mod Climbs

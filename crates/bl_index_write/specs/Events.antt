@@ -12,6 +12,7 @@ use Rattle.bl_layout.specs.declared.layout.Layout.{Layout}
 use Rattle.bl_model.specs.declared.deciding.KeyWrite.{KeyWrite}
 use Rattle.bl_store.specs.declared.view.View.{View}
 use Rattle.bl_store.specs.declared.store.Glance.{Glance}
+use Rattle.bl_store.specs.declared.store.Hand.{Hand}
 use Rattle.bl_store.specs.Hands.{known, read_words, IsIdle, IsRunning, IsSameHand, HasNoStock, ReadsFrom}
 use Rattle.bl_proc_base.specs.declared.acts.Seen.TheVariants as seen
 use Rattle.bl_proc_base.specs.declared.answers.Answer.TheVariants as answer
@@ -28,7 +29,6 @@ use Rattle.bl_proc_base.specs.Onwards.{Leads}
 use Rattle.bl_proc.specs.declared.writing.WriteStage.{WriteStage}
 use Rattle.bl_proc.specs.declared.writing.WriteStage.TheVariants as write
 use Rattle.bl_proc.specs.declared.writing.WriteReply.{WriteReply}
-use Rattle.bl_proc.specs.declared.writing.WriteReply.TheVariants.{NoRoom}
 use Rattle.bl_proc.specs.Writes.{write_answer}
 use Rattle.bl_proc.specs.declared.posting.Post.{Post}
 use Rattle.bl_proc.specs.declared.posting.PostStage.{PostStage}
@@ -43,9 +43,12 @@ use Rattle.bl_index_rule.specs.declared.known.PassState.{PassState}
 use Rattle.bl_index_write.specs.declared.descend.Arrived.{Arrived}
 use Rattle.bl_index_write.specs.declared.descend.Arrived.TheVariants.{There, Away}
 use Rattle.bl_index_write.specs.declared.targets.Posting.{Posting}
+use Rattle.bl_index_write.specs.declared.writers.Left.{Left}
+use Rattle.bl_index_write.specs.declared.writers.Left.TheVariants.{Refused}
+use Rattle.bl_index_steps.specs.declared.tree.Tree.{Tree}
 use Rattle.bl_index_write.specs.declared.posting.Walked.{Walked}
 use Rattle.bl_index_write.specs.declared.posting.Walked.TheVariants.{On, Found, Stale, Lost}
-use Rattle.bl_index_steps.specs.Runs.{IsOn, IsSince, IsWithin, IsDone, IsSameProcess, Rests}
+use Rattle.bl_index_steps.specs.Runs.{IsOn, IsSince, IsWithin, IsDone, IsSameProcess, Runs}
 use Rattle.bl_index_steps.specs.Rooms.{LacksPost, LacksWrite}
 use Rattle.bl_proc_base.specs.declared.answers.Posted.TheVariants as posted
 use Rattle.bl_proc_base.specs.declared.answers.Answer.{Answer}
@@ -57,6 +60,11 @@ HoldsNone (At x) = Unit {0}
 HoldsNone (Latching x) = Unit {0}
 HoldsNone (Latched x) = ⊥
 HoldsNone (Leaving x to) = ⊥
+
+-- It is to latch that page; or its way begins again.
+abbrev pub IsToLatch : (Approach → Proc) → Layout → PassState → Option ℕ → Type 0
+IsToLatch at l d (Some x) = IsOn l d (at (Latching x))
+IsToLatch at l d None = IsOn l d (at Start)
 
 -- The writer that held a page of its level, to cover that key, has got it: the page has these words, and covers the key.
 pub record IsThere (level key : ℕ) (latched : Proc) (words : List ℕ) (d : PassState) : Type 0 where
@@ -80,9 +88,9 @@ HasCome level key at l h None = IsOn l (known h) (at Start)
 abbrev pub writing : ℕ → KeyWrite → WriteStage → Proc
 writing key does stage = proc.Write (record { key = key; write = does; stage = stage })
 
--- It has got its leaf, which it holds: the leaf has these words, and lists that with the key.
-pub record IsAtLeaf (key : ℕ) (does : KeyWrite) (at : ℕ) (there : Option ℕ) (words : List ℕ) (d : PassState) : Type 0 where
-  pub here : IsThere 0 key (writing key does (write.Coming (Latched at))) words d
+-- A process that stands so has got its leaf, which it holds: the leaf has these words, and lists that with the key.
+pub record IsAtLeaf (key : ℕ) (staged : WriteStage → Proc) (at : ℕ) (there : Option ℕ) (words : List ℕ) (d : PassState) : Type 0 where
+  pub here : IsThere 0 key (staged (write.Coming (Latched at))) words d
   pub lists : (node_of here.page).look key ≡ there
 
 -- what became of a leaf that was to be put, by whether there was room
@@ -96,13 +104,14 @@ pub record HasWritten (pass : ℕ) (old e : PassState) (key : ℕ) (does : KeyWr
   pub done : IsDone pass old e (writing key does write.New) (writing key does (write.Over reply))
   pub answer : write_answer does reply ≡ said
 
--- From where it held its leaf it has gone on to its end, and its reply is that.
-pub record EndsWrite (h h' : Seat (Unit {0}) (View PassState)) (key : ℕ) (does : KeyWrite) (r : WriteReply) : Type 0 where
-  pub same : IsSameHand h h'
-  pub rests : Rests h'
-  pub empty : HasNoStock h'
-  pub wrote : (pass : ℕ) (old : PassState) → IsSince pass old (known h) → HasWritten pass old (known h') key does (write_answer does r)
-  pub no_room : r ≡ NoRoom → LacksWrite key does h'
+-- From where it held its leaf it has gone on: it has opened that, and left this there.
+pub record LeavesLeaf (tree : Tree) (h : Seat (Unit {0}) (View PassState)) (hand : Hand PassState) (opened : Left → Proc) (key : ℕ) (does : KeyWrite)
+    (left : Left) : Type 0 where
+  pub same : IsSameHand h hand.seat
+  pub empty : HasNoStock hand.seat
+  pub runs : Runs tree hand (opened left)
+  pub since : IsSameProcess (known h) (known hand.seat)
+  pub no_room : left ≡ Refused → LacksWrite key does hand.seat
 
 -- The post that began as first has ended, and has answered that.
 pub record HasPosted (pass : ℕ) (old e : PassState) (first : Proc) (what : Posted) (hint : Option Hint) : Type 0 where

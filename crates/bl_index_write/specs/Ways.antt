@@ -18,6 +18,21 @@ IsPast (Latched x) = Unit {0}
 IsPast (Leaving x to) = Unit {0}
 
 -- a post goes on as any writer then
+-- it is to latch a page, or holds one
+abbrev pub IsToHold : Approach → Type 0
+IsToHold Start = ⊥
+IsToHold (At x) = ⊥
+IsToHold (Latching x) = Unit {0}
+IsToHold (Latched x) = Unit {0}
+IsToHold (Leaving x to) = Unit {0}
+
+pub past_held : (a : Approach) → IsToHold a → IsPast a
+past_held Start hold = hold
+past_held (At x) hold = tt
+past_held (Latching x) hold = tt
+past_held (Latched x) hold = tt
+past_held (Leaving x to) hold = tt
+
 pub nears : (level key : ℕ) (a b : Approach) (what : Seen) → IsPast a → Approaches level key a what (came.On b)
     → PostGoes level key (post.Coming a) what (post.Coming b)
 nears level key Start b what past t = absurd past

@@ -4,7 +4,8 @@ ghost use Rattle.std.specs.Prelude.{◌≡◌, ◌<◌, None};
 ghost use Rattle.bl_model.specs.declared.deciding.Effect.TheVariants as effects;
 ghost use Rattle.bl_model.specs.Writes.{effect_of};
 
-use crate::targets::{Posting, Writing};
+use crate::targets::Posting;
+use crate::writers::Writer;
 
 /// Who changes a page that it holds and has got. There is a process that does so, of which there is no value.
 pub(crate) trait Editor {
@@ -39,33 +40,33 @@ pub(crate) trait Editor {
 }
 
 /// The entry of a pair in its leaf.
-#[derive(Clone, Copy)]
-pub(crate) struct Entering {
-    pub(crate) target: Writing,
+#[derive(Drop)]
+pub(crate) struct Entering<'a, W: Writer> {
+    pub(crate) writer: &'a W,
     pub(crate) value: u64,
-    pub(crate) ghost enters: { effect_of target.write None ≡ effects.Enter value },
+    pub(crate) ghost enters: { effect_of (W.write_of writer.now) None ≡ effects.Enter value },
 }
 
-impl Editor for Entering {
+impl<'a, W: Writer> Editor for Entering<'a, W> {
     ghost use Rattle.std.specs.Prelude.{refl, None};
     ghost use Rattle.bl_proc.specs.declared.writing.WriteStage.TheVariants as stages;
-    ghost use Rattle.bl_proc_unique.proofs.Writings.{write_goes};
     ghost use Rattle.bl_index_steps.proofs.Held.{enters_held};
-    ghost use Rattle.bl_index_write.specs.Events.{writing};
 
-    ghost editing = { λ j c. writing j.target.key j.target.write (stages.Editing (record { there = None; thin = None }) c) };
+    ghost editing = { λ j c. W.staged j.writer.now (stages.Editing (record { there = None; thin = None }) c) };
 
     ghost level_at = { λ j. 0 };
 
-    ghost key_at = { λ j. j.target.key };
+    ghost key_at = { λ j. W.key_of j.writer.now };
 
-    ghost acts = { λ j c. refl };
+    ghost acts = { λ j c. (W.writes j.writer.now).acts (stages.Editing (record { there = None; thin = None }) c) tt };
 
-    ghost courses = { λ j c what g. write_goes (record { key = j.target.key; write = j.target.write; stage = stages.Editing (record { there = None; thin = None }) c }) what refl g };
+    ghost courses = { λ j c what g. (W.writes j.writer.now).courses (stages.Editing (record { there = None; thin = None }) c) what tt g };
 
-    ghost goes = { λ j c d what t. (refl, refl, (refl, t)) };
+    ghost goes = { λ j c d what t. (W.writes j.writer.now).goes (stages.Editing (record { there = None; thin = None }) c)
+        (stages.Editing (record { there = None; thin = None }) d) what tt tt (refl, t) };
 
-    ghost holds = { λ j c marks held. enters_held j.target.key j.target.write j.value c marks j.enters held };
+    ghost holds = { λ j c marks held. enters_held (W.key_of j.writer.now) (W.write_of j.writer.now) j.value c marks j.enters
+        ((W.writes j.writer.now).held (stages.Editing (record { there = None; thin = None }) c) marks tt held) };
 }
 
 /// The listing of a child in its parent, which is below the last level that a tree may have.

@@ -5,6 +5,7 @@
 //! more level, which is rare, a post goes by a process value.
 #![tactic(auto)]
 
+mod climbing;
 mod descend;
 mod editors;
 mod halves;
@@ -12,7 +13,9 @@ mod placing;
 mod posting;
 mod splitting;
 mod targets;
+mod writers;
 mod writing;
 
+pub use climbing::insert_key_posting;
 pub use posting::post_key;
 pub use writing::{begin_write, end_write, write_key};

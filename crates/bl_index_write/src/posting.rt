@@ -312,7 +312,7 @@ fn post_on<R: Wait>(
         return Some(post_above(tree, rt, hand, target, glance));
     }
     let from = Approach::Start.took_words(target.level, target.key, &shown, hand);
-    match come_from(tree, rt, hand, &target, from) {
+    match come_from(tree, rt, hand, &target, &mut (), from) {
         Some((at, glance)) => post_there(tree, rt, hand, target, at, glance),
         None => None,
     }

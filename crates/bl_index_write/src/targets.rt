@@ -3,28 +3,32 @@
 ghost use Rattle.std.specs.Prelude.{◌<◌, ◌≤◌};
 
 use bl_model::KeyWrite;
+use bl_proc_base::Step;
 
 /// What a writer comes to a page for. There is a process with this target, of which there is no value.
 pub(crate) trait Target {
     ghost use Rattle.std.specs.Prelude.{◌≡◌, ℕ, None};
-    ghost use Rattle.bl_proc_base.specs.declared.acts.Action.TheVariants as act;
+    ghost use Rattle.bl_claims.specs.Pages.{node_of};
     ghost use Rattle.bl_proc_base.specs.declared.acts.Seen.{Seen};
     ghost use Rattle.bl_proc_base.specs.declared.acts.Seen.TheVariants as seen;
     ghost use Rattle.bl_proc_base.specs.declared.approaching.Approach.{Approach};
     ghost use Rattle.bl_proc_base.specs.declared.approaching.Approach.TheVariants as way;
     ghost use Rattle.bl_proc_base.specs.declared.approaching.Approached.TheVariants as came;
+    ghost use Rattle.bl_proc_base.specs.declared.onwards.Step.{Step as StepIs};
     ghost use Rattle.bl_page.specs.declared.page.Page.{Page};
-    ghost use Rattle.bl_proc_base.specs.Approaches.{approach_next, Approaches};
-    ghost use Rattle.bl_index_write.specs.Ways.{IsPast};
+    ghost use Rattle.bl_proc_base.specs.Approaches.{approach_next, Approaches, Turns};
     ghost use Rattle.bl_proc_base.specs.Given.{Gives};
+    ghost use Rattle.bl_proc_base.specs.Onwards.{Leads};
     ghost use Rattle.bl_proc.specs.declared.kinds.Proc.{Proc};
     ghost use Rattle.bl_proc.specs.Processes.{next_of, Takes};
     ghost use Rattle.bl_proc_unique.specs.Courses.{GoesOn};
+    ghost use Rattle.bl_index_write.specs.Ways.{IsToHold};
 
-    // The process that is to begin, and as it is when it has come so far.
-    ghost unborn: { Self → Proc };
+    /// The pages that are noted on its way.
+    type Path;
 
-    ghost at: { Self → Approach → Proc };
+    // The process as it is when it has noted these pages and come so far.
+    ghost at: { Self → Self.Path → Approach → Proc };
 
     // The level of the page, and the key that it is to cover.
     ghost level_of: { Self → ℕ };
@@ -34,25 +38,53 @@ pub(crate) trait Target {
     // Whether the anchor, which is such a page, leads it on.
     ghost IsLedBy: { Self → Page → Type 0 };
 
+    // What is noted of a page with that number, which was got without a latch and leads it so.
+    ghost Notes: { Self → ℕ → Page → StepIs → Self.Path → Self.Path → Type 0 };
+
     fn level(&self) -> u32
         ensures { result ≡ level_of self.now };
 
     fn key(&self) -> u64
         ensures { result ≡ key_of self.now };
 
+    /// Notes the page, of the level `own`, where the way goes down from it.
+    fn note(&self, path: &mut Self::Path, page: u32, own: u32, way: Step)
+        requires { (c : Page) × Leads c (key_of self.now) (level_of self.now) way × (own ≡ (node_of c).shape.level) }
+        ensures { (c : Page) → own ≡ (node_of c).shape.level → Notes self.now page c way path.old path.new };
+
+    ghost acts: { (j : Self) (n : Self.Path) (a : Approach) → next_of (at j n a) ≡ approach_next a };
+
+    ghost courses: { (j : Self) (n : Self.Path) (a : Approach) (what : Seen) → Gives (approach_next a) None what → GoesOn (at j n a) what };
+
+    ghost enters: { (j : Self) (n : Self.Path) (a : Approach) (c : Page) → IsLedBy j c
+        → Approaches (level_of j) (key_of j) way.Start (seen.Words c) (came.On a) → Takes (at j n way.Start) (seen.Words c) (at j n a) };
+
+    ghost turns: { (j : Self) (n m : Self.Path) (x : ℕ) (c : Page) (o : StepIs) (a : Approach) → Leads c (key_of j) (level_of j) o
+        → Turns (level_of j) x c o a → Notes j x c o n m → Takes (at j n (way.At x)) (seen.Words c) (at j m a) };
+
+    ghost goes: { (j : Self) (n : Self.Path) (a b : Approach) (what : Seen) → IsToHold a
+        → Approaches (level_of j) (key_of j) a what (came.On b) → Takes (at j n a) what (at j n b) };
+}
+
+/// What a process begins for, of which there is no value.
+pub(crate) trait Unborn {
+    ghost use Rattle.std.specs.Prelude.{◌≡◌};
+    ghost use Rattle.bl_proc_base.specs.declared.acts.Action.TheVariants as act;
+    ghost use Rattle.bl_proc_base.specs.declared.acts.Seen.TheVariants as seen;
+    ghost use Rattle.bl_proc.specs.declared.kinds.Proc.{Proc};
+    ghost use Rattle.bl_proc.specs.Processes.{next_of, Takes};
+    ghost use Rattle.bl_proc_unique.specs.Courses.{GoesOn};
+
+    // The process that is to begin, and what it is when it has begun.
+    ghost unborn: { Self → Proc };
+
+    ghost begun: { Self → Proc };
+
     ghost begins: { (j : Self) → next_of (unborn j) ≡ act.Begin };
 
     ghost starts: { (j : Self) → GoesOn (unborn j) seen.Done };
 
-    ghost started: { (j : Self) → Takes (unborn j) seen.Done (at j way.Start) };
-
-    ghost acts: { (j : Self) (a : Approach) → next_of (at j a) ≡ approach_next a };
-
-    ghost courses: { (j : Self) (a : Approach) (what : Seen) → Gives (approach_next a) None what → GoesOn (at j a) what };
-
-    ghost enters: { (j : Self) (a : Approach) (c : Page) → IsLedBy j c → Approaches (level_of j) (key_of j) way.Start (seen.Words c) (came.On a) → Takes (at j way.Start) (seen.Words c) (at j a) };
-
-    ghost goes: { (j : Self) (a b : Approach) (what : Seen) → IsPast a → Approaches (level_of j) (key_of j) a what (came.On b) → Takes (at j a) what (at j b) };
+    ghost started: { (j : Self) → Takes (unborn j) seen.Done (begun j) };
 }
 
 /// The write of a key.
@@ -65,19 +97,20 @@ pub(crate) struct Writing {
 impl Target for Writing {
     ghost use Rattle.std.specs.Prelude.{refl};
     ghost use Rattle.bl_proc.specs.declared.writing.WriteStage.TheVariants as stages;
-    ghost use Rattle.bl_proc_base.specs.declared.acts.Seen.TheVariants as seen;
     ghost use Rattle.bl_proc_unique.proofs.Writings.{write_goes};
     ghost use Rattle.bl_index_write.specs.Events.{writing};
 
-    ghost unborn = { λ j. writing j.key j.write stages.New };
+    type Path = ();
 
-    ghost at = { λ j a. writing j.key j.write (stages.Coming a) };
+    ghost at = { λ j n a. writing j.key j.write (stages.Coming a) };
 
     ghost level_of = { λ j. 0 };
 
     ghost key_of = { λ j. j.key };
 
     ghost IsLedBy = { λ j c. Unit {0} };
+
+    ghost Notes = { λ j x c o n m. Unit {0} };
 
     #[inline(always)]
     fn level(&self) -> u32 {
@@ -89,19 +122,37 @@ impl Target for Writing {
         self.key
     }
 
+    #[inline(always)]
+    fn note(&self, _path: &mut (), _page: u32, _own: u32, _way: Step) {}
+
+    ghost acts = { λ j n a. refl };
+
+    ghost courses = { λ j n a what g. write_goes (record { key = j.key; write = j.write; stage = stages.Coming a }) what refl g };
+
+    ghost enters = { λ j n a c led t. (refl, refl, t) };
+
+    ghost turns = { λ j n m x c o a leads turns noted. (refl, refl, (o, leads, turns)) };
+
+    ghost goes = { λ j n a b what hold t. (refl, refl, t) };
+}
+
+impl Unborn for Writing {
+    ghost use Rattle.std.specs.Prelude.{refl};
+    ghost use Rattle.bl_proc.specs.declared.writing.WriteStage.TheVariants as stages;
+    ghost use Rattle.bl_proc_base.specs.declared.acts.Seen.TheVariants as seen;
+    ghost use Rattle.bl_proc_base.specs.declared.approaching.Approach.TheVariants as approach;
+    ghost use Rattle.bl_proc_unique.proofs.Writings.{write_goes};
+    ghost use Rattle.bl_index_write.specs.Events.{writing};
+
+    ghost unborn = { λ j. writing j.key j.write stages.New };
+
+    ghost begun = { λ j. writing j.key j.write (stages.Coming approach.Start) };
+
     ghost begins = { λ j. refl };
 
     ghost starts = { λ j. write_goes (record { key = j.key; write = j.write; stage = stages.New }) seen.Done refl tt };
 
     ghost started = { λ j. (refl, refl, refl) };
-
-    ghost acts = { λ j a. refl };
-
-    ghost courses = { λ j a what g. write_goes (record { key = j.key; write = j.write; stage = stages.Coming a }) what refl g };
-
-    ghost enters = { λ j a c led t. (refl, refl, t) };
-
-    ghost goes = { λ j a b what past t. (refl, refl, t) };
 }
 
 /// The post of a key to a level.
@@ -120,13 +171,14 @@ impl Target for Posting {
     ghost use Rattle.bl_proc.specs.declared.kinds.Proc.TheVariants as proc;
     ghost use Rattle.bl_proc.specs.declared.posting.PostStage.TheVariants as post;
     ghost use Rattle.bl_proc_base.specs.declared.acts.Seen.TheVariants as seen;
+    ghost use Rattle.bl_proc_base.specs.declared.approaching.Approach.TheVariants as approach;
     ghost use Rattle.bl_proc_base.specs.declared.approaching.Came.TheVariants as descend;
     ghost use Rattle.bl_proc_unique.proofs.Posts.{post_goes};
-    ghost use Rattle.bl_index_write.specs.Ways.{nears};
+    ghost use Rattle.bl_index_write.specs.Ways.{nears, past_held};
 
-    ghost unborn = { λ j. proc.Post (record { level = j.level; key = j.key; stage = post.New; least = j.least; most = j.most; below = tt }) };
+    type Path = ();
 
-    ghost at = { λ j a. proc.Post (record { level = j.level; key = j.key; stage = post.Coming a; least = j.least; most = j.most; below = tt }) };
+    ghost at = { λ j n a. proc.Post (record { level = j.level; key = j.key; stage = post.Coming a; least = j.least; most = j.most; below = tt }) };
 
     ghost level_of = { λ j. j.level };
 
@@ -134,6 +186,8 @@ impl Target for Posting {
 
     // A tree that has no such level may be to get it.
     ghost IsLedBy = { λ j c. j.level < (roots_of c).levels };
+
+    ghost Notes = { λ j x c o n m. Unit {0} };
 
     #[inline(always)]
     fn level(&self) -> u32 {
@@ -145,17 +199,39 @@ impl Target for Posting {
         self.key
     }
 
+    #[inline(always)]
+    fn note(&self, _path: &mut (), _page: u32, _own: u32, _way: Step) {}
+
+    ghost acts = { λ j n a. refl };
+
+    ghost courses = { λ j n a what g.
+        post_goes (record { level = j.level; key = j.key; stage = post.Coming a; least = j.least; most = j.most; below = tt }) what refl g };
+
+    ghost enters = { λ j n a c led t. (refl, refl, (descend.On a, (led, t), refl)) };
+
+    ghost turns = { λ j n m x c o a leads turns noted.
+        (refl, refl, nears j.level j.key (approach.At x) a (seen.Words c) tt (o, leads, turns)) };
+
+    ghost goes = { λ j n a b what hold t. (refl, refl, nears j.level j.key a b what (past_held a hold) t) };
+}
+
+impl Unborn for Posting {
+    ghost use Rattle.std.specs.Prelude.{refl};
+    ghost use Rattle.bl_proc.specs.declared.kinds.Proc.TheVariants as proc;
+    ghost use Rattle.bl_proc.specs.declared.posting.PostStage.TheVariants as post;
+    ghost use Rattle.bl_proc_base.specs.declared.acts.Seen.TheVariants as seen;
+    ghost use Rattle.bl_proc_base.specs.declared.approaching.Approach.TheVariants as approach;
+    ghost use Rattle.bl_proc_unique.proofs.Posts.{post_goes};
+
+    ghost unborn = { λ j. proc.Post (record { level = j.level; key = j.key; stage = post.New; least = j.least; most = j.most; below = tt }) };
+
+    ghost begun = { λ j.
+        proc.Post (record { level = j.level; key = j.key; stage = post.Coming approach.Start; least = j.least; most = j.most; below = tt }) };
+
     ghost begins = { λ j. refl };
 
-    ghost starts = { λ j. post_goes (record { level = j.level; key = j.key; stage = post.New; least = j.least; most = j.most; below = tt }) seen.Done refl tt };
+    ghost starts = { λ j.
+        post_goes (record { level = j.level; key = j.key; stage = post.New; least = j.least; most = j.most; below = tt }) seen.Done refl tt };
 
     ghost started = { λ j. (refl, refl, refl) };
-
-    ghost acts = { λ j a. refl };
-
-    ghost courses = { λ j a what g. post_goes (record { level = j.level; key = j.key; stage = post.Coming a; least = j.least; most = j.most; below = tt }) what refl g };
-
-    ghost enters = { λ j a c led t. (refl, refl, (descend.On a, (led, t), refl)) };
-
-    ghost goes = { λ j a b what past t. (refl, refl, nears j.level j.key a b what past t) };
 }

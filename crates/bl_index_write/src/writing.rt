@@ -12,29 +12,29 @@ ghost use Rattle.bl_page.specs.Words.{words_of};
 ghost use Rattle.bl_proc_base.specs.declared.answers.Answer.TheVariants as answers;
 ghost use Rattle.bl_proc_base.specs.declared.approaching.Approach.TheVariants as approach;
 ghost use Rattle.bl_proc_base.specs.declared.editing.Edit.TheVariants as edit;
-ghost use Rattle.bl_proc_base.specs.Thin.{thin_hint};
 ghost use Rattle.bl_proc.specs.declared.writing.WriteReply.TheVariants as written;
 ghost use Rattle.bl_proc.specs.declared.writing.WriteStage.TheVariants as stages;
-ghost use Rattle.bl_proc.specs.Writes.{write_reply, write_answer};
+ghost use Rattle.bl_proc.specs.Writes.{write_answer};
 ghost use Rattle.bl_store.specs.Hands.{known, read_words, IsIdle, IsRunning, IsSameHand, IsSameRefusal, HasNoStock, ReadsFrom};
 ghost use Rattle.bl_store.specs.Owners.{IsHandOf};
 ghost use Rattle.bl_index_rule.specs.declared.known.PassState.{PassState as Knows};
 ghost use Rattle.bl_index_steps.specs.Held.{KeepsLatch};
 ghost use Rattle.bl_index_steps.specs.Rooms.{LacksWrite};
-ghost use Rattle.bl_index_steps.specs.Runs.{Runs, Rests, IsOn, IsSince, OpensLast};
-ghost use Rattle.bl_index_write.specs.Events.{writing, outcome_by, IsThere, IsAtLeaf, HasWritten, EndsWrite};
+ghost use Rattle.bl_index_steps.specs.Runs.{Runs, Rests, IsOn, IsSince, IsSameProcess, OpensTo};
+ghost use Rattle.bl_index_write.specs.Events.{writing, outcome_by, IsThere, IsAtLeaf, HasWritten, LeavesLeaf};
 
 use crate::descend::{begin_descent, descend};
 use crate::editors::Entering;
 use crate::placing::listed_at;
 use crate::splitting::split_full;
 use crate::targets::Writing;
+use crate::writers::{Left, Writer};
 use bl_index_rule::PassState;
 use bl_index_steps::{FrameView, Tree};
 use bl_model::{Effect, KeyReply, KeyWrite, decide};
 use bl_page::{LEVEL_UNIT, place_in, word, words_from};
 use bl_proc::{Hint, Noted, WriteReply};
-use bl_proc_base::{Level, Outcome, hint_of_thin, thin_in, words_with_value, words_without};
+use bl_proc_base::{Outcome, thin_in, words_with_value, words_without};
 use bl_store::{Glance, Hand, Spread};
 use std::sync::Wait;
 
@@ -50,38 +50,9 @@ fn outcome_of(changed: bool) -> Outcome
     }
 }
 
-/// The hint for the parent of a leaf that is thin and has that low.
-#[inline(always)]
-fn hint_of(thin: Option<u64>) -> Option<Hint>
-    ensures { result ≡ thin_hint 1 thin }
-{
-    match thin {
-        Some(low) => Some(hint_of_thin(Level::new(1), low)),
-        None => None,
-    }
-}
-
-/// The reply of a write, by what became of its leaf.
-#[inline(always)]
-fn reply_by(noted: Noted, outcome: Outcome) -> WriteReply
-    ensures { result ≡ write_reply noted outcome }
-{
-    match outcome {
-        Outcome::Edited => WriteReply::Done(noted.there, hint_of(noted.thin)),
-        Outcome::SplitAt(separator) => {
-            let hint = Hint::Post {
-                level: Level::new(1),
-                key: separator,
-            };
-            WriteReply::Done(noted.there, Some(hint))
-        }
-        Outcome::Refused => WriteReply::NoRoom,
-    }
-}
-
 /// What a write answers, with its hint.
 #[inline(always)]
-fn answer_of(write: KeyWrite, reply: WriteReply) -> (KeyReply, Option<Hint>)
+pub(crate) fn answer_of(write: KeyWrite, reply: WriteReply) -> (KeyReply, Option<Hint>)
     ensures answer { write_answer write reply ≡ answers.Op (reply_of result.0) result.1 }
     ensures no_room { result.0 ≡ replies.NoRoom → reply ≡ written.NoRoom }
 {
@@ -91,152 +62,151 @@ fn answer_of(write: KeyWrite, reply: WriteReply) -> (KeyReply, Option<Hint>)
     }
 }
 
-/// Opens the leaf that it holds, and ends with that reply.
+/// Opens the leaf that it holds.
 #[inline(always)]
-fn end_with(
+fn open_leaf<W: Writer>(
     tree: &Tree,
     hand: &mut Hand<PassState>,
     at: u32,
-    target: Writing,
-    reply: WriteReply,
-) -> WriteReply
+    writer: &W,
+    left: Left,
+) -> Left
     requires runs { Runs tree.now hand.old (known hand.old.seat).state }
-    requires opens { OpensLast (known hand.old.seat).state at (writing target.key target.write (stages.Ending reply)) (writing target.key target.write (stages.Over reply)) }
+    requires opens { OpensTo (known hand.old.seat).state at (W.opened writer.now left) }
     requires empty { HasNoStock hand.old.seat }
     ensures same { IsSameHand hand.old.seat hand.new.seat }
-    ensures rests { Rests hand.new.seat }
     ensures empty { HasNoStock hand.new.seat }
-    ensures wrote { (pass : ℕ) (old : Knows) → IsSince pass old (known hand.old.seat)
-        → HasWritten pass old (known hand.new.seat) target.key target.write (write_answer target.write result) }
+    ensures runs { Runs tree.now hand.new (W.opened writer.now result) }
+    ensures since { IsSameProcess (known hand.old.seat) (known hand.new.seat) }
     ensures refusal { IsSameRefusal hand.old.seat hand.new.seat }
     ensures keeps { KeepsLatch (known hand.old.seat) (known hand.new.seat) }
-    ensures reply { result ≡ reply }
+    ensures left { result ≡ left }
 {
-    let _ = target;
-    tree.open_and_end(hand, at);
-    reply
+    let _ = writer;
+    tree.reopen(hand, at);
+    left
 }
 
 /// The leaf that it holds gets these words, of which it has noted that.
 #[inline(always)]
-fn put_leaf(
+fn put_leaf<W: Writer>(
     tree: &Tree,
     hand: &mut Hand<PassState>,
     at: u32,
-    target: Writing,
+    writer: &W,
     noted: Noted,
     words: &[u64; 32],
-) -> WriteReply
+) -> Left
     requires own { IsHandOf tree.now.store hand.old }
     requires running { IsRunning hand.old.seat × HasNoStock hand.old.seat }
     requires page { (p : Page) × (words.now ≡ words_of p)
-        × IsOn tree.now.store.layout (known hand.old.seat) (writing target.key target.write (stages.Editing noted (edit.Putting at p))) }
-    ensures { EndsWrite hand.old.seat hand.new.seat target.key target.write result }
+        × IsOn tree.now.store.layout (known hand.old.seat) (W.staged writer.now (stages.Editing noted (edit.Putting at p))) }
+    ensures { LeavesLeaf tree.now hand.old.seat hand.new (W.opened writer.now) (W.key_of writer.now) (W.write_of writer.now) result }
 {
     let changed = tree.replace(hand, at, words);
-    end_with(tree, hand, at, target, reply_by(noted, outcome_of(changed)))
+    open_leaf(tree, hand, at, writer, Left::by(noted, outcome_of(changed)))
 }
 
 /// The key, which the leaf that it holds lists, leaves it.
 #[inline(always)]
-fn remove(
+fn remove<W: Writer>(
     tree: &Tree,
     hand: &mut Hand<PassState>,
     at: u32,
-    target: Writing,
+    writer: &W,
     there: Option<u64>,
     glance: Glance,
-) -> WriteReply
+) -> Left
     requires runs { Runs tree.now hand.old (known hand.old.seat).state }
     requires empty { HasNoStock hand.old.seat }
     requires reads { ReadsFrom hand.old.seat glance }
-    requires leaf { IsAtLeaf target.key target.write at there (read_words hand.old.seat) (known hand.old.seat) }
-    requires effect { effect_of target.write there ≡ effects.Remove }
-    ensures { EndsWrite hand.old.seat hand.new.seat target.key target.write result }
+    requires leaf { IsAtLeaf (W.key_of writer.now) (W.staged writer.now) at there (read_words hand.old.seat) (known hand.old.seat) }
+    requires effect { effect_of (W.write_of writer.now) there ≡ effects.Remove }
+    ensures { LeavesLeaf tree.now hand.old.seat hand.new (W.opened writer.now) (W.key_of writer.now) (W.write_of writer.now) result }
 {
     let shown = FrameView {
         store: &tree.store,
         glance,
     };
     let mut words = [0; 32];
-    words_without(&shown, hand, target.key, &mut words);
+    words_without(&shown, hand, writer.key(), &mut words);
     let thin = thin_in(&words);
-    put_leaf(tree, hand, at, target, Noted { there, thin }, &words)
+    put_leaf(tree, hand, at, writer, Noted { there, thin }, &words)
 }
 
 /// The key, which the leaf that it holds lists, gets the value there.
 #[inline(always)]
-fn change(
+fn change<W: Writer>(
     tree: &Tree,
     hand: &mut Hand<PassState>,
     at: u32,
-    target: Writing,
+    writer: &W,
     there: Option<u64>,
     value: u64,
     glance: Glance,
-) -> WriteReply
+) -> Left
     requires runs { Runs tree.now hand.old (known hand.old.seat).state }
     requires empty { HasNoStock hand.old.seat }
     requires reads { ReadsFrom hand.old.seat glance }
-    requires leaf { IsAtLeaf target.key target.write at there (read_words hand.old.seat) (known hand.old.seat) }
-    requires effect { effect_of target.write there ≡ effects.Replace value }
-    ensures { EndsWrite hand.old.seat hand.new.seat target.key target.write result }
+    requires leaf { IsAtLeaf (W.key_of writer.now) (W.staged writer.now) at there (read_words hand.old.seat) (known hand.old.seat) }
+    requires effect { effect_of (W.write_of writer.now) there ≡ effects.Replace value }
+    ensures { LeavesLeaf tree.now hand.old.seat hand.new (W.opened writer.now) (W.key_of writer.now) (W.write_of writer.now) result }
 {
     let shown = FrameView {
         store: &tree.store,
         glance,
     };
     let mut words = [0; 32];
-    words_with_value(&shown, hand, target.key, value, &mut words);
-    put_leaf(tree, hand, at, target, Noted { there, thin: None }, &words)
+    words_with_value(&shown, hand, writer.key(), value, &mut words);
+    put_leaf(tree, hand, at, writer, Noted { there, thin: None }, &words)
 }
 
 /// The pair enters the leaf that it holds, which has room: its words are spread so.
 #[inline(always)]
-fn enter(
+fn enter<W: Writer>(
     tree: &Tree,
     hand: &mut Hand<PassState>,
     at: u32,
-    target: Writing,
+    writer: &W,
     glance: Glance,
     spread: Spread,
-) -> WriteReply
+) -> Left
     requires runs { Runs tree.now hand.old (known hand.old.seat).state }
     requires empty { HasNoStock hand.old.seat }
     requires reads { ReadsFrom hand.old.seat glance }
-    requires leaf { IsAtLeaf target.key target.write at None (read_words hand.old.seat) (known hand.old.seat) }
-    requires effect { effect_of target.write None ≡ effects.Enter spread.word }
+    requires leaf { IsAtLeaf (W.key_of writer.now) (W.staged writer.now) at None (read_words hand.old.seat) (known hand.old.seat) }
+    requires effect { effect_of (W.write_of writer.now) None ≡ effects.Enter spread.word }
     requires room { count_in (read_words hand.old.seat) < 14 }
     requires first { spread.first ≡ slice_index (read_words hand.old.seat) 0 + 1 }
-    requires place { (spread.place ≡ place_among target.key (pairs_in (read_words hand.old.seat))) × (spread.place < 14) }
-    requires key { spread.key ≡ target.key }
-    ensures { EndsWrite hand.old.seat hand.new.seat target.key target.write result }
+    requires place { (spread.place ≡ place_among (W.key_of writer.now) (pairs_in (read_words hand.old.seat))) × (spread.place < 14) }
+    requires key { spread.key ≡ W.key_of writer.now }
+    ensures { LeavesLeaf tree.now hand.old.seat hand.new (W.opened writer.now) (W.key_of writer.now) (W.write_of writer.now) result }
 {
     let noted = Noted {
         there: None,
         thin: None,
     };
     let changed = tree.replace_spread(hand, at, glance, spread);
-    end_with(tree, hand, at, target, reply_by(noted, outcome_of(changed)))
+    open_leaf(tree, hand, at, writer, Left::by(noted, outcome_of(changed)))
 }
 
 /// The leaf that it holds is full, and is split for the pair.
 #[inline(never)]
-fn split_leaf(
+fn split_leaf<W: Writer>(
     tree: &Tree,
     hand: &mut Hand<PassState>,
     at: u32,
-    target: Writing,
+    writer: &W,
     value: u64,
     glance: Glance,
-) -> WriteReply
+) -> Left
     requires runs { Runs tree.now hand.old (known hand.old.seat).state }
     requires empty { HasNoStock hand.old.seat }
     requires reads { ReadsFrom hand.old.seat glance }
-    requires leaf { IsAtLeaf target.key target.write at None (read_words hand.old.seat) (known hand.old.seat) }
-    requires effect { effect_of target.write None ≡ effects.Enter value }
+    requires leaf { IsAtLeaf (W.key_of writer.now) (W.staged writer.now) at None (read_words hand.old.seat) (known hand.old.seat) }
+    requires effect { effect_of (W.write_of writer.now) None ≡ effects.Enter value }
     requires full { 14 ≤ count_in (read_words hand.old.seat) }
-    ensures { EndsWrite hand.old.seat hand.new.seat target.key target.write result }
+    ensures { LeavesLeaf tree.now hand.old.seat hand.new (W.opened writer.now) (W.key_of writer.now) (W.write_of writer.now) result }
 {
     let shown = FrameView {
         store: &tree.store,
@@ -247,49 +217,52 @@ fn split_leaf(
         thin: None,
     };
     let words = words_from(&shown, hand);
-    let entering = Entering { target, value };
-    let outcome = split_full(tree, hand, &entering, at, &words, target.key, value);
-    end_with(tree, hand, at, target, reply_by(noted, outcome))
+    let key = writer.key();
+    let entering = Entering { writer, value };
+    let outcome = split_full(tree, hand, &entering, at, &words, key, value);
+    open_leaf(tree, hand, at, writer, Left::by(noted, outcome))
 }
 
 /// At the leaf that it holds, which covers the key.
 #[inline(always)]
-fn write_there(
+pub(crate) fn write_there<W: Writer>(
     tree: &Tree,
     hand: &mut Hand<PassState>,
     at: u32,
-    target: Writing,
+    writer: &W,
     glance: Glance,
-) -> WriteReply
+) -> Left
     requires runs { Runs tree.now hand.old (known hand.old.seat).state }
     requires empty { HasNoStock hand.old.seat }
     requires reads { ReadsFrom hand.old.seat glance }
-    requires there { IsThere 0 target.key (writing target.key target.write (stages.Coming (approach.Latched at))) (read_words hand.old.seat) (known hand.old.seat) }
-    ensures { EndsWrite hand.old.seat hand.new.seat target.key target.write result }
+    requires there { IsThere 0 (W.key_of writer.now) (W.staged writer.now (stages.Coming (approach.Latched at)))
+        (read_words hand.old.seat) (known hand.old.seat) }
+    ensures { LeavesLeaf tree.now hand.old.seat hand.new (W.opened writer.now) (W.key_of writer.now) (W.write_of writer.now) result }
 {
     let shown = FrameView {
         store: &tree.store,
         glance,
     };
+    let key = writer.key();
     let head = word(&shown, hand, 0);
     let count = (head % LEVEL_UNIT) as usize;
-    let place = place_in(&shown, hand, &mut 0, count, target.key);
-    let there = listed_at(&shown, hand, place, target.key);
-    match decide(target.write, there).effect {
-        Effect::Keep => end_with(tree, hand, at, target, WriteReply::Done(there, None)),
-        Effect::Remove => remove(tree, hand, at, target, there, glance),
-        Effect::Replace(value) => change(tree, hand, at, target, there, value, glance),
+    let place = place_in(&shown, hand, &mut 0, count, key);
+    let there = listed_at(&shown, hand, place, key);
+    match decide(writer.write(), there).effect {
+        Effect::Keep => open_leaf(tree, hand, at, writer, Left::Kept(there)),
+        Effect::Remove => remove(tree, hand, at, writer, there, glance),
+        Effect::Replace(value) => change(tree, hand, at, writer, there, value, glance),
         Effect::Enter(value) => {
             if count < 14 {
                 let spread = Spread {
                     first: head + 1,
                     place,
-                    key: target.key,
+                    key,
                     word: value,
                 };
-                enter(tree, hand, at, target, glance, spread)
+                enter(tree, hand, at, writer, glance, spread)
             } else {
-                split_leaf(tree, hand, at, target, value, glance)
+                split_leaf(tree, hand, at, writer, value, glance)
             }
         }
     }
@@ -315,7 +288,7 @@ pub fn begin_write<R: Wait>(
 {
     let target = Writing { key, write };
     begin_descent(tree, hand, &target);
-    descend(tree, rt, hand, &target)
+    descend(tree, rt, hand, &target, &mut ())
 }
 
 /// A write that holds its leaf goes on to its end.
@@ -339,8 +312,9 @@ pub fn end_write(
         → HasWritten pass old (known hand.new.seat) key write (answers.Op (reply_of result.0) result.1) }
     ensures no_room { result.0 ≡ replies.NoRoom → LacksWrite key write hand.new.seat }
 {
-    let reply = write_there(tree, hand, at, Writing { key, write }, glance);
-    answer_of(write, reply)
+    let left = write_there(tree, hand, at, &Writing { key, write }, glance);
+    tree.conclude(hand);
+    answer_of(write, left.reply())
 }
 
 /// Carries a write out, from its begin to its end.

@@ -4,17 +4,17 @@ use Rattle.bl_index_steps.proofs.Held.{begins_held}
 use Rattle.bl_index_write.proofs.descend.begin_descent.Goals as goal
 
 pub begin_process-requires-clause-next : goal.begin_process-requires-clause-next
-begin_process-requires-clause-next g c = g.met.J.Target.begins c.args.target.now
+begin_process-requires-clause-next g c = g.J.Unborn.begins c.args.unborn.now
 
 pub begin_process-requires-clause-course : goal.begin_process-requires-clause-course
-begin_process-requires-clause-course g c = g.met.J.Target.starts c.args.target.now
+begin_process-requires-clause-course g c = g.J.Unborn.starts c.args.unborn.now
 
 pub returns-clause-runs : goal.returns-clause-runs
 returns-clause-runs g c = record {
   own = search rules;
   running = search rules;
   on = (let observed = c.begin_process.ensures.observed in
-      record { runs = observed.runs; state = observed.state ∙ sym (observed.course.only _ (g.met.J.Target.started c.args.target.now)); pages = observed.pages; passes = observed.passes; near = observed.near; held = begins_held _ _ _ _ _ _ observed (g.met.J.Target.begins c.args.target.now) });
+      record { runs = observed.runs; state = observed.state ∙ sym (observed.course.only _ (g.J.Unborn.started c.args.unborn.now)); pages = observed.pages; passes = observed.passes; near = observed.near; held = begins_held _ _ _ _ _ _ observed (g.J.Unborn.begins c.args.unborn.now) });
 }
 
 pub returns-clause-begun : goal.returns-clause-begun

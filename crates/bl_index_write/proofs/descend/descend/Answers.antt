@@ -12,6 +12,6 @@ loop-preserved g c =
     let j = c.args.target.now in
     record {
       same = search rules;
-      process = subst (λ (z : Option (ℕ × Glance)). HasCome (g.J.Target.level_of j) (g.J.Target.key_of j) (g.J.Target.at j) c.args.tree.now.store.layout c.come_from.new.hand.seat z) (none_of c.come_from.result c.in_default.not-Some) c.come_from.ensures.came;
+      process = subst (λ (z : Option (ℕ × Glance)). HasCome (g.J.Target.level_of j) (g.J.Target.key_of j) (g.J.Target.at j c.come_from.new.path) c.args.tree.now.store.layout c.come_from.new.hand.seat z) (none_of c.come_from.result c.in_default.not-Some) c.come_from.ensures.came;
       since = same_all _ _ _ (same_all _ _ _ c.loop.invariant.since c.read_anchor-from.ensures.since) c.come_from.ensures.since;
     }

@@ -6,6 +6,6 @@ use Rattle.bl_index_write.proofs.descend.descend.Given as goal
 abbrev pub invariant-loop : goal.invariant-loop
 invariant-loop g l = record {
   same : IsSameHand l.fn.hand.seat l.hand.seat × IsSameStage l.fn.hand.seat l.hand.seat × IsSameStock l.fn.hand.seat l.hand.seat;
-  process : IsOn l.tree.store.layout (known l.hand.seat) (g.J.Target.at l.target approach.Start);
+  process : IsOn l.tree.store.layout (known l.hand.seat) (g.J.Target.at l.target l.path approach.Start);
   since : IsSameProcess (known l.fn.hand.seat) (known l.hand.seat);
 }

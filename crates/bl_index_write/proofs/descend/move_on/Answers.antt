@@ -12,8 +12,8 @@ returns-in-Some-clause-runs g c = record {
   running = search rules;
   on = (let j = c.args.target.now in
       let layout = c.args.tree.now.store.layout in
-      let on = subst (λ (z : Option ℕ). IsOn layout (known c.args.hand.now.seat) (g.J.Target.at j (approach.Leaving c.args.page z))) c.in-Some.is c.requires.runs.on in
-      on_goes layout seen.Done _ _ _ _ on c.reopen.ensures.goes (g.met.J.Target.goes j (approach.Leaving c.args.page (Some c.in-Some.next)) (approach.Latching c.in-Some.next) seen.Done tt refl));
+      let on = subst (λ (z : Option ℕ). IsOn layout (known c.args.hand.now.seat) (g.J.Target.at j c.args.path.now (approach.Leaving c.args.page z))) c.in-Some.is c.requires.runs.on in
+      on_goes layout seen.Done _ _ _ _ on c.reopen.ensures.goes (g.met.J.Target.goes j c.args.path.now (approach.Leaving c.args.page (Some c.in-Some.next)) (approach.Latching c.in-Some.next) seen.Done tt refl));
 }
 
 pub returns-in-Some-clause-since : goal.returns-in-Some-clause-since
@@ -25,8 +25,8 @@ returns-in-None-clause-runs g c = record {
   running = search rules;
   on = (let j = c.args.target.now in
       let layout = c.args.tree.now.store.layout in
-      let on = subst (λ (z : Option ℕ). IsOn layout (known c.args.hand.now.seat) (g.J.Target.at j (approach.Leaving c.args.page z))) c.in-None.is c.requires.runs.on in
-      on_goes layout seen.Done _ _ _ _ on c.reopen.ensures.goes (g.met.J.Target.goes j (approach.Leaving c.args.page None) approach.Start seen.Done tt refl));
+      let on = subst (λ (z : Option ℕ). IsOn layout (known c.args.hand.now.seat) (g.J.Target.at j c.args.path.now (approach.Leaving c.args.page z))) c.in-None.is c.requires.runs.on in
+      on_goes layout seen.Done _ _ _ _ on c.reopen.ensures.goes (g.met.J.Target.goes j c.args.path.now (approach.Leaving c.args.page None) approach.Start seen.Done tt refl));
 }
 
 pub returns-in-None-clause-since : goal.returns-in-None-clause-since

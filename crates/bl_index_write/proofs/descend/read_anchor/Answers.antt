@@ -18,8 +18,8 @@ returns-clause-runs g c = record {
       let layout = c.args.tree.now.store.layout in
       let went = c.look-glance.ensures.goes in
       let turns = subst (λ (z : ℕ × ℕ). Approaches z.0 z.1 approach.Start (seen.Words went.0) (came.On c.took_words.result)) (λ i. (c.level.ensures i, c.key.ensures i)) (c.took_words.ensures.goes went.0 went.1) in
-      let on = on_goes layout (seen.Words went.0) _ _ _ _ c.requires.runs.on went.2 (g.met.J.Target.enters j c.took_words.result went.0 (c.requires.led went.0) turns) in
-      subst (λ (h : Hand PassState). IsOn layout (known h.seat) (g.J.Target.at j c.took_words.result)) (sym c.took_words.ensures.same) on);
+      let on = on_goes layout (seen.Words went.0) _ _ _ _ c.requires.runs.on went.2 (g.met.J.Target.enters j c.args.path.now c.took_words.result went.0 (c.requires.led went.0) turns) in
+      subst (λ (h : Hand PassState). IsOn layout (known h.seat) (g.J.Target.at j c.args.path.now c.took_words.result)) (sym c.took_words.ensures.same) on);
 }
 
 pub returns-clause-since : goal.returns-clause-since

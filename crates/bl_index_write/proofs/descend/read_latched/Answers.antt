@@ -21,7 +21,7 @@ returns-in-Here-clause-arrived g c =
     let went = c.look-glance.ensures.goes in
     let leads = subst (λ (z : ℕ × ℕ). Leads went.0 z.0 z.1 Here) (λ i. (c.key.ensures i, c.level.ensures i)) (c.in-Here.ensures.leads went.0 went.1) in
     let takes = subst (λ (z : Proc). Takes z (seen.Words went.0) (known c.look-glance.new.hand.seat).state) c.requires.runs.on.state (goes_takes _ _ _ went.2) in
-    subst (λ (h : Hand PassState). HasArrived (g.J.Target.level_of j) (g.J.Target.key_of j) (g.J.Target.at j) c.args.page layout h.seat (There c.look-glance.result)) (sym c.in-Here.ensures.same)
+    subst (λ (h : Hand PassState). HasArrived (g.J.Target.level_of j) (g.J.Target.key_of j) (g.J.Target.at j c.args.path.now) c.args.page layout h.seat (There c.look-glance.result)) (sym c.in-Here.ensures.same)
     (c.look-glance.ensures.reads, record { page = went.0; is = went.1; leads = leads; takes = takes }, on_after layout _ _ _ _ c.requires.runs.on went.2)
 
 pub returns-in-Here-clause-since : goal.returns-in-Here-clause-since
@@ -33,8 +33,8 @@ returns-in-Right-clause-arrived g c =
     let layout = c.args.tree.now.store.layout in
     let went = c.look-glance.ensures.goes in
     let leads = subst (λ (z : ℕ × ℕ). Leads went.0 z.0 z.1 (Right c.in-Right.next)) (λ i. (c.key.ensures i, c.level.ensures i)) (c.in-Right.ensures.leads went.0 went.1) in
-    let on = on_goes layout (seen.Words went.0) _ _ _ _ c.requires.runs.on went.2 (g.met.J.Target.goes j (approach.Latched c.args.page) (approach.Leaving c.args.page (Some c.in-Right.next)) (seen.Words went.0) tt (refl, ((Right c.in-Right.next), leads, refl))) in
-    subst (λ (h : Hand PassState). IsOn layout (known h.seat) (g.J.Target.at j (approach.Leaving c.args.page (Some c.in-Right.next)))) (sym c.in-Right.ensures.same) on
+    let on = on_goes layout (seen.Words went.0) _ _ _ _ c.requires.runs.on went.2 (g.met.J.Target.goes j c.args.path.now (approach.Latched c.args.page) (approach.Leaving c.args.page (Some c.in-Right.next)) (seen.Words went.0) tt (refl, ((Right c.in-Right.next), leads, refl))) in
+    subst (λ (h : Hand PassState). IsOn layout (known h.seat) (g.J.Target.at j c.args.path.now (approach.Leaving c.args.page (Some c.in-Right.next)))) (sym c.in-Right.ensures.same) on
 
 pub returns-in-Right-clause-since : goal.returns-in-Right-clause-since
 returns-in-Right-clause-since g c = subst (λ (h : Hand PassState). IsSameProcess (known c.args.hand.now.seat) (known h.seat)) (sym c.in-Right.ensures.same) (same_goes _ _ _ c.look-glance.ensures.goes.2)
@@ -45,8 +45,8 @@ returns-in-Down-clause-arrived g c =
     let layout = c.args.tree.now.store.layout in
     let went = c.look-glance.ensures.goes in
     let leads = subst (λ (z : ℕ × ℕ). Leads went.0 z.0 z.1 (Down c.in-Down._child)) (λ i. (c.key.ensures i, c.level.ensures i)) (c.in-Down.ensures.leads went.0 went.1) in
-    let on = on_goes layout (seen.Words went.0) _ _ _ _ c.requires.runs.on went.2 (g.met.J.Target.goes j (approach.Latched c.args.page) (approach.Leaving c.args.page None) (seen.Words went.0) tt (refl, ((Down c.in-Down._child), leads, refl))) in
-    subst (λ (h : Hand PassState). IsOn layout (known h.seat) (g.J.Target.at j (approach.Leaving c.args.page None))) (sym c.in-Down.ensures.same) on
+    let on = on_goes layout (seen.Words went.0) _ _ _ _ c.requires.runs.on went.2 (g.met.J.Target.goes j c.args.path.now (approach.Latched c.args.page) (approach.Leaving c.args.page None) (seen.Words went.0) tt (refl, ((Down c.in-Down._child), leads, refl))) in
+    subst (λ (h : Hand PassState). IsOn layout (known h.seat) (g.J.Target.at j c.args.path.now (approach.Leaving c.args.page None))) (sym c.in-Down.ensures.same) on
 
 pub returns-in-Down-clause-since : goal.returns-in-Down-clause-since
 returns-in-Down-clause-since g c = subst (λ (h : Hand PassState). IsSameProcess (known c.args.hand.now.seat) (known h.seat)) (sym c.in-Down.ensures.same) (same_goes _ _ _ c.look-glance.ensures.goes.2)
@@ -57,8 +57,8 @@ returns-in-Again-clause-arrived g c =
     let layout = c.args.tree.now.store.layout in
     let went = c.look-glance.ensures.goes in
     let leads = subst (λ (z : ℕ × ℕ). Leads went.0 z.0 z.1 Again) (λ i. (c.key.ensures i, c.level.ensures i)) (c.in-Again.ensures.leads went.0 went.1) in
-    let on = on_goes layout (seen.Words went.0) _ _ _ _ c.requires.runs.on went.2 (g.met.J.Target.goes j (approach.Latched c.args.page) (approach.Leaving c.args.page None) (seen.Words went.0) tt (refl, (Again, leads, refl))) in
-    subst (λ (h : Hand PassState). IsOn layout (known h.seat) (g.J.Target.at j (approach.Leaving c.args.page None))) (sym c.in-Again.ensures.same) on
+    let on = on_goes layout (seen.Words went.0) _ _ _ _ c.requires.runs.on went.2 (g.met.J.Target.goes j c.args.path.now (approach.Latched c.args.page) (approach.Leaving c.args.page None) (seen.Words went.0) tt (refl, (Again, leads, refl))) in
+    subst (λ (h : Hand PassState). IsOn layout (known h.seat) (g.J.Target.at j c.args.path.now (approach.Leaving c.args.page None))) (sym c.in-Again.ensures.same) on
 
 pub returns-in-Again-clause-since : goal.returns-in-Again-clause-since
 returns-in-Again-clause-since g c = subst (λ (h : Hand PassState). IsSameProcess (known c.args.hand.now.seat) (known h.seat)) (sym c.in-Again.ensures.same) (same_goes _ _ _ c.look-glance.ensures.goes.2)

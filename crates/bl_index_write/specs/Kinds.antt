@@ -1,0 +1,18 @@
+-- The kind of an answer.
+use Rattle.std.specs.Prelude.{Option, Some}
+use Rattle.bl_model.specs.declared.operation.Reply.{Reply}
+use Rattle.bl_model.specs.declared.operation.Reply.TheVariants as reply
+use Rattle.bl_proc_base.specs.declared.answers.Answer.{Answer}
+use Rattle.bl_proc_base.specs.declared.answers.Answer.TheVariants.{InsertPost}
+
+-- a reply of an insertion
+abbrev pub IsOfInsertion : Reply → Type 0
+IsOfInsertion reply.Inserted = Unit {0}
+IsOfInsertion (reply.Present value) = Unit {0}
+IsOfInsertion reply.NoRoom = Unit {0}
+IsOfInsertion other = ⊥
+
+-- the answer of an insertion that posts
+abbrev pub IsClimbAnswer : Option Answer → Type 0
+IsClimbAnswer (Some (InsertPost reply last left)) = IsOfInsertion reply
+IsClimbAnswer other = ⊥
