@@ -7,6 +7,7 @@ use Rattle.bl_store.specs.Hands.{known, WasRefused}
 use Rattle.bl_index_steps.specs.Refused.{LacksForPage, LacksForPost}
 use Rattle.bl_index_steps.proofs.Ends.{done_first}
 use Rattle.bl_index_write.specs.Climbing.{HasClimbed}
+use Rattle.bl_index.specs.Calls.{number_of}
 use Rattle.bl_index.proofs.Taken.{same_pass}
 use Rattle.bl_index.proofs.Alone.{steps_alone}
 use Rattle.bl_index.proofs.Climbings.{climb_answered, climb_in_call}
@@ -24,13 +25,13 @@ returns-clause-alone g c =
 pub returns-clause-no_room : goal.returns-clause-no_room
 returns-clause-no_room g c = λ none.
     let e = c.insert_key_posting.ensures in let h = c.insert_key_posting.new.hand.seat in let r = c.insert_key_posting.result in
-    let climbed = subst (λ z. HasClimbed _ (known c.args.pass.now.hand.seat) (known h) c.args.key c.args.value (reply_of z) r.1 r.2) none e.climbed in
+    let climbed = subst (λ z. HasClimbed (number_of c.args.pass.now) (known c.args.pass.now.hand.seat) (known h) c.args.key c.args.value (reply_of z) r.1 r.2) none e.climbed in
     climb_in_call _ _ _ _ _ _ _ _ _ climbed c.requires.own.2 (λ marks. LacksForPage 0 c.args.key marks (WasRefused h)) (e.no_room none)
 
 pub returns-clause-left : goal.returns-clause-left
 returns-clause-left g c = λ level separator there.
     let e = c.insert_key_posting.ensures in let h = c.insert_key_posting.new.hand.seat in let r = c.insert_key_posting.result in
-    let climbed = subst (λ z. HasClimbed _ (known c.args.pass.now.hand.seat) (known h) c.args.key c.args.value z r.1 r.2) (e.entered level separator there) e.climbed in
+    let climbed = subst (λ z. HasClimbed (number_of c.args.pass.now) (known c.args.pass.now.hand.seat) (known h) c.args.key c.args.value z r.1 r.2) (e.entered level separator there) e.climbed in
     climb_in_call _ _ _ _ _ _ _ _ _ climbed c.requires.own.2 (λ marks. LacksForPost level separator marks (WasRefused h)) (e.left level separator there)
 
 pub returns-clause-same : goal.returns-clause-same
