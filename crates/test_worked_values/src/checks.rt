@@ -96,6 +96,7 @@ impl Draft {
         let bytes = self.bytes(alloc, 1, &[])?;
         match read(alloc, bytes.as_slice()) {
             Ok(image) => word_list(alloc, image.to_words(alloc)?.as_slice(), page),
+            Err(ImageFault::Memory) => said(alloc, "out of memory"),
             Err(_) => said(alloc, "no image"),
         }
     }
