@@ -33,10 +33,10 @@ any order, and by one worker in theirs.
 
 Sizes. The number of pages is fixed at the start, and a page has room for 14
 rows. Rows in an empty index before the first noroom, by the order of the keys,
-and rows in all where random keys went on:
+and rows in all where random keys went on; by one worker, by more about as many:
   --pages   falling    rising    random    in all   memory
-     1024     6,153     7,174     9,100    12,866     4 MB
-    65536   393,232   458,758   582,000   785,225    88 MB
+     1024     6,153     7,174     9,100    12,840     4 MB
+    65536   393,232   458,758   582,000   823,198    88 MB
 Some six rows a page surely fit. A request that finds no room changes nothing.
 --stats says how many did, and how many pages are in use.
 

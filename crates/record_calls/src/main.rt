@@ -260,19 +260,19 @@ fn work_all<R: Threads + Wait + Clock + Sync>(
     );
 }
 
-/// A worker for each seat.
+/// A worker for each seat. In each round they draw otherwise.
 fn seated<'a>(
     alloc: Global,
     map: &'a Map,
     seats: Vec<Seat>,
-    load: Load,
+    round: Round,
 ) -> Result<Vec<Worker<'a>>, AllocError>
     requires { AreSeatsOf map.now seats.items }
     ensures { IfOk result (λ workers. All (IsOf map.now) workers.items) }
 {
     let mut seats = seats;
     let mut workers = Vec::new(alloc);
-    let mut drawn = load.seed;
+    let mut drawn = round.load.seed.wrapping_mul(64).wrapping_add(round.number);
     while let Some(seat) = seats.pop() {
         drawn = after(drawn ^ 0x9e37_79b9);
         workers.push(Worker {
@@ -339,7 +339,7 @@ fn take_round<R: Threads + Wait + Clock + Sync, W: Write + Drop>(
     requires { AreSeatsOf map.now seats.items }
     ensures { IfOk result (λ back. AreSeatsOf map.now back.items) }
 {
-    let mut workers = seated(alloc, map, seats, round.load)?;
+    let mut workers = seated(alloc, map, seats, round)?;
     work_all(rt, map, workers.as_mut_slice(), round);
     if has_failed(workers.as_slice()) {
         anyhow::bail!("there was no memory for a call, or the clock failed");
