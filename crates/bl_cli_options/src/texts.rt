@@ -33,10 +33,10 @@ any order, and by one worker in theirs.
 
 Sizes. The number of pages is fixed at the start, and a page has room for 14
 rows. Rows in an empty index before the first noroom, by the order of the keys,
-and rows in all where random keys went on:
+and rows in all where random keys went on; by one worker, by more about as many:
   --pages   falling    rising    random    in all   memory
-     1024     6,153     7,174     9,100    12,866     4 MB
-    65536   393,232   458,758   582,000   785,225    88 MB
+     1024     6,153     7,174     9,100    12,840     4 MB
+    65536   393,232   458,758   582,000   823,198    88 MB
 Some six rows a page surely fit. A request that finds no room changes nothing.
 --stats says how many did, and how many pages are in use.
 
@@ -112,7 +112,9 @@ memory.";
 pub(crate) const ABOUT_REPLAY: &str = "\
 The lines of a script; the first is `pages N`:
   find K, insert K V, delete K, change K OLD NEW, part K  each starts a process
-  post L K, compress L K, reclaim X            so do these
+  insertpost K V     so does this: an insertion that lists what it splits itself
+  partnear K X       and this: a part that looks first at page X
+  post L K, compress L K, lower, reclaim X  and these, which keep up the tree
   turn P, turn P X   one turn of process P; a take tries page X
   refuse P           process P is refused what it is about to reserve
   run P M            turns of process P, at most M, until it has answered

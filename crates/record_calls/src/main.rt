@@ -1,17 +1,18 @@
 //! Calls of a map, written down by the threads that make them, for `checks/linearizable`.
 //!
 //! In each round so many threads make so many calls each, on few keys: searches, insertions, deletions, changes, and short
-//! scans, which tell of each key that they pass. Then all threads are joined, and a line is printed for each call: the thread, the nanoseconds right
-//! before the call and right behind it, the key, what was asked, and what was answered; and behind them the line `round`. Behind
-//! every fourth round the map is closed and opened from its image. With `count` in place of `calls` only the number of calls is
-//! printed, which is the same whatever the threads do.
+//! scans, which tell of each key that they pass. Then all threads are joined, and a line is printed for each call: the thread, the
+//! nanoseconds right before the call and right behind it, the key, what was asked, and what was answered; and behind them the line
+//! `round`. Behind every fourth round the map is closed and opened from its image; where there is no memory for that, once more. With
+//! `count` in place of `calls` only the number of calls is printed, which is the same whatever the threads do.
 #![tactic(auto)]
 
 ghost use Rattle.std.specs.Prelude.{◌≡◌, All, IfSome, IfOk};
 ghost use Rattle.bl_map.specs.Maps.{AreSeatsOf};
 ghost use Rattle.record_calls.specs.Workers.{IsOf};
 
-use bl_map::{Handle, KeyReply, Map, Seat};
+use bl_check::Quiet;
+use bl_map::{CloseFault, Handle, KeyReply, Map, OpenFault, Seat};
 use std::alloc::{AllocError, Global};
 use std::io::{BufWriter, Write};
 use std::rt::Clock;
@@ -259,19 +260,19 @@ fn work_all<R: Threads + Wait + Clock + Sync>(
     );
 }
 
-/// A worker for each seat.
+/// A worker for each seat. In each round they draw otherwise.
 fn seated<'a>(
     alloc: Global,
     map: &'a Map,
     seats: Vec<Seat>,
-    load: Load,
+    round: Round,
 ) -> Result<Vec<Worker<'a>>, AllocError>
     requires { AreSeatsOf map.now seats.items }
     ensures { IfOk result (λ workers. All (IsOf map.now) workers.items) }
 {
     let mut seats = seats;
     let mut workers = Vec::new(alloc);
-    let mut drawn = load.seed;
+    let mut drawn = round.load.seed.wrapping_mul(64).wrapping_add(round.number);
     while let Some(seat) = seats.pop() {
         drawn = after(drawn ^ 0x9e37_79b9);
         workers.push(Worker {
@@ -338,7 +339,7 @@ fn take_round<R: Threads + Wait + Clock + Sync, W: Write + Drop>(
     requires { AreSeatsOf map.now seats.items }
     ensures { IfOk result (λ back. AreSeatsOf map.now back.items) }
 {
-    let mut workers = seated(alloc, map, seats, round.load)?;
+    let mut workers = seated(alloc, map, seats, round)?;
     work_all(rt, map, workers.as_mut_slice(), round);
     if has_failed(workers.as_slice()) {
         anyhow::bail!("there was no memory for a call, or the clock failed");
@@ -349,29 +350,74 @@ fn take_round<R: Threads + Wait + Clock + Sync, W: Write + Drop>(
     Ok(seats_of(alloc, map, workers)?)
 }
 
+/// The image of a map that is closed. Where there is no memory for it, the map and its seats come back as they were: it is closed
+/// once more, which is counted.
+fn closed(alloc: Global, map: Map, seats: Vec<Seat>, tried: &mut u64) -> Option<Quiet>
+    requires { AreSeatsOf map seats.items }
+{
+    match map.close(alloc, seats) {
+        Ok(image) => Some(image),
+        Err((map, seats, CloseFault::Memory)) => {
+            *tried = tried.saturating_add(1);
+            map.close(alloc, seats).ok()
+        }
+        Err((_, _, CloseFault::Pass)) => None,
+    }
+}
+
+/// A map that begins with an image. Where there is no memory for it, the image comes back: it is opened once more, which is counted.
+fn opened(alloc: Global, image: Quiet, threads: u32, tried: &mut u64) -> Option<(Map, Vec<Seat>)>
+    ensures { IfSome result (λ t. AreSeatsOf t.0 t.1.items) }
+{
+    match Map::open_image(alloc, image, threads) {
+        Ok(begun) => Some(begun),
+        Err((image, OpenFault::Memory)) => {
+            *tried = tried.saturating_add(1);
+            Map::open_image(alloc, image, threads).ok()
+        }
+        Err(_) => None,
+    }
+}
+
 /// A map and its seats, as it is or closed and opened from its image.
-fn kept(alloc: Global, map: Map, seats: Vec<Seat>, round: Round) -> Option<(Map, Vec<Seat>)>
+fn kept(
+    alloc: Global,
+    map: Map,
+    seats: Vec<Seat>,
+    round: Round,
+    tried: &mut u64,
+) -> Option<(Map, Vec<Seat>)>
     requires { AreSeatsOf map seats.items }
     ensures { IfSome result (λ t. AreSeatsOf t.0 t.1.items) }
 {
     if round.number % OPEN_FOR != OPEN_FOR - 1 {
         return Some((map, seats));
     }
-    let image = map.close(alloc, seats).ok()?;
-    Map::open_image(alloc, image, round.load.threads).ok()
+    let image = closed(alloc, map, seats, tried)?;
+    opened(alloc, image, round.load.threads, tried)
 }
 
-/// All rounds, over a new map.
+/// A map without rows.
+fn begun(alloc: Global, load: Load) -> anyhow::Result<(Map, Vec<Seat>)>
+    ensures { IfOk result (λ t. AreSeatsOf t.0 t.1.items) }
+{
+    match Map::open(alloc, load.pages, load.threads) {
+        Ok(begun) => Ok(begun),
+        Err(OpenFault::Memory) => anyhow::bail!("no memory for a map"),
+        Err(_) => anyhow::bail!("no map of so many pages and threads"),
+    }
+}
+
+/// All rounds, over a new map. How often the map was closed or opened once more, since there was no memory for it.
 fn take_rounds<R: Threads + Wait + Clock + Sync, W: Write + Drop>(
     rt: &R,
     alloc: Global,
     load: Load,
     out: &mut W,
-) -> anyhow::Result<()> {
+) -> anyhow::Result<u64> {
     let start = Instant::now(rt)?;
-    let Ok((mut map, mut seats)) = Map::open(alloc, load.pages, load.threads) else {
-        anyhow::bail!("no map of so many pages and threads");
-    };
+    let (mut map, mut seats) = begun(alloc, load)?;
+    let mut tried = 0u64;
     for number in 0..load.rounds {
         let round = Round {
             load,
@@ -379,12 +425,12 @@ fn take_rounds<R: Threads + Wait + Clock + Sync, W: Write + Drop>(
             number,
         };
         seats = take_round(rt, alloc, &map, seats, round, out)?;
-        let Some(next) = kept(alloc, map, seats, round) else {
+        let Some(next) = kept(alloc, map, seats, round, &mut tried) else {
             anyhow::bail!("the map was not closed and opened");
         };
         (map, seats) = next;
     }
-    Ok(())
+    Ok(tried)
 }
 
 fn main(rt: HostRuntime) -> anyhow::Result<()> {
@@ -396,7 +442,10 @@ fn main(rt: HostRuntime) -> anyhow::Result<()> {
         return Ok(());
     };
     let mut out = BufWriter::new(rt.alloc(), io::writer(&rt))?;
-    take_rounds(&rt, rt.alloc(), load, &mut out)?;
+    let tried = take_rounds(&rt, rt.alloc(), load, &mut out)?;
+    if tried > 0 {
+        writeln!(out, "{tried} closes or openings had no memory at first")?;
+    }
     if !load.is_printed {
         let made = load
             .calls

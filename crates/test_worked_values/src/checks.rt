@@ -76,7 +76,7 @@ impl Draft {
     ) -> Result<Vec<u8>, AllocError> {
         let bytes = self.bytes(alloc, version, changes)?;
         let found = check(alloc, bytes.as_slice());
-        if load(alloc, bytes.as_slice()).err() != found.err() {
+        if is_other(load(alloc, bytes.as_slice()).err(), found.err()) {
             return said(alloc, "loaded otherwise");
         }
         verdict(alloc, found)
@@ -96,6 +96,7 @@ impl Draft {
         let bytes = self.bytes(alloc, 1, &[])?;
         match read(alloc, bytes.as_slice()) {
             Ok(image) => word_list(alloc, image.to_words(alloc)?.as_slice(), page),
+            Err(ImageFault::Memory) => said(alloc, "out of memory"),
             Err(_) => said(alloc, "no image"),
         }
     }
@@ -127,6 +128,12 @@ impl Draft {
         }
         counted(alloc, refused)
     }
+}
+
+/// One is another than the other, and neither is a want of memory.
+fn is_other(one: Option<Fault>, other: Option<Fault>) -> bool {
+    let memory = Some(Fault::Memory);
+    one != memory && other != memory && one != other
 }
 
 /// Appends the words of a page, with these changes.
