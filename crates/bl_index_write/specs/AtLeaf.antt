@@ -24,7 +24,6 @@ use Rattle.bl_proc_unique.proofs.Climbs.{climb_goes}
 use Rattle.bl_proc_unique.proofs.Writings.{write_goes}
 use Rattle.bl_proc_unique.specs.Courses.{GoesOn}
 use Rattle.std.proofs.Common.{None, Option, Some, refl, ℕ, ◌≡◌}
-
 use Rattle.bl_proc.specs.declared.climbing.ClimbStage.TheVariants as climb
 use Rattle.bl_proc.specs.declared.writing.WriteReply.TheVariants as written
 use Rattle.bl_proc.specs.declared.writing.WriteStage.TheVariants as write

@@ -28,9 +28,7 @@ use crate::writing::{answer_of, write_there};
 use bl_index_rule::PassState;
 use bl_index_steps::Tree;
 use bl_model::{KeyReply, KeyWrite, Reply};
-use bl_proc::{
-    Answer, ClimbStage, Hint, InsertPost, Path, Post, PostStage, Posted, Process, Step,
-};
+use bl_proc::{Answer, ClimbStage, Hint, InsertPost, Path, Post, PostStage, Posted, Process, Step};
 use bl_store::Hand;
 use std::sync::Wait;
 
@@ -84,9 +82,11 @@ impl Target for Climbing {
 
     ghost courses = { λ j n a what g.
         climb_goes (record {
-          key = j.key; value = j.value; path = n;
+          key = j.key;
+          value = j.value;
+          path = n;
           stage = stages.Writing (record { key = j.key; write = Insert j.value; stage = write.Coming a });
-          stands = (refl, refl, tt, tt)
+          stands = (refl, refl, tt, tt);
         }) what refl g };
 
     ghost enters = { λ j n a c led t. (refl, refl, refl, ((refl, refl, t), tt)) };

@@ -34,4 +34,4 @@ returns g c =
     let page = c.requires.page in let w = c.args.writer.now in let put = c.replace-changed in let noted = c.args.noted in let e = c.open_leaf.ensures in
     let goes = goes_put put.result _ _ put.ensures.done put.ensures.refused in
     leaves_put c.args.tree.now (g.W.Writer.key_of w) (g.W.Writer.write_of w) (g.W.Writer.staged w) (g.W.Writer.opened w) (g.W.Writer.writes w) c.args.at noted page.0 put.result c.args.hand.now.seat put.new.hand.seat c.open_leaf.new.hand _
-        page.2 put.ensures.same.0 goes put.ensures.asked e.same e.empty e.runs e.since e.refusal e.keeps (e.left ∙ (c.by.ensures ∙ ap (left_by noted) c.outcome_of.ensures))
+    page.2 put.ensures.same.0 goes put.ensures.asked e.same e.empty e.runs e.since e.refusal e.keeps (e.left ∙ (c.by.ensures ∙ ap (left_by noted) c.outcome_of.ensures))
