@@ -33,7 +33,8 @@ impl Index {
     pub fn compress<R: Wait>(&self, rt: &R, pass: &mut Pass, hint: Hint) -> (Squeezed, Option<Hint>)
         requires own { IsPassOf self.now pass.old }
         ensures same { IsSamePass pass.old pass.new }
-        ensures compresses { Compresses (first_of self.now) (number_of pass.old) (level_of hint) (key_of hint) result.0 result.1 (trail pass.old) (trail pass.new) }
+        ensures compresses { Compresses (first_of self.now) (number_of pass.old) (level_of hint) (key_of hint) result.0 result.1 (trail pass.old)
+            (trail pass.new) }
         ensures no_room { result.0 ≡ answer.NoRoom → MetNoRoom pass.new 0 3 }
     {
         let compress = Compress::new(hint.level(), hint.key());

@@ -18,7 +18,8 @@ impl Index {
     pub fn find(&self, pass: &mut Pass, key: u64, turns: u32) -> Result<KeyReply, OutOfTurns>
         requires { IsPassOf self.now pass.old }
         ensures same { IsSamePass pass.old pass.new }
-        ensures answers { AnswersOrRunsOut (first_of self.now) (pages_of self.now) (number_of pass.old) turns (op.Find key) (found_of result) (trail pass.old) (trail pass.new) }
+        ensures answers { AnswersOrRunsOut (first_of self.now) (pages_of self.now) (number_of pass.old) turns (op.Find key) (found_of result) (trail pass.old)
+            (trail pass.new) }
         ensures alone { IfOk result (λ reply. StepsAlone (first_of self.now) self.now (op.Find key) (reply_of reply) (trail pass.old) (trail pass.new)) }
     {
         find_key(&self.tree, &mut pass.hand, key, turns)

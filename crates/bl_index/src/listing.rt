@@ -16,7 +16,8 @@ impl Index {
     pub fn part(&self, pass: &mut Pass, from: u64, turns: u32) -> Result<Reply, OutOfTurns>
         requires { IsPassOf self.now pass.old }
         ensures same { IsSamePass pass.old pass.new }
-        ensures answers { AnswersOrRunsOut (first_of self.now) (pages_of self.now) (number_of pass.old) turns (op.Part from) result (trail pass.old) (trail pass.new) }
+        ensures answers { AnswersOrRunsOut (first_of self.now) (pages_of self.now) (number_of pass.old) turns (op.Part from) result (trail pass.old)
+            (trail pass.new) }
         ensures alone { IfOk result (λ reply. StepsAlone (first_of self.now) self.now (op.Part from) reply (trail pass.old) (trail pass.new)) }
     {
         list_part(&self.tree, &mut pass.hand, from, &mut None, turns)
@@ -34,7 +35,8 @@ impl Index {
     ) -> Result<Reply, OutOfTurns>
         requires { IsPassOf self.now pass.old }
         ensures same { IsSamePass pass.old pass.new }
-        ensures answers { AnswersOrRunsOut (first_of self.now) (pages_of self.now) (number_of pass.old) turns (op.Part from) result (trail pass.old) (trail pass.new) }
+        ensures answers { AnswersOrRunsOut (first_of self.now) (pages_of self.now) (number_of pass.old) turns (op.Part from) result (trail pass.old)
+            (trail pass.new) }
         ensures alone { IfOk result (λ reply. StepsAlone (first_of self.now) self.now (op.Part from) reply (trail pass.old) (trail pass.new)) }
     {
         list_part(&self.tree, &mut pass.hand, from, near, turns)

@@ -54,7 +54,8 @@ impl Index {
     ) -> Result<(), ScanFault>
         requires { IsPassOf self.now pass.old }
         ensures same { IsSamePass pass.old pass.new }
-        ensures scans { MayScan (first_of self.now) (pages_of self.now) (number_of pass.old) turns from to (vec_capacity rows.new - vec_len rows.new) result rows.old.items rows.new.items (trail pass.old) (trail pass.new) }
+        ensures scans { MayScan (first_of self.now) (pages_of self.now) (number_of pass.old) turns from to (vec_capacity rows.new - vec_len rows.new) result
+            rows.old.items rows.new.items (trail pass.old) (trail pass.new) }
         ensures nothing { IsOver to (Some from) → trail pass.new ≡ trail pass.old }
     {
         if !is_below(to, from) {
@@ -79,7 +80,8 @@ impl Index {
         requires own { IsPassOf self.now pass.old }
         requires below { IsBelow to from }
         ensures same { IsSamePass pass.old pass.new }
-        ensures scans { MayScan (first_of self.now) (pages_of self.now) (number_of pass.old) turns from to (vec_capacity result.0 - vec_len result.0) result.1 rows.items result.0.items (trail pass.old) (trail pass.new) }
+        ensures scans { MayScan (first_of self.now) (pages_of self.now) (number_of pass.old) turns from to (vec_capacity result.0 - vec_len result.0) result.1
+            rows.items result.0.items (trail pass.old) (trail pass.new) }
     {
         let mut rows = rows;
         let mut behind = Behind::Part(from, 0);
@@ -108,7 +110,8 @@ impl Index {
         requires own { IsPassOf self.now pass.old }
         requires below { IsBelow to from }
         ensures same { IsSamePass pass.old pass.new }
-        ensures appends { MayAppend (first_of self.now) (pages_of self.now) (number_of pass.old) turns from to (vec_capacity result.0 - vec_len result.0) result.1 rows.items result.0.items (trail pass.old) (trail pass.new) }
+        ensures appends { MayAppend (first_of self.now) (pages_of self.now) (number_of pass.old) turns from to (vec_capacity result.0 - vec_len result.0)
+            result.1 rows.items result.0.items (trail pass.old) (trail pass.new) }
     {
         self.append_part_by(&mut pass.hand, from, near, to, turns, rows)
     }
@@ -130,7 +133,8 @@ impl Index {
         ensures rests { Rests hand.new.seat }
         ensures first { (known hand.new.seat).first ≡ (known hand.old.seat).first }
         ensures seen { IsSeen (known hand.new.seat).first (known hand.new.seat).trail }
-        ensures appends { MayAppend (known hand.old.seat).first self.now.tree.store.layout.pages hand.old.number turns from to (vec_capacity result.0 - vec_len result.0) result.1 rows.items result.0.items (known hand.old.seat).trail (known hand.new.seat).trail }
+        ensures appends { MayAppend (known hand.old.seat).first self.now.tree.store.layout.pages hand.old.number turns from to
+            (vec_capacity result.0 - vec_len result.0) result.1 rows.items result.0.items (known hand.old.seat).trail (known hand.new.seat).trail }
     {
         let Some(glance) = descend_to_leaf(&self.tree, hand, from, Some(near), turns) else {
             return (rows, Err(ScanFault::OutOfTurns(from)));

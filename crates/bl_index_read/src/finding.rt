@@ -59,7 +59,8 @@ pub fn find_key(
     ensures rests { Rests hand.new.seat }
     ensures first { (known hand.new.seat).first ≡ (known hand.old.seat).first }
     ensures seen { IsSeen (known hand.new.seat).first (known hand.new.seat).trail }
-    ensures answers { AnswersOrRunsOut (known hand.old.seat).first tree.now.store.layout.pages hand.old.number turns (op.Find key) (found_of result) (known hand.old.seat).trail (known hand.new.seat).trail }
+    ensures answers { AnswersOrRunsOut (known hand.old.seat).first tree.now.store.layout.pages hand.old.number turns (op.Find key) (found_of result)
+        (known hand.old.seat).trail (known hand.new.seat).trail }
 {
     let mut process = Find::new(key);
     tree.begin(hand, &mut process);

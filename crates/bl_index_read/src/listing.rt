@@ -55,7 +55,8 @@ pub fn list_part(
     ensures rests { Rests hand.new.seat }
     ensures first { (known hand.new.seat).first ≡ (known hand.old.seat).first }
     ensures seen { IsSeen (known hand.new.seat).first (known hand.new.seat).trail }
-    ensures answers { AnswersOrRunsOut (known hand.old.seat).first tree.now.store.layout.pages hand.old.number turns (op.Part from) result (known hand.old.seat).trail (known hand.new.seat).trail }
+    ensures answers { AnswersOrRunsOut (known hand.old.seat).first tree.now.store.layout.pages hand.old.number turns (op.Part from) result
+        (known hand.old.seat).trail (known hand.new.seat).trail }
 {
     let Some(glance) = descend_to_leaf(tree, hand, from, *near, turns) else {
         return Err(OutOfTurns);
@@ -98,7 +99,8 @@ fn begin_part(tree: &Tree, hand: &mut Hand<PassState>, from: u64)
     ensures same { IsSameHand hand.old.seat hand.new.seat × IsSameStock hand.old.seat hand.new.seat }
     ensures runs { Runs tree.now hand.new (part_at from descent.AtAnchor) }
     ensures begun { IsSince hand.old.number (known hand.old.seat) (known hand.new.seat) }
-    ensures observed { Begins hand.old.number tree.now.store.layout.pages tree.now.store.layout.passes (listing from part_stage.New) (known hand.old.seat) (known hand.new.seat) }
+    ensures observed { Begins hand.old.number tree.now.store.layout.pages tree.now.store.layout.passes (listing from part_stage.New) (known hand.old.seat)
+        (known hand.new.seat) }
 {
     launch_part::<Brand>(tree, hand, from, None);
 }
@@ -111,7 +113,8 @@ fn begin_near(tree: &Tree, hand: &mut Hand<PassState>, from: u64, page: u32)
     ensures same { IsSameHand hand.old.seat hand.new.seat × IsSameStock hand.old.seat hand.new.seat }
     ensures runs { Runs tree.now hand.new (listing from (part_stage.Probing page)) }
     ensures begun { IsSince hand.old.number (known hand.old.seat) (known hand.new.seat) }
-    ensures observed { Begins hand.old.number tree.now.store.layout.pages tree.now.store.layout.passes (listing from (part_stage.Near page)) (known hand.old.seat) (known hand.new.seat) }
+    ensures observed { Begins hand.old.number tree.now.store.layout.pages tree.now.store.layout.passes (listing from (part_stage.Near page))
+        (known hand.old.seat) (known hand.new.seat) }
 {
     launch_part::<Brand>(tree, hand, from, Some(page));
 }
@@ -186,7 +189,8 @@ fn seek_leaf(
     ensures same { IsSameHand hand.old.seat hand.new.seat × IsSameStock hand.old.seat hand.new.seat }
     ensures came { (old : Knows) (pass got : ℕ) → IsSince pass old (known hand.old.seat)
         → IsAtTurn tree.now.store.layout.pages pass (old.number + 1) got (known hand.old.seat).trail
-        → MatchOption result (HasGivenUp tree.now.store.layout pass (got + turns) old hand.new.seat) (HasLeaf tree.now.store.layout pass from (got + turns) old hand.new.seat) }
+        → MatchOption result (HasGivenUp tree.now.store.layout pass (got + turns) old hand.new.seat)
+        (HasLeaf tree.now.store.layout pass from (got + turns) old hand.new.seat) }
 {
     let mut way = way;
     for _turn in 0..turns {
@@ -212,7 +216,8 @@ pub fn descend_to_leaf(
     requires own { IsHandOf tree.now.store hand.old }
     requires idle { IsIdle hand.old.seat }
     ensures same { IsSameHand hand.old.seat hand.new.seat × IsSameStock hand.old.seat hand.new.seat }
-    ensures came { MatchOption result (HasGivenUp tree.now.store.layout hand.old.number turns (known hand.old.seat) hand.new.seat) (HasLeaf tree.now.store.layout hand.old.number from turns (known hand.old.seat) hand.new.seat) }
+    ensures came { MatchOption result (HasGivenUp tree.now.store.layout hand.old.number turns (known hand.old.seat) hand.new.seat)
+        (HasLeaf tree.now.store.layout hand.old.number from turns (known hand.old.seat) hand.new.seat) }
 {
     let way = set_off(tree, hand, from, near);
     // What the call gives is taken apart, so that a leaf that is found at once does not go by its memory.

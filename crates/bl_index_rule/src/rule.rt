@@ -12,7 +12,25 @@ impl PageRule<PassState> for Passes {
 
     ghost holds = { Simulates };
 
-    ghost ticks = { λ s f. record { world = f.world; good = f.good; kept = f.kept; image = f.image; opening = f.opening; first = f.first; moments = f.moments; size = f.size; clock = le_trans f.clock (le-add_right s.clock 1); pages = f.pages; owners = f.owners; hands = f.hands; within = f.within; busy = f.busy; counts = f.counts; firsts = f.firsts } };
+    ghost ticks = { λ s f. record {
+      world = f.world;
+      good = f.good;
+      kept = f.kept;
+      image = f.image;
+      opening = f.opening;
+      first = f.first;
+      moments = f.moments;
+      size = f.size;
+      clock = le_trans f.clock (le-add_right s.clock 1);
+      pages = f.pages;
+      owners = f.owners;
+      hands = f.hands;
+      within = f.within;
+      busy =
+          f.busy;
+      counts = f.counts;
+      firsts = f.firsts;
+    } };
 
     ghost gone = { newcomer };
 }

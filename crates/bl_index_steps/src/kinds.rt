@@ -25,7 +25,8 @@ pub trait Kind: Process + Reader {
 
     ghost goes: { (p q : Self) (what : Seen) → Self.Process.Takes p what q → TakesIn (proc_of p) what (proc_of q) };
 
-    ghost courses: { (p : Self) (what : Seen) → Self.Process.answer_of p ≡ None → Gives (Self.Process.next_of p) (Self.Process.needs_of p) what → GoesOn (proc_of p) what };
+    ghost courses: { (p : Self) (what : Seen) → Self.Process.answer_of p ≡ None → Gives (Self.Process.next_of p) (Self.Process.needs_of p) what → GoesOn
+        (proc_of p) what };
 
     ghost wants: { (p : Self) → Wants (next_in (proc_of p)) (needs_in (proc_of p)) (frames_of (proc_of p)) };
 

@@ -53,7 +53,8 @@ impl Tree {
         ensures same { IsSameHand hand.old.seat hand.new.seat × IsSameStock hand.old.seat hand.new.seat }
         ensures runs { Runs self.now hand.new (P.proc_of process.new) }
         ensures begun { IsSince hand.old.number (known hand.old.seat) (known hand.new.seat) }
-        ensures observed { Begins hand.old.number self.now.store.layout.pages self.now.store.layout.passes (P.proc_of process.old) (known hand.old.seat) (known hand.new.seat) }
+        ensures observed { Begins hand.old.number self.now.store.layout.pages self.now.store.layout.passes (P.proc_of process.old) (known hand.old.seat)
+            (known hand.new.seat) }
         ensures takes { P.Takes process.old seen.Done process.new }
     {
         self.launch::<Brand, P>(hand, process);

@@ -90,7 +90,9 @@ impl Editor for Listing {
 
     ghost acts = { λ j c. refl };
 
-    ghost courses = { λ j c what g. post_goes (record { level = j.posting.level; key = j.posting.key; stage = post.Editing c; least = j.posting.least; most = j.posting.most; below = j.below }) what refl g };
+    ghost courses = { λ j c what g. post_goes
+        (record { level = j.posting.level; key = j.posting.key; stage = post.Editing c; least = j.posting.least; most = j.posting.most; below = j.below })
+        what refl g };
 
     ghost goes = { λ j c d what t. (refl, refl, t) };
 

@@ -1,8 +1,8 @@
-//! Writers over the pages that threads share: writes of one key, and posts.
+//! Writers over the pages that threads share: writes of one key, insertions that post what they split, and posts.
 //!
 //! Promised to the index: what each answers, with its hint, and that its process did what a process of its kind does. They go by
 //! their events and by the words of the pages, so that no page is made of words that are only looked at. Where a tree is to get one
-//! more level, which is rare, a post goes by a process value.
+//! more level, which is rare, a post goes by a process value, and so do the posts of an insertion that posts.
 #![tactic(auto)]
 
 mod climbing;
