@@ -7,7 +7,8 @@ use Rattle.bl_page.specs.declared.page.Page.{Page}
 use Rattle.bl_claims.specs.Trails.{Trail}
 use Rattle.bl_index.specs.Calls.{Sweeps}
 use Rattle.bl_index_steps.specs.Answered.{Answers, Adds as AddsIn}
-use Rattle.bl_map.specs.Works.{Works, Adds}
+use Rattle.bl_map.specs.Works.{Works, Adds, Searches, Searched, NoneMade, OneLost, OneMade, Swept, Never, Again}
+use Rattle.bl_index_read.specs.Searching.{Finds, RunsOut}
 
 pub nothing : (first : List (Option Page)) (pass : ℕ) (old : Trail) → Adds first pass old old
 nothing first pass old = record { begins = ([], sym (append-nil old)); seen = λ s. s; none = refl }
@@ -45,3 +46,31 @@ adds_works first pass op reply old mid new a b = record {
   seen = b.seen;
   once = b.once ∙ ap (λ (z : List Entry). z ++ record { pass = pass; op = op; reply = reply } ∷ []) a.none;
 }
+
+pub swept_adds : (first : List (Option Page)) (pass : ℕ) (old new : Trail) → Swept first pass old new → Adds first pass old new
+swept_adds first pass old new Never = nothing first pass old
+swept_adds first pass old new (Again {mid = mid} {answer = answer} s one) = then_adds first pass old mid new (swept_adds first pass old mid s) (sweep_adds first pass pass answer mid new refl one)
+
+pub swept_as : (first : List (Option Page)) (pass it : ℕ) (old new : Trail) → it ≡ pass → Swept first it old new → Swept first pass old new
+swept_as first pass it old new e s = subst (λ (z : ℕ). Swept first z old new) e s
+
+pub swept_more : (first : List (Option Page)) (pass it answer : ℕ) (old mid new : Trail) → it ≡ pass → Swept first pass old mid → Sweeps first it answer mid new → Swept first pass old new
+swept_more first pass it answer old mid new e s one = Again s (subst (λ (z : ℕ). Sweeps first z answer mid new) e one)
+
+pub lost_more : (first : List (Option Page)) (pages pass it turns : ℕ) (es : List Entry) (old mid new : Trail) → it ≡ pass → turns ≡ pages → Searches first pages pass es old mid → RunsOut first pages it turns mid new → Searches first pages pass es old new
+lost_more first pages pass it turns es old mid new e f s r =
+    OneLost s (subst (λ (z : ℕ). RunsOut first pages pass z mid new) f (subst (λ (z : ℕ). RunsOut first pages z turns mid new) e r))
+
+pub made_more : (first : List (Option Page)) (pages pass it turns : ℕ) (es : List Entry) (e : Entry) (old mid new : Trail) → it ≡ pass → turns ≡ pages → Searches first pages pass es old mid → Finds first pages it turns e.op e.reply mid new → Searches first pages pass (es ++ e ∷ []) old new
+made_more first pages pass it turns es e old mid new same f s r =
+    OneMade e s (subst (λ (z : ℕ). Finds first pages pass z e.op e.reply mid new) f (subst (λ (z : ℕ). Finds first pages z turns e.op e.reply mid new) same r))
+
+-- the first that was answered
+pub made_one : (first : List (Option Page)) (pages pass it turns : ℕ) (op : Op) (reply : Reply) (old mid new : Trail) → it ≡ pass → turns ≡ pages → Searches first pages pass [] old mid → Finds first pages it turns op reply mid new → Searched first pages pass op reply old new
+made_one first pages pass it turns op reply old mid new same f s r = made_more first pages pass it turns [] (record { pass = pass; op = op; reply = reply }) old mid new same f s r
+
+pub searches_then : (first : List (Option Page)) (pages pass : ℕ) (es fs : List Entry) (old mid new : Trail) → Searches first pages pass es old mid → Searches first pages pass fs mid new → Searches first pages pass (es ++ fs) old new
+searches_then first pages pass es fs old mid new s NoneMade = subst (λ (z : List Entry). Searches first pages pass z old mid) (sym (append-nil es)) s
+searches_then first pages pass es fs old mid new s (OneLost t r) = OneLost (searches_then first pages pass es fs old _ _ s t) r
+searches_then first pages pass es fs old mid new s (OneMade {es = before} e t r) =
+    subst (λ (z : List Entry). Searches first pages pass z old new) (append_assoc es before (e ∷ [])) (OneMade e (searches_then first pages pass es before old _ _ s t) r)

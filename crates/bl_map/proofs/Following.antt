@@ -10,14 +10,15 @@ use Rattle.bl_proc_base.specs.declared.answers.Posted.{Posted}
 use Rattle.bl_proc_base.specs.declared.answers.Posted.TheVariants as posting
 use Rattle.bl_proc_base.specs.declared.answers.Squeezed.{Squeezed}
 use Rattle.bl_proc_base.specs.declared.answers.Squeezed.TheVariants as squeezing
-use Rattle.bl_index.specs.Calls.{Posts, Compresses}
+use Rattle.bl_index.specs.Calls.{Posts, Compresses, LowersTree}
 use Rattle.bl_map.specs.declared.upkeep.Followed.{Followed}
 use Rattle.bl_map.specs.declared.upkeep.Followed.TheVariants.{Done, NoRoom}
 use Rattle.bl_map.specs.declared.waiting.Waiting.{Waiting}
-use Rattle.bl_map.specs.Works.{Works, Adds}
-use Rattle.bl_map.specs.Follows.{Written, TriesPost, TriesCompression, Tries, TriesHint, FollowsHint, FollowsOnce, AreDone, StopsAt, FollowsHints, FollowsSplit}
+use Rattle.bl_proc_base.specs.declared.lowering.Lowered.{Lowered}
+use Rattle.bl_map.specs.Works.{Works, Adds, Swept}
+use Rattle.bl_map.specs.Follows.{Written, TriesPost, TriesCompression, Tries, TriesHint, may_fall, has_fallen, Lowers, FollowsHint, FollowsOnce, AreDone, StopsAt, FollowsHints, FollowsSplit}
 use Rattle.bl_map.specs.Waits.{Changes, TriesOldest, AreTried, HasTried, TriesAgain}
-use Rattle.bl_map.proofs.Adding.{nothing, then_adds, adds_as, call_adds, call_works, adds_works, works_on}
+use Rattle.bl_map.proofs.Adding.{nothing, then_adds, adds_as, call_adds, call_works, adds_works, works_on, swept_adds, swept_as}
 
 -- ---- what they add
 
@@ -25,22 +26,30 @@ post_adds : (first : List (Option Page)) (pass level key : ℕ) (result : Follow
 post_adds first pass level key (Done next) old new t = call_adds first pass pass old new refl t.2.adds
 post_adds first pass level key NoRoom old new t = call_adds first pass pass old new refl t.adds
 
-compression_adds : (first : List (Option Page)) (pass level key : ℕ) (result : Followed) (old new : Trail) → TriesCompression first pass level key result old new → Adds first pass old new
-compression_adds first pass level key (Done next) old new t = call_adds first pass pass old new refl t.2.adds
-compression_adds first pass level key NoRoom old new t = call_adds first pass pass old new refl t.adds
+compression_adds : (first : List (Option Page)) (pass level key : ℕ) (result : Followed × Bool) (old new : Trail) → TriesCompression first pass level key result old new → Adds first pass old new
+compression_adds first pass level key (Done next, falls) old new t = call_adds first pass pass old new refl t.3.adds
+compression_adds first pass level key (NoRoom, falls) old new t = call_adds first pass pass old new refl t.1.adds
 
-tries_adds : (first : List (Option Page)) (pass : ℕ) (h : Hint) (result : Followed) (old new : Trail) → Tries first pass h result old new → Adds first pass old new
-tries_adds first pass (hint.Post level key) result old new t = post_adds first pass level key result old new t
+tries_adds : (first : List (Option Page)) (pass : ℕ) (h : Hint) (result : Followed × Bool) (old new : Trail) → Tries first pass h result old new → Adds first pass old new
+tries_adds first pass (hint.Post level key) result old new t = post_adds first pass level key result.0 old new t.1
 tries_adds first pass (hint.Thin level key) result old new t = compression_adds first pass level key result old new t
 
-pub tried_hint_adds : (first : List (Option Page)) (pass : ℕ) (h : Hint) (result : Followed) (old new : Trail) → TriesHint first pass h result old new → Adds first pass old new
-tried_hint_adds first pass h result old new t = then_adds first pass old t.mid new t.waits (tries_adds first pass h result t.mid new t.tries)
-
-pub hint_adds : (first : List (Option Page)) (pass : ℕ) (h : Hint) (result : Followed) (old new : Trail) → FollowsHint first pass h result old new → Adds first pass old new
-hint_adds first pass h result old new f = then_adds first pass old f.mid new (tried_hint_adds first pass h result old f.mid f.tries) f.lowers
+pub tried_hint_adds : (first : List (Option Page)) (pass : ℕ) (h : Hint) (result : Followed × Bool) (old new : Trail) → TriesHint first pass h result old new → Adds first pass old new
+tried_hint_adds first pass h result old new t = then_adds first pass old t.mid new (swept_adds first pass old t.mid t.waits) (tries_adds first pass h result t.mid new t.tries)
 
 stays_adds : (first : List (Option Page)) (pass : ℕ) (old new : Trail) → new ≡ old → Adds first pass old new
 stays_adds first pass old new e = subst (λ (z : Trail). Adds first pass old z) (sym e) (nothing first pass old)
+
+lowers_add : (first : List (Option Page)) (pass most : ℕ) (falls : Bool) (old new : Trail) → Lowers first pass most falls old new → Adds first pass old new
+lowers_add first pass zero falls old new l = stays_adds first pass old new l
+lowers_add first pass (suc most) false old new l = stays_adds first pass old new l
+lowers_add first pass (suc most) true old new l =
+    then_adds first pass old l.0 new (swept_adds first pass old l.0 l.3)
+    (then_adds first pass l.0 l.1 new (call_adds first pass pass l.0 l.1 refl l.4.adds) (lowers_add first pass most (has_fallen l.2) l.1 new l.5))
+
+pub hint_adds : (first : List (Option Page)) (pass : ℕ) (h : Hint) (result : Followed) (old new : Trail) → FollowsHint first pass h result old new → Adds first pass old new
+hint_adds first pass h result old new f =
+    then_adds first pass old f.mid new (tried_hint_adds first pass h (result, f.falls) old f.mid f.tries) (lowers_add first pass 11 f.falls f.mid new f.lowers)
 
 done_adds : (first : List (Option Page)) (pass : ℕ) (hints : List Hint) (start left : Option Hint) (old new : Trail) → AreDone first pass hints start left old new → Adds first pass old new
 done_adds first pass [] start left old new d = stays_adds first pass old new d.1
@@ -66,7 +75,7 @@ split_adds first pass (Some (hint.Post level key)) left old new f = hints_add fi
 split_adds first pass (Some (hint.Thin level key)) left old new f = stays_adds first pass old new f.1
 
 pub written_works : (first : List (Option Page)) (pass : ℕ) (op : Op) (reply : Reply) (next : Option Hint) (old new : Trail) → Written first pass op reply next old new → Works first pass op reply old new
-written_works first pass op reply next old new w = adds_works first pass op reply old w.mid new w.waits (call_works first pass pass op reply w.mid new refl w.writes.answers)
+written_works first pass op reply next old new w = adds_works first pass op reply old w.mid new (swept_adds first pass old w.mid w.waits) (call_works first pass pass op reply w.mid new refl w.writes.answers)
 
 -- a written key, and then what adds no entry
 pub written_on : (first : List (Option Page)) (pass it : ℕ) (op : Op) (reply : Reply) (next : Option Hint) (old mid new : Trail) → it ≡ pass
@@ -79,7 +88,7 @@ changes_works first pass op reply before after old new c =
     let written = written_works first pass op reply c.hint old c.behind c.written in
     works_on first pass op reply old c.mid new
     (works_on first pass op reply old c.behind c.mid written (hints_add first pass c.hint c.left c.behind c.mid c.follows))
-    c.sweeps
+    (swept_adds first pass c.mid new c.sweeps)
 
 tried_adds : (first : List (Option Page)) (pass count : ℕ) (before after : Waiting) (old new : Trail) → AreTried first pass count before after old new → Adds first pass old new
 tried_adds first pass zero before after old new t = stays_adds first pass old new t.1
@@ -89,7 +98,7 @@ tried_adds first pass (suc count) before after old new t =
 
 pub again_adds : (first : List (Option Page)) (pass most : ℕ) (before after : Waiting) (old new : Trail) → TriesAgain first pass most before after old new → Adds first pass old new
 again_adds first pass most before after old new t =
-    then_adds first pass old t.mid new (tried_adds first pass t.tried.count before after old t.mid t.tried.are_tried) t.sweeps
+    then_adds first pass old t.mid new (tried_adds first pass t.tried.count before after old t.mid t.tried.are_tried) (swept_adds first pass t.mid new t.sweeps)
 
 -- ---- what a call has answered
 
@@ -102,24 +111,45 @@ post_refused first pass level key answer next old new is p =
     let none : next ≡ None = p'.hint in
     subst (λ (z : Option Hint). Posts first pass level key posting.NoRoom z old new) none p'
 
-pub compressed : (first : List (Option Page)) (pass level key : ℕ) (answer : Squeezed) (next : Option Hint) (old new : Trail) → answer ≢ squeezing.NoRoom → Compresses first pass level key answer next old new → TriesCompression first pass level key (Done next) old new
-compressed first pass level key answer next old new some p = (answer, some, p)
+pub compressed : (first : List (Option Page)) (pass level key : ℕ) (answer : Squeezed) (next : Option Hint) (falls : Bool) (old new : Trail) → answer ≢ squeezing.NoRoom → falls ≡ may_fall answer → Compresses first pass level key answer next old new
+    → TriesCompression first pass level key (Done next, falls) old new
+compressed first pass level key answer next falls old new some is p = (answer, some, is, p)
 
-pub compression_refused : (first : List (Option Page)) (pass level key : ℕ) (answer : Squeezed) (next : Option Hint) (old new : Trail) → answer ≡ squeezing.NoRoom → Compresses first pass level key answer next old new → TriesCompression first pass level key NoRoom old new
+pub compression_refused : (first : List (Option Page)) (pass level key : ℕ) (answer : Squeezed) (next : Option Hint) (old new : Trail) → answer ≡ squeezing.NoRoom → Compresses first pass level key answer next old new → TriesCompression first pass level key (NoRoom, false) old new
 compression_refused first pass level key answer next old new is p =
     let p' : Compresses first pass level key squeezing.NoRoom next old new = subst (λ (z : Squeezed). Compresses first pass level key z next old new) is p in
     let none : next ≡ None = p'.means.1 in
-    subst (λ (z : Option Hint). Compresses first pass level key squeezing.NoRoom z old new) none p'
+    (refl, subst (λ (z : Option Hint). Compresses first pass level key squeezing.NoRoom z old new) none p')
 
 -- ---- by which pass
 
-pub tries_as : (first : List (Option Page)) (pass it : ℕ) (h : Hint) (result : Followed) (old new : Trail) → it ≡ pass → Tries first it h result old new → Tries first pass h result old new
+pub tries_as : (first : List (Option Page)) (pass it : ℕ) (h : Hint) (result : Followed × Bool) (old new : Trail) → it ≡ pass → Tries first it h result old new → Tries first pass h result old new
 tries_as first pass it h result old new same t = subst (λ (z : ℕ). Tries first z h result old new) same t
 
 pub follows_as : (first : List (Option Page)) (pass it : ℕ) (start left : Option Hint) (old new : Trail) → it ≡ pass → FollowsHints first it start left old new → FollowsHints first pass start left old new
 follows_as first pass it start left old new same f = subst (λ (z : ℕ). FollowsHints first z start left old new) same f
 
+pub lowers_as : (first : List (Option Page)) (pass it most : ℕ) (falls : Bool) (old new : Trail) → it ≡ pass → Lowers first it most falls old new → Lowers first pass most falls old new
+lowers_as first pass it most falls old new same l = subst (λ (z : ℕ). Lowers first z most falls old new) same l
+
 -- ---- one more
+
+-- a level more was tried, since the one before has fallen
+pub lowers_more : (first : List (Option Page)) (pass it that n m : ℕ) (falls fell : Bool) (answer : Lowered) (old mid next new : Trail) → it ≡ pass → that ≡ pass → n ≡ suc m → falls ≡ true → fell ≡ has_fallen answer
+    → Swept first it old mid → LowersTree first that answer mid next → Lowers first pass m fell next new → Lowers first pass n falls old new
+lowers_more first pass it that n m falls fell answer old mid next new same same' more due is s l on =
+    let on' : Lowers first pass m (has_fallen answer) next new = subst (λ (z : Bool). Lowers first pass m z next new) is on in
+    let l' : LowersTree first pass answer mid next = subst (λ (z : ℕ). LowersTree first z answer mid next) same' l in
+    let all : Lowers first pass (suc m) true old new = (mid, next, answer, swept_as first pass it old mid same s, l', on') in
+    subst (λ (z : ℕ). Lowers first pass z falls old new) (sym more) (subst (λ (z : Bool). Lowers first pass (suc m) z old new) (sym due) all)
+
+-- none is due, or there were as many as may be
+pub lowers_none : (first : List (Option Page)) (pass most : ℕ) (falls : Bool) (old : Trail) → falls ≡ false → Lowers first pass most falls old old
+lowers_none first pass zero falls old is = refl
+lowers_none first pass (suc most) falls old is = subst (λ (z : Bool). Lowers first pass (suc most) z old old) (sym is) refl
+
+pub lowers_last : (first : List (Option Page)) (pass most : ℕ) (falls : Bool) (old : Trail) → most ≡ 0 → Lowers first pass most falls old old
+lowers_last first pass most falls old is = subst (λ (z : ℕ). Lowers first pass z falls old old) (sym is) refl
 
 done_then : (first : List (Option Page)) (pass : ℕ) (hints : List Hint) (start : Option Hint) (h : Hint) (next : Option Hint) (old mid new : Trail)
     → AreDone first pass hints start (Some h) old mid → FollowsHint first pass h (Done next) mid new → AreDone first pass (hints ++ h ∷ []) start next old new

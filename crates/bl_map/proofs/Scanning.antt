@@ -19,9 +19,9 @@ use Rattle.bl_index.specs.declared.scanning.ScanFault.TheVariants.{Memory, OutOf
 use Rattle.bl_index.proofs.PartByPart.{ends_behind}
 use Rattle.bl_index_read.proofs.Ranges.{rising_behind}
 use Rattle.bl_index.proofs.Scanned.{IsBehind}
-use Rattle.bl_map.specs.Works.{Adds}
+use Rattle.bl_map.specs.Works.{Adds, Searches}
 use Rattle.bl_map.specs.Scans.{HasScanned, Scanned}
-use Rattle.bl_map.proofs.Adding.{call_adds}
+use Rattle.bl_map.proofs.Adding.{call_adds, made_more, lost_more, searches_then}
 
 pub history_append : (xs ys : Trail) → history_of (xs ++ ys) ≡ history_of xs ++ history_of ys
 history_append [] ys = refl
@@ -179,40 +179,75 @@ module _ (first : List (Option Page)) (pass from at : ℕ) (to upto : Option ℕ
         (cases_lt key at);
   }
 
+  pub searched_then : (pages : ℕ) → Searches first pages pass s.parts old mid → Searches first pages pass t.parts mid new → Searches first pages pass scanned_then.parts old new
+  unfolding scanned_then
+  searched_then pages one two = searches_then first pages pass s.parts t.parts old mid new one two
+
 -- ---- what a call of the index adds to it
+
+-- its parts were searched for
+calls_then : (first : List (Option Page)) (pages pass turns : ℕ) (xs ys : List Entry) (old mid new : Trail) → turns ≡ pages → Searches first pages pass xs old mid → AreCalls first pages pass turns ys mid new → Searches first pages pass (xs ++ ys) old new
+calls_then first pages pass turns xs [] old mid new is s c =
+    subst (λ (z : List Entry). Searches first pages pass z old new) (sym (append-nil xs)) (subst (λ (z : Trail). Searches first pages pass xs old z) (sym c) s)
+calls_then first pages pass turns xs (y ∷ ys) old mid new is s c =
+    subst (λ (z : List Entry). Searches first pages pass z old new) (append_assoc xs (y ∷ []) ys)
+    (calls_then first pages pass turns (xs ++ y ∷ []) ys old c.0 new is (made_more first pages pass pass turns xs y old mid c.0 refl is s c.1) c.2)
+
+-- a scan that has come so far, and was searched for
+pub record HasSearched (first : List (Option Page)) (pages pass from : ℕ) (to upto : Option ℕ) (rows : List (ℕ × ℕ)) (old new : Trail) : Type 0 where
+  pub scanned : HasScanned first pass from to upto rows old new
+  pub searches : Searches first pages pass scanned.parts old new
+
+pub searched_none : (first : List (Option Page)) (pages pass from : ℕ) (to : Option ℕ) (old : Trail) → HasSearched first pages pass from to (Some from) [] old old
+unfolding scanned_none
+searched_none first pages pass from to old = record { scanned = scanned_none first pass from to old; searches = Searches.NoneMade }
 
 pub all_rows : (listed rows before middle after : List (ℕ × ℕ)) → middle ≡ before ++ listed → after ≡ middle ++ rows → after ≡ before ++ (listed ++ rows)
 all_rows listed rows before middle after grown appended = appended ∙ (ap (λ (z : List (ℕ × ℕ)). z ++ rows) grown ∙ append_assoc before listed rows)
 
 module _ (first : List (Option Page)) (pages pass it turns from at : ℕ) (to : Option ℕ) (room : ℕ) (listed rows before middle after : List (ℕ × ℕ)) (old mid new : Trail)
-    (same : it ≡ pass) (s : HasScanned first pass from to (Some at) listed old mid) (low : from ≤ at) (grown : middle ≡ before ++ listed) (appended : after ≡ middle ++ rows) where
-  by_call : (upto : Option ℕ) (end : Trail) → Scans first pages it turns at to upto rows mid end → HasScanned first pass from to upto (listed ++ rows) old end × IsFurther (Some at) upto
+    (same : it ≡ pass) (is_turns : turns ≡ pages) (s : HasSearched first pages pass from to (Some at) listed old mid) (low : from ≤ at) (grown : middle ≡ before ++ listed) (appended : after ≡ middle ++ rows) where
+  by_call : (upto : Option ℕ) (end : Trail) → Scans first pages it turns at to upto rows mid end → HasSearched first pages pass from to upto (listed ++ rows) old end × IsFurther (Some at) upto
+  unfolding scanned_then scanned_of
   by_call upto end c =
       let mine : Scans first pages pass turns at to upto rows mid end = subst (λ (z : ℕ). Scans first pages z turns at to upto rows mid end) same c in
-      let further : IsFurther (Some at) upto = reaches first pages pass turns to (Some at) mine.parts upto mid end mine.are_parts mine.calls in
-      (scanned_then first pass from at to upto listed rows old mid end s (scanned_of first pages pass turns at to upto rows mid end mine) low further, further)
+      let further : IsFurther (Some at) upto = reaches first pages pass turns to (Some at) mine.parts upto mid end mine.are_parts mine.calls in (
+        record {
+          scanned = scanned_then first pass from at to upto listed rows old mid end s.scanned (scanned_of first pages pass turns at to upto rows mid end mine) low further;
+          searches = calls_then first pages pass turns s.scanned.parts mine.parts old mid end is_turns s.searches mine.calls;
+        },
+        further,
+      )
 
-  pub has_ended : {E : Type 0} → EndsScan first pages it turns at to rows mid new → Scanned {E = E} first pass from to (Ok tt) before after old new
+  pub has_ended : {E : Type 0} → EndsScan first pages it turns at to rows mid new → Scanned {E = E} first pages pass from to room (Ok tt) before after old new
   has_ended e = record {
     rows = listed ++ rows;
     appended = all_rows listed rows before middle after grown appended;
     upto = e.upto;
     mid = new;
-    scanned = (by_call e.upto new e.scans).0;
+    scanned = (by_call e.upto new e.scans).0.scanned;
+    searches = (by_call e.upto new e.scans).0.searches;
     over = (e.over, refl);
+    stopped = tt;
     begins = ([], sym (append-nil new));
     seen = λ x. x;
   }
 
   pub ran_out : (fault : ScanFault) (key : ℕ) → fault ≡ OutOfTurns key → StopsScan first pages it turns at to room fault rows mid new
-      → (from ≤ key) × HasScanned first pass from to (Some key) (listed ++ rows) old new
+      → (from ≤ key) × HasSearched first pages pass from to (Some key) (listed ++ rows) old new
+  unfolding scanned_adds
   ran_out fault key is c =
       let stop : StopsScan first pages it turns at to room (OutOfTurns key) rows mid new = subst (λ (z : ScanFault). StopsScan first pages it turns at to room z rows mid new) is c in
-      let by = by_call (Some key) stop.mid stop.scans in
-      (let f : at ≤ key = by.1 in omega arith, scanned_adds first pass from to (Some key) (listed ++ rows) old stop.mid new by.0 (call_adds first pass it stop.mid new same stop.stops.adds))
+      let by = by_call (Some key) stop.mid stop.scans in (
+        let f : at ≤ key = by.1 in omega arith,
+        record {
+          scanned = scanned_adds first pass from to (Some key) (listed ++ rows) old stop.mid new by.0.scanned (call_adds first pass it stop.mid new same stop.stops.adds);
+          searches = lost_more first pages pass it turns by.0.scanned.parts old stop.mid new same is_turns by.0.searches stop.stops;
+        },
+      )
 
   pub had_no_room : {E : Type 0} (why : E) (fault : ScanFault) (key : ℕ) → fault ≡ Memory key → StopsScan first pages it turns at to room fault rows mid new
-      → Scanned {E = E} first pass from to (Err why) before after old new
+      → Scanned {E = E} first pages pass from to room (Err why) before after old new
   had_no_room why fault key is c =
       let stop : StopsScan first pages it turns at to room (Memory key) rows mid new = subst (λ (z : ScanFault). StopsScan first pages it turns at to room z rows mid new) is c in
       let f : FindsNoRoom first pages it turns key to room stop.mid new = stop.stops in
@@ -221,8 +256,10 @@ module _ (first : List (Option Page)) (pages pass it turns from at : ℕ) (to : 
         appended = all_rows listed rows before middle after grown appended;
         upto = Some key;
         mid = stop.mid;
-        scanned = (by_call (Some key) stop.mid stop.scans).0;
+        scanned = (by_call (Some key) stop.mid stop.scans).0.scanned;
+        searches = (by_call (Some key) stop.mid stop.scans).0.searches;
         over = tt;
+        stopped = (key, refl, subst (λ (z : ℕ). FindsNoRoom first pages pass z key to room stop.mid new) is_turns (subst (λ (z : ℕ). FindsNoRoom first pages z turns key to room stop.mid new) same f));
         begins = (_, f.finds.answers.holds.begins);
         seen = λ _. f.finds.answers.seen;
       }

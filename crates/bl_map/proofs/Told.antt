@@ -19,9 +19,9 @@ use Rattle.bl_index_read.proofs.Ranges.{below_is}
 use Rattle.bl_index.specs.Scans.{rows_below}
 use Rattle.bl_index.proofs.Scanned.{IsFrom, IsBehind, Answered, answered, part_is, only_rows, right_more, from_more, rising_more}
 use Rattle.bl_index.proofs.PartByPart.{over}
-use Rattle.bl_map.specs.Works.{Works}
+use Rattle.bl_map.specs.Works.{Works, Searched}
 use Rattle.bl_map.specs.Scans.{HasScanned, Tells, TellsPart}
-use Rattle.bl_map.proofs.Scanning.{IsFurther, history_append, scanned_none, scanned_then}
+use Rattle.bl_map.proofs.Scanning.{IsFurther, history_append, scanned_then, searched_then, HasSearched, searched_none}
 
 -- ---- calls one after another
 
@@ -90,17 +90,17 @@ further_than at (Some end) b = omega arith
 -- ---- a scan that has come so far
 
 -- it has told the rows up to that key
-pub record HasTold {F : Type 0} (leads : F → ℕ × ℕ → F → Type 0) (first : List (Option Page)) (pass from : ℕ) (to : Option ℕ) (at : ℕ) (before after : F) (old new : Trail) : Type 0 where
+pub record HasTold {F : Type 0} (leads : F → ℕ × ℕ → F → Type 0) (first : List (Option Page)) (pages pass from : ℕ) (to : Option ℕ) (at : ℕ) (before after : F) (old new : Trail) : Type 0 where
   pub rows : List (ℕ × ℕ)
   pub low : from ≤ at
   pub told : FoldsTo leads before rows after
-  pub scanned : HasScanned first pass from to (Some at) rows old new
+  pub so_far : HasSearched first pages pass from to (Some at) rows old new
 
-module _ {F : Type 0} (leads : F → ℕ × ℕ → F → Type 0) (first : List (Option Page)) (pass from : ℕ) (to : Option ℕ) where
-  pub nothing_told : (before : F) (old : Trail) → HasTold leads first pass from to from before before old old
-  nothing_told before old = record { rows = []; low = omega arith; told = refl; scanned = scanned_none first pass from to old }
+module _ {F : Type 0} (leads : F → ℕ × ℕ → F → Type 0) (first : List (Option Page)) (pages pass from : ℕ) (to : Option ℕ) where
+  pub nothing_told : (before : F) (old : Trail) → HasTold leads first pages pass from to from before before old old
+  nothing_told before old = record { rows = []; low = omega arith; told = refl; so_far = searched_none first pages pass from to old }
 
-  module _ (it at : ℕ) (next : Next) (before between after : F) (old mid new : Trail) (same : it ≡ pass) (t : HasTold leads first pass from to at before between old mid) (p : TellsPart leads first it at to next between after mid new) (below : is_below to at ≡ true) where
+  module _ (it at : ℕ) (next : Next) (before between after : F) (old mid new : Trail) (same : it ≡ pass) (t : HasTold leads first pages pass from to at before between old mid) (p : TellsPart leads first pages it at to next between after mid new) (below : is_below to at ≡ true) where
     works : Works first pass (Part at) p.reply mid new
     works = subst (λ (z : ℕ). Works first z (Part at) p.reply mid new) same p.works
 
@@ -110,30 +110,40 @@ module _ {F : Type 0} (leads : F → ℕ × ℕ → F → Type 0) (first : List 
     all_told : FoldsTo leads before (t.rows ++ rows_below to p.reply) after
     all_told = folds_append leads before t.rows between (rows_below to p.reply) after t.told p.told
 
-    all_scanned : HasScanned first pass from to (ended_at p.reply) (t.rows ++ rows_below to p.reply) old new
-    all_scanned = scanned_then first pass from at to (ended_at p.reply) t.rows (rows_below to p.reply) old mid new t.scanned
-        (part_scanned first pass at p.reply mid new works to (below_is to at below)) t.low (further_than at (ended_at p.reply) behind)
+    searched : Searched first pages pass (Part at) p.reply mid new
+    searched = subst (λ (z : ℕ). Searched first pages z (Part at) p.reply mid new) same p.searched
+
+    all_scanned : HasSearched first pages pass from to (ended_at p.reply) (t.rows ++ rows_below to p.reply) old new
+    unfolding part_scanned
+    all_scanned =
+        let part : HasScanned first pass at to (ended_at p.reply) (rows_below to p.reply) mid new = part_scanned first pass at p.reply mid new works to (below_is to at below) in
+        record {
+          scanned = scanned_then first pass from at to (ended_at p.reply) t.rows (rows_below to p.reply) old mid new t.so_far.scanned part t.low (further_than at (ended_at p.reply) behind);
+          searches = searched_then first pass from at to (ended_at p.reply) t.rows (rows_below to p.reply) old mid new t.so_far.scanned part t.low (further_than at (ended_at p.reply) behind)
+              pages t.so_far.searches searched;
+        }
 
     -- it goes on from a later key
     pub goes_further : (key : ℕ) → next ≡ More key → at < key
     goes_further key is = let e : ended_at p.reply ≡ Some key = p.ends ∙ ap next_key is in subst (IsBehind at) e behind
 
-    pub told_more : (key : ℕ) → next ≡ More key → HasTold leads first pass from to key before after old new
+    pub told_more : (key : ℕ) → next ≡ More key → HasTold leads first pages pass from to key before after old new
     told_more key is =
         let e : ended_at p.reply ≡ Some key = p.ends ∙ ap next_key is in
         record {
           rows = t.rows ++ rows_below to p.reply;
           low = let l : from ≤ at = t.low in let f : at < key = goes_further key is in omega arith;
           told = all_told;
-          scanned = subst (λ (z : Option ℕ). HasScanned first pass from to z (t.rows ++ rows_below to p.reply) old new) e all_scanned;
+          so_far = subst (λ (z : Option ℕ). HasSearched first pages pass from to z (t.rows ++ rows_below to p.reply) old new) e all_scanned;
         }
 
     -- it has come to the end of the map
-    pub told_all : next ≡ End → Tells leads first pass from to before after old new
+    pub told_all : next ≡ End → Tells leads first pages pass from to before after old new
     told_all is =
         let e : ended_at p.reply ≡ None = p.ends ∙ ap next_key is in
-        record { rows = t.rows ++ rows_below to p.reply; upto = None; told = all_told; scanned = subst (λ (z : Option ℕ). HasScanned first pass from to z (t.rows ++ rows_below to p.reply) old new) e all_scanned; over = tt }
+        let all : HasSearched first pages pass from to None (t.rows ++ rows_below to p.reply) old new = subst (λ (z : Option ℕ). HasSearched first pages pass from to z (t.rows ++ rows_below to p.reply) old new) e all_scanned in
+        record { rows = t.rows ++ rows_below to p.reply; upto = None; told = all_told; scanned = all.scanned; searches = all.searches; over = tt }
 
   -- it has come to its own end
-  pub told_up_to : (at : ℕ) (before after : F) (old new : Trail) → HasTold leads first pass from to at before after old new → is_below to at ≡ false → Tells leads first pass from to before after old new
-  told_up_to at before after old new t is = record { rows = t.rows; upto = Some at; told = t.told; scanned = t.scanned; over = over to at is }
+  pub told_up_to : (at : ℕ) (before after : F) (old new : Trail) → HasTold leads first pages pass from to at before after old new → is_below to at ≡ false → Tells leads first pages pass from to before after old new
+  told_up_to at before after old new t is = record { rows = t.rows; upto = Some at; told = t.told; scanned = t.so_far.scanned; searches = t.so_far.searches; over = over to at is }

@@ -4,17 +4,21 @@ use Rattle.bl_model.specs.declared.operation.Op.{Op}
 use Rattle.bl_model.specs.declared.operation.Reply.{Reply}
 use Rattle.bl_page.specs.declared.page.Page.{Page}
 use Rattle.bl_claims.specs.Trails.{Trail}
-use Rattle.bl_index.specs.Calls.{first_of, IsPassOf, IsSamePass, number_of, trail}
+use Rattle.bl_index.specs.Calls.{first_of, pages_of, IsPassOf, IsSamePass, number_of, trail}
 use Rattle.bl_index.specs.Meetings.{Meet}
 use Rattle.bl_index.specs.declared.index.Pass.{Pass}
 use Rattle.bl_map.specs.declared.handle.Handle.{Handle}
 use Rattle.bl_map.specs.declared.map.Map.{Map}
-use Rattle.bl_map.specs.Works.{Works, Adds}
+use Rattle.bl_map.specs.Works.{Works, Adds, Searched}
 use Rattle.bl_map.specs.Waits.{hints_of, Changes, TriesAgain, IsNone}
 
 -- what the map began with
 abbrev pub first_map_of : Handle → List (Option Page)
 first_map_of handle = first_of handle.map.now.index
+
+-- how many pages the map has
+abbrev pub pages_of_map : Handle → ℕ
+pages_of_map handle = pages_of handle.map.now.index
 
 -- all that has happened in the map, up to the handle's own last event
 abbrev pub seen_by : Handle → Trail
@@ -36,6 +40,10 @@ IsSameHandle old new = (new.map ≡ old.map) × IsSamePass old.pass new.pass
 abbrev pub HasCalled : Op → Reply → Handle → Handle → Type 0
 HasCalled op reply old new = Works (first_map_of old) (number_of_seat old) op reply (seen_by old) (seen_by new)
 
+-- It has done nothing but search: searches that ran out of turns, and then one that was answered so.
+abbrev pub HasSearched : Op → Reply → Handle → Handle → Type 0
+HasSearched op reply old new = Searched (first_map_of old) (pages_of_map old) (number_of_seat old) op reply (seen_by old) (seen_by new)
+
 -- The handle has made no call.
 abbrev pub HasKeptUp : Handle → Handle → Type 0
 HasKeptUp old new = Adds (first_map_of old) (number_of_seat old) (seen_by old) (seen_by new)
@@ -43,7 +51,8 @@ HasKeptUp old new = Adds (first_map_of old) (number_of_seat old) (seen_by old) (
 -- Two handles have met: both have seen one trail, which the map may have. It begins with what each of them had seen, and has no further
 -- entry of either.
 abbrev pub HaveMet : Handle → Handle → Handle → Handle → Type 0
-HaveMet old_one old_two new_one new_two = Meet (first_map_of old_one) (number_of_seat old_one) (number_of_seat old_two) (seen_by old_one) (seen_by old_two) (seen_by new_one) (seen_by new_two)
+HaveMet old_one old_two new_one new_two =
+    Meet (first_map_of old_one) (number_of_seat old_one) (number_of_seat old_two) (seen_by old_one) (seen_by old_two) (seen_by new_one) (seen_by new_two)
 
 -- the seat that a handle worked from
 abbrev pub seat_of : Handle → Pass

@@ -1,11 +1,11 @@
 -- Hints that wait for room.
-use Rattle.std.specs.Prelude.{◌≡◌, ◌⊎◌, ℕ, zero, suc, ◌+◌, ◌-◌, ◌^◌, ◌<◌, ◌++◌, min, Option, Some, None, List, [], ◌∷◌, length}
+use Rattle.std.specs.Prelude.{◌≡◌, ◌⊎◌, ℕ, zero, suc, ◌+◌, ◌-◌, ◌^◌, ◌<◌, ◌≤◌, ◌++◌, min, Option, Some, None, List, [], ◌∷◌, length}
 use Rattle.bl_model.specs.declared.operation.Op.{Op}
 use Rattle.bl_model.specs.declared.operation.Reply.{Reply}
 use Rattle.bl_page.specs.declared.page.Page.{Page}
 use Rattle.bl_claims.specs.Trails.{Trail}
 use Rattle.bl_proc_base.specs.declared.answers.Hint.{Hint}
-use Rattle.bl_map.specs.Works.{Adds}
+use Rattle.bl_map.specs.Works.{Swept}
 use Rattle.bl_map.specs.Follows.{Written, FollowsHints}
 use Rattle.bl_map.specs.declared.waiting.Waiting.{Waiting}
 
@@ -45,7 +45,7 @@ pub record Changes (first : List (Option Page)) (pass : ℕ) (op : Op) (reply : 
   pub written : Written first pass op reply hint old behind
   pub follows : FollowsHints first pass hint left behind mid
   pub kept : IsKept left before after
-  pub sweeps : Adds first pass mid new
+  pub sweeps : Swept first pass mid new
 
 -- The oldest hint that waits was followed, with those that following it gave, and what is left of them is kept.
 pub record TriesOldest (first : List (Option Page)) (pass : ℕ) (before after : Waiting) (old new : Trail) : Type 0 where
@@ -62,14 +62,15 @@ AreTried first pass zero before after old new = (after ≡ before) × (new ≡ o
 AreTried first pass (suc count) before after old new =
     (waiting : Waiting) × (mid : Trail) × TriesOldest first pass before waiting old mid × AreTried first pass count waiting after mid new
 
--- So many hints that wait were tried, or fewer where none waits any more.
+-- So many hints that wait were tried, or fewer, where none waits any more.
 pub record HasTried (first : List (Option Page)) (pass most : ℕ) (before after : Waiting) (old new : Trail) : Type 0 where
   pub count : ℕ
   pub are_tried : AreTried first pass count before after old new
+  pub few : count ≤ most
   pub enough : (count ≡ most) ⊎ (hints_of after ≡ [])
 
 -- And then the pass has given back what was swapped out.
 pub record TriesAgain (first : List (Option Page)) (pass most : ℕ) (before after : Waiting) (old new : Trail) : Type 0 where
   pub mid : Trail
   pub tried : HasTried first pass most before after old mid
-  pub sweeps : Adds first pass mid new
+  pub sweeps : Swept first pass mid new

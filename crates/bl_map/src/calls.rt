@@ -1,11 +1,12 @@
 //! Calls of a pass: each looks for room before it changes something, and is made again where it ran out of turns.
 
-ghost use Rattle.std.specs.Prelude.{◌≡◌};
+ghost use Rattle.std.specs.Prelude.{◌≡◌, ◌-◌, vec_len};
+ghost use Rattle.std.specs.Vec.{vec_capacity};
 ghost use Rattle.bl_model.specs.declared.operation.Op.TheVariants as op;
-ghost use Rattle.bl_index.specs.Calls.{first_of, IsPassOf, IsSamePass, number_of, trail};
+ghost use Rattle.bl_index.specs.Calls.{first_of, pages_of, IsPassOf, IsSamePass, number_of, trail};
 ghost use Rattle.bl_model.specs.Replies.{reply_of};
 ghost use Rattle.bl_model.specs.Writes.{write_op};
-ghost use Rattle.bl_map.specs.Works.{Works};
+ghost use Rattle.bl_map.specs.Works.{Works, Searched};
 ghost use Rattle.bl_map.specs.Follows.{Written};
 ghost use Rattle.bl_map.specs.Scans.{Scanned};
 
@@ -19,6 +20,8 @@ pub fn find<R: Wait>(rt: &R, index: &Index, pass: &mut Pass, key: u64) -> KeyRep
     requires { IsPassOf index.now pass.old }
     ensures same { IsSamePass pass.old pass.new }
     ensures works { Works (first_of index.now) (number_of pass.old) (op.Find key) (reply_of result) (trail pass.old) (trail pass.new) }
+    ensures searched { Searched (first_of index.now) (pages_of index.now) (number_of pass.old) (op.Find key) (reply_of result)
+        (trail pass.old) (trail pass.new) }
 {
     let turns = index.patience();
     for _ in rt.forever() {
@@ -41,6 +44,8 @@ pub fn part<R: Wait>(
     requires { IsPassOf index.now pass.old }
     ensures same { IsSamePass pass.old pass.new }
     ensures works { Works (first_of index.now) (number_of pass.old) (op.Part from) result (trail pass.old) (trail pass.new) }
+    ensures searched { Searched (first_of index.now) (pages_of index.now) (number_of pass.old) (op.Part from) result
+        (trail pass.old) (trail pass.new) }
 {
     let turns = index.patience();
     for _ in rt.forever() {
@@ -78,7 +83,8 @@ pub(crate) fn scan<R: Wait>(
 ) -> Result<(), AllocError>
     requires { IsPassOf index.now pass.old }
     ensures same { IsSamePass pass.old pass.new }
-    ensures scanned { Scanned (first_of index.now) (number_of pass.old) from to result rows.old.items rows.new.items (trail pass.old) (trail pass.new) }
+    ensures scanned { Scanned (first_of index.now) (pages_of index.now) (number_of pass.old) from to (vec_capacity rows.new - vec_len rows.new)
+        result rows.old.items rows.new.items (trail pass.old) (trail pass.new) }
 {
     let turns = index.patience();
     let mut at = from;

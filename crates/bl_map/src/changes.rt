@@ -4,7 +4,6 @@ ghost use Rattle.std.specs.Prelude.{◌≡◌};
 ghost use Rattle.bl_index.specs.Calls.{first_of, IsPassOf, IsSamePass, number_of, trail};
 ghost use Rattle.bl_model.specs.Replies.{reply_of};
 ghost use Rattle.bl_model.specs.Writes.{write_op};
-ghost use Rattle.bl_map.specs.Works.{Adds};
 ghost use Rattle.bl_map.specs.Waits.{Changes, TriesOldest, TriesAgain, HasTried};
 
 use crate::calls;
@@ -24,7 +23,8 @@ pub(crate) fn write<R: Wait>(
 ) -> KeyReply
     requires { IsPassOf index.now pass.old }
     ensures same { IsSamePass pass.old pass.new }
-    ensures changes { Changes (first_of index.now) (number_of pass.old) (write_op key write) (reply_of result) waiting.old waiting.new (trail pass.old) (trail pass.new) }
+    ensures changes { Changes (first_of index.now) (number_of pass.old) (write_op key write) (reply_of result) waiting.old waiting.new
+        (trail pass.old) (trail pass.new) }
 {
     let (reply, hint) = calls::write(rt, index, pass, key, write);
     let left = follow(rt, index, pass, hint);

@@ -1,6 +1,7 @@
 //! What a thread works with.
 
-ghost use Rattle.std.specs.Prelude.{◌≡◌};
+ghost use Rattle.std.specs.Prelude.{◌≡◌, ◌-◌, vec_len};
+ghost use Rattle.std.specs.Vec.{vec_capacity};
 ghost use Rattle.bl_model.specs.declared.operation.Op.TheVariants as op;
 ghost use Rattle.bl_model.specs.Replies.{reply_of};
 ghost use Rattle.bl_model.specs.Writes.{write_op};
@@ -33,8 +34,8 @@ pub struct Handle<'a> {
 }
 
 impl<'a> Handle<'a> {
-    ghost use Rattle.bl_map.specs.Handles.{IsSameHandle, HasCalled, HasChanged, HasKeptUp, HasTriedAgain, HaveMet, KeepsHints, AreOfOne};
-    ghost use Rattle.bl_map.specs.Handles.{first_map_of, number_of_seat, seat_of, seen_by, waiting_of, dropped_of, IsNewHandle};
+    ghost use Rattle.bl_map.specs.Handles.{IsSameHandle, HasCalled, HasSearched, HasChanged, HasKeptUp, HasTriedAgain, HaveMet, KeepsHints, AreOfOne};
+    ghost use Rattle.bl_map.specs.Handles.{first_map_of, pages_of_map, number_of_seat, seat_of, seen_by, waiting_of, dropped_of, IsNewHandle};
     ghost use Rattle.bl_map.specs.Scans.{Scanned, Tells};
 
     pub(crate) fn new(map: &'a Map, pass: Pass) -> Handle<'a>
@@ -52,6 +53,7 @@ impl<'a> Handle<'a> {
     pub fn find<R: Wait>(&mut self, rt: &R, key: u64) -> KeyReply
         ensures same { IsSameHandle self.old self.new }
         ensures called { HasCalled (op.Find key) (reply_of result) self.old self.new }
+        ensures searched { HasSearched (op.Find key) (reply_of result) self.old self.new }
         ensures keeps { KeepsHints self.old self.new }
     {
         calls::find(rt, &self.map.index, &mut self.pass, key)
@@ -95,7 +97,7 @@ impl<'a> Handle<'a> {
     }
 
     /// Appends the rows from a key on and below an end, if there is one, by rising keys. It is no snapshot: each key is answered as the
-    /// map stood at some moment of the scan. Where memory is refused, the rows so far stay, and none behind them is left out before.
+    /// map stood at some moment of the scan. Where memory is refused, the rows so far stay, and none before their end is left out.
     pub fn scan<R: Wait>(
         &mut self,
         rt: &R,
@@ -104,7 +106,8 @@ impl<'a> Handle<'a> {
         rows: &mut Vec<(u64, u64)>,
     ) -> Result<(), AllocError>
         ensures same { IsSameHandle self.old self.new }
-        ensures scanned { Scanned (first_map_of self.old) (number_of_seat self.old) from to result rows.old.items rows.new.items (seen_by self.old) (seen_by self.new) }
+        ensures scanned { Scanned (first_map_of self.old) (pages_of_map self.old) (number_of_seat self.old) from to (vec_capacity rows.new - vec_len rows.new)
+            result rows.old.items rows.new.items (seen_by self.old) (seen_by self.new) }
         ensures keeps { KeepsHints self.old self.new }
     {
         calls::scan(rt, &self.map.index, &mut self.pass, from, to, rows)
@@ -121,7 +124,8 @@ impl<'a> Handle<'a> {
     )
         requires { F.IsAlwaysCallable visit.old }
         ensures same { IsSameHandle self.old self.new }
-        ensures tells { Tells (λ p x q. F.step p x tt q) (first_map_of self.old) (number_of_seat self.old) from to visit.old visit.new (seen_by self.old) (seen_by self.new) }
+        ensures tells { Tells (λ p x q. F.step p x tt q) (first_map_of self.old) (pages_of_map self.old) (number_of_seat self.old) from to visit.old visit.new
+            (seen_by self.old) (seen_by self.new) }
         ensures keeps { KeepsHints self.old self.new }
     {
         telling::tell(rt, &self.map.index, &mut self.pass, from, to, visit);

@@ -6,9 +6,11 @@
 //!
 //! Promised to its user: each call of a handle adds one entry to what the handle has seen, this operation with this reply, and no
 //! other entry of its own; what it has seen then is a trail that an index may have, which begins with what it had seen before. So there
-//! is one legal history of the map in which each answer stands at its point. Upkeep adds no entry. What a change has left to do is done
-//! by posts and compressions of the handle's own before it returns; or it found no room and waits, or was left behind twelve others and
-//! waits; or 32 pieces wait already, and it is dropped and counted. No other call of a handle loses a piece that waits.
+//! is one legal history of the map in which each answer stands at its point. A find or a scan is searches and nothing else, each with a
+//! turn for each page; a scan lacks memory only where a part had more rows than there was room for. Upkeep adds no entry. What a change
+//! has left to do is done by posts, compressions and lowerings of the handle's own before it returns, with sweeps between them and nothing
+//! else; or it found no room and waits, or was left behind twelve others and waits; or 32 pieces wait already, and it is dropped and
+//! counted. No other call of a handle loses a piece that waits.
 //!
 //! Who shares passes out himself, as the server does, has these calls over a pass: [`calls`] and [`upkeep`].
 #![tactic(auto)]

@@ -2,7 +2,7 @@
 
 ghost use Rattle.std.specs.Prelude.{◌≡◌, [], ◌∷◌, filter};
 ghost use Rattle.std.specs.List.{FoldsTo};
-ghost use Rattle.bl_index.specs.Calls.{first_of, IsPassOf, IsSamePass, number_of, trail};
+ghost use Rattle.bl_index.specs.Calls.{first_of, pages_of, IsPassOf, IsSamePass, number_of, trail};
 ghost use Rattle.bl_index_read.specs.LeafRows.{is_below as below};
 ghost use Rattle.bl_map.specs.Scans.{Tells, TellsPart};
 
@@ -58,7 +58,8 @@ fn tell_part<R: Wait, F: FnMut((u64, u64))>(
     requires callable { F.IsAlwaysCallable visit.old }
     ensures same { IsSamePass pass.old pass.new }
     ensures callable { F.IsAlwaysCallable visit.new }
-    ensures tells { TellsPart (λ p x q. F.step p x tt q) (first_of index.now) (number_of pass.old) from to result visit.old visit.new (trail pass.old) (trail pass.new) }
+    ensures tells { TellsPart (λ p x q. F.step p x tt q) (first_of index.now) (pages_of index.now) (number_of pass.old) from to result visit.old visit.new
+        (trail pass.old) (trail pass.new) }
 {
     let Reply::Rows(rows, next) = part(rt, index, pass, from, near) else {
         unreachable!()
@@ -79,7 +80,8 @@ pub(crate) fn tell<R: Wait, F: FnMut((u64, u64))>(
     requires own { IsPassOf index.now pass.old }
     requires callable { F.IsAlwaysCallable visit.old }
     ensures same { IsSamePass pass.old pass.new }
-    ensures tells { Tells (λ p x q. F.step p x tt q) (first_of index.now) (number_of pass.old) from to visit.old visit.new (trail pass.old) (trail pass.new) }
+    ensures tells { Tells (λ p x q. F.step p x tt q) (first_of index.now) (pages_of index.now) (number_of pass.old) from to visit.old visit.new
+        (trail pass.old) (trail pass.new) }
 {
     let mut at = from;
     let mut near = None;

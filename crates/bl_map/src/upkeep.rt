@@ -2,8 +2,8 @@
 
 ghost use Rattle.std.specs.Prelude.{◌≡◌};
 ghost use Rattle.bl_index.specs.Calls.{first_of, IsPassOf, IsSamePass, number_of, trail};
-ghost use Rattle.bl_map.specs.Works.{Adds};
-ghost use Rattle.bl_map.specs.Follows.{Tries, TriesPost, TriesCompression, TriesHint, FollowsHint, FollowsOnce, FollowsHints, FollowsSplit};
+ghost use Rattle.bl_map.specs.Works.{Adds, Swept};
+ghost use Rattle.bl_map.specs.Follows.{Tries, TriesPost, TriesCompression, TriesHint, has_fallen, Lowers, FollowsHint, FollowsOnce, FollowsHints, FollowsSplit};
 ghost use Rattle.bl_proc_base.specs.Hints.{level_of, key_of};
 
 use bl_index::{Hint, Index, Lowered, Pass, Posted, Squeezed};
@@ -34,6 +34,7 @@ pub fn wait_for_frames(index: &Index, pass: &mut Pass)
     requires { IsPassOf index.now pass.old }
     ensures same { IsSamePass pass.old pass.new }
     ensures adds { Adds (first_of index.now) (number_of pass.old) (trail pass.old) (trail pass.new) }
+    ensures swept { Swept (first_of index.now) (number_of pass.old) (trail pass.old) (trail pass.new) }
 {
     for _ in 0..LOOKS {
         if !index.lacks_frames(pass) {
@@ -49,6 +50,7 @@ pub fn sweep_if_due(index: &Index, pass: &mut Pass)
     requires { IsPassOf index.now pass.old }
     ensures same { IsSamePass pass.old pass.new }
     ensures adds { Adds (first_of index.now) (number_of pass.old) (trail pass.old) (trail pass.new) }
+    ensures swept { Swept (first_of index.now) (number_of pass.old) (trail pass.old) (trail pass.new) }
 {
     if pass.is_due() {
         index.sweep(pass);
@@ -72,7 +74,7 @@ fn post<R: Wait>(rt: &R, index: &Index, pass: &mut Pass, hint: Hint) -> Followed
 fn compress<R: Wait>(rt: &R, index: &Index, pass: &mut Pass, hint: Hint) -> (Followed, bool)
     requires { IsPassOf index.now pass.old }
     ensures same { IsSamePass pass.old pass.new }
-    ensures tries { TriesCompression (first_of index.now) (number_of pass.old) (level_of hint) (key_of hint) result.0 (trail pass.old) (trail pass.new) }
+    ensures tries { TriesCompression (first_of index.now) (number_of pass.old) (level_of hint) (key_of hint) result (trail pass.old) (trail pass.new) }
 {
     let (squeezed, more) = index.compress(rt, pass, hint);
     match squeezed {
@@ -86,7 +88,7 @@ fn compress<R: Wait>(rt: &R, index: &Index, pass: &mut Pass, hint: Hint) -> (Fol
 fn post_or_compress<R: Wait>(rt: &R, index: &Index, pass: &mut Pass, hint: Hint) -> (Followed, bool)
     requires { IsPassOf index.now pass.old }
     ensures same { IsSamePass pass.old pass.new }
-    ensures tries { Tries (first_of index.now) (number_of pass.old) hint result.0 (trail pass.old) (trail pass.new) }
+    ensures tries { Tries (first_of index.now) (number_of pass.old) hint result (trail pass.old) (trail pass.new) }
 {
     match hint {
         Hint::Post { .. } => (post(rt, index, pass, hint), false),
@@ -98,10 +100,20 @@ fn post_or_compress<R: Wait>(rt: &R, index: &Index, pass: &mut Pass, hint: Hint)
 pub fn try_hint<R: Wait>(rt: &R, index: &Index, pass: &mut Pass, hint: Hint) -> (Followed, bool)
     requires { IsPassOf index.now pass.old }
     ensures same { IsSamePass pass.old pass.new }
-    ensures tries { TriesHint (first_of index.now) (number_of pass.old) hint result.0 (trail pass.old) (trail pass.new) }
+    ensures tries { TriesHint (first_of index.now) (number_of pass.old) hint result (trail pass.old) (trail pass.new) }
 {
     wait_for_frames(index, pass);
     post_or_compress(rt, index, pass, hint)
+}
+
+/// Whether a top level was taken away.
+fn has_fallen(lowered: Lowered) -> bool
+    ensures { result ≡ has_fallen lowered }
+{
+    match lowered {
+        Lowered::Lowered => true,
+        Lowered::Needed | Lowered::NoRoom => false,
+    }
 }
 
 /// Takes top levels away that are not needed, one after another. Before each it waits for frames.
@@ -109,6 +121,7 @@ pub fn lower<R: Wait>(rt: &R, index: &Index, pass: &mut Pass, may_fall: bool)
     requires { IsPassOf index.now pass.old }
     ensures same { IsSamePass pass.old pass.new }
     ensures adds { Adds (first_of index.now) (number_of pass.old) (trail pass.old) (trail pass.new) }
+    ensures lowers { Lowers (first_of index.now) (number_of pass.old) 11 may_fall (trail pass.old) (trail pass.new) }
 {
     let mut may_fall = may_fall;
     for _level in 1..LEVELS {
@@ -116,7 +129,7 @@ pub fn lower<R: Wait>(rt: &R, index: &Index, pass: &mut Pass, may_fall: bool)
             return;
         }
         wait_for_frames(index, pass);
-        may_fall = index.lower(rt, pass) == Lowered::Lowered;
+        may_fall = has_fallen(index.lower(rt, pass));
     }
 }
 

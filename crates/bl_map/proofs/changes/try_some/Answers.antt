@@ -14,7 +14,7 @@ loop-hint-preserved g c =
     }
 
 pub returns-then-is_empty-clause-tries : goal.returns-then-is_empty-clause-tries
-returns-then-is_empty-clause-tries g c = record { count = c.loop-hint._hint; are_tried = c.loop-hint.invariant.are_tried; enough = inr (none_there _ (search rules)) }
+returns-then-is_empty-clause-tries g c = record { count = c.loop-hint._hint; are_tried = c.loop-hint.invariant.are_tried; few = omega arith; enough = inr (none_there _ (search rules)) }
 
 pub returns-clause-tries : goal.returns-clause-tries
-returns-clause-tries g c = record { count = c.loop-hint._hint; are_tried = c.loop-hint.invariant.are_tried; enough = inl (omega arith) }
+returns-clause-tries g c = record { count = c.loop-hint._hint; are_tried = c.loop-hint.invariant.are_tried; few = omega arith; enough = inl (omega arith) }

@@ -1,6 +1,6 @@
 use Rattle.std.proofs.Common.{◌∙◌}
 use Rattle.bl_index.specs.Calls.{trail}
-use Rattle.bl_map.proofs.Adding.{adds_as}
+use Rattle.bl_map.proofs.Adding.{swept_as}
 use Rattle.bl_map.proofs.Following.{follows_as}
 use Rattle.bl_map.proofs.changes.write.Goals as goal
 
@@ -15,5 +15,5 @@ returns-clause-changes g c =
       written = c.write-reply.ensures.written;
       follows = follows_as _ _ _ _ _ _ _ c.write-reply.ensures.same.2 c.follow-left.ensures.follows;
       kept = c.keep.ensures;
-      sweeps = adds_as _ _ _ _ _ number c.sweep_if_due.ensures.adds;
+      sweeps = swept_as _ _ _ _ _ number c.sweep_if_due.ensures.swept;
     }

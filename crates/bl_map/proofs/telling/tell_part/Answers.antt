@@ -10,6 +10,7 @@ pub returns-clause-tells : goal.returns-clause-tells
 returns-clause-tells g c = record {
   reply = c.part.result;
   works = c.part.ensures.works;
+  searched = c.part.ensures.searched;
   ends = ap ended_at c.in-Rows.is;
   told = told_as _ _ c.part.result _ _ _ (ap rows_of c.in-Rows.is ∙ sym c.as_slice.ensures.value) c.tell_rows.ensures.told;
 }

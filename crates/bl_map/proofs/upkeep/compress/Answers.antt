@@ -1,8 +1,6 @@
+use Rattle.std.proofs.Common.{refl}
 use Rattle.bl_map.proofs.Following.{compressed, compression_refused}
 use Rattle.bl_map.proofs.upkeep.compress.Goals as goal
 
 pub returns-in-NoRoom-clause-tries : goal.returns-in-NoRoom-clause-tries
 returns-in-NoRoom-clause-tries g c = compression_refused _ _ _ _ _ _ _ _ c.in-NoRoom.is c.compress-squeezed.ensures.compresses
-
-pub returns-in_default-clause-tries : goal.returns-in_default-clause-tries
-returns-in_default-clause-tries g c = compressed _ _ _ _ _ _ _ _ c.in_default.not-NoRoom c.compress-squeezed.ensures.compresses

@@ -1,10 +1,14 @@
-use Rattle.bl_index.specs.Calls.{trail}
-use Rattle.bl_map.proofs.Adding.{adds_as}
+use Rattle.bl_index.specs.Calls.{first_of, number_of, trail}
+use Rattle.bl_map.proofs.Following.{lowers_as}
 use Rattle.bl_map.proofs.upkeep.follow_hint.Goals as goal
 
 pub returns-clause-follows : goal.returns-clause-follows
-returns-clause-follows g c = record {
-  mid = trail c.try_hint-followed.new.pass;
-  tries = c.try_hint-followed.ensures.tries;
-  lowers = adds_as _ _ _ _ _ c.try_hint-followed.ensures.same.2 c.lower.ensures.adds;
-}
+returns-clause-follows g c =
+    let lowers = lowers_as (first_of c.args.index.now) (number_of c.args.pass.now) _ 11 c.try_hint-followed.result.1 (trail c.try_hint-followed.new.pass) (trail c.lower.new.pass)
+    c.try_hint-followed.ensures.same.2 c.lower.ensures.lowers in
+    record {
+      mid = trail c.try_hint-followed.new.pass;
+      falls = c.try_hint-followed.result.1;
+      tries = c.try_hint-followed.ensures.tries;
+      lowers = lowers;
+    }

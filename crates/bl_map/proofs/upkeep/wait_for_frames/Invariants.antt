@@ -1,9 +1,10 @@
 use Rattle.bl_index.specs.Calls.{first_of, IsSamePass, number_of, trail}
-use Rattle.bl_map.specs.Works.{Adds}
+use Rattle.bl_map.specs.Works.{Adds, Swept}
 use Rattle.bl_map.proofs.upkeep.wait_for_frames.Given as goal
 
 abbrev pub invariant-loop : goal.invariant-loop
 invariant-loop l = record {
   same : IsSamePass l.fn.pass l.pass;
   adds : Adds (first_of l.index) (number_of l.fn.pass) (trail l.fn.pass) (trail l.pass);
+  swept : Swept (first_of l.index) (number_of l.fn.pass) (trail l.fn.pass) (trail l.pass);
 }
