@@ -54,7 +54,7 @@ use Rattle.bl_proc.specs.declared.posting.PostStage.TheVariants as post
 use Rattle.bl_proc.specs.Levels.{IsBelowTop, IsBelowTop-prop}
 use Rattle.bl_proc.specs.Stands.{Stands, Stands-prop}
 use Rattle.bl_proc.specs.Climbs.{posted_as, left_hint, inserted_reply, climbed_answer, climb_answer_in, IsUnsplit}
-use Rattle.bl_proc.specs.Paths.{page_at, from_page, IsBlank as IsNone, Notes}
+use Rattle.bl_proc.specs.Paths.{page_at, from_page, IsBlank as IsBlankPath, Notes}
 use Rattle.bl_proc.specs.Processes.{next_of, Takes}
 use Rattle.bl_proc.specs.Writes.{write_answer, write_next_in, write_needs_in, WriteGoes}
 use Rattle.bl_proc_unique.specs.Courses.{GoesOn}
@@ -86,7 +86,7 @@ leads_down (page.Dead d) key level y leads = absurd leads.0
 
 module _ (key value : ℕ) (path : Path) where
   -- One that is to begin is blank.
-  pub unborn_blank : (none : IsNone path) → key < unbounded → IsUnborn (climb_unborn key value path none)
+  pub unborn_blank : (none : IsBlankPath path) → key < unbounded → IsUnborn (climb_unborn key value path none)
   unborn_blank none small = λ r is. subst (λ (z : Proc). IsBlank (know_of r.got r.child r.time z)) (sym is) (record { stage = refl; said = refl; holds = refl; goes = blank_goes path none; children = refl; passed = refl; sound = small })
 
   -- One that has not split its leaf ends.

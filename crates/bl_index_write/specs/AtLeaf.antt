@@ -8,7 +8,7 @@ use Rattle.bl_index_write.specs.Writers.{IsAtWork, IsWriter, left_by, left_reply
 use Rattle.bl_model.specs.declared.deciding.KeyWrite.{KeyWrite}
 use Rattle.bl_model.specs.declared.deciding.KeyWrite.TheVariants.{Insert}
 use Rattle.bl_proc.specs.Climbs.{IsUnsplit}
-use Rattle.bl_proc.specs.Paths.{Notes, IsBlank as IsNone}
+use Rattle.bl_proc.specs.Paths.{Notes, IsBlank as IsBlankPath}
 use Rattle.bl_proc.specs.Processes.{Takes, next_of}
 use Rattle.bl_proc.specs.Writes.{WriteGoes, write_needs_in, write_next_in, write_reply}
 use Rattle.bl_proc.specs.declared.kinds.Proc.{Proc}
@@ -134,8 +134,8 @@ module _ (key value : ℕ) (path : Path) where
     held = climb_held;
   }
 
-  pub unborn_goes : (none : IsNone path) → GoesOn (climb_unborn key value path none) seen.Done
+  pub unborn_goes : (none : IsBlankPath path) → GoesOn (climb_unborn key value path none) seen.Done
   unborn_goes none = climb_goes (record { key = key; value = value; path = path; stage = climb.Writing (record { key = key; write = Insert value; stage = write.New }); stands = (refl, refl, tt, none) }) seen.Done refl tt
 
-  pub unborn_starts : (none : IsNone path) → Takes (climb_unborn key value path none) seen.Done (climb_coming key value path way.Start)
+  pub unborn_starts : (none : IsBlankPath path) → Takes (climb_unborn key value path none) seen.Done (climb_coming key value path way.Start)
   unborn_starts none = (refl, refl, refl, ((refl, refl, refl), tt))
