@@ -16,7 +16,7 @@ use Rattle.bl_proc_base.specs.declared.acts.Action.TheVariants as act
 use Rattle.bl_proc_base.specs.declared.acts.Seen.{Seen}
 use Rattle.bl_proc_base.specs.declared.acts.Seen.TheVariants as seen
 use Rattle.bl_proc_base.specs.declared.answers.Answer.{Answer}
-use Rattle.bl_proc_base.specs.declared.answers.Answer.TheVariants.{Op, InsertPost as Answered}
+use Rattle.bl_proc_base.specs.declared.answers.Answer.TheVariants.{Op, Post as PostAnswer, InsertPost as Answered}
 use Rattle.bl_proc_base.specs.declared.answers.Hint.{Hint}
 use Rattle.bl_proc_base.specs.declared.answers.Hint.TheVariants as hint
 use Rattle.bl_proc_base.specs.declared.answers.Posted.{Posted}
@@ -51,9 +51,10 @@ use mathlib.Core.HLevel.{is_prop→PathP}
 use Rattle.bl_proc.specs.declared.posting.Post.{Post}
 use Rattle.bl_proc.specs.declared.posting.PostStage.{PostStage}
 use Rattle.bl_proc.specs.declared.posting.PostStage.TheVariants as post
-use Rattle.bl_proc.specs.Levels.{IsBelowTop, IsBelowTop-prop}
+use Rattle.bl_proc.specs.Levels.{IsBelowTop, IsBelowTop-prop, MayReply}
+use Rattle.bl_proc.specs.Posts.{posted_answer}
 use Rattle.bl_proc.specs.Stands.{Stands, Stands-prop}
-use Rattle.bl_proc.specs.Climbs.{posted_as, left_hint, inserted_reply, climbed_answer, climb_answer_in, IsUnsplit}
+use Rattle.bl_proc.specs.Climbs.{posted_as, left_hint, inserted_reply, climbed_answer, climb_answer_in, IsLast, IsUnsplit}
 use Rattle.bl_proc.specs.Paths.{page_at, from_page, IsBlank as IsBlankPath, Notes}
 use Rattle.bl_proc.specs.Processes.{next_of, Takes}
 use Rattle.bl_proc.specs.Writes.{write_answer, write_next_in, write_needs_in, WriteGoes}
@@ -67,12 +68,14 @@ use Rattle.bl_index_rule.specs.declared.known.PassState.{PassState}
 use Rattle.bl_index_rule.specs.Observed.{IsUnborn}
 use Rattle.bl_index_steps.specs.Held.{proc_held, write_held}
 use Rattle.bl_index_steps.specs.Rooms.{LacksPage, LacksPost, LacksWrite}
-use Rattle.bl_index_steps.specs.Runs.{IsDone, EndsAs}
+use Rattle.bl_index_steps.specs.Runs.{IsDone, IsSameProcess, EndsAs}
 use Rattle.bl_index_steps.proofs.Ends.{climb_over}
 use Rattle.bl_index_steps.proofs.Rooms.{LacksClimb}
 use Rattle.bl_index_write.specs.declared.writers.Left.{Left}
 use Rattle.bl_index_write.specs.declared.writers.Left.TheVariants as left
-use Rattle.bl_index_write.specs.Climbing.{climbing, climb_unborn, climb_ending, climb_opened, first_post}
+use Rattle.bl_index_write.specs.declared.rising.Rising.{Rising}
+use Rattle.bl_index_write.specs.Climbing.{climbing, climb_unborn, climb_ending, climb_opened, climb_posted, climb_posting, first_post, next_post, rises, rose, IsClimbOver}
+use Rattle.bl_index_write.specs.Events.{HoldsNone}
 use Rattle.bl_index_write.specs.Kinds.{IsClimbAnswer}
 use Rattle.bl_index_write.specs.Ways.{IsToHold}
 use Rattle.bl_index_write.specs.Writers.{IsAtWork, IsWriter, left_reply, left_by}
@@ -112,31 +115,83 @@ pub unsplit_answer : (value : ℕ) (r : WriteReply) (said : Reply) (h : Option H
 unsplit_answer value (written.Done there g) said h e = ap (λ z. Answered z None None) (same_op _ _ _ _ e)
 unsplit_answer value written.NoRoom said h e = ap (λ z. Answered z None None) (same_op _ _ _ _ e)
 
--- The post with which it goes on is the one that its leaf wants.
-post_with : (p : Post) (path : Path) (separator : ℕ) → p.level ≡ 1 → p.key ≡ separator → p.stage ≡ post.Coming (from_page (page_at path 1)) → first_post path separator ≡ p
-post_with p path separator level key stage = λ i. record {
-  level = sym level i;
-  key = sym key i;
-  stage = sym stage i;
-  least = is_prop→PathP (λ i. 0 < sym level i) (λ i. le_prop) (first_post path separator).least p.least i;
-  most = is_prop→PathP (λ i. sym level i ≤ 12) (λ i. le_prop) (first_post path separator).most p.most i;
-  below = is_prop→PathP (λ i. IsBelowTop (sym level i) (sym stage i)) (λ i. IsBelowTop-prop (sym level i) (sym stage i)) (first_post path separator).below p.below i;
+-- A post is the one of that key to that level at that stage.
+post_same : (p q : Post) → p.level ≡ q.level → p.key ≡ q.key → p.stage ≡ q.stage → p ≡ q
+post_same p q level key stage = λ i. record {
+  level = level i;
+  key = key i;
+  stage = stage i;
+  least = is_prop→PathP (λ i. 0 < level i) (λ i. le_prop) p.least q.least i;
+  most = is_prop→PathP (λ i. level i ≤ 12) (λ i. le_prop) p.most q.most i;
+  below = is_prop→PathP (λ i. IsBelowTop (level i) (stage i)) (λ i. IsBelowTop-prop (level i) (stage i)) p.below q.below i;
 }
 
+-- The post with which it goes on is the one that its leaf wants.
 pub goes_with : (key value : ℕ) (path : Path) (there : Option ℕ) (separator : ℕ) (p : Post) (stands : Stands key value path (climb.Posting p)) → p.level ≡ 1 → p.key ≡ separator → p.stage ≡ post.Coming (from_page (page_at path 1))
     → climb_opened key value path (left.Split there separator) ≡ climbing key value path (climb.Posting p) stands
 goes_with key value path there separator p stands level named stage =
-    let same = post_with p path separator level named stage in
+    let same = post_same (first_post path separator) p (sym level) (sym named) (sym stage) in
     λ i. climbing key value path (climb.Posting (same i)) (is_prop→PathP (λ i. Stands key value path (climb.Posting (same i))) (λ i. Stands-prop key value path (climb.Posting (same i))) tt stands i)
 
--- It begins a post with a way that holds nothing.
-pub from_not_retire : (page x : ℕ) → approach_next (from_page page) ≢ act.Retire x
-from_not_retire zero x e = cc
-from_not_retire (suc page) x e = cc
+-- and so is the one with which it goes on one level higher
+pub goes_above : (key value level separator : ℕ) (path : Path) (next : ℕ) (may : level < 12) (k : ℕ) (a : Approach) (least : 0 < k) (most : k ≤ 12) → k ≡ level + 1 → a ≡ from_page (page_at path k)
+    → climb_posted key value level separator path (listed.Done (Some next)) may ≡ climb_posting key value k next least most path (post.Coming a) tt tt
+goes_above key value level separator path next may k a least most e is =
+    let same = post_same (next_post level path next may) (record { level = k; key = next; stage = post.Coming a; least = least; most = most; below = tt })
+        (sym e) refl (ap (λ (z : ℕ). post.Coming (from_page (page_at path z))) (sym e) ∙ ap (λ (z : Approach). post.Coming z) (sym is)) in
+    λ i. climbing key value path (climb.Posting (same i)) (is_prop→PathP (λ i. Stands key value path (climb.Posting (same i))) (λ i. Stands-prop key value path (climb.Posting (same i))) tt tt i)
 
-pub from_not_begin : (page : ℕ) → approach_next (from_page page) ≢ act.Begin
-from_not_begin zero e = cc
-from_not_begin (suc page) e = cc
+-- It does not matter why it may post there.
+pub posting_alike : (key value level separator : ℕ) (path : Path) (least more : 0 < level) (most less : level ≤ 12) (a : Approach)
+    → climb_posting key value level separator least most path (post.Coming a) tt tt ≡ climb_posting key value level separator more less path (post.Coming a) tt tt
+posting_alike key value level separator path least more most less a = λ i. climb_posting key value level separator (is_prop→PathP (λ i. 0 < level) (λ i. le_prop) least more i) (is_prop→PathP (λ i. level ≤ 12) (λ i. le_prop) most less i) path (post.Coming a) tt tt
+
+-- It begins a post with a way that holds nothing.
+pub from_free : (page : ℕ) → HoldsNone (from_page page)
+from_free zero = tt
+from_free (suc page) = tt
+
+-- There is one way on from the anchor.
+pub rises_on : (j : Rising) (path : Path) (what : Seen) → Gives (approach_next way.Start) None what → GoesOn (rises j path (post.Coming way.Start) tt tt) what
+rises_on j path what given = climb_goes (record { key = j.key; value = j.value; path = path; stage = climb.Posting (record { level = j.level; key = j.separator; stage = post.Coming way.Start; least = j.least; most = j.most; below = tt }); stands = tt }) what refl given
+
+-- One that has opened its last parent ends.
+pub rose_last : (j : Rising) (path : Path) (r : PostReply) (may : MayReply j.level r) → IsLast r → rose j path r may ≡ climbing j.key j.value path (climb.Ending (climbed.Posted j.level j.separator r)) tt
+rose_last j path (listed.Done None) may last = refl
+rose_last j path (listed.Done (Some next)) may last = absurd last
+rose_last j path listed.Already may last = refl
+rose_last j path listed.Stale may last = refl
+rose_last j path listed.NoRoom may last = refl
+rose_last j path listed.TooTall may last = refl
+
+pub ends_climb : (key value : ℕ) (path : Path) (r : Climbed) (state : Proc) → state ≡ climbing key value path (climb.Ending r) tt → EndsAs state (climbing key value path (climb.Over r) tt)
+ends_climb key value path r state is = subst (λ (z : Proc). EndsAs z (climbing key value path (climb.Over r) tt)) (sym is) (record {
+  at_end = refl;
+  over = climb_goes (record { key = key; value = value; path = path; stage = climb.Ending r; stands = tt }) seen.Done refl tt;
+  ended = (refl, refl, refl, refl);
+})
+
+-- what is told of its last post
+pub told_posted : (level : ℕ) (r : PostReply) (what : Posted) (h : Option Hint) → posted_answer level r ≡ PostAnswer what h → what ≡ posted_as r
+told_posted level (listed.Done s) what h e = cc
+told_posted level listed.Already what h e = cc
+told_posted level listed.Stale what h e = cc
+told_posted level listed.NoRoom what h e = cc
+told_posted level listed.TooTall what h e = cc
+
+pub none_left : (level key : ℕ) (what : Posted) → (what ≡ posted.NoRoom → ⊥) → left_hint level key what ≡ None
+none_left level key posted.Done not = refl
+none_left level key posted.Already not = refl
+none_left level key posted.Stale not = refl
+none_left level key posted.NoRoom not = absurd (not refl)
+none_left level key posted.TooTall not = refl
+
+pub refused_post : (r : PostReply) → posted_as r ≡ posted.NoRoom → r ≡ listed.NoRoom
+refused_post (listed.Done s) e = absurd (let f : posted.Done ≡ posted.NoRoom = e in cc)
+refused_post listed.Already e = absurd (let f : posted.Already ≡ posted.NoRoom = e in cc)
+refused_post listed.Stale e = absurd (let f : posted.Stale ≡ posted.NoRoom = e in cc)
+refused_post listed.NoRoom e = refl
+refused_post listed.TooTall e = absurd (let f : posted.TooTall ≡ posted.NoRoom = e in cc)
 
 -- It has ended, and is of that key and value.
 pub record IsEnded (q : InsertPost) (key value : ℕ) : Type 0 where
@@ -185,7 +240,7 @@ pub record IsLeft (h : H) (level separator : ℕ) (last : Option Posted) (said :
   pub last_is : last ≡ Some posted.NoRoom
   pub said_is : said ≡ reply.Inserted
 
-post_left : (h : H) (l k level separator : ℕ) (r : PostReply) → left_hint l k (posted_as r) ≡ Some (hint.Post level separator) → (posted_as r ≡ posted.NoRoom) × (LacksPost l k h → LacksPost level separator h)
+pub post_left : (h : H) (l k level separator : ℕ) (r : PostReply) → left_hint l k (posted_as r) ≡ Some (hint.Post level separator) → (posted_as r ≡ posted.NoRoom) × (LacksPost l k h → LacksPost level separator h)
 post_left h l k level separator (listed.Done s) e = absurd (let f = e in cc)
 post_left h l k level separator listed.Already e = absurd (let f = e in cc)
 post_left h l k level separator listed.Stale e = absurd (let f = e in cc)
@@ -209,3 +264,14 @@ left_post h key value (climbed.Posted l k r) said last level separator e =
 pub lacks_leaf : (key value : ℕ) (h : H) → LacksWrite key (Insert value) h → LacksPage 0 key h
 lacks_leaf key value h (None, lacks) = lacks
 lacks_leaf key value h (Some there, lacks) = absurd lacks
+
+-- what became of an insertion, from an earlier state of its pass on
+pub climb_since : (key value : ℕ) (d e : PassState) (h : H) (said : Reply) (last : Option Posted) (left : Option Hint) → IsSameProcess d e → IsClimbOver key value e h said last left → IsClimbOver key value d h said last left
+climb_since key value d e h said last left same over = record {
+  rests = over.rests;
+  empty = over.empty;
+  is_climbed = λ pass old since. over.is_climbed pass old (same pass old since);
+  no_room = over.no_room;
+  entered = over.entered;
+  lacks = over.lacks;
+}

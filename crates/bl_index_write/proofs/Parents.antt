@@ -1,5 +1,5 @@
 -- A post at its parent.
-use Rattle.std.proofs.Common.{ℕ, zero, suc, List, ◌≡◌, ◌≢◌, ◌-◌, ◌<◌, ◌≤◌, Option, Some, None, length, refl, sym, ap, ◌∙◌, subst, arith}
+use Rattle.std.proofs.Common.{ℕ, zero, suc, List, ◌≡◌, ◌≢◌, ◌-◌, ◌<◌, ◌≤◌, Option, Some, None, length, inl, inr, refl, sym, ap, ◌∙◌, subst, arith}
 use Rattle.bl_page.specs.declared.page.Page.{Page}
 use Rattle.bl_page.specs.declared.page.Page.TheVariants as page
 use Rattle.bl_page.specs.Words.{words_of}
@@ -33,17 +33,23 @@ use Rattle.bl_proc_unique.specs.Frames.{work_of}
 use Rattle.bl_proc_unique.proofs.Edits.{enter_one}
 use Rattle.bl_proc_unique.proofs.Onwards.{right_small}
 use Rattle.bl_proc_unique.proofs.Pages.{fits_some, rising}
-use Rattle.bl_proc_unique.proofs.Posts.{post_goes}
 use Rattle.bl_index_write.specs.declared.targets.Posting.{Posting}
 use Rattle.atomic_table.specs.declared.shared.Seat.{Seat}
-use Rattle.bl_layout.specs.declared.layout.Layout.{Layout}
+use Rattle.bl_store.specs.declared.store.Hand.{Hand}
 use Rattle.bl_store.specs.declared.view.View.{View}
-use Rattle.bl_store.specs.Hands.{known}
+use Rattle.bl_store.specs.Hands.{known, IsSameHand, IsSameRefusal}
 use Rattle.bl_proc_base.specs.declared.answers.Hint.{Hint}
 use Rattle.bl_proc_base.specs.declared.answers.Posted.{Posted}
 use Rattle.bl_index_rule.specs.declared.known.PassState.{PassState}
-use Rattle.bl_index_write.specs.Events.{posting, IsToEnter, IsWalking, HasPosted, IsPostOver}
-use Rattle.bl_index_steps.specs.Runs.{IsSameProcess, OpensLast}
+use Rattle.bl_proc.specs.Stands.{IsPosting}
+use Rattle.bl_index_write.specs.Events.{posting, IsOpened, IsToEnter, IsWalking, HasPosted, IsPostOver, LeavesParent}
+use Rattle.bl_index_write.specs.Posters.{IsPoster, Opened, Staged}
+use Rattle.bl_index_steps.specs.Held.{KeepsLatch}
+use Rattle.bl_index_steps.specs.Rooms.{LacksPost}
+use Rattle.bl_index_steps.specs.Runs.{IsSameProcess, OpensTo, Runs}
+use Rattle.bl_index_steps.specs.declared.tree.Tree.{Tree}
+use Rattle.bl_index_steps.proofs.Held.{keeps_anchor}
+use Rattle.bl_index_steps.proofs.Rooms.{lacks_on, refused_on}
 use Rattle.bl_index_steps.proofs.Standing.{same_all}
 use Rattle.bl_index_write.proofs.Spreading.{spelled}
 
@@ -67,109 +73,147 @@ nonzero : (z : ℕ) → z ≢ 0 → 0 < z
 nonzero zero some = absurd (some refl)
 nonzero (suc z) some = omega arith
 
-module _ (j : Posting) where
+module _ (level key : ℕ) (staged : Staged level) (opened : Opened level) (poster : IsPoster level key staged opened) where
   -- where a post stands that has got its parent
-  pub stands_already : (x : ℕ) (c : Page) (state : Proc) → Takes (posting j (post.Coming (approach.Latched x)) tt) (seen.Words c) state → Leads c j.key j.level Here → (child : ℕ) → Some child ≡ (node_of c).look j.key → state ≡ posting j (post.Staying x reply.Already) tt
+  pub stands_already : (x : ℕ) (c : Page) (state : Proc) → Takes (staged (post.Coming (approach.Latched x)) tt tt) (seen.Words c) state → Leads c key level Here → (child : ℕ) → Some child ≡ (node_of c).look key → state ≡ staged (post.Staying x reply.Already) tt tt
   stands_already x (page.Anchor a) state takes leads child e = absurd leads.0
-  stands_already x (page.Leaf l) state takes leads child e = absurd (let is = leads.2 in let least = j.least in omega arith)
+  stands_already x (page.Leaf l) state takes leads child e = absurd (let is = leads.2 in let least = poster.least in omega arith)
   stands_already x (page.Dead d) state takes leads child e = absurd leads.0
   stands_already x (page.Inner i) state takes leads child e =
-      let course = post_goes (record { level = j.level; key = j.key; stage = post.Coming (approach.Latched x); least = j.least; most = j.most; below = tt }) (seen.Words (page.Inner i)) refl tt in
-      course.only state takes ∙ sym (course.only (posting j (post.Staying x reply.Already) tt) (refl, refl, (descend.ToParent x i, (refl, refl, leads), (refl, (child, sym e)))))
+      let from = post.Coming (approach.Latched x) in let to = post.Staying x reply.Already in let what = seen.Words (page.Inner i) in
+      let course = poster.courses from tt tt what tt tt in
+      course.only state takes ∙ sym (course.only (staged to tt tt) (poster.goes from to tt tt tt tt what tt (descend.ToParent x i, (refl, refl, leads), (refl, (child, sym e)))))
 
-  pub stands_walking : (x child : ℕ) (c : Page) (words : List ℕ) (state : Proc) → Takes (posting j (post.Coming (approach.Latched x)) tt) (seen.Words c) state → words ≡ words_of c → Leads c j.key j.level Here → None ≡ (node_of c).look j.key → Leads c j.key (j.level - 1) (Down child) → IsWalking j x words child state
+  pub stands_walking : (x child : ℕ) (c : Page) (words : List ℕ) (state : Proc) → Takes (staged (post.Coming (approach.Latched x)) tt tt) (seen.Words c) state → words ≡ words_of c → Leads c key level Here → None ≡ (node_of c).look key → Leads c key (level - 1) (Down child) → IsWalking level key staged x words child state
   stands_walking x child (page.Anchor a) words state takes is leads none down = absurd leads.0
-  stands_walking x child (page.Leaf l) words state takes is leads none down = absurd (let e = leads.2 in let least = j.least in omega arith)
+  stands_walking x child (page.Leaf l) words state takes is leads none down = absurd (let e = leads.2 in let least = poster.least in omega arith)
   stands_walking x child (page.Dead d) words state takes is leads none down = absurd leads.0
   stands_walking x child (page.Inner i) words state takes is leads none down =
-      let c : Page = page.Inner i in
-      let w : Walk = record { at = x; key = j.key; parent = i; child = child; covers = leads.1; unlisted = sym none; names = listed-child down.3.key child i.children.items i.pages down.3.listed } in
-      let below : j.level < 12 = (let e = leads.2 in let limit = i.below_limit in omega arith) in
-      let course = post_goes (record { level = j.level; key = j.key; stage = post.Coming (approach.Latched x); least = j.least; most = j.most; below = tt }) (seen.Words c) refl tt in
+      let w : Walk = record { at = x; key = key; parent = i; child = child; covers = leads.1; unlisted = sym none; names = listed-child down.3.key child i.children.items i.pages down.3.listed } in
+      let below : level < 12 = (let e = leads.2 in let limit = i.below_limit in omega arith) in
+      let from = post.Coming (approach.Latched x) in let to = post.Walking w in let what = seen.Words (page.Inner i) in
+      let course = poster.courses from tt tt what tt tt in
       record {
         walk = w;
         below = below;
-        is = course.only state takes ∙ sym (course.only (posting j (post.Walking w) below) (refl, refl, (descend.ToParent x i, (refl, refl, leads), (refl, refl, refl, down.3))));
+        is = course.only state takes ∙ sym (course.only (staged to below tt) (poster.goes from to tt below tt tt what tt (descend.ToParent x i, (refl, refl, leads), (refl, refl, refl, down.3))));
         at = refl;
-        key = refl;
+        named = refl;
         parent = is;
         child = refl;
       }
 
-  pub opens_staying : (x : ℕ) (r : PostReply) (below : MayReply j.level r) → OpensLast (posting j (post.Staying x r) below) x (posting j (post.Ending r) below) (posting j (post.Over r) below)
-  opens_staying x r below = record {
-    next = refl;
-    course = post_goes (record { level = j.level; key = j.key; stage = post.Staying x r; least = j.least; most = j.most; below = below }) seen.Done refl tt;
-    opened = (refl, refl, refl);
-    at_end = refl;
-    over = post_goes (record { level = j.level; key = j.key; stage = post.Ending r; least = j.least; most = j.most; below = below }) seen.Done refl tt;
-    ended = (refl, refl, refl);
-  }
+  -- it does not matter why a post may be at its stage
+  pub staged_same : (stage : PostStage) (a b : IsBelowTop level stage) (i : IsPosting stage) → staged stage a i ≡ staged stage b i
+  staged_same stage a b i = ap (λ z. staged stage z i) (IsBelowTop-prop level stage a b)
 
-  pub may_reply : (o : Outcome) → j.level < 12 → MayReply j.level (post_reply o)
+  -- it opens its parent
+  pub opens_staying : (x : ℕ) (r : PostReply) (may : MayReply level r) (state : Proc) → state ≡ staged (post.Staying x r) may tt → OpensTo state x (opened r may)
+  opens_staying x r may state is = subst (λ (z : Proc). OpensTo z x (opened r may)) (sym is) (record {
+    act = poster.acts (post.Staying x r) may tt tt;
+    course = poster.courses (post.Staying x r) may tt seen.Done tt tt;
+    opened = poster.stayed x r may;
+  })
+
+  pub may_reply : (o : Outcome) → level < 12 → MayReply level (post_reply o)
   may_reply outcome.Edited below = tt
   may_reply (outcome.SplitAt separator) below = below
   may_reply outcome.Refused below = tt
 
-  pub opens_listed : (x : ℕ) (o : Outcome) (below : j.level < 12) → OpensLast (posting j (post.Editing (edit.Opening x o)) below) x (posting j (post.Ending (post_reply o)) (may_reply o below)) (posting j (post.Over (post_reply o)) (may_reply o below))
-  opens_listed x o below = record {
-    next = refl;
-    course = post_goes (record { level = j.level; key = j.key; stage = post.Editing (edit.Opening x o); least = j.least; most = j.most; below = below }) seen.Done refl tt;
-    opened = (refl, refl, (o, refl, refl));
-    at_end = refl;
-    over = post_goes (record { level = j.level; key = j.key; stage = post.Ending (post_reply o); least = j.least; most = j.most; below = may_reply o below }) seen.Done refl tt;
-    ended = (refl, refl, refl);
-  }
+  pub opens_listed : (x : ℕ) (o : Outcome) (below : level < 12) (state : Proc) → state ≡ staged (post.Editing (edit.Opening x o)) below tt → OpensTo state x (opened (post_reply o) (may_reply o below))
+  opens_listed x o below state is = subst (λ (z : Proc). OpensTo z x (opened (post_reply o) (may_reply o below))) (sym is) (record {
+    act = poster.acts (post.Editing (edit.Opening x o)) below tt tt;
+    course = poster.courses (post.Editing (edit.Opening x o)) below tt seen.Done tt tt;
+    opened = poster.listed x o below (may_reply o below);
+  })
+
+  -- it opens its parent, and begins again
+  pub opens_lost : (x : ℕ) (state : Proc) → state ≡ staged (post.Coming (approach.Leaving x None)) tt tt → OpensTo state x (staged (post.Coming approach.Start) tt tt)
+  opens_lost x state is =
+      let from = post.Coming (approach.Leaving x None) in
+      subst (λ (z : Proc). OpensTo z x (staged (post.Coming approach.Start) tt tt)) (sym is) (record {
+        act = poster.acts from tt tt tt;
+        course = poster.courses from tt tt seen.Done tt tt;
+        opened = poster.goes from (post.Coming approach.Start) tt tt tt tt seen.Done tt (descend.On approach.Start, (tt, refl), refl);
+      })
 
   -- where a post stands that has got a page on its walk
-  module _ (x y : ℕ) (words : List ℕ) (state next : Proc) (c : Page) (w : IsWalking j x words y state) (takes : Takes state (seen.Words c) next) where
-    walks : (stage : PostStage) (below : IsBelowTop j.level stage) → PostWalks j.level w.walk c stage → PostGoes j.level j.key (post.Walking w.walk) (seen.Words c) stage → next ≡ posting j stage below
-    walks stage below it goes =
-        let course = post_goes (record { level = j.level; key = j.key; stage = post.Walking w.walk; least = j.least; most = j.most; below = w.below }) (seen.Words c) refl tt in
-        course.only next (subst (λ (z : Proc). Takes z (seen.Words c) next) w.is takes) ∙ sym (course.only (posting j stage below) (refl, refl, goes))
+  module _ (x y : ℕ) (words : List ℕ) (state next : Proc) (c : Page) (w : IsWalking level key staged x words y state) (takes : Takes state (seen.Words c) next) where
+    walks : (stage : PostStage) (below : IsBelowTop level stage) (i : IsPosting stage) → PostWalks level w.walk c stage → PostGoes level key (post.Walking w.walk) (seen.Words c) stage → next ≡ staged stage below i
+    walks stage below i it goes =
+        let course = poster.courses (post.Walking w.walk) w.below tt (seen.Words c) tt tt in
+        course.only next (subst (λ (z : Proc). Takes z (seen.Words c) next) w.is takes) ∙ sym (course.only (staged stage below i) (poster.goes (post.Walking w.walk) stage w.below below tt i (seen.Words c) tt goes))
 
-    leading : (o : Step) → Leads c j.key (j.level - 1) o → Leads c w.walk.key (j.level - 1) o
-    leading o leads = subst (λ (z : ℕ). Leads c z (j.level - 1) o) (sym w.key) leads
+    leading : (o : Step) → Leads c key (level - 1) o → Leads c w.walk.key (level - 1) o
+    leading o leads = subst (λ (z : ℕ). Leads c z (level - 1) o) (sym w.named) leads
 
-    pub walked_on : (z : ℕ) → z ≢ 0 → Leads c j.key (j.level - 1) (Right z) → IsWalking j x words z next
+    pub walked_on : (z : ℕ) → z ≢ 0 → Leads c key (level - 1) (Right z) → IsWalking level key staged x words z next
     walked_on z some leads =
         let walk = w.walk in
-        let small = right_small c j.key (j.level - 1) z leads in
+        let small = right_small c key (level - 1) z leads in
         let least : 0 < z = nonzero z some in
         let v : Walk = record { at = walk.at; key = walk.key; parent = walk.parent; child = z; covers = walk.covers; unlisted = walk.unlisted; names = (least, small) } in
-        let it : PostWalks j.level walk c (post.Walking v) = (refl, refl, refl, leading (Right z) leads) in
-        record { walk = v; below = w.below; is = walks (post.Walking v) w.below it it; at = w.at; key = w.key; parent = w.parent; child = refl }
+        let it : PostWalks level walk c (post.Walking v) = (refl, refl, refl, leading (Right z) leads) in
+        record { walk = v; below = w.below; is = walks (post.Walking v) w.below tt it it; at = w.at; named = w.named; parent = w.parent; child = refl }
 
-    pub walked_found : Leads c j.key (j.level - 1) Here → (node_of c).shape.low ≡ j.key → (d : Edit) × IsToEnter x j.key y words d × (next ≡ posting j (post.Editing d) w.below)
+    pub walked_found : Leads c key (level - 1) Here → (node_of c).shape.low ≡ key → (d : Edit) × IsToEnter x key y words d × (next ≡ staged (post.Editing d) w.below tt)
     walked_found leads low =
         let walk = w.walk in
         let one = enter_one walk.at (page.Inner walk.parent) walk.key walk.child walk.covers walk.unlisted walk.names in
         let enter : IsToEnter walk.at walk.key walk.child words one.new = record { page = page.Inner walk.parent; tree = tt; is = w.parent; covers = walk.covers; absent = walk.unlisted; fits = walk.names; enters = one.goes } in
-        let it : PostWalks j.level walk c (post.Editing one.new) = (leading Here leads, low ∙ sym w.key, one.goes) in
-        (one.new, subst (λ (z : ℕ × ℕ × ℕ). IsToEnter z.0 z.1 z.2 words one.new) (λ i. (w.at i, w.key i, w.child i)) enter, walks (post.Editing one.new) w.below it it)
+        let it : PostWalks level walk c (post.Editing one.new) = (leading Here leads, low ∙ sym w.named, one.goes) in
+        (one.new, subst (λ (z : ℕ × ℕ × ℕ). IsToEnter z.0 z.1 z.2 words one.new) (λ i. (w.at i, w.named i, w.child i)) enter, walks (post.Editing one.new) w.below tt it it)
 
-    pub walked_stale : Leads c j.key (j.level - 1) Here → (node_of c).shape.low ≢ j.key → next ≡ posting j (post.Staying x reply.Stale) tt
+    pub walked_stale : Leads c key (level - 1) Here → (node_of c).shape.low ≢ key → next ≡ staged (post.Staying x reply.Stale) tt tt
     walked_stale leads other =
-        let it : PostWalks j.level w.walk c (post.Staying x reply.Stale) = (sym w.at, leading Here leads, λ e. other (e ∙ w.key)) in
-        walks (post.Staying x reply.Stale) tt it it
+        let it : PostWalks level w.walk c (post.Staying x reply.Stale) = (sym w.at, leading Here leads, λ e. other (e ∙ w.named)) in
+        walks (post.Staying x reply.Stale) tt tt it it
 
-    pub walked_lost : (o : Step) → Leads c j.key (j.level - 1) o → IsLost o → next ≡ posting j (post.Coming (approach.Leaving x None)) tt
+    pub walked_lost : (o : Step) → Leads c key (level - 1) o → IsLost o → next ≡ staged (post.Coming (approach.Leaving x None)) tt tt
     walked_lost o leads lost =
-        let it : PostWalks j.level w.walk c (post.Coming (approach.Leaving x None)) = (λ i. approach.Leaving (sym w.at i) None, (o, leading o leads, lost)) in
-        walks (post.Coming (approach.Leaving x None)) tt it it
+        let it : PostWalks level w.walk c (post.Coming (approach.Leaving x None)) = (λ i. approach.Leaving (sym w.at i) None, (o, leading o leads, lost)) in
+        walks (post.Coming (approach.Leaving x None)) tt tt it it
 
-  -- it has opened its parent, and begins again
-  pub lost_again : (x : ℕ) → Takes (posting j (post.Coming (approach.Leaving x None)) tt) seen.Done (posting j (post.Coming approach.Start) tt)
-  lost_again x = (refl, refl, (descend.On approach.Start, (tt, refl), refl))
+abbrev H : Type 0
+H = Seat (Unit {0}) (View PassState)
+
+-- what it has come to from an earlier state of its pass on
+pub leaves_since : (tree : Tree) (h k : H) (hand : Hand PassState) (level key : ℕ) (staged : Staged level) (opened : Opened level) (replies : Option PostReply) → IsSameHand h k → IsSameProcess (known h) (known k) → LeavesParent tree k hand level key staged opened replies → LeavesParent tree h hand level key staged opened replies
+leaves_since tree h k hand level key staged opened replies same since left = record {
+  same = (left.same.0 ∙ same.0, left.same.1 ∙ same.1, left.same.2 ∙ same.2);
+  empty = left.empty;
+  state = left.state;
+  runs = left.runs;
+  is = left.is;
+  since = same_all _ _ _ since left.since;
+  no_room = left.no_room;
+}
 
 -- what became of a post, from an earlier state of its pass on
-pub over_since : (l : Layout) (j : Posting) (d e : PassState) (h : Seat (Unit {0}) (View PassState)) (t : Option (Posted × Option Hint)) → IsSameProcess d e → IsPostOver l j e h t → IsPostOver l j d h t
-over_since l j d e h (Some t) same over = (over.0, over.1, over.2, over.3, λ pass old since. over.4 pass old (same pass old since))
-over_since l j d e h None same over = (over.0, over.1, same_all d e (known h) same over.2)
+pub over_since : (j : Posting) (d e : PassState) (h : H) (what : Posted) (hint : Option Hint) → IsSameProcess d e → IsPostOver j e h what hint → IsPostOver j d h what hint
+over_since j d e h what hint same over = record {
+  rests = over.rests;
+  empty = over.empty;
+  no_room = over.no_room;
+  is_posted = λ pass old since. over.is_posted pass old (same pass old since);
+}
 
 pub posted_first : (j : Posting) (pass : ℕ) (old e : PassState) (what : Posted) (hint : Option Hint) → HasPosted pass old e (posting j post.New tt) what hint → (first : Proc) × (work_of first ≡ Some (j.level, j.key)) × HasPosted pass old e first what hint
 posted_first j pass old e what hint posted = (posting j post.New tt, refl, posted)
 
--- it does not matter why a post may be at its stage
-pub posting_same : (j : Posting) (stage : PostStage) (a b : IsBelowTop j.level stage) → posting j stage a ≡ posting j stage b
-posting_same j stage a b = ap (posting j stage) (IsBelowTop-prop j.level stage a b)
+-- it lacks what it lacked
+pub lacks_post_same : (level key : ℕ) (h h' : H) → IsSameRefusal h h' → KeepsLatch (known h) (known h') → LacksPost level key h → LacksPost level key h'
+lacks_post_same level key h h' same latch (inl lacks) = inl (lacks_on level key h h' same latch lacks)
+lacks_post_same level key h h' same latch (inr lacks) = inr (refused_on h h' 1 2 same lacks.0, keeps_anchor level (known h) (known h') latch lacks.1)
+
+pub some_same : {a b : PostReply} → Some a ≡ Some b → a ≡ b
+some_same e = cc
+
+-- what it runs then
+pub leaves_opened : (tree : Tree) (h : H) (hand : Hand PassState) (level key : ℕ) (staged : Staged level) (opened : Opened level) (replies : Option PostReply) (r : PostReply) → LeavesParent tree h hand level key staged opened replies → replies ≡ Some r → (may : MayReply level r) × Runs tree hand (opened r may)
+leaves_opened tree h hand level key staged opened replies r left e =
+    let is = subst (λ (z : Option PostReply). IsOpened level staged opened z left.state) e left.is in
+    (is.0, subst (λ (z : Proc). Runs tree hand z) is.1 left.runs)
+
+pub leaves_again : (tree : Tree) (h : H) (hand : Hand PassState) (level key : ℕ) (staged : Staged level) (opened : Opened level) (replies : Option PostReply) → LeavesParent tree h hand level key staged opened replies → replies ≡ None → Runs tree hand (staged (post.Coming approach.Start) tt tt)
+leaves_again tree h hand level key staged opened replies left e = subst (λ (z : Proc). Runs tree hand z) (subst (λ (z : Option PostReply). IsOpened level staged opened z left.state) e left.is) left.runs

@@ -7,7 +7,11 @@ use Rattle.bl_proc_base.specs.declared.growing.Growth.{Growth}
 use Rattle.bl_proc_base.specs.declared.growing.Growth.TheVariants as growth
 use Rattle.bl_proc_base.specs.Growths.{growth_next}
 use Rattle.bl_proc.specs.declared.posting.Post.{Post}
+use Rattle.bl_proc.specs.declared.posting.PostReply.{PostReply}
 use Rattle.bl_proc.specs.declared.posting.PostReply.TheVariants as reply
+use Rattle.bl_proc.specs.Levels.{MayReply}
+use Rattle.bl_proc_unique.proofs.Posts.{post_goes}
+use Rattle.bl_index_write.specs.declared.targets.Posting.{Posting}
 use Rattle.bl_proc.specs.declared.posting.PostStage.{PostStage}
 use Rattle.bl_proc.specs.declared.posting.PostStage.TheVariants as post
 use Rattle.bl_proc.specs.declared.kinds.Proc.{Proc}
@@ -16,8 +20,8 @@ use Rattle.bl_proc.specs.Posts.{post_next_in, post_answer_in, post_answer, PostG
 use Rattle.bl_proc.specs.Processes.{next_of, Takes}
 use Rattle.bl_proc_unique.specs.Frames.{work_of}
 use Rattle.bl_index_rule.specs.declared.known.PassState.{PassState}
-use Rattle.bl_index_steps.specs.Runs.{IsDone}
-use Rattle.bl_index_write.specs.Events.{IsPostAnswer}
+use Rattle.bl_index_steps.specs.Runs.{IsDone, EndsAs}
+use Rattle.bl_index_write.specs.Events.{IsPostAnswer, posting}
 use Rattle.bl_index_steps.proofs.Quiet.{first_of, second_of}
 use Rattle.bl_index_steps.proofs.Ends.{not_end_way, not_end}
 
@@ -61,15 +65,23 @@ pub record IsPosting (before : Proc) (q : Post) (level key : ℕ) : Type 0 where
   pub at_end : post_next_in old.stage ≡ act.End
   pub goes : PostGoes old.level old.key old.stage seen.Done q.stage
 
-pub posting : (before : Proc) (q : Post) (level key : ℕ) → work_of before ≡ Some (level, key) → next_of before ≡ act.End → Takes before seen.Done (proc.Post q) → IsPosting before q level key
-posting (proc.Post p) q level key is e t = record { old = p; before_is = refl; level_is = t.0 ∙ first_of is; key_is = t.1 ∙ second_of is; at_end = e; goes = t.2 }
-posting other q level key is e t = absurd t
+pub is_posting : (before : Proc) (q : Post) (level key : ℕ) → work_of before ≡ Some (level, key) → next_of before ≡ act.End → Takes before seen.Done (proc.Post q) → IsPosting before q level key
+is_posting (proc.Post p) q level key is e t = record { old = p; before_is = refl; level_is = t.0 ∙ first_of is; key_is = t.1 ∙ second_of is; at_end = e; goes = t.2 }
+is_posting other q level key is e t = absurd t
 
 pub post_has_answer : (pass : ℕ) (old e : PassState) (first : Proc) (q : Post) (level key : ℕ) → IsDone pass old e first (proc.Post q) → work_of first ≡ Some (level, key) → (what : Option Answer) → what ≡ post_answer q → IsPostAnswer what
 post_has_answer pass old e first q level key d is what a =
-    let p = posting d.before q level key (d.work ∙ is) d.at_end d.takes in
+    let p = is_posting d.before q level key (d.work ∙ is) d.at_end d.takes in
     subst IsPostAnswer (sym a) (answers_at_end q.level p.old.level p.old.key p.old.stage q.stage p.at_end p.goes)
 
 -- it is still the post of that key to that level
 pub post_named : (pass : ℕ) (old e : PassState) (first : Proc) (q : Post) (level key : ℕ) → IsDone pass old e first (proc.Post q) → work_of first ≡ Some (level, key) → (q.level ≡ level) × (q.key ≡ key)
-post_named pass old e first q level key d is = let p = posting d.before q level key (d.work ∙ is) d.at_end d.takes in (p.level_is, p.key_is)
+post_named pass old e first q level key d is = let p = is_posting d.before q level key (d.work ∙ is) d.at_end d.takes in (p.level_is, p.key_is)
+
+-- It has opened its parent, and ends.
+pub ends_post : (j : Posting) (r : PostReply) (may : MayReply j.level r) (state : Proc) → state ≡ posting j (post.Ending r) may → EndsAs state (posting j (post.Over r) may)
+ends_post j r may state is = subst (λ (z : Proc). EndsAs z (posting j (post.Over r) may)) (sym is) (record {
+  at_end = refl;
+  over = post_goes (record { level = j.level; key = j.key; stage = post.Ending r; least = j.least; most = j.most; below = may }) seen.Done refl tt;
+  ended = (refl, refl, refl);
+})

@@ -1,31 +1,42 @@
 -- An insertion that posts, of which a pass has no value.
-use Rattle.std.specs.Prelude.{◌≡◌, ℕ, ◌<◌, ◌≤◌, Option, None, Some, refl}
+use Rattle.std.specs.Prelude.{◌≡◌, ℕ, ◌+◌, ◌<◌, ◌≤◌, Option, None, Some, refl}
 use Rattle.std.proofs.Common.{arith}
 use Rattle.bl_model.specs.declared.deciding.KeyWrite.TheVariants.{Insert}
 use Rattle.bl_model.specs.declared.operation.Op.TheVariants as op
 use Rattle.bl_model.specs.declared.operation.Reply.{Reply}
+use Rattle.bl_model.specs.declared.operation.Reply.TheVariants as reply
+use Rattle.atomic_table.specs.declared.shared.Seat.{Seat}
 use Rattle.bl_proc_base.specs.declared.answers.Answer.TheVariants as answer
 use Rattle.bl_proc_base.specs.declared.answers.Hint.{Hint}
+use Rattle.bl_proc_base.specs.declared.answers.Hint.TheVariants as hint
 use Rattle.bl_proc_base.specs.declared.answers.Posted.{Posted}
 use Rattle.bl_proc_base.specs.declared.approaching.Approach.{Approach}
 use Rattle.bl_proc.specs.declared.climbing.InsertPost.{InsertPost}
 use Rattle.bl_proc.specs.declared.climbing.ClimbStage.{ClimbStage}
 use Rattle.bl_proc.specs.declared.climbing.ClimbStage.TheVariants.{Writing, Posting, Ending, Over}
-use Rattle.bl_proc.specs.declared.climbing.Climbed.TheVariants.{Unsplit}
+use Rattle.bl_proc.specs.declared.climbing.Climbed.TheVariants.{Unsplit, Posted as PostedTo}
 use Rattle.bl_proc.specs.declared.kinds.Proc.{Proc}
 use Rattle.bl_proc.specs.declared.kinds.Proc.TheVariants as proc
 use Rattle.bl_proc.specs.declared.paths.Path.{Path}
 use Rattle.bl_proc.specs.declared.posting.Post.{Post}
+use Rattle.bl_proc.specs.declared.posting.PostReply.{PostReply}
+use Rattle.bl_proc.specs.declared.posting.PostReply.TheVariants as listed
+use Rattle.bl_proc.specs.declared.posting.PostStage.{PostStage}
 use Rattle.bl_proc.specs.declared.posting.PostStage.TheVariants as post
 use Rattle.bl_proc.specs.declared.writing.WriteReply.TheVariants as written
 use Rattle.bl_proc.specs.declared.writing.WriteStage.{WriteStage}
 use Rattle.bl_proc.specs.declared.writing.WriteStage.TheVariants as write
 use Rattle.bl_proc.specs.Climbs.{climb_answer_in}
+use Rattle.bl_proc.specs.Levels.{IsBelowTop, MayReply}
 use Rattle.bl_proc.specs.Paths.{page_at, from_page, IsBlank}
-use Rattle.bl_proc.specs.Stands.{Stands}
+use Rattle.bl_proc.specs.Stands.{IsPosting, Stands}
 use Rattle.bl_proc_unique.specs.Frames.{op_of}
+use Rattle.bl_store.specs.declared.view.View.{View}
+use Rattle.bl_store.specs.Hands.{known, HasNoStock}
 use Rattle.bl_index_rule.specs.declared.known.PassState.{PassState}
-use Rattle.bl_index_steps.specs.Runs.{IsDone}
+use Rattle.bl_index_steps.specs.Rooms.{LacksPage, LacksPost}
+use Rattle.bl_index_steps.specs.Runs.{IsDone, IsSince, Rests}
+use Rattle.bl_index_write.specs.declared.rising.Rising.{Rising}
 use Rattle.bl_index_write.specs.declared.writers.Left.{Left}
 use Rattle.bl_index_write.specs.declared.writers.Left.TheVariants.{Kept, Changed, Split, Refused}
 use Rattle.bl_index_write.specs.Writers.{left_reply}
@@ -77,6 +88,33 @@ climb_opened key value path (Changed noted) = climb_ending key value path (Chang
 climb_opened key value path (Split there separator) = climbing key value path (Posting (first_post path separator)) tt
 climb_opened key value path Refused = climb_ending key value path Refused
 
+-- one that posts to a level, of which the post has come so far
+abbrev pub climb_posting : (key value level separator : ℕ) → 0 < level → level ≤ 12 → Path → (s : PostStage) → IsBelowTop level s → IsPosting s → Proc
+climb_posting key value level separator least most path s b i =
+    climbing key value path (Posting (record { level = level; key = separator; stage = s; least = least; most = most; below = b })) i
+
+-- the post of the upper half of such a parent, which begins at the page that is noted one level higher
+abbrev pub next_post : (level : ℕ) → Path → ℕ → level < 12 → Post
+next_post level path next below = record {
+  level = level + 1;
+  key = next;
+  stage = post.Coming (from_page (page_at path (level + 1)));
+  least = omega arith;
+  most = omega (arith, below);
+  below = tt;
+}
+
+-- One that has opened the parent to which it posted, by what the post replies: where the parent was split, its upper half is posted.
+abbrev pub climb_posted : (key value level separator : ℕ) → Path → (r : PostReply) → MayReply level r → Proc
+climb_posted key value level separator path (listed.Done (Some next)) may = climbing key value path (Posting (next_post level path next may)) tt
+climb_posted key value level separator path r may = climbing key value path (Ending (PostedTo level separator r)) tt
+
+abbrev pub rises : (j : Rising) → Path → (s : PostStage) → IsBelowTop j.level s → IsPosting s → Proc
+rises j path = climb_posting j.key j.value j.level j.separator j.least j.most path
+
+abbrev pub rose : (j : Rising) → Path → (r : PostReply) → MayReply j.level r → Proc
+rose j path = climb_posted j.key j.value j.level j.separator path
+
 -- The insertion with its posts has ended, and has answered that.
 pub record HasClimbed (pass : ℕ) (old e : PassState) (key value : ℕ) (said : Reply) (last : Option Posted) (left : Option Hint) : Type 0 where
   pub first : Proc
@@ -84,3 +122,13 @@ pub record HasClimbed (pass : ℕ) (old e : PassState) (key value : ℕ) (said :
   pub over : InsertPost
   pub done : IsDone pass old e first (proc.InsertPost over)
   pub answer : climb_answer_in over.value over.stage ≡ Some (answer.InsertPost said last left)
+
+-- From there the insertion with its posts has gone on to its end, and has answered that.
+pub record IsClimbOver (key value : ℕ) (d : PassState) (h : Seat (Unit {0}) (View PassState)) (said : Reply) (last : Option Posted)
+    (left : Option Hint) : Type 0 where
+  pub rests : Rests h
+  pub empty : HasNoStock h
+  pub is_climbed : (pass : ℕ) (old : PassState) → IsSince pass old d → HasClimbed pass old (known h) key value said last left
+  pub no_room : said ≡ reply.NoRoom → LacksPage 0 key h
+  pub entered : (level separator : ℕ) → left ≡ Some (hint.Post level separator) → said ≡ reply.Inserted
+  pub lacks : (level separator : ℕ) → left ≡ Some (hint.Post level separator) → LacksPost level separator h

@@ -13,7 +13,7 @@ use Rattle.bl_model.specs.declared.deciding.KeyWrite.{KeyWrite}
 use Rattle.bl_store.specs.declared.view.View.{View}
 use Rattle.bl_store.specs.declared.store.Glance.{Glance}
 use Rattle.bl_store.specs.declared.store.Hand.{Hand}
-use Rattle.bl_store.specs.Hands.{known, read_words, IsIdle, IsRunning, IsSameHand, HasNoStock, ReadsFrom}
+use Rattle.bl_store.specs.Hands.{known, read_words, IsSameHand, HasNoStock, ReadsFrom}
 use Rattle.bl_proc_base.specs.declared.acts.Seen.TheVariants as seen
 use Rattle.bl_proc_base.specs.declared.answers.Answer.TheVariants as answer
 use Rattle.bl_proc_base.specs.declared.answers.Hint.{Hint}
@@ -33,9 +33,10 @@ use Rattle.bl_proc.specs.Writes.{write_answer}
 use Rattle.bl_proc.specs.declared.posting.Post.{Post}
 use Rattle.bl_proc.specs.declared.posting.PostStage.{PostStage}
 use Rattle.bl_proc.specs.declared.posting.PostStage.TheVariants as post
+use Rattle.bl_proc.specs.declared.posting.PostReply.{PostReply}
 use Rattle.bl_proc.specs.declared.posting.PostReply.TheVariants as reply
 use Rattle.bl_proc.specs.declared.walking.Walk.{Walk}
-use Rattle.bl_proc.specs.Levels.{IsBelowTop}
+use Rattle.bl_proc.specs.Levels.{IsBelowTop, MayReply}
 use Rattle.bl_proc.specs.declared.kinds.Proc.{Proc}
 use Rattle.bl_proc.specs.declared.kinds.Proc.TheVariants as proc
 use Rattle.bl_proc.specs.Processes.{answer_of, Takes}
@@ -48,7 +49,10 @@ use Rattle.bl_index_write.specs.declared.writers.Left.TheVariants.{Refused}
 use Rattle.bl_index_steps.specs.declared.tree.Tree.{Tree}
 use Rattle.bl_index_write.specs.declared.posting.Walked.{Walked}
 use Rattle.bl_index_write.specs.declared.posting.Walked.TheVariants.{On, Found, Stale, Lost}
-use Rattle.bl_index_steps.specs.Runs.{IsOn, IsSince, IsWithin, IsDone, IsSameProcess, Runs}
+use Rattle.bl_index_write.specs.declared.reaching.Reached.{Reached}
+use Rattle.bl_index_write.specs.declared.reaching.Reached.TheVariants.{Parent, Again, NoLevel}
+use Rattle.bl_index_write.specs.Posters.{Staged, Opened}
+use Rattle.bl_index_steps.specs.Runs.{IsOn, IsSince, IsDone, IsSameProcess, Rests, Runs}
 use Rattle.bl_index_steps.specs.Rooms.{LacksPost, LacksWrite}
 use Rattle.bl_proc_base.specs.declared.answers.Posted.TheVariants as posted
 use Rattle.bl_proc_base.specs.declared.answers.Answer.{Answer}
@@ -72,6 +76,12 @@ pub record IsThere (level key : ℕ) (latched : Proc) (words : List ℕ) (d : Pa
   pub is : words ≡ words_of page
   pub leads : Leads page key level Here
   pub takes : Takes latched (seen.Words page) d.state
+
+-- The writer that began its way has got the anchor, which has these words.
+pub record HasGotAnchor (start : Proc) (words : List ℕ) (d : PassState) : Type 0 where
+  pub page : Page
+  pub is : words ≡ words_of page
+  pub takes : Takes start (seen.Words page) d.state
 
 -- It is there; or it is to open the page, and goes on as that says.
 abbrev pub HasArrived : ℕ → ℕ → (Approach → Proc) → ℕ → Layout → Seat (Unit {0}) (View PassState) → Arrived → Type 0
@@ -134,28 +144,55 @@ pub record IsToEnter (x key word : ℕ) (words : List ℕ) (edit : Edit) : Type 
   pub enters : EntersPair x page key word edit
 
 -- It has got its parent x, which has these words, and is to get page y on its way to the child that covers its key.
-pub record IsWalking (j : Posting) (x : ℕ) (words : List ℕ) (y : ℕ) (state : Proc) : Type 0 where
+pub record IsWalking (level key : ℕ) (staged : Staged level) (x : ℕ) (words : List ℕ) (y : ℕ) (state : Proc) : Type 0 where
   pub walk : Walk
-  pub below : j.level < 12
-  pub is : state ≡ posting j (post.Walking walk) below
+  pub below : level < 12
+  pub is : state ≡ staged (post.Walking walk) below tt
   pub at : walk.at ≡ x
-  pub key : walk.key ≡ j.key
+  pub named : walk.key ≡ key
   pub parent : words ≡ words_of (Inner walk.parent)
   pub child : walk.child ≡ y
 
 -- It is to get the next page; or it has got the child, and its parent is to list it, or not; or it is to open its parent, and begins again.
-abbrev pub HasWalked : Layout → Posting → ℕ → List ℕ → ℕ → PassState → Walked → Type 0
-HasWalked l j x words y d (On z) = IsOn l d d.state × IsWalking j x words z d.state
-HasWalked l j x words y d Found = (below : j.level < 12) × (c : Edit) × IsToEnter x j.key y words c × IsOn l d (posting j (post.Editing c) below)
-HasWalked l j x words y d Stale = IsOn l d (posting j (post.Staying x reply.Stale) tt)
-HasWalked l j x words y d Lost = IsOn l d (posting j (post.Coming (Leaving x None)) tt)
+abbrev pub HasWalked : (level key : ℕ) → Staged level → Layout → ℕ → List ℕ → ℕ → PassState → Walked → Type 0
+HasWalked level key staged l x words y d (On z) = IsOn l d d.state × IsWalking level key staged x words z d.state
+HasWalked level key staged l x words y d Found = (below : level < 12) × (c : Edit) × IsToEnter x key y words c × IsOn l d (staged (post.Editing c) below tt)
+HasWalked level key staged l x words y d Stale = IsOn l d (staged (post.Staying x reply.Stale) tt tt)
+HasWalked level key staged l x words y d Lost = IsOn l d (staged (post.Coming (Leaving x None)) tt tt)
 
--- It has ended, and has answered that; or its way begins again.
-abbrev pub IsPostOver : Layout → Posting → PassState → Seat (Unit {0}) (View PassState) → Option (Posted × Option Hint) → Type 0
-IsPostOver l j d h (Some t) =
-    (IsIdle h × HasNoStock h) × IsWithin h × ((known h).runs ≡ false) × (t.0 ≡ posted.NoRoom → LacksPost j.level j.key h)
-    × ((pass : ℕ) (old : PassState) → IsSince pass old d → HasPosted pass old (known h) (posting j post.New tt) t.0 t.1)
-IsPostOver l j d h None = (IsRunning h × HasNoStock h) × IsOn l (known h) (posting j (post.Coming Start) tt) × IsSameProcess d (known h)
+-- It is at the page of its level that covers its key; or its way begins again; or it has got the anchor of a tree without its level.
+abbrev pub HasReached : ℕ → ℕ → (Approach → Proc) → Layout → Seat (Unit {0}) (View PassState) → Reached → Type 0
+HasReached level key at l h (Parent x glance) = ReadsFrom h glance × IsThere level key (at (Latched x)) (read_words h) (known h) × IsOn l (known h) (known h).state
+HasReached level key at l h Again = IsOn l (known h) (at Start)
+HasReached level key at l h (NoLevel glance) = ReadsFrom h glance × HasGotAnchor (at Start) (read_words h) (known h) × IsOn l (known h) (known h).state
+
+-- the same, by what it has come to where the tree has its level
+abbrev pub reached_by : Option (ℕ × Glance) → Reached
+reached_by (Some t) = Parent t.0 t.1
+reached_by None = Again
+
+-- It has opened its parent, and replies that; or its way begins again.
+abbrev pub IsOpened : (level : ℕ) → Staged level → Opened level → Option PostReply → Proc → Type 0
+IsOpened level staged opened (Some r) state = (may : MayReply level r) × (state ≡ opened r may)
+IsOpened level staged opened None state = state ≡ staged (post.Coming Start) tt tt
+
+-- From where it held its parent it has gone on: it has opened that, with this reply or none.
+pub record LeavesParent (tree : Tree) (h : Seat (Unit {0}) (View PassState)) (hand : Hand PassState) (level key : ℕ) (staged : Staged level)
+    (opened : Opened level) (replies : Option PostReply) : Type 0 where
+  pub same : IsSameHand h hand.seat
+  pub empty : HasNoStock hand.seat
+  pub state : Proc
+  pub runs : Runs tree hand state
+  pub is : IsOpened level staged opened replies state
+  pub since : IsSameProcess (known h) (known hand.seat)
+  pub no_room : replies ≡ Some reply.NoRoom → LacksPost level key hand.seat
+
+-- The post has ended, and has answered that.
+pub record IsPostOver (j : Posting) (d : PassState) (h : Seat (Unit {0}) (View PassState)) (what : Posted) (hint : Option Hint) : Type 0 where
+  pub rests : Rests h
+  pub empty : HasNoStock h
+  pub no_room : what ≡ posted.NoRoom → LacksPost j.level j.key h
+  pub is_posted : (pass : ℕ) (old : PassState) → IsSince pass old d → HasPosted pass old (known h) (posting j post.New tt) what hint
 
 -- the answer of a post
 abbrev pub IsPostAnswer : Option Answer → Type 0

@@ -1,3 +1,4 @@
+pub mod Posters
 pub mod Ways
 pub mod Writers
 pub mod Events
@@ -5,3 +6,4 @@ pub mod Halves
 pub mod Climbing
 pub mod Kinds
 pub mod AtLeaf
+pub mod AtParent

@@ -1,7 +1,7 @@
-//! Insertions that post what they split. The leaf is written by words, and a path is noted on the way there; posts, of which there is one
-//! for some seven rising keys, go by a process value.
+//! Insertions that post what they split: from the page that they have noted for each level on their way down, as Lehman and Yao's
+//! inserter does.
 
-ghost use Rattle.std.specs.Prelude.{◌≡◌, ◌<◌, ◌≤◌, ℕ, Option, Some, None};
+ghost use Rattle.std.specs.Prelude.{◌≡◌, ◌<◌, ◌≤◌, ℕ, Option, Some, None, MatchOption};
 ghost use Rattle.bl_model.specs.declared.deciding.KeyWrite.TheVariants.{Insert};
 ghost use Rattle.bl_model.specs.declared.operation.KeyReply.TheVariants as replies;
 ghost use Rattle.bl_model.specs.declared.operation.Reply.TheVariants as reply;
@@ -9,27 +9,36 @@ ghost use Rattle.bl_model.specs.Replies.{reply_of};
 ghost use Rattle.bl_proc_base.specs.declared.answers.Answer.TheVariants as answers;
 ghost use Rattle.bl_proc_base.specs.declared.answers.Hint.TheVariants as hints;
 ghost use Rattle.bl_proc_base.specs.declared.approaching.Approach.TheVariants as approach;
-ghost use Rattle.bl_proc.specs.Climbs.{climbed_answer};
-ghost use Rattle.bl_proc.specs.declared.climbing.Climbed.{Climbed as ClimbedIs};
+ghost use Rattle.bl_proc.specs.declared.posting.PostReply.TheVariants as listed;
+ghost use Rattle.bl_proc.specs.declared.posting.PostStage.TheVariants as post;
+ghost use Rattle.bl_proc.specs.Climbs.{IsLast, left_hint, posted_as};
+ghost use Rattle.bl_proc.specs.Levels.{MayReply};
 ghost use Rattle.bl_proc.specs.Paths.{IsBlank as IsBlankPath};
-ghost use Rattle.bl_store.specs.Hands.{known, IsIdle, IsSameHand, IsSameStock, HasNoStock};
+ghost use Rattle.bl_store.specs.Hands.{known, read_words, IsIdle, IsSameHand, HasNoStock, ReadsFrom};
 ghost use Rattle.bl_store.specs.Owners.{IsHandOf};
 ghost use Rattle.bl_index_rule.specs.declared.known.PassState.{PassState as Knows};
 ghost use Rattle.bl_index_steps.specs.Rooms.{LacksPage, LacksPost};
 ghost use Rattle.bl_index_steps.specs.Runs.{Runs, Rests, IsSince};
 ghost use Rattle.bl_index_write.specs.declared.writers.Left.TheVariants as lefts;
-ghost use Rattle.bl_index_write.specs.Climbing.{climb_coming, climb_opened, HasClimbed};
+ghost use Rattle.bl_index_write.specs.Climbing.{climb_opened, rises, rose, HasClimbed, IsClimbOver};
+ghost use Rattle.bl_index_write.specs.Events.{HasGotAnchor};
 ghost use Rattle.bl_index_write.specs.Kinds.{IsOfInsertion, IsClimbAnswer};
 
 use crate::descend::{begin_descent, descend};
+use crate::posting::{post_there, posted_by};
+use crate::reaching::{Reached, reach};
+use crate::rising::{Riser, Rising};
 use crate::targets::{Target, Unborn};
 use crate::writers::{Left, Writer};
 use crate::writing::{answer_of, write_there};
 use bl_index_rule::PassState;
-use bl_index_steps::Tree;
+use bl_index_steps::{FrameView, Tree};
 use bl_model::{KeyReply, KeyWrite, Reply};
-use bl_proc::{Answer, ClimbStage, Hint, InsertPost, Path, Post, PostStage, Posted, Process, Step};
-use bl_store::Hand;
+use bl_proc::{
+    Answer, ClimbStage, Hint, InsertPost, Path, Post, PostReply, PostStage, Posted, Process, Reader,
+};
+use bl_proc_base::{Approach, Level, Step};
+use bl_store::{Glance, Hand};
 use std::sync::Wait;
 
 /// The insertion of a pair that notes its way.
@@ -179,7 +188,96 @@ fn climbed(answer: Option<Answer>) -> (KeyReply, Option<Posted>, Option<Hint>)
     }
 }
 
-/// It has split its leaf, and posts that, from the page that it has noted for level 1.
+/// The key at which the upper half begins, where a post has split its parent.
+fn split_by(reply: PostReply) -> Option<u64>
+    ensures { MatchOption result (IsLast reply) (λ next. reply ≡ listed.Done (Some next)) }
+{
+    match reply {
+        PostReply::Done(next) => next,
+        PostReply::Already | PostReply::Stale | PostReply::NoRoom | PostReply::TooTall => None,
+    }
+}
+
+/// What became of its last post, and the hint.
+fn last_posted(level: u32, separator: u64, reply: PostReply) -> (Option<Posted>, Option<Hint>)
+    requires least { 0 < level }
+    requires most { level ≤ 12 }
+    requires may { MayReply level reply }
+    ensures { (result.0 ≡ Some (posted_as reply)) × (result.1 ≡ left_hint level separator (posted_as reply)) }
+{
+    match posted_by(level, reply).0 {
+        Posted::NoRoom => {
+            let hint = Hint::Post {
+                level: Level::new(level),
+                key: separator,
+            };
+            (Some(Posted::NoRoom), Some(hint))
+        }
+        posted => (Some(posted), None),
+    }
+}
+
+/// It has opened its last parent, and ends.
+fn end_climb(
+    tree: &Tree,
+    hand: &mut Hand<PassState>,
+    rising: &Rising,
+    path: &Path,
+    reply: PostReply,
+) -> (KeyReply, Option<Posted>, Option<Hint>)
+    requires empty { HasNoStock hand.old.seat }
+    requires last { IsLast reply }
+    requires process { (may : MayReply rising.now.level reply)
+        × Runs tree.now hand.old (rose rising.now path.now reply may) }
+    requires no_room { reply ≡ listed.NoRoom → LacksPost rising.now.level rising.now.separator hand.old.seat }
+    ensures same { IsSameHand hand.old.seat hand.new.seat }
+    ensures over { IsClimbOver rising.now.key rising.now.value (known hand.old.seat) hand.new.seat (reply_of result.0) result.1 result.2 }
+{
+    let _ = path;
+    tree.conclude(hand);
+    let (posted, left) = last_posted(rising.level, rising.separator, reply);
+    (KeyReply::Inserted, posted, left)
+}
+
+/// The tree has no such level: it gets one more, or the insertion ends. This is rare, and goes by a process value.
+#[inline(never)]
+fn climb_above<R: Wait>(
+    tree: &Tree,
+    rt: &R,
+    hand: &mut Hand<PassState>,
+    rising: &Rising,
+    path: &Path,
+    glance: Glance,
+) -> (KeyReply, Option<Posted>, Option<Hint>)
+    requires runs { Runs tree.now hand.old (known hand.old.seat).state }
+    requires empty { HasNoStock hand.old.seat }
+    requires reads { ReadsFrom hand.old.seat glance }
+    requires since { (pass : ℕ) × (old : Knows) × IsSince pass old (known hand.old.seat) }
+    requires anchor { HasGotAnchor (rises rising.now path.now (post.Coming approach.Start) tt tt) (read_words hand.old.seat) (known hand.old.seat) }
+    ensures same { IsSameHand hand.old.seat hand.new.seat }
+    ensures over { IsClimbOver rising.now.key rising.now.value (known hand.old.seat) hand.new.seat (reply_of result.0) result.1 result.2 }
+{
+    let shown = FrameView {
+        store: &tree.store,
+        glance,
+    };
+    let post = Post {
+        level: rising.level,
+        key: rising.separator,
+        stage: PostStage::Coming(Approach::Start),
+    };
+    let mut insertion = InsertPost {
+        key: rising.key,
+        value: rising.value,
+        path: Path { pages: path.pages },
+        stage: ClimbStage::Posting(post),
+    };
+    insertion.took_words(&shown, hand);
+    let process = tree.carry_on(rt, hand, insertion);
+    climbed(process.answer())
+}
+
+/// It posts, level by level, each time from the page that it has noted there.
 #[inline(never)]
 fn climb<R: Wait>(
     tree: &Tree,
@@ -192,27 +290,44 @@ fn climb<R: Wait>(
     requires empty { HasNoStock hand.old.seat }
     requires since { (pass : ℕ) × (old : Knows) × IsSince pass old (known hand.old.seat) }
     ensures same { IsSameHand hand.old.seat hand.new.seat }
-    ensures rests { Rests hand.new.seat }
-    ensures empty { HasNoStock hand.new.seat }
-    ensures climbed { (pass : ℕ) (old : Knows) → IsSince pass old (known hand.old.seat)
-        → HasClimbed pass old (known hand.new.seat) climber.key climber.value (reply_of result.0) result.1 result.2 }
-    ensures no_room { result.0 ≡ replies.NoRoom → LacksPage 0 climber.key hand.new.seat }
-    ensures entered { (level : ℕ) → (key : ℕ) → result.2 ≡ Some (hints.Post level key) → reply_of result.0 ≡ reply.Inserted }
-    ensures left { (level : ℕ) → (key : ℕ) → result.2 ≡ Some (hints.Post level key) → LacksPost level key hand.new.seat }
+    ensures over { IsClimbOver climber.key climber.value (known hand.old.seat) hand.new.seat (reply_of result.0) result.1 result.2 }
 {
-    let post = Post {
-        level: 1,
-        key: separator,
-        stage: PostStage::Coming(climber.path.way(1)),
-    };
-    let insertion = InsertPost {
-        key: climber.key,
-        value: climber.value,
-        path: climber.path,
-        stage: ClimbStage::Posting(post),
-    };
-    let process = tree.carry_on(rt, hand, insertion);
-    climbed(process.answer())
+    let Climber { key, value, path } = climber;
+    let mut path = path;
+    let mut level = 1;
+    let mut separator = separator;
+    let mut from = path.way(1);
+    for _ in rt.forever() {
+        let rising = Rising {
+            key,
+            value,
+            level,
+            separator,
+        };
+        match reach(tree, rt, hand, &rising, &mut path, from) {
+            Reached::Parent(at, glance) => {
+                let riser = Riser {
+                    rising: &rising,
+                    path: &path,
+                };
+                let Some(reply) = post_there(tree, rt, hand, &riser, at, glance) else {
+                    from = Approach::Start;
+                    continue;
+                };
+                let Some(next) = split_by(reply) else {
+                    return end_climb(tree, hand, &rising, &path, reply);
+                };
+                level += 1;
+                separator = next;
+                from = path.way(level);
+            }
+            Reached::Again => from = Approach::Start,
+            Reached::NoLevel(glance) => {
+                return climb_above(tree, rt, hand, &rising, &path, glance);
+            }
+        }
+    }
+    unreachable!()
 }
 
 /// Carries an insertion with its posts out, from its begin to its end.

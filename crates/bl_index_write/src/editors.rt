@@ -4,7 +4,7 @@ ghost use Rattle.std.specs.Prelude.{◌≡◌, ◌<◌, None};
 ghost use Rattle.bl_model.specs.declared.deciding.Effect.TheVariants as effects;
 ghost use Rattle.bl_model.specs.Writes.{effect_of};
 
-use crate::targets::Posting;
+use crate::posters::Poster;
 use crate::writers::Writer;
 
 /// Who changes a page that it holds and has got. There is a process that does so, of which there is no value.
@@ -70,31 +70,26 @@ impl<'a, W: Writer> Editor for Entering<'a, W> {
 }
 
 /// The listing of a child in its parent, which is below the last level that a tree may have.
-#[derive(Clone, Copy)]
-pub(crate) struct Listing {
-    pub(crate) posting: Posting,
-    pub(crate) ghost below: { posting.level < 12 },
+#[derive(Drop)]
+pub(crate) struct Listing<'a, P: Poster> {
+    pub(crate) poster: &'a P,
+    pub(crate) ghost below: { P.level_of poster.now < 12 },
 }
 
-impl Editor for Listing {
-    ghost use Rattle.std.specs.Prelude.{refl};
+impl<'a, P: Poster> Editor for Listing<'a, P> {
     ghost use Rattle.bl_proc.specs.declared.posting.PostStage.TheVariants as post;
-    ghost use Rattle.bl_proc_unique.proofs.Posts.{post_goes};
-    ghost use Rattle.bl_index_write.specs.Events.{posting};
 
-    ghost editing = { λ j c. posting j.posting (post.Editing c) j.below };
+    ghost editing = { λ j c. P.staged j.poster.now (post.Editing c) j.below tt };
 
-    ghost level_at = { λ j. j.posting.level };
+    ghost level_at = { λ j. P.level_of j.poster.now };
 
-    ghost key_at = { λ j. j.posting.key };
+    ghost key_at = { λ j. P.key_of j.poster.now };
 
-    ghost acts = { λ j c. refl };
+    ghost acts = { λ j c. (P.posts j.poster.now).acts (post.Editing c) j.below tt tt };
 
-    ghost courses = { λ j c what g. post_goes
-        (record { level = j.posting.level; key = j.posting.key; stage = post.Editing c; least = j.posting.least; most = j.posting.most; below = j.below })
-        what refl g };
+    ghost courses = { λ j c what g. (P.posts j.poster.now).courses (post.Editing c) j.below tt what tt g };
 
-    ghost goes = { λ j c d what t. (refl, refl, t) };
+    ghost goes = { λ j c d what t. (P.posts j.poster.now).goes (post.Editing c) (post.Editing d) j.below j.below tt tt what tt t };
 
-    ghost holds = { λ j c marks held. held };
+    ghost holds = { λ j c marks held. (P.posts j.poster.now).held (post.Editing c) j.below tt marks tt held };
 }

@@ -2,7 +2,7 @@
 //!
 //! Promised to the index: what each answers, with its hint, and that its process did what a process of its kind does. They go by
 //! their events and by the words of the pages, so that no page is made of words that are only looked at. Where a tree is to get one
-//! more level, which is rare, a post goes by a process value, and so do the posts of an insertion that posts.
+//! more level, which is rare, a post goes by a process value.
 #![tactic(auto)]
 
 mod climbing;
@@ -10,7 +10,10 @@ mod descend;
 mod editors;
 mod halves;
 mod placing;
+mod posters;
 mod posting;
+mod reaching;
+mod rising;
 mod splitting;
 mod targets;
 mod writers;

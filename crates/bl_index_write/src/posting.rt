@@ -20,20 +20,22 @@ ghost use Rattle.bl_store.specs.Hands.{known, read_words, IsIdle, IsRunning, IsS
 ghost use Rattle.bl_store.specs.Owners.{IsHandOf};
 ghost use Rattle.bl_index_rule.specs.declared.known.PassState.{PassState as Knows};
 ghost use Rattle.bl_index_steps.specs.Runs.{Runs, Keeps, Rests, IsOn, IsSince, IsSameProcess};
-ghost use Rattle.bl_index_write.specs.Events.{posting, IsThere, IsToEnter, IsWalking, HasWalked, HasPosted, IsPostOver, IsPostAnswer};
+ghost use Rattle.bl_index_write.specs.Events.{posting, HasGotAnchor, IsThere, IsToEnter, IsWalking, HasWalked, HasPosted, IsPostOver, IsPostAnswer, LeavesParent};
 ghost use Rattle.bl_index_steps.specs.Rooms.{LacksPost};
 ghost use Rattle.bl_proc_base.specs.declared.answers.Posted.TheVariants as postings;
 ghost use Rattle.bl_proc.specs.declared.posting.PostReply.TheVariants as replies;
 
-use crate::descend::{begin_descent, come_from};
+use crate::descend::begin_descent;
 use crate::editors::Listing;
+use crate::posters::Poster;
+use crate::reaching::{Reached, reach};
 use crate::splitting::enter_page;
 use crate::targets::Posting;
 use bl_index_rule::PassState;
 use bl_index_steps::{FrameView, Tree};
 use bl_page::{Words, word, words_from};
 use bl_proc::{Answer, Hint, Post, PostReply, PostStage, Posted, Process, Reader};
-use bl_proc_base::{Approach, Level, Outcome, Step, levels_in, row_in, step_in};
+use bl_proc_base::{Approach, Level, Outcome, Step, row_in, step_in};
 use bl_store::{Glance, Hand};
 use std::sync::Wait;
 
@@ -62,7 +64,7 @@ fn posted(answer: Option<Answer>) -> (Posted, Option<Hint>)
 }
 
 /// The same of a post to that level, by its reply.
-fn posted_by(level: u32, reply: PostReply) -> (Posted, Option<Hint>)
+pub(crate) fn posted_by(level: u32, reply: PostReply) -> (Posted, Option<Hint>)
     requires { MayReply level reply }
     ensures answer { posted_answer level reply ≡ answers.Post result.0 result.1 }
     ensures no_room { result.0 ≡ postings.NoRoom → reply ≡ replies.NoRoom }
@@ -116,71 +118,74 @@ fn low_in<W: Words>(source: &W, hand: &mut W::Hand) -> u64
 }
 
 /// The parent that it holds stays as it is.
-fn stay(
+fn stay<P: Poster>(
     tree: &Tree,
     hand: &mut Hand<PassState>,
-    target: Posting,
+    poster: &P,
     at: u32,
     reply: PostReply,
-) -> (Posted, Option<Hint>)
-    requires own { IsHandOf tree.now.store hand.old }
-    requires running { IsRunning hand.old.seat × HasNoStock hand.old.seat }
+) -> Option<PostReply>
+    requires runs { Runs tree.now hand.old (known hand.old.seat).state }
+    requires empty { HasNoStock hand.old.seat }
     requires reply { reply ≢ replies.NoRoom }
-    requires process { (below : MayReply target.level reply) × IsOn tree.now.store.layout (known hand.old.seat) (posting target (post.Staying at reply) below) }
-    ensures same { IsSameHand hand.old.seat hand.new.seat }
-    ensures over { IsPostOver tree.now.store.layout target (known hand.old.seat) hand.new.seat (Some result) }
+    requires process { (may : MayReply (P.level_of poster.now) reply) × ((known hand.old.seat).state ≡ P.staged poster.now (post.Staying at reply) may tt) }
+    ensures { LeavesParent tree.now hand.old.seat hand.new (P.level_of poster.now) (P.key_of poster.now) (P.staged poster.now) (P.opened poster.now) result }
 {
-    tree.open_and_end(hand, at);
-    posted_by(target.level, reply)
+    let _ = poster;
+    tree.reopen(hand, at);
+    Some(reply)
 }
 
 /// The parent that it holds, with these words, lists the child.
-fn list(
+fn list<P: Poster>(
     tree: &Tree,
     hand: &mut Hand<PassState>,
-    target: Posting,
+    poster: &P,
     at: u32,
     parent: &[u64; 32],
     child: u32,
-) -> (Posted, Option<Hint>)
+) -> Option<PostReply>
     requires own { IsHandOf tree.now.store hand.old }
     requires running { IsRunning hand.old.seat × HasNoStock hand.old.seat }
-    requires page { (below : target.level < 12) × (c : Edit) × IsToEnter at target.key child parent.now c
-        × IsOn tree.now.store.layout (known hand.old.seat) (posting target (post.Editing c) below) }
-    ensures same { IsSameHand hand.old.seat hand.new.seat }
-    ensures over { IsPostOver tree.now.store.layout target (known hand.old.seat) hand.new.seat (Some result) }
+    requires page { (below : P.level_of poster.now < 12) × (c : Edit) × IsToEnter at (P.key_of poster.now) child parent.now c
+        × IsOn tree.now.store.layout (known hand.old.seat) (P.staged poster.now (post.Editing c) below tt) }
+    ensures { LeavesParent tree.now hand.old.seat hand.new (P.level_of poster.now) (P.key_of poster.now) (P.staged poster.now) (P.opened poster.now) result }
 {
-    let listing = Listing { posting: target };
-    let outcome = enter_page(tree, hand, &listing, at, parent, target.key, child as u64);
-    tree.open_and_end(hand, at);
-    posted_by(target.level, reply_by(outcome))
+    let listing = Listing { poster };
+    let key = poster.key();
+    let outcome = enter_page(tree, hand, &listing, at, parent, key, child as u64);
+    tree.reopen(hand, at);
+    Some(reply_by(outcome))
 }
 
 /// It gets the next page on its way from the parent, with these words, to the child that covers its key.
-fn walk_on(
+fn walk_on<P: Poster>(
     tree: &Tree,
     hand: &mut Hand<PassState>,
-    target: Posting,
+    poster: &P,
     at: u32,
     parent: &[u64; 32],
     child: u32,
 ) -> Walked
     requires runs { Runs tree.now hand.old (known hand.old.seat).state }
-    requires walking { IsWalking target at parent.now child (known hand.old.seat).state }
+    requires walking { IsWalking (P.level_of poster.now) (P.key_of poster.now) (P.staged poster.now) at parent.now child (known hand.old.seat).state }
     ensures same { Keeps hand.old.seat hand.new.seat }
-    ensures walked { HasWalked tree.now.store.layout target at parent.now child (known hand.new.seat) result }
+    ensures walked { HasWalked (P.level_of poster.now) (P.key_of poster.now) (P.staged poster.now) tree.now.store.layout at parent.now child
+        (known hand.new.seat) result }
     ensures since { IsSameProcess (known hand.old.seat) (known hand.new.seat) }
 {
     let _ = at;
     let _ = parent;
+    let level = poster.level();
+    let key = poster.key();
     let glance = tree.look(hand, child);
     let shown = FrameView {
         store: &tree.store,
         glance,
     };
-    match step_in(&shown, hand, &mut 0, target.key, target.level - 1) {
+    match step_in(&shown, hand, &mut 0, key, level - 1) {
         Step::Here => {
-            if low_in(&shown, hand) == target.key {
+            if low_in(&shown, hand) == key {
                 Walked::Found
             } else {
                 Walked::Stale
@@ -198,29 +203,28 @@ fn walk_on(
     }
 }
 
-/// It walks from the parent, with these words, to the child that covers its key. What it answers, unless its way begins
+/// It walks from the parent, with these words, to the child that covers its key. What it replies, unless its way begins
 /// again.
-fn walk<R: Wait>(
+fn walk<P: Poster, R: Wait>(
     tree: &Tree,
     rt: &R,
     hand: &mut Hand<PassState>,
-    target: Posting,
+    poster: &P,
     at: u32,
     parent: &[u64; 32],
     child: u32,
-) -> Option<(Posted, Option<Hint>)>
+) -> Option<PostReply>
     requires runs { Runs tree.now hand.old (known hand.old.seat).state }
     requires empty { HasNoStock hand.old.seat }
-    requires walking { IsWalking target at parent.now child (known hand.old.seat).state }
-    ensures same { IsSameHand hand.old.seat hand.new.seat }
-    ensures over { IsPostOver tree.now.store.layout target (known hand.old.seat) hand.new.seat result }
+    requires walking { IsWalking (P.level_of poster.now) (P.key_of poster.now) (P.staged poster.now) at parent.now child (known hand.old.seat).state }
+    ensures { LeavesParent tree.now hand.old.seat hand.new (P.level_of poster.now) (P.key_of poster.now) (P.staged poster.now) (P.opened poster.now) result }
 {
     let mut child = child;
     for _ in rt.forever() {
-        match walk_on(tree, hand, target, at, parent, child) {
+        match walk_on(tree, hand, poster, at, parent, child) {
             Walked::On(next) => child = next,
-            Walked::Found => return Some(list(tree, hand, target, at, parent, child)),
-            Walked::Stale => return Some(stay(tree, hand, target, at, PostReply::Stale)),
+            Walked::Found => return list(tree, hand, poster, at, parent, child),
+            Walked::Stale => return stay(tree, hand, poster, at, PostReply::Stale),
             Walked::Lost => {
                 tree.reopen(hand, at);
                 return None;
@@ -231,31 +235,49 @@ fn walk<R: Wait>(
 }
 
 /// At the parent that it holds, which covers the key.
-fn post_there<R: Wait>(
+pub(crate) fn post_there<P: Poster, R: Wait>(
     tree: &Tree,
     rt: &R,
     hand: &mut Hand<PassState>,
-    target: Posting,
+    poster: &P,
     at: u32,
     glance: Glance,
-) -> Option<(Posted, Option<Hint>)>
+) -> Option<PostReply>
     requires runs { Runs tree.now hand.old (known hand.old.seat).state }
     requires empty { HasNoStock hand.old.seat }
     requires reads { ReadsFrom hand.old.seat glance }
-    requires there { IsThere target.level target.key (posting target (post.Coming (approach.Latched at)) tt) (read_words hand.old.seat) (known hand.old.seat) }
-    ensures same { IsSameHand hand.old.seat hand.new.seat }
-    ensures over { IsPostOver tree.now.store.layout target (known hand.old.seat) hand.new.seat result }
+    requires there { IsThere (P.level_of poster.now) (P.key_of poster.now) (P.staged poster.now (post.Coming (approach.Latched at)) tt tt)
+        (read_words hand.old.seat) (known hand.old.seat) }
+    ensures { LeavesParent tree.now hand.old.seat hand.new (P.level_of poster.now) (P.key_of poster.now) (P.staged poster.now) (P.opened poster.now) result }
 {
+    let key = poster.key();
     let shown = FrameView {
         store: &tree.store,
         glance,
     };
-    if let Some(_child) = row_in(&shown, hand, &mut 0, target.key) {
-        return Some(stay(tree, hand, target, at, PostReply::Already));
+    if let Some(_child) = row_in(&shown, hand, &mut 0, key) {
+        return stay(tree, hand, poster, at, PostReply::Already);
     }
     let parent = words_from(&shown, hand);
-    let child = first_child(&parent, target.level, target.key);
-    walk(tree, rt, hand, target, at, &parent, child)
+    let child = first_child(&parent, poster.level(), key);
+    walk(tree, rt, hand, poster, at, &parent, child)
+}
+
+/// It has opened its parent, and ends.
+fn end_post(
+    tree: &Tree,
+    hand: &mut Hand<PassState>,
+    target: Posting,
+    reply: PostReply,
+) -> (Posted, Option<Hint>)
+    requires empty { HasNoStock hand.old.seat }
+    requires process { (may : MayReply target.level reply) × Runs tree.now hand.old (posting target (post.Ending reply) may) }
+    requires no_room { reply ≡ replies.NoRoom → LacksPost target.level target.key hand.old.seat }
+    ensures same { IsSameHand hand.old.seat hand.new.seat }
+    ensures over { IsPostOver target (known hand.old.seat) hand.new.seat result.0 result.1 }
+{
+    tree.conclude(hand);
+    posted_by(target.level, reply)
 }
 
 /// The tree has no such level: it gets one more, or the post ends. This is rare, and goes by a process value.
@@ -271,10 +293,9 @@ fn post_above<R: Wait>(
     requires empty { HasNoStock hand.old.seat }
     requires reads { ReadsFrom hand.old.seat glance }
     requires since { (pass : ℕ) × (old : Knows) × IsSince pass old (known hand.old.seat) }
-    requires anchor { (c : Page) × (read_words hand.old.seat ≡ words_of c)
-        × Takes (posting target (post.Coming approach.Start) tt) (seen.Words c) (known hand.old.seat).state }
+    requires anchor { HasGotAnchor (posting target (post.Coming approach.Start) tt) (read_words hand.old.seat) (known hand.old.seat) }
     ensures same { IsSameHand hand.old.seat hand.new.seat }
-    ensures over { IsPostOver tree.now.store.layout target (known hand.old.seat) hand.new.seat (Some result) }
+    ensures over { IsPostOver target (known hand.old.seat) hand.new.seat result.0 result.1 }
 {
     let shown = FrameView {
         store: &tree.store,
@@ -290,35 +311,7 @@ fn post_above<R: Wait>(
     posted(process.answer())
 }
 
-/// From the anchor on. What it answers, unless its way begins again.
-fn post_on<R: Wait>(
-    tree: &Tree,
-    rt: &R,
-    hand: &mut Hand<PassState>,
-    target: Posting,
-) -> Option<(Posted, Option<Hint>)>
-    requires runs { Runs tree.now hand.old (posting target (post.Coming approach.Start) tt) }
-    requires empty { HasNoStock hand.old.seat }
-    requires since { (pass : ℕ) × (old : Knows) × IsSince pass old (known hand.old.seat) }
-    ensures same { IsSameHand hand.old.seat hand.new.seat }
-    ensures over { IsPostOver tree.now.store.layout target (known hand.old.seat) hand.new.seat result }
-{
-    let glance = tree.look(hand, 0);
-    let shown = FrameView {
-        store: &tree.store,
-        glance,
-    };
-    if levels_in(&shown, hand) <= target.level {
-        return Some(post_above(tree, rt, hand, target, glance));
-    }
-    let from = Approach::Start.took_words(target.level, target.key, &shown, hand);
-    match come_from(tree, rt, hand, &target, &mut (), from) {
-        Some((at, glance)) => post_there(tree, rt, hand, target, at, glance),
-        None => None,
-    }
-}
-
-/// On to its end.
+/// From the anchor on, to its end.
 fn post_until<R: Wait>(
     tree: &Tree,
     rt: &R,
@@ -329,12 +322,17 @@ fn post_until<R: Wait>(
     requires empty { HasNoStock hand.old.seat }
     requires since { (pass : ℕ) × (old : Knows) × IsSince pass old (known hand.old.seat) }
     ensures same { IsSameHand hand.old.seat hand.new.seat }
-    ensures over { IsPostOver tree.now.store.layout target (known hand.old.seat) hand.new.seat (Some result) }
+    ensures over { IsPostOver target (known hand.old.seat) hand.new.seat result.0 result.1 }
 {
     for _ in rt.forever() {
-        match post_on(tree, rt, hand, target) {
-            Some(answer) => return answer,
-            None => {}
+        match reach(tree, rt, hand, &target, &mut (), Approach::Start) {
+            Reached::Parent(at, glance) => {
+                if let Some(reply) = post_there(tree, rt, hand, &target, at, glance) {
+                    return end_post(tree, hand, target, reply);
+                }
+            }
+            Reached::Again => {}
+            Reached::NoLevel(glance) => return post_above(tree, rt, hand, target, glance),
         }
     }
     unreachable!()

@@ -1,65 +1,86 @@
-use Rattle.std.proofs.Common.{ℕ, ◌≡◌, Option, Some, None, refl, sym, ap, subst, ◌∙◌}
-use Rattle.bl_model.specs.declared.operation.Op.TheVariants as op
-use Rattle.bl_model.specs.declared.operation.Reply.TheVariants as reply
-use Rattle.bl_model.specs.Replies.{reply_of}
-use Rattle.bl_proc_base.specs.declared.answers.Answer.TheVariants.{InsertPost as Answered}
-use Rattle.bl_proc_base.specs.declared.answers.Hint.TheVariants as hint
-use Rattle.bl_proc_base.specs.declared.answers.Posted.TheVariants as posted
-use Rattle.bl_proc.specs.declared.kinds.Proc.TheVariants as proc
-use Rattle.bl_proc.specs.declared.climbing.InsertPost.{InsertPost}
-use Rattle.bl_proc.specs.Climbs.{climb_answer_in}
-use Rattle.bl_proc.specs.Paths.{page_at}
-use Rattle.bl_store.specs.Hands.{known}
-use Rattle.bl_index_steps.specs.Rooms.{LacksPage}
-use Rattle.bl_index_steps.proofs.Rooms.{lacks_climb}
+use Rattle.std.proofs.Common.{rules, ◌+◌, ◌<◌, Some, refl, sym, ap, subst, ◌∙◌, arith}
 use Rattle.bl_proc.specs.declared.kinds.Proc.{Proc}
 use Rattle.bl_proc.specs.declared.posting.PostStage.TheVariants as post
 use Rattle.bl_proc_base.specs.declared.approaching.Approach.{Approach}
+use Rattle.bl_store.specs.Hands.{known}
 use Rattle.bl_index_steps.specs.Runs.{Runs}
-use Rattle.bl_index_write.proofs.Climbs.{goes_with, IsEnded, ended, has_answer, said_by, no_room_page, left_post}
+use Rattle.bl_index_steps.proofs.Standing.{none_of, same_all}
+use Rattle.bl_index_write.specs.Events.{HoldsNone}
+use Rattle.bl_index_write.proofs.Climbs.{climb_since, from_free, goes_above, goes_with, posting_alike}
+use Rattle.bl_index_write.proofs.Parents.{leaves_again, leaves_opened}
 use Rattle.bl_index_write.proofs.climbing.climb.Goals as goal
 
-pub carry_on-process-requires-clause-runs : goal.carry_on-process-requires-clause-runs
-carry_on-process-requires-clause-runs g c =
+pub loop-init : goal.loop-init
+loop-init g c =
     let k = c.args.climber in let runs = c.requires.runs in
-    subst (λ (z : Proc). Runs c.args.tree.now c.args.hand.now z) (goes_with k.key k.value k.path runs.0 c.args.separator _ _ refl refl (ap (λ (a : Approach). post.Coming a) c.way.ensures)) runs.1
+    record {
+      same = (refl, refl, refl);
+      empty = c.requires.empty;
+      least = omega arith;
+      most = omega arith;
+      stands = (omega arith, omega arith, subst (λ (z : Proc). Runs c.args.tree.now c.args.hand.now z) (goes_with k.key k.value k.path runs.0 c.args.separator _ tt refl refl (ap (λ (a : Approach). post.Coming a) c.way-from.ensures)) runs.1);
+      free = subst (λ (a : Approach). HoldsNone a) (sym c.way-from.ensures) (from_free _);
+      since = λ pass old since. since;
+    }
 
-pub climbed-requires : goal.climbed-requires
-climbed-requires g c =
-    let k = c.args.climber in let begun = c.requires.since in let q = c.carry_on-process.result in
-    has_answer q k.key k.value _ (ended _ _ _ _ q k.key k.value (c.carry_on-process.ensures.done begun.0 begun.1 begun.2) refl) c.answer.ensures
+pub reach-requires-clause-runs : goal.reach-requires-clause-runs
+reach-requires-clause-runs g c =
+    let s = c.loop.invariant.stands in
+    subst (λ (z : Proc). Runs c.args.tree.now c.loop.hand z) (posting_alike c.args.climber.key c.args.climber.value c.loop.level c.loop.separator c.loop.path s.0 _ s.1 _ c.loop.from) s.2
 
-pub returns-clause-climbed : goal.returns-clause-climbed
-returns-clause-climbed g c = λ pass old since. record {
-  first = _;
-  op_is = refl;
-  over = c.carry_on-process.result;
-  done = c.carry_on-process.ensures.done pass old since;
-  answer = sym c.answer.ensures ∙ c.climbed.ensures;
-}
+pub loop-preserved-in_default : goal.loop-preserved-in_default
+loop-preserved-in_default g c =
+    let left = c.post_there.ensures in
+    let one = c.loop.invariant.same in let two = c.reach.ensures.same.0 in let three = left.same in
+    record {
+      same = (three.0 ∙ (two.0 ∙ one.0), three.1 ∙ (two.1 ∙ one.1), three.2 ∙ (two.2 ∙ one.2));
+      empty = left.empty;
+      least = c.loop.invariant.least;
+      most = c.loop.invariant.most;
+      stands = (_, _, leaves_again _ _ _ _ _ _ _ _ left (none_of c.post_there.result c.in_default.not-Some));
+      free = tt;
+      since = same_all _ _ _ c.loop.invariant.since (same_all _ _ _ c.reach.ensures.since left.since);
+    }
 
-pub returns-clause-no_room : goal.returns-clause-no_room
-returns-clause-no_room g c = λ none.
-    let k = c.args.climber in let begun = c.requires.since in let out = c.carry_on-process.ensures in let q = c.carry_on-process.result in
-    let h = c.carry_on-process.new.hand.seat in let last = c.climbed.result.1 in let left = c.climbed.result.2 in
-    let is = ended _ _ _ _ q k.key k.value (out.done begun.0 begun.1 begun.2) refl in
-    let answer : climb_answer_in q.value q.stage ≡ Some (Answered reply.NoRoom last left) = sym c.answer.ensures ∙ (c.climbed.ensures ∙ ap (λ z. Some (Answered (reply_of z) last left)) none) in
-    subst (λ (n : ℕ). LacksPage 0 n h) is.key_is (no_room_page h q.key q.value is.end last left (said_by q k.key k.value _ is answer) (lacks_climb h q is.end is.stage (out.no_room _ answer tt)))
+pub returns-in_default-split_by-clause-over : goal.returns-in_default-split_by-clause-over
+returns-in_default-split_by-clause-over g c =
+    climb_since c.args.climber.key c.args.climber.value (known c.args.hand.now.seat) (known c.post_there.new.hand.seat) c.end_climb.new.hand.seat _ _ _
+    (same_all _ _ _ c.loop.invariant.since (same_all _ _ _ c.reach.ensures.since c.post_there.ensures.since)) c.end_climb.ensures.over
 
-pub returns-clause-left : goal.returns-clause-left
-returns-clause-left g c = λ level separator there.
-    let k = c.args.climber in let begun = c.requires.since in let out = c.carry_on-process.ensures in let q = c.carry_on-process.result in
-    let h = c.carry_on-process.new.hand.seat in let said = reply_of c.climbed.result.0 in let last = c.climbed.result.1 in
-    let is = ended _ _ _ _ q k.key k.value (out.done begun.0 begun.1 begun.2) refl in
-    let told : climb_answer_in q.value q.stage ≡ Some (Answered said last (Some (hint.Post level separator))) = sym c.answer.ensures ∙ (c.climbed.ensures ∙ ap (λ z. Some (Answered said last z)) there) in
-    let is_left = left_post h q.key q.value is.end said last level separator (said_by q k.key k.value _ is told) in
-    let answer : climb_answer_in q.value q.stage ≡ Some (Answered reply.Inserted (Some posted.NoRoom) (Some (hint.Post level separator))) = told ∙ (λ i. Some (Answered (is_left.said_is i) (is_left.last_is i) (Some (hint.Post level separator)))) in
-    is_left.lacks (lacks_climb h q is.end is.stage (out.no_room _ answer tt))
+pub loop-preserved-in-Parent : goal.loop-preserved-in-Parent
+loop-preserved-in-Parent g c =
+    let left = c.post_there.ensures in let k = c.args.climber in let level = c.loop.level in
+    let one = c.loop.invariant.same in let two = c.reach.ensures.same.0 in let three = left.same in
+    let went = leaves_opened _ _ _ _ _ _ _ _ _ left (c.in-Some-post_there.is ∙ ap Some c.in-Some-split_by.ensures) in
+    let below : level < 12 = went.0 in
+    record {
+      same = (three.0 ∙ (two.0 ∙ one.0), three.1 ∙ (two.1 ∙ one.1), three.2 ∙ (two.2 ∙ one.2));
+      empty = left.empty;
+      least = omega arith;
+      most = omega (arith, below);
+      stands = (omega arith, omega (arith, below), subst (λ (z : Proc). Runs c.args.tree.now c.post_there.new.hand z)
+        (goes_above k.key k.value level c.loop.separator c.reach.new.path c.in-Some-split_by.next below (level + 1) c.way-from-in-Parent.result (omega arith) (omega (arith, below)) refl c.way-from-in-Parent.ensures) went.1);
+      free = subst (λ (a : Approach). HoldsNone a) (sym c.way-from-in-Parent.ensures) (from_free _);
+      since = same_all _ _ _ c.loop.invariant.since (same_all _ _ _ c.reach.ensures.since left.since);
+    }
 
-pub returns-clause-entered : goal.returns-clause-entered
-returns-clause-entered g c = λ level separator there.
-    let k = c.args.climber in let begun = c.requires.since in let out = c.carry_on-process.ensures in let q = c.carry_on-process.result in
-    let h = c.carry_on-process.new.hand.seat in let said = reply_of c.climbed.result.0 in let last = c.climbed.result.1 in
-    let is = ended _ _ _ _ q k.key k.value (out.done begun.0 begun.1 begun.2) refl in
-    let told : climb_answer_in q.value q.stage ≡ Some (Answered said last (Some (hint.Post level separator))) = sym c.answer.ensures ∙ (c.climbed.ensures ∙ ap (λ z. Some (Answered said last z)) there) in
-    (left_post h q.key q.value is.end said last level separator (said_by q k.key k.value _ is told)).said_is
+pub loop-preserved : goal.loop-preserved
+loop-preserved g c =
+    let one = c.loop.invariant.same in let two = c.reach.ensures.same.0 in
+    record {
+      same = (two.0 ∙ one.0, two.1 ∙ one.1, two.2 ∙ one.2);
+      empty = c.reach.ensures.same.2.0 ∙ c.loop.invariant.empty;
+      least = c.loop.invariant.least;
+      most = c.loop.invariant.most;
+      stands = (_, _, record { own = search rules; running = search rules; on = c.in-Again.ensures.reached });
+      free = tt;
+      since = same_all _ _ _ c.loop.invariant.since c.reach.ensures.since;
+    }
+
+pub climb_above-requires-clause-since : goal.climb_above-requires-clause-since
+climb_above-requires-clause-since g c = (let begun = c.requires.since in (begun.0, begun.1, c.reach.ensures.since begun.0 begun.1 (c.loop.invariant.since begun.0 begun.1 begun.2)))
+
+pub returns-in-NoLevel-clause-over : goal.returns-in-NoLevel-clause-over
+returns-in-NoLevel-clause-over g c =
+    climb_since c.args.climber.key c.args.climber.value (known c.args.hand.now.seat) (known c.reach.new.hand.seat) c.climb_above.new.hand.seat _ _ _
+    (same_all _ _ _ c.loop.invariant.since c.reach.ensures.since) c.climb_above.ensures.over

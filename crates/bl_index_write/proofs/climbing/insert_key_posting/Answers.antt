@@ -1,5 +1,6 @@
 use Rattle.std.proofs.Common.{◌≡◌, Some, None, refl, sym, ap, ◌∙◌}
 use Rattle.bl_model.specs.declared.deciding.KeyWrite.TheVariants.{Insert}
+use Rattle.bl_model.specs.Replies.{reply_of}
 use Rattle.bl_proc_base.specs.declared.answers.Hint.TheVariants as hint
 use Rattle.bl_proc.specs.declared.climbing.Climbed.TheVariants as climbed
 use Rattle.bl_proc.specs.declared.climbing.ClimbStage.TheVariants as climb
@@ -50,4 +51,19 @@ returns-in_default g c =
       no_room = λ none. lacks_leaf key value c.conclude.new.hand.seat (lacks_same key (Insert value) c.write_there-left.new.hand.seat c.conclude.new.hand.seat c.conclude.ensures.refusal c.conclude.ensures.keeps (c.write_there-left.ensures.no_room (refused_reply l (sym c.reply.ensures ∙ c.answer_of-reply.ensures.no_room none))));
       entered = λ level separator e. absurd (let f : None ≡ Some (hint.Post level separator) = e in cc);
       left = λ level separator e. absurd (let f : None ≡ Some (hint.Post level separator) = e in cc);
+    }
+
+pub returns-in-Split : goal.returns-in-Split
+returns-in-Split g c =
+    let over = c.climb.ensures.over in
+    let one = c.begin_descent.ensures.same.0 in let two = c.descend-at.ensures.same.0 in let three = c.write_there-left.ensures.same in let last = c.climb.ensures.same in
+    let since = c.write_there-left.ensures.since _ _ (c.descend-at.ensures.since _ _ c.begin_descent.ensures.begun) in
+    record {
+      same = (last.0 ∙ (three.0 ∙ (two.0 ∙ one.0)), last.1 ∙ (three.1 ∙ (two.1 ∙ one.1)), last.2 ∙ (three.2 ∙ (two.2 ∙ one.2)));
+      rests = over.rests;
+      empty = over.empty;
+      climbed = over.is_climbed _ _ since;
+      no_room = λ none. over.no_room (ap reply_of none);
+      entered = over.entered;
+      left = over.lacks;
     }

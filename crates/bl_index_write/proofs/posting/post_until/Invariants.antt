@@ -1,14 +1,14 @@
 use Rattle.bl_proc_base.specs.declared.approaching.Approach.TheVariants as approach
 use Rattle.bl_proc.specs.declared.posting.PostStage.TheVariants as post
-use Rattle.bl_store.specs.Hands.{known, IsRunning, IsSameHand, HasNoStock}
-use Rattle.bl_index_steps.specs.Runs.{IsOn, IsSameProcess}
+use Rattle.bl_store.specs.Hands.{known, IsSameHand, HasNoStock}
+use Rattle.bl_index_steps.specs.Runs.{Runs, IsSameProcess}
 use Rattle.bl_index_write.specs.Events.{posting}
 use Rattle.bl_index_write.proofs.posting.post_until.Given as goal
 
 abbrev pub invariant-loop : goal.invariant-loop
 invariant-loop g l = record {
   same : IsSameHand l.fn.hand.seat l.hand.seat;
-  running : IsRunning l.hand.seat × HasNoStock l.hand.seat;
-  process : IsOn l.tree.store.layout (known l.hand.seat) (posting l.target (post.Coming approach.Start) tt);
+  empty : HasNoStock l.hand.seat;
+  runs : Runs l.tree l.hand (posting l.target (post.Coming approach.Start) tt);
   since : IsSameProcess (known l.fn.hand.seat) (known l.hand.seat);
 }

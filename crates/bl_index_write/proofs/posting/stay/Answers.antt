@@ -1,33 +1,31 @@
-use Rattle.std.proofs.Common.{rules, Some, refl, ap, ◌∙◌}
-use Rattle.bl_proc.specs.declared.posting.PostStage.TheVariants as post
-use Rattle.bl_index_write.specs.Events.{posting}
-use Rattle.bl_index_steps.proofs.Standing.{on_itself, opens_at}
-use Rattle.bl_index_write.proofs.Parents.{opens_staying}
+use Rattle.std.proofs.Common.{rules, Some, refl, ◌∙◌}
+use Rattle.bl_proc_base.specs.declared.acts.Seen.TheVariants as seen
+use Rattle.bl_proc.specs.declared.posting.PostReply.{PostReply}
+use Rattle.bl_store.specs.Hands.{known}
+use Rattle.bl_index_steps.proofs.Standing.{on_as, on_goes, same_goes}
+use Rattle.bl_index_write.proofs.Parents.{opens_staying, some_same}
 use Rattle.bl_index_write.proofs.posting.stay.Goals as goal
 
-pub open_and_end-requires-clause-runs : goal.open_and_end-requires-clause-runs
-open_and_end-requires-clause-runs c = record {
-  own = search rules;
-  running = search rules;
-  on = (on_itself _ _ _ c.requires.process.1);
-}
+pub reopen-requires-clause-next : goal.reopen-requires-clause-next
+reopen-requires-clause-next g c =
+    let p = c.args.poster.now in let stands = c.requires.process in
+    (opens_staying (g.P.Poster.level_of p) (g.P.Poster.key_of p) (g.P.Poster.staged p) (g.P.Poster.opened p) (g.P.Poster.posts p) c.args.at c.args.reply stands.0 _ stands.1).act
 
-pub open_and_end-requires-clause-opens : goal.open_and_end-requires-clause-opens
-open_and_end-requires-clause-opens c =
-    let j = c.args.target in let r = c.args.reply in let below = c.requires.process.0 in
-    (posting j (post.Ending r) below, posting j (post.Over r) below, opens_at _ _ _ _ _ c.requires.process.1.state (opens_staying j c.args.at r below))
+pub reopen-requires-clause-course : goal.reopen-requires-clause-course
+reopen-requires-clause-course g c =
+    let p = c.args.poster.now in let stands = c.requires.process in
+    (opens_staying (g.P.Poster.level_of p) (g.P.Poster.key_of p) (g.P.Poster.staged p) (g.P.Poster.opened p) (g.P.Poster.posts p) c.args.at c.args.reply stands.0 _ stands.1).course
 
-pub returns-clause-over : goal.returns-clause-over
-returns-clause-over c =
-    let j = c.args.target in let r = c.args.reply in let below = c.requires.process.0 in
-    let opens = opens_at _ _ _ _ _ c.requires.process.1.state (opens_staying j c.args.at r below) in (
-      (c.open_and_end.ensures.rests.idle, c.open_and_end.ensures.same.1.0 ∙ c.requires.running.1),
-      c.open_and_end.ensures.rests.within,
-      c.open_and_end.ensures.rests.over,
-      (λ none. absurd (c.requires.reply (c.posted_by.ensures.no_room none))),
-      λ pass old since. record {
-        last = record { level = j.level; key = j.key; stage = post.Over r; least = j.least; most = j.most; below = below };
-        done = c.open_and_end.ensures.done pass old (posting j post.New tt) (posting j (post.Ending r) below) (posting j (post.Over r) below) since opens refl refl;
-        answer = ap Some c.posted_by.ensures.answer;
-      },
-    )
+pub returns : goal.returns
+returns g c =
+    let p = c.args.poster.now in let stands = c.requires.process in
+    let opens = opens_staying (g.P.Poster.level_of p) (g.P.Poster.key_of p) (g.P.Poster.staged p) (g.P.Poster.opened p) (g.P.Poster.posts p) c.args.at c.args.reply stands.0 _ stands.1 in
+    record {
+      same = c.reopen.ensures.same.0;
+      empty = c.reopen.ensures.same.2.0 ∙ c.requires.empty;
+      state = g.P.Poster.opened p c.args.reply stands.0;
+      runs = record { own = search rules; running = search rules; on = on_goes c.args.tree.now.store.layout seen.Done _ _ _ _ c.requires.runs.on c.reopen.ensures.goes opens.opened };
+      is = (stands.0, refl);
+      since = same_goes _ _ _ c.reopen.ensures.goes;
+      no_room = λ e. absurd (c.requires.reply (some_same e));
+    }

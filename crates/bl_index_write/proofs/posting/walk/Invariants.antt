@@ -7,6 +7,6 @@ abbrev pub invariant-loop : goal.invariant-loop
 invariant-loop g l = record {
   same : IsSameHand l.fn.hand.seat l.hand.seat × IsSameStage l.fn.hand.seat l.hand.seat × IsSameStock l.fn.hand.seat l.hand.seat;
   process : IsOn l.tree.store.layout (known l.hand.seat) (known l.hand.seat).state;
-  walking : IsWalking l.target l.at l.parent l.child (known l.hand.seat).state;
+  walking : IsWalking (g.P.Poster.level_of l.poster) (g.P.Poster.key_of l.poster) (g.P.Poster.staged l.poster) l.at l.parent l.child (known l.hand.seat).state;
   since : IsSameProcess (known l.fn.hand.seat) (known l.hand.seat);
 }

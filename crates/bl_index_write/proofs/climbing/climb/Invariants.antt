@@ -1,0 +1,18 @@
+use Rattle.std.proofs.Common.{◌≡◌, ◌<◌, ◌≤◌}
+use Rattle.bl_proc.specs.declared.posting.PostStage.TheVariants as post
+use Rattle.bl_store.specs.Hands.{known, IsSameHand, HasNoStock}
+use Rattle.bl_index_steps.specs.Runs.{Runs, IsSameProcess}
+use Rattle.bl_index_write.specs.Climbing.{climb_posting}
+use Rattle.bl_index_write.specs.Events.{HoldsNone}
+use Rattle.bl_index_write.proofs.climbing.climb.Given as goal
+
+abbrev pub invariant-loop : goal.invariant-loop
+invariant-loop g l = record {
+  same : IsSameHand l.fn.hand.seat l.hand.seat;
+  empty : HasNoStock l.hand.seat;
+  least : 0 < l.level;
+  most : l.level ≤ 12;
+  stands : (first : 0 < l.level) × (last : l.level ≤ 12) × Runs l.tree l.hand (climb_posting l.fn.climber.key l.fn.climber.value l.level l.separator first last l.path (post.Coming l.from) tt tt);
+  free : HoldsNone l.from;
+  since : IsSameProcess (known l.fn.hand.seat) (known l.hand.seat);
+}
