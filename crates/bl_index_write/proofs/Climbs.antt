@@ -138,7 +138,7 @@ pub goes_above : (key value level separator : ℕ) (path : Path) (next : ℕ) (m
     → climb_posted key value level separator path (listed.Done (Some next)) may ≡ climb_posting key value k next least most path (post.Coming a) tt tt
 goes_above key value level separator path next may k a least most e is =
     let same = post_same (next_post level path next may) (record { level = k; key = next; stage = post.Coming a; least = least; most = most; below = tt })
-        (sym e) refl (ap (λ (z : ℕ). post.Coming (from_page (page_at path z))) (sym e) ∙ ap (λ (z : Approach). post.Coming z) (sym is)) in
+    (sym e) refl (ap (λ (z : ℕ). post.Coming (from_page (page_at path z))) (sym e) ∙ ap (λ (z : Approach). post.Coming z) (sym is)) in
     λ i. climbing key value path (climb.Posting (same i)) (is_prop→PathP (λ i. Stands key value path (climb.Posting (same i))) (λ i. Stands-prop key value path (climb.Posting (same i))) tt tt i)
 
 -- It does not matter why it may post there.

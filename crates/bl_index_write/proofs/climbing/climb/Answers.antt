@@ -58,8 +58,12 @@ loop-preserved-in-Parent g c =
       empty = left.empty;
       least = omega arith;
       most = omega (arith, below);
-      stands = (omega arith, omega (arith, below), subst (λ (z : Proc). Runs c.args.tree.now c.post_there.new.hand z)
-        (goes_above k.key k.value level c.loop.separator c.reach.new.path c.in-Some-split_by.next below (level + 1) c.way-from-in-Parent.result (omega arith) (omega (arith, below)) refl c.way-from-in-Parent.ensures) went.1);
+      stands = (
+        omega arith,
+        omega (arith, below),
+        subst (λ (z : Proc). Runs c.args.tree.now c.post_there.new.hand z)
+            (goes_above k.key k.value level c.loop.separator c.reach.new.path c.in-Some-split_by.next below (level + 1) c.way-from-in-Parent.result (omega arith) (omega (arith, below)) refl c.way-from-in-Parent.ensures) went.1,
+      );
       free = subst (λ (a : Approach). HoldsNone a) (sym c.way-from-in-Parent.ensures) (from_free _);
       since = same_all _ _ _ c.loop.invariant.since (same_all _ _ _ c.reach.ensures.since left.since);
     }

@@ -36,12 +36,14 @@ returns-clause-ok g c =
     let levels : c.levels_in.result ≡ (roots_of went.0).levels = c.levels_in.ensures.levels went.0 went.1 in
     let led : g.J.Target.level_of j < (roots_of went.0).levels = omega (arith, levels, c.level-level.ensures, c.if-levels_in-level.false) in
     let on = on_goes layout (seen.Words went.0) _ _ _ _ c.requires.runs.on went.2 (g.met.J.Target.enters j c.args.path.now c.took_words.result went.0 (c.requires.led went.0 led) turns) in
-    let both = sym (c.took_words.ensures.same ∙ c.levels_in.ensures.same) in
-    (search rules, record {
-      own = search rules;
-      running = subst (λ (h : Hand PassState). IsRunning h.seat) both (search rules);
-      on = subst (λ (h : Hand PassState). IsOn layout (known h.seat) (g.J.Target.at j c.args.path.now c.took_words.result)) both on;
-    })
+    let both = sym (c.took_words.ensures.same ∙ c.levels_in.ensures.same) in (
+      search rules,
+      record {
+        own = search rules;
+        running = subst (λ (h : Hand PassState). IsRunning h.seat) both (search rules);
+        on = subst (λ (h : Hand PassState). IsOn layout (known h.seat) (g.J.Target.at j c.args.path.now c.took_words.result)) both on;
+      },
+    )
 
 pub returns-clause-since : goal.returns-clause-since
 returns-clause-since g c = subst (λ (h : Hand PassState). IsSameProcess (known c.args.hand.now.seat) (known h.seat)) (sym (c.took_words.ensures.same ∙ c.levels_in.ensures.same)) (same_goes _ _ _ c.look-glance.ensures.goes.2)
