@@ -26,7 +26,7 @@ mod telling;
 mod upkeep;
 mod waiting;
 
-pub use bl_index::{CloseFault, Hint, KeyReply, KeyWrite, OpenFault, Pass as Seat};
+pub use bl_index::{CloseFault, Hint, KeyReply, KeyWrite, Next, OpenFault, Pass as Seat, Reply};
 pub use handle::{Backlog, Handle};
 pub use map::Map;
 pub use meeting::meet_all;
