@@ -97,7 +97,12 @@ fn post_or_compress<R: Wait>(rt: &R, index: &Index, pass: &mut Pass, hint: Hint)
 }
 
 /// Waits for frames, and posts or compresses, as the hint asks. Says too whether [`lower`] is due then.
-pub(crate) fn try_hint<R: Wait>(rt: &R, index: &Index, pass: &mut Pass, hint: Hint) -> (Followed, bool)
+pub(crate) fn try_hint<R: Wait>(
+    rt: &R,
+    index: &Index,
+    pass: &mut Pass,
+    hint: Hint,
+) -> (Followed, bool)
     requires { IsPassOf index.now pass.old }
     ensures same { IsSamePass pass.old pass.new }
     ensures tries { TriesHint (first_of index.now) (number_of pass.old) hint result (trail pass.old) (trail pass.new) }
@@ -159,7 +164,12 @@ fn follow_once<R: Wait>(rt: &R, index: &Index, pass: &mut Pass, hint: Hint) -> (
 
 /// Follows the hint of a change, and those that following it gives. Gives back the hint that found no room, or that is left behind
 /// so many of them.
-pub(crate) fn follow<R: Wait>(rt: &R, index: &Index, pass: &mut Pass, hint: Option<Hint>) -> Option<Hint>
+pub(crate) fn follow<R: Wait>(
+    rt: &R,
+    index: &Index,
+    pass: &mut Pass,
+    hint: Option<Hint>,
+) -> Option<Hint>
     requires { IsPassOf index.now pass.old }
     ensures same { IsSamePass pass.old pass.new }
     ensures follows { FollowsHints (first_of index.now) (number_of pass.old) hint result (trail pass.old) (trail pass.new) }

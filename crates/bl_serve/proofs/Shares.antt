@@ -1,6 +1,6 @@
 -- What the passes did in a section, put together.
 use Rattle.std.proofs.Common.{◌≡◌, ℕ, suc, ◌+◌, ◌-◌, ◌<◌, ◌≤◌, List, [], ◌∷◌, ◌++◌, length, take, drop, map, set, get_or, refl, sym, ap, ◌∙◌, subst, append-nil, arith, add-one, length-set}
-use Rattle.std.specs.Prelude.{All, Option, false, flat_map, IsPermutation}
+use Rattle.std.specs.Prelude.{All, Option, Result, Ok, Err, OnOk, is_ok, cond, false, flat_map, IsPermutation}
 use Rattle.std.specs.List.{AllZip}
 use Rattle.std.proofs.lemmas.List.{map-append, take_all, take_more, take-append-drop}
 use Rattle.std.proofs.Math.Seq.{take-append_seam}
@@ -116,11 +116,16 @@ module _ (number : ℕ) (lines : List (Option Request)) where
       (λ k. (take_all i olds end k, take_all i news (omega (arith, e, end)) k, take_all i now (omega (arith, f, as_many, end)) k)) t.turns
 
   -- the first ones and the others, in two threads
-  pub turns_parted : (place : ℕ) (olds news some now : List Handle) (slots theirs : List Slot) → TakeTurns number lines (take place olds) news slots → TakeTurns number lines (drop place olds) now theirs → some ≡ news ++ now
+  turns_parted : (place : ℕ) (olds news some now : List Handle) (slots theirs : List Slot) → TakeTurns number lines (take place olds) news slots → TakeTurns number lines (drop place olds) now theirs → some ≡ news ++ now
       → TakeTurns number lines olds some (slots ++ theirs)
   turns_parted place olds news some now slots theirs h k is =
       subst (λ (z : List Handle × List Handle). TakeTurns number lines z.0 z.1 (slots ++ theirs)) (λ i. (take-append-drop place olds i, sym is i))
       (turns_append (take place olds) news slots (drop place olds) now theirs h k)
+
+  pub parted_ok : {A E : Type 0} (r : Result A E) (place : ℕ) (olds news some now : List Handle) (slots theirs : List Slot) → TakeTurns number lines (take place olds) news slots → TakeTurns number lines (drop place olds) now theirs
+      → some ≡ cond (is_ok r) (news ++ now) news → OnOk r (TakeTurns number lines olds some (slots ++ theirs))
+  parted_ok (Ok x) place olds news some now slots theirs h k is = turns_parted place olds news some now slots theirs h k is
+  parted_ok (Err e) place olds news some now slots theirs h k is = tt
 
 module _ (first : List (Option Page)) (number : ℕ) (lines : List (Option Request)) where
   abbrev entries_in : Piece → List Entry

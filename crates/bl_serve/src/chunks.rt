@@ -133,10 +133,27 @@ fn work_in_turn<R: Wait, G: Gate>(
     }
 }
 
+/// Reads on, and then all handles have their turns, in this thread.
+fn work_alone<R: Wait, G: Gate, I: Read>(
+    rt: &R,
+    chunk: &Chunk<'_, G>,
+    handles: &mut [Handle<'_>],
+    slots: &mut [Slot],
+    reader: &mut Watched<I>,
+    ahead: &mut ReadAhead,
+)
+    requires { length slots.old ≡ length handles.old }
+    ensures turns { TakeTurns (suc chunk.now.before) chunk.now.lines.now handles.old handles.new slots.new }
+    ensures reads { ReadsOn ahead.old ahead.new (I.remaining reader.old.inner) (I.remaining reader.new.inner) (reader.new.failed ≡ true) }
+{
+    read_on(reader, ahead);
+    work_in_turn(rt, chunk, handles, slots);
+}
+
 /// The handles have their turns, in so many threads. This thread makes all others, and works as they do: a thread that another new
 /// one makes would often wait for a processor. Before it works it reads on. The last ones get a thread first: where none can be
 /// made, their turns come behind all others, so no compressor waits for a worker that has not begun. Where there is no memory to
-/// part the handles, nothing is done.
+/// part the handles, this thread does the rest alone.
 #[cycle(abreast)]
 fn work_abreast<R: Threads + Wait + Sync, G: Gate + Sync, I: Read>(
     rt: &R,
@@ -149,29 +166,29 @@ fn work_abreast<R: Threads + Wait + Sync, G: Gate + Sync, I: Read>(
 ) -> Result<(), AllocError>
     requires { length slots.old ≡ vec_len handles.old }
     ensures turns { OnOk result (TakeTurns (suc chunk.now.before) chunk.now.lines.now handles.old.items handles.new.items slots.new) }
-    ensures reads { OnOk result (ReadsOn ahead.old ahead.new (I.remaining reader.old.inner) (I.remaining reader.new.inner) (reader.new.failed ≡ true)) }
-    ensures consumes { (more : List ℕ) × Consumes (I.remaining reader.old.inner) (I.remaining reader.new.inner) more }
+    ensures reads { ReadsOn ahead.old ahead.new (I.remaining reader.old.inner) (I.remaining reader.new.inner) (reader.new.failed ≡ true) }
 {
     let place = last_share(slots.len(), threads);
     if place == 0 || handles.len() <= place {
-        read_on(reader, ahead);
-        work_in_turn(rt, chunk, handles.as_mut_slice(), slots);
+        work_alone(rt, chunk, handles.as_mut_slice(), slots, reader, ahead);
         return Ok(());
     }
-    let mut some = handles.split_off(place)?;
+    let Ok(mut some) = handles.split_off(place) else {
+        work_alone(rt, chunk, handles.as_mut_slice(), slots, reader, ahead);
+        return Ok(());
+    };
     let (rest, theirs) = slots.split_at_mut(place);
     let (_, worked) = join_mut(
         rt,
         &mut ||
-            requires { length theirs.now ≡ vec_len some.now }
-            ensures { TakeTurns (suc chunk.entry.now.before) chunk.entry.now.lines.now some.entry.now.items some.exit.now.items theirs.exit.now }
+            requires { length theirs.now ≡ vec_len some }
+            ensures { TakeTurns (suc chunk.entry.now.before) chunk.entry.now.lines.now some.entry.items some.exit.items theirs.exit.now }
         { work_in_turn(rt, chunk, some.as_mut_slice(), theirs) },
         &mut ||
             requires { IsSync R.row × IsSync G.row × (length rest.now ≡ vec_len handles.now) }
             ensures turns { OnOk result (TakeTurns (suc chunk.entry.now.before) chunk.entry.now.lines.now
                 handles.entry.now.items handles.exit.now.items rest.exit.now) }
-            ensures reads { OnOk result (ReadsOn ahead.entry.now ahead.exit.now (I.remaining reader.entry.now.inner) (I.remaining reader.exit.now.inner) (reader.exit.now.failed ≡ true)) }
-            ensures consumes { (more : List ℕ) × Consumes (I.remaining reader.entry.now.inner) (I.remaining reader.exit.now.inner) more }
+            ensures reads { ReadsOn ahead.entry.now ahead.exit.now (I.remaining reader.entry.now.inner) (I.remaining reader.exit.now.inner) (reader.exit.now.failed ≡ true) }
         {
             work_abreast(
                 rt,

@@ -191,7 +191,11 @@ fn serve_sections<'a, T: Threads + Wait + Sync, R: Read, W: Write, G: Gate + Syn
 }
 
 /// A session of these handles, in which nothing is served yet.
-fn begun(alloc: Global, plan: ThreadPlan, handles: Vec<Handle<'_>>) -> Result<Session<'_>, AllocError>
+fn begun(
+    alloc: Global,
+    plan: ThreadPlan,
+    handles: Vec<Handle<'_>>,
+) -> Result<Session<'_>, AllocError>
     requires { 0 < vec_len handles }
     ensures handles { IfOk result (λ session. session.handles.items ≡ handles.entry.items) }
     ensures first { IfOk result (λ session. (session.totals.requests ≡ 0) × (session.totals.malformed ≡ 0) × (session.totals.sections ≡ 0)) }
@@ -273,8 +277,8 @@ pub fn serve_with<T: Threads + Wait + Sync, R: Read, W: Write, G: Gate + Sync>(
         gate,
         alloc,
     };
-    let session = begun(alloc, plan, handles)?;
-    let session = serve_sections(rt, &service, session, reader, writer)?;
+    let fresh = begun(alloc, plan, handles)?;
+    let session = serve_sections(rt, &service, fresh, reader, writer)?;
     let Session {
         plan: _,
         handles,

@@ -75,12 +75,7 @@ fn follow_some<R: Wait>(rt: &R, hints: &Hints, handle: &mut Handle<'_>)
 }
 
 /// Follows hints until the workers have ended, and some at least.
-pub(crate) fn follow_hints<R: Wait>(
-    rt: &R,
-    hints: &Hints,
-    wakeup: &Wakeup,
-    handle: &mut Handle<'_>,
-)
+pub(crate) fn follow_hints<R: Wait>(rt: &R, hints: &Hints, wakeup: &Wakeup, handle: &mut Handle<'_>)
     ensures same { IsSameHandle handle.old handle.new }
     ensures kept { HasKeptUp handle.old handle.new }
 {

@@ -60,7 +60,12 @@ fn serve_batches<R: Wait, G: Gate>(
 }
 
 /// A worker answers lines, and leaves the output in its slot.
-fn serve_at<R: Wait, G: Gate>(rt: &R, chunk: &Chunk<'_, G>, handle: &mut Handle<'_>, slot: &mut Slot)
+fn serve_at<R: Wait, G: Gate>(
+    rt: &R,
+    chunk: &Chunk<'_, G>,
+    handle: &mut Handle<'_>,
+    slot: &mut Slot,
+)
     ensures { TakesTurn (suc chunk.now.before) chunk.now.lines.now handle.old handle.new slot.new }
 {
     let mut log = Vec::new(chunk.service.alloc);
@@ -71,7 +76,12 @@ fn serve_at<R: Wait, G: Gate>(rt: &R, chunk: &Chunk<'_, G>, handle: &mut Handle<
 }
 
 /// A compressor follows hints. It writes nothing.
-fn compress_at<R: Wait, G: Gate>(rt: &R, chunk: &Chunk<'_, G>, handle: &mut Handle<'_>, slot: &mut Slot)
+fn compress_at<R: Wait, G: Gate>(
+    rt: &R,
+    chunk: &Chunk<'_, G>,
+    handle: &mut Handle<'_>,
+    slot: &mut Slot,
+)
     ensures same { IsSameHandle handle.old handle.new }
     ensures kept { HasKeptUp handle.old handle.new }
     ensures empty { slot.new.log.items ≡ [] }
@@ -82,7 +92,12 @@ fn compress_at<R: Wait, G: Gate>(rt: &R, chunk: &Chunk<'_, G>, handle: &mut Hand
 }
 
 /// A handle does what its slot says for one chunk.
-pub fn take_turn<R: Wait, G: Gate>(rt: &R, chunk: &Chunk<'_, G>, handle: &mut Handle<'_>, slot: &mut Slot)
+pub fn take_turn<R: Wait, G: Gate>(
+    rt: &R,
+    chunk: &Chunk<'_, G>,
+    handle: &mut Handle<'_>,
+    slot: &mut Slot,
+)
     ensures { TakesTurn (suc chunk.now.before) chunk.now.lines.now handle.old handle.new slot.new }
 {
     match slot.role {

@@ -52,7 +52,9 @@ fn thin<R: Wait>(rt: &R, handle: &mut Handle<'_>) -> Option<Hint> {
 
 /// What one handle leaves, another one follows. Says whether the leaves are as they should be, before and after.
 fn share<R: Wait>(rt: &R, one: &mut Handle<'_>, two: &mut Handle<'_>) -> bool {
-    if !fill(rt, one) || leaf(rt, one, 0) != Some((8, Some(9))) || leaf(rt, two, 9) != Some((7, None))
+    if !fill(rt, one)
+        || leaf(rt, one, 0) != Some((8, Some(9)))
+        || leaf(rt, two, 9) != Some((7, None))
     {
         return false;
     }
