@@ -16,7 +16,7 @@ use Rattle.bl_map.specs.declared.upkeep.Followed.TheVariants.{Done, NoRoom}
 use Rattle.bl_map.specs.declared.waiting.Waiting.{Waiting}
 use Rattle.bl_proc_base.specs.declared.lowering.Lowered.{Lowered}
 use Rattle.bl_map.specs.Works.{Works, Adds, Swept}
-use Rattle.bl_map.specs.Follows.{Written, TriesPost, TriesCompression, Tries, TriesHint, may_fall, has_fallen, Lowers, FollowsHint, FollowsOnce, AreDone, StopsAt, FollowsHints, FollowsSplit}
+use Rattle.bl_map.specs.Follows.{Written, TriesPost, TriesCompression, Tries, TriesHint, may_fall, has_fallen, Lowers, FollowsHint, FollowsOnce, AreDone, StopsAt, FollowsHints, FollowsSplit, WritesLeaving}
 use Rattle.bl_map.specs.Waits.{Changes, TriesOldest, AreTried, HasTried, TriesAgain}
 use Rattle.bl_map.proofs.Adding.{nothing, then_adds, adds_as, call_adds, call_works, adds_works, works_on, swept_adds, swept_as}
 
@@ -69,7 +69,7 @@ hints_add first pass start left old new f =
     (done_adds first pass f.hints start left old f.mid f.are_done)
     (stops_adds first pass left (length f.hints) f.mid new f.stops)
 
-pub split_adds : (first : List (Option Page)) (pass : ℕ) (start left : Option Hint) (old new : Trail) → FollowsSplit first pass start left old new → Adds first pass old new
+split_adds : (first : List (Option Page)) (pass : ℕ) (start left : Option Hint) (old new : Trail) → FollowsSplit first pass start left old new → Adds first pass old new
 split_adds first pass None left old new f = hints_add first pass None left old new f
 split_adds first pass (Some (hint.Post level key)) left old new f = hints_add first pass (Some (hint.Post level key)) left old new f
 split_adds first pass (Some (hint.Thin level key)) left old new f = stays_adds first pass old new f.1
@@ -77,11 +77,9 @@ split_adds first pass (Some (hint.Thin level key)) left old new f = stays_adds f
 pub written_works : (first : List (Option Page)) (pass : ℕ) (op : Op) (reply : Reply) (next : Option Hint) (old new : Trail) → Written first pass op reply next old new → Works first pass op reply old new
 written_works first pass op reply next old new w = adds_works first pass op reply old w.mid new (swept_adds first pass old w.mid w.waits) (call_works first pass pass op reply w.mid new refl w.writes.answers)
 
--- a written key, and then what adds no entry
-pub written_on : (first : List (Option Page)) (pass it : ℕ) (op : Op) (reply : Reply) (next : Option Hint) (old mid new : Trail) → it ≡ pass
-    → Written first pass op reply next old mid → Adds first it mid new → Works first pass op reply old new
-written_on first pass it op reply next old mid new same w a =
-    works_on first pass op reply old mid new (written_works first pass op reply next old mid w) (adds_as first pass it mid new same a)
+pub leaving_works : (first : List (Option Page)) (pass : ℕ) (op : Op) (reply : Reply) (left : Option Hint) (old new : Trail) → WritesLeaving first pass op reply left old new → Works first pass op reply old new
+leaving_works first pass op reply left old new w =
+    works_on first pass op reply old w.mid new (written_works first pass op reply w.hint old w.mid w.written) (split_adds first pass w.hint left w.mid new w.follows)
 
 pub changes_works : (first : List (Option Page)) (pass : ℕ) (op : Op) (reply : Reply) (before after : Waiting) (old new : Trail) → Changes first pass op reply before after old new → Works first pass op reply old new
 changes_works first pass op reply before after old new c =
@@ -128,6 +126,9 @@ tries_as first pass it h result old new same t = subst (λ (z : ℕ). Tries firs
 
 pub follows_as : (first : List (Option Page)) (pass it : ℕ) (start left : Option Hint) (old new : Trail) → it ≡ pass → FollowsHints first it start left old new → FollowsHints first pass start left old new
 follows_as first pass it start left old new same f = subst (λ (z : ℕ). FollowsHints first z start left old new) same f
+
+pub split_as : (first : List (Option Page)) (pass it : ℕ) (start left : Option Hint) (old new : Trail) → it ≡ pass → FollowsSplit first it start left old new → FollowsSplit first pass start left old new
+split_as first pass it start left old new same f = subst (λ (z : ℕ). FollowsSplit first z start left old new) same f
 
 pub lowers_as : (first : List (Option Page)) (pass it most : ℕ) (falls : Bool) (old new : Trail) → it ≡ pass → Lowers first it most falls old new → Lowers first pass most falls old new
 lowers_as first pass it most falls old new same l = subst (λ (z : ℕ). Lowers first z most falls old new) same l

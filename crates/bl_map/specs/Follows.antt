@@ -106,3 +106,10 @@ abbrev pub FollowsSplit : List (Option Page) → ℕ → Option Hint → Option 
 FollowsSplit first pass None left old new = FollowsHints first pass None left old new
 FollowsSplit first pass (Some (hint.Post level key)) left old new = FollowsHints first pass (Some (hint.Post level key)) left old new
 FollowsSplit first pass (Some (hint.Thin level key)) left old new = (left ≡ Some (hint.Thin level key)) × (new ≡ old)
+
+-- A key was written, and the hint of a split that this has left was followed. What is left then is left.
+pub record WritesLeaving (first : List (Option Page)) (pass : ℕ) (op : Op) (reply : Reply) (left : Option Hint) (old new : Trail) : Type 0 where
+  pub hint : Option Hint
+  pub mid : Trail
+  pub written : Written first pass op reply hint old mid
+  pub follows : FollowsSplit first pass hint left mid new

@@ -1,24 +1,31 @@
 -- What a call of a handle promises.
-use Rattle.std.specs.Prelude.{◌≡◌, ℕ, List, Option, length}
+use Rattle.std.specs.Prelude.{◌≡◌, ℕ, List, Option, length, map}
 use Rattle.bl_model.specs.declared.operation.Op.{Op}
 use Rattle.bl_model.specs.declared.operation.Reply.{Reply}
 use Rattle.bl_page.specs.declared.page.Page.{Page}
 use Rattle.bl_claims.specs.Trails.{Trail}
 use Rattle.bl_index.specs.Calls.{first_of, pages_of, IsPassOf, IsSamePass, number_of, trail}
 use Rattle.bl_index.specs.Meetings.{Meet}
+use Rattle.bl_index.specs.declared.index.Index.{Index}
 use Rattle.bl_index.specs.declared.index.Pass.{Pass}
+use Rattle.bl_proc_base.specs.declared.answers.Hint.{Hint}
 use Rattle.bl_map.specs.declared.handle.Handle.{Handle}
-use Rattle.bl_map.specs.declared.map.Map.{Map}
-use Rattle.bl_map.specs.Works.{Works, Adds, Searched}
+use Rattle.bl_map.specs.declared.upkeep.Followed.{Followed}
+use Rattle.bl_map.specs.Works.{Works, Adds, Searched, Swept}
+use Rattle.bl_map.specs.Follows.{FollowsHint, WritesLeaving}
 use Rattle.bl_map.specs.Waits.{hints_of, Changes, TriesAgain, IsNone}
+
+-- the index that a handle works on: that of its map
+abbrev pub index_of : Handle → Index
+index_of handle = handle.index.now
 
 -- what the map began with
 abbrev pub first_map_of : Handle → List (Option Page)
-first_map_of handle = first_of handle.map.now.index
+first_map_of handle = first_of (index_of handle)
 
 -- how many pages the map has
 abbrev pub pages_of_map : Handle → ℕ
-pages_of_map handle = pages_of handle.map.now.index
+pages_of_map handle = pages_of (index_of handle)
 
 -- all that has happened in the map, up to the handle's own last event
 abbrev pub seen_by : Handle → Trail
@@ -30,11 +37,11 @@ number_of_seat handle = number_of handle.pass
 
 -- both are of one map
 abbrev pub AreOfOne : Handle → Handle → Type 0
-AreOfOne one two = IsPassOf one.map.now.index two.pass
+AreOfOne one two = IsPassOf (index_of one) two.pass
 
 -- The same handle of the same map
 abbrev pub IsSameHandle : Handle → Handle → Type 0
-IsSameHandle old new = (new.map ≡ old.map) × IsSamePass old.pass new.pass
+IsSameHandle old new = (new.index ≡ old.index) × IsSamePass old.pass new.pass
 
 -- The handle has made this call, with this reply, and no other.
 abbrev pub HasCalled : Op → Reply → Handle → Handle → Type 0
@@ -43,6 +50,18 @@ HasCalled op reply old new = Works (first_map_of old) (number_of_seat old) op re
 -- It has done nothing but search: searches that ran out of turns, and then one that was answered so.
 abbrev pub HasSearched : Op → Reply → Handle → Handle → Type 0
 HasSearched op reply old new = Searched (first_map_of old) (pages_of_map old) (number_of_seat old) op reply (seen_by old) (seen_by new)
+
+-- It has written a key, and listed the pages that were split. What is left to do then is left.
+abbrev pub HasWritten : Op → Reply → Option Hint → Handle → Handle → Type 0
+HasWritten op reply left old new = WritesLeaving (first_map_of old) (number_of_seat old) op reply left (seen_by old) (seen_by new)
+
+-- It has followed a hint.
+abbrev pub HasFollowed : Hint → Followed → Handle → Handle → Type 0
+HasFollowed hint result old new = FollowsHint (first_map_of old) (number_of_seat old) hint result (seen_by old) (seen_by new)
+
+-- It has swept, as often as it may be.
+abbrev pub HasSwept : Handle → Handle → Type 0
+HasSwept old new = Swept (first_map_of old) (number_of_seat old) (seen_by old) (seen_by new)
 
 -- The handle has made no call.
 abbrev pub HasKeptUp : Handle → Handle → Type 0
@@ -57,6 +76,9 @@ HaveMet old_one old_two new_one new_two =
 -- the seat that a handle worked from
 abbrev pub seat_of : Handle → Pass
 seat_of handle = handle.pass
+
+abbrev pub seats_of : List Handle → List Pass
+seats_of handles = map seat_of handles
 
 -- how many hints wait, and how many were dropped since 32 waited
 abbrev pub waiting_of : Handle → ℕ
@@ -77,6 +99,6 @@ HasChanged op reply old new = Changes (first_map_of old) (number_of_seat old) op
 abbrev pub HasTriedAgain : ℕ → Handle → Handle → Type 0
 HasTriedAgain most old new = TriesAgain (first_map_of old) (number_of_seat old) most old.waiting new.waiting (seen_by old) (seen_by new)
 
--- The handle is one of this map, works from that seat, and has nothing to keep up.
-abbrev pub IsNewHandle : Map → Pass → Handle → Type 0
-IsNewHandle map seat handle = (handle.map.now ≡ map) × (handle.pass ≡ seat) × IsNone handle.waiting
+-- The handle works on this index from that seat, and has nothing to keep up.
+abbrev pub IsHandleOver : Index → Pass → Handle → Type 0
+IsHandleOver index seat handle = (index_of handle ≡ index) × (handle.pass ≡ seat) × IsNone handle.waiting

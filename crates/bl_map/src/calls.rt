@@ -16,7 +16,7 @@ use std::alloc::AllocError;
 use std::sync::Wait;
 
 /// The value of a key, or that the key is absent.
-pub fn find<R: Wait>(rt: &R, index: &Index, pass: &mut Pass, key: u64) -> KeyReply
+pub(crate) fn find<R: Wait>(rt: &R, index: &Index, pass: &mut Pass, key: u64) -> KeyReply
     requires { IsPassOf index.now pass.old }
     ensures same { IsSamePass pass.old pass.new }
     ensures works { Works (first_of index.now) (number_of pass.old) (op.Find key) (reply_of result) (trail pass.old) (trail pass.new) }
@@ -34,7 +34,7 @@ pub fn find<R: Wait>(rt: &R, index: &Index, pass: &mut Pass, key: u64) -> KeyRep
 
 /// The rows of one leaf from a key on. It looks first at the page that is near, if there is one, and leaves there the page to which
 /// the leaf links.
-pub fn part<R: Wait>(
+pub(crate) fn part<R: Wait>(
     rt: &R,
     index: &Index,
     pass: &mut Pass,
@@ -57,7 +57,7 @@ pub fn part<R: Wait>(
 }
 
 /// Writes a key. The hint is what there is to do behind it: see [`crate::upkeep::follow`].
-pub fn write<R: Wait>(
+pub(crate) fn write<R: Wait>(
     rt: &R,
     index: &Index,
     pass: &mut Pass,

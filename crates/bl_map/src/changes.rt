@@ -4,12 +4,13 @@ ghost use Rattle.std.specs.Prelude.{◌≡◌};
 ghost use Rattle.bl_index.specs.Calls.{first_of, IsPassOf, IsSamePass, number_of, trail};
 ghost use Rattle.bl_model.specs.Replies.{reply_of};
 ghost use Rattle.bl_model.specs.Writes.{write_op};
+ghost use Rattle.bl_map.specs.Follows.{WritesLeaving};
 ghost use Rattle.bl_map.specs.Waits.{Changes, TriesOldest, TriesAgain, HasTried};
 
 use crate::calls;
-use crate::upkeep::{follow, sweep_if_due};
+use crate::upkeep::{follow, follow_split, sweep_if_due};
 use crate::waiting::Waiting;
-use bl_index::{Index, KeyReply, KeyWrite, Pass};
+use bl_index::{Hint, Index, KeyReply, KeyWrite, Pass};
 use std::sync::Wait;
 
 /// Writes a key, and does what is due behind it: lists the pages that were split, and merges the page where few rows are left.
@@ -31,6 +32,23 @@ pub(crate) fn write<R: Wait>(
     waiting.keep(left);
     sweep_if_due(index, pass);
     reply
+}
+
+/// Writes a key, and lists the pages that were split. Gives the hint that is left then.
+pub(crate) fn write_leaving<R: Wait>(
+    rt: &R,
+    index: &Index,
+    pass: &mut Pass,
+    key: u64,
+    write: KeyWrite,
+) -> (KeyReply, Option<Hint>)
+    requires { IsPassOf index.now pass.old }
+    ensures same { IsSamePass pass.old pass.new }
+    ensures leaves { WritesLeaving (first_of index.now) (number_of pass.old) (write_op key write) (reply_of result.0) result.1 (trail pass.old) (trail pass.new) }
+{
+    let (reply, hint) = calls::write(rt, index, pass, key, write);
+    let left = follow_split(rt, index, pass, hint);
+    (reply, left)
 }
 
 /// Follows the oldest hint that waits, and those that following it gives.

@@ -5,13 +5,13 @@ ghost use Rattle.std.specs.Vec.{vec_capacity};
 ghost use Rattle.bl_model.specs.declared.operation.Op.TheVariants as op;
 ghost use Rattle.bl_model.specs.Replies.{reply_of};
 ghost use Rattle.bl_model.specs.Writes.{write_op};
-ghost use Rattle.bl_index.specs.Calls.{IsPassOf};
+ghost use Rattle.bl_index.specs.Calls.{IsPassOf, Sweeps};
 ghost use Rattle.bl_map.specs.Seats.{IsPassOf-prop};
 
-use crate::map::Map;
+use crate::upkeep::{self, Followed};
 use crate::waiting::Waiting;
 use crate::{calls, changes, telling};
-use bl_index::{KeyReply, KeyWrite, Pass};
+use bl_index::{Hint, Index, KeyReply, KeyWrite, Pass, Reply};
 use std::alloc::AllocError;
 use std::sync::Wait;
 
@@ -27,24 +27,26 @@ pub struct Backlog {
 /// One thread's way into a map.
 #[derive(Drop)]
 pub struct Handle<'a> {
-    map: &'a Map,
-    pass: Pass,
+    pub(crate) index: &'a Index,
+    pub(crate) pass: Pass,
     waiting: Waiting,
-    ghost own: { IsPassOf map.now.index pass } by { IsPassOf-prop map.now.index pass },
+    ghost own: { IsPassOf index.now pass } by { IsPassOf-prop index.now pass },
 }
 
 impl<'a> Handle<'a> {
-    ghost use Rattle.bl_map.specs.Handles.{IsSameHandle, HasCalled, HasSearched, HasChanged, HasKeptUp, HasTriedAgain, HaveMet, KeepsHints, AreOfOne};
-    ghost use Rattle.bl_map.specs.Handles.{first_map_of, pages_of_map, number_of_seat, seat_of, seen_by, waiting_of, dropped_of, IsNewHandle};
+    ghost use Rattle.bl_map.specs.Handles.{IsSameHandle, HasCalled, HasSearched, HasChanged, HasWritten, HasKeptUp, HasFollowed, HasSwept, HasTriedAgain};
+    ghost use Rattle.bl_map.specs.Handles.{HaveMet, KeepsHints, AreOfOne, IsHandleOver};
+    ghost use Rattle.bl_map.specs.Handles.{first_map_of, pages_of_map, number_of_seat, seat_of, seen_by, waiting_of, dropped_of};
     ghost use Rattle.bl_map.specs.Scans.{Scanned, Tells};
 
-    pub(crate) fn new(map: &'a Map, pass: Pass) -> Handle<'a>
-        requires { IsPassOf map.now.index pass }
-        ensures { IsNewHandle map.now pass result }
+    /// The handle that works on an index from a seat of it. For a map see [`crate::Map::handle`].
+    pub fn over(index: &'a Index, seat: Pass) -> Handle<'a>
+        requires { IsPassOf index.now seat }
+        ensures { IsHandleOver index.now seat result }
     {
         Handle {
-            map,
-            pass,
+            index,
+            pass: seat,
             waiting: Waiting::new(),
         }
     }
@@ -56,7 +58,18 @@ impl<'a> Handle<'a> {
         ensures searched { HasSearched (op.Find key) (reply_of result) self.old self.new }
         ensures keeps { KeepsHints self.old self.new }
     {
-        calls::find(rt, &self.map.index, &mut self.pass, key)
+        calls::find(rt, self.index, &mut self.pass, key)
+    }
+
+    /// The rows of one leaf from a key on, in a `Rows` that says where it ends. It looks first at the page that is near, if there is
+    /// one, and leaves there the page to which the leaf links.
+    pub fn part<R: Wait>(&mut self, rt: &R, from: u64, near: &mut Option<u32>) -> Reply
+        ensures same { IsSameHandle self.old self.new }
+        ensures called { HasCalled (op.Part from) result self.old self.new }
+        ensures searched { HasSearched (op.Part from) result self.old self.new }
+        ensures keeps { KeepsHints self.old self.new }
+    {
+        calls::part(rt, self.index, &mut self.pass, from, near)
     }
 
     /// Writes a key: what each of the calls below does.
@@ -65,8 +78,24 @@ impl<'a> Handle<'a> {
         ensures called { HasCalled (write_op key write) (reply_of result) self.old self.new }
         ensures changed { HasChanged (write_op key write) (reply_of result) self.old self.new }
     {
-        let index = &self.map.index;
+        let index = self.index;
         changes::write(rt, index, &mut self.pass, &mut self.waiting, key, write)
+    }
+
+    /// Writes a key, and lists the pages that it has split, but merges none and gives nothing back. What is left to do then comes with
+    /// the reply and does not wait here: whoever shares upkeep out hands it on, to [`Handle::follow`] in the end.
+    pub fn write_leaving<R: Wait>(
+        &mut self,
+        rt: &R,
+        key: u64,
+        write: KeyWrite,
+    ) -> (KeyReply, Option<Hint>)
+        ensures same { IsSameHandle self.old self.new }
+        ensures called { HasCalled (write_op key write) (reply_of result.0) self.old self.new }
+        ensures written { HasWritten (write_op key write) (reply_of result.0) result.1 self.old self.new }
+        ensures keeps { KeepsHints self.old self.new }
+    {
+        changes::write_leaving(rt, self.index, &mut self.pass, key, write)
     }
 
     /// Inserts the value if the key is absent: `Inserted`, or `Present` with the value that stays, or `NoRoom`.
@@ -110,7 +139,7 @@ impl<'a> Handle<'a> {
             result rows.old.items rows.new.items (seen_by self.old) (seen_by self.new) }
         ensures keeps { KeepsHints self.old self.new }
     {
-        calls::scan(rt, &self.map.index, &mut self.pass, from, to, rows)
+        calls::scan(rt, self.index, &mut self.pass, from, to, rows)
     }
 
     /// Tells a callback the rows from a key on and below an end, if there is one, by rising keys: the rows of [`Handle::scan`], each
@@ -128,7 +157,7 @@ impl<'a> Handle<'a> {
             (seen_by self.old) (seen_by self.new) }
         ensures keeps { KeepsHints self.old self.new }
     {
-        telling::tell(rt, &self.map.index, &mut self.pass, from, to, visit);
+        telling::tell(rt, self.index, &mut self.pass, from, to, visit);
     }
 
     /// Gives idle time to the map: tries again at most so many pieces of upkeep that had found no room, and gives back what was
@@ -139,11 +168,42 @@ impl<'a> Handle<'a> {
         ensures tried { HasTriedAgain most self.old self.new }
         ensures waits { (result.waiting ≡ waiting_of self.new) × (result.dropped ≡ dropped_of self.new) }
     {
-        changes::try_again(rt, &self.map.index, &mut self.pass, &mut self.waiting, most);
+        changes::try_again(rt, self.index, &mut self.pass, &mut self.waiting, most);
         Backlog {
             waiting: self.waiting.len(),
             dropped: self.waiting.dropped,
         }
+    }
+
+    /// Does what a hint asks, one post or one compression, and takes top levels away that are not needed then. What that has left comes
+    /// back, and does not wait here; where there was no room, nothing is done.
+    pub fn follow<R: Wait>(&mut self, rt: &R, hint: Hint) -> Followed
+        ensures same { IsSameHandle self.old self.new }
+        ensures kept { HasKeptUp self.old self.new }
+        ensures follows { HasFollowed hint result self.old self.new }
+        ensures keeps { KeepsHints self.old self.new }
+    {
+        upkeep::follow_hint(rt, self.index, &mut self.pass, hint)
+    }
+
+    /// Gives back what was swapped out. Says how many pages and frames were released.
+    pub fn sweep(&mut self) -> u32
+        ensures same { IsSameHandle self.old self.new }
+        ensures kept { HasKeptUp self.old self.new }
+        ensures sweeps { Sweeps (first_map_of self.old) (number_of_seat self.old) result (seen_by self.old) (seen_by self.new) }
+        ensures keeps { KeepsHints self.old self.new }
+    {
+        self.index.sweep(&mut self.pass)
+    }
+
+    /// The same, where enough was swapped out that it is due.
+    pub fn sweep_if_due(&mut self)
+        ensures same { IsSameHandle self.old self.new }
+        ensures kept { HasKeptUp self.old self.new }
+        ensures swept { HasSwept self.old self.new }
+        ensures keeps { KeepsHints self.old self.new }
+    {
+        upkeep::sweep_if_due(self.index, &mut self.pass);
     }
 
     /// The two handles meet: each then has seen all that has happened in the map, and so all that the other one had seen.
@@ -153,7 +213,7 @@ impl<'a> Handle<'a> {
         ensures met { HaveMet self.old other.old self.new other.new }
         ensures keeps { KeepsHints self.old self.new × KeepsHints other.old other.new }
     {
-        self.map.index.meet(&mut self.pass, &mut other.pass);
+        self.index.meet(&mut self.pass, &mut other.pass);
     }
 
     /// The seat that it worked from. Upkeep that waits still is given up: see [`Handle::upkeep`].

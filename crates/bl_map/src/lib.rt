@@ -12,17 +12,23 @@
 //! else; or it found no room and waits, or was left behind twelve others and waits; or 32 pieces wait already, and it is dropped and
 //! counted. No other call of a handle loses a piece that waits.
 //!
-//! Who shares passes out himself, as the server does, has these calls over a pass: [`calls`] and [`upkeep`].
+//! Who has an index of his own and shares its upkeep out, as the server does, has handles over its seats ([`handles_over`],
+//! [`give_seats`], [`meet_all`]), which write and leave what is to be done, and follow it, one piece a call.
 #![tactic(auto)]
 
-pub mod calls;
+mod calls;
 mod changes;
 mod handle;
 mod map;
+mod meeting;
+mod seating;
 mod telling;
-pub mod upkeep;
+mod upkeep;
 mod waiting;
 
-pub use bl_index::{CloseFault, KeyReply, KeyWrite, OpenFault, Pass as Seat};
+pub use bl_index::{CloseFault, Hint, KeyReply, KeyWrite, Next, OpenFault, Pass as Seat, Reply};
 pub use handle::{Backlog, Handle};
 pub use map::Map;
+pub use meeting::meet_all;
+pub use seating::{give_seats, handles_over};
+pub use upkeep::Followed;

@@ -1,8 +1,7 @@
 //! The map, which its threads share.
 
 ghost use Rattle.std.specs.Prelude.{◌≡◌, IfOk, IfErr};
-ghost use Rattle.bl_map.specs.Handles.{IsNewHandle};
-ghost use Rattle.bl_map.specs.Maps.{IsSeatOf, AreSeatsOf, IsOpened, IsOpenFault, IsReopened, IsImageFault, IsClosed, IsBack};
+ghost use Rattle.bl_map.specs.Maps.{IsSeatOf, AreSeatsOf, IsNewHandle, IsOpened, IsOpenFault, IsReopened, IsImageFault, IsClosed, IsBack};
 
 use crate::handle::Handle;
 use bl_check::Quiet;
@@ -50,7 +49,7 @@ impl Map {
         requires { IsSeatOf self.now seat }
         ensures { IsNewHandle self.now seat result }
     {
-        Handle::new(self, seat)
+        Handle::over(&self.index, seat)
     }
 
     /// Closes the map: a sound image, whose rows are those of the map after all that has happened. It takes all seats. Where one is

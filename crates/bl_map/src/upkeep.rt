@@ -30,7 +30,7 @@ pub enum Followed {
 /// Waits before a change, a post or a compression that may find too few frames while some wait to be released: others may hold back
 /// what is retired, for as long as they run a process. The pass runs none meanwhile. It sweeps and lets others run, so many times at
 /// most.
-pub fn wait_for_frames(index: &Index, pass: &mut Pass)
+pub(crate) fn wait_for_frames(index: &Index, pass: &mut Pass)
     requires { IsPassOf index.now pass.old }
     ensures same { IsSamePass pass.old pass.new }
     ensures adds { Adds (first_of index.now) (number_of pass.old) (trail pass.old) (trail pass.new) }
@@ -46,7 +46,7 @@ pub fn wait_for_frames(index: &Index, pass: &mut Pass)
 }
 
 /// Gives back what was swapped out, where that is due.
-pub fn sweep_if_due(index: &Index, pass: &mut Pass)
+pub(crate) fn sweep_if_due(index: &Index, pass: &mut Pass)
     requires { IsPassOf index.now pass.old }
     ensures same { IsSamePass pass.old pass.new }
     ensures adds { Adds (first_of index.now) (number_of pass.old) (trail pass.old) (trail pass.new) }
@@ -97,7 +97,12 @@ fn post_or_compress<R: Wait>(rt: &R, index: &Index, pass: &mut Pass, hint: Hint)
 }
 
 /// Waits for frames, and posts or compresses, as the hint asks. Says too whether [`lower`] is due then.
-pub fn try_hint<R: Wait>(rt: &R, index: &Index, pass: &mut Pass, hint: Hint) -> (Followed, bool)
+pub(crate) fn try_hint<R: Wait>(
+    rt: &R,
+    index: &Index,
+    pass: &mut Pass,
+    hint: Hint,
+) -> (Followed, bool)
     requires { IsPassOf index.now pass.old }
     ensures same { IsSamePass pass.old pass.new }
     ensures tries { TriesHint (first_of index.now) (number_of pass.old) hint result (trail pass.old) (trail pass.new) }
@@ -117,7 +122,7 @@ fn has_fallen(lowered: Lowered) -> bool
 }
 
 /// Takes top levels away that are not needed, one after another. Before each it waits for frames.
-pub fn lower<R: Wait>(rt: &R, index: &Index, pass: &mut Pass, may_fall: bool)
+pub(crate) fn lower<R: Wait>(rt: &R, index: &Index, pass: &mut Pass, may_fall: bool)
     requires { IsPassOf index.now pass.old }
     ensures same { IsSamePass pass.old pass.new }
     ensures adds { Adds (first_of index.now) (number_of pass.old) (trail pass.old) (trail pass.new) }
@@ -134,7 +139,7 @@ pub fn lower<R: Wait>(rt: &R, index: &Index, pass: &mut Pass, may_fall: bool)
 }
 
 /// Follows a hint: posts or compresses, and takes the top level away where it is not needed any more.
-fn follow_hint<R: Wait>(rt: &R, index: &Index, pass: &mut Pass, hint: Hint) -> Followed
+pub(crate) fn follow_hint<R: Wait>(rt: &R, index: &Index, pass: &mut Pass, hint: Hint) -> Followed
     requires { IsPassOf index.now pass.old }
     ensures same { IsSamePass pass.old pass.new }
     ensures follows { FollowsHint (first_of index.now) (number_of pass.old) hint result (trail pass.old) (trail pass.new) }
@@ -159,7 +164,12 @@ fn follow_once<R: Wait>(rt: &R, index: &Index, pass: &mut Pass, hint: Hint) -> (
 
 /// Follows the hint of a change, and those that following it gives. Gives back the hint that found no room, or that is left behind
 /// so many of them.
-pub fn follow<R: Wait>(rt: &R, index: &Index, pass: &mut Pass, hint: Option<Hint>) -> Option<Hint>
+pub(crate) fn follow<R: Wait>(
+    rt: &R,
+    index: &Index,
+    pass: &mut Pass,
+    hint: Option<Hint>,
+) -> Option<Hint>
     requires { IsPassOf index.now pass.old }
     ensures same { IsSamePass pass.old pass.new }
     ensures follows { FollowsHints (first_of index.now) (number_of pass.old) hint result (trail pass.old) (trail pass.new) }
@@ -179,7 +189,7 @@ pub fn follow<R: Wait>(rt: &R, index: &Index, pass: &mut Pass, hint: Option<Hint
 }
 
 /// The same for the hint of a split alone. That of a thin page it gives back.
-pub fn follow_split<R: Wait>(
+pub(crate) fn follow_split<R: Wait>(
     rt: &R,
     index: &Index,
     pass: &mut Pass,

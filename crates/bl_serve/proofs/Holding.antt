@@ -1,8 +1,7 @@
 -- A section that was answered, after which all passes have met.
-use Rattle.std.proofs.Common.{◌≡◌, ◌≢◌, ℕ, suc, ◌+◌, ◌<◌, List, [], ◌∷◌, ◌++◌, length, take, drop, map, refl, sym, ap, ◌∙◌, subst, append-nil, arith}
+use Rattle.std.proofs.Common.{◌≡◌, ◌≢◌, ℕ, suc, ◌+◌, ◌<◌, List, [], ◌∷◌, ◌++◌, length, map, refl, sym, ap, ◌∙◌, subst, append-nil, arith}
 use Rattle.std.specs.Prelude.{All, Option, codes}
 use Rattle.std.specs.List.{AllZip}
-use Rattle.std.proofs.Math.Seq.{take-append_seam}
 use Rattle.std.proofs.lemmas.List.{length-map}
 use Rattle.std.proofs.lemmas.List.Elements.{All-nil, All-cons, All-head, All-tail}
 use Rattle.bl_serve_lines.specs.declared.request.Request.{Request}
@@ -15,7 +14,8 @@ use Rattle.bl_index.specs.declared.index.Pass.{Pass}
 use Rattle.bl_index.specs.Calls.{first_of, IsPassOf, number_of, trail, passes_of}
 use Rattle.bl_index.proofs.Taken.{same_of}
 use Rattle.bl_serve.specs.Chunks.{Taken, IsTaken, IsChunk}
-use Rattle.bl_serve.specs.Meetings.{Comes, AllMeet}
+use Rattle.bl_map.specs.Meetings.{Comes}
+use Rattle.bl_serve.specs.Meetings.{AllMeet}
 use Rattle.bl_serve.specs.declared.reading.SectionEnd.{SectionEnd}
 use Rattle.bl_serve.specs.declared.reading.SectionEnd.TheVariants.{Synced, Rest, Finished}
 use Rattle.bl_serve_lines.specs.Text.{numbered}
@@ -99,10 +99,6 @@ holds index done lines text olds news met some t r m =
 -- as many passes come back as were given
 pub same_many : (first : List (Option Page)) (number : ℕ) (lines : List (Option Request)) (text : List ℕ) (olds news : List Pass) → IsChunk first number lines text olds news → length news ≡ length olds
 same_many first number lines text olds news r = sym (ap length r.new_are) ∙ (length-map r.taken (λ (x : Taken). x.new) ∙ (sym (length-map r.taken (λ (x : Taken). x.old)) ∙ ap length r.old_are))
-
--- the passes that were lent to the meeting come back
-pub lent_back : (first : List (Option Page)) (n : ℕ) (news met : List Pass) → n ≡ length news → AllMeet first news met → take n (met ++ drop (length met) news) ≡ met
-lent_back first n news met many m = ap (λ (k : ℕ). take k (met ++ drop (length met) news)) (let long = zip_long (Comes m.seen) news met m.each in let e : n ≡ length met = omega (arith, many, long) in e) ∙ take-append_seam met (drop (length met) news)
 
 -- ---- how the section ended
 

@@ -1,8 +1,8 @@
 -- What the passes did in a section, put together.
 use Rattle.std.proofs.Common.{◌≡◌, ℕ, suc, ◌+◌, ◌-◌, ◌<◌, ◌≤◌, List, [], ◌∷◌, ◌++◌, length, take, drop, map, set, get_or, refl, sym, ap, ◌∙◌, subst, append-nil, arith, add-one, length-set}
-use Rattle.std.specs.Prelude.{All, Option, false, flat_map, IsPermutation}
+use Rattle.std.specs.Prelude.{All, Option, Result, Ok, Err, OnOk, is_ok, cond, false, flat_map, IsPermutation}
 use Rattle.std.specs.List.{AllZip}
-use Rattle.std.proofs.lemmas.List.{map-append, take_all, take_more}
+use Rattle.std.proofs.lemmas.List.{map-append, take_all, take_more, take-append-drop}
 use Rattle.std.proofs.Math.Seq.{take-append_seam}
 use Rattle.std.proofs.lemmas.List.Concat.{flat_map-append}
 use Rattle.std.proofs.lemmas.List.Elements.{All-nil, All-cons, All-head, All-tail, All-append, All-map, All-push, All-weaker}
@@ -15,18 +15,21 @@ use Rattle.bl_page.specs.declared.page.Page.{Page}
 use Rattle.bl_claims.specs.Seeing.{own}
 use Rattle.bl_index.specs.declared.index.Index.{Index}
 use Rattle.bl_index.specs.declared.index.Pass.{Pass}
-use Rattle.bl_index.specs.Calls.{IsPassOf, IsSamePass, number_of, trail}
+use Rattle.bl_index.specs.Calls.{IsPassOf}
 use Rattle.bl_index.proofs.Taken.{same_of}
+use Rattle.bl_map.specs.declared.handle.Handle.{Handle}
+use Rattle.bl_map.specs.Handles.{first_map_of, number_of_seat, seat_of, seats_of, seen_by}
+use Rattle.bl_map.proofs.Elements.{take_set, next_is, drop_set, drop_one}
 use Rattle.bl_serve_worker.specs.declared.chunk.Slot.{Slot}
 use Rattle.bl_serve_worker.specs.declared.chunk.BatchOutput.{BatchOutput}
 use Rattle.bl_serve_worker.specs.Answering.{IsFor, answers_text}
-use Rattle.bl_serve_worker.specs.Batches.{Piece, IsPiece, Logs, lines_in}
+use Rattle.bl_serve_worker.specs.Batches.{Piece, IsPiece, Logs, TakesTurn, lines_in}
 use Rattle.bl_serve.specs.Joining.{Chains, IsWithin, joined_text}
 use Rattle.bl_serve.specs.Chunks.{Taken, IsTaken, Weaves, IsChunk, Collects, TakeTurns}
 use Rattle.bl_serve_worker.proofs.Lines.{zip_append, zip_length, text_append}
 use Rattle.bl_serve.proofs.Pieces.{lifted, cut, cut_length, flat_id, map_flat}
 use Rattle.bl_serve.proofs.Weaving.{joined, all_of, in_any_order, one_by_one}
-use Rattle.bl_serve.proofs.Together.{next_is, drop_set, drop_one}
+use Rattle.bl_serve.proofs.Together.{BeganWith}
 
 -- what was lent comes back
 pub lent : {A : Type 0} (n : ℕ) (old now : List A) → n ≡ length now → take n (now ++ drop (length now) old) ≡ now
@@ -64,9 +67,9 @@ collects_all all now written i end g =
 
 -- ---- from slot to slot
 
-module _ (first : List (Option Page)) (number : ℕ) (lines : List (Option Request)) where
+module _ (number : ℕ) (lines : List (Option Request)) where
   -- two parts of the passes have had their turns
-  pub turns_append : (os ns : List Pass) (ds : List Slot) (os' ns' : List Pass) (ds' : List Slot) → TakeTurns first number lines os ns ds → TakeTurns first number lines os' ns' ds' → TakeTurns first number lines (os ++ os') (ns ++ ns') (ds ++ ds')
+  pub turns_append : (os ns : List Handle) (ds : List Slot) (os' ns' : List Handle) (ds' : List Slot) → TakeTurns number lines os ns ds → TakeTurns number lines os' ns' ds' → TakeTurns number lines (os ++ os') (ns ++ ns') (ds ++ ds')
   turns_append [] [] [] os' ns' ds' h k = k
   turns_append [] [] (d ∷ ds) os' ns' ds' h k = absurd h
   turns_append [] (n ∷ ns) ds os' ns' ds' h k = absurd h
@@ -75,7 +78,7 @@ module _ (first : List (Option Page)) (number : ℕ) (lines : List (Option Reque
   turns_append (o ∷ os) (n ∷ ns) (d ∷ ds) os' ns' ds' h k = (h.0, turns_append os ns ds os' ns' ds' h.1 k)
 
   -- there are as many of each
-  pub turns_long : (os ns : List Pass) (ds : List Slot) → TakeTurns first number lines os ns ds → (length ns ≡ length os) × (length ds ≡ length os)
+  pub turns_long : (os ns : List Handle) (ds : List Slot) → TakeTurns number lines os ns ds → (length ns ≡ length os) × (length ds ≡ length os)
   turns_long [] [] [] h = (refl, refl)
   turns_long [] [] (d ∷ ds) h = absurd h
   turns_long [] (n ∷ ns) ds h = absurd h
@@ -83,42 +86,86 @@ module _ (first : List (Option Page)) (number : ℕ) (lines : List (Option Reque
   turns_long (o ∷ os) (n ∷ ns) [] h = absurd h
   turns_long (o ∷ os) (n ∷ ns) (d ∷ ds) h = let r = turns_long os ns ds h.1 in (ap suc r.0, ap suc r.1)
 
+  -- so many have had theirs, one after another
+  pub record TurnsSo (olds news : List Handle) (slots now : List Slot) (i : ℕ) : Type 0 where
+    pub long : length news ≡ length olds
+    pub many : length now ≡ length slots
+    pub left : drop i news ≡ drop i olds
+    pub turns : TakeTurns number lines (take i olds) (take i news) (take i now)
+
+  pub turns_none : (olds : List Handle) (slots : List Slot) → TurnsSo olds olds slots slots 0
+  turns_none olds slots = record { long = refl; many = refl; left = refl; turns = tt }
+
+  pub turns_more : (olds news : List Handle) (slots now : List Slot) (i : ℕ) (was is d : Handle) (slot : Slot) → TurnsSo olds news slots now i → i < length news → i < length now → was ≡ get_or news i d → TakesTurn number lines was is slot
+      → TurnsSo olds (set news i is) slots (set now i slot) (i + 1)
+  turns_more olds news slots now i was is d slot t low low' at turn =
+      let there : was ≡ get_or olds i d = at ∙ next_is olds news i d t.left low in
+      let old_are : take (i + 1) olds ≡ take i olds ++ was ∷ [] = take_more olds i d (let e = t.long in omega (arith, e, low)) ∙ ap (λ (z : Handle). take i olds ++ z ∷ []) (sym there) in
+      let both = turns_append (take i olds) (take i news) (take i now) (was ∷ []) (is ∷ []) (slot ∷ []) t.turns (turn, tt) in
+      record {
+        long = length-set news i is ∙ t.long;
+        many = length-set now i slot ∙ t.many;
+        left = rw add-one (drop_set news i is ∙ drop_one news olds i t.left);
+        turns = subst (λ (z : List Handle × List Handle × List Slot). TakeTurns number lines z.0 z.1 z.2) (λ k. (sym old_are k, sym (take_set news i is low) k, sym (take_set now i slot low') k)) both;
+      }
+
+  pub turns_all : (olds news : List Handle) (slots now : List Slot) (i : ℕ) → length slots ≡ length olds → length olds ≤ i → TurnsSo olds news slots now i → TakeTurns number lines olds news now
+  turns_all olds news slots now i as_many end t =
+      let e = t.long in let f = t.many in
+      subst (λ (z : List Handle × List Handle × List Slot). TakeTurns number lines z.0 z.1 z.2)
+      (λ k. (take_all i olds end k, take_all i news (omega (arith, e, end)) k, take_all i now (omega (arith, f, as_many, end)) k)) t.turns
+
+  -- the first ones and the others, in two threads
+  turns_parted : (place : ℕ) (olds news some now : List Handle) (slots theirs : List Slot) → TakeTurns number lines (take place olds) news slots → TakeTurns number lines (drop place olds) now theirs → some ≡ news ++ now
+      → TakeTurns number lines olds some (slots ++ theirs)
+  turns_parted place olds news some now slots theirs h k is =
+      subst (λ (z : List Handle × List Handle). TakeTurns number lines z.0 z.1 (slots ++ theirs)) (λ i. (take-append-drop place olds i, sym is i))
+      (turns_append (take place olds) news slots (drop place olds) now theirs h k)
+
+  pub parted_ok : {A E : Type 0} (r : Result A E) (place : ℕ) (olds news some now : List Handle) (slots theirs : List Slot) → TakeTurns number lines (take place olds) news slots → TakeTurns number lines (drop place olds) now theirs
+      → some ≡ cond (is_ok r) (news ++ now) news → OnOk r (TakeTurns number lines olds some (slots ++ theirs))
+  parted_ok (Ok x) place olds news some now slots theirs h k is = turns_parted place olds news some now slots theirs h k is
+  parted_ok (Err e) place olds news some now slots theirs h k is = tt
+
+module _ (first : List (Option Page)) (number : ℕ) (lines : List (Option Request)) where
   abbrev entries_in : Piece → List Entry
   entries_in p = flat_map entries p.answers
 
-  record Spread (olds news : List Pass) (slots : List Slot) : Type 0 where
+  record Spread (olds news : List Handle) (slots : List Slot) : Type 0 where
     taken : List Taken
     pieces : List Piece
-    old_are : map (λ t. t.old) taken ≡ olds
-    new_are : map (λ t. t.new) taken ≡ news
+    old_are : map (λ t. t.old) taken ≡ seats_of olds
+    new_are : map (λ t. t.new) taken ≡ seats_of news
     each_taken : All (IsTaken first) taken
     each : All (IsPiece number lines) pieces
     written : map (λ p. p.output) pieces ≡ flat_map (λ d. d.log.items) slots
     shares : flat_map (λ t. t.share) taken ≡ map entries_in pieces
 
-  spread : (olds news : List Pass) (slots : List Slot) → TakeTurns first number lines olds news slots → All (λ (d : Slot). d.failed ≡ false) slots → Spread olds news slots
-  spread [] [] [] h ok = record { taken = []; pieces = []; old_are = refl; new_are = refl; each_taken = All-nil (IsTaken first); each = All-nil (IsPiece number lines); written = refl; shares = refl }
-  spread [] [] (d ∷ slots) h ok = absurd h
-  spread [] (n ∷ news) slots h ok = absurd h
-  spread (o ∷ olds) [] slots h ok = absurd h
-  spread (o ∷ olds) (n ∷ news) [] h ok = absurd h
-  spread (o ∷ olds) (n ∷ news) (d ∷ slots) h ok = let r = spread olds news slots h.1 (All-tail (λ (x : Slot). x.failed ≡ false) d slots ok) in let same : IsSamePass o n = h.0.0 in
-      let logs : Logs first number lines (number_of o) (trail o) (trail n) [] d.log.items = h.0.1 (All-head (λ (x : Slot). x.failed ≡ false) d slots ok) in
-      let one : Taken = record { old = o; new = n; share = map entries_in logs.pieces } in record {
+  spread : (olds news : List Handle) (slots : List Slot) → All (BeganWith first) olds → TakeTurns number lines olds news slots → All (λ (d : Slot). d.failed ≡ false) slots → Spread olds news slots
+  spread [] [] [] began h ok = record { taken = []; pieces = []; old_are = refl; new_are = refl; each_taken = All-nil (IsTaken first); each = All-nil (IsPiece number lines); written = refl; shares = refl }
+  spread [] [] (d ∷ slots) began h ok = absurd h
+  spread [] (n ∷ news) slots began h ok = absurd h
+  spread (o ∷ olds) [] slots began h ok = absurd h
+  spread (o ∷ olds) (n ∷ news) [] began h ok = absurd h
+  spread (o ∷ olds) (n ∷ news) (d ∷ slots) began h ok = let r = spread olds news slots (All-tail (BeganWith first) o olds began) h.1 (All-tail (λ (x : Slot). x.failed ≡ false) d slots ok) in
+      let own_logs : Logs (first_map_of o) number lines (number_of_seat o) (seen_by o) (seen_by n) [] d.log.items = h.0.1 (All-head (λ (x : Slot). x.failed ≡ false) d slots ok) in
+      let logs : Logs first number lines (number_of_seat o) (seen_by o) (seen_by n) [] d.log.items =
+      subst (λ (z : List (Option Page)). Logs z number lines (number_of_seat o) (seen_by o) (seen_by n) [] d.log.items) (All-head (BeganWith first) o olds began) own_logs in
+      let one : Taken = record { old = seat_of o; new = seat_of n; share = map entries_in logs.pieces } in record {
         taken = one ∷ r.taken;
         pieces = logs.pieces ++ r.pieces;
-        old_are = ap (λ (z : List Pass). o ∷ z) r.old_are;
-        new_are = ap (λ (z : List Pass). n ∷ z) r.new_are;
-        each_taken = All-cons (IsTaken first) one r.taken (record { same = same; begins = logs.begins; seen = logs.seen; mine = logs.mine ∙ ap (λ (z : List Entry). own (number_of o) (trail o) ++ z) (sym (flat_id entries_in logs.pieces)) }) r.each_taken;
+        old_are = ap (λ (z : List Pass). seat_of o ∷ z) r.old_are;
+        new_are = ap (λ (z : List Pass). seat_of n ∷ z) r.new_are;
+        each_taken = All-cons (IsTaken first) one r.taken (record { same = h.0.0.1; begins = logs.begins; seen = logs.seen; mine = logs.mine ∙ ap (λ (z : List Entry). own (number_of_seat o) (seen_by o) ++ z) (sym (flat_id entries_in logs.pieces)) }) r.each_taken;
         each = All-append (IsPiece number lines) logs.pieces r.pieces logs.each r.each;
         written = map-append (λ (p : Piece). p.output) logs.pieces r.pieces ∙ (ap (λ (z : List BatchOutput). z ++ map (λ p. p.output) r.pieces) (sym logs.log) ∙ ap (λ (z : List BatchOutput). d.log.items ++ z) r.written);
         shares = ap (λ (z : List (List Entry)). map entries_in logs.pieces ++ z) r.shares ∙ sym (map-append entries_in logs.pieces r.pieces);
       }
 
   -- all batches that were written are the section's
-  pub collected_within : (olds news : List Pass) (slots : List Slot) (written : List BatchOutput) → TakeTurns first number lines olds news slots → Collects slots written → All (IsWithin (length lines)) written
-  collected_within olds news slots written turns g =
-      let s = spread olds news slots turns g.none_failed in
+  pub collected_within : (olds news : List Handle) (slots : List Slot) (written : List BatchOutput) → All (BeganWith first) olds → TakeTurns number lines olds news slots → Collects slots written → All (IsWithin (length lines)) written
+  collected_within olds news slots written began turns g =
+      let s = spread olds news slots began turns g.none_failed in
       subst (All (IsWithin (length lines))) (s.written ∙ sym g.outputs_are) (All-map (IsWithin (length lines)) (λ (p : Piece). p.output) s.pieces
       (All-weaker (IsPiece number lines) (λ (p : Piece). IsWithin (length lines) p.output) (λ p h. record { order = h.order; within = h.within }) s.pieces s.each))
 
@@ -160,10 +207,10 @@ module _ (first : List (Option Page)) (number : ℕ) (lines : List (Option Reque
       let c : Interleaves (all_of groups) history = one_by_one b groups (joined_lists after) in
       subst (λ (z : List (List Entry)). Interleaves z history) (flat_id (λ (p : Piece). map entries p.answers) after ∙ sym (map_flat (λ (p : Piece). p.answers) entries after)) c
 
-  pub chunk : (text : List ℕ) (olds news : List Pass) (slots : List Slot) (written sorted : List BatchOutput) → TakeTurns first number lines olds news slots → Collects slots written
-      → IsPermutation written sorted → Chains 0 (length lines) sorted → text ≡ joined_text sorted → IsChunk first number lines text olds news
-  chunk text olds news slots written sorted turns g perm chains text_is =
-      let s = spread olds news slots turns g.none_failed in
+  pub chunk : (text : List ℕ) (olds news : List Handle) (slots : List Slot) (written sorted : List BatchOutput) → All (BeganWith first) olds → TakeTurns number lines olds news slots → Collects slots written
+      → IsPermutation written sorted → Chains 0 (length lines) sorted → text ≡ joined_text sorted → IsChunk first number lines text (seats_of olds) (seats_of news)
+  chunk text olds news slots written sorted began turns g perm chains text_is =
+      let s = spread olds news slots began turns g.none_failed in
       let l = lifted (λ (p : Piece). p.output) s.pieces sorted (subst (λ (z : List BatchOutput). IsPermutation z sorted) (g.outputs_are ∙ sym s.written) perm) in
       let covers = chained 0 (length lines) l.0 (All-permutation (IsPiece number lines) s.pieces l.0 l.1 s.each) (subst (Chains 0 (length lines)) (sym l.2) chains) in record {
         answers = answers_in l.0;

@@ -9,6 +9,7 @@ use Rattle.bl_page.specs.declared.page.Page.{Page}
 use Rattle.bl_claims.specs.Seeing.{IsSeen, own, GoesOnFrom}
 use Rattle.bl_index.specs.declared.index.Pass.{Pass}
 use Rattle.bl_index.specs.Calls.{IsSamePass, number_of, trail}
+use Rattle.bl_map.specs.declared.handle.Handle.{Handle}
 use Rattle.bl_serve_worker.specs.declared.chunk.BatchOutput.{BatchOutput}
 use Rattle.bl_serve_worker.specs.declared.chunk.Slot.{Slot}
 use Rattle.bl_serve_worker.specs.Answering.{IsFor, answers_text}
@@ -47,8 +48,8 @@ pub record Collects (slots : List Slot) (outputs : List BatchOutput) : Type 0 wh
   pub none_failed : All (λ (s : Slot). s.failed ≡ false) slots
   pub outputs_are : outputs ≡ flat_map (λ s. s.log.items) slots
 
--- Each of these passes has, at the slot that has its place.
-abbrev pub TakeTurns : List (Option Page) → ℕ → List (Option Request) → List Pass → List Pass → List Slot → Type 0
-TakeTurns first number lines [] [] [] = Unit {0}
-TakeTurns first number lines (old ∷ olds) (new ∷ news) (slot ∷ slots) = TakesTurn first number lines old new slot × TakeTurns first number lines olds news slots
-TakeTurns first number lines olds news slots = ⊥
+-- Each of these handles has had its turn, at the slot that has its place.
+abbrev pub TakeTurns : ℕ → List (Option Request) → List Handle → List Handle → List Slot → Type 0
+TakeTurns number lines [] [] [] = Unit {0}
+TakeTurns number lines (old ∷ olds) (new ∷ news) (slot ∷ slots) = TakesTurn number lines old new slot × TakeTurns number lines olds news slots
+TakeTurns number lines olds news slots = ⊥

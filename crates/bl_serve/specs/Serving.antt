@@ -13,6 +13,8 @@ use Rattle.bl_claims.specs.Seeing.{IsSeen}
 use Rattle.bl_index.specs.declared.index.Index.{Index}
 use Rattle.bl_index.specs.declared.index.Pass.{Pass}
 use Rattle.bl_index.specs.Calls.{first_of, IsPassOf, number_of, trail, passes_of, map_after}
+use Rattle.bl_map.specs.declared.handle.Handle.{Handle}
+use Rattle.bl_map.specs.Handles.{seats_of}
 use Rattle.bl_serve.specs.declared.reading.SectionEnd.{SectionEnd}
 use Rattle.bl_serve.specs.Reading.{EndsReading, ReadsLines}
 use Rattle.bl_serve.specs.Sections.{Held, end_text}
@@ -32,6 +34,10 @@ pub record AreTogether (index : Index) (seen : Trail) (passes : List Pass) : Typ
 abbrev pub seen_by : List Pass → Trail
 seen_by [] = []
 seen_by (pass ∷ passes) = trail pass
+
+-- These are handles of all seats of the index, which have met.
+abbrev pub AreMet : Index → List Handle → Type 0
+AreMet index handles = AreTogether index (seen_by (seats_of handles)) (seats_of handles)
 
 -- A section was answered by the passes, which were together and are so again: since then they have seen its entries, and no others.
 pub record HoldsSection (index : Index) (done : ℕ) (asked : List (Option Request)) (text : List ℕ) (olds news : List Pass) : Type 0 where

@@ -1,19 +1,23 @@
 //! A chunk of a section is answered: its batches are given out, threads work on them, and all are joined.
 
 ghost use Rattle.std.specs.Prelude.{◌≡◌, ℕ, List, suc, ◌+◌, ◌<◌, ◌≤◌, ◌^◌, ◌++◌, true, false, length, All, IfOk, IfErr, OnOk, vec_len};
-ghost use Rattle.bl_index.specs.Calls.{first_of, IsPassOf};
+ghost use Rattle.bl_index.specs.Calls.{first_of};
+ghost use Rattle.bl_map.specs.Handles.{seats_of};
+ghost use Rattle.bl_map.specs.Meetings.{IsSeated};
+ghost use Rattle.bl_serve.specs.Meetings.{AllMeet};
 ghost use Rattle.std.specs.Thread.{IsSync};
 ghost use Rattle.std.specs.Io.KnownBytes.{Consumes};
 ghost use Rattle.bl_serve.specs.Reading.{ReadsOn};
 ghost use Rattle.bl_serve.specs.Chunks.{IsChunk, Collects, TakeTurns};
-ghost use Rattle.bl_serve.specs.Serving.{AreTogether, HoldsSection, IsInside, seen_by};
+ghost use Rattle.bl_serve.specs.Serving.{AreMet, HoldsSection, IsInside};
 
 use crate::joining::join_outputs;
 use crate::meeting::meet_all;
 use crate::parsed_lines::ParsedLines;
 use crate::reading::{ReadAhead, read_on};
 use crate::session::{Session, ThreadPlan};
-use bl_index::Pass;
+use bl_index::Index;
+use bl_map::Handle;
 use bl_model::Watched;
 use bl_serve_lines::ServeFault;
 use bl_serve_worker::{Batch, BatchOutput, Chunk, Gate, Role, Service, Slot, Wakeup, take_turn};
@@ -70,7 +74,7 @@ fn batches<R: Wait>(
     Ok(receiver)
 }
 
-/// What the pass of that number does: the first so many serve, the others compress.
+/// What the handle of that number does: the first so many serve, the others compress.
 fn role_of(number: usize, workers: usize) -> Role {
     if number < workers {
         Role::Serve
@@ -79,7 +83,7 @@ fn role_of(number: usize, workers: usize) -> Role {
     }
 }
 
-/// A slot for each of so many passes, of which the first so many serve.
+/// A slot for each of so many handles, of which the first so many serve.
 pub fn new_slots(alloc: Global, count: usize, workers: usize) -> Result<Vec<Slot>, AllocError>
     ensures { IfOk result (λ v. vec_len v ≡ count) }
 {
@@ -95,97 +99,110 @@ pub fn new_slots(alloc: Global, count: usize, workers: usize) -> Result<Vec<Slot
 }
 
 /// How many threads are worth their time. Few requests are answered by this thread; else there are two at least, and more where
-/// there are more requests, up to the number of workers. Where there are many, and deletions among them, all passes work at once.
-fn threads_for(lines: &ParsedLines, plan: ThreadPlan, passes: usize) -> usize {
+/// there are more requests, up to the number of workers. Where there are many, and deletions among them, all handles work at once.
+fn threads_for(lines: &ParsedLines, plan: ThreadPlan, handles: usize) -> usize {
     let operations = lines.operations();
     let deletions = lines.deletions();
     if operations < plan.alone {
         1
     } else if operations >= MANY && deletions > 0 {
-        passes
+        handles
     } else {
         (operations / REQUESTS_A_THREAD).max(2).min(plan.workers)
     }
 }
 
-/// Where the share of the last one of so many threads begins: it has as many of the passes as any other, or one more. 0 where one
+/// Where the share of the last one of so many threads begins: it has as many of the handles as any other, or one more. 0 where one
 /// thread has them all.
-fn last_share(passes: usize, threads: usize) -> usize {
-    passes.saturating_sub(passes.div_ceil(threads.max(1)))
+fn last_share(handles: usize, threads: usize) -> usize {
+    handles.saturating_sub(handles.div_ceil(threads.max(1)))
 }
 
-/// The passes take their turns one after another, each at its slot.
-#[cycle(in_turn)]
+/// The handles have their turns one after another, each at its slot.
 fn work_in_turn<R: Wait, G: Gate>(
     rt: &R,
     chunk: &Chunk<'_, G>,
-    passes: &mut [Pass],
+    handles: &mut [Handle<'_>],
     slots: &mut [Slot],
 )
-    requires own { All (IsPassOf chunk.now.service.now.index.now) passes.old }
-    requires slots { length slots.old ≡ length passes.old }
-    ensures { TakeTurns (first_of chunk.now.service.now.index.now) (suc chunk.now.before) chunk.now.lines.now passes.old passes.new slots.new }
+    requires { length slots.old ≡ length handles.old }
+    ensures { TakeTurns (suc chunk.now.before) chunk.now.lines.now handles.old handles.new slots.new }
 {
-    let Some((pass, others)) = passes.split_first_mut() else {
-        return;
-    };
-    let Some((slot, rest)) = slots.split_first_mut() else {
-        return;
-    };
-    take_turn(rt, chunk, pass, slot);
-    work_in_turn(rt, chunk, others, rest);
+    for number in 0..handles.len() {
+        take_turn(rt, chunk, &mut handles[number], &mut slots[number]);
+    }
 }
 
-/// The passes take their turns, in so many threads. This thread makes all others, and works as they do: a thread that another new
+/// Reads on, and then all handles have their turns, in this thread.
+fn work_alone<R: Wait, G: Gate, I: Read>(
+    rt: &R,
+    chunk: &Chunk<'_, G>,
+    handles: &mut [Handle<'_>],
+    slots: &mut [Slot],
+    reader: &mut Watched<I>,
+    ahead: &mut ReadAhead,
+)
+    requires { length slots.old ≡ length handles.old }
+    ensures turns { TakeTurns (suc chunk.now.before) chunk.now.lines.now handles.old handles.new slots.new }
+    ensures reads { ReadsOn ahead.old ahead.new (I.remaining reader.old.inner) (I.remaining reader.new.inner) (reader.new.failed ≡ true) }
+{
+    read_on(reader, ahead);
+    work_in_turn(rt, chunk, handles, slots);
+}
+
+/// The handles have their turns, in so many threads. This thread makes all others, and works as they do: a thread that another new
 /// one makes would often wait for a processor. Before it works it reads on. The last ones get a thread first: where none can be
-/// made, their turns come behind all others, so no compressor waits for a worker that has not begun.
+/// made, their turns come behind all others, so no compressor waits for a worker that has not begun. Where there is no memory to
+/// part the handles, this thread does the rest alone.
 #[cycle(abreast)]
 fn work_abreast<R: Threads + Wait + Sync, G: Gate + Sync, I: Read>(
     rt: &R,
     chunk: &Chunk<'_, G>,
     threads: usize,
-    passes: &mut [Pass],
+    handles: &mut Vec<Handle<'_>>,
     slots: &mut [Slot],
     reader: &mut Watched<I>,
     ahead: &mut ReadAhead,
-)
-    requires own { All (IsPassOf chunk.now.service.now.index.now) passes.old }
-    requires slots { length slots.old ≡ length passes.old }
-    ensures turns { TakeTurns (first_of chunk.now.service.now.index.now) (suc chunk.now.before) chunk.now.lines.now passes.old passes.new slots.new }
+) -> Result<(), AllocError>
+    requires { length slots.old ≡ vec_len handles.old }
+    ensures turns { OnOk result (TakeTurns (suc chunk.now.before) chunk.now.lines.now handles.old.items handles.new.items slots.new) }
     ensures reads { ReadsOn ahead.old ahead.new (I.remaining reader.old.inner) (I.remaining reader.new.inner) (reader.new.failed ≡ true) }
 {
     let place = last_share(slots.len(), threads);
-    if place == 0 || passes.len() <= place {
-        read_on(reader, ahead);
-        work_in_turn(rt, chunk, passes, slots);
-        return;
+    if place == 0 || handles.len() <= place {
+        work_alone(rt, chunk, handles.as_mut_slice(), slots, reader, ahead);
+        return Ok(());
     }
-    let (others, some) = passes.split_at_mut(place);
+    let Ok(mut some) = handles.split_off(place) else {
+        work_alone(rt, chunk, handles.as_mut_slice(), slots, reader, ahead);
+        return Ok(());
+    };
     let (rest, theirs) = slots.split_at_mut(place);
-    join_mut(
+    let (_, worked) = join_mut(
         rt,
         &mut ||
-            requires { All (IsPassOf chunk.now.service.now.index.now) some.now × (length theirs.now ≡ length some.now) }
-            ensures { TakeTurns (first_of chunk.entry.now.service.now.index.now) (suc chunk.entry.now.before) chunk.entry.now.lines.now
-                some.entry.now some.exit.now theirs.exit.now }
-        { work_in_turn(rt, chunk, some, theirs) },
+            requires { length theirs.now ≡ vec_len some }
+            ensures { TakeTurns (suc chunk.entry.now.before) chunk.entry.now.lines.now some.entry.items some.exit.items theirs.exit.now }
+        { work_in_turn(rt, chunk, some.as_mut_slice(), theirs) },
         &mut ||
-            requires { IsSync R.row × IsSync G.row × All (IsPassOf chunk.now.service.now.index.now) others.now × (length rest.now ≡ length others.now) }
-            ensures turns { TakeTurns (first_of chunk.entry.now.service.now.index.now) (suc chunk.entry.now.before) chunk.entry.now.lines.now
-                others.entry.now others.exit.now rest.exit.now }
+            requires { IsSync R.row × IsSync G.row × (length rest.now ≡ vec_len handles.now) }
+            ensures turns { OnOk result (TakeTurns (suc chunk.entry.now.before) chunk.entry.now.lines.now
+                handles.entry.now.items handles.exit.now.items rest.exit.now) }
             ensures reads { ReadsOn ahead.entry.now ahead.exit.now (I.remaining reader.entry.now.inner) (I.remaining reader.exit.now.inner) (reader.exit.now.failed ≡ true) }
         {
             work_abreast(
                 rt,
                 chunk,
                 threads.saturating_sub(1),
-                others,
+                handles,
                 rest,
                 reader,
                 ahead,
             )
         },
     );
+    worked?;
+    handles.append(&mut some)
 }
 
 /// The outputs in a slot go behind the rest, if there was memory for all of them.
@@ -210,28 +227,28 @@ fn collect_outputs(alloc: Global, slots: &mut Vec<Slot>) -> Result<Vec<BatchOutp
     Ok(outputs)
 }
 
-/// Answers the lines of a chunk, each pass at the slot that has its place. The output goes behind the text.
-fn answer_chunk<'a, R: Threads + Wait + Sync, G: Gate + Sync, I: Read>(
+/// Answers the lines of a chunk, each handle at the slot that has its place. The output goes behind the text.
+fn answer_chunk<'a, 'b, R: Threads + Wait + Sync, G: Gate + Sync, I: Read>(
     rt: &R,
     service: &'a Service<'a, G>,
-    session: Session,
+    session: Session<'b>,
     lines: &'a ParsedLines,
     reader: &mut Watched<I>,
     ahead: &mut ReadAhead,
-) -> Result<Session, ServeFault>
-    requires own { All (IsPassOf service.now.index.now) session.passes.items }
+) -> Result<Session<'b>, ServeFault>
+    requires met { AreMet service.now.index.now session.handles.items }
     requires room { session.totals.requests + length lines.now < 2 ^ 64 }
-    ensures own { IfOk result (λ back. All (IsPassOf service.now.index.now) back.passes.items) }
-    ensures totals { IfOk result (λ back. back.totals ≡ session.totals) }
-    ensures fault { IfErr result (IsInside session.totals.requests (length lines.now)) }
+    ensures totals { IfOk result (λ back. back.totals ≡ session.entry.totals) }
+    ensures fault { IfErr result (IsInside session.entry.totals.requests (length lines.now)) }
     ensures reads { OnOk result (ReadsOn ahead.old ahead.new (I.remaining reader.old.inner) (I.remaining reader.new.inner) (reader.new.failed ≡ true)) }
     ensures consumes { (more : List ℕ) × Consumes (I.remaining reader.old.inner) (I.remaining reader.new.inner) more }
-    ensures chunk { IfOk result (λ back. (more : List ℕ) × (back.text.items ≡ session.text.items ++ more)
-        × IsChunk (first_of service.now.index.now) (suc session.totals.requests) lines.now more session.passes.items back.passes.items) }
+    ensures chunk { IfOk result (λ back. (more : List ℕ) × (back.text.items ≡ session.entry.text.items ++ more)
+        × IsChunk (first_of service.now.index.now) (suc session.entry.totals.requests) lines.now more
+        (seats_of session.entry.handles.items) (seats_of back.handles.items)) }
 {
     let Session {
         plan,
-        mut passes,
+        mut handles,
         mut slots,
         totals,
         mut text,
@@ -247,46 +264,62 @@ fn answer_chunk<'a, R: Threads + Wait + Sync, G: Gate + Sync, I: Read>(
         lines: lines.as_slice(),
         before: totals.requests,
     };
-    let threads = threads_for(lines, plan, passes.len());
-    work_abreast(
-        rt,
-        &chunk,
-        threads,
-        passes.as_mut_slice(),
-        slots.as_mut_slice(),
-        reader,
-        ahead,
-    );
+    let threads = threads_for(lines, plan, handles.len());
+    let places = slots.as_mut_slice();
+    work_abreast(rt, &chunk, threads, &mut handles, places, reader, ahead)?;
     let outputs = collect_outputs(service.alloc, &mut slots)?;
     join_outputs(outputs, totals.requests, count, &mut text)?;
     Ok(Session {
         plan,
-        passes,
+        handles,
         slots,
         totals,
         text,
     })
 }
 
-/// Answers the lines of a chunk by passes that have met, and lets them meet again. The output goes behind the text.
-pub fn run_chunk<R: Threads + Wait + Sync, G: Gate + Sync, I: Read>(
+/// The handles of a session meet.
+fn met<'a>(index: &Index, session: Session<'a>) -> Result<Session<'a>, AllocError>
+    requires { All (IsSeated index.now) session.handles.items }
+    ensures { IfOk result (λ back. (back.totals ≡ session.entry.totals) × (back.text.items ≡ session.entry.text.items)
+        × AllMeet (first_of index.now) (seats_of session.entry.handles.items) (seats_of back.handles.items)) }
+{
+    let Session {
+        plan,
+        mut handles,
+        slots,
+        totals,
+        text,
+    } = session;
+    meet_all(index, &mut handles)?;
+    Ok(Session {
+        plan,
+        handles,
+        slots,
+        totals,
+        text,
+    })
+}
+
+/// Answers the lines of a chunk by handles that have met, and lets them meet again. The output goes behind the text.
+pub fn run_chunk<'a, R: Threads + Wait + Sync, G: Gate + Sync, I: Read>(
     rt: &R,
     service: &Service<'_, G>,
-    session: Session,
+    session: Session<'a>,
     lines: &ParsedLines,
     reader: &mut Watched<I>,
     ahead: &mut ReadAhead,
-) -> Result<Session, ServeFault>
-    requires together { AreTogether service.now.index.now (seen_by session.passes.items) session.passes.items }
+) -> Result<Session<'a>, ServeFault>
+    requires met { AreMet service.now.index.now session.handles.items }
     requires room { session.totals.requests + length lines.now < 2 ^ 64 }
-    ensures totals { IfOk result (λ back. back.totals ≡ session.totals) }
+    ensures totals { IfOk result (λ back. back.totals ≡ session.entry.totals) }
     ensures reads { OnOk result (ReadsOn ahead.old ahead.new (I.remaining reader.old.inner) (I.remaining reader.new.inner) (reader.new.failed ≡ true)) }
     ensures consumes { (more : List ℕ) × Consumes (I.remaining reader.old.inner) (I.remaining reader.new.inner) more }
-    ensures held { IfOk result (λ back. (more : List ℕ) × (back.text.items ≡ session.text.items ++ more)
-        × HoldsSection service.now.index.now session.totals.requests lines.now more session.passes.items back.passes.items) }
-    ensures fault { IfErr result (IsInside session.totals.requests (length lines.now)) }
+    ensures held { IfOk result (λ back. (more : List ℕ) × (back.text.items ≡ session.entry.text.items ++ more)
+        × HoldsSection service.now.index.now session.entry.totals.requests lines.now more
+        (seats_of session.entry.handles.items) (seats_of back.handles.items)) }
+    ensures fault { IfErr result (IsInside session.entry.totals.requests (length lines.now)) }
 {
-    let mut session = answer_chunk(rt, service, session, lines, reader, ahead)?;
-    meet_all(service.index, session.passes.as_mut_slice());
-    Ok(session)
+    let session = answer_chunk(rt, service, session, lines, reader, ahead)?;
+    Ok(met(service.index, session)?)
 }

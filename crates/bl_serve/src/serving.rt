@@ -4,9 +4,10 @@ ghost use Rattle.std.specs.Prelude.{◌≡◌, ℕ, ◌+◌, ◌-◌, ◌<◌, �
 ghost use Rattle.std.specs.Io.KnownBytes.{Appends, Consumes, IsAtEnd};
 ghost use Rattle.bl_serve_lines.specs.Served.{Stops};
 ghost use Rattle.bl_index.specs.Calls.{first_of, map_after};
+ghost use Rattle.bl_map.specs.Handles.{seats_of};
 ghost use Rattle.bl_serve.specs.Reading.{EndsReading, ReadsOn};
 ghost use Rattle.bl_serve.specs.Sections.{CountsSection, rests, syncs};
-ghost use Rattle.bl_serve.specs.Serving.{AreTogether, EndsServing, FailsSection, IsInside, Serves, ServesSection, seen_by};
+ghost use Rattle.bl_serve.specs.Serving.{AreMet, AreTogether, EndsServing, FailsSection, IsInside, Serves, ServesSection, seen_by};
 
 use crate::chunks::{new_slots, run_chunk};
 use crate::parsed_lines::ParsedLines;
@@ -14,11 +15,13 @@ use crate::reading::{ReadAhead, SectionEnd, read_on};
 use crate::session::{Session, ThreadPlan};
 use bl_hints::Hints;
 use bl_index::{Index, Pass};
+use bl_map::{Handle, give_seats, handles_over};
 use bl_model::{Watched, write_out};
 use bl_serve_lines::print::{Response, push_line};
 use bl_serve_lines::request::Request;
 use bl_serve_lines::{ServeFault, Totals};
 use bl_serve_worker::{Gate, Service};
+use std::alloc::{AllocError, Global};
 use std::io::{Read, Write};
 use std::mem;
 use std::sync::Wait;
@@ -70,24 +73,24 @@ fn goes_on(end: SectionEnd, count: usize, chunk: u64) -> bool
 
 /// Answers lines that were read together, counts them, and reads on meanwhile. Bytes after the last LF are a malformed line. The output
 /// goes behind the text.
-fn serve_chunk<T: Threads + Wait + Sync, R: Read, G: Gate + Sync>(
+fn serve_chunk<'a, T: Threads + Wait + Sync, R: Read, G: Gate + Sync>(
     rt: &T,
     service: &Service<'_, G>,
-    session: Session,
+    session: Session<'a>,
     lines: &ParsedLines,
     end: SectionEnd,
     reader: &mut Watched<R>,
     ahead: &mut ReadAhead,
-) -> Result<Session, ServeFault>
-    requires together { AreTogether service.now.index.now (seen_by session.passes.items) session.passes.items }
+) -> Result<Session<'a>, ServeFault>
+    requires met { AreMet service.now.index.now session.handles.items }
     requires requests { session.totals.requests + length lines.now + rests end < 2 ^ 64 }
     requires sections { session.totals.sections + syncs end < 2 ^ 64 }
-    ensures counts { IfOk result (λ back. CountsSection session.totals back.totals lines.now end) }
-    ensures serves { IfOk result (λ back. (more : List ℕ) × (back.text.items ≡ session.text.items ++ more)
-        × ServesSection service.now.index.now session.totals.requests lines.now end more session.passes.items back.passes.items) }
+    ensures counts { IfOk result (λ back. CountsSection session.entry.totals back.totals lines.now end) }
+    ensures serves { IfOk result (λ back. (more : List ℕ) × (back.text.items ≡ session.entry.text.items ++ more)
+        × ServesSection service.now.index.now session.entry.totals.requests lines.now end more (seats_of session.entry.handles.items) (seats_of back.handles.items)) }
     ensures reads { OnOk result (ReadsOn ahead.old ahead.new (R.remaining reader.old.inner) (R.remaining reader.new.inner) (reader.new.failed ≡ true)) }
     ensures consumes { (more : List ℕ) × Consumes (R.remaining reader.old.inner) (R.remaining reader.new.inner) more }
-    ensures fault { IfErr result (IsInside session.totals.requests (length lines.now)) }
+    ensures fault { IfErr result (IsInside session.entry.totals.requests (length lines.now)) }
 {
     let mut session = run_chunk(rt, service, session, lines, reader, ahead)?;
     count(&mut session.totals, lines, end);
@@ -100,10 +103,10 @@ fn serve_chunk<T: Threads + Wait + Sync, R: Read, G: Gate + Sync>(
 }
 
 /// The same session, with no text.
-fn emptied(session: Session) -> Session
+fn emptied(session: Session<'_>) -> Session<'_>
     ensures text { result.text.items ≡ [] }
-    ensures passes { result.passes.items ≡ session.passes.items }
-    ensures totals { result.totals ≡ session.totals }
+    ensures handles { result.handles.items ≡ session.entry.handles.items }
+    ensures totals { result.totals ≡ session.entry.totals }
 {
     let mut session = session;
     session.text.clear();
@@ -112,24 +115,24 @@ fn emptied(session: Session) -> Session
 
 /// Reads a section, answers it and counts its lines, in chunks: while the lines of one are answered, the next ones are read. The
 /// text then holds the output, and nothing else.
-fn serve_section<T: Threads + Wait + Sync, R: Read, G: Gate + Sync>(
+fn serve_section<'a, T: Threads + Wait + Sync, R: Read, G: Gate + Sync>(
     rt: &T,
     service: &Service<'_, G>,
-    session: Session,
+    session: Session<'a>,
     lines: &mut ParsedLines,
     reader: &mut Watched<R>,
     ahead: &mut ReadAhead,
-) -> Result<(Session, SectionEnd), ServeFault>
-    requires together { AreTogether service.now.index.now (seen_by session.passes.items) session.passes.items }
+) -> Result<(Session<'a>, SectionEnd), ServeFault>
+    requires met { AreMet service.now.index.now session.handles.items }
     requires requests { session.totals.requests < 2 ^ 64 }
     requires sections { session.totals.sections + 1 < 2 ^ 64 }
     ensures { (requests : List (Option Request)) × (rest : List ℕ) × (more : List ℕ)
         × Consumes (R.remaining reader.old.inner) (R.remaining reader.new.inner) more
         × MatchResult result
-        (λ t. EndsReading (Ok t.1) (2 ^ 64 - 1 - session.totals.requests) requests rest (ahead.old.source ++ more) ahead.new.source (IsAtEnd (R.remaining reader.new.inner)) (reader.new.failed ≡ true)
-        × CountsSection session.totals t.0.totals requests t.1
-        × ServesSection service.now.index.now session.totals.requests requests t.1 t.0.text.items session.passes.items t.0.passes.items)
-        (λ fault. (left : List ℕ) × FailsSection fault session.totals.requests (2 ^ 64 - 1 - session.totals.requests) requests rest (ahead.old.source ++ more) left (IsAtEnd (R.remaining reader.new.inner)) (reader.new.failed ≡ true)) }
+        (λ t. EndsReading (Ok t.1) (2 ^ 64 - 1 - session.entry.totals.requests) requests rest (ahead.old.source ++ more) ahead.new.source (IsAtEnd (R.remaining reader.new.inner)) (reader.new.failed ≡ true)
+        × CountsSection session.entry.totals t.0.totals requests t.1
+        × ServesSection service.now.index.now session.entry.totals.requests requests t.1 t.0.text.items (seats_of session.entry.handles.items) (seats_of t.0.handles.items))
+        (λ fault. (left : List ℕ) × FailsSection fault session.entry.totals.requests (2 ^ 64 - 1 - session.entry.totals.requests) requests rest (ahead.old.source ++ more) left (IsAtEnd (R.remaining reader.new.inner)) (reader.new.failed ≡ true)) }
 {
     let mut session = emptied(session);
     let mut chunk = FIRST_CHUNK;
@@ -155,17 +158,17 @@ fn serve_section<T: Threads + Wait + Sync, R: Read, G: Gate + Sync>(
 }
 
 /// Serves all sections from the first line on, and writes the output of each when it has ended.
-fn serve_sections<T: Threads + Wait + Sync, R: Read, W: Write, G: Gate + Sync>(
+fn serve_sections<'a, T: Threads + Wait + Sync, R: Read, W: Write, G: Gate + Sync>(
     rt: &T,
     service: &Service<'_, G>,
-    session: Session,
+    session: Session<'a>,
     reader: &mut Watched<R>,
     writer: &mut Watched<W>,
-) -> Result<Session, ServeFault>
-    requires together { AreTogether service.now.index.now (seen_by session.passes.items) session.passes.items }
+) -> Result<Session<'a>, ServeFault>
+    requires met { AreMet service.now.index.now session.handles.items }
     requires first { (session.totals.requests ≡ 0) × (session.totals.malformed ≡ 0) × (session.totals.sections ≡ 0) }
-    ensures serves { EndsServing (λ s. Serves service.now.index.now session.passes.items s.passes.items s.totals)
-        (Stops (map_after (first_of service.now.index.now) (seen_by session.passes.items)))
+    ensures serves { EndsServing (λ s. Serves service.now.index.now (seats_of session.entry.handles.items) (seats_of s.handles.items) s.totals)
+        (Stops (map_after (first_of service.now.index.now) (seen_by (seats_of session.entry.handles.items))))
         (R.remaining reader.old.inner) (R.remaining reader.new.inner) (reader.new.failed ≡ true)
         (W.contents writer.old.inner) (W.contents writer.new.inner) (writer.new.failed ≡ true) result }
     ensures flushed { OnOk result (writer.new.pending ≡ false) }
@@ -185,6 +188,31 @@ fn serve_sections<T: Threads + Wait + Sync, R: Read, W: Write, G: Gate + Sync>(
         }
     }
     Ok(session)
+}
+
+/// A session of these handles, in which nothing is served yet.
+fn begun(
+    alloc: Global,
+    plan: ThreadPlan,
+    handles: Vec<Handle<'_>>,
+) -> Result<Session<'_>, AllocError>
+    requires { 0 < vec_len handles }
+    ensures handles { IfOk result (λ session. session.handles.items ≡ handles.entry.items) }
+    ensures first { IfOk result (λ session. (session.totals.requests ≡ 0) × (session.totals.malformed ≡ 0) × (session.totals.sections ≡ 0)) }
+{
+    let slots = new_slots(alloc, handles.len(), plan.workers)?;
+    let totals = Totals {
+        requests: 0,
+        malformed: 0,
+        sections: 0,
+    };
+    Ok(Session {
+        plan,
+        handles,
+        slots,
+        totals,
+        text: Vec::new(alloc),
+    })
 }
 
 /// Serves the requests of the reader by all passes of an index, which have met: the first so many are workers and answer
@@ -239,34 +267,25 @@ pub fn serve_with<T: Threads + Wait + Sync, R: Read, W: Write, G: Gate + Sync>(
         (W.contents writer.old.inner) (W.contents writer.new.inner) (writer.new.failed ≡ true) result }
     ensures flushed { OnOk result (writer.new.pending ≡ false) }
 {
+    let mut passes = passes;
+    let handles = handles_over(index, &mut passes)?;
     let alloc = *passes.allocator();
     let hints = Hints::new(alloc)?;
-    let slots = new_slots(alloc, passes.len(), plan.workers)?;
     let service = Service {
         index,
         hints: &hints,
         gate,
         alloc,
     };
-    let totals = Totals {
-        requests: 0,
-        malformed: 0,
-        sections: 0,
-    };
-    let session = Session {
-        plan,
-        passes,
-        slots,
-        totals,
-        text: Vec::new(alloc),
-    };
-    let session = serve_sections(rt, &service, session, reader, writer)?;
+    let fresh = begun(alloc, plan, handles)?;
+    let session = serve_sections(rt, &service, fresh, reader, writer)?;
     let Session {
         plan: _,
-        passes,
+        handles,
         slots: _,
         totals,
         text: _,
     } = session;
+    give_seats(handles, &mut passes);
     Ok((totals, passes))
 }

@@ -2,28 +2,28 @@
 
 ghost use Rattle.std.specs.Prelude.{◌≡◌, ◌<◌, ◌≤◌, vec_len};
 
-use bl_index::Pass;
+use bl_map::Handle;
 use bl_serve_lines::Totals;
 use bl_serve_worker::Slot;
 
 /// How lines are shared among threads.
 #[derive(Clone, Copy, Debug, PartialEq, Eq)]
 pub struct ThreadPlan {
-    /// So many passes answer lines, the first ones. The others follow hints.
+    /// So many handles answer lines, the first ones. The others follow hints.
     pub workers: usize,
     /// Fewer requests than this are answered by one thread: another one would cost more time than it spares.
     pub alone: usize,
 }
 
-/// The passes of a server, each with its slot, what was counted, and the output of the section that is open.
+/// The handles of a server, each with its slot, what was counted, and the output of the section that is open.
 #[derive(Drop)]
-pub struct Session {
+pub struct Session<'a> {
     pub plan: ThreadPlan,
-    pub passes: Vec<Pass>,
+    pub handles: Vec<Handle<'a>>,
     pub slots: Vec<Slot>,
     pub totals: Totals,
     pub text: Vec<u8>,
-    pub ghost some: { 0 < vec_len passes },
-    pub ghost paired: { vec_len slots ≡ vec_len passes },
+    pub ghost some: { 0 < vec_len handles },
+    pub ghost paired: { vec_len slots ≡ vec_len handles },
     pub ghost counted: { totals.malformed ≤ totals.requests },
 }

@@ -11,7 +11,10 @@ use Rattle.bl_page.specs.declared.page.Page.{Page}
 use Rattle.bl_claims.specs.Trails.{Trail}
 use Rattle.bl_claims.specs.Seeing.{own}
 use Rattle.bl_serve_worker.specs.declared.chunk.BatchOutput.{BatchOutput}
+use Rattle.bl_map.specs.declared.handle.Handle.{Handle}
+use Rattle.bl_map.specs.Handles.{IsSameHandle, first_map_of, number_of_seat}
 use Rattle.bl_map.specs.Works.{Adds}
+use Rattle.bl_map.proofs.Same.{by_same}
 use Rattle.bl_serve_worker.specs.Answering.{answers_text, AnswersLines}
 use Rattle.bl_serve_worker.specs.Batches.{Piece, IsPiece, Logs, lines_in}
 use Rattle.bl_serve_worker.proofs.Lines.{goes_on, stays}
@@ -30,8 +33,9 @@ one_log first number n lines pass old new log log' w order within at_number a is
   mine = a.mine ∙ ap (λ (z : List Entry). own pass old ++ z) (sym (append-nil (flat_map entries a.answers)));
 }
 
-pub then_logs : (first : List (Option Page)) (number : ℕ) (lines : List (Option Request)) (pass it : ℕ) (old mid new : Trail) (a b c : List BatchOutput) → it ≡ pass → Logs first number lines pass old mid a b → Logs first number lines it mid new b c → Logs first number lines pass old new a c
-then_logs first number lines pass it old mid new a b c same x y' = let y : Logs first number lines pass mid new b c = subst (λ (z : ℕ). Logs first number lines z mid new b c) same y' in let f : Piece → List Entry = λ p. flat_map entries p.answers in record {
+pub then_logs : (one two : Handle) (number : ℕ) (lines : List (Option Request)) (old mid new : Trail) (a b c : List BatchOutput) → IsSameHandle one two → Logs (first_map_of one) number lines (number_of_seat one) old mid a b
+    → Logs (first_map_of two) number lines (number_of_seat two) mid new b c → Logs (first_map_of one) number lines (number_of_seat one) old new a c
+then_logs one two number lines old mid new a b c same x y' = let pass = number_of_seat one in let y = by_same (λ first pass. Logs first number lines pass mid new b c) one two same y' in let f : Piece → List Entry = λ p. flat_map entries p.answers in record {
   pieces = x.pieces ++ y.pieces;
   log = y.log ∙ (ap (λ (z : List BatchOutput). z ++ map (λ p. p.output) y.pieces) x.log ∙ (append_assoc a (map (λ p. p.output) x.pieces) (map (λ p. p.output) y.pieces) ∙ ap (λ (z : List BatchOutput). a ++ z) (sym (map-append (λ (p : Piece). p.output) x.pieces y.pieces))));
   each = All-append (IsPiece number lines) x.pieces y.pieces x.each y.each;

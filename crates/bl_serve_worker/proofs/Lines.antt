@@ -14,7 +14,10 @@ use Rattle.bl_serve_lines.specs.Text.{numbered, reply_text, row_text}
 use Rattle.bl_page.specs.declared.page.Page.{Page}
 use Rattle.bl_claims.specs.Trails.{Trail, entries_at, history_of}
 use Rattle.bl_claims.specs.Seeing.{own, GoesOnFrom}
-use Rattle.bl_map.specs.Works.{Works, Adds}
+use Rattle.bl_map.specs.declared.handle.Handle.{Handle}
+use Rattle.bl_map.specs.Handles.{IsSameHandle, HasKeptUp, first_map_of, number_of_seat, seen_by}
+use Rattle.bl_map.specs.Works.{Works}
+use Rattle.bl_map.proofs.Same.{by_same, kept_as}
 use Rattle.bl_serve_worker.specs.Answering.IsFor.{Replies, Scans, Syncs, Refuses}
 use Rattle.bl_serve_worker.specs.Answering.{IsFor, answers_text, AnswersLine, AnswersLines, WritesRows}
 
@@ -100,14 +103,15 @@ pub malformed_line : (first : List (Option Page)) (pass n : ℕ) (asked : Option
 malformed_line first pass n asked before after old is written = subst (λ (z : Option Request). AnswersLine first pass n z before after old old) (sym is) (word_line first pass n None Malformed before after old Refuses refl written)
 
 -- a line, and then what adds no entry
-pub then_idle : (first : List (Option Page)) (pass it n : ℕ) (asked : Option Request) (before after : List ℕ) (old mid new : Trail) → it ≡ pass → AnswersLine first pass n asked before after old mid → Adds first it mid new → AnswersLine first pass n asked before after old new
-then_idle first pass it n asked before after old mid new same l a' = let a : Adds first pass mid new = subst (λ (z : ℕ). Adds first z mid new) same a' in record {
+pub then_idle : (a b c : Handle) (n : ℕ) (asked : Option Request) (before after : List ℕ) → IsSameHandle a b → AnswersLine (first_map_of a) (number_of_seat a) n asked before after (seen_by a) (seen_by b) → HasKeptUp b c
+    → AnswersLine (first_map_of a) (number_of_seat a) n asked before after (seen_by a) (seen_by c)
+then_idle a b c n asked before after same l kept = let k = kept_as a b c same kept in record {
   answer = l.answer;
   is_for = l.is_for;
   prints = l.prints;
-  begins = goes_on old mid new l.begins a.begins;
-  seen = λ s. a.seen (l.seen s);
-  mine = a.none ∙ l.mine;
+  begins = goes_on (seen_by a) (seen_by b) (seen_by c) l.begins k.begins;
+  seen = λ s. k.seen (l.seen s);
+  mine = k.none ∙ l.mine;
 }
 
 -- ---- in a loop
@@ -115,14 +119,14 @@ then_idle first pass it n asked before after old mid new same l a' = let a : Add
 pub no_text : (first : List (Option Page)) (pass number : ℕ) (text : List ℕ) (old : Trail) → text ≡ [] → AnswersLines first pass number [] text old old
 no_text first pass number text old is = subst (λ (z : List ℕ). AnswersLines first pass number [] z old old) (sym is) (no_lines first pass number old)
 
-pub next_line : (first : List (Option Page)) (pass it number n i : ℕ) (lines : List (Option Request)) (asked d : Option Request) (text more : List ℕ) (old mid new : Trail) → it ≡ pass → i < length lines → asked ≡ get_or lines i d → n ≡ number + i
-    → AnswersLines first pass number (take i lines) text old mid → AnswersLine first it n asked text more mid new → AnswersLines first pass number (take (i + 1) lines) more old new
-next_line first pass it number n i lines asked d text more old mid new same low at at_number a b =
+pub next_line : (a b : Handle) (number n i : ℕ) (lines : List (Option Request)) (asked d : Option Request) (text more : List ℕ) (old mid new : Trail) → IsSameHandle a b → i < length lines → asked ≡ get_or lines i d → n ≡ number + i
+    → AnswersLines (first_map_of a) (number_of_seat a) number (take i lines) text old mid → AnswersLine (first_map_of b) (number_of_seat b) n asked text more mid new → AnswersLines (first_map_of a) (number_of_seat a) number (take (i + 1) lines) more old new
+next_line a b number n i lines asked d text more old mid new same low at at_number so_far one =
     let grown : take (i + 1) lines ≡ take i lines ++ asked ∷ [] = take_more lines i d low ∙ ap (λ (z : Option Request). take i lines ++ z ∷ []) (sym at) in
     let short : length (take i lines) ≡ i = length-take-le i lines (omega arith) in
-    let b' : AnswersLine first pass n asked text more mid new = subst (λ (z : ℕ). AnswersLine first z n asked text more mid new) same b in
-    subst (λ (z : List (Option Request)). AnswersLines first pass number z more old new) (sym grown)
-    (one_more first pass number n (take i lines) asked text more old mid new (omega arith) a b')
+    let one' = by_same (λ first pass. AnswersLine first pass n asked text more mid new) a b same one in
+    subst (λ (z : List (Option Request)). AnswersLines (first_map_of a) (number_of_seat a) number z more old new) (sym grown)
+    (one_more (first_map_of a) (number_of_seat a) number n (take i lines) asked text more old mid new (omega arith) so_far one')
 
 pub all_lines : (first : List (Option Page)) (pass number i : ℕ) (lines : List (Option Request)) (text : List ℕ) (old new : Trail) → i ≡ length lines → AnswersLines first pass number (take i lines) text old new → AnswersLines first pass number lines text old new
 all_lines first pass number i lines text old new is a = subst (λ (z : List (Option Request)). AnswersLines first pass number z text old new) (take_all i lines (omega arith)) a

@@ -17,6 +17,9 @@ use Rattle.bl_claims.specs.Trails.{Trail, history_of}
 use Rattle.bl_claims.specs.Seeing.{first_map, IsSeen, own, GoesOnFrom}
 use Rattle.bl_index.proofs.Scanned.{Answered, IsBehind, answered, part_is, only_rows}
 use Rattle.bl_map.specs.Works.{Works}
+use Rattle.bl_map.specs.declared.handle.Handle.{Handle}
+use Rattle.bl_map.specs.Handles.{IsSameHandle, first_map_of, number_of_seat}
+use Rattle.bl_map.proofs.Same.{by_same}
 use Rattle.bl_serve_worker.specs.Answering.{WritesPart, WritesRows}
 use Rattle.bl_serve_worker.proofs.Lines.{goes_on, stays, history_append}
 
@@ -69,31 +72,33 @@ written high parts e before mid after so_far is =
 part_mine : (pass : ℕ) (parts : List Entry) (e : Entry) (old mid new : Trail) → own pass mid ≡ own pass old ++ parts → own pass new ≡ own pass mid ++ e ∷ [] → own pass new ≡ own pass old ++ (parts ++ e ∷ [])
 part_mine pass parts e old mid new so_far once = once ∙ (ap (λ (z : List Entry). z ++ e ∷ []) so_far ∙ append_assoc (own pass old) parts (e ∷ []))
 
-pub goes_more : (first : List (Option Page)) (pass it low at high next : ℕ) (before text after : List ℕ) (old mid new : Trail) → it ≡ pass → Goes first pass low at high before text old mid → at < high → WritesPart first it at high (More next) text after mid new → Goes first pass low next high before after old new
-goes_more first pass it low at high next before text after old mid new same g below p' =
-    let p : WritesPart first pass at high (More next) text after mid new = subst (λ (z : ℕ). WritesPart first z at high (More next) text after mid new) same p' in
-    let e : Entry = part_entry pass at p.reply in record {
+pub goes_more : (a b : Handle) (low at high next : ℕ) (before text after : List ℕ) (old mid new : Trail) → IsSameHandle a b → Goes (first_map_of a) (number_of_seat a) low at high before text old mid → at < high
+    → WritesPart (first_map_of b) (number_of_seat b) at high (More next) text after mid new → Goes (first_map_of a) (number_of_seat a) low next high before after old new
+goes_more a b low at high next before text after old mid new same g below p' =
+    let p = by_same (λ first pass. WritesPart first pass at high (More next) text after mid new) a b same p' in
+    let e : Entry = part_entry (number_of_seat a) at p.reply in record {
       parts = g.parts ++ e ∷ [];
       on = λ more are. subst (AreParts (Some low) high) (sym (append_assoc g.parts (e ∷ []) more)) (g.on (e ∷ more) (below, refl, subst (λ (z : Option ℕ). AreParts z high more) (sym p.ends) are));
       prints = written high g.parts e before text after g.prints p.prints;
       begins = goes_on old mid new g.begins p.works.begins;
       seen = λ s. p.works.seen;
-      mine = part_mine pass g.parts e old mid new g.mine p.works.once;
+      mine = part_mine (number_of_seat a) g.parts e old mid new g.mine p.works.once;
     }
 
 -- ---- its end
 
 -- the last part went to the end of the map
-pub ends_there : (first : List (Option Page)) (pass it low at high : ℕ) (before text after : List ℕ) (old mid new : Trail) → it ≡ pass → Goes first pass low at high before text old mid → at < high → WritesPart first it at high End text after mid new → WritesRows first pass low high before after old new
-ends_there first pass it low at high before text after old mid new same g below p' =
-    let p : WritesPart first pass at high End text after mid new = subst (λ (z : ℕ). WritesPart first z at high End text after mid new) same p' in
-    let e : Entry = part_entry pass at p.reply in record {
+pub ends_there : (a b : Handle) (low at high : ℕ) (before text after : List ℕ) (old mid new : Trail) → IsSameHandle a b → Goes (first_map_of a) (number_of_seat a) low at high before text old mid → at < high
+    → WritesPart (first_map_of b) (number_of_seat b) at high End text after mid new → WritesRows (first_map_of a) (number_of_seat a) low high before after old new
+ends_there a b low at high before text after old mid new same g below p' =
+    let p = by_same (λ first pass. WritesPart first pass at high End text after mid new) a b same p' in
+    let e : Entry = part_entry (number_of_seat a) at p.reply in record {
       parts = g.parts ++ e ∷ [];
       are_parts = g.on (e ∷ []) (below, refl, subst (λ (z : Option ℕ). AreParts z high []) (sym p.ends) tt);
       prints = written high g.parts e before text after g.prints p.prints;
       begins = goes_on old mid new g.begins p.works.begins;
       seen = λ s. p.works.seen;
-      mine = part_mine pass g.parts e old mid new g.mine p.works.once;
+      mine = part_mine (number_of_seat a) g.parts e old mid new g.mine p.works.once;
     }
 
 -- the scan has come to its end

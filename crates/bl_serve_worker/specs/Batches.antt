@@ -1,4 +1,4 @@
--- What a pass does for a chunk of lines.
+-- What a handle does for a chunk of lines.
 use Rattle.std.specs.Prelude.{◌≡◌, ℕ, ◌+◌, ◌-◌, ◌<◌, ◌≤◌, ◌++◌, List, [], All, Option, false, flat_map, map, length, take, drop}
 use Rattle.std.specs.List.{AllZip}
 use Rattle.bl_serve_lines.specs.declared.request.Request.{Request}
@@ -6,8 +6,8 @@ use Rattle.bl_serve_lines.specs.Lines.{Answer, entries}
 use Rattle.bl_page.specs.declared.page.Page.{Page}
 use Rattle.bl_claims.specs.Trails.{Trail}
 use Rattle.bl_claims.specs.Seeing.{IsSeen, own, GoesOnFrom}
-use Rattle.bl_index.specs.declared.index.Pass.{Pass}
-use Rattle.bl_index.specs.Calls.{IsSamePass, number_of, trail}
+use Rattle.bl_map.specs.declared.handle.Handle.{Handle}
+use Rattle.bl_map.specs.Handles.{IsSameHandle, first_map_of, number_of_seat, seen_by}
 use Rattle.bl_serve_worker.specs.declared.chunk.BatchOutput.{BatchOutput}
 use Rattle.bl_serve_worker.specs.declared.chunk.Slot.{Slot}
 use Rattle.bl_serve_worker.specs.Answering.{IsFor, answers_text}
@@ -37,10 +37,10 @@ pub record Logs (first : List (Option Page)) (number : ℕ) (lines : List (Optio
   pub seen : IsSeen first old → IsSeen first new
   pub mine : own pass new ≡ own pass old ++ flat_map (λ p. flat_map entries p.answers) pieces
 
--- A pass has had its turn, and what it wrote stands in the log of its slot.
-abbrev pub IsTurn : List (Option Page) → ℕ → List (Option Request) → Pass → Pass → Slot → Type 0
-IsTurn first number lines old new slot = Logs first number lines (number_of old) (trail old) (trail new) [] slot.log.items
+-- A handle has had its turn, and what it wrote stands in the log of its slot.
+abbrev pub IsTurn : ℕ → List (Option Request) → Handle → Handle → Slot → Type 0
+IsTurn number lines old new slot = Logs (first_map_of old) number lines (number_of_seat old) (seen_by old) (seen_by new) [] slot.log.items
 
 -- It has had its turn, if there was memory for what it wrote.
-abbrev pub TakesTurn : List (Option Page) → ℕ → List (Option Request) → Pass → Pass → Slot → Type 0
-TakesTurn first number lines old new slot = IsSamePass old new × (slot.failed ≡ false → IsTurn first number lines old new slot)
+abbrev pub TakesTurn : ℕ → List (Option Request) → Handle → Handle → Slot → Type 0
+TakesTurn number lines old new slot = IsSameHandle old new × (slot.failed ≡ false → IsTurn number lines old new slot)

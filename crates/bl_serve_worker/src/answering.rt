@@ -1,20 +1,17 @@
-//! Requests are answered by a pass of the index.
+//! Requests are answered by a handle.
 
 ghost use Rattle.std.specs.Prelude.{◌≡◌, suc, ◌+◌, ◌<◌, ◌≤◌, ◌^◌, ◌++◌, length, Some, IfOk, OnOk};
 ghost use Rattle.bl_model.specs.declared.operation.Op.TheVariants as op;
-ghost use Rattle.bl_index.specs.Calls.{first_of, IsPassOf, IsSamePass, number_of, trail};
+ghost use Rattle.bl_map.specs.Handles.{IsSameHandle, HasCalled, HasKeptUp, first_map_of, number_of_seat, seen_by};
 ghost use Rattle.bl_model.specs.Replies.{reply_of};
 ghost use Rattle.bl_model.specs.Writes.{write_op, IsRead};
-ghost use Rattle.bl_map.specs.Works.{Works, Adds};
 ghost use Rattle.bl_serve_worker.specs.Answering.{AnswersLine, AnswersLines, WritesPart, WritesRows};
 
 use crate::compressing::enqueue;
 use crate::gate::Gate;
 use crate::service::Service;
 use bl_hints::Hints;
-use bl_index::{Index, KeyReply, Pass};
-use bl_map::calls::{self, find, part};
-use bl_map::upkeep::{follow_split, sweep_if_due};
+use bl_map::{Handle, KeyReply};
 use bl_model::{KeyWrite, Next, Op, Reply};
 use bl_serve_lines::print::{
     Response, push_key_line, push_line, push_number, push_rows_below, push_word_line,
@@ -23,40 +20,36 @@ use bl_serve_lines::request::Request;
 use std::alloc::AllocError;
 use std::sync::Wait;
 
-/// A worker looks each so many lines whether a sweep is due, and behind a batch of one line. With few pages for each pass one is
+/// A worker looks each so many lines whether a sweep is due, and behind a batch of one line. With few pages for each handle one is
 /// due after each put; but a sweep reads words that the other workers write, and what it releases is no longer at hand for the next
-/// puts of the pass.
+/// puts of the handle.
 const LINES_TO_SWEEP: u64 = 256;
 
 /// So many bytes of output are made room for at once for each line: an answer about one key has few more.
 const ROOM: usize = 32;
 
-/// Sweeps, where the pass may and a sweep is due.
-fn sweep_if_may(index: &Index, pass: &mut Pass, may_sweep: bool)
-    requires { IsPassOf index.now pass.old }
-    ensures same { IsSamePass pass.old pass.new }
-    ensures adds { Adds (first_of index.now) (number_of pass.old) (trail pass.old) (trail pass.new) }
+/// Sweeps, where the worker may and a sweep is due.
+fn sweep_if_may(handle: &mut Handle<'_>, may_sweep: bool)
+    ensures same { IsSameHandle handle.old handle.new }
+    ensures kept { HasKeptUp handle.old handle.new }
 {
     if may_sweep {
-        sweep_if_due(index, pass);
+        handle.sweep_if_due();
     }
 }
 
 /// Writes a key. A split is posted. The hint of a thin page waits for a compressor, and so does that of a post that found no room.
 fn write<R: Wait>(
     rt: &R,
-    index: &Index,
     hints: &Hints,
-    pass: &mut Pass,
+    handle: &mut Handle<'_>,
     key: u64,
     write: KeyWrite,
 ) -> KeyReply
-    requires { IsPassOf index.now pass.old }
-    ensures same { IsSamePass pass.old pass.new }
-    ensures works { Works (first_of index.now) (number_of pass.old) (write_op key write) (reply_of result) (trail pass.old) (trail pass.new) }
+    ensures same { IsSameHandle handle.old handle.new }
+    ensures called { HasCalled (write_op key write) (reply_of result) handle.old handle.new }
 {
-    let (reply, hint) = calls::write(rt, index, pass, key, write);
-    let left = follow_split(rt, index, pass, hint);
+    let (reply, left) = handle.write_leaving(rt, key, write);
     enqueue(rt, hints, left);
     reply
 }
@@ -64,18 +57,16 @@ fn write<R: Wait>(
 /// Writes the rows of a part that lie below an end, and says where the part ended.
 fn write_part<R: Wait>(
     rt: &R,
-    index: &Index,
-    pass: &mut Pass,
+    handle: &mut Handle<'_>,
     from: u64,
     near: &mut Option<u32>,
     high: u64,
     text: &mut Vec<u8>,
 ) -> Result<Next, AllocError>
-    requires { IsPassOf index.now pass.old }
-    ensures same { IsSamePass pass.old pass.new }
-    ensures writes { IfOk result (λ next. WritesPart (first_of index.now) (number_of pass.old) from high next text.old.items text.new.items (trail pass.old) (trail pass.new)) }
+    ensures same { IsSameHandle handle.old handle.new }
+    ensures writes { IfOk result (λ next. WritesPart (first_map_of handle.old) (number_of_seat handle.old) from high next text.old.items text.new.items (seen_by handle.old) (seen_by handle.new)) }
 {
-    let Reply::Rows(rows, next) = part(rt, index, pass, from, near) else {
+    let Reply::Rows(rows, next) = handle.part(rt, from, near) else {
         unreachable!()
     };
     push_rows_below(text, rows.as_slice(), high)?;
@@ -86,20 +77,18 @@ fn write_part<R: Wait>(
 /// further one along the leaves.
 fn write_rows<R: Wait>(
     rt: &R,
-    index: &Index,
-    pass: &mut Pass,
+    handle: &mut Handle<'_>,
     low: u64,
     high: u64,
     text: &mut Vec<u8>,
 ) -> Result<(), AllocError>
-    requires { IsPassOf index.now pass.old }
-    ensures same { IsSamePass pass.old pass.new }
-    ensures writes { OnOk result (WritesRows (first_of index.now) (number_of pass.old) low high text.old.items text.new.items (trail pass.old) (trail pass.new)) }
+    ensures same { IsSameHandle handle.old handle.new }
+    ensures writes { OnOk result (WritesRows (first_map_of handle.old) (number_of_seat handle.old) low high text.old.items text.new.items (seen_by handle.old) (seen_by handle.new)) }
 {
     let mut at = low;
     let mut near = None;
     while at < high {
-        match write_part(rt, index, pass, at, &mut near, high, text)? {
+        match write_part(rt, handle, at, &mut near, high, text)? {
             Next::More(next) => at = next,
             Next::End => return Ok(()),
         }
@@ -111,20 +100,18 @@ fn write_rows<R: Wait>(
 #[inline(never)]
 fn scan<R: Wait>(
     rt: &R,
-    index: &Index,
-    pass: &mut Pass,
+    handle: &mut Handle<'_>,
     number: u64,
     low: u64,
     high: u64,
     text: &mut Vec<u8>,
 ) -> Result<(), AllocError>
-    requires { IsPassOf index.now pass.old }
-    ensures same { IsSamePass pass.old pass.new }
-    ensures answers { OnOk result (AnswersLine (first_of index.now) (number_of pass.old) number (Some (Request.Scan low high)) text.old.items text.new.items (trail pass.old) (trail pass.new)) }
+    ensures same { IsSameHandle handle.old handle.new }
+    ensures answers { OnOk result (AnswersLine (first_map_of handle.old) (number_of_seat handle.old) number (Some (Request.Scan low high)) text.old.items text.new.items (seen_by handle.old) (seen_by handle.new)) }
 {
     push_number(text, b"", number)?;
     text.extend_from_slice(b" rows")?;
-    write_rows(rt, index, pass, low, high, text)?;
+    write_rows(rt, handle, low, high, text)?;
     text.push(b'\n')?;
     Ok(())
 }
@@ -133,40 +120,36 @@ fn scan<R: Wait>(
 #[inline(never)]
 fn list<R: Wait>(
     rt: &R,
-    index: &Index,
-    pass: &mut Pass,
+    handle: &mut Handle<'_>,
     number: u64,
     from: u64,
     text: &mut Vec<u8>,
 ) -> Result<(), AllocError>
-    requires { IsPassOf index.now pass.old }
-    ensures same { IsSamePass pass.old pass.new }
-    ensures answers { OnOk result (AnswersLine (first_of index.now) (number_of pass.old) number (Some (Request.Ask (op.Part from))) text.old.items text.new.items (trail pass.old) (trail pass.new)) }
+    ensures same { IsSameHandle handle.old handle.new }
+    ensures answers { OnOk result (AnswersLine (first_map_of handle.old) (number_of_seat handle.old) number (Some (Request.Ask (op.Part from))) text.old.items text.new.items (seen_by handle.old) (seen_by handle.new)) }
 {
-    let reply = part(rt, index, pass, from, &mut None);
+    let reply = handle.part(rt, from, &mut None);
     push_line(text, number, &Response::Replied(reply))
 }
 
 /// Carries a search or a part out, and answers it.
 fn look<R: Wait>(
     rt: &R,
-    index: &Index,
-    pass: &mut Pass,
+    handle: &mut Handle<'_>,
     number: u64,
     op: Op,
     text: &mut Vec<u8>,
 ) -> Result<(), AllocError>
-    requires own { IsPassOf index.now pass.old }
-    requires read { IsRead op }
-    ensures same { IsSamePass pass.old pass.new }
-    ensures answers { OnOk result (AnswersLine (first_of index.now) (number_of pass.old) number (Some (Request.Ask op)) text.old.items text.new.items (trail pass.old) (trail pass.new)) }
+    requires { IsRead op }
+    ensures same { IsSameHandle handle.old handle.new }
+    ensures answers { OnOk result (AnswersLine (first_map_of handle.old) (number_of_seat handle.old) number (Some (Request.Ask op)) text.old.items text.new.items (seen_by handle.old) (seen_by handle.new)) }
 {
     match op {
         Op::Find(key) => {
-            let reply = find(rt, index, pass, key);
+            let reply = handle.find(rt, key);
             push_key_line(text, number, reply)
         }
-        Op::Part(from) => list(rt, index, pass, number, from, text),
+        Op::Part(from) => list(rt, handle, number, from, text),
         _ => unreachable!(),
     }
 }
@@ -174,23 +157,21 @@ fn look<R: Wait>(
 /// Carries an operation out, and answers it.
 fn operate<R: Wait>(
     rt: &R,
-    index: &Index,
     hints: &Hints,
-    pass: &mut Pass,
+    handle: &mut Handle<'_>,
     number: u64,
     op: Op,
     text: &mut Vec<u8>,
 ) -> Result<(), AllocError>
-    requires { IsPassOf index.now pass.old }
-    ensures same { IsSamePass pass.old pass.new }
-    ensures answers { OnOk result (AnswersLine (first_of index.now) (number_of pass.old) number (Some (Request.Ask op)) text.old.items text.new.items (trail pass.old) (trail pass.new)) }
+    ensures same { IsSameHandle handle.old handle.new }
+    ensures answers { OnOk result (AnswersLine (first_map_of handle.old) (number_of_seat handle.old) number (Some (Request.Ask op)) text.old.items text.new.items (seen_by handle.old) (seen_by handle.new)) }
 {
     match op.write() {
         Some((key, does)) => {
-            let reply = write(rt, index, hints, pass, key, does);
+            let reply = write(rt, hints, handle, key, does);
             push_key_line(text, number, reply)
         }
-        None => look(rt, index, pass, number, op, text),
+        None => look(rt, handle, number, op, text),
     }
 }
 
@@ -198,26 +179,25 @@ fn operate<R: Wait>(
 fn answer<R: Wait, G: Gate>(
     rt: &R,
     service: &Service<'_, G>,
-    pass: &mut Pass,
+    handle: &mut Handle<'_>,
     number: u64,
     request: Option<Request>,
     text: &mut Vec<u8>,
 ) -> Result<(), AllocError>
-    requires { IsPassOf service.now.index.now pass.old }
-    ensures same { IsSamePass pass.old pass.new }
-    ensures answers { OnOk result (AnswersLine (first_of service.now.index.now) (number_of pass.old) number request text.old.items text.new.items (trail pass.old) (trail pass.new)) }
+    ensures same { IsSameHandle handle.old handle.new }
+    ensures answers { OnOk result (AnswersLine (first_map_of handle.old) (number_of_seat handle.old) number request text.old.items text.new.items (seen_by handle.old) (seen_by handle.new)) }
 {
-    let (index, hints, gate) = (service.index, service.hints, service.gate);
+    let (hints, gate) = (service.hints, service.gate);
     match request {
         Some(Request::Ask(op)) => {
             gate.before(number);
-            let answered = operate(rt, index, hints, pass, number, op, text);
+            let answered = operate(rt, hints, handle, number, op, text);
             gate.after(number);
             answered
         }
         Some(Request::Scan(low, high)) => {
             gate.before(number);
-            let answered = scan(rt, index, pass, number, low, high, text);
+            let answered = scan(rt, handle, number, low, high, text);
             gate.after(number);
             answered
         }
@@ -230,22 +210,21 @@ fn answer<R: Wait, G: Gate>(
 pub(crate) fn answer_lines<R: Wait, G: Gate>(
     rt: &R,
     service: &Service<'_, G>,
-    pass: &mut Pass,
+    handle: &mut Handle<'_>,
     before: u64,
     lines: &[Option<Request>],
 ) -> Result<Vec<u8>, AllocError>
-    requires own { IsPassOf service.now.index.now pass.old }
-    requires room { before + length lines.now < 2 ^ 64 }
-    ensures same { IsSamePass pass.old pass.new }
-    ensures answers { IfOk result (λ text. AnswersLines (first_of service.now.index.now) (number_of pass.old) (suc before) lines.now text.items (trail pass.old) (trail pass.new)) }
+    requires { before + length lines.now < 2 ^ 64 }
+    ensures same { IsSameHandle handle.old handle.new }
+    ensures answers { IfOk result (λ text. AnswersLines (first_map_of handle.old) (number_of_seat handle.old) (suc before) lines.now text.items (seen_by handle.old) (seen_by handle.new)) }
 {
     let mut text = Vec::with_capacity(service.alloc, lines.len().saturating_mul(ROOM))?;
     let mut number = before;
     for request in lines {
         number += 1;
-        answer(rt, service, pass, number, *request, &mut text)?;
+        answer(rt, service, handle, number, *request, &mut text)?;
         let may_sweep = number % LINES_TO_SWEEP == 0 || lines.len() == 1;
-        sweep_if_may(service.index, pass, may_sweep);
+        sweep_if_may(handle, may_sweep);
     }
     Ok(text)
 }

@@ -22,7 +22,7 @@ pub struct BatchOutput {
     pub text: Vec<u8>,
 }
 
-/// What a pass does for the chunks of a server.
+/// What a handle does for the chunks of a server.
 #[derive(Clone, Copy, Debug, PartialEq, Eq)]
 pub enum Role {
     /// It answers lines.
@@ -31,7 +31,7 @@ pub enum Role {
     Compress,
 }
 
-/// Where a pass works on a chunk: what it is to do, and what it has written.
+/// Where a handle works on a chunk: what it is to do, and what it has written.
 #[derive(Drop)]
 pub struct Slot {
     pub role: Role,

@@ -1,11 +1,11 @@
-//! One worker of the server: what a thread does by its pass of the index.
+//! One worker of the server: what a thread does by its handle of the index.
 //!
-//! A worker answers the lines of a batch, one after another: it carries a request out, posts the split that an insertion left, and
-//! prints the reply. What a call takes and what keeps the tree in order is `bl_map`'s. A compressor follows the hints that workers leave, and rests where none waits. Before each change a pass waits
-//! until enough frames are free, and it sweeps now and then.
+//! A worker answers the lines of a batch, one after another: it carries a request out and prints the reply. What a call takes and what
+//! keeps the tree in order is `bl_map`'s, whose handles give back the hint that a change has left. A compressor follows the hints that
+//! workers leave, and rests where none waits. A worker sweeps now and then, a compressor behind each hint.
 //!
-//! Promised to `bl_serve`, which makes threads of them: a turn of a pass adds to what the pass has seen the entries of the lines that it
-//! answered, in their order, and no others, and the output of a batch prints their answers. How hints are followed, and when a pass
+//! Promised to `bl_serve`, which makes threads of them: a turn of a handle adds to what it has seen the entries of the lines that it
+//! answered, in their order, and no others, and the output of a batch prints their answers. How hints are followed, and when a handle
 //! sweeps, adds no entry.
 #![tactic(auto)]
 

@@ -7,6 +7,7 @@ use std::alloc::Global;
 /// What all threads of a server share for its whole life.
 #[derive(Drop)]
 pub struct Service<'a, G> {
+    /// The index that all handles work on.
     pub index: &'a Index,
     /// Hints that wait for a compressor.
     pub hints: &'a Hints,

@@ -1,12 +1,10 @@
 //! Compressors rest where there is nothing to do, and are woken.
 
-ghost use Rattle.std.specs.Prelude.{◌≡◌};
-ghost use Rattle.bl_index.specs.Calls.{first_of, IsPassOf, IsSamePass, number_of, trail};
-ghost use Rattle.bl_map.specs.Works.{Adds};
+ghost use Rattle.bl_map.specs.Handles.{IsSameHandle, HasKeptUp};
 
 use crate::compressing::follow_hint;
 use bl_hints::Hints;
-use bl_index::{Index, Pass};
+use bl_map::Handle;
 use std::sync::Wait;
 use std::sync::atomic::{AtomicU64, Ordering};
 
@@ -65,37 +63,29 @@ impl Wakeup {
 }
 
 /// Follows hints that wait, so many at most.
-fn follow_some<R: Wait>(rt: &R, index: &Index, hints: &Hints, pass: &mut Pass)
-    requires { IsPassOf index.now pass.old }
-    ensures same { IsSamePass pass.old pass.new }
-    ensures adds { Adds (first_of index.now) (number_of pass.old) (trail pass.old) (trail pass.new) }
+fn follow_some<R: Wait>(rt: &R, hints: &Hints, handle: &mut Handle<'_>)
+    ensures same { IsSameHandle handle.old handle.new }
+    ensures kept { HasKeptUp handle.old handle.new }
 {
     for _number in 0..BEHIND {
-        if !follow_hint(rt, index, hints, pass) {
+        if !follow_hint(rt, hints, handle) {
             return;
         }
     }
 }
 
 /// Follows hints until the workers have ended, and some at least.
-pub(crate) fn follow_hints<R: Wait>(
-    rt: &R,
-    index: &Index,
-    hints: &Hints,
-    wakeup: &Wakeup,
-    pass: &mut Pass,
-)
-    requires { IsPassOf index.now pass.old }
-    ensures same { IsSamePass pass.old pass.new }
-    ensures adds { Adds (first_of index.now) (number_of pass.old) (trail pass.old) (trail pass.new) }
+pub(crate) fn follow_hints<R: Wait>(rt: &R, hints: &Hints, wakeup: &Wakeup, handle: &mut Handle<'_>)
+    ensures same { IsSameHandle handle.old handle.new }
+    ensures kept { HasKeptUp handle.old handle.new }
 {
-    follow_some(rt, index, hints, pass);
+    follow_some(rt, hints, handle);
     for _ in rt.forever() {
         let rung = wakeup.bell.load(Ordering::SeqCst);
         if wakeup.working.load(Ordering::SeqCst) == 0 {
             return;
         }
-        let followed = follow_hint(rt, index, hints, pass);
+        let followed = follow_hint(rt, hints, handle);
         wakeup.rest(rt, hints, rung, followed);
     }
     unreachable!()

@@ -1,15 +1,14 @@
 //! What a thread does for a chunk: a worker takes batches of lines from a channel, a compressor follows hints.
 
 ghost use Rattle.std.specs.Prelude.{◌≡◌, suc, ◌+◌, ◌<◌, ◌^◌, [], length, OnOk};
-ghost use Rattle.bl_index.specs.Calls.{first_of, IsPassOf, IsSamePass, number_of, trail};
+ghost use Rattle.bl_map.specs.Handles.{IsSameHandle, HasKeptUp, first_map_of, number_of_seat, seen_by};
 ghost use Rattle.bl_serve_worker.specs.Batches.{Logs, TakesTurn};
-ghost use Rattle.bl_map.specs.Works.{Adds};
 
 use crate::answering::answer_lines;
 use crate::chunk::{Batch, BatchOutput, Chunk, Role, Slot};
 use crate::gate::Gate;
 use crate::wakeup::follow_hints;
-use bl_index::Pass;
+use bl_map::Handle;
 use std::alloc::AllocError;
 use std::sync::Wait;
 
@@ -17,14 +16,13 @@ use std::sync::Wait;
 fn serve_batch<R: Wait, G: Gate>(
     rt: &R,
     chunk: &Chunk<'_, G>,
-    pass: &mut Pass,
+    handle: &mut Handle<'_>,
     log: &mut Vec<BatchOutput>,
     batch: Batch,
 ) -> Result<(), AllocError>
-    requires { IsPassOf chunk.now.service.now.index.now pass.old }
-    ensures same { IsSamePass pass.old pass.new }
-    ensures logs { OnOk result (Logs (first_of chunk.now.service.now.index.now) (suc chunk.now.before) chunk.now.lines.now
-        (number_of pass.old) (trail pass.old) (trail pass.new) log.old.items log.new.items) }
+    ensures same { IsSameHandle handle.old handle.new }
+    ensures logs { OnOk result (Logs (first_map_of handle.old) (suc chunk.now.before) chunk.now.lines.now
+        (number_of_seat handle.old) (seen_by handle.old) (seen_by handle.new) log.old.items log.new.items) }
 {
     let Batch { from, upto } = batch;
     let lines = chunk.lines;
@@ -35,7 +33,7 @@ fn serve_batch<R: Wait, G: Gate>(
         return Ok(());
     }
     let before = chunk.before + from as u64;
-    let text = answer_lines(rt, chunk.service, pass, before, &lines[from..upto])?;
+    let text = answer_lines(rt, chunk.service, handle, before, &lines[from..upto])?;
     log.push(BatchOutput { from, upto, text })?;
     Ok(())
 }
@@ -44,55 +42,66 @@ fn serve_batch<R: Wait, G: Gate>(
 fn serve_batches<R: Wait, G: Gate>(
     rt: &R,
     chunk: &Chunk<'_, G>,
-    pass: &mut Pass,
+    handle: &mut Handle<'_>,
     log: &mut Vec<BatchOutput>,
 ) -> Result<(), AllocError>
-    requires { IsPassOf chunk.now.service.now.index.now pass.old }
-    ensures same { IsSamePass pass.old pass.new }
-    ensures logs { OnOk result (Logs (first_of chunk.now.service.now.index.now) (suc chunk.now.before) chunk.now.lines.now
-        (number_of pass.old) (trail pass.old) (trail pass.new) log.old.items log.new.items) }
+    ensures same { IsSameHandle handle.old handle.new }
+    ensures logs { OnOk result (Logs (first_map_of handle.old) (suc chunk.now.before) chunk.now.lines.now
+        (number_of_seat handle.old) (seen_by handle.old) (seen_by handle.new) log.old.items log.new.items) }
 {
     for _ in rt.forever() {
         let Ok(batch) = chunk.batches.recv(rt) else {
             return Ok(());
         };
-        serve_batch(rt, chunk, pass, log, batch)?;
+        serve_batch(rt, chunk, handle, log, batch)?;
         chunk.wakeup.ring_for_hints(chunk.service.hints);
     }
     unreachable!()
 }
 
 /// A worker answers lines, and leaves the output in its slot.
-fn serve_at<R: Wait, G: Gate>(rt: &R, chunk: &Chunk<'_, G>, pass: &mut Pass, slot: &mut Slot)
-    requires { IsPassOf chunk.now.service.now.index.now pass.old }
-    ensures { TakesTurn (first_of chunk.now.service.now.index.now) (suc chunk.now.before) chunk.now.lines.now pass.old pass.new slot.new }
+fn serve_at<R: Wait, G: Gate>(
+    rt: &R,
+    chunk: &Chunk<'_, G>,
+    handle: &mut Handle<'_>,
+    slot: &mut Slot,
+)
+    ensures { TakesTurn (suc chunk.now.before) chunk.now.lines.now handle.old handle.new slot.new }
 {
     let mut log = Vec::new(chunk.service.alloc);
-    let served = serve_batches(rt, chunk, pass, &mut log);
+    let served = serve_batches(rt, chunk, handle, &mut log);
     slot.failed = served.is_err();
     slot.log = log;
     chunk.wakeup.worker_done();
 }
 
 /// A compressor follows hints. It writes nothing.
-fn compress_at<R: Wait, G: Gate>(rt: &R, chunk: &Chunk<'_, G>, pass: &mut Pass, slot: &mut Slot)
-    requires { IsPassOf chunk.now.service.now.index.now pass.old }
-    ensures same { IsSamePass pass.old pass.new }
-    ensures adds { Adds (first_of chunk.now.service.now.index.now) (number_of pass.old) (trail pass.old) (trail pass.new) }
+fn compress_at<R: Wait, G: Gate>(
+    rt: &R,
+    chunk: &Chunk<'_, G>,
+    handle: &mut Handle<'_>,
+    slot: &mut Slot,
+)
+    ensures same { IsSameHandle handle.old handle.new }
+    ensures kept { HasKeptUp handle.old handle.new }
     ensures empty { slot.new.log.items ≡ [] }
 {
     slot.log.clear();
     let service = chunk.service;
-    follow_hints(rt, service.index, service.hints, chunk.wakeup, pass);
+    follow_hints(rt, service.hints, chunk.wakeup, handle);
 }
 
-/// A pass does what its slot says for one chunk.
-pub fn take_turn<R: Wait, G: Gate>(rt: &R, chunk: &Chunk<'_, G>, pass: &mut Pass, slot: &mut Slot)
-    requires { IsPassOf chunk.now.service.now.index.now pass.old }
-    ensures { TakesTurn (first_of chunk.now.service.now.index.now) (suc chunk.now.before) chunk.now.lines.now pass.old pass.new slot.new }
+/// A handle does what its slot says for one chunk.
+pub fn take_turn<R: Wait, G: Gate>(
+    rt: &R,
+    chunk: &Chunk<'_, G>,
+    handle: &mut Handle<'_>,
+    slot: &mut Slot,
+)
+    ensures { TakesTurn (suc chunk.now.before) chunk.now.lines.now handle.old handle.new slot.new }
 {
     match slot.role {
-        Role::Serve => serve_at(rt, chunk, pass, slot),
-        Role::Compress => compress_at(rt, chunk, pass, slot),
+        Role::Serve => serve_at(rt, chunk, handle, slot),
+        Role::Compress => compress_at(rt, chunk, handle, slot),
     }
 }

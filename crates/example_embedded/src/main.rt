@@ -5,8 +5,7 @@
 
 ghost use Rattle.std.specs.Prelude.{◌≡◌, All, IfSome, IfOk};
 ghost use Rattle.bl_map.specs.Handles.{AreOfOne};
-ghost use Rattle.bl_map.specs.Maps.{AreSeatsOf, IsSeatOf};
-ghost use Rattle.example_embedded.specs.Handles.{IsOf};
+ghost use Rattle.bl_map.specs.Maps.{AreSeatsOf, IsHandleOf, IsSeatOf};
 
 use bl_map::{Handle, KeyReply, Map, Seat};
 use std::alloc::{AllocError, Global};
@@ -41,7 +40,7 @@ fn opened(alloc: Global) -> Option<(Map, Vec<Seat>)>
 /// A handle for each seat.
 fn handles_of<'a>(alloc: Global, map: &'a Map, seats: Vec<Seat>) -> Option<Vec<Handle<'a>>>
     requires { AreSeatsOf map.now seats.items }
-    ensures { IfSome result (λ handles. All (IsOf map.now) handles.items) }
+    ensures { IfSome result (λ handles. All (IsHandleOf map.now) handles.items) }
 {
     let mut seats = seats;
     let mut handles = Vec::new(alloc);
@@ -53,7 +52,7 @@ fn handles_of<'a>(alloc: Global, map: &'a Map, seats: Vec<Seat>) -> Option<Vec<H
 
 /// Inserts the rows of a thread, whose keys are behind that one. The value of each is ten times its key.
 fn fill<R: Wait>(rt: &R, handle: &mut Handle<'_>, behind: u64, counts: &Counts)
-    ensures { handle.new.map ≡ handle.old.map }
+    ensures { handle.new.index ≡ handle.old.index }
 {
     for row in 1..=ROWS {
         let key = behind.wrapping_add(row);
@@ -65,7 +64,7 @@ fn fill<R: Wait>(rt: &R, handle: &mut Handle<'_>, behind: u64, counts: &Counts)
 
 /// Deletes those of them that are not kept. Leaves get thin by it, and are merged or evened out while the other thread works.
 fn shrink<R: Wait>(rt: &R, handle: &mut Handle<'_>, behind: u64, counts: &Counts)
-    ensures { handle.new.map ≡ handle.old.map }
+    ensures { handle.new.index ≡ handle.old.index }
 {
     for row in KEPT + 1..=ROWS {
         if let KeyReply::Deleted(_) = handle.delete(rt, behind.wrapping_add(row)) {
@@ -76,8 +75,8 @@ fn shrink<R: Wait>(rt: &R, handle: &mut Handle<'_>, behind: u64, counts: &Counts
 
 /// Each handle works in a thread of its own. The threads have ended when this returns.
 fn work<R: Threads + Wait + Sync>(rt: &R, map: &Map, handles: &mut [Handle<'_>], counts: &Counts)
-    requires { All (IsOf map.now) handles.old }
-    ensures { All (IsOf map.now) handles.new }
+    requires { All (IsHandleOf map.now) handles.old }
+    ensures { All (IsHandleOf map.now) handles.new }
 {
     thread::for_each_mut(
         rt,
@@ -93,7 +92,7 @@ fn work<R: Threads + Wait + Sync>(rt: &R, map: &Map, handles: &mut [Handle<'_>],
 
 /// The value of a key, if it has one.
 fn value_of<R: Wait>(rt: &R, handle: &mut Handle<'_>, key: u64) -> Option<u64>
-    ensures { handle.new.map ≡ handle.old.map }
+    ensures { handle.new.index ≡ handle.old.index }
 {
     match handle.find(rt, key) {
         KeyReply::Found(value) => Some(value),
@@ -115,8 +114,8 @@ fn count<R: Wait>(rt: &R, handle: &mut Handle<'_>) -> u64 {
 
 /// The two handles.
 fn both<'a>(map: &Map, handles: Vec<Handle<'a>>) -> Option<(Handle<'a>, Handle<'a>)>
-    requires { All (IsOf map.now) handles.items }
-    ensures { IfSome result (λ t. IsOf map.now t.0 × IsOf map.now t.1) }
+    requires { All (IsHandleOf map.now) handles.items }
+    ensures { IfSome result (λ t. IsHandleOf map.now t.0 × IsHandleOf map.now t.1) }
 {
     let mut handles = handles;
     let last = handles.pop()?;
@@ -133,7 +132,7 @@ fn look<'a, R: Wait>(
     other: &mut Handle<'a>,
 ) -> Option<(u64, Vec<(u64, u64)>)>
     requires { AreOfOne handle.old other.old }
-    ensures { (handle.new.map ≡ handle.old.map) × (other.new.map ≡ other.old.map) }
+    ensures { (handle.new.index ≡ handle.old.index) × (other.new.index ≡ other.old.index) }
 {
     handle.meet(other);
     let value = value_of(rt, handle, 50)?;
@@ -149,7 +148,7 @@ fn seats_of(
     one: Handle<'_>,
     two: Handle<'_>,
 ) -> Result<Vec<Seat>, AllocError>
-    requires { IsOf map.now one × IsOf map.now two }
+    requires { IsHandleOf map.now one × IsHandleOf map.now two }
     ensures { IfOk result (λ seats. AreSeatsOf map.now seats.items) }
 {
     let mut seats = Vec::new(alloc);

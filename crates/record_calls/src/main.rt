@@ -157,7 +157,7 @@ fn make<R: Wait + Clock>(
     key: u64,
     asked: Asked,
 ) -> Option<()>
-    ensures { worker.new.handle.map ≡ worker.old.handle.map }
+    ensures { worker.new.handle.index ≡ worker.old.handle.index }
 {
     let begin = now(rt, round)?;
     let reply = match asked {
@@ -182,7 +182,7 @@ fn make<R: Wait + Clock>(
 
 /// Scans some keys from one on, and writes down what it tells of each of them, as of a search.
 fn list<R: Wait + Clock>(rt: &R, round: Round, worker: &mut Worker<'_>, first: u64) -> Option<()>
-    ensures { worker.new.handle.map ≡ worker.old.handle.map }
+    ensures { worker.new.handle.index ≡ worker.old.handle.index }
 {
     let load = round.load;
     let last = first.saturating_add(LISTED).min(load.keys);
@@ -223,7 +223,7 @@ fn drawn_call(worker: &Worker<'_>, key: u64, value: u64) -> Option<(u64, Asked)>
 
 /// Makes the calls of a round. Each value that is inserted or changed to is another one.
 fn work<R: Wait + Clock>(rt: &R, round: Round, worker: &mut Worker<'_>, stamp: u64) -> Option<()>
-    ensures { worker.new.handle.map ≡ worker.old.handle.map }
+    ensures { worker.new.handle.index ≡ worker.old.handle.index }
 {
     let load = round.load;
     for count in 0..load.calls {

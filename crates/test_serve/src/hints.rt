@@ -5,6 +5,7 @@ ghost use Rattle.bl_index.specs.Calls.{IsPassOf};
 
 use bl_hints::Hints;
 use bl_index::{Config, Index, KeyReply, Pass};
+use bl_map::Handle;
 use bl_model::{Next, Reply};
 use bl_serve::follow_hint;
 use std::alloc::Global;
@@ -84,19 +85,37 @@ type Steps = (
     bool,
 );
 
-/// Fills the index, and takes these steps.
-fn merge<R: Wait>(rt: &R, index: &Index, hints: &Hints, pass: &mut Pass) -> Steps
-    requires { IsPassOf index.now pass.old }
+/// Whether a compressor with that seat follows a hint. The seat comes back.
+fn follow<R: Wait>(rt: &R, index: &Index, hints: &Hints, seat: Pass) -> (bool, Pass)
+    requires { IsPassOf index.now seat }
+    ensures { IsPassOf index.now result.1 }
 {
-    fill(rt, index, hints, pass);
+    let mut handle = Handle::over(index, seat);
+    let followed = follow_hint(rt, hints, &mut handle);
+    (followed, handle.into_seat())
+}
+
+/// Fills the index, and takes these steps.
+fn merge<R: Wait>(rt: &R, index: &Index, hints: &Hints, pass: Pass) -> Steps
+    requires { IsPassOf index.now pass }
+{
+    let mut pass = pass;
+    fill(rt, index, hints, &mut pass);
+    let (has_posted, mut pass) = follow(rt, index, hints, pass);
+    let is_low = has_one_level(index, &mut pass);
+    let deleted = delete(rt, index, hints, &mut pass);
+    let (has_merged, mut pass) = follow(rt, index, hints, pass);
+    let rows = rows_of_the_only_leaf(index, &mut pass);
+    let is_low_again = has_one_level(index, &mut pass);
+    let (has_more, _) = follow(rt, index, hints, pass);
     (
-        follow_hint(rt, index, hints, pass),
-        has_one_level(index, pass),
-        delete(rt, index, hints, pass),
-        follow_hint(rt, index, hints, pass),
-        rows_of_the_only_leaf(index, pass),
-        has_one_level(index, pass),
-        follow_hint(rt, index, hints, pass),
+        has_posted,
+        is_low,
+        deleted,
+        has_merged,
+        rows,
+        is_low_again,
+        has_more,
     )
 }
 
@@ -106,7 +125,7 @@ fn merge<R: Wait>(rt: &R, index: &Index, hints: &Hints, pass: &mut Pass) -> Step
 fn a_compressor_merges_two_leaves_and_takes_the_level_away(rt: HostRuntime) -> Result<(), Fail> {
     let hints = Hints::new(rt.alloc())?;
     let steps = match opened(rt.alloc()) {
-        Some((index, mut pass)) => Some(merge(&rt, &index, &hints, &mut pass)),
+        Some((index, pass)) => Some(merge(&rt, &index, &hints, pass)),
         None => None,
     };
     let deleted = (KeyReply::Deleted(90), true);

@@ -1,12 +1,11 @@
 use Rattle.std.proofs.Common.{All, length}
-use Rattle.bl_map.specs.Maps.{AreSeatsOf}
-use Rattle.example_embedded.specs.Handles.{IsOf}
+use Rattle.bl_map.specs.Maps.{IsHandleOf, AreSeatsOf}
 use Rattle.example_embedded.proofs.handles_of.Given as goal
 
 abbrev pub invariant-loop-seat : goal.invariant-loop-seat
 invariant-loop-seat l = record {
   seats : AreSeatsOf l.map l.seats.items;
-  handles : All (IsOf l.map) l.handles.items;
+  handles : All (IsHandleOf l.map) l.handles.items;
 }
 
 abbrev pub decreases-loop-seat : goal.decreases-loop-seat

@@ -7,11 +7,13 @@ use Rattle.bl_serve_lines.specs.declared.request.Request.{Request}
 use Rattle.bl_serve_lines.specs.declared.serving.Totals.{Totals}
 use Rattle.bl_serve_lines.proofs.Known.{consumes_more}
 use Rattle.bl_index.specs.declared.index.Pass.{Pass}
+use Rattle.bl_map.specs.Handles.{seats_of}
 use Rattle.bl_serve.specs.declared.reading.SectionEnd.TheVariants as section_end
 use Rattle.bl_serve.specs.Reading.{EndsReading}
 use Rattle.bl_serve.specs.Serving.{FailsSection, ServesSection}
 use Rattle.bl_serve.proofs.Holding.{together_by_first}
 use Rattle.bl_serve.proofs.Continuing.{HasServed, served_nothing, any_failed, ends_section, counts_all, serves_all, fails_answering, goes_on, finished_by, finished_none}
+use Rattle.bl_serve.proofs.Together.{seats_long}
 use Rattle.bl_serve.proofs.serving.serve_section.Goals as goal
 use Rattle.bl_serve.proofs.serving.serve_section.Goals.{then-open, else-open}
 
@@ -22,9 +24,9 @@ loop-init g c = let r = c.read_on.ensures in record {
   more = r.more;
   mid = c.args.ahead.now.source ++ r.more;
   consumed = r.consumed;
-  served = subst (λ (z : List Pass × Totals). HasServed c.args.service.now.index.now c.args.session.passes.items z.0 c.args.session.totals z.1 (c.args.ahead.now.source ++ r.more) (c.args.ahead.now.source ++ r.more) [] c.emptied-session.result.text.items)
-      (λ i. (sym c.emptied-session.ensures.passes i, sym c.emptied-session.ensures.totals i))
-      (served_nothing c.args.service.now.index.now c.args.session.passes.items c.args.session.totals (c.args.ahead.now.source ++ r.more) c.emptied-session.result.text.items c.emptied-session.ensures.text c.requires.together (let a = c.args.session.some in let d = c.args.session.passes.ok in omega (arith, a, d)) c.requires.requests);
+  served = subst (λ (z : List Pass × Totals). HasServed c.args.service.now.index.now (seats_of c.args.session.handles.items) z.0 c.args.session.totals z.1 (c.args.ahead.now.source ++ r.more) (c.args.ahead.now.source ++ r.more) [] c.emptied-session.result.text.items)
+      (λ i. (sym (ap seats_of c.emptied-session.ensures.handles) i, sym c.emptied-session.ensures.totals i))
+      (served_nothing c.args.service.now.index.now (seats_of c.args.session.handles.items) c.args.session.totals (c.args.ahead.now.source ++ r.more) c.emptied-session.result.text.items c.emptied-session.ensures.text c.requires.met (let a = c.args.session.some in let d = c.args.session.handles.ok in let e = seats_long c.args.session.handles.items in omega (arith, a, d, e)) c.requires.requests);
   reads = subst (λ (n : ℕ). EndsReading c.read_on.new.ahead.end n c.read_on.new.ahead.lines r.rest (c.args.ahead.now.source ++ r.more) c.read_on.new.ahead.source (IsAtEnd (g.R.Read.remaining c.read_on.new.reader.inner)) (c.read_on.new.reader.failed ≡ true)) c.most_behind-ahead.ensures r.reads;
 }
 
@@ -39,13 +41,13 @@ returns-in_err-end g c = let i = c.loop.invariant in let p = err_from_is_err_and
       i.consumed,
       (
         c.loop.ahead.source,
-        inl (ends_section c.args.service.now.index.now c.args.session.passes.items c.loop.session.passes.items c.args.session.totals c.loop.session.totals (c.args.ahead.now.source ++ i.more) i.mid i.asked c.loop.session.text.items i.served (Err c.in_err-end.field-0.0) c.loop.chunk c.loop.ahead.lines i.rest c.loop.ahead.source
+        inl (ends_section c.args.service.now.index.now (seats_of c.args.session.handles.items) (seats_of c.loop.session.handles.items) c.args.session.totals c.loop.session.totals (c.args.ahead.now.source ++ i.more) i.mid i.asked c.loop.session.text.items i.served (Err c.in_err-end.field-0.0) c.loop.chunk c.loop.ahead.lines i.rest c.loop.ahead.source
             (IsAtEnd (g.R.Read.remaining c.loop.reader.inner)) (c.loop.reader.failed ≡ true) (λ is. absurd (let no : ⊥ = cc in no)) (rw was at i.reads)),
       ),
     )
 
-pub serve_chunk-requires-clause-together : goal.serve_chunk-requires-clause-together
-serve_chunk-requires-clause-together g c κs within = let i = c.loop.invariant in together_by_first c.args.service.now.index.now _ c.loop.session.passes.items i.served.some i.served.serves.holds.together
+pub serve_chunk-requires-clause-met : goal.serve_chunk-requires-clause-met
+serve_chunk-requires-clause-met g c κs within = let i = c.loop.invariant in together_by_first c.args.service.now.index.now _ (seats_of c.loop.session.handles.items) i.served.some i.served.serves.holds.together
 
 -- its next lines could not be answered
 pub returns-in_err-back : goal.returns-in_err-back
@@ -63,7 +65,7 @@ returns-in_err-back g c = let i = c.loop.invariant in let p = err_from_is_err_an
         c.loop.ahead.source ++ m.0,
         subst (λ (z : List ℕ). FailsSection c.in_err-back.field-0.0 c.args.session.totals.requests (18446744073709551615 - c.args.session.totals.requests) (i.asked ++ c.swap.new.x) i.rest z (c.loop.ahead.source ++ m.0) (IsAtEnd (g.R.Read.remaining c.serve_chunk.new.reader.inner)) (c.serve_chunk.new.reader.failed ≡ true))
             (append_assoc c.args.ahead.now.source i.more m.0)
-            (fails_answering c.args.service.now.index.now c.args.session.passes.items c.loop.session.passes.items c.args.session.totals c.loop.session.totals (c.args.ahead.now.source ++ i.more) i.mid i.asked c.loop.session.text.items i.served c.in_err-back.field-0.0 c.in_ok-end.end (min c.loop.chunk (18446744073709551615 - c.loop.session.totals.requests)) (18446744073709551615 - c.args.session.totals.requests) c.swap.new.x i.rest c.loop.ahead.source m.0
+            (fails_answering c.args.service.now.index.now (seats_of c.args.session.handles.items) (seats_of c.loop.session.handles.items) c.args.session.totals c.loop.session.totals (c.args.ahead.now.source ++ i.more) i.mid i.asked c.loop.session.text.items i.served c.in_err-back.field-0.0 c.in_ok-end.end (min c.loop.chunk (18446744073709551615 - c.loop.session.totals.requests)) (18446744073709551615 - c.args.session.totals.requests) c.swap.new.x i.rest c.loop.ahead.source m.0
             (IsAtEnd (g.R.Read.remaining c.loop.reader.inner)) (c.loop.reader.failed ≡ true) (IsAtEnd (g.R.Read.remaining c.serve_chunk.new.reader.inner)) (c.serve_chunk.new.reader.failed ≡ true) e c.in_err-back.ensures.fault),
       ),
     )
@@ -82,7 +84,7 @@ returns-then-not-open g c = let i = c.loop.invariant in let r = c.in_ok-back.ens
     ] in
     let idle = r.idle none in
     let grown : c.in_ok-back.back.text.items ≡ c.loop.session.text.items ++ c.in_ok-back.ensures.serves.0 = c.in_ok-back.ensures.serves.1 in
-    let all = ends_section c.args.service.now.index.now c.args.session.passes.items c.loop.session.passes.items c.args.session.totals c.loop.session.totals (c.args.ahead.now.source ++ i.more) i.mid i.asked c.loop.session.text.items i.served (Ok c.in_ok-end.end) c.loop.chunk c.swap.new.x i.rest c.loop.ahead.source
+    let all = ends_section c.args.service.now.index.now (seats_of c.args.session.handles.items) (seats_of c.loop.session.handles.items) c.args.session.totals c.loop.session.totals (c.args.ahead.now.source ++ i.more) i.mid i.asked c.loop.session.text.items i.served (Ok c.in_ok-end.end) c.loop.chunk c.swap.new.x i.rest c.loop.ahead.source
     (IsAtEnd (g.R.Read.remaining c.loop.reader.inner)) (c.loop.reader.failed ≡ true) last e in (
       i.asked ++ c.swap.new.x,
       i.rest,
@@ -92,8 +94,8 @@ returns-then-not-open g c = let i = c.loop.invariant in let r = c.in_ok-back.ens
         any_failed c.in_ok-end.end (18446744073709551615 - c.args.session.totals.requests) (i.asked ++ c.swap.new.x) i.rest (c.args.ahead.now.source ++ i.more) c.serve_chunk.new.ahead.source (IsAtEnd (g.R.Read.remaining c.serve_chunk.new.reader.inner)) (c.loop.reader.failed ≡ true) (c.serve_chunk.new.reader.failed ≡ true)
             (subst (λ (z : List ℕ). EndsReading (Ok c.in_ok-end.end) (18446744073709551615 - c.args.session.totals.requests) (i.asked ++ c.swap.new.x) i.rest (c.args.ahead.now.source ++ i.more) z (IsAtEnd (g.R.Read.remaining c.serve_chunk.new.reader.inner)) (c.loop.reader.failed ≡ true)) (sym idle.1)
             (subst (λ (z : Option (List ℕ)). EndsReading (Ok c.in_ok-end.end) (18446744073709551615 - c.args.session.totals.requests) (i.asked ++ c.swap.new.x) i.rest (c.args.ahead.now.source ++ i.more) c.loop.ahead.source (IsAtEnd z) (c.loop.reader.failed ≡ true)) (sym idle.0) all)),
-        counts_all c.args.service.now.index.now c.args.session.passes.items c.loop.session.passes.items c.args.session.totals c.loop.session.totals (c.args.ahead.now.source ++ i.more) i.mid i.asked c.loop.session.text.items i.served c.in_ok-back.back.totals c.swap.new.x c.in_ok-end.end c.in_ok-back.ensures.counts,
-        subst (λ (z : List ℕ). ServesSection c.args.service.now.index.now c.args.session.totals.requests (i.asked ++ c.swap.new.x) c.in_ok-end.end z c.args.session.passes.items c.in_ok-back.back.passes.items) (sym grown) (serves_all c.args.service.now.index.now c.args.session.passes.items c.loop.session.passes.items c.args.session.totals c.loop.session.totals (c.args.ahead.now.source ++ i.more) i.mid i.asked c.loop.session.text.items i.served c.swap.new.x c.in_ok-end.end c.in_ok-back.ensures.serves.0 c.in_ok-back.back.passes.items c.in_ok-back.ensures.serves.2),
+        counts_all c.args.service.now.index.now (seats_of c.args.session.handles.items) (seats_of c.loop.session.handles.items) c.args.session.totals c.loop.session.totals (c.args.ahead.now.source ++ i.more) i.mid i.asked c.loop.session.text.items i.served c.in_ok-back.back.totals c.swap.new.x c.in_ok-end.end c.in_ok-back.ensures.counts,
+        subst (λ (z : List ℕ). ServesSection c.args.service.now.index.now c.args.session.totals.requests (i.asked ++ c.swap.new.x) c.in_ok-end.end z (seats_of c.args.session.handles.items) (seats_of c.in_ok-back.back.handles.items)) (sym grown) (serves_all c.args.service.now.index.now (seats_of c.args.session.handles.items) (seats_of c.loop.session.handles.items) c.args.session.totals c.loop.session.totals (c.args.ahead.now.source ++ i.more) i.mid i.asked c.loop.session.text.items i.served c.swap.new.x c.in_ok-end.end c.in_ok-back.ensures.serves.0 (seats_of c.in_ok-back.back.handles.items) c.in_ok-back.ensures.serves.2),
       ),
     )
 
@@ -115,9 +117,9 @@ loop-preserved g c = let i = c.loop.invariant in let r = c.in_ok-back.ensures.re
       more = i.more ++ r.more;
       mid = c.loop.ahead.source ++ r.more;
       consumed = consumes_more _ _ _ _ _ i.consumed r.consumed;
-      served = subst (λ (z : List ℕ × List ℕ). HasServed c.args.service.now.index.now c.args.session.passes.items c.in_ok-back.back.passes.items c.args.session.totals c.in_ok-back.back.totals z.0 (c.loop.ahead.source ++ r.more) (i.asked ++ c.swap.new.x) z.1)
+      served = subst (λ (z : List ℕ × List ℕ). HasServed c.args.service.now.index.now (seats_of c.args.session.handles.items) (seats_of c.in_ok-back.back.handles.items) c.args.session.totals c.in_ok-back.back.totals z.0 (c.loop.ahead.source ++ r.more) (i.asked ++ c.swap.new.x) z.1)
           (λ j. (append_assoc c.args.ahead.now.source i.more r.more j, sym grown j))
-          (goes_on c.args.service.now.index.now c.args.session.passes.items c.loop.session.passes.items c.args.session.totals c.loop.session.totals (c.args.ahead.now.source ++ i.more) i.mid i.asked c.loop.session.text.items i.served c.in_ok-back.back.totals c.in_ok-end.end (min c.loop.chunk (18446744073709551615 - c.loop.session.totals.requests)) c.swap.new.x i.rest c.loop.ahead.source r.more c.in_ok-back.ensures.serves.0 c.in_ok-back.back.passes.items (IsAtEnd (g.R.Read.remaining c.loop.reader.inner)) (c.loop.reader.failed ≡ true) is e (omega arith)
+          (goes_on c.args.service.now.index.now (seats_of c.args.session.handles.items) (seats_of c.loop.session.handles.items) c.args.session.totals c.loop.session.totals (c.args.ahead.now.source ++ i.more) i.mid i.asked c.loop.session.text.items i.served c.in_ok-back.back.totals c.in_ok-end.end (min c.loop.chunk (18446744073709551615 - c.loop.session.totals.requests)) c.swap.new.x i.rest c.loop.ahead.source r.more c.in_ok-back.ensures.serves.0 (seats_of c.in_ok-back.back.handles.items) (IsAtEnd (g.R.Read.remaining c.loop.reader.inner)) (c.loop.reader.failed ≡ true) is e (omega arith)
           c.in_ok-back.ensures.counts c.in_ok-back.ensures.serves.2);
       reads = subst (λ (n : ℕ). EndsReading c.serve_chunk.new.ahead.end n c.serve_chunk.new.ahead.lines r.rest (c.loop.ahead.source ++ r.more) c.serve_chunk.new.ahead.source (IsAtEnd (g.R.Read.remaining c.serve_chunk.new.reader.inner)) (c.serve_chunk.new.reader.failed ≡ true)) few r.reads;
     }

@@ -2,6 +2,7 @@ use Rattle.std.proofs.Common.{◌≡◌, ◌-◌, ◌^◌, ℕ, List, ◌++◌}
 use Rattle.std.specs.Prelude.{Option, min, true}
 use Rattle.std.specs.Io.KnownBytes.{Consumes, IsAtEnd}
 use Rattle.bl_serve_lines.specs.declared.request.Request.{Request}
+use Rattle.bl_map.specs.Handles.{seats_of}
 use Rattle.bl_serve.specs.Reading.{EndsReading}
 use Rattle.bl_serve.proofs.Continuing.{HasServed}
 use Rattle.bl_serve.proofs.serving.serve_section.Given as goal
@@ -14,6 +15,6 @@ invariant-loop g l = record {
   more : List ℕ;
   mid : List ℕ;
   consumed : Consumes (g.R.Read.remaining l.fn.reader.inner) (g.R.Read.remaining l.reader.inner) more;
-  served : HasServed l.service.index.now l.fn.session.passes.items l.session.passes.items l.fn.session.totals l.session.totals (l.fn.ahead.source ++ more) mid asked l.session.text.items;
+  served : HasServed l.service.index.now (seats_of l.fn.session.handles.items) (seats_of l.session.handles.items) l.fn.session.totals l.session.totals (l.fn.ahead.source ++ more) mid asked l.session.text.items;
   reads : EndsReading l.ahead.end (min l.chunk (2 ^ 64 - 1 - l.session.totals.requests)) l.ahead.lines rest mid l.ahead.source (IsAtEnd (g.R.Read.remaining l.reader.inner)) (l.reader.failed ≡ true);
 }

@@ -1,6 +1,7 @@
 use Rattle.std.proofs.Common.{◌≡◌, ◌<◌, ◌≤◌, ◌^◌, ℕ, List, ◌++◌, length, false}
 use Rattle.std.specs.Io.KnownBytes.{Consumes, Appends}
 use Rattle.bl_claims.specs.Trails.{Trail}
+use Rattle.bl_map.specs.Handles.{seats_of}
 use Rattle.bl_serve.specs.Serving.{AreTogether, seen_by}
 use Rattle.bl_serve.proofs.Advance.{Progress}
 use Rattle.bl_serve.proofs.serving.serve_sections.Given as goal
@@ -12,9 +13,9 @@ invariant-loop-section g l = record {
   seen : Trail;
   consumed : Consumes (g.R.Read.remaining l.fn.reader.inner) (g.R.Read.remaining l.reader.inner) (input ++ l.ahead.source);
   wrote : Appends (g.W.Write.contents l.fn.writer.inner) (g.W.Write.contents l.writer.inner) output;
-  progress : Progress (seen_by l.fn.session.passes.items) seen l.session.totals input output;
-  together : AreTogether l.service.index.now seen l.session.passes.items;
-  some : 0 < length l.session.passes.items;
+  progress : Progress (seen_by (seats_of l.fn.session.handles.items)) seen l.session.totals input output;
+  together : AreTogether l.service.index.now seen (seats_of l.session.handles.items);
+  some : 0 < length (seats_of l.session.handles.items);
   room : l.session.totals.requests < 2 ^ 64;
   sections : l.session.totals.sections ≤ l._section;
   number : l._section ≤ l.session.totals.requests;

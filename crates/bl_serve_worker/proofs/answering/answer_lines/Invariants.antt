@@ -1,11 +1,11 @@
 use Rattle.std.proofs.Common.{◌≡◌, suc, ◌+◌, take}
-use Rattle.bl_index.specs.Calls.{first_of, IsSamePass, number_of, trail}
+use Rattle.bl_map.specs.Handles.{IsSameHandle, first_map_of, number_of_seat, seen_by}
 use Rattle.bl_serve_worker.specs.Answering.{AnswersLines}
 use Rattle.bl_serve_worker.proofs.answering.answer_lines.Given as goal
 
 abbrev pub invariant-loop-request : goal.invariant-loop-request
 invariant-loop-request g l = record {
   number : l.number ≡ l.fn.before + l.request-index;
-  same : IsSamePass l.fn.pass l.pass;
-  so_far : AnswersLines (first_of l.service.index.now) (number_of l.fn.pass) (suc l.fn.before) (take l.request-index l.lines) l.text.items (trail l.fn.pass) (trail l.pass);
+  same : IsSameHandle l.fn.handle l.handle;
+  so_far : AnswersLines (first_map_of l.fn.handle) (number_of_seat l.fn.handle) (suc l.fn.before) (take l.request-index l.lines) l.text.items (seen_by l.fn.handle) (seen_by l.handle);
 }

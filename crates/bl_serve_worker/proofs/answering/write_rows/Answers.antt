@@ -9,7 +9,7 @@ pub loop-at-preserved : goal.loop-at-preserved
 loop-at-preserved g c =
     let inv = c.loop-at.invariant in
     let part = rw c.in-More.is at c.in_ok-next.ensures.writes in
-    record { same = search rules; so_far = goes_more _ _ _ _ _ _ _ _ _ _ _ _ _ inv.same.2 inv.so_far c.loop-at-test.true part }
+    record { same = search rules; so_far = goes_more c.args.handle.now c.loop-at.handle _ _ _ _ _ _ _ _ _ _ inv.same inv.so_far c.loop-at-test.true part }
 
 pub loop-at-smaller : goal.loop-at-smaller
 loop-at-smaller g c =
@@ -23,7 +23,7 @@ pub returns-in-End-clause-writes : goal.returns-in-End-clause-writes
 returns-in-End-clause-writes g c =
     let inv = c.loop-at.invariant in
     let part = rw c.in-End.is at c.in_ok-next.ensures.writes in
-    ends_there _ _ _ _ _ _ _ _ _ _ _ _ inv.same.2 inv.so_far c.loop-at-test.true part
+    ends_there c.args.handle.now c.loop-at.handle _ _ _ _ _ _ _ _ _ inv.same inv.so_far c.loop-at-test.true part
 
 pub returns-clause-writes : goal.returns-clause-writes
 returns-clause-writes g c = ends_above _ _ _ _ _ _ _ _ _ c.loop-at.invariant.so_far (omega arith)

@@ -1,18 +1,18 @@
 use Rattle.std.proofs.Common.{rules}
-use Rattle.bl_map.proofs.Adding.{nothing, then_adds, adds_as}
+use Rattle.bl_map.proofs.Same.{kept_none, kept_more}
 use Rattle.bl_serve_worker.proofs.wakeup.follow_some.Goals as goal
 
 pub loop-number-init : goal.loop-number-init
-loop-number-init g c = record { same = search rules; adds = nothing _ _ _ }
+loop-number-init g c = record { same = search rules; kept = kept_none c.args.handle.now }
 
 pub loop-number-preserved : goal.loop-number-preserved
 loop-number-preserved g c = record {
   same = search rules;
-  adds = then_adds _ _ _ _ _ c.loop-number.invariant.adds (adds_as _ _ _ _ _ c.loop-number.invariant.same.2 c.follow_hint.ensures.adds);
+  kept = kept_more c.args.handle.now c.loop-number.handle c.follow_hint.new.handle c.loop-number.invariant.same c.loop-number.invariant.kept c.follow_hint.ensures.kept;
 }
 
 pub returns-then-not-follow_hint : goal.returns-then-not-follow_hint
 returns-then-not-follow_hint g c = record {
   same = search rules;
-  adds = then_adds _ _ _ _ _ c.loop-number.invariant.adds (adds_as _ _ _ _ _ c.loop-number.invariant.same.2 c.follow_hint.ensures.adds);
+  kept = kept_more c.args.handle.now c.loop-number.handle c.follow_hint.new.handle c.loop-number.invariant.same c.loop-number.invariant.kept c.follow_hint.ensures.kept;
 }

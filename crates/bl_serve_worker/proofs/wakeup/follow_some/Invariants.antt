@@ -1,9 +1,8 @@
-use Rattle.bl_index.specs.Calls.{first_of, IsSamePass, number_of, trail}
-use Rattle.bl_map.specs.Works.{Adds}
+use Rattle.bl_map.specs.Handles.{IsSameHandle, HasKeptUp}
 use Rattle.bl_serve_worker.proofs.wakeup.follow_some.Given as goal
 
 abbrev pub invariant-loop-number : goal.invariant-loop-number
 invariant-loop-number g l = record {
-  same : IsSamePass l.fn.pass l.pass;
-  adds : Adds (first_of l.index) (number_of l.fn.pass) (trail l.fn.pass) (trail l.pass);
+  same : IsSameHandle l.fn.handle l.handle;
+  kept : HasKeptUp l.fn.handle l.handle;
 }

@@ -8,5 +8,5 @@ loop-init g c = record { same = search rules; logs = no_logs _ _ _ _ _ _ }
 pub loop-preserved : goal.loop-preserved
 loop-preserved g c = record {
   same = search rules;
-  logs = then_logs _ _ _ _ _ _ _ _ _ _ _ c.loop.invariant.same.2 c.loop.invariant.logs c.in_ok-serve_batch.ensures.logs;
+  logs = then_logs c.args.handle.now c.loop.handle _ _ _ _ _ _ _ _ c.loop.invariant.same c.loop.invariant.logs c.in_ok-serve_batch.ensures.logs;
 }
