@@ -112,7 +112,7 @@ fn sweep(index: &Index, pass: &mut Pass)
     }
 }
 
-// Posts what an insertion has split, and goes on with the hints that posting gives.
+// Makes the post again that met no room, and goes on with the hints that posting gives.
 fn post<R: Wait>(rt: &R, index: &Index, pass: &mut Pass, hint: Option<Hint>)
     requires { IsPassOf index.now pass.old }
     ensures { IsPassOf index.now pass.new }
@@ -134,7 +134,7 @@ fn insert<R: Wait>(rt: &R, index: &Index, pass: &mut Pass, key: u64, value: u64)
     requires { IsPassOf index.now pass.old }
     ensures { IsPassOf index.now pass.new }
 {
-    let (reply, hint) = index.insert(rt, pass, key, value);
+    let (reply, _posted, hint) = index.insert_posting(rt, pass, key, value);
     post(rt, index, pass, hint);
     sweep(index, pass);
     reply
@@ -156,11 +156,9 @@ fn fill<R: Wait>(rt: &R, index: &Index, pass: &mut Pass, place: u64, load: Load)
     ensures { IsPassOf index.now pass.new }
 {
     let mut done = 0u64;
-    for row in 0..load.rows {
-        if row % load.threads as u64 == place {
-            if let KeyReply::Inserted = insert(rt, index, pass, key_of(row), row) {
-                done = done.wrapping_add(1);
-            }
+    for row in (place..load.rows).step_by(load.threads as usize) {
+        if let KeyReply::Inserted = insert(rt, index, pass, key_of(row), row) {
+            done = done.wrapping_add(1);
         }
     }
     done

@@ -1,6 +1,7 @@
 -- What hints that were followed add to what a pass has seen, and how one more is followed.
 use Rattle.std.proofs.Common.{ℕ, suc, zero, ◌≡◌, ◌≢◌, ◌+◌, ◌++◌, ⊎_elim, inl, inr, Bool, true, false, Option, Some, None, List, [], ◌∷◌, length, refl, sym, ap, ◌∙◌, subst, arith}
 use Rattle.bl_model.specs.declared.operation.Op.{Op}
+use Rattle.bl_model.specs.declared.operation.Op.TheVariants as op
 use Rattle.bl_model.specs.declared.operation.Reply.{Reply}
 use Rattle.bl_page.specs.declared.page.Page.{Page}
 use Rattle.bl_claims.specs.Trails.{Trail}
@@ -74,8 +75,15 @@ split_adds first pass None left old new f = hints_add first pass None left old n
 split_adds first pass (Some (hint.Post level key)) left old new f = hints_add first pass (Some (hint.Post level key)) left old new f
 split_adds first pass (Some (hint.Thin level key)) left old new f = stays_adds first pass old new f.1
 
+makes_works : (first : List (Option Page)) (pass : ℕ) (op : Op) (reply : Reply) (next : Option Hint) (old new : Trail) → Makes first pass op reply next old new → Works first pass op reply old new
+makes_works first pass (op.Find key) reply next old new m = call_works first pass pass (op.Find key) reply old new refl m.answers
+makes_works first pass (op.Insert key value) reply next old new m = call_works first pass pass (op.Insert key value) reply old new refl m.1.answers
+makes_works first pass (op.Delete key) reply next old new m = call_works first pass pass (op.Delete key) reply old new refl m.answers
+makes_works first pass (op.Change key before after) reply next old new m = call_works first pass pass (op.Change key before after) reply old new refl m.answers
+makes_works first pass (op.Part key) reply next old new m = call_works first pass pass (op.Part key) reply old new refl m.answers
+
 pub written_works : (first : List (Option Page)) (pass : ℕ) (op : Op) (reply : Reply) (next : Option Hint) (old new : Trail) → Written first pass op reply next old new → Works first pass op reply old new
-written_works first pass op reply next old new w = adds_works first pass op reply old w.mid new (swept_adds first pass old w.mid w.waits) (call_works first pass pass op reply w.mid new refl w.writes.answers)
+written_works first pass op reply next old new w = adds_works first pass op reply old w.mid new (swept_adds first pass old w.mid w.waits) (makes_works first pass op reply next w.mid new w.makes)
 
 pub leaving_works : (first : List (Option Page)) (pass : ℕ) (op : Op) (reply : Reply) (left : Option Hint) (old new : Trail) → WritesLeaving first pass op reply left old new → Works first pass op reply old new
 leaving_works first pass op reply left old new w =

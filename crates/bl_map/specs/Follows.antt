@@ -1,6 +1,7 @@
 -- What becomes of the hints that calls leave.
 use Rattle.std.specs.Prelude.{◌≡◌, ◌≢◌, ◌⊎◌, ℕ, zero, suc, Bool, true, false, Option, Some, None, List, [], ◌∷◌, length}
 use Rattle.bl_model.specs.declared.operation.Op.{Op}
+use Rattle.bl_model.specs.declared.operation.Op.TheVariants as op
 use Rattle.bl_model.specs.declared.operation.Reply.{Reply}
 use Rattle.bl_page.specs.declared.page.Page.{Page}
 use Rattle.bl_claims.specs.Trails.{Trail}
@@ -12,16 +13,22 @@ use Rattle.bl_proc_base.specs.declared.answers.Squeezed.{Squeezed}
 use Rattle.bl_proc_base.specs.declared.answers.Squeezed.TheVariants as squeezed
 use Rattle.bl_proc_base.specs.declared.lowering.Lowered.{Lowered}
 use Rattle.bl_proc_base.specs.declared.lowering.Lowered.TheVariants as lowered
-use Rattle.bl_index.specs.Calls.{Writes, Posts, Compresses, LowersTree}
+use Rattle.bl_index.specs.Calls.{Writes, Climbs, Posts, Compresses, LowersTree}
 use Rattle.bl_map.specs.declared.upkeep.Followed.{Followed}
 use Rattle.bl_map.specs.declared.upkeep.Followed.TheVariants as followed
 use Rattle.bl_map.specs.Works.{Swept}
+
+-- A call that writes a key was answered so, and has left this hint: an insertion has posted what it split, and its hint is the post that
+-- met no room.
+abbrev pub Makes : List (Option Page) → ℕ → Op → Reply → Option Hint → Trail → Trail → Type 0
+Makes first pass (op.Insert key value) reply next old new = (last : Option Posted) × Climbs first pass key value reply last next old new
+Makes first pass op reply next old new = Writes first pass op reply next old new
 
 -- A key was written: the pass swept while it lacked frames, and then a call of it was answered so, with this hint.
 pub record Written (first : List (Option Page)) (pass : ℕ) (op : Op) (reply : Reply) (next : Option Hint) (old new : Trail) : Type 0 where
   pub mid : Trail
   pub waits : Swept first pass old mid
-  pub writes : Writes first pass op reply next mid new
+  pub makes : Makes first pass op reply next mid new
 
 -- What a compression answers that may have left a top level which is not needed: it has merged two children, or found one alone.
 abbrev pub may_fall : Squeezed → Bool

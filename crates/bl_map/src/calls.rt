@@ -69,7 +69,14 @@ pub(crate) fn write<R: Wait>(
     ensures written { Written (first_of index.now) (number_of pass.old) (write_op key write) (reply_of result.0) result.1 (trail pass.old) (trail pass.new) }
 {
     wait_for_frames(index, pass);
-    index.write(rt, pass, key, write)
+    match write {
+        KeyWrite::Insert(value) => {
+            let (reply, _posted, left) = index.insert_posting(rt, pass, key, value);
+            (reply, left)
+        }
+        KeyWrite::Delete => index.write(rt, pass, key, KeyWrite::Delete),
+        KeyWrite::Change(old, new) => index.write(rt, pass, key, KeyWrite::Change(old, new)),
+    }
 }
 
 /// Appends the rows from a key on and below an end, if there is one. Where a part ran out of turns the scan goes on from there.

@@ -1,0 +1,2 @@
+use Rattle.std.proofs.Common.{refl}
+use Rattle.bl_map.proofs.calls.write.Goals as goal
