@@ -1,5 +1,6 @@
 -- What a scan tells the pass that makes it: parts, each from where the last one ended, and the rows that they list together.
 use Rattle.std.specs.Prelude.{◌≡◌, ℕ, ◌<◌, ◌≤◌, ◌++◌, ◌↔◌, List, [], ◌∷◌, Option, Some, None, Result, All, Contains, filter, flat_map, length, OnOk, IfOk, IfErr}
+use Rattle.std.specs.List.{FoldsTo}
 use Rattle.bl_page.specs.declared.page.Page.{Page}
 use Rattle.bl_model.specs.History.{final_map}
 use Rattle.bl_model.specs.Rows.{HasRisingKeys}
@@ -13,6 +14,7 @@ use Rattle.bl_index_read.specs.Searching.{Finds, RunsOut}
 use Rattle.bl_index_read.specs.declared.leaf_rows.Behind.{Behind}
 use Rattle.bl_index.specs.declared.scanning.ScanFault.{ScanFault}
 use Rattle.bl_index.specs.declared.scanning.ScanFault.TheVariants.{Memory, OutOfTurns}
+use Rattle.bl_index.specs.declared.telling.OutOfTurnsAt.{OutOfTurnsAt}
 use Rattle.bl_index_read.specs.LeafRows.{is_below, IsBelow, IsOver, GoesOnWithin}
 
 -- the rows of a part that lie below the end of a scan
@@ -114,3 +116,33 @@ pub record MayAppend (first : List (Option Page)) (pages pass turns from : ℕ) 
     (before after : List (ℕ × ℕ)) (old new : Trail) : Type 0 where
   pub listed : IfOk result (λ behind. AppendsPart first pages pass turns from to behind before after old new)
   pub left : IfErr result (λ fault. LeavesPart first pages pass turns from to room fault before after old new)
+
+-- A callback was told the rows of a scan that has ended, or that has stopped at a part that ran out of turns: each once, one after
+-- another, and no other row. A call of it with a row leads from one state to another one.
+pub record TellsScan {F : Type 0} (leads : F → ℕ × ℕ → F → Type 0) (first : List (Option Page)) (pages pass turns from : ℕ) (to : Option ℕ)
+    (result : Result (Unit {0}) OutOfTurnsAt) (before after : F) (old new : Trail) : Type 0 where
+  pub rows : List (ℕ × ℕ)
+  pub told : FoldsTo leads before rows after
+  pub ended : OnOk result (EndsScan first pages pass turns from to rows old new)
+  pub stopped : IfErr result (λ out. StopsScan first pages pass turns from to 0 (OutOfTurns out.key) rows old new)
+
+-- One part of a scan was answered, and the callback was told its rows below the scan's end.
+pub record TellsPart {F : Type 0} (leads : F → ℕ × ℕ → F → Type 0) (first : List (Option Page)) (pages pass turns from : ℕ) (to : Option ℕ)
+    (behind : Behind) (before after : F) (old new : Trail) : Type 0 where
+  pub reply : Reply
+  pub finds : Finds first pages pass turns (Part from) reply old new
+  pub ends : GoesOnWithin to (ended_at reply) behind
+  pub told : FoldsTo leads before (rows_below to reply) after
+
+-- The part ran out of turns, and the callback was told nothing.
+pub record TellsNothing {F : Type 0} (first : List (Option Page)) (pages pass turns from : ℕ) (out : OutOfTurnsAt) (before after : F) (old new : Trail) : Type 0
+  where
+    pub key : out.key ≡ from
+    pub kept : after ≡ before
+    pub runs_out : RunsOut first pages pass turns old new
+
+-- One or the other.
+pub record TellsOrStops {F : Type 0} (leads : F → ℕ × ℕ → F → Type 0) (first : List (Option Page)) (pages pass turns from : ℕ) (to : Option ℕ)
+    (result : Result Behind OutOfTurnsAt) (before after : F) (old new : Trail) : Type 0 where
+  pub told : IfOk result (λ behind. TellsPart leads first pages pass turns from to behind before after old new)
+  pub stopped : IfErr result (λ out. TellsNothing first pages pass turns from out before after old new)

@@ -24,6 +24,7 @@ mod opening;
 mod posting;
 mod scanning;
 mod sweeping;
+mod telling;
 
 pub use bl_index_read::OutOfTurns;
 pub use bl_model::{KeyReply, KeyWrite, Next, Reply};
@@ -31,3 +32,4 @@ pub use bl_proc::{Hint, Level, Lowered, Posted, Squeezed};
 pub use config::{CloseFault, Config, OpenFault};
 pub use index::{Index, Pass};
 pub use scanning::ScanFault;
+pub use telling::OutOfTurnsAt;

@@ -26,7 +26,7 @@ pub enum ScanFault {
 }
 
 /// Whether the key is below the end, if there is one.
-fn is_below(to: Option<u64>, key: u64) -> bool
+pub(crate) fn is_below(to: Option<u64>, key: u64) -> bool
     ensures { result ≡ below to key }
 {
     match to {

@@ -6,3 +6,4 @@ pub mod Ranges
 pub mod Picked
 pub mod Portions
 pub mod Leaves
+pub mod Told

@@ -1,6 +1,7 @@
 //! The rows of a leaf from a key on, by the leaf's words.
 
 ghost use Rattle.std.specs.Prelude.{◌≡◌, ◌+◌, ◌-◌, ◌<◌, ◌≤◌, ◌++◌, Some, IsTrue, OnOk, OnErr, length, slice_index_or, take, drop, vec_len};
+ghost use Rattle.std.specs.List.{FoldsTo};
 ghost use Rattle.std.specs.Vec.{vec_capacity};
 ghost use Rattle.bl_model.proofs.Parts.{IsPlaceOf};
 ghost use Rattle.bl_model.specs.Parts.{next_key};
@@ -297,6 +298,40 @@ pub fn append_rows<W: Words>(
     match room {
         Ok(()) => (append_between(source, hand, first, last, rows), Ok(())),
         Err(full) => (rows, Err(full)),
+    }
+}
+
+/// Tells a callback a row.
+#[inline(always)]
+fn tell_row<F: FnMut((u64, u64))>(row: (u64, u64), visit: &mut F)
+    requires { F.IsAlwaysCallable visit.old }
+    ensures callable { F.IsAlwaysCallable visit.new }
+    ensures told { F.step visit.old row tt visit.new }
+{
+    visit(row);
+}
+
+/// Tells a callback the leaf's rows from one place up to another, one after another.
+#[inline(always)]
+pub fn tell_rows<W: Words, F: FnMut((u64, u64))>(
+    source: &W,
+    hand: &mut W::Hand,
+    first: usize,
+    last: usize,
+    visit: &mut F,
+)
+    requires sees { W.Sees source.now hand.old }
+    requires pairs { HasPairs (W.shown source.now hand.old) }
+    requires order { first ≤ last }
+    requires within { last ≤ length (pairs_of (W.shown source.now hand.old)) }
+    requires callable { F.IsAlwaysCallable visit.old }
+    ensures same { hand.new ≡ hand.old }
+    ensures callable { F.IsAlwaysCallable visit.new }
+    ensures told { FoldsTo (λ p x q. F.step p x tt q) visit.old (take (last - first) (drop first (pairs_of (W.shown source.now hand.old)))) visit.new }
+{
+    for place in first..last {
+        let row = row_at(source, hand, place);
+        tell_row(row, visit);
     }
 }
 

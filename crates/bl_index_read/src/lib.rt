@@ -10,5 +10,5 @@ mod leaf_rows;
 mod listing;
 
 pub use finding::{OutOfTurns, find_key};
-pub use leaf_rows::{Behind, Portion, append_rows, portion_in};
+pub use leaf_rows::{Behind, Portion, append_rows, portion_in, tell_rows};
 pub use listing::{descend_to_leaf, end_part, list_part};

@@ -176,8 +176,8 @@ fn list_on(tree: &Tree, hand: &mut Hand<PassState>, from: u64, descent: Descent)
 }
 
 /// The part gets so many pages at most, until it has its leaf. Where it runs out of turns, it ends. In a scan only its first part
-/// comes here, and one that has lost its way.
-#[inline(never)]
+/// comes here, and one that has lost its way; but a call of it would cost each leaf the zeros of what the call gives.
+#[inline(always)]
 fn seek_leaf(
     tree: &Tree,
     hand: &mut Hand<PassState>,
@@ -220,7 +220,7 @@ pub fn descend_to_leaf(
         (HasLeaf tree.now.store.layout hand.old.number from turns (known hand.old.seat) hand.new.seat) }
 {
     let way = set_off(tree, hand, from, near);
-    // What the call gives is taken apart, so that a leaf that is found at once does not go by its memory.
+    // The first page of the way is looked at here, since in a scan it mostly is the leaf.
     if turns == 0 {
         let glance = seek_leaf(tree, hand, from, way, 0)?;
         return Some(glance);

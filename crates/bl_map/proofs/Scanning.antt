@@ -207,7 +207,7 @@ all_rows listed rows before middle after grown appended = appended ∙ (ap (λ (
 
 module _ (first : List (Option Page)) (pages pass it turns from at : ℕ) (to : Option ℕ) (room : ℕ) (listed rows before middle after : List (ℕ × ℕ)) (old mid new : Trail)
     (same : it ≡ pass) (is_turns : turns ≡ pages) (s : HasSearched first pages pass from to (Some at) listed old mid) (low : from ≤ at) (grown : middle ≡ before ++ listed) (appended : after ≡ middle ++ rows) where
-  by_call : (upto : Option ℕ) (end : Trail) → Scans first pages it turns at to upto rows mid end → HasSearched first pages pass from to upto (listed ++ rows) old end × IsFurther (Some at) upto
+  pub by_call : (upto : Option ℕ) (end : Trail) → Scans first pages it turns at to upto rows mid end → HasSearched first pages pass from to upto (listed ++ rows) old end × IsFurther (Some at) upto
   unfolding scanned_then scanned_of
   by_call upto end c =
       let mine : Scans first pages pass turns at to upto rows mid end = subst (λ (z : ℕ). Scans first pages z turns at to upto rows mid end) same c in

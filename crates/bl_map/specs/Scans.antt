@@ -3,16 +3,12 @@ use Rattle.std.specs.Prelude.{◌≡◌, ℕ, ◌≤◌, ◌++◌, List, Option,
 use Rattle.std.specs.List.{FoldsTo}
 use Rattle.bl_page.specs.declared.page.Page.{Page}
 use Rattle.bl_model.specs.Rows.{HasRisingKeys}
-use Rattle.bl_model.specs.Parts.{ended_at, next_key}
 use Rattle.bl_model.specs.declared.operation.Entry.{Entry}
-use Rattle.bl_model.specs.declared.operation.Next.{Next}
-use Rattle.bl_model.specs.declared.operation.Op.TheVariants.{Part}
-use Rattle.bl_model.specs.declared.operation.Reply.{Reply}
 use Rattle.bl_claims.specs.Trails.{Trail, history_of}
 use Rattle.bl_claims.specs.Seeing.{IsSeen, own, GoesOnFrom}
 use Rattle.bl_index_read.specs.LeafRows.{IsBelow, IsOver}
 use Rattle.bl_index.specs.Scans.{rows_below, AreParts, IsRight, FindsNoRoom}
-use Rattle.bl_map.specs.Works.{Works, Searches, Searched}
+use Rattle.bl_map.specs.Works.{Searches}
 
 -- The pass has scanned from a key on up to another, or to the end of the map: its new entries are parts, and their rows below the
 -- scan's end are these, whose keys rise, and which answer each key on the way right.
@@ -52,12 +48,3 @@ pub record Tells {F : Type 0} (leads : F → ℕ × ℕ → F → Type 0) (first
   pub scanned : HasScanned first pass from to upto rows old new
   pub searches : Searches first pages pass scanned.parts old new
   pub over : IsOver to upto
-
--- It was told those rows of one part that lie below the scan's end.
-pub record TellsPart {F : Type 0} (leads : F → ℕ × ℕ → F → Type 0) (first : List (Option Page)) (pages pass from : ℕ) (to : Option ℕ)
-    (next : Next) (before after : F) (old new : Trail) : Type 0 where
-  pub reply : Reply
-  pub works : Works first pass (Part from) reply old new
-  pub searched : Searched first pages pass (Part from) reply old new
-  pub ends : ended_at reply ≡ next_key next
-  pub told : FoldsTo leads before (rows_below to reply) after

@@ -143,7 +143,8 @@ impl<'a> Handle<'a> {
     }
 
     /// Tells a callback the rows from a key on and below an end, if there is one, by rising keys: the rows of [`Handle::scan`], each
-    /// once, and without a vector that holds them all.
+    /// once, and without a vector that holds them all. It should not wait: while it is told the rows of a leaf, nothing is given back
+    /// that was swapped out since the leaf was read.
     pub fn scan_with<R: Wait, F: FnMut((u64, u64))>(
         &mut self,
         rt: &R,

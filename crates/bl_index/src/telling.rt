@@ -1,0 +1,117 @@
+//! Scans that tell a callback each row.
+
+ghost use Rattle.std.specs.Prelude.{◌≡◌};
+ghost use Rattle.bl_store.specs.Hands.{known, IsIdle, IsSameHand, IsSameStock};
+ghost use Rattle.bl_store.specs.Owners.{IsHandOf};
+ghost use Rattle.bl_claims.specs.Seeing.{IsSeen};
+ghost use Rattle.bl_index_steps.specs.Runs.{Rests};
+ghost use Rattle.bl_index_read.specs.LeafRows.{IsBelow};
+ghost use Rattle.bl_index.specs.Scans.{TellsOrStops, TellsScan};
+
+use crate::index::{Index, Pass};
+use crate::scanning::is_below;
+use bl_index_read::{Behind, descend_to_leaf, end_part, portion_in, tell_rows};
+use bl_index_rule::PassState;
+use bl_index_steps::FrameView;
+use bl_store::Hand;
+
+/// A part of a scan got as many pages as it was allowed, and has answered nothing.
+#[derive(Clone, Copy, Debug, PartialEq, Eq)]
+pub struct OutOfTurnsAt {
+    /// The scan goes on from this key.
+    pub key: u64,
+}
+
+impl Index {
+    ghost use Rattle.bl_index.specs.Calls.{first_of, IsPassOf, IsSamePass, pages_of, number_of, trail};
+
+    /// Tells a callback the rows that [`Index::scan_into`] would append, one after another, as it reads them of the leaves. Where a
+    /// part runs out of turns it stops: the rows of all keys below the fault's were told, and none from there on.
+    ///
+    /// The callback is called while a part is under way, and until that ends nothing is given back that was swapped out since it
+    /// began. So it should not wait.
+    pub fn scan_with<F: FnMut((u64, u64))>(
+        &self,
+        pass: &mut Pass,
+        from: u64,
+        to: Option<u64>,
+        turns: u32,
+        visit: &mut F,
+    ) -> Result<(), OutOfTurnsAt>
+        requires own { IsPassOf self.now pass.old }
+        requires callable { F.IsAlwaysCallable visit.old }
+        ensures same { IsSamePass pass.old pass.new }
+        ensures callable { F.IsAlwaysCallable visit.new }
+        ensures tells { TellsScan (λ p x q. F.step p x tt q) (first_of self.now) (pages_of self.now) (number_of pass.old) turns from to result
+            visit.old visit.new (trail pass.old) (trail pass.new) }
+    {
+        if !is_below(to, from) {
+            return Ok(());
+        }
+        let mut behind = Behind::Part(from, 0);
+        while let Behind::Part(at, link) = behind {
+            match self.tell_part(pass, at, link, to, turns, visit) {
+                Ok(next) => behind = next,
+                Err(out) => return Err(out),
+            }
+        }
+        Ok(())
+    }
+
+    /// Tells the rows of one part that lie below the end, and says how the scan goes on. The part looks at that page first.
+    #[inline(always)]
+    fn tell_part<F: FnMut((u64, u64))>(
+        &self,
+        pass: &mut Pass,
+        from: u64,
+        near: u32,
+        to: Option<u64>,
+        turns: u32,
+        visit: &mut F,
+    ) -> Result<Behind, OutOfTurnsAt>
+        requires own { IsPassOf self.now pass.old }
+        requires below { IsBelow to from }
+        requires callable { F.IsAlwaysCallable visit.old }
+        ensures same { IsSamePass pass.old pass.new }
+        ensures callable { F.IsAlwaysCallable visit.new }
+        ensures tells { TellsOrStops (λ p x q. F.step p x tt q) (first_of self.now) (pages_of self.now) (number_of pass.old) turns from to result
+            visit.old visit.new (trail pass.old) (trail pass.new) }
+    {
+        self.tell_part_by(&mut pass.hand, from, near, to, turns, visit)
+    }
+
+    #[inline(always)]
+    fn tell_part_by<F: FnMut((u64, u64))>(
+        &self,
+        hand: &mut Hand<PassState>,
+        from: u64,
+        near: u32,
+        to: Option<u64>,
+        turns: u32,
+        visit: &mut F,
+    ) -> Result<Behind, OutOfTurnsAt>
+        requires own { IsHandOf self.now.tree.store hand.old }
+        requires idle { IsIdle hand.old.seat }
+        requires below { IsBelow to from }
+        requires callable { F.IsAlwaysCallable visit.old }
+        ensures same { IsSameHand hand.old.seat hand.new.seat × IsSameStock hand.old.seat hand.new.seat }
+        ensures rests { Rests hand.new.seat }
+        ensures first { (known hand.new.seat).first ≡ (known hand.old.seat).first }
+        ensures seen { IsSeen (known hand.new.seat).first (known hand.new.seat).trail }
+        ensures callable { F.IsAlwaysCallable visit.new }
+        ensures tells { TellsOrStops (λ p x q. F.step p x tt q) (known hand.old.seat).first self.now.tree.store.layout.pages hand.old.number turns from to
+            result visit.old visit.new (known hand.old.seat).trail (known hand.new.seat).trail }
+    {
+        let Some(glance) = descend_to_leaf(&self.tree, hand, from, Some(near), turns) else {
+            return Err(OutOfTurnsAt { key: from });
+        };
+        let shown = FrameView {
+            store: &self.tree.store,
+            glance,
+        };
+        let portion = portion_in(&shown, hand, from, to);
+        tell_rows(&shown, hand, portion.first, portion.last, visit);
+        end_part(&self.tree, hand);
+        Ok(portion.behind)
+    }
+}
