@@ -25,7 +25,7 @@ use Rattle.bl_index_steps.specs.Held.{own_marks}
 use Rattle.bl_index_steps.specs.Runs.{IsDone}
 use Rattle.bl_index_steps.proofs.Quiet.{quiet_adds}
 use Rattle.bl_index_steps.proofs.Ends.{not_end_way, not_end, own_done}
-use Rattle.bl_index_write.proofs.PostEnds.{not_end_growth, posting}
+use Rattle.bl_index_write.proofs.PostEnds.{not_end_growth, is_posting as posting}
 
 silent_at_end : (level key : ℕ) (got : ℕ → Page) (child : ℕ) (a : PostStage) → post_next_in a ≡ act.End → (know_post alone level key got child a).said ≡ None
 silent_at_end level key got child post.New e = cc

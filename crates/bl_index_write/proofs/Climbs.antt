@@ -71,14 +71,14 @@ use Rattle.bl_index_steps.specs.Rooms.{LacksPage, LacksPost, LacksWrite}
 use Rattle.bl_index_steps.specs.Runs.{IsDone, IsSameProcess, EndsAs}
 use Rattle.bl_index_steps.proofs.Ends.{climb_over}
 use Rattle.bl_index_steps.proofs.Rooms.{LacksClimb}
-use Rattle.bl_index_write.specs.declared.writers.Left.{Left}
-use Rattle.bl_index_write.specs.declared.writers.Left.TheVariants as left
+use Rattle.bl_index_ways.specs.declared.writers.Left.{Left}
+use Rattle.bl_index_ways.specs.declared.writers.Left.TheVariants as left
 use Rattle.bl_index_write.specs.declared.rising.Rising.{Rising}
 use Rattle.bl_index_write.specs.Climbing.{climbing, climb_unborn, climb_ending, climb_opened, climb_posted, climb_posting, first_post, next_post, rises, rose, IsClimbOver}
-use Rattle.bl_index_write.specs.Events.{HoldsNone}
+use Rattle.bl_index_ways.specs.Events.{HoldsNone}
 use Rattle.bl_index_write.specs.Kinds.{IsClimbAnswer}
-use Rattle.bl_index_write.specs.Ways.{IsToHold}
-use Rattle.bl_index_write.specs.Writers.{IsAtWork, IsWriter, left_reply, left_by}
+use Rattle.bl_index_ways.specs.Ways.{IsToHold}
+use Rattle.bl_index_ways.specs.Writers.{IsAtWork, IsWriter, left_reply, left_by}
 
 -- only an inner page leads down
 pub leads_down : (c : Page) (key level y : ℕ) → Leads c key level (Down y) → (0 < (node_of c).shape.level) × ((node_of c).shape.level < 12)

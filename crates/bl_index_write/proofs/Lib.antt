@@ -1,6 +1,3 @@
-pub mod Written
-pub mod Spreading
-pub mod Splits
-pub mod Parents
+pub mod Alone
 pub mod PostEnds
 pub mod Climbs

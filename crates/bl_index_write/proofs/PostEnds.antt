@@ -85,3 +85,15 @@ ends_post j r may state is = subst (λ (z : Proc). EndsAs z (posting j (post.Ove
   over = post_goes (record { level = j.level; key = j.key; stage = post.Ending r; least = j.least; most = j.most; below = may }) seen.Done refl tt;
   ended = (refl, refl, refl);
 })
+
+-- what became of a post, from an earlier state of its pass on
+pub over_since : (j : Posting) (d e : PassState) (h : H) (what : Posted) (hint : Option Hint) → IsSameProcess d e → IsPostOver j e h what hint → IsPostOver j d h what hint
+over_since j d e h what hint same over = record {
+  rests = over.rests;
+  empty = over.empty;
+  no_room = over.no_room;
+  is_posted = λ pass old since. over.is_posted pass old (same pass old since);
+}
+
+pub posted_first : (j : Posting) (pass : ℕ) (old e : PassState) (what : Posted) (hint : Option Hint) → HasPosted pass old e (posting j post.New tt) what hint → (first : Proc) × (work_of first ≡ Some (j.level, j.key)) × HasPosted pass old e first what hint
+posted_first j pass old e what hint posted = (posting j post.New tt, refl, posted)

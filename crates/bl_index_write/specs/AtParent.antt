@@ -24,7 +24,7 @@ use Rattle.bl_proc_unique.proofs.Posts.{post_goes}
 use Rattle.bl_proc_unique.specs.Courses.{GoesOn}
 use Rattle.bl_index_write.specs.AtLeaf.{unnoted}
 use Rattle.bl_index_write.specs.Climbing.{climb_posting, climb_posted}
-use Rattle.bl_index_write.specs.Posters.{IsAtParent, IsPoster, Opened, Staged}
+use Rattle.bl_index_ways.specs.Posters.{IsAtParent, IsPoster, Opened, Staged}
 
 -- a post that has not ended has answered nothing
 unanswered : (level : ℕ) (s : PostStage) → IsPosting s → post_answer_in level s ≡ None

@@ -37,9 +37,9 @@ use Rattle.bl_index_rule.specs.declared.known.PassState.{PassState}
 use Rattle.bl_index_steps.specs.Rooms.{LacksPage, LacksPost}
 use Rattle.bl_index_steps.specs.Runs.{IsDone, IsSince, Rests}
 use Rattle.bl_index_write.specs.declared.rising.Rising.{Rising}
-use Rattle.bl_index_write.specs.declared.writers.Left.{Left}
-use Rattle.bl_index_write.specs.declared.writers.Left.TheVariants.{Kept, Changed, Split, Refused}
-use Rattle.bl_index_write.specs.Writers.{left_reply}
+use Rattle.bl_index_ways.specs.declared.writers.Left.{Left}
+use Rattle.bl_index_ways.specs.declared.writers.Left.TheVariants.{Kept, Changed, Split, Refused}
+use Rattle.bl_index_ways.specs.Writers.{left_reply}
 
 -- an insertion of that pair that has noted these pages and come so far
 abbrev pub climbing : (key value : ℕ) (path : Path) (stage : ClimbStage) → Stands key value path stage → Proc

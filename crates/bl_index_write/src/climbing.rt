@@ -19,20 +19,19 @@ ghost use Rattle.bl_store.specs.Owners.{IsHandOf};
 ghost use Rattle.bl_index_rule.specs.declared.known.PassState.{PassState as Knows};
 ghost use Rattle.bl_index_steps.specs.Rooms.{LacksPage, LacksPost};
 ghost use Rattle.bl_index_steps.specs.Runs.{Runs, Rests, IsSince};
-ghost use Rattle.bl_index_write.specs.declared.writers.Left.TheVariants as lefts;
+ghost use Rattle.bl_index_ways.specs.declared.writers.Left.TheVariants as lefts;
 ghost use Rattle.bl_index_write.specs.Climbing.{climb_opened, rises, rose, HasClimbed, IsClimbOver};
-ghost use Rattle.bl_index_write.specs.Events.{HasGotAnchor};
+ghost use Rattle.bl_index_ways.specs.Events.{HasGotAnchor};
 ghost use Rattle.bl_index_write.specs.Kinds.{IsOfInsertion, IsClimbAnswer};
 
-use crate::descend::{begin_descent, descend};
-use crate::posting::{post_there, posted_by};
-use crate::reaching::{Reached, reach};
+use crate::posting::posted_by;
 use crate::rising::{Riser, Rising};
-use crate::targets::{Target, Unborn};
-use crate::writers::{Left, Writer};
-use crate::writing::{answer_of, write_there};
+use crate::writing::answer_of;
 use bl_index_rule::PassState;
 use bl_index_steps::{FrameView, Tree};
+use bl_index_ways::{
+    Left, Reached, Target, Unborn, Writer, begin_descent, descend, post_there, reach, write_there,
+};
 use bl_model::{KeyReply, KeyWrite, Reply};
 use bl_proc::{
     Answer, ClimbStage, Hint, InsertPost, Path, Post, PostReply, PostStage, Posted, Process, Reader,

@@ -1,4 +1,5 @@
-//! Writers over the pages that threads share: writes of one key, insertions that post what they split, and posts.
+//! Writers over the pages that threads share: writes of one key, insertions that post what they split, and posts. What they have in common
+//! is in `bl_index_ways`.
 //!
 //! Promised to the index: what each answers, with its hint, and that its process did what a process of its kind does. They go by
 //! their events and by the words of the pages, so that no page is made of words that are only looked at. Where a tree is to get one
@@ -6,17 +7,9 @@
 #![tactic(auto)]
 
 mod climbing;
-mod descend;
-mod editors;
-mod halves;
-mod placing;
-mod posters;
 mod posting;
-mod reaching;
 mod rising;
-mod splitting;
 mod targets;
-mod writers;
 mod writing;
 
 pub use climbing::insert_key_posting;

@@ -2,8 +2,7 @@
 
 ghost use Rattle.std.specs.Prelude.{◌<◌, ◌≤◌};
 
-use crate::posters::Poster;
-use crate::targets::Target;
+use bl_index_ways::{Poster, Target};
 use bl_proc::Path;
 use bl_proc_base::Step;
 
@@ -33,7 +32,7 @@ impl Target for Rising {
     ghost use Rattle.bl_proc_unique.proofs.Climbs.{climb_goes};
     ghost use Rattle.bl_index_write.specs.AtLeaf.{unnoted};
     ghost use Rattle.bl_index_write.specs.Climbing.{rises};
-    ghost use Rattle.bl_index_write.specs.Ways.{nears, past_held};
+    ghost use Rattle.bl_index_ways.specs.Ways.{nears, past_held};
 
     type Path = Path;
 

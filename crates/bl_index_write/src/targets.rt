@@ -1,91 +1,10 @@
-//! What writers come to pages for.
+//! What a write and a post come to pages for.
 
 ghost use Rattle.std.specs.Prelude.{◌<◌, ◌≤◌};
 
+use bl_index_ways::{Poster, Target, Unborn, Writer};
 use bl_model::KeyWrite;
 use bl_proc_base::Step;
-
-/// What a writer comes to a page for. There is a process with this target, of which there is no value.
-pub(crate) trait Target {
-    ghost use Rattle.std.specs.Prelude.{◌≡◌, ℕ, None};
-    ghost use Rattle.bl_claims.specs.Pages.{node_of};
-    ghost use Rattle.bl_proc_base.specs.declared.acts.Seen.{Seen};
-    ghost use Rattle.bl_proc_base.specs.declared.acts.Seen.TheVariants as seen;
-    ghost use Rattle.bl_proc_base.specs.declared.approaching.Approach.{Approach};
-    ghost use Rattle.bl_proc_base.specs.declared.approaching.Approach.TheVariants as way;
-    ghost use Rattle.bl_proc_base.specs.declared.approaching.Approached.TheVariants as came;
-    ghost use Rattle.bl_proc_base.specs.declared.onwards.Step.{Step as StepIs};
-    ghost use Rattle.bl_page.specs.declared.page.Page.{Page};
-    ghost use Rattle.bl_proc_base.specs.Approaches.{approach_next, Approaches, Turns};
-    ghost use Rattle.bl_proc_base.specs.Given.{Gives};
-    ghost use Rattle.bl_proc_base.specs.Onwards.{Leads};
-    ghost use Rattle.bl_proc.specs.declared.kinds.Proc.{Proc};
-    ghost use Rattle.bl_proc.specs.Processes.{next_of, Takes};
-    ghost use Rattle.bl_proc_unique.specs.Courses.{GoesOn};
-    ghost use Rattle.bl_index_write.specs.Ways.{IsToHold};
-
-    /// The pages that are noted on its way.
-    type Path;
-
-    // The process as it is when it has noted these pages and come so far.
-    ghost at: { Self → Self.Path → Approach → Proc };
-
-    // The level of the page, and the key that it is to cover.
-    ghost level_of: { Self → ℕ };
-
-    ghost key_of: { Self → ℕ };
-
-    // Whether the anchor, which is such a page, leads it on.
-    ghost IsLedBy: { Self → Page → Type 0 };
-
-    // What is noted of a page with that number, which was got without a latch and leads it so.
-    ghost Notes: { Self → ℕ → Page → StepIs → Self.Path → Self.Path → Type 0 };
-
-    fn level(&self) -> u32
-        ensures { result ≡ level_of self.now };
-
-    fn key(&self) -> u64
-        ensures { result ≡ key_of self.now };
-
-    /// Notes the page, of the level `own`, where the way goes down from it.
-    fn note(&self, path: &mut Self::Path, page: u32, own: u32, way: Step)
-        requires { (c : Page) × Leads c (key_of self.now) (level_of self.now) way × (own ≡ (node_of c).shape.level) }
-        ensures { (c : Page) → own ≡ (node_of c).shape.level → Notes self.now page c way path.old path.new };
-
-    ghost acts: { (j : Self) (n : Self.Path) (a : Approach) → next_of (at j n a) ≡ approach_next a };
-
-    ghost courses: { (j : Self) (n : Self.Path) (a : Approach) (what : Seen) → Gives (approach_next a) None what → GoesOn (at j n a) what };
-
-    ghost enters: { (j : Self) (n : Self.Path) (a : Approach) (c : Page) → IsLedBy j c
-        → Approaches (level_of j) (key_of j) way.Start (seen.Words c) (came.On a) → Takes (at j n way.Start) (seen.Words c) (at j n a) };
-
-    ghost turns: { (j : Self) (n m : Self.Path) (x : ℕ) (c : Page) (o : StepIs) (a : Approach) → Leads c (key_of j) (level_of j) o
-        → Turns (level_of j) x c o a → Notes j x c o n m → Takes (at j n (way.At x)) (seen.Words c) (at j m a) };
-
-    ghost goes: { (j : Self) (n : Self.Path) (a b : Approach) (what : Seen) → IsToHold a
-        → Approaches (level_of j) (key_of j) a what (came.On b) → Takes (at j n a) what (at j n b) };
-}
-
-/// What a process begins for, of which there is no value.
-pub(crate) trait Unborn {
-    ghost use Rattle.std.specs.Prelude.{◌≡◌};
-    ghost use Rattle.bl_proc_base.specs.declared.acts.Action.TheVariants as act;
-    ghost use Rattle.bl_proc_base.specs.declared.acts.Seen.TheVariants as seen;
-    ghost use Rattle.bl_proc.specs.declared.kinds.Proc.{Proc};
-    ghost use Rattle.bl_proc.specs.Processes.{next_of, Takes};
-    ghost use Rattle.bl_proc_unique.specs.Courses.{GoesOn};
-
-    // The process that is to begin, and what it is when it has begun.
-    ghost unborn: { Self → Proc };
-
-    ghost begun: { Self → Proc };
-
-    ghost begins: { (j : Self) → next_of (unborn j) ≡ act.Begin };
-
-    ghost starts: { (j : Self) → GoesOn (unborn j) seen.Done };
-
-    ghost started: { (j : Self) → Takes (unborn j) seen.Done (begun j) };
-}
 
 /// The write of a key.
 #[derive(Clone, Copy)]
@@ -174,7 +93,7 @@ impl Target for Posting {
     ghost use Rattle.bl_proc_base.specs.declared.approaching.Approach.TheVariants as approach;
     ghost use Rattle.bl_proc_base.specs.declared.approaching.Came.TheVariants as descend;
     ghost use Rattle.bl_proc_unique.proofs.Posts.{post_goes};
-    ghost use Rattle.bl_index_write.specs.Ways.{nears, past_held};
+    ghost use Rattle.bl_index_ways.specs.Ways.{nears, past_held};
 
     type Path = ();
 
@@ -234,4 +153,55 @@ impl Unborn for Posting {
         post_goes (record { level = j.level; key = j.key; stage = post.New; least = j.least; most = j.most; below = tt }) seen.Done refl tt };
 
     ghost started = { λ j. (refl, refl, refl) };
+}
+
+impl Writer for Writing {
+    ghost use Rattle.bl_proc.specs.declared.writing.WriteStage.TheVariants as stages;
+    ghost use Rattle.bl_index_write.specs.Events.{writing};
+    ghost use Rattle.bl_index_ways.specs.Writers.{left_reply};
+    ghost use Rattle.bl_index_write.specs.AtLeaf.{writes_alone};
+
+    ghost key_of = { λ w. w.key };
+
+    ghost write_of = { λ w. w.write };
+
+    ghost staged = { λ w stage. writing w.key w.write stage };
+
+    ghost opened = { λ w left. writing w.key w.write (stages.Ending (left_reply left)) };
+
+    #[inline(always)]
+    fn key(&self) -> u64 {
+        self.key
+    }
+
+    #[inline(always)]
+    fn write(&self) -> KeyWrite {
+        self.write
+    }
+
+    ghost writes = { λ w. writes_alone w.key w.write };
+}
+
+impl Poster for Posting {
+    ghost use Rattle.bl_index_write.specs.AtParent.{alone, alone_opened, posts_alone};
+
+    ghost level_of = { λ p. p.level };
+
+    ghost key_of = { λ p. p.key };
+
+    ghost staged = { λ p. alone p.level p.key p.least p.most };
+
+    ghost opened = { λ p. alone_opened p.level p.key p.least p.most };
+
+    #[inline(always)]
+    fn level(&self) -> u32 {
+        self.level
+    }
+
+    #[inline(always)]
+    fn key(&self) -> u64 {
+        self.key
+    }
+
+    ghost posts = { λ p. posts_alone p.level p.key p.least p.most };
 }

@@ -9,7 +9,8 @@ use Rattle.bl_store.specs.Hands.{known, read_words, HasNoStock, ReadsFrom}
 use Rattle.bl_index_rule.specs.declared.known.PassState.{PassState}
 use Rattle.bl_index_steps.specs.declared.tree.Tree.{Tree}
 use Rattle.bl_index_steps.specs.Runs.{Runs}
-use Rattle.bl_index_write.specs.Events.{writing, IsThere}
+use Rattle.bl_index_ways.specs.Events.{IsThere}
+use Rattle.bl_index_write.specs.Events.{writing}
 
 -- The hand runs a deletion of that key, which holds page at and got it last, as its leaf.
 pub record IsHeld (tree : Tree) (hand : Hand PassState) (key at : ℕ) (glance : Glance) : Type 0 where

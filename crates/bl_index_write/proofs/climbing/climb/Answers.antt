@@ -5,9 +5,9 @@ use Rattle.bl_proc_base.specs.declared.approaching.Approach.{Approach}
 use Rattle.bl_store.specs.Hands.{known}
 use Rattle.bl_index_steps.specs.Runs.{Runs}
 use Rattle.bl_index_steps.proofs.Standing.{none_of, same_all}
-use Rattle.bl_index_write.specs.Events.{HoldsNone}
+use Rattle.bl_index_ways.specs.Events.{HoldsNone}
 use Rattle.bl_index_write.proofs.Climbs.{climb_since, from_free, goes_above, goes_with, posting_alike}
-use Rattle.bl_index_write.proofs.Parents.{leaves_again, leaves_opened}
+use Rattle.bl_index_ways.proofs.Walked.{leaves_again, leaves_opened}
 use Rattle.bl_index_write.proofs.climbing.climb.Goals as goal
 
 pub loop-init : goal.loop-init

@@ -9,9 +9,9 @@ use Rattle.bl_proc_unique.specs.Frames.{op_of, work_of}
 use Rattle.bl_store.specs.Hands.{known}
 use Rattle.bl_index_steps.proofs.Standing.{on_itself}
 use Rattle.bl_index_write.specs.Climbing.{climb_unborn}
-use Rattle.bl_index_write.specs.Writers.{left_reply}
+use Rattle.bl_index_ways.specs.Writers.{left_reply}
 use Rattle.bl_index_write.proofs.Climbs.{unborn_blank, ends_unsplit, unsplit_opened, unsplit_answer, lacks_leaf}
-use Rattle.bl_index_write.proofs.Written.{refused_reply, lacks_same}
+use Rattle.bl_index_ways.proofs.Written.{refused_reply, lacks_same}
 use Rattle.bl_index_write.proofs.climbing.insert_key_posting.Goals as goal
 
 pub begin_descent-requires-clause-unborn : goal.begin_descent-requires-clause-unborn

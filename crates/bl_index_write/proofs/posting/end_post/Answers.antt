@@ -7,7 +7,7 @@ use Rattle.bl_proc_unique.specs.Frames.{op_of, work_of}
 use Rattle.bl_index_steps.specs.Runs.{EndsAs}
 use Rattle.bl_index_steps.proofs.Standing.{on_itself}
 use Rattle.bl_index_write.specs.Events.{posting}
-use Rattle.bl_index_write.proofs.Parents.{lacks_post_same}
+use Rattle.bl_index_ways.proofs.Walked.{lacks_post_same}
 use Rattle.bl_index_write.proofs.PostEnds.{ends_post}
 use Rattle.bl_index_write.proofs.posting.end_post.Goals as goal
 

@@ -1,4 +1,4 @@
-use Rattle.bl_index_write.proofs.Parents.{posted_first}
+use Rattle.bl_index_write.proofs.PostEnds.{posted_first}
 use Rattle.bl_index_write.proofs.posting.post_key.Goals as goal
 
 pub returns-clause-posted : goal.returns-clause-posted

@@ -1,0 +1,4 @@
+pub mod Written
+pub mod Spreading
+pub mod Splits
+pub mod Walked
