@@ -35,7 +35,7 @@ impl Left {
 
     /// The reply of the write.
     #[inline(always)]
-    pub(crate) fn reply(self) -> WriteReply
+    pub fn reply(self) -> WriteReply
         ensures { result ≡ left_reply self }
     {
         let level = Level::new(1);

@@ -22,7 +22,7 @@ use crate::targets::Posting;
 use bl_index_rule::PassState;
 use bl_index_steps::{FrameView, Tree};
 use bl_index_ways::{Reached, begin_descent, post_there, reach};
-use bl_proc::{Answer, Hint, Post, PostReply, PostStage, Posted};
+use bl_proc::{Answer, Hint, Post, PostReply, PostStage, Posted, Process, Reader};
 use bl_proc_base::{Approach, Level};
 use bl_store::{Glance, Hand};
 use std::sync::Wait;
