@@ -19,9 +19,13 @@ use Rattle.bl_proc.specs.declared.kinds.Proc.TheVariants as proc
 use Rattle.bl_proc.specs.Posts.{post_next_in, post_answer_in, post_answer, PostGoes}
 use Rattle.bl_proc.specs.Processes.{next_of, Takes}
 use Rattle.bl_proc_unique.specs.Frames.{work_of}
+use Rattle.atomic_table.specs.declared.shared.Seat.{Seat}
+use Rattle.bl_proc_base.specs.declared.answers.Hint.{Hint}
+use Rattle.bl_proc_base.specs.declared.answers.Posted.{Posted}
+use Rattle.bl_store.specs.declared.view.View.{View}
 use Rattle.bl_index_rule.specs.declared.known.PassState.{PassState}
-use Rattle.bl_index_steps.specs.Runs.{IsDone, EndsAs}
-use Rattle.bl_index_write.specs.Events.{IsPostAnswer, posting}
+use Rattle.bl_index_steps.specs.Runs.{IsDone, IsSince, IsSameProcess, EndsAs}
+use Rattle.bl_index_write.specs.Events.{HasPosted, IsPostAnswer, IsPostOver, posting}
 use Rattle.bl_index_steps.proofs.Quiet.{first_of, second_of}
 use Rattle.bl_index_steps.proofs.Ends.{not_end_way, not_end}
 
@@ -85,6 +89,9 @@ ends_post j r may state is = subst (λ (z : Proc). EndsAs z (posting j (post.Ove
   over = post_goes (record { level = j.level; key = j.key; stage = post.Ending r; least = j.least; most = j.most; below = may }) seen.Done refl tt;
   ended = (refl, refl, refl);
 })
+
+abbrev H : Type 0
+H = Seat (Unit {0}) (View PassState)
 
 -- what became of a post, from an earlier state of its pass on
 pub over_since : (j : Posting) (d e : PassState) (h : H) (what : Posted) (hint : Option Hint) → IsSameProcess d e → IsPostOver j e h what hint → IsPostOver j d h what hint
