@@ -1,5 +1,5 @@
 -- Handles that are made for seats one after another.
-use Rattle.std.proofs.Common.{◌≡◌, ℕ, ◌+◌, ◌<◌, List, [], ◌∷◌, ◌++◌, length, map, take, drop, get_or, refl, sym, ap, ◌∙◌, subst, append_assoc, append-nil, arith}
+use Rattle.std.proofs.Common.{◌≡◌, ◌+◌, ◌<◌, List, [], ◌∷◌, ◌++◌, length, take, drop, get_or, refl, sym, ap, ◌∙◌, subst, append_assoc, arith}
 use Rattle.std.specs.Prelude.{All}
 use Rattle.std.specs.List.{AllZip}
 use Rattle.std.proofs.lemmas.List.Elements.{All-head, All-tail}
@@ -7,7 +7,7 @@ use Rattle.bl_index.specs.Calls.{IsPassOf}
 use Rattle.bl_index.specs.declared.index.Index.{Index}
 use Rattle.bl_index.specs.declared.index.Pass.{Pass}
 use Rattle.bl_map.specs.declared.handle.Handle.{Handle}
-use Rattle.bl_map.specs.Handles.{IsHandleOver, seat_of, seats_of}
+use Rattle.bl_map.specs.Handles.{IsHandleOver, seats_of}
 
 -- the first of some is taken away
 pub first_taken : {A : Type 0} (all rest : List A) (one : A) → 0 < length all → one ≡ get_or all 0 one → rest ≡ take 0 all ++ drop (0 + 1) all → all ≡ one ∷ rest

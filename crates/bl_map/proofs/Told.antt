@@ -1,5 +1,5 @@
 -- A callback is told the rows of one part after another.
-use Rattle.std.proofs.Common.{◌≡◌, ◌≢◌, ℕ, ◌+◌, ◌<◌, ◌≤◌, Bool, true, false, cond, Option, Some, None, List, [], ◌∷◌, ◌++◌, length, refl, sym, ap, ◌∙◌, subst, append-nil, arith}
+use Rattle.std.proofs.Common.{◌≡◌, ◌≢◌, ℕ, ◌<◌, ◌≤◌, Bool, true, false, cond, Option, Some, None, List, [], ◌∷◌, ◌++◌, length, refl, sym, ap, ◌∙◌, subst, append-nil, arith}
 use Rattle.std.specs.Prelude.{filter}
 use Rattle.std.specs.List.{FoldsTo}
 use Rattle.std.proofs.lemmas.List.Elements.{All-nil, filter-append}
@@ -13,8 +13,8 @@ use Rattle.bl_model.specs.declared.operation.Reply.TheVariants.{Rows}
 use Rattle.bl_model.specs.Parts.{rows_of, ended_at, next_key}
 use Rattle.bl_page.specs.declared.page.Page.{Page}
 use Rattle.bl_claims.specs.Trails.{Trail, history_of}
-use Rattle.bl_claims.specs.Seeing.{first_map, own}
-use Rattle.bl_index_read.specs.LeafRows.{IsBelow, is_below, IsOver}
+use Rattle.bl_claims.specs.Seeing.{first_map}
+use Rattle.bl_index_read.specs.LeafRows.{IsBelow, is_below}
 use Rattle.bl_index_read.proofs.Ranges.{below_is}
 use Rattle.bl_index.specs.Scans.{rows_below}
 use Rattle.bl_index.proofs.Scanned.{IsFrom, IsBehind, Answered, answered, part_is, only_rows, right_more, from_more, rising_more}
