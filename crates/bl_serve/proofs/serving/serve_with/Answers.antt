@@ -36,7 +36,7 @@ returns-in_err-fresh-clause-serves g c = let p = err_from_is_err_and c.from_resi
     rw (p.1, p.2) (record { input = []; ahead = []; output = []; consumed = consumes_start _; wrote = appends_start _; ok = tt; fault = stops_inside (first_of c.args.index.now) (seen_by c.args.passes.items) (seen_by c.args.passes.items) _ [] [] [] Memory (c.args.reader.now.failed ≡ true) (c.args.writer.now.failed ≡ true) (no_progress (seen_by c.args.passes.items) (record { requests = 0; malformed = 0; sections = 0 }) (refl, refl, refl)) c.requires.together.may_be refl tt })
 
 pub serve_sections-requires-clause-met : goal.serve_sections-requires-clause-met
-serve_sections-requires-clause-met g c =
+serve_sections-requires-clause-met g c κs within =
     let seats = ap seats_of c.in_ok-fresh.ensures.handles ∙ their_seats c.args.index.now c.args.passes.items c.in_ok-handles.handles.items c.in_ok-handles.ensures.over in
     subst (λ (z : List Pass). AreTogether c.args.index.now (seen_by z) z) (sym seats) c.requires.together
 
