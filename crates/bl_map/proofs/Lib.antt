@@ -1,9 +1,9 @@
 pub mod Adding
 pub mod Elements
 pub mod Following
-pub mod Meeting
+pub mod AllMet
 pub mod Same
 pub mod Scanning
 pub mod Seated
-pub mod Seating
+pub mod Handed
 pub mod Told

@@ -1,7 +1,6 @@
 -- What one handle tells of its map and its seat, told of the same handle as it was before.
-use Rattle.std.proofs.Common.{ℕ, List, Option, refl, subst}
+use Rattle.std.proofs.Common.{ℕ, List, Option, subst}
 use Rattle.bl_page.specs.declared.page.Page.{Page}
-use Rattle.bl_claims.specs.Trails.{Trail}
 use Rattle.bl_index.specs.Calls.{first_of}
 use Rattle.bl_map.specs.declared.handle.Handle.{Handle}
 use Rattle.bl_map.specs.Handles.{IsSameHandle, HasKeptUp, first_map_of, number_of_seat, seen_by}

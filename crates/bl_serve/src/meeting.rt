@@ -16,9 +16,10 @@ pub fn meet_all(index: &Index, handles: &mut Vec<Handle<'_>>) -> Result<(), Allo
     requires some { 0 < vec_len handles.old }
     ensures { OnOk result (AllMeet (first_of index.now) (seats_of handles.old.items) (seats_of handles.new.items)) }
 {
-    if let Some(mut last) = handles.pop() {
-        bl_map::meet_all(index, &mut last, handles.as_mut_slice());
-        handles.push(last)?;
-    }
+    let Some(mut last) = handles.pop() else {
+        return Ok(());
+    };
+    bl_map::meet_all(index, &mut last, handles.as_mut_slice());
+    handles.push(last)?;
     Ok(())
 }

@@ -136,15 +136,17 @@ fn serve_section<'a, T: Threads + Wait + Sync, R: Read, G: Gate + Sync>(
 {
     let mut session = emptied(session);
     let mut chunk = FIRST_CHUNK;
-    ahead.most = most_behind(session.totals.requests, chunk);
+    let first = session.totals.requests;
+    ahead.most = most_behind(first, chunk);
     read_on(reader, ahead);
     for _ in rt.forever() {
         let end = ahead.end?;
         mem::swap(lines, &mut ahead.lines);
         let open = goes_on(end, lines.len(), chunk);
         chunk = chunk_behind(chunk);
+        let requests = session.totals.requests;
         ahead.most = if open {
-            most_behind(session.totals.requests + lines.len() as u64, chunk)
+            most_behind(requests + lines.len() as u64, chunk)
         } else {
             0
         };

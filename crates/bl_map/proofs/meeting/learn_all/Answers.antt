@@ -1,7 +1,7 @@
 use Rattle.std.proofs.Common.{arith, refl}
 use Rattle.std.specs.Prelude.{slice_index_or}
 use Rattle.bl_index.specs.Calls.{first_of}
-use Rattle.bl_map.proofs.Meeting.{learns_none, learns_one, learns_all, seated_as, seated_at}
+use Rattle.bl_map.proofs.AllMet.{learns_none, learns_one, learns_all, seated_as, seated_at}
 use Rattle.bl_map.proofs.meeting.learn_all.Goals as goal
 
 pub loop-number-init : goal.loop-number-init

@@ -1,5 +1,5 @@
 use Rattle.bl_index.specs.Calls.{first_of}
-use Rattle.bl_map.proofs.Meeting.{LearnsUpTo}
+use Rattle.bl_map.proofs.AllMet.{LearnsUpTo}
 use Rattle.bl_map.proofs.meeting.learn_all.Given as goal
 
 abbrev pub invariant-loop-number : goal.invariant-loop-number

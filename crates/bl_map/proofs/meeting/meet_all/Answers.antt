@@ -1,5 +1,5 @@
 use Rattle.bl_index.specs.Calls.{first_of}
-use Rattle.bl_map.proofs.Meeting.{all_met, seated_all, seated_as}
+use Rattle.bl_map.proofs.AllMet.{all_met, seated_all, seated_as}
 use Rattle.bl_map.proofs.meeting.meet_all.Goals as goal
 
 pub tell_all-requires-clause-own : goal.tell_all-requires-clause-own

@@ -1,6 +1,6 @@
 use Rattle.std.proofs.Common.{arith, refl}
 use Rattle.std.specs.Prelude.{slice_index_or}
-use Rattle.bl_map.proofs.Meeting.{tells_none, tells_one, tells_all, tell_begins, tell_seated}
+use Rattle.bl_map.proofs.AllMet.{tells_none, tells_one, tells_all, tell_begins, tell_seated}
 use Rattle.bl_map.proofs.meeting.tell_all.Goals as goal
 
 pub loop-number-init : goal.loop-number-init

@@ -1,4 +1,4 @@
-use Rattle.bl_map.proofs.Meeting.{TellsUpTo}
+use Rattle.bl_map.proofs.AllMet.{TellsUpTo}
 use Rattle.bl_map.proofs.meeting.tell_all.Given as goal
 
 abbrev pub invariant-loop-number : goal.invariant-loop-number

@@ -4,11 +4,11 @@ use Rattle.std.specs.Vec.{vec_capacity}
 use Rattle.bl_map.specs.Handles.{seats_of}
 use Rattle.bl_map.proofs.seating.give_seats.Given as goal
 
-abbrev pub invariant-loop : goal.invariant-loop
-invariant-loop l = record {
+abbrev pub invariant-loop-handles : goal.invariant-loop-handles
+invariant-loop-handles l = record {
   so_far : l.seats.items ++ seats_of l.handles.items ≡ l.fn.seats.items ++ seats_of l.fn.handles.items;
   room : vec_len l.seats + vec_len l.handles ≤ vec_capacity l.seats;
 }
 
-abbrev pub decreases-loop : goal.decreases-loop
-decreases-loop l = length l.handles.items
+abbrev pub decreases-loop-handles : goal.decreases-loop-handles
+decreases-loop-handles l = length l.handles.items

@@ -7,7 +7,7 @@ loop-request-init g c = record { number = omega arith; same = search rules; so_f
 
 pub loop-request-preserved : goal.loop-request-preserved
 loop-request-preserved g c =
-    let line = then_idle c.loop-request.handle c.in_ok-answer.new.handle c.sweep_if_may.new.handle _ _ _ _ c.in_ok-answer.ensures.same c.in_ok-answer.ensures.answers c.sweep_if_may.ensures.kept in record {
+    let line = then_idle c.loop-request.handle c.answer.new.handle c.sweep_if_may.new.handle _ _ _ _ c.in_ok-answer.ensures.same c.in_ok-answer.ensures.answers c.sweep_if_may.ensures.kept in record {
       number = omega arith;
       same = search rules;
       so_far = next_line c.args.handle.now c.loop-request.handle _ _ _ c.args.lines.now _ _ _ _ _ _ _ c.loop-request.invariant.same c.loop-request-test.true refl (omega arith) c.loop-request.invariant.so_far line;
