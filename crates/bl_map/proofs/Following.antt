@@ -1,5 +1,5 @@
 -- What hints that were followed add to what a pass has seen, and how one more is followed.
-use Rattle.std.proofs.Common.{ℕ, suc, zero, ◌≡◌, ◌≢◌, ◌+◌, ◌++◌, ⊎_elim, inl, inr, Bool, true, false, Option, Some, None, List, [], ◌∷◌, length, refl, sym, ap, ◌∙◌, subst, arith}
+use Rattle.std.proofs.Common.{ℕ, suc, zero, ◌≡◌, ◌≢◌, ◌+◌, ◌++◌, ⊎_elim, inl, inr, Bool, true, false, Option, Some, None, List, [], ◌∷◌, length, refl, sym, ◌∙◌, subst, arith}
 use Rattle.bl_model.specs.declared.operation.Op.{Op}
 use Rattle.bl_model.specs.declared.operation.Reply.{Reply}
 use Rattle.bl_page.specs.declared.page.Page.{Page}
@@ -17,7 +17,7 @@ use Rattle.bl_map.specs.declared.waiting.Waiting.{Waiting}
 use Rattle.bl_proc_base.specs.declared.lowering.Lowered.{Lowered}
 use Rattle.bl_map.specs.Works.{Works, Adds, Swept}
 use Rattle.bl_map.specs.Follows.{Written, TriesPost, TriesCompression, Tries, TriesHint, may_fall, has_fallen, Lowers, FollowsHint, FollowsOnce, AreDone, StopsAt, FollowsHints, FollowsSplit}
-use Rattle.bl_map.specs.Waits.{Changes, TriesOldest, AreTried, HasTried, TriesAgain}
+use Rattle.bl_map.specs.Waits.{Changes, TriesOldest, AreTried, TriesAgain}
 use Rattle.bl_map.proofs.Adding.{nothing, then_adds, adds_as, call_adds, call_works, adds_works, works_on, swept_adds, swept_as}
 
 -- ---- what they add

@@ -1,5 +1,4 @@
-use Rattle.std.proofs.Common.{refl}
-use Rattle.bl_map.proofs.Following.{compressed, compression_refused}
+use Rattle.bl_map.proofs.Following.{compression_refused}
 use Rattle.bl_map.proofs.upkeep.compress.Goals as goal
 
 pub returns-in-NoRoom-clause-tries : goal.returns-in-NoRoom-clause-tries
