@@ -1,7 +1,5 @@
 -- The kind of an answer.
 use Rattle.std.specs.Prelude.{Option, None, Some}
-use Rattle.bl_model.specs.declared.operation.Reply.{Reply}
-use Rattle.bl_model.specs.declared.operation.Reply.TheVariants as reply
 use Rattle.bl_proc_base.specs.declared.answers.Answer.{Answer}
 use Rattle.bl_proc_base.specs.declared.answers.Answer.TheVariants.{Op, Post, Compress, Reclaim, Lower, InsertPost}
 

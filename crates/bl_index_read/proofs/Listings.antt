@@ -1,5 +1,5 @@
 -- What a part tells its caller.
-use Rattle.std.proofs.Common.{ℕ, ◌≡◌, ◌+◌, ◌≤◌, Bool, true, false, List, Option, None, Some, refl, sym, subst, ◌∙◌, [], ap}
+use Rattle.std.proofs.Common.{ℕ, ◌≡◌, ◌+◌, ◌≤◌, Bool, Option, None, Some, refl, sym, subst, ◌∙◌, [], ap}
 use Rattle.std.specs.Prelude.{MatchOption}
 use Rattle.atomic_table.specs.declared.shared.Seat.{Seat}
 use Rattle.bl_layout.specs.declared.layout.Layout.{Layout}

@@ -17,7 +17,7 @@ use Rattle.bl_map.specs.declared.upkeep.Followed.TheVariants.{Done, NoRoom}
 use Rattle.bl_map.specs.declared.waiting.Waiting.{Waiting}
 use Rattle.bl_proc_base.specs.declared.lowering.Lowered.{Lowered}
 use Rattle.bl_map.specs.Works.{Works, Adds, Swept}
-use Rattle.bl_map.specs.Follows.{Written, TriesPost, TriesCompression, Tries, TriesHint, may_fall, has_fallen, Lowers, FollowsHint, FollowsOnce, AreDone, StopsAt, FollowsHints, FollowsSplit, WritesLeaving}
+use Rattle.bl_map.specs.Follows.{Makes, Written, TriesPost, TriesCompression, Tries, TriesHint, may_fall, has_fallen, Lowers, FollowsHint, FollowsOnce, AreDone, StopsAt, FollowsHints, FollowsSplit, WritesLeaving}
 use Rattle.bl_map.specs.Waits.{Changes, TriesOldest, AreTried, TriesAgain}
 use Rattle.bl_map.proofs.Adding.{nothing, then_adds, call_adds, call_works, adds_works, works_on, swept_adds, swept_as}
 

@@ -70,7 +70,7 @@ fn a_row_comes_and_goes(rt: HostRuntime) {
 }
 
 /// Inserts the keys from one on and below another. Says how many were inserted.
-fn fill<R: Wait>(rt: &R, handle: &mut Handle<'_>, from: u64, to: u64) -> u64 {
+pub(crate) fn fill<R: Wait>(rt: &R, handle: &mut Handle<'_>, from: u64, to: u64) -> u64 {
     let mut inserted = 0u64;
     for key in from..to {
         if handle.insert(rt, key, key.wrapping_mul(10)) == KeyReply::Inserted {

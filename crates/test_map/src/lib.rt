@@ -1,10 +1,13 @@
 //! Tests of the map for programs, by its public calls: rows of one handle, upkeep over thousands of rows, threads, handles that meet, a
-//! close and a map that is opened from the image, and handles over the seats of an index, of which one follows what another one leaves.
+//! close and a map that is opened from the image, a scan beside changes, and handles over the seats of an index, of which one follows what
+//! another one leaves.
 #![tactic(auto)]
 
 #[cfg(test)]
 mod calls;
 #[cfg(test)]
 mod images;
+#[cfg(test)]
+mod scans;
 #[cfg(test)]
 mod seats;

@@ -1,7 +1,5 @@
-use Rattle.std.proofs.Common.{ℕ, Option, Some, ap, subst}
+use Rattle.std.proofs.Common.{subst}
 use Rattle.bl_model.specs.declared.operation.Op.TheVariants as op
-use Rattle.bl_model.specs.declared.operation.Reply.{Reply}
-use Rattle.bl_model.specs.declared.operation.Reply.TheVariants as reply
 use Rattle.bl_model.specs.Replies.{reply_of}
 use Rattle.bl_store.specs.Hands.{known, WasRefused}
 use Rattle.bl_index_steps.specs.Refused.{LacksForPage, LacksForPost}
