@@ -1,4 +1,4 @@
-use Rattle.std.proofs.Common.{◌≡◌, refl, ap, sym, subst, suc, length, arith, ℕ, List}
+use Rattle.std.proofs.Common.{refl, sym, subst, suc, arith, ℕ, List}
 use Rattle.std.specs.Prelude.{All, Option}
 use Rattle.bl_serve_lines.specs.declared.request.Request.{Request}
 use Rattle.bl_index.specs.Calls.{first_of}
