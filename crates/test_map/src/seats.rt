@@ -4,9 +4,7 @@ ghost use Rattle.std.specs.Prelude.{All, IfSome};
 ghost use Rattle.bl_index.specs.Calls.{IsPassOf};
 
 use bl_index::{Config, Index, Pass};
-use bl_map::{
-    Followed, Handle, Hint, KeyReply, KeyWrite, Next, Reply, give_seats, handles_over, meet_all,
-};
+use bl_map::{Followed, Handle, Hint, KeyReply, KeyWrite, Next, Reply, give_seats, handles_over};
 use std::alloc::Global;
 use std::sync::Wait;
 
@@ -18,15 +16,21 @@ fn opened(alloc: Global) -> Option<(Index, Vec<Pass>)>
         pages: 8,
         passes: 2,
     };
-    Index::open(alloc, config).ok()
+    match Index::open(alloc, config) {
+        Ok((index, passes)) => Some((index, passes)),
+        Err(_) => None,
+    }
 }
 
 /// How many rows the leaf of a key has, and the key with which the next one begins.
 fn leaf<R: Wait>(rt: &R, handle: &mut Handle<'_>, key: u64) -> Option<(usize, Option<u64>)> {
-    match handle.part(rt, key, &mut None) {
-        Reply::Rows(rows, Next::More(next)) => Some((rows.len(), Some(next))),
-        Reply::Rows(rows, Next::End) => Some((rows.len(), None)),
-        _ => None,
+    let mut near = None;
+    let Reply::Rows(rows, next) = handle.part(rt, key, &mut near) else {
+        return None;
+    };
+    match next {
+        Next::More(key) => Some((rows.len(), Some(key))),
+        Next::End => Some((rows.len(), None)),
     }
 }
 
@@ -67,7 +71,7 @@ fn share<R: Wait>(rt: &R, one: &mut Handle<'_>, two: &mut Handle<'_>) -> bool {
     has_merged && leaf(rt, one, 0) == Some((14, None))
 }
 
-/// The same of handles over all seats, which meet at last. The seats come back.
+/// The same of handles over all seats.
 fn share_out<R: Wait>(rt: &R, index: &Index, passes: &mut Vec<Pass>) -> Option<bool>
     requires { All (IsPassOf index.now) passes.old.items }
 {
@@ -75,8 +79,6 @@ fn share_out<R: Wait>(rt: &R, index: &Index, passes: &mut Vec<Pass>) -> Option<b
     let mut two = handles.pop()?;
     let mut one = handles.pop()?;
     let is_shared = share(rt, &mut one, &mut two);
-    handles.push(one).ok()?;
-    meet_all(index, &mut two, handles.as_mut_slice());
     let has_found = two.find(rt, 12) == KeyReply::Found(120);
     Some(is_shared && has_found)
 }
