@@ -1,5 +1,7 @@
 //! A write of one key as a process that goes on in turns.
 
+ghost use Rattle.std.specs.Prelude.{◌≡◌};
+ghost use Rattle.bl_proc.specs.declared.writing.WriteStage.TheVariants as write_stage;
 ghost use Rattle.bl_proc.specs.Writes.{write_next_of, write_needs_of, write_answer_of, WriteTakes};
 
 use bl_index_steps::Kind;
@@ -14,7 +16,11 @@ pub struct Writing {
 
 impl Writing {
     /// A write that is to begin.
-    pub fn new(key: u64, write: KeyWrite) -> Writing {
+    pub fn new(key: u64, write: KeyWrite) -> Writing
+        ensures key { result.write.key ≡ key }
+        ensures write { result.write.write ≡ write }
+        ensures stage { result.write.stage ≡ write_stage.New }
+    {
         Writing {
             write: Write {
                 key,
