@@ -2,7 +2,7 @@
 
 use crate::loose::Loose;
 use crate::seat::SeatOfC;
-use bl_model::MOST_PAIRS;
+use bl_model::limits::MOST_PAIRS;
 use bl_seats::{ImageFault, KeyReply, KeyWrite, Next, OpenFault, Reply, Seat, open, open_image};
 use std::alloc::{AllocError, Global};
 use std::mem;
@@ -224,13 +224,11 @@ fn listed(reply: &Reply, rows: &mut [Row], part: &mut Part) {
     let Reply::Rows(pairs, next) = reply else {
         return;
     };
-    let mut count = 0;
+    part.count = pairs.len().min(rows.len()) as u64;
     for (row, pair) in rows.iter_mut().zip(pairs.iter()) {
         row.key = pair.0;
         row.value = pair.1;
-        count += 1;
     }
-    part.count = count;
     match next {
         Next::More(key) => {
             part.next = *key;
@@ -255,7 +253,11 @@ pub extern "C" fn blink_try_rows(
     let Some(mut mine) = taken(alloc, seat) else {
         return CLOSED;
     };
-    let mut near = if part.near == 0 { None } else { Some(part.near) };
+    let mut near = if part.near == 0 {
+        None
+    } else {
+        Some(part.near)
+    };
     let answer = mine.part(from, &mut near);
     put_back(seat, mine);
     match answer {

@@ -10,7 +10,8 @@ mod loose;
 mod seat;
 
 pub use calls::{
-    Part, Row, blink_close, blink_dropped, blink_open, blink_open_image, blink_tend, blink_try_change,
-    blink_try_delete, blink_try_find, blink_try_insert, blink_try_rows, blink_waiting,
+    Part, Row, blink_close, blink_dropped, blink_open, blink_open_image, blink_tend,
+    blink_try_change, blink_try_delete, blink_try_find, blink_try_insert, blink_try_rows,
+    blink_waiting,
 };
 pub use seat::{Hidden, SeatOfC};
