@@ -21,7 +21,7 @@ const PIECES: u32 = 16;
 const LOOKS: u32 = 8;
 
 /// How often in a row it is to be made again at most for want of frames, before it begins all the same.
-const PATIENCE: u32 = 4_096;
+const PATIENCE: u32 = 65_536;
 
 /// One thread's place at an index.
 #[derive(Drop)]
