@@ -1,3 +1,3 @@
-pub mod Turns
 pub mod Writings
 pub mod Stages
+pub mod Ways

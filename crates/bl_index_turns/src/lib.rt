@@ -12,7 +12,7 @@ mod stepping;
 mod sweeping;
 mod writing;
 
-pub use carrying::{Came, go_on};
+pub use carrying::go_on;
 pub use stages::{Stage, advance, begin_hint, begin_lower, begin_write, stands};
 pub use sweeping::sweep;
 pub use writing::Writing;

@@ -1,9 +1,9 @@
 //! What a hand is about between two calls, and how it goes on.
 
-ghost use Rattle.bl_store.specs.Hands.{IsSameHand};
-ghost use Rattle.bl_index_turns.specs.Stages.{IsAtRest, Stands};
+ghost use Rattle.bl_store.specs.Hands.{known, IsSameHand};
+ghost use Rattle.bl_index_turns.specs.Stages.{IsAtRest, Stands, HasAdvanced, IsWriteOf};
 
-use crate::carrying::{Came, go_on};
+use crate::carrying::go_on;
 use crate::writing::Writing;
 use bl_index_rule::PassState;
 use bl_index_steps::Tree;
@@ -31,6 +31,7 @@ pub fn begin_write(tree: &Tree, hand: &mut Hand<PassState>, key: u64, write: Key
     requires { IsAtRest tree.now hand.old }
     ensures same { IsSameHand hand.old.seat hand.new.seat }
     ensures stands { Stands tree.now hand.new result }
+    ensures about { IsWriteOf key write result }
 {
     let mut process = Writing::new(key, write);
     tree.begin(hand, &mut process);
@@ -68,35 +69,52 @@ pub fn begin_lower(tree: &Tree, hand: &mut Hand<PassState>) -> Stage
     Stage::Lowers(process, None)
 }
 
-/// What is underway goes on by so many events at most. Says its answer, where it has ended.
+/// What is underway goes on by so many events at most. Gives its answer, where it has ended.
 pub fn advance(
     tree: &Tree,
     hand: &mut Hand<PassState>,
-    stage: Stage,
+    stage: &mut Stage,
     events: u32,
-) -> (Stage, Option<Answer>)
-    requires { Stands tree.now hand.old stage }
+) -> Option<Answer>
+    requires { Stands tree.now hand.old stage.old }
     ensures same { IsSameHand hand.old.seat hand.new.seat }
-    ensures stands { Stands tree.now hand.new result.0 }
+    ensures stands { Stands tree.now hand.new stage.new }
+    ensures answers { HasAdvanced (known hand.old.seat) (known hand.new.seat) stage.old result }
 {
     match stage {
-        Stage::Rests => (Stage::Rests, None),
-        Stage::Writes(process, held) => match go_on(tree, hand, process, held, events) {
-            Came::Ended(process) => (Stage::Rests, process.answer()),
-            Came::Underway(process, held) => (Stage::Writes(process, held), None),
-        },
-        Stage::Posts(process, held) => match go_on(tree, hand, process, held, events) {
-            Came::Ended(process) => (Stage::Rests, process.answer()),
-            Came::Underway(process, held) => (Stage::Posts(process, held), None),
-        },
-        Stage::Compresses(process, held) => match go_on(tree, hand, process, held, events) {
-            Came::Ended(process) => (Stage::Rests, process.answer()),
-            Came::Underway(process, held) => (Stage::Compresses(process, held), None),
-        },
-        Stage::Lowers(process, held) => match go_on(tree, hand, process, held, events) {
-            Came::Ended(process) => (Stage::Rests, process.answer()),
-            Came::Underway(process, held) => (Stage::Lowers(process, held), None),
-        },
+        Stage::Rests => None,
+        Stage::Writes(process, held) => {
+            if !go_on(tree, hand, process, held, events) {
+                return None;
+            }
+            let answer = process.answer();
+            *stage = Stage::Rests;
+            answer
+        }
+        Stage::Posts(process, held) => {
+            if !go_on(tree, hand, process, held, events) {
+                return None;
+            }
+            let answer = process.answer();
+            *stage = Stage::Rests;
+            answer
+        }
+        Stage::Compresses(process, held) => {
+            if !go_on(tree, hand, process, held, events) {
+                return None;
+            }
+            let answer = process.answer();
+            *stage = Stage::Rests;
+            answer
+        }
+        Stage::Lowers(process, held) => {
+            if !go_on(tree, hand, process, held, events) {
+                return None;
+            }
+            let answer = process.answer();
+            *stage = Stage::Rests;
+            answer
+        }
     }
 }
 

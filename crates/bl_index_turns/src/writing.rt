@@ -1,12 +1,15 @@
 //! A write of one key as a process that goes on in turns.
 
-ghost use Rattle.std.specs.Prelude.{◌≡◌};
+ghost use Rattle.std.specs.Prelude.{◌≡◌, IfSome};
 ghost use Rattle.bl_proc.specs.declared.writing.WriteStage.TheVariants as write_stage;
+ghost use Rattle.bl_index_turns.specs.Ways.{IsOnWay};
 ghost use Rattle.bl_proc.specs.Writes.{write_next_of, write_needs_of, write_answer_of, WriteTakes};
 
 use bl_index_steps::Kind;
 use bl_model::KeyWrite;
+use bl_page::Words;
 use bl_proc::{Action, Answer, Process, Reader, Seen, Write, WriteStage};
+use bl_proc_base::{Approach, took_page};
 
 /// A write of one key, whose process has a value here.
 #[derive(Drop)]
@@ -27,6 +30,19 @@ impl Writing {
                 write,
                 stage: WriteStage::New,
             },
+        }
+    }
+}
+
+impl Writing {
+    /// Where it is to get a page on its way, and holds none.
+    fn way(&self) -> Option<Approach>
+        ensures { IfSome result (λ a. IsOnWay a self.now.write.stage) }
+    {
+        match &self.write.stage {
+            WriteStage::Coming(Approach::Start) => Some(Approach::Start),
+            WriteStage::Coming(Approach::At(at)) => Some(Approach::At(*at)),
+            _ => None,
         }
     }
 }
@@ -57,7 +73,17 @@ impl Process for Writing {
     }
 }
 
-impl Reader for Writing {}
+impl Reader for Writing {
+    // On its way a write makes no page of the words: most of its time would go there.
+    fn took_words<W: Words>(&mut self, source: &W, hand: &mut W::Hand) {
+        let Some(approach) = self.way() else {
+            took_page(self, source, hand);
+            return;
+        };
+        let next = approach.took_words(0, self.write.key, source, hand);
+        self.write.stage = WriteStage::Coming(next);
+    }
+}
 
 impl Kind for Writing {
     ghost use Rattle.std.specs.Prelude.{refl};

@@ -110,8 +110,16 @@ impl Upkeep {
 }
 
 impl Seat {
+    ghost use Rattle.std.specs.Prelude.{◌≡◌, IfSome, true};
+    ghost use Rattle.bl_model.specs.declared.operation.Op.TheVariants as op;
+    ghost use Rattle.bl_model.specs.Replies.{reply_of};
+    ghost use Rattle.bl_model.specs.Writes.{write_op};
+    ghost use Rattle.bl_seats.specs.Calls.{HasToldLast, IsAbout, HasToldIfAbout};
+
     /// The value of a key, or that the key is absent. None: it ran out of turns, or a change is underway; it is to be made again.
-    pub fn find(&mut self, key: u64) -> Option<KeyReply> {
+    pub fn find(&mut self, key: u64) -> Option<KeyReply>
+        ensures { IfSome result (λ reply. ∥ HasToldLast (op.Find key) (reply_of reply) self.new ∥₁) }
+    {
         if !self.is_at_rest() {
             self.go_on();
         }
@@ -128,7 +136,9 @@ impl Seat {
 
     /// Writes a key. None: it is not answered yet, and is to be made again; its process may be underway. Where it is not made again, it
     /// may still take effect, in a later call of the seat.
-    pub fn write(&mut self, key: u64, write: KeyWrite) -> Option<Reply> {
+    pub fn write(&mut self, key: u64, write: KeyWrite) -> Option<Reply>
+        ensures { IfSome result (λ reply. ∥ HasToldLast (write_op key write) reply self.new ∥₁) }
+    {
         if !self.is_writing(key, write) && !self.begin(key, write) {
             return None;
         }
@@ -175,7 +185,9 @@ impl Seat {
     }
 
     /// Whether this very write is underway.
-    fn is_writing(&self, key: u64, write: KeyWrite) -> bool {
+    fn is_writing(&self, key: u64, write: KeyWrite) -> bool
+        ensures { result ≡ true → IsAbout key write self.now }
+    {
         match &self.stage {
             Stage::Writes(process, _) => process.write.key == key && process.write.write == write,
             _ => false,
@@ -183,10 +195,10 @@ impl Seat {
     }
 
     /// What is underway goes on. What it leaves to do waits. Gives its answer, where it has ended.
-    fn go_on(&mut self) -> Option<Answer> {
-        let stage = mem::replace(&mut self.stage, Stage::Rests);
-        let (stage, answer) = go_on(&self.index, &mut self.hand, stage);
-        self.stage = stage;
+    fn go_on(&mut self) -> Option<Answer>
+        ensures { ∥ HasToldIfAbout self.old result self.new ∥₁ }
+    {
+        let answer = go_on(&self.index, &mut self.hand, &mut self.stage);
         if let Some(answer) = &answer {
             self.upkeep.note(answer);
         }
@@ -210,14 +222,14 @@ impl Seat {
     }
 
     /// Looks for room, and begins the write. Says whether it has begun.
-    fn begin(&mut self, key: u64, write: KeyWrite) -> bool {
+    fn begin(&mut self, key: u64, write: KeyWrite) -> bool
+        ensures { result ≡ true → IsAbout key write self.new }
+    {
         self.tend(PIECES);
         if !self.is_at_rest() || !self.has_room() {
             return false;
         }
-        let stage = mem::replace(&mut self.stage, Stage::Rests);
-        self.stage = begin_writing(&self.index, &mut self.hand, stage, key, write);
-        true
+        begin_writing(&self.index, &mut self.hand, &mut self.stage, key, write)
     }
 
     /// Whether a change finds enough frames. It sweeps, so many times at most.

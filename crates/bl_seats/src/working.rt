@@ -1,6 +1,9 @@
 //! What a seat's hand does at its index, by what it is about.
 
-ghost use Rattle.bl_seats.specs.Seats.{IsSeated};
+ghost use Rattle.std.specs.Prelude.{◌≡◌, IfSome, true};
+ghost use Rattle.bl_model.specs.Replies.{reply_of};
+ghost use Rattle.bl_seats.specs.Seats.{IsSeated, HasAnswered, HasFound};
+ghost use Rattle.bl_index_turns.specs.Stages.{IsWriteOf};
 
 use bl_index::{Hint, Index, KeyReply, KeyWrite, Reply};
 use bl_index_read::{find_key, list_part};
@@ -20,7 +23,8 @@ pub(crate) fn find(
     key: u64,
 ) -> Option<KeyReply>
     requires { ∥ IsSeated index.now hand.old stage.now ∥₁ }
-    ensures { IsSeated index.now hand.new stage.now }
+    ensures stands { IsSeated index.now hand.new stage.now }
+    ensures found { IfSome result (λ reply. ∥ HasFound hand.new key (reply_of reply) ∥₁) }
 {
     stands(index.tree(), hand, stage);
     match stage {
@@ -60,33 +64,34 @@ pub(crate) fn release(index: &Index, hand: &mut Hand<PassState>, stage: &Stage) 
 }
 
 /// What is underway goes on. Gives its answer, where it has ended.
-pub(crate) fn go_on(
-    index: &Index,
-    hand: &mut Hand<PassState>,
-    stage: Stage,
-) -> (Stage, Option<Answer>)
-    requires { ∥ IsSeated index.now hand.old stage ∥₁ }
-    ensures { IsSeated index.now hand.new result.0 }
+pub(crate) fn go_on(index: &Index, hand: &mut Hand<PassState>, stage: &mut Stage) -> Option<Answer>
+    requires { ∥ IsSeated index.now hand.old stage.old ∥₁ }
+    ensures stands { IsSeated index.now hand.new stage.new }
+    ensures answers { ∥ HasAnswered hand.new stage.old result ∥₁ }
 {
-    stands(index.tree(), hand, &stage);
+    stands(index.tree(), hand, stage);
     advance(index.tree(), hand, stage, EVENTS)
 }
 
-/// A write begins, unless a process is underway.
+/// A write begins, unless a process is underway. Says whether it has begun.
 pub(crate) fn begin_writing(
     index: &Index,
     hand: &mut Hand<PassState>,
-    stage: Stage,
+    stage: &mut Stage,
     key: u64,
     write: KeyWrite,
-) -> Stage
-    requires { ∥ IsSeated index.now hand.old stage ∥₁ }
-    ensures { IsSeated index.now hand.new result }
+) -> bool
+    requires { ∥ IsSeated index.now hand.old stage.old ∥₁ }
+    ensures stands { IsSeated index.now hand.new stage.new }
+    ensures about { result ≡ true → IsWriteOf key write stage.new }
 {
-    stands(index.tree(), hand, &stage);
+    stands(index.tree(), hand, stage);
     match stage {
-        Stage::Rests => begin_write(index.tree(), hand, key, write),
-        underway => underway,
+        Stage::Rests => {
+            *stage = begin_write(index.tree(), hand, key, write);
+            true
+        }
+        _ => false,
     }
 }
 

@@ -37,31 +37,37 @@ step-requires-clause-going g c = c.loop-event.invariant.going
 pub step-requires-clause-stock : goal.step-requires-clause-stock
 step-requires-clause-stock g c = c.loop-event.invariant.reserved
 
-pub returns-in-AtEnd-clause-ended : goal.returns-in-AtEnd-clause-ended
-returns-in-AtEnd-clause-ended g c =
+pub returns-in-AtEnd-clause-rests : goal.returns-in-AtEnd-clause-rests
+returns-in-AtEnd-clause-rests g c = λ _. (record { idle = search rules; within = c.finish.ensures.within; over = search rules }, search rules)
+
+pub returns-in-AtEnd-clause-done : goal.returns-in-AtEnd-clause-done
+returns-in-AtEnd-clause-done g c = λ _ pass old begun.
     let inv = c.loop-event.invariant in
     let after = c.in-AtEnd.ensures.after in
-    let finish = c.finish.ensures in (
-      record { idle = search rules; within = finish.within; over = search rules },
-      search rules,
-      λ pass old begun.
-          let since = subst (λ (z : PassState). IsSince pass old z) (sym after.2) (inv.since pass old begun) in
-          record {
-            d = known c.step.new.hand.seat;
-            before = g.P.Kind.proc_of c.step.new.process;
-            since = since;
-            state = ap (λ (z : PassState). z.state) after.2 ∙ (inv.process.state ∙ sym after.1);
-            at_end = ap next_of after.1 ∙ after.0;
-            observed = finish.observed;
-            takes = g.met.P.Kind.goes _ _ _ finish.takes;
-            op = ap op_of after.1 ∙ inv.op;
-            work = ap work_of after.1 ∙ inv.work;
-            log = subst (λ (z : ℕ × ℕ). proc_log (g.P.Kind.proc_of c.finish.new.process) (marks_of (name z.0 z.1) (known c.finish.new.hand.seat).trail)) (λ i. (since.named i, since.number i)) finish.log;
-            tidy = subst (λ (z : ℕ × ℕ). IsTidy (g.P.Kind.proc_of c.finish.new.process) (marks_of (name z.0 z.1) (known c.finish.new.hand.seat).trail)) (λ i. (since.named i, since.number i)) finish.tidy;
-          },
-    )
+    let finish = c.finish.ensures in
+    let since = subst (λ (z : PassState). IsSince pass old z) (sym after.2) (inv.since pass old begun) in
+    record {
+      d = known c.step.new.hand.seat;
+      before = g.P.Kind.proc_of c.step.new.process;
+      since = since;
+      state = ap (λ (z : PassState). z.state) after.2 ∙ (inv.process.state ∙ sym after.1);
+      at_end = ap next_of after.1 ∙ after.0;
+      observed = finish.observed;
+      takes = g.met.P.Kind.goes _ _ _ finish.takes;
+      op = ap op_of after.1 ∙ inv.op;
+      work = ap work_of after.1 ∙ inv.work;
+      log = subst (λ (z : ℕ × ℕ). proc_log (g.P.Kind.proc_of c.finish.new.process) (marks_of (name z.0 z.1) (known c.finish.new.hand.seat).trail)) (λ i. (since.named i, since.number i)) finish.log;
+      tidy = subst (λ (z : ℕ × ℕ). IsTidy (g.P.Kind.proc_of c.finish.new.process) (marks_of (name z.0 z.1) (known c.finish.new.hand.seat).trail)) (λ i. (since.named i, since.number i)) finish.tidy;
+    }
 
-pub returns-clause-underway : goal.returns-clause-underway
-returns-clause-underway g c =
-    let inv = c.loop-event.invariant in
-    (record { own = search rules; running = inv.running; on = inv.process }, inv.going, inv.reserved, inv.since, inv.op, inv.work)
+pub returns-clause-runs : goal.returns-clause-runs
+returns-clause-runs g c = let inv = c.loop-event.invariant in λ _. (record { own = search rules; running = inv.running; on = inv.process }, inv.reserved)
+
+pub returns-clause-going : goal.returns-clause-going
+returns-clause-going g c = λ _. c.loop-event.invariant.going
+
+pub returns-clause-since : goal.returns-clause-since
+returns-clause-since g c = λ _. c.loop-event.invariant.since
+
+pub returns-clause-work : goal.returns-clause-work
+returns-clause-work g c = let inv = c.loop-event.invariant in λ _. (inv.op, inv.work)

@@ -14,5 +14,5 @@ invariant-loop-event g l = record {
   going : (g.P.Process.answer_of l.process ≡ None) × (g.P.Process.next_of l.process ≢ act.Begin);
   op : op_of (g.P.Kind.proc_of l.process) ≡ op_of (g.P.Kind.proc_of l.fn.process);
   work : work_of (g.P.Kind.proc_of l.process) ≡ work_of (g.P.Kind.proc_of l.fn.process);
-  reserved : HasReserved l.hand.seat l.held (g.P.Kind.proc_of l.process);
+  reserved : HasReserved l.hand.seat l.stock (g.P.Kind.proc_of l.process);
 }
