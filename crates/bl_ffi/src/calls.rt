@@ -1,5 +1,11 @@
 //! The calls.
 
+ghost use Rattle.std.specs.Prelude.{◌≡◌, Some};
+ghost use Rattle.bl_model.specs.declared.operation.Op.TheVariants as op;
+ghost use Rattle.bl_model.specs.Replies.{reply_of};
+ghost use Rattle.bl_model.specs.Writes.{write_op};
+ghost use Rattle.bl_ffi.specs.Told.{IsCodeOf, Tells};
+
 use crate::loose::Loose;
 use crate::seat::SeatOfC;
 use bl_model::limits::MOST_PAIRS;
@@ -45,35 +51,48 @@ fn taken(alloc: Global, seat: &mut SeatOfC) -> Option<Box<Seat, Global>> {
 }
 
 /// Puts a seat's box into a place that has none.
-fn put_back(place: &mut SeatOfC, seat: Box<Seat, Global>) {
+fn put_back(place: &mut SeatOfC, seat: Box<Seat, Global>)
+    ensures { place.new.seat ≡ Some seat.value }
+{
     *place = SeatOfC::of(Loose::of(seat));
 }
 
 /// The code of a reply to a write, and the value that stands beside it.
-fn told(reply: Reply, value: &mut u64) -> i32 {
+fn told(reply: Reply, value: &mut u64) -> i32
+    ensures { IsCodeOf reply result value.new }
+{
     match reply {
         Reply::Inserted | Reply::Changed => OK,
-        Reply::Deleted(gone) => {
-            *value = gone;
+        Reply::Found(there) | Reply::Deleted(there) => {
+            *value = there;
             OK
         }
         Reply::Present(there) | Reply::Differs(there) => {
             *value = there;
             PRESENT
         }
+        Reply::Absent => ABSENT,
         Reply::NoRoom => NO_ROOM,
-        _ => ABSENT,
+        Reply::Rows(_, _) => AGAIN,
     }
 }
 
-/// The code of a search, and the value that it found.
-fn found(reply: KeyReply, value: &mut u64) -> i32 {
+/// The same of a search.
+fn found(reply: KeyReply, value: &mut u64) -> i32
+    ensures { IsCodeOf (reply_of reply) result value.new }
+{
     match reply {
-        KeyReply::Found(there) => {
+        KeyReply::Inserted | KeyReply::Changed => OK,
+        KeyReply::Found(there) | KeyReply::Deleted(there) => {
             *value = there;
             OK
         }
-        _ => ABSENT,
+        KeyReply::Present(there) | KeyReply::Differs(there) => {
+            *value = there;
+            PRESENT
+        }
+        KeyReply::Absent => ABSENT,
+        KeyReply::NoRoom => NO_ROOM,
     }
 }
 
@@ -144,7 +163,9 @@ pub extern "C" fn blink_try_find(
     seat: &mut SeatOfC,
     key: u64,
     value: &mut u64,
-) -> i32 {
+) -> i32
+    ensures { Tells (op.Find key) seat.new result value.new }
+{
     let Some(mut mine) = taken(alloc, seat) else {
         return CLOSED;
     };
@@ -157,7 +178,9 @@ pub extern "C" fn blink_try_find(
 }
 
 /// Writes a key, and puts the value beside the reply.
-fn write(alloc: Global, seat: &mut SeatOfC, key: u64, write: KeyWrite, value: &mut u64) -> i32 {
+fn write(alloc: Global, seat: &mut SeatOfC, key: u64, write: KeyWrite, value: &mut u64) -> i32
+    ensures { Tells (write_op key write) seat.new result value.new }
+{
     let Some(mut mine) = taken(alloc, seat) else {
         return CLOSED;
     };
@@ -177,7 +200,9 @@ pub extern "C" fn blink_try_insert(
     key: u64,
     value: u64,
     there: &mut u64,
-) -> i32 {
+) -> i32
+    ensures { Tells (op.Insert key value) seat.new result there.new }
+{
     write(alloc, seat, key, KeyWrite::Insert(value), there)
 }
 
@@ -188,7 +213,9 @@ pub extern "C" fn blink_try_delete(
     seat: &mut SeatOfC,
     key: u64,
     gone: &mut u64,
-) -> i32 {
+) -> i32
+    ensures { Tells (op.Delete key) seat.new result gone.new }
+{
     write(alloc, seat, key, KeyWrite::Delete, gone)
 }
 
@@ -201,7 +228,9 @@ pub extern "C" fn blink_try_change(
     old: u64,
     new: u64,
     there: &mut u64,
-) -> i32 {
+) -> i32
+    ensures { Tells (op.Change key old new) seat.new result there.new }
+{
     write(alloc, seat, key, KeyWrite::Change(old, new), there)
 }
 

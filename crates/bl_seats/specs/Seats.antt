@@ -1,6 +1,5 @@
 -- Who sits at an index, and what a seat's calls have answered.
-use Rattle.std.specs.Prelude.{◌≡◌, ℕ, Option, Some, None}
-use Rattle.bl_model.specs.declared.deciding.KeyWrite.{KeyWrite}
+use Rattle.std.specs.Prelude.{ℕ, Option, Some}
 use Rattle.bl_model.specs.declared.operation.Op.{Op}
 use Rattle.bl_model.specs.declared.operation.Op.TheVariants as op
 use Rattle.bl_model.specs.declared.operation.Reply.{Reply}

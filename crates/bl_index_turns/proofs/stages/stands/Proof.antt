@@ -1,10 +1,9 @@
 -- What is known to be so, though not how, is so: each clause is a proposition.
-use Rattle.std.proofs.Common.{◌≡◌, List, [], ◌∷◌, refl}
+use Rattle.std.proofs.Common.{[], ◌∷◌, refl}
 use mathlib.Core.Logic.{∥∥₁_elim}
 use mir.Syntax.{named}
 use mir.Val.{vunit}
 use base.Logic.{ent, id⊢}
-use base.Fml.{ftrue}
 use types.Kit.{‵, raw, ◌⊛◌, ◌$◌, ◌∵◌, !, qed, by, keep, split, use1, move, fjoin, feq_i}
 use types.Run.{of_opd, unit_lit, returns, enter}
 use types.ByLocal.{alloc_all, pass_all, free_all, look_at, sets}

@@ -1,4 +1,4 @@
-use Rattle.std.proofs.Common.{rules, sym, subst}
+use Rattle.std.proofs.Common.{sym, subst}
 use Rattle.std.specs.Arc.{arc_value}
 use Rattle.bl_store.specs.declared.store.Hand.{Hand}
 use Rattle.bl_index_rule.specs.declared.known.PassState.{PassState}
