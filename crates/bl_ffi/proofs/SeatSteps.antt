@@ -13,7 +13,7 @@ use Rattle.std.specs.Borrow.{full_share}
 use Rattle.std.proofs.GlobalToken.{dealloc_token-Testable}
 use Rattle.std.specs.declared.alloc.Global.{Global}
 use types.Kit.{Item, Goal, Seq, Step, step, ‵, ◌$◌, given, use1, learn, drop, fsplit, fjoin, fpick, fpack, feq_i, feq_l}
-use denote.RattleType.{RattleType, Valss}
+use denote.RattleType.{Valss}
 use denote.Builtin.{RawPtr}
 use denote.RawPtr.{Ptr, block_ptr, null_ptr, ptr_val, in_a_block, Testable}
 use denote.Steps.{nothing}

@@ -1,20 +1,17 @@
 -- `empty` owns nothing: its pointer is null.
-use Rattle.std.proofs.Common.{◌≡◌, List, [], ◌∷◌, refl, lit<}
-use mir.Val.{Val, vnull}
+use Rattle.std.proofs.Common.{◌≡◌, [], ◌∷◌, refl, lit<}
+use mir.Val.{vnull}
 use base.Logic.{emp}
-use base.Fml.{ftrue}
-use types.Kit.{‵, raw, ◌⊛◌, ◌$◌, ◌∵◌, !, qed, by, move, keep, join, split, use0, feq_i}
+use types.Kit.{‵, raw, ◌⊛◌, ◌$◌, ◌∵◌, !, qed, by, keep, split, use0, feq_i}
 use types.Run.{lit, no_more, and_then, returns, enter}
 use types.ByLocal.{alloc_all, pass_all, free_all, look_at, sets}
 use types.Part.{agg}
 use contract.Monad.{fact, fact_i}
-use contract.Running.{tables}
 use denote.RattleType.{owns}
 use denote.Signature.{types_at}
 use denote.RawPtr.{Ptr, null_ptr}
-use denote.Steps.{nothing}
 use denote.Triple.Entry.{alive}
-use denote.Triple.Walked.{Stays, walk_of}
+use denote.Triple.Walked.{Stays}
 use Rattle.std.specs.Prelude.{Option, None}
 use Rattle.std.proofs.raw_atomic.Walks.{proved_at, leaves}
 use Rattle.bl_ffi.proofs.SeatSteps.{word, held_in}

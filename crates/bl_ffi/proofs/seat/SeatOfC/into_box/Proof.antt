@@ -1,15 +1,14 @@
 -- `into_box` makes the box again, where there is one.
 use Rattle.std.proofs.Common.{◌≡◌, List, [], ◌∷◌, ◌++◌, refl, sym, ap, ◌∙◌, subst, lit<}
-use mir.Syntax.{a_type, impl, tcons, tnil, dnil}
+use mir.Syntax.{impl, tcons, tnil, dnil}
 use mir.Val.{Val, vptr, vnull, vcons, vnil}
-use base.Logic.{SProp, ent, emp, never, id⊢, fst∗}
+use base.Logic.{SProp, ent, emp, id⊢}
 use base.Fraction.{full_share}
-use base.Fml.{ftrue, fsep, flft}
+use base.Fml.{ftrue, flft}
 use prog.Wp.{WpFn}
-use types.Logic.{sem}
-use types.Kit.{at_ret, feq_i, ‵, raw, ◌⊛◌, some, later, ◌$◌, ◌∵◌, !, qed, by, move, keep, drop, split, split3, join, fsplit, fjoin, pick, suffices, use0, use1, await, rewrite, feq_l}
+use types.Kit.{at_ret, feq_i, ‵, raw, ◌⊛◌, some, later, ◌$◌, ◌∵◌, !, qed, by, move, keep, drop, split, join, fsplit, fjoin, pick, suffices, use0, use1, await, rewrite}
 use types.Run.{stop, fld, lit, bin, first, branches, skips, blocks, exec, returns_within, of_opd, no_more, and_then, returns, enter}
-use types.ByLocal.{get_in, lands_last, env, alloc_all, pass_all, free_all, look_at, get, sets, lands_as}
+use types.ByLocal.{get_in, lands_last, env, alloc_all, pass_all, free_all, look_at, get, sets}
 use types.Part.{agg, sub, whole}
 use contract.Monad.{fact, fact_i}
 use contract.BorrowLft.{◌⊑◌}
@@ -17,8 +16,7 @@ use contract.Running.{tables}
 use denote.Exit.{no, yes}
 use denote.RattleType.{RattleType, owns}
 use denote.Signature.{types_at, plain}
-use denote.Builtin.{RawPtr}
-use denote.RawPtr.{tests_null, Ptr, block_ptr, null_ptr, ptr_val, in_a_block}
+use denote.RawPtr.{tests_null, Ptr, block_ptr, ptr_val}
 use denote.Steps.{nothing, only, heard}
 use mir.Raw.{raw as bare}
 use denote.Param.{arg, layout}
@@ -29,7 +27,7 @@ use denote.Triple.Spec.{triple_of}
 use denote.Triple.Call.{calls_at_last}
 use denote.Triple.Table.{framed}
 use denote.Triple.Walked.{Stays, stay_dropped, walk_of, Goes-dropped}
-use Rattle.std.specs.Prelude.{Option, None, Some}
+use Rattle.std.specs.Prelude.{None, Some}
 use Rattle.std.specs.contracts.option.Option as option
 use types.Match.{live}
 use Rattle.core.proofs.alloc.Calls.{handle_tells}
@@ -39,7 +37,6 @@ use Rattle.std_alloc.proofs.ResultValues.{and_tt}
 use Rattle.core.proofs.cell.Inside.{Good}
 use Rattle.bl_ffi.specs.contracts.seat.SeatOfC as held
 use denote.Triple.Clauses.{Lasts, lasts}
-use Rattle.std.specs.Box.Ownership.{box_owns}
 use Rattle.std_alloc.proofs.BoxSteps.Form as box
 use Rattle.std_alloc.proofs.BoxSteps.Steps.{box_out, box_in}
 use Rattle.std.proofs.raw_atomic.Walks.{proved_at, leaves}
@@ -50,8 +47,6 @@ use Rattle.std.specs.contracts.impls.GlobalAllocator.TheImpl.{ghosts, dict}
 use Rattle.std.proofs.impls.GlobalAllocator.TheImpl.Met.{passed}
 use Rattle.std.specs.contracts.boxed.Box.from_raw as callee
 use Rattle.std.proofs.boxed.Box.from_raw.Met.{met}
-use Rattle.libc.specs.Heap.{chunk}
-use Rattle.bl_ffi.specs.Owned.{owned}
 use Rattle.bl_ffi.proofs.SeatSteps.{word, held_out, either}
 use Rattle.bl_seats.specs.contracts.seat.Seat as seat
 use Rattle.bl_seats.proofs.seat.Seat.TheLaws as seat_laws
