@@ -3,7 +3,6 @@
 ghost use Rattle.std.specs.Prelude.{◌≡◌, Option, None, Some};
 ghost use Rattle.std.specs.Option.{MatchOption};
 ghost use Rattle.std.specs.Coded.{coded_option};
-ghost use Rattle.libc.specs.Heap.{chunk};
 ghost use Rattle.bl_seats.specs.declared.seat.Seat.{Seat};
 ghost use Rattle.bl_seats.specs.contracts.seat.Seat.{the_row as seat_row};
 ghost use Rattle.bl_ffi.specs.Owned.{owned};
@@ -31,7 +30,7 @@ pub struct SeatOfC {
 }
 
 impl Model for SeatOfC {
-    ghost also_owns = { λ c. owned chunk seat_row c.at c.seat };
+    ghost also_owns = { λ c. owned seat_row c.at c.seat };
 }
 
 impl SeatOfC {
