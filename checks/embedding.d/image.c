@@ -8,7 +8,7 @@
 int main(int count, char **words) {
     blink_seat seats[2] = {BLINK_SEAT_INIT, BLINK_SEAT_INIT};
     blink_row rows[100];
-    static uint8_t bytes[1 << 24];
+    static uint8_t bytes[1 << 25];
     size_t length, found = 0;
     uint64_t from = 0, all = 0, sum = 0;
     bool more = true;
