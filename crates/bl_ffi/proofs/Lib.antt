@@ -1,0 +1,2 @@
+pub mod SeatSteps
+pub mod LooseSteps

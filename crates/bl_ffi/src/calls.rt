@@ -1,0 +1,334 @@
+//! The calls.
+
+ghost use Rattle.std.specs.Prelude.{◌≡◌, Some};
+ghost use Rattle.bl_model.specs.declared.operation.Op.TheVariants as op;
+ghost use Rattle.bl_model.specs.Replies.{reply_of};
+ghost use Rattle.bl_model.specs.Writes.{write_op};
+ghost use Rattle.bl_ffi.specs.Told.{IsCodeOf, Tells};
+
+use crate::loose::Loose;
+use crate::seat::SeatOfC;
+use bl_model::limits::MOST_PAIRS;
+use bl_seats::{ImageFault, KeyReply, KeyWrite, Next, OpenFault, Reply, Seat, open, open_image};
+use std::alloc::{AllocError, Global};
+use std::mem;
+
+/// Done.
+const OK: i32 = 0;
+/// The key is absent.
+const ABSENT: i32 = 1;
+/// The key is there with another value, and keeps it.
+const PRESENT: i32 = 2;
+/// There was no room, and nothing has changed.
+const NO_ROOM: i32 = 3;
+/// It is not answered yet, and is to be made again.
+const AGAIN: i32 = 4;
+/// The number of pages is not 4 to 65,536.
+const BAD_PAGES: i32 = 5;
+/// The number of seats is not 1 to 64.
+const BAD_SEATS: i32 = 6;
+/// There was no memory.
+const NO_MEMORY: i32 = 7;
+/// The bytes are no sound image.
+const BAD_IMAGE: i32 = 8;
+/// The seat is closed.
+const CLOSED: i32 = 9;
+/// There is room for fewer than 14 rows.
+const FEW_ROWS: i32 = 10;
+
+/// A key and its value.
+#[repr(C)]
+#[derive(Clone, Copy)]
+pub struct Row {
+    pub key: u64,
+    pub value: u64,
+}
+
+/// Takes the seat's box, and leaves a closed seat.
+fn taken(alloc: Global, seat: &mut SeatOfC) -> Option<Box<Seat, Global>> {
+    let held = mem::replace(seat, SeatOfC::empty());
+    held.into_box(alloc)
+}
+
+/// Puts a seat's box into a place that has none.
+fn put_back(place: &mut SeatOfC, seat: Box<Seat, Global>)
+    ensures { place.new.seat ≡ Some seat.value }
+{
+    *place = SeatOfC::of(Loose::of(seat));
+}
+
+/// The code of a reply to a write, and the value that stands beside it.
+fn told(reply: Reply, value: &mut u64) -> i32
+    ensures { IsCodeOf reply result value.new }
+{
+    match reply {
+        Reply::Inserted | Reply::Changed => OK,
+        Reply::Found(there) | Reply::Deleted(there) => {
+            *value = there;
+            OK
+        }
+        Reply::Present(there) | Reply::Differs(there) => {
+            *value = there;
+            PRESENT
+        }
+        Reply::Absent => ABSENT,
+        Reply::NoRoom => NO_ROOM,
+        Reply::Rows(_, _) => AGAIN,
+    }
+}
+
+/// The same of a search.
+fn found(reply: KeyReply, value: &mut u64) -> i32
+    ensures { IsCodeOf (reply_of reply) result value.new }
+{
+    match reply {
+        KeyReply::Inserted | KeyReply::Changed => OK,
+        KeyReply::Found(there) | KeyReply::Deleted(there) => {
+            *value = there;
+            OK
+        }
+        KeyReply::Present(there) | KeyReply::Differs(there) => {
+            *value = there;
+            PRESENT
+        }
+        KeyReply::Absent => ABSENT,
+        KeyReply::NoRoom => NO_ROOM,
+    }
+}
+
+/// Boxes for the seats, before any is handed out.
+fn boxed(alloc: Global, seats: Vec<Seat>) -> Result<Vec<Box<Seat, Global>>, AllocError> {
+    let mut boxes = Vec::with_capacity(alloc, seats.len())?;
+    for seat in seats {
+        match Box::new(alloc, seat) {
+            Ok(seat) => boxes.push(seat)?,
+            Err(_) => return Err(AllocError),
+        }
+    }
+    Ok(boxes)
+}
+
+/// Hands the seats out. A place that has one already has that closed.
+fn hand_out(alloc: Global, seats: Vec<Seat>, places: &mut [SeatOfC]) -> i32 {
+    let Ok(mut boxes) = boxed(alloc, seats) else {
+        return NO_MEMORY;
+    };
+    for place in places.iter_mut() {
+        let _ = taken(alloc, place);
+        if let Some(seat) = boxes.pop() {
+            put_back(place, seat);
+        }
+    }
+    OK
+}
+
+/// Opens an index without rows, with a seat for each place.
+#[unsafe(no_mangle)]
+pub extern "C" fn blink_open(alloc: Global, pages: u32, seats: &mut [SeatOfC]) -> i32 {
+    if seats.len() > 64 {
+        return BAD_SEATS;
+    }
+    match open(alloc, pages, seats.len() as u32) {
+        Ok(opened) => hand_out(alloc, opened, seats),
+        Err(OpenFault::Pages) => BAD_PAGES,
+        Err(OpenFault::Passes) => BAD_SEATS,
+        Err(OpenFault::Memory) => NO_MEMORY,
+    }
+}
+
+/// Opens an index with the rows of an image, with a seat for each place.
+#[unsafe(no_mangle)]
+pub extern "C" fn blink_open_image(alloc: Global, bytes: &[u8], seats: &mut [SeatOfC]) -> i32 {
+    if seats.len() > 64 {
+        return BAD_SEATS;
+    }
+    match open_image(alloc, bytes, seats.len() as u32) {
+        Ok(opened) => hand_out(alloc, opened, seats),
+        Err(ImageFault::Image) => BAD_IMAGE,
+        Err(ImageFault::Seats) => BAD_SEATS,
+        Err(ImageFault::Memory) => NO_MEMORY,
+    }
+}
+
+/// Closes the seat. The index goes with its last seat.
+#[unsafe(no_mangle)]
+pub extern "C" fn blink_close(alloc: Global, seat: &mut SeatOfC) {
+    let _ = taken(alloc, seat);
+}
+
+/// The value of a key.
+#[unsafe(no_mangle)]
+pub extern "C" fn blink_try_find(
+    alloc: Global,
+    seat: &mut SeatOfC,
+    key: u64,
+    value: &mut u64,
+) -> i32
+    ensures { Tells (op.Find key) seat.new result value.new }
+{
+    let Some(mut mine) = taken(alloc, seat) else {
+        return CLOSED;
+    };
+    let answer = mine.find(key);
+    put_back(seat, mine);
+    match answer {
+        Some(reply) => found(reply, value),
+        None => AGAIN,
+    }
+}
+
+/// Writes a key, and puts the value beside the reply.
+fn write(alloc: Global, seat: &mut SeatOfC, key: u64, write: KeyWrite, value: &mut u64) -> i32
+    ensures { Tells (write_op key write) seat.new result value.new }
+{
+    let Some(mut mine) = taken(alloc, seat) else {
+        return CLOSED;
+    };
+    let answer = mine.write(key, write);
+    put_back(seat, mine);
+    match answer {
+        Some(reply) => told(reply, value),
+        None => AGAIN,
+    }
+}
+
+/// Inserts the value if the key is absent.
+#[unsafe(no_mangle)]
+pub extern "C" fn blink_try_insert(
+    alloc: Global,
+    seat: &mut SeatOfC,
+    key: u64,
+    value: u64,
+    there: &mut u64,
+) -> i32
+    ensures { Tells (op.Insert key value) seat.new result there.new }
+{
+    write(alloc, seat, key, KeyWrite::Insert(value), there)
+}
+
+/// Takes the key and its value away.
+#[unsafe(no_mangle)]
+pub extern "C" fn blink_try_delete(
+    alloc: Global,
+    seat: &mut SeatOfC,
+    key: u64,
+    gone: &mut u64,
+) -> i32
+    ensures { Tells (op.Delete key) seat.new result gone.new }
+{
+    write(alloc, seat, key, KeyWrite::Delete, gone)
+}
+
+/// Puts the new value at a key that has the old one.
+#[unsafe(no_mangle)]
+pub extern "C" fn blink_try_change(
+    alloc: Global,
+    seat: &mut SeatOfC,
+    key: u64,
+    old: u64,
+    new: u64,
+    there: &mut u64,
+) -> i32
+    ensures { Tells (op.Change key old new) seat.new result there.new }
+{
+    write(alloc, seat, key, KeyWrite::Change(old, new), there)
+}
+
+/// How far a part of the rows goes.
+#[repr(C)]
+#[derive(Clone, Copy)]
+pub struct Part {
+    /// How many rows it has.
+    pub count: u64,
+    /// The key from which the rows go on.
+    pub next: u64,
+    /// Whether they go on.
+    pub more: bool,
+    /// The page from which the way to the next part is short.
+    pub near: u32,
+}
+
+/// Writes the rows of a reply into the caller's array.
+fn listed(reply: &Reply, rows: &mut [Row], part: &mut Part) {
+    let Reply::Rows(pairs, next) = reply else {
+        return;
+    };
+    part.count = pairs.len().min(rows.len()) as u64;
+    for (row, pair) in rows.iter_mut().zip(pairs.iter()) {
+        row.key = pair.0;
+        row.value = pair.1;
+    }
+    match next {
+        Next::More(key) => {
+            part.next = *key;
+            part.more = true;
+        }
+        Next::End => part.more = false,
+    }
+}
+
+/// The rows of one leaf from a key on, 14 at most, into the caller's array.
+#[unsafe(no_mangle)]
+pub extern "C" fn blink_try_rows(
+    alloc: Global,
+    seat: &mut SeatOfC,
+    from: u64,
+    rows: &mut [Row],
+    part: &mut Part,
+) -> i32 {
+    if rows.len() < MOST_PAIRS {
+        return FEW_ROWS;
+    }
+    let Some(mut mine) = taken(alloc, seat) else {
+        return CLOSED;
+    };
+    let mut near = if part.near == 0 {
+        None
+    } else {
+        Some(part.near)
+    };
+    let answer = mine.part(from, &mut near);
+    put_back(seat, mine);
+    match answer {
+        Some(reply) => {
+            listed(&reply, rows, part);
+            part.near = near.unwrap_or(0);
+            OK
+        }
+        None => AGAIN,
+    }
+}
+
+/// Does so many pieces of upkeep at most.
+#[unsafe(no_mangle)]
+pub extern "C" fn blink_tend(alloc: Global, seat: &mut SeatOfC, most: u32) -> i32 {
+    let Some(mut mine) = taken(alloc, seat) else {
+        return CLOSED;
+    };
+    let done = mine.tend(most);
+    mine.sweep();
+    put_back(seat, mine);
+    if done { OK } else { AGAIN }
+}
+
+/// How many pieces of upkeep wait.
+#[unsafe(no_mangle)]
+pub extern "C" fn blink_waiting(alloc: Global, seat: &mut SeatOfC) -> u32 {
+    let Some(mine) = taken(alloc, seat) else {
+        return 0;
+    };
+    let waiting = mine.waiting();
+    put_back(seat, mine);
+    waiting
+}
+
+/// How many pieces of upkeep were dropped.
+#[unsafe(no_mangle)]
+pub extern "C" fn blink_dropped(alloc: Global, seat: &mut SeatOfC) -> u64 {
+    let Some(mine) = taken(alloc, seat) else {
+        return 0;
+    };
+    let dropped = mine.dropped();
+    put_back(seat, mine);
+    dropped
+}

@@ -1,0 +1,17 @@
+//! The index for C: `blink.h` declares these functions, and says line by line what each does and what its caller has to keep.
+//!
+//! Proved is each function up to the C boundary: whatever a caller does that keeps what the header lists, no call reads or writes memory
+//! that is not its own, and none ends in a fault or runs without end. What C keeps of a seat is a pointer that owns the seat's box, or is null: the
+//! three conversions between the two are proved by hand, in `proofs/seat`.
+#![tactic(auto)]
+
+mod calls;
+mod loose;
+mod seat;
+
+pub use calls::{
+    Part, Row, blink_close, blink_dropped, blink_open, blink_open_image, blink_tend,
+    blink_try_change, blink_try_delete, blink_try_find, blink_try_insert, blink_try_rows,
+    blink_waiting,
+};
+pub use seat::{Hidden, SeatOfC};

@@ -1,0 +1,73 @@
+use Rattle.std.proofs.Common.{ℕ, rules, sym, ap, ◌∙◌, subst}
+use Rattle.bl_claims.specs.Trails.{marks_of}
+use Rattle.bl_proc_bounds.specs.Latches.{IsTidy}
+use Rattle.bl_proc_invariant.specs.Logs.{proc_log}
+use Rattle.bl_proc.specs.Processes.{next_of}
+use Rattle.bl_proc_unique.specs.Frames.{op_of, work_of}
+use Rattle.bl_store.specs.Hands.{known}
+use Rattle.bl_index_rule.specs.declared.known.PassState.{PassState}
+use Rattle.bl_claims.specs.Seeing.{name}
+use Rattle.bl_index_steps.specs.Runs.{IsSince}
+use Rattle.bl_index_steps.proofs.Calls.{since_step}
+use Rattle.bl_index_turns.proofs.carrying.go_on.Goals as goal
+
+pub loop-event-preserved : goal.loop-event-preserved
+loop-event-preserved g c =
+    let laws = g.met.P.Kind in
+    let inv = c.loop-event.invariant in
+    let after = c.in-On.ensures.after in
+    let follows = after.3.1 in
+    record {
+      same = search rules;
+      running = search rules;
+      process = after.0;
+      since = λ pass old begun. since_step _ _ _ _ _ (inv.since pass old begun) after.1.1.steps;
+      going = (sym (laws.answers c.step.new.process) ∙ follows.running after.4, λ e. follows.begun (laws.acts c.step.new.process ∙ e));
+      op = follows.op ∙ inv.op;
+      work = follows.work ∙ inv.work;
+      reserved = after.2;
+    }
+
+pub step-requires-clause-runs : goal.step-requires-clause-runs
+step-requires-clause-runs g c = record { own = search rules; running = c.loop-event.invariant.running; on = c.loop-event.invariant.process }
+
+pub step-requires-clause-going : goal.step-requires-clause-going
+step-requires-clause-going g c = c.loop-event.invariant.going
+
+pub step-requires-clause-stock : goal.step-requires-clause-stock
+step-requires-clause-stock g c = c.loop-event.invariant.reserved
+
+pub returns-in-AtEnd-clause-rests : goal.returns-in-AtEnd-clause-rests
+returns-in-AtEnd-clause-rests g c = λ _. (record { idle = search rules; within = c.finish.ensures.within; over = search rules }, search rules)
+
+pub returns-in-AtEnd-clause-done : goal.returns-in-AtEnd-clause-done
+returns-in-AtEnd-clause-done g c = λ _ pass old begun.
+    let inv = c.loop-event.invariant in
+    let after = c.in-AtEnd.ensures.after in
+    let finish = c.finish.ensures in
+    let since = subst (λ (z : PassState). IsSince pass old z) (sym after.2) (inv.since pass old begun) in
+    record {
+      d = known c.step.new.hand.seat;
+      before = g.P.Kind.proc_of c.step.new.process;
+      since = since;
+      state = ap (λ (z : PassState). z.state) after.2 ∙ (inv.process.state ∙ sym after.1);
+      at_end = ap next_of after.1 ∙ after.0;
+      observed = finish.observed;
+      takes = g.met.P.Kind.goes _ _ _ finish.takes;
+      op = ap op_of after.1 ∙ inv.op;
+      work = ap work_of after.1 ∙ inv.work;
+      log = subst (λ (z : ℕ × ℕ). proc_log (g.P.Kind.proc_of c.finish.new.process) (marks_of (name z.0 z.1) (known c.finish.new.hand.seat).trail)) (λ i. (since.named i, since.number i)) finish.log;
+      tidy = subst (λ (z : ℕ × ℕ). IsTidy (g.P.Kind.proc_of c.finish.new.process) (marks_of (name z.0 z.1) (known c.finish.new.hand.seat).trail)) (λ i. (since.named i, since.number i)) finish.tidy;
+    }
+
+pub returns-clause-runs : goal.returns-clause-runs
+returns-clause-runs g c = let inv = c.loop-event.invariant in λ _. (record { own = search rules; running = inv.running; on = inv.process }, inv.reserved)
+
+pub returns-clause-going : goal.returns-clause-going
+returns-clause-going g c = λ _. c.loop-event.invariant.going
+
+pub returns-clause-since : goal.returns-clause-since
+returns-clause-since g c = λ _. c.loop-event.invariant.since
+
+pub returns-clause-work : goal.returns-clause-work
+returns-clause-work g c = let inv = c.loop-event.invariant in λ _. (inv.op, inv.work)

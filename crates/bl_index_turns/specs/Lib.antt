@@ -1,0 +1,3 @@
+pub mod Writings
+pub mod Stages
+pub mod Ways

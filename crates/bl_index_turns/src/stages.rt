@@ -1,0 +1,125 @@
+//! What a hand is about between two calls, and how it goes on.
+
+ghost use Rattle.bl_store.specs.Hands.{known, IsSameHand};
+ghost use Rattle.bl_index_turns.specs.Stages.{IsAtRest, Stands, HasAdvanced, IsWriteOf};
+
+use crate::carrying::go_on;
+use crate::writing::Writing;
+use bl_index_rule::PassState;
+use bl_index_steps::Tree;
+use bl_model::KeyWrite;
+use bl_proc::{Answer, Compress, Hint, Lower, Post, Process};
+use bl_store::{Hand, Stock};
+
+/// What a hand is about: it runs no process, or one that is underway, with what it has reserved.
+#[derive(Drop)]
+pub enum Stage {
+    /// It runs none.
+    Rests,
+    /// A write of one key.
+    Writes(Writing, Option<Stock>),
+    /// A post.
+    Posts(Post, Option<Stock>),
+    /// A compression.
+    Compresses(Compress, Option<Stock>),
+    /// A lowering.
+    Lowers(Lower, Option<Stock>),
+}
+
+/// A hand that rests begins a write of the key.
+pub fn begin_write(tree: &Tree, hand: &mut Hand<PassState>, key: u64, write: KeyWrite) -> Stage
+    requires { IsAtRest tree.now hand.old }
+    ensures same { IsSameHand hand.old.seat hand.new.seat }
+    ensures stands { Stands tree.now hand.new result }
+    ensures about { IsWriteOf key write result }
+{
+    let mut process = Writing::new(key, write);
+    tree.begin(hand, &mut process);
+    Stage::Writes(process, None)
+}
+
+/// A hand that rests begins what the hint asks for: a post, or a compression.
+pub fn begin_hint(tree: &Tree, hand: &mut Hand<PassState>, hint: Hint) -> Stage
+    requires { IsAtRest tree.now hand.old }
+    ensures same { IsSameHand hand.old.seat hand.new.seat }
+    ensures stands { Stands tree.now hand.new result }
+{
+    match hint {
+        Hint::Post { .. } => {
+            let mut process = Post::new(hint.level(), hint.key());
+            tree.begin(hand, &mut process);
+            Stage::Posts(process, None)
+        }
+        Hint::Thin { .. } => {
+            let mut process = Compress::new(hint.level(), hint.key());
+            tree.begin(hand, &mut process);
+            Stage::Compresses(process, None)
+        }
+    }
+}
+
+/// A hand that rests begins a lowering.
+pub fn begin_lower(tree: &Tree, hand: &mut Hand<PassState>) -> Stage
+    requires { IsAtRest tree.now hand.old }
+    ensures same { IsSameHand hand.old.seat hand.new.seat }
+    ensures stands { Stands tree.now hand.new result }
+{
+    let mut process = Lower::new();
+    tree.begin(hand, &mut process);
+    Stage::Lowers(process, None)
+}
+
+/// What is underway goes on by so many events at most. Gives its answer, where it has ended.
+pub fn advance(
+    tree: &Tree,
+    hand: &mut Hand<PassState>,
+    stage: &mut Stage,
+    events: u32,
+) -> Option<Answer>
+    requires { Stands tree.now hand.old stage.old }
+    ensures same { IsSameHand hand.old.seat hand.new.seat }
+    ensures stands { Stands tree.now hand.new stage.new }
+    ensures answers { HasAdvanced (known hand.old.seat) (known hand.new.seat) stage.old result }
+{
+    match stage {
+        Stage::Rests => None,
+        Stage::Writes(process, held) => {
+            if !go_on(tree, hand, process, held, events) {
+                return None;
+            }
+            let answer = process.answer();
+            *stage = Stage::Rests;
+            answer
+        }
+        Stage::Posts(process, held) => {
+            if !go_on(tree, hand, process, held, events) {
+                return None;
+            }
+            let answer = process.answer();
+            *stage = Stage::Rests;
+            answer
+        }
+        Stage::Compresses(process, held) => {
+            if !go_on(tree, hand, process, held, events) {
+                return None;
+            }
+            let answer = process.answer();
+            *stage = Stage::Rests;
+            answer
+        }
+        Stage::Lowers(process, held) => {
+            if !go_on(tree, hand, process, held, events) {
+                return None;
+            }
+            let answer = process.answer();
+            *stage = Stage::Rests;
+            answer
+        }
+    }
+}
+
+/// Where it is known that it stands so, as the invariant of a type that keeps it says, it does.
+pub fn stands(tree: &Tree, hand: &Hand<PassState>, stage: &Stage)
+    requires { ∥ Stands tree.now hand.now stage.now ∥₁ }
+    ensures { Stands tree.now hand.now stage.now }
+{}

@@ -1,0 +1,16 @@
+//! Seats at an index, for programs that are not in Rattle. A seat is one thread's place: a hand of an index with a share of the index, so that
+//! no call can mix the hands of two indexes, and the index goes when its last seat has gone. A seat does its own upkeep.
+//!
+//! No call waits. One that has not come to its end within so many events says so, and its process is underway: it is taken up again by
+//! the next call of the seat, whatever that is.
+//!
+//! Promised to its user: between two calls the seat's hand is one of its own index, and runs no process, or one that can go on.
+#![tactic(auto)]
+
+mod opening;
+mod seat;
+mod working;
+
+pub use bl_index::{KeyReply, KeyWrite, Next, OpenFault, Reply};
+pub use opening::{ImageFault, open, open_image};
+pub use seat::Seat;

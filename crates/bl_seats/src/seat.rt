@@ -1,0 +1,246 @@
+//! A seat, and what is done from it.
+
+ghost use Rattle.std.specs.Arc.{arc_value};
+ghost use Rattle.bl_seats.specs.Seats.{IsSeated};
+
+use crate::working::{begin_following, begin_lowering, begin_writing, find, go_on, part, release};
+use arrayvec::ArrayVec;
+use bl_index::{Index, KeyReply, KeyWrite, Reply};
+use bl_index_rule::PassState;
+use bl_index_turns::Stage;
+use bl_proc::{Answer, Hint, Lowered, Posted, Squeezed};
+use bl_store::Hand;
+use std::alloc::Global;
+use std::mem;
+use std::sync::Arc;
+
+/// How many pieces of upkeep a change does at most before it begins.
+const PIECES: u32 = 16;
+
+/// How often a change looks for free frames at most before it is to be made again.
+const LOOKS: u32 = 8;
+
+/// How often in a row it is to be made again at most for want of frames, before it begins all the same.
+const PATIENCE: u32 = 65_536;
+
+/// One thread's place at an index.
+#[derive(Drop)]
+pub struct Seat {
+    pub(crate) index: Arc<Index, Global>,
+    pub(crate) hand: Hand<PassState>,
+    pub(crate) stage: Stage,
+    pub(crate) upkeep: Upkeep,
+    pub ghost own: { ∥ IsSeated (arc_value index) hand stage ∥₁ },
+}
+
+/// What there is to do behind the changes of a seat.
+#[derive(Drop)]
+pub(crate) struct Upkeep {
+    /// The pieces that wait, the oldest first. Where 32 wait, a further one is dropped: a page that no parent lists is reached by the link
+    /// of the page to its left, and a page with few rows is in nobody's way.
+    hints: ArrayVec<Option<Hint>, 32>,
+    /// The piece that is underway.
+    doing: Option<Hint>,
+    /// How many were dropped.
+    dropped: u64,
+    /// Whether the top level may be one that is not needed.
+    may_fall: bool,
+    /// How often in a row a change has found too few frames.
+    lacked: u32,
+}
+
+impl Upkeep {
+    pub(crate) fn new() -> Upkeep {
+        Upkeep {
+            hints: ArrayVec::new(),
+            doing: None,
+            dropped: 0,
+            may_fall: false,
+            lacked: 0,
+        }
+    }
+
+    /// The piece waits behind the others, if there is one.
+    fn keep(&mut self, piece: Option<Hint>) {
+        if piece.is_none() {
+            return;
+        }
+        if self.hints.is_full() {
+            self.dropped = self.dropped.saturating_add(1);
+        } else {
+            self.hints.push(piece);
+        }
+    }
+
+    /// Takes the oldest piece, if one waits. It is underway then.
+    fn take(&mut self) -> Option<Hint> {
+        if self.hints.is_empty() {
+            return None;
+        }
+        self.doing = self.hints.remove(0);
+        self.doing
+    }
+
+    /// Notes what a process has left to do that has ended.
+    fn note(&mut self, answer: &Answer) {
+        let doing = self.doing;
+        match answer {
+            Answer::Op(_, more) => self.keep(*more),
+            Answer::Post(Posted::NoRoom, _) => self.keep(doing),
+            Answer::Compress(Squeezed::NoRoom, _) => self.keep(doing),
+            Answer::Post(_, more) => self.keep(*more),
+            Answer::Compress(squeezed, more) => {
+                self.may_fall = *squeezed == Squeezed::Merged || *squeezed == Squeezed::Alone;
+                self.keep(*more);
+            }
+            Answer::Lower(lowered) => self.may_fall = *lowered == Lowered::Lowered,
+            _ => {}
+        }
+    }
+
+    /// A change has found too few frames. Says whether it is to begin all the same.
+    fn is_out_of_patience(&mut self) -> bool {
+        if self.lacked < PATIENCE {
+            self.lacked += 1;
+            return false;
+        }
+        self.lacked = 0;
+        true
+    }
+}
+
+impl Seat {
+    ghost use Rattle.std.specs.Prelude.{◌≡◌, IfSome, true};
+    ghost use Rattle.bl_model.specs.declared.operation.Op.TheVariants as op;
+    ghost use Rattle.bl_model.specs.Replies.{reply_of};
+    ghost use Rattle.bl_model.specs.Writes.{write_op};
+    ghost use Rattle.bl_seats.specs.Calls.{HasToldLast, IsAbout, HasToldIfAbout};
+
+    /// The value of a key, or that the key is absent. None: it ran out of turns, or a change is underway; it is to be made again.
+    pub fn find(&mut self, key: u64) -> Option<KeyReply>
+        ensures { IfSome result (λ reply. ∥ HasToldLast (op.Find key) (reply_of reply) self.new ∥₁) }
+    {
+        if !self.is_at_rest() {
+            self.go_on();
+        }
+        find(&self.index, &mut self.hand, &self.stage, key)
+    }
+
+    /// The rows of one leaf from a key on, and where the next part begins. None: as for a search.
+    pub fn part(&mut self, from: u64, near: &mut Option<u32>) -> Option<Reply> {
+        if !self.is_at_rest() {
+            self.go_on();
+        }
+        part(&self.index, &mut self.hand, &self.stage, from, near)
+    }
+
+    /// Writes a key. None: it is not answered yet, and is to be made again; its process may be underway. Where it is not made again, it
+    /// may still take effect, in a later call of the seat.
+    pub fn write(&mut self, key: u64, write: KeyWrite) -> Option<Reply>
+        ensures { IfSome result (λ reply. ∥ HasToldLast (write_op key write) reply self.new ∥₁) }
+    {
+        if !self.is_writing(key, write) && !self.begin(key, write) {
+            return None;
+        }
+        match self.go_on() {
+            Some(Answer::Op(reply, _)) => Some(reply),
+            _ => None,
+        }
+    }
+
+    /// Does so many pieces of upkeep at most. Says whether nothing is left to do.
+    pub fn tend(&mut self, most: u32) -> bool {
+        for _piece in 0..most {
+            if self.is_at_rest() && !self.begin_piece() {
+                return true;
+            }
+            self.go_on();
+            if !self.is_at_rest() {
+                return false;
+            }
+        }
+        false
+    }
+
+    /// Releases what no call can read any more. Returns how many pages and frames.
+    pub fn sweep(&mut self) -> u32 {
+        release(&self.index, &mut self.hand, &self.stage)
+    }
+
+    /// How many pieces of upkeep wait, 32 at most.
+    pub fn waiting(&self) -> u32 {
+        self.upkeep.hints.len() as u32
+    }
+
+    /// How many were dropped, since 32 waited.
+    pub fn dropped(&self) -> u64 {
+        self.upkeep.dropped
+    }
+
+    fn is_at_rest(&self) -> bool {
+        match self.stage {
+            Stage::Rests => true,
+            _ => false,
+        }
+    }
+
+    /// Whether this very write is underway.
+    fn is_writing(&self, key: u64, write: KeyWrite) -> bool
+        ensures { result ≡ true → IsAbout key write self.now }
+    {
+        match &self.stage {
+            Stage::Writes(process, _) => process.write.key == key && process.write.write == write,
+            _ => false,
+        }
+    }
+
+    /// What is underway goes on. What it leaves to do waits. Gives its answer, where it has ended.
+    fn go_on(&mut self) -> Option<Answer>
+        ensures { ∥ HasToldIfAbout self.old result self.new ∥₁ }
+    {
+        let answer = go_on(&self.index, &mut self.hand, &mut self.stage);
+        if let Some(answer) = &answer {
+            self.upkeep.note(answer);
+        }
+        answer
+    }
+
+    /// Begins a piece of upkeep. Says whether there was one.
+    fn begin_piece(&mut self) -> bool {
+        if self.upkeep.may_fall {
+            self.upkeep.may_fall = false;
+            let stage = mem::replace(&mut self.stage, Stage::Rests);
+            self.stage = begin_lowering(&self.index, &mut self.hand, stage);
+            return true;
+        }
+        let Some(piece) = self.upkeep.take() else {
+            return false;
+        };
+        let stage = mem::replace(&mut self.stage, Stage::Rests);
+        self.stage = begin_following(&self.index, &mut self.hand, stage, piece);
+        true
+    }
+
+    /// Looks for room, and begins the write. Says whether it has begun.
+    fn begin(&mut self, key: u64, write: KeyWrite) -> bool
+        ensures { result ≡ true → IsAbout key write self.new }
+    {
+        self.tend(PIECES);
+        if !self.is_at_rest() || !self.has_room() {
+            return false;
+        }
+        begin_writing(&self.index, &mut self.hand, &mut self.stage, key, write)
+    }
+
+    /// Whether a change finds enough frames. It sweeps, so many times at most.
+    fn has_room(&mut self) -> bool {
+        for _look in 0..LOOKS {
+            if !self.index.tree().store.lacks_frames(&self.hand) {
+                self.upkeep.lacked = 0;
+                return true;
+            }
+            self.sweep();
+        }
+        self.upkeep.is_out_of_patience()
+    }
+}

@@ -1,0 +1,75 @@
+/* Four threads load a map of a million rows, find them, take every third away again, and scan what is left.
+ * It prints one line, and exits with 1 where anything is not as it should be. */
+#include "blink.h"
+
+#include <pthread.h>
+#include <stdio.h>
+#include <stdlib.h>
+#include <string.h>
+
+enum { THREADS = 4 };
+
+static uint64_t keys_each = 250000;
+static blink_seat seats[THREADS];
+
+/* Keys are spread over all 64 bits: an odd factor maps numbers one to one. */
+static uint64_t key_of(uint64_t number) {
+    return number * 0x9E3779B97F4A7C15u;
+}
+
+static void need(int32_t answer, int32_t wanted, const char *what) {
+    if (answer != wanted) {
+        fprintf(stderr, "%s: %s\n", what, blink_text(answer));
+        exit(1);
+    }
+}
+
+static void *work(void *place) {
+    size_t me = (size_t)(uintptr_t)place;
+    blink_seat *seat = &seats[me];
+    uint64_t first = me * keys_each, value = 0;
+    for (uint64_t n = first; n < first + keys_each; n++)
+        need(blink_insert(seat, key_of(n), n, &value), BLINK_OK, "insert");
+    for (uint64_t n = first; n < first + keys_each; n++) {
+        need(blink_find(seat, key_of(n), &value), BLINK_OK, "find");
+        if (value != n) need(-1, BLINK_OK, "the value found");
+    }
+    for (uint64_t n = first; n < first + keys_each; n++)
+        if (n % 3 == 0) {
+            need(blink_delete(seat, key_of(n), &value), BLINK_OK, "delete");
+            if (value != n) need(-1, BLINK_OK, "the value taken away");
+        }
+    need(blink_insert(seat, key_of(first + 1), 5, &value), first % 3 == 2 ? BLINK_OK : BLINK_PRESENT, "insert again");
+    if (first % 3 == 2) need(blink_delete(seat, key_of(first + 1), &value), BLINK_OK, "delete again");
+    return NULL;
+}
+
+int main(int count, char **words) {
+    uint32_t pages = 65536;
+    pthread_t threads[THREADS];
+    blink_row rows[1024];
+    uint64_t left = 0, wrong = 0, last = 0, from = 0, wanted = 0;
+    bool more = true, any = false;
+    if (count > 1) keys_each = strtoull(words[1], NULL, 10);
+    if (count > 2) pages = (uint32_t)strtoul(words[2], NULL, 10);
+    need(blink_open(pages, seats, THREADS), BLINK_OK, "open");
+    for (size_t t = 0; t < THREADS; t++) pthread_create(&threads[t], NULL, work, (void *)(uintptr_t)t);
+    for (size_t t = 0; t < THREADS; t++) pthread_join(threads[t], NULL);
+    while (more) {
+        size_t found = 0;
+        need(blink_scan(&seats[0], from, rows, 1024, &found, &from, &more), BLINK_OK, "scan");
+        for (size_t i = 0; i < found; i++) {
+            if ((any && rows[i].key <= last) || rows[i].key != key_of(rows[i].value) || rows[i].value % 3 == 0) wrong++;
+            last = rows[i].key;
+            any = true;
+        }
+        left += found;
+    }
+    for (uint64_t n = 0; n < THREADS * keys_each; n++) wanted += n % 3 != 0;
+    printf("rows %llu, wanted %llu, wrong %llu\n", (unsigned long long)left, (unsigned long long)wanted, (unsigned long long)wrong);
+    for (size_t t = 0; t < THREADS; t++) {
+        blink_rest(&seats[t]);
+        blink_close(&seats[t]);
+    }
+    return left != wanted || wrong != 0;
+}

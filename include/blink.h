@@ -1,0 +1,255 @@
+/* blink.h: an ordered map from 64-bit keys to 64-bit values that many threads use at once.
+ *
+ * A map is a B-link tree over a fixed number of pages. Each thread works through a seat of its own, and all seats of a map are made when
+ * it is opened. Every call is linearizable: there is one order of all calls in which each answer is that of a plain map, and which keeps the
+ * order of calls that did not overlap. A scan is many calls, each of which answers the rows of one leaf.
+ *
+ * Behind this header stands a library whose functions are proved: whatever a caller does that keeps the rules below, no call reads or
+ * writes memory that is not its own, and each comes back after a bounded number of steps. Nothing checks the rules, since nothing sees C:
+ *
+ *   1. A seat is all zeros before its first use (BLINK_SEAT_INIT), and is changed by these functions alone.
+ *      Else: a call takes whatever it finds for a seat. The program reads and writes memory at random.
+ *   2. A seat is not copied, or only one of the copies is used from then on, and only it is closed.
+ *      Else: two calls work on one seat, or on one that is freed. As above.
+ *   3. A seat is in one call at a time. It may go from one thread to another where a lock, a join or an atomic with memory_order_seq_cst
+ *      stands between.
+ *      Else: as above.
+ *   4. What a pointer parameter points to is there, aligned, and used by nobody else during the call; an array has as many elements as
+ *      is said; a bool is 0 or 1.
+ *      Else: as above.
+ *   5. malloc, realloc and free come from one allocator, which aligns to 16 bytes. No function is called from a signal handler, nor in the
+ *      child of a fork of a program with threads.
+ *      Else: the heap's own faults.
+ *   6. A thread that was told BLINK_AGAIN makes some further call of its seat before long. (blink_find and the others do.)
+ *      Else: nothing is damaged, but a page may stay latched, and other threads are told BLINK_AGAIN until then.
+ *
+ * With -DBLINK_GUARD the inline functions look at rules 1 to 3 as far as a seat shows it: a null pointer for a seat, a call of a seat that is
+ * in a call, and a call of a closed seat end the program with a message.
+ */
+#ifndef BLINK_H
+#define BLINK_H
+
+#include <stdbool.h>
+#include <stddef.h>
+#include <stdint.h>
+
+#ifndef BLINK_YIELD
+#include <sched.h>
+#define BLINK_YIELD() ((void)sched_yield()) /* lets another thread run: what a call that is to be made again waits by */
+#endif
+
+#ifdef BLINK_GUARD
+#include <stdio.h>
+#include <stdlib.h>
+#endif
+
+#ifdef __cplusplus
+extern "C" {
+#endif
+
+/* What a call answers. */
+enum {
+    BLINK_OK = 0,         /* done; where a value goes with it, it is written */
+    BLINK_ABSENT = 1,     /* the key is not there */
+    BLINK_PRESENT = 2,    /* the key is there with another value, which it keeps, and which is written */
+    BLINK_NO_ROOM = 3,    /* all pages are taken: nothing has changed */
+    BLINK_AGAIN = 4,      /* not answered yet: let another thread run, and make the same call again */
+    BLINK_BAD_PAGES = 5,  /* the number of pages is not 4 to 65,536 */
+    BLINK_BAD_SEATS = 6,  /* the number of seats is not 1 to 64 */
+    BLINK_NO_MEMORY = 7,  /* malloc refused; nothing was opened */
+    BLINK_BAD_IMAGE = 8,  /* the bytes are no sound image */
+    BLINK_CLOSED = 9,     /* the seat is closed */
+    BLINK_FEW_ROWS = 10,  /* there is room for fewer than BLINK_LEAF_ROWS rows */
+};
+
+/* The most rows of one leaf, and so the least room that blink_try_rows takes. */
+#define BLINK_LEAF_ROWS 14
+
+/* One thread's place at a map: a pointer that this library owns, or null. */
+typedef struct blink_seat {
+    void *at;
+} blink_seat;
+
+#define BLINK_SEAT_INIT { 0 }
+
+/* A key and its value. */
+typedef struct blink_row {
+    uint64_t key;
+    uint64_t value;
+} blink_row;
+
+/* How far a part of the rows goes. All zeros before the first part. */
+typedef struct blink_part {
+    uint64_t count; /* how many rows were written */
+    uint64_t next;  /* the key from which the rows go on, if they do */
+    bool more;      /* whether they go on */
+    uint32_t near;  /* a page from which the way to the next part is short: passed on unread */
+} blink_part;
+
+/* ---- The library's own functions. None waits: those that say so may answer BLINK_AGAIN. ---- */
+
+/* Opens a map without rows, of so many pages, with a seat for each place. A page holds up to 14 rows; some are kept for the tree and for
+ * changes underway. Answers BLINK_OK, BLINK_BAD_PAGES, BLINK_BAD_SEATS or BLINK_NO_MEMORY. A place that was open is closed first. */
+int32_t blink_open(uint32_t pages, blink_seat *seats, size_t count);
+
+/* The same for a map that begins with the rows of an image, as `blink` writes it, with as many pages. Also BLINK_BAD_IMAGE. */
+int32_t blink_open_image(const uint8_t *bytes, size_t length, blink_seat *seats, size_t count);
+
+/* Closes a seat, and leaves it all zeros. A map goes with its last seat, and its rows with it. A closed seat may be closed again. */
+void blink_close(blink_seat *seat);
+
+/* BLINK_OK with the key's value, BLINK_ABSENT, BLINK_AGAIN, BLINK_CLOSED. */
+int32_t blink_try_find(blink_seat *seat, uint64_t key, uint64_t *value);
+
+/* Puts the value at the key, where the key has none: BLINK_OK, BLINK_PRESENT with the value that is there, BLINK_NO_ROOM, BLINK_AGAIN,
+ * BLINK_CLOSED. Told BLINK_AGAIN, a caller who does not make the same call again does not learn whether it takes effect. */
+int32_t blink_try_insert(blink_seat *seat, uint64_t key, uint64_t value, uint64_t *there);
+
+/* Takes the key away: BLINK_OK with its value, BLINK_ABSENT, BLINK_NO_ROOM, BLINK_AGAIN, BLINK_CLOSED. */
+int32_t blink_try_delete(blink_seat *seat, uint64_t key, uint64_t *gone);
+
+/* Puts the new value at a key that has the old one: BLINK_OK, BLINK_PRESENT with another value, BLINK_ABSENT, BLINK_NO_ROOM, BLINK_AGAIN,
+ * BLINK_CLOSED. */
+int32_t blink_try_change(blink_seat *seat, uint64_t key, uint64_t old_value, uint64_t new_value, uint64_t *there);
+
+/* The rows of one leaf from a key on, by rising keys, into the caller's array, which has room for 14 at least, and how far they go:
+ * BLINK_OK, BLINK_AGAIN, BLINK_CLOSED, BLINK_FEW_ROWS. A part may have no row and still go on. */
+int32_t blink_try_rows(blink_seat *seat, uint64_t from, blink_row *rows, size_t room, blink_part *part);
+
+/* Gives idle time to the map: does so many pieces of upkeep at most, and gives back what was swapped out. BLINK_OK: nothing is left to do. */
+int32_t blink_tend(blink_seat *seat, uint32_t most);
+
+/* How many pieces of upkeep of this seat wait, 32 at most; and how many were dropped, since 32 waited. Neither is a fault: see the manual. */
+uint32_t blink_waiting(blink_seat *seat);
+uint64_t blink_dropped(blink_seat *seat);
+
+/* ---- Guards. ---- */
+
+#ifdef BLINK_GUARD
+#define BLINK_IN_CALL ((void *)1)
+
+static inline void blink_refuse_(const char *call, const char *why) {
+    fprintf(stderr, "%s: %s\n", call, why);
+    abort();
+}
+
+/* Takes the seat out of its place for the time of a call. */
+static inline blink_seat blink_enter_(blink_seat *seat, const char *call) {
+    blink_seat mine = BLINK_SEAT_INIT;
+    if (!seat) blink_refuse_(call, "no seat");
+    mine.at = __atomic_exchange_n(&seat->at, BLINK_IN_CALL, __ATOMIC_SEQ_CST);
+    if (mine.at == BLINK_IN_CALL) blink_refuse_(call, "the seat is in another call");
+    if (!mine.at) blink_refuse_(call, "the seat is closed, or was never opened");
+    return mine;
+}
+
+static inline void blink_leave_(blink_seat *seat, blink_seat mine) {
+    __atomic_store_n(&seat->at, mine.at, __ATOMIC_SEQ_CST);
+}
+
+#define BLINK_CALL_(seat, call, answer, ...)                       \
+    do {                                                           \
+        blink_seat mine_ = blink_enter_(seat, #call);              \
+        (answer) = call(&mine_, __VA_ARGS__);                      \
+        blink_leave_(seat, mine_);                                 \
+    } while (0)
+#else
+#define BLINK_CALL_(seat, call, answer, ...) ((answer) = call(seat, __VA_ARGS__))
+#endif
+
+/* ---- The same calls, made again until they are answered: each lets other threads run in between. ---- */
+
+static inline int32_t blink_find(blink_seat *seat, uint64_t key, uint64_t *value) {
+    int32_t answer;
+    for (;;) {
+        BLINK_CALL_(seat, blink_try_find, answer, key, value);
+        if (answer != BLINK_AGAIN) return answer;
+        BLINK_YIELD();
+    }
+}
+
+static inline int32_t blink_insert(blink_seat *seat, uint64_t key, uint64_t value, uint64_t *there) {
+    int32_t answer;
+    for (;;) {
+        BLINK_CALL_(seat, blink_try_insert, answer, key, value, there);
+        if (answer != BLINK_AGAIN) return answer;
+        BLINK_YIELD();
+    }
+}
+
+static inline int32_t blink_delete(blink_seat *seat, uint64_t key, uint64_t *gone) {
+    int32_t answer;
+    for (;;) {
+        BLINK_CALL_(seat, blink_try_delete, answer, key, gone);
+        if (answer != BLINK_AGAIN) return answer;
+        BLINK_YIELD();
+    }
+}
+
+static inline int32_t blink_change(blink_seat *seat, uint64_t key, uint64_t old_value, uint64_t new_value, uint64_t *there) {
+    int32_t answer;
+    for (;;) {
+        BLINK_CALL_(seat, blink_try_change, answer, key, old_value, new_value, there);
+        if (answer != BLINK_AGAIN) return answer;
+        BLINK_YIELD();
+    }
+}
+
+/* Rows from a key on, as many leaves as surely fit: room is 14 at least. `*count` is how many there are, `*next` the key to go on from where
+ * `*more` is true. Each leaf is answered as the map stood at one moment of the call. */
+static inline int32_t blink_scan(blink_seat *seat, uint64_t from, blink_row *rows, size_t room, size_t *count, uint64_t *next, bool *more) {
+    blink_part part = { 0, 0, true, 0 };
+    int32_t answer;
+    *count = 0;
+    *next = from;
+    *more = true;
+    if (room < BLINK_LEAF_ROWS) return BLINK_FEW_ROWS;
+    while (*more && room - *count >= BLINK_LEAF_ROWS) {
+        BLINK_CALL_(seat, blink_try_rows, answer, *next, rows + *count, room - *count, &part);
+        if (answer == BLINK_AGAIN) {
+            BLINK_YIELD();
+            continue;
+        }
+        if (answer != BLINK_OK) return answer;
+        *count += (size_t)part.count;
+        *next = part.next;
+        *more = part.more;
+    }
+    return BLINK_OK;
+}
+
+/* Does all upkeep that this seat can do now. */
+static inline int32_t blink_rest(blink_seat *seat) {
+    int32_t answer;
+    int round;
+    for (round = 0; round < 1024; round++) {
+        BLINK_CALL_(seat, blink_tend, answer, 64);
+        if (answer != BLINK_AGAIN) return answer;
+        BLINK_YIELD();
+    }
+    return BLINK_AGAIN;
+}
+
+/* What a code means, as a text. */
+static inline const char *blink_text(int32_t code) {
+    switch (code) {
+        case BLINK_OK: return "done";
+        case BLINK_ABSENT: return "the key is not there";
+        case BLINK_PRESENT: return "the key is there with another value";
+        case BLINK_NO_ROOM: return "all pages are taken";
+        case BLINK_AGAIN: return "not answered yet";
+        case BLINK_BAD_PAGES: return "the number of pages is not 4 to 65,536";
+        case BLINK_BAD_SEATS: return "the number of seats is not 1 to 64";
+        case BLINK_NO_MEMORY: return "there is no memory";
+        case BLINK_BAD_IMAGE: return "the bytes are no sound image";
+        case BLINK_CLOSED: return "the seat is closed";
+        case BLINK_FEW_ROWS: return "there is room for fewer than 14 rows";
+        default: return "no code of this library";
+    }
+}
+
+#ifdef __cplusplus
+}
+#endif
+
+#endif
