@@ -1,0 +1,98 @@
+//! Calls of seats.
+
+use bl_seats::{ImageFault, KeyReply, KeyWrite, Next, OpenFault, Reply, Seat, open, open_image};
+use std::alloc::Global;
+
+/// How many rows are inserted where there are many.
+const MANY: u64 = 2_000;
+
+/// A seat of an index of so many pages.
+fn opened(alloc: Global, pages: u32) -> Option<Seat> {
+    let mut seats = open(alloc, pages, 1).ok()?;
+    seats.pop()
+}
+
+/// A seat alone is answered at once.
+fn replies(seat: &mut Seat) -> [Option<Reply>; 6] {
+    [
+        seat.write(5, KeyWrite::Insert(50)),
+        seat.write(5, KeyWrite::Insert(60)),
+        seat.write(5, KeyWrite::Change(50, 70)),
+        seat.write(5, KeyWrite::Change(50, 80)),
+        seat.write(5, KeyWrite::Delete),
+        seat.write(5, KeyWrite::Delete),
+    ]
+}
+
+#[test]
+fn a_row_comes_and_goes(rt: HostRuntime) {
+    let mut seat = opened(rt.alloc(), 64).expect(&rt, "it is opened");
+    assert_eq!(rt; seat.find(5), Some(KeyReply::Absent));
+    let [one, two, three, four, five, six] = replies(&mut seat);
+    assert!(rt; one == Some(Reply::Inserted));
+    assert!(rt; two == Some(Reply::Present(50)));
+    assert!(rt; three == Some(Reply::Changed));
+    assert!(rt; four == Some(Reply::Differs(70)));
+    assert!(rt; five == Some(Reply::Deleted(70)));
+    assert!(rt; six == Some(Reply::Absent));
+    assert_eq!(rt; seat.find(5), Some(KeyReply::Absent));
+}
+
+/// How many of so many rising keys are inserted.
+fn insert_many(seat: &mut Seat, count: u64) -> u64 {
+    let mut inserted = 0;
+    for key in 0..count {
+        if seat.write(key, KeyWrite::Insert(key)) == Some(Reply::Inserted) {
+            inserted += 1;
+        }
+    }
+    inserted
+}
+
+/// How many rows the parts have together.
+fn count_rows(seat: &mut Seat) -> u64 {
+    let mut count = 0u64;
+    let mut at = 0;
+    let mut near = None;
+    for _part in 0..MANY {
+        let Some(Reply::Rows(rows, next)) = seat.part(at, &mut near) else {
+            return 0;
+        };
+        count = count.saturating_add(rows.len() as u64);
+        match next {
+            Next::More(key) => at = key,
+            Next::End => return count,
+        }
+    }
+    0
+}
+
+#[test]
+fn parts_tell_all_rows(rt: HostRuntime) {
+    let mut seat = opened(rt.alloc(), 1_024).expect(&rt, "it is opened");
+    assert_eq!(rt; insert_many(&mut seat, MANY), MANY);
+    assert_eq!(rt; count_rows(&mut seat), MANY);
+    assert!(rt; seat.tend(64));
+    assert_eq!(rt; seat.waiting(), 0);
+    assert_eq!(rt; seat.dropped(), 0);
+    seat.sweep();
+}
+
+#[test]
+fn two_seats_see_one_index(rt: HostRuntime) {
+    let mut seats = open(rt.alloc(), 64, 2).ok().expect(&rt, "it is opened");
+    let mut one = seats.pop().expect(&rt, "there are two");
+    let mut two = seats.pop().expect(&rt, "there are two");
+    assert!(rt; one.write(1, KeyWrite::Insert(10)) == Some(Reply::Inserted));
+    drop(one);
+    assert_eq!(rt; two.find(1), Some(KeyReply::Found(10)));
+}
+
+#[test]
+fn what_is_not_opened_says_why(rt: HostRuntime) {
+    let alloc = rt.alloc();
+    assert!(rt; open(alloc, 3, 1).err() == Some(OpenFault::Pages));
+    assert!(rt; open(alloc, 4, 0).err() == Some(OpenFault::Passes));
+    assert!(rt; open(alloc, 4, 65).err() == Some(OpenFault::Passes));
+    assert!(rt; open_image(alloc, b"no image", 1).err() == Some(ImageFault::Image));
+}
