@@ -40,10 +40,10 @@ fn a_row_comes_and_goes(rt: HostRuntime) {
 
 /// How many of so many rising keys are inserted.
 fn insert_many(seat: &mut Seat, count: u64) -> u64 {
-    let mut inserted = 0;
+    let mut inserted = 0u64;
     for key in 0..count {
         if seat.write(key, KeyWrite::Insert(key)) == Some(Reply::Inserted) {
-            inserted += 1;
+            inserted = inserted.saturating_add(1);
         }
     }
     inserted
