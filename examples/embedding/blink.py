@@ -50,7 +50,7 @@ class Seat:
         while (code := call(self.at, *rest)) == AGAIN:
             os.sched_yield()
         if code == NO_ROOM:
-            raise MemoryError("all pages are taken")
+            raise MemoryError("no room")
         return code
 
     def find(self, key):
