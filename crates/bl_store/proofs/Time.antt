@@ -1,15 +1,15 @@
 -- A process begins and ends, and a page is read.
 use Rattle.std.specs.Prelude.{Option, None}
-use Rattle.std.proofs.Common.{◌≡◌, ◌≢◌, ◌⊎◌, ℕ, ◌+◌, ◌<◌, ◌≤◌, List, [], length, replicate, get_or, set, sym, refl, ap, ◌∙◌, subst, inl, inr, ⊎_elim, arith, le_refl, get_or-set_other}
+use Rattle.std.proofs.Common.{◌≡◌, ◌≢◌, ◌⊎◌, ℕ, ◌+◌, ◌<◌, ◌≤◌, List, [], length, replicate, get_or, set, sym, refl, ap, ◌∙◌, subst, inl, inr, ⊎_elim, arith, le_refl, get_or-set_other, set-set}
 use mathlib.Core.Option.{none, some}
 use lib.ListN.{get_elem?}
 use Rattle.atomic_table.specs.Table.{State, Me, step, keeps, stepped, Allows}
-use Rattle.atomic_table.proofs.Lists.{set_else}
+use Rattle.atomic_table.proofs.Lists.{set_else, set_again}
 use Rattle.bl_layout.specs.declared.layout.Layout.{Layout}
 use Rattle.bl_layout.specs.Words.{frame_count}
-use Rattle.bl_store.specs.Pages.{Owner, Stage, Running, Pages, Stands, IsOrderly, observed, Begins, Ends, Gets}
+use Rattle.bl_store.specs.Pages.{Owner, Stage, Idle, Running, Pages, Stands, IsOrderly, observed, Begins, Ends, Gets}
 use Rattle.bl_store.specs.Frames.{process_at, page_at, owner_at, place_at, Use, drafted, shown, dropped, timed, retired, Frame, used, Full, PageIs, ProcessIs, stage_of, IsRead, MayRead, Reads, Budgeted, Shows, IsLive, Kept}
-use Rattle.bl_store.specs.Observed.{clocked, stamped, ended, looked, copied}
+use Rattle.bl_store.specs.Observed.{clocked, stamped, ended, renewed, raised, looked, copied}
 use Rattle.bl_store.specs.declared.view.View.{View}
 use Rattle.bl_store.specs.declared.view.Wanted.{Wanted}
 use Rattle.bl_store.specs.declared.view.Stamp.{Stamp}
@@ -106,14 +106,14 @@ module _ {D : Type 0} (l : Layout) (first : D) (holds : Pages D → Type 0) wher
 
   -- a process word changes, and the hand reads nothing
   process_step : (st : St) (r : Rule st) (i id n : ℕ) (cs : List (ℕ × Unit {0})) (v : View D) (sp : Stamp) (rf : Option Wanted) (d : D) → get_elem? st.views id ≡ some v → IsLive v → i ≡ process_at l v.number → ProcessIs n (stage_of sp) → IsRead r.pages.clock sp
-      → ((b : ℕ) → stage_of sp ≡ Running b → b ≡ r.pages.clock) → holds (observed r.pages v.number (stage_of sp) d) → Rule (stepped st i n id cs (record v { stamp = sp; reading = Nowhere; refused = rf; known = d }) keeps)
+      → ((b : ℕ) → stage_of sp ≡ Running b → ((stage_of v.stamp ≡ Running b) ⊎ (r.pages.clock ≤ b)) × (b ≤ r.pages.clock)) → holds (observed r.pages v.number (stage_of sp) d) → Rule (stepped st i n id cs (record v { stamp = sp; reading = Nowhere; refused = rf; known = d }) keeps)
   process_step st r i id n cs v sp rf d at live i_is is clocked' begun kept = let mine = r.seats id v at live in let s : Pages D = r.pages in let low = mine.counted in let dealt = mine.dealt in let orderly = r.orderly in let counts = orderly.owners in
       let ws : List ℕ = set st.words i n in
       let owners : (x : ℕ) → x < length s.owners → get_or ws (owner_at l x) 0 ≡ get_or st.words (owner_at l x) 0 = (λ x below. get_or-set_other st.words i (owner_at l x) n 0 (λ z. omega arith)) in
       let go : Goes l st.words ws s (observed s v.number (stage_of sp) d) r.frames r.frames r.budgets r.budgets v.number = goes_observed l st.words ws s r.frames r.budgets v.number (stage_of v.stamp) (stage_of sp) v.known d mine.stands
-      (λ b e. let now = begun b e in inr (omega arith)) owners in
+      (λ b e. (begun b e).0) owners in
       moved l first holds st r i n id cs v (record v { stamp = sp; reading = Nowhere; refused = rf; known = d }) (observed s v.number (stage_of sp) d) r.frames r.budgets at live
-      (orderly_observed l s v.number (stage_of sp) d (λ b e. let now = begun b e in omega arith) r.orderly)
+      (orderly_observed l s v.number (stage_of sp) d (λ b e. (begun b e).1) r.orderly)
       (subst (λ (z : ℕ). Shows l (set st.words z n) (observed s v.number (stage_of sp) d) r.frames) (sym i_is) (shows_process l st.words s r.frames v.number n (stage_of sp) d r.orderly (omega arith) is r.shows))
       r.budgeted go
       record {
@@ -164,7 +164,7 @@ module _ {D : Type 0} (l : Layout) (first : D) (holds : Pages D → Type 0) wher
         record me.0 { stamp = In s.clock; reading = Nowhere; refused = None; known = t.0 },
         keeps,
         tt,
-        process_step st r i id n me.1 me.0 (In s.clock) None t.0 at live i_is (omega arith, omega arith) tt (λ b e. cc) t.1,
+        process_step st r i id n me.1 me.0 (In s.clock) None t.0 at live i_is (omega arith, omega arith) tt (λ b e. let now : s.clock ≡ b = cc in (inr (omega arith), omega arith)) t.1,
         ((refl, refl, refl, refl), (refl, refl, refl), refl, (s.clock, refl, t.2)),
       )
 
@@ -175,8 +175,60 @@ module _ {D : Type 0} (l : Layout) (first : D) (holds : Pages D → Type 0) wher
         record me.0 { stamp = Out; reading = Nowhere; refused = me.0.refused; known = t.1 },
         keeps,
         tt,
-        process_step st r i id 0 me.1 me.0 Out me.0.refused t.1 at live i_is refl tt (λ b e. cc) t.2,
+        process_step st r i id 0 me.1 me.0 Out me.0.refused t.1 at live i_is refl tt (λ b e. let no : ⊥ = cc in absurd no) t.2,
         ((refl, refl, refl, refl), (refl, refl, refl), refl, (refl, refl, refl), (s.clock, t.3)),
+      )
+
+  -- a load of the clock at which the process ends, and the next one begins
+  pub renews : (then' next : D → ℕ → D → Type 0) (slots id i b : ℕ) (me : M) → i ≡ 0 → me.0.stamp ≡ In b → Ends holds l me.0.number me.0.known then'
+      → ((between : D) (now : ℕ) → then' me.0.known now between → Begins holds l me.0.number between next) → IsLive me.0 → Allows Rule slots id me i (λ n. n) (renewed then' next (step slots i 0 0 none) me)
+  renews then' next slots id i b me i_is is ends begins live st r _ at _ = let mine = r.seats id me.0 at live in let s : Pages D = r.pages in let n : ℕ = get_or st.words i 0 in let q : ℕ = me.0.number in let sg : Stage = stage_of me.0.stamp in
+      let now : n ≡ s.clock = ap (λ (z : ℕ). get_or st.words z 0) i_is ∙ r.shows.clock in let bound = low_clock l s.clock r.budgets r.budgeted in let counted = mine.counted in let dealt = mine.dealt in
+      let began : sg ≡ Running b = ap stage_of is in let stands : Stands s q (Running b) me.0.known = mine.stands ∙ ap (λ (z : Stage). some (z, me.0.known)) began in
+      let t = ends s b r.kept r.orderly stands in
+      let u = begins t.1 s.clock t.3 (observed s q Idle t.1) t.2 (orderly_observed l s q Idle t.1 (λ c e. let no : ⊥ = cc in absurd no) r.orderly) (set_there s.hands q (sg, me.0.known) (Idle, t.1) mine.stands) in
+      let s' : Pages D = observed s q (Running s.clock) u.0 in
+      let kept : holds s' = subst (λ (z : List (Stage × D)). holds (record s { hands = z })) (set-set s.hands q (Idle, t.1) (Running s.clock, u.0)) u.1 in
+      let soon : b ≤ s.clock = began_by l s q me.0.stamp me.0.known r.orderly mine.stands b began in
+      let word : ProcessIs (get_or st.words (process_at l q) 0) (Running b) = subst (ProcessIs (get_or st.words (process_at l q) 0)) began (r.shows.process q sg me.0.known (omega arith) mine.stands) in
+      let low = word.0 in let high = word.1 in
+      let go : Goes l st.words st.words s s' r.frames r.frames r.budgets r.budgets q = goes_observed l st.words st.words s r.frames r.budgets q sg (Running s.clock) me.0.known u.0 mine.stands (λ c e. let same : s.clock ≡ c = cc in inr (omega arith)) (λ x _. refl) in
+      let w : View D = record me.0 { stamp = In n; reading = Nowhere; refused = None; known = u.0 } in (
+        w,
+        keeps,
+        tt,
+        unmoved l first holds st r i id me.1 me.0 w s' r.budgets at live
+            (orderly_observed l s q (Running s.clock) u.0 (λ c e. let same : s.clock ≡ c = cc in omega arith) r.orderly)
+            (shows_observed l st.words s r.frames q (Running s.clock) u.0 (omega arith, omega arith) r.shows)
+            r.budgeted go
+            record {
+              layout = refl;
+              number = refl;
+              upto = refl;
+              stands = set_there s.hands q (sg, me.0.known) (Running s.clock, u.0) mine.stands ∙ ap (λ (z : ℕ). some (Running z, u.0)) (sym now);
+              clocked = tt;
+              reads = tt;
+              stocks = mine.stocks;
+              drops = mine.drops;
+              seals = mine.seals;
+              sweeps = sweeps_stay go me.0.sweep mine.sweeps;
+              budget = mine.budget;
+              joined = refl;
+            } refl refl kept,
+        ((refl, refl, refl, refl), (refl, refl, refl), refl, refl, omega arith, subst (λ (z : ℕ). (between : D) × then' me.0.known z between × next between z u.0) (sym now) (t.1, t.3, u.2)),
+      )
+
+  -- the process word shows that time
+  pub raises : (slots id i n b : ℕ) (me : M) → i ≡ process_at l me.0.number → n ≡ b + 1 → me.0.stamp ≡ In b → IsLive me.0 → Allows Rule slots id me i (λ _. n) (λ _. raised (step slots i n 0 none) me n)
+  raises slots id i n b me i_is n_is is live st r _ at _ = let mine = r.seats id me.0 at live in let s : Pages D = r.pages in let q : ℕ = me.0.number in let sg : Stage = stage_of me.0.stamp in
+      let began : sg ≡ Running b = ap stage_of is in
+      let same : set s.hands q (sg, me.0.known) ≡ s.hands = set_again s.hands q (sg, me.0.known) mine.stands in (
+        record me.0 { reading = Nowhere },
+        keeps,
+        tt,
+        process_step st r i id n me.1 me.0 me.0.stamp me.0.refused me.0.known at live i_is (subst (ProcessIs n) (sym began) (omega arith, omega arith)) mine.clocked
+            (λ c e. (inl e, began_by l s q me.0.stamp me.0.known r.orderly mine.stands c e)) (subst (λ (z : List (Stage × D)). holds (record s { hands = z })) (sym same) r.kept),
+        (((refl, refl, refl, refl), refl, (refl, refl, refl), refl), refl),
       )
 
   pub looks : (then' : D → ℕ → Owner → List ℕ → D → Type 0) (slots id i b x : ℕ) (me : M) → i ≡ page_at l x → x < l.pages → me.0.layout ≡ l → me.0.stamp ≡ In b → Gets holds l me.0.number me.0.known x then'

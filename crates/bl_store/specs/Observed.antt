@@ -65,6 +65,15 @@ module _ {D : Type 0} where
   abbrev pub ended : (D → ℕ → D → Type 0) → Play → Sat D → ℕ → Sat D → Type 0
   ended then st m r m' = IsThere m m' × IsStocked m.0 m'.0 × (m'.0.stamp ≡ Out) × KeepsRefusal m.0 m'.0 × ((b : ℕ) × then m.0.known b m'.0.known)
 
+  -- a load of the clock at which a process ends, and the next one begins
+  abbrev pub renewed : (D → ℕ → D → Type 0) → (D → ℕ → D → Type 0) → Play → Sat D → ℕ → Sat D → Type 0
+  renewed then next st m r m' = IsThere m m' × IsStocked m.0 m'.0 × (m'.0.refused ≡ None) × (m'.0.stamp ≡ In r) × (r < 2305843009213693952)
+      × ((between : D) × then m.0.known r between × next between r m'.0.known)
+
+  -- the process word shows that the process began then
+  abbrev pub raised : Play → Sat D → ℕ → Sat D → Type 0
+  raised st m r m' = IsSilent m m' × (m'.0.refused ≡ m.0.refused)
+
   -- the words of a page in the frame that the number r names
   abbrev pub Found : View D → ℕ → List ℕ → Type 0
   Found w r xs = (r ≡ 0 → xs ≡ replicate 32 0) × (r ≢ 0 → (f : ℕ) × (r ≡ f + 1) × (f < frame_count w.layout) × (length xs ≡ 32) × (w.reading ≡ At f xs))

@@ -113,6 +113,7 @@ impl<D> Hand<D> {
         Hand {
             seat,
             number,
+            stamp: 0,
             frame: number.wrapping_mul(frames / layout.passes),
             owner: number.wrapping_mul((layout.pages + frames) / layout.passes),
             retired: [0; RING],

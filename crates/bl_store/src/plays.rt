@@ -1,5 +1,5 @@
 //! What each step on the table tells its seat.
-ghost use Rattle.bl_store.specs.Observed.{allotted, clocked, confirmed, copied, drew, ended, freed, horizoned, looked, met, noted, opened, passed, published, refused, released, reserved, returned, sealed, settled, stamped, swapped, took, tried, wrote};
+ghost use Rattle.bl_store.specs.Observed.{allotted, clocked, confirmed, copied, drew, ended, freed, horizoned, looked, met, noted, opened, passed, published, raised, refused, released, renewed, reserved, returned, sealed, settled, stamped, swapped, took, tried, wrote};
 ghost use Rattle.std.specs.Prelude.{ℕ};
 
 use crate::rule::{MeetPlay, PagePlay, SweepPlay, TimePlay};
@@ -122,6 +122,20 @@ pub(crate) struct Leave<M> {
 
 impl<D, M: TimePlay<D>> Play<(), View<D>> for Leave<M> {
     ghost then = { ended M.then };
+}
+
+pub(crate) struct Renew<M, N> {
+    play: PhantomData<(M, N)>,
+}
+
+impl<D, M: TimePlay<D>, N: TimePlay<D>> Play<(), View<D>> for Renew<M, N> {
+    ghost then = { renewed M.then N.then };
+}
+
+pub(crate) struct Raise;
+
+impl<D> Play<(), View<D>> for Raise {
+    ghost then = { raised };
 }
 
 /// For how many pages and frames a reservation asks.

@@ -8,7 +8,7 @@ ghost use Rattle.bl_store.specs.Hands.{known, read_words, IsIdle, IsRunning, IsS
 ghost use Rattle.bl_store.specs.declared.view.Reading.TheVariants.{At};
 ghost use Rattle.bl_store.specs.declared.view.Sealing.TheVariants.{Unsealed};
 
-use crate::plays::{Clock, Copy, Enter, Leave, Look};
+use crate::plays::{Clock, Copy, Enter, Leave, Look, Raise, Renew};
 use crate::rule::{PagePlay, PageRule, TimePlay};
 use crate::view::{Framed, Ground, View};
 use atomic_table::{Seat, Table};
@@ -23,11 +23,16 @@ pub(crate) const RING: usize = 128;
 /// pairs.
 pub(crate) const APART: usize = 16;
 
+/// So many words are one cache line of 64 bytes.
+const LINE: usize = 8;
+
 /// One who reads and writes pages. Hands are numbered from 0, and no two of a store share a number.
 #[derive(Drop)]
 pub struct Hand<D> {
     pub(crate) seat: Seat<(), View<D>>,
     pub(crate) number: u32,
+    // The word that it stored last for a process of its own. No proof rests on it.
+    pub(crate) stamp: u64,
     // The frame that its next reservation tries first.
     pub(crate) frame: u32,
     // The owner word at which its next sweep begins, counted from page 0.
@@ -135,6 +140,7 @@ impl<D, R: PageRule<D>, A: Allocator> Store<D, R, A> {
             .shared
             .load::<Clock>(&mut hand.seat, self.layout.clock_cell());
         let process = self.stamps + PROCESS_CELLS * hand.number as usize;
+        hand.stamp = clock + 1;
         self.table
             .shared
             .store::<Enter<M>>(&mut hand.seat, process, clock + 1);
@@ -154,6 +160,49 @@ impl<D, R: PageRule<D>, A: Allocator> Store<D, R, A> {
         self.table
             .shared
             .store::<Leave<M>>(&mut hand.seat, process, 0);
+    }
+
+    /// Ends the hand's process, which holds no page, and begins another: two events at one load of the clock. Its process word is
+    /// stored anew only where the clock has moved since, so beside others that only read nothing is stored.
+    #[inline(always)]
+    pub fn renew<M: TimePlay<D>, N: TimePlay<D>>(&self, hand: &mut Hand<D>)
+        requires own { IsHandOf self.now hand.old }
+        requires running { IsRunning hand.old.seat }
+        requires ends { Ends R.holds self.now.layout hand.old.number (known hand.old.seat) M.then }
+        requires begins { (between : D) (now : ℕ) → M.then (known hand.old.seat) now between
+            → Begins R.holds self.now.layout hand.old.number between N.then }
+        ensures same { IsSameHand hand.old.seat hand.new.seat × IsSameStock hand.old.seat hand.new.seat }
+        ensures running { IsRunning hand.new.seat }
+        ensures none { hand.new.seat.me.0.refused ≡ None }
+        ensures observed { (now : ℕ) × (between : D) × M.then (known hand.old.seat) now between × N.then between now (known hand.new.seat) }
+    {
+        let clock = self
+            .table
+            .shared
+            .load::<Renew<M, N>>(&mut hand.seat, self.layout.clock_cell());
+        if hand.stamp != clock + 1 {
+            let process = self.stamps + PROCESS_CELLS * hand.number as usize;
+            hand.stamp = clock + 1;
+            self.table
+                .shared
+                .store::<Raise>(&mut hand.seat, process, clock + 1);
+        }
+    }
+
+    /// Fetches the words of a page ahead of a look at it, so that they are near when it comes. It is no event and tells nothing.
+    #[inline(always)]
+    pub fn fetch(&self, page: u32) {
+        if page >= self.layout.pages {
+            return;
+        }
+        let found = self.table.shared.peek(self.heads + page as usize);
+        let frame = found.wrapping_sub(1);
+        if frame < self.layout.frames() as u64 {
+            let first = self.firsts + 32 * frame as usize;
+            self.table.shared.peek(first);
+            self.table.shared.peek(first + LINE);
+            self.table.shared.peek(first + 2 * LINE);
+        }
     }
 
     /// Looks at a page, whose words are from now on those that it had at this one event, until the hand's next look.
