@@ -17,24 +17,24 @@ use Rattle.bl_index.specs.Scans.{AppendsPart, LeavesPart}
 use Rattle.bl_index_read.proofs.Listings.{part_finds}
 use Rattle.bl_index_read.proofs.Leaves.{TellsBehind, below_are}
 
-module _ (l : Layout) (pass from turns : ℕ) (old : PassState) (h h' : Seat (Unit {0}) (View PassState)) (glance : Glance) (has : HasLeaf l pass from turns old h glance) (ended : ends (known h) 0 (known h')) (to : Option ℕ) (before after : List (ℕ × ℕ)) where
+module _ (l : Layout) (pass from turns : ℕ) (old : PassState) (h : Seat (Unit {0}) (View PassState)) (e : PassState) (glance : Glance) (has : HasLeaf l pass from turns old h glance) (ended : ends (known h) 0 e) (to : Option ℕ) (before after : List (ℕ × ℕ)) where
   -- its rows below the end were appended
-  pub part_appends : (behind : Behind) → TellsBehind to (read_words h) behind → after ≡ before ++ rows_between from to (pairs_of (read_words h)) → AppendsPart old.first l.pages pass turns from to behind before after old.trail (known h').trail
+  pub part_appends : (behind : Behind) → TellsBehind to (read_words h) behind → after ≡ before ++ rows_between from to (pairs_of (read_words h)) → AppendsPart old.first l.pages pass turns from to behind before after old.trail e.trail
   part_appends behind tells grown = record {
     reply = Rows has.leaf.rows.rows has.leaf.rows.next;
-    finds = part_finds l pass from turns old h h' glance has ended;
+    finds = part_finds l pass from turns old h e glance has ended;
     ends = tells has.leaf.page has.leaf.rows.next has.leaf.leads.0 has.leaf.is has.leaf.lists.next;
     appended = grown ∙ ap (λ (z : List (ℕ × ℕ)). before ++ z) (sym (below_are from (read_words h) (known h) has.leaf to));
   }
 
   -- or they had no room
-  pub part_leaves : (room : ℕ) → after ≡ before → room < length (rows_between from to (pairs_of (read_words h))) → LeavesPart old.first l.pages pass turns from to room (Memory from) before after old.trail (known h').trail
+  pub part_leaves : (room : ℕ) → after ≡ before → room < length (rows_between from to (pairs_of (read_words h))) → LeavesPart old.first l.pages pass turns from to room (Memory from) before after old.trail e.trail
   part_leaves room kept more = record {
     key = refl;
     kept = kept;
     stops = record {
       reply = Rows has.leaf.rows.rows has.leaf.rows.next;
-      finds = part_finds l pass from turns old h h' glance has ended;
+      finds = part_finds l pass from turns old h e glance has ended;
       more = subst (λ (z : List (ℕ × ℕ)). room < length z) (sym (below_are from (read_words h) (known h) has.leaf to)) more;
     };
   }

@@ -10,7 +10,8 @@ use Rattle.bl_page.specs.declared.page.Page.{Page}
 use Rattle.bl_claims.specs.Trails.{Trail}
 use Rattle.bl_store.specs.declared.store.Glance.{Glance}
 use Rattle.bl_store.specs.declared.view.View.{View}
-use Rattle.bl_store.specs.Hands.{known, read_words}
+use Rattle.bl_store.specs.Hands.{known, read_words, IsSameHand}
+use Rattle.bl_store.specs.declared.store.Hand.{Hand}
 use Rattle.bl_index_rule.specs.declared.known.PassState.{PassState}
 use Rattle.bl_index_rule.specs.Observed.{ends}
 use Rattle.bl_index_read.specs.LeafRows.{rows_between}
@@ -24,14 +25,15 @@ use Rattle.bl_index_read.proofs.Listings.{part_finds}
 use Rattle.bl_index_read.proofs.Leaves.{TellsBehind, below_are}
 use Rattle.bl_index_read.proofs.Told.{folds_append}
 use Rattle.bl_index.proofs.PartByPart.{IsSoFar, left_behind, part_more, stops_there}
+use Rattle.bl_index_read.proofs.Setting.{same_number}
 
 module _ {F : Type 0} (leads : F → ℕ × ℕ → F → Type 0) where
   -- its rows below the end were told
-  pub part_tells : (l : Layout) (pass from turns : ℕ) (old : PassState) (h h' : Seat (Unit {0}) (View PassState)) (glance : Glance) → HasLeaf l pass from turns old h glance → ends (known h) 0 (known h')
-      → (to : Option ℕ) (behind : Behind) (p q : F) → TellsBehind to (read_words h) behind → FoldsTo leads p (rows_between from to (pairs_of (read_words h))) q → TellsPart leads old.first l.pages pass turns from to behind p q old.trail (known h').trail
-  part_tells l pass from turns old h h' glance has ended to behind p q tells told = record {
+  pub part_tells : (l : Layout) (pass from turns : ℕ) (old : PassState) (h : Seat (Unit {0}) (View PassState)) (e : PassState) (glance : Glance) → HasLeaf l pass from turns old h glance → ends (known h) 0 e
+      → (to : Option ℕ) (behind : Behind) (p q : F) → TellsBehind to (read_words h) behind → FoldsTo leads p (rows_between from to (pairs_of (read_words h))) q → TellsPart leads old.first l.pages pass turns from to behind p q old.trail e.trail
+  part_tells l pass from turns old h e glance has ended to behind p q tells told = record {
     reply = Rows has.leaf.rows.rows has.leaf.rows.next;
-    finds = part_finds l pass from turns old h h' glance has ended;
+    finds = part_finds l pass from turns old h e glance has ended;
     ends = tells has.leaf.page has.leaf.rows.next has.leaf.leads.0 has.leaf.is has.leaf.lists.next;
     told = subst (λ (z : List (ℕ × ℕ)). FoldsTo leads p z q) (sym (below_are from (read_words h) (known h) has.leaf to)) told;
   }
@@ -66,3 +68,17 @@ module _ {F : Type 0} (leads : F → ℕ × ℕ → F → Type 0) where
         ended = tt;
         stopped = stops_there first pages pass it turns from at link to 0 (OutOfTurns out.key) listed [] [] old mid new same s left;
       }
+
+  -- ---- a scan of which a hand makes the parts
+
+  module _ (old hand : Hand PassState) (mid : PassState) (pages turns from at link : ℕ) (to : Option ℕ) (listed : List (ℕ × ℕ)) (p q r : F) (new : Trail) (same : IsSameHand old.seat hand.seat) (first : mid.first ≡ (known old.seat).first)
+      (so_far : IsSoFar (known old.seat).first pages old.number turns from to (Part at link) listed (known old.seat).trail mid.trail) (told : FoldsTo leads p listed q) where
+    -- what a part more makes of it
+    pub tells_on : (behind : Behind) → TellsPart leads mid.first pages hand.number turns at to behind q r mid.trail new → HasToldOn (known old.seat).first pages old.number turns from at to behind listed p r (known old.seat).trail new
+    tells_on behind t = told_on (known old.seat).first pages old.number hand.number turns from at link to behind listed p q r (known old.seat).trail mid.trail new (same_number old hand same) so_far told
+        (subst (λ (z : List (Option Page)). TellsPart leads z pages hand.number turns at to behind q r mid.trail new) first t)
+
+    -- where it stops
+    pub tells_until : (out : OutOfTurnsAt) → TellsNothing mid.first pages hand.number turns at out q r mid.trail new → TellsScan leads (known old.seat).first pages old.number turns from to (Err out) p r (known old.seat).trail new
+    tells_until out n = told_until (known old.seat).first pages old.number hand.number turns from at link to out listed p q r (known old.seat).trail mid.trail new (same_number old hand same) so_far told
+        (subst (λ (z : List (Option Page)). TellsNothing z pages hand.number turns at out q r mid.trail new) first n)

@@ -19,6 +19,13 @@ use Rattle.bl_index_read.specs.declared.leaf_rows.Behind.TheVariants.{Part, Noth
 use Rattle.bl_index_read.specs.LeafRows.{IsBelow, is_below, IsOver, GoesOnWithin}
 use Rattle.bl_index.specs.Scans.{rows_below, AreParts, AreCalls, Scans, EndsScan, MayScan, AppendsPart, LeavesPart, StopsAt, StopsScan, left_from}
 use Rattle.bl_model.specs.Parts.{ended_at}
+use Rattle.bl_store.specs.Hands.{known, IsSameHand}
+use Rattle.bl_store.specs.declared.store.Hand.{Hand}
+use Rattle.bl_index_rule.specs.declared.known.PassState.{PassState}
+use Rattle.bl_index_read.specs.Parts.{HasSetOff}
+use Rattle.bl_index_read.proofs.Setting.{same_number}
+use Rattle.bl_index_steps.specs.declared.tree.Tree.{Tree}
+use Rattle.bl_proc_base.specs.declared.descent.Descent.{Descent}
 use Rattle.bl_index.proofs.Scanned.{IsFrom, IsBehind, Answered, answered, part_is, only_rows, parts_push, right_more, from_more, rising_more}
 
 history_append : (xs ys : Trail) → history_of (xs ++ ys) ≡ history_of xs ++ history_of ys
@@ -167,3 +174,21 @@ stops_there first pages pass it turns from at link to room fault listed before a
   left = subst (IsBelow to) (sym left.key) below;
   stops = subst (λ (z : ℕ). StopsAt first pages z turns to room fault mid new) same left.stops;
 }
+
+-- ---- a scan of which a hand makes the parts
+
+-- a part that has set off by the number that the hand had, and has
+pub set_off_again : (tree : Tree) (old hand : Hand PassState) → IsSameHand old.seat hand.seat → (from : ℕ) (way : Descent) (mid : PassState) → HasSetOff tree hand old.number from way mid → HasSetOff tree hand hand.number from way mid
+set_off_again tree old hand same from way mid off = subst (λ (z : ℕ). HasSetOff tree hand z from way mid) (sym (same_number old hand same)) off
+
+module _ (old hand : Hand PassState) (mid : PassState) (pages turns from at link : ℕ) (to : Option ℕ) (listed before after : List (ℕ × ℕ)) (new : Trail) (same : IsSameHand old.seat hand.seat) (first : mid.first ≡ (known old.seat).first)
+    (so_far : IsSoFar (known old.seat).first pages old.number turns from to (Part at link) listed (known old.seat).trail mid.trail) where
+  -- what a part more makes of it
+  pub part_on : (behind : Behind) → AppendsPart mid.first pages hand.number turns at to behind before after mid.trail new → HasGone (known old.seat).first pages old.number turns from at to behind listed before after (known old.seat).trail new
+  part_on behind a = part_more (known old.seat).first pages old.number hand.number turns from at link to behind listed before after (known old.seat).trail mid.trail new (same_number old hand same) so_far
+      (subst (λ (z : List (Option Page)). AppendsPart z pages hand.number turns at to behind before after mid.trail new) first a)
+
+  -- where it stops
+  pub stops_at : (room : ℕ) (fault : ScanFault) → LeavesPart mid.first pages hand.number turns at to room fault before after mid.trail new → StopsScan (known old.seat).first pages old.number turns from to room fault listed (known old.seat).trail new
+  stops_at room fault left = stops_there (known old.seat).first pages old.number hand.number turns from at link to room fault listed before after (known old.seat).trail mid.trail new (same_number old hand same) so_far
+      (subst (λ (z : List (Option Page)). LeavesPart z pages hand.number turns at to room fault before after mid.trail new) first left)

@@ -111,12 +111,6 @@ pub record LeavesPart (first : List (Option Page)) (pages pass turns from : ℕ)
   pub kept : after ≡ before
   pub stops : StopsAt first pages pass turns to room fault old new
 
--- One or the other.
-pub record MayAppend (first : List (Option Page)) (pages pass turns from : ℕ) (to : Option ℕ) (room : ℕ) (result : Result Behind ScanFault)
-    (before after : List (ℕ × ℕ)) (old new : Trail) : Type 0 where
-  pub listed : IfOk result (λ behind. AppendsPart first pages pass turns from to behind before after old new)
-  pub left : IfErr result (λ fault. LeavesPart first pages pass turns from to room fault before after old new)
-
 -- A callback was told the rows of a scan that has ended, or that has stopped at a part that ran out of turns: each once, one after
 -- another, and no other row. A call of it with a row leads from one state to another one.
 pub record TellsScan {F : Type 0} (leads : F → ℕ × ℕ → F → Type 0) (first : List (Option Page)) (pages pass turns from : ℕ) (to : Option ℕ)
@@ -140,9 +134,3 @@ pub record TellsNothing {F : Type 0} (first : List (Option Page)) (pages pass tu
     pub key : out.key ≡ from
     pub kept : after ≡ before
     pub runs_out : RunsOut first pages pass turns old new
-
--- One or the other.
-pub record TellsOrStops {F : Type 0} (leads : F → ℕ × ℕ → F → Type 0) (first : List (Option Page)) (pages pass turns from : ℕ) (to : Option ℕ)
-    (result : Result Behind OutOfTurnsAt) (before after : F) (old new : Trail) : Type 0 where
-  pub told : IfOk result (λ behind. TellsPart leads first pages pass turns from to behind before after old new)
-  pub stopped : IfErr result (λ out. TellsNothing first pages pass turns from out before after old new)

@@ -5,14 +5,20 @@ ghost use Rattle.std.specs.Vec.{vec_capacity};
 ghost use Rattle.bl_store.specs.Hands.{known, IsIdle, IsSameHand, IsSameStock};
 ghost use Rattle.bl_store.specs.Owners.{IsHandOf};
 ghost use Rattle.bl_claims.specs.Seeing.{IsSeen};
+ghost use Rattle.bl_index_rule.specs.declared.known.PassState.{PassState as Knows};
 ghost use Rattle.bl_index_steps.specs.Runs.{Rests};
+ghost use Rattle.bl_index_read.specs.Parts.{HasSetOff};
 ghost use Rattle.bl_index_read.specs.LeafRows.{is_below as below, IsBelow, IsOver};
-ghost use Rattle.bl_index.specs.Scans.{MayAppend, MayScan};
+ghost use Rattle.bl_index.specs.Scans.{AppendsPart, LeavesPart, MayScan};
+ghost use Rattle.bl_index.specs.Legs.{GoesOrStops};
 
 use crate::index::{Index, Pass};
-use bl_index_read::{Behind, append_rows, descend_to_leaf, end_part, portion_in};
+use bl_index_read::{
+    Behind, append_rows, descend_to_leaf, end_part, fetch_behind, go_behind, portion_in, set_off,
+};
 use bl_index_rule::PassState;
 use bl_index_steps::FrameView;
+use bl_proc_base::Descent;
 use bl_store::Hand;
 use std::mem;
 
@@ -68,7 +74,8 @@ impl Index {
         scanned
     }
 
-    /// The same from a key below the end, with the rows by value. The first part has the anchor in mind, at which its way begins anyhow.
+    /// The same from a key below the end, with the rows by value.
+    #[inline(always)]
     fn scan(
         &self,
         pass: &mut Pass,
@@ -83,49 +90,18 @@ impl Index {
         ensures scans { MayScan (first_of self.now) (pages_of self.now) (number_of pass.old) turns from to (vec_capacity result.0 - vec_len result.0) result.1
             rows.items result.0.items (trail pass.old) (trail pass.new) }
     {
-        let mut rows = rows;
-        let mut behind = Behind::Part(from, 0);
-        while let Behind::Part(at, link) = behind {
-            let (more, part) = self.append_part(pass, at, link, to, turns, rows);
-            rows = more;
-            match part {
-                Ok(next) => behind = next,
-                Err(fault) => return (rows, Err(fault)),
-            }
-        }
-        (rows, Ok(()))
+        self.append_parts(&mut pass.hand, from, to, turns, rows)
     }
 
-    /// Appends the rows of one part that lie below the end, and says how the scan goes on. The part looks at that page first.
-    #[inline(always)]
-    fn append_part(
-        &self,
-        pass: &mut Pass,
-        from: u64,
-        near: u32,
-        to: Option<u64>,
-        turns: u32,
-        rows: Vec<(u64, u64)>,
-    ) -> (Vec<(u64, u64)>, Result<Behind, ScanFault>)
-        requires own { IsPassOf self.now pass.old }
-        requires below { IsBelow to from }
-        ensures same { IsSamePass pass.old pass.new }
-        ensures appends { MayAppend (first_of self.now) (pages_of self.now) (number_of pass.old) turns from to (vec_capacity result.0 - vec_len result.0)
-            result.1 rows.items result.0.items (trail pass.old) (trail pass.new) }
-    {
-        self.append_part_by(&mut pass.hand, from, near, to, turns, rows)
-    }
-
-    #[inline(always)]
-    fn append_part_by(
+    /// The parts of a scan, one after another: behind each, the next one has set off.
+    fn append_parts(
         &self,
         hand: &mut Hand<PassState>,
         from: u64,
-        near: u32,
         to: Option<u64>,
         turns: u32,
         rows: Vec<(u64, u64)>,
-    ) -> (Vec<(u64, u64)>, Result<Behind, ScanFault>)
+    ) -> (Vec<(u64, u64)>, Result<(), ScanFault>)
         requires own { IsHandOf self.now.tree.store hand.old }
         requires idle { IsIdle hand.old.seat }
         requires below { IsBelow to from }
@@ -133,10 +109,46 @@ impl Index {
         ensures rests { Rests hand.new.seat }
         ensures first { (known hand.new.seat).first ≡ (known hand.old.seat).first }
         ensures seen { IsSeen (known hand.new.seat).first (known hand.new.seat).trail }
-        ensures appends { MayAppend (known hand.old.seat).first self.now.tree.store.layout.pages hand.old.number turns from to
+        ensures scans { MayScan (known hand.old.seat).first self.now.tree.store.layout.pages hand.old.number turns from to
             (vec_capacity result.0 - vec_len result.0) result.1 rows.items result.0.items (known hand.old.seat).trail (known hand.new.seat).trail }
     {
-        let Some(glance) = descend_to_leaf(&self.tree, hand, from, Some(near), turns) else {
+        let mut rows = rows;
+        let mut way = set_off(&self.tree, hand, from, None);
+        let mut behind = Behind::Part(from, 0);
+        while let Behind::Part(at, _) = behind {
+            let (more, part) = self.append_part(hand, at, way, to, turns, rows);
+            rows = more;
+            match part {
+                Ok((next, on)) => {
+                    behind = next;
+                    way = on;
+                }
+                Err(fault) => return (rows, Err(fault)),
+            }
+        }
+        (rows, Ok(()))
+    }
+
+    /// Appends the rows of one part, which has set off, that lie below the end, and says how the scan goes on.
+    #[inline(always)]
+    fn append_part(
+        &self,
+        hand: &mut Hand<PassState>,
+        from: u64,
+        way: Descent,
+        to: Option<u64>,
+        turns: u32,
+        rows: Vec<(u64, u64)>,
+    ) -> (Vec<(u64, u64)>, Result<(Behind, Descent), ScanFault>)
+        requires off { (old : Knows) × (pass : ℕ) × HasSetOff self.now.tree hand.old pass from way old }
+        requires below { IsBelow to from }
+        ensures same { IsSameHand hand.old.seat hand.new.seat × IsSameStock hand.old.seat hand.new.seat }
+        ensures appends { (old : Knows) → HasSetOff self.now.tree hand.old hand.old.number from way old → GoesOrStops self.now.tree hand.new hand.old.number
+            (λ behind. AppendsPart old.first self.now.tree.store.layout.pages hand.old.number turns from to behind rows.items result.0.items)
+            (λ fault. LeavesPart old.first self.now.tree.store.layout.pages hand.old.number turns from to
+                (vec_capacity result.0 - vec_len result.0) fault rows.items result.0.items) old result.1 }
+    {
+        let Some(glance) = descend_to_leaf(&self.tree, hand, from, way, turns) else {
             return (rows, Err(ScanFault::OutOfTurns(from)));
         };
         let shown = FrameView {
@@ -144,11 +156,17 @@ impl Index {
             glance,
         };
         let portion = portion_in(&shown, hand, from, to);
+        fetch_behind(&self.tree, portion.behind);
         let (rows, appended) = append_rows(&shown, hand, portion.first, portion.last, rows);
-        end_part(&self.tree, hand);
         match appended {
-            Ok(()) => (rows, Ok(portion.behind)),
-            Err(_) => (rows, Err(ScanFault::Memory(from))),
+            Ok(()) => {
+                let on = go_behind(&self.tree, hand, portion.behind);
+                (rows, Ok((portion.behind, on)))
+            }
+            Err(_) => {
+                end_part(&self.tree, hand);
+                (rows, Err(ScanFault::Memory(from)))
+            }
         }
     }
 }

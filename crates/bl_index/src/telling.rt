@@ -4,15 +4,21 @@ ghost use Rattle.std.specs.Prelude.{◌≡◌};
 ghost use Rattle.bl_store.specs.Hands.{known, IsIdle, IsSameHand, IsSameStock};
 ghost use Rattle.bl_store.specs.Owners.{IsHandOf};
 ghost use Rattle.bl_claims.specs.Seeing.{IsSeen};
+ghost use Rattle.bl_index_rule.specs.declared.known.PassState.{PassState as Knows};
 ghost use Rattle.bl_index_steps.specs.Runs.{Rests};
+ghost use Rattle.bl_index_read.specs.Parts.{HasSetOff};
 ghost use Rattle.bl_index_read.specs.LeafRows.{IsBelow};
-ghost use Rattle.bl_index.specs.Scans.{TellsOrStops, TellsScan};
+ghost use Rattle.bl_index.specs.Scans.{TellsNothing, TellsPart, TellsScan};
+ghost use Rattle.bl_index.specs.Legs.{GoesOrStops};
 
 use crate::index::{Index, Pass};
 use crate::scanning::is_below;
-use bl_index_read::{Behind, descend_to_leaf, end_part, portion_in, tell_rows};
+use bl_index_read::{
+    Behind, descend_to_leaf, fetch_behind, go_behind, portion_in, set_off, tell_rows,
+};
 use bl_index_rule::PassState;
 use bl_index_steps::FrameView;
+use bl_proc_base::Descent;
 use bl_store::Hand;
 
 /// A part of a scan got as many pages as it was allowed, and has answered nothing.
@@ -48,48 +54,39 @@ impl Index {
         if !is_below(to, from) {
             return Ok(());
         }
-        let mut behind = Behind::Part(from, 0);
-        while let Behind::Part(at, link) = behind {
-            match self.tell_part(pass, at, link, to, turns, visit) {
-                Ok(next) => behind = next,
-                Err(out) => return Err(out),
-            }
-        }
-        Ok(())
+        self.tell_scan(pass, from, to, turns, visit)
     }
 
-    /// Tells the rows of one part that lie below the end, and says how the scan goes on. The part looks at that page first.
+    /// The same from a key below the end.
     #[inline(always)]
-    fn tell_part<F: FnMut((u64, u64))>(
+    fn tell_scan<F: FnMut((u64, u64))>(
         &self,
         pass: &mut Pass,
         from: u64,
-        near: u32,
         to: Option<u64>,
         turns: u32,
         visit: &mut F,
-    ) -> Result<Behind, OutOfTurnsAt>
+    ) -> Result<(), OutOfTurnsAt>
         requires own { IsPassOf self.now pass.old }
         requires below { IsBelow to from }
         requires callable { F.IsAlwaysCallable visit.old }
         ensures same { IsSamePass pass.old pass.new }
         ensures callable { F.IsAlwaysCallable visit.new }
-        ensures tells { TellsOrStops (λ p x q. F.step p x tt q) (first_of self.now) (pages_of self.now) (number_of pass.old) turns from to result
+        ensures tells { TellsScan (λ p x q. F.step p x tt q) (first_of self.now) (pages_of self.now) (number_of pass.old) turns from to result
             visit.old visit.new (trail pass.old) (trail pass.new) }
     {
-        self.tell_part_by(&mut pass.hand, from, near, to, turns, visit)
+        self.tell_parts(&mut pass.hand, from, to, turns, visit)
     }
 
-    #[inline(always)]
-    fn tell_part_by<F: FnMut((u64, u64))>(
+    /// The parts of a scan, one after another: behind each, the next one has set off.
+    fn tell_parts<F: FnMut((u64, u64))>(
         &self,
         hand: &mut Hand<PassState>,
         from: u64,
-        near: u32,
         to: Option<u64>,
         turns: u32,
         visit: &mut F,
-    ) -> Result<Behind, OutOfTurnsAt>
+    ) -> Result<(), OutOfTurnsAt>
         requires own { IsHandOf self.now.tree.store hand.old }
         requires idle { IsIdle hand.old.seat }
         requires below { IsBelow to from }
@@ -99,10 +96,45 @@ impl Index {
         ensures first { (known hand.new.seat).first ≡ (known hand.old.seat).first }
         ensures seen { IsSeen (known hand.new.seat).first (known hand.new.seat).trail }
         ensures callable { F.IsAlwaysCallable visit.new }
-        ensures tells { TellsOrStops (λ p x q. F.step p x tt q) (known hand.old.seat).first self.now.tree.store.layout.pages hand.old.number turns from to
+        ensures tells { TellsScan (λ p x q. F.step p x tt q) (known hand.old.seat).first self.now.tree.store.layout.pages hand.old.number turns from to
             result visit.old visit.new (known hand.old.seat).trail (known hand.new.seat).trail }
     {
-        let Some(glance) = descend_to_leaf(&self.tree, hand, from, Some(near), turns) else {
+        let mut way = set_off(&self.tree, hand, from, None);
+        let mut behind = Behind::Part(from, 0);
+        while let Behind::Part(at, _) = behind {
+            match self.tell_part(hand, at, way, to, turns, visit) {
+                Ok((next, on)) => {
+                    behind = next;
+                    way = on;
+                }
+                Err(out) => return Err(out),
+            }
+        }
+        Ok(())
+    }
+
+    /// Tells the rows of one part, which has set off, that lie below the end, and says how the scan goes on.
+    #[inline(always)]
+    fn tell_part<F: FnMut((u64, u64))>(
+        &self,
+        hand: &mut Hand<PassState>,
+        from: u64,
+        way: Descent,
+        to: Option<u64>,
+        turns: u32,
+        visit: &mut F,
+    ) -> Result<(Behind, Descent), OutOfTurnsAt>
+        requires off { (old : Knows) × (pass : ℕ) × HasSetOff self.now.tree hand.old pass from way old }
+        requires below { IsBelow to from }
+        requires callable { F.IsAlwaysCallable visit.old }
+        ensures same { IsSameHand hand.old.seat hand.new.seat × IsSameStock hand.old.seat hand.new.seat }
+        ensures callable { F.IsAlwaysCallable visit.new }
+        ensures tells { (old : Knows) → HasSetOff self.now.tree hand.old hand.old.number from way old → GoesOrStops self.now.tree hand.new hand.old.number
+            (λ behind. TellsPart (λ p x q. F.step p x tt q) old.first self.now.tree.store.layout.pages hand.old.number turns from to behind
+                visit.old visit.new)
+            (λ out. TellsNothing old.first self.now.tree.store.layout.pages hand.old.number turns from out visit.old visit.new) old result }
+    {
+        let Some(glance) = descend_to_leaf(&self.tree, hand, from, way, turns) else {
             return Err(OutOfTurnsAt { key: from });
         };
         let shown = FrameView {
@@ -110,8 +142,9 @@ impl Index {
             glance,
         };
         let portion = portion_in(&shown, hand, from, to);
+        fetch_behind(&self.tree, portion.behind);
         tell_rows(&shown, hand, portion.first, portion.last, visit);
-        end_part(&self.tree, hand);
-        Ok(portion.behind)
+        let on = go_behind(&self.tree, hand, portion.behind);
+        Ok((portion.behind, on))
     }
 }

@@ -54,4 +54,4 @@ module _ (from : ℕ) (words : List ℕ) (d : PassState) (leaf : IsAtLeaf from w
 module _ (l : Layout) (pass from turns : ℕ) (old : PassState) (h h' : Seat (Unit {0}) (View PassState)) (glance : Glance) (has : HasLeaf l pass from turns old h glance) (ended : ends (known h) 0 (known h')) where
   -- the part is answered by what was read
   pub part_answers : (next : Next) (goes : GoesOnBehind (read_words h) next) (read : PartRows) → read.rows.items ≡ rows_from from (pairs_of (read_words h)) → read.next ≡ next → Finds old.first l.pages pass turns (op.Part from) (Rows read.rows read.next) old.trail (known h').trail
-  part_answers next goes read is same = subst (λ (z : PartRows). Finds old.first l.pages pass turns (op.Part from) (Rows z.rows z.next) old.trail (known h').trail) (rows_are from (read_words h) (known h) has.leaf next goes read is same) (part_finds l pass from turns old h h' glance has ended)
+  part_answers next goes read is same = subst (λ (z : PartRows). Finds old.first l.pages pass turns (op.Part from) (Rows z.rows z.next) old.trail (known h').trail) (rows_are from (read_words h) (known h) has.leaf next goes read is same) (part_finds l pass from turns old h (known h') glance has ended)

@@ -2,6 +2,7 @@ pub mod Silent
 pub mod Searches
 pub mod Listings
 pub mod Paces
+pub mod Setting
 pub mod Ranges
 pub mod Picked
 pub mod Portions

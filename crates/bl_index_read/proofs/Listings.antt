@@ -93,34 +93,34 @@ page_reached l from a c d h glance on goes reads is Here t =
 
 -- ---- a part that has its leaf, and has ended
 
-module _ (l : Layout) (pass from turns : ℕ) (old : PassState) (h h' : Seat (Unit {0}) (View PassState)) (glance : Glance) (has : HasLeaf l pass from turns old h glance) (ended : ends (known h) 0 (known h')) where
+module _ (l : Layout) (pass from turns : ℕ) (old : PassState) (h : Seat (Unit {0}) (View PassState)) (e : PassState) (glance : Glance) (has : HasLeaf l pass from turns old h glance) (ended : ends (known h) 0 e) where
   abbrev rows : PartRows
   rows = has.leaf.rows
 
-  over : (known h').state ≡ listing from (Over rows)
+  over : e.state ≡ listing from (Over rows)
   over =
       let done = ended.1 in
       done.state ∙ sym (done.course.only (listing from (Over rows)) (subst (λ (z : Proc). Takes z seen.Done (listing from (Over rows))) (sym has.leaf.state) (refl, refl)))
 
   abbrev marks : Trail
-  marks = marks_of (name (known h).pass (known h).number) (known h').trail
+  marks = marks_of (name (known h).pass (known h).number) e.trail
 
-  own : marks ≡ marks_of (name pass (old.number + 1)) (known h').trail
-  own = λ i. marks_of (name (has.since.named i) (has.since.number i)) (known h').trail
+  own : marks ≡ marks_of (name pass (old.number + 1)) e.trail
+  own = λ i. marks_of (name (has.since.named i) (has.since.number i)) e.trail
 
   -- it has written nothing, and latched nothing
-  writes : writes_of (marks_of (name pass (old.number + 1)) (known h').trail) ≡ []
+  writes : writes_of (marks_of (name pass (old.number + 1)) e.trail) ≡ []
   writes =
       let done = ended.1 in
       ap writes_of (sym own) ∙ subst (λ (z : Proc). proc_log z marks) (sym done.state ∙ over) done.log
 
-  latches : LatchesNone (marks_of (name pass (old.number + 1)) (known h').trail)
+  latches : LatchesNone (marks_of (name pass (old.number + 1)) e.trail)
   latches = subst LatchesNone own (subst (λ (z : Proc). IsTidy z marks) over ended.0.notes.tidy)
 
-  observed : Finishes (end_of_proc (listing from (Ending rows))) (known h) (known h')
-  observed = subst (λ (z : Proc). Finishes (end_of_proc z) (known h) (known h')) has.leaf.state ended.0
+  observed : Finishes (end_of_proc (listing from (Ending rows))) (known h) e
+  observed = subst (λ (z : Proc). Finishes (end_of_proc z) (known h) e) has.leaf.state ended.0
 
-  part_done : IsDone pass old (known h') (listing from (Ending rows)) (listing from (Over rows))
+  part_done : IsDone pass old e (listing from (Ending rows)) (listing from (Over rows))
   part_done = record {
     d = known h;
     before = listing from (Ending rows);
@@ -135,12 +135,12 @@ module _ (l : Layout) (pass from turns : ℕ) (old : PassState) (h h' : Seat (Un
     tidy = latches;
   }
 
-  ended_within : IsWithinBound l.pages (name pass (old.number + 1)) (known h').trail × (gets_of (name pass (old.number + 1)) (known h').trail ≤ turns)
-  ended_within = at_answer l.pages pass (old.number + 1) turns _ (known h) (known h') has.since.named has.since.number has.last ended.0
+  ended_within : IsWithinBound l.pages (name pass (old.number + 1)) e.trail × (gets_of (name pass (old.number + 1)) e.trail ≤ turns)
+  ended_within = at_answer l.pages pass (old.number + 1) turns _ (known h) e has.since.named has.since.number has.last ended.0
 
-  pub part_finds : Finds old.first l.pages pass turns (op.Part from) (Rows rows.rows rows.next) old.trail (known h').trail
+  pub part_finds : Finds old.first l.pages pass turns (op.Part from) (Rows rows.rows rows.next) old.trail e.trail
   part_finds = record {
-    answers = op_answered old.first pass old (known h') (listing from (Ending rows)) (listing from (Over rows)) (op.Part from) (Rows rows.rows rows.next) None part_done refl refl refl;
+    answers = op_answered old.first pass old e (listing from (Ending rows)) (listing from (Over rows)) (op.Part from) (Rows rows.rows rows.next) None part_done refl refl refl;
     few = ended_within.1;
     bounded = ended_within.0;
     looks = only_looks _ latches writes;

@@ -21,8 +21,12 @@ use Rattle.bl_claims.specs.Seeing.{IsSeen}
 use Rattle.bl_index_read.specs.declared.listing.Reached.{Reached}
 use Rattle.bl_index_read.specs.declared.listing.Reached.TheVariants as reached
 use Rattle.bl_index_read.specs.Searching.{RunsOut}
-use Rattle.bl_index_steps.specs.Runs.{IsOn, IsSince, IsWithin}
-use Rattle.bl_index_read.specs.Turns.{IsAtLast}
+use Rattle.bl_store.specs.declared.store.Hand.{Hand}
+use Rattle.bl_index_steps.specs.declared.tree.Tree.{Tree}
+use Rattle.bl_index_steps.specs.Runs.{IsOn, IsSince, IsWithin, Rests, Runs}
+use Rattle.bl_index_read.specs.Turns.{IsAtTurn, IsAtLast}
+use Rattle.bl_index_read.specs.declared.leaf_rows.Behind.{Behind}
+use Rattle.bl_index_read.specs.declared.leaf_rows.Behind.TheVariants.{Part, Nothing}
 
 abbrev pub listing : ℕ → PartStage → Proc
 listing from stage = proc.Part (record { from = from; stage = stage })
@@ -67,3 +71,14 @@ pub record HasGivenUp (l : Layout) (pass turns : ℕ) (old : PassState) (h : Sea
   pub first : (known h).first ≡ old.first
   pub seen : IsSeen (known h).first (known h).trail
   pub out : RunsOut old.first l.pages pass turns old.trail (known h).trail
+
+-- A part from that key on has begun, after all that the pass of that number knew before, and is to get the first page of its way.
+pub record HasSetOff (tree : Tree) (hand : Hand PassState) (pass from : ℕ) (way : Descent) (old : PassState) : Type 0 where
+  pub runs : Runs tree hand (part_at from way)
+  pub since : IsSince pass old (known hand.seat)
+  pub turn : IsAtTurn tree.store.layout.pages pass (old.number + 1) 0 (known hand.seat).trail
+
+-- The part at a leaf has ended, and the pass knew that then: the next one has set off, or the pass rests.
+abbrev pub StandsBehind : Tree → Hand PassState → ℕ → Behind → Descent → PassState → Type 0
+StandsBehind tree hand pass (Part from link) way ended = HasSetOff tree hand pass from way ended
+StandsBehind tree hand pass Nothing way ended = Rests hand.seat × (known hand.seat ≡ ended)

@@ -11,4 +11,4 @@ mod listing;
 
 pub use finding::{OutOfTurns, find_key};
 pub use leaf_rows::{Behind, Portion, append_rows, portion_in, tell_rows};
-pub use listing::{descend_to_leaf, end_part, list_part};
+pub use listing::{descend_to_leaf, end_part, fetch_behind, go_behind, list_part, set_off};

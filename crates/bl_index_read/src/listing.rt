@@ -1,6 +1,6 @@
 //! Parts of the map, by the words of pages: a part goes by its events, and its rows are read from its leaf's words.
 
-ghost use Rattle.std.specs.Prelude.{◌≡◌, ℕ, ◌+◌, ◌<◌, List, MatchOption};
+ghost use Rattle.std.specs.Prelude.{◌≡◌, ℕ, ◌+◌, ◌<◌, List, MatchOption, IfSome};
 ghost use Rattle.bl_model.specs.declared.operation.Op.TheVariants as op;
 ghost use Rattle.bl_page.specs.Machine.Act.{Get, Look};
 ghost use Rattle.bl_page.specs.Machine.Looked.{Page as OfPage};
@@ -11,7 +11,7 @@ ghost use Rattle.bl_proc_base.specs.Descents.{descent_page};
 ghost use Rattle.bl_proc.specs.declared.parts.PartStage.TheVariants as part_stage;
 ghost use Rattle.bl_proc.specs.Processes.{next_of};
 ghost use Rattle.bl_proc_unique.specs.Courses.{GoesOn};
-ghost use Rattle.bl_store.specs.Hands.{known, IsIdle, IsRunning, IsSameHand, IsSameStock};
+ghost use Rattle.bl_store.specs.Hands.{known, IsIdle, IsRunning, IsSameHand, IsSameStock, ReadsFrom};
 ghost use Rattle.bl_store.specs.Owners.{IsHandOf};
 ghost use Rattle.bl_claims.specs.Seeing.{IsSeen};
 ghost use Rattle.bl_index_rule.specs.declared.known.PassState.{PassState as Knows};
@@ -19,10 +19,10 @@ ghost use Rattle.bl_index_rule.specs.Observed.{Begins, Steps, ends, IsUnborn};
 ghost use Rattle.bl_index_steps.specs.Runs.{Runs, Keeps, Rests, IsSince, IsWithin};
 ghost use Rattle.bl_index_read.specs.Turns.{IsAtTurn};
 ghost use Rattle.bl_index_read.specs.Searching.{AnswersOrRunsOut};
-ghost use Rattle.bl_index_read.specs.Parts.{listing, first_stage, part_at, IsAtLeaf, HasReached, HasLeaf, HasGivenUp};
+ghost use Rattle.bl_index_read.specs.Parts.{listing, first_stage, part_at, IsAtLeaf, HasReached, HasLeaf, HasGivenUp, HasSetOff, StandsBehind};
 
 use crate::finding::OutOfTurns;
-use crate::leaf_rows::{descended, link_in, next_in, rows_in};
+use crate::leaf_rows::{Behind, descended, link_in, next_in, rows_in};
 use bl_index_rule::{Began, Ended, Launch, PassState};
 use bl_index_steps::{FrameView, Tree};
 use bl_model::Reply;
@@ -58,7 +58,8 @@ pub fn list_part(
     ensures answers { AnswersOrRunsOut (known hand.old.seat).first tree.now.store.layout.pages hand.old.number turns (op.Part from) result
         (known hand.old.seat).trail (known hand.new.seat).trail }
 {
-    let Some(glance) = descend_to_leaf(tree, hand, from, *near, turns) else {
+    let way = set_off(tree, hand, from, *near);
+    let Some(glance) = descend_to_leaf(tree, hand, from, way, turns) else {
         return Err(OutOfTurns);
     };
     let shown = FrameView {
@@ -112,7 +113,6 @@ fn begin_near(tree: &Tree, hand: &mut Hand<PassState>, from: u64, page: u32)
     requires idle { IsIdle hand.old.seat }
     ensures same { IsSameHand hand.old.seat hand.new.seat × IsSameStock hand.old.seat hand.new.seat }
     ensures runs { Runs tree.now hand.new (listing from (part_stage.Probing page)) }
-    ensures begun { IsSince hand.old.number (known hand.old.seat) (known hand.new.seat) }
     ensures observed { Begins hand.old.number tree.now.store.layout.pages tree.now.store.layout.passes (listing from (part_stage.Near page))
         (known hand.old.seat) (known hand.new.seat) }
 {
@@ -135,13 +135,11 @@ fn probe(tree: &Tree, hand: &mut Hand<PassState>, from: u64, page: u32) -> Desce
 
 /// A part from that key on begins, and looks at that page first, if there is one. Any number will do for it.
 #[inline(always)]
-fn set_off(tree: &Tree, hand: &mut Hand<PassState>, from: u64, near: Option<u32>) -> Descent
+pub fn set_off(tree: &Tree, hand: &mut Hand<PassState>, from: u64, near: Option<u32>) -> Descent
     requires own { IsHandOf tree.now.store hand.old }
     requires idle { IsIdle hand.old.seat }
     ensures same { IsSameHand hand.old.seat hand.new.seat × IsSameStock hand.old.seat hand.new.seat }
-    ensures runs { Runs tree.now hand.new (part_at from result) }
-    ensures begun { IsSince hand.old.number (known hand.old.seat) (known hand.new.seat) }
-    ensures turn { IsAtTurn tree.now.store.layout.pages hand.old.number ((known hand.old.seat).number + 1) 0 (known hand.new.seat).trail }
+    ensures set_off { HasSetOff tree.now hand.new hand.old.number from result (known hand.old.seat) }
 {
     match near {
         Some(page) => {
@@ -203,23 +201,22 @@ fn seek_leaf(
     None
 }
 
-/// A part begins, at that page if there is one and it is open, and gets so many pages at most, until it has its leaf. Where it
-/// runs out of turns, it ends.
+/// A part that has set off gets so many pages at most, until it has its leaf. Where it runs out of turns, it ends.
 #[inline(always)]
 pub fn descend_to_leaf(
     tree: &Tree,
     hand: &mut Hand<PassState>,
     from: u64,
-    near: Option<u32>,
+    way: Descent,
     turns: u32,
 ) -> Option<Glance>
-    requires own { IsHandOf tree.now.store hand.old }
-    requires idle { IsIdle hand.old.seat }
+    requires off { (old : Knows) × (pass : ℕ) × HasSetOff tree.now hand.old pass from way old }
     ensures same { IsSameHand hand.old.seat hand.new.seat × IsSameStock hand.old.seat hand.new.seat }
-    ensures came { MatchOption result (HasGivenUp tree.now.store.layout hand.old.number turns (known hand.old.seat) hand.new.seat)
-        (HasLeaf tree.now.store.layout hand.old.number from turns (known hand.old.seat) hand.new.seat) }
+    ensures reads { IfSome result (λ glance. ReadsFrom hand.new.seat glance × Runs tree.now hand.new (known hand.new.seat).state) }
+    ensures came { (old : Knows) (pass : ℕ) → HasSetOff tree.now hand.old pass from way old
+        → MatchOption result (HasGivenUp tree.now.store.layout pass turns old hand.new.seat)
+        (HasLeaf tree.now.store.layout pass from turns old hand.new.seat) }
 {
-    let way = set_off(tree, hand, from, near);
     // The first page of the way is looked at here, since in a scan it mostly is the leaf.
     if turns == 0 {
         let glance = seek_leaf(tree, hand, from, way, 0)?;
@@ -243,4 +240,69 @@ pub fn end_part(tree: &Tree, hand: &mut Hand<PassState>)
     ensures ended { ends (known hand.old.seat) 0 (known hand.new.seat) }
 {
     tree.store.end::<Ended>(hand);
+}
+
+// The part, which has its leaf, ends, and the next one begins, from that key on. The bound names it beside its pass.
+#[inline(always)]
+fn relaunch_part<J: Launch>(tree: &Tree, hand: &mut Hand<PassState>, from: u64, page: u32)
+    requires runs { Runs tree.now hand.old (known hand.old.seat).state }
+    requires leaf { (at : ℕ) × (words : List ℕ) × IsAtLeaf at words (known hand.old.seat) }
+    requires names { (hand.old.number ≡ J.pass) × (tree.now.store.layout.pages ≡ J.pages) × (tree.now.store.layout.passes ≡ J.passes)
+        × (listing from (part_stage.Near page) ≡ J.process) }
+    requires next { next_of J.process ≡ act.Begin }
+    requires unborn { IsUnborn J.process }
+    requires course { GoesOn J.process seen.Done }
+    ensures same { IsSameHand hand.old.seat hand.new.seat × IsSameStock hand.old.seat hand.new.seat }
+    ensures running { IsRunning hand.new.seat }
+    ensures observed { (between : Knows) × ends (known hand.old.seat) 0 between
+        × Begins J.pass J.pages J.passes J.process between (known hand.new.seat) }
+{
+    let _ = from;
+    let _ = page;
+    tree.store.renew::<Ended, Began<J>>(hand);
+}
+
+/// The part, which has its leaf, ends, and at the same event the next one begins, from that key on, which has that page in mind.
+#[inline(always)]
+fn renew_near(tree: &Tree, hand: &mut Hand<PassState>, from: u64, page: u32)
+    requires runs { Runs tree.now hand.old (known hand.old.seat).state }
+    requires leaf { (at : ℕ) × (words : List ℕ) × IsAtLeaf at words (known hand.old.seat) }
+    ensures same { IsSameHand hand.old.seat hand.new.seat × IsSameStock hand.old.seat hand.new.seat }
+    ensures runs { Runs tree.now hand.new (listing from (part_stage.Probing page)) }
+    ensures observed { (between : Knows) × ends (known hand.old.seat) 0 between
+        × Begins hand.old.number tree.now.store.layout.pages tree.now.store.layout.passes (listing from (part_stage.Near page)) between
+        (known hand.new.seat) }
+{
+    relaunch_part::<Brand>(tree, hand, from, page);
+}
+
+/// The part, which has its leaf, ends, and behind the leaf the next one sets off, if the scan goes on. Where the leaf links to a page of
+/// the index, which each does, that is one event.
+#[inline(always)]
+pub fn go_behind(tree: &Tree, hand: &mut Hand<PassState>, behind: Behind) -> Descent
+    requires runs { Runs tree.now hand.old (known hand.old.seat).state }
+    requires leaf { (at : ℕ) × (words : List ℕ) × IsAtLeaf at words (known hand.old.seat) }
+    ensures same { IsSameHand hand.old.seat hand.new.seat × IsSameStock hand.old.seat hand.new.seat }
+    ensures stands { (between : Knows) × ends (known hand.old.seat) 0 between × StandsBehind tree.now hand.new hand.old.number behind result between }
+{
+    match behind {
+        Behind::Part(next, link) => {
+            if link < tree.pages {
+                renew_near(tree, hand, next, link);
+                return probe(tree, hand, next, link);
+            }
+            end_part(tree, hand);
+            begin_part(tree, hand, next);
+        }
+        Behind::Nothing => end_part(tree, hand),
+    }
+    Descent::AtAnchor
+}
+
+/// Fetches the leaf behind one, where the scan goes on there.
+#[inline(always)]
+pub fn fetch_behind(tree: &Tree, behind: Behind) {
+    if let Behind::Part(_, link) = behind {
+        tree.store.fetch(link);
+    }
 }

@@ -8,16 +8,16 @@ use Rattle.bl_index_read.proofs.Leaves.{GoesOnBehind, leaf_pairs, part_answers}
 use Rattle.bl_index_read.proofs.listing.list_part.Goals as goal
 
 pub rows_in-rows-requires-clause-pairs : goal.rows_in-rows-requires-clause-pairs
-rows_in-rows-requires-clause-pairs c = leaf_pairs _ _ _ c.in-Some.ensures.came.leaf
+rows_in-rows-requires-clause-pairs c = leaf_pairs _ _ _ (c.in-Some.ensures.came _ _ c.set_off-way.ensures.set_off).leaf
 
 pub end_part-requires-clause-leaf : goal.end_part-requires-clause-leaf
 end_part-requires-clause-leaf c =
-    let leaf = c.in-Some.ensures.came.leaf in
+    let leaf = (c.in-Some.ensures.came _ _ c.set_off-way.ensures.set_off).leaf in
     subst (λ (h : Hand PassState). (from : ℕ) × (words : List ℕ) × IsAtLeaf from words (known h.seat)) (sym (c.link_in.ensures.same ∙ (c.next_in-next.ensures.same ∙ c.rows_in-rows.ensures.same))) (c.args.from, _, leaf)
 
 pub returns-clause-answers : goal.returns-clause-answers
 returns-clause-answers c =
-    let has = c.in-Some.ensures.came in
+    let has = (c.in-Some.ensures.came _ _ c.set_off-way.ensures.set_off) in
     let same = c.link_in.ensures.same ∙ (c.next_in-next.ensures.same ∙ c.rows_in-rows.ensures.same) in
     let ended = subst (λ (h : Hand PassState). ends (known h.seat) 0 (known c.end_part.new.hand.seat)) same c.end_part.ensures.ended in
     let goes : GoesOnBehind (read_words c.descend_to_leaf.new.hand.seat) c.next_in-next.result = λ page tree e. c.next_in-next.ensures.next page tree (ap (λ (h : Hand PassState). read_words h.seat) c.rows_in-rows.ensures.same ∙ e) in
@@ -26,11 +26,8 @@ returns-clause-answers c =
       refused = tt;
     }
 
-pub descend_to_leaf-requires-clause-own : goal.descend_to_leaf-requires-clause-own
-descend_to_leaf-requires-clause-own c = c.requires.own
-
-pub descend_to_leaf-requires-clause-idle : goal.descend_to_leaf-requires-clause-idle
-descend_to_leaf-requires-clause-idle c = c.requires.idle
+pub descend_to_leaf-requires : goal.descend_to_leaf-requires
+descend_to_leaf-requires c = record { off = (_, _, c.set_off-way.ensures.set_off) }
 
 pub returns-clause-rests : goal.returns-clause-rests
 returns-clause-rests c = record {
@@ -40,4 +37,23 @@ returns-clause-rests c = record {
 }
 
 pub returns-in_default-clause-same : goal.returns-in_default-clause-same
-returns-in_default-clause-same c = c.descend_to_leaf.ensures.same
+returns-in_default-clause-same c = search rules
+
+pub returns-in_default-clause-rests : goal.returns-in_default-clause-rests
+returns-in_default-clause-rests c = let gone = c.in_default.ensures.came _ _ c.set_off-way.ensures.set_off in record { idle = gone.idle; within = gone.within; over = gone.rests }
+
+pub returns-in_default-clause-first : goal.returns-in_default-clause-first
+returns-in_default-clause-first c = (c.in_default.ensures.came _ _ c.set_off-way.ensures.set_off).first
+
+pub returns-in_default-clause-seen : goal.returns-in_default-clause-seen
+returns-in_default-clause-seen c = (c.in_default.ensures.came _ _ c.set_off-way.ensures.set_off).seen
+
+pub returns-in_default-clause-answers : goal.returns-in_default-clause-answers
+returns-in_default-clause-answers c = record { answered = tt; refused = (c.in_default.ensures.came _ _ c.set_off-way.ensures.set_off).out }
+
+pub returns-clause-first : goal.returns-clause-first
+returns-clause-first c =
+    let has = c.in-Some.ensures.came _ _ c.set_off-way.ensures.set_off in
+    let same = c.link_in.ensures.same ∙ (c.next_in-next.ensures.same ∙ c.rows_in-rows.ensures.same) in
+    let ended = subst (λ (h : Hand PassState). ends (known h.seat) 0 (known c.end_part.new.hand.seat)) same c.end_part.ensures.ended in
+    ended.0.notes.first ∙ has.since.beginning

@@ -1,0 +1,61 @@
+use Rattle.std.proofs.Common.{rules, ℕ, ◌<◌, subst, ◌++◌, List, [], refl, sym, ap, ◌∙◌, append_assoc, append-nil, arith}
+use Rattle.bl_index_read.specs.Parts.{StandsBehind}
+use Rattle.bl_index_read.specs.declared.leaf_rows.Behind.{Behind}
+use Rattle.bl_index_read.proofs.Setting.{same_number}
+use Rattle.bl_index.proofs.PartByPart.{scans_none, set_off_again, part_on, stops_at, left_behind}
+use Rattle.bl_index.proofs.index.Index.append_parts.Goals as goal
+
+pub loop-behind-init : goal.loop-behind-init
+loop-behind-init c = record {
+  same = search rules;
+  mid = _;
+  stands = c.set_off-way.ensures.set_off;
+  first = refl;
+  seen = λ e. let no : ⊥ = cc in absurd no;
+  listed = [];
+  grown = sym (append-nil _);
+  so_far = (omega arith, c.ranges.from.fits, c.requires.below, scans_none _ _ _ _ _ _ _);
+}
+
+pub loop-behind-preserved : goal.loop-behind-preserved
+loop-behind-preserved c =
+    let inv = c.loop-behind.invariant in
+    let went = rw c.in-Ok.is at (c.append_part-more.ensures.appends inv.mid (set_off_again _ c.args.hand.now c.loop-behind.hand inv.same.0 _ _ _ (rw c.in-Part.is at inv.stands))) in
+    let gone = part_on c.args.hand.now c.loop-behind.hand inv.mid _ _ _ _ _ _ _ _ _ _ inv.same.0 inv.first (rw c.in-Part.is at inv.so_far) _ went.does in
+    record {
+      same = search rules;
+      mid = went.new;
+      stands = subst (λ (z : ℕ). StandsBehind c.args.self.now.tree c.append_part-more.new.hand z c.in-Ok.next c.in-Ok.on went.new) (same_number c.args.hand.now c.loop-behind.hand inv.same.0) went.stands;
+      first = went.first ∙ inv.first;
+      seen = λ _. went.seen;
+      listed = inv.listed ++ gone.rows;
+      grown = gone.appended ∙ (ap (λ (z : List _). z ++ gone.rows) inv.grown ∙ append_assoc _ inv.listed gone.rows);
+      so_far = gone.so_far;
+    }
+
+pub loop-behind-smaller : goal.loop-behind-smaller
+loop-behind-smaller c =
+    let inv = c.loop-behind.invariant in
+    let went = rw c.in-Ok.is at (c.append_part-more.ensures.appends inv.mid (set_off_again _ c.args.hand.now c.loop-behind.hand inv.same.0 _ _ _ (rw c.in-Part.is at inv.stands))) in
+    let gone = part_on c.args.hand.now c.loop-behind.hand inv.mid _ _ _ _ _ _ _ _ _ _ inv.same.0 inv.first (rw c.in-Part.is at inv.so_far) _ went.does in
+    subst (λ (b : Behind). left_behind c.in-Ok.next < left_behind b) (sym c.in-Part.is) gone.less
+
+pub returns-in-Err-clause-scans : goal.returns-in-Err-clause-scans
+returns-in-Err-clause-scans c =
+    let inv = c.loop-behind.invariant in
+    let left = rw c.in-Err.is at (c.append_part-more.ensures.appends inv.mid (set_off_again _ c.args.hand.now c.loop-behind.hand inv.same.0 _ _ _ (rw c.in-Part.is at inv.stands))) in
+    record {
+      rows = inv.listed;
+      appended = left.does.kept ∙ inv.grown;
+      ended = tt;
+      stopped = stops_at c.args.hand.now c.loop-behind.hand inv.mid _ _ _ _ _ _ _ _ _ _ inv.same.0 inv.first (rw c.in-Part.is at inv.so_far) _ _ left.does;
+    }
+
+pub returns-in-Err-clause-rests : goal.returns-in-Err-clause-rests
+returns-in-Err-clause-rests c = (rw c.in-Err.is at (c.append_part-more.ensures.appends c.loop-behind.invariant.mid (set_off_again _ c.args.hand.now c.loop-behind.hand c.loop-behind.invariant.same.0 _ _ _ (rw c.in-Part.is at c.loop-behind.invariant.stands)))).rests
+
+pub returns-in-Err-clause-first : goal.returns-in-Err-clause-first
+returns-in-Err-clause-first c = (rw c.in-Err.is at (c.append_part-more.ensures.appends c.loop-behind.invariant.mid (set_off_again _ c.args.hand.now c.loop-behind.hand c.loop-behind.invariant.same.0 _ _ _ (rw c.in-Part.is at c.loop-behind.invariant.stands)))).first ∙ c.loop-behind.invariant.first
+
+pub returns-in-Err-clause-seen : goal.returns-in-Err-clause-seen
+returns-in-Err-clause-seen c = (rw c.in-Err.is at (c.append_part-more.ensures.appends c.loop-behind.invariant.mid (set_off_again _ c.args.hand.now c.loop-behind.hand c.loop-behind.invariant.same.0 _ _ _ (rw c.in-Part.is at c.loop-behind.invariant.stands)))).seen

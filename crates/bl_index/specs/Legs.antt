@@ -1,0 +1,32 @@
+-- How a scan goes on behind one of its parts, by what the pass knew before the part and what it knew when the part had ended.
+use Rattle.std.specs.Prelude.{◌≡◌, Result, Ok, Err}
+use Rattle.bl_claims.specs.Seeing.{IsSeen}
+use Rattle.bl_claims.specs.Trails.{Trail}
+use Rattle.bl_index_read.specs.Parts.{StandsBehind}
+use Rattle.bl_index_read.specs.declared.leaf_rows.Behind.{Behind}
+use Rattle.bl_index_rule.specs.declared.known.PassState.{PassState}
+use Rattle.bl_index_steps.specs.Runs.{Rests}
+use Rattle.bl_index_steps.specs.declared.tree.Tree.{Tree}
+use Rattle.bl_proc_base.specs.declared.descent.Descent.{Descent}
+use Rattle.bl_store.specs.Hands.{known}
+use Rattle.bl_store.specs.declared.store.Hand.{Hand}
+
+-- The part was answered and has ended, and the scan stands behind it.
+pub record GoesBehind (tree : Tree) (hand : Hand PassState) (pass : ℕ) (behind : Behind) (way : Descent) (did : Trail → Trail → Type 0) (old : PassState) : Type 0 where
+  pub new : PassState
+  pub stands : StandsBehind tree hand pass behind way new
+  pub first : new.first ≡ old.first
+  pub seen : IsSeen new.first new.trail
+  pub does : did old.trail new.trail
+
+-- The part has ended, and the scan stops before it.
+pub record StopsBefore (hand : Hand PassState) (did : Trail → Trail → Type 0) (old : PassState) : Type 0 where
+  pub rests : Rests hand.seat
+  pub first : (known hand.seat).first ≡ old.first
+  pub seen : IsSeen (known hand.seat).first (known hand.seat).trail
+  pub does : did old.trail (known hand.seat).trail
+
+-- One or the other.
+abbrev pub GoesOrStops : {E : Type 0} → Tree → Hand PassState → ℕ → (Behind → Trail → Trail → Type 0) → (E → Trail → Trail → Type 0) → PassState → Result (Behind × Descent) E → Type 0
+GoesOrStops tree hand pass goes stops old (Ok on) = GoesBehind tree hand pass on.0 on.1 (goes on.0) old
+GoesOrStops tree hand pass goes stops old (Err fault) = StopsBefore hand (stops fault) old
