@@ -1,5 +1,5 @@
 -- How a scan goes on behind one of its parts, by what the pass knew before the part and what it knew when the part had ended.
-use Rattle.std.specs.Prelude.{◌≡◌, Result, Ok, Err}
+use Rattle.std.specs.Prelude.{◌≡◌, ℕ, Result, Ok, Err}
 use Rattle.bl_claims.specs.Seeing.{IsSeen}
 use Rattle.bl_claims.specs.Trails.{Trail}
 use Rattle.bl_index_read.specs.Parts.{StandsBehind}

@@ -1,6 +1,6 @@
 //! Scans: parts of the map, each from where the last one ended.
 
-ghost use Rattle.std.specs.Prelude.{◌≡◌, ◌-◌, Some, vec_len};
+ghost use Rattle.std.specs.Prelude.{◌≡◌, ℕ, ◌-◌, Some, vec_len};
 ghost use Rattle.std.specs.Vec.{vec_capacity};
 ghost use Rattle.bl_store.specs.Hands.{known, IsIdle, IsSameHand, IsSameStock};
 ghost use Rattle.bl_store.specs.Owners.{IsHandOf};
@@ -146,7 +146,7 @@ impl Index {
         ensures appends { (old : Knows) → HasSetOff self.now.tree hand.old hand.old.number from way old → GoesOrStops self.now.tree hand.new hand.old.number
             (λ behind. AppendsPart old.first self.now.tree.store.layout.pages hand.old.number turns from to behind rows.items result.0.items)
             (λ fault. LeavesPart old.first self.now.tree.store.layout.pages hand.old.number turns from to
-                (vec_capacity result.0 - vec_len result.0) fault rows.items result.0.items) old result.1 }
+            (vec_capacity result.0 - vec_len result.0) fault rows.items result.0.items) old result.1 }
     {
         let Some(glance) = descend_to_leaf(&self.tree, hand, from, way, turns) else {
             return (rows, Err(ScanFault::OutOfTurns(from)));

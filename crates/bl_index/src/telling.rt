@@ -1,6 +1,6 @@
 //! Scans that tell a callback each row.
 
-ghost use Rattle.std.specs.Prelude.{◌≡◌};
+ghost use Rattle.std.specs.Prelude.{◌≡◌, ℕ};
 ghost use Rattle.bl_store.specs.Hands.{known, IsIdle, IsSameHand, IsSameStock};
 ghost use Rattle.bl_store.specs.Owners.{IsHandOf};
 ghost use Rattle.bl_claims.specs.Seeing.{IsSeen};
@@ -131,7 +131,7 @@ impl Index {
         ensures callable { F.IsAlwaysCallable visit.new }
         ensures tells { (old : Knows) → HasSetOff self.now.tree hand.old hand.old.number from way old → GoesOrStops self.now.tree hand.new hand.old.number
             (λ behind. TellsPart (λ p x q. F.step p x tt q) old.first self.now.tree.store.layout.pages hand.old.number turns from to behind
-                visit.old visit.new)
+            visit.old visit.new)
             (λ out. TellsNothing old.first self.now.tree.store.layout.pages hand.old.number turns from out visit.old visit.new) old result }
     {
         let Some(glance) = descend_to_leaf(&self.tree, hand, from, way, turns) else {

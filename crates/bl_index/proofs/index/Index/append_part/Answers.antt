@@ -1,10 +1,10 @@
-use Rattle.std.proofs.Common.{rules, ℕ, ◌≡◌, ◌-◌, ◌++◌, take, drop, refl, sym, ap, subst, ◌∙◌, arith}
+use Rattle.std.proofs.Common.{rules, ℕ, List, ◌≡◌, ◌-◌, ◌++◌, take, drop, refl, sym, ap, subst, ◌∙◌, arith}
 use Rattle.bl_page.specs.Faults.{HasPairs, pairs_of}
 use Rattle.bl_store.specs.Hands.{known, read_words}
 use Rattle.bl_store.specs.declared.store.Hand.{Hand}
 use Rattle.bl_index_rule.specs.declared.known.PassState.{PassState}
 use Rattle.bl_index_rule.specs.Observed.{ends}
-use Rattle.bl_index_read.specs.Parts.{StandsBehind}
+use Rattle.bl_index_read.specs.Parts.{IsAtLeaf, StandsBehind}
 use Rattle.bl_index_read.proofs.Leaves.{leaf_pairs}
 use Rattle.bl_index_read.proofs.Setting.{same_number}
 use Rattle.bl_index.proofs.Appended.{part_appends, part_leaves}
@@ -68,3 +68,11 @@ returns-in_default-clause-appends c = λ old off.
 
 pub returns-in_default-clause-same : goal.returns-in_default-clause-same
 returns-in_default-clause-same c = c.descend_to_leaf.ensures.same
+
+pub go_behind-on-requires-clause-leaf : goal.go_behind-on-requires-clause-leaf
+go_behind-on-requires-clause-leaf c = subst (λ (h : Hand PassState). (at : ℕ) × (words : List ℕ) × IsAtLeaf at words (known h.seat)) (sym (c.append_rows-rows.ensures.same ∙ c.portion_in-portion.ensures.same))
+    (c.args.from, _, (c.in-Some.ensures.came c.requires.off.0 c.requires.off.1 c.requires.off.2).leaf)
+
+pub end_part-requires-clause-leaf : goal.end_part-requires-clause-leaf
+end_part-requires-clause-leaf c = subst (λ (h : Hand PassState). (at : ℕ) × (words : List ℕ) × IsAtLeaf at words (known h.seat)) (sym (c.append_rows-rows.ensures.same ∙ c.portion_in-portion.ensures.same))
+    (c.args.from, _, (c.in-Some.ensures.came c.requires.off.0 c.requires.off.1 c.requires.off.2).leaf)

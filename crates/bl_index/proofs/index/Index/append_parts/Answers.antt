@@ -1,4 +1,6 @@
 use Rattle.std.proofs.Common.{rules, ℕ, ◌<◌, subst, ◌++◌, List, [], refl, sym, ap, ◌∙◌, append_assoc, append-nil, arith}
+use Rattle.bl_claims.specs.Seeing.{IsSeen}
+use Rattle.bl_index_rule.specs.declared.known.PassState.{PassState}
 use Rattle.bl_index_read.specs.Parts.{StandsBehind}
 use Rattle.bl_index_read.specs.declared.leaf_rows.Behind.{Behind}
 use Rattle.bl_index_read.proofs.Setting.{same_number}
@@ -21,7 +23,7 @@ pub loop-behind-preserved : goal.loop-behind-preserved
 loop-behind-preserved c =
     let inv = c.loop-behind.invariant in
     let went = rw c.in-Ok.is at (c.append_part-more.ensures.appends inv.mid (set_off_again _ c.args.hand.now c.loop-behind.hand inv.same.0 _ _ _ (rw c.in-Part.is at inv.stands))) in
-    let gone = part_on c.args.hand.now c.loop-behind.hand inv.mid _ _ _ _ _ _ _ _ _ _ inv.same.0 inv.first (rw c.in-Part.is at inv.so_far) _ went.does in
+    let gone = part_on c.args.hand.now c.loop-behind.hand inv.mid _ _ _ _ 0 _ _ _ _ _ inv.same.0 inv.first (rw c.in-Part.is at inv.so_far) _ went.does in
     record {
       same = search rules;
       mid = went.new;
@@ -37,7 +39,7 @@ pub loop-behind-smaller : goal.loop-behind-smaller
 loop-behind-smaller c =
     let inv = c.loop-behind.invariant in
     let went = rw c.in-Ok.is at (c.append_part-more.ensures.appends inv.mid (set_off_again _ c.args.hand.now c.loop-behind.hand inv.same.0 _ _ _ (rw c.in-Part.is at inv.stands))) in
-    let gone = part_on c.args.hand.now c.loop-behind.hand inv.mid _ _ _ _ _ _ _ _ _ _ inv.same.0 inv.first (rw c.in-Part.is at inv.so_far) _ went.does in
+    let gone = part_on c.args.hand.now c.loop-behind.hand inv.mid _ _ _ _ 0 _ _ _ _ _ inv.same.0 inv.first (rw c.in-Part.is at inv.so_far) _ went.does in
     subst (λ (b : Behind). left_behind c.in-Ok.next < left_behind b) (sym c.in-Part.is) gone.less
 
 pub returns-in-Err-clause-scans : goal.returns-in-Err-clause-scans
@@ -48,7 +50,7 @@ returns-in-Err-clause-scans c =
       rows = inv.listed;
       appended = left.does.kept ∙ inv.grown;
       ended = tt;
-      stopped = stops_at c.args.hand.now c.loop-behind.hand inv.mid _ _ _ _ _ _ _ _ _ _ inv.same.0 inv.first (rw c.in-Part.is at inv.so_far) _ _ left.does;
+      stopped = stops_at c.args.hand.now c.loop-behind.hand inv.mid _ _ _ _ 0 _ _ _ _ _ inv.same.0 inv.first (rw c.in-Part.is at inv.so_far) _ _ left.does;
     }
 
 pub returns-in-Err-clause-rests : goal.returns-in-Err-clause-rests
@@ -59,3 +61,8 @@ returns-in-Err-clause-first c = (rw c.in-Err.is at (c.append_part-more.ensures.a
 
 pub returns-in-Err-clause-seen : goal.returns-in-Err-clause-seen
 returns-in-Err-clause-seen c = (rw c.in-Err.is at (c.append_part-more.ensures.appends c.loop-behind.invariant.mid (set_off_again _ c.args.hand.now c.loop-behind.hand c.loop-behind.invariant.same.0 _ _ _ (rw c.in-Part.is at c.loop-behind.invariant.stands)))).seen
+
+pub returns-clause-seen : goal.returns-clause-seen
+returns-clause-seen c =
+    let inv = c.loop-behind.invariant in
+    subst (λ (d : PassState). IsSeen d.first d.trail) (sym (rw c.in_default.is at inv.stands).1) (inv.seen c.in_default.is)
