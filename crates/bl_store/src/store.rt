@@ -23,9 +23,6 @@ pub(crate) const RING: usize = 128;
 /// pairs.
 pub(crate) const APART: usize = 16;
 
-/// So many words are one cache line of 64 bytes.
-const LINE: usize = 8;
-
 /// One who reads and writes pages. Hands are numbered from 0, and no two of a store share a number.
 #[derive(Drop)]
 pub struct Hand<D> {
@@ -189,19 +186,18 @@ impl<D, R: PageRule<D>, A: Allocator> Store<D, R, A> {
         }
     }
 
-    /// Fetches the words of a page ahead of a look at it, so that they are near when it comes. It is no event and tells nothing.
+    /// Fetches a page ahead of a look at it: its owner's word, its own, and the first of its frame, so that they are near when it comes.
+    /// More of the frame would hold up what is done meanwhile. It is no event and tells nothing.
     #[inline(always)]
     pub fn fetch(&self, page: u32) {
         if page >= self.layout.pages {
             return;
         }
+        self.table.shared.peek(self.layout.page_owner_cell(page));
         let found = self.table.shared.peek(self.heads + page as usize);
         let frame = found.wrapping_sub(1);
         if frame < self.layout.frames() as u64 {
-            let first = self.firsts + 32 * frame as usize;
-            self.table.shared.peek(first);
-            self.table.shared.peek(first + LINE);
-            self.table.shared.peek(first + 2 * LINE);
+            self.table.shared.peek(self.firsts + 32 * frame as usize);
         }
     }
 
