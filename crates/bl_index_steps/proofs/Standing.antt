@@ -15,7 +15,7 @@ use Rattle.bl_index_rule.specs.declared.known.PassState.{PassState}
 use Rattle.bl_claims.specs.Seeing.{name}
 use Rattle.bl_index_rule.specs.Observed.{Goes, ends}
 use Rattle.bl_index_steps.specs.Held.{own_marks, proc_held}
-use Rattle.bl_index_steps.specs.Runs.{IsOn, IsSince, IsDone, IsSameProcess, EndsAs, OpensLast}
+use Rattle.bl_index_steps.specs.Runs.{IsOn, IsSince, IsDone, IsSameProcess, EndsAs}
 use Rattle.bl_index_steps.proofs.Calls.{since_step}
 use Rattle.bl_index_steps.proofs.Held.{goes_held}
 
@@ -28,9 +28,6 @@ on_as l d p on is = record { runs = on.runs; state = is; pages = on.pages; passe
 -- what it has got of the page that it latched last
 pub on_held : (l : Layout) (d : PassState) (p : Proc) → IsOn l d p → proc_held p (own_marks d)
 on_held l d p on = subst (λ (z : Proc). proc_held z (own_marks d)) on.state on.held
-
-pub opens_at : (state p ending last : Proc) (page : ℕ) → state ≡ p → OpensLast p page ending last → OpensLast state page ending last
-opens_at state p ending last page is opens = subst (λ (z : Proc). OpensLast z page ending last) (sym is) opens
 
 pub none_of : {A : Type 0} (o : Option A) → ((v : A) → o ≡ Some v → ⊥) → o ≡ None
 none_of None not = refl
@@ -105,12 +102,6 @@ is_over pass old d e first last since ending observed op work =
       log = subst (λ (z : Proc × Name). proc_log z.0 (marks_of z.1 e.trail)) (λ i. (is_last i, name (since.named i) (since.number i))) done.log;
       tidy = subst (λ (z : Proc × Name). IsTidy z.0 (marks_of z.1 e.trail)) (λ i. ((done.state ∙ is_last) i, name (since.named i) (since.number i))) observed.0.notes.tidy;
     }
-
--- by how it opened its last page
-pub ends_opened : (page : ℕ) (d e : PassState) (ending last : Proc) → Goes seen.Done d e → OpensLast d.state page ending last → (e.state ≡ ending) × EndsAs e.state last
-ends_opened page d e ending last goes opens =
-    let stands : e.state ≡ ending = goes_to seen.Done d e d.state ending goes refl opens.opened in
-    (stands, subst (λ (z : Proc). EndsAs z last) (sym stands) (record { at_end = opens.at_end; over = opens.over; ended = opens.ended }))
 
 -- the same, from an earlier state of the process on
 pub done_from : (pass : ℕ) (old e : PassState) (earlier first last : Proc) → IsDone pass old e first last → op_of first ≡ op_of earlier → work_of first ≡ work_of earlier → IsDone pass old e earlier last

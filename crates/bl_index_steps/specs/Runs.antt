@@ -98,15 +98,6 @@ pub record OpensTo (state : Proc) (page : ℕ) (next : Proc) : Type 0 where
   pub course : GoesOn state seen.Done
   pub opened : Takes state seen.Done next
 
--- The process opens that page, then ends, and is the last one then.
-pub record OpensLast (state : Proc) (page : ℕ) (ending last : Proc) : Type 0 where
-  pub next : next_of state ≡ act.Open page
-  pub course : GoesOn state seen.Done
-  pub opened : Takes state seen.Done ending
-  pub at_end : next_of ending ≡ act.End
-  pub over : GoesOn ending seen.Done
-  pub ended : Takes ending seen.Done last
-
 -- The process that was begun as first has ended as last, and has done what its answer means.
 pub record IsDone (pass : ℕ) (old e : PassState) (first last : Proc) : Type 0 where
   pub d : PassState

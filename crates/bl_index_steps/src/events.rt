@@ -15,7 +15,7 @@ ghost use Rattle.bl_store.specs.Hands.{known, read_words, IsSameHand, IsSameStag
 ghost use Rattle.bl_index_rule.specs.declared.known.PassState.{PassState as Knows};
 ghost use Rattle.bl_index_rule.specs.Observed.{Goes};
 ghost use Rattle.bl_index_steps.specs.Held.{KeepsLatch};
-ghost use Rattle.bl_index_steps.specs.Runs.{Runs, Keeps, Rests, IsSince, IsDone, EndsAs, OpensLast};
+ghost use Rattle.bl_index_steps.specs.Runs.{Runs, Keeps, Rests, IsSince, IsDone, EndsAs};
 
 use crate::tree::Tree;
 use bl_index_rule::{Ended, Got, Opened, PassState, Probed, Put, Refused, Took, Tried};
@@ -185,22 +185,5 @@ impl Tree {
         ensures keeps { KeepsLatch (known hand.old.seat) (known hand.new.seat) }
     {
         self.store.end::<Ended>(hand);
-    }
-
-    /// The process opens the only page that it holds, and ends.
-    #[inline(always)]
-    pub fn open_and_end(&self, hand: &mut Hand<PassState>, page: u32)
-        requires runs { Runs self.now hand.old (known hand.old.seat).state }
-        requires opens { (ending : Proc) × (last : Proc) × OpensLast (known hand.old.seat).state page ending last }
-        ensures same { IsSameHand hand.old.seat hand.new.seat × IsSameStock hand.old.seat hand.new.seat }
-        ensures rests { Rests hand.new.seat }
-        ensures done { (pass : ℕ) (old : Knows) (first ending last : Proc) → IsSince pass old (known hand.old.seat)
-            → OpensLast (known hand.old.seat).state page ending last → op_of ending ≡ op_of first → work_of ending ≡ work_of first
-            → IsDone pass old (known hand.new.seat) first last }
-        ensures refusal { IsSameRefusal hand.old.seat hand.new.seat }
-        ensures keeps { KeepsLatch (known hand.old.seat) (known hand.new.seat) }
-    {
-        self.reopen(hand, page);
-        self.conclude(hand);
     }
 }
