@@ -44,7 +44,8 @@ pub(crate) fn write_leaving<R: Wait>(
 ) -> (KeyReply, Option<Hint>)
     requires { IsPassOf index.now pass.old }
     ensures same { IsSamePass pass.old pass.new }
-    ensures leaves { WritesLeaving (first_of index.now) (number_of pass.old) (write_op key write) (reply_of result.0) result.1 (trail pass.old) (trail pass.new) }
+    ensures leaves { WritesLeaving (first_of index.now) (number_of pass.old) (write_op key write) (reply_of result.0) result.1
+        (trail pass.old) (trail pass.new) }
 {
     let (reply, hint) = calls::write(rt, index, pass, key, write);
     let left = follow_split(rt, index, pass, hint);

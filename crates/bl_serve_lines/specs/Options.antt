@@ -8,4 +8,5 @@ AreWithin options = (4 ≤ options.pages) × (options.pages ≤ 65536) × (1 ≤
 
 -- what is held of an option is within the limits: the value that was given, where that is within them, and the default where none was
 abbrev pub IsHeld : Option ℕ → ℕ → ℕ → ℕ → ℕ → Type 0
-IsHeld value default least most held = (least ≤ held) × (held ≤ most) × ((v : ℕ) → value ≡ Some v → least ≤ v → v ≤ most → held ≡ v) × (value ≡ None → held ≡ default)
+IsHeld value default least most held =
+    (least ≤ held) × (held ≤ most) × ((v : ℕ) → value ≡ Some v → least ≤ v → v ≤ most → held ≡ v) × (value ≡ None → held ≡ default)

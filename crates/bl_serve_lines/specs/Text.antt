@@ -15,7 +15,8 @@ abbrev pub Spells : List ℕ → Request → Type 0
 Spells line (Ask (Find key)) = (key < 2 ^ 64) × (line ≡ codes "find " ++ decimal key)
 Spells line (Ask (Insert key value)) = (key < 2 ^ 64) × (value < 2 ^ 64) × (line ≡ codes "insert " ++ decimal key ++ codes " " ++ decimal value)
 Spells line (Ask (Delete key)) = (key < 2 ^ 64) × (line ≡ codes "delete " ++ decimal key)
-Spells line (Ask (Change key old new)) = (key < 2 ^ 64) × (old < 2 ^ 64) × (new < 2 ^ 64) × (line ≡ codes "change " ++ decimal key ++ codes " " ++ decimal old ++ codes " " ++ decimal new)
+Spells line (Ask (Change key old new)) =
+    (key < 2 ^ 64) × (old < 2 ^ 64) × (new < 2 ^ 64) × (line ≡ codes "change " ++ decimal key ++ codes " " ++ decimal old ++ codes " " ++ decimal new)
 Spells line (Ask (Part from)) = ⊥
 Spells line (Scan low high) = (low < 2 ^ 64) × (high < 2 ^ 64) × (line ≡ codes "scan " ++ decimal low ++ codes " " ++ decimal high)
 Spells line Sync = line ≡ codes "sync"

@@ -59,7 +59,8 @@ pub fn two_numbers(text: &[u8]) -> Option<(u64, u64)>
 /// Three numbers with one space between each two.
 pub fn three_numbers(text: &[u8]) -> Option<(u64, u64, u64)>
     ensures found { IfSome result (λ p. text.now ≡ decimal p.0 ++ codes " " ++ decimal p.1 ++ codes " " ++ decimal p.2) }
-    ensures none { IfNone result ((m n k : ℕ) → m < 2 ^ 64 → n < 2 ^ 64 → k < 2 ^ 64 → text.now ≢ decimal m ++ codes " " ++ decimal n ++ codes " " ++ decimal k) }
+    ensures none { IfNone result ((m n k : ℕ) → m < 2 ^ 64 → n < 2 ^ 64 → k < 2 ^ 64
+        → text.now ≢ decimal m ++ codes " " ++ decimal n ++ codes " " ++ decimal k) }
 {
     let space = first_space(text);
     if space == text.len() {

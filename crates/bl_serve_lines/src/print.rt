@@ -2,7 +2,6 @@
 
 ghost use Rattle.std.specs.Prelude.{◌≡◌, ◌++◌, flat_map, OnOk, codes, decimal};
 ghost use Rattle.bl_model.specs.Replies.{reply_of};
-ghost use Rattle.bl_serve_lines.specs.Lines.{rows_below};
 ghost use Rattle.bl_serve_lines.specs.Text.{row_text, next_text, reply_text, response_text, numbered};
 
 use bl_model::{KeyReply, Next, Reply};
@@ -30,7 +29,7 @@ pub fn push_number(out: &mut Vec<u8>, word: &[u8], value: u64) -> Result<(), All
 }
 
 /// Appends a row.
-fn push_row(out: &mut Vec<u8>, row: &(u64, u64)) -> Result<(), AllocError>
+pub fn push_row(out: &mut Vec<u8>, row: &(u64, u64)) -> Result<(), AllocError>
     ensures { OnOk result (out.new.items ≡ out.old.items ++ row_text row.now) }
 {
     push_number(out, b" ", row.0)?;
@@ -43,18 +42,6 @@ fn push_rows(out: &mut Vec<u8>, rows: &[(u64, u64)]) -> Result<(), AllocError>
 {
     for row in rows {
         push_row(out, row)?;
-    }
-    Ok(())
-}
-
-/// Appends the rows whose keys lie below an end.
-pub fn push_rows_below(out: &mut Vec<u8>, rows: &[(u64, u64)], end: u64) -> Result<(), AllocError>
-    ensures { OnOk result (out.new.items ≡ out.old.items ++ flat_map row_text (rows_below end rows.now)) }
-{
-    for row in rows {
-        if row.0 < end {
-            push_row(out, row)?;
-        }
     }
     Ok(())
 }

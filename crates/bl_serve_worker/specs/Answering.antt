@@ -2,18 +2,16 @@
 use Rattle.std.specs.Prelude.{◌≡◌, ℕ, suc, ◌++◌, List, [], ◌∷◌, Option, Some, None, flat_map}
 use Rattle.std.specs.List.{AllZip}
 use Rattle.bl_model.specs.declared.operation.Entry.{Entry}
-use Rattle.bl_model.specs.declared.operation.Next.{Next}
-use Rattle.bl_model.specs.declared.operation.Op.TheVariants.{Part}
-use Rattle.bl_model.specs.declared.operation.Reply.{Reply}
 use Rattle.bl_serve_lines.specs.declared.request.Request.{Request}
 use Rattle.bl_serve_lines.specs.declared.request.Request.TheVariants.{Ask, Scan, Sync}
 use Rattle.bl_serve_lines.specs.Lines.{Answer, Replied, Scanned, Synced, Malformed, AreParts, rows_below, entries, answer_text}
-use Rattle.bl_model.specs.Parts.{rows_of, next_key, ended_at}
+use Rattle.bl_model.specs.Parts.{rows_of}
 use Rattle.bl_serve_lines.specs.Text.{numbered, row_text}
 use Rattle.bl_page.specs.declared.page.Page.{Page}
 use Rattle.bl_claims.specs.Trails.{Trail}
 use Rattle.bl_claims.specs.Seeing.{IsSeen, own, GoesOnFrom}
-use Rattle.bl_map.specs.Works.{Works}
+use Rattle.bl_map.specs.declared.handle.Handle.{Handle}
+use Rattle.bl_map.specs.Handles.{first_map_of, number_of_seat, seen_by}
 
 -- the answer is one to what was asked
 pub data IsFor : Option Request → Answer → Type 0 where
@@ -26,13 +24,6 @@ pub data IsFor : Option Request → Answer → Type 0 where
 abbrev pub answers_text : ℕ → List Answer → List ℕ
 answers_text n [] = []
 answers_text n (answer ∷ answers) = numbered n (answer_text answer) ++ answers_text (suc n) answers
-
--- A part was answered, and its rows that lie below an end were written behind what there was.
-pub record WritesPart (first : List (Option Page)) (pass from high : ℕ) (next : Next) (before after : List ℕ) (old new : Trail) : Type 0 where
-  pub reply : Reply
-  pub works : Works first pass (Part from) reply old new
-  pub ends : ended_at reply ≡ next_key next
-  pub prints : after ≡ before ++ flat_map row_text (rows_below high (rows_of reply))
 
 -- A scan was answered by its parts, which are the new entries of the pass, and their rows that lie below its end were written.
 pub record WritesRows (first : List (Option Page)) (pass low high : ℕ) (before after : List ℕ) (old new : Trail) : Type 0 where
@@ -60,3 +51,15 @@ pub record AnswersLines (first : List (Option Page)) (pass number : ℕ) (lines 
   pub begins : GoesOnFrom old new
   pub seen : IsSeen first old → IsSeen first new
   pub mine : own pass new ≡ own pass old ++ flat_map entries answers
+
+-- The handle has answered a scan, and its rows were written.
+abbrev pub HasWrittenRows : ℕ → ℕ → List ℕ → List ℕ → Handle → Handle → Type 0
+HasWrittenRows low high before after old new = WritesRows (first_map_of old) (number_of_seat old) low high before after (seen_by old) (seen_by new)
+
+-- It has answered the line of that number.
+abbrev pub HasAnswered : ℕ → Option Request → List ℕ → List ℕ → Handle → Handle → Type 0
+HasAnswered number asked before after old new = AnswersLine (first_map_of old) (number_of_seat old) number asked before after (seen_by old) (seen_by new)
+
+-- It has answered the lines, the first of them as that of that number.
+abbrev pub HasAnsweredAll : ℕ → List (Option Request) → List ℕ → Handle → Handle → Type 0
+HasAnsweredAll number lines text old new = AnswersLines (first_map_of old) (number_of_seat old) number lines text (seen_by old) (seen_by new)

@@ -29,7 +29,8 @@ pub record IsPiece (number : ℕ) (lines : List (Option Request)) (piece : Piece
   pub prints : piece.output.text.items ≡ answers_text (number + piece.output.from) piece.answers
 
 -- Batches were answered and logged: the new own entries of the pass are those of the batches, in their order.
-pub record Logs (first : List (Option Page)) (number : ℕ) (lines : List (Option Request)) (pass : ℕ) (old new : Trail) (log_old log_new : List BatchOutput) : Type 0 where
+pub record Logs (first : List (Option Page)) (number : ℕ) (lines : List (Option Request)) (pass : ℕ) (old new : Trail)
+    (log_old log_new : List BatchOutput) : Type 0 where
   pub pieces : List Piece
   pub log : log_new ≡ log_old ++ map (λ p. p.output) pieces
   pub each : All (IsPiece number lines) pieces

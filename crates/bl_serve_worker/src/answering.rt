@@ -2,19 +2,19 @@
 
 ghost use Rattle.std.specs.Prelude.{◌≡◌, suc, ◌+◌, ◌<◌, ◌≤◌, ◌^◌, ◌++◌, length, Some, IfOk, OnOk};
 ghost use Rattle.bl_model.specs.declared.operation.Op.TheVariants as op;
-ghost use Rattle.bl_map.specs.Handles.{IsSameHandle, HasCalled, HasKeptUp, first_map_of, number_of_seat, seen_by};
+ghost use Rattle.bl_map.specs.Handles.{IsSameHandle, HasCalled, HasKeptUp};
 ghost use Rattle.bl_model.specs.Replies.{reply_of};
 ghost use Rattle.bl_model.specs.Writes.{write_op, IsRead};
-ghost use Rattle.bl_serve_worker.specs.Answering.{AnswersLine, AnswersLines, WritesPart, WritesRows};
+ghost use Rattle.bl_serve_worker.specs.Answering.{HasAnswered, HasAnsweredAll, HasWrittenRows};
 
 use crate::compressing::enqueue;
 use crate::gate::Gate;
 use crate::service::Service;
 use bl_hints::Hints;
 use bl_map::{Handle, KeyReply};
-use bl_model::{KeyWrite, Next, Op, Reply};
+use bl_model::{KeyWrite, Op};
 use bl_serve_lines::print::{
-    Response, push_key_line, push_line, push_number, push_rows_below, push_word_line,
+    Response, push_key_line, push_line, push_number, push_row, push_word_line,
 };
 use bl_serve_lines::request::Request;
 use std::alloc::AllocError;
@@ -54,27 +54,8 @@ fn write<R: Wait>(
     reply
 }
 
-/// Writes the rows of a part that lie below an end, and says where the part ended.
-fn write_part<R: Wait>(
-    rt: &R,
-    handle: &mut Handle<'_>,
-    from: u64,
-    near: &mut Option<u32>,
-    high: u64,
-    text: &mut Vec<u8>,
-) -> Result<Next, AllocError>
-    ensures same { IsSameHandle handle.old handle.new }
-    ensures writes { IfOk result (λ next. WritesPart (first_map_of handle.old) (number_of_seat handle.old) from high next text.old.items text.new.items (seen_by handle.old) (seen_by handle.new)) }
-{
-    let Reply::Rows(rows, next) = handle.part(rt, from, near) else {
-        unreachable!()
-    };
-    push_rows_below(text, rows.as_slice(), high)?;
-    Ok(next)
-}
-
-/// Writes the rows of a scan: of one part after another, from a key on up to an end. The first part goes from the anchor, and each
-/// further one along the leaves.
+/// Writes the rows of a scan, from a key on up to an end: each behind the others, as it is read. Where there is no room for one, none is
+/// written behind it.
 fn write_rows<R: Wait>(
     rt: &R,
     handle: &mut Handle<'_>,
@@ -83,17 +64,16 @@ fn write_rows<R: Wait>(
     text: &mut Vec<u8>,
 ) -> Result<(), AllocError>
     ensures same { IsSameHandle handle.old handle.new }
-    ensures writes { OnOk result (WritesRows (first_map_of handle.old) (number_of_seat handle.old) low high text.old.items text.new.items (seen_by handle.old) (seen_by handle.new)) }
+    ensures writes { OnOk result (HasWrittenRows low high text.old.items text.new.items handle.old handle.new) }
 {
-    let mut at = low;
-    let mut near = None;
-    while at < high {
-        match write_part(rt, handle, at, &mut near, high, text)? {
-            Next::More(next) => at = next,
-            Next::End => return Ok(()),
+    let mut written = Ok(());
+    let mut visit = |row: (u64, u64)| {
+        if written.is_ok() {
+            written = push_row(text, &row);
         }
-    }
-    Ok(())
+    };
+    handle.scan_with(rt, low, Some(high), &mut visit);
+    written
 }
 
 /// Answers a scan.
@@ -107,7 +87,7 @@ fn scan<R: Wait>(
     text: &mut Vec<u8>,
 ) -> Result<(), AllocError>
     ensures same { IsSameHandle handle.old handle.new }
-    ensures answers { OnOk result (AnswersLine (first_map_of handle.old) (number_of_seat handle.old) number (Some (Request.Scan low high)) text.old.items text.new.items (seen_by handle.old) (seen_by handle.new)) }
+    ensures answers { OnOk result (HasAnswered number (Some (Request.Scan low high)) text.old.items text.new.items handle.old handle.new) }
 {
     push_number(text, b"", number)?;
     text.extend_from_slice(b" rows")?;
@@ -126,7 +106,7 @@ fn list<R: Wait>(
     text: &mut Vec<u8>,
 ) -> Result<(), AllocError>
     ensures same { IsSameHandle handle.old handle.new }
-    ensures answers { OnOk result (AnswersLine (first_map_of handle.old) (number_of_seat handle.old) number (Some (Request.Ask (op.Part from))) text.old.items text.new.items (seen_by handle.old) (seen_by handle.new)) }
+    ensures answers { OnOk result (HasAnswered number (Some (Request.Ask (op.Part from))) text.old.items text.new.items handle.old handle.new) }
 {
     let reply = handle.part(rt, from, &mut None);
     push_line(text, number, &Response::Replied(reply))
@@ -142,7 +122,7 @@ fn look<R: Wait>(
 ) -> Result<(), AllocError>
     requires { IsRead op }
     ensures same { IsSameHandle handle.old handle.new }
-    ensures answers { OnOk result (AnswersLine (first_map_of handle.old) (number_of_seat handle.old) number (Some (Request.Ask op)) text.old.items text.new.items (seen_by handle.old) (seen_by handle.new)) }
+    ensures answers { OnOk result (HasAnswered number (Some (Request.Ask op)) text.old.items text.new.items handle.old handle.new) }
 {
     match op {
         Op::Find(key) => {
@@ -164,7 +144,7 @@ fn operate<R: Wait>(
     text: &mut Vec<u8>,
 ) -> Result<(), AllocError>
     ensures same { IsSameHandle handle.old handle.new }
-    ensures answers { OnOk result (AnswersLine (first_map_of handle.old) (number_of_seat handle.old) number (Some (Request.Ask op)) text.old.items text.new.items (seen_by handle.old) (seen_by handle.new)) }
+    ensures answers { OnOk result (HasAnswered number (Some (Request.Ask op)) text.old.items text.new.items handle.old handle.new) }
 {
     match op.write() {
         Some((key, does)) => {
@@ -185,7 +165,7 @@ fn answer<R: Wait, G: Gate>(
     text: &mut Vec<u8>,
 ) -> Result<(), AllocError>
     ensures same { IsSameHandle handle.old handle.new }
-    ensures answers { OnOk result (AnswersLine (first_map_of handle.old) (number_of_seat handle.old) number request text.old.items text.new.items (seen_by handle.old) (seen_by handle.new)) }
+    ensures answers { OnOk result (HasAnswered number request text.old.items text.new.items handle.old handle.new) }
 {
     let (hints, gate) = (service.hints, service.gate);
     match request {
@@ -216,7 +196,7 @@ pub(crate) fn answer_lines<R: Wait, G: Gate>(
 ) -> Result<Vec<u8>, AllocError>
     requires { before + length lines.now < 2 ^ 64 }
     ensures same { IsSameHandle handle.old handle.new }
-    ensures answers { IfOk result (λ text. AnswersLines (first_map_of handle.old) (number_of_seat handle.old) (suc before) lines.now text.items (seen_by handle.old) (seen_by handle.new)) }
+    ensures answers { IfOk result (λ text. HasAnsweredAll (suc before) lines.now text.items handle.old handle.new) }
 {
     let mut text = Vec::with_capacity(service.alloc, lines.len().saturating_mul(ROOM))?;
     let mut number = before;

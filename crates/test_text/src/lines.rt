@@ -4,7 +4,7 @@ use arrayvec::ArrayVec;
 use bl_model::{Next, Reply, Watched};
 use bl_serve_lines::ServeFault;
 use bl_serve_lines::number::{number, three_numbers, two_numbers};
-use bl_serve_lines::print::{Response, push_line, push_rows_below};
+use bl_serve_lines::print::{Response, push_line, push_row};
 use bl_serve_lines::source::{Cut, KEPT, Source};
 use std::alloc::Global;
 use std::io;
@@ -65,32 +65,19 @@ fn rows_are_printed_by_number(rt: HostRuntime) -> Result<(), Fail> {
     Ok(())
 }
 
-/// Rows in order.
-const ROWS: &[(u64, u64)] = &[(7, 70), (8, 80), (9, 90), (10, 100), (11, 110)];
-
-/// Rows, an end, and the text of those below it, behind the text before.
-const BELOW: [(&[(u64, u64)], u64, &str); 3] = [
-    (ROWS, 9, " 7=70 8=80"),
-    (ROWS, 7, " 7=70 8=80"),
-    (&[(11, 110)], 99, " 7=70 8=80 11=110"),
+/// Rows, and the text that ends with each.
+const ROWS: [((u64, u64), &str); 3] = [
+    ((7, 70), " 7=70"),
+    ((8, 0), " 7=70 8=0"),
+    ((u64::MAX, 1), " 7=70 8=0 18446744073709551615=1"),
 ];
 
-/// With the rows below the end, the text is this one.
-fn is_listed_below(
-    out: &mut Vec<u8>,
-    rows: &[(u64, u64)],
-    end: u64,
-    wanted: &str,
-) -> Result<bool, Fail> {
-    push_rows_below(out, rows, end)?;
-    Ok(out.as_slice() == wanted.as_bytes())
-}
-
 #[test]
-fn rows_are_printed_below_an_end(rt: HostRuntime) -> Result<(), Fail> {
+fn rows_are_printed_behind_each_other(rt: HostRuntime) -> Result<(), Fail> {
     let mut out = Vec::new(rt.alloc());
-    for (rows, end, wanted) in BELOW {
-        assert!(rt; is_listed_below(&mut out, rows, end, wanted)?);
+    for (row, wanted) in ROWS {
+        push_row(&mut out, &row)?;
+        assert!(rt; out.as_slice() == wanted.as_bytes());
     }
     Ok(())
 }

@@ -1,29 +1,11 @@
-use Rattle.std.proofs.Common.{rules, arith}
-use Rattle.bl_serve_worker.proofs.Scanning.{goes_none, goes_more, ends_there, ends_above, goes_further}
+use Rattle.std.proofs.Common.{ℕ, rules}
+use Rattle.std.proofs.lemmas.Result.{on_ok_weaker}
+use Rattle.bl_serve_worker.specs.contracts.answering.fn.write_rows.visit as closure
+use Rattle.bl_serve_worker.proofs.Scanning.{written_rows, all_written}
 use Rattle.bl_serve_worker.proofs.answering.write_rows.Goals as goal
 
-pub loop-at-init : goal.loop-at-init
-loop-at-init g c = record { same = search rules; so_far = goes_none _ _ _ _ _ _ }
-
-pub loop-at-preserved : goal.loop-at-preserved
-loop-at-preserved g c =
-    let inv = c.loop-at.invariant in
-    let part = rw c.in-More.is at c.in_ok-next.ensures.writes in
-    record { same = search rules; so_far = goes_more c.args.handle.now c.loop-at.handle _ _ _ _ _ _ _ _ _ _ inv.same inv.so_far c.loop-at-test.true part }
-
-pub loop-at-smaller : goal.loop-at-smaller
-loop-at-smaller g c =
-    let part = rw c.in-More.is at c.in_ok-next.ensures.writes in
-    let on = goes_further _ _ _ _ _ _ _ _ _ part in
-    let t = rw c.in_ok-next.was at c.write_part.type_inv in
-    let u = rw c.in-More.is at t in
-    omega (arith, on, u)
-
-pub returns-in-End-clause-writes : goal.returns-in-End-clause-writes
-returns-in-End-clause-writes g c =
-    let inv = c.loop-at.invariant in
-    let part = rw c.in-End.is at c.in_ok-next.ensures.writes in
-    ends_there c.args.handle.now c.loop-at.handle _ _ _ _ _ _ _ _ _ inv.same inv.so_far c.loop-at-test.true part
-
 pub returns-clause-writes : goal.returns-clause-writes
-returns-clause-writes g c = ends_above _ _ _ _ _ _ _ _ _ c.loop-at.invariant.so_far (omega arith)
+returns-clause-writes g c =
+    let t = c.scan_with.ensures.tells in
+    let told = written_rows {N = ℕ × ℕ} _ (λ q. (q.0.ghost_name, q.1.ghost_name)) (λ q. (closure.captures q).written) (λ q. (closure.captures q).text.now.items) (λ q row v k. search rules) t.rows _ _ t.told in
+    on_ok_weaker _ (λ is. all_written _ _ _ _ _ _ _ _ _ _ _ _ t is) (search (rules, told))

@@ -1,8 +1,0 @@
-use Rattle.std.proofs.Common.{◌≡◌, ◌++◌, take}
-use Rattle.std.specs.Prelude.{flat_map}
-use Rattle.bl_serve_lines.specs.Lines.{rows_below}
-use Rattle.bl_serve_lines.specs.Text.{row_text}
-use Rattle.bl_serve_lines.proofs.print.push_rows_below.Given as goal
-
-abbrev pub invariant-loop-row : goal.invariant-loop-row
-invariant-loop-row l = l.out.items ≡ l.fn.out.items ++ flat_map row_text (rows_below l.end (take l.row-index l.rows))
