@@ -12,7 +12,7 @@ use Rattle.bl_model.proofs.Histories.{final_map-push, legal_rest, entries_of_pas
 use Rattle.bl_page.specs.declared.page.Page.{Page}
 use Rattle.bl_page.specs.Machine.{Name}
 use Rattle.bl_claims.specs.Trails.{Said, Trail, entries_at, history_of}
-use Rattle.bl_claims.specs.Seeing.{first_map, IsSeen, own, AreWithin}
+use Rattle.bl_claims.specs.Seeing.{first_map, IsLinearizable, own, AreWithin}
 use Rattle.bl_index.specs.declared.index.Index.{Index}
 use Rattle.bl_index.specs.declared.index.Pass.{Pass}
 use Rattle.bl_model.specs.Replies.{reply_of}
@@ -42,11 +42,11 @@ whole_own : (trail : Trail) → AreWithin 1 trail → own 0 trail ≡ history_of
 whole_own trail w = entries_of_pass-own 0 (history_of trail) (all_first trail w)
 
 -- a call that adds an entry is a step of the map
-pub alone_answers : (from : List (Option Page)) (op : Op) (reply : Reply) (old new : Trail) → AreWithin 1 old → AreWithin 1 new → IsSeen from new → own 0 new ≡ own 0 old ++ record { pass = 0; op = op; reply = reply } ∷ [] → IsMapStep (map_after from old) op reply (map_after from new)
+pub alone_answers : (from : List (Option Page)) (op : Op) (reply : Reply) (old new : Trail) → AreWithin 1 old → AreWithin 1 new → IsLinearizable from new → own 0 new ≡ own 0 old ++ record { pass = 0; op = op; reply = reply } ∷ [] → IsMapStep (map_after from old) op reply (map_after from new)
 alone_answers from op reply old new w v seen once =
     let e : Entry = record { pass = 0; op = op; reply = reply } in
     let grown : history_of new ≡ history_of old ++ e ∷ [] = sym (whole_own new v) ∙ (once ∙ ap (λ (z : List Entry). z ++ e ∷ []) (whole_own old w)) in
-    let legal : IsLegalFrom (first_map from) (history_of old ++ e ∷ []) = subst (IsLegalFrom (first_map from)) grown seen.linear.legal in
+    let legal : IsLegalFrom (first_map from) (history_of old ++ e ∷ []) = subst (IsLegalFrom (first_map from)) grown seen.legal in
     let last = legal_rest (first_map from) (history_of old) (e ∷ []) legal in
     record {
       answer = last.0;

@@ -59,7 +59,7 @@ module _ (first : List (Option Page)) (pages pass turns at : ℕ) (reply : Reply
   more = finds.answers.holds.more
 
   stands_there : Answered (first_map first) entry (history_of mid) (history_of new)
-  stands_there = answered (first_map first) pass entry (history_of mid) (history_of more) (history_of new) (ap history_of finds.answers.holds.begins ∙ history_append mid more) finds.answers.seen.linear.legal finds.answers.once
+  stands_there = answered (first_map first) pass entry (history_of mid) (history_of more) (history_of new) (ap history_of finds.answers.holds.begins ∙ history_append mid more) finds.answers.seen.legal finds.answers.once
 
   -- nothing but rows answers it
   pub rows_alone : ((rows : _) (next : _) → reply ≡ Rows rows next → ⊥) → ⊥

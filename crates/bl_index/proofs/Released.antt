@@ -5,7 +5,7 @@ use Rattle.bl_page.specs.Machine.{Name}
 use Rattle.bl_claims.specs.Trails.{Mark, Trail}
 use Rattle.bl_claims.specs.Walks.{Each}
 use Rattle.bl_index_rule.specs.declared.known.PassState.{PassState}
-use Rattle.bl_claims.specs.Seeing.{IsSeen, own, name}
+use Rattle.bl_claims.specs.Seeing.{IsLinearizable, IsSeen, own, name}
 use Rattle.bl_index_rule.specs.Observed.{sweeps}
 use Rattle.bl_index.specs.Calls.{Sweeps}
 
@@ -35,7 +35,7 @@ sweep_tells from pass count among released answer d e begins next few (inl is) =
   few = omega arith;
   begins = ap (λ (z : PassState). z.trail) is.0 ∙ sym (append-nil d.trail);
   mine = tt;
-  seen = subst (λ (z : PassState). IsSeen from z.trail) (sym is.0);
+  seen = subst (λ (z : PassState). IsLinearizable from z.trail) (sym is.0);
   none = ap (λ (z : PassState). own pass z.trail) is.0;
 }
 sweep_tells from pass count among released answer d e begins next few (inr t) = record {
@@ -45,6 +45,6 @@ sweep_tells from pass count among released answer d e begins next few (inr t) = 
   more = t.more;
   begins = t.trail;
   mine = t.mine;
-  seen = λ old. subst (λ (z : List (Option Page)). IsSeen z e.trail) (t.first ∙ begins) t.seen;
+  seen = λ old. subst (λ (z : List (Option Page)). IsLinearizable z e.trail) (t.first ∙ begins) t.seen.linear;
   none = t.own;
 }

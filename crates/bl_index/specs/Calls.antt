@@ -25,7 +25,7 @@ use Rattle.bl_proc_meanings.specs.Climbed.{MeansClimbed}
 use Rattle.bl_proc_meanings.specs.Squeezed.{MeansSqueezed}
 use Rattle.bl_proc_meanings.specs.Lowered.{MeansLowered}
 use Rattle.bl_store.specs.Hands.{known, WasRefused}
-use Rattle.bl_claims.specs.Seeing.{first_map, IsSeen, own, name}
+use Rattle.bl_claims.specs.Seeing.{first_map, IsLinearizable, own, name}
 use Rattle.bl_index_rule.specs.Observed.{IsRelease}
 use Rattle.bl_index_steps.specs.Refused.{LacksForPage, LacksForPost}
 use Rattle.bl_index.specs.declared.index.Index.{Index}
@@ -101,8 +101,7 @@ StepsAlone first index op reply old new = passes_of index ≡ 1 → IsMapStep (m
 
 -- A sweep of the pass that answered a number. Its events are releases of pages, no more than that number, all of them by one
 -- process of its own, which had done nothing before and does not begin. The entries of the pass are those of before, and if
--- what the pass had seen was a trail that an index
--- may have, then so is what it has seen now.
+-- what the pass had seen was linearizable, then so is what it has seen now.
 pub record Sweeps (first : List (Option Page)) (pass answer : ℕ) (old new : Trail) : Type 0 where
   pub number : ℕ
   pub fresh : Each (λ (m : Mark). m.event.process ≢ name pass number) old
@@ -110,7 +109,7 @@ pub record Sweeps (first : List (Option Page)) (pass answer : ℕ) (old new : Tr
   pub begins : new ≡ old ++ more
   pub mine : Each (λ (m : Mark). m.event.process.pass ≡ pass → IsRelease (name pass number) m) more
   pub few : length (marks_of (name pass number) more) ≤ answer
-  pub seen : IsSeen first old → IsSeen first new
+  pub seen : IsLinearizable first old → IsLinearizable first new
   pub none : own pass new ≡ own pass old
 
 -- An insertion, a deletion or a change is answered, and its process has written what its reply means with the hint beside it. It

@@ -9,7 +9,7 @@ use Rattle.bl_model.specs.declared.operation.Entry.{Entry}
 use Rattle.bl_model.specs.declared.operation.Op.TheVariants.{Part}
 use Rattle.bl_model.specs.declared.operation.Reply.{Reply}
 use Rattle.bl_claims.specs.Trails.{Trail, history_of}
-use Rattle.bl_claims.specs.Seeing.{first_map, IsSeen, own, GoesOnFrom}
+use Rattle.bl_claims.specs.Seeing.{first_map, IsLinearizable, own, GoesOnFrom}
 use Rattle.bl_index_read.specs.Searching.{Finds, RunsOut}
 use Rattle.bl_index_read.specs.declared.leaf_rows.Behind.{Behind}
 use Rattle.bl_index.specs.declared.scanning.ScanFault.{ScanFault}
@@ -51,7 +51,7 @@ pub record Scans (first : List (Option Page)) (pages pass turns from : ℕ) (to 
   pub are_parts : AreParts pass to (Some from) parts upto
   pub calls : AreCalls first pages pass turns parts old new
   pub begins : GoesOnFrom old new
-  pub seen : IsSeen first old → IsSeen first new
+  pub seen : IsLinearizable first old → IsLinearizable first new
   pub mine : own pass new ≡ own pass old ++ parts
   pub listed : rows ≡ flat_map (λ part. rows_below to part.reply) parts
   pub rising : HasRisingKeys rows

@@ -12,7 +12,7 @@ use Rattle.bl_proc.specs.declared.kinds.Proc.{Proc}
 use Rattle.bl_proc_invariant.specs.Knowing.{Run, know}
 use Rattle.bl_claims.specs.Latches.{OnlyLooks}
 use Rattle.bl_index_rule.specs.declared.known.PassState.{PassState}
-use Rattle.bl_claims.specs.Seeing.{IsSeen, AreElse, AreOnlyOf, own, Holds, name}
+use Rattle.bl_claims.specs.Seeing.{IsLinearizable, AreElse, AreOnlyOf, own, Holds, name}
 use Rattle.bl_index_rule.specs.Observed.{Steps, Begins, Finishes}
 use Rattle.bl_index_rule.proofs.Marks.{each_append}
 use Rattle.bl_index_steps.specs.Runs.{IsSince}
@@ -95,8 +95,8 @@ since_end pass answer old d e s t =
     }
 
 -- what the index began with, and what the pass has seen by then
-pub end_seen : (pass : ℕ) (answer : Option Reply) (old d e : PassState) (first : List (Option Page)) → IsSince pass old d → Finishes answer d e → old.first ≡ first → (e.first ≡ first) × IsSeen first e.trail
-end_seen pass answer old d e first s t is = let same : e.first ≡ first = t.notes.first ∙ (s.beginning ∙ is) in (same, subst (λ (z : List (Option Page)). IsSeen z e.trail) same t.notes.seen)
+pub end_seen : (pass : ℕ) (answer : Option Reply) (old d e : PassState) (first : List (Option Page)) → IsSince pass old d → Finishes answer d e → old.first ≡ first → (e.first ≡ first) × IsLinearizable first e.trail
+end_seen pass answer old d e first s t is = let same : e.first ≡ first = t.notes.first ∙ (s.beginning ∙ is) in (same, subst (λ (z : List (Option Page)). IsLinearizable z e.trail) same t.notes.seen.linear)
 
 -- what the pass has said by then
 pub since_said : (pass : ℕ) (answer : Option Reply) (old d e : PassState) (said : Option Said) → IsSince pass old d → Finishes answer d e → ((r : Run) → r.state ≡ d.state → (know r).said ≡ said) → own pass e.trail ≡ own pass old.trail ++ entries_at (name pass (old.number + 1)) said

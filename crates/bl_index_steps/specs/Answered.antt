@@ -4,7 +4,7 @@ use Rattle.bl_model.specs.declared.operation.Op.{Op}
 use Rattle.bl_model.specs.declared.operation.Reply.{Reply}
 use Rattle.bl_page.specs.declared.page.Page.{Page}
 use Rattle.bl_claims.specs.Trails.{Trail, marks_of}
-use Rattle.bl_claims.specs.Seeing.{IsSeen, own, Holds, name}
+use Rattle.bl_claims.specs.Seeing.{IsLinearizable, own, Holds, name}
 
 -- The process of a call, whose events stand in what is new of the trail, answered that, and what it did is so.
 pub record InCall (pass : ℕ) (answer : Option Reply) (old new : Trail) (IsSo : Trail → Type 0) : Type 0 where
@@ -13,17 +13,17 @@ pub record InCall (pass : ℕ) (answer : Option Reply) (old new : Trail) (IsSo :
   pub is : IsSo (marks_of (name pass number) new)
 
 -- A call of the pass is answered: it is one process, begun and ended after all that the pass had seen, and the pass has done
--- nothing else since. What the pass has seen then is a trail that an index may have, and its only new entry of this pass is
--- this operation with this reply.
+-- nothing else since. What the pass has seen then is linearizable, and its only new entry of this pass is this operation with this
+-- reply.
 pub record Answers (first : List (Option Page)) (pass : ℕ) (op : Op) (reply : Reply) (old new : Trail) : Type 0 where
   pub number : ℕ
   pub holds : Holds (name pass number) (Some reply) old new
-  pub seen : IsSeen first new
+  pub seen : IsLinearizable first new
   pub once : own pass new ≡ own pass old ++ record { pass = pass; op = op; reply = reply } ∷ []
 
 -- The same of a call that says nothing of the map.
 pub record Adds (first : List (Option Page)) (pass : ℕ) (old new : Trail) : Type 0 where
   pub number : ℕ
   pub holds : Holds (name pass number) None old new
-  pub seen : IsSeen first new
+  pub seen : IsLinearizable first new
   pub none : own pass new ≡ own pass old

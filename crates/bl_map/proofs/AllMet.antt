@@ -6,7 +6,7 @@ use Rattle.std.proofs.lemmas.List.Elements.{All-nil, All-push, All-weaker, AllZi
 use Rattle.std.proofs.lemmas.List.{take_more, take_all}
 use Rattle.bl_page.specs.declared.page.Page.{Page}
 use Rattle.bl_claims.specs.Trails.{Trail}
-use Rattle.bl_claims.specs.Seeing.{IsSeen, own, GoesOnFrom}
+use Rattle.bl_claims.specs.Seeing.{IsLinearizable, own, GoesOnFrom}
 use Rattle.bl_index.specs.declared.index.Index.{Index}
 use Rattle.bl_index.specs.declared.index.Pass.{Pass}
 use Rattle.bl_index.specs.Calls.{IsSamePass}
@@ -70,7 +70,7 @@ pub record LearnsUpTo (first : List (Option Page)) (one one' : Handle) (others o
   pub keeps : KeepsHints one one'
   pub begins : GoesOnFrom (seen_by one) (seen_by one')
   pub none : own (number_of_seat one) (seen_by one') ≡ own (number_of_seat one) (seen_by one)
-  pub may_be : IsSeen first (seen_by one) → IsSeen first (seen_by one')
+  pub may_be : IsLinearizable first (seen_by one) → IsLinearizable first (seen_by one')
   pub kept : AllZip Keeps others others'
   pub known : All (Knows one') (take i others')
 
@@ -86,7 +86,7 @@ learns_none first one others = record {
 }
 
 pub learns_one : (first : List (Option Page)) (one mid new d other other' : Handle) (others now : List Handle) (i : ℕ) → LearnsUpTo first one mid others now i → i < length now → other ≡ get_or now i d
-    → IsSameHandle mid new → KeepsHints mid new → Keeps other other' → Learns (number_of_seat mid) (number_of_seat other) (seen_by mid) (seen_by other) (seen_by new) → IsSeen first (seen_by new)
+    → IsSameHandle mid new → KeepsHints mid new → Keeps other other' → Learns (number_of_seat mid) (number_of_seat other) (seen_by mid) (seen_by other) (seen_by new) → IsLinearizable first (seen_by new)
     → LearnsUpTo first one new others (set now i other') (i + 1)
 learns_one first one mid new d other other' others now i l low at same keeps kept learns seen = record {
   same = same_again one mid new l.same same;

@@ -3,7 +3,7 @@ use Rattle.std.specs.Prelude.{◌≡◌, List, Option, All}
 use Rattle.std.specs.List.{AllZip}
 use Rattle.bl_page.specs.declared.page.Page.{Page}
 use Rattle.bl_claims.specs.Trails.{Trail}
-use Rattle.bl_claims.specs.Seeing.{IsSeen, own, GoesOnFrom}
+use Rattle.bl_claims.specs.Seeing.{IsLinearizable, own, GoesOnFrom}
 use Rattle.bl_index.specs.declared.index.Index.{Index}
 use Rattle.bl_index.specs.declared.index.Pass.{Pass}
 use Rattle.bl_index.specs.Calls.{IsPassOf, IsSamePass, number_of, trail}
@@ -35,13 +35,13 @@ pub record LearnsAll (first : List (Option Page)) (one one' : Handle) (others ot
   pub keeps : KeepsHints one one'
   pub begins : GoesOnFrom (seen_by one) (seen_by one')
   pub none : own (number_of_seat one) (seen_by one') ≡ own (number_of_seat one) (seen_by one)
-  pub may_be : IsSeen first (seen_by one) → IsSeen first (seen_by one')
+  pub may_be : IsLinearizable first (seen_by one) → IsLinearizable first (seen_by one')
   pub kept : AllZip Keeps others others'
   pub known : All (λ h. GoesOnFrom (seen_by h) (seen_by one')) others'
 
--- All have seen one trail. It is one that an index may have, if what the first one had seen was.
+-- All have seen one trail. It is linearizable, if what the first one had seen was.
 pub record HaveAllMet (first : List (Option Page)) (one : Handle) (others : List Handle) (one' : Handle) (others' : List Handle) : Type 0 where
   pub seen : Trail
   pub mine : HasCome seen one one'
   pub theirs : AllZip (HasCome seen) others others'
-  pub may_be : IsSeen first (seen_by one) → IsSeen first seen
+  pub may_be : IsLinearizable first (seen_by one) → IsLinearizable first seen

@@ -5,7 +5,7 @@ use Rattle.bl_page.specs.declared.page.Page.{Page}
 use Rattle.bl_model.specs.Rows.{HasRisingKeys}
 use Rattle.bl_model.specs.declared.operation.Entry.{Entry}
 use Rattle.bl_claims.specs.Trails.{Trail, history_of}
-use Rattle.bl_claims.specs.Seeing.{IsSeen, own, GoesOnFrom}
+use Rattle.bl_claims.specs.Seeing.{IsLinearizable, own, GoesOnFrom}
 use Rattle.bl_index_read.specs.LeafRows.{IsBelow, IsOver}
 use Rattle.bl_index.specs.Scans.{rows_below, AreParts, IsRight, FindsNoRoom}
 use Rattle.bl_map.specs.Works.{Searches}
@@ -16,7 +16,7 @@ pub record HasScanned (first : List (Option Page)) (pass from : ℕ) (to upto : 
   pub parts : List Entry
   pub are_parts : AreParts pass to (Some from) parts upto
   pub begins : GoesOnFrom old new
-  pub seen : IsSeen first old → IsSeen first new
+  pub seen : IsLinearizable first old → IsLinearizable first new
   pub mine : own pass new ≡ own pass old ++ parts
   pub listed : rows ≡ flat_map (λ part. rows_below to part.reply) parts
   pub rising : HasRisingKeys rows
@@ -36,7 +36,7 @@ pub record Scanned {E : Type 0} (first : List (Option Page)) (pages pass from : 
   pub over : OnOk result (IsOver to upto × (new ≡ mid))
   pub stopped : OnErr result ((key : ℕ) × (upto ≡ Some key) × FindsNoRoom first pages pass pages key to room mid new)
   pub begins : GoesOnFrom mid new
-  pub seen : IsSeen first mid → IsSeen first new
+  pub seen : IsLinearizable first mid → IsLinearizable first new
 
 -- A callback was told the rows of a scan that came to its end or to that of the map: each once, one after another, and no other row.
 -- A call of it with a row leads from one state to another one. Beside that the scan has done nothing but search for its parts.

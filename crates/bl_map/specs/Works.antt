@@ -4,22 +4,22 @@ use Rattle.bl_model.specs.declared.operation.Op.{Op}
 use Rattle.bl_model.specs.declared.operation.Reply.{Reply}
 use Rattle.bl_page.specs.declared.page.Page.{Page}
 use Rattle.bl_claims.specs.Trails.{Trail}
-use Rattle.bl_claims.specs.Seeing.{IsSeen, own, GoesOnFrom}
+use Rattle.bl_claims.specs.Seeing.{IsLinearizable, own, GoesOnFrom}
 use Rattle.bl_model.specs.declared.operation.Entry.{Entry}
 use Rattle.bl_index.specs.Calls.{Sweeps}
 use Rattle.bl_index_read.specs.Searching.{Finds, RunsOut}
 
--- What the pass has seen begins with what it had seen and is a trail that an index may have, and its only new entry of this
--- pass is this operation with this reply.
+-- What the pass has seen begins with what it had seen and is linearizable, and its only new entry of this pass is this operation with
+-- this reply.
 pub record Works (first : List (Option Page)) (pass : ℕ) (op : Op) (reply : Reply) (old new : Trail) : Type 0 where
   pub begins : GoesOnFrom old new
-  pub seen : IsSeen first new
+  pub seen : IsLinearizable first new
   pub once : own pass new ≡ own pass old ++ record { pass = pass; op = op; reply = reply } ∷ []
 
 -- The same of what adds no entry.
 pub record Adds (first : List (Option Page)) (pass : ℕ) (old new : Trail) : Type 0 where
   pub begins : GoesOnFrom old new
-  pub seen : IsSeen first old → IsSeen first new
+  pub seen : IsLinearizable first old → IsLinearizable first new
   pub none : own pass new ≡ own pass old
 
 -- The pass has made searches, one after another, each with a turn for each page, and has done nothing else: some ran out of turns, and

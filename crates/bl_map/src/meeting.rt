@@ -2,7 +2,7 @@
 
 ghost use Rattle.std.specs.Prelude.{◌≡◌, All};
 ghost use Rattle.std.specs.List.{AllZip};
-ghost use Rattle.bl_claims.specs.Seeing.{IsSeen, GoesOnFrom};
+ghost use Rattle.bl_claims.specs.Seeing.{IsLinearizable, GoesOnFrom};
 ghost use Rattle.bl_index.specs.Calls.{first_of};
 ghost use Rattle.bl_index.specs.Meetings.{Learns, Hears};
 ghost use Rattle.bl_map.specs.Handles.{IsSameHandle, KeepsHints, number_of_seat, seen_by};
@@ -17,7 +17,7 @@ fn learn(index: &Index, one: &mut Handle<'_>, other: &mut Handle<'_>)
     ensures same { IsSameHandle one.old one.new × KeepsHints one.old one.new }
     ensures other { Keeps other.old other.new }
     ensures learns { Learns (number_of_seat one.old) (number_of_seat other.old) (seen_by one.old) (seen_by other.old) (seen_by one.new) }
-    ensures seen { IsSeen (first_of index.now) (seen_by one.new) }
+    ensures seen { IsLinearizable (first_of index.now) (seen_by one.new) }
 {
     index.learn(&mut one.pass, &mut other.pass);
 }

@@ -24,7 +24,7 @@ use Rattle.bl_serve.specs.Sections.{rests, syncs, end_text, CountsSection, Held}
 use Rattle.bl_serve.specs.Serving.{ServedBy}
 use Rattle.bl_page.specs.declared.page.Page.{Page}
 use Rattle.bl_claims.specs.Trails.{Trail, history_of}
-use Rattle.bl_claims.specs.Seeing.{first_map, IsSeen}
+use Rattle.bl_claims.specs.Seeing.{first_map, IsLinearizable}
 use Rattle.bl_index.specs.Calls.{map_after}
 use Rattle.bl_serve_lines.proofs.Sections.{output_append, no_sync_inside, no_sync_any}
 use Rattle.bl_serve.proofs.Spelled.{lines_with, AreLines, are_lines, no_sync_lines, sync_lines, lawful}
@@ -59,15 +59,15 @@ pub no_progress : (old : Trail) (totals : Totals) → (totals.requests ≡ 0) ×
 no_progress old totals none = record { sections = []; more = []; begins = sym (append-nil old); each = All-nil IsFinished; history = refl; read = refl; written = refl; requests = none.0; malformed = none.1; finished = none.2 }
 
 -- a history goes on lawfully behind the one that was seen
-legal_on : (first : List (Option Page)) (old now more : Trail) (h : List Entry) → IsSeen first (now ++ more) → (begun : Trail) → now ≡ old ++ begun → history_of begun ≡ h → IsLegalFrom (map_after first old) (h ++ history_of more)
+legal_on : (first : List (Option Page)) (old now more : Trail) (h : List Entry) → IsLinearizable first (now ++ more) → (begun : Trail) → now ≡ old ++ begun → history_of begun ≡ h → IsLegalFrom (map_after first old) (h ++ history_of more)
 legal_on first old now more h seen begun is same =
     subst (λ (z : List Entry). IsLegalFrom (map_after first old) (z ++ history_of more)) same
     (legal_rest (first_map first) (history_of old) (history_of begun ++ history_of more)
-    (subst (IsLegalFrom (first_map first)) (history_append now more ∙ (ap (λ (z : Trail). history_of z ++ history_of more) is ∙ (ap (λ (z : List Entry). z ++ history_of more) (history_append old begun) ∙ append_assoc (history_of old) (history_of begun) (history_of more)))) seen.linear.legal))
+    (subst (IsLegalFrom (first_map first)) (history_append now more ∙ (ap (λ (z : Trail). history_of z ++ history_of more) is ∙ (ap (λ (z : List Entry). z ++ history_of more) (history_append old begun) ∙ append_assoc (history_of old) (history_of begun) (history_of more)))) seen.legal))
 
-legal_so_far : (first : List (Option Page)) (old now : Trail) (h : List Entry) → IsSeen first now → (begun : Trail) → now ≡ old ++ begun → history_of begun ≡ h → IsLegalFrom (map_after first old) h
+legal_so_far : (first : List (Option Page)) (old now : Trail) (h : List Entry) → IsLinearizable first now → (begun : Trail) → now ≡ old ++ begun → history_of begun ≡ h → IsLegalFrom (map_after first old) h
 legal_so_far first old now h seen begun is same = subst (IsLegalFrom (map_after first old)) same
-    (legal_rest (first_map first) (history_of old) (history_of begun) (subst (IsLegalFrom (first_map first)) (ap history_of is ∙ history_append old begun) seen.linear.legal))
+    (legal_rest (first_map first) (history_of old) (history_of begun) (subst (IsLegalFrom (first_map first)) (ap history_of is ∙ history_append old begun) seen.legal))
 
 -- ---- a section
 
@@ -145,7 +145,7 @@ open_text s lines rest text tail n k e long is ends = ap (λ (z : List ℕ). z +
     ∙ (ap (λ (z : ℕ). output_of (suc z) lines ++ rest_text (n + k + 1) rest) e ∙ ap (λ (z : ℕ). output_of (suc (length (lines_of s))) lines ++ rest_text z rest) (let at : n + k + 1 ≡ suc (length (lines_of s)) + length lines = omega (arith, e, long) in at)))
 
 pub serves_end : (first : List (Option Page)) (old now : Trail) (before totals : Totals) (input output unread left text rest : List ℕ) (asked : List (Option Request)) (more : Trail) (end : SectionEnd)
-    → Progress old now before input output → ReadsLines unread left asked rest → AsksNoSync asked → Held before.requests asked text more → CountsSection before totals asked end → Ends end rest → IsSeen first (now ++ more)
+    → Progress old now before input output → ReadsLines unread left asked rest → AsksNoSync asked → Held before.requests asked text more → CountsSection before totals asked end → Ends end rest → IsLinearizable first (now ++ more)
     → (consumed : List ℕ) × (unread ≡ consumed ++ left) × (length asked + length rest ≤ length consumed) × ServedBy first old (now ++ more) (input ++ consumed) (output ++ (text ++ end_text end (before.requests + length asked + 1))) totals
 serves_end first old now before totals input output unread left text rest asked more end p r no_sync h counts ends seen =
     let lines : List Line = the_lines unread left asked rest r before.requests text more h in
@@ -188,7 +188,7 @@ serves_end first old now before totals input output unread left text rest asked 
 -- ---- faults
 
 -- in the open section: nothing of it is written
-pub stops_inside : (first : List (Option Page)) (old now : Trail) (before : Totals) (input output ahead : List ℕ) (fault : ServeFault) (ReaderFailed WriterFailed : Type 0) → (p : Progress old now before input output) → IsSeen first now
+pub stops_inside : (first : List (Option Page)) (old now : Trail) (before : Totals) (input output ahead : List ℕ) (fault : ServeFault) (ReaderFailed WriterFailed : Type 0) → (p : Progress old now before input output) → IsLinearizable first now
     → Leaves fault (length (lines_of p.sections)) [] ahead [] → ComesFrom fault ReaderFailed WriterFailed → Stops (map_after first old) (input ++ ahead) output fault ReaderFailed WriterFailed
 stops_inside first old now before input output ahead fault ReaderFailed WriterFailed p seen leaves comes = (
   record {
@@ -249,7 +249,7 @@ stopped first old now before input output unread left rest begun unwritten fault
 }
 
 -- a read failed. The lines of the open section were not answered; they could have been so.
-pub stops_reading : (first : List (Option Page)) (old now : Trail) (before : Totals) (input output unread left rest : List ℕ) (asked : List (Option Request)) (ReaderFailed WriterFailed : Type 0) → Progress old now before input output → IsSeen first now
+pub stops_reading : (first : List (Option Page)) (old now : Trail) (before : Totals) (input output unread left rest : List ℕ) (asked : List (Option Request)) (ReaderFailed WriterFailed : Type 0) → Progress old now before input output → IsLinearizable first now
     → ReadsLines unread left asked rest → AsksNoSync asked → left ≡ [] → ReaderFailed → Stops (map_after first old) (input ++ unread) output Read ReaderFailed WriterFailed
 stops_reading first old now before input output unread left rest asked ReaderFailed WriterFailed p seen r no_sync none failed =
     let s = p.sections in
@@ -269,7 +269,7 @@ stops_reading first old now before input output unread left rest asked ReaderFai
 
 -- a write of the section's output failed
 pub stops_writing : (first : List (Option Page)) (old now : Trail) (before : Totals) (input output unread left text rest out unwritten : List ℕ) (asked : List (Option Request)) (more : Trail) (end : SectionEnd) (ReaderFailed WriterFailed : Type 0)
-    → Progress old now before input output → (r : ReadsLines unread left asked rest) → (h : Held before.requests asked text more) → HasNoSyncInside (lines_with r.texts h.answers) → ((n : ℕ) → end_text end n ≡ rest_text n rest) → IsSeen first (now ++ more)
+    → Progress old now before input output → (r : ReadsLines unread left asked rest) → (h : Held before.requests asked text more) → HasNoSyncInside (lines_with r.texts h.answers) → ((n : ℕ) → end_text end n ≡ rest_text n rest) → IsLinearizable first (now ++ more)
     → text ++ end_text end (before.requests + length asked + 1) ≡ out ++ unwritten → WriterFailed → Stops (map_after first old) (input ++ unread) (output ++ out) Write ReaderFailed WriterFailed
 stops_writing first old now before input output unread left text rest out unwritten asked more end ReaderFailed WriterFailed p r h inside prints seen split failed =
     let s = p.sections in let lines : List Line = the_lines unread left asked rest r before.requests text more h in

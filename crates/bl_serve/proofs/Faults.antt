@@ -18,7 +18,7 @@ use Rattle.bl_serve_lines.specs.Served.{Stops, HasNoSyncInside, whole_lines}
 use Rattle.bl_serve_lines.specs.Streams.{EndsRead}
 use Rattle.bl_page.specs.declared.page.Page.{Page}
 use Rattle.bl_claims.specs.Trails.{Trail}
-use Rattle.bl_claims.specs.Seeing.{IsSeen}
+use Rattle.bl_claims.specs.Seeing.{IsLinearizable}
 use Rattle.bl_index.specs.declared.index.Index.{Index}
 use Rattle.bl_index.specs.declared.index.Pass.{Pass}
 use Rattle.bl_index.specs.Calls.{first_of, map_after}
@@ -43,7 +43,7 @@ room section_end.Finished before asked rest unread left AtEnd Failed e low = let
 -- ---- faults
 
 -- the section could not be read whole
-pub stops_at_read : (first : List (Option Page)) (fault : ServeFault) (old now : Trail) (before : Totals) (input output unread left rest : List ℕ) (asked : List (Option Request)) (most : ℕ) (AtEnd ReaderFailed WriterFailed : Type 0) → Progress old now before input output → IsSeen first now
+pub stops_at_read : (first : List (Option Page)) (fault : ServeFault) (old now : Trail) (before : Totals) (input output unread left rest : List ℕ) (asked : List (Option Request)) (most : ℕ) (AtEnd ReaderFailed WriterFailed : Type 0) → Progress old now before input output → IsLinearizable first now
     → EndsReading (Err fault) most asked rest unread left AtEnd ReaderFailed → Stops (map_after first old) (input ++ unread) output fault ReaderFailed WriterFailed
 stops_at_read first Read old now before input output unread left rest asked most AtEnd ReaderFailed WriterFailed p seen e = stops_reading first old now before input output unread left rest asked ReaderFailed WriterFailed p seen e.0 e.1 e.2 e.3
 stops_at_read first Write old now before input output unread left rest asked most AtEnd ReaderFailed WriterFailed p seen e = absurd e
@@ -68,7 +68,7 @@ reads_of section_end.Rest most asked rest unread left AtEnd Failed e = e.0
 reads_of section_end.Finished most asked rest unread left AtEnd Failed e = e.0
 
 -- it could not be answered
-pub stops_at_answers : (first : List (Option Page)) (fault : ServeFault) (old now : Trail) (before : Totals) (input output unread left rest : List ℕ) (asked : List (Option Request)) (ReaderFailed WriterFailed : Type 0) → Progress old now before input output → IsSeen first now
+pub stops_at_answers : (first : List (Option Page)) (fault : ServeFault) (old now : Trail) (before : Totals) (input output unread left rest : List ℕ) (asked : List (Option Request)) (ReaderFailed WriterFailed : Type 0) → Progress old now before input output → IsLinearizable first now
     → ReadsLines unread left asked rest → IsInside before.requests (length asked) fault → Stops (map_after first old) (input ++ unread) output fault ReaderFailed WriterFailed
 stops_at_answers first Memory old now before input output unread left rest asked ReaderFailed WriterFailed p seen r inside = stops_inside first old now before input output unread Memory ReaderFailed WriterFailed p seen refl tt
 stops_at_answers first (Lost number) old now before input output unread left rest asked ReaderFailed WriterFailed p seen r inside =
@@ -77,7 +77,7 @@ stops_at_answers first (Lost number) old now before input output unread left res
 stops_at_answers first fault old now before input output unread left rest asked ReaderFailed WriterFailed p seen r inside = absurd inside
 
 -- it was not served
-pub stops_at_section : (first : List (Option Page)) (fault : ServeFault) (old now : Trail) (before : Totals) (input output unread left rest : List ℕ) (asked : List (Option Request)) (most : ℕ) (AtEnd ReaderFailed WriterFailed : Type 0) → Progress old now before input output → IsSeen first now
+pub stops_at_section : (first : List (Option Page)) (fault : ServeFault) (old now : Trail) (before : Totals) (input output unread left rest : List ℕ) (asked : List (Option Request)) (most : ℕ) (AtEnd ReaderFailed WriterFailed : Type 0) → Progress old now before input output → IsLinearizable first now
     → FailsSection fault before.requests most asked rest unread left AtEnd ReaderFailed → Stops (map_after first old) (input ++ unread) output fault ReaderFailed WriterFailed
 stops_at_section first fault old now before input output unread left rest asked most AtEnd ReaderFailed WriterFailed p seen (inl e) = stops_at_read first fault old now before input output unread left rest asked most AtEnd ReaderFailed WriterFailed p seen e
 stops_at_section first fault old now before input output unread left rest asked most AtEnd ReaderFailed WriterFailed p seen (inr f) = stops_at_answers first fault old now before input output unread left rest asked ReaderFailed WriterFailed p seen f.0 f.1
@@ -179,12 +179,12 @@ module _ (index : Index) (seen : Trail) (before : Totals) (asked : List (Option 
 
 -- ---- as many sections as there are numbers
 
-pub serves_no_more : (first : List (Option Page)) (old now : Trail) (totals : Totals) (input output left : List ℕ) (AtEnd : Type 0) → Progress old now totals input output → IsSeen first now → 2 ^ 64 - 1 ≤ totals.requests → AtLast first old now input output left left [] totals AtEnd
+pub serves_no_more : (first : List (Option Page)) (old now : Trail) (totals : Totals) (input output left : List ℕ) (AtEnd : Type 0) → Progress old now totals input output → IsLinearizable first now → 2 ^ 64 - 1 ≤ totals.requests → AtLast first old now input output left left [] totals AtEnd
 serves_no_more first old now totals input output left AtEnd p seen many =
     let none : Held totals.requests [] [] [] = record { answers = []; each = tt; prints = refl; interleaves = Done [] (All-nil (λ (list : List Entry). list ≡ [])) } in
     let r : ReadsLines left left [] [] = record { texts = []; each = tt; cut = All-nil (λ b. b ≢ 10); read = refl } in
     let counts : CountsSection totals totals [] section_end.Finished = record { requests = omega arith; malformed = omega arith; sections = omega arith } in
-    let v = serves_end first old now totals totals input output left left [] [] [] [] section_end.Finished p r asks_none none counts (ends_finished [] refl) (subst (IsSeen first) (sym (append-nil now)) seen) in record {
+    let v = serves_end first old now totals totals input output left left [] [] [] [] section_end.Finished p r asks_none none counts (ends_finished [] refl) (subst (IsLinearizable first) (sym (append-nil now)) seen) in record {
       consumed = v.0;
       read = v.1;
       served = subst (λ (z : Trail). ServedBy first old z (input ++ v.0) (output ++ []) totals) (append-nil now) v.3;

@@ -8,7 +8,7 @@ use Rattle.bl_serve_lines.specs.declared.request.Request.{Request}
 use Rattle.bl_page.specs.declared.page.Page.{Page}
 use Rattle.bl_layout.specs.declared.layout.Layout.{Layout}
 use Rattle.bl_claims.specs.Trails.{Trail}
-use Rattle.bl_claims.specs.Seeing.{IsSeen, AreWithin, own, GoesOnFrom}
+use Rattle.bl_claims.specs.Seeing.{IsLinearizable, AreWithin, own, GoesOnFrom}
 use Rattle.bl_index.specs.declared.index.Index.{Index}
 use Rattle.bl_index.specs.declared.index.Pass.{Pass}
 use Rattle.bl_index.specs.Calls.{first_of, IsPassOf, number_of, trail, passes_of}
@@ -47,9 +47,9 @@ together_by_first index seen passes some t = subst (λ (z : Trail). AreTogether 
 
 -- ---- the passes meet
 
-all_seen : (first : List (Option Page)) (index : Index) (old : Trail) (from : ℕ) (taken : List Taken) → IsSeen first old → AreFrom index old from (olds_of taken) → All (IsTaken first) taken → All (λ p. IsSeen first (trail p)) (news_of taken)
-all_seen first index old from [] seen h each = All-nil (λ (p : Pass). IsSeen first (trail p))
-all_seen first index old from (t ∷ ts) seen h each = All-cons (λ (p : Pass). IsSeen first (trail p)) t.new (news_of ts) ((All-head (IsTaken first) t ts each).seen (subst (IsSeen first) (sym h.2) seen)) (all_seen first index old (suc from) ts seen h.3 (All-tail (IsTaken first) t ts each))
+all_seen : (first : List (Option Page)) (index : Index) (old : Trail) (from : ℕ) (taken : List Taken) → IsLinearizable first old → AreFrom index old from (olds_of taken) → All (IsTaken first) taken → All (λ p. IsLinearizable first (trail p)) (news_of taken)
+all_seen first index old from [] seen h each = All-nil (λ (p : Pass). IsLinearizable first (trail p))
+all_seen first index old from (t ∷ ts) seen h each = All-cons (λ (p : Pass). IsLinearizable first (trail p)) t.new (news_of ts) ((All-head (IsTaken first) t ts each).seen (subst (IsLinearizable first) (sym h.2) seen)) (all_seen first index old (suc from) ts seen h.3 (All-tail (IsTaken first) t ts each))
 
 come_from : (first : List (Option Page)) (index : Index) (old now : Trail) (from : ℕ) (taken : List Taken) (met : List Pass) → AreFrom index old from (olds_of taken) → All (IsTaken first) taken → AllZip (Comes now) (news_of taken) met → AreFrom index now from met × FitsFrom old now from taken
 come_from first index old now from [] [] h each come = (tt, tt)
@@ -87,7 +87,7 @@ holds index done lines text olds news met some t r m =
     let count : length r.taken ≡ length olds = sym (length-map r.taken (λ (x : Taken). x.old)) ∙ ap length r.old_are in
     let long : length met ≡ length olds = zip_long (Comes m.seen) (news_of r.taken) met come ∙ (length-map r.taken (λ (x : Taken). x.new) ∙ count) in
     let parts = come_from first index old m.seen 0 r.taken met each r.each_taken come in
-    let seen : IsSeen first m.seen = m.may_be (subst (All (λ (p : Pass). IsSeen first (trail p))) r.new_are (all_seen first index old 0 r.taken t.may_be each r.each_taken)) in
+    let seen : IsLinearizable first m.seen = m.may_be (subst (All (λ (p : Pass). IsLinearizable first (trail p))) r.new_are (all_seen first index old 0 r.taken t.may_be each r.each_taken)) in
     let on : GoesOnFrom old m.seen = goes_to first index old m.seen 0 r.taken met (omega (arith, count)) each r.each_taken come in
     let within : AreWithin (length r.taken) m.seen = subst (λ (z : ℕ). AreWithin z m.seen) (sym (count ∙ t.count)) (all_within index m.seen 0 met (omega (arith, long)) parts.0) in
     let s = section first (suc done) lines text olds news old m.seen r on seen within parts.1 in record {

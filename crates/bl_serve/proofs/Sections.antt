@@ -12,7 +12,7 @@ use Rattle.bl_serve_lines.specs.Served.{Interleaves}
 use Rattle.bl_page.specs.declared.page.Page.{Page}
 use Rattle.bl_page.specs.Machine.{Name}
 use Rattle.bl_claims.specs.Trails.{Said, Trail, entries_at, history_of}
-use Rattle.bl_claims.specs.Seeing.{first_map, IsSeen, own, AreWithin, GoesOnFrom}
+use Rattle.bl_claims.specs.Seeing.{first_map, IsLinearizable, own, AreWithin, GoesOnFrom}
 use Rattle.bl_index.specs.Calls.{number_of, trail}
 use Rattle.bl_serve.specs.Chunks.{Taken, IsTaken, IsChunk}
 use Rattle.bl_serve_worker.proofs.Lines.{history_append}
@@ -67,7 +67,7 @@ pub record GoesOnBy (first : List (Option Page)) (old new : Trail) (answers : Li
   pub interleaves : Interleaves (map entries answers) (history_of more)
   pub legal : IsLegalFrom (first_map first) (history_of new)
 
-pub section : (first : List (Option Page)) (number : ℕ) (lines : List (Option Request)) (text : List ℕ) (olds news : List _) (old new : Trail) (r : IsChunk first number lines text olds news) → GoesOnFrom old new → IsSeen first new → AreWithin (length r.taken) new → FitsFrom old new 0 r.taken → GoesOnBy first old new r.answers
+pub section : (first : List (Option Page)) (number : ℕ) (lines : List (Option Request)) (text : List ℕ) (olds news : List _) (old new : Trail) (r : IsChunk first number lines text olds news) → GoesOnFrom old new → IsLinearizable first new → AreWithin (length r.taken) new → FitsFrom old new 0 r.taken → GoesOnBy first old new r.answers
 section first number lines text olds news old new r on seen within fits =
     let more : Trail = on.0 in
     let below = all_below (length r.taken) more (within_rest (length r.taken) old more (subst (AreWithin (length r.taken)) on.1 within)) in
@@ -78,5 +78,5 @@ section first number lines text olds news old new r on seen within fits =
       on = on.1;
       history = ap history_of on.1 ∙ history_append old more;
       interleaves = r.weaves (history_of more) c;
-      legal = seen.linear.legal;
+      legal = seen.legal;
     }

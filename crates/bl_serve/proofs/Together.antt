@@ -6,7 +6,7 @@ use Rattle.std.proofs.lemmas.List.{length-map}
 use Rattle.std.proofs.lemmas.List.Elements.{All-nil, All-cons, All-head, All-tail, AllZip-push}
 use Rattle.bl_page.specs.declared.page.Page.{Page}
 use Rattle.bl_claims.specs.Trails.{Trail}
-use Rattle.bl_claims.specs.Seeing.{IsSeen}
+use Rattle.bl_claims.specs.Seeing.{IsLinearizable}
 use Rattle.bl_index.specs.declared.index.Index.{Index}
 use Rattle.bl_index.specs.declared.index.Pass.{Pass}
 use Rattle.bl_index.specs.Calls.{first_of, IsPassOf, trail}
@@ -43,9 +43,9 @@ seats_come seen [] (n ∷ ns) h = absurd h
 seats_come seen (o ∷ os) [] h = absurd h
 seats_come seen (o ∷ os) (n ∷ ns) h = (h.0.2, seats_come seen os ns h.1)
 
-last_seen : (first : List (Option Page)) (others : List Handle) (one : Handle) → All (λ p. IsSeen first (trail p)) (seats_of (others ++ one ∷ [])) → IsSeen first (trail (seat_of one))
-last_seen first [] one all = All-head (λ (p : Pass). IsSeen first (trail p)) (seat_of one) [] all
-last_seen first (h ∷ hs) one all = last_seen first hs one (All-tail (λ (p : Pass). IsSeen first (trail p)) (seat_of h) (seats_of (hs ++ one ∷ [])) all)
+last_seen : (first : List (Option Page)) (others : List Handle) (one : Handle) → All (λ p. IsLinearizable first (trail p)) (seats_of (others ++ one ∷ [])) → IsLinearizable first (trail (seat_of one))
+last_seen first [] one all = All-head (λ (p : Pass). IsLinearizable first (trail p)) (seat_of one) [] all
+last_seen first (h ∷ hs) one all = last_seen first hs one (All-tail (λ (p : Pass). IsLinearizable first (trail p)) (seat_of h) (seats_of (hs ++ one ∷ [])) all)
 
 -- the last one has met the others
 pub all_meet : (first : List (Option Page)) (one one' : Handle) (others others' olds news : List Handle) → olds ≡ others ++ one ∷ [] → news ≡ others' ++ one' ∷ [] → HaveAllMet first one others one' others' → AllMeet first (seats_of olds) (seats_of news)

@@ -6,7 +6,7 @@ use Rattle.bl_serve_lines.specs.declared.request.Request.{Request}
 use Rattle.bl_serve_lines.specs.Lines.{Answer, entries}
 use Rattle.bl_serve_lines.specs.Served.{Interleaves}
 use Rattle.bl_page.specs.declared.page.Page.{Page}
-use Rattle.bl_claims.specs.Seeing.{IsSeen, own, GoesOnFrom}
+use Rattle.bl_claims.specs.Seeing.{IsLinearizable, own, GoesOnFrom}
 use Rattle.bl_index.specs.declared.index.Pass.{Pass}
 use Rattle.bl_index.specs.Calls.{IsSamePass, number_of, trail}
 use Rattle.bl_map.specs.declared.handle.Handle.{Handle}
@@ -25,7 +25,7 @@ pub record Taken : Type 0 where
 pub record IsTaken (first : List (Option Page)) (t : Taken) : Type 0 where
   pub same : IsSamePass t.old t.new
   pub begins : GoesOnFrom (trail t.old) (trail t.new)
-  pub seen : IsSeen first (trail t.old) → IsSeen first (trail t.new)
+  pub seen : IsLinearizable first (trail t.old) → IsLinearizable first (trail t.new)
   pub mine : own (number_of t.old) (trail t.new) ≡ own (number_of t.old) (trail t.old) ++ flat_map (λ list. list) t.share
 
 -- A history that interleaves the entries of all batches interleaves those of the answers.

@@ -9,7 +9,7 @@ use Rattle.bl_model.specs.Parts.{rows_of}
 use Rattle.bl_serve_lines.specs.Text.{numbered, row_text}
 use Rattle.bl_page.specs.declared.page.Page.{Page}
 use Rattle.bl_claims.specs.Trails.{Trail}
-use Rattle.bl_claims.specs.Seeing.{IsSeen, own, GoesOnFrom}
+use Rattle.bl_claims.specs.Seeing.{IsLinearizable, own, GoesOnFrom}
 use Rattle.bl_map.specs.declared.handle.Handle.{Handle}
 use Rattle.bl_map.specs.Handles.{first_map_of, number_of_seat, seen_by}
 
@@ -31,7 +31,7 @@ pub record WritesRows (first : List (Option Page)) (pass low high : ℕ) (before
   pub are_parts : AreParts (Some low) high parts
   pub prints : after ≡ before ++ flat_map row_text (rows_below high (flat_map (λ entry. rows_of entry.reply) parts))
   pub begins : GoesOnFrom old new
-  pub seen : IsSeen first old → IsSeen first new
+  pub seen : IsLinearizable first old → IsLinearizable first new
   pub mine : own pass new ≡ own pass old ++ parts
 
 -- The line of that number was answered, and its answer was written: the new entries of the pass are those of the answer.
@@ -40,7 +40,7 @@ pub record AnswersLine (first : List (Option Page)) (pass number : ℕ) (asked :
   pub is_for : IsFor asked answer
   pub prints : after ≡ before ++ numbered number (answer_text answer)
   pub begins : GoesOnFrom old new
-  pub seen : IsSeen first old → IsSeen first new
+  pub seen : IsLinearizable first old → IsLinearizable first new
   pub mine : own pass new ≡ own pass old ++ entries answer
 
 -- The lines were answered one after another, and the text prints the answers, numbered from that number on.
@@ -49,7 +49,7 @@ pub record AnswersLines (first : List (Option Page)) (pass number : ℕ) (lines 
   pub each : AllZip IsFor lines answers
   pub prints : text ≡ answers_text number answers
   pub begins : GoesOnFrom old new
-  pub seen : IsSeen first old → IsSeen first new
+  pub seen : IsLinearizable first old → IsLinearizable first new
   pub mine : own pass new ≡ own pass old ++ flat_map entries answers
 
 -- The handle has answered a scan, and its rows were written.

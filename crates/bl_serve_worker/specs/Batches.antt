@@ -5,7 +5,7 @@ use Rattle.bl_serve_lines.specs.declared.request.Request.{Request}
 use Rattle.bl_serve_lines.specs.Lines.{Answer, entries}
 use Rattle.bl_page.specs.declared.page.Page.{Page}
 use Rattle.bl_claims.specs.Trails.{Trail}
-use Rattle.bl_claims.specs.Seeing.{IsSeen, own, GoesOnFrom}
+use Rattle.bl_claims.specs.Seeing.{IsLinearizable, own, GoesOnFrom}
 use Rattle.bl_map.specs.declared.handle.Handle.{Handle}
 use Rattle.bl_map.specs.Handles.{IsSameHandle, first_map_of, number_of_seat, seen_by}
 use Rattle.bl_serve_worker.specs.declared.chunk.BatchOutput.{BatchOutput}
@@ -35,7 +35,7 @@ pub record Logs (first : List (Option Page)) (number : ℕ) (lines : List (Optio
   pub log : log_new ≡ log_old ++ map (λ p. p.output) pieces
   pub each : All (IsPiece number lines) pieces
   pub begins : GoesOnFrom old new
-  pub seen : IsSeen first old → IsSeen first new
+  pub seen : IsLinearizable first old → IsLinearizable first new
   pub mine : own pass new ≡ own pass old ++ flat_map (λ p. flat_map entries p.answers) pieces
 
 -- A handle has had its turn, and what it wrote stands in the log of its slot.
