@@ -171,6 +171,14 @@ ends_climb key value path r state is = subst (λ (z : Proc). EndsAs z (climbing 
   ended = (refl, refl, refl, refl);
 })
 
+-- what is told of its last post
+pub told_posted : (level : ℕ) (r : PostReply) (what : Posted) (h : Option Hint) → posted_answer level r ≡ PostAnswer what h → what ≡ posted_as r
+told_posted level (listed.Done s) what h e = cc
+told_posted level listed.Already what h e = cc
+told_posted level listed.Stale what h e = cc
+told_posted level listed.NoRoom what h e = cc
+told_posted level listed.TooTall what h e = cc
+
 pub none_left : (level key : ℕ) (what : Posted) → (what ≡ posted.NoRoom → ⊥) → left_hint level key what ≡ None
 none_left level key posted.Done not = refl
 none_left level key posted.Already not = refl
