@@ -12,6 +12,7 @@ pub mod Climbings
 pub mod Learning
 pub mod Encounters
 pub mod Scanned
+pub mod Legs
 pub mod PartByPart
 pub mod Callbacks
 pub mod Holders

@@ -3,5 +3,4 @@ pub mod Opened
 pub mod Kinds
 pub mod Meetings
 pub mod Scans
-pub mod Legs
 pub mod Closed

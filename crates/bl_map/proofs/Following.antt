@@ -70,7 +70,7 @@ hints_add first pass start left old new f =
     (done_adds first pass f.hints start left old f.mid f.are_done)
     (stops_adds first pass left (length f.hints) f.mid new f.stops)
 
-split_adds : (first : List (Option Page)) (pass : ℕ) (start left : Option Hint) (old new : Trail) → FollowsSplit first pass start left old new → Adds first pass old new
+pub split_adds : (first : List (Option Page)) (pass : ℕ) (start left : Option Hint) (old new : Trail) → FollowsSplit first pass start left old new → Adds first pass old new
 split_adds first pass None left old new f = hints_add first pass None left old new f
 split_adds first pass (Some (hint.Post level key)) left old new f = hints_add first pass (Some (hint.Post level key)) left old new f
 split_adds first pass (Some (hint.Thin level key)) left old new f = stays_adds first pass old new f.1

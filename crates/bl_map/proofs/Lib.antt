@@ -1,6 +1,7 @@
 pub mod Adding
 pub mod Elements
 pub mod Following
+pub mod Lacking
 pub mod AllMet
 pub mod Same
 pub mod Scanning

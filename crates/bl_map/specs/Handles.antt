@@ -1,5 +1,6 @@
 -- What a call of a handle promises.
 use Rattle.std.specs.Prelude.{◌≡◌, ℕ, List, Option, length, map}
+use Rattle.bl_model.specs.declared.deciding.KeyWrite.{KeyWrite}
 use Rattle.bl_model.specs.declared.operation.Op.{Op}
 use Rattle.bl_model.specs.declared.operation.Reply.{Reply}
 use Rattle.bl_page.specs.declared.page.Page.{Page}
@@ -11,7 +12,7 @@ use Rattle.bl_index.specs.declared.index.Pass.{Pass}
 use Rattle.bl_proc_base.specs.declared.answers.Hint.{Hint}
 use Rattle.bl_map.specs.declared.handle.Handle.{Handle}
 use Rattle.bl_map.specs.declared.upkeep.Followed.{Followed}
-use Rattle.bl_map.specs.Works.{Works, Adds, Searched, Swept}
+use Rattle.bl_map.specs.Works.{Works, Adds, Searched, Swept, FoundNoRoom}
 use Rattle.bl_map.specs.Follows.{FollowsHint, WritesLeaving}
 use Rattle.bl_map.specs.Waits.{hints_of, Changes, TriesAgain, IsNone}
 
@@ -54,6 +55,10 @@ HasSearched op reply old new = Searched (first_map_of old) (pages_of_map old) (n
 -- It has written a key, and listed the pages that were split. What is left to do then is left.
 abbrev pub HasWritten : Op → Reply → Option Hint → Handle → Handle → Type 0
 HasWritten op reply left old new = WritesLeaving (first_map_of old) (number_of_seat old) op reply left (seen_by old) (seen_by new)
+
+-- In a call of it that writes the key so, the index found no room.
+abbrev pub HasFoundNoRoom : ℕ → KeyWrite → Handle → Handle → Type 0
+HasFoundNoRoom key does old new = FoundNoRoom (number_of_seat old) key does (seen_by old) (seen_by new)
 
 -- It has followed a hint.
 abbrev pub HasFollowed : Hint → Followed → Handle → Handle → Type 0

@@ -3,10 +3,12 @@ use Rattle.std.specs.Prelude.{◌≡◌, ℕ, ◌++◌, List, [], ◌∷◌, Opt
 use Rattle.bl_model.specs.declared.operation.Op.{Op}
 use Rattle.bl_model.specs.declared.operation.Reply.{Reply}
 use Rattle.bl_page.specs.declared.page.Page.{Page}
+use Rattle.bl_model.specs.declared.deciding.KeyWrite.{KeyWrite}
+use Rattle.bl_index.specs.declared.index.Pass.{Pass}
 use Rattle.bl_claims.specs.Trails.{Trail}
 use Rattle.bl_claims.specs.Seeing.{IsLinearizable, own, GoesOnFrom}
 use Rattle.bl_model.specs.declared.operation.Entry.{Entry}
-use Rattle.bl_index.specs.Calls.{Sweeps}
+use Rattle.bl_index.specs.Calls.{Sweeps, WriteLacks, number_of, trail}
 use Rattle.bl_index_read.specs.Searching.{Finds, RunsOut}
 
 -- What the pass has seen begins with what it had seen and is linearizable, and its only new entry of this pass is this operation with
@@ -39,3 +41,12 @@ Searched first pages pass op reply old new = Searches first pages pass (record {
 pub data Swept (first : List (Option Page)) (pass : ℕ) : Trail → Trail → Type 0 where
   Never : {old : Trail} → Swept first pass old old
   Again : {old mid new : Trail} {answer : ℕ} → Swept first pass old mid → Sweeps first pass answer mid new → Swept first pass old new
+
+-- Between the two, one call of an index that writes the key so found no room: the pass was that before the call, and this after it.
+pub record FoundNoRoom (pass key : ℕ) (does : KeyWrite) (old new : Trail) : Type 0 where
+  pub before : Pass
+  pub after : Pass
+  pub mine : number_of before ≡ pass
+  pub begins : GoesOnFrom old (trail before)
+  pub goes_on : GoesOnFrom (trail after) new
+  pub lacks : WriteLacks before key does after

@@ -3,10 +3,11 @@
 ghost use Rattle.std.specs.Prelude.{◌≡◌, ◌-◌, vec_len};
 ghost use Rattle.std.specs.Vec.{vec_capacity};
 ghost use Rattle.bl_model.specs.declared.operation.Op.TheVariants as op;
+ghost use Rattle.bl_model.specs.declared.operation.KeyReply.TheVariants as replies;
 ghost use Rattle.bl_index.specs.Calls.{first_of, pages_of, IsPassOf, IsSamePass, number_of, trail};
 ghost use Rattle.bl_model.specs.Replies.{reply_of};
 ghost use Rattle.bl_model.specs.Writes.{write_op};
-ghost use Rattle.bl_map.specs.Works.{Works, Searched};
+ghost use Rattle.bl_map.specs.Works.{Works, Searched, FoundNoRoom};
 ghost use Rattle.bl_map.specs.Follows.{Written};
 ghost use Rattle.bl_map.specs.Scans.{Scanned};
 
@@ -67,6 +68,7 @@ pub(crate) fn write<R: Wait>(
     requires { IsPassOf index.now pass.old }
     ensures same { IsSamePass pass.old pass.new }
     ensures written { Written (first_of index.now) (number_of pass.old) (write_op key write) (reply_of result.0) result.1 (trail pass.old) (trail pass.new) }
+    ensures no_room { result.0 ≡ replies.NoRoom → FoundNoRoom (number_of pass.old) key write (trail pass.old) (trail pass.new) }
 {
     wait_for_frames(index, pass);
     match write {

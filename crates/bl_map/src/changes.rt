@@ -1,9 +1,11 @@
 //! Changes, each with what is due behind it.
 
 ghost use Rattle.std.specs.Prelude.{◌≡◌};
+ghost use Rattle.bl_model.specs.declared.operation.KeyReply.TheVariants as replies;
 ghost use Rattle.bl_index.specs.Calls.{first_of, IsPassOf, IsSamePass, number_of, trail};
 ghost use Rattle.bl_model.specs.Replies.{reply_of};
 ghost use Rattle.bl_model.specs.Writes.{write_op};
+ghost use Rattle.bl_map.specs.Works.{FoundNoRoom};
 ghost use Rattle.bl_map.specs.Follows.{WritesLeaving};
 ghost use Rattle.bl_map.specs.Waits.{Changes, TriesOldest, TriesAgain, HasTried};
 
@@ -26,6 +28,7 @@ pub(crate) fn write<R: Wait>(
     ensures same { IsSamePass pass.old pass.new }
     ensures changes { Changes (first_of index.now) (number_of pass.old) (write_op key write) (reply_of result) waiting.old waiting.new
         (trail pass.old) (trail pass.new) }
+    ensures no_room { result ≡ replies.NoRoom → FoundNoRoom (number_of pass.old) key write (trail pass.old) (trail pass.new) }
 {
     let (reply, hint) = calls::write(rt, index, pass, key, write);
     let left = follow(rt, index, pass, hint);
@@ -46,6 +49,7 @@ pub(crate) fn write_leaving<R: Wait>(
     ensures same { IsSamePass pass.old pass.new }
     ensures leaves { WritesLeaving (first_of index.now) (number_of pass.old) (write_op key write) (reply_of result.0) result.1
         (trail pass.old) (trail pass.new) }
+    ensures no_room { result.0 ≡ replies.NoRoom → FoundNoRoom (number_of pass.old) key write (trail pass.old) (trail pass.new) }
 {
     let (reply, hint) = calls::write(rt, index, pass, key, write);
     let left = follow_split(rt, index, pass, hint);

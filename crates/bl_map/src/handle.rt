@@ -3,6 +3,8 @@
 ghost use Rattle.std.specs.Prelude.{◌≡◌, ◌-◌, vec_len};
 ghost use Rattle.std.specs.Vec.{vec_capacity};
 ghost use Rattle.bl_model.specs.declared.operation.Op.TheVariants as op;
+ghost use Rattle.bl_model.specs.declared.deciding.KeyWrite.TheVariants as key_write;
+ghost use Rattle.bl_model.specs.declared.operation.KeyReply.TheVariants as replies;
 ghost use Rattle.bl_model.specs.Replies.{reply_of};
 ghost use Rattle.bl_model.specs.Writes.{write_op};
 ghost use Rattle.bl_index.specs.Calls.{IsPassOf, Sweeps};
@@ -34,7 +36,7 @@ pub struct Handle<'a> {
 }
 
 impl<'a> Handle<'a> {
-    ghost use Rattle.bl_map.specs.Handles.{IsSameHandle, HasCalled, HasSearched, HasChanged, HasWritten, HasKeptUp, HasFollowed, HasSwept, HasTriedAgain};
+    ghost use Rattle.bl_map.specs.Handles.{IsSameHandle, HasCalled, HasSearched, HasChanged, HasWritten, HasFoundNoRoom, HasKeptUp, HasFollowed, HasSwept, HasTriedAgain};
     ghost use Rattle.bl_map.specs.Handles.{HaveMet, KeepsHints, AreOfOne, IsHandleOver};
     ghost use Rattle.bl_map.specs.Handles.{first_map_of, pages_of_map, number_of_seat, seat_of, seen_by, waiting_of, dropped_of};
     ghost use Rattle.bl_map.specs.Scans.{Scanned, Tells};
@@ -77,6 +79,7 @@ impl<'a> Handle<'a> {
         ensures same { IsSameHandle self.old self.new }
         ensures called { HasCalled (write_op key write) (reply_of result) self.old self.new }
         ensures changed { HasChanged (write_op key write) (reply_of result) self.old self.new }
+        ensures no_room { result ≡ replies.NoRoom → HasFoundNoRoom key write self.old self.new }
     {
         let index = self.index;
         changes::write(rt, index, &mut self.pass, &mut self.waiting, key, write)
@@ -93,6 +96,7 @@ impl<'a> Handle<'a> {
         ensures same { IsSameHandle self.old self.new }
         ensures called { HasCalled (write_op key write) (reply_of result.0) self.old self.new }
         ensures written { HasWritten (write_op key write) (reply_of result.0) result.1 self.old self.new }
+        ensures no_room { result.0 ≡ replies.NoRoom → HasFoundNoRoom key write self.old self.new }
         ensures keeps { KeepsHints self.old self.new }
     {
         changes::write_leaving(rt, self.index, &mut self.pass, key, write)
@@ -103,6 +107,7 @@ impl<'a> Handle<'a> {
         ensures same { IsSameHandle self.old self.new }
         ensures called { HasCalled (op.Insert key value) (reply_of result) self.old self.new }
         ensures changed { HasChanged (op.Insert key value) (reply_of result) self.old self.new }
+        ensures no_room { result ≡ replies.NoRoom → HasFoundNoRoom key (key_write.Insert value) self.old self.new }
     {
         self.write(rt, key, KeyWrite::Insert(value))
     }
@@ -112,6 +117,7 @@ impl<'a> Handle<'a> {
         ensures same { IsSameHandle self.old self.new }
         ensures called { HasCalled (op.Delete key) (reply_of result) self.old self.new }
         ensures changed { HasChanged (op.Delete key) (reply_of result) self.old self.new }
+        ensures no_room { result ≡ replies.NoRoom → HasFoundNoRoom key key_write.Delete self.old self.new }
     {
         self.write(rt, key, KeyWrite::Delete)
     }
@@ -121,6 +127,7 @@ impl<'a> Handle<'a> {
         ensures same { IsSameHandle self.old self.new }
         ensures called { HasCalled (op.Change key old new) (reply_of result) self.old self.new }
         ensures changed { HasChanged (op.Change key old new) (reply_of result) self.old self.new }
+        ensures no_room { result ≡ replies.NoRoom → HasFoundNoRoom key (key_write.Change old new) self.old self.new }
     {
         self.write(rt, key, KeyWrite::Change(old, new))
     }
