@@ -96,10 +96,6 @@ holds index done lines text olds news met some t r m =
       together = subst (λ (z : Trail). AreTogether index z met) s.on (record { count = long ∙ t.count; each = parts.0; may_be = seen });
     }
 
--- as many passes come back as were given
-pub same_many : (first : List (Option Page)) (number : ℕ) (lines : List (Option Request)) (text : List ℕ) (olds news : List Pass) → IsChunk first number lines text olds news → length news ≡ length olds
-same_many first number lines text olds news r = sym (ap length r.new_are) ∙ (length-map r.taken (λ (x : Taken). x.new) ∙ (sym (length-map r.taken (λ (x : Taken). x.old)) ∙ ap length r.old_are))
-
 -- ---- how the section ended
 
 -- it ended by a sync, or with the input

@@ -34,4 +34,5 @@ pub record ServedFrom (origin : Origin) (totals : Totals) (input output : List �
 -- of those rows on.
 pub data StopsFrom (origin : Origin) (input output : List ℕ) (fault : ServeFault) (reader_failed writer_failed : Type 0) : Type 0 where
   Unopened : input ≡ [] → output ≡ [] → fault ≡ Memory → StopsFrom origin input output fault reader_failed writer_failed
-  Stopped : (rows : List (ℕ × ℕ)) → HasRows origin rows → Stops (map_of rows) input output fault reader_failed writer_failed → StopsFrom origin input output fault reader_failed writer_failed
+  Stopped : (rows : List (ℕ × ℕ)) → HasRows origin rows → Stops (map_of rows) input output fault reader_failed writer_failed
+      → StopsFrom origin input output fault reader_failed writer_failed

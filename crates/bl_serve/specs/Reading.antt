@@ -51,8 +51,10 @@ pub record ReadsLines (unread left : List ℕ) (asked : List (Option Request)) (
 -- how reading of a section ended, which takes at most so many lines
 abbrev pub EndsReading : Result SectionEnd ServeFault → ℕ → List (Option Request) → List ℕ → List ℕ → List ℕ → Type 0 → Type 0 → Type 0
 EndsReading (Ok Synced) most asked rest unread left at_end failed = ReadsLines unread left asked rest × (length asked ≤ most) × (rest ≡ []) × AsksSyncLast asked
-EndsReading (Ok Rest) most asked rest unread left at_end failed = ReadsLines unread left asked rest × (length asked < most) × (0 < length rest) × AsksNoSync asked × EndsRead rest left at_end
-EndsReading (Ok Finished) most asked rest unread left at_end failed = ReadsLines unread left asked rest × (length asked ≤ most) × (rest ≡ []) × AsksNoSync asked × (((left ≡ []) × at_end) ⊎ (most ≤ length asked))
+EndsReading (Ok Rest) most asked rest unread left at_end failed =
+    ReadsLines unread left asked rest × (length asked < most) × (0 < length rest) × AsksNoSync asked × EndsRead rest left at_end
+EndsReading (Ok Finished) most asked rest unread left at_end failed =
+    ReadsLines unread left asked rest × (length asked ≤ most) × (rest ≡ []) × AsksNoSync asked × (((left ≡ []) × at_end) ⊎ (most ≤ length asked))
 EndsReading (Err Read) most asked rest unread left at_end failed = ReadsLines unread left asked rest × AsksNoSync asked × (left ≡ []) × failed
 EndsReading (Err Write) most asked rest unread left at_end failed = ⊥
 EndsReading (Err Memory) most asked rest unread left at_end failed = Unit {0}

@@ -60,7 +60,8 @@ IsInside done count (Lost number) = (done < number) × (number ≤ done + count)
 
 -- how a section behind so many lines ends by a fault: it could not be read, or lines that were read could not be answered
 abbrev pub FailsSection : ServeFault → ℕ → ℕ → List (Option Request) → List ℕ → List ℕ → List ℕ → Type 0 → Type 0 → Type 0
-FailsSection fault done most asked rest unread left at_end failed = EndsReading (Err fault) most asked rest unread left at_end failed ⊎ (ReadsLines unread left asked rest × IsInside done (length asked) fault)
+FailsSection fault done most asked rest unread left at_end failed =
+    EndsReading (Err fault) most asked rest unread left at_end failed ⊎ (ReadsLines unread left asked rest × IsInside done (length asked) fault)
 
 -- The input is served from the map after old on, and the trail now is old with the entries of what was served, in the order of
 -- its history, and with no others.
@@ -79,7 +80,8 @@ pub record Serves (index : Index) (olds news : List Pass) (totals : Totals) (inp
 -- Serving has ended. The input was read, and more ahead of it; the output was written. Without a fault the input was served, up to
 -- where the reader ends; a fault stopped it.
 pub record EndsServing {T : Type 0} (IsServed : T → List ℕ → List ℕ → Type 0) (IsStopped : List ℕ → List ℕ → ServeFault → Type 0 → Type 0 → Type 0)
-    (unread left : Option (List ℕ)) (reader_failed : Type 0) (before after : Option (List ℕ)) (writer_failed : Type 0) (result : Result T ServeFault) : Type 0 where
+    (unread left : Option (List ℕ)) (reader_failed : Type 0) (before after : Option (List ℕ)) (writer_failed : Type 0)
+    (result : Result T ServeFault) : Type 0 where
   pub input : List ℕ
   pub ahead : List ℕ
   pub output : List ℕ

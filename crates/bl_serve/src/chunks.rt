@@ -188,7 +188,8 @@ fn work_abreast<R: Threads + Wait + Sync, G: Gate + Sync, I: Read>(
             requires { IsSync R.row × IsSync G.row × (length rest.now ≡ vec_len handles.now) }
             ensures turns { OnOk result (TakeTurns (suc chunk.entry.now.before) chunk.entry.now.lines.now
                 handles.entry.now.items handles.exit.now.items rest.exit.now) }
-            ensures reads { ReadsOn ahead.entry.now ahead.exit.now (I.remaining reader.entry.now.inner) (I.remaining reader.exit.now.inner) (reader.exit.now.failed ≡ true) }
+            ensures reads { ReadsOn ahead.entry.now ahead.exit.now (I.remaining reader.entry.now.inner) (I.remaining reader.exit.now.inner)
+                (reader.exit.now.failed ≡ true) }
         {
             work_abreast(
                 rt,

@@ -46,7 +46,8 @@ pub fn join_outputs(
 ) -> Result<(), ServeFault>
     requires within { All (IsWithin count) outputs.items }
     requires room { before + count < 2 ^ 64 }
-    ensures text { OnOk result ((sorted : List _) × IsPermutation outputs.items sorted × Chains 0 count sorted × (text.new.items ≡ text.old.items ++ joined_text sorted)) }
+    ensures text { OnOk result ((sorted : List _) × IsPermutation outputs.items sorted × Chains 0 count sorted
+        × (text.new.items ≡ text.old.items ++ joined_text sorted)) }
     ensures fault { IfErr result (IsInside before count) }
     ensures lost { IfErr result (NamesLost outputs.items before count) }
 {

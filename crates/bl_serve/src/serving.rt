@@ -87,7 +87,8 @@ fn serve_chunk<'a, T: Threads + Wait + Sync, R: Read, G: Gate + Sync>(
     requires sections { session.totals.sections + syncs end < 2 ^ 64 }
     ensures counts { IfOk result (λ back. CountsSection session.entry.totals back.totals lines.now end) }
     ensures serves { IfOk result (λ back. (more : List ℕ) × (back.text.items ≡ session.entry.text.items ++ more)
-        × ServesSection service.now.index.now session.entry.totals.requests lines.now end more (seats_of session.entry.handles.items) (seats_of back.handles.items)) }
+        × ServesSection service.now.index.now session.entry.totals.requests lines.now end more
+        (seats_of session.entry.handles.items) (seats_of back.handles.items)) }
     ensures reads { OnOk result (ReadsOn ahead.old ahead.new (R.remaining reader.old.inner) (R.remaining reader.new.inner) (reader.new.failed ≡ true)) }
     ensures consumes { (more : List ℕ) × Consumes (R.remaining reader.old.inner) (R.remaining reader.new.inner) more }
     ensures fault { IfErr result (IsInside session.entry.totals.requests (length lines.now)) }
@@ -129,10 +130,13 @@ fn serve_section<'a, T: Threads + Wait + Sync, R: Read, G: Gate + Sync>(
     ensures { (requests : List (Option Request)) × (rest : List ℕ) × (more : List ℕ)
         × Consumes (R.remaining reader.old.inner) (R.remaining reader.new.inner) more
         × MatchResult result
-        (λ t. EndsReading (Ok t.1) (2 ^ 64 - 1 - session.entry.totals.requests) requests rest (ahead.old.source ++ more) ahead.new.source (IsAtEnd (R.remaining reader.new.inner)) (reader.new.failed ≡ true)
+        (λ t. EndsReading (Ok t.1) (2 ^ 64 - 1 - session.entry.totals.requests) requests rest (ahead.old.source ++ more) ahead.new.source
+        (IsAtEnd (R.remaining reader.new.inner)) (reader.new.failed ≡ true)
         × CountsSection session.entry.totals t.0.totals requests t.1
-        × ServesSection service.now.index.now session.entry.totals.requests requests t.1 t.0.text.items (seats_of session.entry.handles.items) (seats_of t.0.handles.items))
-        (λ fault. (left : List ℕ) × FailsSection fault session.entry.totals.requests (2 ^ 64 - 1 - session.entry.totals.requests) requests rest (ahead.old.source ++ more) left (IsAtEnd (R.remaining reader.new.inner)) (reader.new.failed ≡ true)) }
+        × ServesSection service.now.index.now session.entry.totals.requests requests t.1 t.0.text.items
+        (seats_of session.entry.handles.items) (seats_of t.0.handles.items))
+        (λ fault. (left : List ℕ) × FailsSection fault session.entry.totals.requests (2 ^ 64 - 1 - session.entry.totals.requests) requests rest
+        (ahead.old.source ++ more) left (IsAtEnd (R.remaining reader.new.inner)) (reader.new.failed ≡ true)) }
 {
     let mut session = emptied(session);
     let mut chunk = FIRST_CHUNK;
