@@ -1,0 +1,4 @@
+pub mod Evens
+pub mod Parted
+pub mod Spelled
+pub mod Splits

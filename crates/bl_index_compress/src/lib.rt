@@ -1,0 +1,5 @@
+//! Compressions over the pages that threads share.
+#![tactic(auto)]
+
+mod pages;
+mod shares;
