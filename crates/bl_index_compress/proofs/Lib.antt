@@ -1,4 +1,5 @@
 pub mod Evens
 pub mod Parted
+pub mod Presses
+pub mod Puts
 pub mod Spelled
-pub mod Splits

@@ -1,18 +1,20 @@
 //! The words of the pages that a merge and an evening put, without pages being made of them.
 
-ghost use Rattle.std.specs.Prelude.{◌≡◌, ◌+◌, ◌*◌, ◌<◌, ◌≤◌, ◌++◌, ◌↔◌, IsTrue, Some, slice_index, take, drop};
+ghost use Rattle.std.specs.Prelude.{◌≡◌, ◌+◌, ◌*◌, ◌<◌, ◌≤◌, ◌++◌, ◌↔◌, true, false, IsTrue, Option, Some, None, slice_index, take, drop};
 ghost use Rattle.bl_page.specs.declared.page.Page.{Page};
+ghost use Rattle.bl_page.specs.declared.page.Page.TheVariants.{Inner};
 ghost use Rattle.bl_page.specs.Words.{words_of, entries_of, layout};
 ghost use Rattle.bl_claims.specs.Pages.{IsTreePage};
 ghost use Rattle.bl_rearrange.specs.declared.sides.Evened.{Evened};
 ghost use Rattle.bl_rearrange.specs.Rearranged.{pairs_of};
 ghost use Rattle.bl_rearrange.specs.Neighbours.{AreNeighbours, together, IsMerged, IsEvened};
-ghost use Rattle.bl_proc_compress.specs.Compressions.{IsBuried, merge_hint};
-ghost use Rattle.bl_index_compress.specs.Shares.{AreSharesOf};
+ghost use Rattle.bl_proc_compress.specs.declared.compressing.Family.{Family};
+ghost use Rattle.bl_proc_compress.specs.Compressions.{IsBuried, merge_hint, Relists};
+ghost use Rattle.bl_index_compress.specs.Shares.{AreSharesOf, IsRelisted};
 
 use crate::shares::Shares;
-use bl_page::{KIND_UNIT, LEVEL_UNIT};
-use bl_proc_base::{Hint, Level, hint_of_thin, thin_in};
+use bl_page::{KIND_UNIT, LEVEL_UNIT, is_within};
+use bl_proc_base::{Hint, Level, hint_of_thin, row_in, thin_in, words_with, words_without};
 use bl_rearrange::Side;
 
 /// What the words of a page begin with.
@@ -143,6 +145,34 @@ pub(crate) fn evened_words(left: &[u64; 32], right: &[u64; 32]) -> Shares
         left: part_of(left, right, 0, half, lower),
         right: part_of(left, right, half, rest, upper),
         separator,
-        gains: if left_count <= half { Side::Left } else { Side::Right },
+        gains: if left_count <= half {
+            Side::Left
+        } else {
+            Side::Right
+        },
     }
+}
+
+/// The words of the parent with these words, which lists the child by the new key in place of the old one. It may not do so.
+pub(crate) fn relisted_words(
+    parent: &[u64; 32],
+    old: u64,
+    new: u64,
+    child: u32,
+    words: &mut [u64; 32],
+) -> bool
+    requires family { (f : Family) × (parent.now ≡ words_of (Inner f.parent)) × (f.key ≡ old) × (f.at.right ≡ child) }
+    ensures { (f : Family) (r : Option Page) → parent.now ≡ words_of (Inner f.parent) → f.key ≡ old → f.at.right ≡ child
+        → Relists f.parent old new child r → IsRelisted r words.new result }
+{
+    if !is_within(parent[1], parent[2], new) {
+        return false;
+    }
+    let mut without = [0; 32];
+    words_without(parent, &mut (), old, &mut without);
+    if let Some(_other) = row_in(&without, &mut (), &mut 0, new) {
+        return false;
+    }
+    words_with(&without, &mut (), new, child as u64, words);
+    true
 }
