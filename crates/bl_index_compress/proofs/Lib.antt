@@ -1,5 +1,7 @@
 pub mod Evens
+pub mod Kins
 pub mod Parted
 pub mod Presses
 pub mod Puts
+pub mod Relists
 pub mod Spelled

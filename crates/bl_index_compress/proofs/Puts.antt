@@ -146,6 +146,9 @@ module _ (f : Family) (c d : Page) (may : MayEven c d) where
       record { puts = p; at = refl; gains = refl; left = refl; right = refl; parent = is.1; decision = refl; evens = record { may = may; separator = e.separator; at = refl; evened = evening.1; parent = t; decision = refl } }
   even_by None words t is = absurd (let z : true ≡ false = is in cc)
 
+  pub relisted_at : (key separator child : ℕ) (words : List ℕ) (b : Bool) → f.key ≡ key → separator ≡ evening.0.separator → f.at.right ≡ child → ((r : Option Page) → Relists f.parent key separator child r → IsRelisted r words b) → IsRelisted relisting.0 words b
+  relisted_at key separator child words b k s r is = is relisting.0 (subst (λ (z : ℕ × ℕ × ℕ). Relists f.parent z.0 z.1 z.2 relisting.0) (λ i. (k i, sym s i, r i)) relisting.1)
+
   pub evens_some : (words : List ℕ) → IsRelisted relisting.0 words true → HasEvens f c d evening.0 words
   evens_some words is = even_by relisting.0 words relisting.1 is
 

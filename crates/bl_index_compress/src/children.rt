@@ -1,6 +1,6 @@
 //! A compression that holds its parent, and latches two children of it.
 
-ghost use Rattle.std.specs.Prelude.{◌≡◌, ◌+◌, ◌<◌, ◌≤◌, true, false};
+ghost use Rattle.std.specs.Prelude.{◌≡◌, ◌<◌, ◌≤◌, ◌⊎◌, ◌↔◌, IsTrue, true, false};
 ghost use Rattle.bl_page.specs.declared.page.Page.{Page};
 ghost use Rattle.bl_page.specs.Words.{words_of};
 ghost use Rattle.bl_rearrange.specs.Neighbours.{AreNeighbours, together};
@@ -188,6 +188,13 @@ fn even(
     }
 }
 
+/// One of two pages with so many pairs has few.
+fn is_either_few(left: usize, right: usize) -> bool
+    ensures { IsTrue result ↔ ((left < 7) ⊎ (right < 7)) }
+{
+    left < ENOUGH_PAIRS || right < ENOUGH_PAIRS
+}
+
 /// It gets the right child, which it has latched, and does what is to be done with the two. The left one has these words.
 fn decide(
     tree: &Tree,
@@ -210,7 +217,7 @@ fn decide(
     let right_count = (right[0] % LEVEL_UNIT) as usize;
     if left_count + right_count <= MOST_PAIRS {
         merge(tree, hand, target, kin, parent, left, &right)
-    } else if left_count < ENOUGH_PAIRS || right_count < ENOUGH_PAIRS {
+    } else if is_either_few(left_count, right_count) {
         even(tree, hand, target, kin, parent, left, &right)
     } else {
         open_right(tree, hand, target, kin, Decision::Enough)
