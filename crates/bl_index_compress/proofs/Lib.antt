@@ -1,3 +1,4 @@
+pub mod Arrives
 pub mod Evens
 pub mod Kins
 pub mod Parted

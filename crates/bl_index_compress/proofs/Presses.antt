@@ -143,3 +143,13 @@ module _ (l : Layout) (j : Squeezing) (kin : Kin) (parent words : List ℕ) (f :
       let apart : right_of c ≢ f.at.right = λ same. differ (read.right ∙ (same ∙ ap (λ (z : Siblings). z.right) k.at)) in
       subst (λ (z : Siblings × ℕ × ℕ). IsOn l e (pressing j (OpeningLeft z.0 (Unposted (hint.Post z.1 z.2))))) (λ i. (k.at i, (k.level ∙ sym named) i, sym read.high i))
       (press_on l j (LatchedLeft f) (OpeningLeft f.at (Unposted (hint.Post f.parent.level (high_of c)))) (seen.Words c) d e on goes (refl, apart, refl))
+
+pub alone_has_room : {A : Type 0} (hint : Option Hint) → ◌≡◌ {A = Option (Squeezed × Option Hint)} (Some (squeezed.Alone, None)) (Some (squeezed.NoRoom, hint)) → A
+alone_has_room hint e = absurd (let z = ap (λ (t : Squeezed × Option Hint). t.0) (answer_same (squeezed.Alone, None) (squeezed.NoRoom, hint) e) in let y : squeezed.Alone ≡ squeezed.NoRoom = z in cc)
+
+pub alone_not_refused : {A : Type 0} → squeezed.Alone ≡ squeezed.NoRoom → A
+alone_not_refused e = absurd (let z : squeezed.Alone ≡ squeezed.NoRoom = e in cc)
+
+-- what is known where it found no room
+pub refused_said : (said : Option (Squeezed × Option Hint)) (t : Squeezed × Option Hint) → said ≡ Some t → t.0 ≡ squeezed.NoRoom → said ≡ Some (squeezed.NoRoom, t.1)
+refused_said said t is e = is ∙ (λ i. Some (e i, t.1))
