@@ -7,16 +7,14 @@ use Rattle.bl_proc_base.specs.declared.acts.Action.TheVariants as act
 use Rattle.bl_proc_base.specs.declared.acts.Seen.TheVariants as seen
 use Rattle.bl_proc_base.specs.declared.answers.Hint.{Hint}
 use Rattle.bl_proc_base.specs.declared.answers.Squeezed.{Squeezed}
-use Rattle.bl_proc_base.specs.declared.answers.Answer.{Answer}
 use Rattle.bl_proc_base.specs.declared.answers.Answer.TheVariants as answer
 use Rattle.bl_proc_compress.specs.declared.compressing.Compression.{Compression}
 use Rattle.bl_proc_compress.specs.declared.compressing.Compression.TheVariants.{LatchingLeft, LatchedLeft, LatchingRight, LatchedRight, PuttingFirst, PuttingParent, PuttingLast, Retiring, OpeningRight, OpeningLeft, OpeningParent}
 use Rattle.bl_proc_compress.specs.declared.squeezing.Compress.{Compress}
-use Rattle.bl_proc_compress.specs.declared.squeezing.CompressReply.TheVariants as reply
 use Rattle.bl_proc_compress.specs.declared.squeezing.CompressStage.{CompressStage}
 use Rattle.bl_proc_compress.specs.declared.squeezing.CompressStage.TheVariants as compress
 use Rattle.bl_proc_compress.specs.Compressions.{put_of, other, compression_next}
-use Rattle.bl_proc_compress.specs.Compresses.{compress_next_in, compress_answer_in, compress_answer, CompressGoes}
+use Rattle.bl_proc_compress.specs.Compresses.{compress_next_in, compress_answer, CompressGoes}
 use Rattle.bl_proc.specs.declared.kinds.Proc.{Proc}
 use Rattle.bl_proc.specs.declared.kinds.Proc.TheVariants as proc
 use Rattle.bl_proc.specs.Processes.{next_of, Takes}
@@ -31,7 +29,6 @@ use Rattle.bl_index_rule.specs.declared.known.PassState.{PassState}
 use Rattle.bl_claims.specs.Seeing.{name}
 use Rattle.bl_index.specs.Calls.{Compresses}
 use Rattle.bl_index_steps.specs.Runs.{IsDone}
-use Rattle.bl_index.specs.Kinds.{IsCompressAnswer}
 use Rattle.bl_index_steps.proofs.Quiet.{first_of, second_of, quiet_adds}
 use Rattle.bl_index_steps.proofs.Ends.{not_end_way}
 
@@ -59,24 +56,6 @@ silent_at_end level key got (compress.Staying x) e = cc
 silent_at_end level key got (compress.Ending r) e = refl
 silent_at_end level key got (compress.Over r) e = refl
 
-answers_at_end : (level key : ℕ) (a b : CompressStage) → compress_next_in a ≡ act.End → CompressGoes level key a seen.Done b → IsCompressAnswer (compress_answer_in b)
-answers_at_end level key compress.New b e t = cc
-answers_at_end level key (compress.Coming a) b e t = absurd (not_end_way a e)
-answers_at_end level key (compress.Compressing c) b e t = absurd (not_end_compression c e)
-answers_at_end level key (compress.Staying x) b e t = cc
-answers_at_end level key (compress.Over r) b e t = absurd t
-answers_at_end level key (compress.Ending r) compress.New e t = absurd t
-answers_at_end level key (compress.Ending r) (compress.Coming a) e t = absurd t
-answers_at_end level key (compress.Ending r) (compress.Compressing c) e t = absurd t
-answers_at_end level key (compress.Ending r) (compress.Staying x) e t = absurd t
-answers_at_end level key (compress.Ending r) (compress.Ending q) e t = absurd t
-answers_at_end level key (compress.Ending r) (compress.Over (reply.Merged hint)) e t = tt
-answers_at_end level key (compress.Ending r) (compress.Over reply.Evened) e t = tt
-answers_at_end level key (compress.Ending r) (compress.Over reply.Enough) e t = tt
-answers_at_end level key (compress.Ending r) (compress.Over reply.Alone) e t = tt
-answers_at_end level key (compress.Ending r) (compress.Over (reply.Unposted hint)) e t = tt
-answers_at_end level key (compress.Ending r) (compress.Over reply.NoRoom) e t = tt
-
 -- a compression that ends at its next action, and is then q
 record IsPressing (before : Proc) (q : Compress) (level key : ℕ) : Type 0 where
   pub old : Compress
@@ -89,11 +68,6 @@ record IsPressing (before : Proc) (q : Compress) (level key : ℕ) : Type 0 wher
 pressing : (before : Proc) (q : Compress) (level key : ℕ) → work_of before ≡ Some (level, key) → next_of before ≡ act.End → Takes before seen.Done (proc.Compress q) → IsPressing before q level key
 pressing (proc.Compress p) q level key is e t = record { old = p; before_is = refl; level_is = t.0 ∙ first_of is; key_is = t.1 ∙ second_of is; at_end = e; goes = t.2 }
 pressing other q level key is e t = absurd t
-
-pub compress_has_answer : (pass : ℕ) (old e : PassState) (first : Proc) (q : Compress) (level key : ℕ) → IsDone pass old e first (proc.Compress q) → work_of first ≡ Some (level, key) → (what : Option Answer) → what ≡ compress_answer q → IsCompressAnswer what
-compress_has_answer pass old e first q level key d is what a =
-    let p = pressing d.before q level key (d.work ∙ is) d.at_end d.takes in
-    subst IsCompressAnswer (sym a) (answers_at_end p.old.level p.old.key p.old.stage q.stage p.at_end p.goes)
 
 pub compress_answered : (from : List (Option Page)) (pass : ℕ) (old e : PassState) (first : Proc) (q : Compress) (level key : ℕ) (what : Squeezed) (next : Option Hint) → IsDone pass old e first (proc.Compress q) → old.first ≡ from → work_of first ≡ Some (level, key) → compress_answer q ≡ Some (answer.Compress what next) → Compresses from pass level key what next old.trail e.trail
 compress_answered from pass old e first q level key what next d begins is a =

@@ -1,25 +1,13 @@
 //! Compressions.
 
-ghost use Rattle.std.specs.Prelude.{◌≡◌, Some};
-ghost use Rattle.bl_proc_base.specs.declared.answers.Answer.TheVariants as answers;
+ghost use Rattle.std.specs.Prelude.{◌≡◌};
 ghost use Rattle.bl_proc_base.specs.declared.answers.Squeezed.TheVariants as answer;
-ghost use Rattle.bl_index.specs.Kinds.{IsCompressAnswer};
 ghost use Rattle.bl_proc_base.specs.Hints.{level_of, key_of};
 
 use crate::index::{Index, Pass};
-use bl_proc::{Answer, Compress, Hint, Process, Squeezed};
+use bl_index_compress::compress_children;
+use bl_proc::{Hint, Squeezed};
 use std::sync::Wait;
-
-/// What became of a compression, and its hint.
-fn squeezed(answer: Option<Answer>) -> (Squeezed, Option<Hint>)
-    requires { IsCompressAnswer answer }
-    ensures { answer ≡ Some (answers.Compress result.0 result.1) }
-{
-    match answer {
-        Some(Answer::Compress(squeezed, hint)) => (squeezed, hint),
-        _ => unreachable!(),
-    }
-}
 
 impl Index {
     ghost use Rattle.bl_index.specs.Calls.{first_of, IsPassOf, IsSamePass, number_of, trail, Compresses, MetNoRoom};
@@ -37,8 +25,6 @@ impl Index {
             (trail pass.new) }
         ensures no_room { result.0 ≡ answer.NoRoom → MetNoRoom pass.new 0 3 }
     {
-        let compress = Compress::new(hint.level(), hint.key());
-        let process = self.tree.carry_out(rt, &mut pass.hand, compress);
-        squeezed(process.answer())
+        compress_children(&self.tree, rt, &mut pass.hand, hint.level(), hint.key())
     }
 }

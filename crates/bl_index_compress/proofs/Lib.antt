@@ -1,0 +1,8 @@
+pub mod Arrives
+pub mod Evens
+pub mod Kins
+pub mod Parted
+pub mod Presses
+pub mod Puts
+pub mod Relists
+pub mod Spelled

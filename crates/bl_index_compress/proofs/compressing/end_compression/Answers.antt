@@ -1,0 +1,26 @@
+use Rattle.std.proofs.Common.{Some, refl, ap, ◌∙◌}
+use Rattle.bl_proc_base.specs.declared.acts.Seen.TheVariants as seen
+use Rattle.bl_proc_compress.specs.declared.squeezing.CompressStage.TheVariants as stages
+use Rattle.bl_proc_unique.specs.Frames.{op_of, work_of}
+use Rattle.bl_index_steps.proofs.Rooms.{refused_on}
+use Rattle.bl_index_steps.proofs.Standing.{on_itself}
+use Rattle.bl_index_compress.specs.Squeezes.{squeezing}
+use Rattle.bl_index_compress.proofs.Presses.{ends_compression}
+use Rattle.bl_index_compress.proofs.compressing.end_compression.Goals as goal
+
+pub conclude-requires-clause-ends : goal.conclude-requires-clause-ends
+conclude-requires-clause-ends c = (_, ends_compression c.args.target c.requires.process.0 _ c.requires.process.2.on.state)
+
+pub returns-clause-over : goal.returns-clause-over
+returns-clause-over c =
+    let j = c.args.target in let t = c.requires.process in let is = t.2.on.state in
+    record {
+      rests = c.conclude.ensures.rests;
+      empty = c.conclude.ensures.same.1.0 ∙ c.requires.empty;
+      no_room = λ none. refused_on c.args.hand.now.seat c.conclude.new.hand.seat 0 3 c.conclude.ensures.refusal (c.requires.no_room none);
+      is_compressed = λ pass old since. record {
+        last = record { level = j.level; key = j.key; stage = stages.Over t.0; least = j.least; most = j.most };
+        done = c.conclude.ensures.done pass old (squeezing j stages.New) _ since (ends_compression j t.0 _ is) (ap op_of is) (ap work_of is);
+        answer = ap Some t.1;
+      };
+    }

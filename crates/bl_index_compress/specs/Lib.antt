@@ -1,0 +1,3 @@
+pub mod Shares
+pub mod Squeezes
+pub mod Ways

@@ -1,0 +1,19 @@
+-- A compression goes on as any writer on its way to a page that it is to hold.
+use Rattle.std.specs.Prelude.{ℕ, refl}
+use Rattle.bl_proc_base.specs.declared.acts.Seen.{Seen}
+use Rattle.bl_proc_base.specs.declared.approaching.Approach.{Approach}
+use Rattle.bl_proc_base.specs.declared.approaching.Approach.TheVariants.{Start, At, Latching, Latched, Leaving}
+use Rattle.bl_proc_base.specs.declared.approaching.Approached.TheVariants as came
+use Rattle.bl_proc_base.specs.declared.approaching.Came.TheVariants as descend
+use Rattle.bl_proc_base.specs.Approaches.{Approaches}
+use Rattle.bl_proc_compress.specs.declared.squeezing.CompressStage.TheVariants as stages
+use Rattle.bl_proc_compress.specs.Compresses.{CompressGoes}
+use Rattle.bl_index_ways.specs.Ways.{IsToHold}
+
+pub nears : (level key : ℕ) (a b : Approach) (what : Seen) → IsToHold a → Approaches level key a what (came.On b)
+    → CompressGoes level key (stages.Coming a) what (stages.Coming b)
+nears level key Start b what hold t = absurd hold
+nears level key (At x) b what hold t = absurd hold
+nears level key (Latching x) b what hold t = (descend.On b, (tt, t), refl)
+nears level key (Latched x) b what hold t = (descend.On b, (tt, t), refl)
+nears level key (Leaving x to) b what hold t = (descend.On b, (tt, t), refl)

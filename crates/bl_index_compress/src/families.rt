@@ -1,0 +1,82 @@
+//! A compression at its parent.
+
+ghost use Rattle.std.specs.Prelude.{◌≡◌, ◌<◌, ◌≤◌, length};
+ghost use Rattle.bl_page.specs.declared.page.Inner.{Inner as InnerIs};
+ghost use Rattle.bl_page.specs.declared.page.Page.TheVariants.{Inner};
+ghost use Rattle.bl_page.specs.Pairs.{IsWithin};
+ghost use Rattle.bl_page.specs.Words.{words_of};
+ghost use Rattle.bl_proc_base.specs.declared.approaching.Approach.TheVariants.{Latched};
+ghost use Rattle.bl_proc_compress.specs.declared.compressing.Family.{Family};
+ghost use Rattle.bl_proc_compress.specs.declared.squeezing.CompressStage.TheVariants.{Coming};
+ghost use Rattle.bl_proc_compress.specs.Compressions.{IsFamily, right_place};
+ghost use Rattle.bl_store.specs.Hands.{known, read_words, HasNoStock, ReadsFrom};
+ghost use Rattle.bl_index_steps.specs.Runs.{Runs};
+ghost use Rattle.bl_index_ways.specs.Events.{IsThere};
+ghost use Rattle.bl_index_compress.specs.Squeezes.{squeezing, LeavesParent};
+
+use crate::children::compress_two;
+use crate::targets::{Kin, Squeezing};
+use bl_index_rule::PassState;
+use bl_index_steps::{FrameView, Tree};
+use bl_page::{LEVEL_UNIT, place_in, words_from};
+use bl_proc_base::{Hint, Squeezed};
+use bl_proc_compress::Siblings;
+use bl_store::{Glance, Hand};
+use std::sync::Wait;
+
+/// The place of the right one of the two children to compress: behind the child for the key, or that child's own where it is the last.
+fn right_place_in(parent: &[u64; 32], key: u64) -> usize
+    requires { (i : InnerIs) × (parent.now ≡ words_of (Inner i)) × IsWithin i.low i.high key × (2 ≤ length i.children.items) }
+    ensures place { (i : InnerIs) → parent.now ≡ words_of (Inner i) → result ≡ right_place key i.children.items }
+    ensures some { 0 < result }
+    ensures most { result < 14 }
+{
+    let count = (parent[0] % LEVEL_UNIT) as usize;
+    let place = place_in(parent, &mut (), &mut 0, count, key);
+    if place < count { place } else { place - 1 }
+}
+
+/// The numbers of the parent with these words and of the two children, and the key by which it lists the right one.
+fn siblings_in(parent: &[u64; 32], at: u32, key: u64) -> Kin
+    requires { (i : InnerIs) × (parent.now ≡ words_of (Inner i)) × IsWithin i.low i.high key × (2 ≤ length i.children.items) }
+    ensures { (i : InnerIs) (f : Family) → parent.now ≡ words_of (Inner i) → IsFamily at key i f → (f.at ≡ result.at) × (f.key ≡ result.key) }
+{
+    let place = right_place_in(parent, key);
+    let siblings = Siblings {
+        parent: at,
+        left: parent[3 + 2 * place] as u32,
+        right: parent[5 + 2 * place] as u32,
+    };
+    Kin {
+        at: siblings,
+        key: parent[4 + 2 * place],
+    }
+}
+
+/// At the parent that it holds, which covers the key.
+pub(crate) fn compress_there<R: Wait>(
+    tree: &Tree,
+    rt: &R,
+    hand: &mut Hand<PassState>,
+    target: Squeezing,
+    at: u32,
+    glance: Glance,
+) -> Option<(Squeezed, Option<Hint>)>
+    requires runs { Runs tree.now hand.old (known hand.old.seat).state }
+    requires empty { HasNoStock hand.old.seat }
+    requires reads { ReadsFrom hand.old.seat glance }
+    requires there { IsThere target.level target.key (squeezing target (Coming (Latched at))) (read_words hand.old.seat) (known hand.old.seat) }
+    ensures { LeavesParent tree.now hand.old.seat hand.new target result }
+{
+    let shown = FrameView {
+        store: &tree.store,
+        glance,
+    };
+    let parent = words_from(&shown, hand);
+    if parent[0] % LEVEL_UNIT < 2 {
+        tree.reopen(hand, at);
+        return Some((Squeezed::Alone, None));
+    }
+    let kin = siblings_in(&parent, at, target.key);
+    compress_two(tree, rt, hand, target, kin, &parent)
+}
