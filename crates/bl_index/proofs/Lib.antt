@@ -7,6 +7,7 @@ pub mod Released
 pub mod Changes
 pub mod Posts
 pub mod Pressed
+pub mod Kinds
 pub mod Lowerings
 pub mod Climbings
 pub mod Learning

@@ -1,6 +1,5 @@
 pub mod Calls
 pub mod Opened
-pub mod Kinds
 pub mod Meetings
 pub mod Scans
 pub mod Closed
