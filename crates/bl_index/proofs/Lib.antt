@@ -7,13 +7,11 @@ pub mod Released
 pub mod Changes
 pub mod Posts
 pub mod Pressed
-pub mod Kinds
 pub mod Lowerings
 pub mod Climbings
 pub mod Learning
 pub mod Encounters
 pub mod Scanned
-pub mod Legs
 pub mod PartByPart
 pub mod Callbacks
 pub mod Holders

@@ -23,7 +23,7 @@ use Rattle.bl_proc_invariant.proofs.LoweringLogs.{stage_means}
 use Rattle.bl_index_rule.specs.declared.known.PassState.{PassState}
 use Rattle.bl_index.specs.Calls.{LowersTree}
 use Rattle.bl_index_steps.specs.Runs.{IsDone}
-use Rattle.bl_index.proofs.Kinds.{IsLowerAnswer}
+use Rattle.bl_index.specs.Within.{IsLowerAnswer}
 use Rattle.bl_index_steps.proofs.Quiet.{quiet_adds}
 
 not_end_lowering : (l : Lowering) → lowering_next l ≢ act.End

@@ -3,3 +3,4 @@ pub mod Opened
 pub mod Meetings
 pub mod Scans
 pub mod Closed
+pub mod Within

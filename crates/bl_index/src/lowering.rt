@@ -3,7 +3,7 @@
 ghost use Rattle.std.specs.Prelude.{◌≡◌, Some};
 ghost use Rattle.bl_proc_base.specs.declared.answers.Answer.TheVariants as answers;
 ghost use Rattle.bl_proc_base.specs.declared.lowering.Lowered.TheVariants as answer;
-ghost use Rattle.bl_index.proofs.Kinds.{IsLowerAnswer};
+ghost use Rattle.bl_index.specs.Within.{IsLowerAnswer};
 
 use crate::index::{Index, Pass};
 use bl_proc::{Answer, Lower, Lowered, Process};

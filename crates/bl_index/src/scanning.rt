@@ -10,7 +10,7 @@ ghost use Rattle.bl_index_steps.specs.Runs.{Rests};
 ghost use Rattle.bl_index_read.specs.Parts.{HasSetOff};
 ghost use Rattle.bl_index_read.specs.LeafRows.{is_below as below, IsBelow, IsOver};
 ghost use Rattle.bl_index.specs.Scans.{AppendsPart, LeavesPart, MayScan};
-ghost use Rattle.bl_index.proofs.Legs.{GoesOrStops};
+ghost use Rattle.bl_index.specs.Within.{GoesOrStops};
 
 use crate::index::{Index, Pass};
 use bl_index_read::{

@@ -9,7 +9,7 @@ ghost use Rattle.bl_index_steps.specs.Runs.{Rests};
 ghost use Rattle.bl_index_read.specs.Parts.{HasSetOff};
 ghost use Rattle.bl_index_read.specs.LeafRows.{IsBelow};
 ghost use Rattle.bl_index.specs.Scans.{TellsNothing, TellsPart, TellsScan};
-ghost use Rattle.bl_index.proofs.Legs.{GoesOrStops};
+ghost use Rattle.bl_index.specs.Within.{GoesOrStops};
 
 use crate::index::{Index, Pass};
 use crate::scanning::is_below;

@@ -1,5 +1,5 @@
--- How a scan goes on behind one of its parts, by what the pass knew before the part and what it knew when the part had ended.
-use Rattle.std.specs.Prelude.{◌≡◌, ℕ, Result, Ok, Err}
+-- What functions of the index tell one another: the kind of an answer, and how a scan goes on behind one of its parts.
+use Rattle.std.specs.Prelude.{◌≡◌, ℕ, Option, None, Some, Result, Ok, Err}
 use Rattle.bl_claims.specs.Seeing.{IsSeen}
 use Rattle.bl_claims.specs.Trails.{Trail}
 use Rattle.bl_index_read.specs.Parts.{StandsBehind}
@@ -7,9 +7,21 @@ use Rattle.bl_index_read.specs.declared.leaf_rows.Behind.{Behind}
 use Rattle.bl_index_rule.specs.declared.known.PassState.{PassState}
 use Rattle.bl_index_steps.specs.Runs.{Rests}
 use Rattle.bl_index_steps.specs.declared.tree.Tree.{Tree}
+use Rattle.bl_proc_base.specs.declared.answers.Answer.TheVariants.{Op, Post, Compress, Reclaim, Lower, InsertPost}
+use Rattle.bl_proc_base.specs.declared.answers.Answer.{Answer}
 use Rattle.bl_proc_base.specs.declared.descent.Descent.{Descent}
 use Rattle.bl_store.specs.Hands.{known}
 use Rattle.bl_store.specs.declared.store.Hand.{Hand}
+
+-- the answer of a lowering
+abbrev pub IsLowerAnswer : Option Answer → Type 0
+IsLowerAnswer None = ⊥
+IsLowerAnswer (Some (Op reply hint)) = ⊥
+IsLowerAnswer (Some (Post what hint)) = ⊥
+IsLowerAnswer (Some (Reclaim what)) = ⊥
+IsLowerAnswer (Some (Compress what hint)) = ⊥
+IsLowerAnswer (Some (Lower what)) = Unit {0}
+IsLowerAnswer (Some (InsertPost reply last left)) = ⊥
 
 -- The part was answered and has ended, and the scan stands behind it.
 pub record GoesBehind (tree : Tree) (hand : Hand PassState) (pass : ℕ) (behind : Behind) (way : Descent) (did : Trail → Trail → Type 0) (old : PassState) : Type 0 where
