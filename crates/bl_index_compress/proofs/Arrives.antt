@@ -1,5 +1,5 @@
 -- A compression at the parent that it holds and has got.
-use Rattle.std.proofs.Common.{ℕ, ◌≡◌, ◌<◌, List, refl, sym, ◌∙◌, arith}
+use Rattle.std.proofs.Common.{ℕ, ◌≡◌, List, refl, sym, ◌∙◌, arith}
 use Rattle.bl_page.specs.declared.page.Page.{Page}
 use Rattle.bl_page.specs.declared.page.Page.TheVariants.{Anchor, Leaf, Inner as InnerPage, Dead}
 use Rattle.bl_page.specs.declared.page.Inner.{Inner}
@@ -13,7 +13,6 @@ use Rattle.bl_proc_base.specs.Onwards.{Leads}
 use Rattle.bl_proc_compress.specs.declared.squeezing.CompressStage.{CompressStage}
 use Rattle.bl_proc_compress.specs.declared.squeezing.CompressStage.TheVariants.{Coming}
 use Rattle.bl_proc_compress.specs.Compresses.{CompressArrives, CompressGoes}
-use Rattle.bl_proc.specs.declared.kinds.Proc.{Proc}
 use Rattle.bl_proc.specs.Processes.{Takes}
 use Rattle.bl_index_rule.specs.declared.known.PassState.{PassState}
 use Rattle.bl_index_ways.specs.Events.{HasGotAnchor, IsThere}

@@ -147,9 +147,6 @@ module _ (l : Layout) (j : Squeezing) (kin : Kin) (parent words : List ℕ) (f :
 pub alone_has_room : {A : Type 0} (hint : Option Hint) → ◌≡◌ {A = Option (Squeezed × Option Hint)} (Some (squeezed.Alone, None)) (Some (squeezed.NoRoom, hint)) → A
 alone_has_room hint e = absurd (let z = ap (λ (t : Squeezed × Option Hint). t.0) (answer_same (squeezed.Alone, None) (squeezed.NoRoom, hint) e) in let y : squeezed.Alone ≡ squeezed.NoRoom = z in cc)
 
-pub alone_not_refused : {A : Type 0} → squeezed.Alone ≡ squeezed.NoRoom → A
-alone_not_refused e = absurd (let z : squeezed.Alone ≡ squeezed.NoRoom = e in cc)
-
 -- what is known where it found no room
 pub refused_said : (said : Option (Squeezed × Option Hint)) (t : Squeezed × Option Hint) → said ≡ Some t → t.0 ≡ squeezed.NoRoom → said ≡ Some (squeezed.NoRoom, t.1)
 refused_said said t is e = is ∙ (λ i. Some (e i, t.1))

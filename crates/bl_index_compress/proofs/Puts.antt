@@ -1,8 +1,7 @@
 -- What a merge and an evening put, by words.
-use Rattle.std.proofs.Common.{ℕ, ◌≡◌, ◌≢◌, ◌+◌, ◌<◌, ◌≤◌, Bool, true, false, List, length, Option, Some, None, refl, sym, ap, ◌∙◌, subst, inl, inr, arith}
+use Rattle.std.proofs.Common.{ℕ, ◌≡◌, ◌≤◌, Bool, true, false, List, Option, Some, None, refl, sym, ap, ◌∙◌, subst, arith}
 use Rattle.std.specs.Prelude.{IsSome}
 use Rattle.bl_model.specs.Rows.{map_of}
-use Rattle.bl_layout.specs.declared.layout.Layout.{Layout}
 use Rattle.bl_page.specs.declared.page.Page.{Page}
 use Rattle.bl_page.specs.declared.page.Page.TheVariants.{Anchor, Leaf as LeafPage, Inner as InnerPage, Dead}
 use Rattle.bl_page.specs.Words.{words_of}
@@ -11,8 +10,8 @@ use Rattle.bl_rearrange.specs.declared.sides.Side.TheVariants as side
 use Rattle.bl_rearrange.specs.declared.sides.Evened.{Evened}
 use Rattle.bl_rearrange.specs.Entered.{dropped}
 use Rattle.bl_claims.specs.Pages.{IsTreePage}
-use Rattle.bl_rearrange.specs.Rearranged.{pairs_of, IsNow, IsWithout}
-use Rattle.bl_rearrange.specs.Neighbours.{AreNeighbours, together, IsMerged, IsEvened}
+use Rattle.bl_rearrange.specs.Rearranged.{IsNow, IsWithout}
+use Rattle.bl_rearrange.specs.Neighbours.{AreNeighbours, together, IsEvened}
 use Rattle.bl_rearrange.proofs.EnteredLemmas.{RisesFrom-dropped, map_of-dropped}
 use Rattle.bl_proc_base.specs.declared.acts.Action.{Action}
 use Rattle.bl_proc_base.specs.declared.acts.Action.TheVariants as act
@@ -23,13 +22,11 @@ use Rattle.bl_proc_base.specs.Respelled.{words_by}
 use Rattle.bl_proc_compress.specs.declared.compressing.Siblings.{Siblings}
 use Rattle.bl_proc_compress.specs.declared.compressing.Family.{Family}
 use Rattle.bl_proc_compress.specs.declared.compressing.Puts.{Puts}
-use Rattle.bl_proc_compress.specs.declared.compressing.Decision.{Decision}
 use Rattle.bl_proc_compress.specs.declared.compressing.Decision.TheVariants.{Merged, Evened as EvenedOut}
-use Rattle.bl_proc_compress.specs.declared.compressing.Compression.{Compression}
 use Rattle.bl_proc_compress.specs.declared.compressing.Compression.TheVariants.{Retiring, OpeningRight}
-use Rattle.bl_proc_compress.specs.Compressions.{put_of, other, merge_hint, IsBuried, Merges, Relists, MayEven, Evens, after_puts}
+use Rattle.bl_proc_compress.specs.Compressions.{put_of, other, merge_hint, Merges, Relists, MayEven, Evens, after_puts}
 use Rattle.bl_proc_unique.proofs.Neighbours.{merged_some, buried_some, evened_some}
-use Rattle.bl_proc_unique.proofs.Pages.{without_some, rising}
+use Rattle.bl_proc_unique.proofs.Pages.{without_some}
 use Rattle.bl_proc_unique.proofs.Relistings.{relist_some}
 use Rattle.bl_index_ways.proofs.Spreading.{spelled}
 use Rattle.bl_index_compress.specs.declared.targets.Squeezing.{Squeezing}

@@ -1,8 +1,6 @@
-use Rattle.std.proofs.Common.{rules, ◌≡◌, ℕ, ◌<◌, ◌≤◌, length, refl, sym, ap, ◌∙◌, subst, inl, inr, arith}
+use Rattle.std.proofs.Common.{rules, ◌<◌, refl, sym, ap, ◌∙◌, inl, inr, arith}
 use Rattle.std.specs.Prelude.{◌⊎◌}
 use Rattle.std.proofs.lemmas.Bool.{false≢true}
-use Rattle.bl_page.specs.declared.page.Page.{Page}
-use Rattle.bl_rearrange.specs.Rearranged.{pairs_of}
 use Rattle.bl_rearrange.specs.Neighbours.{AreNeighbours, together}
 use Rattle.bl_proc_base.specs.declared.acts.Action.TheVariants as act
 use Rattle.bl_proc_base.specs.declared.acts.Seen.TheVariants as seen
@@ -12,7 +10,6 @@ use Rattle.bl_proc_compress.specs.declared.compressing.Decision.TheVariants.{Eno
 use Rattle.bl_proc_compress.specs.declared.compressing.Siblings.{Siblings}
 use Rattle.bl_proc_compress.specs.Compressions.{IsFew}
 use Rattle.bl_proc.specs.Processes.{next_of}
-use Rattle.bl_store.specs.Hands.{known}
 use Rattle.bl_index_steps.proofs.Standing.{on_after, same_goes}
 use Rattle.bl_index_compress.proofs.Presses.{decided_since, has_both, on_opening, press_course}
 use Rattle.bl_index_compress.proofs.Spelled.{neighbours_tree}

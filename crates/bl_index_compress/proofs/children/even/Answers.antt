@@ -1,8 +1,7 @@
-use Rattle.std.proofs.Common.{rules, ◌≡◌, Option, Some, refl, sym, ap, ◌∙◌, subst, inr}
-use Rattle.bl_page.specs.declared.page.Page.{Page}
+use Rattle.std.proofs.Common.{rules, refl, ap, ◌∙◌, subst, inr}
 use Rattle.bl_proc_compress.specs.declared.compressing.Compression.TheVariants.{PuttingFirst, OpeningRight}
 use Rattle.bl_proc_compress.specs.declared.compressing.Compression.{Compression}
-use Rattle.bl_proc_compress.specs.declared.compressing.Decision.TheVariants.{Evened, Lost, Refused}
+use Rattle.bl_proc_compress.specs.declared.compressing.Decision.TheVariants.{Lost, Refused}
 use Rattle.bl_proc_compress.specs.declared.compressing.Siblings.{Siblings}
 use Rattle.bl_store.specs.Hands.{known}
 use Rattle.bl_index_steps.specs.Runs.{IsOn}

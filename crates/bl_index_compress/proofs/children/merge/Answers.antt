@@ -1,7 +1,6 @@
-use Rattle.std.proofs.Common.{rules, ℕ, ◌≡◌, ◌<◌, Option, Some, refl, sym, ap, ◌∙◌, subst, inl, arith}
+use Rattle.std.proofs.Common.{rules, ℕ, ◌≡◌, refl, sym, ap, ◌∙◌, subst, inl, arith}
 use Rattle.bl_page.specs.declared.page.Page.TheVariants.{Inner}
 use Rattle.bl_proc_base.specs.declared.acts.Seen.TheVariants as seen
-use Rattle.bl_proc_base.specs.declared.answers.Hint.{Hint}
 use Rattle.bl_proc_compress.specs.declared.compressing.Compression.{Compression}
 use Rattle.bl_proc_compress.specs.declared.compressing.Compression.TheVariants.{PuttingFirst, Retiring, OpeningRight, OpeningLeft}
 use Rattle.bl_proc_compress.specs.declared.compressing.Decision.TheVariants.{Merged, Refused}

@@ -1,10 +1,10 @@
-use Rattle.std.proofs.Common.{rules, ◌≡◌, Some, None, refl, sym, ap, ◌∙◌, subst, arith}
+use Rattle.std.proofs.Common.{rules, ◌≡◌, Some, None, refl, ap, ◌∙◌, arith}
 use Rattle.bl_proc_base.specs.declared.acts.Seen.TheVariants as seen
 use Rattle.bl_proc_compress.specs.declared.compressing.Compression.TheVariants.{PuttingFirst, PuttingParent, PuttingLast, OpeningRight}
 use Rattle.bl_proc_compress.specs.declared.compressing.Decision.TheVariants.{Refused}
 use Rattle.bl_proc_compress.specs.Compressions.{after_puts}
 use Rattle.bl_proc.specs.Processes.{next_of}
-use Rattle.bl_store.specs.Hands.{known, drafts}
+use Rattle.bl_store.specs.Hands.{drafts}
 use Rattle.bl_proc_base.specs.declared.acts.Action.TheVariants as act
 use Rattle.bl_proc_compress.specs.declared.compressing.Siblings.{Siblings}
 use Rattle.bl_proc_compress.specs.Compressions.{other}

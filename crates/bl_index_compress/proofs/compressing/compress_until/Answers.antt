@@ -1,4 +1,4 @@
-use Rattle.std.proofs.Common.{rules, ◌≡◌, Some, None, refl, sym, ap, subst, ◌∙◌}
+use Rattle.std.proofs.Common.{rules, ◌≡◌, refl, sym, ap, subst, ◌∙◌}
 use Rattle.bl_proc_compress.specs.declared.squeezing.CompressReply.TheVariants as reply
 use Rattle.bl_store.specs.Hands.{known, IsRunning}
 use Rattle.bl_store.specs.declared.store.Hand.{Hand}

@@ -1,10 +1,6 @@
-use Rattle.std.proofs.Common.{rules, ℕ, ◌≡◌, ◌<◌, ◌≤◌, refl, sym, ap, ◌∙◌, subst, arith}
+use Rattle.std.proofs.Common.{rules, ◌<◌, ◌≤◌, refl, sym, ap, ◌∙◌, subst, arith}
 use Rattle.bl_claims.specs.Pages.{roots_of}
-use Rattle.bl_proc_base.specs.declared.acts.Seen.TheVariants as seen
-use Rattle.bl_proc_base.specs.declared.approaching.Approach.TheVariants as approach
-use Rattle.bl_proc_base.specs.declared.approaching.Approached.TheVariants as came
 use Rattle.bl_proc_base.specs.declared.approaching.Came.TheVariants as descend
-use Rattle.bl_proc_base.specs.Approaches.{Approaches}
 use Rattle.bl_proc_compress.specs.declared.squeezing.CompressReply.TheVariants as reply
 use Rattle.bl_proc_compress.specs.declared.squeezing.CompressStage.TheVariants as stages
 use Rattle.bl_store.specs.Hands.{known, read_words}

@@ -1,4 +1,3 @@
-use Rattle.std.proofs.Common.{◌∙◌}
 use Rattle.bl_store.specs.Hands.{known}
 use Rattle.bl_index_rule.proofs.Pages.{puts_page}
 use Rattle.bl_index_compress.proofs.events.put_next.Goals as goal

@@ -1,11 +1,9 @@
-use Rattle.std.proofs.Common.{ℕ, ◌≡◌, ◌-◌, ◌<◌, ◌≤◌, List, length, refl, sym, ap, ◌∙◌, subst, arith}
+use Rattle.std.proofs.Common.{ℕ, List, ap, ◌∙◌, arith}
 use Rattle.bl_page.specs.declared.page.Page.TheVariants.{Inner}
 use Rattle.bl_page.specs.Pairs.{place}
 use Rattle.bl_page.specs.Faults.{pairs_of as pairs_in_words}
 use Rattle.bl_page.proofs.Once.{children_again}
 use Rattle.bl_proc_base.proofs.Spellings.{tree_pairs, pairs_counted}
-use Rattle.bl_proc_compress.specs.Compressions.{right_place}
-use Rattle.bl_proc_compress.proofs.Places.{right_place-some}
 use Rattle.bl_index_compress.proofs.Kins.{place_front, place_last}
 use Rattle.bl_index_compress.proofs.families.right_place_in.Goals as goal
 

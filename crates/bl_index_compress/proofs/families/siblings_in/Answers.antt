@@ -1,4 +1,4 @@
-use Rattle.std.proofs.Common.{ℕ, ◌≡◌, ◌<◌, sym, ◌∙◌, arith}
+use Rattle.std.proofs.Common.{sym, arith}
 use Rattle.bl_proc_unique.proofs.Families.{family_some}
 use Rattle.bl_index_compress.proofs.Kins.{finds}
 use Rattle.bl_index_compress.proofs.families.siblings_in.Goals as goal

@@ -1,11 +1,9 @@
-use Rattle.std.proofs.Common.{◌≡◌, ℕ, ◌+◌, ◌%◌, ◌≤◌, ◌++◌, List, length, get_or, take, drop, refl, sym, ap, subst, ◌∙◌, arith, take_all}
+use Rattle.std.proofs.Common.{◌≡◌, ℕ, ◌+◌, ◌%◌, ◌++◌, List, length, get_or, take, sym, ap, subst, ◌∙◌, arith, take_all}
 use Rattle.std.proofs.lemmas.List.{length-append}
-use Rattle.bl_page.specs.declared.page.Page.{Page}
 use Rattle.bl_page.specs.Words.{layout, entries_of}
 use Rattle.bl_page.proofs.Once.{once}
 use Rattle.bl_claims.specs.Pages.{IsTreePage}
-use Rattle.bl_rearrange.specs.Rearranged.{pairs_of, low_of, high_of, right_of, IsNow}
-use Rattle.bl_rearrange.specs.Neighbours.{together}
+use Rattle.bl_rearrange.specs.Rearranged.{pairs_of, IsNow}
 use Rattle.bl_proc_base.proofs.Spellings.{pairs_counted}
 use Rattle.bl_index_compress.proofs.Spelled.{neighbours_tree, reads, spelled_now}
 use Rattle.bl_index_compress.proofs.pages.merged_words.Goals as goal

@@ -1,10 +1,8 @@
-use Rattle.std.proofs.Common.{ℕ, ◌≡◌, ◌+◌, ◌<◌, ◌≤◌, Option, Some, None, length, refl, sym, ap, ◌∙◌, subst, inl, inr, arith}
+use Rattle.std.proofs.Common.{ℕ, ◌≡◌, Some, None, sym, ◌∙◌, subst, inl, inr}
 use Rattle.std.proofs.lemmas.Bool.{false≢true}
 use Rattle.bl_model.specs.Rows.{map_of}
-use Rattle.bl_page.specs.declared.page.Page.{Page}
 use Rattle.bl_page.specs.declared.page.Page.TheVariants.{Inner}
 use Rattle.bl_page.specs.Pairs.{IsChild, IsWithin}
-use Rattle.bl_page.specs.Words.{words_of}
 use Rattle.bl_rearrange.specs.Rearranged.{pairs_of}
 use Rattle.bl_proc_compress.proofs.Looks.{look_is}
 use Rattle.bl_index_steps.proofs.Standing.{none_of}
