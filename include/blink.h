@@ -116,7 +116,8 @@ int32_t blink_try_change(blink_seat *seat, uint64_t key, uint64_t old_value, uin
  * BLINK_OK, BLINK_AGAIN, BLINK_CLOSED, BLINK_FEW_ROWS. A part may have no row and still go on. */
 int32_t blink_try_rows(blink_seat *seat, uint64_t from, blink_row *rows, size_t room, blink_part *part);
 
-/* Gives idle time to the map: does so many pieces of upkeep at most, and gives back what was swapped out. BLINK_OK: nothing is left to do. */
+/* Gives idle time to the map: does so many pieces of upkeep at most, and gives back what was swapped out. BLINK_OK: nothing is left to do;
+ * BLINK_AGAIN: something is; BLINK_CLOSED. */
 int32_t blink_tend(blink_seat *seat, uint32_t most);
 
 /* How many pieces of upkeep of this seat wait, 32 at most; and how many were dropped, since 32 waited. Neither is a fault: see the manual. */
