@@ -116,7 +116,8 @@ int32_t blink_try_change(blink_seat *seat, uint64_t key, uint64_t old_value, uin
  * BLINK_OK, BLINK_AGAIN, BLINK_CLOSED, BLINK_FEW_ROWS. A part may have no row and still go on. */
 int32_t blink_try_rows(blink_seat *seat, uint64_t from, blink_row *rows, size_t room, blink_part *part);
 
-/* Gives idle time to the map: does so many pieces of upkeep at most, and gives back what was swapped out. BLINK_OK: nothing is left to do. */
+/* Gives idle time to the map: does so many pieces of upkeep at most, and gives back what was swapped out. BLINK_OK: nothing is left to do;
+ * BLINK_AGAIN: something is; BLINK_CLOSED. */
 int32_t blink_tend(blink_seat *seat, uint32_t most);
 
 /* How many pieces of upkeep of this seat wait, 32 at most; and how many were dropped, since 32 waited. Neither is a fault: see the manual. */
@@ -159,57 +160,45 @@ static inline void blink_leave_(blink_seat *seat, blink_seat mine) {
 
 /* ---- The same calls, made again until they are answered: each lets other threads run in between. ---- */
 
-static inline int32_t blink_find(blink_seat *seat, uint64_t key, uint64_t *value) {
-    int32_t answer;
-    for (;;) {
-        BLINK_CALL_(seat, blink_try_find, answer, key, value);
-        if (answer != BLINK_AGAIN) return answer;
-        BLINK_YIELD();
+/* Makes the call until it is answered, and returns the answer. */
+#define BLINK_RETURN_ANSWER_(seat, call, ...)                      \
+    for (;;) {                                                     \
+        int32_t answer_;                                           \
+        BLINK_CALL_(seat, call, answer_, __VA_ARGS__);             \
+        if (answer_ != BLINK_AGAIN) return answer_;                \
+        BLINK_YIELD();                                             \
     }
+
+static inline int32_t blink_find(blink_seat *seat, uint64_t key, uint64_t *value) {
+    BLINK_RETURN_ANSWER_(seat, blink_try_find, key, value)
 }
 
 static inline int32_t blink_insert(blink_seat *seat, uint64_t key, uint64_t value, uint64_t *there) {
-    int32_t answer;
-    for (;;) {
-        BLINK_CALL_(seat, blink_try_insert, answer, key, value, there);
-        if (answer != BLINK_AGAIN) return answer;
-        BLINK_YIELD();
-    }
+    BLINK_RETURN_ANSWER_(seat, blink_try_insert, key, value, there)
 }
 
 static inline int32_t blink_delete(blink_seat *seat, uint64_t key, uint64_t *gone) {
-    int32_t answer;
-    for (;;) {
-        BLINK_CALL_(seat, blink_try_delete, answer, key, gone);
-        if (answer != BLINK_AGAIN) return answer;
-        BLINK_YIELD();
-    }
+    BLINK_RETURN_ANSWER_(seat, blink_try_delete, key, gone)
 }
 
 static inline int32_t blink_change(blink_seat *seat, uint64_t key, uint64_t old_value, uint64_t new_value, uint64_t *there) {
-    int32_t answer;
-    for (;;) {
-        BLINK_CALL_(seat, blink_try_change, answer, key, old_value, new_value, there);
-        if (answer != BLINK_AGAIN) return answer;
-        BLINK_YIELD();
-    }
+    BLINK_RETURN_ANSWER_(seat, blink_try_change, key, old_value, new_value, there)
+}
+
+static inline int32_t blink_rows(blink_seat *seat, uint64_t from, blink_row *rows, size_t room, blink_part *part) {
+    BLINK_RETURN_ANSWER_(seat, blink_try_rows, from, rows, room, part)
 }
 
 /* Rows from a key on, as many leaves as surely fit: room is 14 at least. `*count` is how many there are, `*next` the key to go on from where
  * `*more` is true. Each leaf is answered as the map stood at one moment of the call. */
 static inline int32_t blink_scan(blink_seat *seat, uint64_t from, blink_row *rows, size_t room, size_t *count, uint64_t *next, bool *more) {
     blink_part part = { 0, 0, true, 0 };
-    int32_t answer;
     *count = 0;
     *next = from;
     *more = true;
     if (room < BLINK_LEAF_ROWS) return BLINK_FEW_ROWS;
     while (*more && room - *count >= BLINK_LEAF_ROWS) {
-        BLINK_CALL_(seat, blink_try_rows, answer, *next, rows + *count, room - *count, &part);
-        if (answer == BLINK_AGAIN) {
-            BLINK_YIELD();
-            continue;
-        }
+        int32_t answer = blink_rows(seat, *next, rows + *count, room - *count, &part);
         if (answer != BLINK_OK) return answer;
         *count += (size_t)part.count;
         *next = part.next;

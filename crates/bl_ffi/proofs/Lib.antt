@@ -1,2 +1,3 @@
 pub mod SeatSteps
 pub mod LooseSteps
+pub mod Called

@@ -1,9 +1,12 @@
 -- What a call tells C.
-use Rattle.std.specs.Prelude.{◌≡◌, ◌⊎◌, ℕ, ℤ, pos, IfSome}
+use Rattle.std.specs.Prelude.{◌≡◌, ◌⊎◌, ℕ, ℤ, pos, Some, None, length, MatchOption}
 use Rattle.bl_model.specs.declared.operation.Op.{Op}
+use Rattle.bl_model.specs.declared.operation.Op.TheVariants as op
 use Rattle.bl_model.specs.declared.operation.Reply.{Reply}
 use Rattle.bl_model.specs.declared.operation.Reply.TheVariants.{Found, Absent, Inserted, Present, Deleted, Changed, Differs, Rows, NoRoom}
-use Rattle.bl_seats.specs.Calls.{HasToldLast}
+use Rattle.bl_seats.specs.declared.seat.Seat.{Seat}
+use Rattle.bl_seats.specs.Calls.{IsSameSeat, HasToldLast, HasTold, HasGoneOn, HasGoneOnOrBegun, HasNothingToDo}
+use Rattle.bl_seats.specs.Waits.{hints_of}
 use Rattle.bl_ffi.specs.declared.seat.SeatOfC.{SeatOfC}
 
 -- the code of a reply, and the value that is written beside it
@@ -18,7 +21,38 @@ IsCodeOf (Differs value) code written = (code ≡ pos 2) × (written ≡ value)
 IsCodeOf (Rows rows next) code written = code ≡ pos 4
 IsCodeOf NoRoom code written = code ≡ pos 3
 
--- It is to be made again, or the seat is closed; or the code and the value are those of a reply to this very call, which the seat's pass has
--- given last: see `HasToldLast`.
-abbrev pub Tells : Op → SeatOfC → ℤ → ℕ → Type 0
-Tells op seat code written = ((code ≡ pos 4) ⊎ (code ≡ pos 9)) ⊎ ((reply : Reply) × IsCodeOf reply code written × IfSome seat.seat (λ s. ∥ HasToldLast op reply s ∥₁))
+-- A call of a closed seat is told so, and the seat stays closed. A call of another one is told what the call has come to, and the seat is
+-- the same one then.
+abbrev pub Calls : SeatOfC → SeatOfC → ℤ → (Seat → Seat → Type 0) → Type 0
+Calls old new code Comes = MatchOption old.seat ((code ≡ pos 9) × (new.seat ≡ None)) (λ s. (t : Seat) × (new.seat ≡ Some t) × IsSameSeat s t × Comes s t)
+
+-- The call is to be made again, and may have begun; or the code and the value are those of a reply to this very call, which the seat has
+-- told, and told last.
+abbrev pub Replies : Op → ℤ → ℕ → Seat → Seat → Type 0
+Replies op code written old new =
+    ((code ≡ pos 4) × HasGoneOnOrBegun op old new)
+    ⊎ ((reply : Reply) × IsCodeOf reply code written × HasTold op reply old new × HasToldLast op reply new)
+
+abbrev pub Tells : Op → SeatOfC → SeatOfC → ℤ → ℕ → Type 0
+Tells op old new code written = Calls old new code (Replies op code written)
+
+-- The same of a part of the rows, which is told by the code alone.
+abbrev pub Lists : ℕ → ℤ → Seat → Seat → Type 0
+Lists from code old new =
+    ((code ≡ pos 4) × HasGoneOn old new)
+    ⊎ ((code ≡ pos 0) × ((reply : Reply) × HasTold (op.Part from) reply old new × HasToldLast (op.Part from) reply new))
+
+-- It has told what was underway, if that has ended, and no more; and the code says whether anything is left to do.
+abbrev pub Tends : SeatOfC → SeatOfC → ℤ → Type 0
+Tends old new code =
+    Calls old new code (λ s t. HasGoneOn s t × (((code ≡ pos 0) × HasNothingToDo t) ⊎ ((code ≡ pos 4) × (HasNothingToDo t → ⊥))))
+
+-- what is said of a seat by a number, and 0 of a closed one; nothing is done
+abbrev pub Counts : (Seat → ℕ) → SeatOfC → SeatOfC → ℕ → Type 0
+Counts count old new result = MatchOption old.seat ((result ≡ 0) × (new.seat ≡ None)) (λ s. (result ≡ count s) × (new.seat ≡ Some s))
+
+abbrev pub waiting_of : Seat → ℕ
+waiting_of seat = length (hints_of seat.upkeep)
+
+abbrev pub dropped_of : Seat → ℕ
+dropped_of seat = seat.upkeep.dropped

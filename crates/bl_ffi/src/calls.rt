@@ -1,10 +1,10 @@
 //! The calls.
 
-ghost use Rattle.std.specs.Prelude.{◌≡◌, Some};
+ghost use Rattle.std.specs.Prelude.{◌≡◌, ◌<◌, ◌≤◌, pos, length, None, Some, MatchOption};
 ghost use Rattle.bl_model.specs.declared.operation.Op.TheVariants as op;
 ghost use Rattle.bl_model.specs.Replies.{reply_of};
 ghost use Rattle.bl_model.specs.Writes.{write_op};
-ghost use Rattle.bl_ffi.specs.Told.{IsCodeOf, Tells};
+ghost use Rattle.bl_ffi.specs.Told.{IsCodeOf, Tells, Calls, Lists, Tends, Counts, waiting_of, dropped_of};
 
 use crate::loose::Loose;
 use crate::seat::SeatOfC;
@@ -45,7 +45,10 @@ pub struct Row {
 }
 
 /// Takes the seat's box, and leaves a closed seat.
-fn taken(alloc: Global, seat: &mut SeatOfC) -> Option<Box<Seat, Global>> {
+fn taken(alloc: Global, seat: &mut SeatOfC) -> Option<Box<Seat, Global>>
+    ensures held { MatchOption result (seat.old.seat ≡ None) (λ b. seat.old.seat ≡ Some b.value) }
+    ensures left { seat.new.seat ≡ None }
+{
     let held = mem::replace(seat, SeatOfC::empty());
     held.into_box(alloc)
 }
@@ -152,7 +155,9 @@ pub extern "C" fn blink_open_image(alloc: Global, bytes: &[u8], seats: &mut [Sea
 
 /// Closes the seat. The index goes with its last seat.
 #[unsafe(no_mangle)]
-pub extern "C" fn blink_close(alloc: Global, seat: &mut SeatOfC) {
+pub extern "C" fn blink_close(alloc: Global, seat: &mut SeatOfC)
+    ensures { seat.new.seat ≡ None }
+{
     let _ = taken(alloc, seat);
 }
 
@@ -164,7 +169,7 @@ pub extern "C" fn blink_try_find(
     key: u64,
     value: &mut u64,
 ) -> i32
-    ensures { Tells (op.Find key) seat.new result value.new }
+    ensures { Tells (op.Find key) seat.old seat.new result value.new }
 {
     let Some(mut mine) = taken(alloc, seat) else {
         return CLOSED;
@@ -179,7 +184,7 @@ pub extern "C" fn blink_try_find(
 
 /// Writes a key, and puts the value beside the reply.
 fn write(alloc: Global, seat: &mut SeatOfC, key: u64, write: KeyWrite, value: &mut u64) -> i32
-    ensures { Tells (write_op key write) seat.new result value.new }
+    ensures { Tells (write_op key write) seat.old seat.new result value.new }
 {
     let Some(mut mine) = taken(alloc, seat) else {
         return CLOSED;
@@ -201,7 +206,7 @@ pub extern "C" fn blink_try_insert(
     value: u64,
     there: &mut u64,
 ) -> i32
-    ensures { Tells (op.Insert key value) seat.new result there.new }
+    ensures { Tells (op.Insert key value) seat.old seat.new result there.new }
 {
     write(alloc, seat, key, KeyWrite::Insert(value), there)
 }
@@ -214,7 +219,7 @@ pub extern "C" fn blink_try_delete(
     key: u64,
     gone: &mut u64,
 ) -> i32
-    ensures { Tells (op.Delete key) seat.new result gone.new }
+    ensures { Tells (op.Delete key) seat.old seat.new result gone.new }
 {
     write(alloc, seat, key, KeyWrite::Delete, gone)
 }
@@ -229,7 +234,7 @@ pub extern "C" fn blink_try_change(
     new: u64,
     there: &mut u64,
 ) -> i32
-    ensures { Tells (op.Change key old new) seat.new result there.new }
+    ensures { Tells (op.Change key old new) seat.old seat.new result there.new }
 {
     write(alloc, seat, key, KeyWrite::Change(old, new), there)
 }
@@ -275,7 +280,10 @@ pub extern "C" fn blink_try_rows(
     from: u64,
     rows: &mut [Row],
     part: &mut Part,
-) -> i32 {
+) -> i32
+    ensures few { length rows.old < 14 → (result ≡ pos 10) × (seat.new ≡ seat.old) }
+    ensures told { 14 ≤ length rows.old → Calls seat.old seat.new result (Lists from result) }
+{
     if rows.len() < MOST_PAIRS {
         return FEW_ROWS;
     }
@@ -301,7 +309,9 @@ pub extern "C" fn blink_try_rows(
 
 /// Does so many pieces of upkeep at most.
 #[unsafe(no_mangle)]
-pub extern "C" fn blink_tend(alloc: Global, seat: &mut SeatOfC, most: u32) -> i32 {
+pub extern "C" fn blink_tend(alloc: Global, seat: &mut SeatOfC, most: u32) -> i32
+    ensures { Tends seat.old seat.new result }
+{
     let Some(mut mine) = taken(alloc, seat) else {
         return CLOSED;
     };
@@ -313,7 +323,9 @@ pub extern "C" fn blink_tend(alloc: Global, seat: &mut SeatOfC, most: u32) -> i3
 
 /// How many pieces of upkeep wait.
 #[unsafe(no_mangle)]
-pub extern "C" fn blink_waiting(alloc: Global, seat: &mut SeatOfC) -> u32 {
+pub extern "C" fn blink_waiting(alloc: Global, seat: &mut SeatOfC) -> u32
+    ensures { Counts waiting_of seat.old seat.new result }
+{
     let Some(mine) = taken(alloc, seat) else {
         return 0;
     };
@@ -324,7 +336,9 @@ pub extern "C" fn blink_waiting(alloc: Global, seat: &mut SeatOfC) -> u32 {
 
 /// How many pieces of upkeep were dropped.
 #[unsafe(no_mangle)]
-pub extern "C" fn blink_dropped(alloc: Global, seat: &mut SeatOfC) -> u64 {
+pub extern "C" fn blink_dropped(alloc: Global, seat: &mut SeatOfC) -> u64
+    ensures { Counts dropped_of seat.old seat.new result }
+{
     let Some(mine) = taken(alloc, seat) else {
         return 0;
     };

@@ -1,1 +1,2 @@
 pub mod Advancing
+pub mod Marks

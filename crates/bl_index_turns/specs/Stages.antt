@@ -1,18 +1,23 @@
 -- What a hand is about between two calls.
-use Rattle.std.specs.Prelude.{◌≡◌, ◌≢◌, ℕ, Option, Some, None}
+use Rattle.std.specs.Prelude.{◌≡◌, ◌≢◌, ◌⊎◌, ◌+◌, ℕ, Option, None, length}
 use Rattle.bl_model.specs.declared.deciding.KeyWrite.{KeyWrite}
+use Rattle.bl_model.specs.declared.operation.Op.{Op}
 use Rattle.bl_store.specs.declared.stock.Stock.{Stock}
 use Rattle.bl_store.specs.declared.store.Hand.{Hand}
 use Rattle.bl_store.specs.Hands.{known, HasNoStock}
 use Rattle.bl_store.specs.Owners.{IsHandOf}
 use Rattle.bl_proc_base.specs.declared.acts.Action.TheVariants as act
 use Rattle.bl_proc_base.specs.declared.answers.Answer.{Answer}
+use Rattle.bl_proc_base.specs.declared.answers.Hint.{Hint}
+use Rattle.bl_proc_base.specs.declared.answers.Hint.TheVariants as hint
 use Rattle.bl_proc.specs.declared.kinds.Proc.{Proc}
 use Rattle.bl_proc.specs.declared.kinds.Proc.TheVariants as proc
 use Rattle.bl_proc.specs.Processes.{next_of, answer_of}
+use Rattle.bl_proc_unique.specs.Frames.{op_of, work_of}
 use Rattle.bl_index_rule.specs.declared.known.PassState.{PassState}
+use Rattle.bl_index_steps.specs.Held.{own_marks}
 use Rattle.bl_index_steps.specs.declared.tree.Tree.{Tree}
-use Rattle.bl_index_steps.specs.Runs.{Runs, Rests, IsSince, IsDone, HasReserved}
+use Rattle.bl_index_steps.specs.Runs.{Runs, Rests, IsSince, IsSameProcess, IsDone, HasReserved}
 use Rattle.bl_index_turns.specs.declared.stages.Stage.{Stage}
 use Rattle.bl_index_turns.specs.declared.stages.Stage.TheVariants as stage
 
@@ -28,8 +33,7 @@ pub record CanGoOn (tree : Tree) (hand : Hand PassState) (process : Proc) (held 
   pub going : (answer_of process ≡ None) × (next_of process ≢ act.Begin)
   pub reserved : HasReserved hand.seat held process
   pub old : PassState
-  pub pass : ℕ
-  pub since : IsSince pass old (known hand.seat)
+  pub since : IsSince hand.number old (known hand.seat)
 
 abbrev pub Stands : Tree → Hand PassState → Stage → Type 0
 Stands tree hand stage.Rests = IsAtRest tree hand
@@ -46,20 +50,62 @@ IsWriteOf key write (stage.Posts p held) = ⊥
 IsWriteOf key write (stage.Compresses p held) = ⊥
 IsWriteOf key write (stage.Lowers p held) = ⊥
 
--- The process, which has begun when its pass knew something, has ended with that answer, and has done what the answer means.
-pub record HasEnded (h h' : PassState) (process : Proc) (answer : Answer) : Type 0 where
+-- the operation of the map that is underway: that of a write
+abbrev pub op_in : Stage → Option Op
+op_in stage.Rests = None
+op_in (stage.Writes p held) = op_of (proc.Write p.write)
+op_in (stage.Posts p held) = None
+op_in (stage.Compresses p held) = None
+op_in (stage.Lowers p held) = None
+
+abbrev pub IsSameKind : Proc → Proc → Type 0
+IsSameKind (proc.Write p) (proc.Write q) = Unit {0}
+IsSameKind (proc.Post p) (proc.Post q) = Unit {0}
+IsSameKind (proc.Compress p) (proc.Compress q) = Unit {0}
+IsSameKind (proc.Lower p) (proc.Lower q) = Unit {0}
+IsSameKind p q = ⊥
+
+-- what a hint asks for is underway: a post, or a compression
+abbrev pub IsFor : Hint → Stage → Type 0
+IsFor (hint.Post level key) (stage.Posts p held) = (p.level ≡ level) × (p.key ≡ key)
+IsFor (hint.Thin level key) (stage.Compresses p held) = (p.level ≡ level) × (p.key ≡ key)
+IsFor h s = ⊥
+
+abbrev pub IsLowering : Stage → Type 0
+IsLowering (stage.Lowers p held) = Unit {0}
+IsLowering s = ⊥
+
+-- The process, which has begun when its pass knew something, has ended with that answer, and has done what the answer means. The hand
+-- rests then.
+pub record HasEnded (h h' : PassState) (process : Proc) (answer : Option Answer) (stage' : Stage) : Type 0 where
   pub last : Proc
-  pub answers : answer_of last ≡ Some answer
+  pub kind : IsSameKind process last
+  pub answers : answer_of last ≡ answer
   pub done : (pass : ℕ) (old : PassState) → IsSince pass old h → IsDone pass old h' process last
+  pub rests : stage' ≡ stage.Rests
 
-abbrev pub HasEndedSo : PassState → PassState → Proc → Option Answer → Type 0
-HasEndedSo h h' process None = Unit {0}
-HasEndedSo h h' process (Some answer) = HasEnded h h' process answer
+-- the same is underway: the same operation, or the same post, compression or lowering
+abbrev pub IsSameWork : Stage → Stage → Type 0
+IsSameWork (stage.Writes p held) (stage.Writes q held') = op_of (proc.Write q.write) ≡ op_of (proc.Write p.write)
+IsSameWork (stage.Posts p held) (stage.Posts q held') = work_of (proc.Post q) ≡ work_of (proc.Post p)
+IsSameWork (stage.Compresses p held) (stage.Compresses q held') = work_of (proc.Compress q) ≡ work_of (proc.Compress p)
+IsSameWork (stage.Lowers p held) (stage.Lowers q held') = Unit {0}
+IsSameWork s s' = ⊥
 
--- what an answer means that a process has given
-abbrev pub HasAdvanced : PassState → PassState → Stage → Option Answer → Type 0
-HasAdvanced h h' stage.Rests answer = answer ≡ None
-HasAdvanced h h' (stage.Writes p held) answer = HasEndedSo h h' (proc.Write p.write) answer
-HasAdvanced h h' (stage.Posts p held) answer = HasEndedSo h h' (proc.Post p) answer
-HasAdvanced h h' (stage.Compresses p held) answer = HasEndedSo h h' (proc.Compress p) answer
-HasAdvanced h h' (stage.Lowers p held) answer = HasEndedSo h h' (proc.Lower p) answer
+-- What was underway is so still, after so many events of it, and has not answered.
+pub record IsStill (events : ℕ) (h h' : PassState) (stage : Stage) (answer : Option Answer) (stage' : Stage) : Type 0 where
+  pub none : answer ≡ None
+  pub turns : length (own_marks h') ≡ length (own_marks h) + events
+  pub since : IsSameProcess h h'
+  pub work : IsSameWork stage stage'
+
+abbrev pub EndsOrGoesOn : ℕ → PassState → PassState → Proc → Stage → Option Answer → Stage → Type 0
+EndsOrGoesOn events h h' process stage answer stage' = HasEnded h h' process answer stage' ⊎ IsStill events h h' stage answer stage'
+
+-- what was underway has ended, or has gone on by so many events; and a hand that rests has done nothing
+abbrev pub HasAdvanced : ℕ → PassState → PassState → Stage → Option Answer → Stage → Type 0
+HasAdvanced events h h' stage.Rests answer stage' = (answer ≡ None) × (h' ≡ h) × (stage' ≡ stage.Rests)
+HasAdvanced events h h' (stage.Writes p held) answer stage' = EndsOrGoesOn events h h' (proc.Write p.write) (stage.Writes p held) answer stage'
+HasAdvanced events h h' (stage.Posts p held) answer stage' = EndsOrGoesOn events h h' (proc.Post p) (stage.Posts p held) answer stage'
+HasAdvanced events h h' (stage.Compresses p held) answer stage' = EndsOrGoesOn events h h' (proc.Compress p) (stage.Compresses p held) answer stage'
+HasAdvanced events h h' (stage.Lowers p held) answer stage' = EndsOrGoesOn events h h' (proc.Lower p) (stage.Lowers p held) answer stage'

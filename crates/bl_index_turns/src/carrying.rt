@@ -1,11 +1,12 @@
 //! A process goes on by so many events.
 
-ghost use Rattle.std.specs.Prelude.{◌≡◌, ◌≢◌, ℕ, None, true, false};
+ghost use Rattle.std.specs.Prelude.{◌≡◌, ◌≢◌, ◌+◌, ℕ, None, true, false, length};
 ghost use Rattle.bl_proc_base.specs.declared.acts.Action.TheVariants as act;
 ghost use Rattle.bl_proc_unique.specs.Frames.{op_of, work_of};
 ghost use Rattle.bl_store.specs.Hands.{known, IsSameHand, HasNoStock};
 ghost use Rattle.bl_index_rule.specs.declared.known.PassState.{PassState as Knows};
 ghost use Rattle.bl_index_steps.specs.Runs.{Runs, Rests, IsSince, IsSameProcess, IsDone, HasReserved};
+ghost use Rattle.bl_index_steps.specs.Held.{own_marks};
 
 use crate::stepping::step;
 use bl_index_rule::PassState;
@@ -31,6 +32,7 @@ pub fn go_on<P: Kind>(
     ensures runs { result ≡ false → Runs tree.now hand.new (P.proc_of process.new) × HasReserved hand.new.seat held.new (P.proc_of process.new) }
     ensures going { result ≡ false → (P.answer_of process.new ≡ None) × (P.next_of process.new ≢ act.Begin) }
     ensures since { result ≡ false → IsSameProcess (known hand.old.seat) (known hand.new.seat) }
+    ensures turns { result ≡ false → length (own_marks (known hand.new.seat)) ≡ length (own_marks (known hand.old.seat)) + events }
     ensures work { result ≡ false → (op_of (P.proc_of process.new) ≡ op_of (P.proc_of process.old))
         × (work_of (P.proc_of process.new) ≡ work_of (P.proc_of process.old)) }
 {

@@ -1,7 +1,8 @@
 //! What a hand is about between two calls, and how it goes on.
 
 ghost use Rattle.bl_store.specs.Hands.{known, IsSameHand};
-ghost use Rattle.bl_index_turns.specs.Stages.{IsAtRest, Stands, HasAdvanced, IsWriteOf};
+ghost use Rattle.bl_index_steps.specs.Runs.{IsSince};
+ghost use Rattle.bl_index_turns.specs.Stages.{IsAtRest, Stands, HasAdvanced, IsWriteOf, IsFor, IsLowering};
 
 use crate::carrying::go_on;
 use crate::writing::Writing;
@@ -31,6 +32,7 @@ pub fn begin_write(tree: &Tree, hand: &mut Hand<PassState>, key: u64, write: Key
     requires { IsAtRest tree.now hand.old }
     ensures same { IsSameHand hand.old.seat hand.new.seat }
     ensures stands { Stands tree.now hand.new result }
+    ensures since { IsSince hand.old.number (known hand.old.seat) (known hand.new.seat) }
     ensures about { IsWriteOf key write result }
 {
     let mut process = Writing::new(key, write);
@@ -43,6 +45,8 @@ pub fn begin_hint(tree: &Tree, hand: &mut Hand<PassState>, hint: Hint) -> Stage
     requires { IsAtRest tree.now hand.old }
     ensures same { IsSameHand hand.old.seat hand.new.seat }
     ensures stands { Stands tree.now hand.new result }
+    ensures since { IsSince hand.old.number (known hand.old.seat) (known hand.new.seat) }
+    ensures about { IsFor hint result }
 {
     match hint {
         Hint::Post { .. } => {
@@ -63,6 +67,8 @@ pub fn begin_lower(tree: &Tree, hand: &mut Hand<PassState>) -> Stage
     requires { IsAtRest tree.now hand.old }
     ensures same { IsSameHand hand.old.seat hand.new.seat }
     ensures stands { Stands tree.now hand.new result }
+    ensures since { IsSince hand.old.number (known hand.old.seat) (known hand.new.seat) }
+    ensures about { IsLowering result }
 {
     let mut process = Lower::new();
     tree.begin(hand, &mut process);
@@ -79,7 +85,7 @@ pub fn advance(
     requires { Stands tree.now hand.old stage.old }
     ensures same { IsSameHand hand.old.seat hand.new.seat }
     ensures stands { Stands tree.now hand.new stage.new }
-    ensures answers { HasAdvanced (known hand.old.seat) (known hand.new.seat) stage.old result }
+    ensures answers { HasAdvanced events (known hand.old.seat) (known hand.new.seat) stage.old result stage.new }
 {
     match stage {
         Stage::Rests => None,

@@ -16,6 +16,9 @@ pub fn sweep(tree: &Tree, hand: &mut Hand<PassState>) -> u32
     requires { IsAtRest tree.now hand.old }
     ensures same { IsSameHand hand.old.seat hand.new.seat }
     ensures rests { IsAtRest tree.now hand.new }
+    ensures observed { (pages : ℕ) × (pages ≤ result) × sweeps hand.old.number ((known hand.old.seat).number + 1) tree.now.store.layout.passes
+        (known hand.old.seat) pages (known hand.new.seat) }
+    ensures count { hand.new.seat.me.0.releases ≡ hand.old.seat.me.0.releases + result }
 {
     release::<Brand>(tree, hand)
 }
@@ -27,6 +30,7 @@ fn release<J: Sweeper>(tree: &Tree, hand: &mut Hand<PassState>) -> u32
     ensures same { Keeps hand.old.seat hand.new.seat }
     ensures observed { (pages : ℕ) × (pages ≤ result) × sweeps J.pass J.number J.passes (known hand.old.seat) pages (known hand.new.seat) }
     ensures within { IsWithin hand.new.seat }
+    ensures count { hand.new.seat.me.0.releases ≡ hand.old.seat.me.0.releases + result }
 {
     tree.store.sweep::<Swept<J>>(hand)
 }

@@ -1,2 +1,7 @@
 pub mod Begun
-pub mod Replies
+pub mod Made
+pub mod Accounts
+pub mod Searched
+pub mod Starts
+pub mod Gone
+pub mod Pieces

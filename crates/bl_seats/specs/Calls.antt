@@ -1,15 +1,49 @@
 -- What the calls of a seat tell.
-use Rattle.std.specs.Prelude.{ℕ, Option}
+use Rattle.std.specs.Arc.{arc_value}
+use Rattle.std.specs.Prelude.{◌≡◌, ◌≢◌, ◌⊎◌, ℕ, ◌+◌, ◌<◌, ◌≤◌, true, Option, Some, List}
 use Rattle.bl_model.specs.declared.deciding.KeyWrite.{KeyWrite}
 use Rattle.bl_model.specs.declared.operation.Op.{Op}
 use Rattle.bl_model.specs.declared.operation.Reply.{Reply}
-use Rattle.bl_proc_base.specs.declared.answers.Answer.{Answer}
+use Rattle.bl_page.specs.declared.page.Page.{Page}
+use Rattle.bl_claims.specs.Trails.{Trail}
+use Rattle.bl_proc_base.specs.declared.answers.Hint.{Hint}
+use Rattle.bl_store.specs.declared.store.Hand.{Hand}
+use Rattle.bl_store.specs.Hands.{known}
+use Rattle.bl_index_rule.specs.declared.known.PassState.{PassState}
+use Rattle.bl_index_turns.specs.declared.stages.Stage.{Stage}
+use Rattle.bl_index_turns.specs.declared.stages.Stage.TheVariants as stage
+use Rattle.bl_index_turns.specs.Stages.{IsWriteOf, IsFor, IsLowering}
 use Rattle.bl_seats.specs.declared.seat.Seat.{Seat}
-use Rattle.bl_seats.specs.Seats.{HasReplied, HasAnswered}
-use Rattle.bl_index_turns.specs.Stages.{IsWriteOf}
+use Rattle.bl_seats.specs.declared.seat.Upkeep.{Upkeep}
+use Rattle.bl_seats.specs.Seats.{IsSameOne, HasReplied, HasWritten, HasReleased, HasNotFound, HasWorked, begun_in}
+use Rattle.bl_seats.specs.Accounts.{Account, account, GoesTo, Tells, Begins}
+use Rattle.bl_seats.specs.Waits.{hints_of, IsIdle, IsKept, IsTaken}
 
--- The last call of the seat's pass that was answered is this one, with this reply, and all that its pass has seen is a trail that an
--- index may have.
+-- the number of its pass, which its entries have
+abbrev pub number_of : Seat → ℕ
+number_of seat = seat.hand.number
+
+-- what the index began with
+abbrev pub first_of_seat : Seat → List (Option Page)
+first_of_seat seat = (known seat.hand.seat).first
+
+-- all that has happened in the index, up to the seat's own last event
+abbrev pub seen_by : Seat → Trail
+seen_by seat = (known seat.hand.seat).trail
+
+-- how many pages and frames it has released
+abbrev pub released_by : Seat → ℕ
+released_by seat = seat.hand.seat.me.0.releases
+
+-- what it has told, and what it is about
+abbrev pub account_of : Seat → Account
+account_of seat = account seat.hand seat.stage
+
+-- the same seat of the same index
+abbrev pub IsSameSeat : Seat → Seat → Type 0
+IsSameSeat old new = (new.index ≡ old.index) × IsSameOne old.hand new.hand
+
+-- The last call of the seat that was answered is this one, with this reply, and all that it has seen is a trail that an index may have.
 abbrev pub HasToldLast : Op → Reply → Seat → Type 0
 HasToldLast op reply seat = HasReplied seat.hand op reply
 
@@ -17,6 +51,62 @@ HasToldLast op reply seat = HasReplied seat.hand op reply
 abbrev pub IsAbout : ℕ → KeyWrite → Seat → Type 0
 IsAbout key write seat = IsWriteOf key write seat.stage
 
--- where it was about a write, and that has ended, the write was told last
-abbrev pub HasToldIfAbout : Seat → Option Answer → Seat → Type 0
-HasToldIfAbout old answer new = HasAnswered new.hand old.stage answer
+-- It has told what was underway, if that has ended, and no more.
+abbrev pub HasGoneOn : Seat → Seat → Type 0
+HasGoneOn old new = GoesTo (number_of old) (account_of old) (account_of new)
+
+-- And then this reply.
+abbrev pub HasTold : Op → Reply → Seat → Seat → Type 0
+HasTold op reply old new = Tells (number_of old) op reply (account_of old) (account_of new)
+
+-- Or it has begun the operation then.
+abbrev pub HasBegun : Op → Seat → Seat → Type 0
+HasBegun op old new = Begins (number_of old) op (account_of old) (account_of new)
+
+abbrev pub HasGoneOnOrBegun : Op → Seat → Seat → Type 0
+HasGoneOnOrBegun op old new = HasGoneOn old new ⊎ HasBegun op old new
+
+-- Why a search or a part is not answered: something is underway; or the last that the seat has done is a search that ran out of turns.
+abbrev pub HasNoAnswer : Seat → Type 0
+HasNoAnswer new = (mid : Hand PassState) × HasNotFound (arc_value new.index) new.stage mid new.hand
+
+-- Why a write is not answered: something is underway; or there was no room, once or more often in a row.
+abbrev pub HasToWait : Seat → Type 0
+HasToWait new = (new.stage ≢ stage.Rests) ⊎ (0 < new.upkeep.lacked)
+
+-- What was underway has ended, or has gone on by 256 events.
+abbrev pub HasCarriedOn : Seat → Seat → Type 0
+HasCarriedOn old new = HasWorked old.hand new.stage new.hand
+
+-- how many processes it has begun, and whether one is underway, as a number
+abbrev pub begun_by : Seat → ℕ
+begun_by seat = begun_in seat.hand
+
+abbrev pub count_underway : Stage → ℕ
+count_underway stage.Rests = 0
+count_underway s = 1
+
+-- A piece is underway still; or so many were done, with the one that was underway at first.
+abbrev pub HasDoneMost : ℕ → Seat → Seat → Type 0
+HasDoneMost most old new = (new.stage ≢ stage.Rests) ⊎ (begun_by old + most ≤ begun_by new + count_underway old.stage)
+
+-- Nothing is underway, and nothing waits to be done.
+abbrev pub HasNothingToDo : Seat → Type 0
+HasNothingToDo seat = (seat.stage ≡ stage.Rests) × IsIdle seat.upkeep
+
+-- The write has told its reply last, and has written what that means; what it has left to do waits, behind what waited before it ended.
+pub record HasChanged (op : Op) (reply : Reply) (new : Seat) : Type 0 where
+  pub hint : Option Hint
+  pub written : HasWritten new.hand op reply hint
+  pub before : Upkeep
+  pub kept : IsKept hint before new.upkeep
+
+-- It has swept, if nothing is underway, and was answered how many pages and frames are released.
+abbrev pub HasSwept : ℕ → Seat → Seat → Type 0
+HasSwept answer old new = HasReleased answer old.stage old.hand new.hand
+
+-- A piece of upkeep is underway that was due: a lowering where the top level may be one that is not needed, or the oldest that waited.
+abbrev pub HasBegunPiece : Seat → Seat → Type 0
+HasBegunPiece old new =
+    ((old.upkeep.may_fall ≡ true) × IsLowering new.stage × (hints_of new.upkeep ≡ hints_of old.upkeep) × (new.upkeep.dropped ≡ old.upkeep.dropped))
+    ⊎ ((hint : Hint) × IsFor hint new.stage × IsTaken (Some hint) old.upkeep new.upkeep)

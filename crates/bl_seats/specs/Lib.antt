@@ -1,2 +1,6 @@
+pub mod Accounts
+pub mod Pieces
 pub mod Seats
+pub mod Waits
 pub mod Calls
+pub mod Opened

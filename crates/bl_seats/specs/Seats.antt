@@ -1,5 +1,5 @@
 -- Who sits at an index, and what a seat's calls have answered.
-use Rattle.std.specs.Prelude.{ℕ, Option, Some}
+use Rattle.std.specs.Prelude.{◌≡◌, ◌≢◌, ◌⊎◌, ◌+◌, ℕ, length, Option, Some}
 use Rattle.bl_model.specs.declared.operation.Op.{Op}
 use Rattle.bl_model.specs.declared.operation.Op.TheVariants as op
 use Rattle.bl_model.specs.declared.operation.Reply.{Reply}
@@ -7,11 +7,15 @@ use Rattle.bl_model.specs.Writes.{write_op}
 use Rattle.bl_claims.specs.Trails.{Trail}
 use Rattle.bl_proc_base.specs.declared.answers.Answer.{Answer}
 use Rattle.bl_proc_base.specs.declared.answers.Answer.TheVariants as answers
+use Rattle.bl_proc_base.specs.declared.answers.Hint.{Hint}
 use Rattle.bl_store.specs.declared.store.Hand.{Hand}
 use Rattle.bl_store.specs.Hands.{known}
 use Rattle.bl_index_rule.specs.declared.known.PassState.{PassState}
+use Rattle.bl_index_read.specs.Searching.{RunsOut}
 use Rattle.bl_index_steps.specs.Answered.{Answers}
+use Rattle.bl_index_steps.specs.Held.{own_marks}
 use Rattle.bl_index.specs.declared.index.Index.{Index}
+use Rattle.bl_index.specs.Calls.{pages_of, Writes, Sweeps}
 use Rattle.bl_index_turns.specs.declared.stages.Stage.{Stage}
 use Rattle.bl_index_turns.specs.declared.stages.Stage.TheVariants as stage
 use Rattle.bl_index_turns.specs.Stages.{Stands}
@@ -20,22 +24,51 @@ use Rattle.bl_index_turns.specs.Stages.{Stands}
 abbrev pub IsSeated : Index → Hand PassState → Stage → Type 0
 IsSeated index hand stage = Stands index.tree hand stage
 
--- The last call that the hand's pass has answered is this one: it was one process, begun and ended after all that the pass had seen
--- when it began; what the pass has seen now is a trail that an index may have, and the call's entry is the last one of its own.
+-- the same hand, of the same index, as far as it tells
+abbrev pub IsSameOne : Hand PassState → Hand PassState → Type 0
+IsSameOne old new = (new.number ≡ old.number) × ((known new.seat).first ≡ (known old.seat).first)
+
+-- The last call that the hand has answered is this one: it was one process, begun and ended after all that the hand had seen when it
+-- began; what the hand has seen now is a trail that an index may have, and the call's entry is the last one of its own.
 pub record HasReplied (hand : Hand PassState) (op : Op) (reply : Reply) : Type 0 where
-  pub pass : ℕ
   pub before : Trail
-  pub answers : Answers (known hand.seat).first pass op reply before (known hand.seat).trail
+  pub answers : Answers (known hand.seat).first hand.number op reply before (known hand.seat).trail
 
 -- a search of the key has answered that
 abbrev pub HasFound : Hand PassState → ℕ → Reply → Type 0
 HasFound hand key reply = HasReplied hand (op.Find key) reply
 
+-- The last call that the hand has answered is this write, which has written what its reply means with the hint beside it.
+pub record HasWritten (hand : Hand PassState) (op : Op) (reply : Reply) (hint : Option Hint) : Type 0 where
+  pub before : Trail
+  pub writes : Writes (known hand.seat).first hand.number op reply hint before (known hand.seat).trail
+
+-- A search took as many turns as the index has pages, and was not answered.
+abbrev pub HasRunOut : Index → Hand PassState → Hand PassState → Type 0
+HasRunOut index old new = RunsOut (known old.seat).first (pages_of index) old.number (pages_of index) (known old.seat).trail (known new.seat).trail
+
+-- Something is underway, and nothing was done; or a search ran out of turns.
+abbrev pub HasNotFound : Index → Stage → Hand PassState → Hand PassState → Type 0
+HasNotFound index s old new = ((s ≢ stage.Rests) × (new ≡ old)) ⊎ HasRunOut index old new
+
+-- how many processes the hand has begun
+abbrev pub begun_in : Hand PassState → ℕ
+begun_in hand = (known hand.seat).number
+
+-- The hand rests; or what was underway is so still, after 256 more events of it.
+abbrev pub HasWorked : Hand PassState → Stage → Hand PassState → Type 0
+HasWorked old s new = (s ≡ stage.Rests) ⊎ (length (own_marks (known new.seat)) ≡ length (own_marks (known old.seat)) + 256)
+
 -- Of what was underway a write of a key has answered that, where it has ended. Of anything else nothing is said.
-abbrev IfOp : Hand PassState → Op → Option Answer → Type 0
-IfOp hand o (Some (answers.Op reply hint)) = HasReplied hand o reply
+abbrev pub IfOp : Hand PassState → Op → Option Answer → Type 0
+IfOp hand o (Some (answers.Op reply hint)) = HasWritten hand o reply hint
 IfOp hand o other = Unit {0}
 
 abbrev pub HasAnswered : Hand PassState → Stage → Option Answer → Type 0
 HasAnswered hand (stage.Writes p held) answer = IfOp hand (write_op p.write.key p.write.write) answer
 HasAnswered hand other answer = Unit {0}
+
+-- Something was underway, and nothing is done; or the hand has swept, and was answered how many pages and frames are released.
+abbrev pub HasReleased : ℕ → Stage → Hand PassState → Hand PassState → Type 0
+HasReleased answer stage.Rests old new = Sweeps (known old.seat).first old.number answer (known old.seat).trail (known new.seat).trail
+HasReleased answer other old new = (answer ≡ 0) × (new ≡ old)

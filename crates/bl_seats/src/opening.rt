@@ -1,8 +1,10 @@
 //! An index is opened with its seats.
 
-ghost use Rattle.std.specs.Prelude.{All};
+ghost use Rattle.std.specs.Prelude.{All, IfOk, IfErr};
 ghost use Rattle.std.specs.Arc.{arc_value};
 ghost use Rattle.bl_index.specs.Calls.{IsPassOf};
+ghost use Rattle.bl_index.specs.Opened.{IsRefusal};
+ghost use Rattle.bl_seats.specs.Opened.{AreSeatsOf, IsOpened, IsReopened, IsImageFault, IsNewSeat};
 
 use crate::seat::{Seat, Upkeep};
 use bl_check::{Fault, load};
@@ -23,7 +25,10 @@ pub enum ImageFault {
 }
 
 /// An index of so many pages, 4 to 65,536, without rows, and so many seats at it, 1 to 64.
-pub fn open(alloc: Global, pages: u32, seats: u32) -> Result<Vec<Seat>, OpenFault> {
+pub fn open(alloc: Global, pages: u32, seats: u32) -> Result<Vec<Seat>, OpenFault>
+    ensures ok { IfOk result (λ v. IsOpened pages seats v.items) }
+    ensures fault { IfErr result (IsRefusal (record { pages = pages; passes = seats })) }
+{
     let config = Config {
         pages,
         passes: seats,
@@ -38,7 +43,10 @@ pub fn open(alloc: Global, pages: u32, seats: u32) -> Result<Vec<Seat>, OpenFaul
 }
 
 /// An index that begins with the rows of a sound image, with as many pages, and so many seats at it.
-pub fn open_image(alloc: Global, bytes: &[u8], seats: u32) -> Result<Vec<Seat>, ImageFault> {
+pub fn open_image(alloc: Global, bytes: &[u8], seats: u32) -> Result<Vec<Seat>, ImageFault>
+    ensures ok { IfOk result (λ v. IsReopened bytes.now seats v.items) }
+    ensures fault { IfErr result (IsImageFault bytes.now seats) }
+{
     let quiet = match load(alloc, bytes) {
         Ok(quiet) => quiet,
         Err(Fault::Memory) => return Err(ImageFault::Memory),
@@ -57,6 +65,7 @@ pub fn open_image(alloc: Global, bytes: &[u8], seats: u32) -> Result<Vec<Seat>, 
 /// The index, shared by a seat for each pass.
 fn shared(alloc: Global, index: Index, passes: Vec<Pass>) -> Result<Vec<Seat>, AllocError>
     requires { All (IsPassOf index) passes.items }
+    ensures { IfOk result (λ v. AreSeatsOf index passes.items v.items) }
 {
     match Arc::new(alloc, index) {
         Ok(all) => seated(alloc, &all, passes),
@@ -71,10 +80,12 @@ fn seated(
     passes: Vec<Pass>,
 ) -> Result<Vec<Seat>, AllocError>
     requires { All (IsPassOf (arc_value index.now)) passes.items }
+    ensures { IfOk result (λ v. AreSeatsOf (arc_value index.now) passes.items v.items) }
 {
     let mut passes = passes;
     let mut seats = Vec::new(alloc);
-    while let Some(pass) = passes.pop() {
+    while !passes.is_empty() {
+        let pass = passes.remove(0);
         let index = Arc::try_clone(index)?;
         seats.push(seat_of(index, pass))?;
     }
@@ -84,6 +95,7 @@ fn seated(
 /// The seat of a pass.
 fn seat_of(index: Arc<Index, Global>, pass: Pass) -> Seat
     requires { IsPassOf (arc_value index) pass }
+    ensures { IsNewSeat (arc_value index) pass result }
 {
     Seat {
         index,

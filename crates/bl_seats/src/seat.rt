@@ -1,6 +1,8 @@
 //! A seat, and what is done from it.
 
+ghost use Rattle.std.specs.Prelude.{◌≡◌, ◌<◌, IfNone, [], true, false};
 ghost use Rattle.std.specs.Arc.{arc_value};
+ghost use Rattle.bl_seats.specs.Pieces.{are_pieces};
 ghost use Rattle.bl_seats.specs.Seats.{IsSeated};
 
 use crate::working::{begin_following, begin_lowering, begin_writing, find, go_on, part, release};
@@ -47,10 +49,15 @@ pub(crate) struct Upkeep {
     may_fall: bool,
     /// How often in a row a change has found too few frames.
     lacked: u32,
+    ghost real: { are_pieces hints.items ≡ true },
 }
 
 impl Upkeep {
-    pub(crate) fn new() -> Upkeep {
+    ghost use Rattle.bl_seats.specs.Waits.{hints_of, IsIdle, IsKept, IsTaken, left_by, falls_after};
+
+    pub(crate) fn new() -> Upkeep
+        ensures { IsIdle result × (result.dropped ≡ 0) }
+    {
         Upkeep {
             hints: ArrayVec::new(),
             doing: None,
@@ -61,19 +68,26 @@ impl Upkeep {
     }
 
     /// The piece waits behind the others, if there is one.
-    fn keep(&mut self, piece: Option<Hint>) {
-        if piece.is_none() {
+    fn keep(&mut self, piece: Option<Hint>)
+        ensures kept { IsKept piece self.old self.new }
+        ensures same { (self.new.may_fall ≡ self.old.may_fall) × (self.new.doing ≡ self.old.doing) }
+    {
+        let Some(hint) = piece else {
             return;
-        }
+        };
         if self.hints.is_full() {
             self.dropped = self.dropped.saturating_add(1);
         } else {
-            self.hints.push(piece);
+            self.hints.push(Some(hint));
         }
     }
 
     /// Takes the oldest piece, if one waits. It is underway then.
-    fn take(&mut self) -> Option<Hint> {
+    fn take(&mut self) -> Option<Hint>
+        ensures taken { IsTaken result self.old self.new }
+        ensures none { IfNone result (hints_of self.new ≡ []) }
+        ensures same { self.new.may_fall ≡ self.old.may_fall }
+    {
         if self.hints.is_empty() {
             return None;
         }
@@ -82,7 +96,10 @@ impl Upkeep {
     }
 
     /// Notes what a process has left to do that has ended.
-    fn note(&mut self, answer: &Answer) {
+    fn note(&mut self, answer: &Answer)
+        ensures kept { IsKept (left_by self.old.doing answer.now) self.old self.new }
+        ensures falls { self.new.may_fall ≡ falls_after self.old.may_fall answer.now }
+    {
         let doing = self.doing;
         match answer {
             Answer::Op(_, more) => self.keep(*more),
@@ -99,7 +116,9 @@ impl Upkeep {
     }
 
     /// A change has found too few frames. Says whether it is to begin all the same.
-    fn is_out_of_patience(&mut self) -> bool {
+    fn is_out_of_patience(&mut self) -> bool
+        ensures { result ≡ false → 0 < self.new.lacked }
+    {
         if self.lacked < PATIENCE {
             self.lacked += 1;
             return false;
@@ -110,36 +129,51 @@ impl Upkeep {
 }
 
 impl Seat {
-    ghost use Rattle.std.specs.Prelude.{◌≡◌, IfSome, true};
+    ghost use Rattle.std.specs.Prelude.{◌≡◌, ◌≢◌, ◌↔◌, ◌⊎◌, ◌+◌, ◌<◌, IfSome, IfNone, MatchOption, MatchBool, length, true, false};
     ghost use Rattle.bl_model.specs.declared.operation.Op.TheVariants as op;
+    ghost use Rattle.bl_index_turns.specs.declared.stages.Stage.TheVariants as stages;
     ghost use Rattle.bl_model.specs.Replies.{reply_of};
     ghost use Rattle.bl_model.specs.Writes.{write_op};
-    ghost use Rattle.bl_seats.specs.Calls.{HasToldLast, IsAbout, HasToldIfAbout};
+    ghost use Rattle.bl_seats.specs.Seats.{HasAnswered};
+    ghost use Rattle.bl_seats.specs.Accounts.{HasGone};
+    ghost use Rattle.bl_seats.specs.Waits.{hints_of, left_by, IsKept};
+    ghost use Rattle.bl_seats.specs.Calls.{IsSameSeat, HasToldLast, HasTold, HasGoneOn, HasBegun, HasGoneOnOrBegun, HasChanged, HasSwept, HasNothingToDo, HasBegunPiece};
+    ghost use Rattle.bl_seats.specs.Calls.{HasNoAnswer, HasToWait, HasCarriedOn, HasDoneMost, count_underway};
+    ghost use Rattle.bl_seats.specs.Calls.{IsAbout, number_of, account_of, released_by, begun_by};
 
     /// The value of a key, or that the key is absent. None: it ran out of turns, or a change is underway; it is to be made again.
     pub fn find(&mut self, key: u64) -> Option<KeyReply>
-        ensures { IfSome result (λ reply. ∥ HasToldLast (op.Find key) (reply_of reply) self.new ∥₁) }
+        ensures same { IsSameSeat self.old self.new }
+        ensures worked { HasCarriedOn self.old self.new }
+        ensures missed { IfNone result (HasNoAnswer self.new) }
+        ensures found { IfSome result (λ reply. HasToldLast (op.Find key) (reply_of reply) self.new) }
+        ensures told { MatchOption result (HasGoneOn self.old self.new) (λ reply. HasTold (op.Find key) (reply_of reply) self.old self.new) }
     {
-        if !self.is_at_rest() {
-            self.go_on();
-        }
+        self.go_on();
         find(&self.index, &mut self.hand, &self.stage, key)
     }
 
     /// The rows of one leaf from a key on, and where the next part begins. None: as for a search.
-    pub fn part(&mut self, from: u64, near: &mut Option<u32>) -> Option<Reply> {
-        if !self.is_at_rest() {
-            self.go_on();
-        }
+    pub fn part(&mut self, from: u64, near: &mut Option<u32>) -> Option<Reply>
+        ensures same { IsSameSeat self.old self.new }
+        ensures worked { HasCarriedOn self.old self.new }
+        ensures missed { IfNone result (HasNoAnswer self.new) }
+        ensures listed { IfSome result (λ reply. HasToldLast (op.Part from) reply self.new) }
+        ensures told { MatchOption result (HasGoneOn self.old self.new) (λ reply. HasTold (op.Part from) reply self.old self.new) }
+    {
+        self.go_on();
         part(&self.index, &mut self.hand, &self.stage, from, near)
     }
 
     /// Writes a key. None: it is not answered yet, and is to be made again; its process may be underway. Where it is not made again, it
     /// may still take effect, in a later call of the seat.
     pub fn write(&mut self, key: u64, write: KeyWrite) -> Option<Reply>
-        ensures { IfSome result (λ reply. ∥ HasToldLast (write_op key write) reply self.new ∥₁) }
+        ensures same { IsSameSeat self.old self.new }
+        ensures waits { IfNone result (HasToWait self.new) }
+        ensures changed { IfSome result (λ reply. HasChanged (write_op key write) reply self.new) }
+        ensures told { MatchOption result (HasGoneOnOrBegun (write_op key write) self.old self.new) (λ reply. HasTold (write_op key write) reply self.old self.new) }
     {
-        if !self.is_writing(key, write) && !self.begin(key, write) {
+        if !self.comes_to(key, write) {
             return None;
         }
         match self.go_on() {
@@ -149,9 +183,14 @@ impl Seat {
     }
 
     /// Does so many pieces of upkeep at most. Says whether nothing is left to do.
-    pub fn tend(&mut self, most: u32) -> bool {
+    pub fn tend(&mut self, most: u32) -> bool
+        ensures same { IsSameSeat self.old self.new }
+        ensures told { HasGoneOn self.old self.new }
+        ensures done { result ≡ true ↔ HasNothingToDo self.new }
+        ensures most { result ≡ false → HasDoneMost most self.old self.new }
+    {
         for _piece in 0..most {
-            if self.is_at_rest() && !self.begin_piece() {
+            if !self.takes_up() {
                 return true;
             }
             self.go_on();
@@ -159,29 +198,48 @@ impl Seat {
                 return false;
             }
         }
-        false
+        self.has_nothing_to_do()
     }
 
     /// Releases what no call can read any more. Returns how many pages and frames.
-    pub fn sweep(&mut self) -> u32 {
+    pub fn sweep(&mut self) -> u32
+        ensures same { IsSameSeat self.old self.new }
+        ensures swept { HasSwept result self.old self.new }
+        ensures count { released_by self.new ≡ released_by self.old + result }
+        ensures told { account_of self.new ≡ account_of self.old }
+        ensures keeps { (self.new.stage ≡ self.old.stage) × (self.new.upkeep ≡ self.old.upkeep) }
+    {
         release(&self.index, &mut self.hand, &self.stage)
     }
 
     /// How many pieces of upkeep wait, 32 at most.
-    pub fn waiting(&self) -> u32 {
+    pub fn waiting(&self) -> u32
+        ensures { result ≡ length (hints_of self.now.upkeep) }
+    {
         self.upkeep.hints.len() as u32
     }
 
     /// How many were dropped, since 32 waited.
-    pub fn dropped(&self) -> u64 {
+    pub fn dropped(&self) -> u64
+        ensures { result ≡ self.now.upkeep.dropped }
+    {
         self.upkeep.dropped
     }
 
-    fn is_at_rest(&self) -> bool {
+    fn is_at_rest(&self) -> bool
+        ensures { result ≡ true ↔ self.now.stage ≡ stages.Rests }
+    {
         match self.stage {
             Stage::Rests => true,
             _ => false,
         }
+    }
+
+    /// Whether nothing is underway, and nothing waits.
+    fn has_nothing_to_do(&self) -> bool
+        ensures { result ≡ true ↔ HasNothingToDo self.now }
+    {
+        self.is_at_rest() && self.upkeep.hints.is_empty() && !self.upkeep.may_fall
     }
 
     /// Whether this very write is underway.
@@ -196,7 +254,14 @@ impl Seat {
 
     /// What is underway goes on. What it leaves to do waits. Gives its answer, where it has ended.
     fn go_on(&mut self) -> Option<Answer>
-        ensures { ∥ HasToldIfAbout self.old result self.new ∥₁ }
+        ensures same { IsSameSeat self.old self.new }
+        ensures answers { HasAnswered self.new.hand self.old.stage result }
+        ensures gone { HasGone (number_of self.old) (account_of self.old) result (account_of self.new) }
+        ensures rests { IfSome result (λ _. self.new.stage ≡ stages.Rests) }
+        ensures worked { HasCarriedOn self.old self.new }
+        ensures still { IfNone result ((self.old.stage ≡ stages.Rests) ⊎ (self.new.stage ≢ stages.Rests)) }
+        ensures begun { begun_by self.new ≡ begun_by self.old }
+        ensures noted { MatchOption result (self.new.upkeep ≡ self.old.upkeep) (λ answer. IsKept (left_by self.old.upkeep.doing answer) self.old.upkeep self.new.upkeep) }
     {
         let answer = go_on(&self.index, &mut self.hand, &mut self.stage);
         if let Some(answer) = &answer {
@@ -206,7 +271,13 @@ impl Seat {
     }
 
     /// Begins a piece of upkeep. Says whether there was one.
-    fn begin_piece(&mut self) -> bool {
+    fn begin_piece(&mut self) -> bool
+        requires { self.old.stage ≡ stages.Rests }
+        ensures same { IsSameSeat self.old self.new }
+        ensures told { account_of self.new ≡ account_of self.old }
+        ensures piece { MatchBool result (HasBegunPiece self.old self.new) (HasNothingToDo self.new) }
+        ensures begun { result ≡ true → begun_by self.new ≡ begun_by self.old + 1 }
+    {
         if self.upkeep.may_fall {
             self.upkeep.may_fall = false;
             let stage = mem::replace(&mut self.stage, Stage::Rests);
@@ -221,19 +292,56 @@ impl Seat {
         true
     }
 
+    /// Something is underway, or a piece of upkeep begins now. Says whether.
+    fn takes_up(&mut self) -> bool
+        ensures same { IsSameSeat self.old self.new }
+        ensures told { account_of self.new ≡ account_of self.old }
+        ensures none { result ≡ false → HasNothingToDo self.new }
+        ensures begun { result ≡ true → begun_by self.new + count_underway self.old.stage ≡ begun_by self.old + 1 }
+    {
+        if !self.is_at_rest() {
+            return true;
+        }
+        self.begin_piece()
+    }
+
+    /// This very write is underway, or begins now. Says whether.
+    fn comes_to(&mut self, key: u64, write: KeyWrite) -> bool
+        ensures same { IsSameSeat self.old self.new }
+        ensures about { result ≡ true → IsAbout key write self.new }
+        ensures waits { result ≡ false → HasToWait self.new }
+        ensures told { MatchBool result ((self.new ≡ self.old) ⊎ HasBegun (write_op key write) self.old self.new) (HasGoneOn self.old self.new) }
+    {
+        if self.is_writing(key, write) {
+            return true;
+        }
+        self.begin(key, write)
+    }
+
     /// Looks for room, and begins the write. Says whether it has begun.
     fn begin(&mut self, key: u64, write: KeyWrite) -> bool
-        ensures { result ≡ true → IsAbout key write self.new }
+        ensures same { IsSameSeat self.old self.new }
+        ensures about { result ≡ true → IsAbout key write self.new }
+        ensures waits { result ≡ false → HasToWait self.new }
+        ensures told { MatchBool result (HasBegun (write_op key write) self.old self.new) (HasGoneOn self.old self.new) }
     {
         self.tend(PIECES);
-        if !self.is_at_rest() || !self.has_room() {
+        if !self.is_at_rest() {
+            return false;
+        }
+        if !self.has_room() {
             return false;
         }
         begin_writing(&self.index, &mut self.hand, &mut self.stage, key, write)
     }
 
     /// Whether a change finds enough frames. It sweeps, so many times at most.
-    fn has_room(&mut self) -> bool {
+    fn has_room(&mut self) -> bool
+        ensures same { IsSameSeat self.old self.new }
+        ensures told { account_of self.new ≡ account_of self.old }
+        ensures keeps { self.new.stage ≡ self.old.stage }
+        ensures waits { result ≡ false → 0 < self.new.upkeep.lacked }
+    {
         for _look in 0..LOOKS {
             if !self.index.tree().store.lacks_frames(&self.hand) {
                 self.upkeep.lacked = 0;

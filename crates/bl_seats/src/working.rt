@@ -1,9 +1,13 @@
 //! What a seat's hand does at its index, by what it is about.
 
-ghost use Rattle.std.specs.Prelude.{◌≡◌, IfSome, true};
+ghost use Rattle.std.specs.Prelude.{◌≡◌, ◌≢◌, ◌⊎◌, ◌+◌, IfSome, IfNone, MatchOption, true, false};
+ghost use Rattle.bl_model.specs.declared.operation.Op.TheVariants as op;
 ghost use Rattle.bl_model.specs.Replies.{reply_of};
-ghost use Rattle.bl_seats.specs.Seats.{IsSeated, HasAnswered, HasFound};
-ghost use Rattle.bl_index_turns.specs.Stages.{IsWriteOf};
+ghost use Rattle.bl_model.specs.Writes.{write_op};
+ghost use Rattle.bl_seats.specs.Seats.{IsSeated, IsSameOne, HasAnswered, HasFound, HasReplied, HasReleased, HasNotFound, HasWorked, begun_in};
+ghost use Rattle.bl_seats.specs.Accounts.{account, HasGone, AddsEntry, Starts};
+ghost use Rattle.bl_index_turns.specs.Stages.{IsWriteOf, IsFor, IsLowering};
+ghost use Rattle.bl_index_turns.specs.declared.stages.Stage.TheVariants as stages;
 
 use bl_index::{Hint, Index, KeyReply, KeyWrite, Reply};
 use bl_index_read::{find_key, list_part};
@@ -23,12 +27,20 @@ pub(crate) fn find(
     key: u64,
 ) -> Option<KeyReply>
     requires { ∥ IsSeated index.now hand.old stage.now ∥₁ }
+    ensures same { IsSameOne hand.old hand.new }
     ensures stands { IsSeated index.now hand.new stage.now }
-    ensures found { IfSome result (λ reply. ∥ HasFound hand.new key (reply_of reply) ∥₁) }
+    ensures kept { stage.now ≢ stages.Rests → hand.new ≡ hand.old }
+    ensures missed { IfNone result (HasNotFound index.now stage.now hand.old hand.new) }
+    ensures found { IfSome result (λ reply. HasFound hand.new key (reply_of reply)) }
+    ensures told { MatchOption result (account hand.new stage.now ≡ account hand.old stage.now)
+        (λ reply. AddsEntry hand.old.number (op.Find key) (reply_of reply) (account hand.old stage.now) (account hand.new stage.now)) }
 {
     stands(index.tree(), hand, stage);
     match stage {
-        Stage::Rests => find_key(index.tree(), hand, key, index.patience()).ok(),
+        Stage::Rests => match find_key(index.tree(), hand, key, index.patience()) {
+            Ok(found) => Some(found),
+            Err(_) => None,
+        },
         _ => None,
     }
 }
@@ -42,11 +54,20 @@ pub(crate) fn part(
     near: &mut Option<u32>,
 ) -> Option<Reply>
     requires { ∥ IsSeated index.now hand.old stage.now ∥₁ }
-    ensures { IsSeated index.now hand.new stage.now }
+    ensures same { IsSameOne hand.old hand.new }
+    ensures stands { IsSeated index.now hand.new stage.now }
+    ensures kept { stage.now ≢ stages.Rests → hand.new ≡ hand.old }
+    ensures missed { IfNone result (HasNotFound index.now stage.now hand.old hand.new) }
+    ensures listed { IfSome result (λ reply. HasReplied hand.new (op.Part from) reply) }
+    ensures told { MatchOption result (account hand.new stage.now ≡ account hand.old stage.now)
+        (λ reply. AddsEntry hand.old.number (op.Part from) reply (account hand.old stage.now) (account hand.new stage.now)) }
 {
     stands(index.tree(), hand, stage);
     match stage {
-        Stage::Rests => list_part(index.tree(), hand, from, near, index.patience()).ok(),
+        Stage::Rests => match list_part(index.tree(), hand, from, near, index.patience()) {
+            Ok(rows) => Some(rows),
+            Err(_) => None,
+        },
         _ => None,
     }
 }
@@ -54,7 +75,11 @@ pub(crate) fn part(
 /// Releases what no call can read any more, unless a process is underway. Returns how many pages and frames.
 pub(crate) fn release(index: &Index, hand: &mut Hand<PassState>, stage: &Stage) -> u32
     requires { ∥ IsSeated index.now hand.old stage.now ∥₁ }
-    ensures { IsSeated index.now hand.new stage.now }
+    ensures same { IsSameOne hand.old hand.new }
+    ensures stands { IsSeated index.now hand.new stage.now }
+    ensures swept { HasReleased result stage.now hand.old hand.new }
+    ensures count { hand.new.seat.me.0.releases ≡ hand.old.seat.me.0.releases + result }
+    ensures told { account hand.new stage.now ≡ account hand.old stage.now }
 {
     stands(index.tree(), hand, stage);
     match stage {
@@ -66,8 +91,14 @@ pub(crate) fn release(index: &Index, hand: &mut Hand<PassState>, stage: &Stage) 
 /// What is underway goes on. Gives its answer, where it has ended.
 pub(crate) fn go_on(index: &Index, hand: &mut Hand<PassState>, stage: &mut Stage) -> Option<Answer>
     requires { ∥ IsSeated index.now hand.old stage.old ∥₁ }
+    ensures same { IsSameOne hand.old hand.new }
     ensures stands { IsSeated index.now hand.new stage.new }
-    ensures answers { ∥ HasAnswered hand.new stage.old result ∥₁ }
+    ensures answers { HasAnswered hand.new stage.old result }
+    ensures gone { HasGone hand.old.number (account hand.old stage.old) result (account hand.new stage.new) }
+    ensures rests { IfSome result (λ _. stage.new ≡ stages.Rests) }
+    ensures worked { HasWorked hand.old stage.new hand.new }
+    ensures still { IfNone result ((stage.old ≡ stages.Rests) ⊎ (stage.new ≢ stages.Rests)) }
+    ensures begun { begun_in hand.new ≡ begun_in hand.old }
 {
     stands(index.tree(), hand, stage);
     advance(index.tree(), hand, stage, EVENTS)
@@ -82,8 +113,11 @@ pub(crate) fn begin_writing(
     write: KeyWrite,
 ) -> bool
     requires { ∥ IsSeated index.now hand.old stage.old ∥₁ }
+    ensures same { IsSameOne hand.old hand.new }
     ensures stands { IsSeated index.now hand.new stage.new }
     ensures about { result ≡ true → IsWriteOf key write stage.new }
+    ensures began { result ≡ true → Starts (write_op key write) (account hand.old stage.old) (account hand.new stage.new) }
+    ensures not { result ≡ false → (account hand.new stage.new ≡ account hand.old stage.old) × (stage.old ≢ stages.Rests) }
 {
     stands(index.tree(), hand, stage);
     match stage {
@@ -103,7 +137,10 @@ pub(crate) fn begin_following(
     hint: Hint,
 ) -> Stage
     requires { ∥ IsSeated index.now hand.old stage ∥₁ }
-    ensures { IsSeated index.now hand.new result }
+    ensures same { IsSameOne hand.old hand.new }
+    ensures stands { IsSeated index.now hand.new result }
+    ensures began { stage ≡ stages.Rests → IsFor hint result × (begun_in hand.new ≡ begun_in hand.old + 1) }
+    ensures told { account hand.new result ≡ account hand.old stage }
 {
     stands(index.tree(), hand, &stage);
     match stage {
@@ -115,7 +152,10 @@ pub(crate) fn begin_following(
 /// A lowering begins, unless a process is underway.
 pub(crate) fn begin_lowering(index: &Index, hand: &mut Hand<PassState>, stage: Stage) -> Stage
     requires { ∥ IsSeated index.now hand.old stage ∥₁ }
-    ensures { IsSeated index.now hand.new result }
+    ensures same { IsSameOne hand.old hand.new }
+    ensures stands { IsSeated index.now hand.new result }
+    ensures began { stage ≡ stages.Rests → IsLowering result × (begun_in hand.new ≡ begun_in hand.old + 1) }
+    ensures told { account hand.new result ≡ account hand.old stage }
 {
     stands(index.tree(), hand, &stage);
     match stage {

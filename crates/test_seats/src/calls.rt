@@ -79,6 +79,36 @@ fn parts_tell_all_rows(rt: HostRuntime) {
 }
 
 #[test]
+fn upkeep_comes_to_its_end(rt: HostRuntime) {
+    let mut seat = opened(rt.alloc(), 1_024).expect(&rt, "it is opened");
+    assert!(rt; seat.tend(0));
+    assert_eq!(rt; insert_many(&mut seat, MANY), MANY);
+    seat.tend(1_024);
+    assert!(rt; seat.tend(0));
+    assert_eq!(rt; seat.waiting(), 0);
+}
+
+#[test]
+fn a_seat_releases_what_was_swapped_out(rt: HostRuntime) {
+    let mut seat = opened(rt.alloc(), 64).expect(&rt, "it is opened");
+    assert_eq!(rt; seat.sweep(), 0);
+    assert!(rt; seat.write(1, KeyWrite::Insert(10)) == Some(Reply::Inserted));
+    assert_eq!(rt; seat.sweep(), 1);
+    assert_eq!(rt; seat.sweep(), 0);
+}
+
+#[test]
+fn a_part_has_the_rows_from_its_key_on(rt: HostRuntime) {
+    let mut seat = opened(rt.alloc(), 64).expect(&rt, "it is opened");
+    assert_eq!(rt; insert_many(&mut seat, 5), 5);
+    let Some(Reply::Rows(rows, next)) = seat.part(3, &mut None) else {
+        panic!(rt; "it is answered");
+    };
+    assert_eq!(rt; rows.as_slice(), [(3, 3), (4, 4)].as_slice());
+    assert!(rt; next == Next::End);
+}
+
+#[test]
 fn two_seats_see_one_index(rt: HostRuntime) {
     let mut seats = open(rt.alloc(), 64, 2).ok().expect(&rt, "it is opened");
     let mut one = seats.pop().expect(&rt, "there are two");

@@ -1,4 +1,4 @@
-use Rattle.std.proofs.Common.{ℕ, rules, sym, ap, ◌∙◌, subst}
+use Rattle.std.proofs.Common.{ℕ, rules, sym, ap, ◌∙◌, subst, arith}
 use Rattle.bl_claims.specs.Trails.{marks_of}
 use Rattle.bl_proc_bounds.specs.Latches.{IsTidy}
 use Rattle.bl_proc_invariant.specs.Logs.{proc_log}
@@ -9,6 +9,7 @@ use Rattle.bl_index_rule.specs.declared.known.PassState.{PassState}
 use Rattle.bl_claims.specs.Seeing.{name}
 use Rattle.bl_index_steps.specs.Runs.{IsSince}
 use Rattle.bl_index_steps.proofs.Calls.{since_step}
+use Rattle.bl_index_turns.proofs.Marks.{more_marks}
 use Rattle.bl_index_turns.proofs.carrying.go_on.Goals as goal
 
 pub loop-event-preserved : goal.loop-event-preserved
@@ -23,6 +24,7 @@ loop-event-preserved g c =
       process = after.0;
       since = λ pass old begun. since_step _ _ _ _ _ (inv.since pass old begun) after.1.1.steps;
       going = (sym (laws.answers c.step.new.process) ∙ follows.running after.4, λ e. follows.begun (laws.acts c.step.new.process ∙ e));
+      turns = (let one = more_marks _ _ _ after.1.1.steps in omega (arith, inv.turns));
       op = follows.op ∙ inv.op;
       work = follows.work ∙ inv.work;
       reserved = after.2;
@@ -71,3 +73,6 @@ returns-clause-since g c = λ _. c.loop-event.invariant.since
 
 pub returns-clause-work : goal.returns-clause-work
 returns-clause-work g c = let inv = c.loop-event.invariant in λ _. (inv.op, inv.work)
+
+pub returns-clause-turns : goal.returns-clause-turns
+returns-clause-turns g c = λ _. (let turns = c.loop-event.invariant.turns in omega arith)
