@@ -44,7 +44,7 @@ module _ (image : List (Option Page)) (size among : ℕ) (index : Index) (passes
   together = subst (λ (z : Trail). AreTogether index z passes) (sym unseen) (record {
     count = b.count ∙ sym b.passes_are;
     each = begun_from index 0 passes (λ n pass at. let r = b.each n pass at in (r.0, (let e = r.1 in omega arith), r.2));
-    may_be = b.seen;
+    may_be = b.seen.linear;
   })
 
 -- ---- an index without rows, and one with those of an image
