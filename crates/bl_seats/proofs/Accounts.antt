@@ -33,9 +33,10 @@ use Rattle.bl_index_steps.proofs.Ends.{op_answered, op_beside, done_first, not_e
 use Rattle.bl_index_write.specs.Events.{IsPostAnswer}
 use Rattle.bl_index_write.proofs.PostEnds.{post_has_answer}
 use Rattle.bl_index.specs.Calls.{Writes}
-use Rattle.bl_index.specs.Kinds.{IsCompressAnswer, IsLowerAnswer}
+use Rattle.bl_index.specs.Within.{IsLowerAnswer}
 use Rattle.bl_index.proofs.Posts.{post_answered}
-use Rattle.bl_index.proofs.Pressed.{compress_has_answer, compress_answered}
+use Rattle.bl_index.proofs.Pressed.{compress_answered}
+use Rattle.bl_seats.proofs.CompressEnds.{IsCompressAnswer, compress_has_answer}
 use Rattle.bl_index.proofs.Lowerings.{lower_has_answer, lower_answered}
 use Rattle.bl_index_turns.specs.declared.stages.Stage.{Stage}
 use Rattle.bl_index_turns.specs.declared.stages.Stage.TheVariants as stage

@@ -1,5 +1,6 @@
 pub mod Begun
 pub mod Made
+pub mod CompressEnds
 pub mod Accounts
 pub mod Searched
 pub mod Starts
