@@ -1,5 +1,5 @@
 -- A compression, by its state.
-use Rattle.std.specs.Prelude.{◌≡◌, ℕ, Option, None, Some}
+use Rattle.std.specs.Prelude.{◌≡◌, ℕ, Bool, Option, None, Some}
 use Rattle.bl_page.specs.declared.page.Inner.{Inner}
 use Rattle.bl_proc_base.specs.declared.acts.Action.{Action}
 use Rattle.bl_proc_base.specs.declared.acts.Action.TheVariants as act
@@ -77,15 +77,15 @@ CompressComes key (come.On a) new = new ≡ Coming a
 CompressComes key (come.ToParent x parent) new = CompressArrives key x parent new
 
 -- Where what it got is not what the parent lists, it begins again.
-abbrev pub CompressGoes : ℕ → ℕ → CompressStage → Seen → CompressStage → Type 0
-CompressGoes level key New seen.Done (Coming a) = a ≡ Start
-CompressGoes level key (Coming a) what new = (m : Came) × Comes level key a what m × CompressComes key m new
-CompressGoes level key (Compressing c) what (Compressing d) = Compresses c what (step.On d)
-CompressGoes level key (Compressing c) what (Coming a) = (last : Decision) × Compresses c what (step.Over last) × (compress_reply last ≡ None) × (a ≡ Start)
-CompressGoes level key (Compressing c) what (Ending r) = (last : Decision) × Compresses c what (step.Over last) × (compress_reply last ≡ Some r)
-CompressGoes level key (Staying x) seen.Done (Ending r) = r ≡ reply.Alone
-CompressGoes level key (Ending r) seen.Done (Over last) = last ≡ r
-CompressGoes level key old what new = ⊥
+abbrev pub CompressGoes : ℕ → ℕ → Bool → CompressStage → Seen → CompressStage → Type 0
+CompressGoes level key waits New seen.Done (Coming a) = a ≡ Start
+CompressGoes level key waits (Coming a) what new = (m : Came) × Comes level key a what m × CompressComes key m new
+CompressGoes level key waits (Compressing c) what (Compressing d) = Compresses waits c what (step.On d)
+CompressGoes level key waits (Compressing c) what (Coming a) = (last : Decision) × Compresses waits c what (step.Over last) × (compress_reply last ≡ None) × (a ≡ Start)
+CompressGoes level key waits (Compressing c) what (Ending r) = (last : Decision) × Compresses waits c what (step.Over last) × (compress_reply last ≡ Some r)
+CompressGoes level key waits (Staying x) seen.Done (Ending r) = r ≡ reply.Alone
+CompressGoes level key waits (Ending r) seen.Done (Over last) = last ≡ r
+CompressGoes level key waits old what new = ⊥
 
 abbrev pub compress_next : Compress → Action
 compress_next p = compress_next_in p.stage
@@ -97,4 +97,4 @@ abbrev pub compress_answer : Compress → Option Answer
 compress_answer p = compress_answer_in p.stage
 
 abbrev pub CompressTakes : Compress → Seen → Compress → Type 0
-CompressTakes old what new = (new.level ≡ old.level) × (new.key ≡ old.key) × CompressGoes old.level old.key old.stage what new.stage
+CompressTakes old what new = (new.level ≡ old.level) × (new.key ≡ old.key) × (new.waits ≡ old.waits) × CompressGoes old.level old.key old.waits old.stage what new.stage

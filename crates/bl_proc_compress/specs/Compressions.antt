@@ -1,5 +1,5 @@
 -- The compression of two neighbouring children of a parent that a process holds and has got.
-use Rattle.std.specs.Prelude.{◌≡◌, ◌≢◌, ◌⊎◌, ℕ, ◌+◌, ◌-◌, ◌<◌, ◌≤◌, nat_lt, if◌then◌else◌, List, length, get_or, Option, None, Some}
+use Rattle.std.specs.Prelude.{◌≡◌, ◌≢◌, ◌⊎◌, ℕ, ◌+◌, ◌-◌, ◌<◌, ◌≤◌, nat_lt, if◌then◌else◌, List, length, get_or, Bool, true, false, Option, None, Some}
 use Rattle.bl_page.specs.declared.page.Page.{Page}
 use Rattle.bl_page.specs.declared.page.Page.TheVariants.{Inner as InnerPage, Dead}
 use Rattle.bl_page.specs.declared.page.Inner.{Inner}
@@ -153,19 +153,28 @@ after_puts at (Unposted h) = OpeningRight at (Unposted h)
 after_puts at Refused = OpeningRight at Refused
 after_puts at Lost = OpeningRight at Lost
 
-abbrev pub Compresses : Compression → Seen → Compressed → Type 0
-Compresses (LatchingLeft f) seen.Done (On new) = new ≡ LatchedLeft f
-Compresses (LatchingLeft f) seen.Missed (On new) = new ≡ LatchingLeft f
-Compresses (LatchedLeft f) (seen.Words c) (On new) = Links f c new
-Compresses (LatchingRight f c) seen.Done (On new) = new ≡ LatchedRight f c
-Compresses (LatchingRight f c) seen.Missed (On new) = new ≡ LatchingRight f c
-Compresses (LatchedRight f c) (seen.Words d) (On new) = Decides f c d new
-Compresses (PuttingFirst p) seen.Done (On new) = new ≡ PuttingParent p
-Compresses (PuttingFirst p) seen.Refused (On new) = new ≡ OpeningRight p.at Refused
-Compresses (PuttingParent p) seen.Done (On new) = new ≡ PuttingLast p
-Compresses (PuttingLast p) seen.Done (On new) = new ≡ after_puts p.at p.decision
-Compresses (Retiring at decision) seen.Done (On new) = new ≡ OpeningLeft at decision
-Compresses (OpeningRight at decision) seen.Done (On new) = new ≡ OpeningLeft at decision
-Compresses (OpeningLeft at decision) seen.Done (On new) = new ≡ OpeningParent at.parent decision
-Compresses (OpeningParent x decision) seen.Done (Over last) = last ≡ decision
-Compresses old what new = ⊥
+-- After a missed latch of a child, the process that waits tries again, and the other one opens what it holds and begins again.
+abbrev pub missed_left : Bool → Family → Compression
+missed_left true f = LatchingLeft f
+missed_left false f = OpeningParent f.at.parent Lost
+
+abbrev pub missed_right : Bool → Family → Page → Compression
+missed_right true f c = LatchingRight f c
+missed_right false f c = OpeningLeft f.at Lost
+
+abbrev pub Compresses : Bool → Compression → Seen → Compressed → Type 0
+Compresses waits (LatchingLeft f) seen.Done (On new) = new ≡ LatchedLeft f
+Compresses waits (LatchingLeft f) seen.Missed (On new) = new ≡ missed_left waits f
+Compresses waits (LatchedLeft f) (seen.Words c) (On new) = Links f c new
+Compresses waits (LatchingRight f c) seen.Done (On new) = new ≡ LatchedRight f c
+Compresses waits (LatchingRight f c) seen.Missed (On new) = new ≡ missed_right waits f c
+Compresses waits (LatchedRight f c) (seen.Words d) (On new) = Decides f c d new
+Compresses waits (PuttingFirst p) seen.Done (On new) = new ≡ PuttingParent p
+Compresses waits (PuttingFirst p) seen.Refused (On new) = new ≡ OpeningRight p.at Refused
+Compresses waits (PuttingParent p) seen.Done (On new) = new ≡ PuttingLast p
+Compresses waits (PuttingLast p) seen.Done (On new) = new ≡ after_puts p.at p.decision
+Compresses waits (Retiring at decision) seen.Done (On new) = new ≡ OpeningLeft at decision
+Compresses waits (OpeningRight at decision) seen.Done (On new) = new ≡ OpeningLeft at decision
+Compresses waits (OpeningLeft at decision) seen.Done (On new) = new ≡ OpeningParent at.parent decision
+Compresses waits (OpeningParent x decision) seen.Done (Over last) = last ≡ decision
+Compresses waits old what new = ⊥

@@ -7,7 +7,7 @@ ghost use Rattle.bl_rearrange.specs.Rearranged.{high_of, right_of};
 ghost use Rattle.bl_rearrange.specs.Neighbours.{AreNeighbours, together};
 ghost use Rattle.bl_proc_compress.specs.declared.compressing.Compression.TheVariants as compression;
 ghost use Rattle.bl_proc_base.specs.Given.{Gives};
-ghost use Rattle.bl_proc_compress.specs.Compressions.{put_of, other, merge_hint, IsBuried, Merges, Relists, MayEven, Decides, Links, after_puts, compression_next, compression_needs, Compresses};
+ghost use Rattle.bl_proc_compress.specs.Compressions.{put_of, other, merge_hint, IsBuried, Merges, Relists, MayEven, Decides, Links, after_puts, missed_left, missed_right, compression_next, compression_needs, Compresses};
 
 use crate::compressing::{Compressed, Compression, Decision, Family, Puts, Siblings};
 use bl_model::limits::{ENOUGH_PAIRS, MOST_PAIRS};
@@ -220,6 +220,28 @@ fn after_puts(at: Siblings, decision: Decision) -> Compression
     }
 }
 
+/// After a missed latch of the left child.
+fn missed_left(waits: bool, family: Family) -> Compression
+    ensures { result ≡ missed_left waits family }
+{
+    if waits {
+        Compression::LatchingLeft(family)
+    } else {
+        Compression::OpeningParent(family.at.parent, Decision::Lost)
+    }
+}
+
+/// After a missed latch of the right child.
+fn missed_right(waits: bool, family: Family, left: Page) -> Compression
+    ensures { result ≡ missed_right waits family left }
+{
+    if waits {
+        Compression::LatchingRight(family, left)
+    } else {
+        Compression::OpeningLeft(family.at, Decision::Lost)
+    }
+}
+
 impl Compression {
     /// The next action.
     pub fn next(&self) -> Action
@@ -250,17 +272,17 @@ impl Compression {
         }
     }
 
-    /// What becomes of the compression, by what its action gave.
-    pub fn took(self, seen: Seen) -> Compressed
+    /// What becomes of the compression, by what its action gave. Whether it waits says what it does after a missed latch.
+    pub fn took(self, waits: bool, seen: Seen) -> Compressed
         requires { Gives (compression_next self) (compression_needs self) seen }
-        ensures { Compresses self seen result }
+        ensures { Compresses waits self seen result }
     {
         match (self, seen) {
             (Compression::LatchingLeft(family), Seen::Done) => {
                 Compressed::On(Compression::LatchedLeft(family))
             }
             (Compression::LatchingLeft(family), Seen::Missed) => {
-                Compressed::On(Compression::LatchingLeft(family))
+                Compressed::On(missed_left(waits, family))
             }
             (Compression::LatchedLeft(family), Seen::Words(left)) => {
                 Compressed::On(linked(family, left))
@@ -269,7 +291,7 @@ impl Compression {
                 Compressed::On(Compression::LatchedRight(family, left))
             }
             (Compression::LatchingRight(family, left), Seen::Missed) => {
-                Compressed::On(Compression::LatchingRight(family, left))
+                Compressed::On(missed_right(waits, family, left))
             }
             (Compression::LatchedRight(family, left), Seen::Words(right)) => {
                 Compressed::On(decided(family, left, right))

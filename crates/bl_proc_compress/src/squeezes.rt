@@ -1,6 +1,6 @@
 //! The steps of a compression.
 
-ghost use Rattle.std.specs.Prelude.{◌≡◌, ◌<◌, ◌≤◌, None};
+ghost use Rattle.std.specs.Prelude.{◌≡◌, ◌<◌, ◌≤◌, None, Bool, true, false};
 ghost use Rattle.bl_page.specs.Pairs.{IsWithin};
 ghost use Rattle.bl_proc_compress.specs.declared.squeezing.CompressStage.TheVariants as compress_stage;
 ghost use Rattle.bl_proc_base.specs.Given.{Gives};
@@ -42,7 +42,7 @@ fn arrived(key: u64, at: u32, parent: Inner) -> CompressStage
 fn came(level: u32, key: u64, approach: Approach, seen: Seen) -> CompressStage
     requires above_leaves { 0 < level }
     requires given { Gives (compress_next_in (compress_stage.Coming approach)) None seen }
-    ensures { CompressGoes level key (compress_stage.Coming approach) seen result }
+    ensures { (waits : Bool) → CompressGoes level key waits (compress_stage.Coming approach) seen result }
 {
     match approach.came(level, key, seen) {
         Came::NoLevel(_) => CompressStage::Ending(CompressReply::Alone),
@@ -52,11 +52,11 @@ fn came(level: u32, key: u64, approach: Approach, seen: Seen) -> CompressStage
 }
 
 /// On with the children.
-fn squeezed(level: u32, key: u64, compression: Compression, seen: Seen) -> CompressStage
+fn squeezed(level: u32, key: u64, waits: bool, compression: Compression, seen: Seen) -> CompressStage
     requires { Gives (compress_next_in (compress_stage.Compressing compression)) (compress_needs_in (compress_stage.Compressing compression)) seen }
-    ensures { CompressGoes level key (compress_stage.Compressing compression) seen result }
+    ensures { CompressGoes level key waits (compress_stage.Compressing compression) seen result }
 {
-    match compression.took(seen) {
+    match compression.took(waits, seen) {
         Compressed::On(compression) => CompressStage::Compressing(compression),
         Compressed::Over(decision) => match reply_of(decision) {
             Some(reply) => CompressStage::Ending(reply),
@@ -65,16 +65,16 @@ fn squeezed(level: u32, key: u64, compression: Compression, seen: Seen) -> Compr
     }
 }
 
-fn went(level: u32, key: u64, stage: CompressStage, seen: Seen) -> CompressStage
+fn went(level: u32, key: u64, waits: bool, stage: CompressStage, seen: Seen) -> CompressStage
     requires above_leaves { 0 < level }
     requires running { compress_answer_in stage ≡ None }
     requires given { Gives (compress_next_in stage) (compress_needs_in stage) seen }
-    ensures { CompressGoes level key stage seen result }
+    ensures { CompressGoes level key waits stage seen result }
 {
     match stage {
         CompressStage::New => CompressStage::Coming(Approach::Start),
         CompressStage::Coming(approach) => came(level, key, approach, seen),
-        CompressStage::Compressing(compression) => squeezed(level, key, compression, seen),
+        CompressStage::Compressing(compression) => squeezed(level, key, waits, compression, seen),
         CompressStage::Staying(_) => CompressStage::Ending(CompressReply::Alone),
         CompressStage::Ending(reply) => CompressStage::Over(reply),
         CompressStage::Over(_) => unreachable!(),
@@ -96,17 +96,36 @@ fn answer_of(reply: &CompressReply) -> Answer
 }
 
 impl Compress {
-    /// A compression that is to begin.
+    /// A compression that is to begin. It waits for the children.
     pub fn new(level: u32, key: u64) -> Compress
         requires least { 0 < level }
         requires most { level ≤ 12 }
         ensures level { result.level ≡ level }
         ensures key { result.key ≡ key }
+        ensures waits { result.waits ≡ true }
         ensures stage { result.stage ≡ compress_stage.New }
     {
         Compress {
             level,
             key,
+            waits: true,
+            stage: CompressStage::New,
+        }
+    }
+
+    /// A compression that is to begin, and that does not wait for a child while it holds the parent.
+    pub fn yielding(level: u32, key: u64) -> Compress
+        requires least { 0 < level }
+        requires most { level ≤ 12 }
+        ensures level { result.level ≡ level }
+        ensures key { result.key ≡ key }
+        ensures waits { result.waits ≡ false }
+        ensures stage { result.stage ≡ compress_stage.New }
+    {
+        Compress {
+            level,
+            key,
+            waits: false,
             stage: CompressStage::New,
         }
     }
@@ -147,7 +166,7 @@ impl Process for Compress {
 
     fn took(&mut self, seen: Seen) {
         let stage = mem::replace(&mut self.stage, CompressStage::New);
-        self.stage = went(self.level, self.key, stage, seen);
+        self.stage = went(self.level, self.key, self.waits, stage, seen);
     }
 }
 

@@ -11,6 +11,9 @@ pub struct Compress {
     /// The level of the parent, 1 to 12.
     pub level: u32,
     pub key: u64,
+    /// Whether it holds the parent, and tries again, where it misses the latch of a child. One that does not wait opens what it
+    /// holds, and begins again.
+    pub waits: bool,
     pub stage: CompressStage,
     ghost least: { 0 < level },
     ghost most: { level ≤ 12 },
