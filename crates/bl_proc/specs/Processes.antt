@@ -1,5 +1,5 @@
 -- A process of any kind does what its kind does.
-use Rattle.std.specs.Prelude.{◌≡◌, ℕ, Option}
+use Rattle.std.specs.Prelude.{◌≡◌, ℕ, Option, true}
 use Rattle.bl_model.specs.declared.deciding.KeyWrite.{KeyWrite}
 use Rattle.bl_proc_base.specs.declared.acts.Action.{Action}
 use Rattle.bl_proc_base.specs.declared.acts.Seen.{Seen}
@@ -83,8 +83,9 @@ abbrev pub IsPart : ℕ → Proc → Type 0
 IsPart from (Part p) = (p.from ≡ from) × (p.stage ≡ part.New)
 IsPart from p = ⊥
 
+-- It waits for the children.
 abbrev pub IsCompress : ℕ → ℕ → Proc → Type 0
-IsCompress level key (Compress p) = (p.level ≡ level) × (p.key ≡ key) × (p.stage ≡ compress.New)
+IsCompress level key (Compress p) = (p.level ≡ level) × (p.key ≡ key) × (p.waits ≡ true) × (p.stage ≡ compress.New)
 IsCompress level key p = ⊥
 
 -- It is to look at the page's owner.

@@ -89,6 +89,35 @@ module _ {P : Type 0} (know : P → Know) (w : World P) (g : IsGood know w) (p :
         sound = is.sound;
       })
 
+  -- a latch of a child is missed, and what is held is to be opened
+  pub leave_left_turn : {what : Missed} (f : Family) (decision : Decision) (s : State Page) → know (w.proc p) ≡ know_compression level key got at new (LatchingLeft f) → know b ≡ know_compression level key got at new (OpeningParent f.at.parent decision) → Does w.now p (Miss what) s → Turned know w p (Miss what) s b
+  leave_left_turn {what} f decision s before then does =
+      let is : IsSure w p (know_compression level key got at new (LatchingLeft f)) = rw before at (g.sure p) in
+      watched know w g p b _ _ before then (Miss what) None None s tt tt does tt refl (λ y h. h) (λ it e. cc) (λ j. refl)
+      (record {
+        stage = is.stage;
+        said = HasSaid-silent w.trail (silent p (Miss what)) p None refl is.said;
+        holds = ((does.changes.1 f.at.parent ∙ is.holds.0.owner, is.holds.0.status, tt, tt), tt);
+        goes = tt;
+        children = tt;
+        passed = tt;
+        sound = is.sound.0;
+      })
+
+  pub leave_right_turn : {what : Missed} (f : Family) (c : Page) (decision : Decision) (s : State Page) → know (w.proc p) ≡ know_compression level key got at new (LatchingRight f c) → know b ≡ know_compression level key got at new (OpeningLeft f.at decision) → Does w.now p (Miss what) s → Turned know w p (Miss what) s b
+  leave_right_turn {what} f c decision s before then does =
+      let is : IsSure w p (know_compression level key got at new (LatchingRight f c)) = rw before at (g.sure p) in
+      watched know w g p b _ _ before then (Miss what) None None s tt tt does tt refl (λ y h. h) (λ it e. cc) (λ j. refl)
+      (record {
+        stage = is.stage;
+        said = HasSaid-silent w.trail (silent p (Miss what)) p None refl is.said;
+        holds = ((does.changes.1 f.at.parent ∙ is.holds.0.owner, is.holds.0.status, tt, tt), ((does.changes.1 f.at.left ∙ is.holds.1.0.owner, is.holds.1.0.status, tt, tt), tt));
+        goes = tt;
+        children = tt;
+        passed = tt;
+        sound = (is.sound.0.0, is.sound.1);
+      })
+
   -- the left child is got, and links to the right one
   pub link_turn : (f : Family) (c : Page) (s : State Page) → know (w.proc p) ≡ know_compression level key got at new (LatchedLeft f) → know b ≡ know_compression level key got at new (LatchingRight f c) → c ≡ w.now.contents f.at.left → right_of c ≡ f.at.right → Does w.now p (Get f.at.left) s → Turned know w p (Get f.at.left) s b
   link_turn f c s before then observed linked does =

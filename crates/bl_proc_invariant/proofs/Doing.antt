@@ -1,5 +1,5 @@
 -- What a compression has done, and one mark more.
-use Rattle.std.proofs.Common.{ℕ, ◌≡◌, ◌<◌, ◌++◌, List, [], ◌∷◌, Option, None, Some, ap, sym, ◌∙◌, refl, subst, inl, inr, append_assoc, append-nil}
+use Rattle.std.proofs.Common.{ℕ, ◌≡◌, ◌<◌, ◌++◌, List, [], ◌∷◌, Option, None, Some, ap, sym, ◌∙◌, refl, subst, inl, inr, append_assoc, append-nil, Bool}
 use Rattle.bl_model.specs.declared.operation.Reply.{Reply}
 use Rattle.bl_page.specs.declared.page.Page.{Page}
 use Rattle.bl_page.specs.declared.page.Page.TheVariants.{Inner as InnerPage}
@@ -240,9 +240,11 @@ module _ (ms : Trail) (m : Mark) where
     squeeze_on : {c d : Compression} {what : Seen} → SqueezeCase c what (step.On d) → m.event.act ≡ event_of None (compression_next c) what → ((x : ℕ) (e : Page) → m.event.act ≡ Get x → what ≡ seen.Words e → m.saw ≡ Some e) → squeeze_log level key c ms → squeeze_log level key d more
     squeeze_on (SqueezeCase.LatchLeft f d t) did saw h = subst (λ z. squeeze_log level key z more) (sym t) (family_on (Latch f.at.left ∷ []) (ap acts_in did) h)
     squeeze_on (SqueezeCase.MissLeft f d t) did saw h = subst (λ z. squeeze_log level key z more) (sym t) (family_on [] (ap acts_in did) h)
+    squeeze_on (SqueezeCase.LeaveLeft f d t) did saw h = subst (λ z. squeeze_log level key z more) (sym t) (unwritten_on ms m (ap writes_in did) (since_unwritten refl h.since))
     squeeze_on (SqueezeCase.GotLeft f c d t) did saw h = links_on f c d t did (saw f.at.left c did refl) h
     squeeze_on (SqueezeCase.LatchRight f c d t) did saw h = subst (λ z. squeeze_log level key z more) (sym t) (left_on (Latch f.at.right ∷ []) (ap acts_in did) h)
     squeeze_on (SqueezeCase.MissRight f c d t) did saw h = subst (λ z. squeeze_log level key z more) (sym t) (left_on [] (ap acts_in did) h)
+    squeeze_on (SqueezeCase.LeaveRight f c d t) did saw h = subst (λ z. squeeze_log level key z more) (sym t) (unwritten_on ms m (ap writes_in did) (since_unwritten refl h.family.since))
     squeeze_on (SqueezeCase.GotRight f c e d t) did saw h = decides_on f c e d t did (saw f.at.right e did refl) h
     squeeze_on (SqueezeCase.PutFirst u d t) did saw h = subst (λ z. squeeze_log level key z more) (sym t) (puts_on (put_act u.gains u ∷ []) (ap acts_in (did ∙ put_event u.gains u) ∙ act_put u.gains u) h)
     squeeze_on (SqueezeCase.FirstRefused u d t) did saw h = subst (λ z. squeeze_log level key z more) (sym t) (once_now (lacks u (did ∙ refused_event u.gains u) h))
@@ -284,15 +286,15 @@ module _ (ms : Trail) (m : Mark) where
 
     module _ (least : 0 < level) where
       -- any step of a compression
-      pub compress_on : {a a' : CompressStage} {what : Seen} → CompressCase level key a what a' → m.event.act ≡ event_of None (compress_next_in a) what → ((x : ℕ) (e : Page) → m.event.act ≡ Get x → what ≡ seen.Words e → m.saw ≡ Some e) → compress_log level key a ms → compress_log level key a' more
+      pub compress_on : {waits : Bool} {a a' : CompressStage} {what : Seen} → CompressCase level key waits a what a' → m.event.act ≡ event_of None (compress_next_in a) what → ((x : ℕ) (e : Page) → m.event.act ≡ Get x → what ≡ seen.Words e → m.saw ≡ Some e) → compress_log level key a ms → compress_log level key a' more
       compress_on (CompressCase.Began a t) did saw h = subst (λ z. come_log z more) (sym t) (begun_now ms m (λ acts. acts ≡ []) did refl)
       compress_on (CompressCase.NoLevel c t) did saw h = once_now (inl (record { first = unwritten_on ms m (ap writes_in did) h; anchor = c; got = got_last ms m did (saw 0 c did refl); few = t }))
       compress_on (CompressCase.Came a what b t) did saw h = way_goes m level key (λ x k. since_unwritten refl k) (unwritten_on ms m) since_now a b what t did h
       compress_on (CompressCase.Met x parent f l t) did saw h = met_on x parent f t l did (saw x (InnerPage parent) did refl) h
       compress_on (CompressCase.Single x parent y l t) did saw h = single_on x parent y t l did (saw x (InnerPage parent) did refl) h
-      compress_on (CompressCase.Squeezed c what d t) did saw h = squeeze_on (squeeze_case c what _ t) did saw h
-      compress_on (CompressCase.Lost c what a (ended, t, none, start)) did saw h = subst (λ z. come_log z more) (sym start) (lost_unwritten ended none (over_on (squeeze_case c what _ t) did h))
-      compress_on (CompressCase.Finished c what r (ended, t, some)) did saw h = decision_pressed ended r some (over_on (squeeze_case c what _ t) did h)
+      compress_on (CompressCase.Squeezed c what d t) did saw h = squeeze_on (squeeze_case _ c what _ t) did saw h
+      compress_on (CompressCase.Lost c what a (ended, t, none, start)) did saw h = subst (λ z. come_log z more) (sym start) (lost_unwritten ended none (over_on (squeeze_case _ c what _ t) did h))
+      compress_on (CompressCase.Finished c what r (ended, t, some)) did saw h = decision_pressed ended r some (over_on (squeeze_case _ c what _ t) did h)
       compress_on (CompressCase.Opened x r t) did saw h = subst (λ z. pressed_log level key z more) (sym t) (once_on (ap writes_in did) h)
       compress_on (CompressCase.Ended r last t) did saw h = subst (λ z. pressed_log level key z more) (sym t) (pressed_on r (ap writes_in did) h)
 

@@ -128,7 +128,7 @@ log_turn (Write a) (Write c) what marks m t did saw h =
     subst (λ d. write_log d c.stage (marks ++ m ∷ [])) (sym t.1) (write_on marks m (write_case a.key a.write a.stage what c.stage t.2) did h)
 log_turn (Reclaim a) (Reclaim c) what marks m t did saw h = tt
 log_turn (Compress a) (Compress c) what marks m t did saw h =
-    subst (λ l. compress_log l c.key c.stage (marks ++ m ∷ [])) (sym t.0) (subst (λ k. compress_log a.level k c.stage (marks ++ m ∷ [])) (sym t.1) (compress_on marks m a.level a.key a.least (compress_case a.level a.key a.stage what c.stage t.2) did saw h))
+    subst (λ l. compress_log l c.key c.stage (marks ++ m ∷ [])) (sym t.0) (subst (λ k. compress_log a.level k c.stage (marks ++ m ∷ [])) (sym t.1) (compress_on marks m a.level a.key a.least (compress_case a.level a.key a.waits a.stage what c.stage t.3) did saw h))
 log_turn (Lower a) (Lower c) what marks m t did saw h = lower_on marks m (lower_case a.stage what c.stage t) did saw h
 log_turn (Find a) (Find c) what marks m t did saw h = find_on marks m (find_case a.key a.stage what c.stage t.1) did h
 log_turn (Part a) (Part c) what marks m t did saw h = part_on marks m (part_case a.from a.stage what c.stage t.1) did h

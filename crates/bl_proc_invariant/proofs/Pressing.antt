@@ -1,5 +1,5 @@
 -- Every turn of a process that compresses keeps a world good.
-use Rattle.std.proofs.Common.{ℕ, suc, ◌≡◌, ◌-◌, ◌<◌, ◌≤◌, List, [], length, get_or, Some, None, arith, ap, sym, ◌∙◌, refl, subst, inl, inr}
+use Rattle.std.proofs.Common.{ℕ, suc, ◌≡◌, ◌-◌, ◌<◌, ◌≤◌, List, [], length, get_or, Some, None, arith, ap, sym, ◌∙◌, refl, subst, inl, inr, Bool}
 use Rattle.std.proofs.lemmas.Bool.{cases_lt}
 use Rattle.bl_model.specs.Rows.{map_of}
 use Rattle.bl_page.specs.declared.page.Page.{Page}
@@ -79,14 +79,14 @@ module _ {P : Type 0} (know : P → Know) (w : World P) (g : IsGood know w) (p :
   over_turn : {c : Compression} {what : Seen} {decision : Decision} → SqueezeCase c what (step.Over decision) → (S : Type 0) (got : ℕ → Page) (s : State Page) → know (w.proc p) ≡ know_squeeze level key got c → know b ≡ record (idle Stage.Busy) { sound = S } → (key < unbounded → S) → Does w.now p (event_of None (compression_next c) what) s → Turned know w p (event_of None (compression_next c) what) s b
   over_turn (SqueezeCase.OpenedParent x f _ t) S got s before then on does = open_parent_turn know w g p b level key got 0 0 x f S s before then on does
 
-  pub compress_turn : {a a' : CompressStage} {what : Seen} → CompressCase level key a what a' → (got : ℕ → Page) (s : State Page) → know (w.proc p) ≡ know_compress level key got a → know b ≡ know_compress level key (compress_got got a what) a' → IsObserved w.now w.size (compress_next_in a) what → Does w.now p (event_of None (compress_next_in a) what) s → Turned know w p (event_of None (compress_next_in a) what) s b
+  pub compress_turn : {waits : Bool} {a a' : CompressStage} {what : Seen} → CompressCase level key waits a what a' → (got : ℕ → Page) (s : State Page) → know (w.proc p) ≡ know_compress level key got a → know b ≡ know_compress level key (compress_got got a what) a' → IsObserved w.now w.size (compress_next_in a) what → Does w.now p (event_of None (compress_next_in a) what) s → Turned know w p (event_of None (compress_next_in a) what) s b
   compress_turn (CompressCase.Began a t) got s before then observed does = begin_turn know w g p b alone key s before (rw t at then) does
   compress_turn (CompressCase.NoLevel c t) got s before then observed does = give_up_turn know w g p b alone level key s before then does
   compress_turn (CompressCase.Came a what a' t) got s before then observed does = approach_turn know w g p b alone level key a a' what s limit before then t observed does
   compress_turn (CompressCase.Met x parent f l t) got s before then observed does = family_turn x parent f got s before then (sym observed) l.2 t does
   compress_turn (CompressCase.Single x parent y l t) got s before then observed does = kept_turn know w g p b alone level key x s before (rw t.0 at then) does
-  compress_turn (CompressCase.Squeezed c what d t) got s before then observed does = compression_turn know w g p b level key least got c d what s before then t observed does
-  compress_turn (CompressCase.Lost c what a (decision, t, none, start)) got s before then observed does = over_turn (squeeze_case c what _ t) (key < unbounded) got s before (rw start at then) (λ e. e) does
-  compress_turn (CompressCase.Finished c what r (decision, t, some)) got s before then observed does = over_turn (squeeze_case c what _ t) (Unit {0}) got s before then (λ e. tt) does
+  compress_turn (CompressCase.Squeezed c what d t) got s before then observed does = compression_turn know w g p b level key least got _ c d what s before then t observed does
+  compress_turn (CompressCase.Lost c what a (decision, t, none, start)) got s before then observed does = over_turn (squeeze_case _ c what _ t) (key < unbounded) got s before (rw start at then) (λ e. e) does
+  compress_turn (CompressCase.Finished c what r (decision, t, some)) got s before then observed does = over_turn (squeeze_case _ c what _ t) (Unit {0}) got s before then (λ e. tt) does
   compress_turn (CompressCase.Opened x r t) got s before then observed does = stay_turn know w g p b alone level key x (Unit {0}) s before then does
   compress_turn (CompressCase.Ended r last t) got s before then observed does = end_turn know w g p b None [] (Unit {0}) s before then does

@@ -1,5 +1,5 @@
 -- Every turn of a compression of two children keeps a world good: by its state and what it was told.
-use Rattle.std.proofs.Common.{ℕ, ◌≡◌, ◌≢◌, ◌⊎◌, ◌<◌, None, arith, ap, sym, ◌∙◌, refl, subst, inl, inr}
+use Rattle.std.proofs.Common.{ℕ, ◌≡◌, ◌≢◌, ◌⊎◌, ◌<◌, None, arith, ap, sym, ◌∙◌, refl, subst, inl, inr, Bool, true, false}
 use Rattle.bl_page.specs.declared.page.Page.{Page}
 use Rattle.bl_page.specs.declared.page.Page.TheVariants.{Anchor, Leaf, Inner, Dead}
 use Rattle.bl_rearrange.specs.Rearranged.{low_of}
@@ -20,7 +20,7 @@ use Rattle.bl_proc_compress.specs.declared.compressing.Decision.TheVariants as d
 use Rattle.bl_proc_compress.specs.declared.compressing.Compression.{Compression}
 use Rattle.bl_proc_compress.specs.declared.compressing.Compression.TheVariants.{LatchingLeft, LatchedLeft, LatchingRight, LatchedRight, PuttingFirst, PuttingParent, PuttingLast, Retiring, OpeningRight, OpeningLeft, OpeningParent}
 use Rattle.bl_proc_compress.specs.declared.compressing.Compressed.TheVariants as step
-use Rattle.bl_proc_compress.specs.Compressions.{put_of, other, after_puts, compression_next, IsBuried, Merges, Evens, Links, Decides, Compresses}
+use Rattle.bl_proc_compress.specs.Compressions.{put_of, other, after_puts, missed_left, missed_right, compression_next, IsBuried, Merges, Evens, Links, Decides, Compresses}
 use Rattle.bl_proc_invariant.specs.Turns.{event_of, IsObserved, Does, Turned}
 use Rattle.bl_proc_invariant.specs.Compressing.{AreThree, ToMerge, ToEvenLeft, ToEvenRight, got_three, know_compression, know_squeeze, compression_got}
 use Rattle.bl_proc_invariant.proofs.Compressing as on
@@ -138,19 +138,28 @@ module _ {P : Type 0} (know : P → Know) (w : World P) (g : IsGood know w) (p :
   right_turn f c d (OpeningRight at decision.Lost) s before then t observed does = on.stay_turn know w g p b level key got 0 0 f c at decision.Lost s before then t.0 does
   right_turn f c d old s before then t observed does = absurd t
 
-  pub compression_turn : (c d : Compression) (what : Seen) (s : State Page) → know (w.proc p) ≡ know_squeeze level key got c → know b ≡ know_squeeze level key (compression_got got c what) d → Compresses c what (step.On d) → IsObserved w.now w.size (compression_next c) what → Does w.now p (event_of None (compression_next c) what) s → Turned know w p (event_of None (compression_next c) what) s b
-  compression_turn (LatchingLeft f) d seen.Done s before then t observed does = on.latch_left_turn know w g p b level key got 0 0 f s before (rw t at then) observed does
-  compression_turn (LatchingLeft f) d seen.Missed s before then t observed does = on.miss_left_turn know w g p b level key got 0 0 f s before (rw t at then) does
-  compression_turn (LatchedLeft f) d (seen.Words c) s before then t observed does = left_turn f c d s before then t observed does
-  compression_turn (LatchingRight f c) d seen.Done s before then t observed does = on.latch_right_turn know w g p b level key got 0 0 f c s before (rw t at then) observed does
-  compression_turn (LatchingRight f c) d seen.Missed s before then t observed does = on.miss_right_turn know w g p b level key got 0 0 f c s before (rw t at then) does
-  compression_turn (LatchedRight f c) d (seen.Words e) s before then t observed does = right_turn f c e d s before then t observed does
-  compression_turn (PuttingFirst u) d seen.Done s before then t observed does = first_turn u u.gains s refl before (rw t at then) does
-  compression_turn (PuttingFirst u) d seen.Refused s before then t observed does = refused_turn u u.gains s before (rw t at then) does
-  compression_turn (PuttingParent u) d seen.Done s before then t observed does = parent_turn u s before (rw t at then) does
-  compression_turn (PuttingLast u) d seen.Done s before then t observed does = last_turn u u.gains s refl before (rw t at then) does
-  compression_turn (Retiring at decision) d seen.Done s before then t observed does = retire_turn know w g p b level key got 0 0 at decision s before (rw t at then) does
-  compression_turn (OpeningRight at decision) d seen.Done s before then t observed does = on.open_right_turn know w g p b level key got 0 0 at decision s before (rw t at then) does
-  compression_turn (OpeningLeft at decision) d seen.Done s before then t observed does = on.open_left_turn know w g p b level key got 0 0 at decision s before (rw t at then) does
-  compression_turn (OpeningParent x fa) d seen.Done s before then t observed does = absurd t
-  compression_turn old d what s before then t observed does = absurd t
+  -- the latch of a child was missed
+  missed_left_turn : (waits : Bool) (f : Family) (d : Compression) (s : State Page) → know (w.proc p) ≡ know_squeeze level key got (LatchingLeft f) → know b ≡ know_squeeze level key got d → d ≡ missed_left waits f → Does w.now p (event_of None (compression_next (LatchingLeft f)) seen.Missed) s → Turned know w p (event_of None (compression_next (LatchingLeft f)) seen.Missed) s b
+  missed_left_turn true f d s before then t does = on.miss_left_turn know w g p b level key got 0 0 f s before (rw t at then) does
+  missed_left_turn false f d s before then t does = on.leave_left_turn know w g p b level key got 0 0 f decision.Lost s before (rw t at then) does
+
+  missed_right_turn : (waits : Bool) (f : Family) (c : Page) (d : Compression) (s : State Page) → know (w.proc p) ≡ know_squeeze level key got (LatchingRight f c) → know b ≡ know_squeeze level key got d → d ≡ missed_right waits f c → Does w.now p (event_of None (compression_next (LatchingRight f c)) seen.Missed) s → Turned know w p (event_of None (compression_next (LatchingRight f c)) seen.Missed) s b
+  missed_right_turn true f c d s before then t does = on.miss_right_turn know w g p b level key got 0 0 f c s before (rw t at then) does
+  missed_right_turn false f c d s before then t does = on.leave_right_turn know w g p b level key got 0 0 f c decision.Lost s before (rw t at then) does
+
+  pub compression_turn : (waits : Bool) (c d : Compression) (what : Seen) (s : State Page) → know (w.proc p) ≡ know_squeeze level key got c → know b ≡ know_squeeze level key (compression_got got c what) d → Compresses waits c what (step.On d) → IsObserved w.now w.size (compression_next c) what → Does w.now p (event_of None (compression_next c) what) s → Turned know w p (event_of None (compression_next c) what) s b
+  compression_turn waits (LatchingLeft f) d seen.Done s before then t observed does = on.latch_left_turn know w g p b level key got 0 0 f s before (rw t at then) observed does
+  compression_turn waits (LatchingLeft f) d seen.Missed s before then t observed does = missed_left_turn waits f d s before then t does
+  compression_turn waits (LatchedLeft f) d (seen.Words c) s before then t observed does = left_turn f c d s before then t observed does
+  compression_turn waits (LatchingRight f c) d seen.Done s before then t observed does = on.latch_right_turn know w g p b level key got 0 0 f c s before (rw t at then) observed does
+  compression_turn waits (LatchingRight f c) d seen.Missed s before then t observed does = missed_right_turn waits f c d s before then t does
+  compression_turn waits (LatchedRight f c) d (seen.Words e) s before then t observed does = right_turn f c e d s before then t observed does
+  compression_turn waits (PuttingFirst u) d seen.Done s before then t observed does = first_turn u u.gains s refl before (rw t at then) does
+  compression_turn waits (PuttingFirst u) d seen.Refused s before then t observed does = refused_turn u u.gains s before (rw t at then) does
+  compression_turn waits (PuttingParent u) d seen.Done s before then t observed does = parent_turn u s before (rw t at then) does
+  compression_turn waits (PuttingLast u) d seen.Done s before then t observed does = last_turn u u.gains s refl before (rw t at then) does
+  compression_turn waits (Retiring at decision) d seen.Done s before then t observed does = retire_turn know w g p b level key got 0 0 at decision s before (rw t at then) does
+  compression_turn waits (OpeningRight at decision) d seen.Done s before then t observed does = on.open_right_turn know w g p b level key got 0 0 at decision s before (rw t at then) does
+  compression_turn waits (OpeningLeft at decision) d seen.Done s before then t observed does = on.open_left_turn know w g p b level key got 0 0 at decision s before (rw t at then) does
+  compression_turn waits (OpeningParent x fa) d seen.Done s before then t observed does = absurd t
+  compression_turn waits old d what s before then t observed does = absurd t

@@ -38,7 +38,7 @@ state_turn w p got child time (Part a) (Part c) b what s g before then t observe
 state_turn w p got child time (Reclaim a) (Reclaim c) b what s g before then t observed shown does =
     reclaim_turn know w g p b a.page time (reclaim_case a.stage what c.stage t.1) s before then shown does
 state_turn w p got child time (Compress a) (Compress c) b what s g before then t observed shown does =
-    compress_turn know w g p b a.level a.key a.least a.most (compress_case a.level a.key a.stage what c.stage t.2) got s before (subst (λ l. know b ≡ know_compress l a.key (compress_got got a.stage what) c.stage) t.0 (subst (λ k. know b ≡ know_compress c.level k (compress_got got a.stage what) c.stage) t.1 then)) observed does
+    compress_turn know w g p b a.level a.key a.least a.most (compress_case a.level a.key a.waits a.stage what c.stage t.3) got s before (subst (λ l. know b ≡ know_compress l a.key (compress_got got a.stage what) c.stage) t.0 (subst (λ k. know b ≡ know_compress c.level k (compress_got got a.stage what) c.stage) t.1 then)) observed does
 state_turn w p got child time (Lower a) (Lower c) b what s g before then t observed shown does =
     lower_turn know w g p b (lower_case a.stage what c.stage t) got s before then observed does
 state_turn w p got child time (InsertPost a) (InsertPost c) b what s g before then t observed shown does =

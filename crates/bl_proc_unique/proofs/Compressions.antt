@@ -1,5 +1,5 @@
 -- A process that compresses goes on, and in one way.
-use Rattle.std.proofs.Common.{ℕ, ◌≡◌, ◌<◌, ◌≤◌, length, Option, Some, None, refl, sym, ap, ◌∙◌, subst, inl, inr, arith}
+use Rattle.std.proofs.Common.{ℕ, ◌≡◌, ◌<◌, ◌≤◌, length, Option, Some, None, refl, sym, ap, ◌∙◌, subst, inl, inr, arith, Bool}
 use Rattle.std.specs.Coded.{le_prop}
 use Rattle.std.proofs.lemmas.Bool.{cases_lt}
 use mathlib.Core.HLevel.{is_prop→PathP}
@@ -75,45 +75,46 @@ abbrev after_step : Compressed → CompressStage
 after_step (step.On d) = Compressing d
 after_step (step.Over decision) = after_decision (compress_reply decision)
 
-over_goes : (level key : ℕ) (c : Compression) (what : Seen) (decision : Decision) (r : Option CompressReply) → compress_reply decision ≡ r → Compresses c what (step.Over decision) → CompressGoes level key (Compressing c) what (after_decision r)
-over_goes level key c what decision None e t = (decision, t, e, refl)
-over_goes level key c what decision (Some r) e t = (decision, t, e)
+over_goes : (level key : ℕ) (waits : Bool) (c : Compression) (what : Seen) (decision : Decision) (r : Option CompressReply) → compress_reply decision ≡ r → Compresses waits c what (step.Over decision) → CompressGoes level key waits (Compressing c) what (after_decision r)
+over_goes level key waits c what decision None e t = (decision, t, e, refl)
+over_goes level key waits c what decision (Some r) e t = (decision, t, e)
 
-step_goes : (level key : ℕ) (c : Compression) (what : Seen) (n : Compressed) → Compresses c what n → CompressGoes level key (Compressing c) what (after_step n)
-step_goes level key c what (step.On d) t = t
-step_goes level key c what (step.Over decision) t = over_goes level key c what decision (compress_reply decision) refl t
+step_goes : (level key : ℕ) (waits : Bool) (c : Compression) (what : Seen) (n : Compressed) → Compresses waits c what n → CompressGoes level key waits (Compressing c) what (after_step n)
+step_goes level key waits c what (step.On d) t = t
+step_goes level key waits c what (step.Over decision) t = over_goes level key waits c what decision (compress_reply decision) refl t
 
-step_only : {level key : ℕ} {c : Compression} {what : Seen} {b : CompressStage} (n : Compressed) → ((o : Compressed) → Compresses c what o → o ≡ n) → CompressCase level key (Compressing c) what b → b ≡ after_step n
+step_only : {level key : ℕ} {waits : Bool} {c : Compression} {what : Seen} {b : CompressStage} (n : Compressed) → ((o : Compressed) → Compresses waits c what o → o ≡ n) → CompressCase level key waits (Compressing c) what b → b ≡ after_step n
 step_only n is (CompressCase.Squeezed c what d t) = ap after_step (is (step.On d) t)
 step_only n is (CompressCase.Lost c what a t) = ap Coming t.3 ∙ (ap after_decision (sym t.2) ∙ ap after_step (is (step.Over t.0) t.1))
 step_only n is (CompressCase.Finished c what r t) = ap after_decision (sym t.2) ∙ ap after_step (is (step.Over t.0) t.1)
 
-module _ (level key : ℕ) where
-  begun_only : {b : CompressStage} → CompressCase level key New seen.Done b → b ≡ Coming Start
+module _ (level key : ℕ) (waits : Bool) where
+  begun_only : {b : CompressStage} → CompressCase level key waits New seen.Done b → b ≡ Coming Start
   begun_only (CompressCase.Began a t) = ap Coming t
 
-  stays_only : {x : ℕ} {b : CompressStage} → CompressCase level key (Staying x) seen.Done b → b ≡ Ending reply.Alone
+  stays_only : {x : ℕ} {b : CompressStage} → CompressCase level key waits (Staying x) seen.Done b → b ≡ Ending reply.Alone
   stays_only (CompressCase.Opened x r t) = ap Ending t
 
-  last_only : {q : CompressReply} {b : CompressStage} → CompressCase level key (Ending q) seen.Done b → b ≡ Over q
+  last_only : {q : CompressReply} {b : CompressStage} → CompressCase level key waits (Ending q) seen.Done b → b ≡ Over q
   last_only (CompressCase.Ended q last t) = ap Over t
 
-  stage_one : 0 < level → (a : CompressStage) (what : Seen) → compress_answer_in a ≡ None → Gives (compress_next_in a) (compress_needs_in a) what → One (CompressGoes level key a what)
+  stage_one : 0 < level → (a : CompressStage) (what : Seen) → compress_answer_in a ≡ None → Gives (compress_next_in a) (compress_needs_in a) what → One (CompressGoes level key waits a what)
   stage_one least (Coming a) what r g =
       let way = come_one level key a what least g in
       let h = one_after way (after_way level key a what way.new way.goes) in
       record { new = h.new; goes = h.goes; only = h.only }
-  stage_one least (Compressing d) what r g = (let h = compression_one d what g in record { new = after_step h.new; goes = step_goes level key d what h.new h.goes; only = λ b t. step_only h.new h.only (compress_case level key (Compressing d) what b t) })
-  stage_one least New seen.Done r g = record { new = Coming Start; goes = refl; only = λ b t. begun_only (compress_case level key New seen.Done b t) }
-  stage_one least (Staying x) seen.Done r g = record { new = Ending reply.Alone; goes = refl; only = λ b t. stays_only (compress_case level key (Staying x) seen.Done b t) }
-  stage_one least (Ending q) seen.Done r g = record { new = Over q; goes = refl; only = λ b t. last_only (compress_case level key (Ending q) seen.Done b t) }
+  stage_one least (Compressing d) what r g = (let h = compression_one waits d what g in record { new = after_step h.new; goes = step_goes level key waits d what h.new h.goes; only = λ b t. step_only h.new h.only (compress_case level key waits (Compressing d) what b t) })
+  stage_one least New seen.Done r g = record { new = Coming Start; goes = refl; only = λ b t. begun_only (compress_case level key waits New seen.Done b t) }
+  stage_one least (Staying x) seen.Done r g = record { new = Ending reply.Alone; goes = refl; only = λ b t. stays_only (compress_case level key waits (Staying x) seen.Done b t) }
+  stage_one least (Ending q) seen.Done r g = record { new = Over q; goes = refl; only = λ b t. last_only (compress_case level key waits (Ending q) seen.Done b t) }
   stage_one least (Over q) what r g = absurd (let z : Some _ ≡ None = r in cc)
   stage_one least old what r g = absurd g
 
-compress_only : (old : Compress) (what : Seen) (g : One (CompressGoes old.level old.key old.stage what)) (other : Proc) → Takes (proc.Compress old) what other → other ≡ proc.Compress (record { level = old.level; key = old.key; stage = g.new; least = old.least; most = old.most })
-compress_only old what g (proc.Compress f) t = (let e = g.only f.stage t.2 in λ i. proc.Compress (record {
+compress_only : (old : Compress) (what : Seen) (g : One (CompressGoes old.level old.key old.waits old.stage what)) (other : Proc) → Takes (proc.Compress old) what other → other ≡ proc.Compress (record { level = old.level; key = old.key; waits = old.waits; stage = g.new; least = old.least; most = old.most })
+compress_only old what g (proc.Compress f) t = (let e = g.only f.stage t.3 in λ i. proc.Compress (record {
   level = t.0 i;
   key = t.1 i;
+  waits = t.2 i;
   stage = e i;
   least = is_prop→PathP (λ i. 0 < t.0 i) (λ i. le_prop) f.least old.least i;
   most = is_prop→PathP (λ i. t.0 i ≤ 12) (λ i. le_prop) f.most old.most i;
@@ -122,5 +123,5 @@ compress_only old what g new t = absurd t
 
 pub compress_goes : (old : Compress) (what : Seen) → compress_answer_in old.stage ≡ None → Gives (compress_next_in old.stage) (compress_needs_in old.stage) what → GoesOn (proc.Compress old) what
 compress_goes old what running given =
-    let g = stage_one old.level old.key old.least old.stage what running given in
-    record { new = proc.Compress (record { level = old.level; key = old.key; stage = g.new; least = old.least; most = old.most }); takes = (refl, refl, g.goes); only = compress_only old what g }
+    let g = stage_one old.level old.key old.waits old.least old.stage what running given in
+    record { new = proc.Compress (record { level = old.level; key = old.key; waits = old.waits; stage = g.new; least = old.least; most = old.most }); takes = (refl, refl, refl, g.goes); only = compress_only old what g }

@@ -1,5 +1,5 @@
 -- What a process that compresses wants, and what follows.
-use Rattle.std.proofs.Common.{ℕ, suc, ◌≡◌, ◌≢◌, Some, None, refl, sym, ap, ◌∙◌, arith}
+use Rattle.std.proofs.Common.{ℕ, suc, ◌≡◌, ◌≢◌, Some, None, refl, sym, ap, ◌∙◌, arith, Bool}
 use Rattle.bl_page.specs.declared.page.Page.{Page}
 use Rattle.bl_rearrange.specs.declared.sides.Side.{Side}
 use Rattle.bl_rearrange.specs.declared.sides.Side.TheVariants as side
@@ -105,8 +105,10 @@ compression_leaves (SqueezeCase.PutParent p e t) = sym (ap (λ (n : Compression)
 compression_leaves (SqueezeCase.PutLast p e t) = last_leaves (other p.gains) p (compression_frames e) (ap compression_frames t ∙ after_frames p.at p.decision)
 compression_leaves (SqueezeCase.LatchLeft f e t) = ap compression_frames t
 compression_leaves (SqueezeCase.MissLeft f e t) = ap compression_frames t
+compression_leaves (SqueezeCase.LeaveLeft f e t) = ap compression_frames t
 compression_leaves (SqueezeCase.LatchRight f c e t) = ap compression_frames t
 compression_leaves (SqueezeCase.MissRight f c e t) = ap compression_frames t
+compression_leaves (SqueezeCase.LeaveRight f c e t) = ap compression_frames t
 compression_leaves (SqueezeCase.Retired at z e t) = ap compression_frames t
 compression_leaves (SqueezeCase.OpenedRight at z e t) = ap compression_frames t
 compression_leaves (SqueezeCase.OpenedLeft at z e t) = ap compression_frames t
@@ -127,26 +129,26 @@ not_begin_step (step.OpeningRight at z) e = cc
 not_begin_step (step.OpeningLeft at z) e = cc
 not_begin_step (step.OpeningParent x z) e = cc
 
-compress_leaves : {level key : ℕ} {a b : CompressStage} {what : Seen} → CompressCase level key a what b → Leaves (compress_next_in a) (compress_needs_in a) what (compress_frames a) (compress_frames b)
+compress_leaves : {level key : ℕ} {waits : Bool} {a b : CompressStage} {what : Seen} → CompressCase level key waits a what b → Leaves (compress_next_in a) (compress_needs_in a) what (compress_frames a) (compress_frames b)
 compress_leaves (CompressCase.Came a what b t) = approach_leaves a what
-compress_leaves (CompressCase.Squeezed c what d t) = compression_leaves (squeeze_case c what _ t)
-compress_leaves (CompressCase.Lost c what a t) = compression_over (squeeze_case c what _ t.1)
-compress_leaves (CompressCase.Finished c what r t) = compression_over (squeeze_case c what _ t.1)
+compress_leaves (CompressCase.Squeezed c what d t) = compression_leaves (squeeze_case _ c what _ t)
+compress_leaves (CompressCase.Lost c what a t) = compression_over (squeeze_case _ c what _ t.1)
+compress_leaves (CompressCase.Finished c what r t) = compression_over (squeeze_case _ c what _ t.1)
 compress_leaves other = refl
 
-compress_begun : {level key : ℕ} {a b : CompressStage} {what : Seen} → CompressCase level key a what b → compress_next_in b ≢ act.Begin
+compress_begun : {level key : ℕ} {waits : Bool} {a b : CompressStage} {what : Seen} → CompressCase level key waits a what b → compress_next_in b ≢ act.Begin
 compress_begun (CompressCase.Began a t) = not_begin_way a
 compress_begun (CompressCase.Came a what b t) = not_begin_way b
 compress_begun (CompressCase.Squeezed c what d t) = not_begin_step d
 compress_begun (CompressCase.Lost c what a t) = not_begin_way a
 compress_begun other = λ z. cc
 
-compress_running : {level key : ℕ} {a b : CompressStage} {what : Seen} → CompressCase level key a what b → compress_next_in a ≢ act.End → compress_answer_in b ≡ None
+compress_running : {level key : ℕ} {waits : Bool} {a b : CompressStage} {what : Seen} → CompressCase level key waits a what b → compress_next_in a ≢ act.End → compress_answer_in b ≡ None
 compress_running (CompressCase.Ended r last t) ne = absurd (ne refl)
 compress_running other ne = refl
 
 pub compress_follows : (p q : Compress) (what : Seen) → Takes (proc.Compress p) what (proc.Compress q) → Follows (proc.Compress p) what (proc.Compress q)
-compress_follows p q what t = (let is = compress_case p.level p.key p.stage what q.stage t.2 in record {
+compress_follows p q what t = (let is = compress_case p.level p.key p.waits p.stage what q.stage t.3 in record {
   frames = compress_leaves is;
   begun = compress_begun is;
   op = refl;

@@ -219,36 +219,36 @@ post_case level key (post.Ending r) seen.Done (post.Over last) t = Ended r last 
 post_case level key a what b t = absurd t
 
 -- At the parent there are two children, or one.
-pub data CompressCase (level key : ℕ) : CompressStage → Seen → CompressStage → Type 0 where
-  Began : (a : Approach) → a ≡ way.Start → CompressCase level key compress.New seen.Done (compress.Coming a)
-  NoLevel : (c : Page) → (roots_of c).levels ≤ level → CompressCase level key (compress.Coming way.Start) (seen.Words c) (compress.Ending pressed.Alone)
-  Came : (a : Approach) (what : Seen) (b : Approach) → Approaches level key a what (came.On b) → CompressCase level key (compress.Coming a) what (compress.Coming b)
-  Met : (x : ℕ) (parent : Inner) (f : Family) → Leads (InnerPage parent) key level Here → AreSiblings x key parent (Some f) → CompressCase level key (compress.Coming (way.Latched x)) (seen.Words (InnerPage parent)) (compress.Compressing (LatchingLeft f))
-  Single : (x : ℕ) (parent : Inner) (y : ℕ) → Leads (InnerPage parent) key level Here → (y ≡ x) × AreSiblings x key parent None → CompressCase level key (compress.Coming (way.Latched x)) (seen.Words (InnerPage parent)) (compress.Staying y)
-  Squeezed : (c : Compression) (what : Seen) (d : Compression) → Compresses c what (step.On d) → CompressCase level key (compress.Compressing c) what (compress.Compressing d)
-  Lost : (c : Compression) (what : Seen) (a : Approach) → (last : Decision) × Compresses c what (step.Over last) × (compress_reply last ≡ None) × (a ≡ way.Start) → CompressCase level key (compress.Compressing c) what (compress.Coming a)
-  Finished : (c : Compression) (what : Seen) (r : CompressReply) → (last : Decision) × Compresses c what (step.Over last) × (compress_reply last ≡ Some r) → CompressCase level key (compress.Compressing c) what (compress.Ending r)
-  Opened : (x : ℕ) (r : CompressReply) → r ≡ pressed.Alone → CompressCase level key (compress.Staying x) seen.Done (compress.Ending r)
-  Ended : (r last : CompressReply) → last ≡ r → CompressCase level key (compress.Ending r) seen.Done (compress.Over last)
+pub data CompressCase (level key : ℕ) (waits : Bool) : CompressStage → Seen → CompressStage → Type 0 where
+  Began : (a : Approach) → a ≡ way.Start → CompressCase level key waits compress.New seen.Done (compress.Coming a)
+  NoLevel : (c : Page) → (roots_of c).levels ≤ level → CompressCase level key waits (compress.Coming way.Start) (seen.Words c) (compress.Ending pressed.Alone)
+  Came : (a : Approach) (what : Seen) (b : Approach) → Approaches level key a what (came.On b) → CompressCase level key waits (compress.Coming a) what (compress.Coming b)
+  Met : (x : ℕ) (parent : Inner) (f : Family) → Leads (InnerPage parent) key level Here → AreSiblings x key parent (Some f) → CompressCase level key waits (compress.Coming (way.Latched x)) (seen.Words (InnerPage parent)) (compress.Compressing (LatchingLeft f))
+  Single : (x : ℕ) (parent : Inner) (y : ℕ) → Leads (InnerPage parent) key level Here → (y ≡ x) × AreSiblings x key parent None → CompressCase level key waits (compress.Coming (way.Latched x)) (seen.Words (InnerPage parent)) (compress.Staying y)
+  Squeezed : (c : Compression) (what : Seen) (d : Compression) → Compresses waits c what (step.On d) → CompressCase level key waits (compress.Compressing c) what (compress.Compressing d)
+  Lost : (c : Compression) (what : Seen) (a : Approach) → (last : Decision) × Compresses waits c what (step.Over last) × (compress_reply last ≡ None) × (a ≡ way.Start) → CompressCase level key waits (compress.Compressing c) what (compress.Coming a)
+  Finished : (c : Compression) (what : Seen) (r : CompressReply) → (last : Decision) × Compresses waits c what (step.Over last) × (compress_reply last ≡ Some r) → CompressCase level key waits (compress.Compressing c) what (compress.Ending r)
+  Opened : (x : ℕ) (r : CompressReply) → r ≡ pressed.Alone → CompressCase level key waits (compress.Staying x) seen.Done (compress.Ending r)
+  Ended : (r last : CompressReply) → last ≡ r → CompressCase level key waits (compress.Ending r) seen.Done (compress.Over last)
 
-compress_arrives : (level key x : ℕ) (parent : Inner) (b : CompressStage) → Leads (InnerPage parent) key level Here → CompressArrives key x parent b → CompressCase level key (compress.Coming (way.Latched x)) (seen.Words (InnerPage parent)) b
-compress_arrives level key x parent (compress.Compressing (LatchingLeft f)) l t = Met x parent f l t
-compress_arrives level key x parent (compress.Staying y) l t = Single x parent y l t
-compress_arrives level key x parent b l t = absurd t
+compress_arrives : (level key x : ℕ) (waits : Bool) (parent : Inner) (b : CompressStage) → Leads (InnerPage parent) key level Here → CompressArrives key x parent b → CompressCase level key waits (compress.Coming (way.Latched x)) (seen.Words (InnerPage parent)) b
+compress_arrives level key x waits parent (compress.Compressing (LatchingLeft f)) l t = Met x parent f l t
+compress_arrives level key x waits parent (compress.Staying y) l t = Single x parent y l t
+compress_arrives level key x waits parent b l t = absurd t
 
-pub compress_case : (level key : ℕ) (a : CompressStage) (what : Seen) (b : CompressStage) → CompressGoes level key a what b → CompressCase level key a what b
-compress_case level key compress.New seen.Done (compress.Coming a) t = Began a t
-compress_case level key (compress.Coming a) what b (m, h, t) =
-    came_by level key a what m (λ n. CompressComes key n b) (λ d w. CompressCase level key (compress.Coming d) w b) h t
-    (λ c few e. subst (CompressCase level key (compress.Coming way.Start) (seen.Words c)) (sym e) (NoLevel c few))
-    (λ d u e. subst (CompressCase level key (compress.Coming a) what) (sym e) (Came a what d u))
-    (λ x parent l u. compress_arrives level key x parent b l u)
-compress_case level key (compress.Compressing c) what (compress.Compressing d) t = Squeezed c what d t
-compress_case level key (compress.Compressing c) what (compress.Coming a) t = Lost c what a t
-compress_case level key (compress.Compressing c) what (compress.Ending r) t = Finished c what r t
-compress_case level key (compress.Staying x) seen.Done (compress.Ending r) t = Opened x r t
-compress_case level key (compress.Ending r) seen.Done (compress.Over last) t = Ended r last t
-compress_case level key a what b t = absurd t
+pub compress_case : (level key : ℕ) (waits : Bool) (a : CompressStage) (what : Seen) (b : CompressStage) → CompressGoes level key waits a what b → CompressCase level key waits a what b
+compress_case level key waits compress.New seen.Done (compress.Coming a) t = Began a t
+compress_case level key waits (compress.Coming a) what b (m, h, t) =
+    came_by level key a what m (λ n. CompressComes key n b) (λ d w. CompressCase level key waits (compress.Coming d) w b) h t
+    (λ c few e. subst (CompressCase level key waits (compress.Coming way.Start) (seen.Words c)) (sym e) (NoLevel c few))
+    (λ d u e. subst (CompressCase level key waits (compress.Coming a) what) (sym e) (Came a what d u))
+    (λ x parent l u. compress_arrives level key x waits parent b l u)
+compress_case level key waits (compress.Compressing c) what (compress.Compressing d) t = Squeezed c what d t
+compress_case level key waits (compress.Compressing c) what (compress.Coming a) t = Lost c what a t
+compress_case level key waits (compress.Compressing c) what (compress.Ending r) t = Finished c what r t
+compress_case level key waits (compress.Staying x) seen.Done (compress.Ending r) t = Opened x r t
+compress_case level key waits (compress.Ending r) seen.Done (compress.Over last) t = Ended r last t
+compress_case level key waits a what b t = absurd t
 
 -- It looks at one process after another, and releases the page where none blocks it.
 pub data ReclaimCase : ReclaimStage → Seen → ReclaimStage → Type 0 where

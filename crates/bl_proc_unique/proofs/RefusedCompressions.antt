@@ -1,5 +1,5 @@
 -- A compression goes on without room only by being refused.
-use Rattle.std.proofs.Common.{ℕ, ◌≡◌, ◌⊎◌, None, Some, refl, subst, inl, inr}
+use Rattle.std.proofs.Common.{ℕ, ◌≡◌, ◌⊎◌, None, Some, refl, subst, inl, inr, Bool}
 use Rattle.bl_page.specs.declared.page.Page.{Page}
 use Rattle.bl_proc_base.specs.declared.acts.Seen.{Seen}
 use Rattle.bl_proc_base.specs.declared.acts.Seen.TheVariants as seen
@@ -72,8 +72,10 @@ squeezes_refused (SqueezeCase.PutLast u d t) r = inl (after_refused u.at u.decis
 squeezes_refused (SqueezeCase.OpenedParent x end _ t) r = inl (subst DecisionRefused t r)
 squeezes_refused (SqueezeCase.LatchLeft f d t) r = inl (subst SqueezeRefused t r)
 squeezes_refused (SqueezeCase.MissLeft f d t) r = inl (subst SqueezeRefused t r)
+squeezes_refused (SqueezeCase.LeaveLeft f d t) r = inl (subst SqueezeRefused t r)
 squeezes_refused (SqueezeCase.LatchRight f c d t) r = inl (subst SqueezeRefused t r)
 squeezes_refused (SqueezeCase.MissRight f c d t) r = inl (subst SqueezeRefused t r)
+squeezes_refused (SqueezeCase.LeaveRight f c d t) r = inl (subst SqueezeRefused t r)
 squeezes_refused (SqueezeCase.PutFirst u d t) r = inl (subst SqueezeRefused t r)
 squeezes_refused (SqueezeCase.PutParent u d t) r = inl (subst SqueezeRefused t r)
 squeezes_refused (SqueezeCase.Retired at end d t) r = inl (subst SqueezeRefused t r)
@@ -99,9 +101,11 @@ puts_are old r = absurd r
 squeezes_puts : {c d : Compression} {what : Seen} → SqueezeCase c what (step.On d) → SqueezePuts d → SqueezePuts c
 squeezes_puts (SqueezeCase.LatchLeft f d t) r = subst SqueezePuts t r
 squeezes_puts (SqueezeCase.MissLeft f d t) r = subst SqueezePuts t r
+squeezes_puts (SqueezeCase.LeaveLeft f d t) r = absurd (subst SqueezePuts t r)
 squeezes_puts (SqueezeCase.GotLeft f c d t) r = links_not f c d t (puts_are d r)
 squeezes_puts (SqueezeCase.LatchRight f c d t) r = subst SqueezePuts t r
 squeezes_puts (SqueezeCase.MissRight f c d t) r = subst SqueezePuts t r
+squeezes_puts (SqueezeCase.LeaveRight f c d t) r = absurd (subst SqueezePuts t r)
 squeezes_puts (SqueezeCase.GotRight f c e d t) r = decides_not f c e d t (puts_are d r)
 squeezes_puts (SqueezeCase.PutFirst u d t) r = subst SqueezePuts t r
 squeezes_puts (SqueezeCase.FirstRefused u d t) r = absurd (subst SqueezePuts t r)
@@ -124,16 +128,16 @@ refused_decision (decision.Unposted hint) r e none = some_reply _ r e none
 refused_decision decision.Refused r e none = tt
 refused_decision decision.Lost r e none = absurd (let f : None ≡ Some r = e in cc)
 
-pub compress_refused : {level key : ℕ} {a b : CompressStage} {what : Seen} → CompressCase level key a what b → CompressRefused b → CompressRefused a ⊎ (what ≡ seen.Refused)
-compress_refused (CompressCase.Squeezed c what d t) r = squeezes_refused (squeeze_case c what _ t) r
+pub compress_refused : {level key : ℕ} {waits : Bool} {a b : CompressStage} {what : Seen} → CompressCase level key waits a what b → CompressRefused b → CompressRefused a ⊎ (what ≡ seen.Refused)
+compress_refused (CompressCase.Squeezed c what d t) r = squeezes_refused (squeeze_case _ c what _ t) r
 compress_refused (CompressCase.Lost c what a t) r = absurd r
-compress_refused (CompressCase.Finished c what q t) r = squeezes_refused (squeeze_case c what _ t.1) (refused_decision t.0 q t.2 r)
+compress_refused (CompressCase.Finished c what q t) r = squeezes_refused (squeeze_case _ c what _ t.1) (refused_decision t.0 q t.2 r)
 compress_refused (CompressCase.Opened x q t) r = inl (subst PressNoRoom t r)
 compress_refused (CompressCase.Ended q last t) r = inl (subst PressNoRoom t r)
 compress_refused other r = inl r
 
-pub compress_puts : {level key : ℕ} {a b : CompressStage} {what : Seen} → CompressCase level key a what b → CompressPuts b → CompressPuts a
-compress_puts (CompressCase.Squeezed c what d t) r = squeezes_puts (squeeze_case c what _ t) r
+pub compress_puts : {level key : ℕ} {waits : Bool} {a b : CompressStage} {what : Seen} → CompressCase level key waits a what b → CompressPuts b → CompressPuts a
+compress_puts (CompressCase.Squeezed c what d t) r = squeezes_puts (squeeze_case _ c what _ t) r
 compress_puts (CompressCase.Lost c what a t) r = absurd r
 compress_puts (CompressCase.Finished c what q t) r = absurd r
 compress_puts other r = r

@@ -100,13 +100,13 @@ takes_refused p what (proc.Part q) t r = absurd r
 takes_refused p what (proc.Reclaim q) t r = absurd r
 takes_refused (proc.Write p) what (proc.Write q) t r = write_refused (write_case p.key p.write p.stage what q.stage t.2) r
 takes_refused (proc.Post p) what (proc.Post q) t r = post_refused (post_case p.level p.key p.stage what q.stage t.2) r
-takes_refused (proc.Compress p) what (proc.Compress q) t r = compress_refused (compress_case p.level p.key p.stage what q.stage t.2) r
+takes_refused (proc.Compress p) what (proc.Compress q) t r = compress_refused (compress_case p.level p.key p.waits p.stage what q.stage t.3) r
 takes_refused (proc.Lower p) what (proc.Lower q) t r = lower_refused (lower_case p.stage what q.stage t) r
 takes_refused (proc.InsertPost p) what (proc.InsertPost q) t r = climb_refused (climb_case q.path p.stage what q.stage t.3) r
 takes_refused p what old t r = absurd t
 
 -- nor does one come to such puts
 pub takes_puts : (p : Proc) (what : Seen) (q : Proc) → Takes p what q → PutsRefused q → PutsRefused p
-takes_puts (proc.Compress p) what (proc.Compress q) t r = compress_puts (compress_case p.level p.key p.stage what q.stage t.2) r
+takes_puts (proc.Compress p) what (proc.Compress q) t r = compress_puts (compress_case p.level p.key p.waits p.stage what q.stage t.3) r
 takes_puts p what (proc.Compress q) t r = absurd t
 takes_puts p what q t r = absurd r

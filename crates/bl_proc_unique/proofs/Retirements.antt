@@ -1,5 +1,5 @@
 -- A page is retired right after a put: of the kinds of an index, a compression alone retires one.
-use Rattle.std.proofs.Common.{ℕ, ◌≡◌, refl, subst}
+use Rattle.std.proofs.Common.{ℕ, ◌≡◌, refl, subst, Bool}
 use Rattle.bl_proc_base.specs.declared.acts.Action.{Action}
 use Rattle.bl_proc_base.specs.declared.acts.Action.TheVariants as act
 use Rattle.bl_proc_base.specs.declared.acts.Seen.{Seen}
@@ -107,8 +107,10 @@ to_retiring (SqueezeCase.GotLeft f c d t) e = absurd (subst (Links f c) e t)
 to_retiring (SqueezeCase.GotRight f c g d t) e = absurd (subst (Decides f c g) e t)
 to_retiring (SqueezeCase.LatchLeft f d t) e = cc
 to_retiring (SqueezeCase.MissLeft f d t) e = cc
+to_retiring (SqueezeCase.LeaveLeft f d t) e = cc
 to_retiring (SqueezeCase.LatchRight f c d t) e = cc
 to_retiring (SqueezeCase.MissRight f c d t) e = cc
+to_retiring (SqueezeCase.LeaveRight f c d t) e = cc
 to_retiring (SqueezeCase.PutFirst p d t) e = cc
 to_retiring (SqueezeCase.FirstRefused p d t) e = cc
 to_retiring (SqueezeCase.PutParent p d t) e = cc
@@ -130,10 +132,10 @@ after_unless old what (OpeningRight at decision) done = tt
 after_unless old what (OpeningLeft at decision) done = tt
 after_unless old what (OpeningParent x decision) done = tt
 
-stage_after : {level key : ℕ} {a b : CompressStage} {what : Seen} → CompressCase level key a what b → RetiresAfter (compress_next_in a) what (compress_next_in b)
+stage_after : {level key : ℕ} {waits : Bool} {a b : CompressStage} {what : Seen} → CompressCase level key waits a what b → RetiresAfter (compress_next_in a) what (compress_next_in b)
 stage_after (CompressCase.Began w t) = approach_none act.Begin seen.Done w
 stage_after (CompressCase.Came a what b t) = approach_none (approach_next a) what b
-stage_after (CompressCase.Squeezed c what d t) = after_unless (compression_next c) what d (λ at decision e. to_retiring (squeeze_case c what _ t) e)
+stage_after (CompressCase.Squeezed c what d t) = after_unless (compression_next c) what d (λ at decision e. to_retiring (squeeze_case _ c what _ t) e)
 stage_after (CompressCase.Lost c what a t) = approach_none (compression_next c) what a
 stage_after other = tt
 
@@ -144,4 +146,4 @@ pub post_retires : (p q : Post) (what : Seen) → Takes (proc.Post p) what (proc
 post_retires p q what t = post_none (next_of (proc.Post p)) what q.stage
 
 pub compress_retires : (p q : Compress) (what : Seen) → Takes (proc.Compress p) what (proc.Compress q) → RetiresAfter (next_of (proc.Compress p)) what (next_of (proc.Compress q))
-compress_retires p q what t = stage_after (compress_case p.level p.key p.stage what q.stage t.2)
+compress_retires p q what t = stage_after (compress_case p.level p.key p.waits p.stage what q.stage t.3)

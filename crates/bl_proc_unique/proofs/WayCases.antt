@@ -1,7 +1,7 @@
 -- Which turns the machines that processes are built of can take, each with what it gives: the way of a writer, a change, a
 -- growth, and the compression of two children. Whoever takes such a turn apart has one clause for each of them, and none for
 -- what cannot be.
-use Rattle.std.proofs.Common.{ℕ, ◌≡◌, ◌≢◌, ◌<◌, Option, Some, None}
+use Rattle.std.proofs.Common.{ℕ, ◌≡◌, ◌≢◌, ◌<◌, Option, Some, None, Bool, true, false}
 use Rattle.bl_page.specs.declared.page.Page.{Page}
 use Rattle.bl_page.specs.declared.page.Page.TheVariants.{Anchor}
 use Rattle.bl_rearrange.specs.declared.fitted.Fitted.TheVariants.{Split}
@@ -33,12 +33,12 @@ use Rattle.bl_proc_compress.specs.declared.compressing.Siblings.{Siblings}
 use Rattle.bl_proc_compress.specs.declared.compressing.Family.{Family}
 use Rattle.bl_proc_compress.specs.declared.compressing.Puts.{Puts}
 use Rattle.bl_proc_compress.specs.declared.compressing.Decision.{Decision}
-use Rattle.bl_proc_compress.specs.declared.compressing.Decision.TheVariants.{Refused}
+use Rattle.bl_proc_compress.specs.declared.compressing.Decision.TheVariants.{Refused, Lost}
 use Rattle.bl_proc_compress.specs.declared.compressing.Compression.{Compression}
 use Rattle.bl_proc_compress.specs.declared.compressing.Compression.TheVariants.{LatchingLeft, LatchedLeft, LatchingRight, LatchedRight, PuttingFirst, PuttingParent, PuttingLast, Retiring, OpeningRight, OpeningLeft, OpeningParent}
 use Rattle.bl_proc_compress.specs.declared.compressing.Compressed.{Compressed}
 use Rattle.bl_proc_compress.specs.declared.compressing.Compressed.TheVariants as step
-use Rattle.bl_proc_compress.specs.Compressions.{Links, Decides, after_puts, Compresses}
+use Rattle.bl_proc_compress.specs.Compressions.{Links, Decides, after_puts, missed_left, missed_right, Compresses}
 use Rattle.bl_proc_base.specs.Onwards.{Leads}
 use Rattle.bl_proc_base.specs.Approaches.{Enters, Turns, Quits, Approaches}
 use Rattle.bl_proc_base.specs.Edits.{Changes}
@@ -120,9 +120,11 @@ growth_case level g what new t = absurd t
 pub data SqueezeCase : Compression → Seen → Compressed → Type 0 where
   LatchLeft : (f : Family) (new : Compression) → new ≡ LatchedLeft f → SqueezeCase (LatchingLeft f) seen.Done (step.On new)
   MissLeft : (f : Family) (new : Compression) → new ≡ LatchingLeft f → SqueezeCase (LatchingLeft f) seen.Missed (step.On new)
+  LeaveLeft : (f : Family) (new : Compression) → new ≡ OpeningParent f.at.parent Lost → SqueezeCase (LatchingLeft f) seen.Missed (step.On new)
   GotLeft : (f : Family) (c : Page) (new : Compression) → Links f c new → SqueezeCase (LatchedLeft f) (seen.Words c) (step.On new)
   LatchRight : (f : Family) (c : Page) (new : Compression) → new ≡ LatchedRight f c → SqueezeCase (LatchingRight f c) seen.Done (step.On new)
   MissRight : (f : Family) (c : Page) (new : Compression) → new ≡ LatchingRight f c → SqueezeCase (LatchingRight f c) seen.Missed (step.On new)
+  LeaveRight : (f : Family) (c : Page) (new : Compression) → new ≡ OpeningLeft f.at Lost → SqueezeCase (LatchingRight f c) seen.Missed (step.On new)
   GotRight : (f : Family) (c d : Page) (new : Compression) → Decides f c d new → SqueezeCase (LatchedRight f c) (seen.Words d) (step.On new)
   PutFirst : (p : Puts) (new : Compression) → new ≡ PuttingParent p → SqueezeCase (PuttingFirst p) seen.Done (step.On new)
   FirstRefused : (p : Puts) (new : Compression) → new ≡ OpeningRight p.at Refused → SqueezeCase (PuttingFirst p) seen.Refused (step.On new)
@@ -133,19 +135,27 @@ pub data SqueezeCase : Compression → Seen → Compressed → Type 0 where
   OpenedLeft : (at : Siblings) (decision : Decision) (new : Compression) → new ≡ OpeningParent at.parent decision → SqueezeCase (OpeningLeft at decision) seen.Done (step.On new)
   OpenedParent : (x : ℕ) (decision last : Decision) → last ≡ decision → SqueezeCase (OpeningParent x decision) seen.Done (step.Over last)
 
-pub squeeze_case : (c : Compression) (what : Seen) (new : Compressed) → Compresses c what new → SqueezeCase c what new
-squeeze_case (LatchingLeft f) seen.Done (step.On new) t = LatchLeft f new t
-squeeze_case (LatchingLeft f) seen.Missed (step.On new) t = MissLeft f new t
-squeeze_case (LatchedLeft f) (seen.Words c) (step.On new) t = GotLeft f c new t
-squeeze_case (LatchingRight f c) seen.Done (step.On new) t = LatchRight f c new t
-squeeze_case (LatchingRight f c) seen.Missed (step.On new) t = MissRight f c new t
-squeeze_case (LatchedRight f c) (seen.Words d) (step.On new) t = GotRight f c d new t
-squeeze_case (PuttingFirst p) seen.Done (step.On new) t = PutFirst p new t
-squeeze_case (PuttingFirst p) seen.Refused (step.On new) t = FirstRefused p new t
-squeeze_case (PuttingParent p) seen.Done (step.On new) t = PutParent p new t
-squeeze_case (PuttingLast p) seen.Done (step.On new) t = PutLast p new t
-squeeze_case (Retiring at decision) seen.Done (step.On new) t = Retired at decision new t
-squeeze_case (OpeningRight at decision) seen.Done (step.On new) t = OpenedRight at decision new t
-squeeze_case (OpeningLeft at decision) seen.Done (step.On new) t = OpenedLeft at decision new t
-squeeze_case (OpeningParent x decision) seen.Done (step.Over last) t = OpenedParent x decision last t
-squeeze_case c what new t = absurd t
+missed_left_case : (waits : Bool) (f : Family) (new : Compression) → new ≡ missed_left waits f → SqueezeCase (LatchingLeft f) seen.Missed (step.On new)
+missed_left_case true f new t = MissLeft f new t
+missed_left_case false f new t = LeaveLeft f new t
+
+missed_right_case : (waits : Bool) (f : Family) (c : Page) (new : Compression) → new ≡ missed_right waits f c → SqueezeCase (LatchingRight f c) seen.Missed (step.On new)
+missed_right_case true f c new t = MissRight f c new t
+missed_right_case false f c new t = LeaveRight f c new t
+
+pub squeeze_case : (waits : Bool) (c : Compression) (what : Seen) (new : Compressed) → Compresses waits c what new → SqueezeCase c what new
+squeeze_case waits (LatchingLeft f) seen.Done (step.On new) t = LatchLeft f new t
+squeeze_case waits (LatchingLeft f) seen.Missed (step.On new) t = missed_left_case waits f new t
+squeeze_case waits (LatchedLeft f) (seen.Words c) (step.On new) t = GotLeft f c new t
+squeeze_case waits (LatchingRight f c) seen.Done (step.On new) t = LatchRight f c new t
+squeeze_case waits (LatchingRight f c) seen.Missed (step.On new) t = missed_right_case waits f c new t
+squeeze_case waits (LatchedRight f c) (seen.Words d) (step.On new) t = GotRight f c d new t
+squeeze_case waits (PuttingFirst p) seen.Done (step.On new) t = PutFirst p new t
+squeeze_case waits (PuttingFirst p) seen.Refused (step.On new) t = FirstRefused p new t
+squeeze_case waits (PuttingParent p) seen.Done (step.On new) t = PutParent p new t
+squeeze_case waits (PuttingLast p) seen.Done (step.On new) t = PutLast p new t
+squeeze_case waits (Retiring at decision) seen.Done (step.On new) t = Retired at decision new t
+squeeze_case waits (OpeningRight at decision) seen.Done (step.On new) t = OpenedRight at decision new t
+squeeze_case waits (OpeningLeft at decision) seen.Done (step.On new) t = OpenedLeft at decision new t
+squeeze_case waits (OpeningParent x decision) seen.Done (step.Over last) t = OpenedParent x decision last t
+squeeze_case waits c what new t = absurd t
