@@ -1,5 +1,5 @@
 -- A compression at the parent that it holds and has got.
-use Rattle.std.proofs.Common.{ℕ, ◌≡◌, List, refl, sym, ◌∙◌, arith}
+use Rattle.std.proofs.Common.{ℕ, ◌≡◌, List, refl, sym, ◌∙◌, arith, true}
 use Rattle.bl_page.specs.declared.page.Page.{Page}
 use Rattle.bl_page.specs.declared.page.Page.TheVariants.{Anchor, Leaf, Inner as InnerPage, Dead}
 use Rattle.bl_page.specs.declared.page.Inner.{Inner}
@@ -36,7 +36,7 @@ has_by j x (InnerPage i) words d is leads takes = record {
   level = leads.2;
   stands = λ s t.
       let course = stage_course j (Coming (Latched x)) (seen.Words (InnerPage i)) (squeezing j (Coming (Latched x))) refl refl tt in
-      course.only d.state takes ∙ sym (course.only (squeezing j s) (refl, refl, (come.ToParent x i, (refl, refl, leads), t)));
+      course.only d.state takes ∙ sym (course.only (squeezing j s) (refl, refl, refl, (come.ToParent x i, (refl, refl, leads), t)));
 }
 has_by j x (Leaf l) words d is leads takes = absurd (let e = leads.2 in let least = j.least in omega arith)
 has_by j x (Anchor a) words d is leads takes = absurd leads.0
@@ -46,7 +46,7 @@ pub has_parent : (j : Squeezing) (x : ℕ) (words : List ℕ) (d : PassState) �
 has_parent j x words d there = has_by j x there.page words d there.is there.leads there.takes
 
 -- where it stands that has got the anchor
-pub from_anchor : (j : Squeezing) (words : List ℕ) (d : PassState) (a : HasGotAnchor (squeezing j (Coming Start)) words d) (s : CompressStage) → CompressGoes j.level j.key (Coming Start) (seen.Words a.page) s → d.state ≡ squeezing j s
+pub from_anchor : (j : Squeezing) (words : List ℕ) (d : PassState) (a : HasGotAnchor (squeezing j (Coming Start)) words d) (s : CompressStage) → CompressGoes j.level j.key true (Coming Start) (seen.Words a.page) s → d.state ≡ squeezing j s
 from_anchor j words d a s goes =
     let course = stage_course j (Coming Start) (seen.Words a.page) (squeezing j (Coming Start)) refl refl tt in
-    course.only d.state a.takes ∙ sym (course.only (squeezing j s) (refl, refl, goes))
+    course.only d.state a.takes ∙ sym (course.only (squeezing j s) (refl, refl, refl, goes))

@@ -1,5 +1,5 @@
 -- A compression of which a pass has no value goes on.
-use Rattle.std.proofs.Common.{ℕ, ◌≡◌, ◌≢◌, List, get_or, Option, Some, None, refl, sym, ap, ◌∙◌, subst}
+use Rattle.std.proofs.Common.{ℕ, ◌≡◌, ◌≢◌, List, get_or, Option, Some, None, refl, sym, ap, ◌∙◌, subst, true}
 use Rattle.bl_layout.specs.declared.layout.Layout.{Layout}
 use Rattle.bl_page.specs.declared.page.Page.{Page}
 use Rattle.bl_page.specs.Words.{words_of}
@@ -45,26 +45,26 @@ use Rattle.bl_index_compress.specs.Squeezes.{squeezing, pressing, Answers, HasBo
 use Rattle.bl_index_compress.proofs.Spelled.{reads}
 
 pub stage_course : (j : Squeezing) (s : CompressStage) (what : Seen) (state : Proc) → state ≡ squeezing j s → compress_answer_in s ≡ None → Gives (compress_next_in s) (compress_needs_in s) what → GoesOn state what
-stage_course j s what state is running given = course_at what state (squeezing j s) is (compress_goes (record { level = j.level; key = j.key; stage = s; least = j.least; most = j.most }) what running given)
+stage_course j s what state is running given = course_at what state (squeezing j s) is (compress_goes (record { level = j.level; key = j.key; waits = true; stage = s; least = j.least; most = j.most }) what running given)
 
 pub press_course : (j : Squeezing) (c : Compression) (what : Seen) (state : Proc) → state ≡ pressing j c → Gives (compression_next c) (compression_needs c) what → GoesOn state what
 press_course j c what state is given = stage_course j (Compressing c) what state is refl given
 
-pub press_on : (l : Layout) (j : Squeezing) (c n : Compression) (what : Seen) (d e : PassState) → IsOn l d (pressing j c) → Goes what d e → Compresses c what (step.On n) → IsOn l e (pressing j n)
-press_on l j c n what d e on goes t = on_goes l what d e (pressing j c) (pressing j n) on goes (refl, refl, t)
+pub press_on : (l : Layout) (j : Squeezing) (c n : Compression) (what : Seen) (d e : PassState) → IsOn l d (pressing j c) → Goes what d e → Compresses true c what (step.On n) → IsOn l e (pressing j n)
+press_on l j c n what d e on goes t = on_goes l what d e (pressing j c) (pressing j n) on goes (refl, refl, refl, t)
 
 -- where a latch that was missed leaves it
-pub misses : (j : Squeezing) (c : Compression) (state : Proc) → state ≡ pressing j c → Compresses c seen.Missed (step.On c) → Takes state seen.Missed state
-misses j c state is t = subst (λ (z : Proc). Takes z seen.Missed z) (sym is) (refl, refl, t)
+pub misses : (j : Squeezing) (c : Compression) (state : Proc) → state ≡ pressing j c → Compresses true c seen.Missed (step.On c) → Takes state seen.Missed state
+misses j c state is t = subst (λ (z : Proc). Takes z seen.Missed z) (sym is) (refl, refl, refl, t)
 
 -- where a latch that it had leaves it
-pub latches : (j : Squeezing) (c n : Compression) (state : Proc) → state ≡ pressing j c → Compresses c seen.Done (step.On n) → Takes state seen.Done (pressing j n)
-latches j c n state is t = subst (λ (z : Proc). Takes z seen.Done (pressing j n)) (sym is) (refl, refl, t)
+pub latches : (j : Squeezing) (c n : Compression) (state : Proc) → state ≡ pressing j c → Compresses true c seen.Done (step.On n) → Takes state seen.Done (pressing j n)
+latches j c n state is t = subst (λ (z : Proc). Takes z seen.Done (pressing j n)) (sym is) (refl, refl, refl, t)
 
 -- It opens its parent, and is to end with its answer, or begins again.
 pub opens_parent : (j : Squeezing) (x : ℕ) (decision : Decision) (said : Option (Squeezed × Option Hint)) → Answers decision said → (state : Proc) × Takes (pressing j (OpeningParent x decision)) seen.Done state × HasLeft j said state
-opens_parent j x decision (Some t) a = (squeezing j (Ending a.0), (refl, refl, (decision, refl, a.1)), (a.0, a.2, refl))
-opens_parent j x decision None a = (squeezing j (Coming Start), (refl, refl, (decision, refl, a, refl)), refl)
+opens_parent j x decision (Some t) a = (squeezing j (Ending a.0), (refl, refl, refl, (decision, refl, a.1)), (a.0, a.2, refl))
+opens_parent j x decision None a = (squeezing j (Coming Start), (refl, refl, refl, (decision, refl, a, refl)), refl)
 
 abbrev H : Type 0
 H = Seat (Unit {0}) (View PassState)
@@ -88,7 +88,7 @@ has_both j kin parent left right f c p d e k l r is goes = record {
   are = k;
   left_is = l;
   right_is = r;
-  decides = λ n t. goes_to (seen.Words p) d e (pressing j (LatchedRight f c)) (pressing j n) goes is (refl, refl, t);
+  decides = λ n t. goes_to (seen.Words p) d e (pressing j (LatchedRight f c)) (pressing j n) goes is (refl, refl, refl, t);
 }
 
 -- It is to open the right child.
@@ -97,7 +97,7 @@ on_opening l j kin parent f d decision k on is = on_as l d _ on (is ∙ ap (λ (
 
 -- It has opened its parent, and ends.
 pub ends_compression : (j : Squeezing) (r : CompressReply) (state : Proc) → state ≡ squeezing j (Ending r) → EndsAs state (squeezing j (Over r))
-ends_compression j r state is = subst (λ (z : Proc). EndsAs z (squeezing j (Over r))) (sym is) (record { at_end = refl; over = stage_course j (Ending r) seen.Done (squeezing j (Ending r)) refl refl tt; ended = (refl, refl, refl) })
+ends_compression j r state is = subst (λ (z : Proc). EndsAs z (squeezing j (Over r))) (sym is) (record { at_end = refl; over = stage_course j (Ending r) seen.Done (squeezing j (Ending r)) refl refl tt; ended = (refl, refl, refl, refl) })
 
 -- what became of a compression, from an earlier state of its pass on
 pub over_since : (j : Squeezing) (d e : PassState) (h : H) (what : Squeezed) (hint : Option Hint) → IsSameProcess d e → IsCompressOver j e h what hint → IsCompressOver j d h what hint

@@ -1,5 +1,5 @@
 -- Where a compression stands, of which a pass has no value.
-use Rattle.std.specs.Prelude.{◌≡◌, ℕ, List, Option, Some, None}
+use Rattle.std.specs.Prelude.{◌≡◌, ℕ, List, Option, Some, None, true}
 use Rattle.atomic_table.specs.declared.shared.Seat.{Seat}
 use Rattle.bl_page.specs.declared.page.Page.{Page}
 use Rattle.bl_page.specs.declared.page.Page.TheVariants.{Inner}
@@ -39,9 +39,9 @@ use Rattle.bl_index_compress.specs.declared.targets.Kin.{Kin}
 abbrev H : Type 0
 H = Seat (Unit {0}) (View PassState)
 
--- a compression that has come so far
+-- a compression that has come so far, and waits for its children
 abbrev pub squeezing : Squeezing → CompressStage → Proc
-squeezing j stage = proc.Compress (record { level = j.level; key = j.key; stage = stage; least = j.least; most = j.most })
+squeezing j stage = proc.Compress (record { level = j.level; key = j.key; waits = true; stage = stage; least = j.least; most = j.most })
 
 -- one that holds its parent
 abbrev pub pressing : Squeezing → Compression → Proc

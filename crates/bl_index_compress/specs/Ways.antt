@@ -1,5 +1,5 @@
 -- A compression goes on as any writer on its way to a page that it is to hold.
-use Rattle.std.specs.Prelude.{ℕ, refl}
+use Rattle.std.specs.Prelude.{ℕ, refl, Bool}
 use Rattle.bl_proc_base.specs.declared.acts.Seen.{Seen}
 use Rattle.bl_proc_base.specs.declared.approaching.Approach.{Approach}
 use Rattle.bl_proc_base.specs.declared.approaching.Approach.TheVariants.{Start, At, Latching, Latched, Leaving}
@@ -10,10 +10,10 @@ use Rattle.bl_proc_compress.specs.declared.squeezing.CompressStage.TheVariants a
 use Rattle.bl_proc_compress.specs.Compresses.{CompressGoes}
 use Rattle.bl_index_ways.specs.Ways.{IsToHold}
 
-pub nears : (level key : ℕ) (a b : Approach) (what : Seen) → IsToHold a → Approaches level key a what (came.On b)
-    → CompressGoes level key (stages.Coming a) what (stages.Coming b)
-nears level key Start b what hold t = absurd hold
-nears level key (At x) b what hold t = absurd hold
-nears level key (Latching x) b what hold t = (descend.On b, (tt, t), refl)
-nears level key (Latched x) b what hold t = (descend.On b, (tt, t), refl)
-nears level key (Leaving x to) b what hold t = (descend.On b, (tt, t), refl)
+pub nears : (level key : ℕ) (waits : Bool) (a b : Approach) (what : Seen) → IsToHold a → Approaches level key a what (came.On b)
+    → CompressGoes level key waits (stages.Coming a) what (stages.Coming b)
+nears level key waits Start b what hold t = absurd hold
+nears level key waits (At x) b what hold t = absurd hold
+nears level key waits (Latching x) b what hold t = (descend.On b, (tt, t), refl)
+nears level key waits (Latched x) b what hold t = (descend.On b, (tt, t), refl)
+nears level key waits (Leaving x to) b what hold t = (descend.On b, (tt, t), refl)

@@ -68,7 +68,7 @@ impl Target for Squeezing {
 
     ghost turns = { λ j n m x c o a leads turns noted. (refl, refl, (descend.On a, (tt, (o, leads, turns)), refl)) };
 
-    ghost goes = { λ j n a b what hold t. (refl, refl, nears j.level j.key a b what hold t) };
+    ghost goes = { λ j n a b what hold t. (refl, refl, refl, nears j.level j.key true a b what hold t) };
 }
 
 impl Unborn for Squeezing {

@@ -47,7 +47,7 @@ returns-then-parent-lt2 g c =
       same = same_hands c.args.hand.now.seat c.words_from-parent.new.hand.seat c.reopen.new.hand.seat same c.reopen.ensures.same.0;
       empty = c.reopen.ensures.same.2.0 ∙ (ap (λ (h : Hand PassState). h.seat.me.0.stock) still ∙ c.requires.empty);
       state = squeezing j (stages.Ending reply.Alone);
-      runs = record { own = search rules; running = search rules; on = on_goes l seen.Done _ _ _ _ on c.reopen.ensures.goes (refl, refl, refl) };
+      runs = record { own = search rules; running = search rules; on = on_goes l seen.Done _ _ _ _ on c.reopen.ensures.goes (refl, refl, refl, refl) };
       left = (reply.Alone, refl, refl);
       since = subst (λ (h : Hand PassState). IsSameProcess (known h.seat) (known c.reopen.new.hand.seat)) still (same_goes _ _ _ c.reopen.ensures.goes);
       no_room = λ hint e. alone_has_room hint e;
