@@ -35,7 +35,7 @@ impl Target for Squeezing {
 
     type Path = ();
 
-    ghost at = { λ j n a. proc.Compress (record { level = j.level; key = j.key; stage = stages.Coming a; least = j.least; most = j.most }) };
+    ghost at = { λ j n a. proc.Compress (record { level = j.level; key = j.key; waits = true; stage = stages.Coming a; least = j.least; most = j.most }) };
 
     ghost level_of = { λ j. j.level };
 
@@ -62,11 +62,11 @@ impl Target for Squeezing {
     ghost acts = { λ j n a. refl };
 
     ghost courses = { λ j n a what g.
-        compress_goes (record { level = j.level; key = j.key; stage = stages.Coming a; least = j.least; most = j.most }) what refl g };
+        compress_goes (record { level = j.level; key = j.key; waits = true; stage = stages.Coming a; least = j.least; most = j.most }) what refl g };
 
-    ghost enters = { λ j n a c led t. (refl, refl, (descend.On a, (led, t), refl)) };
+    ghost enters = { λ j n a c led t. (refl, refl, refl, (descend.On a, (led, t), refl)) };
 
-    ghost turns = { λ j n m x c o a leads turns noted. (refl, refl, (descend.On a, (tt, (o, leads, turns)), refl)) };
+    ghost turns = { λ j n m x c o a leads turns noted. (refl, refl, refl, (descend.On a, (tt, (o, leads, turns)), refl)) };
 
     ghost goes = { λ j n a b what hold t. (refl, refl, refl, nears j.level j.key true a b what hold t) };
 }
@@ -79,15 +79,15 @@ impl Unborn for Squeezing {
     ghost use Rattle.bl_proc_base.specs.declared.approaching.Approach.TheVariants as approach;
     ghost use Rattle.bl_proc_unique.proofs.Compressions.{compress_goes};
 
-    ghost unborn = { λ j. proc.Compress (record { level = j.level; key = j.key; stage = stages.New; least = j.least; most = j.most }) };
+    ghost unborn = { λ j. proc.Compress (record { level = j.level; key = j.key; waits = true; stage = stages.New; least = j.least; most = j.most }) };
 
     ghost begun = { λ j.
-        proc.Compress (record { level = j.level; key = j.key; stage = stages.Coming approach.Start; least = j.least; most = j.most }) };
+        proc.Compress (record { level = j.level; key = j.key; waits = true; stage = stages.Coming approach.Start; least = j.least; most = j.most }) };
 
     ghost begins = { λ j. refl };
 
     ghost starts = { λ j.
-        compress_goes (record { level = j.level; key = j.key; stage = stages.New; least = j.least; most = j.most }) seen.Done refl tt };
+        compress_goes (record { level = j.level; key = j.key; waits = true; stage = stages.New; least = j.least; most = j.most }) seen.Done refl tt };
 
-    ghost started = { λ j. (refl, refl, refl) };
+    ghost started = { λ j. (refl, refl, refl, refl) };
 }
