@@ -10,11 +10,13 @@ mod carrying;
 mod events;
 mod frame_view;
 mod kinds;
+mod pausing;
 mod running;
 mod stepping;
 mod tree;
 
 pub use frame_view::FrameView;
 pub use kinds::Kind;
+pub use pausing::Pause;
 pub use stepping::Stepped;
 pub use tree::Tree;

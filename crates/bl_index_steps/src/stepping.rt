@@ -9,12 +9,12 @@ ghost use Rattle.bl_index_steps.specs.Runs.{Runs, Moves, HasReserved, IsAfter};
 ghost use Rattle.bl_index_steps.specs.Rooms.{TellsRoom};
 
 use crate::kinds::Kind;
+use crate::pausing::Pause;
 use crate::tree::Tree;
 use bl_index_rule::{Opened, PassState, Put, Refused, Retired, Took, Tried};
 use bl_page::Page;
 use bl_proc::{Action, Seen};
 use bl_store::{Hand, Stock};
-use crossbeam_utils::Backoff;
 
 /// What a step came to.
 pub enum Stepped {
@@ -27,12 +27,12 @@ pub enum Stepped {
 impl Tree {
     /// The process tries to latch the page. After a miss the thread pauses.
     #[inline(never)]
-    fn latch<P: Kind>(
+    fn latch<P: Kind, B: Pause>(
         &self,
         hand: &mut Hand<PassState>,
         process: &mut P,
         page: u32,
-        backoff: &Backoff,
+        backoff: &B,
     )
         requires runs { Runs self.now hand.old (P.proc_of process.old) }
         requires next { (P.answer_of process.old ≡ None) × (P.next_of process.old ≡ act.Latch page) }
@@ -46,7 +46,7 @@ impl Tree {
             backoff.reset();
             process.took(Seen::Done);
         } else {
-            backoff.snooze();
+            backoff.pause();
             process.took(Seen::Missed);
         }
     }
@@ -193,12 +193,12 @@ impl Tree {
     }
 
     /// The next action of the process, one event, unless it is to end. It waits for nothing.
-    pub fn step<P: Kind>(
+    pub fn step<P: Kind, B: Pause>(
         &self,
         hand: &mut Hand<PassState>,
         process: &mut P,
         held: Option<Stock>,
-        backoff: &Backoff,
+        backoff: &B,
     ) -> Stepped
         requires runs { Runs self.now hand.old (P.proc_of process.old) }
         requires going { (P.answer_of process.old ≡ None) × (P.next_of process.old ≢ act.Begin) }
