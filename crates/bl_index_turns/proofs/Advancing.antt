@@ -1,5 +1,5 @@
 -- A process that has gone on stands, or has ended.
-use Rattle.std.proofs.Common.{ℕ, ◌≡◌, ◌+◌, Option, None, length, inl, inr, sym, ◌∙◌, subst}
+use Rattle.std.proofs.Common.{ℕ, ◌≡◌, Option, None, inl, inr, sym, ◌∙◌, subst}
 use Rattle.bl_proc_base.specs.declared.answers.Answer.{Answer}
 use Rattle.bl_proc.specs.declared.kinds.Proc.{Proc}
 use Rattle.bl_proc.specs.Processes.{answer_of}
@@ -7,10 +7,9 @@ use Rattle.bl_store.specs.declared.store.Hand.{Hand}
 use Rattle.bl_store.specs.Hands.{known, IsSameHand}
 use Rattle.bl_index_rule.specs.declared.known.PassState.{PassState}
 use Rattle.bl_index_steps.specs.Runs.{IsSince, IsDone, IsSameProcess}
-use Rattle.bl_index_steps.specs.Held.{own_marks}
 use Rattle.bl_index_turns.specs.declared.stages.Stage.{Stage}
 use Rattle.bl_index_turns.specs.declared.stages.Stage.TheVariants as stage
-use Rattle.bl_index_turns.specs.Stages.{EndsOrGoesOn, IsSameKind, IsSameWork}
+use Rattle.bl_index_turns.specs.Stages.{EndsOrGoesOn, HasTurnedIn, IsSameKind, IsSameWork}
 
 pub same_number : (hand hand' : Hand PassState) → IsSameHand hand.seat hand'.seat → hand'.number ≡ hand.number
 same_number hand hand' same = hand'.own.0 ∙ (same.2 ∙ sym hand.own.0)
@@ -22,6 +21,6 @@ since_new hand hand' old same since = subst (λ (z : ℕ). IsSince z old (known 
 pub ended_so : (events : ℕ) (h h' : PassState) (p q : Proc) (s : Stage) (a : Option Answer) (s' : Stage) → IsSameKind p q → a ≡ answer_of q → s' ≡ stage.Rests → ((pass : ℕ) (old : PassState) → IsSince pass old h → IsDone pass old h' p q) → EndsOrGoesOn events h h' p s a s'
 ended_so events h h' p q s a s' kind e rests d = inl (record { last = q; kind = kind; answers = sym e; done = d; rests = rests })
 
-pub still_so : (events : ℕ) (h h' : PassState) (p : Proc) (s : Stage) (a : Option Answer) (s' : Stage) → a ≡ None → length (own_marks h') ≡ length (own_marks h) + events → IsSameProcess h h' → IsSameWork s s'
+pub still_so : (events : ℕ) (h h' : PassState) (p : Proc) (s : Stage) (a : Option Answer) (s' : Stage) → a ≡ None → HasTurnedIn events h h' s' → IsSameProcess h h' → IsSameWork s s'
     → EndsOrGoesOn events h h' p s a s'
 still_so events h h' p s a s' none turns since work = inr (record { none = none; turns = turns; since = since; work = work })

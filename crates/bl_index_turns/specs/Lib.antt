@@ -1,3 +1,4 @@
+pub mod Holding
 pub mod Writings
 pub mod Stages
 pub mod Ways

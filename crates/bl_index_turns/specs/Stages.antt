@@ -1,5 +1,5 @@
 -- What a hand is about between two calls.
-use Rattle.std.specs.Prelude.{◌≡◌, ◌≢◌, ◌⊎◌, ◌+◌, ℕ, Option, None, length}
+use Rattle.std.specs.Prelude.{◌≡◌, ◌≢◌, ◌⊎◌, ◌+◌, ◌≤◌, ℕ, false, Option, None, length}
 use Rattle.bl_model.specs.declared.deciding.KeyWrite.{KeyWrite}
 use Rattle.bl_model.specs.declared.operation.Op.{Op}
 use Rattle.bl_store.specs.declared.stock.Stock.{Stock}
@@ -18,6 +18,7 @@ use Rattle.bl_index_rule.specs.declared.known.PassState.{PassState}
 use Rattle.bl_index_steps.specs.Held.{own_marks}
 use Rattle.bl_index_steps.specs.declared.tree.Tree.{Tree}
 use Rattle.bl_index_steps.specs.Runs.{Runs, Rests, IsSince, IsSameProcess, IsDone, HasReserved}
+use Rattle.bl_index_turns.specs.Holding.{HoldsNone}
 use Rattle.bl_index_turns.specs.declared.stages.Stage.{Stage}
 use Rattle.bl_index_turns.specs.declared.stages.Stage.TheVariants as stage
 
@@ -65,10 +66,10 @@ IsSameKind (proc.Compress p) (proc.Compress q) = Unit {0}
 IsSameKind (proc.Lower p) (proc.Lower q) = Unit {0}
 IsSameKind p q = ⊥
 
--- what a hint asks for is underway: a post, or a compression
+-- what a hint asks for is underway: a post, or a compression, which does not wait for a child while it holds the parent
 abbrev pub IsFor : Hint → Stage → Type 0
 IsFor (hint.Post level key) (stage.Posts p held) = (p.level ≡ level) × (p.key ≡ key)
-IsFor (hint.Thin level key) (stage.Compresses p held) = (p.level ≡ level) × (p.key ≡ key)
+IsFor (hint.Thin level key) (stage.Compresses p held) = (p.level ≡ level) × (p.key ≡ key) × (p.waits ≡ false)
 IsFor h s = ⊥
 
 abbrev pub IsLowering : Stage → Type 0
@@ -92,10 +93,25 @@ IsSameWork (stage.Compresses p held) (stage.Compresses q held') = work_of (proc.
 IsSameWork (stage.Lowers p held) (stage.Lowers q held') = Unit {0}
 IsSameWork s s' = ⊥
 
--- What was underway is so still, after so many events of it, and has not answered.
+-- The process has made so many events more, and up to 64 beside, until it holds no page; where it still holds one, it has made all 64.
+pub record HasTurned (events : ℕ) (h h' : PassState) (process : Proc) : Type 0 where
+  pub beside : ℕ
+  pub most : beside ≤ 64
+  pub made : length (own_marks h') ≡ length (own_marks h) + (events + beside)
+  pub free : HoldsNone process ⊎ (beside ≡ 64)
+
+-- the same of what is underway
+abbrev pub HasTurnedIn : ℕ → PassState → PassState → Stage → Type 0
+HasTurnedIn events h h' stage.Rests = ⊥
+HasTurnedIn events h h' (stage.Writes p held) = HasTurned events h h' (proc.Write p.write)
+HasTurnedIn events h h' (stage.Posts p held) = HasTurned events h h' (proc.Post p)
+HasTurnedIn events h h' (stage.Compresses p held) = HasTurned events h h' (proc.Compress p)
+HasTurnedIn events h h' (stage.Lowers p held) = HasTurned events h h' (proc.Lower p)
+
+-- What was underway is so still, after so many events of it and a few more until it holds no page, and has not answered.
 pub record IsStill (events : ℕ) (h h' : PassState) (stage : Stage) (answer : Option Answer) (stage' : Stage) : Type 0 where
   pub none : answer ≡ None
-  pub turns : length (own_marks h') ≡ length (own_marks h) + events
+  pub turns : HasTurnedIn events h h' stage'
   pub since : IsSameProcess h h'
   pub work : IsSameWork stage stage'
 

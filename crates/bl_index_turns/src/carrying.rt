@@ -1,21 +1,28 @@
 //! A process goes on by so many events.
 
-ghost use Rattle.std.specs.Prelude.{◌≡◌, ◌≢◌, ◌+◌, ℕ, None, true, false, length};
+ghost use Rattle.std.specs.Prelude.{◌≡◌, ◌≢◌, ℕ, None, true, false};
 ghost use Rattle.bl_proc_base.specs.declared.acts.Action.TheVariants as act;
 ghost use Rattle.bl_proc_unique.specs.Frames.{op_of, work_of};
 ghost use Rattle.bl_store.specs.Hands.{known, IsSameHand, HasNoStock};
 ghost use Rattle.bl_index_rule.specs.declared.known.PassState.{PassState as Knows};
 ghost use Rattle.bl_index_steps.specs.Runs.{Runs, Rests, IsSince, IsSameProcess, IsDone, HasReserved};
-ghost use Rattle.bl_index_steps.specs.Held.{own_marks};
+ghost use Rattle.bl_index_turns.specs.Stages.{HasTurned};
 
-use crate::stepping::step;
+use crate::holding::Holder;
+use crate::spinning::Spinning;
 use bl_index_rule::PassState;
-use bl_index_steps::{Kind, Stepped, Tree};
+use bl_index_steps::{Stepped, Tree};
 use bl_store::{Hand, Stock};
-use crossbeam_utils::Backoff;
 
-/// The process goes on by so many events at most. Says whether it has ended.
-pub fn go_on<P: Kind>(
+/// How many events more a process may make until it holds no page. From the latch of its first page on a write makes 6 at most: it
+/// gets its leaf, takes a page, puts both and opens both. A new top level takes as many from the latch of the anchor on, and a
+/// compression 11: three gets, two latches, three puts, one page that is retired, and two that are opened. A post gets besides
+/// each page that was split off and is listed nowhere yet, from the child before its key on: hence the margin.
+const MORE: u64 = 64;
+
+/// The process goes on by so many events, and then by at most 64 more until it holds no page. Says whether it has ended. A lowering
+/// holds the anchor while it tries the latch of the top page, and a post its parent while it walks: each may come back so.
+pub fn go_on<P: Holder>(
     tree: &Tree,
     hand: &mut Hand<PassState>,
     process: &mut P,
@@ -32,14 +39,18 @@ pub fn go_on<P: Kind>(
     ensures runs { result ≡ false → Runs tree.now hand.new (P.proc_of process.new) × HasReserved hand.new.seat held.new (P.proc_of process.new) }
     ensures going { result ≡ false → (P.answer_of process.new ≡ None) × (P.next_of process.new ≢ act.Begin) }
     ensures since { result ≡ false → IsSameProcess (known hand.old.seat) (known hand.new.seat) }
-    ensures turns { result ≡ false → length (own_marks (known hand.new.seat)) ≡ length (own_marks (known hand.old.seat)) + events }
+    ensures turns { result ≡ false → HasTurned events (known hand.old.seat) (known hand.new.seat) (P.proc_of process.new) }
     ensures work { result ≡ false → (op_of (P.proc_of process.new) ≡ op_of (P.proc_of process.old))
         × (work_of (P.proc_of process.new) ≡ work_of (P.proc_of process.old)) }
 {
-    let backoff = Backoff::new();
+    let spinning = Spinning::new();
     let mut stock = held.take();
-    for _event in 0..events {
-        match step(tree, hand, process, stock, &backoff) {
+    let least = u64::from(events);
+    for event in 0..least + MORE {
+        if event >= least && process.holds_none() {
+            break;
+        }
+        match tree.step(hand, process, stock, &spinning) {
             Stepped::On(next) => stock = next,
             Stepped::AtEnd => {
                 tree.finish(hand, process);

@@ -40,7 +40,8 @@ pub fn begin_write(tree: &Tree, hand: &mut Hand<PassState>, key: u64, write: Key
     Stage::Writes(process, None)
 }
 
-/// A hand that rests begins what the hint asks for: a post, or a compression.
+/// A hand that rests begins what the hint asks for: a post, or a compression. That does not wait for a child while it holds the parent:
+/// the process that holds the child may be one of the same thread, which goes on by other calls.
 pub fn begin_hint(tree: &Tree, hand: &mut Hand<PassState>, hint: Hint) -> Stage
     requires { IsAtRest tree.now hand.old }
     ensures same { IsSameHand hand.old.seat hand.new.seat }
@@ -55,7 +56,7 @@ pub fn begin_hint(tree: &Tree, hand: &mut Hand<PassState>, hint: Hint) -> Stage
             Stage::Posts(process, None)
         }
         Hint::Thin { .. } => {
-            let mut process = Compress::new(hint.level(), hint.key());
+            let mut process = Compress::yielding(hint.level(), hint.key());
             tree.begin(hand, &mut process);
             Stage::Compresses(process, None)
         }

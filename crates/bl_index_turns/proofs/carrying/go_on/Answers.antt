@@ -1,4 +1,4 @@
-use Rattle.std.proofs.Common.{ℕ, rules, sym, ap, ◌∙◌, subst, arith}
+use Rattle.std.proofs.Common.{ℕ, ◌-◌, rules, refl, sym, ap, ◌∙◌, subst, inl, inr, arith}
 use Rattle.bl_claims.specs.Trails.{marks_of}
 use Rattle.bl_proc_bounds.specs.Latches.{IsTidy}
 use Rattle.bl_proc_invariant.specs.Logs.{proc_log}
@@ -62,17 +62,47 @@ returns-in-AtEnd-clause-done g c = λ _ pass old begun.
       tidy = subst (λ (z : ℕ × ℕ). IsTidy (g.P.Kind.proc_of c.finish.new.process) (marks_of (name z.0 z.1) (known c.finish.new.hand.seat).trail)) (λ i. (since.named i, since.number i)) finish.tidy;
     }
 
-pub returns-clause-runs : goal.returns-clause-runs
-returns-clause-runs g c = let inv = c.loop-event.invariant in λ _. (record { own = search rules; running = inv.running; on = inv.process }, inv.reserved)
+pub returns-after-loop-event-clause-runs : goal.returns-after-loop-event-clause-runs
+returns-after-loop-event-clause-runs g c = let inv = c.loop-event.invariant in λ _. (record { own = search rules; running = inv.running; on = inv.process }, inv.reserved)
 
-pub returns-clause-going : goal.returns-clause-going
-returns-clause-going g c = λ _. c.loop-event.invariant.going
+pub returns-after-loop-event-clause-going : goal.returns-after-loop-event-clause-going
+returns-after-loop-event-clause-going g c = λ _. c.loop-event.invariant.going
 
-pub returns-clause-since : goal.returns-clause-since
-returns-clause-since g c = λ _. c.loop-event.invariant.since
+pub returns-after-loop-event-clause-since : goal.returns-after-loop-event-clause-since
+returns-after-loop-event-clause-since g c = λ _. c.loop-event.invariant.since
 
-pub returns-clause-work : goal.returns-clause-work
-returns-clause-work g c = let inv = c.loop-event.invariant in λ _. (inv.op, inv.work)
+pub returns-after-loop-event-clause-work : goal.returns-after-loop-event-clause-work
+returns-after-loop-event-clause-work g c = let inv = c.loop-event.invariant in λ _. (inv.op, inv.work)
 
-pub returns-clause-turns : goal.returns-clause-turns
-returns-clause-turns g c = λ _. (let turns = c.loop-event.invariant.turns in omega arith)
+pub returns-after-loop-event-clause-turns : goal.returns-after-loop-event-clause-turns
+returns-after-loop-event-clause-turns g c = λ _.
+    let turns = c.loop-event.invariant.turns in
+    let is = c.from-least.ensures in
+    let over = c.loop-event-test.false in
+    let most = c.loop-event.auto.event-end in
+    record { beside = 64; most = omega arith; made = omega (arith, turns, is, over, most); free = inr refl }
+
+pub returns-then-holds_none-clause-runs : goal.returns-then-holds_none-clause-runs
+returns-then-holds_none-clause-runs g c = let inv = c.loop-event.invariant in λ _. (record { own = search rules; running = inv.running; on = inv.process }, inv.reserved)
+
+pub returns-then-holds_none-clause-going : goal.returns-then-holds_none-clause-going
+returns-then-holds_none-clause-going g c = λ _. c.loop-event.invariant.going
+
+pub returns-then-holds_none-clause-since : goal.returns-then-holds_none-clause-since
+returns-then-holds_none-clause-since g c = λ _. c.loop-event.invariant.since
+
+pub returns-then-holds_none-clause-work : goal.returns-then-holds_none-clause-work
+returns-then-holds_none-clause-work g c = let inv = c.loop-event.invariant in λ _. (inv.op, inv.work)
+
+pub returns-then-holds_none-clause-turns : goal.returns-then-holds_none-clause-turns
+returns-then-holds_none-clause-turns g c = λ _.
+    let turns = c.loop-event.invariant.turns in
+    let is = c.from-least.ensures in
+    let least = c.if-event-least.true in
+    let most = c.loop-event.auto.event-end in
+    record {
+      beside = c.loop-event.event - c.args.events;
+      most = omega (arith, is, most);
+      made = omega (arith, turns, is, least);
+      free = inl (c.holds_none.ensures.0 c.if-holds_none.true);
+    }

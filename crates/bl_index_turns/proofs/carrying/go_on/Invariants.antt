@@ -13,7 +13,7 @@ invariant-loop-event g l = record {
   process : IsOn l.tree.store.layout (known l.hand.seat) (g.P.Kind.proc_of l.process);
   since : IsSameProcess (known l.fn.hand.seat) (known l.hand.seat);
   going : (g.P.Process.answer_of l.process ≡ None) × (g.P.Process.next_of l.process ≢ act.Begin);
-  turns : length (own_marks (known l.hand.seat)) ≡ length (own_marks (known l.fn.hand.seat)) + l._event;
+  turns : length (own_marks (known l.hand.seat)) ≡ length (own_marks (known l.fn.hand.seat)) + l.event;
   op : op_of (g.P.Kind.proc_of l.process) ≡ op_of (g.P.Kind.proc_of l.fn.process);
   work : work_of (g.P.Kind.proc_of l.process) ≡ work_of (g.P.Kind.proc_of l.fn.process);
   reserved : HasReserved l.hand.seat l.stock (g.P.Kind.proc_of l.process);
