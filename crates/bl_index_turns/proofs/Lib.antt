@@ -1,3 +1,4 @@
 pub mod Advancing
+pub mod Briefs
 pub mod Frees
 pub mod Marks

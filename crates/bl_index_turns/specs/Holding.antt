@@ -10,6 +10,7 @@ use Rattle.bl_proc_base.specs.declared.lowering.Lowering.TheVariants as lowering
 use Rattle.bl_proc_compress.specs.declared.squeezing.CompressStage.{CompressStage}
 use Rattle.bl_proc_compress.specs.declared.squeezing.CompressStage.TheVariants as compress
 use Rattle.bl_proc.specs.declared.kinds.Proc.{Proc}
+use Rattle.bl_proc.specs.declared.kinds.Proc.TheVariants as proc
 use Rattle.bl_proc.specs.declared.lowering.LowerStage.{LowerStage}
 use Rattle.bl_proc.specs.declared.lowering.LowerStage.TheVariants as lower
 use Rattle.bl_proc.specs.declared.posting.PostStage.{PostStage}
@@ -22,7 +23,14 @@ use Rattle.bl_proc_invariant.specs.Knowing.{know_of}
 abbrev pub HoldsNone : Proc → Type 0
 HoldsNone p = (got : ℕ → Page) (child time : ℕ) → (know_of got child time p).holds ≡ []
 
--- The same of each part of a process, as a test.
+-- It may hold a page for long: a post gets all pages between two that are listed while it holds their parent, and a lowering or a
+-- compression that waits tries a latch again. A write, and a compression that does not wait, hold none after 11 events at most.
+abbrev pub IsSlow : Proc → Type 0
+IsSlow (proc.Write p) = ⊥
+IsSlow (proc.Compress p) = p.waits ≡ true
+IsSlow p = Unit {0}
+
+-- Whether it holds none, of each part of a process, as a test.
 
 abbrev pub none_on_way : Approach → Bool
 none_on_way way.Start = true

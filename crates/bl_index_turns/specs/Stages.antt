@@ -18,7 +18,7 @@ use Rattle.bl_index_rule.specs.declared.known.PassState.{PassState}
 use Rattle.bl_index_steps.specs.Held.{own_marks}
 use Rattle.bl_index_steps.specs.declared.tree.Tree.{Tree}
 use Rattle.bl_index_steps.specs.Runs.{Runs, Rests, IsSince, IsSameProcess, IsDone, HasReserved}
-use Rattle.bl_index_turns.specs.Holding.{HoldsNone}
+use Rattle.bl_index_turns.specs.Holding.{HoldsNone, IsSlow}
 use Rattle.bl_index_turns.specs.declared.stages.Stage.{Stage}
 use Rattle.bl_index_turns.specs.declared.stages.Stage.TheVariants as stage
 
@@ -93,12 +93,13 @@ IsSameWork (stage.Compresses p held) (stage.Compresses q held') = work_of (proc.
 IsSameWork (stage.Lowers p held) (stage.Lowers q held') = Unit {0}
 IsSameWork s s' = ⊥
 
--- The process has made so many events more, and up to 64 beside, until it holds no page; where it still holds one, it has made all 64.
+-- The process has made so many events more, and up to 64 beside until it holds no page. One that may hold a page for long may have
+-- made all 64 and still hold one.
 pub record HasTurned (events : ℕ) (h h' : PassState) (process : Proc) : Type 0 where
   pub beside : ℕ
   pub most : beside ≤ 64
   pub made : length (own_marks h') ≡ length (own_marks h) + (events + beside)
-  pub free : HoldsNone process ⊎ (beside ≡ 64)
+  pub free : HoldsNone process ⊎ (IsSlow process × (beside ≡ 64))
 
 -- the same of what is underway
 abbrev pub HasTurnedIn : ℕ → PassState → PassState → Stage → Type 0

@@ -1,4 +1,4 @@
-use Rattle.std.proofs.Common.{ℕ, ◌-◌, rules, refl, sym, ap, ◌∙◌, subst, inl, inr, arith}
+use Rattle.std.proofs.Common.{ℕ, ◌≡◌, ◌≤◌, ◌+◌, ◌-◌, rules, refl, sym, ap, ◌∙◌, subst, inl, inr, arith}
 use Rattle.bl_claims.specs.Trails.{marks_of}
 use Rattle.bl_proc_bounds.specs.Latches.{IsTidy}
 use Rattle.bl_proc_invariant.specs.Logs.{proc_log}
@@ -9,7 +9,11 @@ use Rattle.bl_index_rule.specs.declared.known.PassState.{PassState}
 use Rattle.bl_claims.specs.Seeing.{name}
 use Rattle.bl_index_steps.specs.Runs.{IsSince}
 use Rattle.bl_index_steps.proofs.Calls.{since_step}
+use Rattle.std.proofs.lemmas.Bool.{false≢true}
+use Rattle.bl_index_turns.specs.Holding.{HoldsNone}
+use Rattle.bl_index_turns.proofs.Briefs.{near_on, none_after}
 use Rattle.bl_index_turns.proofs.Marks.{more_marks}
+use Rattle.bl_index_turns.proofs.carrying.go_on.Goals.{else-event-least-via-then-event-least+else-holds_none, else-event-least-via-else-event-least}
 use Rattle.bl_index_turns.proofs.carrying.go_on.Goals as goal
 
 pub loop-event-preserved : goal.loop-event-preserved
@@ -18,6 +22,10 @@ loop-event-preserved g c =
     let inv = c.loop-event.invariant in
     let after = c.in-On.ensures.after in
     let follows = after.3.1 in
+    let held : c.from-least.result ≤ c.loop-event.event → HoldsNone (g.P.Kind.proc_of c.loop-event.process) → ⊥ = elim c.else-event-least.branch [
+      | else-event-least-via-then-event-least+else-holds_none w ↦ (λ le none. false≢true (sym w.if-holds_none.false ∙ w.holds_none.ensures.1 none))
+      | else-event-least-via-else-event-least w ↦ (λ le none. absurd (let lt = w.if-event-least.false in omega (arith, lt, le)))
+    ] in
     record {
       same = search rules;
       running = search rules;
@@ -25,6 +33,7 @@ loop-event-preserved g c =
       since = λ pass old begun. since_step _ _ _ _ _ (inv.since pass old begun) after.1.1.steps;
       going = (sym (laws.answers c.step.new.process) ∙ follows.running after.4, λ e. follows.begun (laws.acts c.step.new.process ∙ e));
       turns = (let one = more_marks _ _ _ after.1.1.steps in omega (arith, inv.turns));
+      near = near_on _ _ after.3.0 _ _ after.3.2 inv.near held;
       op = follows.op ∙ inv.op;
       work = follows.work ∙ inv.work;
       reserved = after.2;
@@ -80,7 +89,13 @@ returns-after-loop-event-clause-turns g c = λ _.
     let is = c.from-least.ensures in
     let over = c.loop-event-test.false in
     let most = c.loop-event.auto.event-end in
-    record { beside = 64; most = omega arith; made = omega (arith, turns, is, over, most); free = inr refl }
+    let at : c.loop-event.event ≡ c.from-least.result + 64 = omega (arith, over, most) in
+    record {
+      beside = 64;
+      most = omega arith;
+      made = omega (arith, turns, is, at);
+      free = elim (none_after _ _ _ at c.loop-event.invariant.near) [ inl none ↦ inl none | inr slow ↦ inr (slow, refl) ];
+    }
 
 pub returns-then-holds_none-clause-runs : goal.returns-then-holds_none-clause-runs
 returns-then-holds_none-clause-runs g c = let inv = c.loop-event.invariant in λ _. (record { own = search rules; running = inv.running; on = inv.process }, inv.reserved)
