@@ -63,10 +63,10 @@ record IsPressing (before : Proc) (q : Compress) (level key : ℕ) : Type 0 wher
   pub level_is : q.level ≡ level
   pub key_is : q.key ≡ key
   pub at_end : compress_next_in old.stage ≡ act.End
-  pub goes : CompressGoes old.level old.key old.stage seen.Done q.stage
+  pub goes : CompressGoes old.level old.key old.waits old.stage seen.Done q.stage
 
 pressing : (before : Proc) (q : Compress) (level key : ℕ) → work_of before ≡ Some (level, key) → next_of before ≡ act.End → Takes before seen.Done (proc.Compress q) → IsPressing before q level key
-pressing (proc.Compress p) q level key is e t = record { old = p; before_is = refl; level_is = t.0 ∙ first_of is; key_is = t.1 ∙ second_of is; at_end = e; goes = t.2 }
+pressing (proc.Compress p) q level key is e t = record { old = p; before_is = refl; level_is = t.0 ∙ first_of is; key_is = t.1 ∙ second_of is; at_end = e; goes = t.3 }
 pressing other q level key is e t = absurd t
 
 pub compress_answered : (from : List (Option Page)) (pass : ℕ) (old e : PassState) (first : Proc) (q : Compress) (level key : ℕ) (what : Squeezed) (next : Option Hint) → IsDone pass old e first (proc.Compress q) → old.first ≡ from → work_of first ≡ Some (level, key) → compress_answer q ≡ Some (answer.Compress what next) → Compresses from pass level key what next old.trail e.trail

@@ -1,5 +1,5 @@
 -- What a compression answers that has ended.
-use Rattle.std.proofs.Common.{ℕ, ◌≡◌, ◌≢◌, Option, Some, None, refl, sym, ◌∙◌, subst}
+use Rattle.std.proofs.Common.{Bool, ℕ, ◌≡◌, ◌≢◌, Option, Some, None, refl, sym, ◌∙◌, subst}
 use Rattle.bl_proc_base.specs.declared.acts.Action.{Action}
 use Rattle.bl_proc_base.specs.declared.acts.Action.TheVariants as act
 use Rattle.bl_proc_base.specs.declared.acts.Seen.TheVariants as seen
@@ -50,23 +50,23 @@ not_end_compression (OpeningRight at decision) e = cc
 not_end_compression (OpeningLeft at decision) e = cc
 not_end_compression (OpeningParent x decision) e = cc
 
-answers_at_end : (level key : ℕ) (a b : CompressStage) → compress_next_in a ≡ act.End → CompressGoes level key a seen.Done b → IsCompressAnswer (compress_answer_in b)
-answers_at_end level key compress.New b e t = cc
-answers_at_end level key (compress.Coming a) b e t = absurd (not_end_way a e)
-answers_at_end level key (compress.Compressing c) b e t = absurd (not_end_compression c e)
-answers_at_end level key (compress.Staying x) b e t = cc
-answers_at_end level key (compress.Over r) b e t = absurd t
-answers_at_end level key (compress.Ending r) compress.New e t = absurd t
-answers_at_end level key (compress.Ending r) (compress.Coming a) e t = absurd t
-answers_at_end level key (compress.Ending r) (compress.Compressing c) e t = absurd t
-answers_at_end level key (compress.Ending r) (compress.Staying x) e t = absurd t
-answers_at_end level key (compress.Ending r) (compress.Ending q) e t = absurd t
-answers_at_end level key (compress.Ending r) (compress.Over (reply.Merged hint)) e t = tt
-answers_at_end level key (compress.Ending r) (compress.Over reply.Evened) e t = tt
-answers_at_end level key (compress.Ending r) (compress.Over reply.Enough) e t = tt
-answers_at_end level key (compress.Ending r) (compress.Over reply.Alone) e t = tt
-answers_at_end level key (compress.Ending r) (compress.Over (reply.Unposted hint)) e t = tt
-answers_at_end level key (compress.Ending r) (compress.Over reply.NoRoom) e t = tt
+answers_at_end : (level key : ℕ) (waits : Bool) (a b : CompressStage) → compress_next_in a ≡ act.End → CompressGoes level key waits a seen.Done b → IsCompressAnswer (compress_answer_in b)
+answers_at_end level key waits compress.New b e t = cc
+answers_at_end level key waits (compress.Coming a) b e t = absurd (not_end_way a e)
+answers_at_end level key waits (compress.Compressing c) b e t = absurd (not_end_compression c e)
+answers_at_end level key waits (compress.Staying x) b e t = cc
+answers_at_end level key waits (compress.Over r) b e t = absurd t
+answers_at_end level key waits (compress.Ending r) compress.New e t = absurd t
+answers_at_end level key waits (compress.Ending r) (compress.Coming a) e t = absurd t
+answers_at_end level key waits (compress.Ending r) (compress.Compressing c) e t = absurd t
+answers_at_end level key waits (compress.Ending r) (compress.Staying x) e t = absurd t
+answers_at_end level key waits (compress.Ending r) (compress.Ending q) e t = absurd t
+answers_at_end level key waits (compress.Ending r) (compress.Over (reply.Merged hint)) e t = tt
+answers_at_end level key waits (compress.Ending r) (compress.Over reply.Evened) e t = tt
+answers_at_end level key waits (compress.Ending r) (compress.Over reply.Enough) e t = tt
+answers_at_end level key waits (compress.Ending r) (compress.Over reply.Alone) e t = tt
+answers_at_end level key waits (compress.Ending r) (compress.Over (reply.Unposted hint)) e t = tt
+answers_at_end level key waits (compress.Ending r) (compress.Over reply.NoRoom) e t = tt
 
 -- a compression that ends at its next action, and is then q
 record IsPressing (before : Proc) (q : Compress) (level key : ℕ) : Type 0 where
@@ -75,13 +75,13 @@ record IsPressing (before : Proc) (q : Compress) (level key : ℕ) : Type 0 wher
   pub level_is : q.level ≡ level
   pub key_is : q.key ≡ key
   pub at_end : compress_next_in old.stage ≡ act.End
-  pub goes : CompressGoes old.level old.key old.stage seen.Done q.stage
+  pub goes : CompressGoes old.level old.key old.waits old.stage seen.Done q.stage
 
 pressing : (before : Proc) (q : Compress) (level key : ℕ) → work_of before ≡ Some (level, key) → next_of before ≡ act.End → Takes before seen.Done (proc.Compress q) → IsPressing before q level key
-pressing (proc.Compress p) q level key is e t = record { old = p; before_is = refl; level_is = t.0 ∙ first_of is; key_is = t.1 ∙ second_of is; at_end = e; goes = t.2 }
+pressing (proc.Compress p) q level key is e t = record { old = p; before_is = refl; level_is = t.0 ∙ first_of is; key_is = t.1 ∙ second_of is; at_end = e; goes = t.3 }
 pressing other q level key is e t = absurd t
 
 pub compress_has_answer : (pass : ℕ) (old e : PassState) (first : Proc) (q : Compress) (level key : ℕ) → IsDone pass old e first (proc.Compress q) → work_of first ≡ Some (level, key) → (what : Option Answer) → what ≡ compress_answer q → IsCompressAnswer what
 compress_has_answer pass old e first q level key d is what a =
     let p = pressing d.before q level key (d.work ∙ is) d.at_end d.takes in
-    subst IsCompressAnswer (sym a) (answers_at_end p.old.level p.old.key p.old.stage q.stage p.at_end p.goes)
+    subst IsCompressAnswer (sym a) (answers_at_end p.old.level p.old.key p.old.waits p.old.stage q.stage p.at_end p.goes)
