@@ -30,6 +30,7 @@ use Rattle.bl_proc.specs.Processes.{Takes}
 use Rattle.bl_proc_unique.proofs.WayCases.{ApproachCase, approach_case, EditCase, edit_case}
 use Rattle.bl_proc_unique.proofs.KindCases.{WriteCase, write_case, CompressCase, compress_case}
 use Rattle.bl_index_turns.specs.Holding.{HoldsNone, IsSlow, none_on_way, none_in_write, none_in_compress}
+use Rattle.bl_index_turns.specs.Stages.{Yields}
 use Rattle.bl_index_turns.proofs.Frees.{write_holds, compress_holds}
 
 -- it is one of those
@@ -243,6 +244,11 @@ brief_before (proc.Compress p) what (proc.Compress q) t brief = sym t.2 ∙ brie
 brief_before p what (proc.Write q) t brief = absurd t
 brief_before p what (proc.Compress q) t brief = absurd t
 brief_before p what q t brief = absurd brief
+
+pub yields_on : (p : Proc) (what : Seen) (q : Proc) → Takes p what q → Yields p → Yields q
+yields_on (proc.Compress p) what (proc.Compress q) t yields = t.2 ∙ yields
+yields_on p what (proc.Compress q) t yields = absurd t
+yields_on p what q t yields = tt
 
 brief_or : (waits : Bool) → (waits ≡ false) ⊎ (waits ≡ true)
 brief_or true = inr refl

@@ -28,6 +28,11 @@ pub record IsAtRest (tree : Tree) (hand : Hand PassState) : Type 0 where
   pub rests : Rests hand.seat
   pub empty : HasNoStock hand.seat
 
+-- If it is a compression, it does not wait for a child while it holds the parent.
+abbrev pub Yields : Proc → Type 0
+Yields (proc.Compress p) = p.waits ≡ false
+Yields p = Unit {0}
+
 -- The hand runs the process, which has begun and not ended, with what it has reserved; its pass has done nothing else since.
 pub record CanGoOn (tree : Tree) (hand : Hand PassState) (process : Proc) (held : Option Stock) : Type 0 where
   pub runs : Runs tree hand process
@@ -35,6 +40,7 @@ pub record CanGoOn (tree : Tree) (hand : Hand PassState) (process : Proc) (held 
   pub reserved : HasReserved hand.seat held process
   pub old : PassState
   pub since : IsSince hand.number old (known hand.seat)
+  pub yields : Yields process
 
 abbrev pub Stands : Tree → Hand PassState → Stage → Type 0
 Stands tree hand stage.Rests = IsAtRest tree hand
@@ -101,12 +107,12 @@ pub record HasTurned (events : ℕ) (h h' : PassState) (process : Proc) : Type 0
   pub made : length (own_marks h') ≡ length (own_marks h) + (events + beside)
   pub free : HoldsNone process ⊎ (IsSlow process × (beside ≡ 64))
 
--- the same of what is underway
+-- the same of what is underway, which is no compression that waits
 abbrev pub HasTurnedIn : ℕ → PassState → PassState → Stage → Type 0
 HasTurnedIn events h h' stage.Rests = ⊥
 HasTurnedIn events h h' (stage.Writes p held) = HasTurned events h h' (proc.Write p.write)
 HasTurnedIn events h h' (stage.Posts p held) = HasTurned events h h' (proc.Post p)
-HasTurnedIn events h h' (stage.Compresses p held) = HasTurned events h h' (proc.Compress p)
+HasTurnedIn events h h' (stage.Compresses p held) = (p.waits ≡ false) × HasTurned events h h' (proc.Compress p)
 HasTurnedIn events h h' (stage.Lowers p held) = HasTurned events h h' (proc.Lower p)
 
 -- What was underway is so still, after so many events of it and a few more until it holds no page, and has not answered.

@@ -6,7 +6,7 @@ ghost use Rattle.bl_proc_unique.specs.Frames.{op_of, work_of};
 ghost use Rattle.bl_store.specs.Hands.{known, IsSameHand, HasNoStock};
 ghost use Rattle.bl_index_rule.specs.declared.known.PassState.{PassState as Knows};
 ghost use Rattle.bl_index_steps.specs.Runs.{Runs, Rests, IsSince, IsSameProcess, IsDone, HasReserved};
-ghost use Rattle.bl_index_turns.specs.Stages.{HasTurned};
+ghost use Rattle.bl_index_turns.specs.Stages.{HasTurned, Yields};
 
 use crate::holding::Holder;
 use crate::spinning::Spinning;
@@ -14,14 +14,15 @@ use bl_index_rule::PassState;
 use bl_index_steps::{Stepped, Tree};
 use bl_store::{Hand, Stock};
 
-/// How many events more a process may make until it holds no page. From the latch of its first page on a write makes 6 at most: it
-/// gets its leaf, takes a page, puts both and opens both. A new top level takes as many from the latch of the anchor on, and a
-/// compression 11: three gets, two latches, three puts, one page that is retired, and two that are opened. A post gets besides
-/// each page that was split off and is listed nowhere yet, from the child before its key on: hence the margin.
+/// How many events more a process may make until it holds no page. A write makes 6 at most from the latch of its leaf on: it gets the
+/// leaf, takes a page, puts both and opens both. So does a post that makes a new top level, from the latch of the anchor on. A
+/// compression makes 11: three gets, two latches, three puts, a page that is retired and two that are opened. A post gets, while it
+/// holds the parent, also each page that was split off between two of its children and is not listed yet: most of the 64 are for those.
 const MORE: u64 = 64;
 
-/// The process goes on by so many events, and then by at most 64 more until it holds no page. Says whether it has ended. A lowering
-/// holds the anchor while it tries the latch of the top page, and a post its parent while it walks: each may come back so.
+/// The process goes on by so many events, and then by at most 64 more until it holds no page. Says whether it has ended. A write, and a
+/// compression that does not wait, hold none when they come back. A lowering holds the anchor while it tries the latch of the top page,
+/// and a post its parent while it walks to the child: these two come back with a page held where the 64 do not do.
 pub fn go_on<P: Holder>(
     tree: &Tree,
     hand: &mut Hand<PassState>,
@@ -40,6 +41,7 @@ pub fn go_on<P: Holder>(
     ensures going { result ≡ false → (P.answer_of process.new ≡ None) × (P.next_of process.new ≢ act.Begin) }
     ensures since { result ≡ false → IsSameProcess (known hand.old.seat) (known hand.new.seat) }
     ensures turns { result ≡ false → HasTurned events (known hand.old.seat) (known hand.new.seat) (P.proc_of process.new) }
+    ensures yields { result ≡ false → Yields (P.proc_of process.old) → Yields (P.proc_of process.new) }
     ensures work { result ≡ false → (op_of (P.proc_of process.new) ≡ op_of (P.proc_of process.old))
         × (work_of (P.proc_of process.new) ≡ work_of (P.proc_of process.old)) }
 {

@@ -11,7 +11,7 @@ use Rattle.bl_index_steps.specs.Runs.{IsSince}
 use Rattle.bl_index_steps.proofs.Calls.{since_step}
 use Rattle.std.proofs.lemmas.Bool.{false≢true}
 use Rattle.bl_index_turns.specs.Holding.{HoldsNone}
-use Rattle.bl_index_turns.proofs.Briefs.{near_on, none_after}
+use Rattle.bl_index_turns.proofs.Briefs.{near_on, none_after, yields_on}
 use Rattle.bl_index_turns.proofs.Marks.{more_marks}
 use Rattle.bl_index_turns.proofs.carrying.go_on.Goals.{else-event-least-via-then-event-least+else-holds_none, else-event-least-via-else-event-least}
 use Rattle.bl_index_turns.proofs.carrying.go_on.Goals as goal
@@ -34,6 +34,7 @@ loop-event-preserved g c =
       going = (sym (laws.answers c.step.new.process) ∙ follows.running after.4, λ e. follows.begun (laws.acts c.step.new.process ∙ e));
       turns = (let one = more_marks _ _ _ after.1.1.steps in omega (arith, inv.turns));
       near = near_on _ _ after.3.0 _ _ after.3.2 inv.near held;
+      yields = λ first. yields_on _ after.3.0 _ after.3.2 (inv.yields first);
       op = follows.op ∙ inv.op;
       work = follows.work ∙ inv.work;
       reserved = after.2;
@@ -80,6 +81,9 @@ returns-after-loop-event-clause-going g c = λ _. c.loop-event.invariant.going
 pub returns-after-loop-event-clause-since : goal.returns-after-loop-event-clause-since
 returns-after-loop-event-clause-since g c = λ _. c.loop-event.invariant.since
 
+pub returns-after-loop-event-clause-yields : goal.returns-after-loop-event-clause-yields
+returns-after-loop-event-clause-yields g c = λ _. c.loop-event.invariant.yields
+
 pub returns-after-loop-event-clause-work : goal.returns-after-loop-event-clause-work
 returns-after-loop-event-clause-work g c = let inv = c.loop-event.invariant in λ _. (inv.op, inv.work)
 
@@ -105,6 +109,9 @@ returns-then-holds_none-clause-going g c = λ _. c.loop-event.invariant.going
 
 pub returns-then-holds_none-clause-since : goal.returns-then-holds_none-clause-since
 returns-then-holds_none-clause-since g c = λ _. c.loop-event.invariant.since
+
+pub returns-then-holds_none-clause-yields : goal.returns-then-holds_none-clause-yields
+returns-then-holds_none-clause-yields g c = λ _. c.loop-event.invariant.yields
 
 pub returns-then-holds_none-clause-work : goal.returns-then-holds_none-clause-work
 returns-then-holds_none-clause-work g c = let inv = c.loop-event.invariant in λ _. (inv.op, inv.work)

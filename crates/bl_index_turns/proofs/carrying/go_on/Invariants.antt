@@ -4,6 +4,7 @@ use Rattle.bl_store.specs.Hands.{known, IsRunning, IsSameHand}
 use Rattle.bl_proc_unique.specs.Frames.{op_of, work_of}
 use Rattle.bl_index_steps.specs.Runs.{IsOn, HasReserved, IsSameProcess}
 use Rattle.bl_index_steps.specs.Held.{own_marks}
+use Rattle.bl_index_turns.specs.Stages.{Yields}
 use Rattle.bl_index_turns.proofs.Briefs.{IsNear}
 use Rattle.bl_index_turns.proofs.carrying.go_on.Given as goal
 
@@ -16,6 +17,7 @@ invariant-loop-event g l = record {
   going : (g.P.Process.answer_of l.process ≡ None) × (g.P.Process.next_of l.process ≢ act.Begin);
   turns : length (own_marks (known l.hand.seat)) ≡ length (own_marks (known l.fn.hand.seat)) + l.event;
   near : IsNear (g.P.Kind.proc_of l.process) l.least l.event;
+  yields : Yields (g.P.Kind.proc_of l.fn.process) → Yields (g.P.Kind.proc_of l.process);
   op : op_of (g.P.Kind.proc_of l.process) ≡ op_of (g.P.Kind.proc_of l.fn.process);
   work : work_of (g.P.Kind.proc_of l.process) ≡ work_of (g.P.Kind.proc_of l.fn.process);
   reserved : HasReserved l.hand.seat l.stock (g.P.Kind.proc_of l.process);

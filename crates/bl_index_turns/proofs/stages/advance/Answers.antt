@@ -12,7 +12,7 @@ returns-then-not-go_on-clause-stands c =
     let was : CanGoOn c.args.tree.now c.args.hand.now (proc.Write c.in-Writes.process.write) c.in-Writes.held = subst (λ (s : Stage). Stands c.args.tree.now c.args.hand.now s) c.in-Writes.is c.requires in
     let e = c.go_on.ensures in let more = c.if-not-go_on.true in
     let since = since_new c.args.hand.now c.go_on.new.hand was.old e.same (e.since more c.args.hand.now.number was.old was.since) in
-    record { runs = (e.runs more).0; going = e.going more; reserved = (e.runs more).1; old = was.old; since = since }
+    record { runs = (e.runs more).0; going = e.going more; reserved = (e.runs more).1; old = was.old; since = since; yields = e.yields more was.yields }
 
 pub returns-then-not-go_on-clause-answers : goal.returns-then-not-go_on-clause-answers
 returns-then-not-go_on-clause-answers c =
@@ -30,7 +30,7 @@ returns-then-not-go_on-2-clause-stands c =
     let was : CanGoOn c.args.tree.now c.args.hand.now (proc.Post c.in-Posts.process) c.in-Posts.held = subst (λ (s : Stage). Stands c.args.tree.now c.args.hand.now s) c.in-Posts.is c.requires in
     let e = c.go_on-in-Posts.ensures in let more = c.if-not-go_on-2.true in
     let since = since_new c.args.hand.now c.go_on-in-Posts.new.hand was.old e.same (e.since more c.args.hand.now.number was.old was.since) in
-    record { runs = (e.runs more).0; going = e.going more; reserved = (e.runs more).1; old = was.old; since = since }
+    record { runs = (e.runs more).0; going = e.going more; reserved = (e.runs more).1; old = was.old; since = since; yields = e.yields more was.yields }
 
 pub returns-then-not-go_on-2-clause-answers : goal.returns-then-not-go_on-2-clause-answers
 returns-then-not-go_on-2-clause-answers c =
@@ -48,13 +48,14 @@ returns-then-not-go_on-3-clause-stands c =
     let was : CanGoOn c.args.tree.now c.args.hand.now (proc.Compress c.in-Compresses.process) c.in-Compresses.held = subst (λ (s : Stage). Stands c.args.tree.now c.args.hand.now s) c.in-Compresses.is c.requires in
     let e = c.go_on-in-Compresses.ensures in let more = c.if-not-go_on-3.true in
     let since = since_new c.args.hand.now c.go_on-in-Compresses.new.hand was.old e.same (e.since more c.args.hand.now.number was.old was.since) in
-    record { runs = (e.runs more).0; going = e.going more; reserved = (e.runs more).1; old = was.old; since = since }
+    record { runs = (e.runs more).0; going = e.going more; reserved = (e.runs more).1; old = was.old; since = since; yields = e.yields more was.yields }
 
 pub returns-then-not-go_on-3-clause-answers : goal.returns-then-not-go_on-3-clause-answers
 returns-then-not-go_on-3-clause-answers c =
+    let was : CanGoOn c.args.tree.now c.args.hand.now (proc.Compress c.in-Compresses.process) c.in-Compresses.held = subst (λ (s : Stage). Stands c.args.tree.now c.args.hand.now s) c.in-Compresses.is c.requires in
     let e = c.go_on-in-Compresses.ensures in let more = c.if-not-go_on-3.true in
     subst (λ (s : Stage). HasAdvanced c.args.events (known c.args.hand.now.seat) (known c.go_on-in-Compresses.new.hand.seat) s None (stage.Compresses c.go_on-in-Compresses.new.process c.go_on-in-Compresses.new.held)) (sym c.in-Compresses.is)
-    (still_so c.args.events _ _ (proc.Compress c.in-Compresses.process) (stage.Compresses c.in-Compresses.process c.in-Compresses.held) None (stage.Compresses c.go_on-in-Compresses.new.process c.go_on-in-Compresses.new.held) refl (e.turns more) (e.since more) (e.work more).1)
+    (still_so c.args.events _ _ (proc.Compress c.in-Compresses.process) (stage.Compresses c.in-Compresses.process c.in-Compresses.held) None (stage.Compresses c.go_on-in-Compresses.new.process c.go_on-in-Compresses.new.held) refl (e.yields more was.yields, e.turns more) (e.since more) (e.work more).1)
 
 pub returns-else-not-go_on-3-clause-answers : goal.returns-else-not-go_on-3-clause-answers
 returns-else-not-go_on-3-clause-answers c =
@@ -66,7 +67,7 @@ returns-then-not-go_on-4-clause-stands c =
     let was : CanGoOn c.args.tree.now c.args.hand.now (proc.Lower c.in-Lowers.process) c.in-Lowers.held = subst (λ (s : Stage). Stands c.args.tree.now c.args.hand.now s) c.in-Lowers.is c.requires in
     let e = c.go_on-in-Lowers.ensures in let more = c.if-not-go_on-4.true in
     let since = since_new c.args.hand.now c.go_on-in-Lowers.new.hand was.old e.same (e.since more c.args.hand.now.number was.old was.since) in
-    record { runs = (e.runs more).0; going = e.going more; reserved = (e.runs more).1; old = was.old; since = since }
+    record { runs = (e.runs more).0; going = e.going more; reserved = (e.runs more).1; old = was.old; since = since; yields = e.yields more was.yields }
 
 pub returns-then-not-go_on-4-clause-answers : goal.returns-then-not-go_on-4-clause-answers
 returns-then-not-go_on-4-clause-answers c =
