@@ -4,7 +4,7 @@ ghost use Rattle.std.specs.Prelude.{◌≡◌, ◌≤◌, IfOk, OnOk, MatchResul
 ghost use Rattle.std.specs.Io.KnownBytes.{Appends};
 ghost use Rattle.bl_image.specs.declared.fault.ImageFault.TheVariants.{Memory};
 
-use bl_image::{Image, ImageFault, read};
+use bl_image::{Image, ImageFault, image_length, read};
 use bl_model::Watched;
 use std::alloc::Global;
 use std::io;
@@ -126,6 +126,16 @@ fn an_image_is_written_as_it_was_read(rt: HostRuntime) -> Result<(), Fail> {
     let image = read(rt.alloc(), &opening(&[])).ok().ok_or("no image")?;
     let back = reread(rt.alloc(), &image).ok().ok_or("not read again")?;
     assert!(rt; back.pages.len() == 4);
+    Ok(())
+}
+
+#[test]
+fn an_image_is_spelled_into_an_array(rt: HostRuntime) -> Result<(), Fail> {
+    let image = read(rt.alloc(), &opening(&[])).ok().ok_or("no image")?;
+    assert!(rt; image.pages.len() == 4 && image_length(4) == 1056);
+    let mut bytes = [255; 1056];
+    image.spell(&mut bytes);
+    assert!(rt; bytes.as_slice() == opening(&[]).as_slice());
     Ok(())
 }
 
