@@ -22,7 +22,7 @@ const MORE: u64 = 64;
 
 /// The process goes on by so many events, and then by at most 64 more until it holds no page. Says whether it has ended. A write, and a
 /// compression that does not wait, hold none when they come back. A lowering holds the anchor while it tries the latch of the top page,
-/// and a post its parent while it walks to the child: these two come back with a page held where the 64 do not do.
+/// and a post its parent while it walks to the child: these two come back with a page held where 64 events are too few.
 pub fn go_on<P: Holder>(
     tree: &Tree,
     hand: &mut Hand<PassState>,

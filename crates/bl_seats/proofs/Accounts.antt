@@ -1,5 +1,5 @@
 -- What a hand has told after what was underway has gone on, and after each call.
-use Rattle.std.proofs.Common.{ℕ, ◌≡◌, ◌≢◌, ◌⊎◌, ◌+◌, length, ◌++◌, Option, Some, None, List, [], ◌∷◌, inl, inr, refl, sym, ap, ◌∙◌, subst}
+use Rattle.std.proofs.Common.{ℕ, ◌≡◌, ◌≢◌, ◌⊎◌, ◌++◌, Option, Some, None, List, [], ◌∷◌, inl, inr, refl, sym, ap, ◌∙◌, subst}
 use Rattle.bl_model.specs.declared.deciding.KeyWrite.{KeyWrite}
 use Rattle.bl_model.specs.declared.operation.Entry.{Entry}
 use Rattle.bl_model.specs.declared.operation.Op.{Op}
@@ -26,7 +26,6 @@ use Rattle.bl_proc.specs.Processes.{next_of, answer_of, Takes}
 use Rattle.bl_store.specs.declared.store.Hand.{Hand}
 use Rattle.bl_store.specs.Hands.{known}
 use Rattle.bl_index_rule.specs.declared.known.PassState.{PassState}
-use Rattle.bl_index_steps.specs.Held.{own_marks}
 use Rattle.bl_index_steps.specs.Runs.{IsSince, IsDone, IsSameProcess}
 use Rattle.bl_index_steps.specs.declared.tree.Tree.{Tree}
 use Rattle.bl_index_steps.proofs.Ends.{op_answered, op_beside, done_first, not_end_way, not_end}
@@ -40,7 +39,7 @@ use Rattle.bl_seats.proofs.CompressEnds.{IsCompressAnswer, compress_has_answer}
 use Rattle.bl_index.proofs.Lowerings.{lower_has_answer, lower_answered}
 use Rattle.bl_index_turns.specs.declared.stages.Stage.{Stage}
 use Rattle.bl_index_turns.specs.declared.stages.Stage.TheVariants as stage
-use Rattle.bl_index_turns.specs.Stages.{Stands, HasAdvanced, IsStill, EndsOrGoesOn, IsSameKind, IsSameWork, op_in}
+use Rattle.bl_index_turns.specs.Stages.{Stands, HasAdvanced, HasTurnedIn, IsStill, EndsOrGoesOn, IsSameKind, IsSameWork, op_in}
 use Rattle.bl_seats.specs.Seats.{IfOp, HasAnswered}
 use Rattle.bl_seats.specs.Accounts.{Account, account, told_in, HasGone}
 
@@ -209,11 +208,11 @@ module _ (events : ℕ) (tree : Tree) (hand hand' : Hand PassState) (num : hand'
 
   -- ---- how far it has gone
 
-  worked_or : (p : Proc) (s : Stage) (a : Option Answer) (s' : Stage) → EndsOrGoesOn events d e p s a s' → (s' ≡ stage.Rests) ⊎ (length (own_marks e) ≡ length (own_marks d) + events)
+  worked_or : (p : Proc) (s : Stage) (a : Option Answer) (s' : Stage) → EndsOrGoesOn events d e p s a s' → (s' ≡ stage.Rests) ⊎ HasTurnedIn events d e s'
   worked_or p s a s' (inl end) = inl end.rests
   worked_or p s a s' (inr still) = inr still.turns
 
-  pub worked_after : (s : Stage) (a : Option Answer) (s' : Stage) → HasAdvanced events d e s a s' → (s' ≡ stage.Rests) ⊎ (length (own_marks e) ≡ length (own_marks d) + events)
+  pub worked_after : (s : Stage) (a : Option Answer) (s' : Stage) → HasAdvanced events d e s a s' → (s' ≡ stage.Rests) ⊎ HasTurnedIn events d e s'
   worked_after stage.Rests a s' adv = inl adv.2
   worked_after (stage.Writes p held) a s' adv = worked_or _ _ a s' adv
   worked_after (stage.Posts p held) a s' adv = worked_or _ _ a s' adv

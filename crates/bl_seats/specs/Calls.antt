@@ -74,7 +74,7 @@ HasNoAnswer new = (mid : Hand PassState) × HasNotFound (arc_value new.index) ne
 abbrev pub HasToWait : Seat → Type 0
 HasToWait new = (new.stage ≢ stage.Rests) ⊎ (0 < new.upkeep.lacked)
 
--- What was underway has ended, or has gone on by 256 events.
+-- What was underway has ended, or has gone on by 256 events and a few more until it holds no page.
 abbrev pub HasCarriedOn : Seat → Seat → Type 0
 HasCarriedOn old new = HasWorked old.hand new.stage new.hand
 

@@ -1,5 +1,5 @@
 -- Who sits at an index, and what a seat's calls have answered.
-use Rattle.std.specs.Prelude.{◌≡◌, ◌≢◌, ◌⊎◌, ◌+◌, ℕ, length, Option, Some}
+use Rattle.std.specs.Prelude.{◌≡◌, ◌≢◌, ◌⊎◌, ℕ, Option, Some}
 use Rattle.bl_model.specs.declared.operation.Op.{Op}
 use Rattle.bl_model.specs.declared.operation.Op.TheVariants as op
 use Rattle.bl_model.specs.declared.operation.Reply.{Reply}
@@ -13,12 +13,11 @@ use Rattle.bl_store.specs.Hands.{known}
 use Rattle.bl_index_rule.specs.declared.known.PassState.{PassState}
 use Rattle.bl_index_read.specs.Searching.{RunsOut}
 use Rattle.bl_index_steps.specs.Answered.{Answers}
-use Rattle.bl_index_steps.specs.Held.{own_marks}
 use Rattle.bl_index.specs.declared.index.Index.{Index}
 use Rattle.bl_index.specs.Calls.{pages_of, Writes, Sweeps}
 use Rattle.bl_index_turns.specs.declared.stages.Stage.{Stage}
 use Rattle.bl_index_turns.specs.declared.stages.Stage.TheVariants as stage
-use Rattle.bl_index_turns.specs.Stages.{Stands}
+use Rattle.bl_index_turns.specs.Stages.{Stands, HasTurnedIn}
 
 -- the hand is one of the index's, and runs no process, or the one that it is about
 abbrev pub IsSeated : Index → Hand PassState → Stage → Type 0
@@ -55,9 +54,10 @@ HasNotFound index s old new = ((s ≢ stage.Rests) × (new ≡ old)) ⊎ HasRunO
 abbrev pub begun_in : Hand PassState → ℕ
 begun_in hand = (known hand.seat).number
 
--- The hand rests; or what was underway is so still, after 256 more events of it.
+-- The hand rests; or what was underway is so still, after 256 more events of it and at most 64 beside until it holds no page. A post or a
+-- lowering may hold one then, after all 64.
 abbrev pub HasWorked : Hand PassState → Stage → Hand PassState → Type 0
-HasWorked old s new = (s ≡ stage.Rests) ⊎ (length (own_marks (known new.seat)) ≡ length (own_marks (known old.seat)) + 256)
+HasWorked old s new = (s ≡ stage.Rests) ⊎ HasTurnedIn 256 (known old.seat) (known new.seat) s
 
 -- Of what was underway a write of a key has answered that, where it has ended. Of anything else nothing is said.
 abbrev pub IfOp : Hand PassState → Op → Option Answer → Type 0
