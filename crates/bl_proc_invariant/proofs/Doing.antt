@@ -266,13 +266,17 @@ module _ (ms : Trail) (m : Mark) where
         }
 
     single_on : (x : ℕ) (parent : Inner) (y : ℕ) → CompressArrives key x parent (compress.Staying y) → Leads (InnerPage parent) key level Here → m.event.act ≡ Get x → m.saw ≡ Some (InnerPage parent) → Since ms x [] → compress_log level key (compress.Staying y) more
-    single_on x parent y t l did saw h = once_now (inr (x, parent, record {
-      since = since_on (Get x ∷ []) (ap acts_in did) h;
-      got = got_last h.during m did saw;
-      level_is = l.2;
-      covers = l.1;
-      siblings = t.1;
-    }))
+    single_on x parent y t l did saw h = once_now (inr (
+      x,
+      parent,
+      record {
+        since = since_on (Get x ∷ []) (ap acts_in did) h;
+        got = got_last h.during m did saw;
+        level_is = l.2;
+        covers = l.1;
+        siblings = t.1;
+      },
+    ))
 
     module _ (least : 0 < level) where
       -- any step of a compression
