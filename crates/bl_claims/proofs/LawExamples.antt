@@ -1,6 +1,7 @@
 -- The laws on a small tree: an anchor, two leaves and their parent, with the keys 1 and 9 in the left leaf and the right.
 use Rattle.std.proofs.Common.{ℕ, ◌≤◌, ◌==◌, zero, suc, if◌then◌else◌, Some, None, [], ◌∷◌, arith, refl, inl}
-use Rattle.bl_claims.specs.Nodes.{Node, Look, Snapshot, unbounded}
+use Rattle.bl_model.specs.Map.{Map}
+use Rattle.bl_claims.specs.Nodes.{Node, Snapshot, unbounded}
 use Rattle.bl_claims.specs.Laws.{Agreement, Overlap, HasChain, IsListed}
 use Rattle.bl_claims.specs.Walks.{IsWalk, NoneTwice}
 use Rattle.bl_claims.specs.Walks.IsWalk.{Ends, Right, Down}
@@ -28,7 +29,7 @@ abbrev small_tree : Snapshot
 small_tree = record { live = in_tree; node = pages parent; roots = record { levels = 2; leftmost = λ l. if l == 0 then 1 else 3 }; middle = λ x y. ⊥; evened = λ c. ⊥ }
 
 -- the leaves say what a map with the keys 1 and 9 says, each of the keys that it covers
-abbrev two_rows : Look
+abbrev two_rows : Map
 two_rows k = if k == 1 then Some 10 else if k == 9 then Some 90 else None
 
 leaves_agree : Agreement small_tree two_rows

@@ -1,9 +1,10 @@
 -- The laws of the tree at one moment: what its pages have to do with the map, with one another and with their parents.
 use Rattle.std.specs.Prelude.{◌≡◌, ◌⊎◌, ℕ, suc, ◌<◌, Some, List, [], ◌∷◌}
-use Rattle.bl_claims.specs.Nodes.{Look, Covers, Snapshot, unbounded}
+use Rattle.bl_model.specs.Map.{Map}
+use Rattle.bl_claims.specs.Nodes.{Covers, Snapshot, unbounded}
 
 -- A live leaf that covers a key has the key's row exactly where the map has it.
-abbrev pub Agreement : Snapshot → Look → Type 0
+abbrev pub Agreement : Snapshot → Map → Type 0
 Agreement t map = (x k : ℕ) → t.live x → (t.node x).shape.level ≡ 0 → Covers (t.node x).shape k → (t.node x).look k ≡ map k
 
 -- Two live pages of one level cover a common key only in the middle of a compression of the two.

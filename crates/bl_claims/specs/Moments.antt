@@ -5,7 +5,8 @@ use Rattle.bl_model.specs.declared.operation.Reply.{Reply}
 use Rattle.bl_page.specs.declared.page.Page.{Page}
 use Rattle.bl_page.specs.Machine.{Name, Owner, State, Act}
 use Rattle.bl_page.specs.Machine.Owner.{Held}
-use Rattle.bl_claims.specs.Nodes.{Look, Snapshot, unbounded}
+use Rattle.bl_model.specs.Map.{Map}
+use Rattle.bl_claims.specs.Nodes.{Snapshot, unbounded}
 use Rattle.bl_claims.specs.Pages.{node_of, roots_of, IsTreePage}
 use Rattle.bl_claims.specs.Laws.{Agreement, Overlap, HasChain, Listing}
 use Rattle.bl_claims.specs.Walks.{HasLoneWalk}
@@ -86,7 +87,7 @@ snapshot_of s trail = record {
 
 -- The laws of the tree: its live leaves agree with the map, live pages overlap only in the middle of a compression, each level
 -- has its chain, children are listed as they are, and the lone walk of each key finds its leaf.
-pub record HasLaws (t : Snapshot) (map : Look) : Type 0 where
+pub record HasLaws (t : Snapshot) (map : Map) : Type 0 where
   pub agreement : Agreement t map
   pub overlap : Overlap t
   pub chains : (level : ℕ) → level < t.roots.levels → HasChain t level

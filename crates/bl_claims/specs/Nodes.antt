@@ -1,5 +1,6 @@
 -- What a page says of the tree. A leaf and an inner page are nodes of one kind, so that all levels have the same laws.
-use Rattle.std.specs.Prelude.{ℕ, ◌^◌, ◌<◌, ◌≤◌, Option}
+use Rattle.std.specs.Prelude.{ℕ, ◌^◌, ◌<◌, ◌≤◌}
+use Rattle.bl_model.specs.Map.{Map}
 
 -- the end of a page without an upper bound, above every key
 abbrev pub unbounded : ℕ
@@ -12,14 +13,11 @@ pub record Shape : Type 0 where
   pub end : ℕ
   pub right : ℕ
 
--- what is listed with each key: a value, or a child
-abbrev pub Look : Type 0
-Look = ℕ → Option ℕ
-
--- A page: on level 0 a leaf, which lists values; above it an inner page, which lists children one level lower.
+-- A page, with what it lists with each key: on level 0 a leaf, which lists values; above it an inner page, which lists children one
+-- level lower.
 pub record Node : Type 0 where
   pub shape : Shape
-  pub look : Look
+  pub look : Map
 
 abbrev pub Covers : Shape → ℕ → Type 0
 Covers s k = (s.low ≤ k) × (k < s.end)

@@ -1,19 +1,21 @@
 -- What an index begins with, as the page machine sees it: nothing but an empty leaf, or the pages of an image.
-use Rattle.std.specs.Prelude.{◌≡◌, ◌≢◌, ℕ, List, Option, None, Some}
+use Rattle.std.specs.Prelude.{◌≡◌, ◌≢◌, ℕ, List, [], ◌∷◌, Option, None, Some}
 use Rattle.bl_page.specs.declared.page.Page.{Page}
+use Rattle.bl_page.specs.declared.page.Page.TheVariants.{Anchor, Leaf}
+use Rattle.bl_page.specs.declared.page.Anchor.{Anchor as AnchorPage}
+use Rattle.bl_page.specs.declared.page.Leaf.{Leaf as LeafPage}
 use Rattle.bl_page.specs.Pages.{page_at}
 use Rattle.bl_page.specs.Machine.{Name, Owner, State}
 use Rattle.bl_page.specs.Machine.Owner.{Released}
 use Rattle.bl_page.specs.Machine.Phase.{Waiting}
-use Rattle.bl_claims.specs.Nodes.{Node, Roots, unbounded}
+use Rattle.bl_claims.specs.Nodes.{Node, Roots}
 use Rattle.bl_claims.specs.Pages.{node_of, roots_of}
 
 -- Page 0 names one level, whose only page is page 1, an empty leaf; the two are open, all others released. No process has
 -- begun.
 pub record Opening (now : State Page) : Type 0 where
-  pub levels : (roots_of (now.contents 0)).levels ≡ 1
-  pub leftmost : (roots_of (now.contents 0)).leftmost 0 ≡ 1
-  pub leaf : node_of (now.contents 1) ≡ record { shape = record { level = 0; low = 0; end = unbounded; right = 0 }; look = λ k. None }
+  pub anchor : (a : AnchorPage) × (now.contents 0 ≡ Anchor a) × (a.leftmost.items ≡ 1 ∷ [])
+  pub leaf : (l : LeafPage) × (now.contents 1 ≡ Leaf l) × (l.low ≡ 0) × (l.high ≡ 0) × (l.right ≡ 0) × (l.rows.items ≡ [])
   pub anchor_open : now.owner 0 ≡ Owner.Open
   pub leaf_open : now.owner 1 ≡ Owner.Open
   pub others : (x : ℕ) → x ≢ 0 → x ≢ 1 → now.owner x ≡ Released

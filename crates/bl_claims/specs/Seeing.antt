@@ -1,8 +1,8 @@
 -- What a pass has seen: all events up to its own last one, as a trail.
-use Rattle.std.specs.Prelude.{◌≡◌, ◌≢◌, ℕ, ◌<◌, ◌++◌, Option, Some, List, [], ◌∷◌, Contains}
+use Rattle.std.specs.Prelude.{◌≡◌, ◌≢◌, ℕ, ◌<◌, ◌++◌, Option, Some, List, [], ◌∷◌, Contains, filter, ◌==◌}
 use Rattle.bl_model.specs.Map.{Map}
 use Rattle.bl_model.specs.Rows.{map_of}
-use Rattle.bl_model.specs.History.{IsLegalFrom, entries_of_pass}
+use Rattle.bl_model.specs.History.{IsLegalFrom}
 use Rattle.bl_model.specs.declared.operation.Entry.{Entry}
 use Rattle.bl_model.specs.declared.operation.Reply.{Reply}
 use Rattle.bl_page.specs.declared.page.Page.{Page}
@@ -47,7 +47,7 @@ pub record IsSeen (first : List (Option Page)) (trail : Trail) : Type 0 where
 
 -- the entries of one pass
 abbrev pub own : ℕ → Trail → List Entry
-own pass trail = entries_of_pass pass (history_of trail)
+own pass trail = filter (λ (e : Entry). e.pass == pass) (history_of trail)
 
 -- the process of that pass that has that number
 abbrev pub name : ℕ → ℕ → Name
@@ -69,19 +69,12 @@ AreElse pass marks = Each (λ (m : Mark). m.event.process.pass ≢ pass) marks
 abbrev pub AreOnlyOf : Name → Trail → Type 0
 AreOnlyOf p marks = Each (λ (m : Mark). m.event.process.pass ≡ p.pass → m.event.process ≡ p) marks
 
--- The first that the pass of p does there is the begin of p.
-abbrev pub BeginsBy : Name → Trail → Type 0
-BeginsBy p marks = (before : Trail) × (first : Mark) × (rest : Trail) × (marks ≡ before ++ first ∷ rest) × (first.event ≡ record { process = p; act = Begin })
-    × AreElse p.pass before
-
--- The last event of all is the end of p, with that answer.
-abbrev pub EndsBy : Name → Option Reply → Trail → Type 0
-EndsBy p answer marks = (before : Trail) × (last : Mark) × (marks ≡ before ++ last ∷ []) × (last.event ≡ record { process = p; act = End answer })
-
--- In the new part of the trail no process of the pass of p acts but p, which begins there and ends with that answer.
+-- In the new part of the trail no process of the pass of p acts but p. The first that this pass does there is the begin of p, and the
+-- last event of all is the end of p, with that answer.
 pub record Holds (p : Name) (answer : Option Reply) (old new : Trail) : Type 0 where
   pub more : Trail
   pub begins : new ≡ old ++ more
-  pub alone : AreOnlyOf p more
-  pub first : BeginsBy p more
-  pub last : EndsBy p answer more
+  pub alone : Each (λ (m : Mark). m.event.process.pass ≡ p.pass → m.event.process ≡ p) more
+  pub first : (before : Trail) × (first : Mark) × (rest : Trail) × (more ≡ before ++ first ∷ rest) × (first.event ≡ record { process = p; act = Begin })
+      × Each (λ (m : Mark). m.event.process.pass ≢ p.pass) before
+  pub last : (before : Trail) × (last : Mark) × (more ≡ before ++ last ∷ []) × (last.event ≡ record { process = p; act = End answer })

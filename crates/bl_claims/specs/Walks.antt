@@ -1,9 +1,10 @@
 -- The lone walk of a key: the pages that a search would meet if nothing changed meanwhile.
 use Rattle.std.specs.Prelude.{◌≡◌, ◌≢◌, ℕ, suc, ◌<◌, ◌≤◌, Some, List, [], ◌∷◌}
-use Rattle.bl_claims.specs.Nodes.{Node, Look, Covers, Snapshot}
+use Rattle.bl_model.specs.Map.{Map}
+use Rattle.bl_claims.specs.Nodes.{Node, Covers, Snapshot}
 
 -- The child of a key: the one listed with the greatest key that is not above it.
-pub record IsChildOf (look : Look) (k c : ℕ) : Type 0 where
+pub record IsChildOf (look : Map) (k c : ℕ) : Type 0 where
   pub key : ℕ
   pub listed : look key ≡ Some c
   pub reached : key ≤ k

@@ -2,7 +2,7 @@
 use Rattle.std.proofs.Common.{ℕ, ◌≡◌, ◌≢◌, ◌++◌, ◌==◌, true, false, if◌then◌else◌, [], ◌∷◌, arith, refl}
 use Rattle.bl_page.specs.declared.page.Page.{Page}
 use Rattle.bl_page.specs.Machine.{Name, State, Steps, IsAt}
-use Rattle.bl_claims.specs.Nodes.{Look}
+use Rattle.bl_model.specs.Map.{Map}
 use Rattle.bl_core_tree.specs.Trees.{Status}
 use Rattle.bl_core_tree.specs.Moves.{IsAtTwo}
 use Rattle.bl_claims.specs.Trails.{Mark, same_name, Saw}
@@ -28,7 +28,7 @@ is_put_name p b f = record {
   others = λ q n. (let e : same_name q p ≡ false = not_same q p n in grind arith);
 }
 
-abbrev pub after : {P : Type 0} → World P → State Page → Mark → P → (ℕ → Status) → (ℕ → ℕ) → (ℕ → Look) → World P
+abbrev pub after : {P : Type 0} → World P → State Page → Mark → P → (ℕ → Status) → (ℕ → ℕ) → (ℕ → Map) → World P
 after w now m b status sep map = record {
   start = w.start;
   first = w.first;
@@ -41,7 +41,7 @@ after w now m b status sep map = record {
   map = map;
 }
 
-pub Extends-after : {P : Type 0} (w : World P) (now : State Page) (m : Mark) (b : P) (status : ℕ → Status) (sep : ℕ → ℕ) (map : ℕ → Look) → Steps w.now m.event now → Saw w.now m.event.act m.saw → Extends w (after w now m b status sep map) m b
+pub Extends-after : {P : Type 0} (w : World P) (now : State Page) (m : Mark) (b : P) (status : ℕ → Status) (sep : ℕ → ℕ) (map : ℕ → Map) → Steps w.now m.event now → Saw w.now m.event.act m.saw → Extends w (after w now m b status sep map) m b
 Extends-after w now m b status sep map steps saw = record {
   start = refl;
   first = refl;

@@ -3,11 +3,11 @@ use Rattle.std.proofs.Common.{ℕ, ◌≡◌, ◌≢◌, ◌≤◌, ◌++◌, Op
 use Rattle.std.proofs.Math.Path.{fun_ext}
 use Rattle.bl_model.specs.declared.operation.Reply.{Reply}
 use Rattle.bl_model.specs.declared.operation.Entry.{Entry}
-use Rattle.bl_model.specs.Map.{Map, MayAnswer, map_step}
+use Rattle.bl_model.specs.Map.{Map, MayAnswer, map_step, SameMap}
 use Rattle.bl_model.specs.History.{IsLegalFrom, final_map}
 use Rattle.bl_model.proofs.Histories.{final_map-push, legal_push}
 use Rattle.bl_page.specs.declared.page.Page.{Page}
-use Rattle.bl_page.specs.Machine.{Name, State, Act, Changes, SamePhases}
+use Rattle.bl_page.specs.Machine.{Name, State, Act, Changes}
 use Rattle.bl_page.specs.Machine.Act.{Begin, End, Get, Put, Take, Latch, Retire, Look, Release, Miss}
 use Rattle.bl_page.specs.Machine.Phase.{Waiting, Running, Ended}
 use Rattle.bl_claims.specs.Trails.{Said, Mark, entries_at, history_of, Answered, IsPhase}
@@ -18,7 +18,7 @@ use Rattle.bl_core.proofs.Pushes.{name_cases, MaySay, IsMarked-push, LeadsOn-pus
 abbrev pub IsInner : Act Page Reply → Type 0
 IsInner a = (a ≢ Begin) × ((answer : Option Reply) → a ≢ End answer)
 
-pub same_phases : (s s' : State Page) (p : Name) (a : Act Page Reply) → IsInner a → Changes s p a s' → SamePhases s s'
+pub same_phases : (s s' : State Page) (p : Name) (a : Act Page Reply) → IsInner a → Changes s p a s' → SameMap s.phase s'.phase
 same_phases s s' p Begin i c = absurd (i.0 refl)
 same_phases s s' p (End answer) i c = absurd (i.1 answer refl)
 same_phases s s' p (Get x) i c = c.2

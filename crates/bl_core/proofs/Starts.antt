@@ -1,9 +1,11 @@
 -- A world in which nothing has happened is good.
-use Rattle.std.proofs.Common.{true, false, ℕ, ◌≡◌, ◌≢◌, ◌⊎◌, [], sym, ◌∙◌, inl, inr, ◌<◌, ◌==◌, Bool, Some, None, arith, ap, refl}
+use Rattle.std.proofs.Common.{true, false, ℕ, ◌≡◌, ◌≢◌, ◌⊎◌, [], sym, ◌∙◌, inl, inr, ◌<◌, ◌==◌, Bool, Some, None, length, get_or, arith, ap, refl}
 use Rattle.bl_model.specs.declared.operation.Reply.{Reply}
 use Rattle.bl_page.specs.Machine.{Name, Act, Owner, State}
 use Rattle.bl_page.specs.Machine.Owner.{Released}
 use Rattle.bl_page.specs.Machine.Phase.{Waiting}
+use Rattle.bl_model.specs.Rows.{map_of}
+use Rattle.bl_page.specs.Pairs.{end_of}
 use Rattle.bl_claims.specs.Nodes.{Node, Roots, unbounded}
 use Rattle.bl_core_tree.specs.Trees.{Status}
 use Rattle.bl_core_tree.specs.Trees.Status.{Free, Fresh, Live, Right, Uprooted, Gone, Anchored}
@@ -13,7 +15,7 @@ use Rattle.bl_page.specs.declared.page.Page.{Page}
 use Rattle.std.proofs.lemmas.Bool.{cases_eq, cases_lt}
 use Rattle.std.proofs.lemmas.Bool.Decides.{nat_tests}
 use Rattle.bl_claims.specs.Pages.{node_of, roots_of}
-use Rattle.bl_core_tree.proofs.Opening.{opens}
+use Rattle.bl_core_tree.proofs.Opening.{empty_leaf, opens}
 use Rattle.bl_core_tree.specs.Starts.{AreSound, start_map}
 use Rattle.bl_core_tree.proofs.SoundStarts.{start_status, start_live, sound_tree, bool_cases}
 use Rattle.bl_core.specs.Blank.{IsBlank, IsStart}
@@ -98,6 +100,17 @@ opening_world now size proc = record {
   map = λ l k. None;
 }
 
+-- its tree, by the fields of its pages
+opening_leaf : (now : State Page) → Opening now → node_of (now.contents 1) ≡ empty_leaf
+opening_leaf now o =
+    let l = o.leaf in
+    ap node_of l.1 ∙ (λ i. record { shape = record { level = 0; low = l.2 i; end = end_of (l.3 i); right = l.4 i }; look = map_of (l.5 i) })
+
+opening_roots : (now : State Page) → Opening now → ((roots_of (now.contents 0)).levels ≡ 1) × ((roots_of (now.contents 0)).leftmost 0 ≡ 1)
+opening_roots now o =
+    let a = o.anchor in
+    (ap (λ c. (roots_of c).levels) a.1 ∙ ap length a.2, ap (λ c. (roots_of c).leftmost 0) a.1 ∙ ap (λ z. get_or z 0 0) a.2)
+
 pub opening_good : {P : Type 0} (know : P → Know) (now : State Page) (size : ℕ) (proc : Name → P) → 1 < size → Opening now → ((p : Name) → IsBlank (know (proc p))) → IsGood know (opening_world now size proc)
 opening_good know now size proc wide o blank =
     let live : ℕ → Bool = λ x. x == 1 in
@@ -106,7 +119,7 @@ opening_good know now size proc wide o blank =
       start = refl;
       trail = refl;
       waiting = o.waiting;
-      tree = opens (λ x. node_of (now.contents x)) (roots_of (now.contents 0)) o.leaf o.levels o.leftmost;
+      tree = opens (λ x. node_of (now.contents x)) (roots_of (now.contents 0)) (opening_leaf now o) (opening_roots now o).0 (opening_roots now o).1;
       map = λ k. refl;
       bounded = λ k v h. absurd (let e : None ≡ Some v = h in cc);
       owned = λ x. elim (cases_eq x 0) [

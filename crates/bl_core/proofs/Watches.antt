@@ -2,7 +2,8 @@
 use Rattle.std.proofs.Common.{ℕ, ◌≡◌, ◌≢◌, ◌++◌, Some, None, [], ◌∷◌, arith, ap, sym, ◌∙◌, inl, inr}
 use Rattle.bl_model.specs.declared.operation.Reply.{Reply}
 use Rattle.bl_page.specs.declared.page.Page.{Page}
-use Rattle.bl_page.specs.Machine.{Name, State, Act, Changes, SameContents, SameOwners}
+use Rattle.bl_model.specs.Map.{SameMap}
+use Rattle.bl_page.specs.Machine.{Name, State, Act, Changes}
 use Rattle.bl_page.specs.Machine.Owner.{Held}
 use Rattle.bl_page.specs.Machine.Phase.{Running}
 use Rattle.bl_page.specs.Machine.Act.{Begin, End, Get, Put, Take, Latch, Retire, Look, Release, Miss}
@@ -84,7 +85,7 @@ watch_inner (Release x) h = absurd h
 watch_inner (Miss what) h = (λ e. cc, λ a e. cc)
 
 -- it changes nothing, and is no take, latch or put
-watch_same : (s s' : State Page) (p : Name) (a : Act Page Reply) → IsWatch a → Changes s p a s' → SameContents s s' × SameOwners s s' × ((y : ℕ) → (a ≢ Take y) × (a ≢ Latch y)) × ((y : ℕ) (c : Page) → a ≢ Put y c)
+watch_same : (s s' : State Page) (p : Name) (a : Act Page Reply) → IsWatch a → Changes s p a s' → SameMap s.contents s'.contents × SameMap s.owner s'.owner × ((y : ℕ) → (a ≢ Take y) × (a ≢ Latch y)) × ((y : ℕ) (c : Page) → a ≢ Put y c)
 watch_same s s' p Begin h c = absurd h
 watch_same s s' p (End a) h c = absurd h
 watch_same s s' p (Get x) h c = (c.0, c.1, λ y. (λ e. cc, λ e. cc), λ y d e. cc)

@@ -9,7 +9,7 @@ use Rattle.bl_page.specs.declared.page.Page.{Page}
 use Rattle.bl_page.specs.Machine.{Name, Owner, Phase, State, Act, IsAt, Steps}
 use Rattle.bl_page.specs.Machine.Owner.{Released, Held, Retired}
 use Rattle.bl_page.specs.Machine.Phase.{Waiting, Running, Ended}
-use Rattle.bl_claims.specs.Nodes.{Node, Look, Covers, unbounded}
+use Rattle.bl_claims.specs.Nodes.{Node, Covers, unbounded}
 use Rattle.bl_claims.specs.Walks.{Each}
 use Rattle.bl_core_tree.specs.Trees.{Status, IsLive, Tree, IsTree}
 use Rattle.bl_core_tree.specs.Trees.Status.{Free, Fresh, Live, Left, Right, Uprooted, Gone, Anchored}
@@ -80,7 +80,7 @@ pub record World (P : Type 0) : Type 0 where
   pub proc : Name → P
   pub status : ℕ → Status
   pub sep : ℕ → ℕ
-  pub map : ℕ → Look
+  pub map : ℕ → Map
 
 abbrev pub nodes : State Page → ℕ → Node
 nodes s x = node_of (s.contents x)
@@ -232,10 +232,6 @@ MapsTo m m' (Some said) = MayAnswer m said.op said.reply × ((k : ℕ) → m' k 
 -- an event at which nothing is seen and nothing said
 abbrev pub silent : Name → Act Page Reply → Mark
 silent p act = record { event = record { process = p; act = act }; saw = None; said = None }
-
--- a get, which sees the page, and at which an operation may have its point
-abbrev pub get_mark : Name → ℕ → Page → Option Said → Mark
-get_mark p x c said = record { event = record { process = p; act = Act.Get x }; saw = Some c; said = said }
 
 -- a put, at which an operation may have its point
 abbrev pub put_mark : Name → ℕ → Page → Option Said → Mark

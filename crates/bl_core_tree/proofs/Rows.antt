@@ -1,28 +1,29 @@
 -- A row of one page changes.
 use Rattle.std.proofs.Common.{ℕ, ◌≡◌, ◌≢◌, ◌≤◌, Option, Some, suc, arith, ap, sym, ◌∙◌, inl, inr}
 use Rattle.std.proofs.lemmas.Bool.{cases_eq}
-use Rattle.bl_claims.specs.Nodes.{Node, Look, Covers}
+use Rattle.bl_model.specs.Map.{Map}
+use Rattle.bl_claims.specs.Nodes.{Node, Covers}
 use Rattle.bl_core_tree.specs.Trees.{IsLive, Tree, IsChild, HasUprooted, IsTree}
 use Rattle.bl_core_tree.specs.Trees.Status.{Live}
 use Rattle.bl_core_tree.specs.Moves.{IsMapRow, MayList, ChangesRow}
 use Rattle.bl_core_tree.proofs.Statuses.{live_live, same_shapes, same_leftmost, not_here}
 
 -- another page says what its level says, when a row of x has changed
-pub row_others : {top : ℕ} {t : Tree} {v : Option ℕ} {map : ℕ → Look} (x z k j : ℕ) → IsTree top t → t.status x ≡ Live → Covers (t.node x).shape k → IsMapRow (t.node x).shape.level k v t.map map → IsLive (t.status z) → Covers (t.node z).shape j → z ≢ x → (t.node z).look j ≡ map (t.node z).shape.level j
+pub row_others : {top : ℕ} {t : Tree} {v : Option ℕ} {map : ℕ → Map} (x z k j : ℕ) → IsTree top t → t.status x ≡ Live → Covers (t.node x).shape k → IsMapRow (t.node x).shape.level k v t.map map → IsLive (t.status z) → Covers (t.node z).shape j → z ≢ x → (t.node z).look j ≡ map (t.node z).shape.level j
 row_others {t = t} x z k j g s c m h d zx = g.agree z j h d ∙ sym (elim (cases_eq (t.node z).shape.level (t.node x).shape.level) [
   | inl level ↦ rw level (m.rest j (not_here x z k j g.side s h level c d zx))
   | inr level ↦ ap (λ f. f j) (m.others _ level)
 ])
 
 -- the page itself
-pub row_here : {l k : ℕ} {v w : Option ℕ} {m map : ℕ → Look} (j : ℕ) → IsMapRow l k v m map → (j ≡ k → w ≡ v) → (j ≢ k → w ≡ m l j) → w ≡ map l j
+pub row_here : {l k : ℕ} {v w : Option ℕ} {m map : ℕ → Map} (j : ℕ) → IsMapRow l k v m map → (j ≡ k → w ≡ v) → (j ≢ k → w ≡ m l j) → w ≡ map l j
 row_here {k = k} j m here rest = elim (cases_eq j k) [
   | inl jk ↦ here jk ∙ rw jk (sym m.here)
   | inr jk ↦ rest jk ∙ sym (m.rest j jk)
 ]
 
 -- what is listed then
-pub row_listed : {top : ℕ} {t : Tree} {level k : ℕ} {v : Option ℕ} {map : ℕ → Look} → IsTree top t → IsMapRow level k v t.map map → MayList t level k v → (l j c : ℕ) → map (suc l) j ≡ Some c → IsChild t l j c
+pub row_listed : {top : ℕ} {t : Tree} {level k : ℕ} {v : Option ℕ} {map : ℕ → Map} → IsTree top t → IsMapRow level k v t.map map → MayList t level k v → (l j c : ℕ) → map (suc l) j ≡ Some c → IsChild t l j c
 row_listed {level = level} {k = k} g m child l j c h = elim (cases_eq (suc l) level) [
   | inl same ↦ elim (cases_eq j k) [
     | inl jk ↦ rw jk (child l c same (sym m.here ∙ rw (same, jk) at h))
@@ -32,7 +33,7 @@ row_listed {level = level} {k = k} g m child l j c h = elim (cases_eq (suc l) le
 ]
 
 -- the levels that page 0 has not say what they said
-pub row_empty : {top : ℕ} {t : Tree} {v : Option ℕ} {map : ℕ → Look} (x k : ℕ) → IsTree top t → t.status x ≡ Live → IsMapRow (t.node x).shape.level k v t.map map → (l j c : ℕ) → t.roots.levels ≤ l → map l j ≡ Some c → HasUprooted t l
+pub row_empty : {top : ℕ} {t : Tree} {v : Option ℕ} {map : ℕ → Map} (x k : ℕ) → IsTree top t → t.status x ≡ Live → IsMapRow (t.node x).shape.level k v t.map map → (l j c : ℕ) → t.roots.levels ≤ l → map l j ≡ Some c → HasUprooted t l
 row_empty {t = t} x k g s m l j c h e =
     let under = g.below x (rw s live_live) (λ i. cc) in
     g.empty l j c h (ap (λ f. f j) (sym (m.others l (λ i. absurd (omega arith)))) ∙ e)

@@ -1,7 +1,8 @@
 -- The lone walk of each key ends at the live leaf that covers it, and meets no page twice.
 use Rattle.std.proofs.Common.{length, ◌==◌, if◌then◌else◌, ℕ, ◌≡◌, ◌≢◌, ◌⊎◌, ◌≤◌, ◌<◌, ◌+◌, ◌-◌, Option, Some, None, zero, suc, List, [], ◌∷◌, arith, ap, sym, ◌∙◌, refl, inl, inr}
 use Rattle.std.proofs.lemmas.Bool.{cases_eq, cases_lt}
-use Rattle.bl_claims.specs.Nodes.{Node, Look, Covers, Snapshot, unbounded}
+use Rattle.bl_model.specs.Map.{Map}
+use Rattle.bl_claims.specs.Nodes.{Node, Covers, Snapshot, unbounded}
 use Rattle.bl_claims.specs.Walks.{Each, IsChildOf, IsWalk, IsNoneOf, NoneTwice, HasLoneWalk}
 use Rattle.bl_claims.specs.Walks.IsWalk.{Ends, Right, Down}
 use Rattle.bl_core_tree.specs.Trees.{Tree, IsTree}
@@ -13,12 +14,12 @@ some_or_none (Some c) = inl (c, refl)
 some_or_none None = inr refl
 
 -- a key has a child where some key that is not above it is listed
-pub record HasChild (look : Look) (low k : ℕ) : Type 0 where
+pub record HasChild (look : Map) (low k : ℕ) : Type 0 where
   pub child : ℕ
   pub of : IsChildOf look k child
   pub above : low ≤ of.key
 
-pub has_child : (look : Look) (low c : ℕ) → look low ≡ Some c → (n k : ℕ) → k ≡ low + n → HasChild look low k
+pub has_child : (look : Map) (low c : ℕ) → look low ≡ Some c → (n k : ℕ) → k ≡ low + n → HasChild look low k
 has_child look low c h zero k e = record { child = c; of = record { key = low; listed = h; reached = omega arith; greatest = λ j o f le. omega arith }; above = omega arith }
 has_child look low c h (suc n) k e = elim (some_or_none (look k)) [
   | inl s ↦ record { child = s.0; of = record { key = k; listed = s.1; reached = omega arith; greatest = λ j o f le. le }; above = omega arith }

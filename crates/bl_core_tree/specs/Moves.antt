@@ -2,7 +2,8 @@
 -- A move says what page gets which contents, where pages then stand, and what the levels then say at each key.
 use Rattle.std.specs.Prelude.{◌≡◌, ◌≢◌, ℕ, suc, ◌<◌, ◌≤◌, false, Option, Some, None}
 use Rattle.bl_page.specs.Machine.{IsAt}
-use Rattle.bl_claims.specs.Nodes.{Node, Look, Covers}
+use Rattle.bl_model.specs.Map.{Map}
+use Rattle.bl_claims.specs.Nodes.{Node, Covers}
 use Rattle.bl_core_tree.specs.Trees.{is_live, Tree, IsChild}
 use Rattle.bl_core_tree.specs.Trees.Status.{Fresh, Live, Left, Right, Uprooted, Gone}
 
@@ -13,7 +14,7 @@ pub record IsAtTwo {A : Type 0} (x y : ℕ) (a b : A) (old new : ℕ → A) : Ty
   pub others : (z : ℕ) → z ≢ x → z ≢ y → new z ≡ old z
 
 -- one level's map is changed at k
-pub record IsMapRow (l k : ℕ) (v : Option ℕ) (m m' : ℕ → Look) : Type 0 where
+pub record IsMapRow (l k : ℕ) (v : Option ℕ) (m m' : ℕ → Map) : Type 0 where
   pub here : m' l k ≡ v
   pub rest : (j : ℕ) → j ≢ k → m' l j ≡ m l j
   pub others : (i : ℕ) → i ≢ l → m' i ≡ m i

@@ -1,6 +1,7 @@
 -- Sound pages: what holds of a tree's pages when nothing is under way, so that work may begin.
 use Rattle.std.specs.Prelude.{◌≡◌, ℕ, zero, suc, ◌<◌, ◌≤◌, nat_lt, if◌then◌else◌, Bool, false, IsTrue, Some, None}
-use Rattle.bl_claims.specs.Nodes.{Node, Look, Roots, unbounded}
+use Rattle.bl_model.specs.Map.{Map}
+use Rattle.bl_claims.specs.Nodes.{Node, Roots, unbounded}
 
 -- y is reached from x by right links
 pub data IsReached (node : ℕ → Node) : ℕ → ℕ → Type 0 where
@@ -32,6 +33,6 @@ found node (suc n) x k = if nat_lt k (node x).shape.end then x else found node n
 
 -- What a level of sound pages lists with a key: what the page of that level says that covers it. Each bound is above the one
 -- before, so k + 1 links lead past k. There is nothing above the last level, nor with numbers that are no keys.
-abbrev pub start_map : (ℕ → Node) → Roots → ℕ → Look
+abbrev pub start_map : (ℕ → Node) → Roots → ℕ → Map
 start_map node roots l k =
     if nat_lt l roots.levels then (if nat_lt k unbounded then (node (found node (suc k) (roots.leftmost l) k)).look k else None) else None

@@ -1,7 +1,8 @@
 -- The invariant of the tree: facts about one page, or a page and its neighbour, that every move keeps.
 -- It speaks of more than the pages say: where each page stands, and the key that it is listed by.
 use Rattle.std.specs.Prelude.{◌≡◌, ◌≢◌, ℕ, suc, ◌<◌, ◌≤◌, Bool, true, false, Some}
-use Rattle.bl_claims.specs.Nodes.{Shape, Node, Look, Covers, Roots}
+use Rattle.bl_model.specs.Map.{Map}
+use Rattle.bl_claims.specs.Nodes.{Shape, Node, Covers, Roots}
 
 -- Where a page stands: it is free, taken and not yet named by any page, in the tree, or dead and not yet released. While
 -- two neighbours are compressed, the left one is Left of the right one, which is Right of it. Uprooted is a top page that
@@ -52,7 +53,7 @@ pub record Tree : Type 0 where
   pub roots : Roots
   pub status : ℕ → Status
   pub sep : ℕ → ℕ
-  pub map : ℕ → Look
+  pub map : ℕ → Map
 
 abbrev pub shapes : (ℕ → Node) → ℕ → Shape
 shapes node x = (node x).shape

@@ -1,30 +1,37 @@
 -- What is told of a write of one key.
-use Rattle.std.proofs.Common.{ℕ, ◌≡◌, Option, List, Some, None, true, false, refl, sym, ap, ◌∙◌, subst, inl, inr, arith}
+use Rattle.std.proofs.Common.{ℕ, ◌≡◌, ◌++◌, Option, List, Some, None, true, false, refl, sym, ap, ◌∙◌, subst, inl, inr, arith}
 use Rattle.std.specs.Prelude.{◌==◌}
 use Rattle.std.proofs.lemmas.Bool.{cases_eq}
 use Rattle.bl_model.specs.declared.deciding.KeyWrite.{KeyWrite}
 use Rattle.bl_model.specs.declared.deciding.KeyWrite.TheVariants.{Insert, Delete, Change}
+use Rattle.bl_model.specs.declared.operation.Op.TheVariants as op
 use Rattle.bl_model.specs.declared.operation.Reply.{Reply}
 use Rattle.bl_model.specs.declared.operation.Reply.TheVariants as reply
-use Rattle.bl_model.specs.declared.deciding.Effect.{Effect}
-use Rattle.bl_model.specs.declared.deciding.Effect.TheVariants.{Keep, Enter, Remove, Replace}
-use Rattle.bl_model.specs.Writes.{decided, effect_of, replied}
+use Rattle.bl_model.specs.declared.deciding.Effect.TheVariants.{Keep, Replace}
+use Rattle.bl_model.specs.Writes.{decided, replied}
 use Rattle.bl_page.specs.declared.page.Page.{Page}
-use Rattle.bl_claims.specs.Trails.{Trail}
+use Rattle.bl_model.specs.Map.{Map, MayAnswer}
+use Rattle.bl_model.specs.History.{final_map}
+use Rattle.bl_claims.specs.Trails.{Trail, history_of}
+use Rattle.bl_claims.specs.Seeing.{first_map}
 use Rattle.bl_proc_base.specs.declared.answers.Answer.TheVariants.{Op}
 use Rattle.bl_proc_base.specs.declared.answers.Hint.{Hint}
 use Rattle.bl_proc.specs.declared.writing.WriteReply.{WriteReply}
 use Rattle.bl_proc.specs.declared.writing.WriteReply.TheVariants as written
 use Rattle.bl_proc.specs.Writes.{write_answer}
-use Rattle.bl_proc_meanings.specs.Hinted.{MeansWritten}
+use Rattle.bl_proc_meanings.specs.Hinted.{MeansInserted, MeansWritten}
 use Rattle.bl_store.specs.Hands.{known, WasRefused}
-use Rattle.bl_index_steps.specs.Refused.{LacksForPage, LacksForEffect}
-use Rattle.bl_index_steps.specs.Held.{own_marks}
+use Rattle.bl_store.specs.declared.store.Hand.{Hand}
+use Rattle.bl_index_rule.specs.declared.known.PassState.{PassState}
+use Rattle.bl_index_steps.specs.Answered.{InCall}
+use Rattle.bl_index_steps.specs.Refused.{LacksForPage, LacksForEffect, LacksForWrite}
 use Rattle.bl_index_steps.specs.Rooms.{LacksWrite}
 use Rattle.bl_index_steps.proofs.Ends.{op_in_call}
 use Rattle.bl_index_write.specs.Events.{HasWritten}
 use Rattle.bl_index.specs.declared.index.Pass.{Pass}
-use Rattle.bl_index.specs.Calls.{number_of, MetNoRoom, InsertLacks, EffectLacks, WriteLacks}
+use Rattle.bl_index.specs.Calls.{number_of, trail, Writes, Inserts, InsertLacks, WriteLacks}
+use Rattle.bl_index.proofs.Scanned.{answered}
+use Rattle.bl_index.proofs.PartByPart.{history_append}
 
 same_reply : (a b : Reply) (h i : Option Hint) → Op a h ≡ Op b i → a ≡ b
 same_reply a b h i e = cc
@@ -45,28 +52,48 @@ change_unhinted does old new (written.Done there h) said hint marks is e means =
     unhinted_reply old new there hint marks (subst (λ z. MeansWritten z hint marks) (sym (same_reply _ _ _ _ e) ∙ ap (λ z. replied z there) is) means)
 change_unhinted does old new written.NoRoom said hint marks is e means = sym (same_hint _ _ _ _ e)
 
--- what a call lacks that found no room
-effect_lacks : (first : List (Option Page)) (old new : Pass) (key : ℕ) (does : KeyWrite) (hint : Option Hint) (effect : Effect) → HasWritten (number_of old) (known old.hand.seat) (known new.hand.seat) key does (Op reply.NoRoom hint) → (known old.hand.seat).first ≡ first → LacksForEffect effect key (own_marks (known new.hand.seat)) (WasRefused new.hand.seat) → EffectLacks effect old key new
-effect_lacks first old new key does hint Keep wrote is lacks = absurd lacks
-effect_lacks first old new key does hint (Enter value) wrote is lacks = op_in_call first _ _ (known new.hand.seat) _ _ _ _ _ (λ marks. LacksForPage 0 key marks (WasRefused new.hand.seat)) wrote.done is refl (ap Some wrote.answer) lacks
-effect_lacks first old new key does hint Remove wrote is lacks = lacks
-effect_lacks first old new key does hint (Replace value) wrote is lacks = lacks
+-- an insertion has no other reply than Inserted with which anything is written
+inserted_means : (m : Map) (key value : ℕ) (said : Reply) (hint : Option Hint) (marks : Trail) → MayAnswer m (op.Insert key value) said → MeansWritten said hint marks → MeansInserted said hint marks
+inserted_means m key value (reply.Deleted there) hint marks may means = absurd may
+inserted_means m key value reply.Changed hint marks may means = absurd may
+inserted_means m key value other hint marks may means = means
 
-pub write_lacks : (first : List (Option Page)) (old new : Pass) (key : ℕ) (does : KeyWrite) (hint : Option Hint) → HasWritten (number_of old) (known old.hand.seat) (known new.hand.seat) key does (Op reply.NoRoom hint) → (known old.hand.seat).first ≡ first → LacksWrite key does new.hand.seat → WriteLacks old key does new
-write_lacks first old new key does hint wrote is (there, lacks) = (there, effect_lacks first old new key does hint (effect_of does there) wrote is lacks)
+pub inserts : (first : List (Option Page)) (pass key value : ℕ) (said : Reply) (next : Option Hint) (old new : Trail) → Writes first pass (op.Insert key value) said next old new → Inserts first pass key value said next old new
+inserts first pass key value said next old new w =
+    let more : Trail = w.answers.holds.more in
+    let there = answered (first_map first) pass (record { pass = pass; op = op.Insert key value; reply = said }) (history_of old) (history_of more) (history_of new) (ap history_of w.answers.holds.begins ∙ history_append old more) w.answers.seen.legal w.answers.once in
+    record {
+      answers = w.answers;
+      hint = inserted_means (final_map (first_map first) (history_of old ++ there.before)) key value said next _ there.may w.hint;
+      latches = w.latches;
+    }
+
+-- what a call lacks that found no room
+pub write_lacks : (first : List (Option Page)) (old : Pass) (new : Hand PassState) (key : ℕ) (does : KeyWrite) (hint : Option Hint) → HasWritten (number_of old) (known old.hand.seat) (known new.seat) key does (Op reply.NoRoom hint) → (known old.hand.seat).first ≡ first → LacksWrite key does new.seat → InCall (number_of old) (Some reply.NoRoom) (trail old) (known new.seat).trail (λ marks. LacksForWrite key does marks (WasRefused new.seat))
+write_lacks first old new key does hint wrote is lacks = op_in_call first _ _ (known new.seat) _ _ _ _ _ (λ marks. LacksForWrite key does marks (WasRefused new.seat)) wrote.done is refl (ap Some wrote.answer) lacks
 
 -- an insertion enters a pair; a deletion and a change put a leaf again
+module _ (key : ℕ) (marks : Trail) (Refused : ℕ → ℕ → Type 0) where
+  for_insert : (value : ℕ) → LacksForWrite key (Insert value) marks Refused → LacksForPage 0 key marks Refused
+  for_insert value (None, lacks) = lacks
+  for_insert value (Some there, lacks) = absurd lacks
+
+  for_delete : LacksForWrite key Delete marks Refused → Refused 0 1
+  for_delete (None, lacks) = absurd lacks
+  for_delete (Some there, lacks) = lacks
+
+  for_change : (was next : ℕ) → LacksForWrite key (Change was next) marks Refused → Refused 0 1
+  for_change was next (None, lacks) = absurd lacks
+  for_change was next (Some there, lacks) = elim (cases_eq there was) [
+    | inl same ↦ (let e : (there == was) ≡ true = grind arith in subst (λ z. LacksForEffect z key marks Refused) (let f : (decided (Change was next) (Some there)).effect ≡ Replace next = rw e refl in f) lacks)
+    | inr other ↦ (let e : (there == was) ≡ false = grind (arith, other) in absurd (subst (λ z. LacksForEffect z key marks Refused) (let f : (decided (Change was next) (Some there)).effect ≡ Keep = rw e refl in f) lacks))
+  ]
+
 pub insert_lacks : (old new : Pass) (key value : ℕ) → WriteLacks old key (Insert value) new → InsertLacks old key new
-insert_lacks old new key value (None, lacks) = lacks
-insert_lacks old new key value (Some there, lacks) = absurd lacks
+insert_lacks old new key value lacks = record { number = lacks.number; holds = lacks.holds; is = for_insert key _ _ value lacks.is }
 
-pub delete_lacks : (old new : Pass) (key : ℕ) → WriteLacks old key Delete new → MetNoRoom new 0 1
-delete_lacks old new key (None, lacks) = absurd lacks
-delete_lacks old new key (Some there, lacks) = lacks
+pub delete_lacks : (old new : Pass) (key : ℕ) → WriteLacks old key Delete new → WasRefused new.hand.seat 0 1
+delete_lacks old new key lacks = for_delete key _ (WasRefused new.hand.seat) lacks.is
 
-pub change_lacks : (old new : Pass) (key was next : ℕ) → WriteLacks old key (Change was next) new → MetNoRoom new 0 1
-change_lacks old new key was next (None, lacks) = absurd lacks
-change_lacks old new key was next (Some there, lacks) = elim (cases_eq there was) [
-  | inl same ↦ (let e : (there == was) ≡ true = grind arith in subst (λ z. EffectLacks z old key new) (let f : (decided (Change was next) (Some there)).effect ≡ Replace next = rw e refl in f) lacks)
-  | inr other ↦ (let e : (there == was) ≡ false = grind (arith, other) in absurd (subst (λ z. EffectLacks z old key new) (let f : (decided (Change was next) (Some there)).effect ≡ Keep = rw e refl in f) lacks))
-]
+pub change_lacks : (old new : Pass) (key was next : ℕ) → WriteLacks old key (Change was next) new → WasRefused new.hand.seat 0 1
+change_lacks old new key was next lacks = for_change key _ (WasRefused new.hand.seat) was next lacks.is

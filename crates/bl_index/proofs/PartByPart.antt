@@ -7,7 +7,6 @@ use Rattle.std.proofs.lemmas.List.Elements.{All-nil}
 use Rattle.bl_model.specs.declared.operation.Entry.{Entry}
 use Rattle.bl_model.specs.declared.operation.Op.TheVariants.{Part as OpPart}
 use Rattle.bl_model.specs.declared.operation.Reply.{Reply}
-use Rattle.bl_model.specs.declared.operation.Reply.TheVariants.{Rows}
 use Rattle.bl_model.specs.Map.{Map, MayAnswer}
 use Rattle.bl_claims.specs.Trails.{Trail, history_of, entries_at}
 use Rattle.bl_page.specs.declared.page.Page.{Page}
@@ -26,9 +25,9 @@ use Rattle.bl_index_read.specs.Parts.{HasSetOff}
 use Rattle.bl_index_read.proofs.Setting.{same_number}
 use Rattle.bl_index_steps.specs.declared.tree.Tree.{Tree}
 use Rattle.bl_proc_base.specs.declared.descent.Descent.{Descent}
-use Rattle.bl_index.proofs.Scanned.{IsFrom, IsBehind, Answered, answered, part_is, only_rows, parts_push, right_more, from_more, rising_more}
+use Rattle.bl_index.proofs.Scanned.{IsFrom, IsBehind, Answered, answered, part_is, parts_push, right_more, from_more, rising_more}
 
-history_append : (xs ys : Trail) → history_of (xs ++ ys) ≡ history_of xs ++ history_of ys
+pub history_append : (xs ys : Trail) → history_of (xs ++ ys) ≡ history_of xs ++ history_of ys
 history_append [] ys = refl
 history_append (m ∷ ms) ys = ap (λ (z : List Entry). entries_at m.event.process m.said ++ z) (history_append ms ys) ∙ sym (append_assoc (entries_at m.event.process m.said) (history_of ms) (history_of ys))
 
@@ -60,10 +59,6 @@ module _ (first : List (Option Page)) (pages pass turns at : ℕ) (reply : Reply
 
   stands_there : Answered (first_map first) entry (history_of mid) (history_of new)
   stands_there = answered (first_map first) pass entry (history_of mid) (history_of more) (history_of new) (ap history_of finds.answers.holds.begins ∙ history_append mid more) finds.answers.seen.legal finds.answers.once
-
-  -- nothing but rows answers it
-  pub rows_alone : ((rows : _) (next : _) → reply ≡ Rows rows next → ⊥) → ⊥
-  rows_alone none = only_rows _ at reply stands_there.may none
 
   -- it ends behind its own key
   pub ends_behind : IsBehind at (ended_at reply)

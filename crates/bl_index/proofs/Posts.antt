@@ -12,10 +12,10 @@ use Rattle.bl_proc.specs.declared.posting.PostStage.TheVariants as post
 use Rattle.bl_proc.specs.declared.kinds.Proc.{Proc}
 use Rattle.bl_proc.specs.declared.kinds.Proc.TheVariants as proc
 use Rattle.bl_proc.specs.Posts.{post_next_in, post_answer}
-use Rattle.bl_proc_meanings.specs.Answers.{MeansPosted, MeansHint}
+use Rattle.bl_proc_meanings.specs.Answers.{MeansPosted}
 use Rattle.bl_proc_invariant.specs.Tables.{alone}
 use Rattle.bl_proc_invariant.specs.Knowing.{know_of, know_post}
-use Rattle.bl_proc_invariant.proofs.Answered.{stage_means, stage_hints}
+use Rattle.bl_proc_invariant.proofs.Answered.{stage_means}
 use Rattle.bl_proc_unique.specs.Frames.{work_of}
 use Rattle.bl_index_rule.specs.declared.known.PassState.{PassState}
 use Rattle.bl_claims.specs.Seeing.{name}
@@ -43,9 +43,8 @@ post_answered from pass old e first q level key what next d begins is a =
     let marks : Trail = marks_of (name pass (old.number + 1)) e.trail in
     record {
       adds = quiet_adds from pass old e first (proc.Post q) (proc.Post p.old) d begins p.before_is refl (λ r h. ap (λ (z : Proc). (know_of r.got r.child r.time z).said) h ∙ silent_at_end p.old.level p.old.key r.got r.child p.old.stage p.at_end);
-      means = subst (λ (z : ℕ × ℕ). MeansPosted z.0 z.1 what marks) (λ i. (p.level_is i, p.key_is i)) (stage_means q.level q.key q.stage what next marks a d.log);
+      means = subst (λ (z : ℕ × ℕ). MeansPosted z.0 z.1 what next marks) (λ i. (p.level_is i, p.key_is i)) (stage_means q.level q.key q.stage what next marks a d.log);
       latches = d.tidy;
-      hint = subst (λ (z : ℕ × ℕ). MeansHint z.0 z.1 what next marks) (λ i. (p.level_is i, p.key_is i)) (stage_hints q.level q.key q.stage what next marks a d.log);
     }
 
 pub post_in_call : (from : List (Option Page)) (pass : ℕ) (old e : PassState) (first : Proc) (q : Post) (level key : ℕ) (IsSo : Trail → Type 0) → IsDone pass old e first (proc.Post q) → old.first ≡ from → work_of first ≡ Some (level, key) → IsSo (own_marks e) → InCall pass None old.trail e.trail IsSo

@@ -1,5 +1,5 @@
 -- What a part tells of the map, and where its entry stands.
-use Rattle.std.proofs.Common.{◌≡◌, ◌≢◌, ⊎_elim, ℕ, get_or, ◌<◌, ◌≤◌, Bool, true, false, Option, Some, None, List, [], ◌∷◌, ◌++◌, cond, refl, sym, ap, ◌∙◌, subst, append_assoc, arith}
+use Rattle.std.proofs.Common.{◌≡◌, ⊎_elim, ℕ, get_or, ◌<◌, ◌≤◌, Bool, true, false, Option, Some, None, List, [], ◌∷◌, ◌++◌, cond, refl, sym, ap, ◌∙◌, subst, append_assoc, arith}
 use Rattle.std.specs.Prelude.{◌↔◌, ◌==◌, All, Contains}
 use Rattle.std.proofs.lemmas.Bool.{cases_lt}
 use Rattle.std.proofs.lemmas.List.{append_cancel_left}
@@ -43,11 +43,6 @@ part_is m from (Rows rows End) may = record {
   pairs = λ key value. let both = may.pairs key value in (λ c. let there = both.0 c in (there.0, there.1, tt), λ (is, low, high). both.1 (is, low));
 }
 part_is m from reply may = absurd may
-
--- nothing but rows answers a part
-pub only_rows : (m : Map) (from : ℕ) (reply : Reply) → MayAnswer m (Part from) reply → ((rows : _) (next : _) → reply ≢ Rows rows next) → ⊥
-only_rows m from (Rows rows next) may none = none rows next refl
-only_rows m from reply may none = may
 
 -- ---- where an entry stands
 
@@ -177,6 +172,3 @@ module _ (first : List (Option Page)) (pass from at : ℕ) (to : Option ℕ) (ol
     rising_more rising = rising_behind at listed fresh rising (rising_filter (λ row. is_below to row.0) (rows_of e.reply) part.rising)
         (All-weaker (IsFrom from (Some at)) (λ r. r.0 < at) (λ r is. is.1) listed within)
         (All-weaker (IsFrom at (ended_at e.reply)) (λ r. at ≤ r.0) (λ r is. is.0) fresh from_fresh)
-
-    pub goes_further : IsBehind at (ended_at e.reply)
-    goes_further = part.further

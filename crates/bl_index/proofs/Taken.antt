@@ -1,11 +1,13 @@
 -- The passes of a new index, taken from the last one on.
 use Rattle.std.proofs.Common.{ℕ, zero, suc, ◌≡◌, ◌<◌, ◌++◌, Option, List, [], ◌∷◌, All, length, get_or, sym, ap, ◌∙◌, subst, refl, arith}
-use Rattle.std.specs.Prelude.{Result}
+use Rattle.std.specs.Prelude.{Result, IfOk, IfErr, Ok, Err}
 use mathlib.Core.Option.{some}
 use lib.ListN.{get_elem?}
 use Rattle.atomic_table.proofs.Lists.{at_last, at_longer}
 use Rattle.bl_model.specs.declared.operation.Op.{Op}
 use Rattle.bl_model.specs.declared.operation.Reply.{Reply}
+use Rattle.bl_model.specs.declared.operation.KeyReply.{KeyReply}
+use Rattle.bl_model.specs.Replies.{reply_of}
 use Rattle.bl_page.specs.declared.page.Page.{Page}
 use Rattle.bl_claims.specs.Trails.{Trail}
 use Rattle.bl_store.specs.declared.store.Hand.{Hand}
@@ -16,7 +18,7 @@ use Rattle.bl_index.specs.declared.config.Config.{Config}
 use Rattle.bl_index.specs.declared.index.Index.{Index}
 use Rattle.bl_index.specs.declared.index.Pass.{Pass}
 use Rattle.bl_index.specs.Calls.{IsPassOf, IsSamePass}
-use Rattle.bl_index_read.specs.Searching.{AnswersOrRunsOut}
+use Rattle.bl_index_read.specs.Searching.{Finds, RunsOut, AnswersOrRunsOut, found_of}
 use Rattle.bl_index.specs.Opened.{IsBegun, IsOpened}
 
 -- the last pass of an index, and all but the last one
@@ -40,6 +42,15 @@ same_pass old new same first = (same.0, same.1, new.own.0 ∙ (same.2 ∙ sym ol
 -- what a search answers is told from what the index began with, where that is the same
 pub observed_from : (from first : List (Option Page)) (pages pass turns : ℕ) (op : Op) (result : Result Reply OutOfTurns) (old new : Trail) → from ≡ first → AnswersOrRunsOut from pages pass turns op result old new → AnswersOrRunsOut first pages pass turns op result old new
 observed_from from first pages pass turns op result old new same answers = subst (λ (z : List (Option Page)). AnswersOrRunsOut z pages pass turns op result old new) same answers
+
+-- the same of a search of a key
+pub key_found : (first : List (Option Page)) (pages pass turns : ℕ) (op : Op) (result : Result KeyReply OutOfTurns) (old new : Trail) → AnswersOrRunsOut first pages pass turns op (found_of result) old new → IfOk result (λ reply. Finds first pages pass turns op (reply_of reply) old new)
+key_found first pages pass turns op (Ok reply) old new answers = answers.answered
+key_found first pages pass turns op (Err fault) old new answers = tt
+
+pub key_lost : (first : List (Option Page)) (pages pass turns : ℕ) (op : Op) (result : Result KeyReply OutOfTurns) (old new : Trail) → AnswersOrRunsOut first pages pass turns op (found_of result) old new → IfErr result (λ fault. RunsOut first pages pass turns old new)
+key_lost first pages pass turns op (Ok reply) old new answers = tt
+key_lost first pages pass turns op (Err fault) old new answers = answers.refused
 
 there : (l : List Pass) (i : ℕ) (d : Pass) → i < length l → get_elem? l i ≡ some (get_or l i d)
 there [] i d h = absurd (omega arith)

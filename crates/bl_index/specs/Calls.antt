@@ -3,9 +3,6 @@ use Rattle.std.specs.Prelude.{◌≡◌, ◌≢◌, ℕ, ◌++◌, Option, Some,
 use Rattle.bl_model.specs.Map.{Map, IsMapStep}
 use Rattle.bl_model.specs.History.{final_map}
 use Rattle.bl_model.specs.declared.deciding.KeyWrite.{KeyWrite}
-use Rattle.bl_model.specs.declared.deciding.Effect.{Effect}
-use Rattle.bl_model.specs.declared.deciding.Effect.TheVariants.{Keep, Enter, Remove, Replace}
-use Rattle.bl_model.specs.Writes.{effect_of}
 use Rattle.bl_model.specs.declared.operation.Op.{Op}
 use Rattle.bl_model.specs.declared.operation.Op.TheVariants as op
 use Rattle.bl_model.specs.declared.operation.Reply.{Reply}
@@ -19,15 +16,15 @@ use Rattle.bl_proc_base.specs.declared.answers.Hint.{Hint}
 use Rattle.bl_proc_base.specs.declared.answers.Posted.{Posted}
 use Rattle.bl_proc_base.specs.declared.answers.Squeezed.{Squeezed}
 use Rattle.bl_proc_base.specs.declared.lowering.Lowered.{Lowered}
-use Rattle.bl_proc_meanings.specs.Answers.{MeansPosted, MeansHint}
-use Rattle.bl_proc_meanings.specs.Hinted.{MeansWritten}
+use Rattle.bl_proc_meanings.specs.Answers.{MeansPosted}
+use Rattle.bl_proc_meanings.specs.Hinted.{MeansInserted, MeansWritten}
 use Rattle.bl_proc_meanings.specs.Climbed.{MeansClimbed}
 use Rattle.bl_proc_meanings.specs.Squeezed.{MeansSqueezed}
 use Rattle.bl_proc_meanings.specs.Lowered.{MeansLowered}
 use Rattle.bl_store.specs.Hands.{known, WasRefused}
 use Rattle.bl_claims.specs.Seeing.{first_map, IsLinearizable, own, name}
 use Rattle.bl_index_rule.specs.Observed.{IsRelease}
-use Rattle.bl_index_steps.specs.Refused.{LacksForPage, LacksForPost}
+use Rattle.bl_index_steps.specs.Refused.{LacksForPage, LacksForWrite, LacksForPost}
 use Rattle.bl_index.specs.declared.index.Index.{Index}
 use Rattle.bl_index.specs.declared.index.Pass.{Pass}
 use Rattle.bl_index_steps.specs.Answered.{Answers, Adds, InCall}
@@ -62,33 +59,23 @@ map_after first trail = final_map (first_map first) (history_of trail)
 abbrev pub released_by : Pass → ℕ
 released_by pass = pass.hand.seat.me.0.releases
 
--- In its last call the pass was refused a reservation of so many pages and frames, the last one of that call: it saw each page
--- taken; or it got too few frames, and saw each other one taken; or it saw the clock at its end.
-abbrev pub MetNoRoom : Pass → ℕ → ℕ → Type 0
-MetNoRoom pass pages frames = WasRefused pass.hand.seat pages frames
-
--- An insertion of that key found no room for its leaf.
+-- An insertion of that key found no room for its leaf: what it wanted is what its pass was refused last.
 abbrev pub InsertLacks : Pass → ℕ → Pass → Type 0
-InsertLacks old key new = InCall (number_of old) (Some reply.NoRoom) (trail old) (trail new) (λ marks. LacksForPage 0 key marks (MetNoRoom new))
+InsertLacks old key new = InCall (number_of old) (Some reply.NoRoom) (trail old) (trail new) (λ marks. LacksForPage 0 key marks (WasRefused new.hand.seat))
 
--- The same of any write of it, by what it is to do: a leaf that loses the pair, or gets another value with the key, is put again, and
--- wants one frame; and a leaf that stays wants none.
-abbrev pub EffectLacks : Effect → Pass → ℕ → Pass → Type 0
-EffectLacks Keep old key new = ⊥
-EffectLacks (Enter value) old key new = InsertLacks old key new
-EffectLacks Remove old key new = MetNoRoom new 0 1
-EffectLacks (Replace value) old key new = MetNoRoom new 0 1
-
+-- The same of any write of it, by what it is to do.
 abbrev pub WriteLacks : Pass → ℕ → KeyWrite → Pass → Type 0
-WriteLacks old key does new = (there : Option ℕ) × EffectLacks (effect_of does there) old key new
+WriteLacks old key does new = InCall (number_of old) (Some reply.NoRoom) (trail old) (trail new)
+    (λ marks. LacksForWrite key does marks (WasRefused new.hand.seat))
 
 -- A post of that key to that level found none for its parent, or for a new top level.
 abbrev pub PostLacks : Pass → ℕ → ℕ → Pass → Type 0
-PostLacks old level key new = InCall (number_of old) None (trail old) (trail new) (λ marks. LacksForPost level key marks (MetNoRoom new))
+PostLacks old level key new = InCall (number_of old) None (trail old) (trail new) (λ marks. LacksForPost level key marks (WasRefused new.hand.seat))
 
 -- An insertion that has entered its pair found none for a post of that key to that level.
 abbrev pub ClimbLacks : Pass → ℕ → ℕ → Pass → Type 0
-ClimbLacks old level key new = InCall (number_of old) (Some reply.Inserted) (trail old) (trail new) (λ marks. LacksForPost level key marks (MetNoRoom new))
+ClimbLacks old level key new = InCall (number_of old) (Some reply.Inserted) (trail old) (trail new)
+    (λ marks. LacksForPost level key marks (WasRefused new.hand.seat))
 
 -- The same pass of the same index
 abbrev pub IsSamePass : Pass → Pass → Type 0
@@ -97,7 +84,7 @@ IsSamePass old new = (new.hand.seat.table_id ≡ old.hand.seat.table_id) × (new
 
 -- In an index of one pass each call is a step of one map.
 abbrev pub StepsAlone : List (Option Page) → Index → Op → Reply → Trail → Trail → Type 0
-StepsAlone first index op reply old new = passes_of index ≡ 1 → IsMapStep (map_after first old) op reply (map_after first new)
+StepsAlone first index op reply old new = index.tree.store.layout.passes ≡ 1 → IsMapStep (map_after first old) op reply (map_after first new)
 
 -- A sweep of the pass that answered a number. Its events are releases of pages, no more than that number, all of them by one
 -- process of its own, which had done nothing before and does not begin. The entries of the pass are those of before, and if
@@ -119,18 +106,23 @@ pub record Writes (first : List (Option Page)) (pass : ℕ) (op : Op) (reply : R
   pub hint : MeansWritten reply next (marks_of (name pass answers.number) new)
   pub latches : LatchesAlone (marks_of (name pass answers.number) new)
 
+-- The same of an insertion alone.
+pub record Inserts (first : List (Option Page)) (pass key value : ℕ) (reply : Reply) (next : Option Hint) (old new : Trail) : Type 0 where
+  pub answers : Answers first pass (op.Insert key value) reply old new
+  pub hint : MeansInserted reply next (marks_of (name pass answers.number) new)
+  pub latches : LatchesAlone (marks_of (name pass answers.number) new)
+
 -- An insertion with its posts is answered, and what its process has done is what its answer means. It held no page when it latched one.
 pub record Climbs (first : List (Option Page)) (pass key value : ℕ) (reply : Reply) (last : Option Posted) (left : Option Hint) (old new : Trail) : Type 0 where
   pub answers : Answers first pass (op.Insert key value) reply old new
   pub means : MeansClimbed reply last left (marks_of (name pass answers.number) new)
   pub latches : LatchesAlone (marks_of (name pass answers.number) new)
 
--- A post is answered: it says nothing of the map, and what its process has done is what its answer and its hint mean. It held no
--- page when it latched one.
+-- A post is answered: it says nothing of the map, and what its process has done is what its answer means with the hint beside it.
+-- It held no page when it latched one.
 pub record Posts (first : List (Option Page)) (pass level key : ℕ) (answer : Posted) (next : Option Hint) (old new : Trail) : Type 0 where
   pub adds : Adds first pass old new
-  pub means : MeansPosted level key answer (marks_of (name pass adds.number) new)
-  pub hint : MeansHint level key answer next (marks_of (name pass adds.number) new)
+  pub means : MeansPosted level key answer next (marks_of (name pass adds.number) new)
   pub latches : LatchesAlone (marks_of (name pass adds.number) new)
 
 -- A compression is answered: it says nothing of the map, and what its process has done is what its answer means with the hint

@@ -10,7 +10,8 @@ use bl_proc::{Hint, Squeezed};
 use std::sync::Wait;
 
 impl Index {
-    ghost use Rattle.bl_index.specs.Calls.{first_of, IsPassOf, IsSamePass, number_of, trail, Compresses, MetNoRoom};
+    ghost use Rattle.bl_store.specs.Hands.{WasRefused};
+    ghost use Rattle.bl_index.specs.Calls.{first_of, IsPassOf, IsSamePass, number_of, trail, Compresses};
 
     /// Makes room where deletions left pages with few pairs, while other threads read and write: Sagiv, "Concurrent
     /// operations on B*-trees with overtaking" (JCSS 33, 1986). In the parent of the hint's level it takes the child that
@@ -23,7 +24,7 @@ impl Index {
         ensures same { IsSamePass pass.old pass.new }
         ensures compresses { Compresses (first_of self.now) (number_of pass.old) (level_of hint) (key_of hint) result.0 result.1 (trail pass.old)
             (trail pass.new) }
-        ensures no_room { result.0 ≡ answer.NoRoom → MetNoRoom pass.new 0 3 }
+        ensures no_room { result.0 ≡ answer.NoRoom → WasRefused pass.new.hand.seat 0 3 }
     {
         compress_children(&self.tree, rt, &mut pass.hand, hint.level(), hint.key())
     }

@@ -14,7 +14,8 @@ use bl_proc::Hint;
 use std::sync::Wait;
 
 impl Index {
-    ghost use Rattle.bl_index.specs.Calls.{first_of, IsPassOf, IsSamePass, number_of, trail, Writes, InsertLacks, WriteLacks, MetNoRoom, StepsAlone};
+    ghost use Rattle.bl_store.specs.Hands.{WasRefused};
+    ghost use Rattle.bl_index.specs.Calls.{first_of, IsPassOf, IsSamePass, number_of, trail, Writes, Inserts, InsertLacks, WriteLacks, StepsAlone};
 
     /// Writes the key so: an insertion, a deletion or a change, each of which is also a call of its own, below.
     #[inline(always)]
@@ -45,7 +46,7 @@ impl Index {
     ) -> (KeyReply, Option<Hint>)
         requires { IsPassOf self.now pass.old }
         ensures same { IsSamePass pass.old pass.new }
-        ensures inserts { Writes (first_of self.now) (number_of pass.old) (op.Insert key value) (reply_of result.0) result.1 (trail pass.old) (trail pass.new) }
+        ensures inserts { Inserts (first_of self.now) (number_of pass.old) key value (reply_of result.0) result.1 (trail pass.old) (trail pass.new) }
         ensures no_room { result.0 ≡ replies.NoRoom → InsertLacks pass.old key pass.new }
         ensures alone { StepsAlone (first_of self.now) self.now (op.Insert key value) (reply_of result.0) (trail pass.old) (trail pass.new) }
     {
@@ -57,7 +58,7 @@ impl Index {
         requires { IsPassOf self.now pass.old }
         ensures same { IsSamePass pass.old pass.new }
         ensures deletes { Writes (first_of self.now) (number_of pass.old) (op.Delete key) (reply_of result.0) result.1 (trail pass.old) (trail pass.new) }
-        ensures no_room { result.0 ≡ replies.NoRoom → MetNoRoom pass.new 0 1 }
+        ensures no_room { result.0 ≡ replies.NoRoom → WasRefused pass.new.hand.seat 0 1 }
         ensures alone { StepsAlone (first_of self.now) self.now (op.Delete key) (reply_of result.0) (trail pass.old) (trail pass.new) }
     {
         self.write(rt, pass, key, KeyWrite::Delete)
@@ -70,7 +71,7 @@ impl Index {
         requires { IsPassOf self.now pass.old }
         ensures same { IsSamePass pass.old pass.new }
         ensures changes { Writes (first_of self.now) (number_of pass.old) (op.Change key old new) (reply_of result) None (trail pass.old) (trail pass.new) }
-        ensures no_room { result ≡ replies.NoRoom → MetNoRoom pass.new 0 1 }
+        ensures no_room { result ≡ replies.NoRoom → WasRefused pass.new.hand.seat 0 1 }
         ensures alone { StepsAlone (first_of self.now) self.now (op.Change key old new) (reply_of result) (trail pass.old) (trail pass.new) }
     {
         self.write(rt, pass, key, KeyWrite::Change(old, new)).0

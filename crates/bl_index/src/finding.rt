@@ -1,9 +1,8 @@
 //! Searches.
 
-ghost use Rattle.std.specs.Prelude.{IfOk};
+ghost use Rattle.std.specs.Prelude.{IfOk, IfErr};
 ghost use Rattle.bl_model.specs.declared.operation.Op.TheVariants as op;
 ghost use Rattle.bl_model.specs.Replies.{reply_of};
-ghost use Rattle.bl_index_read.specs.Searching.{found_of};
 
 use crate::index::{Index, Pass};
 use bl_index_read::{OutOfTurns, find_key};
@@ -11,15 +10,16 @@ use bl_model::KeyReply;
 
 impl Index {
     ghost use Rattle.bl_index.specs.Calls.{first_of, IsPassOf, IsSamePass, pages_of, number_of, trail, StepsAlone};
-    ghost use Rattle.bl_index_read.specs.Searching.{AnswersOrRunsOut};
+    ghost use Rattle.bl_index_read.specs.Searching.{Finds, RunsOut};
 
     /// The value of a key, or that the key is absent. It gets at most so many pages, the anchor included.
     #[inline(always)]
     pub fn find(&self, pass: &mut Pass, key: u64, turns: u32) -> Result<KeyReply, OutOfTurns>
         requires { IsPassOf self.now pass.old }
         ensures same { IsSamePass pass.old pass.new }
-        ensures answers { AnswersOrRunsOut (first_of self.now) (pages_of self.now) (number_of pass.old) turns (op.Find key) (found_of result) (trail pass.old)
-            (trail pass.new) }
+        ensures found { IfOk result (λ reply. Finds (first_of self.now) (pages_of self.now) (number_of pass.old) turns (op.Find key) (reply_of reply)
+            (trail pass.old) (trail pass.new)) }
+        ensures runs_out { IfErr result (λ _. RunsOut (first_of self.now) (pages_of self.now) (number_of pass.old) turns (trail pass.old) (trail pass.new)) }
         ensures alone { IfOk result (λ reply. StepsAlone (first_of self.now) self.now (op.Find key) (reply_of reply) (trail pass.old) (trail pass.new)) }
     {
         find_key(&self.tree, &mut pass.hand, key, turns)

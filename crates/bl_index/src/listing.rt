@@ -1,6 +1,6 @@
 //! Parts of the map.
 
-ghost use Rattle.std.specs.Prelude.{IfOk};
+ghost use Rattle.std.specs.Prelude.{IfOk, IfErr};
 ghost use Rattle.bl_model.specs.declared.operation.Op.TheVariants as op;
 
 use crate::index::{Index, Pass};
@@ -9,15 +9,16 @@ use bl_model::Reply;
 
 impl Index {
     ghost use Rattle.bl_index.specs.Calls.{first_of, IsPassOf, IsSamePass, pages_of, number_of, trail, StepsAlone};
-    ghost use Rattle.bl_index_read.specs.Searching.{AnswersOrRunsOut};
+    ghost use Rattle.bl_index_read.specs.Searching.{Finds, RunsOut};
 
     /// The pairs of one leaf from a key on, in rising order, and the key from which the next part begins, where there is
     /// one. It gets at most so many pages, the anchor included.
     pub fn part(&self, pass: &mut Pass, from: u64, turns: u32) -> Result<Reply, OutOfTurns>
         requires { IsPassOf self.now pass.old }
         ensures same { IsSamePass pass.old pass.new }
-        ensures answers { AnswersOrRunsOut (first_of self.now) (pages_of self.now) (number_of pass.old) turns (op.Part from) result (trail pass.old)
-            (trail pass.new) }
+        ensures found { IfOk result (λ reply. Finds (first_of self.now) (pages_of self.now) (number_of pass.old) turns (op.Part from) reply
+            (trail pass.old) (trail pass.new)) }
+        ensures runs_out { IfErr result (λ _. RunsOut (first_of self.now) (pages_of self.now) (number_of pass.old) turns (trail pass.old) (trail pass.new)) }
         ensures alone { IfOk result (λ reply. StepsAlone (first_of self.now) self.now (op.Part from) reply (trail pass.old) (trail pass.new)) }
     {
         list_part(&self.tree, &mut pass.hand, from, &mut None, turns)
@@ -35,8 +36,9 @@ impl Index {
     ) -> Result<Reply, OutOfTurns>
         requires { IsPassOf self.now pass.old }
         ensures same { IsSamePass pass.old pass.new }
-        ensures answers { AnswersOrRunsOut (first_of self.now) (pages_of self.now) (number_of pass.old) turns (op.Part from) result (trail pass.old)
-            (trail pass.new) }
+        ensures found { IfOk result (λ reply. Finds (first_of self.now) (pages_of self.now) (number_of pass.old) turns (op.Part from) reply
+            (trail pass.old) (trail pass.new)) }
+        ensures runs_out { IfErr result (λ _. RunsOut (first_of self.now) (pages_of self.now) (number_of pass.old) turns (trail pass.old) (trail pass.new)) }
         ensures alone { IfOk result (λ reply. StepsAlone (first_of self.now) self.now (op.Part from) reply (trail pass.old) (trail pass.new)) }
     {
         list_part(&self.tree, &mut pass.hand, from, near, turns)

@@ -21,7 +21,8 @@ fn lowered(answer: Option<Answer>) -> Lowered
 }
 
 impl Index {
-    ghost use Rattle.bl_index.specs.Calls.{first_of, IsPassOf, IsSamePass, number_of, trail, LowersTree, MetNoRoom};
+    ghost use Rattle.bl_store.specs.Hands.{WasRefused};
+    ghost use Rattle.bl_index.specs.Calls.{first_of, IsPassOf, IsSamePass, number_of, trail, LowersTree};
 
     /// Takes the top level of the tree away, while other threads read and write, where it is one page with one pair, no bound and
     /// no link, and there is a level below it. Its page then serves again after a sweep. A level that is needed stays.
@@ -29,7 +30,7 @@ impl Index {
         requires own { IsPassOf self.now pass.old }
         ensures same { IsSamePass pass.old pass.new }
         ensures lowers { LowersTree (first_of self.now) (number_of pass.old) result (trail pass.old) (trail pass.new) }
-        ensures no_room { result ≡ answer.NoRoom → MetNoRoom pass.new 0 2 }
+        ensures no_room { result ≡ answer.NoRoom → WasRefused pass.new.hand.seat 0 2 }
     {
         let lower = Lower::new();
         let process = self.tree.carry_out(rt, &mut pass.hand, lower);

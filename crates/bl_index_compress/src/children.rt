@@ -137,7 +137,8 @@ fn merge(
 ) -> Decision
     requires runs { Runs tree.now hand.old (known hand.old.seat).state }
     requires empty { HasNoStock hand.old.seat }
-    requires both { (b : HasBoth target kin parent.now left.now right.now (known hand.old.seat)) × AreNeighbours b.lower b.upper × (together b.lower b.upper ≤ 14) }
+    requires both { (b : HasBoth target kin parent.now left.now right.now (known hand.old.seat)) × AreNeighbours b.lower b.upper
+        × (together b.lower b.upper ≤ 14) }
     ensures { IsDecided tree.now hand.old.seat hand.new target kin result }
 {
     let merged = merged_words(left, right);
@@ -206,7 +207,8 @@ fn decide(
 ) -> Decision
     requires runs { Runs tree.now hand.old (known hand.old.seat).state }
     requires empty { HasNoStock hand.old.seat }
-    requires process { (f : Family) × (c : Page) × IsKin target kin parent.now f × (left.now ≡ words_of c) × ((known hand.old.seat).state ≡ pressing target (LatchedRight f c)) }
+    requires process { (f : Family) × (c : Page) × IsKin target kin parent.now f × (left.now ≡ words_of c)
+        × ((known hand.old.seat).state ≡ pressing target (LatchedRight f c)) }
     ensures { IsDecided tree.now hand.old.seat hand.new target kin result }
 {
     let right = words_at(tree, hand, kin.at.right);

@@ -1,32 +1,19 @@
 -- What a scan reads of a leaf's words: that it begins with a key, and that it ends below the scan's end.
-use Rattle.std.proofs.Common.{◌≡◌, ℕ, zero, suc, ◌/◌, ◌^◌, ◌<◌, ◌≤◌, Option, Some, None, List, [], ◌∷◌, length, get_or, refl, sym, ap, ◌∙◌, subst, arith}
+use Rattle.std.proofs.Common.{◌≡◌, ℕ, zero, suc, ◌<◌, ◌≤◌, Option, Some, None, List, [], ◌∷◌, length, get_or, sym, subst, arith}
 use Rattle.std.proofs.lemmas.Bool.Decides.{nat_tests}
 use Rattle.bl_model.specs.Rows.{key_at}
 use Rattle.bl_model.proofs.Parts.{IsPlaceOf}
 use Rattle.bl_page.specs.declared.page.Page.{Page}
 use Rattle.bl_page.specs.declared.page.Page.TheVariants as page
-use Rattle.bl_page.specs.Faults.{kind_in, count_in, pairs_of}
+use Rattle.bl_page.specs.Faults.{count_in, pairs_of}
 use Rattle.bl_page.specs.Pairs.{AllWithin, end_of}
 use Rattle.bl_page.specs.Words.{words_of}
 use Rattle.bl_page.proofs.FaultLemmas.{fits}
 use Rattle.bl_claims.specs.Pages.{IsTreePage}
-use Rattle.bl_proc_base.specs.declared.onwards.Step.TheVariants as onward
-use Rattle.bl_proc_base.specs.Onwards.{Leads}
 use Rattle.bl_proc_base.proofs.Spellings.{tree_pairs}
 use Rattle.bl_index_read.specs.LeafRows.{IsBelow, EndsBefore, IsLastBelow}
 use Rattle.bl_index_read.proofs.Picked.{count_is}
 use Rattle.bl_index_read.proofs.Ranges.{below_true}
-
--- a page whose head is that of a leaf is of that kind
-kind_two : (head : ℕ) → head / 2 ^ 16 ≡ 131072 → head / 2 ^ 32 ≡ 2
-kind_two head e = omega arith
-
--- a leaf covers the key with which it begins
-pub leaf_here : (c : Page) (words : List ℕ) (key : ℕ) → words ≡ words_of c → get_or words 0 0 / 2 ^ 16 ≡ 131072 → get_or words 1 0 ≡ key → Leads c key 0 onward.Here
-leaf_here (page.Anchor a) words key e two low = absurd (let k : kind_in words ≡ 1 = ap kind_in e ∙ (fits (page.Anchor a)).is_of in let is = kind_two (get_or words 0 0) two in omega (arith, k, is))
-leaf_here (page.Leaf l) words key e two low = let is : l.low ≡ key = sym (ap (λ w. get_or w 1 0) e) ∙ low in let bounds = l.bounds in (tt, (omega (arith, is), omega (arith, is, bounds)), refl)
-leaf_here (page.Inner n) words key e two low = absurd (let k : kind_in words ≡ 3 = ap kind_in e ∙ (fits (page.Inner n)).is_of in let is = kind_two (get_or words 0 0) two in omega (arith, k, is))
-leaf_here (page.Dead d) words key e two low = absurd (let k : kind_in words ≡ 4 = ap kind_in e ∙ (fits (page.Dead d)).is_of in let is = kind_two (get_or words 0 0) two in omega (arith, k, is))
 
 -- the keys of a page are within its bounds
 within_each : (low high : ℕ) (rows : List (ℕ × ℕ)) → AllWithin low high rows → (i : ℕ) → i < length rows → (low ≤ key_at rows i) × (key_at rows i < end_of high)

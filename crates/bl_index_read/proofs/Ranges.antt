@@ -17,10 +17,6 @@ pub below_true : (end : Option ℕ) (key : ℕ) → IsBelow end key → is_below
 below_true None key is = refl
 below_true (Some end) key is = grind (arith, nat_tests, is)
 
-pub below_is : (end : Option ℕ) (key : ℕ) → is_below end key ≡ true → IsBelow end key
-below_is None key is = tt
-below_is (Some end) key is = grind (arith, nat_tests, is)
-
 -- so is the least key, where any is
 pub below_less : (end : Option ℕ) (key : ℕ) → IsBelow end key → IsBelow end 0
 below_less None key is = tt

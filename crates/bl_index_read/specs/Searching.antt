@@ -1,5 +1,5 @@
 -- What a search tells the pass that makes it.
-use Rattle.std.specs.Prelude.{Option, ◌≡◌, ◌≤◌, ℕ, List, Result, IfOk, IfErr, Ok, Err}
+use Rattle.std.specs.Prelude.{Option, ◌≡◌, ◌≤◌, ◌<◌, ℕ, List, Result, IfOk, IfErr, Ok, Err}
 use Rattle.bl_proc.specs.declared.searching.FindStage.{FindStage}
 use Rattle.bl_proc_bounds.specs.Paces.{find_place}
 use Rattle.bl_proc_bounds.specs.Searches.{IsGoing}
@@ -7,7 +7,7 @@ use Rattle.bl_model.specs.declared.operation.Op.{Op}
 use Rattle.bl_model.specs.declared.operation.Reply.{Reply}
 use Rattle.bl_page.specs.declared.page.Page.{Page}
 use Rattle.bl_claims.specs.Trails.{Trail, marks_of}
-use Rattle.bl_claims.specs.Bounds.{gets_of, IsWithinBound, IsBelowBound}
+use Rattle.bl_claims.specs.Bounds.{gets_of, puts_near, most_gets, IsWithinBound}
 use Rattle.bl_claims.specs.Latches.{OnlyLooks}
 use Rattle.bl_claims.specs.Seeing.{name}
 use Rattle.bl_index_steps.specs.Answered.{Answers, Adds}
@@ -29,7 +29,7 @@ pub record RunsOut (first : List (Option Page)) (pages pass turns : ℕ) (old ne
   pub adds : Adds first pass old new
   pub bounded : IsWithinBound pages (name pass adds.number) new
   pub gets : gets_of (name pass adds.number) new ≡ turns
-  pub below : IsBelowBound pages (name pass adds.number) new
+  pub below : gets_of (name pass adds.number) new < most_gets pages (puts_near (name pass adds.number) new)
   pub looks : OnlyLooks (marks_of (name pass adds.number) new)
 
 -- A search is answered, or runs out of turns.

@@ -5,7 +5,6 @@ use Rattle.bl_model.specs.History.{IsLegalFrom, final_map}
 use Rattle.bl_page.specs.declared.page.Page.{Page}
 use Rattle.bl_page.specs.Machine.{Name}
 use Rattle.bl_page.specs.Machine.Owner.{Released, Held}
-use Rattle.bl_claims.specs.Nodes.{Look}
 use Rattle.bl_claims.specs.Trails.{history_of}
 use Rattle.bl_claims.specs.Moments.{snapshot_of, HasLaws}
 use Rattle.bl_claims.specs.States.{Moment, HasMoments}
@@ -23,7 +22,7 @@ use Rattle.bl_index_rule.specs.Observed.{IsNear}
 laws_now : (w : World Run) (image : List (Option Page)) → IsGood know w → KeepsLogs w → w.first ≡ first_map image → HasLaws (snapshot_of w.now w.trail) (final_map (first_map image) (history_of w.trail))
 laws_now w image good logs first =
     let map : w.map 0 ≡ final_map (first_map image) (history_of w.trail) = λ i k. (good.recorded.map k ∙ ap (λ (z : Map). final_map z (history_of w.trail) k) first) i in
-    subst (λ (z : Look). HasLaws (snapshot_of w.now w.trail) z) map (run_laws w good logs)
+    subst (λ (z : Map). HasLaws (snapshot_of w.now w.trail) z) map (run_laws w good logs)
 
 pub world_moment : (w : World Run) (image : List (Option Page)) → IsGood know w → KeepsLogs w → w.first ≡ first_map image → Moment (first_map image) w.start w.trail
 world_moment w image good logs first = record { now = w.now; leads = good.recorded.leads; laws = laws_now w image good logs first }

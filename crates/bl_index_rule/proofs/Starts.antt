@@ -56,9 +56,8 @@ none_held (suc (suc x)) p e = (let z : machine.Released ≡ machine.Held p = e i
 
 opening_is : Opening opening_state
 opening_is = record {
-  levels = refl;
-  leftmost = refl;
-  leaf = refl;
+  anchor = (_, refl, refl);
+  leaf = (_, refl, refl, refl, refl, refl);
   anchor_open = refl;
   leaf_open = refl;
   others = others_released;

@@ -33,8 +33,8 @@ use Rattle.bl_proc_unique.specs.Refusals.{PostRefused, ClimbRefused, IsRefused}
 use Rattle.bl_proc_unique.proofs.KindCases.{ClimbCase, climb_case}
 use Rattle.bl_index_rule.specs.declared.known.PassState.{PassState}
 use Rattle.bl_index_rule.specs.Observed.{Goes}
-use Rattle.bl_index_steps.specs.Refused.{HasRoom, IsFull, GotAnchor}
-use Rattle.bl_index_steps.specs.Held.{own_marks, KeepsLatch, edit_held, growth_held, write_held, post_held, climb_held, proc_held, AsksForPage, AsksForWrite, AsksForPost, AsksWhen, AsksForClimb, AsksFor}
+use Rattle.bl_index_steps.specs.Refused.{GotAnchor}
+use Rattle.bl_index_steps.specs.Held.{HasRoom, IsFull, own_marks, KeepsLatch, edit_held, growth_held, write_held, post_held, climb_held, proc_held, AsksForPage, AsksForWrite, AsksForPost, AsksWhen, AsksForClimb, AsksFor}
 use Rattle.bl_index_steps.proofs.Held.{goes_keeps, keeps_held, keeps_anchor}
 use Rattle.bl_index_steps.proofs.Got.{if_enters}
 

@@ -1,11 +1,9 @@
 -- What a process has got of the page that it latched last, and one event more.
-use Rattle.std.proofs.Common.{ℕ, zero, suc, ◌≡◌, ◌≢◌, ◌+◌, ◌++◌, ◌≤◌, [], ◌∷◌, None, Some, length, ap, sym, ◌∙◌, refl, subst, inl, inr, append_assoc}
-use Rattle.std.proofs.lemmas.List.Elements.{Contains-push_cases}
+use Rattle.std.proofs.Common.{ℕ, zero, suc, ◌≡◌, ◌≢◌, ◌+◌, ◌++◌, ◌≤◌, [], ◌∷◌, None, Some, length, ap, sym, ◌∙◌, refl, subst, append_assoc}
 use Rattle.bl_page.specs.declared.page.Page.{Page}
 use Rattle.bl_page.specs.declared.page.Page.TheVariants.{Inner}
 use Rattle.bl_page.specs.Machine.Act.{Get, Latch}
 use Rattle.bl_claims.specs.Trails.{Mark, Trail}
-use Rattle.bl_claims.specs.Moments.{After, IsLatch}
 use Rattle.bl_rearrange.specs.Rearranged.{pairs_of}
 use Rattle.bl_proc_base.specs.declared.acts.Seen.{Seen}
 use Rattle.bl_proc_base.specs.declared.acts.Seen.TheVariants as seen
@@ -47,7 +45,7 @@ use Rattle.bl_proc_unique.proofs.WayCases.{approach_case, EditCase, edit_case, G
 use Rattle.bl_proc_unique.proofs.KindCases.{WriteCase, write_case, PostCase, post_case, ClimbCase, climb_case}
 use Rattle.bl_proc_invariant.specs.Turns.{event_of}
 use Rattle.bl_proc_invariant.specs.Knowing.{write_end, climb_end, end_of_proc}
-use Rattle.bl_proc_invariant.proofs.Holdings.{none_of}
+use Rattle.bl_index_rule.proofs.Marks.{each_append}
 use Rattle.bl_proc_invariant.proofs.Logging.{latched_on}
 use Rattle.bl_index_steps.specs.Refused.{GotLatched, GotHeld, GotAnchor}
 use Rattle.bl_index_steps.specs.Held.{LatchedLast, GotAt, approach_held, edit_held, growth_held, IfEnters, write_held, post_held, climb_held, proc_held}
@@ -69,22 +67,21 @@ module _ (marks : Trail) (m : Mark) where
 
   -- a page was latched just now
   latched_now : (x : ℕ) → m.event.act ≡ Latch x → LatchedLast more x
-  latched_now x e = record { latched = record { before = marks; last = m; since = []; split = refl; is = (x, e); never_again = λ n c l. absurd (none_of n c) }; is = e; none = refl }
+  latched_now x e = record { before = marks; latch = m; split = refl; latched = e }
 
   -- none was
   module _ (away : (x : ℕ) → m.event.act ≢ Latch x) where
-    abbrev after_on : After marks IsLatch → After more IsLatch
-    after_on a = record {
-      before = a.before;
-      last = a.last;
-      since = a.since ++ m ∷ [];
-      split = ap (λ (z : Trail). z ++ m ∷ []) a.split ∙ append_assoc a.before (a.last ∷ a.since) (m ∷ []);
-      is = a.is;
-      never_again = λ n c l. elim (Contains-push_cases a.since m n c) [ inl i ↦ a.never_again n i l | inr e ↦ away l.0 (ap (λ (z : Mark). z.event.act) e ∙ l.1) ];
-    }
-
     latched_still : {x : ℕ} {c : Page} → GotLatched marks x c → GotLatched more x c
-    latched_still h = record { latched = after_on h.latched; is = h.is; get = h.get; rest = h.rest ++ m ∷ []; next = ap (λ (z : Trail). z ++ m ∷ []) h.next; act = h.act; saw = h.saw }
+    latched_still h = record {
+      before = h.before;
+      latch = h.latch;
+      get = h.get;
+      since = h.since ++ m ∷ [];
+      split = ap (λ (z : Trail). z ++ m ∷ []) h.split ∙ append_assoc h.before (h.latch ∷ h.get ∷ h.since) (m ∷ []);
+      latched = h.latched;
+      got = h.got;
+      no_more = each_append _ h.since (m ∷ []) h.no_more (away, tt);
+    }
 
     at_still : {level key x : ℕ} {c : Page} → GotAt level key marks x c → GotAt level key more x c
     at_still h = record { got = latched_still h.got; level_is = h.level_is; covers = h.covers }
@@ -97,7 +94,16 @@ module _ (marks : Trail) (m : Mark) where
 
   -- the page was got just now
   got_now : (x : ℕ) (c : Page) → m.event.act ≡ Get x → m.saw ≡ Some c → LatchedLast marks x → GotLatched more x c
-  got_now x c did saw h = record { latched = after_on (λ z l. (let e = sym did ∙ l in cc)) h.latched; is = h.is; get = m; rest = []; next = ap (λ (z : Trail). z ++ m ∷ []) h.none; act = did; saw = saw }
+  got_now x c did saw h = record {
+    before = h.before;
+    latch = h.latch;
+    get = m;
+    since = [];
+    split = ap (λ (z : Trail). z ++ m ∷ []) h.split ∙ append_assoc h.before (h.latch ∷ []) (m ∷ []);
+    latched = h.latched;
+    got = (did, saw);
+    no_more = tt;
+  }
 
   -- on the way
   descend : (level key : ℕ) (a b : Approach) (what : Seen) → Approaches level key a what (came.On b) → m.event.act ≡ event_of None (approach_next a) what → approach_held b more

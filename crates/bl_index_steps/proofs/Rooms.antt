@@ -30,14 +30,13 @@ use Rattle.bl_proc.specs.declared.climbing.ClimbStage.{ClimbStage}
 use Rattle.bl_proc.specs.declared.climbing.ClimbStage.TheVariants as climb
 use Rattle.bl_proc.specs.declared.kinds.Proc.TheVariants as proc
 use Rattle.bl_proc.specs.declared.lowering.Lower.{Lower}
-use Rattle.bl_proc_compress.specs.declared.squeezing.Compress.{Compress}
 use Rattle.bl_proc.specs.declared.writing.Noted.{Noted}
 use Rattle.bl_proc.specs.declared.writing.WriteReply.TheVariants.{Done, NoRoom}
 use Rattle.bl_proc.specs.Writes.{write_reply, post_hint}
 use Rattle.bl_proc_base.specs.Thin.{thin_hint}
 use Rattle.bl_proc.specs.Posts.{post_reply}
-use Rattle.bl_index_steps.specs.Refused.{HasRoom, IsFull, GotHeld, LacksForEffect}
-use Rattle.bl_index_steps.specs.Held.{own_marks, KeepsLatch, IfEnters, edit_held, proc_held, AsksForPage, AsksForPost, AsksWhen, AsksForClimb, AsksFor}
+use Rattle.bl_index_steps.specs.Refused.{GotHeld, LacksForEffect}
+use Rattle.bl_index_steps.specs.Held.{HasRoom, IsFull, own_marks, KeepsLatch, IfEnters, edit_held, proc_held, AsksForPage, AsksForPost, AsksWhen, AsksForClimb, AsksFor}
 use Rattle.bl_index_steps.specs.Rooms.{LacksPage, LacksWrite, LacksPost, LacksAsked, TellsRoom}
 use Rattle.bl_index_steps.specs.Runs.{Moves}
 use Rattle.bl_index_steps.proofs.Held.{goes_keeps, keeps_held}
@@ -158,9 +157,6 @@ lacks_when h key value (climbed.Posted level separator r) ask was asks = lacks_p
 
 pub lacks_climb : (h : H) (p : InsertPost) (r : Climbed) → p.stage ≡ climb.Over r → LacksAsked h (proc.InsertPost p) → LacksClimb h p.key r
 lacks_climb h p r is lacks = lacks_when h p.key p.value r lacks.0 lacks.2 (subst (λ (z : ClimbStage). AsksForClimb p.key p.value z lacks.0 (own_marks (known h))) is lacks.3)
-
-pub lacks_three : (h : H) (p : Compress) → LacksAsked h (proc.Compress p) → WasRefused h 0 3
-lacks_three h p lacks = subst (λ (z : ℕ × ℕ). WasRefused h z.0 z.1) lacks.1 lacks.2
 
 pub lacks_two : (h : H) (p : Lower) → LacksAsked h (proc.Lower p) → WasRefused h 0 2
 lacks_two h p lacks = subst (λ (z : ℕ × ℕ). WasRefused h z.0 z.1) lacks.1 lacks.2

@@ -1,6 +1,6 @@
 -- What a process has got of the page that it latched last, in each of its states: enough to tell in the end for which page it
 -- was refused what it asked for.
-use Rattle.std.specs.Prelude.{◌≡◌, ◌≢◌, ◌⊎◌, ◌++◌, ℕ, Option, []}
+use Rattle.std.specs.Prelude.{◌≡◌, ◌≢◌, ◌⊎◌, ◌++◌, ℕ, ◌<◌, ◌≤◌, Option, [], ◌∷◌, length}
 use Rattle.bl_page.specs.declared.page.Page.{Page}
 use Rattle.bl_page.specs.declared.page.Page.TheVariants.{Inner}
 use Rattle.bl_page.specs.Machine.Act.{Latch}
@@ -8,7 +8,6 @@ use Rattle.bl_claims.specs.Nodes.{Covers}
 use Rattle.bl_claims.specs.Pages.{node_of}
 use Rattle.bl_claims.specs.Trails.{Mark, Trail, marks_of}
 use Rattle.bl_claims.specs.Walks.{Each}
-use Rattle.bl_claims.specs.Moments.{After, IsLatch}
 use Rattle.bl_claims.specs.Seeing.{name}
 use Rattle.bl_proc_base.specs.declared.approaching.Approach.{Approach}
 use Rattle.bl_proc_base.specs.declared.approaching.Approach.TheVariants as way
@@ -32,7 +31,8 @@ use Rattle.bl_proc.specs.declared.climbing.ClimbStage.TheVariants as climb
 use Rattle.bl_proc.specs.declared.kinds.Proc.{Proc}
 use Rattle.bl_proc.specs.declared.kinds.Proc.TheVariants as proc
 use Rattle.bl_index_rule.specs.declared.known.PassState.{PassState}
-use Rattle.bl_index_steps.specs.Refused.{GotLatched, HasRoom, IsFull, GotHeld, GotAnchor}
+use Rattle.bl_rearrange.specs.Rearranged.{pairs_of}
+use Rattle.bl_index_steps.specs.Refused.{GotLatched, GotHeld, GotAnchor}
 
 -- what the last process of the pass has done
 abbrev pub own_marks : PassState → Trail
@@ -44,9 +44,10 @@ KeepsLatch d e = (more : Trail) × (own_marks e ≡ own_marks d ++ more) × Each
 
 -- the last that it did was to latch the page
 pub record LatchedLast (marks : Trail) (x : ℕ) : Type 0 where
-  pub latched : After marks IsLatch
-  pub is : latched.last.event.act ≡ Latch x
-  pub none : latched.since ≡ []
+  pub before : Trail
+  pub latch : Mark
+  pub split : marks ≡ before ++ latch ∷ []
+  pub latched : latch.event.act ≡ Latch x
 
 -- that page as it got it, which is of that level and covers the key
 pub record GotAt (level key : ℕ) (marks : Trail) (x : ℕ) (c : Page) : Type 0 where
@@ -60,6 +61,13 @@ approach_held (way.At x) marks = Unit {0}
 approach_held (way.Latching x) marks = Unit {0}
 approach_held (way.Latched x) marks = LatchedLast marks x
 approach_held (way.Leaving x to) marks = Unit {0}
+
+-- a page may have 14 pairs: rows of a leaf, children of an inner page
+abbrev pub HasRoom : Page → Type 0
+HasRoom page = length (pairs_of page) < 14
+
+abbrev pub IsFull : Page → Type 0
+IsFull page = 14 ≤ length (pairs_of page)
 
 abbrev pub edit_held : ℕ → ℕ → Edit → Trail → Type 0
 edit_held level key (edit.Putting x page) marks = GotHeld level key marks HasRoom

@@ -1,5 +1,5 @@
 -- What a call that found no room was refused, by the page that its process held.
-use Rattle.std.specs.Prelude.{◌≡◌, ◌⊎◌, ℕ, ◌<◌, ◌≤◌, Option, Some, ◌∷◌, length}
+use Rattle.std.specs.Prelude.{◌≡◌, ◌≢◌, ◌⊎◌, ℕ, ◌<◌, ◌≤◌, ◌++◌, Option, Some, ◌∷◌, length}
 use Rattle.bl_model.specs.declared.deciding.KeyWrite.{KeyWrite}
 use Rattle.bl_model.specs.declared.deciding.Effect.{Effect}
 use Rattle.bl_model.specs.declared.deciding.Effect.TheVariants.{Keep, Enter, Remove, Replace}
@@ -9,25 +9,19 @@ use Rattle.bl_page.specs.Machine.Act.{Get, Latch}
 use Rattle.bl_claims.specs.Nodes.{Covers}
 use Rattle.bl_claims.specs.Pages.{node_of, roots_of}
 use Rattle.bl_claims.specs.Trails.{Mark, Trail}
-use Rattle.bl_claims.specs.Moments.{After, IsLatch}
+use Rattle.bl_claims.specs.Walks.{Each}
 use Rattle.bl_rearrange.specs.Rearranged.{pairs_of}
 
 -- the page that the process latched last was x, and next it got that page, which then was c
 pub record GotLatched (marks : Trail) (x : ℕ) (c : Page) : Type 0 where
-  pub latched : After marks IsLatch
-  pub is : latched.last.event.act ≡ Latch x
+  pub before : Trail
+  pub latch : Mark
   pub get : Mark
-  pub rest : Trail
-  pub next : latched.since ≡ get ∷ rest
-  pub act : get.event.act ≡ Get x
-  pub saw : get.saw ≡ Some c
-
--- a page may have 14 pairs: rows of a leaf, children of an inner page
-abbrev pub HasRoom : Page → Type 0
-HasRoom page = length (pairs_of page) < 14
-
-abbrev pub IsFull : Page → Type 0
-IsFull page = 14 ≤ length (pairs_of page)
+  pub since : Trail
+  pub split : marks ≡ before ++ latch ∷ get ∷ since
+  pub latched : latch.event.act ≡ Latch x
+  pub got : (get.event.act ≡ Get x) × (get.saw ≡ Some c)
+  pub no_more : Each (λ (m : Mark). (y : ℕ) → m.event.act ≢ Latch y) since
 
 -- The page that the process held, as it got it, was of that level, covered the key, and was so.
 pub record GotHeld (level key : ℕ) (marks : Trail) (WasSo : Page → Type 0) : Type 0 where
@@ -45,9 +39,12 @@ pub record GotAnchor (level : ℕ) (marks : Trail) : Type 0 where
   pub levels : (roots_of anchor).levels ≡ level
 
 -- A frame was refused, where the page that the process held had room for one pair more; or a page and two frames, where that
--- page was full, and was to be split. How many pages and frames were refused is said by WasRefused.
+-- page had 14 pairs, rows of a leaf or children of an inner page, and was to be split. How many pages and frames were refused is
+-- said by WasRefused.
 abbrev pub LacksForPage : ℕ → ℕ → Trail → (ℕ → ℕ → Type 0) → Type 0
-LacksForPage level key marks WasRefused = (WasRefused 0 1 × GotHeld level key marks HasRoom) ⊎ (WasRefused 1 2 × GotHeld level key marks IsFull)
+LacksForPage level key marks WasRefused =
+    (WasRefused 0 1 × GotHeld level key marks (λ page. length (pairs_of page) < 14))
+    ⊎ (WasRefused 1 2 × GotHeld level key marks (λ page. 14 ≤ length (pairs_of page)))
 
 -- The same where a pair enters a leaf; or a frame, where it leaves or gets another value, whatever the leaf had room for. A leaf that
 -- stays lacks nothing.

@@ -131,7 +131,8 @@ HasWalked level key staged l x words y d Lost = IsOn l d (staged (post.Coming (L
 
 -- It is at the page of its level that covers its key; or its way begins again; or it has got the anchor of a tree without its level.
 abbrev pub HasReached : ℕ → ℕ → (Approach → Proc) → Layout → Seat (Unit {0}) (View PassState) → Reached → Type 0
-HasReached level key at l h (Parent x glance) = ReadsFrom h glance × IsThere level key (at (Latched x)) (read_words h) (known h) × IsOn l (known h) (known h).state
+HasReached level key at l h (Parent x glance) = ReadsFrom h glance × IsThere level key (at (Latched x)) (read_words h) (known h)
+    × IsOn l (known h) (known h).state
 HasReached level key at l h Again = IsOn l (known h) (at Start)
 HasReached level key at l h (NoLevel glance) = ReadsFrom h glance × HasGotAnchor (at Start) (read_words h) (known h) × IsOn l (known h) (known h).state
 

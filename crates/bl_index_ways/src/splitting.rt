@@ -13,8 +13,8 @@ ghost use Rattle.bl_index_steps.specs.Runs.{Runs, IsOn, IsSameProcess};
 ghost use Rattle.bl_index_ways.specs.Events.{IsToEnter};
 ghost use Rattle.bl_index_ways.specs.Halves.{AreParts};
 ghost use Rattle.bl_proc_base.specs.declared.editing.Outcome.TheVariants as outcomes;
-ghost use Rattle.bl_index_steps.specs.Refused.{GotHeld, IsFull};
-ghost use Rattle.bl_index_steps.specs.Held.{own_marks};
+ghost use Rattle.bl_index_steps.specs.Refused.{GotHeld};
+ghost use Rattle.bl_index_steps.specs.Held.{IsFull, own_marks};
 ghost use Rattle.bl_index_steps.specs.Rooms.{LacksPage};
 
 use crate::editors::Editor;

@@ -1,18 +1,13 @@
 -- An insertion that posts, by words and to its end.
-use Rattle.std.proofs.Common.{ℕ, ◌≡◌, ◌≢◌, ◌<◌, ◌≤◌, ◌+◌, Option, Some, None, zero, suc, refl, sym, ap, ◌∙◌, subst, arith}
+use Rattle.std.proofs.Common.{ℕ, ◌≡◌, ◌<◌, ◌≤◌, ◌+◌, Option, Some, None, zero, suc, refl, sym, ap, ◌∙◌, subst}
 use Rattle.bl_model.specs.declared.deciding.KeyWrite.TheVariants.{Insert}
 use Rattle.bl_model.specs.declared.operation.Op.TheVariants as op
 use Rattle.bl_model.specs.declared.operation.Reply.{Reply}
 use Rattle.bl_model.specs.declared.operation.Reply.TheVariants as reply
-use Rattle.bl_model.specs.Writes.{replied}
-use Rattle.bl_page.specs.declared.page.Page.{Page}
 use Rattle.bl_page.specs.declared.page.Page.TheVariants as page
-use Rattle.bl_claims.specs.Trails.{Trail}
 use Rattle.bl_claims.specs.Nodes.{unbounded}
-use Rattle.bl_claims.specs.Pages.{node_of}
 use Rattle.bl_core.specs.Blank.{IsBlank}
 use Rattle.atomic_table.specs.declared.shared.Seat.{Seat}
-use Rattle.bl_proc_base.specs.declared.acts.Action.TheVariants as act
 use Rattle.bl_proc_base.specs.declared.acts.Seen.{Seen}
 use Rattle.bl_proc_base.specs.declared.acts.Seen.TheVariants as seen
 use Rattle.bl_proc_base.specs.declared.answers.Answer.{Answer}
@@ -23,17 +18,10 @@ use Rattle.bl_proc_base.specs.declared.answers.Posted.{Posted}
 use Rattle.bl_proc_base.specs.declared.answers.Posted.TheVariants as posted
 use Rattle.bl_proc_base.specs.declared.approaching.Approach.{Approach}
 use Rattle.bl_proc_base.specs.declared.approaching.Approach.TheVariants as way
-use Rattle.bl_proc_base.specs.declared.editing.Edit.TheVariants as edit
-use Rattle.bl_proc_base.specs.declared.editing.Outcome.{Outcome}
-use Rattle.bl_proc_base.specs.declared.editing.Outcome.TheVariants as outcome
-use Rattle.bl_proc_base.specs.declared.onwards.Step.TheVariants.{Down}
 use Rattle.bl_proc_base.specs.Approaches.{approach_next}
 use Rattle.bl_proc_base.specs.Given.{Gives}
-use Rattle.bl_proc_base.specs.Onwards.{Leads}
-use Rattle.bl_proc_base.specs.Thin.{thin_hint}
 use Rattle.bl_proc.specs.declared.climbing.Climbed.{Climbed}
 use Rattle.bl_proc.specs.declared.climbing.Climbed.TheVariants as climbed
-use Rattle.bl_proc.specs.declared.climbing.ClimbStage.{ClimbStage}
 use Rattle.bl_proc.specs.declared.climbing.ClimbStage.TheVariants as climb
 use Rattle.bl_proc.specs.declared.climbing.InsertPost.{InsertPost}
 use Rattle.bl_proc.specs.declared.kinds.Proc.{Proc}
@@ -41,23 +29,18 @@ use Rattle.bl_proc.specs.declared.kinds.Proc.TheVariants as proc
 use Rattle.bl_proc.specs.declared.paths.Path.{Path}
 use Rattle.bl_proc.specs.declared.posting.PostReply.{PostReply}
 use Rattle.bl_proc.specs.declared.posting.PostReply.TheVariants as listed
-use Rattle.bl_proc.specs.declared.writing.Noted.{Noted}
 use Rattle.bl_proc.specs.declared.writing.WriteReply.{WriteReply}
 use Rattle.bl_proc.specs.declared.writing.WriteReply.TheVariants as written
-use Rattle.bl_proc.specs.declared.writing.WriteStage.{WriteStage}
-use Rattle.bl_proc.specs.declared.writing.WriteStage.TheVariants as write
 use Rattle.std.specs.Coded.{le_prop}
 use mathlib.Core.HLevel.{is_prop→PathP}
 use Rattle.bl_proc.specs.declared.posting.Post.{Post}
-use Rattle.bl_proc.specs.declared.posting.PostStage.{PostStage}
 use Rattle.bl_proc.specs.declared.posting.PostStage.TheVariants as post
 use Rattle.bl_proc.specs.Levels.{IsBelowTop, IsBelowTop-prop, MayReply}
 use Rattle.bl_proc.specs.Posts.{posted_answer}
 use Rattle.bl_proc.specs.Stands.{Stands, Stands-prop}
-use Rattle.bl_proc.specs.Climbs.{posted_as, left_hint, inserted_reply, climbed_answer, climb_answer_in, IsLast, IsUnsplit}
-use Rattle.bl_proc.specs.Paths.{page_at, from_page, IsBlank as IsBlankPath, Notes}
-use Rattle.bl_proc.specs.Processes.{next_of, Takes}
-use Rattle.bl_proc.specs.Writes.{write_answer, write_next_in, write_needs_in, WriteGoes}
+use Rattle.bl_proc.specs.Climbs.{posted_as, left_hint, climbed_answer, climb_answer_in, IsLast}
+use Rattle.bl_proc.specs.Paths.{page_at, from_page, IsBlank as IsBlankPath}
+use Rattle.bl_proc.specs.Writes.{write_answer}
 use Rattle.bl_proc_unique.specs.Courses.{GoesOn}
 use Rattle.bl_proc_unique.specs.Frames.{op_of}
 use Rattle.bl_proc_unique.proofs.Climbs.{climb_goes}
@@ -66,7 +49,6 @@ use Rattle.bl_proc_invariant.proofs.Noting.{blank_goes}
 use Rattle.bl_store.specs.declared.view.View.{View}
 use Rattle.bl_index_rule.specs.declared.known.PassState.{PassState}
 use Rattle.bl_index_rule.specs.Observed.{IsUnborn}
-use Rattle.bl_index_steps.specs.Held.{proc_held, write_held}
 use Rattle.bl_index_steps.specs.Rooms.{LacksPage, LacksPost, LacksWrite}
 use Rattle.bl_index_steps.specs.Runs.{IsDone, IsSameProcess, EndsAs}
 use Rattle.bl_index_steps.proofs.Ends.{climb_over}
@@ -77,15 +59,7 @@ use Rattle.bl_index_write.specs.declared.rising.Rising.{Rising}
 use Rattle.bl_index_write.specs.Climbing.{climbing, climb_unborn, climb_ending, climb_opened, climb_posted, climb_posting, first_post, next_post, rises, rose, IsClimbOver}
 use Rattle.bl_index_ways.specs.Events.{HoldsNone}
 use Rattle.bl_index_write.specs.Kinds.{IsClimbAnswer}
-use Rattle.bl_index_ways.specs.Ways.{IsToHold}
-use Rattle.bl_index_ways.specs.Writers.{IsAtWork, IsWriter, left_reply, left_by}
-
--- only an inner page leads down
-pub leads_down : (c : Page) (key level y : ℕ) → Leads c key level (Down y) → (0 < (node_of c).shape.level) × ((node_of c).shape.level < 12)
-leads_down (page.Anchor a) key level y leads = absurd leads.0
-leads_down (page.Leaf l) key level y leads = absurd (let low = leads.2 in omega arith)
-leads_down (page.Inner i) key level y leads = (let low = leads.2 in omega arith, let limit = i.below_limit in omega arith)
-leads_down (page.Dead d) key level y leads = absurd leads.0
+use Rattle.bl_index_ways.specs.Writers.{left_reply}
 
 module _ (key value : ℕ) (path : Path) where
   -- One that is to begin is blank.

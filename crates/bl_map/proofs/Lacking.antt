@@ -1,5 +1,5 @@
 -- A write that found no room, and what comes behind it.
-use Rattle.std.proofs.Common.{ℕ, ◌≡◌, ◌++◌, None, Some, Option, [], sym, ap, ◌∙◌, append-nil, append_assoc}
+use Rattle.std.proofs.Common.{ℕ, ◌≡◌, ◌++◌, None, [], sym, ap, ◌∙◌, append-nil, append_assoc}
 use Rattle.bl_model.specs.declared.deciding.KeyWrite.{KeyWrite}
 use Rattle.bl_model.specs.declared.deciding.KeyWrite.TheVariants.{Insert}
 use Rattle.bl_claims.specs.Seeing.{GoesOnFrom}
@@ -14,7 +14,7 @@ found_last pass key does old before after mine begins lacks = record { before = 
 
 -- an insertion finds no room where the key is absent
 pub insert_lacks : (key value : ℕ) (before after : Pass) → InsertLacks before key after → WriteLacks before key (Insert value) after
-insert_lacks key value before after lacks = (None, lacks)
+insert_lacks key value before after lacks = record { number = lacks.number; holds = lacks.holds; is = (None, lacks.is) }
 
 -- and more happened since
 pub found_on : (pass key : ℕ) (does : KeyWrite) (old mid new : Trail) → FoundNoRoom pass key does old mid → GoesOnFrom mid new → FoundNoRoom pass key does old new

@@ -3,10 +3,6 @@ use Rattle.std.proofs.Common.{◌≡◌, ◌≢◌, ℕ, Some, None, refl, arith
 use Rattle.std.proofs.lemmas.Bool.Decides.{nat_tests}
 use Rattle.bl_model.specs.Map.{Map, SameMap, with_pair, without_key}
 
--- maps that agree at every key are equal
-pub map_is : (m n : Map) → SameMap m n → n ≡ m
-map_is m n same = λ i key. same key i
-
 pub same_map-refl : (m : Map) → SameMap m m
 same_map-refl m key = refl
 

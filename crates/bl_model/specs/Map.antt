@@ -24,9 +24,9 @@ with_pair m key value j = if j == key then Some value else m j
 abbrev pub without_key : Map → ℕ → Map
 without_key m key j = if j == key then None else m j
 
--- the two maps agree at every key
-abbrev pub SameMap : Map → Map → Type 0
-SameMap m n = (key : ℕ) → n key ≡ m key
+-- The two maps agree at every key; the same of what there is for each page or process.
+abbrev pub SameMap : {X A : Type 0} → (X → A) → (X → A) → Type 0
+SameMap m n = (key : _) → n key ≡ m key
 
 -- The rows are the pairs of m whose keys are taken, in rising order of the keys.
 pub record ListsPairs (m : Map) (Takes : ℕ → Type 0) (rows : List (ℕ × ℕ)) : Type 0 where

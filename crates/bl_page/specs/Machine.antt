@@ -1,6 +1,7 @@
 -- The page machine: pages with owners, and processes that begin, act and end, one event at a time.
 -- It knows nothing of what stands in a page, nor of how a process chooses its next act.
 use Rattle.std.specs.Prelude.{◌≡◌, ◌≢◌, ℕ, ◌<◌, ◌≤◌, Option, List, [], ◌∷◌}
+use Rattle.bl_model.specs.Map.{SameMap}
 use Rattle.bl_page.specs.declared.machine.Missed.{Missed}
 
 -- A process: on threads the pass that runs it, and its number among that pass's processes.
@@ -79,30 +80,22 @@ Enabled s p (Retire x) = s.owner x ≡ Held p
 Enabled s p (Release x) = (time : ℕ) × (s.owner x ≡ Retired time) × AllBeganAfter s time
 Enabled s p act = Unit {0}
 
-abbrev pub SameContents : {C : Type 0} → State C → State C → Type 0
-SameContents s s' = (x : ℕ) → s'.contents x ≡ s.contents x
-
-abbrev pub SameOwners : {C : Type 0} → State C → State C → Type 0
-SameOwners s s' = (x : ℕ) → s'.owner x ≡ s.owner x
-
-abbrev pub SamePhases : {C : Type 0} → State C → State C → Type 0
-SamePhases s s' = (p : Name) → s'.phase p ≡ s.phase p
-
 -- The owner of x changes, and no page's contents and no process's phase.
 abbrev pub Owns : {C : Type 0} → State C → ℕ → Owner → State C → Type 0
-Owns s x owner s' = SameContents s s' × IsAt x owner s.owner s'.owner × SamePhases s s'
+Owns s x owner s' = SameMap s.contents s'.contents × IsAt x owner s.owner s'.owner × SameMap s.phase s'.phase
 
 -- What the event changes, the clock apart: a get, a look and a miss nothing.
 abbrev pub Changes : {C A : Type 0} → State C → Name → Act C A → State C → Type 0
-Changes s p Begin s' = SameContents s s' × SameOwners s s' × ((now : ℕ) × (s.clock ≤ now) × (now ≤ s'.clock) × IsAt p (Running now) s.phase s'.phase)
-Changes s p (End answer) s' = SameContents s s' × SameOwners s s' × IsAt p Ended s.phase s'.phase
-Changes s p (Put x c) s' = IsAt x c s.contents s'.contents × SameOwners s s' × SamePhases s s'
+Changes s p Begin s' = SameMap s.contents s'.contents × SameMap s.owner s'.owner
+    × ((now : ℕ) × (s.clock ≤ now) × (now ≤ s'.clock) × IsAt p (Running now) s.phase s'.phase)
+Changes s p (End answer) s' = SameMap s.contents s'.contents × SameMap s.owner s'.owner × IsAt p Ended s.phase s'.phase
+Changes s p (Put x c) s' = IsAt x c s.contents s'.contents × SameMap s.owner s'.owner × SameMap s.phase s'.phase
 Changes s p (Take x) s' = Owns s x (Held p) s'
 Changes s p (Latch x) s' = Owns s x (Held p) s'
 Changes s p (Open x) s' = Owns s x Owner.Open s'
 Changes s p (Retire x) s' = (now : ℕ) × (s.clock ≤ now) × (now < s'.clock) × Owns s x (Retired now) s'
 Changes s p (Release x) s' = Owns s x Released s'
-Changes s p act s' = SameContents s s' × SameOwners s s' × SamePhases s s'
+Changes s p act s' = SameMap s.contents s'.contents × SameMap s.owner s'.owner × SameMap s.phase s'.phase
 
 -- One event leads from a state in which it is enabled to the next.
 pub record Steps {C A : Type 0} (s : State C) (e : Event C A) (s' : State C) : Type 0 where

@@ -1,13 +1,8 @@
 -- An insertion that posts stands where it may after each turn.
-use Rattle.std.proofs.Common.{ℕ, ◌<◌, sym, subst, ◌∙◌, inl, inr, arith}
+use Rattle.std.proofs.Common.{ℕ, sym, subst, ◌∙◌, inl, inr}
 use Rattle.bl_model.specs.declared.deciding.KeyWrite.{KeyWrite}
-use Rattle.bl_page.specs.declared.page.Page.{Page}
-use Rattle.bl_page.specs.declared.page.Page.TheVariants.{Anchor, Leaf, Inner, Dead}
-use Rattle.bl_claims.specs.Pages.{node_of}
 use Rattle.bl_proc_base.specs.declared.acts.Seen.{Seen}
 use Rattle.bl_proc_base.specs.declared.acts.Seen.TheVariants as seen
-use Rattle.bl_proc_base.specs.declared.onwards.Step.TheVariants.{Down}
-use Rattle.bl_proc_base.specs.Onwards.{Leads}
 use Rattle.bl_proc.specs.declared.paths.Path.{Path}
 use Rattle.bl_proc.specs.declared.writing.WriteStage.{WriteStage}
 use Rattle.bl_proc.specs.declared.writing.WriteStage.TheVariants as write
@@ -40,10 +35,3 @@ goes_stands key value before path a what (Over last) h t = tt
 goes_stands key value before path (Ending r) seen.Done (Writing v) h t = absurd t
 goes_stands key value before path (Ending r) seen.Done (Posting p) h t = absurd t
 goes_stands key value before path a what b h t = absurd t
-
--- a page that leads down is of a level above the leaves
-pub down_level : (c : Page) (key level y : ℕ) → Leads c key level (Down y) → (node_of c).shape.level < 12
-down_level (Anchor a) key level y h = absurd h.0
-down_level (Leaf l) key level y h = omega arith
-down_level (Inner i) key level y h = i.below_limit
-down_level (Dead d) key level y h = absurd h.0

@@ -15,44 +15,29 @@ use Rattle.bl_proc.specs.declared.posting.PostStage.TheVariants as post
 use Rattle.bl_proc.specs.declared.kinds.Proc.TheVariants as proc
 use Rattle.bl_proc.specs.Posts.{posted_answer, post_answer_in}
 use Rattle.bl_proc_invariant.specs.Logs.{reply_log, post_log, proc_log, AllLogs}
-use Rattle.bl_proc_meanings.specs.Answers.{MeansPosted, MeansHint}
+use Rattle.bl_proc_meanings.specs.Answers.{MeansPosted}
 use Rattle.bl_proc_invariant.specs.Knowing.{Run}
 
 same_posted : (p q : Posted) (h i : Option Hint) → answer.Post p h ≡ answer.Post q i → p ≡ q
 same_posted p q h i e = cc
 
-reply_means : (level key : ℕ) (r : PostReply) (p : Posted) (h : Option Hint) (marks : Trail) → posted_answer level r ≡ answer.Post p h → reply_log level key r marks → MeansPosted level key p marks
-reply_means level key (reply.Done s) p h marks e log = subst (λ z. MeansPosted level key z marks) (same_posted _ _ _ _ e) (s, log)
-reply_means level key reply.Already p h marks e log = subst (λ z. MeansPosted level key z marks) (same_posted _ _ _ _ e) log
-reply_means level key reply.Stale p h marks e log = subst (λ z. MeansPosted level key z marks) (same_posted _ _ _ _ e) log
-reply_means level key reply.NoRoom p h marks e log = subst (λ z. MeansPosted level key z marks) (same_posted _ _ _ _ e) log
-reply_means level key reply.TooTall p h marks e log = subst (λ z. MeansPosted level key z marks) (same_posted _ _ _ _ e) log
+same_hint : (p q : Posted) (h i : Option Hint) → answer.Post p h ≡ answer.Post q i → h ≡ i
+same_hint p q h i e = cc
+
+reply_means : (level key : ℕ) (r : PostReply) (p : Posted) (h : Option Hint) (marks : Trail) → posted_answer level r ≡ answer.Post p h → reply_log level key r marks → MeansPosted level key p h marks
+reply_means level key (reply.Done s) p h marks e log = subst (λ z. MeansPosted level key z h marks) (same_posted _ _ _ _ e) (s, log, sym (same_hint _ _ _ _ e))
+reply_means level key reply.Already p h marks e log = subst (λ z. MeansPosted level key z h marks) (same_posted _ _ _ _ e) (log, sym (same_hint _ _ _ _ e))
+reply_means level key reply.Stale p h marks e log = subst (λ z. MeansPosted level key z h marks) (same_posted _ _ _ _ e) (log, sym (same_hint _ _ _ _ e))
+reply_means level key reply.NoRoom p h marks e log = subst (λ z. MeansPosted level key z h marks) (same_posted _ _ _ _ e) (log, sym (same_hint _ _ _ _ e))
+reply_means level key reply.TooTall p h marks e log = subst (λ z. MeansPosted level key z h marks) (same_posted _ _ _ _ e) (log, sym (same_hint _ _ _ _ e))
 
 some_answer : (a b : Answer) → Some a ≡ Some b → a ≡ b
 some_answer a b e = cc
 
-pub stage_means : (level key : ℕ) (stage : PostStage) (p : Posted) (h : Option Hint) (marks : Trail) → post_answer_in level stage ≡ Some (answer.Post p h) → post_log level key stage marks → MeansPosted level key p marks
+pub stage_means : (level key : ℕ) (stage : PostStage) (p : Posted) (h : Option Hint) (marks : Trail) → post_answer_in level stage ≡ Some (answer.Post p h) → post_log level key stage marks → MeansPosted level key p h marks
 stage_means level key (post.Over r) p h marks e log = reply_means level key r p h marks (some_answer _ _ e) log
 stage_means level key old p h marks e log = absurd (let f = e in cc)
 
-same_hint : (p q : Posted) (h i : Option Hint) → answer.Post p h ≡ answer.Post q i → h ≡ i
-same_hint p q h i e = cc
-
-reply_hints : (level key : ℕ) (r : PostReply) (p : Posted) (h : Option Hint) (marks : Trail) → posted_answer level r ≡ answer.Post p h → reply_log level key r marks → MeansHint level key p h marks
-reply_hints level key (reply.Done s) p h marks e log = subst (λ z. MeansHint level key z h marks) (same_posted _ _ _ _ e) (s, log, sym (same_hint _ _ _ _ e))
-reply_hints level key reply.Already p h marks e log = subst (λ z. MeansHint level key z h marks) (same_posted _ _ _ _ e) (sym (same_hint _ _ _ _ e))
-reply_hints level key reply.Stale p h marks e log = subst (λ z. MeansHint level key z h marks) (same_posted _ _ _ _ e) (sym (same_hint _ _ _ _ e))
-reply_hints level key reply.NoRoom p h marks e log = subst (λ z. MeansHint level key z h marks) (same_posted _ _ _ _ e) (sym (same_hint _ _ _ _ e))
-reply_hints level key reply.TooTall p h marks e log = subst (λ z. MeansHint level key z h marks) (same_posted _ _ _ _ e) (sym (same_hint _ _ _ _ e))
-
-pub stage_hints : (level key : ℕ) (stage : PostStage) (p : Posted) (h : Option Hint) (marks : Trail) → post_answer_in level stage ≡ Some (answer.Post p h) → post_log level key stage marks → MeansHint level key p h marks
-stage_hints level key (post.Over r) p h marks e log = reply_hints level key r p h marks (some_answer _ _ e) log
-stage_hints level key old p h marks e log = absurd (let f = e in cc)
-
--- In every world whose processes have done what they tell, what a post has answered means what it says.
-pub post_means : (w : World Run) (n : Name) (a : Post) (p : Posted) (h : Option Hint) → AllLogs w → (w.proc n).state ≡ proc.Post a → post_answer_in a.level a.stage ≡ Some (answer.Post p h) → MeansPosted a.level a.key p (marks_of n w.trail)
+-- In every world whose processes have done what they tell, what a post has answered means what it says, with the hint beside it.
+pub post_means : (w : World Run) (n : Name) (a : Post) (p : Posted) (h : Option Hint) → AllLogs w → (w.proc n).state ≡ proc.Post a → post_answer_in a.level a.stage ≡ Some (answer.Post p h) → MeansPosted a.level a.key p h (marks_of n w.trail)
 post_means w n a p h logs is e = stage_means a.level a.key a.stage p h (marks_of n w.trail) e (subst (λ s. proc_log s (marks_of n w.trail)) is (logs n))
-
--- And so does its hint.
-pub post_hints : (w : World Run) (n : Name) (a : Post) (p : Posted) (h : Option Hint) → AllLogs w → (w.proc n).state ≡ proc.Post a → post_answer_in a.level a.stage ≡ Some (answer.Post p h) → MeansHint a.level a.key p h (marks_of n w.trail)
-post_hints w n a p h logs is e = stage_hints a.level a.key a.stage p h (marks_of n w.trail) e (subst (λ s. proc_log s (marks_of n w.trail)) is (logs n))

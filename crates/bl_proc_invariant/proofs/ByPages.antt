@@ -1,11 +1,11 @@
 -- What a compression and a lowering have done, told by the pages that they got and put.
-use Rattle.std.proofs.Common.{ℕ, ◌≡◌, ◌==◌, ◌++◌, if◌then◌else◌, List, [], ◌∷◌, Option, Some, ap, sym, ◌∙◌, subst}
+use Rattle.std.proofs.Common.{ℕ, ◌≡◌, ◌==◌, ◌++◌, if◌then◌else◌, List, [], ◌∷◌, Option, Some, refl, ap, sym, ◌∙◌, subst}
 use Rattle.bl_model.specs.declared.operation.Reply.{Reply}
 use Rattle.bl_page.specs.declared.page.Page.{Page}
 use Rattle.bl_page.specs.declared.page.Page.TheVariants.{Inner as InnerPage}
 use Rattle.bl_page.specs.declared.page.Inner.{Inner}
 use Rattle.bl_page.specs.Machine.{Act}
-use Rattle.bl_page.specs.Machine.Act.{Get, Put, Latch, Retire}
+use Rattle.bl_page.specs.Machine.Act.{Put, Retire}
 use Rattle.bl_rearrange.specs.Rearranged.{KeepsFrame}
 use Rattle.bl_rearrange.specs.Neighbours.{AreNeighbours}
 use Rattle.bl_rearrange.specs.declared.sides.Evened.{Evened}
@@ -16,8 +16,8 @@ use Rattle.bl_proc_compress.specs.declared.compressing.Siblings.{Siblings}
 use Rattle.bl_proc_compress.specs.declared.compressing.Family.{Family}
 use Rattle.bl_proc_compress.specs.declared.compressing.Puts.{Puts}
 use Rattle.bl_proc_compress.specs.Compressions.{Merges, Evens, Relists, merge_hint, other}
-use Rattle.bl_proc_meanings.specs.Squeezed.{AtBoth, put_child, to_merged, to_evened, IsMergeOf, IsRelisted, IsEveningOf, HasMerged, HasEvened}
-use Rattle.bl_proc_invariant.specs.Logs.{IsToSqueeze, to_last}
+use Rattle.bl_proc_meanings.specs.Squeezed.{to_right, GotBoth, evened_puts, IsMergeOf, IsRelisted, IsEveningOf, HasMerged, HasEvened}
+use Rattle.bl_proc_invariant.specs.Logs.{AtBoth, put_act, IsToSqueeze, to_last}
 
 kept : (parent : Inner) (middle page : Page) → KeepsFrame (InnerPage parent) middle → KeepsFrame middle page → KeepsFrame (InnerPage parent) page
 kept parent (InnerPage m) (InnerPage q) h k = (k.0 ∙ h.0, k.1 ∙ h.1, k.2 ∙ h.2, k.3 ∙ h.3)
@@ -40,34 +40,41 @@ evened_of u separator = record { left = u.left; right = u.right; separator = sep
 pub evening_of : (f : Family) (c d : Page) (u : Puts) (v : Evens f c d u) → IsEveningOf f c d (evened_of u v.separator) u.parent
 evening_of f c d u v = record { may = v.may; evened = v.evened; parent_is = relisted f.parent f.key v.separator f.at.right u.parent v.parent }
 
+abbrev pub got_both : {level key : ℕ} {ms : Trail} (f : Family) (c d : Page) (more : Siblings → List (Act Page Reply)) → AtBoth level key ms f c d (to_right f.at (more f.at)) → GotBoth level key ms more
+got_both f c d more h = record { family = f; at = h.left.family; left = c; got = h.left.got; right = d; got_right = h.got }
+
+-- what is put of a merge
+abbrev put_merged : Puts → Siblings → List (Act Page Reply)
+put_merged u at = Put at.left u.left ∷ Put at.parent u.parent ∷ Put at.right u.right ∷ Retire at.right ∷ []
+
+puts_are : (sd : Side) (u : Puts) (separator : ℕ) → put_act sd u ∷ Put u.at.parent u.parent ∷ put_act (other sd) u ∷ [] ≡ evened_puts sd (evened_of u separator) u.parent u.at
+puts_are side.Left u separator = refl
+puts_are side.Right u separator = refl
+
 -- all is put, and the right child retired
-merged_acts : (u : Puts) → u.gains ≡ side.Left → to_last u ++ Retire u.at.right ∷ [] ≡ to_merged u.at u.left u.parent u.right
+merged_acts : (u : Puts) → u.gains ≡ side.Left → to_last u ++ Retire u.at.right ∷ [] ≡ to_right u.at (put_merged u u.at)
 merged_acts u gains =
-    ap (λ (z : Side). Get u.at.parent ∷ Latch u.at.left ∷ Get u.at.left ∷ Latch u.at.right ∷ Get u.at.right ∷ put_child z u.at u.left u.right ∷ Put u.at.parent u.parent ∷ put_child (other z) u.at u.left u.right ∷ Retire u.at.right ∷ []) gains
+    ap (λ (z : Side). to_right u.at (put_act z u ∷ Put u.at.parent u.parent ∷ put_act (other z) u ∷ Retire u.at.right ∷ [])) gains
 
 module _ (level key : ℕ) (ms : Trail) (u : Puts) where
   pub has_merged : (h : IsToSqueeze level key ms u (to_last u ++ Retire u.at.right ∷ [])) → AreNeighbours h.left h.right → Merges h.family h.left h.right u → HasMerged level key (merge_hint h.family.parent.level u.parent u.left) ms
   has_merged h near m =
-      let acts : AtBoth level key ms h.family h.left h.right (to_merged u.at u.left u.parent u.right) = subst (λ (z : List (Act Page Reply)). AtBoth level key ms h.family h.left h.right z) (merged_acts u m.gains) h.both in
+      let acts : AtBoth level key ms h.family h.left h.right (to_right u.at (put_merged u u.at)) = subst (λ (z : List (Act Page Reply)). AtBoth level key ms h.family h.left h.right z) (merged_acts u m.gains) h.both in
       record {
-        family = h.family;
-        left = h.left;
-        right = h.right;
         merged = u.left;
         parent = u.parent;
         dead = u.right;
-        both = subst (λ (t : Siblings). AtBoth level key ms h.family h.left h.right (to_merged t u.left u.parent u.right)) h.at acts;
+        both = got_both h.family h.left h.right (put_merged u) (subst (λ (t : Siblings). AtBoth level key ms h.family h.left h.right (to_right t (put_merged u t))) h.at acts);
         merge = merge_of h.family h.left h.right u near m;
         hint_is = ap (λ (l : ℕ). merge_hint l u.parent u.left) h.both.left.family.level_is;
       }
 
   pub has_evened : (h : IsToSqueeze level key ms u (to_last u)) → Evens h.family h.left h.right u → HasEvened level key ms
-  has_evened h v = record {
-    family = h.family;
-    left = h.left;
-    right = h.right;
-    now = evened_of u v.separator;
-    parent = u.parent;
-    both = subst (λ (t : Siblings). AtBoth level key ms h.family h.left h.right (to_evened t (evened_of u v.separator) u.parent)) h.at h.both;
-    evening = evening_of h.family h.left h.right u v;
-  }
+  has_evened h v =
+      let acts : AtBoth level key ms h.family h.left h.right (to_right u.at (evened_puts u.gains (evened_of u v.separator) u.parent u.at)) = subst (λ (z : List (Act Page Reply)). AtBoth level key ms h.family h.left h.right (to_right u.at z)) (puts_are u.gains u v.separator) h.both in
+      record {
+        now = evened_of u v.separator;
+        parent = u.parent;
+        both = got_both h.family h.left h.right (evened_puts u.gains (evened_of u v.separator) u.parent) (subst (λ (t : Siblings). AtBoth level key ms h.family h.left h.right (to_right t (evened_puts u.gains (evened_of u v.separator) u.parent t))) h.at acts);
+        evening = evening_of h.family h.left h.right u v;
+      }

@@ -32,7 +32,7 @@ use Rattle.bl_proc.specs.Stands.{Stands}
 use Rattle.bl_proc.specs.Climbs.{posted_as, left_hint, IsLast, climb_next_in}
 use Rattle.bl_proc.specs.Writes.{post_hint, write_next_in}
 use Rattle.bl_proc_meanings.specs.Hinted.{WroteLeaf}
-use Rattle.bl_proc_meanings.specs.Answers.{MeansPosted, MeansHint}
+use Rattle.bl_proc_meanings.specs.Answers.{MeansPosted}
 use Rattle.bl_proc_meanings.specs.Climbed.{PostsUp, WroteAndPosted}
 use Rattle.bl_core.proofs.Meant.{done_on, already_on, stale_on, tall_on, no_room_on}
 use Rattle.bl_proc_invariant.specs.Turns.{event_of}
@@ -107,8 +107,8 @@ split_on value level separator q path marks h t =
     })
 
 -- what the last post has come to
-last_means : (level key : ℕ) (r : PostReply) (marks : Trail) → IsLast r → reply_log level key r marks → MeansPosted level key (posted_as r) marks × MeansHint level key (posted_as r) None marks
-last_means level key (listed.Done None) marks l h = ((None, h), (None, h, refl))
+last_means : (level key : ℕ) (r : PostReply) (marks : Trail) → IsLast r → reply_log level key r marks → MeansPosted level key (posted_as r) None marks
+last_means level key (listed.Done None) marks l h = (None, h, refl)
 last_means level key (listed.Done (Some separator)) marks l h = absurd l
 last_means level key listed.Already marks l h = (h, refl)
 last_means level key listed.Stale marks l h = (h, refl)
@@ -118,10 +118,6 @@ last_means level key listed.TooTall marks l h = (h, refl)
 module _ (marks : Trail) (m : Mark) where
   abbrev more : Trail
   more = marks ++ m ∷ []
-
-  -- with one mark more of the post that it is at
-  abbrev rest_on : {Does : Trail → Type 0} {level key : ℕ} → IsPostingOn Does level key marks → Trail
-  rest_on h = h.rest ++ m ∷ []
 
   split_more : {Does : Trail → Type 0} {level key : ℕ} (h : IsPostingOn Does level key marks) → more ≡ h.before ++ (h.rest ++ m ∷ [])
   split_more h = ap (λ z. z ++ m ∷ []) h.split ∙ append_assoc h.before h.rest (m ∷ [])
@@ -146,26 +142,19 @@ module _ (marks : Trail) (m : Mark) where
   last_on {level = level} {key = key} r h l log =
       let done = h.rest ++ m ∷ [] in
       let means = last_means level key r (h.begin ∷ done) l log in
-      subst (WroteAndPosted (posted_as r) (left_hint level key (posted_as r))) (sym (split_more h)) (h.whole (posted_as r) (left_hint level key (posted_as r)) done (PostsUp.Last level key done (means.0, means.1, refl)))
+      subst (WroteAndPosted (posted_as r) (left_hint level key (posted_as r))) (sym (split_more h)) (h.whole (posted_as r) (left_hint level key (posted_as r)) done (PostsUp.Last level key done means refl))
 
   -- A mark that writes nothing
   module _ (quiet : writes_in m.event.act ≡ []) where
-    means_stays : (begin : Mark) (part : Trail) (level key : ℕ) (a : Posted) → MeansPosted level key a (begin ∷ part) → MeansPosted level key a (begin ∷ (part ++ m ∷ []))
-    means_stays begin part level key posted.Done h = (h.0, done_on (begin ∷ part) m quiet h.1)
-    means_stays begin part level key posted.Already h = already_on (begin ∷ part) m quiet h
-    means_stays begin part level key posted.Stale h = stale_on (begin ∷ part) m quiet h
-    means_stays begin part level key posted.NoRoom h = no_room_on (begin ∷ part) m quiet h
-    means_stays begin part level key posted.TooTall h = tall_on (begin ∷ part) m quiet h
-
-    hint_stays : (begin : Mark) (part : Trail) (level key : ℕ) (a : Posted) (left : Option Hint) → MeansHint level key a left (begin ∷ part) → MeansHint level key a left (begin ∷ (part ++ m ∷ []))
-    hint_stays begin part level key posted.Done left h = (h.0, done_on (begin ∷ part) m quiet h.1, h.2)
-    hint_stays begin part level key posted.Already left h = h
-    hint_stays begin part level key posted.Stale left h = h
-    hint_stays begin part level key posted.NoRoom left h = h
-    hint_stays begin part level key posted.TooTall left h = h
+    means_stays : (begin : Mark) (part : Trail) (level key : ℕ) (a : Posted) → MeansPosted level key a None (begin ∷ part) → MeansPosted level key a None (begin ∷ (part ++ m ∷ []))
+    means_stays begin part level key posted.Done h = (h.0, done_on (begin ∷ part) m quiet h.1, h.2)
+    means_stays begin part level key posted.Already h = (already_on (begin ∷ part) m quiet h.0, h.1)
+    means_stays begin part level key posted.Stale h = (stale_on (begin ∷ part) m quiet h.0, h.1)
+    means_stays begin part level key posted.NoRoom h = (no_room_on (begin ∷ part) m quiet h.0, h.1)
+    means_stays begin part level key posted.TooTall h = (tall_on (begin ∷ part) m quiet h.0, h.1)
 
     posts_stay : {begin : Mark} {a : Posted} {left : Option Hint} {level key : ℕ} {part : Trail} → PostsUp begin a left level key part → PostsUp begin a left level key (part ++ m ∷ [])
-    posts_stay {begin} {a} {left} (PostsUp.Last level key part h) = PostsUp.Last level key (part ++ m ∷ []) (means_stays begin part level key a h.0, hint_stays begin part level key a None h.1, h.2)
+    posts_stay {begin} {a} {left} (PostsUp.Last level key part means is) = PostsUp.Last level key (part ++ m ∷ []) (means_stays begin part level key a means) is
     posts_stay {begin} {a} {left} (PostsUp.Higher level key separator part after means up) =
         subst (PostsUp begin a left level key) (sym (append_assoc part after (m ∷ []))) (PostsUp.Higher level key separator part (after ++ m ∷ []) means (posts_stay up))
 

@@ -37,9 +37,9 @@ use Rattle.bl_proc_compress.specs.declared.squeezing.CompressStage.{CompressStag
 use Rattle.bl_proc_compress.specs.declared.squeezing.CompressStage.TheVariants as compress
 use Rattle.bl_proc_compress.specs.Compresses.{compress_reply, compress_next_in, CompressArrives}
 use Rattle.bl_proc_invariant.specs.Turns.{event_of}
-use Rattle.bl_proc_meanings.specs.Squeezed.{acts_in, acts_of, Since, AtFamily, AtLeft, AtBoth, to_right, LacksPlace, Once}
-use Rattle.bl_proc_invariant.specs.Logs.{put_act, to_last, IsToSqueeze, come_log, decision_log, squeeze_log, pressed_log, compress_log}
-use Rattle.bl_proc_invariant.proofs.ByPages.{merge_of, evened_of, evening_of, has_merged, has_evened}
+use Rattle.bl_proc_meanings.specs.Squeezed.{acts_in, acts_of, Since, to_right, LacksPlace, Once}
+use Rattle.bl_proc_invariant.specs.Logs.{AtFamily, AtLeft, AtBoth, put_act, to_last, IsToSqueeze, come_log, decision_log, squeeze_log, pressed_log, compress_log}
+use Rattle.bl_proc_invariant.proofs.ByPages.{got_both, merge_of, evened_of, evening_of, has_merged, has_evened}
 use Rattle.bl_proc_invariant.proofs.Logging.{way_stays, way_goes}
 use Rattle.bl_proc_unique.proofs.WayCases.{SqueezeCase, squeeze_case}
 use Rattle.bl_proc_unique.proofs.KindCases.{CompressCase}
@@ -94,9 +94,6 @@ refused_event side.Right u = refl
 act_put : (sd : Side) (u : Puts) → acts_in (put_act sd u) ≡ put_act sd u ∷ []
 act_put side.Left u = refl
 act_put side.Right u = refl
-
-same_merge : (h i : Option Hint) → decision.Merged h ≡ decision.Merged i → h ≡ i
-same_merge h i e = cc
 
 not_evened : (h : Option Hint) → decision.Merged h ≡ decision.Evened → ⊥
 not_evened h e = cc
@@ -198,16 +195,13 @@ module _ (ms : Trail) (m : Mark) where
     ]
 
     -- no frame was there for the first put
-    lacks : (u : Puts) → m.event.act ≡ Miss missed.Reservation → IsToSqueeze level key ms u (to_right u.at) → LacksPlace level key more
+    lacks : (u : Puts) → m.event.act ≡ Miss missed.Reservation → IsToSqueeze level key ms u (to_right u.at []) → LacksPlace level key more
     lacks u did h = record {
       until = ms;
       mark = m;
       split = refl;
       refused = did;
-      family = h.family;
-      left = h.left;
-      right = h.right;
-      both = subst (λ (t : Siblings). AtBoth level key ms h.family h.left h.right (to_right t)) h.at h.both;
+      both = got_both h.family h.left h.right (λ at. []) (subst (λ (t : Siblings). AtBoth level key ms h.family h.left h.right (to_right t [])) h.at h.both);
       due = elim h.decided [
         | inl d ↦ inl (u.left, u.parent, u.right, merge_of h.family h.left h.right u d.0 d.1)
         | inr v ↦ inr (evened_of u v.separator, u.parent, evening_of h.family h.left h.right u v)
@@ -226,14 +220,14 @@ module _ (ms : Trail) (m : Mark) where
 
     links_on : (f : Family) (c : Page) (d : Compression) → Links f c d → m.event.act ≡ Get f.at.left → m.saw ≡ Some c → AtFamily level key ms f (Get f.at.parent ∷ Latch f.at.left ∷ []) → squeeze_log level key d more
     links_on f c (LatchingRight h page) t did saw log = rw (← t.0, ← t.1) at (left_got c did saw log)
-    links_on f c (OpeningLeft at ended) t did saw log = subst (λ z. decision_log level key z more) (sym t.2) (once_now (record { family = f; left = c; at = left_got c did saw log; between = t.1; hint_is = ap (λ l. post.Post l (high_of c)) log.level_is }))
+    links_on f c (OpeningLeft at ended) t did saw log = subst (λ z. decision_log level key z more) (sym t.2) (once_now (let got = left_got c did saw log in record { family = f; at = got.family; left = c; got = got.got; between = t.1; hint_is = ap (λ l. post.Post l (high_of c)) log.level_is }))
     links_on f c old t did saw log = absurd t
 
     decides_on : (f : Family) (c d : Page) (new : Compression) → Decides f c d new → m.event.act ≡ Get f.at.right → m.saw ≡ Some d → AtLeft level key ms f c (Get f.at.parent ∷ Latch f.at.left ∷ Get f.at.left ∷ Latch f.at.right ∷ []) → squeeze_log level key new more
     decides_on f c d (PuttingFirst u) t did saw log =
         let same = decided_at f c d u t in
-        record { family = f; left = c; right = d; at = same; both = subst (λ (z : Siblings). AtBoth level key more f c d (to_right z)) (sym same) (right_got d did saw log); decided = t }
-    decides_on f c d (OpeningRight at decision.Enough) t did saw log = once_now (record { family = f; left = c; right = d; both = right_got d did saw log; neighbours = t.1; past = t.2; left_many = t.3; right_many = t.4 })
+        record { family = f; left = c; right = d; at = same; both = subst (λ (z : Siblings). AtBoth level key more f c d (to_right z [])) (sym same) (right_got d did saw log); decided = t }
+    decides_on f c d (OpeningRight at decision.Enough) t did saw log = once_now (record { both = got_both f c d (λ at. []) (right_got d did saw log); neighbours = t.1; past = t.2; left_many = t.3; right_many = t.4 })
     decides_on f c d (OpeningRight at decision.Lost) t did saw log = unwritten_on ms m (ap writes_in did) (since_unwritten refl log.family.since)
     decides_on f c d old t did saw log = absurd t
 
@@ -274,15 +268,17 @@ module _ (ms : Trail) (m : Mark) where
         }
 
     single_on : (x : ℕ) (parent : Inner) (y : ℕ) → CompressArrives key x parent (compress.Staying y) → Leads (InnerPage parent) key level Here → m.event.act ≡ Get x → m.saw ≡ Some (InnerPage parent) → Since ms x [] → compress_log level key (compress.Staying y) more
-    single_on x parent y t l did saw h = once_now (inr (record {
-      at = x;
-      parent = parent;
-      since = since_on (Get x ∷ []) (ap acts_in did) h;
-      got = got_last h.during m did saw;
-      level_is = l.2;
-      covers = l.1;
-      siblings = t.1;
-    }))
+    single_on x parent y t l did saw h = once_now (inr (
+      x,
+      parent,
+      record {
+        since = since_on (Get x ∷ []) (ap acts_in did) h;
+        got = got_last h.during m did saw;
+        level_is = l.2;
+        covers = l.1;
+        siblings = t.1;
+      },
+    ))
 
     module _ (least : 0 < level) where
       -- any step of a compression

@@ -8,7 +8,8 @@ use Rattle.bl_page.specs.Machine.Owner.{Released}
 use Rattle.bl_page.specs.Machine.Act.{Put, Take, Miss}
 use Rattle.bl_rearrange.specs.declared.fitted.Fitted.TheVariants.{Split}
 use Rattle.bl_rearrange.specs.Rearranged.{IsFitted}
-use Rattle.bl_claims.specs.Nodes.{Look, unbounded}
+use Rattle.bl_model.specs.Map.{Map}
+use Rattle.bl_claims.specs.Nodes.{unbounded}
 use Rattle.bl_core_tree.specs.Trees.{Status, is_live, IsLive}
 use Rattle.bl_core_tree.specs.Trees.Status.{Free, Fresh, Live}
 use Rattle.bl_core_tree.specs.Moves.{IsMapRow, IsRow, IsCut}
@@ -38,10 +39,10 @@ use Rattle.bl_proc_invariant.proofs.Going.{goes_still, put_steady, take_steady, 
 use Rattle.bl_proc_unique.proofs.WayCases.{EditCase}
 
 -- one row of one level
-abbrev pub row_at : ℕ → ℕ → Option ℕ → (ℕ → Look) → ℕ → Look
+abbrev pub row_at : ℕ → ℕ → Option ℕ → (ℕ → Map) → ℕ → Map
 row_at level key word map = put_at level (put_at key word (map level)) map
 
-pub is_row_at : (level key : ℕ) (word : Option ℕ) (map : ℕ → Look) → IsMapRow level key word map (row_at level key word map)
+pub is_row_at : (level key : ℕ) (word : Option ℕ) (map : ℕ → Map) → IsMapRow level key word map (row_at level key word map)
 is_row_at level key word map =
     let whole = is_put_at level (put_at key word (map level)) map in
     let part = is_put_at key word (map level) in

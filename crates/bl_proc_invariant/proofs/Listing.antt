@@ -7,7 +7,6 @@ use Rattle.bl_page.specs.declared.page.Page.{Page}
 use Rattle.bl_page.specs.Machine.{Name, Owner, State}
 use Rattle.bl_page.specs.Machine.Act.{Look as Looks}
 use Rattle.bl_page.specs.Machine.Looked.{Page as OfPage}
-use Rattle.bl_claims.specs.Nodes.{Look}
 use Rattle.bl_claims.specs.Trails.{Mark}
 use Rattle.bl_claims.specs.Walks.{Each}
 use Rattle.bl_core_tree.specs.Trees.{IsLive}
@@ -35,7 +34,7 @@ use Rattle.bl_proc_invariant.proofs.Ends.{begin_turn, end_turn}
 
 -- What a page lists from a key on that it covers is a part of the map, where it lists what the map has at the keys that it
 -- covers.
-pub is_part : (m : Map) (look : Look) (low end from : ℕ) (rows : List (ℕ × ℕ)) (next : Next) → ((k : ℕ) → low ≤ k → k < end → look k ≡ m k) → ((k v : ℕ) → look k ≡ Some v → (low ≤ k) × (k < end)) → low ≤ from → from < end → IsBounded m → ListsPairs look (λ key. from ≤ key) rows → GoesOnAt end next → IsPart m from rows next
+pub is_part : (m : Map) (look : Map) (low end from : ℕ) (rows : List (ℕ × ℕ)) (next : Next) → ((k : ℕ) → low ≤ k → k < end → look k ≡ m k) → ((k v : ℕ) → look k ≡ Some v → (low ≤ k) × (k < end)) → low ≤ from → from < end → IsBounded m → ListsPairs look (λ key. from ≤ key) rows → GoesOnAt end next → IsPart m from rows next
 is_part m look low end from rows (More key) agree covered above below bounded lists goes = (
   omega (arith, goes.1),
   record {

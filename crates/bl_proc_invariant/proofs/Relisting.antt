@@ -3,7 +3,7 @@ use Rattle.std.proofs.Common.{ℕ, suc, ◌≡◌, ◌≢◌, ◌<◌, ◌≤◌
 use Rattle.bl_page.specs.declared.page.Page.{Page}
 use Rattle.bl_page.specs.Machine.{Name, Owner, State}
 use Rattle.bl_page.specs.Machine.Act.{Put}
-use Rattle.bl_claims.specs.Nodes.{Look}
+use Rattle.bl_model.specs.Map.{Map}
 use Rattle.bl_core_tree.specs.Trees.Status.{Fresh}
 use Rattle.bl_core_tree.specs.Moves.{IsRow, IsMapRow, IsRelisted}
 use Rattle.bl_claims.specs.Pages.{node_of}
@@ -20,10 +20,10 @@ use Rattle.bl_proc_invariant.specs.Compressing.{right_now, AreThree, IsToPut, To
 use Rattle.bl_proc_invariant.proofs.Acts.{of_held, not_gone}
 
 -- one level's map with its key changed, and with two of them
-abbrev pub row_map : ℕ → ℕ → Option ℕ → (ℕ → Look) → ℕ → Look
+abbrev pub row_map : ℕ → ℕ → Option ℕ → (ℕ → Map) → ℕ → Map
 row_map l k v m = put_at l (put_at k v (m l)) m
 
-pub is_row_map : (l k : ℕ) (v : Option ℕ) (m : ℕ → Look) → IsMapRow l k v m (row_map l k v m)
+pub is_row_map : (l k : ℕ) (v : Option ℕ) (m : ℕ → Map) → IsMapRow l k v m (row_map l k v m)
 is_row_map l k v m =
     let level = is_put_at l (put_at k v (m l)) m in
     let row = is_put_at k v (m l) in
@@ -46,10 +46,10 @@ module _ {P : Type 0} (know : P → Know) (w : World P) (g : IsGood know w) (p :
   parent_level = ap (λ v. (node_of v).shape.level) parent_is ∙ to_put.parent_level
 
   -- the world after it, with these keys and this map
-  abbrev pub next : (ℕ → ℕ) → (ℕ → Look) → World P
+  abbrev pub next : (ℕ → ℕ) → (ℕ → Map) → World P
   next sep map = after w s (put_mark p u.at.parent u.parent None) b w.status sep map
 
-  owes : (sep : ℕ → ℕ) (map : ℕ → Look) → sep u.at.right ≡ new → map 0 ≡ w.map 0 → Owes know w (next sep map) p u.at.parent u.parent None b
+  owes : (sep : ℕ → ℕ) (map : ℕ → Map) → sep u.at.right ≡ new → map 0 ≡ w.map 0 → Owes know w (next sep map) p u.at.parent u.parent None b
   owes sep map listed rows =
       let extends = Extends-after w s (put_mark p u.at.parent u.parent None) b w.status sep map (record { enabled = sure.holds.0.owner; changes = does.changes; on = does.on }) tt in
       record {

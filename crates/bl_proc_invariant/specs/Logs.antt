@@ -1,6 +1,7 @@
 -- What a process has done so far, in each of its states: enough to tell in the end what its answer and its hint mean.
-use Rattle.std.specs.Prelude.{◌≡◌, ◌≢◌, ℕ, suc, Option, None, Some, ◌++◌, List, [], ◌∷◌, length, Contains}
+use Rattle.std.specs.Prelude.{◌≡◌, ◌≢◌, ◌⊎◌, ℕ, suc, Option, None, Some, ◌++◌, List, [], ◌∷◌, length, Contains}
 use Rattle.bl_model.specs.declared.operation.Reply.{Reply}
+use Rattle.bl_model.specs.declared.operation.Reply.TheVariants as tells
 use Rattle.bl_page.specs.declared.page.Page.{Page}
 use Rattle.bl_page.specs.declared.page.Page.TheVariants.{Inner}
 use Rattle.bl_page.specs.Machine.{Name, Act}
@@ -23,6 +24,7 @@ use Rattle.bl_proc.specs.declared.posting.PostReply.TheVariants as reply
 use Rattle.bl_proc.specs.declared.posting.PostStage.{PostStage}
 use Rattle.bl_proc.specs.declared.posting.PostStage.TheVariants as post
 use Rattle.bl_rearrange.specs.declared.sides.Side.{Side}
+use Rattle.bl_rearrange.specs.declared.sides.Side.TheVariants as side
 use Rattle.bl_proc_compress.specs.declared.compressing.Puts.{Puts}
 use Rattle.bl_proc_compress.specs.declared.compressing.Family.{Family}
 use Rattle.bl_proc_base.specs.declared.answers.Hint.{Hint}
@@ -35,20 +37,21 @@ use Rattle.bl_proc_compress.specs.declared.squeezing.CompressReply.{CompressRepl
 use Rattle.bl_proc_compress.specs.declared.squeezing.CompressReply.TheVariants as pressed
 use Rattle.bl_proc_compress.specs.declared.squeezing.CompressStage.{CompressStage}
 use Rattle.bl_proc_compress.specs.declared.squeezing.CompressStage.TheVariants as compress
-use Rattle.bl_proc_meanings.specs.Squeezed.{Since, AtFamily, AtLeft, AtBoth, to_left, to_right, put_child, MeansMerged, MeansEvened, MeansEnough, MeansUnposted, MeansAlone, MeansNoPlace}
+use Rattle.bl_proc_meanings.specs.Squeezed.{Since, AtParent, to_right, Once, HasMerged, HasEvened, HasEnough, HasUnposted, HasNoLevel, HasOneChild, LacksPlace}
 use Rattle.bl_proc_compress.specs.Compressions.{Decides, other}
 use Rattle.bl_model.specs.declared.deciding.KeyWrite.{KeyWrite}
 use Rattle.bl_model.specs.declared.deciding.KeyWrite.TheVariants.{Insert}
 use Rattle.bl_model.specs.declared.deciding.Effect.{Effect}
 use Rattle.bl_model.specs.declared.deciding.Effect.TheVariants.{Keep, Enter, Remove, Replace}
-use Rattle.bl_model.specs.Writes.{effect_of, deed_of}
+use Rattle.bl_model.specs.Writes.{effect_of, Deed, deed_of}
+use Rattle.bl_model.specs.Writes.Deed.{Kept, Entered, Removed, Replaced}
 use Rattle.bl_proc.specs.declared.writing.Noted.{Noted}
 use Rattle.bl_proc.specs.declared.writing.WriteReply.{WriteReply}
 use Rattle.bl_proc.specs.declared.writing.WriteReply.TheVariants as written
 use Rattle.bl_proc.specs.declared.writing.WriteStage.{WriteStage}
 use Rattle.bl_proc.specs.declared.writing.WriteStage.TheVariants as write
 use Rattle.bl_proc_base.specs.Thin.{thin_low}
-use Rattle.bl_proc_meanings.specs.Hinted.{WroteLeaf, WroteFor}
+use Rattle.bl_proc_meanings.specs.Hinted.{WroteLeaf, MeansWritten}
 use Rattle.bl_proc_meanings.specs.Lowered.{MeansLowered}
 use Rattle.bl_proc_meanings.specs.Climbed.{PostsUp, WroteAndPosted}
 use Rattle.bl_proc_invariant.specs.LoweringLog.{lowering_log}
@@ -188,8 +191,15 @@ abbrev pub MaySplit : Effect → Type 0
 MaySplit (Enter value) = Unit {0}
 MaySplit effect = ⊥
 
+-- a reply that tells of the deed
+abbrev pub reply_for : Deed → Reply
+reply_for Kept = tells.Absent
+reply_for Entered = tells.Inserted
+reply_for Removed = tells.Deleted 0
+reply_for Replaced = tells.Changed
+
 abbrev pub effect_log : Effect → Option Hint → Trail → Type 0
-effect_log effect hint marks = WroteFor (deed_of effect) hint marks
+effect_log effect hint marks = MeansWritten (reply_for (deed_of effect)) hint marks
 
 abbrev pub written_log : KeyWrite → WriteReply → Trail → Type 0
 written_log does (written.Done there hint) marks = effect_log (effect_of does there) hint marks
@@ -210,16 +220,30 @@ come_log a marks = on_way (Unwritten marks) (λ x. Since marks x []) a
 
 -- What is done after the latch of the parent, up to the first put, the second and the last one.
 abbrev pub put_act : Side → Puts → Act Page Reply
-put_act side p = put_child side p.at p.left p.right
+put_act side.Left p = Put p.at.left p.left
+put_act side.Right p = Put p.at.right p.right
 
 abbrev pub to_first : Puts → List (Act Page Reply)
-to_first p = Get p.at.parent ∷ Latch p.at.left ∷ Get p.at.left ∷ Latch p.at.right ∷ Get p.at.right ∷ put_act p.gains p ∷ []
+to_first p = to_right p.at (put_act p.gains p ∷ [])
 
 abbrev pub to_second : Puts → List (Act Page Reply)
-to_second p = Get p.at.parent ∷ Latch p.at.left ∷ Get p.at.left ∷ Latch p.at.right ∷ Get p.at.right ∷ put_act p.gains p ∷ Put p.at.parent p.parent ∷ []
+to_second p = to_right p.at (put_act p.gains p ∷ Put p.at.parent p.parent ∷ [])
 
 abbrev pub to_last : Puts → List (Act Page Reply)
-to_last p = Get p.at.parent ∷ Latch p.at.left ∷ Get p.at.left ∷ Latch p.at.right ∷ Get p.at.right ∷ put_act p.gains p ∷ Put p.at.parent p.parent ∷ put_act (other p.gains) p ∷ []
+to_last p = to_right p.at (put_act p.gains p ∷ Put p.at.parent p.parent ∷ put_act (other p.gains) p ∷ [])
+
+-- these two children of its parent are compressed
+abbrev pub AtFamily : ℕ → ℕ → Trail → Family → List (Act Page Reply) → Type 0
+AtFamily level key marks f acts = AtParent level key marks f.at.parent f.parent (Some f) acts
+
+-- The left child was got, and was c; and the right one, which was d.
+pub record AtLeft (level key : ℕ) (marks : Trail) (f : Family) (c : Page) (acts : List (Act Page Reply)) : Type 0 where
+  pub family : AtFamily level key marks f acts
+  pub got : HasGot family.since.during f.at.left c
+
+pub record AtBoth (level key : ℕ) (marks : Trail) (f : Family) (c d : Page) (acts : List (Act Page Reply)) : Type 0 where
+  pub left : AtLeft level key marks f c acts
+  pub got : HasGot left.family.since.during f.at.right d
 
 -- What is to be put was decided, of these two children that were got.
 pub record IsToSqueeze (level key : ℕ) (marks : Trail) (p : Puts) (acts : List (Act Page Reply)) : Type 0 where
@@ -231,19 +255,19 @@ pub record IsToSqueeze (level key : ℕ) (marks : Trail) (p : Puts) (acts : List
   pub decided : Decides family left right (PuttingFirst p)
 
 abbrev pub decision_log : ℕ → ℕ → Decision → Trail → Type 0
-decision_log level key (decision.Merged hint) marks = MeansMerged level key hint marks
-decision_log level key decision.Evened marks = MeansEvened level key marks
-decision_log level key decision.Enough marks = MeansEnough level key marks
-decision_log level key (decision.Unposted hint) marks = MeansUnposted level key hint marks
-decision_log level key decision.Refused marks = MeansNoPlace level key marks
+decision_log level key (decision.Merged hint) marks = Once marks (HasMerged level key hint)
+decision_log level key decision.Evened marks = Once marks (HasEvened level key)
+decision_log level key decision.Enough marks = Once marks (HasEnough level key)
+decision_log level key (decision.Unposted hint) marks = Once marks (HasUnposted level key hint)
+decision_log level key decision.Refused marks = Once marks (LacksPlace level key)
 decision_log level key decision.Lost marks = Unwritten marks
 
 abbrev pub squeeze_log : ℕ → ℕ → Compression → Trail → Type 0
 squeeze_log level key (LatchingLeft f) marks = AtFamily level key marks f (Get f.at.parent ∷ [])
 squeeze_log level key (LatchedLeft f) marks = AtFamily level key marks f (Get f.at.parent ∷ Latch f.at.left ∷ [])
-squeeze_log level key (LatchingRight f c) marks = AtLeft level key marks f c (to_left f.at)
+squeeze_log level key (LatchingRight f c) marks = AtLeft level key marks f c (Get f.at.parent ∷ Latch f.at.left ∷ Get f.at.left ∷ [])
 squeeze_log level key (LatchedRight f c) marks = AtLeft level key marks f c (Get f.at.parent ∷ Latch f.at.left ∷ Get f.at.left ∷ Latch f.at.right ∷ [])
-squeeze_log level key (PuttingFirst p) marks = IsToSqueeze level key marks p (to_right p.at)
+squeeze_log level key (PuttingFirst p) marks = IsToSqueeze level key marks p (to_right p.at [])
 squeeze_log level key (PuttingParent p) marks = IsToSqueeze level key marks p (to_first p)
 squeeze_log level key (PuttingLast p) marks = IsToSqueeze level key marks p (to_second p)
 squeeze_log level key (Retiring at last) marks =
@@ -253,18 +277,18 @@ squeeze_log level key (OpeningLeft at last) marks = decision_log level key last 
 squeeze_log level key (OpeningParent x last) marks = decision_log level key last marks
 
 abbrev pub pressed_log : ℕ → ℕ → CompressReply → Trail → Type 0
-pressed_log level key (pressed.Merged hint) marks = MeansMerged level key hint marks
-pressed_log level key pressed.Evened marks = MeansEvened level key marks
-pressed_log level key pressed.Enough marks = MeansEnough level key marks
-pressed_log level key pressed.Alone marks = MeansAlone level key marks
-pressed_log level key (pressed.Unposted hint) marks = MeansUnposted level key hint marks
-pressed_log level key pressed.NoRoom marks = MeansNoPlace level key marks
+pressed_log level key (pressed.Merged hint) marks = Once marks (HasMerged level key hint)
+pressed_log level key pressed.Evened marks = Once marks (HasEvened level key)
+pressed_log level key pressed.Enough marks = Once marks (HasEnough level key)
+pressed_log level key pressed.Alone marks = Once marks (λ ms. HasNoLevel level ms ⊎ HasOneChild level key ms)
+pressed_log level key (pressed.Unposted hint) marks = Once marks (HasUnposted level key hint)
+pressed_log level key pressed.NoRoom marks = Once marks (LacksPlace level key)
 
 abbrev pub compress_log : ℕ → ℕ → CompressStage → Trail → Type 0
 compress_log level key compress.New marks = Unit {0}
 compress_log level key (compress.Coming a) marks = come_log a marks
 compress_log level key (compress.Compressing c) marks = squeeze_log level key c marks
-compress_log level key (compress.Staying x) marks = MeansAlone level key marks
+compress_log level key (compress.Staying x) marks = pressed_log level key pressed.Alone marks
 compress_log level key (compress.Ending r) marks = pressed_log level key r marks
 compress_log level key (compress.Over r) marks = pressed_log level key r marks
 

@@ -10,14 +10,13 @@ use Rattle.bl_proc_base.specs.declared.answers.Hint.TheVariants as hint
 use Rattle.bl_proc_base.specs.declared.answers.Posted.{Posted}
 use Rattle.bl_proc.specs.Climbs.{left_hint}
 use Rattle.bl_proc_meanings.specs.Hinted.{MeansWritten}
-use Rattle.bl_proc_meanings.specs.Answers.{MeansPosted, MeansHint}
+use Rattle.bl_proc_meanings.specs.Answers.{MeansPosted}
 
 -- Posts one after the other, from the one of that key to that level on. Each is told of what the process did from the end of the one
 -- before on, as if it had begun with that. Each but the last has listed its key and split the parent, and the next one is of that
 -- separator, one level higher. The last one has that answer, and splits no parent; where it met no room, it is the hint.
 pub data PostsUp (begin : Mark) (a : Posted) (left : Option Hint) : ℕ → ℕ → Trail → Type 0 where
-  Last : (level key : ℕ) (marks : Trail) → MeansPosted level key a (begin ∷ marks) × MeansHint level key a None (begin ∷ marks)
-      × (left ≡ left_hint level key a) → PostsUp begin a left level key marks
+  Last : (level key : ℕ) (marks : Trail) → MeansPosted level key a None (begin ∷ marks) → left ≡ left_hint level key a → PostsUp begin a left level key marks
   Higher : (level key separator : ℕ) (marks more : Trail) → MeansDone level key (Some separator) (begin ∷ marks)
       → PostsUp begin a left (level + 1) separator more → PostsUp begin a left level key (marks ++ more)
 

@@ -7,14 +7,14 @@ use Rattle.bl_page.specs.Machine.Act.{Latch}
 use Rattle.bl_claims.specs.Trails.{Mark, Trail}
 use Rattle.bl_claims.specs.Latches.{Keeps}
 use Rattle.bl_proc_compress.specs.declared.compressing.Family.{Family}
-use Rattle.bl_proc_meanings.specs.Squeezed.{AtFamily}
+use Rattle.bl_proc_meanings.specs.Squeezed.{AtParent}
 
 -- It holds no page but the parent of that level, which covers the key, and of two children of it that stand side by side at the
 -- key the left one. It has latched the parent, and got it since.
 pub record HoldsFamily (level key : ℕ) (marks : Trail) : Type 0 where
   pub family : Family
   pub acts : List (Act Page Reply)
-  pub at : AtFamily level key marks family acts
+  pub at : AtParent level key marks family.at.parent family.parent (Some family) acts
   pub no_more : (y : ℕ) → Keeps marks y → (y ≡ family.at.parent) ⊎ (y ≡ family.at.left)
 
 -- It holds no more than that when it latches a page.

@@ -1,8 +1,7 @@
 -- What a write of one key has written, and what the hint beside its reply means.
 use Rattle.std.specs.Prelude.{◌≡◌, ℕ, Option, None, List, [], ◌∷◌}
 use Rattle.bl_model.specs.declared.operation.Reply.{Reply}
-use Rattle.bl_model.specs.Writes.{Deed, deed_told}
-use Rattle.bl_model.specs.Writes.Deed.{Kept, Entered, Removed, Replaced}
+use Rattle.bl_model.specs.declared.operation.Reply.TheVariants.{Inserted, Deleted, Changed}
 use Rattle.bl_page.specs.declared.page.Page.{Page}
 use Rattle.bl_page.specs.Machine.{Act}
 use Rattle.bl_page.specs.Machine.Act.{Put}
@@ -16,16 +15,15 @@ use Rattle.bl_proc.specs.Writes.{post_hint}
 abbrev pub WroteLeaf : Option ℕ → Trail → Type 0
 WroteLeaf separator marks = (x : ℕ) × (acts : List (Act Page Reply)) × (pages : List Page) × WroteHeld marks x acts × WritesBack x separator pages acts
 
--- What was written, and the hint, by what was done to the pair of the key. Where it entered, the leaf was written back, and where it
--- was split, the hint is that the upper half is to be listed, by its low. Where it was removed, the leaf was put, and nothing else was
--- written; where it is thin now, the hint is that it is to be merged or evened out, by its low. Where it was replaced, the leaf was put,
--- and nothing else was written. Else nothing was written. There is no other hint.
-abbrev pub WroteFor : Deed → Option Hint → Trail → Type 0
-WroteFor Kept hint marks = Unwritten marks × (hint ≡ None)
-WroteFor Entered hint marks = (separator : Option ℕ) × WroteLeaf separator marks × (hint ≡ post_hint 1 separator)
-WroteFor Removed hint marks = (x : ℕ) × (page : Page) × WroteHeld marks x (Put x page ∷ []) × (hint ≡ thin_hint 1 (thin_low page))
-WroteFor Replaced hint marks = (x : ℕ) × (page : Page) × WroteHeld marks x (Put x page ∷ []) × (hint ≡ None)
+-- What an insertion has written, and its hint, by the reply. Inserted: the leaf was written back, and where it was split, the hint is
+-- that the upper half is to be listed, by its low. Else nothing was written. There is no other hint.
+abbrev pub MeansInserted : Reply → Option Hint → Trail → Type 0
+MeansInserted Inserted hint marks = (separator : Option ℕ) × WroteLeaf separator marks × (hint ≡ post_hint 1 separator)
+MeansInserted reply hint marks = Unwritten marks × (hint ≡ None)
 
--- beside that reply
+-- The same of any write. Deleted: the leaf was put, and nothing else was written; where it is thin now, the hint is that it is to be
+-- merged or evened out, by its low. Changed: the leaf was put, and nothing else was written, and there is no hint.
 abbrev pub MeansWritten : Reply → Option Hint → Trail → Type 0
-MeansWritten reply hint marks = WroteFor (deed_told reply) hint marks
+MeansWritten (Deleted value) hint marks = (x : ℕ) × (page : Page) × WroteHeld marks x (Put x page ∷ []) × (hint ≡ thin_hint 1 (thin_low page))
+MeansWritten Changed hint marks = (x : ℕ) × (page : Page) × WroteHeld marks x (Put x page ∷ []) × (hint ≡ None)
+MeansWritten reply hint marks = MeansInserted reply hint marks

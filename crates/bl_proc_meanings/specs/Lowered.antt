@@ -1,5 +1,5 @@
 -- What the answers of a lowering mean, told of what its process has done from the latch of the anchor on.
-use Rattle.std.specs.Prelude.{◌≡◌, ◌⊎◌, ℕ, ◌<◌, ◌≤◌, ◌-◌, ◌++◌, List, [], ◌∷◌, length, take}
+use Rattle.std.specs.Prelude.{◌≡◌, ◌⊎◌, ℕ, ◌<◌, ◌-◌, ◌++◌, List, [], ◌∷◌, length, take}
 use Rattle.bl_model.specs.declared.operation.Reply.{Reply}
 use Rattle.bl_page.specs.declared.page.Page.{Page}
 use Rattle.bl_page.specs.declared.page.Page.TheVariants.{Anchor}
@@ -9,13 +9,13 @@ use Rattle.bl_page.specs.Machine.Act.{Get, Put, Latch, Retire, Miss}
 use Rattle.bl_page.specs.declared.machine.Missed.TheVariants as missed
 use Rattle.bl_claims.specs.Pages.{roots_of}
 use Rattle.bl_claims.specs.Trails.{Mark, Trail}
-use Rattle.bl_claims.specs.Meanings.{HasGot, Unwritten}
+use Rattle.bl_claims.specs.Meanings.{HasGot}
 use Rattle.bl_proc_base.specs.declared.lowering.Lowered.{Lowered}
 use Rattle.bl_proc_base.specs.declared.lowering.Lowered.TheVariants as lowered
 use Rattle.bl_proc_base.specs.Onwards.{top_of}
 use Rattle.bl_proc_base.specs.Lowerings.{IsSole, IsFallen}
 use Rattle.bl_proc_base.specs.Growths.{IsAnchor}
-use Rattle.bl_proc_meanings.specs.Squeezed.{Since, Once}
+use Rattle.bl_proc_meanings.specs.Squeezed.{Since, Once, HasNoLevel}
 
 -- The anchor was latched and got, and names more than one level; then the leftmost page of the last one was latched and got.
 pub record AtTop (marks : Trail) (anchor : AnchorPage) (top : Page) (acts : List (Act Page Reply)) : Type 0 where
@@ -48,24 +48,12 @@ pub record HasLowered (marks : Trail) : Type 0 where
   pub lower_is : IsAnchor (take (length anchor.leftmost.items - 1) anchor.leftmost.items) lower
   pub dead_is : IsFallen (length anchor.leftmost.items - 1) dead
 
-abbrev pub MeansSunk : Trail → Type 0
-MeansSunk marks = Once marks HasLowered
-
 -- Needed: nothing was written; the anchor that was got names one level, or the top page that was got is needed.
-pub record HasOneLevel (marks : Trail) : Type 0 where
-  pub first : Unwritten marks
-  pub anchor : Page
-  pub got : HasGot marks 0 anchor
-  pub one : (roots_of anchor).levels ≤ 1
-
 pub record HasNeed (marks : Trail) : Type 0 where
   pub anchor : AnchorPage
   pub top : Page
   pub at : AtTop marks anchor top (to_top (top_of (roots_of (Anchor anchor))))
   pub need : ¬ IsSole top
-
-abbrev pub MeansNeeded : Trail → Type 0
-MeansNeeded marks = Once marks (λ ms. HasOneLevel ms ⊎ HasNeed ms)
 
 -- NoRoom: the top page that was got is not needed, and next a reservation was refused.
 pub record LacksFrames (marks : Trail) : Type 0 where
@@ -78,6 +66,6 @@ pub record LacksFrames (marks : Trail) : Type 0 where
   pub is : IsToLower until x anchor (to_top x)
 
 abbrev pub MeansLowered : Lowered → Trail → Type 0
-MeansLowered lowered.Lowered marks = MeansSunk marks
-MeansLowered lowered.Needed marks = MeansNeeded marks
+MeansLowered lowered.Lowered marks = Once marks HasLowered
+MeansLowered lowered.Needed marks = Once marks (λ ms. HasNoLevel 1 ms ⊎ HasNeed ms)
 MeansLowered lowered.NoRoom marks = Once marks LacksFrames

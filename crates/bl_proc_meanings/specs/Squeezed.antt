@@ -24,7 +24,7 @@ use Rattle.bl_proc_base.specs.declared.answers.Squeezed.{Squeezed}
 use Rattle.bl_proc_base.specs.declared.answers.Squeezed.TheVariants as squeezed
 use Rattle.bl_proc_compress.specs.declared.compressing.Siblings.{Siblings}
 use Rattle.bl_proc_compress.specs.declared.compressing.Family.{Family}
-use Rattle.bl_proc_compress.specs.Compressions.{AreSiblings, IsBuried, IsFew, MayEven, merge_hint, other}
+use Rattle.bl_proc_compress.specs.Compressions.{AreSiblings, IsBuried, IsFew, MayEven, merge_hint}
 
 -- what was done, in its order; what was missed is left out
 abbrev pub acts_in : Act Page Reply → List (Act Page Reply)
@@ -46,44 +46,31 @@ pub record Since (marks : Trail) (x : ℕ) (acts : List (Act Page Reply)) : Type
   pub acts_are : acts_of during ≡ acts
 
 -- The parent of that level, which covers the key, was latched and got, and these are two children of it that stand side by
--- side at the key.
-pub record AtFamily (level key : ℕ) (marks : Trail) (f : Family) (acts : List (Act Page Reply)) : Type 0 where
-  pub since : Since marks f.at.parent acts
-  pub got : HasGot since.during f.at.parent (Inner f.parent)
-  pub level_is : f.parent.level ≡ level
-  pub covers : Covers (node_of (Inner f.parent)).shape key
-  pub siblings : AreSiblings f.at.parent key f.parent (Some f)
+-- side at the key; or it has no two.
+pub record AtParent (level key : ℕ) (marks : Trail) (x : ℕ) (parent : InnerPage) (children : Option Family) (acts : List (Act Page Reply)) : Type 0 where
+  pub since : Since marks x acts
+  pub got : HasGot since.during x (Inner parent)
+  pub level_is : parent.level ≡ level
+  pub covers : Covers (node_of (Inner parent)).shape key
+  pub siblings : AreSiblings x key parent children
 
--- The left child was got, and was c; and the right one, which was d.
-pub record AtLeft (level key : ℕ) (marks : Trail) (f : Family) (c : Page) (acts : List (Act Page Reply)) : Type 0 where
-  pub family : AtFamily level key marks f acts
-  pub got : HasGot family.since.during f.at.left c
+-- what is done of a compression after the latch of the parent: up to the get of the right child, and more
+abbrev pub to_right : Siblings → List (Act Page Reply) → List (Act Page Reply)
+to_right at more = Get at.parent ∷ Latch at.left ∷ Get at.left ∷ Latch at.right ∷ Get at.right ∷ more
 
-pub record AtBoth (level key : ℕ) (marks : Trail) (f : Family) (c d : Page) (acts : List (Act Page Reply)) : Type 0 where
-  pub left : AtLeft level key marks f c acts
-  pub got : HasGot left.family.since.during f.at.right d
+-- Both children were got, and since then more was done.
+pub record GotBoth (level key : ℕ) (marks : Trail) (more : Siblings → List (Act Page Reply)) : Type 0 where
+  pub family : Family
+  pub at : AtParent level key marks family.at.parent family.parent (Some family) (to_right family.at (more family.at))
+  pub left : Page
+  pub got : HasGot at.since.during family.at.left left
+  pub right : Page
+  pub got_right : HasGot at.since.during family.at.right right
 
--- What is done of a compression, after the latch of the parent: up to the get of the left child, and of the right one.
-abbrev pub to_left : Siblings → List (Act Page Reply)
-to_left at = Get at.parent ∷ Latch at.left ∷ Get at.left ∷ []
-
-abbrev pub to_right : Siblings → List (Act Page Reply)
-to_right at = Get at.parent ∷ Latch at.left ∷ Get at.left ∷ Latch at.right ∷ Get at.right ∷ []
-
--- the put of one of two children
-abbrev pub put_child : Side → Siblings → Page → Page → Act Page Reply
-put_child side.Left at left right = Put at.left left
-put_child side.Right at left right = Put at.right right
-
--- Up to the end of a merge: the left child is put, then the parent, then the right child, which is retired. Up to the end of an
--- evening: the child that gains is put, then the parent, then the other child.
-abbrev pub to_merged : Siblings → Page → Page → Page → List (Act Page Reply)
-to_merged at merged parent dead =
-    Get at.parent ∷ Latch at.left ∷ Get at.left ∷ Latch at.right ∷ Get at.right ∷ Put at.left merged ∷ Put at.parent parent ∷ Put at.right dead ∷ Retire at.right ∷ []
-
-abbrev pub to_evened : Siblings → Evened → Page → List (Act Page Reply)
-to_evened at now parent =
-    Get at.parent ∷ Latch at.left ∷ Get at.left ∷ Latch at.right ∷ Get at.right ∷ put_child now.gains at now.left now.right ∷ Put at.parent parent ∷ put_child (other now.gains) at now.left now.right ∷ []
+-- the puts of an evening: the child that gains is put, then the parent, then the other child
+abbrev pub evened_puts : Side → Evened → Page → Siblings → List (Act Page Reply)
+evened_puts side.Left now parent at = Put at.left now.left ∷ Put at.parent parent ∷ Put at.right now.right ∷ []
+evened_puts side.Right now parent at = Put at.right now.right ∷ Put at.parent parent ∷ Put at.left now.left ∷ []
 
 -- What a merge of two children puts: the left one with the pairs of both, the parent without the right one, and the right one
 -- dead, which leads to the left one.
@@ -114,58 +101,39 @@ pub record Once (marks : Trail) (Then : Trail → Type 0) : Type 0 where
   pub no_more : writes_of after ≡ []
   pub is : Then until
 
--- Merged: all three pages were put as a merge of the children that were got puts them, and the right one was retired.
+-- Merged: the left child was put, then the parent, then the right child, which was retired, all as a merge of the children that were
+-- got puts them.
 pub record HasMerged (level key : ℕ) (hint : Option Hint) (marks : Trail) : Type 0 where
-  pub family : Family
-  pub left : Page
-  pub right : Page
   pub merged : Page
   pub parent : Page
   pub dead : Page
-  pub both : AtBoth level key marks family left right (to_merged family.at merged parent dead)
-  pub merge : IsMergeOf family left right merged parent dead
+  pub both : GotBoth level key marks (λ at. Put at.left merged ∷ Put at.parent parent ∷ Put at.right dead ∷ Retire at.right ∷ [])
+  pub merge : IsMergeOf both.family both.left both.right merged parent dead
   pub hint_is : hint ≡ merge_hint level parent merged
-
-abbrev pub MeansMerged : ℕ → ℕ → Option Hint → Trail → Type 0
-MeansMerged level key hint marks = Once marks (HasMerged level key hint)
 
 -- Evened: all three pages were put as an evening of the children that were got puts them.
 pub record HasEvened (level key : ℕ) (marks : Trail) : Type 0 where
-  pub family : Family
-  pub left : Page
-  pub right : Page
   pub now : Evened
   pub parent : Page
-  pub both : AtBoth level key marks family left right (to_evened family.at now parent)
-  pub evening : IsEveningOf family left right now parent
-
-abbrev pub MeansEvened : ℕ → ℕ → Trail → Type 0
-MeansEvened level key marks = Once marks (HasEvened level key)
+  pub both : GotBoth level key marks (evened_puts now.gains now parent)
+  pub evening : IsEveningOf both.family both.left both.right now parent
 
 -- Enough: both children were got; one page could not hold their pairs, and neither has few.
 pub record HasEnough (level key : ℕ) (marks : Trail) : Type 0 where
-  pub family : Family
-  pub left : Page
-  pub right : Page
-  pub both : AtBoth level key marks family left right (to_right family.at)
-  pub neighbours : AreNeighbours left right
-  pub past : 14 < together left right
-  pub left_many : ¬ IsFew left
-  pub right_many : ¬ IsFew right
-
-abbrev pub MeansEnough : ℕ → ℕ → Trail → Type 0
-MeansEnough level key marks = Once marks (HasEnough level key)
+  pub both : GotBoth level key marks (λ at. [])
+  pub neighbours : AreNeighbours both.left both.right
+  pub past : 14 < together both.left both.right
+  pub left_many : ¬ IsFew both.left
+  pub right_many : ¬ IsFew both.right
 
 -- Unposted: the left child was got, and does not link to the right one. The hint is to list the page between, by its low.
 pub record HasUnposted (level key : ℕ) (hint : Hint) (marks : Trail) : Type 0 where
   pub family : Family
+  pub at : AtParent level key marks family.at.parent family.parent (Some family) (Get family.at.parent ∷ Latch family.at.left ∷ Get family.at.left ∷ [])
   pub left : Page
-  pub at : AtLeft level key marks family left (to_left family.at)
+  pub got : HasGot at.since.during family.at.left left
   pub between : right_of left ≢ family.at.right
   pub hint_is : hint ≡ post.Post level (high_of left)
-
-abbrev pub MeansUnposted : ℕ → ℕ → Hint → Trail → Type 0
-MeansUnposted level key hint marks = Once marks (HasUnposted level key hint)
 
 -- Alone: nothing was written, and the tree has no such level, or the parent was got and has one child.
 pub record HasNoLevel (level : ℕ) (marks : Trail) : Type 0 where
@@ -174,17 +142,8 @@ pub record HasNoLevel (level : ℕ) (marks : Trail) : Type 0 where
   pub got : HasGot marks 0 anchor
   pub few : (roots_of anchor).levels ≤ level
 
-pub record HasOneChild (level key : ℕ) (marks : Trail) : Type 0 where
-  pub at : ℕ
-  pub parent : InnerPage
-  pub since : Since marks at (Get at ∷ [])
-  pub got : HasGot since.during at (Inner parent)
-  pub level_is : parent.level ≡ level
-  pub covers : Covers (node_of (Inner parent)).shape key
-  pub siblings : AreSiblings at key parent None
-
-abbrev pub MeansAlone : ℕ → ℕ → Trail → Type 0
-MeansAlone level key marks = Once marks (λ ms. HasNoLevel level ms ⊎ HasOneChild level key ms)
+abbrev pub HasOneChild : ℕ → ℕ → Trail → Type 0
+HasOneChild level key marks = (x : ℕ) × (parent : InnerPage) × AtParent level key marks x parent None (Get x ∷ [])
 
 -- NoRoom: both children were got, and are to be merged or evened out; and next a reservation was refused.
 pub record LacksPlace (level key : ℕ) (marks : Trail) : Type 0 where
@@ -192,21 +151,15 @@ pub record LacksPlace (level key : ℕ) (marks : Trail) : Type 0 where
   pub mark : Mark
   pub split : marks ≡ until ++ mark ∷ []
   pub refused : mark.event.act ≡ Miss missed.Reservation
-  pub family : Family
-  pub left : Page
-  pub right : Page
-  pub both : AtBoth level key until family left right (to_right family.at)
-  pub due : ((merged : Page) × (parent : Page) × (dead : Page) × IsMergeOf family left right merged parent dead)
-      ⊎ ((now : Evened) × (parent : Page) × IsEveningOf family left right now parent)
-
-abbrev pub MeansNoPlace : ℕ → ℕ → Trail → Type 0
-MeansNoPlace level key marks = Once marks (LacksPlace level key)
+  pub both : GotBoth level key until (λ at. [])
+  pub due : ((merged : Page) × (parent : Page) × (dead : Page) × IsMergeOf both.family both.left both.right merged parent dead)
+      ⊎ ((now : Evened) × (parent : Page) × IsEveningOf both.family both.left both.right now parent)
 
 -- What each answer means with the hint beside it. Merged alone may have one or not, and Unposted has one.
 abbrev pub MeansSqueezed : ℕ → ℕ → Squeezed → Option Hint → Trail → Type 0
-MeansSqueezed level key squeezed.Merged hint marks = MeansMerged level key hint marks
-MeansSqueezed level key squeezed.Evened hint marks = MeansEvened level key marks × (hint ≡ None)
-MeansSqueezed level key squeezed.Enough hint marks = MeansEnough level key marks × (hint ≡ None)
-MeansSqueezed level key squeezed.Alone hint marks = MeansAlone level key marks × (hint ≡ None)
-MeansSqueezed level key squeezed.Unposted hint marks = (h : Hint) × (hint ≡ Some h) × MeansUnposted level key h marks
-MeansSqueezed level key squeezed.NoRoom hint marks = MeansNoPlace level key marks × (hint ≡ None)
+MeansSqueezed level key squeezed.Merged hint marks = Once marks (HasMerged level key hint)
+MeansSqueezed level key squeezed.Evened hint marks = Once marks (HasEvened level key) × (hint ≡ None)
+MeansSqueezed level key squeezed.Enough hint marks = Once marks (HasEnough level key) × (hint ≡ None)
+MeansSqueezed level key squeezed.Alone hint marks = Once marks (λ ms. HasNoLevel level ms ⊎ HasOneChild level key ms) × (hint ≡ None)
+MeansSqueezed level key squeezed.Unposted hint marks = (h : Hint) × (hint ≡ Some h) × Once marks (HasUnposted level key h)
+MeansSqueezed level key squeezed.NoRoom hint marks = Once marks (LacksPlace level key) × (hint ≡ None)

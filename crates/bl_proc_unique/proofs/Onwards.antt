@@ -7,7 +7,8 @@ use Rattle.bl_page.specs.declared.page.Page.TheVariants.{Anchor, Leaf, Inner, De
 use Rattle.bl_page.specs.Pairs.{IsChildFor, IsWithin, end_of, place}
 use Rattle.bl_page.proofs.Lookups.{child_before, child_at_place, place-some}
 use Rattle.bl_model.specs.Rows.{map_of}
-use Rattle.bl_claims.specs.Nodes.{Look, Covers}
+use Rattle.bl_model.specs.Map.{Map}
+use Rattle.bl_claims.specs.Nodes.{Covers}
 use Rattle.bl_claims.specs.Pages.{node_of, IsTreePage}
 use Rattle.bl_claims.specs.Walks.{IsChildOf}
 use Rattle.bl_proc_base.specs.declared.onwards.Step.{Step}
@@ -29,7 +30,7 @@ low_below (Inner i) t = i.bounds
 low_below (Dead e) t = absurd t
 
 -- the greatest listed key not above a key has one child
-pub child_one : (look : Look) (k x y : ℕ) → IsChildOf look k x → IsChildOf look k y → x ≡ y
+pub child_one : (look : Map) (k x y : ℕ) → IsChildOf look k x → IsChildOf look k y → x ≡ y
 child_one look k x y a b =
     let up = a.greatest b.key y b.listed b.reached in
     let down = b.greatest a.key x a.listed a.reached in

@@ -5,7 +5,7 @@ use Rattle.atomic_table.specs.declared.shared.Seat.{Seat}
 use Rattle.bl_layout.specs.declared.layout.Layout.{Layout}
 use Rattle.bl_layout.specs.Words.{frame_count}
 use Rattle.bl_store.specs.Frames.{owner_at, state_at, place_at}
-use Rattle.bl_store.specs.Observed.{draft, wanted, KeepsRefusal}
+use Rattle.bl_store.specs.Observed.{draft, KeepsRefusal}
 use Rattle.bl_store.specs.declared.stock.Stock.{Stock}
 use Rattle.bl_store.specs.declared.stock.NoRoom.{NoRoom}
 use Rattle.bl_store.specs.declared.stock.NoRoom.TheVariants.{Pages, Frames, Clock}
@@ -131,7 +131,8 @@ module _ {D : Type 0} where
   -- since the hand's process began, a reservation of so many pages and frames was refused, by what the hand saw, and none has
   -- been since
   abbrev pub WasRefused : Seat (Unit {0}) (View D) → ℕ → ℕ → Type 0
-  WasRefused h pages frames = (h.me.0.refused ≡ Some (wanted pages frames)) × ((why : NoRoom) × IsWhy h pages frames why)
+  WasRefused h pages frames = (h.me.0.refused ≡ Some (record { pages = pages; frames = frames }))
+      × ((why : NoRoom) × IsWhyOf h.me.0.layout h.me.0.seen h.me.0.got pages frames why)
 
   -- the hand has not reserved since, so what it was refused, and why, is as before
   abbrev pub IsSameRefusal : Seat (Unit {0}) (View D) → Seat (Unit {0}) (View D) → Type 0

@@ -52,7 +52,8 @@ fn last_words<A: Allocator>(closed: &Closed<(), A>, layout: Layout, page: u32) -
     requires frame { slice_index (slots_items closed.now.words) (page_at layout page) ≤ frame_count layout }
     ensures gone { IsGone (slots_items closed.now.words) layout page → result ≡ replicate 32 0 }
     ensures here { (IsGone (slots_items closed.now.words) layout page → ⊥) → (k : ℕ) → k < 32
-        → slice_index result k ≡ slice_index (slots_items closed.now.words) (place_at layout (slice_index (slots_items closed.now.words) (page_at layout page) - 1) k) }
+        → slice_index result k
+        ≡ slice_index (slots_items closed.now.words) (place_at layout (slice_index (slots_items closed.now.words) (page_at layout page) - 1) k) }
 {
     let owner = closed.word(layout.page_owner_cell(page));
     let found = closed.word(layout.page_cell(page));

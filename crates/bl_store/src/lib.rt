@@ -8,8 +8,9 @@
 //! A user states a rule over the words and owners of all pages, the time, and what each hand knows
 //! ([`PageRule`]). The rule holds between any two events. Each call is one event, and asks only that the
 //! user's rule survives it; [`Store::renew`] is two, an end and a begin, at one load. What the event tells
-//! the hand is the caller's choice ([`PagePlay`] and its kin). No call waits, and none takes memory once the store is made. A hand may learn of another that it meets
-//! ([`MeetPlay`]), and at the end all hands come back for the words of all pages.
+//! the hand is the caller's choice ([`PagePlay`] and its kin). No call waits, and none takes memory once the
+//! store is made. A hand may learn of another that it meets ([`MeetPlay`]), and at the end all hands come
+//! back for the words of all pages.
 //!
 //! The latches and right links that such pages serve are those of Lehman and Yao, "Efficient locking for
 //! concurrent operations on B-trees" (1981). Stamps, frames and their release are this project's own.

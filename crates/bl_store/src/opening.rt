@@ -89,7 +89,8 @@ impl<D, R: PageRule<D>> Store<D, R, Global> {
     fn deal(&self, alloc: Global, mut seat: Seat<(), View<D>>) -> Result<Vec<Hand<D>>, AllocError>
         requires table { seat.table_id ≡ self.now.table.shared.table_id }
         requires all { seat.me ≡ (share self.now.layout self.now.table.shared.key.known.value 0 self.now.layout.passes, []) }
-        ensures { IfOk result (λ v. IsDealt self.now.table.shared.table_id self.now.layout self.now.table.shared.key.known.value self.now.layout.passes v.items) }
+        ensures { IfOk result (λ v. IsDealt self.now.table.shared.table_id self.now.layout self.now.table.shared.key.known.value self.now.layout.passes
+            v.items) }
     {
         let passes = self.layout.passes;
         let mut hands = Vec::with_capacity(alloc, passes as usize)?;

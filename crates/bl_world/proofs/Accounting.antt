@@ -27,11 +27,11 @@ use Rattle.bl_proc.specs.declared.kinds.Proc.TheVariants as proc
 use Rattle.bl_proc.specs.declared.kinds.Proc.{Proc}
 use Rattle.bl_proc.specs.Processes.{answer_of}
 use Rattle.bl_proc_invariant.specs.Knowing.{Run, know_of, know}
-use Rattle.bl_proc_meanings.specs.Answers.{MeansPosted, MeansHint}
+use Rattle.bl_proc_meanings.specs.Answers.{MeansPosted}
 use Rattle.bl_proc_meanings.specs.Squeezed.{MeansSqueezed}
 use Rattle.bl_proc_meanings.specs.Lowered.{MeansLowered}
 use Rattle.bl_proc_meanings.specs.Climbed.{MeansClimbed}
-use Rattle.bl_proc_invariant.proofs.Answered.{post_means, post_hints}
+use Rattle.bl_proc_invariant.proofs.Answered.{post_means}
 use Rattle.bl_proc_invariant.proofs.Beside.{beside_means}
 use Rattle.bl_proc_invariant.specs.Beside.{MeansBeside}
 use Rattle.bl_proc_invariant.specs.Logs.{proc_log}
@@ -111,11 +111,8 @@ module _ (v : View) (h : Has v) where
       let began = h.opening.waiting (name_of (suc n)) in
       rw (one_more n) (ended_in h.world.start h.world.now h.world.trail (name_of (suc n)) (λ f. (let g : Waiting ≡ Ended = sym began ∙ f in cc)) h.good.recorded.leads late)
 
-  posted : (n : ℕ) (p : Post) (a : Posted) (hint : Option Hint) → slice_get v.processes n ≡ Some (proc.Post p) → answer_of (proc.Post p) ≡ Some (answer.Post a hint) → MeansPosted p.level p.key a (marks_of (name_of (n + 1)) h.world.trail)
-  posted n p a hint stood e = subst (λ k. MeansPosted p.level p.key a (marks_of (name_of k) h.world.trail)) (sym (one_more n)) (post_means h.world (name_of (suc n)) p a hint h.logs (h.runs n (proc.Post p) stood) e)
-
-  hinted : (n : ℕ) (p : Post) (a : Posted) (hint : Option Hint) → slice_get v.processes n ≡ Some (proc.Post p) → answer_of (proc.Post p) ≡ Some (answer.Post a hint) → MeansHint p.level p.key a hint (marks_of (name_of (n + 1)) h.world.trail)
-  hinted n p a hint stood e = subst (λ k. MeansHint p.level p.key a hint (marks_of (name_of k) h.world.trail)) (sym (one_more n)) (post_hints h.world (name_of (suc n)) p a hint h.logs (h.runs n (proc.Post p) stood) e)
+  posted : (n : ℕ) (p : Post) (a : Posted) (hint : Option Hint) → slice_get v.processes n ≡ Some (proc.Post p) → answer_of (proc.Post p) ≡ Some (answer.Post a hint) → MeansPosted p.level p.key a hint (marks_of (name_of (n + 1)) h.world.trail)
+  posted n p a hint stood e = subst (λ k. MeansPosted p.level p.key a hint (marks_of (name_of k) h.world.trail)) (sym (one_more n)) (post_means h.world (name_of (suc n)) p a hint h.logs (h.runs n (proc.Post p) stood) e)
 
   beside : (n : ℕ) (p : Proc) (reply : _) (hint : Option Hint) → slice_get v.processes n ≡ Some p → answer_of p ≡ Some (answer.Op reply hint) → MeansBeside p reply hint (marks_of (name_of (n + 1)) h.world.trail)
   beside n p reply hint stood e =
@@ -175,7 +172,6 @@ module _ (v : View) (h : Has v) where
         own = own;
         answers = answers;
         posted = posted;
-        hinted = hinted;
         beside = beside;
         squeezed = squeezed;
         lowered = lowered;

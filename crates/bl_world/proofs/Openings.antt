@@ -5,10 +5,10 @@ use Rattle.std.proofs.lemmas.Option.{get_or_from_slice_get}
 use Rattle.bl_model.specs.Map.{empty}
 use Rattle.bl_page.specs.declared.page.Page.{Page}
 use Rattle.bl_page.specs.declared.page.Page.TheVariants.{Anchor}
+use Rattle.bl_page.specs.declared.page.Anchor.{Anchor as AnchorPage}
 use Rattle.bl_page.specs.Machine.{State}
 use Rattle.bl_page.specs.Machine.Owner.{Released, Open, Retired}
 use Rattle.bl_page.specs.Machine.Phase.{Waiting, Running}
-use Rattle.bl_claims.specs.Pages.{node_of, roots_of}
 use Rattle.bl_core.proofs.States.{moments_first}
 use Rattle.bl_claims.specs.Opening.{Opening}
 use Rattle.bl_core.specs.Blank.{IsBlank}
@@ -29,8 +29,8 @@ use Rattle.bl_world.proofs.Keeping.{Has}
 use Rattle.bl_world.proofs.Moments.{world_moment}
 
 -- what a page 0 that names page 1 says of the levels
-names_one : (c : Page) → IsAnchor (1 ∷ []) c → ((roots_of c).levels ≡ 1) × ((roots_of c).leftmost 0 ≡ 1)
-names_one (Anchor a) e = (ap length e, ap (λ z. get_or z 0 0) e)
+names_one : (c : Page) → IsAnchor (1 ∷ []) c → (a : AnchorPage) × (c ≡ Anchor a) × (a.leftmost.items ≡ 1 ∷ [])
+names_one (Anchor a) e = (a, refl, e)
 names_one old e = absurd e
 
 -- what a list holds at a place, if it is that long
@@ -61,9 +61,8 @@ opens size v wide o =
     let second : get_or v.pages 1 leaf ≡ leaf = at v.pages leaf 1 leaf o.leaf.1 in
     let names = names_one o.anchor.0 o.anchor.2 in
     let opening : Opening now = record {
-      levels = ap (λ c. (roots_of c).levels) first ∙ names.0;
-      leftmost = ap (λ c. (roots_of c).leftmost 0) first ∙ names.1;
-      leaf = ap node_of second ∙ o.leaf.2;
+      anchor = (names.0, first ∙ names.1, names.2);
+      leaf = (o.leaf.2.0, second ∙ o.leaf.2.1, o.leaf.2.2, o.leaf.2.3, o.leaf.2.4, o.leaf.2.5);
       anchor_open = ap owner_of (at v.owners own.Released 0 own.Open o.anchor_open);
       leaf_open = ap owner_of (at v.owners own.Released 1 own.Open o.leaf_open);
       others = λ x a b. elim (cases_lt x size) [

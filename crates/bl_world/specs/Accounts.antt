@@ -33,7 +33,7 @@ use Rattle.bl_proc.specs.declared.reclaiming.Reclaim.{Reclaim}
 use Rattle.bl_proc.specs.declared.kinds.Proc.{Proc}
 use Rattle.bl_proc.specs.declared.kinds.Proc.TheVariants as proc
 use Rattle.bl_proc.specs.Processes.{answer_of}
-use Rattle.bl_proc_meanings.specs.Answers.{MeansPosted, MeansHint}
+use Rattle.bl_proc_meanings.specs.Answers.{MeansPosted}
 use Rattle.bl_proc_invariant.specs.Beside.{MeansBeside}
 use Rattle.bl_claims.specs.Bounds.{IsWithinBound}
 use Rattle.bl_proc_bounds.specs.Searches.{IsSearch}
@@ -121,11 +121,9 @@ pub record Account (v : View) : Type 0 where
       → Replies trail (name_of (n + 1)) (op_of p) reply
   pub ended : (n : ℕ) (p : Proc) (a : Answer) → slice_get v.processes n ≡ Some p → HasEnd p → answer_of p ≡ Some a
       → (i : ℕ) × (reply : Option Reply) × DoesAt trail i (name_of (n + 1)) (End reply)
-  -- what a post answered means what it says, and so does its hint, by what its process has done
+  -- what a post answered means what it says, with the hint beside it, by what its process has done
   pub posted : (n : ℕ) (p : Post) (a : Posted) (hint : Option Hint) → slice_get v.processes n ≡ Some (proc.Post p)
-      → answer_of (proc.Post p) ≡ Some (answer.Post a hint) → MeansPosted p.level p.key a (marks_of (name_of (n + 1)) trail)
-  pub hinted : (n : ℕ) (p : Post) (a : Posted) (hint : Option Hint) → slice_get v.processes n ≡ Some (proc.Post p)
-      → answer_of (proc.Post p) ≡ Some (answer.Post a hint) → MeansHint p.level p.key a hint (marks_of (name_of (n + 1)) trail)
+      → answer_of (proc.Post p) ≡ Some (answer.Post a hint) → MeansPosted p.level p.key a hint (marks_of (name_of (n + 1)) trail)
   -- so does the hint beside the reply of an operation
   pub beside : (n : ℕ) (p : Proc) (reply : Reply) (hint : Option Hint) → slice_get v.processes n ≡ Some p → answer_of p ≡ Some (answer.Op reply hint)
       → MeansBeside p reply hint (marks_of (name_of (n + 1)) trail)

@@ -1,8 +1,8 @@
 -- What the user of a world does with it, and where that leads.
-use Rattle.std.specs.Prelude.{◌≡◌, ◌⊎◌, ℕ, ◌<◌, ◌+◌, ◌++◌, Some, None, List, [], ◌∷◌, length, slice_get}
+use Rattle.std.specs.Prelude.{◌≡◌, ◌⊎◌, ℕ, ◌<◌, ◌+◌, ◌++◌, Some, List, [], ◌∷◌, length, slice_get}
 use Rattle.bl_page.specs.declared.page.Page.{Page}
-use Rattle.bl_claims.specs.Nodes.{unbounded}
-use Rattle.bl_claims.specs.Pages.{node_of}
+use Rattle.bl_page.specs.declared.page.Page.TheVariants.{Leaf}
+use Rattle.bl_page.specs.declared.page.Leaf.{Leaf as LeafPage}
 use Rattle.bl_proc_base.specs.declared.acts.Action.TheVariants as act
 use Rattle.bl_proc_base.specs.Growths.{IsAnchor}
 use Rattle.bl_proc.specs.declared.kinds.Proc.{Proc}
@@ -16,7 +16,7 @@ use Rattle.bl_world.specs.Turns.{MayRefuse, TurnsTo}
 
 -- a leaf that covers every key and has no row
 abbrev pub IsEmptyLeaf : Page → Type 0
-IsEmptyLeaf c = node_of c ≡ record { shape = record { level = 0; low = 0; end = unbounded; right = 0 }; look = λ k. None }
+IsEmptyLeaf c = (l : LeafPage) × (c ≡ Leaf l) × (l.low ≡ 0) × (l.high ≡ 0) × (l.right ≡ 0) × (l.rows.items ≡ [])
 
 -- that many pages, all of them empty leaves
 abbrev pub AreEmptyLeaves : ℕ → List Page → Type 0

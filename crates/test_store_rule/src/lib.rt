@@ -118,7 +118,8 @@ pub fn two_hands(alloc: Global, pages: u32) -> Result<(Held, Hand<Mine>, Hand<Mi
 
 /// The words of all pages at the end, of each page all of one put.
 pub fn shut(store: Held, hands: Vec<Hand<Mine>>, room: Vec<[u64; 32]>) -> Vec<[u64; 32]>
-    requires own { (k : ℕ) (hand : Hand Mine) → get_elem? hands.items k ≡ some hand → IsOf store.table.shared.table_id store.layout hand.seat × IsIdle hand.seat }
+    requires own { (k : ℕ) (hand : Hand Mine) → get_elem? hands.items k ≡ some hand
+        → IsOf store.table.shared.table_id store.layout hand.seat × IsIdle hand.seat }
     requires all { HasEach store.layout.passes hands.items }
     requires room { (room.items ≡ []) × (store.layout.pages ≤ vec_capacity room) }
     ensures count { length result.items ≡ store.layout.pages }
@@ -131,8 +132,10 @@ pub fn shut(store: Held, hands: Vec<Hand<Mine>>, room: Vec<[u64; 32]>) -> Vec<[u
 pub fn meet(store: &Held, hand: &mut Hand<Mine>, other: &mut Hand<Mine>)
     requires own { IsOf store.now.table.shared.table_id store.now.layout hand.old.seat × IsOf store.now.table.shared.table_id store.now.layout other.old.seat }
     requires idle { IsIdle other.old.seat × HasNoStock other.old.seat }
-    ensures same { IsSameHand hand.old.seat hand.new.seat × IsSameStage hand.old.seat hand.new.seat × IsSameStock hand.old.seat hand.new.seat × (known hand.new.seat ≡ known hand.old.seat) }
-    ensures other { IsSameHand other.old.seat other.new.seat × IsIdle other.new.seat × HasNoStock other.new.seat × (known other.new.seat ≡ known other.old.seat) }
+    ensures same { IsSameHand hand.old.seat hand.new.seat × IsSameStage hand.old.seat hand.new.seat
+        × IsSameStock hand.old.seat hand.new.seat × (known hand.new.seat ≡ known hand.old.seat) }
+    ensures other { IsSameHand other.old.seat other.new.seat × IsIdle other.new.seat × HasNoStock other.new.seat
+        × (known other.new.seat ≡ known other.old.seat) }
     ensures apart { IsApart (known hand.new.seat) (known other.new.seat) }
 {
     store.meet::<Apart>(hand, other);
@@ -164,7 +167,8 @@ pub fn look(store: &Held, hand: &mut Hand<Mine>, page: u32) -> [u64; 32]
     requires own { IsOf store.now.table.shared.table_id store.now.layout hand.old.seat }
     requires running { IsRunning hand.old.seat }
     requires page { page < 2 }
-    ensures same { IsSameHand hand.old.seat hand.new.seat × IsSameStage hand.old.seat hand.new.seat × IsSameStock hand.old.seat hand.new.seat × (known hand.new.seat ≡ known hand.old.seat) }
+    ensures same { IsSameHand hand.old.seat hand.new.seat × IsSameStage hand.old.seat hand.new.seat
+        × IsSameStock hand.old.seat hand.new.seat × (known hand.new.seat ≡ known hand.old.seat) }
     ensures whole { AllSame result }
 {
     store.get::<Saw>(hand, page)
@@ -176,7 +180,8 @@ pub fn glance(store: &Held, hand: &mut Hand<Mine>, page: u32) -> Option<Glance>
     requires own { IsOf store.now.table.shared.table_id store.now.layout hand.old.seat }
     requires running { IsRunning hand.old.seat }
     requires page { page < 2 }
-    ensures same { IsSameHand hand.old.seat hand.new.seat × IsSameStage hand.old.seat hand.new.seat × IsSameStock hand.old.seat hand.new.seat × (known hand.new.seat ≡ known hand.old.seat) }
+    ensures same { IsSameHand hand.old.seat hand.new.seat × IsSameStage hand.old.seat hand.new.seat
+        × IsSameStock hand.old.seat hand.new.seat × (known hand.new.seat ≡ known hand.old.seat) }
     ensures whole { (words : List ℕ) × HasSeen result hand.new.seat words × AllSame words }
 {
     store.glance::<Saw>(hand, page)
@@ -219,7 +224,8 @@ pub fn reserve(
     ensures same { IsSameHand hand.old.seat hand.new.seat × IsSameStage hand.old.seat hand.new.seat }
     ensures stock { IfOk result (λ s. IsStockOf hand.new.seat s × (s.count ≡ frames) × MayRetire hand.new.seat) }
     ensures frame { pages ≡ 0 → IfOk result (λ s. known hand.new.seat ≡ known hand.old.seat) }
-    ensures page { pages ≡ 1 → IfOk result (λ s. (x : ℕ) × (s.page ≡ Some x) × (0 < x) × (x < store.now.layout.pages) × (known hand.new.seat ≡ holding (Some x))) }
+    ensures page { pages ≡ 1 → IfOk result (λ s. (x : ℕ) × (s.page ≡ Some x) × (0 < x) × (x < store.now.layout.pages)
+        × (known hand.new.seat ≡ holding (Some x))) }
     ensures refused { IfErr result (λ _. HasNoStock hand.new.seat × (known hand.new.seat ≡ known hand.old.seat)) }
 {
     store.reserve::<Took, Still>(hand, pages, frames)
@@ -231,7 +237,8 @@ pub fn fill(store: &Held, hand: &mut Hand<Mine>, page: u32, word: u64, stock: &m
     requires page { page < store.now.layout.pages }
     requires holds { (known hand.old.seat).held ≡ Some page }
     requires stock { IsStockOf hand.old.seat stock.old × (0 < stock.old.count) }
-    ensures same { IsSameHand hand.old.seat hand.new.seat × IsSameStage hand.old.seat hand.new.seat × (known hand.new.seat ≡ known hand.old.seat) × (hand.new.seat.me.0.retires ≡ hand.old.seat.me.0.retires) }
+    ensures same { IsSameHand hand.old.seat hand.new.seat × IsSameStage hand.old.seat hand.new.seat
+        × (known hand.new.seat ≡ known hand.old.seat) × (hand.new.seat.me.0.retires ≡ hand.old.seat.me.0.retires) }
     ensures stock { IsStockOf hand.new.seat stock.new × (stock.new.count + 1 ≡ stock.old.count) × (stock.new.page ≡ stock.old.page) }
 {
     store.put::<Saw>(hand, page, &[word; 32], stock);
@@ -253,7 +260,8 @@ pub fn retire(store: &Held, hand: &mut Hand<Mine>, page: u32)
 /// Releases what no process can read any more.
 pub fn sweep(store: &Held, hand: &mut Hand<Mine>) -> u32
     requires own { IsOf store.now.table.shared.table_id store.now.layout hand.old.seat }
-    ensures same { IsSameHand hand.old.seat hand.new.seat × IsSameStage hand.old.seat hand.new.seat × IsSameStock hand.old.seat hand.new.seat × (known hand.new.seat ≡ known hand.old.seat) }
+    ensures same { IsSameHand hand.old.seat hand.new.seat × IsSameStage hand.old.seat hand.new.seat
+        × IsSameStock hand.old.seat hand.new.seat × (known hand.new.seat ≡ known hand.old.seat) }
 {
     store.sweep::<Still>(hand)
 }

@@ -4,7 +4,7 @@ use Rattle.bl_proc.specs.declared.writing.WriteStage.TheVariants as write
 use Rattle.bl_store.specs.Hands.{known, IsSameHand}
 use Rattle.bl_store.specs.declared.store.Hand.{Hand}
 use Rattle.bl_index_rule.specs.declared.known.PassState.{PassState}
-use Rattle.bl_index_steps.specs.Refused.{IsFull}
+use Rattle.bl_index_steps.specs.Held.{IsFull}
 use Rattle.bl_index_steps.specs.Runs.{IsOn, IsSince}
 use Rattle.bl_index_steps.proofs.Held.{keeps_held}
 use Rattle.bl_index_steps.proofs.Rooms.{lacks_split, refused_on}

@@ -8,8 +8,7 @@ use Rattle.bl_proc_base.proofs.Spellings.{pairs_counted}
 use Rattle.bl_proc.specs.Processes.{next_of}
 use Rattle.bl_store.specs.Hands.{known}
 use Rattle.bl_index_steps.specs.Runs.{IsOn}
-use Rattle.bl_index_steps.specs.Refused.{HasRoom}
-use Rattle.bl_index_steps.specs.Held.{own_marks}
+use Rattle.bl_index_steps.specs.Held.{HasRoom, own_marks}
 use Rattle.bl_index_steps.proofs.Held.{goes_keeps, keeps_held, put_latches_not}
 use Rattle.bl_index_steps.proofs.Standing.{on_held, on_goes, same_goes}
 use Rattle.bl_index_ways.proofs.Walked.{enters_putting, enters_taking}

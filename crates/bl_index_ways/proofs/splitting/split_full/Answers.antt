@@ -1,7 +1,6 @@
 use Rattle.bl_store.specs.Hands.{known}
 use Rattle.bl_index_steps.proofs.Held.{goes_keeps, keeps_held, take_latches_not}
-use Rattle.bl_index_steps.specs.Held.{own_marks}
-use Rattle.bl_index_steps.specs.Refused.{IsFull}
+use Rattle.bl_index_steps.specs.Held.{IsFull, own_marks}
 use Rattle.std.proofs.Common.{rules, refl, sym, ap, ◌∙◌, get_or}
 use Rattle.bl_proc_base.specs.declared.acts.Seen.TheVariants as seen
 use Rattle.bl_proc_base.specs.declared.editing.Edit.TheVariants as edit

@@ -6,8 +6,11 @@ use Rattle.bl_index.proofs.index.Index.part.Goals as goal
 pub returns-clause-same : goal.returns-clause-same
 returns-clause-same c = same_pass c.args.pass.now.hand c.list_part.new.hand c.list_part.ensures.same.0 c.list_part.ensures.first
 
-pub returns-clause-answers : goal.returns-clause-answers
-returns-clause-answers c = observed_from _ _ _ _ _ _ _ _ _ c.requires.2 c.list_part.ensures.answers
+pub returns-clause-found : goal.returns-clause-found
+returns-clause-found c = (observed_from _ _ _ _ _ _ _ _ _ c.requires.2 c.list_part.ensures.answers).answered
+
+pub returns-clause-runs_out : goal.returns-clause-runs_out
+returns-clause-runs_out c = (observed_from _ _ _ _ _ _ _ _ _ c.requires.2 c.list_part.ensures.answers).refused
 
 pub returns-clause-alone : goal.returns-clause-alone
-returns-clause-alone c = let e = c.list_part.ensures in finds_alone c.args.self.now c.args.pass.now c.list_part.new.hand.seat (op.Part c.args.from) c.requires e.same.0 e.rests.within _ _ c.list_part.result (returns-clause-answers c)
+returns-clause-alone c = let e = c.list_part.ensures in finds_alone c.args.self.now c.args.pass.now c.list_part.new.hand.seat (op.Part c.args.from) c.requires e.same.0 e.rests.within _ _ c.list_part.result (observed_from _ _ _ _ _ _ _ _ _ c.requires.2 e.answers)

@@ -38,4 +38,4 @@ pub returns-clause-no_room : goal.returns-clause-no_room
 returns-clause-no_room g c = λ none.
     let e = c.write_key.ensures in let a = c.args in let hint = c.write_key.result.1 in
     let wrote = subst (λ z. HasWritten (number_of a.pass.now) (known a.pass.now.hand.seat) (known c.write_key.new.hand.seat) a.key a.write (Op (reply_of z) hint)) none e.wrote in
-    write_lacks _ a.pass.now _ a.key a.write hint wrote c.requires.2 (e.no_room none)
+    write_lacks _ a.pass.now c.write_key.new.hand a.key a.write hint wrote c.requires.2 (e.no_room none)
