@@ -9,7 +9,7 @@ use Rattle.bl_page.specs.declared.page.Page.TheVariants.{Anchor, Leaf, Inner}
 use Rattle.bl_page.specs.Pairs.{end_of}
 use Rattle.bl_image.specs.Images.{IsImage, Fits64, page_words}
 use Rattle.bl_image.proofs.Chunks.{fits_at}
-use Rattle.bl_claims.specs.Nodes.{Node, unbounded}
+use Rattle.bl_page.specs.Nodes.{Node, unbounded}
 use Rattle.bl_core_tree.specs.Starts.{IsReached}
 use Rattle.bl_check.specs.declared.span.Span.{Span}
 use Rattle.bl_page.specs.Pages.{page_at}

@@ -8,8 +8,7 @@ use Rattle.bl_page.specs.declared.page.Page.{Page}
 use Rattle.bl_page.specs.declared.page.Page.TheVariants.{Anchor, Leaf, Inner, Dead}
 use Rattle.bl_page.specs.Pages.{page_at}
 use Rattle.bl_check.specs.Spans.{span_of}
-use Rattle.bl_claims.specs.Nodes.{Node, Roots, Covers, unbounded}
-use Rattle.bl_claims.specs.Pages.{node_of}
+use Rattle.bl_page.specs.Nodes.{Node, Roots, Covers, unbounded, node_of}
 use Rattle.bl_core_tree.specs.Starts.{start_map}
 use Rattle.bl_claims.specs.Opening.{node_in, roots_in}
 use Rattle.bl_claims.specs.Seeing.{rows_in}

@@ -8,8 +8,7 @@ use Rattle.bl_page.specs.declared.page.Page.{Page}
 use Rattle.bl_page.specs.declared.page.Page.TheVariants.{Anchor, Leaf, Inner, Dead}
 use Rattle.bl_page.specs.Machine.{Name, Owner, State}
 use Rattle.bl_image.specs.Images.{IsImage}
-use Rattle.bl_claims.specs.Nodes.{Node, Roots}
-use Rattle.bl_claims.specs.Pages.{node_of, roots_of}
+use Rattle.bl_page.specs.Nodes.{Node, Roots, node_of, roots_of}
 use Rattle.bl_core_tree.specs.Starts.{AreSound, start_map}
 use Rattle.bl_core_tree.proofs.SoundStarts.{none_paired, bool_cases}
 use Rattle.bl_core.specs.Worlds.{Stage, Know, World}

@@ -10,12 +10,11 @@ use Rattle.bl_page.specs.Pairs.{end_of, RisesFrom}
 use Rattle.bl_page.specs.Machine.{Name, Owner, State}
 use Rattle.bl_page.specs.Machine.Phase.{Waiting}
 use Rattle.bl_image.specs.Images.{IsImage, IsCount, image_bytes}
-use Rattle.bl_claims.specs.Nodes.{Node, unbounded}
+use Rattle.bl_page.specs.Nodes.{Node, unbounded, node_of, roots_of, IsTreePage}
 use Rattle.bl_core_tree.specs.Trees.{is_live, IsLive}
 use Rattle.bl_core_tree.specs.Trees.Status.{Free, Live, Left, Right, Gone, Anchored}
 use Rattle.bl_core_tree.proofs.Statuses.{live_live, right_live, anchored_dead}
 use Rattle.bl_claims.specs.Laws.{IsChain}
-use Rattle.bl_claims.specs.Pages.{node_of, roots_of, IsTreePage}
 use Rattle.bl_core_tree.proofs.LawsHold.{snapshot, KnowsMiddles, has_chain, listing}
 use Rattle.bl_claims.specs.Moments.{IsLivePage}
 use Rattle.bl_core.specs.Worlds.{Know, World, nodes, tree_of, IsGood}

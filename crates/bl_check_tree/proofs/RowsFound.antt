@@ -7,9 +7,9 @@ use Rattle.bl_page.specs.declared.page.Leaf.{Leaf as LeafPage}
 use Rattle.bl_page.specs.declared.page.Page.{Page}
 use Rattle.bl_page.specs.declared.page.Page.TheVariants.{Leaf, Inner}
 use Rattle.bl_page.specs.Pairs.{end_of, RisesFrom, AllWithin}
-use Rattle.bl_claims.specs.Nodes.{Node, Roots, Snapshot, unbounded}
+use Rattle.bl_page.specs.Nodes.{Node, Roots, unbounded, node_of}
+use Rattle.bl_claims.specs.Snapshots.{Snapshot}
 use Rattle.bl_claims.specs.Laws.{IsChain}
-use Rattle.bl_claims.specs.Pages.{node_of}
 use Rattle.bl_core_tree.specs.Starts.{AreSound, found, start_map}
 use Rattle.bl_core_tree.proofs.LawsHold.{snapshot, KnowsMiddles, has_chain}
 use Rattle.bl_core_tree.proofs.SoundStarts.{if_lt, if_ge, start_tree, alive, none_paired, sound_tree}

@@ -1,7 +1,7 @@
 -- Sound pages are told by what the live pages say alone.
 use Rattle.std.proofs.Common.{◌≡◌, ℕ, suc, ◌<◌, ◌≤◌, Bool, sym, subst, ap, ◌∙◌}
 use Rattle.std.specs.Prelude.{IsTrue}
-use Rattle.bl_claims.specs.Nodes.{Node, Roots, unbounded}
+use Rattle.bl_page.specs.Nodes.{Node, Roots, unbounded}
 use Rattle.bl_core_tree.specs.Starts.{IsReached, AreSound}
 
 module _ (live : ℕ → Bool) (node other : ℕ → Node) (roots : Roots) (same : (x : ℕ) → IsTrue (live x) → other x ≡ node x) (g : AreSound live node roots) where

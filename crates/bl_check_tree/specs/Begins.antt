@@ -4,7 +4,7 @@ use Rattle.bl_model.specs.Map.{SameMap}
 use Rattle.bl_model.specs.Rows.{map_of, HasRisingKeys}
 use Rattle.bl_page.specs.declared.page.Page.{Page}
 use Rattle.bl_page.specs.Machine.{Name, Owner, State}
-use Rattle.bl_claims.specs.Pages.{node_of, roots_of}
+use Rattle.bl_page.specs.Nodes.{node_of, roots_of}
 use Rattle.bl_core_tree.specs.Starts.{AreSound, start_map}
 use Rattle.bl_claims.specs.Moments.{snapshot_of, HasLaws}
 use Rattle.bl_claims.specs.Opening.{node_in, roots_in}

@@ -1,7 +1,8 @@
 -- The laws on a small tree: an anchor, two leaves and their parent, with the keys 1 and 9 in the left leaf and the right.
 use Rattle.std.proofs.Common.{ℕ, ◌≤◌, ◌==◌, zero, suc, if◌then◌else◌, Some, None, [], ◌∷◌, arith, refl, inl}
 use Rattle.bl_model.specs.Map.{Map}
-use Rattle.bl_claims.specs.Nodes.{Node, Snapshot, unbounded}
+use Rattle.bl_page.specs.Nodes.{Node, unbounded}
+use Rattle.bl_claims.specs.Snapshots.{Snapshot}
 use Rattle.bl_claims.specs.Laws.{Agreement, Overlap, HasChain, IsListed}
 use Rattle.bl_claims.specs.Walks.{IsWalk, NoneTwice}
 use Rattle.bl_claims.specs.Walks.IsWalk.{Ends, Right, Down}

@@ -8,8 +8,7 @@ use Rattle.bl_model.specs.declared.operation.Reply.{Reply}
 use Rattle.bl_page.specs.declared.page.Page.{Page}
 use Rattle.bl_page.specs.Machine.{Act}
 use Rattle.bl_page.specs.Machine.Act.{Begin, End, Get, Put, Latch}
-use Rattle.bl_claims.specs.Nodes.{Covers}
-use Rattle.bl_claims.specs.Pages.{node_of, roots_of}
+use Rattle.bl_page.specs.Nodes.{Covers, node_of, roots_of}
 use Rattle.bl_claims.specs.Trails.{Mark, Trail}
 use Rattle.bl_claims.specs.Meanings.{RaisesOnly, HasRaised, WritesBack, MeansDone, MeansAlready, MeansStale}
 

@@ -1,7 +1,8 @@
 -- The laws of the tree at one moment: what its pages have to do with the map, with one another and with their parents.
 use Rattle.std.specs.Prelude.{◌≡◌, ◌⊎◌, ℕ, suc, ◌<◌, Some, List, [], ◌∷◌}
 use Rattle.bl_model.specs.Map.{Map}
-use Rattle.bl_claims.specs.Nodes.{Covers, Snapshot, unbounded}
+use Rattle.bl_page.specs.Nodes.{Covers, unbounded}
+use Rattle.bl_claims.specs.Snapshots.{Snapshot}
 
 -- A live leaf that covers a key has the key's row exactly where the map has it.
 abbrev pub Agreement : Snapshot → Map → Type 0

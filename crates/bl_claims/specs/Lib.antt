@@ -1,7 +1,6 @@
-pub mod Nodes
+pub mod Snapshots
 pub mod Laws
 pub mod Walks
-pub mod Pages
 pub mod Trails
 pub mod Moments
 pub mod Meanings
@@ -10,3 +9,9 @@ pub mod Opening
 pub mod Bounds
 pub mod Seeing
 pub mod Latches
+pub mod Hinted
+pub mod Answers
+pub mod Squeezed
+pub mod Lowered
+pub mod Families
+pub mod Climbed

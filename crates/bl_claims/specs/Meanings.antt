@@ -5,8 +5,7 @@ use Rattle.bl_page.specs.declared.page.Page.{Page}
 use Rattle.bl_page.specs.Machine.{Act}
 use Rattle.bl_page.specs.Machine.Act.{Begin, Get, Put, Take, Latch, Retire, Release, Miss}
 use Rattle.bl_page.specs.declared.machine.Missed.TheVariants as missed
-use Rattle.bl_claims.specs.Nodes.{Covers}
-use Rattle.bl_claims.specs.Pages.{node_of, roots_of}
+use Rattle.bl_page.specs.Nodes.{Covers, node_of, roots_of}
 use Rattle.bl_claims.specs.Trails.{Mark, Trail}
 
 -- one of these is a get of page x, which then was c

@@ -6,8 +6,8 @@ use Rattle.bl_page.specs.declared.page.Page.{Page}
 use Rattle.bl_page.specs.Machine.{Name, Owner, State, Act}
 use Rattle.bl_page.specs.Machine.Owner.{Held}
 use Rattle.bl_model.specs.Map.{Map}
-use Rattle.bl_claims.specs.Nodes.{Snapshot, unbounded}
-use Rattle.bl_claims.specs.Pages.{node_of, roots_of, IsTreePage}
+use Rattle.bl_claims.specs.Snapshots.{Snapshot}
+use Rattle.bl_page.specs.Nodes.{unbounded, node_of, roots_of, IsTreePage}
 use Rattle.bl_claims.specs.Laws.{Agreement, Overlap, HasChain, Listing}
 use Rattle.bl_claims.specs.Walks.{HasLoneWalk}
 use Rattle.bl_claims.specs.Trails.{Mark, Trail, marks_of}

@@ -8,8 +8,7 @@ use Rattle.bl_page.specs.Pages.{page_at}
 use Rattle.bl_page.specs.Machine.{Name, Owner, State}
 use Rattle.bl_page.specs.Machine.Owner.{Released}
 use Rattle.bl_page.specs.Machine.Phase.{Waiting}
-use Rattle.bl_claims.specs.Nodes.{Node, Roots}
-use Rattle.bl_claims.specs.Pages.{node_of, roots_of}
+use Rattle.bl_page.specs.Nodes.{Node, Roots, node_of, roots_of}
 
 -- Page 0 names one level, whose only page is page 1, an empty leaf; the two are open, all others released. No process has
 -- begun.

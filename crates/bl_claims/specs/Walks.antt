@@ -1,14 +1,8 @@
 -- The lone walk of a key: the pages that a search would meet if nothing changed meanwhile.
 use Rattle.std.specs.Prelude.{◌≡◌, ◌≢◌, ℕ, suc, ◌<◌, ◌≤◌, Some, List, [], ◌∷◌}
 use Rattle.bl_model.specs.Map.{Map}
-use Rattle.bl_claims.specs.Nodes.{Node, Covers, Snapshot}
-
--- The child of a key: the one listed with the greatest key that is not above it.
-pub record IsChildOf (look : Map) (k c : ℕ) : Type 0 where
-  pub key : ℕ
-  pub listed : look key ≡ Some c
-  pub reached : key ≤ k
-  pub greatest : (j other : ℕ) → look j ≡ Some other → j ≤ k → j ≤ key
+use Rattle.bl_page.specs.Nodes.{Node, Covers}
+use Rattle.bl_claims.specs.Snapshots.{Snapshot}
 
 -- The pages met from one page on: to the right where the key is beyond the page's bound, else down to the key's child,
 -- until a leaf covers it.

@@ -2,10 +2,9 @@
 use Rattle.std.proofs.Common.{ℕ, ◌≡◌, ◌≢◌, None, suc, ap, sym, ◌∙◌, inl, inr}
 use Rattle.bl_page.specs.Machine.{Name}
 use Rattle.bl_page.specs.Machine.Owner.{Held}
-use Rattle.bl_claims.specs.Nodes.{Covers}
+use Rattle.bl_page.specs.Nodes.{Covers, IsTreePage}
 use Rattle.bl_core_tree.specs.Trees.Status.{Live}
 use Rattle.bl_core_tree.proofs.Statuses.{live_live}
-use Rattle.bl_claims.specs.Pages.{IsTreePage}
 use Rattle.bl_core_tree.proofs.LawsHold.{right_of}
 use Rattle.bl_core.specs.Worlds.{Child, Know, World, nodes, MayGet, IsRelied, IsGood}
 use Rattle.bl_core.proofs.Descents.{is_live_page}

@@ -3,13 +3,12 @@ use Rattle.std.proofs.Common.{ℕ, ◌≡◌, ◌≢◌, ◌⊎◌, None, arith,
 use Rattle.std.proofs.lemmas.Bool.{cases_eq}
 use Rattle.bl_page.specs.declared.page.Page.{Page}
 use Rattle.bl_page.specs.Machine.{Name}
-use Rattle.bl_claims.specs.Nodes.{unbounded}
+use Rattle.bl_page.specs.Nodes.{unbounded, node_of}
 use Rattle.bl_core_tree.specs.Trees.{IsLive, IsTree}
 use Rattle.bl_core_tree.specs.Trees.Status.{Fresh, Live, Left, Right, Uprooted}
 use Rattle.bl_core_tree.proofs.Statuses.{live_live, left_live, right_live}
 use Rattle.bl_core_tree.proofs.Merges.{Joins-keeps}
 use Rattle.bl_core_tree.proofs.Evenings.{GainsLeft-keeps, GainsRight-keeps}
-use Rattle.bl_claims.specs.Pages.{node_of}
 use Rattle.bl_core.specs.Worlds.{Know, World, nodes, tree_of, IsGood}
 use Rattle.bl_core.proofs.Puts.{Puts-keeps}
 use Rattle.bl_core.specs.Compressions.{Couples, PutsJoin, PutsLeftGain, PutsRightGain}

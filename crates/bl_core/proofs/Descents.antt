@@ -4,12 +4,10 @@ use Rattle.std.proofs.lemmas.Bool.{false≢true}
 use Rattle.bl_page.specs.Machine.{Name, Owner}
 use Rattle.bl_page.specs.Machine.Owner.{Released}
 use Rattle.bl_page.specs.Machine.Phase.{Running}
-use Rattle.bl_claims.specs.Nodes.{Covers, unbounded}
+use Rattle.bl_page.specs.Nodes.{Covers, unbounded, roots_of, IsTreePage, IsChildOf}
 use Rattle.bl_core_tree.specs.Trees.{Status, is_live, IsLive}
 use Rattle.bl_core_tree.specs.Trees.Status.{Free, Fresh, Live, Left, Right, Uprooted, Gone, Anchored}
 use Rattle.bl_core_tree.proofs.Statuses.{live_live, left_live, right_live, uprooted_live, gone_dead}
-use Rattle.bl_claims.specs.Pages.{roots_of, IsTreePage}
-use Rattle.bl_claims.specs.Walks.{IsChildOf}
 use Rattle.bl_core.specs.Worlds.{Know, World, nodes, was_in, MayGet, IsGoes, IsGood}
 use Rattle.bl_core.proofs.Steady.{was_live, free_not, fresh_not, anchored_not}
 use Rattle.bl_core_tree.proofs.SoundPages.{sound_node}

@@ -6,7 +6,7 @@ use Rattle.bl_page.specs.Machine.Owner.{Released, Held, Retired}
 use Rattle.bl_page.specs.Machine.Act.{Begin, End}
 use Rattle.bl_page.specs.Machine.Phase.{Running, Ended}
 use Rattle.bl_core_tree.specs.Trees.Status.{Gone}
-use Rattle.bl_claims.specs.Pages.{node_of}
+use Rattle.bl_page.specs.Nodes.{node_of}
 use Rattle.bl_claims.specs.Trails.{Mark, Answered}
 use Rattle.bl_core.specs.Worlds.{Passed, Know, World, nodes, MayGet, IsPassed, IsSure, HoldsPage, AreOwned, IsRecorded, IsGood, Extends, silent}
 use Rattle.bl_core.proofs.Pushes.{name_cases}

@@ -7,9 +7,8 @@ use Rattle.bl_page.specs.declared.page.Page.TheVariants.{Anchor, Leaf, Inner, De
 use Rattle.bl_page.specs.Pairs.{end_of}
 use Rattle.bl_rearrange.specs.declared.fitted.Fitted.TheVariants.{Fits, Split}
 use Rattle.bl_rearrange.specs.Rearranged.{pairs_of, IsNow, low_of, high_of, right_of, KeepsFrame, IsWithout, IsWithValue, IsFitted}
-use Rattle.bl_claims.specs.Nodes.{Covers}
+use Rattle.bl_page.specs.Nodes.{Covers, node_of}
 use Rattle.bl_core_tree.specs.Moves.{IsRow, IsCut}
-use Rattle.bl_claims.specs.Pages.{node_of}
 
 -- with the pairs, a page's shape and its pairs
 pub frame_shape : (old new : Page) → KeepsFrame old new → (node_of new).shape ≡ (node_of old).shape

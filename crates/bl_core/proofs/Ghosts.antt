@@ -3,10 +3,9 @@ use Rattle.std.proofs.Common.{◌⊎◌, ℕ, ◌≡◌, ◌≢◌, subst, ap, s
 use Rattle.std.proofs.Math.Path.{fun_ext}
 use Rattle.bl_page.specs.Machine.{Name}
 use Rattle.bl_page.specs.Machine.Owner.{Held, Retired}
-use Rattle.bl_claims.specs.Nodes.{unbounded}
+use Rattle.bl_page.specs.Nodes.{unbounded, node_of, roots_of}
 use Rattle.bl_core_tree.specs.Trees.{Tree, IsTree}
 use Rattle.bl_core_tree.specs.Trees.Status.{Live, Right, Gone}
-use Rattle.bl_claims.specs.Pages.{node_of, roots_of}
 use Rattle.bl_claims.specs.Trails.{Mark}
 use Rattle.bl_core.specs.Worlds.{Know, World, nodes, tree_of, MapsTo, IsSure, HoldsPage, HasMiddle, AreOwned, IsGood, Extends}
 use Rattle.bl_core.proofs.Pushes.{name_cases, MaySay}

@@ -4,12 +4,11 @@ use Rattle.std.proofs.lemmas.Bool.{cases_eq, false≢true}
 use Rattle.bl_page.specs.declared.page.Page.{Page}
 use Rattle.bl_page.specs.Machine.{Name}
 use Rattle.bl_page.specs.Machine.Owner.{Held}
-use Rattle.bl_claims.specs.Nodes.{unbounded}
+use Rattle.bl_page.specs.Nodes.{unbounded, node_of}
 use Rattle.bl_core_tree.specs.Trees.{Status, IsLive}
 use Rattle.bl_core_tree.specs.Trees.Status.{Free, Fresh, Right, Uprooted, Gone, Anchored}
 use Rattle.bl_core_tree.proofs.Statuses.{live_live, uprooted_live}
 use Rattle.bl_core_tree.proofs.Lowerings.{Lowers-keeps, Falls-keeps}
-use Rattle.bl_claims.specs.Pages.{node_of}
 use Rattle.bl_core.specs.Worlds.{Know, World, nodes, tree_of, was_in, IsGood}
 use Rattle.bl_core.specs.Puts.{PutsLower, PutsFallen}
 use Rattle.bl_core.proofs.Steady.{was_gone, anchored_not}

@@ -4,7 +4,7 @@ use Rattle.std.proofs.lemmas.Bool.{cases_eq, false≢true}
 use Rattle.bl_page.specs.declared.page.Page.{Page}
 use Rattle.bl_page.specs.Machine.{Name}
 use Rattle.bl_page.specs.Machine.Owner.{Held}
-use Rattle.bl_claims.specs.Nodes.{unbounded}
+use Rattle.bl_page.specs.Nodes.{unbounded, node_of, roots_of}
 use Rattle.bl_core_tree.specs.Trees.{Status}
 use Rattle.bl_core_tree.specs.Trees.Status.{Fresh, Live, Right, Uprooted, Anchored}
 use Rattle.bl_core_tree.specs.Moves.{IsPut}
@@ -13,7 +13,6 @@ use Rattle.bl_core_tree.proofs.Rows.{ChangesRow-keeps}
 use Rattle.bl_core_tree.proofs.Splits.{Splits-keeps}
 use Rattle.bl_core_tree.proofs.Growths.{Grows-keeps}
 use Rattle.bl_core_tree.proofs.Asides.{Aside-keeps}
-use Rattle.bl_claims.specs.Pages.{node_of, roots_of}
 use Rattle.bl_claims.specs.Trails.{Said}
 use Rattle.bl_core.specs.Worlds.{nodes, Know, World, tree_of, was_in, IsGood}
 use Rattle.bl_core.proofs.Steady.{fresh_not, anchored_not}

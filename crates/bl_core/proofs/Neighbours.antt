@@ -8,7 +8,7 @@ use Rattle.bl_rearrange.specs.Rearranged.{pairs_of, IsNow, low_of, high_of, righ
 use Rattle.bl_rearrange.specs.Neighbours.{AreNeighbours, IsMerged, IsEvened}
 use Rattle.bl_rearrange.specs.declared.sides.Evened.{Evened}
 use Rattle.bl_core_tree.specs.Moves.{IsJoin, IsLeftGain, IsRightLoss, IsRightGain, IsLeftLoss}
-use Rattle.bl_claims.specs.Pages.{node_of}
+use Rattle.bl_page.specs.Nodes.{node_of}
 use Rattle.bl_core.proofs.Fitted.{look_of, now_bounds, end_is}
 
 -- A key outside the bounds of pairs is not among them.

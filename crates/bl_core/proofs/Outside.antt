@@ -4,12 +4,11 @@ use Rattle.std.proofs.lemmas.Bool.{cases_eq, false≢true}
 use Rattle.bl_page.specs.Machine.{Name, Owner, IsAt}
 use Rattle.bl_page.specs.Machine.Owner.{Released, Held, Retired}
 use Rattle.bl_page.specs.Machine.Act.{Take, Retire, Release}
-use Rattle.bl_claims.specs.Nodes.{unbounded}
+use Rattle.bl_page.specs.Nodes.{unbounded, node_of, roots_of}
 use Rattle.bl_core_tree.specs.Trees.{Status, IsLive, IsTree}
 use Rattle.bl_core_tree.specs.Trees.Status.{Free, Fresh, Live, Right, Uprooted, Gone, Anchored}
 use Rattle.bl_core_tree.proofs.Statuses.{free_dead, fresh_dead, gone_dead, not_dead}
 use Rattle.bl_core_tree.proofs.Asides.{Aside-keeps}
-use Rattle.bl_claims.specs.Pages.{node_of, roots_of}
 use Rattle.bl_claims.specs.Trails.{Mark}
 use Rattle.bl_core.specs.Worlds.{Know, World, nodes, tree_of, was_in, MapsTo, MayGet, IsSure, HoldsPage, HasMiddle, IsGone, AreOwned, IsBounded, IsGood, Extends, silent}
 use Rattle.bl_core.proofs.Pushes.{MaySay}

@@ -6,10 +6,9 @@ use Rattle.bl_page.specs.Machine.{Name, Owner}
 use Rattle.bl_page.specs.Machine.Owner.{Released, Held, Retired}
 use Rattle.bl_page.specs.Machine.Act.{Put}
 use Rattle.bl_page.specs.Machine.Phase.{Running}
-use Rattle.bl_claims.specs.Nodes.{Covers, unbounded}
+use Rattle.bl_page.specs.Nodes.{Covers, unbounded, node_of}
 use Rattle.bl_core_tree.specs.Trees.{IsLive, IsTree}
 use Rattle.bl_core_tree.specs.Trees.Status.{Free, Fresh, Live, Right, Uprooted, Gone, Anchored}
-use Rattle.bl_claims.specs.Pages.{node_of}
 use Rattle.bl_claims.specs.Trails.{Said, HasSaid}
 use Rattle.bl_core.specs.Worlds.{Child, Know, World, nodes, tree_of, was_in, MapsTo, IsRelied, IsSure, HoldsPage, IsLowering, IsBounded, IsGood, Extends, put_mark}
 use Rattle.bl_core.proofs.Pushes.{name_cases}

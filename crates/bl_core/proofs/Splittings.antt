@@ -4,7 +4,7 @@ use Rattle.std.proofs.lemmas.Bool.{cases_eq}
 use Rattle.bl_page.specs.declared.page.Page.{Page}
 use Rattle.bl_page.specs.Machine.{Name}
 use Rattle.bl_page.specs.Machine.Owner.{Held}
-use Rattle.bl_claims.specs.Nodes.{unbounded}
+use Rattle.bl_page.specs.Nodes.{unbounded, node_of}
 use Rattle.bl_core_tree.specs.Trees.{Status, IsLive, IsTree}
 use Rattle.bl_core_tree.specs.Trees.Status.{Free, Fresh, Live, Left, Right, Uprooted, Gone, Anchored}
 use Rattle.bl_core_tree.specs.Moves.{IsAtTwo}
@@ -12,7 +12,6 @@ use Rattle.bl_core_tree.proofs.Statuses.{live_live, left_live, right_live}
 use Rattle.bl_core_tree.proofs.Merges.{Dies-keeps}
 use Rattle.bl_core_tree.proofs.Evenings.{LosesRight-keeps, LosesLeft-keeps}
 use Rattle.bl_core_tree.proofs.Relists.{Relists-keeps}
-use Rattle.bl_claims.specs.Pages.{node_of}
 use Rattle.bl_core.specs.Worlds.{Middle, Know, World, nodes, tree_of, IsGood}
 use Rattle.bl_core.proofs.Steady.{was_live, was_gone}
 use Rattle.bl_core.proofs.Puts.{Puts-keeps}

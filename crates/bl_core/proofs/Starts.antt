@@ -6,7 +6,7 @@ use Rattle.bl_page.specs.Machine.Owner.{Released}
 use Rattle.bl_page.specs.Machine.Phase.{Waiting}
 use Rattle.bl_model.specs.Rows.{map_of}
 use Rattle.bl_page.specs.Pairs.{end_of}
-use Rattle.bl_claims.specs.Nodes.{Node, Roots, unbounded}
+use Rattle.bl_page.specs.Nodes.{Node, Roots, unbounded, node_of, roots_of}
 use Rattle.bl_core_tree.specs.Trees.{Status}
 use Rattle.bl_core_tree.specs.Trees.Status.{Free, Fresh, Live, Right, Uprooted, Gone, Anchored}
 use Rattle.bl_claims.specs.Trails.{DoesAt, SaysAt}
@@ -14,7 +14,6 @@ use Rattle.bl_core.specs.Worlds.{Know, World, IsSure, IsBounded, IsGood}
 use Rattle.bl_page.specs.declared.page.Page.{Page}
 use Rattle.std.proofs.lemmas.Bool.{cases_eq, cases_lt}
 use Rattle.std.proofs.lemmas.Bool.Decides.{nat_tests}
-use Rattle.bl_claims.specs.Pages.{node_of, roots_of}
 use Rattle.bl_core_tree.proofs.Opening.{empty_leaf, opens}
 use Rattle.bl_core_tree.specs.Starts.{AreSound, start_map}
 use Rattle.bl_core_tree.proofs.SoundStarts.{start_status, start_live, sound_tree, bool_cases}

@@ -8,7 +8,7 @@ use Rattle.bl_page.specs.Machine.Owner.{Released, Held, Retired}
 use Rattle.bl_core_tree.specs.Trees.{Status, is_live, IsLive}
 use Rattle.bl_core_tree.specs.Trees.Status.{Free, Fresh, Live, Left, Right, Uprooted, Gone, Anchored}
 use Rattle.bl_core_tree.proofs.Statuses.{live_live, left_live, right_live, uprooted_live, free_dead, gone_dead}
-use Rattle.bl_claims.specs.Pages.{node_of, roots_of, IsTreePage}
+use Rattle.bl_page.specs.Nodes.{node_of, roots_of, IsTreePage}
 use Rattle.bl_core_tree.specs.SoundNodes.{AllSound}
 use Rattle.bl_claims.specs.Laws.{IsChain}
 use Rattle.bl_claims.specs.Walks.{Each}

@@ -3,7 +3,7 @@ use Rattle.std.specs.Prelude.{◌≡◌, ◌≢◌, ◌⊎◌, ℕ, ◌<◌, Non
 use Rattle.bl_page.specs.Machine.{Name, Owner}
 use Rattle.bl_page.specs.Machine.Owner.{Released}
 use Rattle.bl_page.specs.Machine.Phase.{Waiting}
-use Rattle.bl_claims.specs.Nodes.{unbounded}
+use Rattle.bl_page.specs.Nodes.{unbounded}
 use Rattle.bl_core_tree.specs.Trees.{IsTree}
 use Rattle.bl_core_tree.specs.Trees.Status.{Free, Live, Anchored}
 use Rattle.bl_core.specs.Worlds.{Stage, Know, World, tree_of, IsBounded}

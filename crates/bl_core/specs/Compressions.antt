@@ -4,10 +4,9 @@ use Rattle.std.specs.Prelude.{◌≡◌, ◌≢◌, ℕ, suc, ◌<◌, ◌≤◌
 use Rattle.bl_page.specs.declared.page.Page.{Page}
 use Rattle.bl_page.specs.Machine.{Name, IsAt}
 use Rattle.bl_page.specs.Machine.Owner.{Held}
-use Rattle.bl_claims.specs.Nodes.{Covers, unbounded}
+use Rattle.bl_page.specs.Nodes.{Covers, unbounded, node_of}
 use Rattle.bl_core_tree.specs.Trees.Status.{Fresh, Live, Left, Right, Gone}
 use Rattle.bl_core_tree.specs.Moves.{IsAtTwo, IsJoin, IsLeftGain, IsRightLoss, IsRightGain, IsLeftLoss, IsRelisted}
-use Rattle.bl_claims.specs.Pages.{node_of}
 use Rattle.bl_core.specs.Worlds.{Know, World, nodes}
 use Rattle.bl_core.specs.Puts.{Owes}
 

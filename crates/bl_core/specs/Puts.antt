@@ -4,10 +4,9 @@ use Rattle.bl_page.specs.declared.page.Page.{Page}
 use Rattle.bl_page.specs.Machine.{Name, IsAt}
 use Rattle.bl_page.specs.Machine.Owner.{Held}
 use Rattle.bl_page.specs.Machine.Phase.{Running}
-use Rattle.bl_claims.specs.Nodes.{unbounded}
+use Rattle.bl_page.specs.Nodes.{unbounded, node_of, roots_of}
 use Rattle.bl_core_tree.specs.Trees.Status.{Fresh, Live, Uprooted, Gone}
 use Rattle.bl_core_tree.specs.Moves.{IsMapRow, MayList, IsRow, IsCut}
-use Rattle.bl_claims.specs.Pages.{node_of, roots_of}
 use Rattle.bl_claims.specs.Trails.{Said, HasSaid}
 use Rattle.bl_core.specs.Worlds.{Know, World, nodes, tree_of, MapsTo, IsSure, HoldsPage, IsBounded, Extends, put_mark}
 

@@ -9,11 +9,10 @@ use Rattle.bl_page.specs.declared.page.Page.{Page}
 use Rattle.bl_page.specs.Machine.{Name, Owner, Phase, State, Act, IsAt, Steps}
 use Rattle.bl_page.specs.Machine.Owner.{Released, Held, Retired}
 use Rattle.bl_page.specs.Machine.Phase.{Waiting, Running, Ended}
-use Rattle.bl_claims.specs.Nodes.{Node, Covers, unbounded}
+use Rattle.bl_page.specs.Nodes.{Node, Covers, unbounded, node_of, roots_of}
 use Rattle.bl_claims.specs.Walks.{Each}
 use Rattle.bl_core_tree.specs.Trees.{Status, IsLive, Tree, IsTree}
 use Rattle.bl_core_tree.specs.Trees.Status.{Free, Fresh, Live, Left, Right, Uprooted, Gone, Anchored}
-use Rattle.bl_claims.specs.Pages.{node_of, roots_of}
 use Rattle.bl_claims.specs.Trails.{Said, Mark, Trail, history_of, IsMarked, Saw, LeadsOn, IsPhase, HasSaid}
 use Rattle.bl_claims.specs.Moments.{IsFresh}
 

@@ -1,7 +1,7 @@
 -- A page that is not in the tree changes.
 use Rattle.std.proofs.Common.{ℕ, ◌≡◌, ◌≢◌, ◌<◌, false, ap, sym, ◌∙◌, inl, inr}
 use Rattle.std.proofs.lemmas.Bool.{cases_eq, false≢true}
-use Rattle.bl_claims.specs.Nodes.{Shape}
+use Rattle.bl_page.specs.Nodes.{Shape}
 use Rattle.bl_core_tree.specs.Trees.{Status, is_live, IsLive, IsShape, Tree, IsChild, IsTree}
 use Rattle.bl_core_tree.specs.Trees.Status.{Left}
 use Rattle.bl_core_tree.specs.Moves.{Aside}

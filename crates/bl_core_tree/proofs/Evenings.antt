@@ -2,7 +2,7 @@
 use Rattle.std.proofs.Common.{ℕ, ◌≡◌, ◌⊎◌, arith, ap, sym, ◌∙◌, refl, inl, inr}
 use Rattle.std.proofs.lemmas.Bool.{cases_eq, cases_lt}
 use Rattle.bl_page.specs.Machine.{IsAt}
-use Rattle.bl_claims.specs.Nodes.{Node, Covers}
+use Rattle.bl_page.specs.Nodes.{Node, Covers}
 use Rattle.bl_core_tree.specs.Trees.{IsLive, IsShape, Tree, shapes, IsTree}
 use Rattle.bl_core_tree.specs.Trees.Status.{Live, Left}
 use Rattle.bl_core_tree.specs.Moves.{IsAtTwo, GainsLeft, GainsRight, LosesLeft, LosesRight}

@@ -1,7 +1,8 @@
 -- The invariant implies the laws of the tree.
 use Rattle.std.proofs.Common.{ℕ, ◌≡◌, ◌≢◌, ◌⊎◌, ◌≤◌, ◌<◌, ◌+◌, zero, suc, List, [], ◌∷◌, ◌-◌, subst, arith, ap, sym, ◌∙◌, refl, inl, inr}
 use Rattle.std.proofs.lemmas.Bool.{cases_eq, cases_lt}
-use Rattle.bl_claims.specs.Nodes.{Snapshot, unbounded}
+use Rattle.bl_claims.specs.Snapshots.{Snapshot}
+use Rattle.bl_page.specs.Nodes.{unbounded}
 use Rattle.bl_claims.specs.Laws.{Agreement, Overlap, IsLinked, IsChain, HasChain, IsListed, Listing}
 use Rattle.bl_core_tree.specs.Trees.{Status, IsLive, Tree, IsTree}
 use Rattle.bl_core_tree.specs.SoundNodes.{AllSound}

@@ -2,7 +2,7 @@
 use Rattle.std.proofs.Common.{◌-◌, ℕ, ◌≡◌, ◌≢◌, ◌<◌, ◌≤◌, arith, ap, sym, ◌∙◌, inl, inr}
 use Rattle.std.proofs.lemmas.Bool.{cases_eq}
 use Rattle.bl_page.specs.Machine.{IsAt}
-use Rattle.bl_claims.specs.Nodes.{Shape, Covers}
+use Rattle.bl_page.specs.Nodes.{Shape, Covers}
 use Rattle.bl_core_tree.specs.Trees.{Status, IsLive, IsShape}
 use Rattle.bl_core_tree.specs.Trees.Status.{Live, Left, Right}
 use Rattle.bl_core_tree.specs.Moves.{IsAtTwo}

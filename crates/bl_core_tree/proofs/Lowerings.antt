@@ -2,7 +2,7 @@
 use Rattle.std.proofs.Common.{ℕ, ◌≡◌, ◌≢◌, ◌⊎◌, ◌<◌, ◌≤◌, Some, None, false, suc, arith, ap, sym, ◌∙◌, refl, inl, inr}
 use Rattle.std.proofs.lemmas.Bool.{cases_eq}
 use Rattle.bl_page.specs.Machine.{IsAt}
-use Rattle.bl_claims.specs.Nodes.{Shape, Node}
+use Rattle.bl_page.specs.Nodes.{Shape, Node}
 use Rattle.bl_core_tree.specs.Trees.{Status, is_live, IsLive, IsShape, Tree, shapes, IsChild, IsTree}
 use Rattle.bl_core_tree.specs.Trees.Status.{Live, Left, Right, Uprooted, Gone, Anchored}
 use Rattle.bl_core_tree.specs.Moves.{Lowers, Falls}

@@ -2,7 +2,7 @@
 use Rattle.std.proofs.Common.{◌-◌, ℕ, ◌≡◌, ◌≢◌, ◌<◌, false, arith, ap, sym, ◌∙◌, inl, inr}
 use Rattle.std.proofs.lemmas.Bool.{cases_eq, false≢true}
 use Rattle.bl_page.specs.Machine.{IsAt}
-use Rattle.bl_claims.specs.Nodes.{Shape}
+use Rattle.bl_page.specs.Nodes.{Shape}
 use Rattle.bl_core_tree.specs.Trees.{Status, is_live, IsLive, IsShape}
 use Rattle.bl_core_tree.specs.Trees.Status.{Live, Left, Right, Gone}
 use Rattle.bl_core_tree.specs.Moves.{IsAtTwo}

@@ -1,7 +1,7 @@
 -- The two puts of a merge that change bounds: the left page takes all, the right page dies.
 use Rattle.std.proofs.Common.{ℕ, ◌≡◌, ◌≢◌, ◌⊎◌, Some, None, false, suc, arith, ap, sym, ◌∙◌, refl, inl, inr}
 use Rattle.std.proofs.lemmas.Bool.{cases_eq, cases_lt}
-use Rattle.bl_claims.specs.Nodes.{Node, Covers}
+use Rattle.bl_page.specs.Nodes.{Node, Covers}
 use Rattle.bl_core_tree.specs.Trees.{is_live, IsLive, Tree, shapes, IsChild, IsTree}
 use Rattle.bl_core_tree.specs.Moves.{Joins, Dies}
 use Rattle.bl_core_tree.proofs.Statuses.{live_live, left_live, right_live, gone_dead, not_dead, shape_at, not_anchor}

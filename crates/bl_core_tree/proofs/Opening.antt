@@ -1,6 +1,6 @@
 -- The opening tree: one empty leaf, page 1, that covers every key.
 use Rattle.std.proofs.Common.{ℕ, ◌≡◌, ◌<◌, ◌==◌, true, None, arith, ap, sym, ◌∙◌, refl}
-use Rattle.bl_claims.specs.Nodes.{Node, Roots, unbounded}
+use Rattle.bl_page.specs.Nodes.{Node, Roots, unbounded}
 use Rattle.bl_core_tree.specs.Trees.{IsLive, Tree, IsTree}
 use Rattle.bl_core_tree.proofs.Statuses.{live_live}
 use Rattle.bl_core_tree.proofs.SoundStarts.{start_status, start_zero, alive, none_paired, none_uprooted}

@@ -2,7 +2,7 @@
 use Rattle.std.proofs.Common.{ℕ, ◌≡◌, ◌≢◌, ◌≤◌, Some, suc, arith, ap, sym, ◌∙◌, refl, inl, inr}
 use Rattle.std.proofs.lemmas.Bool.{cases_eq}
 use Rattle.bl_page.specs.Machine.{IsAt}
-use Rattle.bl_claims.specs.Nodes.{Shape, Node, Covers}
+use Rattle.bl_page.specs.Nodes.{Shape, Node, Covers}
 use Rattle.bl_core_tree.specs.Trees.{Status, IsLive, IsShape, Tree, IsChild, IsTree}
 use Rattle.bl_core_tree.specs.Trees.Status.{Right}
 use Rattle.bl_core_tree.specs.Moves.{Relists}

@@ -2,7 +2,7 @@
 use Rattle.std.proofs.Common.{ℕ, ◌≡◌, ◌≢◌, ◌≤◌, Option, Some, suc, arith, ap, sym, ◌∙◌, inl, inr}
 use Rattle.std.proofs.lemmas.Bool.{cases_eq}
 use Rattle.bl_model.specs.Map.{Map}
-use Rattle.bl_claims.specs.Nodes.{Node, Covers}
+use Rattle.bl_page.specs.Nodes.{Node, Covers}
 use Rattle.bl_core_tree.specs.Trees.{IsLive, Tree, IsChild, HasUprooted, IsTree}
 use Rattle.bl_core_tree.specs.Trees.Status.{Live}
 use Rattle.bl_core_tree.specs.Moves.{IsMapRow, MayList, ChangesRow}

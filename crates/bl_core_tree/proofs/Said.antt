@@ -2,7 +2,7 @@
 use Rattle.std.proofs.Common.{ℕ, ◌≡◌, ◌≢◌, ◌⊎◌, Option, Some, suc, ap, sym, ◌∙◌, refl, inl, inr}
 use Rattle.std.proofs.lemmas.Bool.{cases_eq}
 use Rattle.bl_page.specs.Machine.{IsAt}
-use Rattle.bl_claims.specs.Nodes.{Node, Covers}
+use Rattle.bl_page.specs.Nodes.{Node, Covers}
 use Rattle.bl_core_tree.specs.Trees.{Status, IsLive, IsShape, Tree, shapes, IsChild, IsTree}
 use Rattle.bl_core_tree.specs.Trees.Status.{Uprooted, Anchored}
 use Rattle.bl_core_tree.specs.Moves.{IsAtTwo}

@@ -5,7 +5,7 @@ use Rattle.bl_page.specs.declared.page.Page.{Page}
 use Rattle.bl_page.specs.declared.page.Page.TheVariants.{Anchor, Leaf, Inner, Dead}
 use Rattle.bl_page.specs.Pairs.{IsWithin, AllWithin, BeginsWith}
 use Rattle.bl_model.specs.Rows.{map_of}
-use Rattle.bl_claims.specs.Pages.{node_of, IsTreePage}
+use Rattle.bl_page.specs.Nodes.{node_of, IsTreePage}
 use Rattle.bl_core_tree.specs.SoundNodes.{IsSoundNode}
 
 -- what is listed is within the bounds

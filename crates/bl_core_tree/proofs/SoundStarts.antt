@@ -3,7 +3,7 @@ use Rattle.std.proofs.Common.{ℕ, ◌≡◌, ◌≢◌, ◌⊎◌, ◌≤◌, �
 use Rattle.std.specs.Prelude.{nat_lt}
 use Rattle.std.proofs.lemmas.Bool.{cases_eq, cases_lt, false≢true}
 use Rattle.std.proofs.lemmas.Bool.Decides.{nat_tests}
-use Rattle.bl_claims.specs.Nodes.{Node, Covers, Roots, unbounded}
+use Rattle.bl_page.specs.Nodes.{Node, Covers, Roots, unbounded}
 use Rattle.bl_core_tree.specs.Starts.{IsReached, AreSound, found, start_map}
 use Rattle.bl_core_tree.specs.Starts.IsReached.{Here, Next}
 use Rattle.bl_core_tree.specs.Trees.{Status, is_live, IsLive, Tree, IsTree}

@@ -2,7 +2,7 @@
 use Rattle.std.proofs.Common.{ℕ, ◌≡◌, ◌≢◌, ◌<◌, arith, sym, ◌∙◌, refl, inl, inr}
 use Rattle.std.proofs.lemmas.Bool.{cases_eq}
 use Rattle.bl_page.specs.Machine.{IsAt}
-use Rattle.bl_claims.specs.Nodes.{Shape, Covers}
+use Rattle.bl_page.specs.Nodes.{Shape, Covers}
 use Rattle.bl_core_tree.specs.Trees.{Status, IsShape}
 use Rattle.bl_core_tree.specs.Trees.Status.{Fresh, Live}
 use Rattle.bl_core_tree.proofs.Statuses.{live_live, fresh_dead, not_here}

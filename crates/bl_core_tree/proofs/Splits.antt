@@ -1,7 +1,7 @@
 -- A split is published, with the row for which it is made.
 use Rattle.std.proofs.Common.{ℕ, ◌≡◌, ◌≢◌, ◌<◌, Option, arith, ap, sym, ◌∙◌, inl, inr}
 use Rattle.std.proofs.lemmas.Bool.{cases_eq}
-use Rattle.bl_claims.specs.Nodes.{Node, Covers}
+use Rattle.bl_page.specs.Nodes.{Node, Covers}
 use Rattle.bl_core_tree.specs.Trees.{IsLive, Tree, shapes, IsChild, IsTree}
 use Rattle.bl_core_tree.specs.Trees.Status.{Fresh, Live, Uprooted, Anchored}
 use Rattle.bl_core_tree.specs.Moves.{Splits}

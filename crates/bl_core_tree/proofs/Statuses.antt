@@ -3,7 +3,7 @@ use Rattle.std.proofs.Common.{ℕ, ◌≡◌, ◌≢◌, ◌<◌, false, true, r
 use Rattle.std.proofs.lemmas.Bool.{false≢true}
 use Rattle.std.proofs.Math.Path.{fun_ext}
 use Rattle.bl_page.specs.Machine.{IsAt}
-use Rattle.bl_claims.specs.Nodes.{Shape, Node, Roots, Covers}
+use Rattle.bl_page.specs.Nodes.{Shape, Node, Roots, Covers}
 use Rattle.bl_core_tree.specs.Trees.{Status, is_live, IsLive, IsShape, Tree, shapes, IsChild}
 use Rattle.bl_core_tree.specs.Trees.Status.{Free, Fresh, Live, Left, Right, Uprooted, Gone, Anchored}
 

@@ -2,8 +2,9 @@
 use Rattle.std.proofs.Common.{length, ◌==◌, if◌then◌else◌, ℕ, ◌≡◌, ◌≢◌, ◌⊎◌, ◌≤◌, ◌<◌, ◌+◌, ◌-◌, Option, Some, None, zero, suc, List, [], ◌∷◌, arith, ap, sym, ◌∙◌, refl, inl, inr}
 use Rattle.std.proofs.lemmas.Bool.{cases_eq, cases_lt}
 use Rattle.bl_model.specs.Map.{Map}
-use Rattle.bl_claims.specs.Nodes.{Node, Covers, Snapshot, unbounded}
-use Rattle.bl_claims.specs.Walks.{Each, IsChildOf, IsWalk, IsNoneOf, NoneTwice, HasLoneWalk}
+use Rattle.bl_page.specs.Nodes.{Node, Covers, unbounded, IsChildOf}
+use Rattle.bl_claims.specs.Snapshots.{Snapshot}
+use Rattle.bl_claims.specs.Walks.{Each, IsWalk, IsNoneOf, NoneTwice, HasLoneWalk}
 use Rattle.bl_claims.specs.Walks.IsWalk.{Ends, Right, Down}
 use Rattle.bl_core_tree.specs.Trees.{Tree, IsTree}
 use Rattle.bl_core_tree.specs.SoundNodes.{AllSound}

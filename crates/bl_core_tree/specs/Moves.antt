@@ -3,7 +3,7 @@
 use Rattle.std.specs.Prelude.{◌≡◌, ◌≢◌, ℕ, suc, ◌<◌, ◌≤◌, false, Option, Some, None}
 use Rattle.bl_page.specs.Machine.{IsAt}
 use Rattle.bl_model.specs.Map.{Map}
-use Rattle.bl_claims.specs.Nodes.{Node, Covers}
+use Rattle.bl_page.specs.Nodes.{Node, Covers}
 use Rattle.bl_core_tree.specs.Trees.{is_live, Tree, IsChild}
 use Rattle.bl_core_tree.specs.Trees.Status.{Fresh, Live, Left, Right, Uprooted, Gone}
 

@@ -1,6 +1,6 @@
 -- What each page of a tree says of itself.
 use Rattle.std.specs.Prelude.{◌≡◌, ℕ, ◌<◌, Some}
-use Rattle.bl_claims.specs.Nodes.{Node, Covers}
+use Rattle.bl_page.specs.Nodes.{Node, Covers}
 use Rattle.bl_core_tree.specs.Trees.{IsLive, Tree}
 
 -- What each leaf and each inner page says, whatever tree it is in: it lists keys that it covers, and as an inner page one

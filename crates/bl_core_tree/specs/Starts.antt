@@ -1,7 +1,7 @@
 -- Sound pages: what holds of a tree's pages when nothing is under way, so that work may begin.
 use Rattle.std.specs.Prelude.{◌≡◌, ℕ, zero, suc, ◌<◌, ◌≤◌, nat_lt, if◌then◌else◌, Bool, false, IsTrue, Some, None}
 use Rattle.bl_model.specs.Map.{Map}
-use Rattle.bl_claims.specs.Nodes.{Node, Roots, unbounded}
+use Rattle.bl_page.specs.Nodes.{Node, Roots, unbounded}
 
 -- y is reached from x by right links
 pub data IsReached (node : ℕ → Node) : ℕ → ℕ → Type 0 where

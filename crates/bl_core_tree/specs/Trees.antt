@@ -2,7 +2,7 @@
 -- It speaks of more than the pages say: where each page stands, and the key that it is listed by.
 use Rattle.std.specs.Prelude.{◌≡◌, ◌≢◌, ℕ, suc, ◌<◌, ◌≤◌, Bool, true, false, Some}
 use Rattle.bl_model.specs.Map.{Map}
-use Rattle.bl_claims.specs.Nodes.{Shape, Node, Covers, Roots}
+use Rattle.bl_page.specs.Nodes.{Shape, Node, Covers, Roots}
 
 -- Where a page stands: it is free, taken and not yet named by any page, in the tree, or dead and not yet released. While
 -- two neighbours are compressed, the left one is Left of the right one, which is Right of it. Uprooted is a top page that

@@ -17,7 +17,7 @@ use Rattle.bl_image.proofs.Chunks.{no_kind, pages_words-same}
 use Rattle.bl_check.specs.Rules.{AreSound}
 use Rattle.bl_page.specs.Pages.{page_at}
 use Rattle.bl_core_tree.proofs.Statuses.{live_live}
-use Rattle.bl_claims.specs.Pages.{IsTreePage}
+use Rattle.bl_page.specs.Nodes.{IsTreePage}
 use Rattle.bl_claims.specs.Trails.{history_of}
 use Rattle.bl_claims.specs.States.{HasMoments}
 use Rattle.bl_core.specs.Worlds.{World}

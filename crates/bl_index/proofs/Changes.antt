@@ -19,7 +19,7 @@ use Rattle.bl_proc_base.specs.declared.answers.Hint.{Hint}
 use Rattle.bl_proc.specs.declared.writing.WriteReply.{WriteReply}
 use Rattle.bl_proc.specs.declared.writing.WriteReply.TheVariants as written
 use Rattle.bl_proc.specs.Writes.{write_answer}
-use Rattle.bl_proc_meanings.specs.Hinted.{MeansInserted, MeansWritten}
+use Rattle.bl_claims.specs.Hinted.{MeansInserted, MeansWritten}
 use Rattle.bl_store.specs.Hands.{known, WasRefused}
 use Rattle.bl_store.specs.declared.store.Hand.{Hand}
 use Rattle.bl_index_rule.specs.declared.known.PassState.{PassState}

@@ -12,7 +12,7 @@ use Rattle.bl_proc.specs.declared.posting.PostStage.TheVariants as post
 use Rattle.bl_proc.specs.declared.kinds.Proc.{Proc}
 use Rattle.bl_proc.specs.declared.kinds.Proc.TheVariants as proc
 use Rattle.bl_proc.specs.Posts.{post_next_in, post_answer}
-use Rattle.bl_proc_meanings.specs.Answers.{MeansPosted}
+use Rattle.bl_claims.specs.Answers.{MeansPosted}
 use Rattle.bl_proc_invariant.specs.Tables.{alone}
 use Rattle.bl_proc_invariant.specs.Knowing.{know_of, know_post}
 use Rattle.bl_proc_invariant.proofs.Answered.{stage_means}

@@ -18,10 +18,10 @@ use Rattle.bl_proc_compress.specs.Compresses.{compress_next_in, compress_answer,
 use Rattle.bl_proc.specs.declared.kinds.Proc.{Proc}
 use Rattle.bl_proc.specs.declared.kinds.Proc.TheVariants as proc
 use Rattle.bl_proc.specs.Processes.{next_of, Takes}
-use Rattle.bl_proc_meanings.specs.Squeezed.{MeansSqueezed}
+use Rattle.bl_claims.specs.Squeezed.{MeansSqueezed}
 use Rattle.bl_proc_invariant.specs.Knowing.{know_of, know_compress}
 use Rattle.bl_proc_invariant.proofs.Pressed.{stage_means}
-use Rattle.bl_proc_meanings.specs.Families.{LatchesBeside}
+use Rattle.bl_claims.specs.Families.{LatchesBeside}
 use Rattle.bl_proc_unique.specs.Frames.{work_of}
 use Rattle.bl_proc_unique.specs.Retirements.{IsPutDone}
 use Rattle.bl_proc_unique.proofs.Retirements.{put_done}

@@ -11,16 +11,16 @@ use Rattle.bl_page.specs.declared.page.Page.{Page}
 use Rattle.bl_claims.specs.Trails.{Mark, Trail, history_of, marks_of}
 use Rattle.bl_claims.specs.Walks.{Each}
 use Rattle.bl_claims.specs.Latches.{LatchesAlone, LatchesBelowAnchor}
-use Rattle.bl_proc_meanings.specs.Families.{LatchesBeside}
+use Rattle.bl_claims.specs.Families.{LatchesBeside}
 use Rattle.bl_proc_base.specs.declared.answers.Hint.{Hint}
 use Rattle.bl_proc_base.specs.declared.answers.Posted.{Posted}
 use Rattle.bl_proc_base.specs.declared.answers.Squeezed.{Squeezed}
 use Rattle.bl_proc_base.specs.declared.lowering.Lowered.{Lowered}
-use Rattle.bl_proc_meanings.specs.Answers.{MeansPosted}
-use Rattle.bl_proc_meanings.specs.Hinted.{MeansInserted, MeansWritten}
-use Rattle.bl_proc_meanings.specs.Climbed.{MeansClimbed}
-use Rattle.bl_proc_meanings.specs.Squeezed.{MeansSqueezed}
-use Rattle.bl_proc_meanings.specs.Lowered.{MeansLowered}
+use Rattle.bl_claims.specs.Answers.{MeansPosted}
+use Rattle.bl_claims.specs.Hinted.{MeansInserted, MeansWritten}
+use Rattle.bl_claims.specs.Climbed.{MeansClimbed}
+use Rattle.bl_claims.specs.Squeezed.{MeansSqueezed}
+use Rattle.bl_claims.specs.Lowered.{MeansLowered}
 use Rattle.bl_store.specs.Hands.{known, WasRefused}
 use Rattle.bl_claims.specs.Seeing.{first_map, IsLinearizable, own, name}
 use Rattle.bl_index_rule.specs.Observed.{IsRelease}

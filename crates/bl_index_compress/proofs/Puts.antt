@@ -9,7 +9,7 @@ use Rattle.bl_rearrange.specs.declared.sides.Side.{Side}
 use Rattle.bl_rearrange.specs.declared.sides.Side.TheVariants as side
 use Rattle.bl_rearrange.specs.declared.sides.Evened.{Evened}
 use Rattle.bl_rearrange.specs.Entered.{dropped}
-use Rattle.bl_claims.specs.Pages.{IsTreePage}
+use Rattle.bl_page.specs.Nodes.{IsTreePage}
 use Rattle.bl_rearrange.specs.Rearranged.{IsNow, IsWithout}
 use Rattle.bl_rearrange.specs.Neighbours.{AreNeighbours, together, IsEvened}
 use Rattle.bl_rearrange.proofs.EnteredLemmas.{RisesFrom-dropped, map_of-dropped}

@@ -7,7 +7,7 @@ use Rattle.bl_page.specs.declared.page.Inner.{Inner}
 use Rattle.bl_page.specs.Pages.{Covers}
 use Rattle.bl_page.specs.Pairs.{IsChild, IsWithin}
 use Rattle.bl_page.specs.Words.{words_of}
-use Rattle.bl_claims.specs.Pages.{IsTreePage}
+use Rattle.bl_page.specs.Nodes.{IsTreePage}
 use Rattle.bl_rearrange.specs.Entered.{dropped, entered}
 use Rattle.bl_rearrange.specs.Rearranged.{pairs_of, IsWithout, KeepsFrame, MayHold}
 use Rattle.bl_rearrange.proofs.EnteredLemmas.{RisesFrom-entered, map_of-entered}

@@ -4,7 +4,7 @@ ghost use Rattle.std.specs.Prelude.{◌≡◌, ◌+◌, ◌*◌, ◌<◌, ◌≤
 ghost use Rattle.bl_page.specs.declared.page.Page.{Page};
 ghost use Rattle.bl_page.specs.declared.page.Page.TheVariants.{Inner};
 ghost use Rattle.bl_page.specs.Words.{words_of, entries_of, layout};
-ghost use Rattle.bl_claims.specs.Pages.{IsTreePage};
+ghost use Rattle.bl_page.specs.Nodes.{IsTreePage};
 ghost use Rattle.bl_rearrange.specs.declared.sides.Evened.{Evened};
 ghost use Rattle.bl_rearrange.specs.Rearranged.{pairs_of};
 ghost use Rattle.bl_rearrange.specs.Neighbours.{AreNeighbours, together, IsMerged, IsEvened};

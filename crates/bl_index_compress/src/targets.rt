@@ -26,7 +26,7 @@ pub(crate) struct Kin {
 
 impl Target for Squeezing {
     ghost use Rattle.std.specs.Prelude.{refl, true, ◌<◌};
-    ghost use Rattle.bl_claims.specs.Pages.{roots_of};
+    ghost use Rattle.bl_page.specs.Nodes.{roots_of};
     ghost use Rattle.bl_proc.specs.declared.kinds.Proc.TheVariants as proc;
     ghost use Rattle.bl_proc_compress.specs.declared.squeezing.CompressStage.TheVariants as stages;
     ghost use Rattle.bl_proc_base.specs.declared.approaching.Came.TheVariants as descend;

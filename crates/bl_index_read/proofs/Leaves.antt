@@ -10,7 +10,7 @@ use Rattle.bl_model.specs.Parts.{next_key}
 use Rattle.bl_page.specs.declared.page.Page.{Page}
 use Rattle.bl_page.specs.Faults.{HasPairs, pairs_of}
 use Rattle.bl_page.specs.Words.{words_of}
-use Rattle.bl_claims.specs.Pages.{IsTreePage, node_of}
+use Rattle.bl_page.specs.Nodes.{IsTreePage, node_of}
 use Rattle.bl_proc_base.proofs.Spellings.{tree_pairs}
 use Rattle.bl_proc.specs.declared.parts.PartRows.{PartRows}
 use Rattle.bl_proc.specs.Parts.{GoesOnAt}

@@ -13,7 +13,7 @@ use Rattle.bl_page.specs.Faults.{pairs_of, count_in, HasPairs}
 use Rattle.bl_page.proofs.Halving.{pairs-at, pairs-length}
 use Rattle.bl_page.specs.Pairs.{RisesFrom}
 use Rattle.bl_page.specs.Words.{words_of}
-use Rattle.bl_claims.specs.Pages.{IsTreePage, node_of}
+use Rattle.bl_page.specs.Nodes.{IsTreePage, node_of}
 use Rattle.bl_proc_base.proofs.Spellings.{tree_pairs, tree_lists}
 use Rattle.bl_proc.specs.declared.parts.PartRows.{PartRows}
 use Rattle.bl_proc.specs.Parts.{IsPartOf}

@@ -10,7 +10,7 @@ ghost use Rattle.bl_page.specs.declared.page.Page.{Page};
 ghost use Rattle.bl_page.specs.Faults.{HasPairs, count_in, pairs_of};
 ghost use Rattle.bl_page.specs.Pairs.{end_of};
 ghost use Rattle.bl_page.specs.Words.{words_of};
-ghost use Rattle.bl_claims.specs.Pages.{node_of, IsTreePage};
+ghost use Rattle.bl_page.specs.Nodes.{node_of, IsTreePage};
 ghost use Rattle.bl_proc_base.specs.declared.onwards.Step.TheVariants as onward;
 ghost use Rattle.bl_proc_base.specs.Onwards.{Leads};
 ghost use Rattle.bl_proc_base.specs.Descents.{Descends};

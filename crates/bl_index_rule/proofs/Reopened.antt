@@ -14,7 +14,7 @@ use Rattle.bl_image.proofs.Chunks.{no_kind, length-page_words}
 use Rattle.bl_check.specs.Rules.{AreSound, is_anchor}
 use Rattle.bl_check.specs.Rows.{AreRowsOf}
 use Rattle.bl_page.specs.Pages.{page_at}
-use Rattle.bl_claims.specs.Pages.{node_of, roots_of}
+use Rattle.bl_page.specs.Nodes.{node_of, roots_of}
 use Rattle.bl_core_tree.specs.Starts.{start_map}
 use Rattle.bl_core_tree.proofs.SoundStarts.{bool_cases}
 use Rattle.bl_claims.specs.States.{HasMoments}

@@ -10,7 +10,7 @@ use Rattle.bl_page.specs.declared.page.Page.TheVariants.{Anchor, Leaf, Inner, De
 use Rattle.bl_page.specs.Words.{words_of}
 use Rattle.bl_page.specs.Machine.{Name}
 use Rattle.bl_page.specs.Machine as machine
-use Rattle.bl_claims.specs.Pages.{node_of}
+use Rattle.bl_page.specs.Nodes.{node_of}
 use Rattle.bl_core.specs.Worlds.{World, MayGet, IsGood}
 use Rattle.bl_core.proofs.Descents.{is_dead_page}
 use Rattle.bl_proc_invariant.specs.Knowing.{Run, know}

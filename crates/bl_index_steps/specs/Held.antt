@@ -4,8 +4,7 @@ use Rattle.std.specs.Prelude.{◌≡◌, ◌≢◌, ◌⊎◌, ◌++◌, ℕ, �
 use Rattle.bl_page.specs.declared.page.Page.{Page}
 use Rattle.bl_page.specs.declared.page.Page.TheVariants.{Inner}
 use Rattle.bl_page.specs.Machine.Act.{Latch}
-use Rattle.bl_claims.specs.Nodes.{Covers}
-use Rattle.bl_claims.specs.Pages.{node_of}
+use Rattle.bl_page.specs.Nodes.{Covers, node_of}
 use Rattle.bl_claims.specs.Trails.{Mark, Trail, marks_of}
 use Rattle.bl_claims.specs.Walks.{Each}
 use Rattle.bl_claims.specs.Seeing.{name}

@@ -6,8 +6,7 @@ use Rattle.bl_model.specs.declared.deciding.Effect.TheVariants.{Keep, Enter, Rem
 use Rattle.bl_model.specs.Writes.{effect_of}
 use Rattle.bl_page.specs.declared.page.Page.{Page}
 use Rattle.bl_page.specs.Machine.Act.{Get, Latch}
-use Rattle.bl_claims.specs.Nodes.{Covers}
-use Rattle.bl_claims.specs.Pages.{node_of, roots_of}
+use Rattle.bl_page.specs.Nodes.{Covers, node_of, roots_of}
 use Rattle.bl_claims.specs.Trails.{Mark, Trail}
 use Rattle.bl_claims.specs.Walks.{Each}
 use Rattle.bl_rearrange.specs.Rearranged.{pairs_of}

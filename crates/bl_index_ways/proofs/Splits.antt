@@ -11,7 +11,7 @@ use Rattle.bl_page.specs.Pairs.{RisesFrom, AllWithin, IsWithin, IsChild, end_of,
 use Rattle.bl_page.specs.Words.{head, layout, entries_of, words_of}
 use Rattle.bl_page.specs.Faults.{pairs_of as pairs_in_words}
 use Rattle.bl_page.proofs.Once.{rows_again, children_again}
-use Rattle.bl_claims.specs.Pages.{IsTreePage}
+use Rattle.bl_page.specs.Nodes.{IsTreePage}
 use Rattle.bl_rearrange.specs.Entered.{entered, AreHalves}
 use Rattle.bl_rearrange.specs.declared.fitted.Fitted.TheVariants.{Split}
 use Rattle.bl_rearrange.specs.Rearranged.{pairs_of, MayHold, IsFitted}

@@ -9,7 +9,7 @@ use Rattle.bl_page.specs.Words.{head, layout, entries_of, words_of}
 use Rattle.bl_page.specs.Pairs.{place, RisesFrom}
 use Rattle.bl_page.specs.Faults.{pairs_of as pairs_in_words}
 use Rattle.bl_page.proofs.Once.{rows_again, children_again}
-use Rattle.bl_claims.specs.Pages.{IsTreePage}
+use Rattle.bl_page.specs.Nodes.{IsTreePage}
 use Rattle.bl_rearrange.specs.Entered.{entered}
 use Rattle.bl_rearrange.specs.Rearranged.{pairs_of, KeepsFrame}
 use Rattle.bl_rearrange.proofs.EnteredLemmas.{length-entered}

@@ -12,7 +12,7 @@ use Rattle.bl_page.specs.declared.page.Page.TheVariants as page
 use Rattle.bl_page.specs.Pairs.{place}
 use Rattle.bl_page.specs.Faults.{count_in, pairs_of as pairs_in_words}
 use Rattle.bl_page.specs.Words.{words_of}
-use Rattle.bl_claims.specs.Pages.{IsTreePage}
+use Rattle.bl_page.specs.Nodes.{IsTreePage}
 use Rattle.bl_rearrange.specs.Entered.{dropped, replaced}
 use Rattle.bl_rearrange.specs.Rearranged.{pairs_of, KeepsFrame}
 use Rattle.bl_rearrange.proofs.EnteredLemmas.{RisesFrom-dropped, map_of-dropped, RisesFrom-replaced, map_of-replaced}

@@ -5,7 +5,7 @@ use Rattle.bl_model.specs.Rows.{map_of}
 use Rattle.bl_page.specs.declared.page.Page.{Page}
 use Rattle.bl_page.specs.declared.page.Page.TheVariants.{Inner}
 use Rattle.bl_page.specs.Pages.{Covers}
-use Rattle.bl_claims.specs.Pages.{node_of, IsTreePage}
+use Rattle.bl_page.specs.Nodes.{node_of, IsTreePage}
 use Rattle.bl_rearrange.specs.Rearranged.{pairs_of, MayHold}
 use Rattle.bl_page.specs.Words.{words_of}
 use Rattle.bl_layout.specs.declared.layout.Layout.{Layout}

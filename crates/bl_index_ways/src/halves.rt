@@ -3,7 +3,7 @@
 ghost use Rattle.std.specs.Prelude.{◌≡◌, ◌≤◌, length};
 ghost use Rattle.bl_page.specs.declared.page.Page.{Page};
 ghost use Rattle.bl_page.specs.Words.{layout, entries_of, words_of};
-ghost use Rattle.bl_claims.specs.Pages.{IsTreePage};
+ghost use Rattle.bl_page.specs.Nodes.{IsTreePage};
 ghost use Rattle.bl_rearrange.specs.Entered.{entered};
 ghost use Rattle.bl_rearrange.specs.Rearranged.{pairs_of};
 ghost use Rattle.bl_index_ways.specs.Halves.{AreSpread};

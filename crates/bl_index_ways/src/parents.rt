@@ -3,7 +3,7 @@
 ghost use Rattle.std.specs.Prelude.{◌≡◌, ◌≢◌, ◌<◌, ◌-◌, Some, None};
 ghost use Rattle.bl_page.specs.declared.page.Page.{Page};
 ghost use Rattle.bl_page.specs.Words.{words_of};
-ghost use Rattle.bl_claims.specs.Pages.{node_of, IsTreePage};
+ghost use Rattle.bl_page.specs.Nodes.{node_of, IsTreePage};
 ghost use Rattle.bl_proc_base.specs.declared.approaching.Approach.TheVariants as approach;
 ghost use Rattle.bl_proc_base.specs.declared.editing.Edit.{Edit};
 ghost use Rattle.bl_proc_base.specs.declared.onwards.Step.TheVariants as onward;

@@ -2,7 +2,7 @@
 
 ghost use Rattle.std.specs.Prelude.{◌≡◌, ◌<◌, IfOk, IfErr};
 ghost use Rattle.bl_page.specs.declared.page.Page.{Page};
-ghost use Rattle.bl_claims.specs.Pages.{roots_of};
+ghost use Rattle.bl_page.specs.Nodes.{roots_of};
 ghost use Rattle.bl_proc_base.specs.declared.approaching.Approach.TheVariants as approach;
 ghost use Rattle.bl_store.specs.Hands.{known, read_words, ReadsFrom};
 ghost use Rattle.bl_index_steps.specs.Runs.{Runs, Keeps, IsSameProcess};

@@ -5,7 +5,7 @@ use bl_proc_base::Step;
 /// What a writer comes to a page for. There is a process with this target, of which there is no value.
 pub trait Target {
     ghost use Rattle.std.specs.Prelude.{◌≡◌, ℕ, None};
-    ghost use Rattle.bl_claims.specs.Pages.{node_of};
+    ghost use Rattle.bl_page.specs.Nodes.{node_of};
     ghost use Rattle.bl_proc_base.specs.declared.acts.Seen.{Seen};
     ghost use Rattle.bl_proc_base.specs.declared.acts.Seen.TheVariants as seen;
     ghost use Rattle.bl_proc_base.specs.declared.approaching.Approach.{Approach};

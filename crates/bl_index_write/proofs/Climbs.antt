@@ -5,7 +5,7 @@ use Rattle.bl_model.specs.declared.operation.Op.TheVariants as op
 use Rattle.bl_model.specs.declared.operation.Reply.{Reply}
 use Rattle.bl_model.specs.declared.operation.Reply.TheVariants as reply
 use Rattle.bl_page.specs.declared.page.Page.TheVariants as page
-use Rattle.bl_claims.specs.Nodes.{unbounded}
+use Rattle.bl_page.specs.Nodes.{unbounded}
 use Rattle.bl_core.specs.Blank.{IsBlank}
 use Rattle.atomic_table.specs.declared.shared.Seat.{Seat}
 use Rattle.bl_proc_base.specs.declared.acts.Seen.{Seen}

@@ -22,7 +22,7 @@ pub(crate) struct Rising {
 impl Target for Rising {
     ghost use Rattle.std.specs.Prelude.{refl, ◌<◌};
     ghost use Rattle.std.proofs.Common.{inl};
-    ghost use Rattle.bl_claims.specs.Pages.{roots_of};
+    ghost use Rattle.bl_page.specs.Nodes.{roots_of};
     ghost use Rattle.bl_proc.specs.declared.climbing.ClimbStage.TheVariants as stages;
     ghost use Rattle.bl_proc.specs.declared.posting.PostStage.TheVariants as post;
     ghost use Rattle.bl_proc.specs.Paths.{NotesBy};

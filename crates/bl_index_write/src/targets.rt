@@ -86,7 +86,7 @@ pub(crate) struct Posting {
 
 impl Target for Posting {
     ghost use Rattle.std.specs.Prelude.{refl, ◌<◌};
-    ghost use Rattle.bl_claims.specs.Pages.{roots_of};
+    ghost use Rattle.bl_page.specs.Nodes.{roots_of};
     ghost use Rattle.bl_proc.specs.declared.kinds.Proc.TheVariants as proc;
     ghost use Rattle.bl_proc.specs.declared.posting.PostStage.TheVariants as post;
     ghost use Rattle.bl_proc_base.specs.declared.acts.Seen.TheVariants as seen;

@@ -3,3 +3,4 @@ pub mod Pages
 pub mod Words
 pub mod Faults
 pub mod Machine
+pub mod Nodes

@@ -3,8 +3,7 @@ use Rattle.std.specs.Prelude.{◌≡◌, ◌≢◌, ℕ, ◌+◌, ◌-◌, ◌<�
 use Rattle.bl_page.specs.declared.page.Page.{Page}
 use Rattle.bl_page.specs.declared.page.Page.TheVariants.{Inner as InnerPage}
 use Rattle.bl_page.specs.declared.page.Inner.{Inner}
-use Rattle.bl_claims.specs.Pages.{node_of}
-use Rattle.bl_claims.specs.Walks.{IsChildOf}
+use Rattle.bl_page.specs.Nodes.{node_of, IsChildOf}
 use Rattle.bl_proc_base.specs.declared.acts.Action.{Action}
 use Rattle.bl_proc_base.specs.declared.acts.Action.TheVariants as act
 use Rattle.bl_proc_base.specs.declared.acts.Seen.{Seen}

@@ -12,7 +12,7 @@ use Rattle.bl_page.specs.Faults.{pairs_of as pairs_in_words}
 use Rattle.bl_page.proofs.Lookups.{place-le}
 use Rattle.bl_page.proofs.Halving.{listed-before}
 use Rattle.bl_page.proofs.Once.{rows_again, children_again}
-use Rattle.bl_claims.specs.Pages.{IsTreePage}
+use Rattle.bl_page.specs.Nodes.{IsTreePage}
 use Rattle.bl_rearrange.specs.Entered.{entered, dropped, replaced}
 use Rattle.bl_rearrange.specs.Rearranged.{pairs_of}
 use Rattle.bl_rearrange.proofs.EnteredLemmas.{length-entered, length-dropped, length-dropped_le, length-replaced}

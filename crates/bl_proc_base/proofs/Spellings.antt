@@ -10,7 +10,7 @@ use Rattle.bl_page.specs.Faults.{kind_in, level_in, count_in, pairs_of, HasPairs
 use Rattle.bl_page.proofs.FaultLemmas.{fits, head-level, head-count}
 use Rattle.bl_page.proofs.Once.{rows_again, children_again, leftmost_again}
 use Rattle.bl_page.proofs.PagesIn.{AreChildren-at}
-use Rattle.bl_claims.specs.Pages.{node_of, roots_of, IsTreePage}
+use Rattle.bl_page.specs.Nodes.{node_of, roots_of, IsTreePage}
 use Rattle.bl_rearrange.specs.Rearranged.{pairs_of as pairs_in}
 use Rattle.bl_proc_base.specs.Onwards.{top_of}
 use Rattle.bl_proc_base.specs.Thin.{low_if_thin, thin_low}

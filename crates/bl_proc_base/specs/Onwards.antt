@@ -2,9 +2,7 @@
 use Rattle.std.specs.Prelude.{◌≡◌, ◌≢◌, ℕ, ◌-◌, ◌<◌, ◌≤◌, ◌⊎◌}
 use Rattle.bl_page.specs.declared.page.Page.{Page}
 use Rattle.bl_page.specs.declared.page.Page.TheVariants.{Anchor, Leaf, Inner, Dead}
-use Rattle.bl_claims.specs.Nodes.{Roots, Covers}
-use Rattle.bl_claims.specs.Pages.{node_of, IsTreePage}
-use Rattle.bl_claims.specs.Walks.{IsChildOf}
+use Rattle.bl_page.specs.Nodes.{Roots, Covers, node_of, IsTreePage, IsChildOf}
 use Rattle.bl_proc_base.specs.declared.onwards.Step.{Step}
 use Rattle.bl_proc_base.specs.declared.onwards.Step.TheVariants.{Again, Right, Down, Here}
 

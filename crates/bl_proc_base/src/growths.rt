@@ -2,7 +2,7 @@
 
 ghost use Rattle.std.specs.Prelude.{◌≡◌, ◌<◌, ◌-◌, [], ◌∷◌, ◌++◌, length, get_or};
 ghost use Rattle.bl_page.specs.Pairs.{IsChild};
-ghost use Rattle.bl_claims.specs.Pages.{roots_of};
+ghost use Rattle.bl_page.specs.Nodes.{roots_of};
 ghost use Rattle.bl_proc_base.specs.declared.acts.Seen.TheVariants as seen;
 ghost use Rattle.bl_proc_base.specs.declared.growing.Growth.TheVariants as growth;
 ghost use Rattle.bl_proc_base.specs.declared.growing.Grew.TheVariants as grew;

@@ -1,7 +1,7 @@
 //! What processes read of a page.
 
 ghost use Rattle.std.specs.Prelude.{◌≡◌, length};
-ghost use Rattle.bl_claims.specs.Pages.{node_of, roots_of};
+ghost use Rattle.bl_page.specs.Nodes.{node_of, roots_of};
 ghost use Rattle.bl_rearrange.specs.Rearranged.{pairs_of};
 ghost use Rattle.bl_proc_base.specs.Onwards.{top_of};
 

@@ -4,7 +4,7 @@ ghost use Rattle.std.specs.Prelude.{◌≡◌, ◌+◌, ◌<◌, ◌≤◌, leng
 ghost use Rattle.bl_model.specs.Rows.{map_of};
 ghost use Rattle.bl_page.specs.declared.page.Page.{Page};
 ghost use Rattle.bl_page.specs.Words.{words_of};
-ghost use Rattle.bl_claims.specs.Pages.{IsTreePage};
+ghost use Rattle.bl_page.specs.Nodes.{IsTreePage};
 ghost use Rattle.bl_rearrange.specs.Entered.{entered, dropped, replaced};
 ghost use Rattle.bl_rearrange.specs.Rearranged.{pairs_of};
 ghost use Rattle.bl_proc_base.specs.Respelled.{words_by, IsShiftedUp, IsShiftedDown, HasValueAt};

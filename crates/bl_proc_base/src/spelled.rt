@@ -3,7 +3,7 @@
 ghost use Rattle.std.specs.Prelude.{◌≡◌, ◌+◌, ◌≤◌, slice_index};
 ghost use Rattle.bl_page.specs.declared.page.Page.{Page};
 ghost use Rattle.bl_page.specs.Words.{words_of};
-ghost use Rattle.bl_claims.specs.Pages.{node_of, roots_of, IsTreePage};
+ghost use Rattle.bl_page.specs.Nodes.{node_of, roots_of, IsTreePage};
 ghost use Rattle.bl_proc_base.specs.declared.onwards.Step.TheVariants as onward;
 ghost use Rattle.bl_proc_base.specs.Onwards.{Leads, top_of};
 

@@ -3,7 +3,7 @@
 ghost use Rattle.std.specs.Prelude.{◌≡◌, Some};
 ghost use Rattle.bl_page.specs.declared.page.Page.{Page};
 ghost use Rattle.bl_page.specs.Words.{words_of};
-ghost use Rattle.bl_claims.specs.Pages.{IsTreePage};
+ghost use Rattle.bl_page.specs.Nodes.{IsTreePage};
 ghost use Rattle.bl_proc_base.specs.Thin.{low_if_thin, thin_low, thin_hint};
 
 use crate::answers::{Hint, Level};

@@ -1,7 +1,7 @@
 -- How many gets are still ahead of a search, if nothing changes any more.
 use Rattle.std.proofs.Common.{ℕ, ◌≡◌, ◌<◌, suc, List, length, arith, refl, inl, inr, subst}
 use Rattle.bl_page.specs.declared.page.Page.{Page}
-use Rattle.bl_claims.specs.Pages.{node_of, IsTreePage}
+use Rattle.bl_page.specs.Nodes.{node_of, IsTreePage}
 use Rattle.bl_claims.specs.Walks.{IsWalk, Each}
 use Rattle.bl_claims.specs.Walks.IsWalk.{Ends, Right, Down}
 use Rattle.bl_proc_base.specs.declared.descent.Descent.{Descent}

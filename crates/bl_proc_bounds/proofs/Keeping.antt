@@ -7,7 +7,7 @@ use Rattle.bl_page.specs.Machine.{Name, Owner, State, Act, Changes}
 use Rattle.bl_page.specs.Machine.Looked.{Page as OfPage}
 use Rattle.bl_page.specs.Machine.Act.{Begin, End, Get, Put, Take, Latch, Retire, Look, Release, Miss}
 use Rattle.bl_page.specs.Machine.Phase.{Waiting}
-use Rattle.bl_claims.specs.Nodes.{unbounded}
+use Rattle.bl_page.specs.Nodes.{unbounded}
 use Rattle.bl_claims.specs.Trails.{Mark, IsPhase}
 use Rattle.bl_claims.specs.Walks.{Each}
 use Rattle.bl_core.proofs.Pushes.{name_cases}

@@ -67,7 +67,7 @@ use Rattle.bl_core.proofs.After.{is_put_name}
 use Rattle.bl_proc_invariant.proofs.Instead.{with_proc}
 use Rattle.bl_proc_bounds.specs.Searches.{IsSearch}
 use Rattle.bl_claims.specs.Latches.{Keeps, LatchesNone, LatchesAlone, LatchesBelowAnchor}
-use Rattle.bl_proc_meanings.specs.Families.{HoldsFamily, LatchesBeside}
+use Rattle.bl_claims.specs.Families.{HoldsFamily, LatchesBeside}
 use Rattle.bl_proc_bounds.specs.Latches.{IsTidy, AllOwned, AllTidy}
 use Rattle.bl_proc_bounds.proofs.Counts.{take_front}
 

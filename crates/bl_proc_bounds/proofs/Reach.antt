@@ -6,11 +6,10 @@ use Rattle.bl_page.specs.declared.page.Page.{Page}
 use Rattle.bl_page.specs.declared.page.Page.TheVariants.{Anchor, Leaf, Inner, Dead}
 use Rattle.bl_page.specs.Machine.{Name, Owner}
 use Rattle.bl_page.specs.Machine.Owner.{Released, Held, Retired}
-use Rattle.bl_claims.specs.Nodes.{Node, unbounded}
+use Rattle.bl_page.specs.Nodes.{Node, unbounded, node_of, roots_of, IsTreePage}
 use Rattle.bl_core_tree.specs.Trees.{Status, is_live, IsLive}
 use Rattle.bl_core_tree.specs.Trees.Status.{Free, Fresh, Live, Left, Right, Uprooted, Gone, Anchored}
 use Rattle.bl_core_tree.proofs.Statuses.{live_live, left_live, right_live, uprooted_live, free_dead, not_anchor}
-use Rattle.bl_claims.specs.Pages.{node_of, roots_of, IsTreePage}
 use Rattle.bl_claims.specs.Walks.{Each, IsWalk, IsNoneOf, NoneTwice}
 use Rattle.bl_core_tree.proofs.LawsHold.{live}
 use Rattle.bl_core_tree.proofs.WalksEnd.{After, Walked, walk_from, at_most}

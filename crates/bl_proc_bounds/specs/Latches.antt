@@ -7,7 +7,7 @@ use Rattle.bl_claims.specs.Latches.{Keeps, LatchesNone, LatchesAlone, LatchesBel
 use Rattle.bl_core.specs.Worlds.{World}
 use Rattle.bl_proc.specs.declared.kinds.Proc.{Proc}
 use Rattle.bl_proc.specs.declared.kinds.Proc.TheVariants as proc
-use Rattle.bl_proc_meanings.specs.Families.{LatchesBeside}
+use Rattle.bl_claims.specs.Families.{LatchesBeside}
 use Rattle.bl_proc_invariant.specs.Knowing.{Run}
 
 -- What holds of each kind of process. One that releases pages has no latch, which is not said here.

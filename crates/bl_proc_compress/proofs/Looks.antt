@@ -4,7 +4,7 @@ use Rattle.bl_model.specs.Rows.{map_of}
 use Rattle.bl_page.specs.declared.page.Page.{Page}
 use Rattle.bl_page.specs.declared.page.Page.TheVariants.{Anchor, Leaf, Inner, Dead}
 use Rattle.bl_rearrange.specs.Rearranged.{pairs_of}
-use Rattle.bl_claims.specs.Pages.{node_of}
+use Rattle.bl_page.specs.Nodes.{node_of}
 
 pub look_is : (page : Page) (key : ℕ) → (node_of page).look key ≡ map_of (pairs_of page) key
 look_is (Anchor a) key = refl

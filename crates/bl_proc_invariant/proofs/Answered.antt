@@ -15,7 +15,7 @@ use Rattle.bl_proc.specs.declared.posting.PostStage.TheVariants as post
 use Rattle.bl_proc.specs.declared.kinds.Proc.TheVariants as proc
 use Rattle.bl_proc.specs.Posts.{posted_answer, post_answer_in}
 use Rattle.bl_proc_invariant.specs.Logs.{reply_log, post_log, proc_log, AllLogs}
-use Rattle.bl_proc_meanings.specs.Answers.{MeansPosted}
+use Rattle.bl_claims.specs.Answers.{MeansPosted}
 use Rattle.bl_proc_invariant.specs.Knowing.{Run}
 
 same_posted : (p q : Posted) (h i : Option Hint) → answer.Post p h ≡ answer.Post q i → p ≡ q

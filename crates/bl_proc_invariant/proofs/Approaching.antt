@@ -6,9 +6,8 @@ use Rattle.bl_page.specs.declared.machine.Missed.{Missed}
 use Rattle.bl_page.specs.Machine.{Name, Owner, State, Act}
 use Rattle.bl_page.specs.Machine.Owner.{Held}
 use Rattle.bl_page.specs.Machine.Act.{Get, Latch, Miss}
-use Rattle.bl_claims.specs.Nodes.{unbounded}
+use Rattle.bl_page.specs.Nodes.{unbounded, node_of, roots_of, IsTreePage}
 use Rattle.bl_core_tree.specs.Trees.Status.{Live}
-use Rattle.bl_claims.specs.Pages.{node_of, roots_of, IsTreePage}
 use Rattle.bl_claims.specs.Trails.{Said, HasSaid}
 use Rattle.bl_core.proofs.Pushes.{HasSaid-silent}
 use Rattle.bl_core.specs.Worlds.{Goes, Stage, Know, World, nodes, IsStage, MayGet, IsGoes, IsSure, IsGood}

@@ -24,7 +24,7 @@ use Rattle.bl_proc.specs.Searches.{find_answer_in}
 use Rattle.bl_proc.specs.Parts.{part_answer_in}
 use Rattle.bl_proc.specs.Writes.{write_answer, write_answer_in}
 use Rattle.bl_proc.specs.Processes.{answer_of}
-use Rattle.bl_proc_meanings.specs.Hinted.{MeansWritten}
+use Rattle.bl_claims.specs.Hinted.{MeansWritten}
 use Rattle.bl_proc_invariant.specs.Beside.{MeansBeside}
 use Rattle.bl_proc_invariant.specs.Logs.{reply_for, effect_log, written_log, write_log, proc_log}
 

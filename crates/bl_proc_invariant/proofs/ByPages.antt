@@ -16,7 +16,7 @@ use Rattle.bl_proc_compress.specs.declared.compressing.Siblings.{Siblings}
 use Rattle.bl_proc_compress.specs.declared.compressing.Family.{Family}
 use Rattle.bl_proc_compress.specs.declared.compressing.Puts.{Puts}
 use Rattle.bl_proc_compress.specs.Compressions.{Merges, Evens, Relists, merge_hint, other}
-use Rattle.bl_proc_meanings.specs.Squeezed.{to_right, GotBoth, evened_puts, IsMergeOf, IsRelisted, IsEveningOf, HasMerged, HasEvened}
+use Rattle.bl_claims.specs.Squeezed.{to_right, GotBoth, evened_puts, IsMergeOf, IsRelisted, IsEveningOf, HasMerged, HasEvened}
 use Rattle.bl_proc_invariant.specs.Logs.{AtBoth, put_act, IsToSqueeze, to_last}
 
 kept : (parent : Inner) (middle page : Page) → KeepsFrame (InnerPage parent) middle → KeepsFrame middle page → KeepsFrame (InnerPage parent) page

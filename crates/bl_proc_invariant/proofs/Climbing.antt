@@ -7,7 +7,7 @@ use Rattle.bl_model.specs.declared.deciding.KeyWrite.TheVariants.{Insert}
 use Rattle.bl_model.specs.Writes.{write_op, effect_of, replied}
 use Rattle.bl_page.specs.declared.page.Page.{Page}
 use Rattle.bl_page.specs.Machine.{Name, State}
-use Rattle.bl_claims.specs.Nodes.{unbounded}
+use Rattle.bl_page.specs.Nodes.{unbounded}
 use Rattle.bl_claims.specs.Trails.{HasSaid}
 use Rattle.bl_core.specs.Worlds.{World, IsSure, IsGood}
 use Rattle.bl_core.proofs.After.{is_put_name}

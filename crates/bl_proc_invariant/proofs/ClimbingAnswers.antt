@@ -21,8 +21,8 @@ use Rattle.bl_proc.specs.declared.climbing.ClimbStage.TheVariants as climb
 use Rattle.bl_proc.specs.declared.kinds.Proc.TheVariants as proc
 use Rattle.bl_proc.specs.Writes.{post_hint}
 use Rattle.bl_proc.specs.Climbs.{inserted_reply, climbed_answer, IsUnsplit, climb_answer_in}
-use Rattle.bl_proc_meanings.specs.Hinted.{MeansWritten}
-use Rattle.bl_proc_meanings.specs.Climbed.{MeansClimbed}
+use Rattle.bl_claims.specs.Hinted.{MeansWritten}
+use Rattle.bl_claims.specs.Climbed.{MeansClimbed}
 use Rattle.bl_proc_invariant.specs.Logs.{effect_log, written_log, climbed_log, climb_log, proc_log, AllLogs}
 use Rattle.bl_proc_invariant.specs.Knowing.{Run}
 use Rattle.bl_proc_invariant.proofs.Beside.{effect_means}

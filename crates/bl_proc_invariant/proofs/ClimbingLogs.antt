@@ -31,9 +31,9 @@ use Rattle.bl_proc.specs.Paths.{page_at, from_page}
 use Rattle.bl_proc.specs.Stands.{Stands}
 use Rattle.bl_proc.specs.Climbs.{posted_as, left_hint, IsLast, climb_next_in}
 use Rattle.bl_proc.specs.Writes.{post_hint, write_next_in}
-use Rattle.bl_proc_meanings.specs.Hinted.{WroteLeaf}
-use Rattle.bl_proc_meanings.specs.Answers.{MeansPosted}
-use Rattle.bl_proc_meanings.specs.Climbed.{PostsUp, WroteAndPosted}
+use Rattle.bl_claims.specs.Hinted.{WroteLeaf}
+use Rattle.bl_claims.specs.Answers.{MeansPosted}
+use Rattle.bl_claims.specs.Climbed.{PostsUp, WroteAndPosted}
 use Rattle.bl_core.proofs.Meant.{done_on, already_on, stale_on, tall_on, no_room_on}
 use Rattle.bl_proc_invariant.specs.Turns.{event_of}
 use Rattle.bl_proc_invariant.specs.Knowing.{write_end, climb_end}

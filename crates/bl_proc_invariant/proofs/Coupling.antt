@@ -4,10 +4,9 @@ use Rattle.bl_page.specs.declared.page.Page.{Page}
 use Rattle.bl_page.specs.Machine.{Name, State}
 use Rattle.bl_page.specs.Machine.Owner.{Held}
 use Rattle.bl_page.specs.Machine.Act.{Put, Retire}
-use Rattle.bl_claims.specs.Nodes.{Covers, unbounded}
+use Rattle.bl_page.specs.Nodes.{Covers, unbounded, node_of}
 use Rattle.bl_core_tree.specs.Trees.Status.{Fresh, Left, Right}
 use Rattle.bl_core_tree.specs.Moves.{IsAtTwo, IsJoin, IsLeftGain, IsRightGain}
-use Rattle.bl_claims.specs.Pages.{node_of}
 use Rattle.bl_claims.specs.Trails.{Mark}
 use Rattle.bl_core.proofs.Pushes.{HasSaid-silent}
 use Rattle.bl_core.specs.Worlds.{Know, World, IsSure, IsGood, silent, put_mark}

@@ -5,12 +5,11 @@ use Rattle.bl_page.specs.declared.page.Page.TheVariants.{Inner}
 use Rattle.bl_page.specs.Machine.{Name, State}
 use Rattle.bl_page.specs.Machine.Owner.{Held}
 use Rattle.bl_page.specs.Machine.Act.{Get}
-use Rattle.bl_claims.specs.Nodes.{Covers, unbounded}
+use Rattle.bl_page.specs.Nodes.{Covers, unbounded, node_of}
 use Rattle.bl_core_tree.specs.Trees.{IsLive, IsChild}
 use Rattle.bl_core_tree.specs.Trees.Status.{Live, Right}
 use Rattle.bl_core_tree.proofs.Statuses.{live_live}
 use Rattle.bl_rearrange.specs.Neighbours.{AreNeighbours}
-use Rattle.bl_claims.specs.Pages.{node_of}
 use Rattle.bl_core.proofs.Pushes.{HasSaid-silent}
 use Rattle.bl_claims.specs.Trails.{Mark}
 use Rattle.bl_core.specs.Worlds.{Know, World, nodes, tree_of, IsSure, IsGood}

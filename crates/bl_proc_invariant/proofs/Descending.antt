@@ -3,7 +3,7 @@ use Rattle.std.proofs.Common.{ℕ, ◌≡◌, ◌≢◌, ◌-◌, Option, Some, 
 use Rattle.bl_page.specs.declared.page.Page.{Page}
 use Rattle.bl_page.specs.Machine.{Name, Owner, State}
 use Rattle.bl_page.specs.Machine.Act.{Get}
-use Rattle.bl_claims.specs.Pages.{roots_of}
+use Rattle.bl_page.specs.Nodes.{roots_of}
 use Rattle.bl_claims.specs.Trails.{Mark, Said}
 use Rattle.bl_claims.specs.Walks.{Each}
 use Rattle.bl_core.specs.Worlds.{Know, World, nodes, MapsTo, MayGet, IsGoes, IsSure, IsGood}

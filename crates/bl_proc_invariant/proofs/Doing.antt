@@ -9,8 +9,7 @@ use Rattle.bl_page.specs.declared.machine.Missed.TheVariants as missed
 use Rattle.bl_page.specs.Machine.{Act}
 use Rattle.bl_page.specs.Machine.Act.{Get, Put, Latch, Retire, Miss}
 use Rattle.bl_rearrange.specs.Rearranged.{high_of}
-use Rattle.bl_claims.specs.Nodes.{Covers}
-use Rattle.bl_claims.specs.Pages.{node_of}
+use Rattle.bl_page.specs.Nodes.{Covers, node_of}
 use Rattle.bl_rearrange.specs.declared.sides.Side.{Side}
 use Rattle.bl_rearrange.specs.declared.sides.Side.TheVariants as side
 use Rattle.bl_claims.specs.Trails.{Mark, Trail}
@@ -37,7 +36,7 @@ use Rattle.bl_proc_compress.specs.declared.squeezing.CompressStage.{CompressStag
 use Rattle.bl_proc_compress.specs.declared.squeezing.CompressStage.TheVariants as compress
 use Rattle.bl_proc_compress.specs.Compresses.{compress_reply, compress_next_in, CompressArrives}
 use Rattle.bl_proc_invariant.specs.Turns.{event_of}
-use Rattle.bl_proc_meanings.specs.Squeezed.{acts_in, acts_of, Since, to_right, LacksPlace, Once}
+use Rattle.bl_claims.specs.Squeezed.{acts_in, acts_of, Since, to_right, LacksPlace, Once}
 use Rattle.bl_proc_invariant.specs.Logs.{AtFamily, AtLeft, AtBoth, put_act, to_last, IsToSqueeze, come_log, decision_log, squeeze_log, pressed_log, compress_log}
 use Rattle.bl_proc_invariant.proofs.ByPages.{got_both, merge_of, evened_of, evening_of, has_merged, has_evened}
 use Rattle.bl_proc_invariant.proofs.Logging.{way_stays, way_goes}

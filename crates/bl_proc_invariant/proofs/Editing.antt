@@ -9,12 +9,11 @@ use Rattle.bl_page.specs.Machine.Act.{Put, Take, Miss}
 use Rattle.bl_rearrange.specs.declared.fitted.Fitted.TheVariants.{Split}
 use Rattle.bl_rearrange.specs.Rearranged.{IsFitted}
 use Rattle.bl_model.specs.Map.{Map}
-use Rattle.bl_claims.specs.Nodes.{unbounded}
+use Rattle.bl_page.specs.Nodes.{unbounded, node_of}
 use Rattle.bl_core_tree.specs.Trees.{Status, is_live, IsLive}
 use Rattle.bl_core_tree.specs.Trees.Status.{Free, Fresh, Live}
 use Rattle.bl_core_tree.specs.Moves.{IsMapRow, IsRow, IsCut}
 use Rattle.bl_core_tree.proofs.Statuses.{live_live, free_dead, fresh_dead}
-use Rattle.bl_claims.specs.Pages.{node_of}
 use Rattle.bl_claims.specs.Trails.{Said, Mark, HasSaid}
 use Rattle.bl_core.proofs.Pushes.{HasSaid-silent, SaysAt-last}
 use Rattle.bl_core.specs.Worlds.{Hold, Child, Know, World, nodes, MapsTo, IsHeld, IsRelied, IsSure, IsBounded, IsGood, silent, put_mark}

@@ -4,7 +4,7 @@ use Rattle.bl_model.specs.declared.operation.Reply.{Reply}
 use Rattle.bl_page.specs.Machine.{Name, State}
 use Rattle.bl_page.specs.Machine.Act.{Begin, End}
 use Rattle.bl_page.specs.Machine.Phase.{Waiting, Running}
-use Rattle.bl_claims.specs.Nodes.{unbounded}
+use Rattle.bl_page.specs.Nodes.{unbounded}
 use Rattle.bl_claims.specs.Trails.{Said, Answered, HasSaid}
 use Rattle.bl_core.proofs.Pushes.{HasSaid-silent}
 use Rattle.bl_core.specs.Worlds.{Goes, Stage, Know, World, IsGoes, IsSure, IsGood, silent}

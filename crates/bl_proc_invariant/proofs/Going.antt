@@ -8,7 +8,7 @@ use Rattle.bl_page.specs.Machine.Act.{Put, Take}
 use Rattle.bl_core_tree.specs.Trees.{Status}
 use Rattle.bl_core_tree.specs.Trees.Status.{Free, Fresh, Live, Anchored}
 use Rattle.bl_core_tree.proofs.Statuses.{live_live}
-use Rattle.bl_claims.specs.Pages.{node_of}
+use Rattle.bl_page.specs.Nodes.{node_of}
 use Rattle.bl_claims.specs.Walks.{Each}
 use Rattle.bl_core.specs.Worlds.{Goes, World, nodes, was_in, IsGoes}
 use Rattle.bl_core.proofs.Frames.{Each-map}

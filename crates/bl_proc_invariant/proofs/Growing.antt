@@ -8,10 +8,9 @@ use Rattle.bl_page.specs.Machine.{Name, Owner, State, Act, IsAt}
 use Rattle.bl_page.specs.Machine.Owner.{Released, Held}
 use Rattle.bl_page.specs.Machine.Act.{Get, Put, Take, Latch, Miss}
 use Rattle.bl_page.specs.Pairs.{end_of}
-use Rattle.bl_claims.specs.Nodes.{unbounded}
+use Rattle.bl_page.specs.Nodes.{unbounded, node_of, roots_of}
 use Rattle.bl_core_tree.specs.Trees.Status.{Free, Fresh, Live, Uprooted, Anchored}
 use Rattle.bl_core_tree.proofs.Statuses.{free_dead, fresh_dead}
-use Rattle.bl_claims.specs.Pages.{node_of, roots_of}
 use Rattle.bl_core.proofs.Pushes.{HasSaid-silent}
 use Rattle.bl_claims.specs.Trails.{Mark, HasSaid}
 use Rattle.bl_core.specs.Worlds.{IfKnown, Stage, Know, World, nodes, IsStage, IsHeld, IsGoes, IsSure, IsBounded, IsGood, silent, put_mark}

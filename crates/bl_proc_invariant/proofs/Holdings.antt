@@ -11,9 +11,8 @@ use Rattle.bl_page.specs.Machine.{Act}
 use Rattle.bl_page.specs.Machine.Act.{Get, Latch, Miss}
 use Rattle.bl_rearrange.specs.declared.fitted.Fitted.TheVariants.{Split}
 use Rattle.bl_rearrange.specs.Rearranged.{IsFitted}
-use Rattle.bl_claims.specs.Nodes.{Covers}
+use Rattle.bl_page.specs.Nodes.{Covers, node_of}
 use Rattle.bl_core_tree.specs.Moves.{IsRow, IsCut}
-use Rattle.bl_claims.specs.Pages.{node_of}
 use Rattle.bl_core_tree.proofs.SoundPages.{sound_node}
 use Rattle.bl_claims.specs.Trails.{Mark, Trail}
 use Rattle.bl_claims.specs.Meanings.{writes_in, writes_of, RaisesOnly, HasRaised, WritesBack, UnderLatch, ListTogether, MeansDone, MeansNoRoom}

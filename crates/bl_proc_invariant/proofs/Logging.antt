@@ -9,7 +9,7 @@ use Rattle.bl_page.specs.declared.page.Page.TheVariants.{Anchor as AnchorPage, I
 use Rattle.bl_page.specs.declared.page.Inner.{Inner}
 use Rattle.bl_page.specs.Machine.{Act}
 use Rattle.bl_page.specs.Machine.Act.{Get, Put, Take, Latch}
-use Rattle.bl_claims.specs.Pages.{node_of, roots_of}
+use Rattle.bl_page.specs.Nodes.{node_of, roots_of}
 use Rattle.bl_claims.specs.Trails.{Mark, Trail}
 use Rattle.bl_claims.specs.Meanings.{writes_in, IsNewTop, RaisesOnly, HasRaised, WritesBack}
 use Rattle.bl_core.proofs.Meant.{writes_of-push, begun_now, wrote_on, wrote_still, got_on, got_last, done_on, already_on, stale_on, tall_on, no_room_on}

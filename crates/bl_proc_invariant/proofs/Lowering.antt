@@ -7,10 +7,9 @@ use Rattle.bl_page.specs.declared.machine.Missed.{Missed}
 use Rattle.bl_page.specs.Machine.{Name, Owner, State, Act}
 use Rattle.bl_page.specs.Machine.Act.{Get, Put, Latch, Retire, Miss}
 use Rattle.bl_page.specs.Pairs.{end_of}
-use Rattle.bl_claims.specs.Nodes.{unbounded}
+use Rattle.bl_page.specs.Nodes.{unbounded, node_of, roots_of}
 use Rattle.bl_core_tree.specs.Trees.{IsLive}
 use Rattle.bl_core_tree.specs.Trees.Status.{Fresh, Live, Uprooted, Gone}
-use Rattle.bl_claims.specs.Pages.{node_of, roots_of}
 use Rattle.bl_claims.specs.Trails.{Mark}
 use Rattle.bl_core.specs.Worlds.{Stage, Know, World, nodes, IsSure, IsBounded, IsGood, silent, put_mark}
 use Rattle.bl_core.proofs.Pushes.{HasSaid-silent}

@@ -6,7 +6,7 @@ use Rattle.bl_page.specs.declared.page.Anchor.{Anchor as AnchorPage}
 use Rattle.bl_page.specs.declared.machine.Missed.{Missed}
 use Rattle.bl_page.specs.Machine.{Name, Act}
 use Rattle.bl_page.specs.Machine.Act.{Get, Put, Latch, Retire, Miss}
-use Rattle.bl_claims.specs.Pages.{roots_of}
+use Rattle.bl_page.specs.Nodes.{roots_of}
 use Rattle.bl_claims.specs.Trails.{Mark, Trail, marks_of}
 use Rattle.bl_claims.specs.Meanings.{HasGot, writes_in, Unwritten}
 use Rattle.bl_core.specs.Worlds.{World}
@@ -29,8 +29,8 @@ use Rattle.bl_proc.specs.Lowers.{lower_next_in, lower_answer_in}
 use Rattle.bl_proc_base.specs.declared.lowering.Sank.TheVariants.{On, Over}
 use Rattle.bl_proc_base.specs.Onwards.{top_of}
 use Rattle.bl_proc_base.specs.Lowerings.{lowering_next}
-use Rattle.bl_proc_meanings.specs.Squeezed.{acts_in}
-use Rattle.bl_proc_meanings.specs.Lowered.{AtTop, to_top, to_sunk, HasLowered, MeansLowered}
+use Rattle.bl_claims.specs.Squeezed.{acts_in}
+use Rattle.bl_claims.specs.Lowered.{AtTop, to_top, to_sunk, HasLowered, MeansLowered}
 use Rattle.bl_proc_invariant.specs.Turns.{event_of}
 use Rattle.bl_proc_invariant.specs.LoweringLog.{AtSummit, IsToLowerBy, lowering_log}
 use Rattle.bl_proc_invariant.specs.Logs.{proc_log, lower_log, AllLogs}

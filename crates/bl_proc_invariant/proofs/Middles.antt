@@ -10,7 +10,7 @@ use Rattle.bl_page.specs.Machine.{Name, Act}
 use Rattle.bl_page.specs.Machine.Phase.{Running}
 use Rattle.bl_page.specs.Machine.Act.{Begin, End, Get, Put, Take, Latch, Retire, Look, Release, Miss}
 use Rattle.bl_core_tree.specs.Trees.Status.{Right}
-use Rattle.bl_claims.specs.Pages.{node_of}
+use Rattle.bl_page.specs.Nodes.{node_of}
 use Rattle.bl_rearrange.specs.declared.sides.Side.{Side}
 use Rattle.bl_rearrange.specs.declared.sides.Side.TheVariants as side
 use Rattle.bl_claims.specs.Trails.{Mark, Trail, marks_of}
@@ -23,7 +23,7 @@ use Rattle.bl_proc_compress.specs.declared.compressing.Compression.TheVariants.{
 use Rattle.bl_proc_compress.specs.declared.squeezing.CompressStage.{CompressStage}
 use Rattle.bl_proc_compress.specs.declared.squeezing.CompressStage.TheVariants as compress
 use Rattle.bl_proc_invariant.specs.Compressing.{AreThree, left_now, right_now}
-use Rattle.bl_proc_meanings.specs.Squeezed.{acts_in, acts_of, Since}
+use Rattle.bl_claims.specs.Squeezed.{acts_in, acts_of, Since}
 use Rattle.bl_proc_invariant.specs.Logs.{put_act, IsToSqueeze, proc_log, compress_log}
 use Rattle.bl_proc_invariant.specs.Knowing.{Run, know_of, know_compress, know}
 use Rattle.bl_proc_invariant.proofs.Plain.{of_middle}

@@ -3,8 +3,7 @@ use Rattle.std.proofs.Common.{ℕ, ◌≡◌, ◌+◌, ◌-◌, ◌<◌, zero, s
 use Rattle.bl_model.specs.declared.deciding.KeyWrite.{KeyWrite}
 use Rattle.bl_page.specs.declared.page.Page.{Page}
 use Rattle.bl_page.specs.Machine.{Name}
-use Rattle.bl_claims.specs.Nodes.{unbounded}
-use Rattle.bl_claims.specs.Pages.{node_of}
+use Rattle.bl_page.specs.Nodes.{unbounded, node_of}
 use Rattle.bl_claims.specs.Trails.{Said, HasSaid}
 use Rattle.bl_claims.specs.Walks.{Each}
 use Rattle.bl_core.specs.Worlds.{Stage, Know, World, IsStage, IsGoes, IsSure, IsGood}

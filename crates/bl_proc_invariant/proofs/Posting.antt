@@ -6,10 +6,8 @@ use Rattle.bl_page.specs.declared.page.Page.TheVariants.{Inner as InnerPage}
 use Rattle.bl_page.specs.declared.page.Inner.{Inner}
 use Rattle.bl_page.specs.Machine.{Name, State}
 use Rattle.bl_page.specs.Machine.Act.{Get}
-use Rattle.bl_claims.specs.Nodes.{Covers, unbounded}
+use Rattle.bl_page.specs.Nodes.{Covers, unbounded, node_of, IsChildOf}
 use Rattle.bl_core_tree.specs.Trees.{IsChild}
-use Rattle.bl_claims.specs.Pages.{node_of}
-use Rattle.bl_claims.specs.Walks.{IsChildOf}
 use Rattle.bl_claims.specs.Trails.{Mark}
 use Rattle.bl_core.proofs.Pushes.{HasSaid-silent}
 use Rattle.bl_core.specs.Worlds.{HoldsPage, Know, World, nodes, tree_of, IsGoes, IsSure, IsGood}

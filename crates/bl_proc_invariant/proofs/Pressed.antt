@@ -14,7 +14,7 @@ use Rattle.bl_proc_compress.specs.declared.squeezing.CompressStage.{CompressStag
 use Rattle.bl_proc_compress.specs.declared.squeezing.CompressStage.TheVariants as compress
 use Rattle.bl_proc.specs.declared.kinds.Proc.TheVariants as proc
 use Rattle.bl_proc_compress.specs.Compresses.{compressed_answer, compress_answer_in}
-use Rattle.bl_proc_meanings.specs.Squeezed.{MeansSqueezed}
+use Rattle.bl_claims.specs.Squeezed.{MeansSqueezed}
 use Rattle.bl_proc_invariant.specs.Logs.{pressed_log, compress_log, proc_log, AllLogs}
 use Rattle.bl_proc_invariant.specs.Knowing.{Run}
 

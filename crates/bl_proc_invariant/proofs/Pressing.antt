@@ -9,8 +9,7 @@ use Rattle.bl_page.specs.Machine.{Name, State}
 use Rattle.bl_page.specs.Machine.Act.{Get}
 use Rattle.bl_page.specs.Pairs.{place}
 use Rattle.bl_page.proofs.Lookups.{place-le}
-use Rattle.bl_claims.specs.Nodes.{unbounded}
-use Rattle.bl_claims.specs.Pages.{node_of, IsTreePage}
+use Rattle.bl_page.specs.Nodes.{unbounded, node_of, IsTreePage}
 use Rattle.bl_claims.specs.Trails.{Mark}
 use Rattle.bl_core.proofs.Pushes.{HasSaid-silent}
 use Rattle.bl_core.specs.Worlds.{Stage, Know, World, MayGet, IsGoes, IsSure, IsGood}

@@ -30,7 +30,7 @@ use Rattle.bl_proc.specs.declared.writing.WriteStage.TheVariants as write
 use Rattle.bl_proc_base.specs.Thin.{thin_hint}
 use Rattle.bl_proc.specs.Writes.{post_hint, Performs, thin_by, write_reply, write_next_in}
 use Rattle.bl_proc_invariant.specs.Turns.{event_of}
-use Rattle.bl_proc_meanings.specs.Hinted.{WroteLeaf}
+use Rattle.bl_claims.specs.Hinted.{WroteLeaf}
 use Rattle.bl_proc_invariant.specs.Logs.{way_log, put_log, entry_log, IsAsNoted, MaySplit, effect_log, written_log, write_log}
 use Rattle.bl_proc_invariant.specs.Knowing.{write_end}
 use Rattle.bl_proc_invariant.proofs.Holdings.{cut_low}

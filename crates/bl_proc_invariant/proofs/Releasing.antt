@@ -4,11 +4,10 @@ use Rattle.bl_page.specs.declared.page.Page.{Page}
 use Rattle.bl_page.specs.Machine.{Name, State, IsAt, AllBeganAfter}
 use Rattle.bl_page.specs.Machine.Act.{Release}
 use Rattle.bl_page.specs.Machine.Owner.{Held, Retired}
-use Rattle.bl_claims.specs.Nodes.{Node, Covers}
+use Rattle.bl_page.specs.Nodes.{Node, Covers, node_of}
 use Rattle.bl_core_tree.specs.Trees.{Status, IsLive}
 use Rattle.bl_core_tree.specs.Trees.Status.{Free, Gone}
 use Rattle.bl_core_tree.proofs.Statuses.{gone_dead, not_dead}
-use Rattle.bl_claims.specs.Pages.{node_of}
 use Rattle.bl_core.proofs.Pushes.{HasSaid-silent}
 use Rattle.bl_core.specs.Worlds.{Hold, Goes, Child, Passed, World, nodes, was_in, IsStage, IfKnown, MayGet, IsHeld, IsGoes, IsRelied, IsPassed, IsSure, IsGood, silent}
 use Rattle.bl_core.proofs.Frames.{Each-map}

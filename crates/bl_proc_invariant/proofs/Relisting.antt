@@ -6,7 +6,7 @@ use Rattle.bl_page.specs.Machine.Act.{Put}
 use Rattle.bl_model.specs.Map.{Map}
 use Rattle.bl_core_tree.specs.Trees.Status.{Fresh}
 use Rattle.bl_core_tree.specs.Moves.{IsRow, IsMapRow, IsRelisted}
-use Rattle.bl_claims.specs.Pages.{node_of}
+use Rattle.bl_page.specs.Nodes.{node_of}
 use Rattle.bl_core.proofs.Pushes.{HasSaid-silent}
 use Rattle.bl_core.specs.Worlds.{Know, World, nodes, IsSure, IsGood, IsBounded, put_mark}
 use Rattle.bl_core.proofs.After.{after, Extends-after, put_at, is_put_at}

@@ -4,11 +4,10 @@ use Rattle.bl_page.specs.declared.page.Page.{Page}
 use Rattle.bl_page.specs.declared.page.Page.TheVariants.{Dead}
 use Rattle.bl_page.specs.Machine.{Name, Owner, State}
 use Rattle.bl_page.specs.Machine.Act.{Put}
-use Rattle.bl_claims.specs.Nodes.{Covers}
+use Rattle.bl_page.specs.Nodes.{Covers, node_of}
 use Rattle.bl_core_tree.specs.Trees.{Status}
 use Rattle.bl_core_tree.specs.Trees.Status.{Fresh, Live, Gone}
 use Rattle.bl_core_tree.specs.Moves.{IsAtTwo, IsRightLoss, IsLeftLoss}
-use Rattle.bl_claims.specs.Pages.{node_of}
 use Rattle.bl_core.proofs.Pushes.{HasSaid-silent}
 use Rattle.bl_core.specs.Worlds.{Know, World, nodes, IsHeld, IsSure, IsGood, HoldsPage, put_mark}
 use Rattle.bl_core.proofs.After.{after, Extends-after, put_at}

@@ -5,7 +5,7 @@ use Rattle.bl_page.specs.declared.page.Page.TheVariants.{Anchor, Leaf, Inner, De
 use Rattle.bl_rearrange.specs.Rearranged.{low_of}
 use Rattle.bl_page.specs.Machine.{Name, State, Act}
 use Rattle.bl_page.specs.Machine.Act.{Get}
-use Rattle.bl_claims.specs.Pages.{node_of}
+use Rattle.bl_page.specs.Nodes.{node_of}
 use Rattle.bl_rearrange.specs.Neighbours.{AreNeighbours}
 use Rattle.bl_rearrange.specs.declared.sides.Side.{Side}
 use Rattle.bl_rearrange.specs.declared.sides.Side.TheVariants as side

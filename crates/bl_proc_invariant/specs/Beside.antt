@@ -6,7 +6,7 @@ use Rattle.bl_proc_base.specs.declared.answers.Hint.{Hint}
 use Rattle.bl_proc.specs.declared.kinds.Proc.{Proc}
 use Rattle.bl_proc.specs.declared.kinds.Proc.TheVariants as proc
 use Rattle.bl_claims.specs.Meanings.{writes_of}
-use Rattle.bl_proc_meanings.specs.Hinted.{MeansWritten}
+use Rattle.bl_claims.specs.Hinted.{MeansWritten}
 
 -- Beside a reply of any kind of process. Searches and parts give no hint, and have written nothing.
 abbrev pub MeansBeside : Proc → Reply → Option Hint → Trail → Type 0

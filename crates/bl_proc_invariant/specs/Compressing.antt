@@ -2,10 +2,9 @@
 use Rattle.std.specs.Prelude.{◌≡◌, ◌≢◌, ◌⊎◌, ℕ, suc, ◌-◌, ◌<◌, ◌==◌, if◌then◌else◌, Option, Some, None, [], ◌∷◌}
 use Rattle.bl_page.specs.declared.page.Page.{Page}
 use Rattle.bl_page.specs.declared.page.Page.TheVariants.{Inner}
-use Rattle.bl_claims.specs.Nodes.{Covers, unbounded}
+use Rattle.bl_page.specs.Nodes.{Covers, unbounded, node_of}
 use Rattle.bl_core_tree.specs.Trees.Status.{Live, Left, Right, Gone}
 use Rattle.bl_core_tree.specs.Moves.{IsRow, IsJoin, IsLeftGain, IsRightLoss, IsRightGain, IsLeftLoss, IsRelisted}
-use Rattle.bl_claims.specs.Pages.{node_of}
 use Rattle.bl_core.specs.Worlds.{Hold, Stage, Know}
 use Rattle.bl_rearrange.specs.Rearranged.{right_of}
 use Rattle.bl_rearrange.specs.declared.sides.Side.{Side}

@@ -12,7 +12,7 @@ use Rattle.bl_page.specs.declared.page.Page.{Page}
 use Rattle.bl_page.specs.declared.page.Page.TheVariants.{Anchor, Inner}
 use Rattle.bl_page.specs.Machine.{Owner, State}
 use Rattle.bl_page.specs.Machine.Owner.{Released, Held, Retired}
-use Rattle.bl_claims.specs.Nodes.{unbounded}
+use Rattle.bl_page.specs.Nodes.{unbounded}
 use Rattle.bl_core_tree.specs.Trees.Status.{Fresh}
 use Rattle.bl_claims.specs.Trails.{Said}
 use Rattle.bl_core.specs.Worlds.{Goes, Passed, Stage, Know}

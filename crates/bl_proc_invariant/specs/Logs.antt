@@ -6,8 +6,7 @@ use Rattle.bl_page.specs.declared.page.Page.{Page}
 use Rattle.bl_page.specs.declared.page.Page.TheVariants.{Inner}
 use Rattle.bl_page.specs.Machine.{Name, Act}
 use Rattle.bl_page.specs.Machine.Act.{Begin, Get, Put, Take, Latch}
-use Rattle.bl_claims.specs.Nodes.{Covers}
-use Rattle.bl_claims.specs.Pages.{node_of}
+use Rattle.bl_page.specs.Nodes.{Covers, node_of}
 use Rattle.bl_core.specs.Worlds.{World}
 use Rattle.bl_claims.specs.Trails.{Mark, Trail, marks_of}
 use Rattle.bl_claims.specs.Meanings.{HasGot, writes_of, Wrote, Unwritten, WroteHeld, IsNewTop, RaisesOnly, HasRaised, ListTogether, MeansDone, MeansAlready, MeansStale, MeansTooTall, MeansNoRoom}
@@ -37,7 +36,7 @@ use Rattle.bl_proc_compress.specs.declared.squeezing.CompressReply.{CompressRepl
 use Rattle.bl_proc_compress.specs.declared.squeezing.CompressReply.TheVariants as pressed
 use Rattle.bl_proc_compress.specs.declared.squeezing.CompressStage.{CompressStage}
 use Rattle.bl_proc_compress.specs.declared.squeezing.CompressStage.TheVariants as compress
-use Rattle.bl_proc_meanings.specs.Squeezed.{Since, AtParent, to_right, Once, HasMerged, HasEvened, HasEnough, HasUnposted, HasNoLevel, HasOneChild, LacksPlace}
+use Rattle.bl_claims.specs.Squeezed.{Since, AtParent, to_right, Once, HasMerged, HasEvened, HasEnough, HasUnposted, HasNoLevel, HasOneChild, LacksPlace}
 use Rattle.bl_proc_compress.specs.Compressions.{Decides, other}
 use Rattle.bl_model.specs.declared.deciding.KeyWrite.{KeyWrite}
 use Rattle.bl_model.specs.declared.deciding.KeyWrite.TheVariants.{Insert}
@@ -51,9 +50,9 @@ use Rattle.bl_proc.specs.declared.writing.WriteReply.TheVariants as written
 use Rattle.bl_proc.specs.declared.writing.WriteStage.{WriteStage}
 use Rattle.bl_proc.specs.declared.writing.WriteStage.TheVariants as write
 use Rattle.bl_proc_base.specs.Thin.{thin_low}
-use Rattle.bl_proc_meanings.specs.Hinted.{WroteLeaf, MeansWritten}
-use Rattle.bl_proc_meanings.specs.Lowered.{MeansLowered}
-use Rattle.bl_proc_meanings.specs.Climbed.{PostsUp, WroteAndPosted}
+use Rattle.bl_claims.specs.Hinted.{WroteLeaf, MeansWritten}
+use Rattle.bl_claims.specs.Lowered.{MeansLowered}
+use Rattle.bl_claims.specs.Climbed.{PostsUp, WroteAndPosted}
 use Rattle.bl_proc_invariant.specs.LoweringLog.{lowering_log}
 use Rattle.bl_proc_invariant.specs.Knowing.{Run}
 use Rattle.bl_proc.specs.declared.climbing.Climbed.{Climbed}

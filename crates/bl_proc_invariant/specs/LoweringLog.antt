@@ -6,7 +6,7 @@ use Rattle.bl_page.specs.declared.page.Page.TheVariants.{Anchor}
 use Rattle.bl_page.specs.declared.page.Anchor.{Anchor as AnchorPage}
 use Rattle.bl_page.specs.Machine.{Act}
 use Rattle.bl_page.specs.Machine.Act.{Get, Put, Latch}
-use Rattle.bl_claims.specs.Pages.{roots_of}
+use Rattle.bl_page.specs.Nodes.{roots_of}
 use Rattle.bl_claims.specs.Trails.{Trail}
 use Rattle.bl_claims.specs.Meanings.{HasGot, Unwritten}
 use Rattle.bl_proc_base.specs.declared.lowering.Summit.{Summit}
@@ -15,8 +15,8 @@ use Rattle.bl_proc_base.specs.declared.lowering.Lowering.{Lowering}
 use Rattle.bl_proc_base.specs.declared.lowering.Lowering.TheVariants.{Looking, LatchingAnchor, LatchedAnchor, LatchingTop, LatchedTop, PuttingAnchor, PuttingDead, Retiring, OpeningTop, OpeningAnchor}
 use Rattle.bl_proc_base.specs.Onwards.{top_of}
 use Rattle.bl_proc_base.specs.Lowerings.{Sinks}
-use Rattle.bl_proc_meanings.specs.Squeezed.{Since}
-use Rattle.bl_proc_meanings.specs.Lowered.{to_top, IsToLower, MeansLowered}
+use Rattle.bl_claims.specs.Squeezed.{Since}
+use Rattle.bl_claims.specs.Lowered.{to_top, IsToLower, MeansLowered}
 
 -- the anchor was latched and got, and the top page is the leftmost one of its last level
 pub record AtSummit (marks : Trail) (t : Summit) (acts : List (Act Page Reply)) : Type 0 where

@@ -1,10 +1,9 @@
 -- What a process knows in each of its states.
 use Rattle.std.specs.Prelude.{◌≡◌, ◌≢◌, ◌⊎◌, ℕ, ◌<◌, Bool, true, Option, Some, None, List, [], ◌∷◌}
 use Rattle.bl_page.specs.declared.page.Page.{Page}
-use Rattle.bl_claims.specs.Nodes.{Covers, unbounded}
+use Rattle.bl_page.specs.Nodes.{Covers, unbounded, node_of}
 use Rattle.bl_core_tree.specs.Trees.Status.{Fresh, Live, Anchored}
 use Rattle.bl_core_tree.specs.Moves.{IsRow, IsCut, MayList}
-use Rattle.bl_claims.specs.Pages.{node_of}
 use Rattle.bl_claims.specs.Trails.{Said}
 use Rattle.bl_model.specs.Map.{Map}
 use Rattle.bl_page.specs.Machine.{Name}

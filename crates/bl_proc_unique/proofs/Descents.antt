@@ -1,7 +1,7 @@
 -- A descent goes on, and in one way.
 use Rattle.std.proofs.Common.{ℕ, ◌≡◌, ap, sym, ◌∙◌, refl, inl, inr}
 use Rattle.bl_page.specs.declared.page.Page.{Page}
-use Rattle.bl_claims.specs.Pages.{roots_of}
+use Rattle.bl_page.specs.Nodes.{roots_of}
 use Rattle.bl_proc_base.specs.declared.onwards.Step.{Step}
 use Rattle.bl_proc_base.specs.declared.onwards.Step.TheVariants as onward
 use Rattle.bl_proc_base.specs.declared.descent.Descent.{Descent}

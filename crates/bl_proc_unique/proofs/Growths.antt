@@ -12,7 +12,7 @@ use Rattle.bl_page.specs.declared.page.Inner.{Inner}
 use Rattle.bl_page.specs.Pairs.{IsChild}
 use Rattle.bl_page.proofs.PagesIn.{AreChildren-at, AreChildren-push}
 use Rattle.bl_page.proofs.Same.{anchor_same, inner_same}
-use Rattle.bl_claims.specs.Pages.{roots_of}
+use Rattle.bl_page.specs.Nodes.{roots_of}
 use Rattle.bl_proc_base.specs.declared.acts.Seen.{Seen}
 use Rattle.bl_proc_base.specs.declared.acts.Seen.TheVariants as seen
 use Rattle.bl_proc_base.specs.declared.growing.Rise.{Rise}

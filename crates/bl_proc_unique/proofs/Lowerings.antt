@@ -8,7 +8,7 @@ use Rattle.bl_page.specs.declared.page.Page.TheVariants as page
 use Rattle.bl_page.specs.declared.page.Anchor.{Anchor}
 use Rattle.bl_page.specs.declared.page.Dead.{Dead}
 use Rattle.bl_page.proofs.Same.{dead_same}
-use Rattle.bl_claims.specs.Pages.{roots_of}
+use Rattle.bl_page.specs.Nodes.{roots_of}
 use Rattle.bl_proc_base.specs.declared.acts.Seen.{Seen}
 use Rattle.bl_proc_base.specs.declared.acts.Seen.TheVariants as seen
 use Rattle.bl_proc_base.specs.declared.lowering.Lowered.{Lowered}

@@ -8,9 +8,7 @@ use Rattle.bl_page.specs.Pairs.{IsChildFor, IsWithin, end_of, place}
 use Rattle.bl_page.proofs.Lookups.{child_before, child_at_place, place-some}
 use Rattle.bl_model.specs.Rows.{map_of}
 use Rattle.bl_model.specs.Map.{Map}
-use Rattle.bl_claims.specs.Nodes.{Covers}
-use Rattle.bl_claims.specs.Pages.{node_of, IsTreePage}
-use Rattle.bl_claims.specs.Walks.{IsChildOf}
+use Rattle.bl_page.specs.Nodes.{Covers, node_of, IsTreePage, IsChildOf}
 use Rattle.bl_proc_base.specs.declared.onwards.Step.{Step}
 use Rattle.bl_proc_base.specs.declared.onwards.Step.TheVariants.{Again, Right, Down, Here}
 use Rattle.bl_proc_base.specs.Onwards.{IsDead, Leads}

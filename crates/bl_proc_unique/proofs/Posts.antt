@@ -9,8 +9,7 @@ use Rattle.bl_page.specs.declared.page.Page.{Page}
 use Rattle.bl_page.specs.declared.page.Page.TheVariants as page
 use Rattle.bl_page.specs.declared.page.Inner.{Inner}
 use Rattle.bl_page.specs.Pairs.{IsChild, IsWithin, IsWithin-prop, IsChild-prop}
-use Rattle.bl_claims.specs.Pages.{node_of}
-use Rattle.bl_claims.specs.Walks.{IsChildOf}
+use Rattle.bl_page.specs.Nodes.{node_of, IsChildOf}
 use Rattle.bl_proc_base.specs.declared.acts.Seen.{Seen}
 use Rattle.bl_proc_base.specs.declared.acts.Seen.TheVariants as seen
 use Rattle.bl_proc_base.specs.declared.onwards.Step.{Step}

@@ -1,7 +1,7 @@
 -- A search goes on, and in one way.
 use Rattle.std.proofs.Common.{ℕ, ◌≡◌, None, ap, sym, ◌∙◌, refl, Some}
 use Rattle.bl_page.specs.declared.page.Page.{Page}
-use Rattle.bl_claims.specs.Pages.{node_of}
+use Rattle.bl_page.specs.Nodes.{node_of}
 use Rattle.bl_proc_base.specs.declared.acts.Seen.{Seen}
 use Rattle.bl_proc_base.specs.declared.acts.Seen.TheVariants as seen
 use Rattle.bl_proc_base.specs.declared.descent.Descent.{Descent}

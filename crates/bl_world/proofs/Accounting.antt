@@ -27,10 +27,10 @@ use Rattle.bl_proc.specs.declared.kinds.Proc.TheVariants as proc
 use Rattle.bl_proc.specs.declared.kinds.Proc.{Proc}
 use Rattle.bl_proc.specs.Processes.{answer_of}
 use Rattle.bl_proc_invariant.specs.Knowing.{Run, know_of, know}
-use Rattle.bl_proc_meanings.specs.Answers.{MeansPosted}
-use Rattle.bl_proc_meanings.specs.Squeezed.{MeansSqueezed}
-use Rattle.bl_proc_meanings.specs.Lowered.{MeansLowered}
-use Rattle.bl_proc_meanings.specs.Climbed.{MeansClimbed}
+use Rattle.bl_claims.specs.Answers.{MeansPosted}
+use Rattle.bl_claims.specs.Squeezed.{MeansSqueezed}
+use Rattle.bl_claims.specs.Lowered.{MeansLowered}
+use Rattle.bl_claims.specs.Climbed.{MeansClimbed}
 use Rattle.bl_proc_invariant.proofs.Answered.{post_means}
 use Rattle.bl_proc_invariant.proofs.Beside.{beside_means}
 use Rattle.bl_proc_invariant.specs.Beside.{MeansBeside}

@@ -4,8 +4,7 @@ use Rattle.std.specs.Coded.{le_prop}
 use Rattle.std.proofs.Math.Logic.{∥∥₁_elim}
 use mathlib.Core.Logic.{∥∥₁_map}
 use Rattle.bl_page.specs.declared.page.Page.{Page}
-use Rattle.bl_claims.specs.Nodes.{unbounded}
-use Rattle.bl_claims.specs.Pages.{node_of, roots_of, IsTreePage}
+use Rattle.bl_page.specs.Nodes.{unbounded, node_of, roots_of, IsTreePage}
 use Rattle.bl_claims.specs.Walks.{IsWalk, Each, HasLoneWalk}
 use Rattle.bl_claims.specs.Walks.IsWalk.{Ends, Right, Down}
 use Rattle.bl_core_tree.proofs.WalksEnd.{walk_is_short}

@@ -25,15 +25,15 @@ use Rattle.bl_proc_base.specs.declared.lowering.Lowered.{Lowered}
 use Rattle.bl_proc.specs.declared.lowering.Lower.{Lower}
 use Rattle.bl_proc.specs.declared.climbing.InsertPost.{InsertPost}
 use Rattle.bl_proc_compress.specs.declared.squeezing.Compress.{Compress}
-use Rattle.bl_proc_meanings.specs.Squeezed.{MeansSqueezed}
-use Rattle.bl_proc_meanings.specs.Lowered.{MeansLowered}
-use Rattle.bl_proc_meanings.specs.Climbed.{MeansClimbed}
+use Rattle.bl_claims.specs.Squeezed.{MeansSqueezed}
+use Rattle.bl_claims.specs.Lowered.{MeansLowered}
+use Rattle.bl_claims.specs.Climbed.{MeansClimbed}
 use Rattle.bl_proc_base.specs.declared.answers.Reclaimed.{Reclaimed}
 use Rattle.bl_proc.specs.declared.reclaiming.Reclaim.{Reclaim}
 use Rattle.bl_proc.specs.declared.kinds.Proc.{Proc}
 use Rattle.bl_proc.specs.declared.kinds.Proc.TheVariants as proc
 use Rattle.bl_proc.specs.Processes.{answer_of}
-use Rattle.bl_proc_meanings.specs.Answers.{MeansPosted}
+use Rattle.bl_claims.specs.Answers.{MeansPosted}
 use Rattle.bl_proc_invariant.specs.Beside.{MeansBeside}
 use Rattle.bl_claims.specs.Bounds.{IsWithinBound}
 use Rattle.bl_proc_bounds.specs.Searches.{IsSearch}

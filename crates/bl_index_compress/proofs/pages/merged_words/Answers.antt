@@ -2,7 +2,7 @@ use Rattle.std.proofs.Common.{◌≡◌, ℕ, ◌+◌, ◌%◌, ◌++◌, List, 
 use Rattle.std.proofs.lemmas.List.{length-append}
 use Rattle.bl_page.specs.Words.{layout, entries_of}
 use Rattle.bl_page.proofs.Once.{once}
-use Rattle.bl_claims.specs.Pages.{IsTreePage}
+use Rattle.bl_page.specs.Nodes.{IsTreePage}
 use Rattle.bl_rearrange.specs.Rearranged.{pairs_of, IsNow}
 use Rattle.bl_proc_base.proofs.Spellings.{pairs_counted}
 use Rattle.bl_index_compress.proofs.Spelled.{neighbours_tree, reads, spelled_now}

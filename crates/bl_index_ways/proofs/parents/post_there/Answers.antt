@@ -1,5 +1,5 @@
 use Rattle.std.proofs.Common.{ℕ, ◌-◌, ◌<◌, Some, None, refl, sym, ap, subst, ◌∙◌}
-use Rattle.bl_claims.specs.Pages.{node_of}
+use Rattle.bl_page.specs.Nodes.{node_of}
 use Rattle.bl_proc_base.specs.declared.onwards.Step.TheVariants.{Here, Down}
 use Rattle.bl_proc_base.specs.Onwards.{Leads}
 use Rattle.bl_proc.specs.declared.posting.PostStage.TheVariants as post

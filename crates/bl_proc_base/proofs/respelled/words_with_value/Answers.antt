@@ -5,7 +5,7 @@ use Rattle.bl_page.specs.declared.page.Page.{Page}
 use Rattle.bl_page.specs.Faults.{HasPairs, pairs_of as pairs_in_words}
 use Rattle.bl_page.specs.Pairs.{place}
 use Rattle.bl_page.proofs.Once.{once}
-use Rattle.bl_claims.specs.Pages.{IsTreePage}
+use Rattle.bl_page.specs.Nodes.{IsTreePage}
 use Rattle.bl_rearrange.specs.Rearranged.{pairs_of}
 use Rattle.bl_rearrange.proofs.Parts.{some_value}
 use Rattle.bl_proc_base.specs.Respelled.{HasValueAt}

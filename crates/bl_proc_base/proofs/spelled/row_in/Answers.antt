@@ -1,6 +1,6 @@
 use Rattle.std.proofs.Common.{ap, sym, subst, ◌∙◌}
 use Rattle.bl_page.proofs.Once.{once}
-use Rattle.bl_claims.specs.Pages.{IsTreePage}
+use Rattle.bl_page.specs.Nodes.{IsTreePage}
 use Rattle.bl_proc_base.proofs.Spellings.{tree_pairs, tree_lists}
 use Rattle.bl_proc_base.proofs.spelled.row_in.Goals as goal
 

@@ -1,7 +1,7 @@
 use Rattle.std.proofs.Common.{◌≡◌, ◌<◌, get_or, refl, ap, sym, subst, ◌∙◌, arith}
 use Rattle.bl_page.specs.Pairs.{end_of, IsWithin, IsChildFor}
 use Rattle.bl_page.specs.Faults.{level_in, pairs_of, HasPairs}
-use Rattle.bl_claims.specs.Pages.{node_of}
+use Rattle.bl_page.specs.Nodes.{node_of}
 use Rattle.bl_proc_base.proofs.Spellings.{tree_pairs, tree_lists, inner_names, level_is, bounds_are}
 use Rattle.bl_proc_base.proofs.spelled.step_within.Goals as goal
 

@@ -9,8 +9,8 @@ use Rattle.bl_proc_base.specs.declared.answers.Hint.{Hint}
 use Rattle.bl_proc_base.specs.declared.answers.Hint.TheVariants as hint
 use Rattle.bl_proc_base.specs.declared.answers.Posted.{Posted}
 use Rattle.bl_proc.specs.Climbs.{left_hint}
-use Rattle.bl_proc_meanings.specs.Hinted.{MeansWritten}
-use Rattle.bl_proc_meanings.specs.Answers.{MeansPosted}
+use Rattle.bl_claims.specs.Hinted.{MeansWritten}
+use Rattle.bl_claims.specs.Answers.{MeansPosted}
 
 -- Posts one after the other, from the one of that key to that level on. Each is told of what the process did from the end of the one
 -- before on, as if it had begun with that. Each but the last has listed its key and split the parent, and the next one is of that

@@ -7,7 +7,7 @@ use Rattle.bl_page.specs.declared.page.Anchor.{Anchor as AnchorPage}
 use Rattle.bl_page.specs.Machine.{Act}
 use Rattle.bl_page.specs.Machine.Act.{Get, Put, Latch, Retire, Miss}
 use Rattle.bl_page.specs.declared.machine.Missed.TheVariants as missed
-use Rattle.bl_claims.specs.Pages.{roots_of}
+use Rattle.bl_page.specs.Nodes.{roots_of}
 use Rattle.bl_claims.specs.Trails.{Mark, Trail}
 use Rattle.bl_claims.specs.Meanings.{HasGot}
 use Rattle.bl_proc_base.specs.declared.lowering.Lowered.{Lowered}
@@ -15,7 +15,7 @@ use Rattle.bl_proc_base.specs.declared.lowering.Lowered.TheVariants as lowered
 use Rattle.bl_proc_base.specs.Onwards.{top_of}
 use Rattle.bl_proc_base.specs.Lowerings.{IsSole, IsFallen}
 use Rattle.bl_proc_base.specs.Growths.{IsAnchor}
-use Rattle.bl_proc_meanings.specs.Squeezed.{Since, Once, HasNoLevel}
+use Rattle.bl_claims.specs.Squeezed.{Since, Once, HasNoLevel}
 
 -- The anchor was latched and got, and names more than one level; then the leftmost page of the last one was latched and got.
 pub record AtTop (marks : Trail) (anchor : AnchorPage) (top : Page) (acts : List (Act Page Reply)) : Type 0 where

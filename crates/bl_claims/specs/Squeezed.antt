@@ -14,8 +14,7 @@ use Rattle.bl_rearrange.specs.Neighbours.{AreNeighbours, together, IsMerged, IsE
 use Rattle.bl_rearrange.specs.declared.sides.Evened.{Evened}
 use Rattle.bl_rearrange.specs.declared.sides.Side.{Side}
 use Rattle.bl_rearrange.specs.declared.sides.Side.TheVariants as side
-use Rattle.bl_claims.specs.Nodes.{Covers}
-use Rattle.bl_claims.specs.Pages.{node_of, roots_of}
+use Rattle.bl_page.specs.Nodes.{Covers, node_of, roots_of}
 use Rattle.bl_claims.specs.Trails.{Mark, Trail}
 use Rattle.bl_claims.specs.Meanings.{HasGot, writes_of, Unwritten}
 use Rattle.bl_proc_base.specs.declared.answers.Hint.{Hint}
