@@ -25,6 +25,9 @@ use Rattle.bl_store.specs.Hands.{known, WasRefused}
 use Rattle.bl_claims.specs.Seeing.{first_map, IsLinearizable, own, name}
 use Rattle.bl_index_rule.specs.Observed.{IsRelease}
 use Rattle.bl_index_steps.specs.Refused.{LacksForPage, LacksForWrite, LacksForPost}
+use Rattle.bl_store.specs.declared.store.Hand.{Hand}
+use Rattle.bl_index_rule.specs.declared.known.PassState.{PassState}
+use Rattle.bl_index_steps.specs.declared.tree.Tree.{Tree}
 use Rattle.bl_index.specs.declared.index.Index.{Index}
 use Rattle.bl_index.specs.declared.index.Pass.{Pass}
 use Rattle.bl_index_steps.specs.Answered.{Answers, Adds, InCall}
@@ -43,6 +46,13 @@ first_of index = index.tree.store.table.shared.key.known.value.first
 abbrev pub IsPassOf : Index → Pass → Type 0
 IsPassOf index pass = (pass.hand.seat.table_id ≡ index.tree.store.table.shared.table_id) × (pass.hand.seat.me.0.layout ≡ index.tree.store.layout)
     × ((known pass.hand.seat).first ≡ first_of index)
+
+-- the hand by which a pass works, and the tree that the passes of an index share
+abbrev pub hand_of : Pass → Hand PassState
+hand_of pass = pass.hand
+
+abbrev pub tree_of : Index → Tree
+tree_of index = index.tree
 
 abbrev pub number_of : Pass → ℕ
 number_of pass = pass.hand.number

@@ -28,6 +28,8 @@ pub struct Pass {
 }
 
 impl Pass {
+    ghost use Rattle.bl_index.specs.Calls.{hand_of};
+
     /// Whether a sweep is worth its time now. It is a hint: a sweep does its whole work whatever this says.
     pub fn is_due(&self) -> bool {
         self.hand.is_due()
@@ -35,14 +37,14 @@ impl Pass {
 
     /// The hand by which it works, for one who runs a process event by event.
     pub fn into_hand(self) -> Hand<PassState>
-        ensures { result ≡ self.hand }
+        ensures { result ≡ hand_of self }
     {
         self.hand
     }
 }
 
 impl Index {
-    ghost use Rattle.bl_index.specs.Calls.{pages_of};
+    ghost use Rattle.bl_index.specs.Calls.{pages_of, tree_of};
 
     /// So many gets answer every search, where nothing is put meanwhile: the number of pages.
     pub fn patience(&self) -> u32
@@ -53,7 +55,7 @@ impl Index {
 
     /// The tree that its passes share, for one who runs a process event by event.
     pub fn tree(&self) -> &Tree
-        ensures { result.now ≡ self.now.tree }
+        ensures { result.now ≡ tree_of self.now }
     {
         &self.tree
     }
