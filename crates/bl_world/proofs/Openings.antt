@@ -4,8 +4,9 @@ use Rattle.std.proofs.lemmas.Bool.{cases_eq, cases_lt}
 use Rattle.std.proofs.lemmas.Option.{get_or_from_slice_get}
 use Rattle.bl_model.specs.Map.{empty}
 use Rattle.bl_page.specs.declared.page.Page.{Page}
-use Rattle.bl_page.specs.declared.page.Page.TheVariants.{Anchor}
+use Rattle.bl_page.specs.declared.page.Page.TheVariants.{Anchor, Leaf}
 use Rattle.bl_page.specs.declared.page.Anchor.{Anchor as AnchorPage}
+use Rattle.bl_page.specs.declared.page.Leaf.{Leaf as LeafPage}
 use Rattle.bl_page.specs.Machine.{State}
 use Rattle.bl_page.specs.Machine.Owner.{Released, Open, Retired}
 use Rattle.bl_page.specs.Machine.Phase.{Waiting, Running}
@@ -24,14 +25,18 @@ use Rattle.bl_world.specs.declared.turns.Event.{Event}
 use Rattle.bl_world.specs.declared.owners.Owner.TheVariants as own
 use Rattle.bl_world.specs.Retirements.{Stands}
 use Rattle.bl_world.specs.Views.{View, owner_of}
-use Rattle.bl_world.specs.WorldSteps.{IsOpening}
+use Rattle.bl_world.specs.WorldSteps.{IsEmptyLeaf, IsOpening}
 use Rattle.bl_world.proofs.Keeping.{Has}
 use Rattle.bl_world.proofs.Moments.{world_moment}
 
--- what a page 0 that names page 1 says of the levels
+-- the fields of pages 0 and 1
 names_one : (c : Page) → IsAnchor (1 ∷ []) c → (a : AnchorPage) × (c ≡ Anchor a) × (a.leftmost.items ≡ 1 ∷ [])
 names_one (Anchor a) e = (a, refl, e)
 names_one old e = absurd e
+
+leaf_one : (c : Page) → IsEmptyLeaf c → (l : LeafPage) × (c ≡ Leaf l) × (l.low ≡ 0) × (l.high ≡ 0) × (l.right ≡ 0) × (l.rows.items ≡ [])
+leaf_one (Leaf l) e = (l, refl, e.0, e.1, e.2, e.3)
+leaf_one old e = absurd e
 
 -- what a list holds at a place, if it is that long
 at : {A : Type 0} (xs : List A) (d : A) (x : ℕ) (a : A) → slice_get xs x ≡ Some a → get_or xs x d ≡ a
@@ -60,9 +65,10 @@ opens size v wide o =
     let first : get_or v.pages 0 leaf ≡ o.anchor.0 = at v.pages leaf 0 o.anchor.0 o.anchor.1 in
     let second : get_or v.pages 1 leaf ≡ leaf = at v.pages leaf 1 leaf o.leaf.1 in
     let names = names_one o.anchor.0 o.anchor.2 in
+    let fields = leaf_one o.leaf.0 o.leaf.2 in
     let opening : Opening now = record {
       anchor = (names.0, first ∙ names.1, names.2);
-      leaf = (o.leaf.2.0, second ∙ o.leaf.2.1, o.leaf.2.2, o.leaf.2.3, o.leaf.2.4, o.leaf.2.5);
+      leaf = (fields.0, second ∙ fields.1, fields.2, fields.3, fields.4, fields.5);
       anchor_open = ap owner_of (at v.owners own.Released 0 own.Open o.anchor_open);
       leaf_open = ap owner_of (at v.owners own.Released 1 own.Open o.leaf_open);
       others = λ x a b. elim (cases_lt x size) [

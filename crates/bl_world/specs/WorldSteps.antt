@@ -2,7 +2,6 @@
 use Rattle.std.specs.Prelude.{◌≡◌, ◌⊎◌, ℕ, ◌<◌, ◌+◌, ◌++◌, Some, List, [], ◌∷◌, length, slice_get}
 use Rattle.bl_page.specs.declared.page.Page.{Page}
 use Rattle.bl_page.specs.declared.page.Page.TheVariants.{Leaf}
-use Rattle.bl_page.specs.declared.page.Leaf.{Leaf as LeafPage}
 use Rattle.bl_proc_base.specs.declared.acts.Action.TheVariants as act
 use Rattle.bl_proc_base.specs.Growths.{IsAnchor}
 use Rattle.bl_proc.specs.declared.kinds.Proc.{Proc}
@@ -16,7 +15,8 @@ use Rattle.bl_world.specs.Turns.{MayRefuse, TurnsTo}
 
 -- a leaf that covers every key and has no row
 abbrev pub IsEmptyLeaf : Page → Type 0
-IsEmptyLeaf c = (l : LeafPage) × (c ≡ Leaf l) × (l.low ≡ 0) × (l.high ≡ 0) × (l.right ≡ 0) × (l.rows.items ≡ [])
+IsEmptyLeaf (Leaf l) = (l.low ≡ 0) × (l.high ≡ 0) × (l.right ≡ 0) × (l.rows.items ≡ [])
+IsEmptyLeaf page = ⊥
 
 -- that many pages, all of them empty leaves
 abbrev pub AreEmptyLeaves : ℕ → List Page → Type 0
