@@ -52,7 +52,13 @@ fn came(level: u32, key: u64, approach: Approach, seen: Seen) -> CompressStage
 }
 
 /// On with the children.
-fn squeezed(level: u32, key: u64, waits: bool, compression: Compression, seen: Seen) -> CompressStage
+fn squeezed(
+    level: u32,
+    key: u64,
+    waits: bool,
+    compression: Compression,
+    seen: Seen,
+) -> CompressStage
     requires { Gives (compress_next_in (compress_stage.Compressing compression)) (compress_needs_in (compress_stage.Compressing compression)) seen }
     ensures { CompressGoes level key waits (compress_stage.Compressing compression) seen result }
 {

@@ -1,4 +1,4 @@
-use Rattle.std.proofs.Common.{◌≡◌, None, Some, sym, ◌∙◌, inl, inr}
+use Rattle.std.proofs.Common.{◌≡◌, None, Some, sym, ◌∙◌, inr}
 use Rattle.bl_proc_compress.proofs.Looks.{look_is}
 use Rattle.bl_proc_compress.proofs.compressions.relisted.Goals as goal
 
