@@ -1,6 +1,5 @@
 -- The lone walk of a key: the pages that a search would meet if nothing changed meanwhile.
-use Rattle.std.specs.Prelude.{◌≡◌, ◌≢◌, ℕ, suc, ◌<◌, ◌≤◌, Some, List, [], ◌∷◌}
-use Rattle.bl_model.specs.Map.{Map}
+use Rattle.std.specs.Prelude.{◌≡◌, ◌≢◌, ℕ, suc, ◌<◌, ◌≤◌, List, [], ◌∷◌}
 use Rattle.bl_page.specs.Nodes.{Node, Covers}
 use Rattle.bl_claims.specs.Snapshots.{Snapshot}
 

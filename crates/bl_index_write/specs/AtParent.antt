@@ -1,6 +1,5 @@
 -- How a post, and an insertion that posts, stand and go on at their parents, for the laws of `Poster` and `Target`.
-use Rattle.std.proofs.Common.{Option, Some, None, refl, ℕ, ◌≡◌, ◌<◌, ◌≤◌, inl, inr}
-use Rattle.bl_claims.specs.Trails.{Trail}
+use Rattle.std.proofs.Common.{Some, None, refl, ℕ, ◌≡◌, ◌<◌, ◌≤◌, inl, inr}
 use Rattle.bl_proc_base.specs.Given.{Gives}
 use Rattle.bl_proc_base.specs.declared.acts.Seen.{Seen}
 use Rattle.bl_proc_base.specs.declared.acts.Seen.TheVariants as seen
@@ -9,7 +8,7 @@ use Rattle.bl_proc_base.specs.declared.editing.Outcome.{Outcome}
 use Rattle.bl_proc_base.specs.declared.editing.Outcome.TheVariants as outcome
 use Rattle.bl_proc.specs.Climbs.{PostNotes}
 use Rattle.bl_proc.specs.Levels.{IsBelowTop, MayReply}
-use Rattle.bl_proc.specs.Posts.{post_answer_in, post_next_in, post_needs_in, post_reply, PostGoes}
+use Rattle.bl_proc.specs.Posts.{post_answer_in, post_next_in, post_needs_in, post_reply}
 use Rattle.bl_proc.specs.Processes.{Takes}
 use Rattle.bl_proc.specs.Stands.{IsPosting}
 use Rattle.bl_proc.specs.declared.climbing.ClimbStage.TheVariants as climb
