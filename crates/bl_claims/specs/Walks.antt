@@ -1,6 +1,6 @@
 -- The lone walk of a key: the pages that a search would meet if nothing changed meanwhile.
 use Rattle.std.specs.Prelude.{◌≡◌, ◌≢◌, ℕ, suc, ◌<◌, ◌≤◌, List, [], ◌∷◌}
-use Rattle.bl_page.specs.Nodes.{Node, Covers}
+use Rattle.bl_page.specs.Nodes.{Node, Covers, IsChildOf}
 use Rattle.bl_claims.specs.Snapshots.{Snapshot}
 
 -- The pages met from one page on: to the right where the key is beyond the page's bound, else down to the key's child,
