@@ -114,7 +114,7 @@ posted first pass level key answer next old new some p = (answer, some, p)
 pub post_refused : (first : List (Option Page)) (pass level key : ℕ) (answer : Posted) (next : Option Hint) (old new : Trail) → answer ≡ posting.NoRoom → Posts first pass level key answer next old new → TriesPost first pass level key NoRoom old new
 post_refused first pass level key answer next old new is p =
     let p' : Posts first pass level key posting.NoRoom next old new = subst (λ (z : Posted). Posts first pass level key z next old new) is p in
-    let none : next ≡ None = p'.hint in
+    let none : next ≡ None = p'.means.1 in
     subst (λ (z : Option Hint). Posts first pass level key posting.NoRoom z old new) none p'
 
 pub compressed : (first : List (Option Page)) (pass level key : ℕ) (answer : Squeezed) (next : Option Hint) (falls : Bool) (old new : Trail) → answer ≢ squeezing.NoRoom → falls ≡ may_fall answer → Compresses first pass level key answer next old new

@@ -7,7 +7,7 @@ use Rattle.bl_map.proofs.calls.write.Goals as goal
 
 pub returns-in-Insert-clause-no_room : goal.returns-in-Insert-clause-no_room
 returns-in-Insert-clause-no_room g c = λ is. found_last _ _ _ _ c.wait_for_frames.new.pass c.insert_posting-reply.new.pass c.wait_for_frames.ensures.same.2 c.wait_for_frames.ensures.adds.begins
-    (subst (λ (z : KeyWrite). WriteLacks c.wait_for_frames.new.pass c.args.key z c.insert_posting-reply.new.pass) (sym c.in-Insert.is) (insert_lacks _ _ _ _ (c.insert_posting-reply.ensures.no_room is)))
+    (subst (λ (z : KeyWrite). WriteLacks c.wait_for_frames.new.pass c.args.key z c.insert_posting-reply.new.pass) (sym c.in-Insert.is) (insert_lacks _ _ c.wait_for_frames.new.pass c.insert_posting-reply.new.pass (c.insert_posting-reply.ensures.no_room is)))
 
 pub returns-in-Delete-clause-no_room : goal.returns-in-Delete-clause-no_room
 returns-in-Delete-clause-no_room g c = λ is. found_last _ _ _ _ c.wait_for_frames.new.pass c.write.new.pass c.wait_for_frames.ensures.same.2 c.wait_for_frames.ensures.adds.begins
