@@ -56,3 +56,7 @@ waiting_of seat = length (hints_of seat.upkeep)
 
 abbrev pub dropped_of : Seat → ℕ
 dropped_of seat = seat.upkeep.dropped
+
+-- The seat is as it was. No clause says what is shown.
+abbrev pub Shows : SeatOfC → SeatOfC → ℤ → Type 0
+Shows old new code = MatchOption old.seat ((code ≡ pos 9) × (new.seat ≡ None)) (λ s. (code ≡ pos 0) × (new.seat ≡ Some s))

@@ -17,12 +17,13 @@ use Rattle.bl_index.proofs.Gathered.{one_there, all_there, all_of}
 use Rattle.bl_index.specs.Calls.{passes_of}
 use Rattle.bl_index.specs.Closed.{IsIdleOf}
 use Rattle.bl_index.specs.declared.index.Index.{Index}
+use Rattle.bl_index_steps.specs.declared.tree.Tree.{Tree}
 use Rattle.bl_index_turns.specs.declared.stages.Stage.TheVariants as stage
 use Rattle.bl_seats.specs.declared.seat.Seat.{Seat}
 use Rattle.bl_seats.specs.declared.closing.Prepared.{Prepared}
 use Rattle.bl_seats.specs.Calls.{number_of}
 use Rattle.bl_seats.specs.Meetings.{AreOfOne, HasSettled, HasRested}
-use Rattle.bl_seats.specs.Closed.{values, hand_of, AreAtOne, AreAll, HasSeat, IsAt, AllRest, HaveSettled, IsOneUnderway, LacksOne, IsFor}
+use Rattle.bl_seats.specs.Closed.{values, hand_of, AreAtOne, AreAll, HasSeat, IsAt, AllRest, HaveSettled, IsOneUnderway, LacksOne, IsFor, AreComplete}
 
 abbrev pub Boxed : Type 0
 Boxed = Box Seat Global
@@ -285,6 +286,19 @@ pub all_lack : (seats : List Seat) (k : ℕ) (one : Seat) → get_elem? seats k 
 all_lack seats k one at one_index lacks = λ i d lt.
     let same : arc_value (get_or seats i d).index ≡ arc_value one.index = at_one seats k one at one_index i d lt in
     (lacks.0, subst (λ (z : Index). lacks.0 < passes_of z) (sym same) lacks.1, lacks.2)
+
+-- all of one index, of which each is there
+pub complete : (index : Index) (seats : List Seat) → All (IsAt index) seats → AreAll index seats → AreComplete seats
+complete index seats at all = λ k d lt. subst (λ (z : Index). AreAll z seats) (sym (at k d lt)) all
+
+pub count_of : (tree : Tree) (index : Index) (seat : Seat) (box : Boxed) → tree ≡ index.tree → index ≡ arc_value seat.index → seat ≡ box.value → tree.passes ≡ passes_of (arc_value box.value.index)
+count_of tree index seat box t i s = let first = arc_value box.value.index in ap (λ (z : Tree). z.passes) (t ∙ ap (λ (z : Index). z.tree) (i ∙ ap (λ (z : Seat). arc_value z.index) s)) ∙ first.tree.shared
+
+-- where there is a seat for each number of the first one's index, all are there
+pub all_complete : (boxes : List Boxed) (box : Boxed) (count : ℕ) → Some box ≡ slice_get boxes 0 → count ≡ passes_of (arc_value box.value.index) → AreAtOne (values boxes) → ((n : ℕ) → n < count → HasSeat (values boxes) n)
+    → AreComplete (values boxes)
+all_complete boxes box count first is one all =
+    complete (arc_value box.value.index) (values boxes) (at_one (values boxes) 0 box.value (value_at boxes 0 box (first_there boxes box first)) one) (λ n lt. all n (omega (arith, lt, is)))
 
 pub prepared_still : (old now : List Seat) (prepared : Prepared) → HaveSettled old now → IsFor old prepared → IsFor now prepared
 prepared_still old now prepared h f = record {

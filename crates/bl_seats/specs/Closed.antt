@@ -45,6 +45,9 @@ AreAll index seats = (n : ℕ) → n < passes_of index → HasSeat seats n
 abbrev pub LacksOne : List Seat → Seat → Type 0
 LacksOne seats seat = (n : ℕ) × (n < passes_of (arc_value seat.index)) × ¬ HasSeat seats n
 
+abbrev pub AreComplete : List Seat → Type 0
+AreComplete seats = All (λ seat. AreAll (arc_value seat.index) seats) seats
+
 abbrev pub HaveSettled : List Seat → List Seat → Type 0
 HaveSettled old new = AllZip HasSettled old new
 
@@ -71,16 +74,16 @@ pub record HaveClosed (seats : List Seat) (pages : List (Option Page)) : Type 0 
 abbrev pub IsNotPrepared : List Seat → CloseFault → Type 0
 IsNotPrepared seats fault.Underway = ⊥
 IsNotPrepared seats fault.Missing = All (LacksOne seats) seats
-IsNotPrepared seats fault.Shared = Unit {0}
-IsNotPrepared seats fault.Memory = Unit {0}
+IsNotPrepared seats fault.Shared = AreComplete seats
+IsNotPrepared seats fault.Memory = AreComplete seats
 
--- Why an index was not closed, and its seats then. Where one is missing, or there was no memory, they are as they were. So they are where
--- somebody else has a share; or, where nobody but they had one when they were looked at, they are gone.
+-- Why an index was not closed, and its seats then. Where one is missing, or all are there and there was no memory, they are as they were. So they
+-- are where somebody else has a share; or, where nobody but they had one when that was looked at, they are gone.
 abbrev pub IsNotClosed : List Seat → List Seat → CloseFault → Type 0
 IsNotClosed old new fault.Underway = HaveSettled old new × IsOneUnderway new
 IsNotClosed old new fault.Missing = (new ≡ old) × All (LacksOne old) old
-IsNotClosed old new fault.Shared = (new ≡ old) ⊎ (new ≡ [])
-IsNotClosed old new fault.Memory = new ≡ old
+IsNotClosed old new fault.Shared = AreComplete old × ((new ≡ old) ⊎ (new ≡ []))
+IsNotClosed old new fault.Memory = AreComplete old × (new ≡ old)
 
 -- a share of their index, which has a seat of each number among them, and room for a close by them
 pub record IsFor (seats : List Seat) (prepared : Prepared) : Type 0 where
