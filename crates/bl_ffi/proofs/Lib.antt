@@ -1,3 +1,4 @@
 pub mod SeatSteps
 pub mod LooseSteps
 pub mod Called
+pub mod Placing

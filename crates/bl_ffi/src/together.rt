@@ -69,25 +69,25 @@ fn close_boxes(
     places: &mut [SeatOfC],
     boxes: Vec<Box<Seat, Global>>,
     bytes: &mut [u8],
-    length: &mut u64,
+    long: &mut u64,
 ) -> i32
     requires count { length boxes.items ≡ length places.old }
     requires empty { seats_in places.old ≡ closed (length places.old) }
     requires one { AreAtOne (values boxes.items) }
-    ensures { ClosesSeats (values boxes.items) (seats_in places.new) bytes.old bytes.new length.new result }
+    ensures { ClosesSeats (values boxes.items) (seats_in places.new) bytes.old bytes.new long.new result }
 {
     let Some(first) = boxes.first() else {
         return SEATS_OPEN;
     };
     let needed = image_length(first.pages());
     if needed > bytes.len() as u64 {
-        *length = needed;
+        *long = needed;
         put_all(places, boxes);
         return FEW_BYTES;
     }
     match close(alloc, boxes) {
         Ok(quiet) => {
-            *length = needed;
+            *long = needed;
             spell(quiet.image(), &mut bytes[..needed as usize]);
             OK
         }
@@ -104,10 +104,10 @@ pub extern "C" fn blink_try_close_image(
     alloc: Global,
     seats: &mut [SeatOfC],
     bytes: &mut [u8],
-    length: &mut u64,
+    long: &mut u64,
 ) -> i32
     requires { AreAtOneMap (seats_in seats.old) }
-    ensures { ClosesImage (seats_in seats.old) (seats_in seats.new) bytes.old bytes.new length.new result }
+    ensures { ClosesImage (seats_in seats.old) (seats_in seats.new) bytes.old bytes.new long.new result }
 {
     let Ok(room) = Vec::with_capacity(alloc, seats.len()) else {
         return NO_MEMORY;
@@ -117,5 +117,5 @@ pub extern "C" fn blink_try_close_image(
         put_all(seats, boxes);
         return CLOSED;
     }
-    close_boxes(alloc, seats, boxes, bytes, length)
+    close_boxes(alloc, seats, boxes, bytes, long)
 }
