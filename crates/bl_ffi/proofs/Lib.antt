@@ -2,3 +2,4 @@ pub mod SeatSteps
 pub mod LooseSteps
 pub mod Called
 pub mod Placing
+pub mod ClosedTo

@@ -220,6 +220,16 @@ take_whole [] (suc n) is = refl
 take_whole (x ∷ l) zero is = absurd (omega (arith, is))
 take_whole (x ∷ l) (suc n) is = ap (λ (z : _). x ∷ z) (take_whole l n (omega (arith, is)))
 
+take_le : {A : Type 0} (l : List A) (n : ℕ) → length (take n l) ≤ length l
+take_le [] zero = omega arith
+take_le [] (suc n) = omega arith
+take_le (x ∷ l) zero = omega arith
+take_le (x ∷ l) (suc n) = (let less = take_le l n in omega (arith, less))
+
+pub no_more : (old mid : List (Option Seat)) (seats : List Seat) → AreTaken old mid seats → length seats ≤ length old
+no_more old mid seats t =
+    let a = ap length t.taken in let b = map_length (λ (z : Seat). Some z) seats in let c = take_le old (length seats) in omega (arith, a, b, c)
+
 -- they were those of all places
 pub taken_whole : (old new : List (Option Seat)) (seats : List Seat) → length seats ≡ length old → AreTaken old new seats → (old ≡ opened seats) × (new ≡ closed (length seats))
 taken_whole old new seats long t =
