@@ -3,3 +3,4 @@ pub mod LooseSteps
 pub mod Called
 pub mod Placing
 pub mod ClosedTo
+pub mod Listing

@@ -1,5 +1,5 @@
 -- Places of C, one after another.
-use Rattle.std.proofs.Common.{ℕ, zero, suc, ◌≡◌, ◌+◌, ◌<◌, ◌≤◌, ◌++◌, List, [], ◌∷◌, length, map, set, get_or, take, drop, replicate, Option, Some, None, refl, sym, ap, ◌∙◌, subst, append_assoc, append-nil, inl, inr, add-one, arith}
+use Rattle.std.proofs.Common.{ℕ, zero, suc, ◌≡◌, ◌+◌, ◌<◌, ◌≤◌, ◌++◌, List, [], ◌∷◌, length, map, set, take, drop, Option, Some, None, refl, sym, ap, ◌∙◌, append_assoc, append-nil, inl, inr, add-one, arith}
 use Rattle.std.proofs.lemmas.List.{length_push}
 use mathlib.Core.Option.{some, some-injective, some-ne-none}
 use lib.ListN.{get_elem?}
@@ -278,6 +278,7 @@ pages_closed (x ∷ boxes) box pages is h = go h.rested h.have_rested h.shut
   where
     same : x.value.index ≡ box.value.index
     same = ap (λ (z : Boxed). z.value.index) (sym (some_same box x is))
+
     go : (rested : List Seat) → AllZip HasRested (x.value ∷ values boxes) rested → AreShut rested pages → length pages ≡ pages_of (arc_value box.value.index)
     go [] rest shut = absurd rest
     go (r ∷ rested) rest shut = shut.closes.count ∙ ap pages_of (sym (shut.at 0 r (omega arith)) ∙ (ap arc_value rest.0.0.same.0 ∙ ap arc_value same))

@@ -1,10 +1,10 @@
 //! The calls.
 
-ghost use Rattle.std.specs.Prelude.{◌≡◌, ◌<◌, ◌≤◌, pos, length, None, Some, MatchOption};
+ghost use Rattle.std.specs.Prelude.{◌≡◌, ◌≢◌, ◌<◌, ◌≤◌, pos, length, None, Some, MatchOption};
 ghost use Rattle.bl_model.specs.declared.operation.Op.TheVariants as op;
 ghost use Rattle.bl_model.specs.Replies.{reply_of};
 ghost use Rattle.bl_model.specs.Writes.{write_op};
-ghost use Rattle.bl_ffi.specs.Told.{IsCodeOf, Tells, Calls, Lists, Tends, Counts, waiting_of, dropped_of};
+ghost use Rattle.bl_ffi.specs.Told.{IsCodeOf, Tells, Calls, IsListed, Lists, Tends, Counts, waiting_of, dropped_of};
 
 use crate::codes::{ABSENT, AGAIN, CLOSED, FEW_ROWS, NO_ROOM, OK, PRESENT};
 use crate::places::{put_back, taken};
@@ -161,14 +161,17 @@ pub struct Part {
 }
 
 /// Writes the rows of a reply into the caller's array.
-fn listed(reply: &Reply, rows: &mut [Row], part: &mut Part) {
+fn listed(reply: &Reply, rows: &mut [Row], part: &mut Part)
+    requires { 14 ≤ length rows.old }
+    ensures { IsListed reply.now rows.old rows.new part.new }
+{
     let Reply::Rows(pairs, next) = reply else {
         return;
     };
-    part.count = pairs.len().min(rows.len()) as u64;
-    for (row, pair) in rows.iter_mut().zip(pairs.iter()) {
-        row.key = pair.0;
-        row.value = pair.1;
+    part.count = pairs.len() as u64;
+    for number in 0..pairs.len() {
+        let (key, value) = pairs[number];
+        rows[number] = Row { key, value };
     }
     match next {
         Next::More(key) => {
@@ -188,8 +191,9 @@ pub extern "C" fn blink_try_rows(
     rows: &mut [Row],
     part: &mut Part,
 ) -> i32
-    ensures few { length rows.old < 14 → (result ≡ pos 10) × (seat.new ≡ seat.old) }
-    ensures told { 14 ≤ length rows.old → Calls seat.old seat.new result (Lists from result) }
+    ensures few { length rows.old < 14 → (result ≡ pos 10) × (seat.new ≡ seat.old) × (rows.new ≡ rows.old) }
+    ensures told { 14 ≤ length rows.old → Calls seat.old seat.new result (Lists from rows.old rows.new part.new result) }
+    ensures rest { result ≢ pos 0 → rows.new ≡ rows.old }
 {
     if rows.len() < MOST_PAIRS {
         return FEW_ROWS;

@@ -1,4 +1,3 @@
-use Rattle.std.proofs.Common.{arith}
 use Rattle.bl_ffi.proofs.Placing.{as_many}
 use Rattle.bl_ffi.proofs.opening.blink_open_image.Goals as goal
 

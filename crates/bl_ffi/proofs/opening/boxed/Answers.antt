@@ -1,6 +1,4 @@
-use Rattle.std.proofs.Common.{rules, ◌≡◌, ◌<◌, ◌++◌, [], ◌∷◌, List, length, sym, ap, ◌∙◌, append_assoc, arith}
-use Rattle.bl_seats.specs.Closed.{values}
-use Rattle.bl_seats.specs.declared.seat.Seat.{Seat}
+use Rattle.std.proofs.Common.{rules, ◌<◌, length}
 use Rattle.bl_seats.proofs.Made.{first_taken}
 use Rattle.bl_ffi.proofs.Placing.{boxed_next}
 use Rattle.bl_ffi.proofs.opening.boxed.Goals as goal

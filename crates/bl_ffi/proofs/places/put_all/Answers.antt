@@ -1,6 +1,6 @@
-use Rattle.std.proofs.Common.{rules, refl, ◌≡◌, ◌<◌, List, length, ap, ◌∙◌, arith}
+use Rattle.std.proofs.Common.{rules, refl, ◌≡◌, ◌<◌, length, ap, ◌∙◌, arith}
 use Rattle.bl_seats.specs.Closed.{values}
-use Rattle.bl_seats.proofs.Closings.{set_length, map_length, Boxed}
+use Rattle.bl_seats.proofs.Closings.{set_length}
 use Rattle.bl_seats.proofs.Made.{first_taken}
 use Rattle.bl_ffi.specs.Places.{seats_in}
 use Rattle.bl_ffi.proofs.Placing.{none_put, put_next, all_put, value_length}
