@@ -20,7 +20,10 @@
  *   5. malloc, realloc and free come from one allocator, which aligns to 16 bytes. No function is called from a signal handler, nor in the
  *      child of a fork of a program with threads.
  *      Else: the heap's own faults.
- *   6. A thread that was told BLINK_AGAIN makes some further call of its seat before long. (blink_find and the others do.)
+ *   6. All seats of one call are of one map: those of blink_try_meet and of blink_try_close_image. (blink_meet and blink_close_image look first, and
+ *      answer BLINK_OTHER_MAP.)
+ *      Else: the program reads and writes memory at random.
+ *   7. A thread that was told BLINK_AGAIN makes some further call of its seat before long. (blink_find and the others do.)
  *      Else: nothing is damaged, but a page may stay latched, and other threads are told BLINK_AGAIN until then.
  *
  * With -DBLINK_GUARD the inline functions look at rules 1 to 3 as far as a seat shows it: a null pointer for a seat, a call of a seat that is
@@ -60,6 +63,9 @@ enum {
     BLINK_BAD_IMAGE = 8,  /* the bytes are no sound image */
     BLINK_CLOSED = 9,     /* the seat is closed */
     BLINK_FEW_ROWS = 10,  /* there is room for fewer than BLINK_LEAF_ROWS rows */
+    BLINK_SEATS_OPEN = 11, /* a seat of the map is open that is not among these: nothing is closed */
+    BLINK_FEW_BYTES = 12, /* there is room for fewer bytes than the image has: nothing is closed */
+    BLINK_OTHER_MAP = 13, /* the seats are of two maps: nothing was done */
 };
 
 /* The most rows of one leaf, and so the least room that blink_try_rows takes. */
@@ -89,7 +95,8 @@ typedef struct blink_part {
 /* ---- The library's own functions. None waits: those that say so may answer BLINK_AGAIN. ---- */
 
 /* Opens a map without rows, of so many pages, with a seat for each place. A page holds up to 14 rows; some are kept for the tree and for
- * changes underway. Answers BLINK_OK, BLINK_BAD_PAGES, BLINK_BAD_SEATS or BLINK_NO_MEMORY. A place that was open is closed first. */
+ * changes underway. Answers BLINK_OK, BLINK_BAD_PAGES, BLINK_BAD_SEATS or BLINK_NO_MEMORY. A place that was open is closed, on BLINK_OK
+ * alone. */
 int32_t blink_open(uint32_t pages, blink_seat *seats, size_t count);
 
 /* The same for a map that begins with the rows of an image, as `blink` writes it, with as many pages. Also BLINK_BAD_IMAGE. */
@@ -124,6 +131,21 @@ int32_t blink_tend(blink_seat *seat, uint32_t most);
 uint32_t blink_waiting(blink_seat *seat);
 uint64_t blink_dropped(blink_seat *seat);
 
+/* The two seats meet: each then has seen all that the other had. BLINK_OK, BLINK_AGAIN, BLINK_CLOSED. Both are of one map, and are two seats. */
+int32_t blink_try_meet(blink_seat *one, blink_seat *two);
+
+/* A place in the memory of the seat's map, by whose address two maps that are open are told apart: it is not to be read. BLINK_OK, or BLINK_CLOSED,
+ * where `*place` stays as it is. */
+int32_t blink_map(blink_seat *seat, const uint32_t **place);
+
+/* How many bytes the image of a map of so many pages has. */
+uint64_t blink_image_length(uint32_t pages);
+
+/* Closes a map by all its seats, and writes its image, as `blink` and blink_open_image read it, into the caller's array. BLINK_OK: all seats are
+ * closed, and `*length` bytes are the image. Else all seats are open still: BLINK_AGAIN; BLINK_CLOSED, one of these was closed before;
+ * BLINK_SEATS_OPEN, a seat of the map is not among them; BLINK_FEW_BYTES, `*length` says how many are needed; BLINK_NO_MEMORY. */
+int32_t blink_try_close_image(blink_seat *seats, size_t count, uint8_t *bytes, size_t room, uint64_t *length);
+
 /* ---- Guards. ---- */
 
 #ifdef BLINK_GUARD
@@ -148,6 +170,10 @@ static inline void blink_leave_(blink_seat *seat, blink_seat mine) {
     __atomic_store_n(&seat->at, mine.at, __ATOMIC_SEQ_CST);
 }
 
+#define BLINK_TAKE_(seat, mine, call) ((mine) = blink_enter_(seat, call))
+#define BLINK_GIVE_(seat, mine) blink_leave_(seat, mine)
+#define BLINK_LOOK_(seat, call) blink_leave_(seat, blink_enter_(seat, call))
+
 #define BLINK_CALL_(seat, call, answer, ...)                       \
     do {                                                           \
         blink_seat mine_ = blink_enter_(seat, #call);              \
@@ -155,6 +181,9 @@ static inline void blink_leave_(blink_seat *seat, blink_seat mine) {
         blink_leave_(seat, mine_);                                 \
     } while (0)
 #else
+#define BLINK_TAKE_(seat, mine, call) ((mine) = *(seat))
+#define BLINK_GIVE_(seat, mine) (*(seat) = (mine))
+#define BLINK_LOOK_(seat, call) ((void)(seat))
 #define BLINK_CALL_(seat, call, answer, ...) ((answer) = call(seat, __VA_ARGS__))
 #endif
 
@@ -207,6 +236,48 @@ static inline int32_t blink_scan(blink_seat *seat, uint64_t from, blink_row *row
     return BLINK_OK;
 }
 
+/* Whether the seats are of one map: BLINK_OK, BLINK_OTHER_MAP, BLINK_CLOSED. */
+static inline int32_t blink_one_map_(blink_seat *seats, size_t count) {
+    const uint32_t *first = NULL, *place = NULL;
+    size_t i;
+    for (i = 0; i < count; i++) {
+        int32_t answer = blink_map(&seats[i], &place);
+        if (answer != BLINK_OK) return answer;
+        if (i > 0 && place != first) return BLINK_OTHER_MAP;
+        first = place;
+    }
+    return BLINK_OK;
+}
+
+/* The seats meet. Also BLINK_OTHER_MAP. */
+static inline int32_t blink_meet(blink_seat *one, blink_seat *two) {
+    for (;;) {
+        int32_t answer;
+        blink_seat both[2];
+        BLINK_TAKE_(one, both[0], "blink_meet");
+        BLINK_TAKE_(two, both[1], "blink_meet");
+        answer = blink_one_map_(both, 2);
+        if (answer == BLINK_OK) answer = blink_try_meet(&both[0], &both[1]);
+        BLINK_GIVE_(one, both[0]);
+        BLINK_GIVE_(two, both[1]);
+        if (answer != BLINK_AGAIN) return answer;
+        BLINK_YIELD();
+    }
+}
+
+/* Closes a map by all its seats, and writes its image. Also BLINK_OTHER_MAP. */
+static inline int32_t blink_close_image(blink_seat *seats, size_t count, uint8_t *bytes, size_t room, uint64_t *length) {
+    for (;;) {
+        int32_t answer;
+        size_t i;
+        for (i = 0; i < count; i++) BLINK_LOOK_(&seats[i], "blink_close_image");
+        answer = blink_one_map_(seats, count);
+        if (answer == BLINK_OK) answer = blink_try_close_image(seats, count, bytes, room, length);
+        if (answer != BLINK_AGAIN) return answer;
+        BLINK_YIELD();
+    }
+}
+
 /* Does all upkeep that this seat can do now. */
 static inline int32_t blink_rest(blink_seat *seat) {
     int32_t answer;
@@ -233,6 +304,9 @@ static inline const char *blink_text(int32_t code) {
         case BLINK_BAD_IMAGE: return "the bytes are no sound image";
         case BLINK_CLOSED: return "the seat is closed";
         case BLINK_FEW_ROWS: return "there is room for fewer than 14 rows";
+        case BLINK_SEATS_OPEN: return "a seat of the map is not among these";
+        case BLINK_FEW_BYTES: return "there is room for fewer bytes than the image has";
+        case BLINK_OTHER_MAP: return "the seats are of two maps";
         default: return "no code of this library";
     }
 }

@@ -43,8 +43,11 @@ public:
         }
     }
 
+    void meet(Seat &other) { told(blink_meet(&seat_, &other.seat_)); }
+
 private:
     friend std::vector<Seat> open(uint32_t pages, size_t seats);
+    friend std::vector<uint8_t> close_image(std::vector<Seat> &seats, uint32_t pages);
     static int32_t told(int32_t code) {
         if (code == BLINK_NO_ROOM || code == BLINK_CLOSED) throw std::runtime_error(blink_text(code));
         return code;
@@ -58,6 +61,18 @@ inline std::vector<Seat> open(uint32_t pages, size_t seats) {
     std::vector<Seat> all(seats);
     for (size_t i = 0; i < seats; i++) all[i].seat_ = raw[i];
     return all;
+}
+
+// Closes a map of so many pages by all its seats: its image. Where it throws, the seats are open still.
+inline std::vector<uint8_t> close_image(std::vector<Seat> &seats, uint32_t pages) {
+    std::vector<uint8_t> bytes(blink_image_length(pages));
+    std::vector<blink_seat> raw(seats.size());
+    uint64_t length = 0;
+    for (size_t i = 0; i < seats.size(); i++) raw[i] = seats[i].seat_;
+    if (int32_t code = blink_close_image(raw.data(), raw.size(), bytes.data(), bytes.size(), &length)) throw std::runtime_error(blink_text(code));
+    for (Seat &seat : seats) seat.seat_ = {};
+    bytes.resize(length);
+    return bytes;
 }
 
 } // namespace blink

@@ -1,5 +1,5 @@
 """The map from Python, by ctypes over a shared object. ctypes lets other threads of Python run during a call, so each has to have a seat of its
-own. Run as a program it does the load of load.c: blink.py LIBRARY [KEYS-EACH [PAGES]]."""
+own. Run as a program it does the load of load.c: blink.py LIBRARY [KEYS-EACH [PAGES [FILE]]]."""
 import ctypes
 import os
 import sys
@@ -33,10 +33,14 @@ def library(path):
         ("try_change", seat, U64, U64, U64, word),
         ("try_rows", seat, U64, ctypes.POINTER(Row), SIZE, ctypes.POINTER(Part)),
         ("tend", seat, U32),
+        ("try_meet", seat, seat),
+        ("map", seat, ctypes.POINTER(ctypes.c_void_p)),
+        ("try_close_image", seat, SIZE, ctypes.c_char_p, SIZE, word),
     ):
         call = getattr(lib, "blink_" + name)
         call.argtypes, call.restype = rest, I32
     lib.blink_close.argtypes, lib.blink_close.restype = [seat], None
+    lib.blink_image_length.argtypes, lib.blink_image_length.restype = [U32], U64
     return lib
 
 
@@ -72,6 +76,17 @@ class Seat:
             self.told(self.lib.blink_try_rows, part.next, rows, 14, part)
             yield from [(rows[i].key, rows[i].value) for i in range(part.count)]
 
+    def place(self):
+        """A place in the memory of its map, which is not read."""
+        place = ctypes.c_void_p()
+        self.lib.blink_map(self.at, place)
+        return place.value
+
+    def meet(self, other):
+        if self.place() != other.place():
+            raise ValueError("the seats are of two maps")
+        self.told(self.lib.blink_try_meet, other.at)
+
     def close(self):
         self.lib.blink_close(self.at)
 
@@ -83,9 +98,17 @@ def open_map(lib, pages, seats):
     return [Seat(lib, raw[i], raw) for i in range(seats)]
 
 
-def main(path, each="20000", pages="65536"):
-    each = int(each)
-    seats, wrong = open_map(library(path), int(pages), 4), []
+def close_image(lib, seats, pages):
+    """Closes a map of so many pages by all its seats, those that open_map has given: its image."""
+    bytes_, length = ctypes.create_string_buffer(lib.blink_image_length(pages)), U64()
+    if code := seats[0].told(lib.blink_try_close_image, len(seats), bytes_, len(bytes_), length):
+        raise ValueError(f"blink_try_close_image answered {code}")
+    return bytes_.raw[: length.value]
+
+
+def main(path, each="20000", pages="65536", file=None):
+    each, pages, lib = int(each), int(pages), library(path)
+    seats, wrong = open_map(lib, pages, 4), []
 
     def key_of(number):
         return number * 0x9E3779B97F4A7C15 % 2**64
@@ -103,6 +126,10 @@ def main(path, each="20000", pages="65536"):
     rows = list(seats[0].rows())
     wanted = sorted((key_of(n), n) for n in range(4 * each) if n % 3)
     print(f"rows {len(rows)}, wanted {len(wanted)}, wrong {len(wrong) + (rows != wanted)}")
+    seats[0].meet(seats[1])
+    if file:
+        with open(file, "wb") as out:
+            out.write(close_image(lib, seats, pages))
     for seat in seats:
         seat.close()
     return rows != wanted or bool(wrong)

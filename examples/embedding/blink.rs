@@ -34,6 +34,10 @@ unsafe extern "C" {
     fn blink_try_change(seat: *mut Seat, key: u64, old: u64, new: u64, there: *mut u64) -> i32;
     fn blink_try_rows(seat: *mut Seat, from: u64, rows: *mut Row, room: usize, part: *mut Part) -> i32;
     fn blink_tend(seat: *mut Seat, most: u32) -> i32;
+    fn blink_try_meet(one: *mut Seat, two: *mut Seat) -> i32;
+    fn blink_map(seat: *mut Seat, place: *mut *const u32) -> i32;
+    fn blink_image_length(pages: u32) -> u64;
+    fn blink_try_close_image(seats: *mut Seat, count: usize, bytes: *mut u8, room: usize, length: *mut u64) -> i32;
 }
 
 const AGAIN: i32 = 4;
@@ -50,6 +54,12 @@ pub enum Answer {
 /// Why nothing was opened: a code of blink.h.
 #[derive(Clone, Copy, Debug, PartialEq, Eq)]
 pub struct OpenFault(pub i32);
+
+/// Why a map was not closed, or seats have not met: a code of blink.h. The seats are as they were.
+#[derive(Clone, Copy, Debug, PartialEq, Eq)]
+pub struct Fault(pub i32);
+
+const OTHER_MAP: i32 = 13;
 
 // SAFETY: a seat is moved between threads by Rust's rules, which order its calls.
 unsafe impl Send for Seat {}
@@ -88,7 +98,46 @@ pub fn open_image(bytes: &[u8], seats: usize) -> Result<Vec<Seat>, OpenFault> {
     }
 }
 
+/// Closes a map of so many pages by all its seats: its image.
+pub fn close_image(mut seats: Vec<Seat>, pages: u32) -> Result<Vec<u8>, (Vec<Seat>, Fault)> {
+    if let Some((first, others)) = seats.split_first_mut() {
+        let place = first.place();
+        if others.iter_mut().any(|seat| seat.place() != place) {
+            return Err((seats, Fault(OTHER_MAP)));
+        }
+    }
+    // SAFETY: here and below, the seats are those of one map, and each pointer and its length are of one vector or of a local variable.
+    let mut bytes = vec![0; unsafe { blink_image_length(pages) } as usize];
+    let mut length = 0;
+    match until_answered(|| unsafe { blink_try_close_image(seats.as_mut_ptr(), seats.len(), bytes.as_mut_ptr(), bytes.len(), &mut length) }) {
+        0 => {
+            bytes.truncate(length as usize);
+            Ok(bytes)
+        }
+        code => Err((seats, Fault(code))),
+    }
+}
+
 impl Seat {
+    /// A place in the memory of its map, which is not read.
+    fn place(&mut self) -> *const u32 {
+        let mut place = core::ptr::null();
+        unsafe { blink_map(self, &mut place) };
+        place
+    }
+
+    /// The seats meet: each then has seen all that the other had.
+    pub fn meet(&mut self, other: &mut Seat) -> Result<(), Fault> {
+        if self.place() != other.place() {
+            return Err(Fault(OTHER_MAP));
+        }
+        // SAFETY: the seats are of one map, and are two, since each is borrowed.
+        match until_answered(|| unsafe { blink_try_meet(self, other) }) {
+            0 => Ok(()),
+            code => Err(Fault(code)),
+        }
+    }
+
     pub fn find(&mut self, key: u64) -> Option<u64> {
         let mut value = 0;
         // SAFETY: here and below, the seat is this one's alone, and each pointer is of a local variable.

@@ -1,5 +1,5 @@
-/* Four threads load a map of a million rows, find them, take every third away again, and scan what is left.
- * It prints one line, and exits with 1 where anything is not as it should be. */
+/* Four threads load a map of a million rows, find them, take every third away again, and scan what is left: load [KEYS-EACH [PAGES [FILE]]].
+ * It prints one line, and exits with 1 where anything is not as it should be. The map is closed to its image, which the file then has. */
 #include "blink.h"
 
 #include <pthread.h>
@@ -44,6 +44,17 @@ static void *work(void *place) {
     return NULL;
 }
 
+/* Closes the map, and keeps its image in a file. */
+static void keep(const char *name, uint32_t pages) {
+    uint64_t length = blink_image_length(pages);
+    uint8_t *bytes = malloc((size_t)length);
+    FILE *file = fopen(name, "wb");
+    if (!bytes || !file) need(BLINK_NO_MEMORY, BLINK_OK, name);
+    need(blink_close_image(seats, THREADS, bytes, (size_t)length, &length), BLINK_OK, "close");
+    if (fwrite(bytes, 1, (size_t)length, file) != length || fclose(file)) need(-1, BLINK_OK, name);
+    free(bytes);
+}
+
 int main(int count, char **words) {
     uint32_t pages = 65536;
     pthread_t threads[THREADS];
@@ -67,9 +78,9 @@ int main(int count, char **words) {
     }
     for (uint64_t n = 0; n < THREADS * keys_each; n++) wanted += n % 3 != 0;
     printf("rows %llu, wanted %llu, wrong %llu\n", (unsigned long long)left, (unsigned long long)wanted, (unsigned long long)wrong);
-    for (size_t t = 0; t < THREADS; t++) {
-        blink_rest(&seats[t]);
-        blink_close(&seats[t]);
-    }
+    need(blink_meet(&seats[0], &seats[1]), BLINK_OK, "meet");
+    for (size_t t = 0; t < THREADS; t++) blink_rest(&seats[t]);
+    if (count > 3) keep(words[3], pages);
+    for (size_t t = 0; t < THREADS; t++) blink_close(&seats[t]);
     return left != wanted || wrong != 0;
 }

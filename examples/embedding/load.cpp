@@ -4,6 +4,7 @@
 #include <atomic>
 #include <cstdio>
 #include <cstdlib>
+#include <fstream>
 #include <thread>
 
 static uint64_t key_of(uint64_t number) { return number * 0x9E3779B97F4A7C15u; }
@@ -31,5 +32,10 @@ int main(int count, char **words) {
     });
     for (uint64_t n = 0; n < 4 * each; n++) wanted += n % 3 != 0;
     std::printf("rows %llu, wanted %llu, wrong %llu\n", (unsigned long long)rows, (unsigned long long)wanted, (unsigned long long)wrong.load());
+    seats[0].meet(seats[1]);
+    if (count > 3) {
+        const auto bytes = blink::close_image(seats, pages);
+        std::ofstream(words[3], std::ios::binary).write(reinterpret_cast<const char *>(bytes.data()), static_cast<std::streamsize>(bytes.size()));
+    }
     return rows != wanted || wrong != 0;
 }

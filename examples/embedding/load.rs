@@ -1,7 +1,7 @@
 //! The load of load.c, in Rust.
 mod blink;
 
-use blink::{Answer, open};
+use blink::{Answer, close_image, open};
 
 fn key_of(number: u64) -> u64 {
     number.wrapping_mul(0x9E37_79B9_7F4A_7C15)
@@ -31,4 +31,10 @@ fn main() {
     let wanted = (0..4 * each).filter(|n| n % 3 != 0).count();
     println!("rows {rows}, wanted {wanted}, wrong 0");
     assert_eq!(rows, wanted);
+    let [one, two, ..] = &mut seats[..] else { unreachable!() };
+    one.meet(two).unwrap();
+    if let Some(file) = words.get(3) {
+        let bytes = close_image(seats, pages).map_err(|(_, fault)| fault).unwrap();
+        std::fs::write(file, bytes).unwrap();
+    }
 }

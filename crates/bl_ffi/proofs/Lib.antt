@@ -1,3 +1,6 @@
 pub mod SeatSteps
 pub mod LooseSteps
 pub mod Called
+pub mod Placing
+pub mod ClosedTo
+pub mod Listing

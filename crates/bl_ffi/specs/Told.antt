@@ -1,5 +1,9 @@
 -- What a call tells C.
-use Rattle.std.specs.Prelude.{◌≡◌, ◌⊎◌, ℕ, ℤ, pos, Some, None, length, MatchOption}
+use Rattle.std.specs.Prelude.{◌≡◌, ◌⊎◌, ℕ, ℤ, pos, true, false, Some, None, List, ◌++◌, map, drop, length, MatchOption}
+use Rattle.bl_model.specs.declared.operation.Next.{Next}
+use Rattle.bl_model.specs.declared.operation.Next.TheVariants.{More, End}
+use Rattle.bl_ffi.specs.declared.calls.Row.{Row}
+use Rattle.bl_ffi.specs.declared.calls.Part.{Part}
 use Rattle.bl_model.specs.declared.operation.Op.{Op}
 use Rattle.bl_model.specs.declared.operation.Op.TheVariants as op
 use Rattle.bl_model.specs.declared.operation.Reply.{Reply}
@@ -36,11 +40,26 @@ Replies op code written old new =
 abbrev pub Tells : Op → SeatOfC → SeatOfC → ℤ → ℕ → Type 0
 Tells op old new code written = Calls old new code (Replies op code written)
 
--- The same of a part of the rows, which is told by the code alone.
-abbrev pub Lists : ℕ → ℤ → Seat → Seat → Type 0
-Lists from code old new =
+-- a key and its value, as C has them
+abbrev pub row_of : ℕ × ℕ → Row
+row_of pair = record { key = pair.0; value = pair.1 }
+
+-- whether the rows go on, and from which key
+abbrev pub GoesOnAt : Next → Part → Type 0
+GoesOnAt (More key) part = (part.more ≡ true) × (part.next ≡ key)
+GoesOnAt End part = part.more ≡ false
+
+-- The rows of the reply are the first ones of the array, and the others are as they were. The part says how many there are, and how they go on.
+abbrev pub IsListed : Reply → List Row → List Row → Part → Type 0
+IsListed (Rows pairs next) old new part =
+    (new ≡ map row_of pairs.items ++ drop (length pairs.items) old) × (part.count ≡ length pairs.items) × GoesOnAt next part
+IsListed other old new part = new ≡ old
+
+-- The same of a part of the rows, which are listed.
+abbrev pub Lists : ℕ → List Row → List Row → Part → ℤ → Seat → Seat → Type 0
+Lists from rows rows' part code old new =
     ((code ≡ pos 4) × HasGoneOn old new)
-    ⊎ ((code ≡ pos 0) × ((reply : Reply) × HasTold (op.Part from) reply old new × HasToldLast (op.Part from) reply new))
+    ⊎ ((code ≡ pos 0) × ((reply : Reply) × HasTold (op.Part from) reply old new × HasToldLast (op.Part from) reply new × IsListed reply rows rows' part))
 
 -- It has told what was underway, if that has ended, and no more; and the code says whether anything is left to do.
 abbrev pub Tends : SeatOfC → SeatOfC → ℤ → Type 0
@@ -56,3 +75,7 @@ waiting_of seat = length (hints_of seat.upkeep)
 
 abbrev pub dropped_of : Seat → ℕ
 dropped_of seat = seat.upkeep.dropped
+
+-- The seat is as it was. No clause says what is shown.
+abbrev pub Shows : SeatOfC → SeatOfC → ℤ → Type 0
+Shows old new code = MatchOption old.seat ((code ≡ pos 9) × (new.seat ≡ None)) (λ s. (code ≡ pos 0) × (new.seat ≡ Some s))

@@ -1,40 +1,17 @@
 //! The calls.
 
-ghost use Rattle.std.specs.Prelude.{◌≡◌, ◌<◌, ◌≤◌, pos, length, None, Some, MatchOption};
+ghost use Rattle.std.specs.Prelude.{◌≡◌, ◌≢◌, ◌<◌, ◌≤◌, pos, length, None, Some, MatchOption};
 ghost use Rattle.bl_model.specs.declared.operation.Op.TheVariants as op;
 ghost use Rattle.bl_model.specs.Replies.{reply_of};
 ghost use Rattle.bl_model.specs.Writes.{write_op};
-ghost use Rattle.bl_ffi.specs.Told.{IsCodeOf, Tells, Calls, Lists, Tends, Counts, waiting_of, dropped_of};
+ghost use Rattle.bl_ffi.specs.Told.{IsCodeOf, Tells, Calls, IsListed, Lists, Tends, Counts, waiting_of, dropped_of};
 
-use crate::loose::Loose;
+use crate::codes::{ABSENT, AGAIN, CLOSED, FEW_ROWS, NO_ROOM, OK, PRESENT};
+use crate::places::{put_back, taken};
 use crate::seat::SeatOfC;
 use bl_model::limits::MOST_PAIRS;
-use bl_seats::{ImageFault, KeyReply, KeyWrite, Next, OpenFault, Reply, Seat, open, open_image};
-use std::alloc::{AllocError, Global};
-use std::mem;
-
-/// Done.
-const OK: i32 = 0;
-/// The key is absent.
-const ABSENT: i32 = 1;
-/// The key is there with another value, and keeps it.
-const PRESENT: i32 = 2;
-/// There was no room, and nothing has changed.
-const NO_ROOM: i32 = 3;
-/// It is not answered yet, and is to be made again.
-const AGAIN: i32 = 4;
-/// The number of pages is not 4 to 65,536.
-const BAD_PAGES: i32 = 5;
-/// The number of seats is not 1 to 64.
-const BAD_SEATS: i32 = 6;
-/// There was no memory.
-const NO_MEMORY: i32 = 7;
-/// The bytes are no sound image.
-const BAD_IMAGE: i32 = 8;
-/// The seat is closed.
-const CLOSED: i32 = 9;
-/// There is room for fewer than 14 rows.
-const FEW_ROWS: i32 = 10;
+use bl_seats::{KeyReply, KeyWrite, Next, Reply};
+use std::alloc::Global;
 
 /// A key and its value.
 #[repr(C)]
@@ -42,22 +19,6 @@ const FEW_ROWS: i32 = 10;
 pub struct Row {
     pub key: u64,
     pub value: u64,
-}
-
-/// Takes the seat's box, and leaves a closed seat.
-fn taken(alloc: Global, seat: &mut SeatOfC) -> Option<Box<Seat, Global>>
-    ensures held { MatchOption result (seat.old.seat ≡ None) (λ b. seat.old.seat ≡ Some b.value) }
-    ensures left { seat.new.seat ≡ None }
-{
-    let held = mem::replace(seat, SeatOfC::empty());
-    held.into_box(alloc)
-}
-
-/// Puts a seat's box into a place that has none.
-fn put_back(place: &mut SeatOfC, seat: Box<Seat, Global>)
-    ensures { place.new.seat ≡ Some seat.value }
-{
-    *place = SeatOfC::of(Loose::of(seat));
 }
 
 /// The code of a reply to a write, and the value that stands beside it.
@@ -96,60 +57,6 @@ fn found(reply: KeyReply, value: &mut u64) -> i32
         }
         KeyReply::Absent => ABSENT,
         KeyReply::NoRoom => NO_ROOM,
-    }
-}
-
-/// Boxes for the seats, before any is handed out.
-fn boxed(alloc: Global, seats: Vec<Seat>) -> Result<Vec<Box<Seat, Global>>, AllocError> {
-    let mut boxes = Vec::with_capacity(alloc, seats.len())?;
-    for seat in seats {
-        match Box::new(alloc, seat) {
-            Ok(seat) => boxes.push(seat)?,
-            Err(_) => return Err(AllocError),
-        }
-    }
-    Ok(boxes)
-}
-
-/// Hands the seats out. A place that has one already has that closed.
-fn hand_out(alloc: Global, seats: Vec<Seat>, places: &mut [SeatOfC]) -> i32 {
-    let Ok(mut boxes) = boxed(alloc, seats) else {
-        return NO_MEMORY;
-    };
-    for place in places.iter_mut() {
-        let _ = taken(alloc, place);
-        if let Some(seat) = boxes.pop() {
-            put_back(place, seat);
-        }
-    }
-    OK
-}
-
-/// Opens an index without rows, with a seat for each place.
-#[unsafe(no_mangle)]
-pub extern "C" fn blink_open(alloc: Global, pages: u32, seats: &mut [SeatOfC]) -> i32 {
-    if seats.len() > 64 {
-        return BAD_SEATS;
-    }
-    match open(alloc, pages, seats.len() as u32) {
-        Ok(opened) => hand_out(alloc, opened, seats),
-        Err(OpenFault::Pages) => BAD_PAGES,
-        Err(OpenFault::Passes) => BAD_SEATS,
-        Err(OpenFault::Memory) => NO_MEMORY,
-    }
-}
-
-/// Opens an index with the rows of an image, with a seat for each place.
-#[unsafe(no_mangle)]
-pub extern "C" fn blink_open_image(alloc: Global, bytes: &[u8], seats: &mut [SeatOfC]) -> i32 {
-    if seats.len() > 64 {
-        return BAD_SEATS;
-    }
-    match open_image(alloc, bytes, seats.len() as u32) {
-        Ok(opened) => hand_out(alloc, opened, seats),
-        Err(ImageFault::Image) => BAD_IMAGE,
-        Err(ImageFault::Seats) => BAD_SEATS,
-        Err(ImageFault::Memory) => NO_MEMORY,
     }
 }
 
@@ -254,14 +161,17 @@ pub struct Part {
 }
 
 /// Writes the rows of a reply into the caller's array.
-fn listed(reply: &Reply, rows: &mut [Row], part: &mut Part) {
+fn listed(reply: &Reply, rows: &mut [Row], part: &mut Part)
+    requires { 14 ≤ length rows.old }
+    ensures { IsListed reply.now rows.old rows.new part.new }
+{
     let Reply::Rows(pairs, next) = reply else {
         return;
     };
-    part.count = pairs.len().min(rows.len()) as u64;
-    for (row, pair) in rows.iter_mut().zip(pairs.iter()) {
-        row.key = pair.0;
-        row.value = pair.1;
+    part.count = pairs.len() as u64;
+    for number in 0..pairs.len() {
+        let (key, value) = pairs[number];
+        rows[number] = Row { key, value };
     }
     match next {
         Next::More(key) => {
@@ -281,8 +191,9 @@ pub extern "C" fn blink_try_rows(
     rows: &mut [Row],
     part: &mut Part,
 ) -> i32
-    ensures few { length rows.old < 14 → (result ≡ pos 10) × (seat.new ≡ seat.old) }
-    ensures told { 14 ≤ length rows.old → Calls seat.old seat.new result (Lists from result) }
+    ensures few { length rows.old < 14 → (result ≡ pos 10) × (seat.new ≡ seat.old) × (rows.new ≡ rows.old) }
+    ensures told { 14 ≤ length rows.old → Calls seat.old seat.new result (Lists from rows.old rows.new part.new result) }
+    ensures rest { result ≢ pos 0 → rows.new ≡ rows.old }
 {
     if rows.len() < MOST_PAIRS {
         return FEW_ROWS;

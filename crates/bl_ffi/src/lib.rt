@@ -6,12 +6,17 @@
 #![tactic(auto)]
 
 mod calls;
+mod codes;
 mod loose;
+mod opening;
+mod places;
 mod seat;
+mod together;
 
 pub use calls::{
-    Part, Row, blink_close, blink_dropped, blink_open, blink_open_image, blink_tend,
-    blink_try_change, blink_try_delete, blink_try_find, blink_try_insert, blink_try_rows,
-    blink_waiting,
+    Part, Row, blink_close, blink_dropped, blink_tend, blink_try_change, blink_try_delete,
+    blink_try_find, blink_try_insert, blink_try_rows, blink_waiting,
 };
+pub use opening::{blink_open, blink_open_image};
 pub use seat::{Hidden, SeatOfC};
+pub use together::{blink_image_length, blink_map, blink_try_close_image, blink_try_meet};

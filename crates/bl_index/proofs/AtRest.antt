@@ -1,5 +1,5 @@
 -- A store of passes at its end: no process runs, nobody holds a page, and what is left of the pages is a sound image.
-use Rattle.std.proofs.Common.{ℕ, zero, suc, ◌≡◌, ◌≢◌, ◌<◌, Option, None, Some, List, [], ◌∷◌, length, map, replicate, refl, sym, ap, ◌∙◌, subst, inl, inr, arith}
+use Rattle.std.proofs.Common.{ℕ, zero, suc, ◌≡◌, ◌≢◌, ◌<◌, Option, None, Some, List, [], ◌∷◌, All, length, map, replicate, refl, sym, ap, ◌∙◌, subst, inl, inr, arith}
 use Rattle.std.specs.List.{AllByRecursion}
 use Rattle.std.proofs.lemmas.Bool.{cases_lt}
 use Rattle.std.proofs.lemmas.List.{get_or_past}
@@ -30,17 +30,17 @@ use Rattle.bl_proc_invariant.specs.Knowing.{Run}
 use Rattle.bl_layout.specs.declared.layout.Layout.{Layout}
 use Rattle.bl_store.specs.Pages.{Owner, Released, Open, Held, Retired, Stage as Stands_at, Idle, Running, Stands, IsPage}
 use Rattle.bl_store.specs.Closing.{HasEach, left_of, IsClosed}
-use Rattle.bl_store.specs.Hands.{known, IsOf, IsIdle}
+use Rattle.bl_store.specs.Hands.{known}
 use Rattle.bl_store.specs.declared.store.Hand.{Hand}
 use Rattle.bl_index_rule.proofs.Shown.{at_below}
-use Rattle.bl_index.proofs.Gathered.{there, one_there, all_there}
+use Rattle.bl_index.proofs.Gathered.{there, one_there, all_there, all_of}
 use Rattle.bl_index_rule.specs.declared.known.PassState.{PassState}
 use Rattle.bl_claims.specs.Seeing.{first_map, BeginsFrom, AreWithin}
 use Rattle.bl_index_rule.specs.Simulation.{Shows, IsAnchor, IsHand, Simulates}
 use Rattle.bl_index.specs.declared.index.Index.{Index}
 use Rattle.bl_index.specs.declared.index.Pass.{Pass}
-use Rattle.bl_index.specs.Calls.{pages_of, first_of, IsPassOf, number_of}
-use Rattle.bl_index.specs.Closed.{AreOf, AreAll, AreHandsOf, Closes}
+use Rattle.bl_index.specs.Calls.{pages_of, passes_of, first_of, IsPassOf}
+use Rattle.bl_index.specs.Closed.{AreOf, AreAll, AreHandsOf, Closes, IsIdleOf, ClosesHands}
 use Rattle.bl_index.proofs.Holders.{held_busy}
 
 no_anchor : (c : Page) → IsAnchor c → IsTreePage c → ⊥
@@ -149,60 +149,86 @@ module _ (l : Layout) (hands : List (Hand PassState)) (result : List (List ℕ))
     pub closed_sound : AreSound pages
     closed_sound = rests_sound _ w c.kept.good pages fit are_left
 
+module _ (index : Index) (hands : List (Hand PassState)) (all : HasEach (passes_of index) hands) (result : List (List ℕ)) (c : IsClosed Simulates index.tree.store.layout hands result) (pages : List (Option Page)) (spells : map page_words pages ≡ result) (fit : AllFit pages) where
+  knows : (k : ℕ) (hand : Hand PassState) → get_elem? hands k ≡ some hand → IsHand c.kept.world hand.number Idle (known hand.seat)
+  knows k hand at = c.kept.hands hand.number Idle (known hand.seat) (c.stand k hand at)
+
+  page_count : length pages ≡ pages_of index
+  page_count = sym (map_length pages) ∙ (ap length spells ∙ c.count)
+
+  counted : IsCount (length pages)
+  counted = let within = index.tree.store.layout.pages_within in (omega (arith, within.0, page_count), omega (arith, within.1, page_count))
+
+  sound : AreSound pages
+  sound = closed_sound index.tree.store.layout hands result c all pages spells fit
+
+  pub closes_hands : ClosesHands index hands pages
+  closes_hands =
+      let f = c.kept in let w = f.world in
+      let left = are_left index.tree.store.layout hands result c all pages spells fit in
+      let list = one_list pages (image_bytes pages) (record { count = counted; words = fit; bytes_are = refl }) sound in
+      record {
+        first = f.image;
+        firsts = λ k hand at. f.firsts hand.number Idle (known hand.seat) (c.stand k hand at);
+        whole = w.trail;
+        seen = record {
+          linear = record {
+            start = w.start;
+            now = w.now;
+            opening = f.opening;
+            leads = f.good.recorded.leads;
+            marked = f.good.recorded.marked;
+            legal = subst (λ (z : Map). IsLegalFrom z (history_of w.trail)) f.first f.good.recorded.legal;
+          };
+          moments = f.moments;
+        };
+        all = all;
+        begins = λ k hand at. let h = knows k hand at in (h.begins.0, h.begins.1);
+        none = λ k hand at. (knows k hand at).mine;
+        within = subst (λ (z : ℕ). AreWithin z w.trail) c.orderly.hands f.within;
+        count = page_count;
+        left = left;
+        rows = list.rows;
+        are_rows = list.are_rows;
+        map = λ key. sym (rests_map _ w f.good pages fit left counted list.rows list.are_rows key) ∙ (f.good.recorded.map key ∙ ap (λ (z : Map). final_map z (history_of w.trail) key) f.first);
+      }
+
 module _ (index : Index) (passes : List Pass) (hands : List (Hand PassState)) (of : AreHandsOf passes hands) where
-  pub each_hand : AreAll index passes → HasEach index.tree.store.layout.passes hands
+  pub each_hand : AreAll index passes → HasEach (passes_of index) hands
   each_hand all n lt = let has = all n lt in let a = of.all has.place has.pass has.at in (a.0, has.pass.hand, a.1, has.numbered)
 
-  pub hand_own : AreOf index passes → (k : ℕ) (hand : Hand PassState) → get_elem? hands k ≡ some hand → IsOf index.tree.store.table.shared.table_id index.tree.store.layout hand.seat × IsIdle hand.seat
-  hand_own own k hand at =
+  pub idle_hands : AreOf index passes → All (IsIdleOf index) hands
+  idle_hands own = all_of (IsIdleOf index) hands (λ k hand at.
       let h = of.only k hand at in let is = all_there (IsPassOf index) passes h.place h.pass own h.at in
-      subst (λ (z : Hand PassState). IsOf index.tree.store.table.shared.table_id index.tree.store.layout z.seat × IsIdle z.seat) h.is ((is.0, is.1), h.pass.idle)
+      subst (IsIdleOf index) h.is ((is.0, is.1), h.pass.idle))
 
-  module _ (result : List (List ℕ)) (c : IsClosed Simulates index.tree.store.layout hands result) (own : AreOf index passes) (all : AreAll index passes) (pages : List (Option Page)) (spells : map page_words pages ≡ result) (fit : AllFit pages) where
-    knows : (k : ℕ) (pass : Pass) → get_elem? passes k ≡ some pass → IsHand c.kept.world (number_of pass) Idle (known pass.hand.seat)
-    knows k pass at = let a = of.all k pass at in c.kept.hands (number_of pass) Idle (known pass.hand.seat) (c.stand a.0 pass.hand a.1)
-
-    page_count : length pages ≡ pages_of index
-    page_count = sym (map_length pages) ∙ (ap length spells ∙ c.count)
-
-    counted : IsCount (length pages)
-    counted = let within = index.tree.store.layout.pages_within in (omega (arith, within.0, page_count), omega (arith, within.1, page_count))
-
-    sound : AreSound pages
-    sound = closed_sound index.tree.store.layout hands result c (each_hand all) pages spells fit
-
-    -- the world began with what the index did, since its passes know so
-    begins_so : c.kept.image ≡ first_of index
-    begins_so =
-        let within = index.tree.store.layout.passes_within in
-        let has = all 0 (omega (arith, within.0)) in let a = of.all has.place has.pass has.at in
-        sym (c.kept.firsts (number_of has.pass) Idle (known has.pass.hand.seat) (c.stand a.0 has.pass.hand a.1)) ∙ (all_there (IsPassOf index) passes has.place has.pass own has.at).2
-
-    pub closes : Closes index passes pages
-    closes =
-        let f = c.kept in let w = f.world in
-        let left = are_left index.tree.store.layout hands result c (each_hand all) pages spells fit in
-        let list = one_list pages (image_bytes pages) (record { count = counted; words = fit; bytes_are = refl }) sound in
-        record {
-          whole = w.trail;
-          seen = record {
-            linear = record {
-              start = w.start;
-              now = w.now;
-              opening = subst (λ (z : List (Option Page)). BeginsFrom z w.start) begins_so f.opening;
-              leads = f.good.recorded.leads;
-              marked = f.good.recorded.marked;
-              legal = subst (λ (z : Map). IsLegalFrom z (history_of w.trail)) (f.first ∙ ap first_map begins_so) f.good.recorded.legal;
-            };
-            moments = subst (λ (z : List (Option Page)). HasMoments (first_map z) w.start w.trail) begins_so f.moments;
+  -- the hands are those of the passes, which know that the index began as it did
+  pub closes : (pages : List (Option Page)) → AreOf index passes → AreAll index passes → ClosesHands index hands pages → Closes index passes pages
+  closes pages own all c =
+      let within = index.tree.store.layout.passes_within in
+      let has = all 0 (omega (arith, within.0)) in let a = of.all has.place has.pass has.at in
+      let so : c.first ≡ first_of index = sym (c.firsts a.0 has.pass.hand a.1) ∙ (all_there (IsPassOf index) passes has.place has.pass own has.at).2 in
+      let s = c.seen.linear in
+      record {
+        whole = c.whole;
+        seen = record {
+          linear = record {
+            start = s.start;
+            now = s.now;
+            opening = subst (λ (z : List (Option Page)). BeginsFrom z s.start) so s.opening;
+            leads = s.leads;
+            marked = s.marked;
+            legal = subst (λ (z : List (Option Page)). IsLegalFrom (first_map z) (history_of c.whole)) so s.legal;
           };
-          all = all;
-          begins = λ k pass at. let h = knows k pass at in (h.begins.0, h.begins.1);
-          none = λ k pass at. (knows k pass at).mine;
-          within = subst (λ (z : ℕ). AreWithin z w.trail) c.orderly.hands f.within;
-          count = page_count;
-          left = left;
-          rows = list.rows;
-          are_rows = list.are_rows;
-          map = λ key. sym (rests_map _ w f.good pages fit left counted list.rows list.are_rows key) ∙ (f.good.recorded.map key ∙ ap (λ (z : Map). final_map z (history_of w.trail) key) (f.first ∙ ap first_map begins_so));
-        }
+          moments = subst (λ (z : List (Option Page)). HasMoments (first_map z) s.start c.whole) so c.seen.moments;
+        };
+        all = all;
+        begins = λ k pass at. let b = of.all k pass at in c.begins b.0 pass.hand b.1;
+        none = λ k pass at. let b = of.all k pass at in c.none b.0 pass.hand b.1;
+        within = c.within;
+        count = c.count;
+        left = c.left;
+        rows = c.rows;
+        are_rows = c.are_rows;
+        map = λ key. c.map key ∙ ap (λ (z : List (Option Page)). final_map (first_map z) (history_of c.whole) key) so;
+      }

@@ -29,6 +29,15 @@ all_there P l i a all at = subst P (one_there l i (get_or l i a) a (index_there 
     index_there (x ∷ xs) zero a lt = refl
     index_there (x ∷ xs) (suc i) a lt = index_there xs i a (omega arith)
 
+-- what each place has, all have
+pub all_of : {A : Type 0} (P : A → Type 0) (l : List A) → ((k : ℕ) (a : A) → get_elem? l k ≡ some a → P a) → All P l
+all_of P l h = λ k d lt. h k (get_or l k d) (at_get l k d lt)
+  where
+    at_get : {A : Type 0} (l : List A) (i : ℕ) (d : A) → i < length l → get_elem? l i ≡ some (get_or l i d)
+    at_get [] i d lt = absurd (omega arith)
+    at_get (x ∷ xs) zero d lt = refl
+    at_get (x ∷ xs) (suc i) d lt = at_get xs i d (omega arith)
+
 pub item_at : {A : Type 0} (l : List A) (i : ℕ) (a : A) → i < length l → a ≡ get_or l i a → get_elem? l i ≡ some a
 item_at [] i a lt is = absurd (omega arith)
 item_at (x ∷ xs) zero a lt is = ap some (sym is)

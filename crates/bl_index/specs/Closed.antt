@@ -11,7 +11,10 @@ use Rattle.bl_check_tree.specs.Begins.{AreLeft}
 use Rattle.bl_store.specs.declared.store.Hand.{Hand}
 use Rattle.bl_index_rule.specs.declared.known.PassState.{PassState}
 use Rattle.bl_claims.specs.Seeing.{IsSeen, AreWithin, own, GoesOnFrom}
-use Rattle.bl_index.specs.declared.closing.Room.{Room}
+use Rattle.bl_store.specs.Closing.{HasEach}
+use Rattle.bl_store.specs.Hands.{known, IsIdle}
+use Rattle.bl_store.specs.Owners.{IsHandOf as IsHandOfStore}
+use Rattle.bl_index.specs.declared.closing.CloseRoom.{CloseRoom}
 use Rattle.bl_index.specs.declared.config.CloseFault.{CloseFault}
 use Rattle.bl_index.specs.declared.config.CloseFault.TheVariants as fault
 use Rattle.bl_index.specs.declared.index.Index.{Index}
@@ -59,10 +62,28 @@ pub record IsRefused (index : Index) (passes : List Pass) (back : Index) (passes
   pub passes_are : passes_back ≡ passes
   pub why_is : IsCloseFault index passes why
 
--- empty vectors with room for so many hands and pages
-pub record HasRoom (hands pages : ℕ) (room : Room) : Type 0 where
-  pub hands_empty : room.hands.items ≡ []
-  pub hands_fit : hands ≤ vec_capacity room.hands
+-- a hand of the index, outside a process
+abbrev pub IsIdleOf : Index → Hand PassState → Type 0
+IsIdleOf index hand = IsHandOfStore index.tree.store hand × IsIdle hand.seat
+
+-- The same of hands. What the index began with is what each of them knows that it began with.
+pub record ClosesHands (index : Index) (hands : List (Hand PassState)) (pages : List (Option Page)) : Type 0 where
+  pub first : List (Option Page)
+  pub firsts : (k : ℕ) (hand : Hand PassState) → get_elem? hands k ≡ some hand → (known hand.seat).first ≡ first
+  pub whole : Trail
+  pub seen : IsSeen first whole
+  pub all : HasEach (passes_of index) hands
+  pub begins : (k : ℕ) (hand : Hand PassState) → get_elem? hands k ≡ some hand → GoesOnFrom (known hand.seat).trail whole
+  pub none : (k : ℕ) (hand : Hand PassState) → get_elem? hands k ≡ some hand → own hand.number whole ≡ own hand.number (known hand.seat).trail
+  pub within : AreWithin (passes_of index) whole
+  pub count : length pages ≡ pages_of index
+  pub left : AreLeft pages seen.linear.now
+  pub rows : List (ℕ × ℕ)
+  pub are_rows : AreRowsOf pages rows
+  pub map : SameMap (map_after first whole) (map_of rows)
+
+-- empty vectors with room for so many pages
+pub record HasRoom (pages : ℕ) (room : CloseRoom) : Type 0 where
   pub words_empty : room.words.items ≡ []
   pub words_fit : pages ≤ vec_capacity room.words
   pub pages_empty : room.pages.items ≡ []

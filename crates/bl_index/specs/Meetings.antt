@@ -2,7 +2,10 @@
 use Rattle.std.specs.Prelude.{◌≡◌, ℕ, List, Option}
 use Rattle.bl_page.specs.declared.page.Page.{Page}
 use Rattle.bl_claims.specs.Trails.{Trail, marks_of}
+use Rattle.bl_store.specs.declared.store.Hand.{Hand}
+use Rattle.bl_store.specs.Hands.{known, IsIdle, HasNoStock, IsSameHand}
 use Rattle.bl_index_rule.specs.declared.known.PassState.{PassState}
+use Rattle.bl_index_steps.specs.Runs.{IsWithin}
 use Rattle.bl_claims.specs.Seeing.{IsSeen, AreWithin, own, GoesOnFrom, name}
 
 -- no process of the pass has done anything since
@@ -36,6 +39,15 @@ pub record Meet (first : List (Option Page)) (one two : ℕ) (old_one old_two ne
   pub none_two : own two new_one ≡ own two old_two
   pub still_one : IsStill one old_one new_one
   pub still_two : IsStill two old_two new_one
+
+-- The hand is the same one, outside a process still and with nothing reserved, and knows the same beginning of its index.
+pub record StaysIdle (old new : Hand PassState) : Type 0 where
+  pub same : IsSameHand old.seat new.seat
+  pub idle : IsIdle new.seat
+  pub empty : HasNoStock new.seat
+  pub first : (known new.seat).first ≡ (known old.seat).first
+  pub runs : (known new.seat).runs ≡ (known old.seat).runs
+  pub within : IsWithin new.seat
 
 -- of what the pass knew, what the other knows, and what the pass knows then
 pub record Learned (pass other among : ℕ) (d e f : PassState) : Type 0 where

@@ -1,6 +1,8 @@
 //! An index is closed: all its passes come back, and what its pages hold is a sound image.
 
-ghost use Rattle.std.specs.Prelude.{◌≡◌, ℕ, ◌<◌, ◌≤◌, true, false, [], length, vec_capacity, IfOk, IfErr};
+ghost use Rattle.std.specs.Prelude.{◌≡◌, ℕ, ◌<◌, ◌≤◌, true, false, [], length, vec_capacity, All, IfOk, IfErr};
+ghost use Rattle.bl_store.specs.Closing.{HasEach};
+ghost use Rattle.bl_index.specs.Calls.{pages_of, passes_of};
 ghost use Rattle.bl_index.specs.Closed.{HasPass, HasRoom, AreHandsOf};
 
 use crate::config::CloseFault;
@@ -12,20 +14,18 @@ use bl_page::Page;
 use bl_store::Hand;
 use std::alloc::{AllocError, Global};
 
-// What a close fills.
+/// The memory that a close fills.
 #[derive(Drop)]
-struct Room {
-    hands: Vec<Hand<PassState>>,
+pub struct CloseRoom {
     words: Vec<[u64; 32]>,
     pages: Vec<Option<Page>>,
 }
 
-impl Room {
-    fn of(alloc: Global, hands: usize, pages: usize) -> Result<Room, AllocError>
-        ensures { IfOk result (HasRoom hands pages) }
+impl CloseRoom {
+    fn of(alloc: Global, pages: usize) -> Result<CloseRoom, AllocError>
+        ensures { IfOk result (HasRoom pages) }
     {
-        Ok(Room {
-            hands: Vec::with_capacity(alloc, hands)?,
+        Ok(CloseRoom {
             words: Vec::with_capacity(alloc, pages)?,
             pages: Vec::with_capacity(alloc, pages)?,
         })
@@ -70,7 +70,7 @@ fn hands_of(mut passes: Vec<Pass>, mut room: Vec<Hand<PassState>>) -> Vec<Hand<P
 }
 
 impl Index {
-    ghost use Rattle.bl_index.specs.Closed.{AreOf, AreAll, Closes, IsRefused};
+    ghost use Rattle.bl_index.specs.Closed.{AreOf, AreAll, Closes, IsRefused, IsIdleOf, ClosesHands};
 
     /// Closes the index: the image of its pages, which is sound, and whose rows are the map after all that has happened. It
     /// takes all passes. Where one is missing, or there is no memory, the index and the passes come back as they were.
@@ -86,24 +86,30 @@ impl Index {
         if !has_all(passes.as_slice(), self.tree.passes) {
             return Err((self, passes, CloseFault::Pass));
         }
-        match Room::of(alloc, passes.len(), self.tree.pages as usize) {
-            Ok(room) => Ok(self.shut(passes, room)),
+        let Ok(room) = self.close_room(alloc) else {
+            return Err((self, passes, CloseFault::Memory));
+        };
+        match Vec::with_capacity(alloc, passes.len()) {
+            Ok(hands) => Ok(self.close_hands(hands_of(passes, hands), room)),
             Err(_) => Err((self, passes, CloseFault::Memory)),
         }
     }
 
-    fn shut(self, passes: Vec<Pass>, room: Room) -> Quiet
-        requires own { AreOf self passes.items }
-        requires all { AreAll self passes.items }
-        requires room { HasRoom (length passes.items) self.tree.pages room }
-        ensures { Closes self passes.items result.image.pages.items }
+    /// The memory that a close of this index fills, for one who gives nothing away before he has it.
+    pub fn close_room(&self, alloc: Global) -> Result<CloseRoom, AllocError>
+        ensures { IfOk result (HasRoom (pages_of self.now)) }
     {
-        let Room {
-            hands,
-            words,
-            pages,
-        } = room;
-        let hands = hands_of(passes, hands);
+        CloseRoom::of(alloc, self.tree.pages as usize)
+    }
+
+    /// Closes the index by all its hands, each outside a process, in room that was taken for it. It cannot fail.
+    pub fn close_hands(self, hands: Vec<Hand<PassState>>, room: CloseRoom) -> Quiet
+        requires own { All (IsIdleOf self) hands.items }
+        requires all { HasEach (passes_of self) hands.items }
+        requires room { HasRoom (pages_of self) room }
+        ensures { ClosesHands self hands.items result.image.pages.items }
+    {
+        let CloseRoom { words, pages } = room;
         let words = self.tree.store.close(hands, words);
         let image = Image::from_words(words.as_slice(), pages);
         Quiet::new(image)

@@ -29,6 +29,7 @@ mod telling;
 pub use bl_index_read::OutOfTurns;
 pub use bl_model::{KeyReply, KeyWrite, Next, Reply};
 pub use bl_proc::{Hint, Level, Lowered, Posted, Squeezed};
+pub use closing::CloseRoom;
 pub use config::{CloseFault, Config, OpenFault};
 pub use index::{Index, Pass};
 pub use scanning::ScanFault;

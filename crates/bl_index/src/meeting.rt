@@ -50,7 +50,7 @@ impl<J: Meeting> MeetPlay<PassState> for Heard<J> {
 impl Index {
     ghost use Rattle.bl_index.specs.Calls.{first_of, IsPassOf, IsSamePass, number_of, trail};
     ghost use Rattle.bl_claims.specs.Seeing.{IsSeen};
-    ghost use Rattle.bl_index.specs.Meetings.{Learns, Hears, Meet};
+    ghost use Rattle.bl_index.specs.Meetings.{Learns, Hears, Meet, StaysIdle};
 
     /// The two passes meet: each then knows all that has happened in the index, and so all that the other one knew.
     pub fn meet(&self, one: &mut Pass, two: &mut Pass)
@@ -58,8 +58,19 @@ impl Index {
         ensures same { IsSamePass one.old one.new × IsSamePass two.old two.new }
         ensures meet { Meet (first_of self.now) (number_of one.old) (number_of two.old) (trail one.old) (trail two.old) (trail one.new) (trail two.new) }
     {
-        self.learn(one, two);
-        self.tell(two, one);
+        self.meet_hands(&mut one.hand, &mut two.hand);
+    }
+
+    /// The same of hands, each outside a process and with nothing reserved.
+    pub fn meet_hands(&self, one: &mut Hand<PassState>, two: &mut Hand<PassState>)
+        requires own { IsHandOf self.now.tree.store one.old × IsHandOf self.now.tree.store two.old }
+        requires idle { (IsIdle one.old.seat × HasNoStock one.old.seat) × (IsIdle two.old.seat × HasNoStock two.old.seat) }
+        ensures same { StaysIdle one.old one.new × StaysIdle two.old two.new }
+        ensures meet { Meet (known one.old.seat).first one.old.number two.old.number (known one.old.seat).trail (known two.old.seat).trail
+            (known one.new.seat).trail (known two.new.seat).trail }
+    {
+        self.learn_by::<Brand>(one, two);
+        self.tell_by::<Brand>(two, one);
     }
 
     /// The pass learns all that has happened in the index, and so all that the other one knows.

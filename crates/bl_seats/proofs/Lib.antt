@@ -6,3 +6,5 @@ pub mod Searched
 pub mod Starts
 pub mod Gone
 pub mod Pieces
+pub mod Spelled
+pub mod Closings

@@ -1,6 +1,6 @@
 -- A piece of upkeep more in a row, or one less.
-use Rattle.std.proofs.Common.{◌≡◌, ◌+◌, ◌<◌, ◌++◌, true, Option, Some, None, List, [], ◌∷◌, take, drop, length, refl, sym, ap, ◌∙◌, arith}
-use Rattle.std.specs.Prelude.{IfNone, slice_index_or}
+use Rattle.std.proofs.Common.{◌≡◌, ◌++◌, true, Option, Some, None, List, [], ◌∷◌, refl, sym, ap, ◌∙◌}
+use Rattle.std.specs.Prelude.{IfNone}
 use Rattle.bl_proc_base.specs.declared.answers.Hint.{Hint}
 use Rattle.bl_seats.specs.Pieces.{are_pieces}
 

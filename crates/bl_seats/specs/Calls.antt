@@ -43,7 +43,7 @@ account_of seat = account seat.hand seat.stage
 abbrev pub IsSameSeat : Seat → Seat → Type 0
 IsSameSeat old new = (new.index ≡ old.index) × IsSameOne old.hand new.hand
 
--- The last call of the seat that was answered is this one, with this reply, and all that it has seen is a trail that an index may have.
+-- The last call of the seat that was answered is this one, with this reply, and all that it has seen is linearizable.
 abbrev pub HasToldLast : Op → Reply → Seat → Type 0
 HasToldLast op reply seat = HasReplied seat.hand op reply
 

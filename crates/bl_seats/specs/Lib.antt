@@ -4,3 +4,5 @@ pub mod Seats
 pub mod Waits
 pub mod Calls
 pub mod Opened
+pub mod Meetings
+pub mod Closed

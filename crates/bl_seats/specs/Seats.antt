@@ -28,7 +28,7 @@ abbrev pub IsSameOne : Hand PassState → Hand PassState → Type 0
 IsSameOne old new = (new.number ≡ old.number) × ((known new.seat).first ≡ (known old.seat).first)
 
 -- The last call that the hand has answered is this one: it was one process, begun and ended after all that the hand had seen when it
--- began; what the hand has seen now is a trail that an index may have, and the call's entry is the last one of its own.
+-- began; what the hand has seen now is linearizable, and the call's entry is the last one of its own.
 pub record HasReplied (hand : Hand PassState) (op : Op) (reply : Reply) : Type 0 where
   pub before : Trail
   pub answers : Answers (known hand.seat).first hand.number op reply before (known hand.seat).trail

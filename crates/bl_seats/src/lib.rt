@@ -7,10 +7,14 @@
 //! Promised to its user: between two calls the seat's hand is one of its own index, and runs no process, or one that can go on.
 #![tactic(auto)]
 
+mod closing;
 mod opening;
 mod seat;
+mod spelling;
 mod working;
 
 pub use bl_index::{KeyReply, KeyWrite, Next, OpenFault, Reply};
+pub use closing::{CloseFault, close};
 pub use opening::{ImageFault, open, open_image};
 pub use seat::Seat;
+pub use spelling::{image_length, spell};

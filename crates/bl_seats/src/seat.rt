@@ -5,7 +5,9 @@ ghost use Rattle.std.specs.Arc.{arc_value};
 ghost use Rattle.bl_seats.specs.Pieces.{are_pieces};
 ghost use Rattle.bl_seats.specs.Seats.{IsSeated};
 
-use crate::working::{begin_following, begin_lowering, begin_writing, find, go_on, part, release};
+use crate::working::{
+    begin_following, begin_lowering, begin_writing, find, go_on, meet, part, release,
+};
 use arrayvec::ArrayVec;
 use bl_index::{Index, KeyReply, KeyWrite, Reply};
 use bl_index_rule::PassState;
@@ -13,8 +15,8 @@ use bl_index_turns::Stage;
 use bl_proc::{Answer, Hint, Lowered, Posted, Squeezed};
 use bl_store::Hand;
 use std::alloc::Global;
-use std::mem;
 use std::sync::Arc;
+use std::{mem, ptr};
 
 /// How many pieces of upkeep a change does at most before it begins.
 const PIECES: u32 = 16;
@@ -140,6 +142,8 @@ impl Seat {
     ghost use Rattle.bl_seats.specs.Calls.{IsSameSeat, HasToldLast, HasTold, HasGoneOn, HasBegun, HasGoneOnOrBegun, HasChanged, HasSwept, HasNothingToDo, HasBegunPiece};
     ghost use Rattle.bl_seats.specs.Calls.{HasNoAnswer, HasToWait, HasCarriedOn, HasDoneMost, count_underway};
     ghost use Rattle.bl_seats.specs.Calls.{IsAbout, number_of, account_of, released_by, begun_by};
+    ghost use Rattle.bl_seats.specs.Meetings.{AreOfOne, HaveMet};
+    ghost use Rattle.bl_index.specs.Calls.{pages_of};
 
     /// The value of a key, or that the key is absent. None: it ran out of turns, or a change is underway; it is to be made again.
     pub fn find(&mut self, key: u64) -> Option<KeyReply>
@@ -212,6 +216,39 @@ impl Seat {
         release(&self.index, &mut self.hand, &self.stage)
     }
 
+    /// The seats meet: each then has seen all that has happened in the index, and so all that the other one had. Says whether they have. Where
+    /// not, something is underway at one of them, and it is to be made again.
+    pub fn meet(&mut self, other: &mut Seat) -> bool
+        requires { AreOfOne self.old other.old }
+        ensures same { IsSameSeat self.old self.new × IsSameSeat other.old other.new }
+        ensures told { HasGoneOn self.old self.new × HasGoneOn other.old other.new }
+        ensures worked { HasCarriedOn self.old self.new × HasCarriedOn other.old other.new }
+        ensures waits { result ≡ false → (self.new.stage ≢ stages.Rests) ⊎ (other.new.stage ≢ stages.Rests) }
+        ensures met { result ≡ true → HaveMet self.old other.old self.new other.new }
+    {
+        self.settle();
+        other.settle();
+        meet(
+            &self.index,
+            &mut self.hand,
+            &self.stage,
+            &mut other.hand,
+            &other.stage,
+        )
+    }
+
+    /// How many pages its index has.
+    pub fn pages(&self) -> u32
+        ensures { result ≡ pages_of (arc_value self.now.index) }
+    {
+        self.index.tree().pages
+    }
+
+    /// A place in the memory of its index. Seats of one index have one place, and seats of two that are open have two: no clause says so.
+    pub fn place(&self) -> *const u32 {
+        ptr::from_ref(&self.index.tree().pages)
+    }
+
     /// How many pieces of upkeep wait, 32 at most.
     pub fn waiting(&self) -> u32
         ensures { result ≡ length (hints_of self.now.upkeep) }
@@ -226,7 +263,7 @@ impl Seat {
         self.upkeep.dropped
     }
 
-    fn is_at_rest(&self) -> bool
+    pub(crate) fn is_at_rest(&self) -> bool
         ensures { result ≡ true ↔ self.now.stage ≡ stages.Rests }
     {
         match self.stage {
@@ -249,6 +286,18 @@ impl Seat {
         match &self.stage {
             Stage::Writes(process, _) => process.write.key == key && process.write.write == write,
             _ => false,
+        }
+    }
+
+    /// What is underway goes on. A seat at which nothing is underway is as it was.
+    pub(crate) fn settle(&mut self)
+        ensures same { IsSameSeat self.old self.new }
+        ensures told { HasGoneOn self.old self.new }
+        ensures worked { HasCarriedOn self.old self.new }
+        ensures kept { self.old.stage ≡ stages.Rests → self.new ≡ self.old }
+    {
+        if !self.is_at_rest() {
+            self.go_on();
         }
     }
 

@@ -7,6 +7,8 @@ ghost use Rattle.bl_model.specs.Writes.{write_op};
 ghost use Rattle.bl_seats.specs.Seats.{IsSeated, IsSameOne, HasAnswered, HasFound, HasReplied, HasReleased, HasNotFound, HasWorked, begun_in};
 ghost use Rattle.bl_seats.specs.Accounts.{account, HasGone, AddsEntry, Starts};
 ghost use Rattle.bl_index_turns.specs.Stages.{IsWriteOf, IsFor, IsLowering};
+ghost use Rattle.bl_store.specs.Hands.{known};
+ghost use Rattle.bl_index.specs.Meetings.{Meet};
 ghost use Rattle.bl_index_turns.specs.declared.stages.Stage.TheVariants as stages;
 
 use bl_index::{Hint, Index, KeyReply, KeyWrite, Reply};
@@ -161,5 +163,34 @@ pub(crate) fn begin_lowering(index: &Index, hand: &mut Hand<PassState>, stage: S
     match stage {
         Stage::Rests => begin_lower(index.tree(), hand),
         underway => underway,
+    }
+}
+
+/// Two hands meet, unless a process is underway at one of them. Says whether they have.
+pub(crate) fn meet(
+    index: &Index,
+    one: &mut Hand<PassState>,
+    one_stage: &Stage,
+    two: &mut Hand<PassState>,
+    two_stage: &Stage,
+) -> bool
+    requires one { ∥ IsSeated index.now one.old one_stage.now ∥₁ }
+    requires two { ∥ IsSeated index.now two.old two_stage.now ∥₁ }
+    ensures same { IsSameOne one.old one.new × IsSameOne two.old two.new }
+    ensures stands { IsSeated index.now one.new one_stage.now × IsSeated index.now two.new two_stage.now }
+    ensures told { (account one.new one_stage.now ≡ account one.old one_stage.now) × (account two.new two_stage.now ≡ account two.old two_stage.now) }
+    ensures rest { result ≡ true → (one_stage.now ≡ stages.Rests) × (two_stage.now ≡ stages.Rests) }
+    ensures met { result ≡ true → Meet (known one.old.seat).first one.old.number two.old.number (known one.old.seat).trail (known two.old.seat).trail
+        (known one.new.seat).trail (known two.new.seat).trail }
+    ensures not { result ≡ false → ((one_stage.now ≢ stages.Rests) ⊎ (two_stage.now ≢ stages.Rests)) × (one.new ≡ one.old) × (two.new ≡ two.old) }
+{
+    stands(index.tree(), one, one_stage);
+    stands(index.tree(), two, two_stage);
+    match (one_stage, two_stage) {
+        (Stage::Rests, Stage::Rests) => {
+            index.meet_hands(one, two);
+            true
+        }
+        _ => false,
     }
 }

@@ -1,6 +1,9 @@
 //! Calls of seats.
 
-use bl_seats::{ImageFault, KeyReply, KeyWrite, Next, OpenFault, Reply, Seat, open, open_image};
+use bl_seats::{
+    CloseFault, ImageFault, KeyReply, KeyWrite, Next, OpenFault, Reply, Seat, close, image_length,
+    open, open_image, spell,
+};
 use std::alloc::Global;
 
 /// How many rows are inserted where there are many.
@@ -125,4 +128,54 @@ fn what_is_not_opened_says_why(rt: HostRuntime) {
     assert!(rt; open(alloc, 4, 0).err() == Some(OpenFault::Passes));
     assert!(rt; open(alloc, 4, 65).err() == Some(OpenFault::Passes));
     assert!(rt; open_image(alloc, b"no image", 1).err() == Some(ImageFault::Image));
+}
+
+/// Boxes for the seats.
+fn boxed(alloc: Global, seats: Vec<Seat>) -> Option<Vec<Box<Seat, Global>>> {
+    let mut boxes = Vec::new(alloc);
+    for seat in seats {
+        let seat = Box::new(alloc, seat).ok()?;
+        boxes.push(seat).ok()?;
+    }
+    Some(boxes)
+}
+
+#[test]
+fn seats_meet(rt: HostRuntime) {
+    let mut seats = open(rt.alloc(), 64, 2).ok().expect(&rt, "it is opened");
+    let mut one = seats.pop().expect(&rt, "there are two");
+    let mut two = seats.pop().expect(&rt, "there are two");
+    assert!(rt; one.write(1, KeyWrite::Insert(10)) == Some(Reply::Inserted));
+    assert!(rt; two.meet(&mut one));
+    assert_eq!(rt; two.find(1), Some(KeyReply::Found(10)));
+    assert_eq!(rt; one.pages(), 64);
+}
+
+#[test]
+fn seats_close_to_an_image_that_opens_again(rt: HostRuntime) {
+    let alloc = rt.alloc();
+    let mut seats = open(alloc, 64, 2).ok().expect(&rt, "it is opened");
+    assert_eq!(rt; insert_many(&mut seats[0], 100), 100);
+    let seats = boxed(alloc, seats).expect(&rt, "there is memory");
+    let quiet = close(alloc, seats).ok().expect(&rt, "it is closed");
+    assert_eq!(rt; image_length(64), 32 + 256 * 64);
+    let mut bytes = [0; 32 + 256 * 64];
+    assert_eq!(rt; quiet.image().pages.len(), 64);
+    spell(quiet.image(), &mut bytes);
+    let mut again = open_image(alloc, &bytes, 1).ok().expect(&rt, "it is an image");
+    assert_eq!(rt; count_rows(&mut again[0]), 100);
+    assert_eq!(rt; again[0].find(7), Some(KeyReply::Found(7)));
+}
+
+#[test]
+fn a_close_without_all_seats_is_refused(rt: HostRuntime) {
+    let alloc = rt.alloc();
+    let mut seats = open(alloc, 64, 2).ok().expect(&rt, "it is opened");
+    let _other = seats.pop().expect(&rt, "there are two");
+    let seats = boxed(alloc, seats).expect(&rt, "there is memory");
+    let (mut back, why) = close(alloc, seats).err().expect(&rt, "one is missing");
+    assert!(rt; why == CloseFault::Missing);
+    assert_eq!(rt; back.len(), 1);
+    let mut seat = back.pop().expect(&rt, "it is back");
+    assert_eq!(rt; seat.find(1), Some(KeyReply::Absent));
 }

@@ -1,0 +1,38 @@
+use Rattle.std.proofs.Common.{◌≡◌, ◌+◌, ◌*◌, Some, List, length, inl, inr, refl, sym, ap, ◌∙◌, arith}
+use Rattle.std.specs.Prelude.{slice_get}
+use Rattle.std.specs.Arc.{arc_value}
+use Rattle.std.proofs.lemmas.List.{length-take-le}
+use Rattle.bl_index.specs.Calls.{pages_of}
+use Rattle.bl_image.specs.declared.image.Image.{Image}
+use Rattle.bl_seats.specs.Closed.{values}
+use Rattle.bl_seats.specs.declared.seat.Seat.{Seat}
+use Rattle.bl_seats.proofs.Closings.{Boxed}
+use Rattle.bl_ffi.specs.Places.{seats_in}
+use Rattle.bl_ffi.proofs.Placing.{put_full, pages_closed, value_length}
+use Rattle.bl_ffi.proofs.ClosedTo.{too_long, back_fits}
+use Rattle.bl_ffi.proofs.together.close_boxes.Goals as goal
+
+pub returns-then-needed-bytes : goal.returns-then-needed-bytes
+returns-then-needed-bytes c =
+    let boxes = c.args.boxes.items in let box = c.in-Some.first.now in
+    let first : Some box ≡ slice_get boxes 0 = c.in-Some.ensures.value ∙ ap (λ (z : List Boxed). slice_get z 0) c.deref.ensures.value in
+    let long : c.image_length-needed.result ≡ 32 + 256 * pages_of (arc_value box.value.index) = c.image_length-needed.ensures ∙ (ap (λ n. 32 + 256 * n) (c.pages.ensures ∙ ap (λ (z : Seat). pages_of (arc_value z.index)) c.deref-2.ensures)) in
+    inr (inl (
+      refl,
+      too_long boxes box c.args.bytes.now c.image_length-needed.result first c.requires.one long (omega (arith, c.if-needed-bytes.true)),
+      put_full (seats_in c.args.places.now) (seats_in c.put_all.new.places) boxes (length c.args.places.now) c.requires.count c.requires.empty c.put_all.ensures,
+      refl,
+    ))
+
+pub spell-requires : goal.spell-requires
+spell-requires c =
+    let boxes = c.args.boxes.items in let box = c.in-Some.first.now in
+    let first : Some box ≡ slice_get boxes 0 = c.in-Some.ensures.value ∙ ap (λ (z : List Boxed). slice_get z 0) c.deref.ensures.value in
+    let long : c.image_length-needed.result ≡ 32 + 256 * pages_of (arc_value box.value.index) = c.image_length-needed.ensures ∙ (ap (λ n. 32 + 256 * n) (c.pages.ensures ∙ ap (λ (z : Seat). pages_of (arc_value z.index)) c.deref-2.ensures)) in
+    let many = pages_closed boxes box c.in-Ok.quiet.image.pages.items first c.in-Ok.ensures.ok in
+    length-take-le c.image_length-needed.result c.args.bytes.now (omega (arith, c.if-needed-bytes.false)) ∙ (long ∙ (ap (λ n. 32 + 256 * n) (sym many) ∙ ap (λ (z : Image). 32 + 256 * length z.pages.items) (sym c.image.ensures.same)))
+
+pub put_all-requires-in-Err : goal.put_all-requires-in-Err
+put_all-requires-in-Err c =
+    let fits = back_fits (values c.args.boxes.items) (values c.in-Err.boxes.items) c.in-Err.why c.in-Err.ensures.fault in
+    let a = value_length c.args.boxes.items in let b = value_length c.in-Err.boxes.items in let count = c.requires.count in omega (arith, fits, a, b, count)

@@ -1,0 +1,34 @@
+-- A map is opened for C.
+use Rattle.std.specs.Prelude.{◌≡◌, ◌⊎◌, ◌<◌, ℕ, ℤ, pos, List, Option, length}
+use Rattle.bl_check.specs.Faults.{AreSoundImage}
+use Rattle.bl_seats.specs.declared.seat.Seat.{Seat}
+use Rattle.bl_seats.specs.Opened.{IsOpened, IsReopened}
+use Rattle.bl_ffi.specs.Places.{opened}
+
+-- Each place has its seat, and one that it had is closed; or there was no memory, and the places are as they were.
+abbrev pub AreHandedOut : List Seat → List (Option Seat) → List (Option Seat) → ℤ → Type 0
+AreHandedOut seats old new code = ((code ≡ pos 0) × (new ≡ opened seats)) ⊎ ((code ≡ pos 7) × (new ≡ old))
+
+-- the number of seats is not within its limits
+abbrev pub AreBadSeats : ℕ → Type 0
+AreBadSeats count = (count < 1) ⊎ (64 < count)
+
+-- Why no map of so many pages was opened: the pages are not within their limits; the seats are not; or there was no memory.
+abbrev pub IsNotOpened : ℕ → ℕ → ℤ → Type 0
+IsNotOpened pages count code = ((code ≡ pos 5) × ((pages < 4) ⊎ (65536 < pages))) ⊎ ((code ≡ pos 6) × AreBadSeats count) ⊎ (code ≡ pos 7)
+
+-- The places have the seats of one new map without rows; or none was opened, and they are as they were.
+abbrev pub Opens : ℕ → List (Option Seat) → List (Option Seat) → ℤ → Type 0
+Opens pages old new code =
+    ((code ≡ pos 0) × ((seats : List Seat) × IsOpened pages (length old) seats × (new ≡ opened seats)))
+    ⊎ (IsNotOpened pages (length old) code × (new ≡ old))
+
+-- Why none was opened from bytes: they are no sound image; the seats are not within their limits; or there was no memory.
+abbrev pub IsNotReopened : List ℕ → ℕ → ℤ → Type 0
+IsNotReopened bytes count code = ((code ≡ pos 8) × (AreSoundImage bytes → ⊥)) ⊎ ((code ≡ pos 6) × AreBadSeats count) ⊎ (code ≡ pos 7)
+
+-- The same of a map that begins with the rows of the image that the bytes are.
+abbrev pub OpensImage : List ℕ → List (Option Seat) → List (Option Seat) → ℤ → Type 0
+OpensImage bytes old new code =
+    ((code ≡ pos 0) × ((seats : List Seat) × IsReopened bytes (length old) seats × (new ≡ opened seats)))
+    ⊎ (IsNotReopened bytes (length old) code × (new ≡ old))

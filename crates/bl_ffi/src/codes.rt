@@ -1,0 +1,29 @@
+//! What a call answers. `blink.h` has one more, which its own functions answer.
+
+/// Done.
+pub(crate) const OK: i32 = 0;
+/// The key is absent.
+pub(crate) const ABSENT: i32 = 1;
+/// The key is there with another value, and keeps it.
+pub(crate) const PRESENT: i32 = 2;
+/// There was no room, and nothing has changed.
+pub(crate) const NO_ROOM: i32 = 3;
+/// It is not answered yet, and is to be made again.
+pub(crate) const AGAIN: i32 = 4;
+/// The number of pages is not 4 to 65,536.
+pub(crate) const BAD_PAGES: i32 = 5;
+/// The number of seats is not 1 to 64.
+pub(crate) const BAD_SEATS: i32 = 6;
+/// There was no memory.
+pub(crate) const NO_MEMORY: i32 = 7;
+/// The bytes are no sound image.
+pub(crate) const BAD_IMAGE: i32 = 8;
+/// The seat is closed.
+pub(crate) const CLOSED: i32 = 9;
+/// There is room for fewer than 14 rows.
+pub(crate) const FEW_ROWS: i32 = 10;
+
+/// A seat of the map is not among them.
+pub(crate) const SEATS_OPEN: i32 = 11;
+/// There is room for fewer bytes than the image has.
+pub(crate) const FEW_BYTES: i32 = 12;

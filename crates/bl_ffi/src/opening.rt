@@ -1,0 +1,72 @@
+//! A map is opened.
+
+ghost use Rattle.std.specs.Prelude.{◌≡◌, length, IfOk};
+ghost use Rattle.bl_seats.specs.Closed.{values};
+ghost use Rattle.bl_ffi.specs.Opened.{Opens, OpensImage, AreHandedOut};
+ghost use Rattle.bl_ffi.specs.Places.{seats_in};
+
+use crate::codes::{BAD_IMAGE, BAD_PAGES, BAD_SEATS, NO_MEMORY, OK};
+use crate::places::{close_all, put_all};
+use crate::seat::SeatOfC;
+use bl_seats::{ImageFault, OpenFault, Seat, open, open_image};
+use std::alloc::{AllocError, Global};
+
+/// Boxes for the seats, before any is handed out.
+fn boxed(alloc: Global, seats: Vec<Seat>) -> Result<Vec<Box<Seat, Global>>, AllocError>
+    ensures { IfOk result (λ v. values v.items ≡ seats.items) }
+{
+    let mut seats = seats;
+    let mut boxes = Vec::with_capacity(alloc, seats.len())?;
+    while !seats.is_empty() {
+        match Box::new(alloc, seats.remove(0)) {
+            Ok(seat) => boxes.push(seat)?,
+            Err(_) => return Err(AllocError),
+        }
+    }
+    Ok(boxes)
+}
+
+/// Hands the seats out. A place that has one already has that closed.
+fn hand_out(alloc: Global, seats: Vec<Seat>, places: &mut [SeatOfC]) -> i32
+    requires { length seats.items ≡ length places.old }
+    ensures { AreHandedOut seats.items (seats_in places.old) (seats_in places.new) result }
+{
+    let Ok(boxes) = boxed(alloc, seats) else {
+        return NO_MEMORY;
+    };
+    close_all(alloc, places);
+    put_all(places, boxes);
+    OK
+}
+
+/// Opens an index without rows, with a seat for each place.
+#[unsafe(no_mangle)]
+pub extern "C" fn blink_open(alloc: Global, pages: u32, seats: &mut [SeatOfC]) -> i32
+    ensures { Opens pages (seats_in seats.old) (seats_in seats.new) result }
+{
+    if seats.len() > 64 {
+        return BAD_SEATS;
+    }
+    match open(alloc, pages, seats.len() as u32) {
+        Ok(opened) => hand_out(alloc, opened, seats),
+        Err(OpenFault::Pages) => BAD_PAGES,
+        Err(OpenFault::Passes) => BAD_SEATS,
+        Err(OpenFault::Memory) => NO_MEMORY,
+    }
+}
+
+/// Opens an index with the rows of an image, with a seat for each place.
+#[unsafe(no_mangle)]
+pub extern "C" fn blink_open_image(alloc: Global, bytes: &[u8], seats: &mut [SeatOfC]) -> i32
+    ensures { OpensImage bytes.now (seats_in seats.old) (seats_in seats.new) result }
+{
+    if seats.len() > 64 {
+        return BAD_SEATS;
+    }
+    match open_image(alloc, bytes, seats.len() as u32) {
+        Ok(opened) => hand_out(alloc, opened, seats),
+        Err(ImageFault::Image) => BAD_IMAGE,
+        Err(ImageFault::Seats) => BAD_SEATS,
+        Err(ImageFault::Memory) => NO_MEMORY,
+    }
+}
