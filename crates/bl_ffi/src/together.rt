@@ -9,7 +9,8 @@ ghost use Rattle.bl_ffi.specs.Together.{AreOfOneMap, AreAtOneMap, Meets, ClosesS
 use crate::codes::{AGAIN, CLOSED, FEW_BYTES, NO_MEMORY, OK, SEATS_OPEN};
 use crate::places::{put_all, put_back, take_all, taken};
 use crate::seat::SeatOfC;
-use bl_seats::{CloseFault, Seat, close, image_length, spell};
+use bl_image::image_length;
+use bl_seats::{CloseFault, Seat, close};
 use std::alloc::Global;
 
 /// The seats meet.
@@ -88,7 +89,7 @@ fn close_boxes(
     match close(alloc, boxes) {
         Ok(quiet) => {
             *long = needed;
-            spell(quiet.image(), &mut bytes[..needed as usize]);
+            quiet.image().spell(&mut bytes[..needed as usize]);
             OK
         }
         Err((boxes, why)) => {

@@ -6,5 +6,4 @@ pub mod Searched
 pub mod Starts
 pub mod Gone
 pub mod Pieces
-pub mod Spelled
 pub mod Closings

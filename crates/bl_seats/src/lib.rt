@@ -10,11 +10,9 @@
 mod closing;
 mod opening;
 mod seat;
-mod spelling;
 mod working;
 
 pub use bl_index::{KeyReply, KeyWrite, Next, OpenFault, Reply};
 pub use closing::{CloseFault, close};
 pub use opening::{ImageFault, open, open_image};
 pub use seat::Seat;
-pub use spelling::{image_length, spell};

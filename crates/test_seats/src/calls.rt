@@ -1,8 +1,9 @@
 //! Calls of seats.
 
+use bl_image::image_length;
 use bl_seats::{
-    CloseFault, ImageFault, KeyReply, KeyWrite, Next, OpenFault, Reply, Seat, close, image_length,
-    open, open_image, spell,
+    CloseFault, ImageFault, KeyReply, KeyWrite, Next, OpenFault, Reply, Seat, close, open,
+    open_image,
 };
 use std::alloc::Global;
 
@@ -161,7 +162,7 @@ fn seats_close_to_an_image_that_opens_again(rt: HostRuntime) {
     assert_eq!(rt; image_length(64), 32 + 256 * 64);
     let mut bytes = [0; 32 + 256 * 64];
     assert_eq!(rt; quiet.image().pages.len(), 64);
-    spell(quiet.image(), &mut bytes);
+    quiet.image().spell(&mut bytes);
     let mut again = open_image(alloc, &bytes, 1).ok().expect(&rt, "it is an image");
     assert_eq!(rt; count_rows(&mut again[0]), 100);
     assert_eq!(rt; again[0].find(7), Some(KeyReply::Found(7)));
