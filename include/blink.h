@@ -24,7 +24,8 @@
  *      answer BLINK_OTHER_MAP.)
  *      Else: the program reads and writes memory at random.
  *   7. A thread that was told BLINK_AGAIN makes some further call of its seat before long. (blink_find and the others do.)
- *      Else: nothing is damaged, but a page may stay latched, and other threads are told BLINK_AGAIN until then.
+ *      Else: nothing is damaged, and what was begun latches no page meanwhile (but page 0, where it takes a top level away). But it holds back
+ *      what others swap out, and they are told BLINK_AGAIN or BLINK_NO_ROOM.
  *
  * With -DBLINK_GUARD the inline functions look at rules 1 to 3 as far as a seat shows it: a null pointer for a seat, a call of a seat that is
  * in a call, and a call of a closed seat end the program with a message.
@@ -249,8 +250,12 @@ static inline int32_t blink_one_map_(blink_seat *seats, size_t count) {
     return BLINK_OK;
 }
 
-/* The seats meet. Also BLINK_OTHER_MAP. */
+/* The seats meet. Also BLINK_OTHER_MAP. A seat that is to meet itself has done so. */
 static inline int32_t blink_meet(blink_seat *one, blink_seat *two) {
+    if (one == two) {
+        BLINK_LOOK_(one, "blink_meet");
+        return blink_one_map_(one, 1);
+    }
     for (;;) {
         int32_t answer;
         blink_seat both[2];
