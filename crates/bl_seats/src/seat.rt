@@ -175,7 +175,8 @@ impl Seat {
         ensures same { IsSameSeat self.old self.new }
         ensures waits { IfNone result (HasToWait self.new) }
         ensures changed { IfSome result (λ reply. HasChanged (write_op key write) reply self.new) }
-        ensures told { MatchOption result (HasGoneOnOrBegun (write_op key write) self.old self.new) (λ reply. HasTold (write_op key write) reply self.old self.new) }
+        ensures told { MatchOption result (HasGoneOnOrBegun (write_op key write) self.old self.new)
+            (λ reply. HasTold (write_op key write) reply self.old self.new) }
     {
         if !self.comes_to(key, write) {
             return None;
@@ -310,7 +311,8 @@ impl Seat {
         ensures worked { HasCarriedOn self.old self.new }
         ensures still { IfNone result ((self.old.stage ≡ stages.Rests) ⊎ (self.new.stage ≢ stages.Rests)) }
         ensures begun { begun_by self.new ≡ begun_by self.old }
-        ensures noted { MatchOption result (self.new.upkeep ≡ self.old.upkeep) (λ answer. IsKept (left_by self.old.upkeep.doing answer) self.old.upkeep self.new.upkeep) }
+        ensures noted { MatchOption result (self.new.upkeep ≡ self.old.upkeep)
+            (λ answer. IsKept (left_by self.old.upkeep.doing answer) self.old.upkeep self.new.upkeep) }
     {
         let answer = go_on(&self.index, &mut self.hand, &mut self.stage);
         if let Some(answer) = &answer {
