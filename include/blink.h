@@ -24,8 +24,8 @@
  *      answer BLINK_OTHER_MAP.)
  *      Else: the program reads and writes memory at random.
  *   7. A thread that was told BLINK_AGAIN makes some further call of its seat before long. (blink_find and the others do.)
- *      Else: nothing is damaged, and what was begun latches no page meanwhile (but page 0, where it takes a top level away). But it holds back
- *      what others swap out, and they are told BLINK_AGAIN or BLINK_NO_ROOM.
+ *      Else: nothing is damaged. A change or a merge that was begun latches no page meanwhile, but one page may stay latched where a split
+ *      is listed or a top level is taken away. What others swap out is held back, and they are told BLINK_AGAIN or BLINK_NO_ROOM.
  *
  * With -DBLINK_GUARD the inline functions look at rules 1 to 3 as far as a seat shows it: a null pointer for a seat, a call of a seat that is
  * in a call, and a call of a closed seat end the program with a message.
