@@ -163,7 +163,9 @@ fn seats_close_to_an_image_that_opens_again(rt: HostRuntime) {
     let mut bytes = [0; 32 + 256 * 64];
     assert_eq!(rt; quiet.image().pages.len(), 64);
     quiet.image().spell(&mut bytes);
-    let mut again = open_image(alloc, &bytes, 1).ok().expect(&rt, "it is an image");
+    let mut again = open_image(alloc, &bytes, 1)
+        .ok()
+        .expect(&rt, "it is an image");
     assert_eq!(rt; count_rows(&mut again[0]), 100);
     assert_eq!(rt; again[0].find(7), Some(KeyReply::Found(7)));
 }
