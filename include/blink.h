@@ -64,7 +64,7 @@ enum {
     BLINK_BAD_IMAGE = 8,  /* the bytes are no sound image */
     BLINK_CLOSED = 9,     /* the seat is closed */
     BLINK_FEW_ROWS = 10,  /* there is room for fewer than BLINK_LEAF_ROWS rows */
-    BLINK_SEATS_OPEN = 11, /* a seat of the map is open that is not among these: nothing is closed */
+    BLINK_SEATS_OPEN = 11, /* a seat of the map is not among these, or was closed by blink_close: nothing is closed */
     BLINK_FEW_BYTES = 12, /* there is room for fewer bytes than the image has: nothing is closed */
     BLINK_OTHER_MAP = 13, /* the seats are of two maps: nothing was done */
 };
@@ -103,7 +103,8 @@ int32_t blink_open(uint32_t pages, blink_seat *seats, size_t count);
 /* The same for a map that begins with the rows of an image, as `blink` writes it, with as many pages. Also BLINK_BAD_IMAGE. */
 int32_t blink_open_image(const uint8_t *bytes, size_t length, blink_seat *seats, size_t count);
 
-/* Closes a seat, and leaves it all zeros. A map goes with its last seat, and its rows with it. A closed seat may be closed again. */
+/* Closes a seat, and leaves it all zeros. A map goes with its last seat, and its rows with it: for an image all seats are closed together, by
+ * blink_close_image. A closed seat may be closed again. */
 void blink_close(blink_seat *seat);
 
 /* BLINK_OK with the key's value, BLINK_ABSENT, BLINK_AGAIN, BLINK_CLOSED. */
@@ -144,7 +145,8 @@ uint64_t blink_image_length(uint32_t pages);
 
 /* Closes a map by all its seats, and writes its image, as `blink` and blink_open_image read it, into the caller's array. BLINK_OK: all seats are
  * closed, and `*length` bytes are the image. Else all seats are open still: BLINK_AGAIN; BLINK_CLOSED, one of these was closed before;
- * BLINK_SEATS_OPEN, a seat of the map is not among them; BLINK_FEW_BYTES, `*length` says how many are needed; BLINK_NO_MEMORY. */
+ * BLINK_SEATS_OPEN, a seat of the map is not among them (so a map of which blink_close has closed a seat has no image any more);
+ * BLINK_FEW_BYTES, `*length` says how many are needed; BLINK_NO_MEMORY. */
 int32_t blink_try_close_image(blink_seat *seats, size_t count, uint8_t *bytes, size_t room, uint64_t *length);
 
 /* ---- Guards. ---- */
