@@ -1,5 +1,9 @@
 //! Calls of seats.
 
+ghost use Rattle.std.specs.Prelude.{◌≡◌, [], ◌∷◌, IfSome};
+ghost use Rattle.bl_seats.specs.Closed.{values};
+ghost use Rattle.bl_seats.specs.Meetings.{AreOfOne};
+
 use bl_image::image_length;
 use bl_seats::{
     CloseFault, ImageFault, KeyReply, KeyWrite, Next, OpenFault, Reply, Seat, close, open,
@@ -131,23 +135,33 @@ fn what_is_not_opened_says_why(rt: HostRuntime) {
     assert!(rt; open_image(alloc, b"no image", 1).err() == Some(ImageFault::Image));
 }
 
-/// Boxes for the seats.
-fn boxed(alloc: Global, seats: Vec<Seat>) -> Option<Vec<Box<Seat, Global>>> {
+/// Two seats of one index.
+fn two_of_one(alloc: Global) -> Option<(Seat, Seat)>
+    ensures { IfSome result (λ t. AreOfOne t.0 t.1) }
+{
+    let Ok(mut seats) = open(alloc, 64, 2) else {
+        return None;
+    };
+    let two = seats.pop()?;
+    let one = seats.pop()?;
+    Some((one, two))
+}
+
+/// A seat in a box, alone in a vector.
+fn boxed(alloc: Global, seat: Seat) -> Option<Vec<Box<Seat, Global>>>
+    ensures { IfSome result (λ boxes. values boxes.items ≡ seat ∷ []) }
+{
+    let seat = Box::new(alloc, seat).ok()?;
     let mut boxes = Vec::new(alloc);
-    for seat in seats {
-        let seat = Box::new(alloc, seat).ok()?;
-        boxes.push(seat).ok()?;
-    }
+    boxes.push(seat).ok()?;
     Some(boxes)
 }
 
 #[test]
 fn seats_meet(rt: HostRuntime) {
-    let mut seats = open(rt.alloc(), 64, 2).ok().expect(&rt, "it is opened");
-    let mut one = seats.pop().expect(&rt, "there are two");
-    let mut two = seats.pop().expect(&rt, "there are two");
+    let (mut one, mut two) = two_of_one(rt.alloc()).expect(&rt, "there are two");
     assert!(rt; one.write(1, KeyWrite::Insert(10)) == Some(Reply::Inserted));
-    assert!(rt; two.meet(&mut one));
+    assert!(rt; one.meet(&mut two));
     assert_eq!(rt; two.find(1), Some(KeyReply::Found(10)));
     assert_eq!(rt; one.pages(), 64);
 }
@@ -155,9 +169,10 @@ fn seats_meet(rt: HostRuntime) {
 #[test]
 fn seats_close_to_an_image_that_opens_again(rt: HostRuntime) {
     let alloc = rt.alloc();
-    let mut seats = open(alloc, 64, 2).ok().expect(&rt, "it is opened");
-    assert_eq!(rt; insert_many(&mut seats[0], 100), 100);
-    let seats = boxed(alloc, seats).expect(&rt, "there is memory");
+    let mut seats = open(alloc, 64, 1).ok().expect(&rt, "it is opened");
+    let mut seat = seats.pop().expect(&rt, "there is one");
+    assert_eq!(rt; insert_many(&mut seat, 100), 100);
+    let seats = boxed(alloc, seat).expect(&rt, "there is memory");
     let quiet = close(alloc, seats).ok().expect(&rt, "it is closed");
     assert_eq!(rt; image_length(64), 32 + 256 * 64);
     let mut bytes = [0; 32 + 256 * 64];
@@ -166,17 +181,18 @@ fn seats_close_to_an_image_that_opens_again(rt: HostRuntime) {
     let mut again = open_image(alloc, &bytes, 1)
         .ok()
         .expect(&rt, "it is an image");
-    assert_eq!(rt; count_rows(&mut again[0]), 100);
-    assert_eq!(rt; again[0].find(7), Some(KeyReply::Found(7)));
+    let mut seat = again.pop().expect(&rt, "there is one");
+    assert_eq!(rt; count_rows(&mut seat), 100);
+    assert_eq!(rt; seat.find(7), Some(KeyReply::Found(7)));
 }
 
 #[test]
 fn a_close_without_all_seats_is_refused(rt: HostRuntime) {
     let alloc = rt.alloc();
     let mut seats = open(alloc, 64, 2).ok().expect(&rt, "it is opened");
-    let _other = seats.pop().expect(&rt, "there are two");
-    let seats = boxed(alloc, seats).expect(&rt, "there is memory");
-    let (mut back, why) = close(alloc, seats).err().expect(&rt, "one is missing");
+    let seat = seats.pop().expect(&rt, "there are two");
+    let boxes = boxed(alloc, seat).expect(&rt, "there is memory");
+    let (mut back, why) = close(alloc, boxes).err().expect(&rt, "one is missing");
     assert!(rt; why == CloseFault::Missing);
     assert_eq!(rt; back.len(), 1);
     let mut seat = back.pop().expect(&rt, "it is back");
