@@ -1,4 +1,4 @@
-/* Four threads load a map of a million rows, find them, take every third away again, and scan what is left: load [KEYS-EACH [PAGES [FILE]]].
+/* Four threads load a map of 400,000 rows, find them, take every third away again, and scan what is left: load [KEYS-EACH [PAGES [FILE]]].
  * It prints one line, and exits with 1 where anything is not as it should be. The map is closed to its image, which the file then has. */
 #include "blink.h"
 
@@ -9,7 +9,7 @@
 
 enum { THREADS = 4 };
 
-static uint64_t keys_each = 250000;
+static uint64_t keys_each = 100000;
 static blink_seat seats[THREADS];
 
 /* Keys are spread over all 64 bits: an odd factor maps numbers one to one. */
