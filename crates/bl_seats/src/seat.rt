@@ -153,7 +153,7 @@ impl Seat {
         ensures found { IfSome result (λ reply. HasToldLast (op.Find key) (reply_of reply) self.new) }
         ensures told { MatchOption result (HasGoneOn self.old self.new) (λ reply. HasTold (op.Find key) (reply_of reply) self.old self.new) }
     {
-        self.go_on();
+        self.settle();
         find(&self.index, &mut self.hand, &self.stage, key)
     }
 
@@ -165,7 +165,7 @@ impl Seat {
         ensures listed { IfSome result (λ reply. HasToldLast (op.Part from) reply self.new) }
         ensures told { MatchOption result (HasGoneOn self.old self.new) (λ reply. HasTold (op.Part from) reply self.old self.new) }
     {
-        self.go_on();
+        self.settle();
         part(&self.index, &mut self.hand, &self.stage, from, near)
     }
 
