@@ -4,3 +4,4 @@ pub mod Shifts
 pub mod Respellings
 pub mod Tops
 pub mod Ways
+pub mod Thinness

@@ -13,7 +13,6 @@ use Rattle.bl_page.proofs.PagesIn.{AreChildren-at}
 use Rattle.bl_page.specs.Nodes.{node_of, roots_of, IsTreePage}
 use Rattle.bl_rearrange.specs.Rearranged.{pairs_of as pairs_in}
 use Rattle.bl_proc_base.specs.Onwards.{top_of}
-use Rattle.bl_proc_base.specs.Thin.{low_if_thin, thin_low}
 
 -- a key can be sought in the words of a leaf or an inner page, and what is found is what the page lists
 pub tree_pairs : (c : Page) (words : List ℕ) → IsTreePage c → words ≡ words_of c → HasPairs words
@@ -77,15 +76,9 @@ tree_by_kind (page.Leaf l) words e one four = tt
 tree_by_kind (page.Inner n) words e one four = tt
 tree_by_kind (page.Dead d) words e one four = absurd (four (ap kind_in e ∙ (fits (page.Dead d)).is_of))
 
--- how many pairs a leaf or an inner page has, and whether it is thin
+-- how many pairs a leaf or an inner page has
 pub pairs_counted : (c : Page) (words : List ℕ) → IsTreePage c → words ≡ words_of c → count_in words ≡ length (pairs_in c)
 pairs_counted (page.Anchor a) words tree e = absurd tree
 pairs_counted (page.Leaf l) words tree e = ap count_in e ∙ head-count 2 0 (length l.rows.items) (omega arith) (omega (arith, l.few))
 pairs_counted (page.Inner n) words tree e = ap count_in e ∙ head-count 3 n.level (length n.children.items) (omega (arith, n.below_limit)) (omega (arith, n.few))
 pairs_counted (page.Dead d) words tree e = absurd tree
-
-pub thin_read : (c : Page) (words : List ℕ) → IsTreePage c → words ≡ words_of c → low_if_thin (count_in words) (get_or words 1 0) (get_or words 2 0) ≡ thin_low c
-thin_read (page.Anchor a) words tree e = absurd tree
-thin_read (page.Leaf l) words tree e = λ i. low_if_thin (pairs_counted (page.Leaf l) words tree e i) (get_or (e i) 1 0) (get_or (e i) 2 0)
-thin_read (page.Inner n) words tree e = λ i. low_if_thin (pairs_counted (page.Inner n) words tree e i) (get_or (e i) 1 0) (get_or (e i) 2 0)
-thin_read (page.Dead d) words tree e = absurd tree

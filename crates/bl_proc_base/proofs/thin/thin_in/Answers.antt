@@ -1,5 +1,5 @@
 use Rattle.std.proofs.Common.{◌∙◌}
-use Rattle.bl_proc_base.proofs.Spellings.{thin_read}
+use Rattle.bl_proc_base.proofs.Thinness.{thin_read}
 use Rattle.bl_proc_base.proofs.thin.thin_in.Goals as goal
 
 pub returns : goal.returns
