@@ -5,7 +5,7 @@ use Rattle.bl_claims.specs.Meanings.{MeansDone, MeansAlready, MeansStale, MeansT
 use Rattle.bl_proc_base.specs.declared.answers.Hint.{Hint}
 use Rattle.bl_proc_base.specs.declared.answers.Posted.{Posted}
 use Rattle.bl_proc_base.specs.declared.answers.Posted.TheVariants as posted
-use Rattle.bl_proc.specs.Writes.{post_hint}
+use Rattle.bl_proc_writes.specs.Writes.{post_hint}
 
 -- of a post of that key to that level, with the hint beside it, by what its process has done. A parent that was split is itself to be
 -- posted, by its separator and one level higher. No other answer has a hint.

@@ -23,7 +23,7 @@ use Rattle.bl_index.specs.Calls.{passes_of, first_of, number_of, trail, IsPassOf
 use Rattle.bl_index_steps.specs.Answered.{Answers}
 use Rattle.bl_index_steps.specs.Runs.{IsWithin}
 use Rattle.atomic_table.specs.declared.shared.Seat.{Seat}
-use Rattle.bl_store.specs.declared.view.View.{View}
+use Rattle.bl_frames.specs.declared.view.View.{View}
 use Rattle.bl_store.specs.Hands.{known, IsSameHand}
 use Rattle.bl_index_rule.specs.declared.known.PassState.{PassState}
 

@@ -16,9 +16,9 @@ use Rattle.bl_claims.specs.Trails.{Trail, history_of}
 use Rattle.bl_claims.specs.Seeing.{first_map}
 use Rattle.bl_proc_base.specs.declared.answers.Answer.TheVariants.{Op}
 use Rattle.bl_proc_base.specs.declared.answers.Hint.{Hint}
-use Rattle.bl_proc.specs.declared.writing.WriteReply.{WriteReply}
-use Rattle.bl_proc.specs.declared.writing.WriteReply.TheVariants as written
-use Rattle.bl_proc.specs.Writes.{write_answer}
+use Rattle.bl_proc_writes.specs.declared.writing.WriteReply.{WriteReply}
+use Rattle.bl_proc_writes.specs.declared.writing.WriteReply.TheVariants as written
+use Rattle.bl_proc_writes.specs.Writes.{write_answer}
 use Rattle.bl_claims.specs.Hinted.{MeansInserted, MeansWritten}
 use Rattle.bl_store.specs.Hands.{known, WasRefused}
 use Rattle.bl_store.specs.declared.store.Hand.{Hand}

@@ -15,7 +15,7 @@ use Rattle.bl_core.proofs.Frames.{Each-map}
 use Rattle.bl_core.proofs.Pushes.{marks_of-other}
 use Rattle.bl_proc_invariant.specs.Knowing.{Run}
 use Rattle.bl_layout.specs.declared.layout.Layout.{Layout}
-use Rattle.bl_store.specs.Pages.{Stage, Idle, Running, Pages, Stands, observed, Meets}
+use Rattle.bl_frames.specs.Pages.{Stage, Idle, Running, Pages, Stands, observed, Meets}
 use Rattle.bl_index_rule.specs.declared.known.PassState.{PassState}
 use Rattle.bl_claims.specs.Seeing.{IsSeen, AreWithin, AreElse, own, GoesOnFrom, name}
 use Rattle.bl_index_rule.specs.Simulation.{AreUpTo, IsAtStage, IsHand, IsRun, Simulates}

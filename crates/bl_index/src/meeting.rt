@@ -8,8 +8,9 @@ ghost use Rattle.bl_index.specs.Meetings.{learned, heard};
 ghost use Rattle.bl_index_steps.specs.Runs.{Keeps};
 
 use crate::index::{Index, Pass};
+use bl_frames::MeetPlay;
 use bl_index_rule::PassState;
-use bl_store::{Hand, MeetPlay};
+use bl_store::Hand;
 use std::marker::{Brand, PhantomData};
 
 /// Which pass learns of which other, and how many passes there are.

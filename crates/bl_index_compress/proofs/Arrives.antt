@@ -8,8 +8,8 @@ use Rattle.bl_page.specs.Words.{words_of}
 use Rattle.bl_proc_base.specs.declared.acts.Seen.TheVariants as seen
 use Rattle.bl_proc_base.specs.declared.approaching.Approach.TheVariants.{Start, Latched}
 use Rattle.bl_proc_base.specs.declared.approaching.Came.TheVariants as come
-use Rattle.bl_proc_base.specs.declared.onwards.Step.TheVariants.{Here}
-use Rattle.bl_proc_base.specs.Onwards.{Leads}
+use Rattle.bl_proc_pages.specs.declared.onwards.Step.TheVariants.{Here}
+use Rattle.bl_proc_pages.specs.Onwards.{Leads}
 use Rattle.bl_proc_compress.specs.declared.squeezing.CompressStage.{CompressStage}
 use Rattle.bl_proc_compress.specs.declared.squeezing.CompressStage.TheVariants.{Coming}
 use Rattle.bl_proc_compress.specs.Compresses.{CompressArrives, CompressGoes}

@@ -31,7 +31,7 @@ use Rattle.bl_proc.specs.Processes.{Takes}
 use Rattle.bl_proc_unique.specs.Courses.{GoesOn}
 use Rattle.bl_proc_unique.proofs.Compressions.{compress_goes}
 use Rattle.atomic_table.specs.declared.shared.Seat.{Seat}
-use Rattle.bl_store.specs.declared.view.View.{View}
+use Rattle.bl_frames.specs.declared.view.View.{View}
 use Rattle.bl_store.specs.declared.store.Hand.{Hand}
 use Rattle.bl_store.specs.Hands.{known, IsSameHand}
 use Rattle.bl_index_rule.specs.declared.known.PassState.{PassState}

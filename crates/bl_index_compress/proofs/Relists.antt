@@ -11,7 +11,7 @@ use Rattle.bl_page.specs.Nodes.{IsTreePage}
 use Rattle.bl_rearrange.specs.Entered.{dropped, entered}
 use Rattle.bl_rearrange.specs.Rearranged.{pairs_of, IsWithout, KeepsFrame, MayHold}
 use Rattle.bl_rearrange.proofs.EnteredLemmas.{RisesFrom-entered, map_of-entered}
-use Rattle.bl_proc_base.specs.Respelled.{words_by}
+use Rattle.bl_proc_pages.specs.Respelled.{words_by}
 use Rattle.bl_proc_compress.specs.declared.compressing.Family.{Family}
 use Rattle.bl_proc_compress.specs.Compressions.{Relists}
 use Rattle.bl_proc_unique.proofs.Pages.{fits_some, rising, without_some}

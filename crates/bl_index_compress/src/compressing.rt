@@ -22,7 +22,8 @@ use crate::targets::Squeezing;
 use bl_index_rule::PassState;
 use bl_index_steps::{FrameView, Tree};
 use bl_index_ways::{Reached, begin_descent, reach};
-use bl_proc_base::{Approach, Hint, Squeezed, levels_in};
+use bl_proc_base::{Approach, Hint, Squeezed};
+use bl_proc_pages::levels_in;
 use bl_store::{Glance, Hand};
 use std::sync::Wait;
 

@@ -3,8 +3,8 @@
 ghost use Rattle.std.specs.Prelude.{◌<◌, ◌≤◌};
 
 use bl_index_ways::{Target, Unborn};
-use bl_proc_base::Step;
 use bl_proc_compress::Siblings;
+use bl_proc_pages::Step;
 
 /// The compression of two children of a parent, by a key that it covers.
 #[derive(Clone, Copy)]

@@ -11,12 +11,12 @@ use Rattle.bl_page.specs.declared.page.Page.{Page}
 use Rattle.bl_page.specs.Faults.{HasPairs, pairs_of}
 use Rattle.bl_page.specs.Words.{words_of}
 use Rattle.bl_page.specs.Nodes.{IsTreePage, node_of}
-use Rattle.bl_proc_base.proofs.Spellings.{tree_pairs}
+use Rattle.bl_proc_pages.proofs.Spellings.{tree_pairs}
 use Rattle.bl_proc.specs.declared.parts.PartRows.{PartRows}
 use Rattle.bl_proc.specs.Parts.{GoesOnAt}
 use Rattle.bl_proc_unique.proofs.Listings.{part_one}
 use Rattle.bl_store.specs.declared.store.Glance.{Glance}
-use Rattle.bl_store.specs.declared.view.View.{View}
+use Rattle.bl_frames.specs.declared.view.View.{View}
 use Rattle.bl_store.specs.Hands.{known, read_words}
 use Rattle.bl_index_rule.specs.declared.known.PassState.{PassState}
 use Rattle.bl_index_rule.specs.Observed.{ends}

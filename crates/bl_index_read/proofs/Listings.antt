@@ -30,7 +30,7 @@ use Rattle.bl_claims.specs.Trails.{Trail, marks_of}
 use Rattle.bl_claims.specs.Meanings.{writes_of}
 use Rattle.bl_proc_invariant.specs.Logs.{proc_log}
 use Rattle.bl_store.specs.declared.store.Glance.{Glance}
-use Rattle.bl_store.specs.declared.view.View.{View}
+use Rattle.bl_frames.specs.declared.view.View.{View}
 use Rattle.bl_store.specs.Hands.{known, read_words, ReadsFrom}
 use Rattle.bl_index_rule.specs.declared.known.PassState.{PassState}
 use Rattle.bl_claims.specs.Bounds.{gets_of, IsWithinBound}

@@ -14,7 +14,7 @@ use Rattle.bl_page.proofs.Halving.{pairs-at, pairs-length}
 use Rattle.bl_page.specs.Pairs.{RisesFrom}
 use Rattle.bl_page.specs.Words.{words_of}
 use Rattle.bl_page.specs.Nodes.{IsTreePage, node_of}
-use Rattle.bl_proc_base.proofs.Spellings.{tree_pairs, tree_lists}
+use Rattle.bl_proc_pages.proofs.Spellings.{tree_pairs, tree_lists}
 use Rattle.bl_proc.specs.declared.parts.PartRows.{PartRows}
 use Rattle.bl_proc.specs.Parts.{IsPartOf}
 use Rattle.bl_proc.proofs.Rising.{first_from, lists_from, rising_keys}

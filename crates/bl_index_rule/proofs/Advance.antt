@@ -23,7 +23,7 @@ use Rattle.bl_proc_bounds.specs.Searches.{IsSearch, IsUnderWay}
 use Rattle.bl_proc_bounds.specs.Latches.{IsTidy}
 use Rattle.bl_proc_bounds.specs.Paces.{AllKept}
 use Rattle.bl_proc_bounds.proofs.Bounded.{search_within, search_below}
-use Rattle.bl_store.specs.Pages.{Owner, Stage, Running, Pages, Stands}
+use Rattle.bl_frames.specs.Pages.{Owner, Stage, Running, Pages, Stands}
 use Rattle.bl_index_rule.specs.declared.known.PassState.{PassState}
 use Rattle.bl_claims.specs.Seeing.{first_map, BeginsFrom, IsSeen, AreWithin, own, name}
 use Rattle.bl_index_rule.specs.Simulation.{Shows, owner_in, IsAtStage, IsHand, IsRun, Simulates}

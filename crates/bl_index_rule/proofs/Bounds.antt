@@ -39,7 +39,7 @@ use Rattle.bl_proc_bounds.proofs.Latching.{none_up}
 use Rattle.bl_proc_bounds.proofs.Kept.{left_kept, enter_kept}
 use Rattle.bl_proc_unique.specs.Courses.{GoesOn}
 use Rattle.bl_layout.specs.declared.layout.Layout.{Layout}
-use Rattle.bl_store.specs.Pages.{Held, Stage, Idle, Running, Pages, Stands, IsOrderly, HoldsNone, observed, Begins as BeginsIn, Ends}
+use Rattle.bl_frames.specs.Pages.{Held, Stage, Idle, Running, Pages, Stands, IsOrderly, HoldsNone, observed, Begins as BeginsIn, Ends}
 use Rattle.bl_index_rule.specs.declared.known.PassState.{PassState}
 use Rattle.bl_claims.specs.Seeing.{own, name}
 use Rattle.bl_index_rule.specs.Simulation.{owner_in, IsAtStage, IsHand, Simulates}

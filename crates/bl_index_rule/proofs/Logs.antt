@@ -11,7 +11,7 @@ use Rattle.bl_proc_invariant.specs.Logs.{proc_log}
 use Rattle.bl_proc_invariant.specs.Turns.{Turned}
 use Rattle.bl_proc_invariant.specs.Knowing.{Run, know}
 use Rattle.bl_proc_invariant.proofs.Middles.{KeepsLogs}
-use Rattle.bl_store.specs.Pages.{Running, Pages}
+use Rattle.bl_frames.specs.Pages.{Running, Pages}
 use Rattle.bl_index_rule.specs.declared.known.PassState.{PassState}
 use Rattle.bl_claims.specs.Seeing.{name}
 use Rattle.bl_index_rule.specs.Simulation.{Simulates}

@@ -24,7 +24,7 @@ use Rattle.bl_proc_invariant.specs.Knowing.{know, end_of_proc}
 use Rattle.bl_proc_invariant.proofs.Gets.{IsGot, got_next_is}
 use Rattle.bl_proc_unique.specs.Courses.{GoesOn}
 use Rattle.bl_layout.specs.declared.layout.Layout.{Layout}
-use Rattle.bl_store.specs.Pages.{Owner, Released, Open, Held, Retired, Stage, Running, Pages, Stands, later, observed, owned, written, Gets, Puts, Takes, Latches, Misses, Probes, Opens, Retires, Refuses}
+use Rattle.bl_frames.specs.Pages.{Owner, Released, Open, Held, Retired, Stage, Running, Pages, Stands, later, observed, owned, written, Gets, Puts, Takes, Latches, Misses, Probes, Opens, Retires, Refuses}
 use Rattle.bl_index_rule.specs.declared.known.PassState.{PassState}
 use Rattle.bl_claims.specs.Seeing.{name}
 use Rattle.bl_index_rule.specs.Simulation.{Shows, owner_in, Simulates}

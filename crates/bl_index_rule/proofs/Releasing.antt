@@ -19,7 +19,7 @@ use Rattle.bl_proc_invariant.proofs.Middles.{KeepsLogs}
 use Rattle.bl_proc_bounds.specs.Paces.{AllKept}
 use Rattle.bl_proc_bounds.proofs.Kept.{idle_kept}
 use Rattle.bl_layout.specs.declared.layout.Layout.{Layout}
-use Rattle.bl_store.specs.Pages.{Owner, Released, Held, Retired, Stage, Idle, Running, Pages, Stands, IsPage, AllBeganAfter, observed, owned, Releases, ReleasesMany as SweepsIn}
+use Rattle.bl_frames.specs.Pages.{Owner, Released, Held, Retired, Stage, Idle, Running, Pages, Stands, IsPage, AllBeganAfter, observed, owned, Releases, ReleasesMany as SweepsIn}
 use Rattle.bl_index_rule.specs.declared.known.PassState.{PassState}
 use Rattle.bl_claims.specs.Seeing.{own, name}
 use Rattle.bl_index_rule.specs.Simulation.{owner_in, Simulates}

@@ -29,7 +29,7 @@ use Rattle.bl_check_tree.proofs.Opened.{anchor_at, opened_sound, opened_begins}
 use Rattle.bl_proc_invariant.specs.Knowing.{Run, know}
 use Rattle.bl_proc_invariant.proofs.Middles.{KeepsLogs}
 use Rattle.bl_proc_bounds.proofs.Kept.{first_kept}
-use Rattle.bl_store.specs.Pages.{Owner, Stage, Idle}
+use Rattle.bl_frames.specs.Pages.{Owner, Stage, Idle}
 use Rattle.bl_store.specs.Opening.{is_blank, first_owner, first_pages}
 use Rattle.bl_index_rule.specs.declared.known.PassState.{PassState}
 use Rattle.bl_claims.specs.Seeing.{first_map, BeginsFrom, IsSeen, name}

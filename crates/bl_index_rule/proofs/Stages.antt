@@ -10,7 +10,7 @@ use Rattle.bl_core.specs.Worlds.{World, IsGood}
 use Rattle.bl_core.specs.Blank.{IsBlank}
 use Rattle.bl_proc_invariant.specs.Turns.{Turned}
 use Rattle.bl_proc_invariant.specs.Knowing.{Run, know}
-use Rattle.bl_store.specs.Pages.{Stage, Idle, Running}
+use Rattle.bl_frames.specs.Pages.{Stage, Idle, Running}
 use Rattle.bl_index_rule.specs.declared.known.PassState.{PassState}
 use Rattle.bl_claims.specs.Seeing.{own, name}
 use Rattle.bl_index_rule.specs.Simulation.{IsAtStage, AreUpTo, IsHand}

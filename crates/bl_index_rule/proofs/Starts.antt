@@ -17,7 +17,7 @@ use Rattle.bl_core.proofs.Starts.{opening_world, opening_good}
 use Rattle.bl_proc_invariant.specs.Knowing.{Run, know}
 use Rattle.bl_proc_invariant.proofs.Middles.{KeepsLogs}
 use Rattle.bl_proc_bounds.proofs.Kept.{first_kept}
-use Rattle.bl_store.specs.Pages.{Stage, Idle}
+use Rattle.bl_frames.specs.Pages.{Stage, Idle}
 use Rattle.bl_store.specs.Opening.{first_owner, first_pages}
 use Rattle.bl_index_rule.specs.declared.known.PassState.{PassState}
 use Rattle.bl_claims.specs.Seeing.{IsSeen, name}

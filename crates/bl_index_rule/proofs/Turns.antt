@@ -22,7 +22,7 @@ use Rattle.bl_proc_invariant.proofs.Logged.{saw_words}
 use Rattle.bl_proc_bounds.specs.Paces.{AllKept}
 use Rattle.bl_proc_bounds.proofs.Turns.{state_kept}
 use Rattle.bl_proc_unique.specs.Courses.{GoesOn}
-use Rattle.bl_store.specs.Pages.{Owner, Stage, Idle, Running, Pages, Stands, observed}
+use Rattle.bl_frames.specs.Pages.{Owner, Stage, Idle, Running, Pages, Stands, observed}
 use Rattle.bl_index_rule.specs.declared.known.PassState.{PassState}
 use Rattle.bl_claims.specs.Seeing.{name}
 use Rattle.bl_index_rule.specs.Simulation.{Shows, owner_in, IsAtStage, Simulates}

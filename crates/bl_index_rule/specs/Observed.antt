@@ -22,7 +22,7 @@ use Rattle.bl_core.specs.Worlds.{Stage}
 use Rattle.bl_claims.specs.Walks.{Each}
 use Rattle.bl_core.specs.Blank.{IsBlank}
 use Rattle.bl_proc_unique.specs.Courses.{GoesOn}
-use Rattle.bl_store.specs.Pages.{Owner, Open}
+use Rattle.bl_frames.specs.Pages.{Owner, Open}
 use Rattle.bl_index_rule.specs.declared.known.PassState.{PassState}
 use Rattle.bl_claims.specs.Seeing.{IsSeen, AreWithin, AreElse, own, name}
 use Rattle.bl_index_rule.specs.Simulation.{AreUpTo}

@@ -12,22 +12,22 @@ use Rattle.bl_proc_base.specs.Growths.{growth_next, growth_needs}
 use Rattle.bl_model.specs.declared.deciding.KeyWrite.{KeyWrite}
 use Rattle.bl_model.specs.declared.deciding.KeyWrite.TheVariants.{Insert}
 use Rattle.bl_model.specs.Writes.{effect_of}
-use Rattle.bl_proc.specs.declared.writing.WriteStage.{WriteStage}
-use Rattle.bl_proc.specs.declared.writing.WriteStage.TheVariants as write
-use Rattle.bl_proc.specs.declared.posting.Post.{Post as PostIs}
-use Rattle.bl_proc.specs.declared.posting.PostStage.{PostStage}
-use Rattle.bl_proc.specs.declared.posting.PostStage.TheVariants as post
-use Rattle.bl_proc.specs.declared.paths.Path.{Path}
-use Rattle.bl_proc.specs.declared.climbing.Climbed.{Climbed}
-use Rattle.bl_proc.specs.declared.climbing.Climbed.TheVariants as climbed
-use Rattle.bl_proc.specs.declared.climbing.ClimbStage.{ClimbStage}
-use Rattle.bl_proc.specs.declared.climbing.ClimbStage.TheVariants as climb
+use Rattle.bl_proc_writes.specs.declared.writing.WriteStage.{WriteStage}
+use Rattle.bl_proc_writes.specs.declared.writing.WriteStage.TheVariants as write
+use Rattle.bl_proc_writes.specs.declared.posting.Post.{Post as PostIs}
+use Rattle.bl_proc_writes.specs.declared.posting.PostStage.{PostStage}
+use Rattle.bl_proc_writes.specs.declared.posting.PostStage.TheVariants as post
+use Rattle.bl_proc_writes.specs.declared.paths.Path.{Path}
+use Rattle.bl_proc_writes.specs.declared.climbing.Climbed.{Climbed}
+use Rattle.bl_proc_writes.specs.declared.climbing.Climbed.TheVariants as climbed
+use Rattle.bl_proc_writes.specs.declared.climbing.ClimbStage.{ClimbStage}
+use Rattle.bl_proc_writes.specs.declared.climbing.ClimbStage.TheVariants as climb
 use Rattle.bl_proc.specs.declared.kinds.Proc.{Proc}
 use Rattle.bl_proc.specs.declared.kinds.Proc.TheVariants.{Find, Write, Post, Part, Compress, Reclaim, Lower, InsertPost}
-use Rattle.bl_proc.specs.Writes.{write_next_in, write_needs_in}
-use Rattle.bl_proc.specs.Posts.{post_next_in, post_needs_in}
-use Rattle.bl_proc.specs.Stands.{Stands}
-use Rattle.bl_proc.specs.Climbs.{climb_next_in, climb_needs_in}
+use Rattle.bl_proc_writes.specs.Writes.{write_next_in, write_needs_in}
+use Rattle.bl_proc_writes.specs.Posts.{post_next_in, post_needs_in}
+use Rattle.bl_proc_writes.specs.Stands.{Stands}
+use Rattle.bl_proc_writes.specs.Climbs.{climb_next_in, climb_needs_in}
 use Rattle.bl_proc.specs.Processes.{next_of, needs_of, Takes}
 use Rattle.bl_proc_unique.specs.Refusals.{PostRefused, ClimbRefused, IsRefused}
 use Rattle.bl_proc_unique.proofs.KindCases.{ClimbCase, climb_case}

@@ -11,7 +11,7 @@ use Rattle.bl_proc_unique.specs.Retirements.{IsPutDone, RetiresAfter}
 use Rattle.bl_layout.specs.declared.layout.Layout.{Layout}
 use Rattle.bl_layout.specs.Words.{frame_count}
 use Rattle.bl_store.specs.declared.stock.Stock.{Stock}
-use Rattle.bl_store.specs.declared.view.View.{View}
+use Rattle.bl_frames.specs.declared.view.View.{View}
 use Rattle.bl_store.specs.Hands.{HasNoStock, IsSameStock, drafts}
 use Rattle.bl_index_rule.specs.declared.known.PassState.{PassState}
 use Rattle.bl_index_steps.specs.Runs.{HasReserved}

@@ -14,27 +14,27 @@ use Rattle.bl_proc.specs.Processes.{next_of, needs_of, Takes}
 use Rattle.bl_proc_unique.specs.Refusals.{IsRefused, PutsRefused}
 use Rattle.bl_proc_unique.proofs.RefusedTurns.{takes_refused, takes_puts}
 use Rattle.bl_proc_unique.proofs.RefusedNexts.{refused_opens, may_ask, may_ask_on}
-use Rattle.bl_store.specs.declared.view.View.{View}
+use Rattle.bl_frames.specs.declared.view.View.{View}
 use Rattle.bl_layout.specs.declared.layout.Layout.{Layout}
 use Rattle.bl_store.specs.Hands.{known, IsWhyOf, WasRefused, IsSameRefusal}
 use Rattle.bl_index_rule.specs.declared.known.PassState.{PassState}
 use Rattle.bl_proc_base.specs.declared.editing.Edit.TheVariants as edit
 use Rattle.bl_proc_base.specs.declared.editing.Outcome.{Outcome}
 use Rattle.bl_proc_base.specs.declared.editing.Outcome.TheVariants as outcome
-use Rattle.bl_proc.specs.declared.posting.PostReply.TheVariants as reply
-use Rattle.bl_proc.specs.declared.posting.Post.{Post}
-use Rattle.bl_proc.specs.declared.climbing.InsertPost.{InsertPost}
-use Rattle.bl_proc.specs.declared.climbing.Climbed.{Climbed}
-use Rattle.bl_proc.specs.declared.climbing.Climbed.TheVariants as climbed
-use Rattle.bl_proc.specs.declared.climbing.ClimbStage.{ClimbStage}
-use Rattle.bl_proc.specs.declared.climbing.ClimbStage.TheVariants as climb
+use Rattle.bl_proc_writes.specs.declared.posting.PostReply.TheVariants as reply
+use Rattle.bl_proc_writes.specs.declared.posting.Post.{Post}
+use Rattle.bl_proc_writes.specs.declared.climbing.InsertPost.{InsertPost}
+use Rattle.bl_proc_writes.specs.declared.climbing.Climbed.{Climbed}
+use Rattle.bl_proc_writes.specs.declared.climbing.Climbed.TheVariants as climbed
+use Rattle.bl_proc_writes.specs.declared.climbing.ClimbStage.{ClimbStage}
+use Rattle.bl_proc_writes.specs.declared.climbing.ClimbStage.TheVariants as climb
 use Rattle.bl_proc.specs.declared.kinds.Proc.TheVariants as proc
 use Rattle.bl_proc.specs.declared.lowering.Lower.{Lower}
-use Rattle.bl_proc.specs.declared.writing.Noted.{Noted}
-use Rattle.bl_proc.specs.declared.writing.WriteReply.TheVariants.{Done, NoRoom}
-use Rattle.bl_proc.specs.Writes.{write_reply, post_hint}
+use Rattle.bl_proc_writes.specs.declared.writing.Noted.{Noted}
+use Rattle.bl_proc_writes.specs.declared.writing.WriteReply.TheVariants.{Done, NoRoom}
+use Rattle.bl_proc_writes.specs.Writes.{write_reply, post_hint}
 use Rattle.bl_proc_base.specs.Thin.{thin_hint}
-use Rattle.bl_proc.specs.Posts.{post_reply}
+use Rattle.bl_proc_writes.specs.Posts.{post_reply}
 use Rattle.bl_index_steps.specs.Refused.{GotHeld, LacksForEffect}
 use Rattle.bl_index_steps.specs.Held.{HasRoom, IsFull, own_marks, KeepsLatch, IfEnters, edit_held, proc_held, AsksForPage, AsksForPost, AsksWhen, AsksForClimb, AsksFor}
 use Rattle.bl_index_steps.specs.Rooms.{LacksPage, LacksWrite, LacksPost, LacksAsked, TellsRoom}

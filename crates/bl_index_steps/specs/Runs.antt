@@ -2,7 +2,7 @@
 use Rattle.std.specs.Prelude.{◌≡◌, ◌≢◌, ℕ, ◌+◌, ◌++◌, true, false, ◌∷◌, Option, Some, None}
 use Rattle.atomic_table.specs.declared.shared.Seat.{Seat}
 use Rattle.bl_layout.specs.declared.layout.Layout.{Layout}
-use Rattle.bl_store.specs.declared.view.View.{View}
+use Rattle.bl_frames.specs.declared.view.View.{View}
 use Rattle.bl_store.specs.declared.stock.Stock.{Stock}
 use Rattle.bl_store.specs.Hands.{HasNoStock, IsIdle, IsRunning, IsSameHand, IsSameStage, IsSameStock, IsStockOf, MayRetire, IsSameRefusal, known}
 use Rattle.bl_proc_base.specs.declared.acts.Action.TheVariants as act

@@ -1,6 +1,7 @@
 //! Kinds of processes, each by its own type.
 
-use bl_proc::{Compress, Find, InsertPost, Lower, Post, Process, Reader};
+use bl_proc::{Compress, Find, Lower, Process, Reader};
+use bl_proc_writes::{InsertPost, Post};
 
 /// A kind of process that the index carries out: each is one of the kinds that the world of processes knows, and goes on
 /// in one way.

@@ -24,8 +24,8 @@ use Rattle.bl_proc_compress.specs.Compressions.{Links, Decides, after_puts, Comp
 use Rattle.bl_proc_compress.specs.Compresses.{CompressGoes}
 use Rattle.bl_proc.specs.declared.kinds.Proc.{Proc}
 use Rattle.bl_proc.specs.declared.kinds.Proc.TheVariants as proc
-use Rattle.bl_proc.specs.declared.writing.WriteStage.{WriteStage}
-use Rattle.bl_proc.specs.declared.writing.WriteStage.TheVariants as write
+use Rattle.bl_proc_writes.specs.declared.writing.WriteStage.{WriteStage}
+use Rattle.bl_proc_writes.specs.declared.writing.WriteStage.TheVariants as write
 use Rattle.bl_proc.specs.Processes.{Takes}
 use Rattle.bl_proc_unique.proofs.WayCases.{ApproachCase, approach_case, EditCase, edit_case}
 use Rattle.bl_proc_unique.proofs.KindCases.{WriteCase, write_case, CompressCase, compress_case}

@@ -5,8 +5,9 @@ ghost use Rattle.bl_index_turns.specs.Holding.{HoldsNone, none_on_way, none_in_g
 
 use crate::writing::Writing;
 use bl_index_steps::Kind;
-use bl_proc::{Compress, CompressStage, Lower, LowerStage, Post, PostStage, WriteStage};
+use bl_proc::{Compress, CompressStage, Lower, LowerStage};
 use bl_proc_base::{Approach, Growth, Lowering};
+use bl_proc_writes::{Post, PostStage, WriteStage};
 
 /// A process of which can be told whether it holds a page.
 pub trait Holder: Kind {

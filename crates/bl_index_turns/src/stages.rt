@@ -9,7 +9,8 @@ use crate::writing::Writing;
 use bl_index_rule::PassState;
 use bl_index_steps::Tree;
 use bl_model::KeyWrite;
-use bl_proc::{Answer, Compress, Hint, Lower, Post, Process};
+use bl_proc::{Answer, Compress, Hint, Lower, Process};
+use bl_proc_writes::Post;
 use bl_store::{Hand, Stock};
 
 /// What a hand is about: it runs no process, or one that is underway, with what it has reserved.

@@ -1,15 +1,16 @@
 //! A write of one key as a process that goes on in turns.
 
 ghost use Rattle.std.specs.Prelude.{◌≡◌, IfSome};
-ghost use Rattle.bl_proc.specs.declared.writing.WriteStage.TheVariants as write_stage;
+ghost use Rattle.bl_proc_writes.specs.declared.writing.WriteStage.TheVariants as write_stage;
 ghost use Rattle.bl_index_turns.specs.Ways.{IsOnWay};
-ghost use Rattle.bl_proc.specs.Writes.{write_next_of, write_needs_of, write_answer_of, WriteTakes};
+ghost use Rattle.bl_proc_writes.specs.Writes.{write_next_of, write_needs_of, write_answer_of, WriteTakes};
 
 use bl_index_steps::Kind;
 use bl_model::KeyWrite;
 use bl_page::Words;
-use bl_proc::{Action, Answer, Process, Reader, Seen, Write, WriteStage};
+use bl_proc::{Action, Answer, Process, Reader, Seen};
 use bl_proc_base::{Approach, took_page};
+use bl_proc_writes::{Write, WriteStage};
 
 /// A write of one key, whose process has a value here.
 #[derive(Drop)]

@@ -22,7 +22,7 @@ use Rattle.bl_proc_base.specs.declared.editing.Full.{Full}
 use Rattle.bl_proc_base.specs.declared.editing.Edit.TheVariants as edit
 use Rattle.bl_proc_base.specs.declared.editing.Edited.TheVariants as changed
 use Rattle.bl_proc_base.specs.Edits.{Changes}
-use Rattle.bl_proc_base.proofs.Shifts.{padded, length-entries, entered-below, entered-key, entered-word, entered-above}
+use Rattle.bl_proc_pages.proofs.Shifts.{padded, length-entries, entered-below, entered-key, entered-word, entered-above}
 use Rattle.bl_index_ways.specs.Halves.{AreSpread, AreParts}
 
 -- a page without entries

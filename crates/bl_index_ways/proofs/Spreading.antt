@@ -13,8 +13,8 @@ use Rattle.bl_page.specs.Nodes.{IsTreePage}
 use Rattle.bl_rearrange.specs.Entered.{entered}
 use Rattle.bl_rearrange.specs.Rearranged.{pairs_of, KeepsFrame}
 use Rattle.bl_rearrange.proofs.EnteredLemmas.{length-entered}
-use Rattle.bl_proc_base.specs.Respelled.{words_by}
-use Rattle.bl_proc_base.proofs.Shifts.{padded, length-entries, entered-below, entered-key, entered-word, entered-above}
+use Rattle.bl_proc_pages.specs.Respelled.{words_by}
+use Rattle.bl_proc_pages.proofs.Shifts.{padded, length-entries, entered-below, entered-key, entered-word, entered-above}
 use Rattle.bl_proc_unique.proofs.Rows.{rows_one}
 use Rattle.bl_proc_unique.proofs.Pages.{rising}
 use Rattle.bl_store.specs.Drafts.{IsSpread}

@@ -15,29 +15,29 @@ use Rattle.bl_proc_base.specs.declared.editing.Edit.TheVariants as edit
 use Rattle.bl_proc_base.specs.declared.editing.Full.{Full}
 use Rattle.bl_proc_base.specs.declared.editing.Outcome.{Outcome}
 use Rattle.bl_proc_base.specs.declared.editing.Outcome.TheVariants as outcome
-use Rattle.bl_proc_base.specs.declared.onwards.Step.{Step}
-use Rattle.bl_proc_base.specs.declared.onwards.Step.TheVariants.{Right, Down, Here}
-use Rattle.bl_proc_base.specs.Onwards.{Leads}
-use Rattle.bl_proc_base.specs.Respelled.{words_by}
+use Rattle.bl_proc_pages.specs.declared.onwards.Step.{Step}
+use Rattle.bl_proc_pages.specs.declared.onwards.Step.TheVariants.{Right, Down, Here}
+use Rattle.bl_proc_pages.specs.Onwards.{Leads}
+use Rattle.bl_proc_pages.specs.Respelled.{words_by}
 use Rattle.bl_proc.specs.declared.kinds.Proc.{Proc}
-use Rattle.bl_proc.specs.declared.posting.PostStage.{PostStage}
-use Rattle.bl_proc.specs.declared.posting.PostStage.TheVariants as post
-use Rattle.bl_proc.specs.declared.posting.PostReply.{PostReply}
-use Rattle.bl_proc.specs.declared.posting.PostReply.TheVariants as reply
-use Rattle.bl_proc.specs.declared.walking.Walk.{Walk}
-use Rattle.bl_proc.specs.Levels.{IsBelowTop, IsBelowTop-prop, MayReply}
-use Rattle.bl_proc.specs.Posts.{post_reply, IsLost, PostGoes, PostWalks}
+use Rattle.bl_proc_writes.specs.declared.posting.PostStage.{PostStage}
+use Rattle.bl_proc_writes.specs.declared.posting.PostStage.TheVariants as post
+use Rattle.bl_proc_writes.specs.declared.posting.PostReply.{PostReply}
+use Rattle.bl_proc_writes.specs.declared.posting.PostReply.TheVariants as reply
+use Rattle.bl_proc_writes.specs.declared.walking.Walk.{Walk}
+use Rattle.bl_proc_writes.specs.Levels.{IsBelowTop, IsBelowTop-prop, MayReply}
+use Rattle.bl_proc_writes.specs.Posts.{post_reply, IsLost, PostGoes, PostWalks}
 use Rattle.bl_proc.specs.Processes.{Takes}
-use Rattle.bl_proc.proofs.Named.{listed-child}
+use Rattle.bl_proc_writes.proofs.Named.{listed-child}
 use Rattle.bl_proc_unique.proofs.Edits.{enter_one}
 use Rattle.bl_proc_unique.proofs.Onwards.{right_small}
 use Rattle.bl_proc_unique.proofs.Pages.{fits_some, rising}
 use Rattle.atomic_table.specs.declared.shared.Seat.{Seat}
 use Rattle.bl_store.specs.declared.store.Hand.{Hand}
-use Rattle.bl_store.specs.declared.view.View.{View}
+use Rattle.bl_frames.specs.declared.view.View.{View}
 use Rattle.bl_store.specs.Hands.{known, IsSameHand, IsSameRefusal}
 use Rattle.bl_index_rule.specs.declared.known.PassState.{PassState}
-use Rattle.bl_proc.specs.Stands.{IsPosting}
+use Rattle.bl_proc_writes.specs.Stands.{IsPosting}
 use Rattle.bl_index_ways.specs.Events.{IsOpened, IsToEnter, IsWalking, LeavesParent}
 use Rattle.bl_index_ways.specs.Posters.{IsPoster, Opened, Staged}
 use Rattle.bl_index_steps.specs.Held.{KeepsLatch}

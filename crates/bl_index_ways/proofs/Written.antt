@@ -24,23 +24,23 @@ use Rattle.bl_proc_base.specs.declared.editing.Edit.TheVariants as edit
 use Rattle.bl_proc_base.specs.declared.editing.Full.{Full}
 use Rattle.bl_proc_base.specs.declared.editing.Outcome.{Outcome}
 use Rattle.bl_proc_base.specs.declared.editing.Outcome.TheVariants as outcome
-use Rattle.bl_proc_base.specs.Respelled.{words_by}
+use Rattle.bl_proc_pages.specs.Respelled.{words_by}
 use Rattle.bl_proc_base.specs.Thin.{thin_low}
-use Rattle.bl_proc_base.proofs.Spellings.{tree_lists, pairs_counted}
-use Rattle.bl_proc.specs.declared.writing.Noted.{Noted}
-use Rattle.bl_proc.specs.declared.writing.WriteStage.{WriteStage}
-use Rattle.bl_proc.specs.declared.writing.WriteStage.TheVariants as write
+use Rattle.bl_proc_pages.proofs.Spellings.{tree_lists, pairs_counted}
+use Rattle.bl_proc_writes.specs.declared.writing.Noted.{Noted}
+use Rattle.bl_proc_writes.specs.declared.writing.WriteStage.{WriteStage}
+use Rattle.bl_proc_writes.specs.declared.writing.WriteStage.TheVariants as write
 use Rattle.bl_proc.specs.declared.kinds.Proc.{Proc}
 use Rattle.bl_proc.specs.Processes.{next_of}
-use Rattle.bl_proc.specs.declared.writing.WriteReply.TheVariants.{Done, NoRoom}
+use Rattle.bl_proc_writes.specs.declared.writing.WriteReply.TheVariants.{Done, NoRoom}
 use Rattle.bl_proc_base.specs.Thin.{thin_hint}
-use Rattle.bl_proc.specs.Writes.{post_hint, thin_by, Performs, WriteGoes}
+use Rattle.bl_proc_writes.specs.Writes.{post_hint, thin_by, Performs, WriteGoes}
 use Rattle.bl_proc_unique.specs.Courses.{GoesOn}
 use Rattle.bl_proc_unique.proofs.Pages.{without_some, value_some, rising}
 use Rattle.bl_proc_unique.proofs.Edits.{enter_one}
 use Rattle.bl_proc_unique.proofs.Leaves.{leaf_covers, leaf_lists, leaf_holds, leaf_loses, leaf_has}
 use Rattle.atomic_table.specs.declared.shared.Seat.{Seat}
-use Rattle.bl_store.specs.declared.view.View.{View}
+use Rattle.bl_frames.specs.declared.view.View.{View}
 use Rattle.bl_store.specs.Drafts.{IsSpread}
 use Rattle.bl_store.specs.Hands.{known, read_words, HasNoStock, IsSameHand, IsSameRefusal, WasRefused}
 use Rattle.bl_store.specs.declared.put.Spread.{Spread}

@@ -10,7 +10,7 @@ use Rattle.bl_rearrange.specs.Rearranged.{pairs_of, MayHold}
 use Rattle.bl_page.specs.Words.{words_of}
 use Rattle.bl_layout.specs.declared.layout.Layout.{Layout}
 use Rattle.bl_model.specs.declared.deciding.KeyWrite.{KeyWrite}
-use Rattle.bl_store.specs.declared.view.View.{View}
+use Rattle.bl_frames.specs.declared.view.View.{View}
 use Rattle.bl_store.specs.declared.store.Glance.{Glance}
 use Rattle.bl_store.specs.declared.store.Hand.{Hand}
 use Rattle.bl_store.specs.Hands.{known, read_words, IsSameHand, HasNoStock, ReadsFrom}
@@ -20,16 +20,16 @@ use Rattle.bl_proc_base.specs.declared.approaching.Approach.TheVariants.{Start, 
 use Rattle.bl_proc_base.specs.declared.editing.Edit.{Edit}
 use Rattle.bl_proc_base.specs.declared.editing.Outcome.{Outcome}
 use Rattle.bl_proc_base.specs.declared.editing.Outcome.TheVariants as outcome
-use Rattle.bl_proc_base.specs.declared.onwards.Step.TheVariants.{Here}
+use Rattle.bl_proc_pages.specs.declared.onwards.Step.TheVariants.{Here}
 use Rattle.bl_proc_base.specs.Edits.{EntersPair}
-use Rattle.bl_proc_base.specs.Onwards.{Leads}
-use Rattle.bl_proc.specs.declared.writing.WriteStage.{WriteStage}
-use Rattle.bl_proc.specs.declared.writing.WriteStage.TheVariants as write
-use Rattle.bl_proc.specs.declared.posting.PostStage.TheVariants as post
-use Rattle.bl_proc.specs.declared.posting.PostReply.{PostReply}
-use Rattle.bl_proc.specs.declared.posting.PostReply.TheVariants as reply
-use Rattle.bl_proc.specs.declared.walking.Walk.{Walk}
-use Rattle.bl_proc.specs.Levels.{MayReply}
+use Rattle.bl_proc_pages.specs.Onwards.{Leads}
+use Rattle.bl_proc_writes.specs.declared.writing.WriteStage.{WriteStage}
+use Rattle.bl_proc_writes.specs.declared.writing.WriteStage.TheVariants as write
+use Rattle.bl_proc_writes.specs.declared.posting.PostStage.TheVariants as post
+use Rattle.bl_proc_writes.specs.declared.posting.PostReply.{PostReply}
+use Rattle.bl_proc_writes.specs.declared.posting.PostReply.TheVariants as reply
+use Rattle.bl_proc_writes.specs.declared.walking.Walk.{Walk}
+use Rattle.bl_proc_writes.specs.Levels.{MayReply}
 use Rattle.bl_proc.specs.declared.kinds.Proc.{Proc}
 use Rattle.bl_proc.specs.Processes.{Takes}
 use Rattle.bl_index_rule.specs.declared.known.PassState.{PassState}

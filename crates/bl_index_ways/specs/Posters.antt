@@ -7,13 +7,13 @@ use Rattle.bl_proc_base.specs.declared.editing.Edit.TheVariants as edit
 use Rattle.bl_proc_base.specs.declared.editing.Outcome.{Outcome}
 use Rattle.bl_proc_base.specs.Given.{Gives}
 use Rattle.bl_proc.specs.declared.kinds.Proc.{Proc}
-use Rattle.bl_proc.specs.declared.posting.PostReply.{PostReply}
-use Rattle.bl_proc.specs.declared.posting.PostStage.{PostStage}
-use Rattle.bl_proc.specs.declared.posting.PostStage.TheVariants.{New, Coming, Growing, Walking, Editing, Staying, Ending, Over}
-use Rattle.bl_proc.specs.Levels.{IsBelowTop, MayReply}
-use Rattle.bl_proc.specs.Posts.{post_next_in, post_needs_in, post_reply, PostGoes}
+use Rattle.bl_proc_writes.specs.declared.posting.PostReply.{PostReply}
+use Rattle.bl_proc_writes.specs.declared.posting.PostStage.{PostStage}
+use Rattle.bl_proc_writes.specs.declared.posting.PostStage.TheVariants.{New, Coming, Growing, Walking, Editing, Staying, Ending, Over}
+use Rattle.bl_proc_writes.specs.Levels.{IsBelowTop, MayReply}
+use Rattle.bl_proc_writes.specs.Posts.{post_next_in, post_needs_in, post_reply, PostGoes}
 use Rattle.bl_proc.specs.Processes.{next_of, Takes}
-use Rattle.bl_proc.specs.Stands.{IsPosting}
+use Rattle.bl_proc_writes.specs.Stands.{IsPosting}
 use Rattle.bl_proc_unique.specs.Courses.{GoesOn}
 use Rattle.bl_index_steps.specs.Held.{proc_held, post_held}
 use Rattle.bl_index_ways.specs.Ways.{IsToHold}

@@ -6,8 +6,8 @@ use Rattle.bl_proc_base.specs.declared.approaching.Approach.TheVariants.{Start, 
 use Rattle.bl_proc_base.specs.declared.approaching.Approached.TheVariants as came
 use Rattle.bl_proc_base.specs.declared.approaching.Came.TheVariants as descend
 use Rattle.bl_proc_base.specs.Approaches.{Approaches}
-use Rattle.bl_proc.specs.declared.posting.PostStage.TheVariants as post
-use Rattle.bl_proc.specs.Posts.{PostGoes}
+use Rattle.bl_proc_writes.specs.declared.posting.PostStage.TheVariants as post
+use Rattle.bl_proc_writes.specs.Posts.{PostGoes}
 
 -- it is past the anchor
 abbrev pub IsPast : Approach → Type 0

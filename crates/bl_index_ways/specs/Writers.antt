@@ -12,13 +12,13 @@ use Rattle.bl_proc_base.specs.declared.editing.Outcome.TheVariants as outcome
 use Rattle.bl_proc_base.specs.Given.{Gives}
 use Rattle.bl_proc_base.specs.Thin.{thin_hint}
 use Rattle.bl_proc.specs.declared.kinds.Proc.{Proc}
-use Rattle.bl_proc.specs.declared.writing.Noted.{Noted}
-use Rattle.bl_proc.specs.declared.writing.WriteReply.{WriteReply}
-use Rattle.bl_proc.specs.declared.writing.WriteReply.TheVariants.{Done, NoRoom}
-use Rattle.bl_proc.specs.declared.writing.WriteStage.{WriteStage}
-use Rattle.bl_proc.specs.declared.writing.WriteStage.TheVariants.{New, Coming, Keeping, Editing, Ending, Over}
+use Rattle.bl_proc_writes.specs.declared.writing.Noted.{Noted}
+use Rattle.bl_proc_writes.specs.declared.writing.WriteReply.{WriteReply}
+use Rattle.bl_proc_writes.specs.declared.writing.WriteReply.TheVariants.{Done, NoRoom}
+use Rattle.bl_proc_writes.specs.declared.writing.WriteStage.{WriteStage}
+use Rattle.bl_proc_writes.specs.declared.writing.WriteStage.TheVariants.{New, Coming, Keeping, Editing, Ending, Over}
 use Rattle.bl_proc.specs.Processes.{next_of, Takes}
-use Rattle.bl_proc.specs.Writes.{post_hint, write_next_in, write_needs_in, WriteGoes}
+use Rattle.bl_proc_writes.specs.Writes.{post_hint, write_next_in, write_needs_in, WriteGoes}
 use Rattle.bl_proc_unique.specs.Courses.{GoesOn}
 use Rattle.bl_index_steps.specs.Held.{proc_held, write_held}
 use Rattle.bl_index_ways.specs.declared.writers.Left.{Left}

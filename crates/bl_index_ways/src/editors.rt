@@ -49,7 +49,7 @@ pub(crate) struct Entering<'a, W: Writer> {
 
 impl<'a, W: Writer> Editor for Entering<'a, W> {
     ghost use Rattle.std.specs.Prelude.{refl, None};
-    ghost use Rattle.bl_proc.specs.declared.writing.WriteStage.TheVariants as stages;
+    ghost use Rattle.bl_proc_writes.specs.declared.writing.WriteStage.TheVariants as stages;
     ghost use Rattle.bl_index_steps.proofs.Held.{enters_held};
 
     ghost editing = { λ j c. W.staged j.writer.now (stages.Editing (record { there = None; thin = None }) c) };
@@ -77,7 +77,7 @@ pub(crate) struct Listing<'a, P: Poster> {
 }
 
 impl<'a, P: Poster> Editor for Listing<'a, P> {
-    ghost use Rattle.bl_proc.specs.declared.posting.PostStage.TheVariants as post;
+    ghost use Rattle.bl_proc_writes.specs.declared.posting.PostStage.TheVariants as post;
 
     ghost editing = { λ j c. P.staged j.poster.now (post.Editing c) j.below tt };
 

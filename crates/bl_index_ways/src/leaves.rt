@@ -9,7 +9,7 @@ ghost use Rattle.bl_page.specs.Pairs.{place as place_among};
 ghost use Rattle.bl_page.specs.Words.{words_of};
 ghost use Rattle.bl_proc_base.specs.declared.approaching.Approach.TheVariants as approach;
 ghost use Rattle.bl_proc_base.specs.declared.editing.Edit.TheVariants as edit;
-ghost use Rattle.bl_proc.specs.declared.writing.WriteStage.TheVariants as stages;
+ghost use Rattle.bl_proc_writes.specs.declared.writing.WriteStage.TheVariants as stages;
 ghost use Rattle.bl_store.specs.Hands.{known, read_words, IsRunning, IsSameHand, IsSameRefusal, HasNoStock, ReadsFrom};
 ghost use Rattle.bl_store.specs.Owners.{IsHandOf};
 ghost use Rattle.bl_index_steps.specs.Held.{KeepsLatch};
@@ -24,8 +24,9 @@ use bl_index_rule::PassState;
 use bl_index_steps::{FrameView, Tree};
 use bl_model::{Effect, decide};
 use bl_page::{LEVEL_UNIT, place_in, word, words_from};
-use bl_proc::Noted;
-use bl_proc_base::{Outcome, thin_in, words_with_value, words_without};
+use bl_proc_base::{Outcome, thin_in};
+use bl_proc_pages::{words_with_value, words_without};
+use bl_proc_writes::Noted;
 use bl_store::{Glance, Hand, Spread};
 
 /// What became of a leaf that was to be put, by whether there was room.

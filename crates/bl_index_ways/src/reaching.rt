@@ -12,7 +12,8 @@ use crate::coming::come_from;
 use crate::targets::Target;
 use bl_index_rule::PassState;
 use bl_index_steps::{FrameView, Tree};
-use bl_proc_base::{Approach, levels_in};
+use bl_proc_base::Approach;
+use bl_proc_pages::levels_in;
 use bl_store::{Glance, Hand};
 use std::sync::Wait;
 

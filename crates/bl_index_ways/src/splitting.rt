@@ -22,7 +22,8 @@ use crate::halves::{entries_with, laid_out};
 use bl_index_rule::PassState;
 use bl_index_steps::Tree;
 use bl_page::LEVEL_UNIT;
-use bl_proc_base::{Outcome, words_with};
+use bl_proc_base::Outcome;
+use bl_proc_pages::words_with;
 use bl_store::{Hand, Stock};
 
 /// Puts the two parts of the page with these words, whose entries with a pair more are those, and opens the new one.

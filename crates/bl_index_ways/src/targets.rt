@@ -1,6 +1,6 @@
 //! What writers come to pages for.
 
-use bl_proc_base::Step;
+use bl_proc_pages::Step;
 
 /// What a writer comes to a page for. There is a process with this target, of which there is no value.
 pub trait Target {
@@ -11,11 +11,11 @@ pub trait Target {
     ghost use Rattle.bl_proc_base.specs.declared.approaching.Approach.{Approach};
     ghost use Rattle.bl_proc_base.specs.declared.approaching.Approach.TheVariants as way;
     ghost use Rattle.bl_proc_base.specs.declared.approaching.Approached.TheVariants as came;
-    ghost use Rattle.bl_proc_base.specs.declared.onwards.Step.{Step as StepIs};
+    ghost use Rattle.bl_proc_pages.specs.declared.onwards.Step.{Step as StepIs};
     ghost use Rattle.bl_page.specs.declared.page.Page.{Page};
     ghost use Rattle.bl_proc_base.specs.Approaches.{approach_next, Approaches, Turns};
     ghost use Rattle.bl_proc_base.specs.Given.{Gives};
-    ghost use Rattle.bl_proc_base.specs.Onwards.{Leads};
+    ghost use Rattle.bl_proc_pages.specs.Onwards.{Leads};
     ghost use Rattle.bl_proc.specs.declared.kinds.Proc.{Proc};
     ghost use Rattle.bl_proc.specs.Processes.{next_of, Takes};
     ghost use Rattle.bl_proc_unique.specs.Courses.{GoesOn};

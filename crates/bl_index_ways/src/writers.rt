@@ -4,8 +4,9 @@ ghost use Rattle.std.specs.Prelude.{◌≡◌};
 ghost use Rattle.bl_index_ways.specs.Writers.{left_reply, left_by};
 
 use bl_model::KeyWrite;
-use bl_proc::{Hint, Noted, WriteReply};
+use bl_proc::Hint;
 use bl_proc_base::{Level, Outcome, hint_of_thin};
+use bl_proc_writes::{Noted, WriteReply};
 
 /// What a write has left when it has opened its leaf.
 #[derive(Clone, Copy)]
@@ -65,7 +66,7 @@ pub trait Writer {
     ghost use Rattle.std.specs.Prelude.{◌≡◌, ℕ};
     ghost use Rattle.bl_model.specs.declared.deciding.KeyWrite.{KeyWrite as WriteIs};
     ghost use Rattle.bl_proc.specs.declared.kinds.Proc.{Proc};
-    ghost use Rattle.bl_proc.specs.declared.writing.WriteStage.{WriteStage};
+    ghost use Rattle.bl_proc_writes.specs.declared.writing.WriteStage.{WriteStage};
     ghost use Rattle.bl_index_ways.specs.declared.writers.Left.{Left as LeftIs};
     ghost use Rattle.bl_index_ways.specs.Writers.{IsWriter};
 

@@ -6,23 +6,23 @@ use Rattle.bl_proc_base.specs.declared.answers.Answer.{Answer}
 use Rattle.bl_proc_base.specs.declared.growing.Growth.{Growth}
 use Rattle.bl_proc_base.specs.declared.growing.Growth.TheVariants as growth
 use Rattle.bl_proc_base.specs.Growths.{growth_next}
-use Rattle.bl_proc.specs.declared.posting.Post.{Post}
-use Rattle.bl_proc.specs.declared.posting.PostReply.{PostReply}
-use Rattle.bl_proc.specs.declared.posting.PostReply.TheVariants as reply
-use Rattle.bl_proc.specs.Levels.{MayReply}
+use Rattle.bl_proc_writes.specs.declared.posting.Post.{Post}
+use Rattle.bl_proc_writes.specs.declared.posting.PostReply.{PostReply}
+use Rattle.bl_proc_writes.specs.declared.posting.PostReply.TheVariants as reply
+use Rattle.bl_proc_writes.specs.Levels.{MayReply}
 use Rattle.bl_proc_unique.proofs.Posts.{post_goes}
 use Rattle.bl_index_write.specs.declared.targets.Posting.{Posting}
-use Rattle.bl_proc.specs.declared.posting.PostStage.{PostStage}
-use Rattle.bl_proc.specs.declared.posting.PostStage.TheVariants as post
+use Rattle.bl_proc_writes.specs.declared.posting.PostStage.{PostStage}
+use Rattle.bl_proc_writes.specs.declared.posting.PostStage.TheVariants as post
 use Rattle.bl_proc.specs.declared.kinds.Proc.{Proc}
 use Rattle.bl_proc.specs.declared.kinds.Proc.TheVariants as proc
-use Rattle.bl_proc.specs.Posts.{post_next_in, post_answer_in, post_answer, PostGoes}
+use Rattle.bl_proc_writes.specs.Posts.{post_next_in, post_answer_in, post_answer, PostGoes}
 use Rattle.bl_proc.specs.Processes.{next_of, Takes}
 use Rattle.bl_proc_unique.specs.Frames.{work_of}
 use Rattle.atomic_table.specs.declared.shared.Seat.{Seat}
 use Rattle.bl_proc_base.specs.declared.answers.Hint.{Hint}
 use Rattle.bl_proc_base.specs.declared.answers.Posted.{Posted}
-use Rattle.bl_store.specs.declared.view.View.{View}
+use Rattle.bl_frames.specs.declared.view.View.{View}
 use Rattle.bl_index_rule.specs.declared.known.PassState.{PassState}
 use Rattle.bl_index_steps.specs.Runs.{IsDone, IsSince, IsSameProcess, EndsAs}
 use Rattle.bl_index_write.specs.Events.{HasPosted, IsPostAnswer, IsPostOver, posting}

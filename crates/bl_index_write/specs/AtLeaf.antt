@@ -7,14 +7,14 @@ use Rattle.bl_index_ways.specs.Ways.{IsToHold}
 use Rattle.bl_index_ways.specs.Writers.{IsAtWork, IsWriter, left_by, left_reply}
 use Rattle.bl_model.specs.declared.deciding.KeyWrite.{KeyWrite}
 use Rattle.bl_model.specs.declared.deciding.KeyWrite.TheVariants.{Insert}
-use Rattle.bl_proc.specs.Climbs.{IsUnsplit}
-use Rattle.bl_proc.specs.Paths.{Notes, IsBlank as IsBlankPath}
+use Rattle.bl_proc_writes.specs.Climbs.{IsUnsplit}
+use Rattle.bl_proc_writes.specs.Paths.{Notes, IsBlank as IsBlankPath}
 use Rattle.bl_proc.specs.Processes.{Takes, next_of}
-use Rattle.bl_proc.specs.Writes.{WriteGoes, write_needs_in, write_next_in, write_reply}
+use Rattle.bl_proc_writes.specs.Writes.{WriteGoes, write_needs_in, write_next_in, write_reply}
 use Rattle.bl_proc.specs.declared.kinds.Proc.{Proc}
-use Rattle.bl_proc.specs.declared.paths.Path.{Path}
-use Rattle.bl_proc.specs.declared.writing.Noted.{Noted}
-use Rattle.bl_proc.specs.declared.writing.WriteStage.{WriteStage}
+use Rattle.bl_proc_writes.specs.declared.paths.Path.{Path}
+use Rattle.bl_proc_writes.specs.declared.writing.Noted.{Noted}
+use Rattle.bl_proc_writes.specs.declared.writing.WriteStage.{WriteStage}
 use Rattle.bl_proc_base.specs.Given.{Gives}
 use Rattle.bl_proc_base.specs.Thin.{thin_hint}
 use Rattle.bl_proc_base.specs.declared.acts.Seen.{Seen}
@@ -24,9 +24,9 @@ use Rattle.bl_proc_unique.proofs.Climbs.{climb_goes}
 use Rattle.bl_proc_unique.proofs.Writings.{write_goes}
 use Rattle.bl_proc_unique.specs.Courses.{GoesOn}
 use Rattle.std.proofs.Common.{None, Option, Some, refl, ℕ, ◌≡◌}
-use Rattle.bl_proc.specs.declared.climbing.ClimbStage.TheVariants as climb
-use Rattle.bl_proc.specs.declared.writing.WriteReply.TheVariants as written
-use Rattle.bl_proc.specs.declared.writing.WriteStage.TheVariants as write
+use Rattle.bl_proc_writes.specs.declared.climbing.ClimbStage.TheVariants as climb
+use Rattle.bl_proc_writes.specs.declared.writing.WriteReply.TheVariants as written
+use Rattle.bl_proc_writes.specs.declared.writing.WriteStage.TheVariants as write
 use Rattle.bl_proc_base.specs.declared.acts.Seen.TheVariants as seen
 use Rattle.bl_proc_base.specs.declared.approaching.Approach.TheVariants as way
 use Rattle.bl_proc_base.specs.declared.editing.Edit.TheVariants as edit

@@ -6,18 +6,18 @@ use Rattle.bl_proc_base.specs.declared.acts.Seen.TheVariants as seen
 use Rattle.bl_proc_base.specs.declared.editing.Edit.TheVariants as edit
 use Rattle.bl_proc_base.specs.declared.editing.Outcome.{Outcome}
 use Rattle.bl_proc_base.specs.declared.editing.Outcome.TheVariants as outcome
-use Rattle.bl_proc.specs.Climbs.{PostNotes}
-use Rattle.bl_proc.specs.Levels.{IsBelowTop, MayReply}
-use Rattle.bl_proc.specs.Posts.{post_answer_in, post_next_in, post_needs_in, post_reply}
+use Rattle.bl_proc_writes.specs.Climbs.{PostNotes}
+use Rattle.bl_proc_writes.specs.Levels.{IsBelowTop, MayReply}
+use Rattle.bl_proc_writes.specs.Posts.{post_answer_in, post_next_in, post_needs_in, post_reply}
 use Rattle.bl_proc.specs.Processes.{Takes}
-use Rattle.bl_proc.specs.Stands.{IsPosting}
-use Rattle.bl_proc.specs.declared.climbing.ClimbStage.TheVariants as climb
+use Rattle.bl_proc_writes.specs.Stands.{IsPosting}
+use Rattle.bl_proc_writes.specs.declared.climbing.ClimbStage.TheVariants as climb
 use Rattle.bl_proc.specs.declared.kinds.Proc.TheVariants as proc
-use Rattle.bl_proc.specs.declared.paths.Path.{Path}
-use Rattle.bl_proc.specs.declared.posting.PostReply.{PostReply}
-use Rattle.bl_proc.specs.declared.posting.PostReply.TheVariants as reply
-use Rattle.bl_proc.specs.declared.posting.PostStage.{PostStage}
-use Rattle.bl_proc.specs.declared.posting.PostStage.TheVariants as post
+use Rattle.bl_proc_writes.specs.declared.paths.Path.{Path}
+use Rattle.bl_proc_writes.specs.declared.posting.PostReply.{PostReply}
+use Rattle.bl_proc_writes.specs.declared.posting.PostReply.TheVariants as reply
+use Rattle.bl_proc_writes.specs.declared.posting.PostStage.{PostStage}
+use Rattle.bl_proc_writes.specs.declared.posting.PostStage.TheVariants as post
 use Rattle.bl_proc_unique.proofs.Climbs.{climb_goes}
 use Rattle.bl_proc_unique.proofs.Posts.{post_goes}
 use Rattle.bl_proc_unique.specs.Courses.{GoesOn}

@@ -11,27 +11,27 @@ use Rattle.bl_proc_base.specs.declared.answers.Hint.{Hint}
 use Rattle.bl_proc_base.specs.declared.answers.Hint.TheVariants as hint
 use Rattle.bl_proc_base.specs.declared.answers.Posted.{Posted}
 use Rattle.bl_proc_base.specs.declared.approaching.Approach.{Approach}
-use Rattle.bl_proc.specs.declared.climbing.InsertPost.{InsertPost}
-use Rattle.bl_proc.specs.declared.climbing.ClimbStage.{ClimbStage}
-use Rattle.bl_proc.specs.declared.climbing.ClimbStage.TheVariants.{Writing, Posting, Ending, Over}
-use Rattle.bl_proc.specs.declared.climbing.Climbed.TheVariants.{Unsplit, Posted as PostedTo}
+use Rattle.bl_proc_writes.specs.declared.climbing.InsertPost.{InsertPost}
+use Rattle.bl_proc_writes.specs.declared.climbing.ClimbStage.{ClimbStage}
+use Rattle.bl_proc_writes.specs.declared.climbing.ClimbStage.TheVariants.{Writing, Posting, Ending, Over}
+use Rattle.bl_proc_writes.specs.declared.climbing.Climbed.TheVariants.{Unsplit, Posted as PostedTo}
 use Rattle.bl_proc.specs.declared.kinds.Proc.{Proc}
 use Rattle.bl_proc.specs.declared.kinds.Proc.TheVariants as proc
-use Rattle.bl_proc.specs.declared.paths.Path.{Path}
-use Rattle.bl_proc.specs.declared.posting.Post.{Post}
-use Rattle.bl_proc.specs.declared.posting.PostReply.{PostReply}
-use Rattle.bl_proc.specs.declared.posting.PostReply.TheVariants as listed
-use Rattle.bl_proc.specs.declared.posting.PostStage.{PostStage}
-use Rattle.bl_proc.specs.declared.posting.PostStage.TheVariants as post
-use Rattle.bl_proc.specs.declared.writing.WriteReply.TheVariants as written
-use Rattle.bl_proc.specs.declared.writing.WriteStage.{WriteStage}
-use Rattle.bl_proc.specs.declared.writing.WriteStage.TheVariants as write
-use Rattle.bl_proc.specs.Climbs.{climb_answer_in}
-use Rattle.bl_proc.specs.Levels.{IsBelowTop, MayReply}
-use Rattle.bl_proc.specs.Paths.{page_at, from_page, IsBlank}
-use Rattle.bl_proc.specs.Stands.{IsPosting, Stands}
+use Rattle.bl_proc_writes.specs.declared.paths.Path.{Path}
+use Rattle.bl_proc_writes.specs.declared.posting.Post.{Post}
+use Rattle.bl_proc_writes.specs.declared.posting.PostReply.{PostReply}
+use Rattle.bl_proc_writes.specs.declared.posting.PostReply.TheVariants as listed
+use Rattle.bl_proc_writes.specs.declared.posting.PostStage.{PostStage}
+use Rattle.bl_proc_writes.specs.declared.posting.PostStage.TheVariants as post
+use Rattle.bl_proc_writes.specs.declared.writing.WriteReply.TheVariants as written
+use Rattle.bl_proc_writes.specs.declared.writing.WriteStage.{WriteStage}
+use Rattle.bl_proc_writes.specs.declared.writing.WriteStage.TheVariants as write
+use Rattle.bl_proc_writes.specs.Climbs.{climb_answer_in}
+use Rattle.bl_proc_writes.specs.Levels.{IsBelowTop, MayReply}
+use Rattle.bl_proc_writes.specs.Paths.{page_at, from_page, IsBlank}
+use Rattle.bl_proc_writes.specs.Stands.{IsPosting, Stands}
 use Rattle.bl_proc_unique.specs.Frames.{op_of}
-use Rattle.bl_store.specs.declared.view.View.{View}
+use Rattle.bl_frames.specs.declared.view.View.{View}
 use Rattle.bl_store.specs.Hands.{known, HasNoStock}
 use Rattle.bl_index_rule.specs.declared.known.PassState.{PassState}
 use Rattle.bl_index_steps.specs.Rooms.{LacksPage, LacksPost}

@@ -9,11 +9,11 @@ ghost use Rattle.bl_model.specs.Replies.{reply_of};
 ghost use Rattle.bl_proc_base.specs.declared.answers.Answer.TheVariants as answers;
 ghost use Rattle.bl_proc_base.specs.declared.answers.Hint.TheVariants as hints;
 ghost use Rattle.bl_proc_base.specs.declared.approaching.Approach.TheVariants as approach;
-ghost use Rattle.bl_proc.specs.declared.posting.PostReply.TheVariants as listed;
-ghost use Rattle.bl_proc.specs.declared.posting.PostStage.TheVariants as post;
-ghost use Rattle.bl_proc.specs.Climbs.{IsLast, left_hint, posted_as};
-ghost use Rattle.bl_proc.specs.Levels.{MayReply};
-ghost use Rattle.bl_proc.specs.Paths.{IsBlank as IsBlankPath};
+ghost use Rattle.bl_proc_writes.specs.declared.posting.PostReply.TheVariants as listed;
+ghost use Rattle.bl_proc_writes.specs.declared.posting.PostStage.TheVariants as post;
+ghost use Rattle.bl_proc_writes.specs.Climbs.{IsLast, left_hint, posted_as};
+ghost use Rattle.bl_proc_writes.specs.Levels.{MayReply};
+ghost use Rattle.bl_proc_writes.specs.Paths.{IsBlank as IsBlankPath};
 ghost use Rattle.bl_store.specs.Hands.{known, read_words, IsIdle, IsSameHand, HasNoStock, ReadsFrom};
 ghost use Rattle.bl_store.specs.Owners.{IsHandOf};
 ghost use Rattle.bl_index_rule.specs.declared.known.PassState.{PassState as Knows};
@@ -33,10 +33,10 @@ use bl_index_ways::{
     Left, Reached, Target, Unborn, Writer, begin_descent, descend, post_there, reach, write_there,
 };
 use bl_model::{KeyReply, KeyWrite, Reply};
-use bl_proc::{
-    Answer, ClimbStage, Hint, InsertPost, Path, Post, PostReply, PostStage, Posted, Process, Reader,
-};
-use bl_proc_base::{Approach, Level, Step};
+use bl_proc::{Answer, Hint, Posted, Process, Reader};
+use bl_proc_base::{Approach, Level};
+use bl_proc_pages::Step;
+use bl_proc_writes::{ClimbStage, InsertPost, Path, Post, PostReply, PostStage};
 use bl_store::{Glance, Hand};
 use std::sync::Wait;
 
@@ -50,9 +50,9 @@ pub(crate) struct Climbing {
 impl Target for Climbing {
     ghost use Rattle.std.specs.Prelude.{refl};
     ghost use Rattle.bl_model.specs.declared.deciding.KeyWrite.TheVariants.{Insert};
-    ghost use Rattle.bl_proc.specs.declared.climbing.ClimbStage.TheVariants as stages;
-    ghost use Rattle.bl_proc.specs.declared.writing.WriteStage.TheVariants as write;
-    ghost use Rattle.bl_proc.specs.Paths.{NotesBy};
+    ghost use Rattle.bl_proc_writes.specs.declared.climbing.ClimbStage.TheVariants as stages;
+    ghost use Rattle.bl_proc_writes.specs.declared.writing.WriteStage.TheVariants as write;
+    ghost use Rattle.bl_proc_writes.specs.Paths.{NotesBy};
     ghost use Rattle.bl_proc_unique.proofs.Climbs.{climb_goes};
     ghost use Rattle.bl_index_write.specs.Climbing.{climb_coming};
     ghost use Rattle.bl_index_write.specs.AtLeaf.{unnoted};

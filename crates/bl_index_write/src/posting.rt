@@ -4,9 +4,9 @@ ghost use Rattle.std.specs.Prelude.{◌≡◌, ◌<◌, ◌≤◌, ◌-◌, ℕ,
 ghost use Rattle.bl_proc_base.specs.declared.answers.Answer.TheVariants as answers;
 ghost use Rattle.bl_proc_base.specs.declared.approaching.Approach.TheVariants as approach;
 ghost use Rattle.bl_proc.specs.declared.kinds.Proc.{Proc};
-ghost use Rattle.bl_proc.specs.declared.posting.PostStage.TheVariants as post;
-ghost use Rattle.bl_proc.specs.Levels.{MayReply};
-ghost use Rattle.bl_proc.specs.Posts.{posted_answer};
+ghost use Rattle.bl_proc_writes.specs.declared.posting.PostStage.TheVariants as post;
+ghost use Rattle.bl_proc_writes.specs.Levels.{MayReply};
+ghost use Rattle.bl_proc_writes.specs.Posts.{posted_answer};
 ghost use Rattle.bl_proc_unique.specs.Frames.{work_of};
 ghost use Rattle.bl_store.specs.Hands.{known, read_words, IsIdle, IsSameHand, HasNoStock, ReadsFrom};
 ghost use Rattle.bl_store.specs.Owners.{IsHandOf};
@@ -16,14 +16,15 @@ ghost use Rattle.bl_index_ways.specs.Events.{HasGotAnchor};
 ghost use Rattle.bl_index_write.specs.Events.{posting, HasPosted, IsPostOver, IsPostAnswer};
 ghost use Rattle.bl_index_steps.specs.Rooms.{LacksPost};
 ghost use Rattle.bl_proc_base.specs.declared.answers.Posted.TheVariants as postings;
-ghost use Rattle.bl_proc.specs.declared.posting.PostReply.TheVariants as replies;
+ghost use Rattle.bl_proc_writes.specs.declared.posting.PostReply.TheVariants as replies;
 
 use crate::targets::Posting;
 use bl_index_rule::PassState;
 use bl_index_steps::{FrameView, Tree};
 use bl_index_ways::{Reached, begin_descent, post_there, reach};
-use bl_proc::{Answer, Hint, Post, PostReply, PostStage, Posted, Process, Reader};
+use bl_proc::{Answer, Hint, Posted, Process, Reader};
 use bl_proc_base::{Approach, Level};
+use bl_proc_writes::{Post, PostReply, PostStage};
 use bl_store::{Glance, Hand};
 use std::sync::Wait;
 

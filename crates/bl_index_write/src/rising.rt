@@ -3,8 +3,8 @@
 ghost use Rattle.std.specs.Prelude.{◌<◌, ◌≤◌};
 
 use bl_index_ways::{Poster, Target};
-use bl_proc::Path;
-use bl_proc_base::Step;
+use bl_proc_pages::Step;
+use bl_proc_writes::Path;
 
 /// The post of an insertion to a level.
 #[derive(Clone, Copy)]
@@ -23,9 +23,9 @@ impl Target for Rising {
     ghost use Rattle.std.specs.Prelude.{refl, ◌<◌};
     ghost use Rattle.std.proofs.Common.{inl};
     ghost use Rattle.bl_page.specs.Nodes.{roots_of};
-    ghost use Rattle.bl_proc.specs.declared.climbing.ClimbStage.TheVariants as stages;
-    ghost use Rattle.bl_proc.specs.declared.posting.PostStage.TheVariants as post;
-    ghost use Rattle.bl_proc.specs.Paths.{NotesBy};
+    ghost use Rattle.bl_proc_writes.specs.declared.climbing.ClimbStage.TheVariants as stages;
+    ghost use Rattle.bl_proc_writes.specs.declared.posting.PostStage.TheVariants as post;
+    ghost use Rattle.bl_proc_writes.specs.Paths.{NotesBy};
     ghost use Rattle.bl_proc_base.specs.declared.acts.Seen.TheVariants as seen;
     ghost use Rattle.bl_proc_base.specs.declared.approaching.Approach.TheVariants as approach;
     ghost use Rattle.bl_proc_base.specs.declared.approaching.Came.TheVariants as descend;

@@ -4,7 +4,7 @@ ghost use Rattle.std.specs.Prelude.{◌<◌, ◌≤◌};
 
 use bl_index_ways::{Poster, Target, Unborn, Writer};
 use bl_model::KeyWrite;
-use bl_proc_base::Step;
+use bl_proc_pages::Step;
 
 /// The write of a key.
 #[derive(Clone, Copy)]
@@ -15,7 +15,7 @@ pub(crate) struct Writing {
 
 impl Target for Writing {
     ghost use Rattle.std.specs.Prelude.{refl};
-    ghost use Rattle.bl_proc.specs.declared.writing.WriteStage.TheVariants as stages;
+    ghost use Rattle.bl_proc_writes.specs.declared.writing.WriteStage.TheVariants as stages;
     ghost use Rattle.bl_proc_unique.proofs.Writings.{write_goes};
     ghost use Rattle.bl_index_write.specs.Events.{writing};
 
@@ -57,7 +57,7 @@ impl Target for Writing {
 
 impl Unborn for Writing {
     ghost use Rattle.std.specs.Prelude.{refl};
-    ghost use Rattle.bl_proc.specs.declared.writing.WriteStage.TheVariants as stages;
+    ghost use Rattle.bl_proc_writes.specs.declared.writing.WriteStage.TheVariants as stages;
     ghost use Rattle.bl_proc_base.specs.declared.acts.Seen.TheVariants as seen;
     ghost use Rattle.bl_proc_base.specs.declared.approaching.Approach.TheVariants as approach;
     ghost use Rattle.bl_proc_unique.proofs.Writings.{write_goes};
@@ -88,7 +88,7 @@ impl Target for Posting {
     ghost use Rattle.std.specs.Prelude.{refl, ◌<◌};
     ghost use Rattle.bl_page.specs.Nodes.{roots_of};
     ghost use Rattle.bl_proc.specs.declared.kinds.Proc.TheVariants as proc;
-    ghost use Rattle.bl_proc.specs.declared.posting.PostStage.TheVariants as post;
+    ghost use Rattle.bl_proc_writes.specs.declared.posting.PostStage.TheVariants as post;
     ghost use Rattle.bl_proc_base.specs.declared.acts.Seen.TheVariants as seen;
     ghost use Rattle.bl_proc_base.specs.declared.approaching.Approach.TheVariants as approach;
     ghost use Rattle.bl_proc_base.specs.declared.approaching.Came.TheVariants as descend;
@@ -137,7 +137,7 @@ impl Target for Posting {
 impl Unborn for Posting {
     ghost use Rattle.std.specs.Prelude.{refl};
     ghost use Rattle.bl_proc.specs.declared.kinds.Proc.TheVariants as proc;
-    ghost use Rattle.bl_proc.specs.declared.posting.PostStage.TheVariants as post;
+    ghost use Rattle.bl_proc_writes.specs.declared.posting.PostStage.TheVariants as post;
     ghost use Rattle.bl_proc_base.specs.declared.acts.Seen.TheVariants as seen;
     ghost use Rattle.bl_proc_base.specs.declared.approaching.Approach.TheVariants as approach;
     ghost use Rattle.bl_proc_unique.proofs.Posts.{post_goes};
@@ -156,7 +156,7 @@ impl Unborn for Posting {
 }
 
 impl Writer for Writing {
-    ghost use Rattle.bl_proc.specs.declared.writing.WriteStage.TheVariants as stages;
+    ghost use Rattle.bl_proc_writes.specs.declared.writing.WriteStage.TheVariants as stages;
     ghost use Rattle.bl_index_write.specs.Events.{writing};
     ghost use Rattle.bl_index_ways.specs.Writers.{left_reply};
     ghost use Rattle.bl_index_write.specs.AtLeaf.{writes_alone};

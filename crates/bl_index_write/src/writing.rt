@@ -5,9 +5,9 @@ ghost use Rattle.bl_model.specs.declared.operation.KeyReply.TheVariants as repli
 ghost use Rattle.bl_model.specs.Replies.{reply_of};
 ghost use Rattle.bl_proc_base.specs.declared.answers.Answer.TheVariants as answers;
 ghost use Rattle.bl_proc_base.specs.declared.approaching.Approach.TheVariants as approach;
-ghost use Rattle.bl_proc.specs.declared.writing.WriteReply.TheVariants as written;
-ghost use Rattle.bl_proc.specs.declared.writing.WriteStage.TheVariants as stages;
-ghost use Rattle.bl_proc.specs.Writes.{write_answer};
+ghost use Rattle.bl_proc_writes.specs.declared.writing.WriteReply.TheVariants as written;
+ghost use Rattle.bl_proc_writes.specs.declared.writing.WriteStage.TheVariants as stages;
+ghost use Rattle.bl_proc_writes.specs.Writes.{write_answer};
 ghost use Rattle.bl_store.specs.Hands.{known, read_words, IsIdle, IsSameHand, HasNoStock, ReadsFrom};
 ghost use Rattle.bl_store.specs.Owners.{IsHandOf};
 ghost use Rattle.bl_index_rule.specs.declared.known.PassState.{PassState as Knows};
@@ -21,7 +21,8 @@ use bl_index_rule::PassState;
 use bl_index_steps::Tree;
 use bl_index_ways::{begin_descent, descend, write_there};
 use bl_model::{KeyReply, KeyWrite, decide};
-use bl_proc::{Hint, WriteReply};
+use bl_proc::Hint;
+use bl_proc_writes::WriteReply;
 use bl_store::{Glance, Hand};
 use std::sync::Wait;
 

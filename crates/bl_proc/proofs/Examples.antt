@@ -9,7 +9,7 @@ use Rattle.bl_proc_base.specs.declared.answers.Answer.TheVariants as answer
 use Rattle.bl_proc_base.specs.declared.answers.Posted.TheVariants as posted
 use Rattle.bl_proc_base.specs.declared.answers.Hint.TheVariants as hint
 use Rattle.bl_model.specs.declared.operation.Reply.TheVariants as reply
-use Rattle.bl_proc_base.specs.declared.onwards.Step.TheVariants as onward
+use Rattle.bl_proc_pages.specs.declared.onwards.Step.TheVariants as onward
 use Rattle.bl_proc_base.specs.declared.descent.Descent.TheVariants as descent
 use Rattle.bl_proc.specs.declared.searching.FindStage.TheVariants as find
 use Rattle.bl_proc_base.specs.declared.approaching.Approach.TheVariants as approach
@@ -19,27 +19,27 @@ use Rattle.bl_proc_base.specs.declared.editing.Outcome.TheVariants as outcome
 use Rattle.bl_proc_base.specs.declared.editing.Edit.TheVariants as edit
 use Rattle.bl_proc_base.specs.declared.editing.Edited.TheVariants as changed
 use Rattle.bl_model.specs.declared.deciding.KeyWrite.TheVariants.{Insert, Delete, Change}
-use Rattle.bl_proc.specs.declared.writing.WriteStage.TheVariants as write
-use Rattle.bl_proc.specs.declared.writing.WriteReply.TheVariants.{Done}
+use Rattle.bl_proc_writes.specs.declared.writing.WriteStage.TheVariants as write
+use Rattle.bl_proc_writes.specs.declared.writing.WriteReply.TheVariants.{Done}
 use Rattle.bl_proc_base.specs.declared.growing.Growth.TheVariants as growth
 use Rattle.bl_proc_base.specs.declared.growing.Grew.TheVariants as grew
-use Rattle.bl_proc.specs.declared.posting.PostStage.TheVariants as post
-use Rattle.bl_proc.specs.declared.posting.PostReply.TheVariants as listed
+use Rattle.bl_proc_writes.specs.declared.posting.PostStage.TheVariants as post
+use Rattle.bl_proc_writes.specs.declared.posting.PostReply.TheVariants as listed
 use Rattle.bl_proc_base.specs.Given.{Gives}
-use Rattle.bl_proc_base.specs.Onwards.{Leads}
+use Rattle.bl_proc_pages.specs.Onwards.{Leads}
 use Rattle.bl_proc.specs.Searches.{FindGoes, found_answer}
 use Rattle.bl_proc_base.specs.Approaches.{Approaches}
 use Rattle.bl_proc_base.specs.Edits.{Changes, edit_needs}
-use Rattle.bl_proc.specs.Writes.{WriteGoes, write_reply, write_answer}
+use Rattle.bl_proc_writes.specs.Writes.{WriteGoes, write_reply, write_answer}
 use Rattle.bl_proc_base.specs.Growths.{Grows, Raises}
-use Rattle.bl_proc.specs.Posts.{PostGoes, posted_answer}
-use Rattle.bl_proc.specs.declared.paths.Path.{Path}
-use Rattle.bl_proc.specs.declared.posting.Post.{Post}
-use Rattle.bl_proc.specs.declared.writing.Write.{Write}
-use Rattle.bl_proc.specs.declared.climbing.ClimbStage.TheVariants.{Writing, Posting}
-use Rattle.bl_proc.specs.declared.climbing.Climbed.TheVariants.{Posted}
-use Rattle.bl_proc.specs.Paths.{Notes}
-use Rattle.bl_proc.specs.Climbs.{climbed_answer, ClimbGoes}
+use Rattle.bl_proc_writes.specs.Posts.{PostGoes, posted_answer}
+use Rattle.bl_proc_writes.specs.declared.paths.Path.{Path}
+use Rattle.bl_proc_writes.specs.declared.posting.Post.{Post}
+use Rattle.bl_proc_writes.specs.declared.writing.Write.{Write}
+use Rattle.bl_proc_writes.specs.declared.climbing.ClimbStage.TheVariants.{Writing, Posting}
+use Rattle.bl_proc_writes.specs.declared.climbing.Climbed.TheVariants.{Posted}
+use Rattle.bl_proc_writes.specs.Paths.{Notes}
+use Rattle.bl_proc_writes.specs.Climbs.{climbed_answer, ClimbGoes}
 
 abbrev left_leaf : Page
 left_leaf = page.Leaf (record { low = 0; high = 9; right = 2; rows = record { items = (1, 10) ∷ [] }; bounds = omega arith; link = omega arith; few = omega arith; order = (omega arith, tt); cover = ((omega arith, omega arith), tt) })

@@ -1,11 +1,5 @@
 pub mod Searches
 pub mod Parts
-pub mod Writes
-pub mod Levels
-pub mod Posts
-pub mod Paths
-pub mod Stands
-pub mod Climbs
 pub mod Reclaims
 pub mod Lowers
 pub mod Processes

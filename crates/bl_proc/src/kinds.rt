@@ -5,16 +5,14 @@ ghost use Rattle.bl_model.specs.declared.deciding.KeyWrite.TheVariants as key_wr
 ghost use Rattle.bl_proc_base.specs.declared.acts.Action.TheVariants as act;
 ghost use Rattle.bl_proc.specs.Processes.{next_of, needs_of, answer_of, Takes, IsFind, IsWrite, IsPost, IsPart, IsCompress, IsReclaim, IsLower, IsInsertPost};
 
-use crate::climbing::InsertPost;
 use crate::lowering::Lower;
 use crate::parts::Part;
-use crate::posting::Post;
 use crate::reclaiming::Reclaim;
 use crate::searching::Find;
-use crate::writing::Write;
 use bl_model::KeyWrite;
 use bl_proc_base::{Action, Answer, Process, Seen};
 use bl_proc_compress::Compress;
+use bl_proc_writes::{InsertPost, Post, Write};
 
 /// A process of any kind.
 #[derive(Drop)]

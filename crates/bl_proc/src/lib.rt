@@ -7,32 +7,20 @@
 //! operations on B*-trees with overtaking" (JCSS 33, 1986). Nothing is allocated, and a search carries no pages.
 #![tactic(auto)]
 
-mod climbing;
-mod climbs;
 mod kinds;
 mod lowering;
 mod parts;
-mod paths;
-mod posting;
-mod posts;
 mod reclaiming;
 mod searching;
-mod walking;
-mod writing;
 
 pub use bl_page::Words;
 pub use bl_proc_base::{
-    Action, Answer, Hint, Level, Lowered, Posted, Process, Reader, Reclaimed, Seen, Squeezed, Step,
-    row_in, step_in,
+    Action, Answer, Hint, Level, Lowered, Posted, Process, Reader, Reclaimed, Seen, Squeezed,
 };
 pub use bl_proc_compress::{Compress, CompressReply, CompressStage};
-pub use climbing::{ClimbStage, Climbed, InsertPost};
+pub use bl_proc_pages::{Step, row_in, step_in};
 pub use kinds::Proc;
 pub use lowering::{Lower, LowerStage};
 pub use parts::{Part, PartRows, PartStage, first_way};
-pub use paths::Path;
-pub use posting::{Post, PostReply, PostStage};
 pub use reclaiming::{Reclaim, ReclaimStage, Round};
 pub use searching::{Find, FindStage};
-pub use walking::Walk;
-pub use writing::{Noted, Write, WriteReply, WriteStage};

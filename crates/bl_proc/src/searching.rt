@@ -7,7 +7,8 @@ ghost use Rattle.bl_proc.specs.Searches.{find_next_in, find_answer_in, find_next
 
 use bl_model::Reply;
 use bl_page::Words;
-use bl_proc_base::{Action, Answer, Descended, Descent, Process, Reader, Seen, listed, row_in};
+use bl_proc_base::{Action, Answer, Descended, Descent, Process, Reader, Seen};
+use bl_proc_pages::{listed, row_in};
 
 /// A search for the value of a key.
 #[derive(Clone, Copy)]

@@ -3,11 +3,11 @@ use Rattle.std.proofs.Common.{ℕ, None, Some, sym, subst}
 use Rattle.bl_page.specs.declared.page.Page.{Page}
 use Rattle.bl_proc_base.specs.declared.acts.Seen.{Seen}
 use Rattle.bl_proc_base.specs.declared.acts.Seen.TheVariants as seen
-use Rattle.bl_proc_base.specs.declared.onwards.Step.TheVariants.{Here}
+use Rattle.bl_proc_pages.specs.declared.onwards.Step.TheVariants.{Here}
 use Rattle.bl_proc_base.specs.declared.approaching.Approach.{Approach}
 use Rattle.bl_proc_base.specs.declared.approaching.Approach.TheVariants.{Start, At, Latching, Latched, Leaving}
 use Rattle.bl_proc_base.specs.declared.approaching.Approached.TheVariants as came
-use Rattle.bl_proc_base.specs.Onwards.{Leads}
+use Rattle.bl_proc_pages.specs.Onwards.{Leads}
 use Rattle.bl_proc_base.specs.Approaches.{Approaches}
 
 pub here_leads : (level key : ℕ) (a : Approach) (what : Seen) (x : ℕ) (c : Page) → Approaches level key a what (came.Here x c) → Leads c key level Here

@@ -1,6 +1,5 @@
 pub mod Given
 pub mod Props
-pub mod Onwards
 pub mod Approaches
 pub mod Edits
 pub mod Descents
@@ -8,4 +7,3 @@ pub mod Growths
 pub mod Lowerings
 pub mod Hints
 pub mod Thin
-pub mod Respelled

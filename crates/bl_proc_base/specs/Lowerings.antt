@@ -13,7 +13,7 @@ use Rattle.bl_proc_base.specs.declared.lowering.Lowering.{Lowering}
 use Rattle.bl_proc_base.specs.declared.lowering.Lowering.TheVariants.{Looking, LatchingAnchor, LatchedAnchor, LatchingTop, LatchedTop, PuttingAnchor, PuttingDead, Retiring, OpeningTop, OpeningAnchor}
 use Rattle.bl_proc_base.specs.declared.lowering.Sank.{Sank}
 use Rattle.bl_proc_base.specs.declared.lowering.Sank.TheVariants.{On, Over}
-use Rattle.bl_proc_base.specs.Onwards.{top_of}
+use Rattle.bl_proc_pages.specs.Onwards.{top_of}
 use Rattle.bl_proc_base.specs.Growths.{IsAnchor}
 
 abbrev pub lowering_next : Lowering → Action

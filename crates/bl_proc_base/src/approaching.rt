@@ -7,13 +7,12 @@ ghost use Rattle.bl_proc_base.specs.declared.acts.Seen.TheVariants as seen;
 ghost use Rattle.bl_proc_base.specs.declared.approaching.Approach.TheVariants as approach;
 ghost use Rattle.bl_proc_base.specs.declared.approaching.Approached.TheVariants as approached;
 ghost use Rattle.bl_proc_base.specs.Given.{Gives};
-ghost use Rattle.bl_proc_base.specs.Onwards.{Leads};
+ghost use Rattle.bl_proc_pages.specs.Onwards.{Leads};
 ghost use Rattle.bl_proc_base.specs.Approaches.{approach_next, Enters, Turns, Quits, Approaches, HasLevel, Comes};
 
 use crate::acts::{Action, Seen};
-use crate::onwards::{Step, way_from};
-use crate::reading::{level_of, levels_of};
 use bl_page::{Inner, Page};
+use bl_proc_pages::{Step, level_of, levels_of, way_from};
 
 /// How far a writer has come on its way. It holds a page only where it says so.
 #[derive(Clone, Copy)]

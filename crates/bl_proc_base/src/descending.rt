@@ -10,8 +10,8 @@ ghost use Rattle.bl_proc_base.specs.declared.approaching.Approached.TheVariants 
 ghost use Rattle.bl_proc_base.specs.Approaches.{Enters, Approaches, IsToLook};
 
 use crate::approaching::Approach;
-use crate::spelled::{level_in, levels_in, step_in, top_in};
 use bl_page::Words;
+use bl_proc_pages::{level_in, levels_in, step_in, top_in};
 
 /// From the anchor.
 #[inline(always)]

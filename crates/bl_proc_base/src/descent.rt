@@ -6,10 +6,8 @@ ghost use Rattle.bl_page.specs.Words.{words_of};
 ghost use Rattle.bl_proc_base.specs.Descents.{descent_page, descent_next, Descends};
 
 use crate::acts::Action;
-use crate::onwards::{Step, way_from};
-use crate::reading::top_page;
-use crate::spelled::{step_in, top_in};
 use bl_page::{Page, Words};
+use bl_proc_pages::{Step, step_in, top_in, top_page, way_from};
 
 /// How far a search has come on its way. It holds no page.
 #[derive(Clone, Copy)]

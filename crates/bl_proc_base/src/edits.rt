@@ -13,9 +13,9 @@ ghost use Rattle.bl_proc_base.specs.Edits.{edit_next, edit_needs, EntersPair, Dr
 
 use crate::acts::{Action, Seen};
 use crate::editing::{Edit, Edited, Full, Outcome, Splitting};
-use crate::reading::count_of;
 use bl_model::limits::MOST_PAIRS;
 use bl_page::Page;
+use bl_proc_pages::count_of;
 use bl_rearrange::{Fitted, with_pair, with_value, without};
 
 /// A pair is to enter the page.

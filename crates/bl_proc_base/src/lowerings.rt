@@ -10,8 +10,8 @@ ghost use Rattle.bl_proc_base.specs.Lowerings.{lowering_next, lowering_needs, Is
 
 use crate::acts::{Action, Seen};
 use crate::lowering::{Lowered, Lowering, Sank, Sinking, Summit};
-use crate::reading::levels_of;
 use bl_page::{Anchor, Dead, Page};
+use bl_proc_pages::levels_of;
 
 /// The anchor with one level less.
 fn anchor_without(anchor: Anchor) -> Page

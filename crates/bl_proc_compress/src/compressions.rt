@@ -12,7 +12,8 @@ ghost use Rattle.bl_proc_compress.specs.Compressions.{put_of, other, merge_hint,
 use crate::compressing::{Compressed, Compression, Decision, Family, Puts, Siblings};
 use bl_model::limits::{ENOUGH_PAIRS, MOST_PAIRS};
 use bl_page::{Dead, Inner, Page, is_within};
-use bl_proc_base::{Action, Hint, Level, Seen, count_of, hint_of_thin, listed, thin_low};
+use bl_proc_base::{Action, Hint, Level, Seen, hint_of_thin, thin_low};
+use bl_proc_pages::{count_of, listed};
 use bl_rearrange::{Evened, Fitted, Side, evened, merged, with_pair, without};
 
 /// The page to the right, 0 for none.

@@ -14,15 +14,15 @@ use Rattle.bl_proc.specs.declared.parts.PartStage.TheVariants as part
 use Rattle.bl_model.specs.declared.deciding.KeyWrite.{KeyWrite}
 use Rattle.bl_model.specs.Writes.{effect_of, deed_told, replied}
 use Rattle.bl_model.proofs.Decisions.{is_decided}
-use Rattle.bl_proc.specs.declared.writing.WriteReply.{WriteReply}
-use Rattle.bl_proc.specs.declared.writing.WriteReply.TheVariants as written
-use Rattle.bl_proc.specs.declared.writing.WriteStage.{WriteStage}
-use Rattle.bl_proc.specs.declared.writing.WriteStage.TheVariants as write
+use Rattle.bl_proc_writes.specs.declared.writing.WriteReply.{WriteReply}
+use Rattle.bl_proc_writes.specs.declared.writing.WriteReply.TheVariants as written
+use Rattle.bl_proc_writes.specs.declared.writing.WriteStage.{WriteStage}
+use Rattle.bl_proc_writes.specs.declared.writing.WriteStage.TheVariants as write
 use Rattle.bl_proc.specs.declared.kinds.Proc.{Proc}
 use Rattle.bl_proc.specs.declared.kinds.Proc.TheVariants as proc
 use Rattle.bl_proc.specs.Searches.{find_answer_in}
 use Rattle.bl_proc.specs.Parts.{part_answer_in}
-use Rattle.bl_proc.specs.Writes.{write_answer, write_answer_in}
+use Rattle.bl_proc_writes.specs.Writes.{write_answer, write_answer_in}
 use Rattle.bl_proc.specs.Processes.{answer_of}
 use Rattle.bl_claims.specs.Hinted.{MeansWritten}
 use Rattle.bl_proc_invariant.specs.Beside.{MeansBeside}

@@ -13,21 +13,21 @@ use Rattle.bl_core.specs.Worlds.{World, IsSure, IsGood}
 use Rattle.bl_core.proofs.After.{is_put_name}
 use Rattle.bl_proc_base.specs.declared.acts.Seen.{Seen}
 use Rattle.bl_proc_base.specs.declared.answers.Hint.TheVariants as hint
-use Rattle.bl_proc.specs.declared.paths.Path.{Path}
-use Rattle.bl_proc.specs.declared.posting.Post.{Post}
-use Rattle.bl_proc.specs.declared.posting.PostReply.TheVariants as listed
-use Rattle.bl_proc.specs.declared.writing.Write.{Write}
-use Rattle.bl_proc.specs.declared.writing.WriteReply.TheVariants as written
-use Rattle.bl_proc.specs.declared.writing.WriteStage.{WriteStage}
-use Rattle.bl_proc.specs.declared.writing.WriteStage.TheVariants as write
-use Rattle.bl_proc.specs.declared.climbing.Climbed.{Climbed}
-use Rattle.bl_proc.specs.declared.climbing.Climbed.TheVariants as climbed
-use Rattle.bl_proc.specs.declared.climbing.ClimbStage.{ClimbStage}
-use Rattle.bl_proc.specs.declared.climbing.ClimbStage.TheVariants as climb
+use Rattle.bl_proc_writes.specs.declared.paths.Path.{Path}
+use Rattle.bl_proc_writes.specs.declared.posting.Post.{Post}
+use Rattle.bl_proc_writes.specs.declared.posting.PostReply.TheVariants as listed
+use Rattle.bl_proc_writes.specs.declared.writing.Write.{Write}
+use Rattle.bl_proc_writes.specs.declared.writing.WriteReply.TheVariants as written
+use Rattle.bl_proc_writes.specs.declared.writing.WriteStage.{WriteStage}
+use Rattle.bl_proc_writes.specs.declared.writing.WriteStage.TheVariants as write
+use Rattle.bl_proc_writes.specs.declared.climbing.Climbed.{Climbed}
+use Rattle.bl_proc_writes.specs.declared.climbing.Climbed.TheVariants as climbed
+use Rattle.bl_proc_writes.specs.declared.climbing.ClimbStage.{ClimbStage}
+use Rattle.bl_proc_writes.specs.declared.climbing.ClimbStage.TheVariants as climb
 use Rattle.bl_proc.specs.declared.kinds.Proc.TheVariants as proc
-use Rattle.bl_proc.specs.Paths.{page_at, from_page}
-use Rattle.bl_proc.specs.Stands.{IsPosting, BeginsBlank, Stands}
-use Rattle.bl_proc.specs.Climbs.{WriteNotes, ClimbNotes, climb_next_in}
+use Rattle.bl_proc_writes.specs.Paths.{page_at, from_page}
+use Rattle.bl_proc_writes.specs.Stands.{IsPosting, BeginsBlank, Stands}
+use Rattle.bl_proc_writes.specs.Climbs.{WriteNotes, ClimbNotes, climb_next_in}
 use Rattle.bl_proc_invariant.specs.Turns.{event_of, IsObserved, Does, Turned}
 use Rattle.bl_proc_invariant.specs.Tables.{know_approach}
 use Rattle.bl_proc_invariant.specs.Knowing.{Run, know, is_change, path_goes, climbed_said, LeavesClimb, inserted, know_write, know_post, know_climb, climb_end, climb_got, climb_child, write_got, post_got, post_child}

@@ -11,16 +11,16 @@ use Rattle.bl_proc_base.specs.declared.answers.Answer.TheVariants as answer
 use Rattle.bl_proc_base.specs.declared.answers.Hint.{Hint}
 use Rattle.bl_proc_base.specs.declared.answers.Hint.TheVariants as hint
 use Rattle.bl_proc_base.specs.declared.answers.Posted.{Posted}
-use Rattle.bl_proc.specs.declared.writing.WriteReply.{WriteReply}
-use Rattle.bl_proc.specs.declared.writing.WriteReply.TheVariants as written
-use Rattle.bl_proc.specs.declared.climbing.InsertPost.{InsertPost}
-use Rattle.bl_proc.specs.declared.climbing.Climbed.{Climbed}
-use Rattle.bl_proc.specs.declared.climbing.Climbed.TheVariants as climbed
-use Rattle.bl_proc.specs.declared.climbing.ClimbStage.{ClimbStage}
-use Rattle.bl_proc.specs.declared.climbing.ClimbStage.TheVariants as climb
+use Rattle.bl_proc_writes.specs.declared.writing.WriteReply.{WriteReply}
+use Rattle.bl_proc_writes.specs.declared.writing.WriteReply.TheVariants as written
+use Rattle.bl_proc_writes.specs.declared.climbing.InsertPost.{InsertPost}
+use Rattle.bl_proc_writes.specs.declared.climbing.Climbed.{Climbed}
+use Rattle.bl_proc_writes.specs.declared.climbing.Climbed.TheVariants as climbed
+use Rattle.bl_proc_writes.specs.declared.climbing.ClimbStage.{ClimbStage}
+use Rattle.bl_proc_writes.specs.declared.climbing.ClimbStage.TheVariants as climb
 use Rattle.bl_proc.specs.declared.kinds.Proc.TheVariants as proc
-use Rattle.bl_proc.specs.Writes.{post_hint}
-use Rattle.bl_proc.specs.Climbs.{inserted_reply, climbed_answer, IsUnsplit, climb_answer_in}
+use Rattle.bl_proc_writes.specs.Writes.{post_hint}
+use Rattle.bl_proc_writes.specs.Climbs.{inserted_reply, climbed_answer, IsUnsplit, climb_answer_in}
 use Rattle.bl_claims.specs.Hinted.{MeansWritten}
 use Rattle.bl_claims.specs.Climbed.{MeansClimbed}
 use Rattle.bl_proc_invariant.specs.Logs.{effect_log, written_log, climbed_log, climb_log, proc_log, AllLogs}

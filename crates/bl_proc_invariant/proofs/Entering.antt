@@ -16,7 +16,7 @@ use Rattle.bl_core.proofs.Fitted.{fits_row, without_row, value_row}
 use Rattle.bl_proc_base.specs.declared.editing.Edit.{Edit}
 use Rattle.bl_proc_base.specs.declared.editing.Edit.TheVariants.{Putting, Taking, PuttingNew, PuttingOld, OpeningNew, Opening}
 use Rattle.bl_proc_base.specs.Edits.{EntersPair, DropsPair, GivesValue}
-use Rattle.bl_proc.specs.Writes.{Performs}
+use Rattle.bl_proc_writes.specs.Writes.{Performs}
 use Rattle.bl_proc_invariant.specs.Tables.{Aim, IsDue, know_edit}
 
 -- What it has of page x, which is c, when a change of it begins.

@@ -26,7 +26,7 @@ use Rattle.bl_proc_base.specs.declared.growing.Growth.TheVariants as growth
 use Rattle.bl_proc_base.specs.declared.acts.Seen.{Seen}
 use Rattle.bl_proc_base.specs.declared.growing.Grew.TheVariants.{On, Grown, Refused}
 use Rattle.bl_proc_base.specs.declared.approaching.Approach.TheVariants.{Start}
-use Rattle.bl_proc.specs.declared.posting.PostStage.TheVariants.{Growing}
+use Rattle.bl_proc_writes.specs.declared.posting.PostStage.TheVariants.{Growing}
 use Rattle.bl_proc_base.specs.Growths.{growth_next, IsTop, IsAnchor, Raises}
 use Rattle.bl_proc_invariant.specs.Turns.{event_of, IsObserved, Does, Turned}
 use Rattle.bl_proc_invariant.specs.Tables.{Carried, carrying, know_approach, anchor_known}

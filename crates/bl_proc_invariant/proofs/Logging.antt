@@ -19,8 +19,8 @@ use Rattle.bl_rearrange.specs.Rearranged.{IsFitted}
 use Rattle.bl_proc_base.specs.declared.acts.Action.TheVariants as act
 use Rattle.bl_proc_base.specs.declared.acts.Seen.{Seen}
 use Rattle.bl_proc_base.specs.declared.acts.Seen.TheVariants as seen
-use Rattle.bl_proc_base.specs.declared.onwards.Step.{Step}
-use Rattle.bl_proc_base.specs.declared.onwards.Step.TheVariants.{Again, Right, Down, Here}
+use Rattle.bl_proc_pages.specs.declared.onwards.Step.{Step}
+use Rattle.bl_proc_pages.specs.declared.onwards.Step.TheVariants.{Again, Right, Down, Here}
 use Rattle.bl_proc_base.specs.declared.approaching.Approach.{Approach}
 use Rattle.bl_proc_base.specs.declared.approaching.Approach.TheVariants as way
 use Rattle.bl_proc_base.specs.declared.approaching.Approached.TheVariants as came
@@ -32,16 +32,16 @@ use Rattle.bl_proc_base.specs.declared.editing.Edited.TheVariants as changed
 use Rattle.bl_proc_base.specs.declared.growing.Growth.{Growth}
 use Rattle.bl_proc_base.specs.declared.growing.Growth.TheVariants as growth
 use Rattle.bl_proc_base.specs.declared.growing.Grew.TheVariants as grew
-use Rattle.bl_proc.specs.declared.walking.Walk.{Walk}
-use Rattle.bl_proc.specs.declared.posting.PostReply.{PostReply}
-use Rattle.bl_proc.specs.declared.posting.PostReply.TheVariants as reply
-use Rattle.bl_proc.specs.declared.posting.PostStage.{PostStage}
-use Rattle.bl_proc.specs.declared.posting.PostStage.TheVariants as post
-use Rattle.bl_proc_base.specs.Onwards.{Leads}
+use Rattle.bl_proc_writes.specs.declared.walking.Walk.{Walk}
+use Rattle.bl_proc_writes.specs.declared.posting.PostReply.{PostReply}
+use Rattle.bl_proc_writes.specs.declared.posting.PostReply.TheVariants as reply
+use Rattle.bl_proc_writes.specs.declared.posting.PostStage.{PostStage}
+use Rattle.bl_proc_writes.specs.declared.posting.PostStage.TheVariants as post
+use Rattle.bl_proc_pages.specs.Onwards.{Leads}
 use Rattle.bl_proc_base.specs.Approaches.{approach_next, Turns, Approaches}
 use Rattle.bl_proc_base.specs.Edits.{edit_next, EntersPair}
 use Rattle.bl_proc_base.specs.Growths.{growth_next, IsTop, IsAnchor, Raises}
-use Rattle.bl_proc.specs.Posts.{post_reply, post_next_in, PostArrives}
+use Rattle.bl_proc_writes.specs.Posts.{post_reply, post_next_in, PostArrives}
 use Rattle.bl_proc_invariant.specs.Turns.{event_of}
 use Rattle.bl_proc_invariant.specs.Logs.{Holding, HoldsParent, HoldsBoth, IsToPut, on_way, approach_log, outcome_log, edit_log, HasHalfRaised, growth_log, reply_log, post_log}
 use Rattle.bl_proc_invariant.proofs.Holdings.{held_raised, held_now, held_on, parent_held_on, both_held_on, child_got, parent_got, refused_while, under, is_done, cut_low, row_together, cut_together}

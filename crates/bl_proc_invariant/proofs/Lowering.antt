@@ -25,7 +25,7 @@ use Rattle.bl_proc_base.specs.declared.lowering.Sank.TheVariants.{On, Over}
 use Rattle.bl_proc_base.specs.declared.lowering.Summit.{Summit}
 use Rattle.bl_proc_base.specs.declared.lowering.Sinking.{Sinking}
 use Rattle.bl_proc_base.specs.declared.lowering.Lowering.TheVariants as lowering
-use Rattle.bl_proc_base.specs.Onwards.{top_of}
+use Rattle.bl_proc_pages.specs.Onwards.{top_of}
 use Rattle.bl_proc_base.specs.Lowerings.{lowering_next, IsSole, IsFallen, Sinks}
 use Rattle.bl_proc_base.proofs.Tops.{length_take}
 use Rattle.bl_proc_invariant.specs.Turns.{event_of, IsObserved, Does, Turned}

@@ -11,15 +11,15 @@ use Rattle.bl_proc_base.specs.declared.acts.Seen.{Seen}
 use Rattle.bl_proc_base.specs.declared.approaching.Approach.{Approach}
 use Rattle.bl_proc_base.specs.declared.approaching.Approach.TheVariants as way
 use Rattle.bl_proc_base.specs.Approaches.{approach_next}
-use Rattle.bl_proc.specs.declared.paths.Path.{Path}
-use Rattle.bl_proc.specs.declared.posting.PostStage.{PostStage}
-use Rattle.bl_proc.specs.declared.posting.PostStage.TheVariants as post
-use Rattle.bl_proc.specs.declared.writing.WriteStage.{WriteStage}
-use Rattle.bl_proc.specs.declared.writing.WriteStage.TheVariants as write
-use Rattle.bl_proc.specs.Paths.{page_at, from_page, IsBlank}
-use Rattle.bl_proc.specs.Writes.{write_next_in}
-use Rattle.bl_proc.specs.Posts.{post_next_in}
-use Rattle.bl_proc.specs.Climbs.{WriteNotes, PostNotes}
+use Rattle.bl_proc_writes.specs.declared.paths.Path.{Path}
+use Rattle.bl_proc_writes.specs.declared.posting.PostStage.{PostStage}
+use Rattle.bl_proc_writes.specs.declared.posting.PostStage.TheVariants as post
+use Rattle.bl_proc_writes.specs.declared.writing.WriteStage.{WriteStage}
+use Rattle.bl_proc_writes.specs.declared.writing.WriteStage.TheVariants as write
+use Rattle.bl_proc_writes.specs.Paths.{page_at, from_page, IsBlank}
+use Rattle.bl_proc_writes.specs.Writes.{write_next_in}
+use Rattle.bl_proc_writes.specs.Posts.{post_next_in}
+use Rattle.bl_proc_writes.specs.Climbs.{WriteNotes, PostNotes}
 use Rattle.bl_proc_invariant.specs.Turns.{IsObserved}
 use Rattle.bl_proc_invariant.specs.Tables.{Carried, goes_to, know_approach}
 use Rattle.bl_proc_invariant.specs.Knowing.{goes_above, path_goes, know_write, know_post}

@@ -14,18 +14,18 @@ use Rattle.bl_core.specs.Worlds.{HoldsPage, Know, World, nodes, tree_of, IsGoes,
 use Rattle.bl_core.proofs.Descents.{goes_down, not_released, anchor_not_released}
 use Rattle.bl_core.proofs.Children.{child_found}
 use Rattle.bl_proc_base.specs.declared.acts.Seen.{Seen}
-use Rattle.bl_proc_base.specs.declared.onwards.Step.TheVariants.{Here}
+use Rattle.bl_proc_pages.specs.declared.onwards.Step.TheVariants.{Here}
 use Rattle.bl_proc_base.specs.declared.approaching.Approach.TheVariants as way
 use Rattle.bl_proc_base.specs.declared.editing.Outcome.{Outcome}
 use Rattle.bl_proc_base.specs.declared.editing.Outcome.TheVariants as outcome
 use Rattle.bl_proc_base.specs.declared.editing.Edit.{Edit}
-use Rattle.bl_proc.specs.declared.walking.Walk.{Walk}
-use Rattle.bl_proc.specs.declared.posting.PostReply.{PostReply}
-use Rattle.bl_proc.specs.declared.posting.PostStage.{PostStage}
-use Rattle.bl_proc.specs.declared.posting.PostStage.TheVariants as post
-use Rattle.bl_proc_base.specs.Onwards.{Leads}
+use Rattle.bl_proc_writes.specs.declared.walking.Walk.{Walk}
+use Rattle.bl_proc_writes.specs.declared.posting.PostReply.{PostReply}
+use Rattle.bl_proc_writes.specs.declared.posting.PostStage.{PostStage}
+use Rattle.bl_proc_writes.specs.declared.posting.PostStage.TheVariants as post
+use Rattle.bl_proc_pages.specs.Onwards.{Leads}
 use Rattle.bl_proc_base.specs.Edits.{EntersPair}
-use Rattle.bl_proc.specs.Posts.{post_reply, post_next_in, PostArrives, PostWalks}
+use Rattle.bl_proc_writes.specs.Posts.{post_reply, post_next_in, PostArrives, PostWalks}
 use Rattle.bl_proc_invariant.specs.Turns.{event_of, IsObserved, Does, Turned}
 use Rattle.bl_proc_invariant.specs.Tables.{Carried, carrying, holds_live, goes_to, IsAim, IsDue, IsBelow, know_approach, know_edit}
 use Rattle.bl_proc_invariant.specs.Knowing.{post_aim, know_post, LeavesPost, post_got, post_child}

@@ -16,18 +16,18 @@ use Rattle.bl_core.specs.Worlds.{HoldsPage, Goes, Know, World, nodes, MapsTo, Is
 use Rattle.bl_core.proofs.Descents.{held_leaf_says, not_released}
 use Rattle.bl_core_tree.proofs.Statuses.{live_live}
 use Rattle.bl_proc_base.specs.declared.acts.Seen.{Seen}
-use Rattle.bl_proc_base.specs.declared.onwards.Step.TheVariants.{Here}
+use Rattle.bl_proc_pages.specs.declared.onwards.Step.TheVariants.{Here}
 use Rattle.bl_proc_base.specs.declared.approaching.Approach.TheVariants as way
 use Rattle.bl_proc_base.specs.declared.editing.Outcome.{Outcome}
 use Rattle.bl_proc_base.specs.declared.editing.Outcome.TheVariants as outcome
 use Rattle.bl_proc_base.specs.declared.editing.Edit.{Edit}
-use Rattle.bl_proc.specs.declared.writing.Noted.{Noted}
-use Rattle.bl_proc.specs.declared.writing.WriteStage.{WriteStage}
-use Rattle.bl_proc.specs.declared.writing.WriteStage.TheVariants as write
-use Rattle.bl_proc.specs.declared.writing.WriteReply.TheVariants as written
-use Rattle.bl_proc_base.specs.Onwards.{Leads}
+use Rattle.bl_proc_writes.specs.declared.writing.Noted.{Noted}
+use Rattle.bl_proc_writes.specs.declared.writing.WriteStage.{WriteStage}
+use Rattle.bl_proc_writes.specs.declared.writing.WriteStage.TheVariants as write
+use Rattle.bl_proc_writes.specs.declared.writing.WriteReply.TheVariants as written
+use Rattle.bl_proc_pages.specs.Onwards.{Leads}
 use Rattle.bl_proc_base.specs.Thin.{thin_hint}
-use Rattle.bl_proc.specs.Writes.{Performs, write_reply, write_next_in}
+use Rattle.bl_proc_writes.specs.Writes.{Performs, write_reply, write_next_in}
 use Rattle.bl_proc_invariant.specs.Turns.{event_of, IsObserved, Does, Turned}
 use Rattle.bl_proc_invariant.specs.Tables.{unsaid, IsAim, IsBelow, know_approach, know_edit}
 use Rattle.bl_proc_invariant.specs.Knowing.{writes, is_change, write_aim, LeavesWrite, know_write, write_got, write_end}

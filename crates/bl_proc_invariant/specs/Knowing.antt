@@ -21,20 +21,20 @@ use Rattle.bl_proc_base.specs.declared.acts.Seen.TheVariants as seen
 use Rattle.bl_proc_base.specs.declared.answers.Hint.TheVariants as hint
 use Rattle.bl_proc.specs.declared.searching.FindStage.TheVariants as find
 use Rattle.bl_proc.specs.declared.searching.FindStage.{FindStage}
-use Rattle.bl_proc.specs.declared.writing.Noted.{Noted}
-use Rattle.bl_proc.specs.declared.writing.WriteReply.{WriteReply}
-use Rattle.bl_proc.specs.declared.writing.WriteReply.TheVariants as written
-use Rattle.bl_proc.specs.declared.writing.WriteStage.{WriteStage}
-use Rattle.bl_proc.specs.declared.writing.WriteStage.TheVariants as write
+use Rattle.bl_proc_writes.specs.declared.writing.Noted.{Noted}
+use Rattle.bl_proc_writes.specs.declared.writing.WriteReply.{WriteReply}
+use Rattle.bl_proc_writes.specs.declared.writing.WriteReply.TheVariants as written
+use Rattle.bl_proc_writes.specs.declared.writing.WriteStage.{WriteStage}
+use Rattle.bl_proc_writes.specs.declared.writing.WriteStage.TheVariants as write
 use Rattle.bl_proc.specs.declared.parts.PartRows.{PartRows}
 use Rattle.bl_proc.specs.declared.parts.PartStage.{PartStage}
 use Rattle.bl_proc.specs.declared.parts.PartStage.TheVariants as part
 use Rattle.bl_proc_base.specs.declared.growing.Growth.{Growth}
 use Rattle.bl_proc_base.specs.declared.growing.Growth.TheVariants as growth
-use Rattle.bl_proc.specs.declared.posting.PostReply.{PostReply}
-use Rattle.bl_proc.specs.declared.posting.PostReply.TheVariants as posted
-use Rattle.bl_proc.specs.declared.posting.PostStage.{PostStage}
-use Rattle.bl_proc.specs.declared.posting.PostStage.TheVariants as post
+use Rattle.bl_proc_writes.specs.declared.posting.PostReply.{PostReply}
+use Rattle.bl_proc_writes.specs.declared.posting.PostReply.TheVariants as posted
+use Rattle.bl_proc_writes.specs.declared.posting.PostStage.{PostStage}
+use Rattle.bl_proc_writes.specs.declared.posting.PostStage.TheVariants as post
 use Rattle.bl_proc.specs.declared.reclaiming.Round.{Round}
 use Rattle.bl_proc.specs.declared.reclaiming.ReclaimStage.{ReclaimStage}
 use Rattle.bl_proc.specs.declared.reclaiming.ReclaimStage.TheVariants as reclaim
@@ -42,14 +42,14 @@ use Rattle.bl_proc_compress.specs.declared.squeezing.CompressStage.{CompressStag
 use Rattle.bl_proc_compress.specs.declared.squeezing.CompressStage.TheVariants as compress
 use Rattle.bl_proc.specs.declared.lowering.LowerStage.{LowerStage}
 use Rattle.bl_proc.specs.declared.lowering.LowerStage.TheVariants as lower
-use Rattle.bl_proc.specs.declared.paths.Path.{Path}
-use Rattle.bl_proc.specs.declared.climbing.Climbed.{Climbed}
-use Rattle.bl_proc.specs.declared.climbing.Climbed.TheVariants as climbed
-use Rattle.bl_proc.specs.declared.climbing.ClimbStage.{ClimbStage}
-use Rattle.bl_proc.specs.declared.climbing.ClimbStage.TheVariants as climb
+use Rattle.bl_proc_writes.specs.declared.paths.Path.{Path}
+use Rattle.bl_proc_writes.specs.declared.climbing.Climbed.{Climbed}
+use Rattle.bl_proc_writes.specs.declared.climbing.Climbed.TheVariants as climbed
+use Rattle.bl_proc_writes.specs.declared.climbing.ClimbStage.{ClimbStage}
+use Rattle.bl_proc_writes.specs.declared.climbing.ClimbStage.TheVariants as climb
 use Rattle.bl_proc.specs.declared.kinds.Proc.{Proc}
 use Rattle.bl_proc.specs.declared.kinds.Proc.TheVariants as proc
-use Rattle.bl_proc.specs.Writes.{write_reply}
+use Rattle.bl_proc_writes.specs.Writes.{write_reply}
 use Rattle.bl_proc_base.specs.Growths.{Raises, IsAnchor}
 use Rattle.bl_proc_invariant.specs.Compressing.{know_squeeze, compression_got}
 use Rattle.bl_proc_invariant.specs.Lowering.{know_lowering, lowering_got}

@@ -18,10 +18,10 @@ use Rattle.bl_proc_base.specs.declared.editing.Edit.{Edit}
 use Rattle.bl_proc_base.specs.declared.editing.Edit.TheVariants as edit
 use Rattle.bl_proc_base.specs.declared.growing.Growth.{Growth}
 use Rattle.bl_proc_base.specs.declared.growing.Growth.TheVariants as growth
-use Rattle.bl_proc.specs.declared.posting.PostReply.{PostReply}
-use Rattle.bl_proc.specs.declared.posting.PostReply.TheVariants as reply
-use Rattle.bl_proc.specs.declared.posting.PostStage.{PostStage}
-use Rattle.bl_proc.specs.declared.posting.PostStage.TheVariants as post
+use Rattle.bl_proc_writes.specs.declared.posting.PostReply.{PostReply}
+use Rattle.bl_proc_writes.specs.declared.posting.PostReply.TheVariants as reply
+use Rattle.bl_proc_writes.specs.declared.posting.PostStage.{PostStage}
+use Rattle.bl_proc_writes.specs.declared.posting.PostStage.TheVariants as post
 use Rattle.bl_rearrange.specs.declared.sides.Side.{Side}
 use Rattle.bl_rearrange.specs.declared.sides.Side.TheVariants as side
 use Rattle.bl_proc_compress.specs.declared.compressing.Puts.{Puts}
@@ -44,22 +44,22 @@ use Rattle.bl_model.specs.declared.deciding.Effect.{Effect}
 use Rattle.bl_model.specs.declared.deciding.Effect.TheVariants.{Keep, Enter, Remove, Replace}
 use Rattle.bl_model.specs.Writes.{effect_of, Deed, deed_of}
 use Rattle.bl_model.specs.Writes.Deed.{Kept, Entered, Removed, Replaced}
-use Rattle.bl_proc.specs.declared.writing.Noted.{Noted}
-use Rattle.bl_proc.specs.declared.writing.WriteReply.{WriteReply}
-use Rattle.bl_proc.specs.declared.writing.WriteReply.TheVariants as written
-use Rattle.bl_proc.specs.declared.writing.WriteStage.{WriteStage}
-use Rattle.bl_proc.specs.declared.writing.WriteStage.TheVariants as write
+use Rattle.bl_proc_writes.specs.declared.writing.Noted.{Noted}
+use Rattle.bl_proc_writes.specs.declared.writing.WriteReply.{WriteReply}
+use Rattle.bl_proc_writes.specs.declared.writing.WriteReply.TheVariants as written
+use Rattle.bl_proc_writes.specs.declared.writing.WriteStage.{WriteStage}
+use Rattle.bl_proc_writes.specs.declared.writing.WriteStage.TheVariants as write
 use Rattle.bl_proc_base.specs.Thin.{thin_low}
 use Rattle.bl_claims.specs.Hinted.{WroteLeaf, MeansWritten}
 use Rattle.bl_claims.specs.Lowered.{MeansLowered}
 use Rattle.bl_claims.specs.Climbed.{PostsUp, WroteAndPosted}
 use Rattle.bl_proc_invariant.specs.LoweringLog.{lowering_log}
 use Rattle.bl_proc_invariant.specs.Knowing.{Run}
-use Rattle.bl_proc.specs.declared.climbing.Climbed.{Climbed}
-use Rattle.bl_proc.specs.declared.climbing.Climbed.TheVariants as climbed
-use Rattle.bl_proc.specs.declared.climbing.ClimbStage.{ClimbStage}
-use Rattle.bl_proc.specs.declared.climbing.ClimbStage.TheVariants as climb
-use Rattle.bl_proc.specs.Climbs.{posted_as, left_hint, IsUnsplit}
+use Rattle.bl_proc_writes.specs.declared.climbing.Climbed.{Climbed}
+use Rattle.bl_proc_writes.specs.declared.climbing.Climbed.TheVariants as climbed
+use Rattle.bl_proc_writes.specs.declared.climbing.ClimbStage.{ClimbStage}
+use Rattle.bl_proc_writes.specs.declared.climbing.ClimbStage.TheVariants as climb
+use Rattle.bl_proc_writes.specs.Climbs.{posted_as, left_hint, IsUnsplit}
 use Rattle.bl_proc.specs.declared.lowering.LowerStage.{LowerStage}
 use Rattle.bl_proc.specs.declared.lowering.LowerStage.TheVariants as lower
 use Rattle.bl_proc.specs.declared.kinds.Proc.{Proc}

@@ -13,7 +13,7 @@ use Rattle.bl_proc_base.specs.declared.lowering.Summit.{Summit}
 use Rattle.bl_proc_base.specs.declared.lowering.Sinking.{Sinking}
 use Rattle.bl_proc_base.specs.declared.lowering.Lowering.{Lowering}
 use Rattle.bl_proc_base.specs.declared.lowering.Lowering.TheVariants.{Looking, LatchingAnchor, LatchedAnchor, LatchingTop, LatchedTop, PuttingAnchor, PuttingDead, Retiring, OpeningTop, OpeningAnchor}
-use Rattle.bl_proc_base.specs.Onwards.{top_of}
+use Rattle.bl_proc_pages.specs.Onwards.{top_of}
 use Rattle.bl_proc_base.specs.Lowerings.{Sinks}
 use Rattle.bl_claims.specs.Squeezed.{Since}
 use Rattle.bl_claims.specs.Lowered.{to_top, IsToLower, MeansLowered}

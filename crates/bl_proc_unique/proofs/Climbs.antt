@@ -8,41 +8,41 @@ use Rattle.bl_page.specs.Nodes.{node_of}
 use Rattle.bl_proc_base.specs.declared.acts.Seen.{Seen}
 use Rattle.bl_proc_base.specs.declared.acts.Seen.TheVariants as seen
 use Rattle.bl_proc_base.specs.declared.answers.Hint.TheVariants as hint
-use Rattle.bl_proc_base.specs.declared.onwards.Step.{Step}
-use Rattle.bl_proc_base.specs.declared.onwards.Step.TheVariants.{Again, Right, Down, Here}
+use Rattle.bl_proc_pages.specs.declared.onwards.Step.{Step}
+use Rattle.bl_proc_pages.specs.declared.onwards.Step.TheVariants.{Again, Right, Down, Here}
 use Rattle.bl_proc_base.specs.declared.approaching.Approach.{Approach}
 use Rattle.bl_proc_base.specs.declared.approaching.Approach.TheVariants as way
 use Rattle.bl_proc_base.specs.declared.editing.Outcome.{Outcome}
 use Rattle.bl_proc_base.specs.declared.editing.Outcome.TheVariants as outcome
 use Rattle.bl_proc_base.specs.Thin.{thin_hint}
 use Rattle.bl_proc_base.specs.Given.{Gives}
-use Rattle.bl_proc.specs.declared.paths.Path.{Path}
-use Rattle.bl_proc.specs.declared.posting.Post.{Post}
-use Rattle.bl_proc.specs.declared.posting.PostStage.{PostStage}
-use Rattle.bl_proc.specs.declared.posting.PostStage.TheVariants as post
-use Rattle.bl_proc.specs.declared.posting.PostReply.{PostReply}
-use Rattle.bl_proc.specs.declared.posting.PostReply.TheVariants as listed
-use Rattle.bl_proc.specs.declared.writing.Write.{Write}
-use Rattle.bl_proc.specs.declared.writing.Noted.{Noted}
-use Rattle.bl_proc.specs.declared.writing.WriteStage.{WriteStage}
-use Rattle.bl_proc.specs.declared.writing.WriteStage.TheVariants as write
-use Rattle.bl_proc.specs.declared.writing.WriteReply.{WriteReply}
-use Rattle.bl_proc.specs.declared.writing.WriteReply.TheVariants as written
-use Rattle.bl_proc.specs.declared.climbing.InsertPost.{InsertPost}
-use Rattle.bl_proc.specs.declared.climbing.ClimbStage.{ClimbStage}
-use Rattle.bl_proc.specs.declared.climbing.ClimbStage.TheVariants.{Writing, Posting, Ending, Over}
-use Rattle.bl_proc.specs.declared.climbing.Climbed.TheVariants.{Unsplit, Posted}
+use Rattle.bl_proc_writes.specs.declared.paths.Path.{Path}
+use Rattle.bl_proc_writes.specs.declared.posting.Post.{Post}
+use Rattle.bl_proc_writes.specs.declared.posting.PostStage.{PostStage}
+use Rattle.bl_proc_writes.specs.declared.posting.PostStage.TheVariants as post
+use Rattle.bl_proc_writes.specs.declared.posting.PostReply.{PostReply}
+use Rattle.bl_proc_writes.specs.declared.posting.PostReply.TheVariants as listed
+use Rattle.bl_proc_writes.specs.declared.writing.Write.{Write}
+use Rattle.bl_proc_writes.specs.declared.writing.Noted.{Noted}
+use Rattle.bl_proc_writes.specs.declared.writing.WriteStage.{WriteStage}
+use Rattle.bl_proc_writes.specs.declared.writing.WriteStage.TheVariants as write
+use Rattle.bl_proc_writes.specs.declared.writing.WriteReply.{WriteReply}
+use Rattle.bl_proc_writes.specs.declared.writing.WriteReply.TheVariants as written
+use Rattle.bl_proc_writes.specs.declared.climbing.InsertPost.{InsertPost}
+use Rattle.bl_proc_writes.specs.declared.climbing.ClimbStage.{ClimbStage}
+use Rattle.bl_proc_writes.specs.declared.climbing.ClimbStage.TheVariants.{Writing, Posting, Ending, Over}
+use Rattle.bl_proc_writes.specs.declared.climbing.Climbed.TheVariants.{Unsplit, Posted}
 use Rattle.bl_proc.specs.declared.kinds.Proc.{Proc}
 use Rattle.bl_proc.specs.declared.kinds.Proc.TheVariants as proc
-use Rattle.bl_proc.specs.Levels.{IsBelowTop, IsBelowTop-prop}
-use Rattle.bl_proc.specs.Paths.{page_at, noted, from_page, NotesBy, Notes}
-use Rattle.bl_proc.specs.Stands.{IsWriting, IsPosting, Stands, Stands-prop}
-use Rattle.bl_proc.specs.Writes.{write_reply, write_answer_in, WriteGoes}
-use Rattle.bl_proc.specs.Posts.{post_answer_in, PostGoes}
-use Rattle.bl_proc.specs.Climbs.{climb_next_in, climb_needs_in, climb_answer_in, WriteNotes, PostNotes, ClimbNotes, IsUnsplit, IsLast, ClimbGoes}
+use Rattle.bl_proc_writes.specs.Levels.{IsBelowTop, IsBelowTop-prop}
+use Rattle.bl_proc_writes.specs.Paths.{page_at, noted, from_page, NotesBy, Notes}
+use Rattle.bl_proc_writes.specs.Stands.{IsWriting, IsPosting, Stands, Stands-prop}
+use Rattle.bl_proc_writes.specs.Writes.{write_reply, write_answer_in, WriteGoes}
+use Rattle.bl_proc_writes.specs.Posts.{post_answer_in, PostGoes}
+use Rattle.bl_proc_writes.specs.Climbs.{climb_next_in, climb_needs_in, climb_answer_in, WriteNotes, PostNotes, ClimbNotes, IsUnsplit, IsLast, ClimbGoes}
 use Rattle.bl_proc.specs.Processes.{Takes}
-use Rattle.bl_proc.proofs.Below.{goes_below}
-use Rattle.bl_proc.proofs.Stepping.{goes_stands}
+use Rattle.bl_proc_writes.proofs.Below.{goes_below}
+use Rattle.bl_proc_writes.proofs.Stepping.{goes_stands}
 use Rattle.bl_proc_unique.specs.Courses.{GoesOn}
 use Rattle.bl_proc_unique.specs.One.{One}
 use Rattle.bl_proc_unique.proofs.Onwards.{leads_some, leads_one}

@@ -11,19 +11,19 @@ use Rattle.bl_proc_base.specs.declared.acts.Action.TheVariants as act
 use Rattle.bl_proc_base.specs.declared.acts.Seen.{Seen}
 use Rattle.bl_proc_base.specs.declared.editing.Edit.{Edit}
 use Rattle.bl_proc_base.specs.declared.editing.Edit.TheVariants as edit
-use Rattle.bl_proc.specs.declared.paths.Path.{Path}
-use Rattle.bl_proc.specs.declared.writing.WriteStage.{WriteStage}
-use Rattle.bl_proc.specs.declared.writing.WriteStage.TheVariants as write
-use Rattle.bl_proc.specs.declared.posting.PostStage.{PostStage}
-use Rattle.bl_proc.specs.declared.posting.PostStage.TheVariants as post
-use Rattle.bl_proc.specs.declared.climbing.InsertPost.{InsertPost}
-use Rattle.bl_proc.specs.declared.climbing.ClimbStage.{ClimbStage}
-use Rattle.bl_proc.specs.declared.climbing.ClimbStage.TheVariants as climb
+use Rattle.bl_proc_writes.specs.declared.paths.Path.{Path}
+use Rattle.bl_proc_writes.specs.declared.writing.WriteStage.{WriteStage}
+use Rattle.bl_proc_writes.specs.declared.writing.WriteStage.TheVariants as write
+use Rattle.bl_proc_writes.specs.declared.posting.PostStage.{PostStage}
+use Rattle.bl_proc_writes.specs.declared.posting.PostStage.TheVariants as post
+use Rattle.bl_proc_writes.specs.declared.climbing.InsertPost.{InsertPost}
+use Rattle.bl_proc_writes.specs.declared.climbing.ClimbStage.{ClimbStage}
+use Rattle.bl_proc_writes.specs.declared.climbing.ClimbStage.TheVariants as climb
 use Rattle.bl_proc.specs.declared.kinds.Proc.TheVariants as proc
-use Rattle.bl_proc.specs.Paths.{page_at, from_page}
-use Rattle.bl_proc.specs.Writes.{write_next_in, write_needs_in, Performs}
-use Rattle.bl_proc.specs.Posts.{post_next_in, post_needs_in}
-use Rattle.bl_proc.specs.Climbs.{climb_next_in, climb_needs_in, climb_answer_in}
+use Rattle.bl_proc_writes.specs.Paths.{page_at, from_page}
+use Rattle.bl_proc_writes.specs.Writes.{write_next_in, write_needs_in, Performs}
+use Rattle.bl_proc_writes.specs.Posts.{post_next_in, post_needs_in}
+use Rattle.bl_proc_writes.specs.Climbs.{climb_next_in, climb_needs_in, climb_answer_in}
 use Rattle.bl_proc.specs.Processes.{next_of, Takes}
 use Rattle.bl_proc_unique.specs.Frames.{edit_frames, write_frames, post_frames, climb_frames, Wants, Leaves, Follows}
 use Rattle.bl_proc_unique.specs.Retirements.{RetiresAfter}

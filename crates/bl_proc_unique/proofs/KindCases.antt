@@ -13,8 +13,8 @@ use Rattle.bl_proc_base.specs.declared.acts.Seen.TheVariants as seen
 use Rattle.bl_proc_base.specs.declared.answers.Hint.TheVariants as hint
 use Rattle.bl_proc_base.specs.declared.answers.Reclaimed.{Reclaimed}
 use Rattle.bl_proc_base.specs.declared.answers.Reclaimed.TheVariants as reclaimed
-use Rattle.bl_proc_base.specs.declared.onwards.Step.{Step}
-use Rattle.bl_proc_base.specs.declared.onwards.Step.TheVariants.{Again, Right, Down, Here}
+use Rattle.bl_proc_pages.specs.declared.onwards.Step.{Step}
+use Rattle.bl_proc_pages.specs.declared.onwards.Step.TheVariants.{Again, Right, Down, Here}
 use Rattle.bl_proc_base.specs.declared.descent.Descent.{Descent}
 use Rattle.bl_proc_base.specs.declared.descent.Descent.TheVariants as descent
 use Rattle.bl_proc_base.specs.declared.descent.Descended.TheVariants as descended
@@ -44,23 +44,23 @@ use Rattle.bl_proc_compress.specs.declared.squeezing.CompressReply.{CompressRepl
 use Rattle.bl_proc_compress.specs.declared.squeezing.CompressReply.TheVariants as pressed
 use Rattle.bl_proc_compress.specs.Compressions.{AreSiblings, Compresses}
 use Rattle.bl_proc_compress.specs.Compresses.{compress_reply, CompressArrives, CompressComes, CompressGoes}
-use Rattle.bl_proc.specs.declared.writing.Noted.{Noted}
-use Rattle.bl_proc.specs.declared.writing.WriteReply.{WriteReply}
-use Rattle.bl_proc.specs.declared.writing.WriteReply.TheVariants as written
-use Rattle.bl_proc.specs.declared.writing.WriteStage.{WriteStage}
-use Rattle.bl_proc.specs.declared.writing.WriteStage.TheVariants as write
-use Rattle.bl_proc.specs.declared.writing.Write.{Write}
-use Rattle.bl_proc.specs.declared.walking.Walk.{Walk}
-use Rattle.bl_proc.specs.declared.posting.Post.{Post}
-use Rattle.bl_proc.specs.declared.posting.PostStage.{PostStage}
-use Rattle.bl_proc.specs.declared.posting.PostStage.TheVariants as post
-use Rattle.bl_proc.specs.declared.posting.PostReply.{PostReply}
-use Rattle.bl_proc.specs.declared.posting.PostReply.TheVariants as listed
-use Rattle.bl_proc.specs.declared.paths.Path.{Path}
-use Rattle.bl_proc.specs.declared.climbing.Climbed.{Climbed}
-use Rattle.bl_proc.specs.declared.climbing.Climbed.TheVariants as climbed
-use Rattle.bl_proc.specs.declared.climbing.ClimbStage.{ClimbStage}
-use Rattle.bl_proc.specs.declared.climbing.ClimbStage.TheVariants as climb
+use Rattle.bl_proc_writes.specs.declared.writing.Noted.{Noted}
+use Rattle.bl_proc_writes.specs.declared.writing.WriteReply.{WriteReply}
+use Rattle.bl_proc_writes.specs.declared.writing.WriteReply.TheVariants as written
+use Rattle.bl_proc_writes.specs.declared.writing.WriteStage.{WriteStage}
+use Rattle.bl_proc_writes.specs.declared.writing.WriteStage.TheVariants as write
+use Rattle.bl_proc_writes.specs.declared.writing.Write.{Write}
+use Rattle.bl_proc_writes.specs.declared.walking.Walk.{Walk}
+use Rattle.bl_proc_writes.specs.declared.posting.Post.{Post}
+use Rattle.bl_proc_writes.specs.declared.posting.PostStage.{PostStage}
+use Rattle.bl_proc_writes.specs.declared.posting.PostStage.TheVariants as post
+use Rattle.bl_proc_writes.specs.declared.posting.PostReply.{PostReply}
+use Rattle.bl_proc_writes.specs.declared.posting.PostReply.TheVariants as listed
+use Rattle.bl_proc_writes.specs.declared.paths.Path.{Path}
+use Rattle.bl_proc_writes.specs.declared.climbing.Climbed.{Climbed}
+use Rattle.bl_proc_writes.specs.declared.climbing.Climbed.TheVariants as climbed
+use Rattle.bl_proc_writes.specs.declared.climbing.ClimbStage.{ClimbStage}
+use Rattle.bl_proc_writes.specs.declared.climbing.ClimbStage.TheVariants as climb
 use Rattle.bl_proc.specs.declared.reclaiming.Round.{Round}
 use Rattle.bl_proc.specs.declared.reclaiming.ReclaimStage.{ReclaimStage}
 use Rattle.bl_proc.specs.declared.reclaiming.ReclaimStage.TheVariants as reclaim
@@ -71,7 +71,7 @@ use Rattle.bl_proc.specs.declared.searching.FindStage.TheVariants as find
 use Rattle.bl_proc.specs.declared.parts.PartRows.{PartRows}
 use Rattle.bl_proc.specs.declared.parts.PartStage.{PartStage}
 use Rattle.bl_proc.specs.declared.parts.PartStage.TheVariants as part
-use Rattle.bl_proc_base.specs.Onwards.{Leads}
+use Rattle.bl_proc_pages.specs.Onwards.{Leads}
 use Rattle.bl_proc_base.specs.Descents.{Descends}
 use Rattle.bl_proc_base.specs.Approaches.{Approaches, Comes}
 use Rattle.bl_proc_base.specs.Edits.{EntersPair, Changes}
@@ -79,11 +79,11 @@ use Rattle.bl_proc_base.specs.Growths.{Grows}
 use Rattle.bl_proc_base.specs.Lowerings.{Lowers}
 use Rattle.bl_proc.specs.Searches.{FindGoes}
 use Rattle.bl_proc.specs.Parts.{IsPartOf, way_by, PartGoes}
-use Rattle.bl_proc.specs.Writes.{Performs, thin_by, write_reply, WriteArrives, WriteGoes}
-use Rattle.bl_proc.specs.Posts.{post_reply, IsLost, PostLacks, PostArrives, PostComes, PostGoes}
-use Rattle.bl_proc.specs.Paths.{noted, Notes}
-use Rattle.bl_proc.specs.Stands.{IsWriting, IsPosting}
-use Rattle.bl_proc.specs.Climbs.{PostsFrom, IsUnsplit, IsLast, ClimbGoes}
+use Rattle.bl_proc_writes.specs.Writes.{Performs, thin_by, write_reply, WriteArrives, WriteGoes}
+use Rattle.bl_proc_writes.specs.Posts.{post_reply, IsLost, PostLacks, PostArrives, PostComes, PostGoes}
+use Rattle.bl_proc_writes.specs.Paths.{noted, Notes}
+use Rattle.bl_proc_writes.specs.Stands.{IsWriting, IsPosting}
+use Rattle.bl_proc_writes.specs.Climbs.{PostsFrom, IsUnsplit, IsLast, ClimbGoes}
 use Rattle.bl_proc.specs.Reclaims.{GoesPast, ReclaimGoes}
 use Rattle.bl_proc.specs.Lowers.{LowerGoes}
 use Rattle.bl_proc_unique.proofs.WayCases.{ApproachCase, approach_case}

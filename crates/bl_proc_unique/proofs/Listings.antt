@@ -10,8 +10,8 @@ use Rattle.bl_page.specs.declared.page.Page.{Page}
 use Rattle.bl_page.specs.declared.page.Page.TheVariants.{Anchor, Leaf, Inner, Dead}
 use Rattle.bl_page.specs.Pairs.{RisesFrom, end_of}
 use Rattle.bl_page.specs.Nodes.{unbounded}
-use Rattle.bl_proc_base.specs.declared.onwards.Step.TheVariants.{Here}
-use Rattle.bl_proc_base.specs.Onwards.{Leads}
+use Rattle.bl_proc_pages.specs.declared.onwards.Step.TheVariants.{Here}
+use Rattle.bl_proc_pages.specs.Onwards.{Leads}
 use Rattle.bl_proc.specs.declared.parts.PartRows.{PartRows}
 use Rattle.bl_proc.specs.Parts.{GoesOnAt, IsPartOf}
 use Rattle.bl_proc.proofs.Rising.{first_from, lists_from}

@@ -20,7 +20,7 @@ use Rattle.bl_proc_base.specs.declared.lowering.Lowering.TheVariants.{Looking, L
 use Rattle.bl_proc_base.specs.declared.lowering.Sank.{Sank}
 use Rattle.bl_proc_base.specs.declared.lowering.Sank.TheVariants.{On, Over}
 use Rattle.bl_proc_base.specs.Given.{Gives}
-use Rattle.bl_proc_base.specs.Onwards.{top_of}
+use Rattle.bl_proc_pages.specs.Onwards.{top_of}
 use Rattle.bl_proc_base.specs.Lowerings.{lowering_next, lowering_needs, IsSole, IsFallen, Sinks, Lowers}
 use Rattle.bl_proc_base.proofs.Tops.{length_take, AreChildren-take}
 use Rattle.bl_proc_unique.specs.One.{One}

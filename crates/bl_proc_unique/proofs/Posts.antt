@@ -12,8 +12,8 @@ use Rattle.bl_page.specs.Pairs.{IsChild, IsWithin, IsWithin-prop, IsChild-prop}
 use Rattle.bl_page.specs.Nodes.{node_of, IsChildOf}
 use Rattle.bl_proc_base.specs.declared.acts.Seen.{Seen}
 use Rattle.bl_proc_base.specs.declared.acts.Seen.TheVariants as seen
-use Rattle.bl_proc_base.specs.declared.onwards.Step.{Step}
-use Rattle.bl_proc_base.specs.declared.onwards.Step.TheVariants.{Again, Right, Down, Here}
+use Rattle.bl_proc_pages.specs.declared.onwards.Step.{Step}
+use Rattle.bl_proc_pages.specs.declared.onwards.Step.TheVariants.{Again, Right, Down, Here}
 use Rattle.bl_proc_base.specs.declared.approaching.Approach.{Approach}
 use Rattle.bl_proc_base.specs.declared.approaching.Approach.TheVariants.{Start, Leaving}
 use Rattle.bl_proc_base.specs.declared.approaching.Came.{Came}
@@ -26,23 +26,23 @@ use Rattle.bl_proc_base.specs.declared.editing.Edit.{Edit}
 use Rattle.bl_proc_base.specs.declared.editing.Edited.{Edited}
 use Rattle.bl_proc_base.specs.declared.editing.Edited.TheVariants as edit
 use Rattle.bl_proc_base.specs.Given.{Gives}
-use Rattle.bl_proc_base.specs.Onwards.{Leads}
+use Rattle.bl_proc_pages.specs.Onwards.{Leads}
 use Rattle.bl_proc_base.specs.Approaches.{Comes}
 use Rattle.bl_proc_base.specs.Edits.{EntersPair, Changes}
 use Rattle.bl_proc_base.specs.Growths.{Grows}
 use Rattle.bl_proc.specs.declared.kinds.Proc.{Proc}
 use Rattle.bl_proc.specs.declared.kinds.Proc.TheVariants as proc
-use Rattle.bl_proc.specs.declared.walking.Walk.{Walk}
-use Rattle.bl_proc.specs.declared.posting.Post.{Post}
-use Rattle.bl_proc.specs.Levels.{IsBelowTop, IsBelowTop-prop}
-use Rattle.bl_proc.proofs.Below.{goes_below}
-use Rattle.bl_proc.specs.declared.posting.PostStage.{PostStage}
-use Rattle.bl_proc.specs.declared.posting.PostStage.TheVariants.{New, Coming, Growing, Walking, Editing, Staying, Ending, Over}
-use Rattle.bl_proc.specs.declared.posting.PostReply.{PostReply}
-use Rattle.bl_proc.specs.declared.posting.PostReply.TheVariants as reply
-use Rattle.bl_proc.specs.Posts.{post_reply, post_next_in, post_needs_in, post_answer_in, PostLacks, PostArrives, IsLost, PostWalks, PostComes, PostGoes}
+use Rattle.bl_proc_writes.specs.declared.walking.Walk.{Walk}
+use Rattle.bl_proc_writes.specs.declared.posting.Post.{Post}
+use Rattle.bl_proc_writes.specs.Levels.{IsBelowTop, IsBelowTop-prop}
+use Rattle.bl_proc_writes.proofs.Below.{goes_below}
+use Rattle.bl_proc_writes.specs.declared.posting.PostStage.{PostStage}
+use Rattle.bl_proc_writes.specs.declared.posting.PostStage.TheVariants.{New, Coming, Growing, Walking, Editing, Staying, Ending, Over}
+use Rattle.bl_proc_writes.specs.declared.posting.PostReply.{PostReply}
+use Rattle.bl_proc_writes.specs.declared.posting.PostReply.TheVariants as reply
+use Rattle.bl_proc_writes.specs.Posts.{post_reply, post_next_in, post_needs_in, post_answer_in, PostLacks, PostArrives, IsLost, PostWalks, PostComes, PostGoes}
 use Rattle.bl_proc.specs.Processes.{Takes}
-use Rattle.bl_proc.proofs.Named.{listed-child}
+use Rattle.bl_proc_writes.proofs.Named.{listed-child}
 use Rattle.bl_proc_base.proofs.Ways.{here_leads}
 use Rattle.bl_proc_unique.specs.Courses.{GoesOn}
 use Rattle.bl_proc_unique.specs.One.{One}

@@ -7,11 +7,11 @@ use Rattle.bl_proc_base.specs.declared.growing.Growth.{Growth}
 use Rattle.bl_proc_base.specs.declared.growing.Growth.TheVariants as growth
 use Rattle.bl_proc_base.specs.declared.growing.Grew.TheVariants as grew
 use Rattle.bl_proc_base.specs.Growths.{growth_next, growth_needs}
-use Rattle.bl_proc.specs.declared.posting.Post.{Post}
-use Rattle.bl_proc.specs.declared.posting.PostStage.{PostStage}
-use Rattle.bl_proc.specs.declared.posting.PostStage.TheVariants as post
+use Rattle.bl_proc_writes.specs.declared.posting.Post.{Post}
+use Rattle.bl_proc_writes.specs.declared.posting.PostStage.{PostStage}
+use Rattle.bl_proc_writes.specs.declared.posting.PostStage.TheVariants as post
 use Rattle.bl_proc.specs.declared.kinds.Proc.TheVariants as proc
-use Rattle.bl_proc.specs.Posts.{post_next_in, post_needs_in, post_answer_in}
+use Rattle.bl_proc_writes.specs.Posts.{post_next_in, post_needs_in, post_answer_in}
 use Rattle.bl_proc.specs.Processes.{Takes}
 use Rattle.bl_proc_unique.specs.Frames.{growth_frames, post_frames, Wants, Leaves, Follows}
 use Rattle.bl_proc_unique.proofs.Following.{approach_wants, edit_wants, edit_leaves, edit_over, approach_leaves, not_begin_way, not_begin, came_frames}

@@ -12,7 +12,7 @@ use Rattle.bl_proc_base.specs.declared.editing.Edited.TheVariants as changed
 use Rattle.bl_proc_base.specs.declared.growing.Growth.{Growth}
 use Rattle.bl_proc_base.specs.declared.growing.Grew.TheVariants as grew
 use Rattle.bl_proc_base.specs.Edits.{EntersPair, DropsPair, GivesValue}
-use Rattle.bl_proc.specs.Writes.{Performs}
+use Rattle.bl_proc_writes.specs.Writes.{Performs}
 use Rattle.bl_proc_unique.specs.Refusals.{OutcomeRefused, EditRefused, GrowthRefused}
 use Rattle.bl_proc_unique.proofs.WayCases.{EditCase, GrowthCase}
 

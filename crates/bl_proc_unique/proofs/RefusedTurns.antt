@@ -6,20 +6,20 @@ use Rattle.bl_proc_base.specs.declared.acts.Seen.TheVariants as seen
 use Rattle.bl_proc_base.specs.declared.editing.Outcome.{Outcome}
 use Rattle.bl_proc_base.specs.declared.editing.Outcome.TheVariants as outcome
 use Rattle.bl_model.specs.declared.deciding.KeyWrite.{KeyWrite}
-use Rattle.bl_proc.specs.declared.writing.Noted.{Noted}
-use Rattle.bl_proc.specs.declared.writing.WriteStage.{WriteStage}
-use Rattle.bl_proc.specs.declared.posting.PostStage.{PostStage}
+use Rattle.bl_proc_writes.specs.declared.writing.Noted.{Noted}
+use Rattle.bl_proc_writes.specs.declared.writing.WriteStage.{WriteStage}
+use Rattle.bl_proc_writes.specs.declared.posting.PostStage.{PostStage}
 use Rattle.bl_proc_base.specs.declared.lowering.Lowering.{Lowering}
 use Rattle.bl_proc_base.specs.declared.lowering.Sank.{Sank}
 use Rattle.bl_proc_base.specs.declared.lowering.Sank.TheVariants.{On, Over}
 use Rattle.bl_proc.specs.declared.lowering.LowerStage.{LowerStage}
-use Rattle.bl_proc.specs.declared.paths.Path.{Path}
-use Rattle.bl_proc.specs.declared.climbing.ClimbStage.{ClimbStage}
+use Rattle.bl_proc_writes.specs.declared.paths.Path.{Path}
+use Rattle.bl_proc_writes.specs.declared.climbing.ClimbStage.{ClimbStage}
 use Rattle.bl_proc.specs.declared.kinds.Proc.{Proc}
 use Rattle.bl_proc.specs.declared.kinds.Proc.TheVariants as proc
 use Rattle.bl_proc.specs.Processes.{Takes}
-use Rattle.bl_proc.specs.Writes.{write_reply}
-use Rattle.bl_proc.specs.Posts.{post_reply}
+use Rattle.bl_proc_writes.specs.Writes.{write_reply}
+use Rattle.bl_proc_writes.specs.Posts.{post_reply}
 use Rattle.bl_proc_unique.specs.Refusals.{OutcomeRefused, WriteNoRoom, WriteRefused, PostNoRoom, PostRefused, LowerNoRoom, LoweringRefused, LowerRefused, ClimbNoRoom, ClimbRefused, IsRefused, PutsRefused}
 use Rattle.bl_proc_unique.proofs.RefusedCompressions.{compress_refused, compress_puts}
 use Rattle.bl_proc_unique.proofs.Refusals.{changes_refused, changes_over, grows_refused, grows_over, enters_not, performs_not}

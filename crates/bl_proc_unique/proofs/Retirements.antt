@@ -18,12 +18,12 @@ use Rattle.bl_rearrange.specs.declared.sides.Side.TheVariants as side
 use Rattle.bl_proc.specs.declared.searching.Find.{Find}
 use Rattle.bl_proc.specs.declared.searching.FindStage.{FindStage}
 use Rattle.bl_proc.specs.declared.searching.FindStage.TheVariants as find
-use Rattle.bl_proc.specs.declared.writing.WriteStage.{WriteStage}
-use Rattle.bl_proc.specs.declared.writing.WriteStage.TheVariants as write
-use Rattle.bl_proc.specs.Writes.{write_next_in}
-use Rattle.bl_proc.specs.declared.posting.Post.{Post}
-use Rattle.bl_proc.specs.declared.posting.PostStage.{PostStage}
-use Rattle.bl_proc.specs.declared.posting.PostStage.TheVariants as post
+use Rattle.bl_proc_writes.specs.declared.writing.WriteStage.{WriteStage}
+use Rattle.bl_proc_writes.specs.declared.writing.WriteStage.TheVariants as write
+use Rattle.bl_proc_writes.specs.Writes.{write_next_in}
+use Rattle.bl_proc_writes.specs.declared.posting.Post.{Post}
+use Rattle.bl_proc_writes.specs.declared.posting.PostStage.{PostStage}
+use Rattle.bl_proc_writes.specs.declared.posting.PostStage.TheVariants as post
 use Rattle.bl_proc_compress.specs.declared.compressing.Siblings.{Siblings}
 use Rattle.bl_proc_compress.specs.declared.compressing.Puts.{Puts}
 use Rattle.bl_proc_compress.specs.declared.compressing.Decision.{Decision}
@@ -36,7 +36,7 @@ use Rattle.bl_proc_compress.specs.Compressions.{put_of, other, compression_next,
 use Rattle.bl_proc_compress.specs.Compresses.{compress_next_in}
 use Rattle.bl_proc.specs.declared.kinds.Proc.TheVariants as proc
 use Rattle.bl_proc.specs.Searches.{find_next_in}
-use Rattle.bl_proc.specs.Posts.{post_next_in}
+use Rattle.bl_proc_writes.specs.Posts.{post_next_in}
 use Rattle.bl_proc.specs.Processes.{next_of, Takes}
 use Rattle.bl_proc_unique.specs.Retirements.{IsPutDone, RetiresAfter}
 use Rattle.bl_proc_unique.proofs.WayCases.{SqueezeCase, squeeze_case}

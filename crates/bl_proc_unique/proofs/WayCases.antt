@@ -9,8 +9,8 @@ use Rattle.bl_rearrange.specs.Rearranged.{IsFitted}
 use Rattle.bl_page.specs.Nodes.{roots_of}
 use Rattle.bl_proc_base.specs.declared.acts.Seen.{Seen}
 use Rattle.bl_proc_base.specs.declared.acts.Seen.TheVariants as seen
-use Rattle.bl_proc_base.specs.declared.onwards.Step.{Step}
-use Rattle.bl_proc_base.specs.declared.onwards.Step.TheVariants.{Here}
+use Rattle.bl_proc_pages.specs.declared.onwards.Step.{Step}
+use Rattle.bl_proc_pages.specs.declared.onwards.Step.TheVariants.{Here}
 use Rattle.bl_proc_base.specs.declared.approaching.Approach.{Approach}
 use Rattle.bl_proc_base.specs.declared.approaching.Approach.TheVariants as way
 use Rattle.bl_proc_base.specs.declared.approaching.Approached.{Approached}
@@ -39,7 +39,7 @@ use Rattle.bl_proc_compress.specs.declared.compressing.Compression.TheVariants.{
 use Rattle.bl_proc_compress.specs.declared.compressing.Compressed.{Compressed}
 use Rattle.bl_proc_compress.specs.declared.compressing.Compressed.TheVariants as step
 use Rattle.bl_proc_compress.specs.Compressions.{Links, Decides, after_puts, missed_left, missed_right, Compresses}
-use Rattle.bl_proc_base.specs.Onwards.{Leads}
+use Rattle.bl_proc_pages.specs.Onwards.{Leads}
 use Rattle.bl_proc_base.specs.Approaches.{Enters, Turns, Quits, Approaches}
 use Rattle.bl_proc_base.specs.Edits.{Changes}
 use Rattle.bl_proc_base.specs.Growths.{Raises, Grows}

@@ -7,8 +7,8 @@ use Rattle.bl_page.specs.declared.page.Inner.{Inner}
 use Rattle.bl_page.specs.Nodes.{Roots, node_of, roots_of}
 use Rattle.bl_proc_base.specs.declared.acts.Seen.{Seen}
 use Rattle.bl_proc_base.specs.declared.acts.Seen.TheVariants as seen
-use Rattle.bl_proc_base.specs.declared.onwards.Step.{Step}
-use Rattle.bl_proc_base.specs.declared.onwards.Step.TheVariants.{Again, Right, Down, Here}
+use Rattle.bl_proc_pages.specs.declared.onwards.Step.{Step}
+use Rattle.bl_proc_pages.specs.declared.onwards.Step.TheVariants.{Again, Right, Down, Here}
 use Rattle.bl_proc_base.specs.declared.approaching.Approach.{Approach}
 use Rattle.bl_proc_base.specs.declared.approaching.Approach.TheVariants.{Start, At, Latching, Latched, Leaving}
 use Rattle.bl_proc_base.specs.declared.approaching.Approached.{Approached}
@@ -16,7 +16,7 @@ use Rattle.bl_proc_base.specs.declared.approaching.Approached.TheVariants as cam
 use Rattle.bl_proc_base.specs.declared.approaching.Came.{Came}
 use Rattle.bl_proc_base.specs.declared.approaching.Came.TheVariants as come
 use Rattle.bl_proc_base.specs.Given.{Gives}
-use Rattle.bl_proc_base.specs.Onwards.{top_of, Leads}
+use Rattle.bl_proc_pages.specs.Onwards.{top_of, Leads}
 use Rattle.bl_proc_base.specs.Approaches.{approach_next, Enters, Turns, Quits, Approaches, HasLevel, CountsLevels, Comes}
 use Rattle.bl_proc_base.proofs.Ways.{here_leads}
 use Rattle.bl_proc_unique.specs.One.{One}

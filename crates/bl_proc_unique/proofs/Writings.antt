@@ -10,7 +10,7 @@ use Rattle.bl_page.specs.declared.page.Page.{Page}
 use Rattle.bl_page.specs.Nodes.{node_of}
 use Rattle.bl_proc_base.specs.declared.acts.Seen.{Seen}
 use Rattle.bl_proc_base.specs.declared.acts.Seen.TheVariants as seen
-use Rattle.bl_proc_base.specs.declared.onwards.Step.TheVariants.{Here}
+use Rattle.bl_proc_pages.specs.declared.onwards.Step.TheVariants.{Here}
 use Rattle.bl_proc_base.specs.declared.approaching.Approach.{Approach}
 use Rattle.bl_proc_base.specs.declared.approaching.Approach.TheVariants.{Start}
 use Rattle.bl_proc_base.specs.declared.approaching.Approached.{Approached}
@@ -19,27 +19,27 @@ use Rattle.bl_proc_base.specs.declared.editing.Edit.{Edit}
 use Rattle.bl_proc_base.specs.declared.editing.Edited.{Edited}
 use Rattle.bl_proc_base.specs.declared.editing.Edited.TheVariants as edit
 use Rattle.bl_proc_base.specs.Given.{Gives}
-use Rattle.bl_proc_base.specs.Onwards.{Leads}
+use Rattle.bl_proc_pages.specs.Onwards.{Leads}
 use Rattle.bl_proc_base.specs.Approaches.{Approaches}
 use Rattle.bl_proc_base.specs.Edits.{Changes}
 use Rattle.bl_proc.specs.declared.kinds.Proc.{Proc}
 use Rattle.bl_proc.specs.declared.kinds.Proc.TheVariants as proc
 use Rattle.bl_proc.specs.Processes.{Takes}
 use Rattle.bl_proc_base.proofs.Ways.{here_leads}
-use Rattle.bl_proc.proofs.Arrivals.{write_arrives}
+use Rattle.bl_proc_writes.proofs.Arrivals.{write_arrives}
 use Rattle.bl_proc_unique.specs.Courses.{GoesOn}
 use Rattle.bl_proc_unique.specs.One.{One}
 use Rattle.bl_proc_unique.proofs.Cases.{came_on, came_at, came_as, not_both}
 use Rattle.bl_proc_unique.proofs.Ways.{approach_one}
 use Rattle.bl_proc_unique.proofs.Edits.{enter_one, drop_one, replace_one, edit_one}
 use Rattle.bl_proc_unique.proofs.Leaves.{leaf_covers, leaf_lists, leaf_holds, leaf_loses, leaf_has}
-use Rattle.bl_proc.specs.declared.writing.Noted.{Noted}
-use Rattle.bl_proc.specs.declared.writing.Write.{Write}
-use Rattle.bl_proc.specs.declared.writing.WriteStage.{WriteStage}
-use Rattle.bl_proc.specs.declared.writing.WriteStage.TheVariants.{New, Coming, Keeping, Editing, Ending, Over}
-use Rattle.bl_proc.specs.declared.writing.WriteReply.{WriteReply}
-use Rattle.bl_proc.specs.declared.writing.WriteReply.TheVariants.{Done}
-use Rattle.bl_proc.specs.Writes.{Performs, thin_by, write_reply, write_next_in, write_needs_in, write_answer_in, WriteArrives, WriteGoes}
+use Rattle.bl_proc_writes.specs.declared.writing.Noted.{Noted}
+use Rattle.bl_proc_writes.specs.declared.writing.Write.{Write}
+use Rattle.bl_proc_writes.specs.declared.writing.WriteStage.{WriteStage}
+use Rattle.bl_proc_writes.specs.declared.writing.WriteStage.TheVariants.{New, Coming, Keeping, Editing, Ending, Over}
+use Rattle.bl_proc_writes.specs.declared.writing.WriteReply.{WriteReply}
+use Rattle.bl_proc_writes.specs.declared.writing.WriteReply.TheVariants.{Done}
+use Rattle.bl_proc_writes.specs.Writes.{Performs, thin_by, write_reply, write_next_in, write_needs_in, write_answer_in, WriteArrives, WriteGoes}
 use Rattle.bl_proc_unique.proofs.KindCases.{WriteCase, write_case}
 
 module _ (key : ℕ) (does : KeyWrite) (x : ℕ) (c : Page) where

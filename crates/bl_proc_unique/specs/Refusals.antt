@@ -23,18 +23,18 @@ use Rattle.bl_proc_compress.specs.declared.squeezing.CompressReply.{CompressRepl
 use Rattle.bl_proc_compress.specs.declared.squeezing.CompressReply.TheVariants as pressed
 use Rattle.bl_proc_compress.specs.declared.squeezing.CompressStage.{CompressStage}
 use Rattle.bl_proc_compress.specs.declared.squeezing.CompressStage.TheVariants as compress
-use Rattle.bl_proc.specs.declared.writing.WriteReply.{WriteReply}
-use Rattle.bl_proc.specs.declared.writing.WriteReply.TheVariants as written
-use Rattle.bl_proc.specs.declared.writing.WriteStage.{WriteStage}
-use Rattle.bl_proc.specs.declared.writing.WriteStage.TheVariants as write
-use Rattle.bl_proc.specs.declared.posting.PostStage.{PostStage}
-use Rattle.bl_proc.specs.declared.posting.PostStage.TheVariants as post
-use Rattle.bl_proc.specs.declared.posting.PostReply.{PostReply}
-use Rattle.bl_proc.specs.declared.posting.PostReply.TheVariants as listed
-use Rattle.bl_proc.specs.declared.climbing.Climbed.{Climbed}
-use Rattle.bl_proc.specs.declared.climbing.Climbed.TheVariants as climbed
-use Rattle.bl_proc.specs.declared.climbing.ClimbStage.{ClimbStage}
-use Rattle.bl_proc.specs.declared.climbing.ClimbStage.TheVariants as climb
+use Rattle.bl_proc_writes.specs.declared.writing.WriteReply.{WriteReply}
+use Rattle.bl_proc_writes.specs.declared.writing.WriteReply.TheVariants as written
+use Rattle.bl_proc_writes.specs.declared.writing.WriteStage.{WriteStage}
+use Rattle.bl_proc_writes.specs.declared.writing.WriteStage.TheVariants as write
+use Rattle.bl_proc_writes.specs.declared.posting.PostStage.{PostStage}
+use Rattle.bl_proc_writes.specs.declared.posting.PostStage.TheVariants as post
+use Rattle.bl_proc_writes.specs.declared.posting.PostReply.{PostReply}
+use Rattle.bl_proc_writes.specs.declared.posting.PostReply.TheVariants as listed
+use Rattle.bl_proc_writes.specs.declared.climbing.Climbed.{Climbed}
+use Rattle.bl_proc_writes.specs.declared.climbing.Climbed.TheVariants as climbed
+use Rattle.bl_proc_writes.specs.declared.climbing.ClimbStage.{ClimbStage}
+use Rattle.bl_proc_writes.specs.declared.climbing.ClimbStage.TheVariants as climb
 use Rattle.bl_proc.specs.declared.lowering.LowerStage.{LowerStage}
 use Rattle.bl_proc.specs.declared.lowering.LowerStage.TheVariants as lower
 use Rattle.bl_proc.specs.declared.kinds.Proc.{Proc}

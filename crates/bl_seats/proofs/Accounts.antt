@@ -14,14 +14,14 @@ use Rattle.bl_proc_base.specs.declared.answers.Answer.TheVariants as answers
 use Rattle.bl_proc_base.specs.declared.answers.Hint.{Hint}
 use Rattle.bl_proc.specs.declared.kinds.Proc.{Proc}
 use Rattle.bl_proc.specs.declared.kinds.Proc.TheVariants as proc
-use Rattle.bl_proc.specs.declared.posting.Post.{Post}
+use Rattle.bl_proc_writes.specs.declared.posting.Post.{Post}
 use Rattle.bl_proc.specs.declared.lowering.Lower.{Lower}
 use Rattle.bl_proc_compress.specs.declared.squeezing.Compress.{Compress}
-use Rattle.bl_proc.specs.declared.writing.Write.{Write}
-use Rattle.bl_proc.specs.declared.writing.WriteStage.{WriteStage}
-use Rattle.bl_proc.specs.declared.writing.WriteStage.TheVariants as write
-use Rattle.bl_proc.specs.declared.writing.WriteReply.TheVariants as written
-use Rattle.bl_proc.specs.Writes.{write_next_in, write_answer_in, WriteGoes}
+use Rattle.bl_proc_writes.specs.declared.writing.Write.{Write}
+use Rattle.bl_proc_writes.specs.declared.writing.WriteStage.{WriteStage}
+use Rattle.bl_proc_writes.specs.declared.writing.WriteStage.TheVariants as write
+use Rattle.bl_proc_writes.specs.declared.writing.WriteReply.TheVariants as written
+use Rattle.bl_proc_writes.specs.Writes.{write_next_in, write_answer_in, WriteGoes}
 use Rattle.bl_proc.specs.Processes.{next_of, answer_of, Takes}
 use Rattle.bl_store.specs.declared.store.Hand.{Hand}
 use Rattle.bl_store.specs.Hands.{known}

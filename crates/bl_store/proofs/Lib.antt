@@ -1,15 +1,6 @@
-mod Lists
-mod Keeps
-mod Time
-mod Reserving
-mod Putting
-mod Owning
-mod Ticking
-mod Sweeping
 mod Living
 mod StockLemmas
 mod Written
 mod Dealing
-mod Joining
 mod Ending
 mod Examples

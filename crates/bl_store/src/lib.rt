@@ -20,18 +20,13 @@ mod closing;
 mod meeting;
 mod opening;
 mod owner;
-mod plays;
 mod put;
 mod reserve;
-mod rule;
 mod scarce;
 mod stock;
 mod store;
 mod sweep;
-mod view;
 
 pub use put::Spread;
-pub use rule::{MeetPlay, PagePlay, PageRule, SweepPlay, TimePlay};
 pub use stock::{NoRoom, Stock};
 pub use store::{Glance, Hand, Store};
-pub use view::{Draft, Dropping, Framed, Ground, Reading, Sealing, Stamp, Sweep, View, Wanted};

@@ -1,14 +1,13 @@
 //! A store is made, and its hands are dealt out.
 ghost use Rattle.std.specs.Prelude.{◌≡◌, ℕ, ◌+◌, ◌<◌, ◌≤◌, false, [], length, replicate, slice_index_or, IfOk};
 ghost use Rattle.bl_layout.specs.Cells.{cell_count};
-ghost use Rattle.bl_store.specs.Frames.{share};
+ghost use Rattle.bl_frames.specs.Frames.{share};
 ghost use Rattle.bl_store.specs.Opening.{first_pages, is_blank, Laid, IsDealt};
-ghost use Rattle.bl_store.specs.declared.view.Sealing.TheVariants.{Unsealed};
+ghost use Rattle.bl_frames.specs.declared.view.Sealing.TheVariants.{Unsealed};
 
-use crate::rule::PageRule;
 use crate::store::{APART, Hand, RING, Store};
-use crate::view::{Ground, View};
 use atomic_table::{Seat, Split, Table};
+use bl_frames::{Ground, PageRule, View};
 use bl_layout::Layout;
 use std::alloc::{AllocError, Global};
 use std::mem;
@@ -19,7 +18,7 @@ use std::sync::atomic::AtomicU64;
 pub(crate) struct Deal;
 
 impl<D> Split<View<D>> for Deal {
-    ghost use Rattle.bl_store.specs.Frames.{own_share, next_share};
+    ghost use Rattle.bl_frames.specs.Frames.{own_share, next_share};
 
     ghost left = { own_share };
 

@@ -1,15 +1,13 @@
 //! Latches, and the retirement of a page.
 ghost use Rattle.std.specs.Prelude.{◌≡◌, ℕ, ◌+◌, ◌<◌, ◌≤◌, ◌↔◌, List, [], IsTrue};
-ghost use Rattle.bl_store.specs.Pages.{Owner, Open, Held, Latches, Misses, Probes, Opens, Retires};
+ghost use Rattle.bl_frames.specs.Pages.{Owner, Open, Held, Latches, Misses, Probes, Opens, Retires};
 ghost use Rattle.bl_store.specs.Hands.{known, IsOf, IsSameHand, IsSameStage, IsSameStock, IsSameRefusal, MayRetire};
-ghost use Rattle.bl_store.specs.declared.view.Sealing.TheVariants.{Unsealed, Sealed};
-ghost use Rattle.bl_store.specs.Frames.{IsLive};
+ghost use Rattle.bl_frames.specs.declared.view.Sealing.TheVariants.{Unsealed, Sealed};
+ghost use Rattle.bl_frames.specs.Frames.{IsLive};
 
-use crate::plays::{Aim, Open, Publish, Seal, Try};
-use crate::rule::{PagePlay, PageRule, TimePlay};
 use crate::store::{Hand, Store};
-use crate::view::View;
 use atomic_table::Seat;
+use bl_frames::{Aim, Open, PagePlay, PageRule, Publish, Seal, TimePlay, Try, View};
 use bl_layout::{held_by, retired_at};
 use std::alloc::Allocator;
 use std::marker::Brand;

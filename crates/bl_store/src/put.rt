@@ -2,18 +2,17 @@
 ghost use Rattle.std.specs.Prelude.{◌≡◌, ℕ, ◌+◌, ◌*◌, ◌-◌, ◌<◌, ◌≤◌, List, [], ◌∷◌, length, slice_index};
 ghost use Rattle.bl_layout.specs.Words.{frame_count};
 ghost use Rattle.bl_store.specs.Drafts.{draft_words, other_drafts, HasDraft, IsSpread};
-ghost use Rattle.bl_store.specs.Frames.{place_at};
-ghost use Rattle.bl_store.specs.Pages.{Held, Puts};
+ghost use Rattle.bl_frames.specs.Frames.{place_at};
+ghost use Rattle.bl_frames.specs.Pages.{Held, Puts};
 ghost use Rattle.bl_store.specs.Hands.{known, read_words, IsSameHand, IsSameReading, IsSameStage, IsQuiet, IsStockOf, HasRetired, ReadsFrom};
-ghost use Rattle.bl_store.specs.Observed.{draft};
-ghost use Rattle.bl_store.specs.declared.view.Draft.{Draft};
-ghost use Rattle.bl_store.specs.declared.view.Dropping.TheVariants.{Dropped};
+ghost use Rattle.bl_frames.specs.Observed.{draft};
+ghost use Rattle.bl_frames.specs.declared.view.Draft.{Draft};
+ghost use Rattle.bl_frames.specs.declared.view.Dropping.TheVariants.{Dropped};
 
-use crate::plays::{Confirm, Settle, Swap, Tick, Write};
-use crate::rule::{PagePlay, PageRule};
 use crate::stock::Stock;
 use crate::store::{Glance, Hand, RING, Store};
 use crate::sweep::LOOKS;
+use bl_frames::{Confirm, PagePlay, PageRule, Settle, Swap, Tick, Write};
 use bl_layout::retired_at;
 use std::alloc::Allocator;
 

@@ -1,15 +1,14 @@
 //! Reservations of frames and of a page.
 ghost use Rattle.std.specs.Prelude.{◌≡◌, ◌≢◌, ◌⊎◌, ℕ, ◌+◌, ◌*◌, ◌<◌, ◌≤◌, ◌↔◌, true, false, List, [], ◌∷◌, length, IfOk, IfErr, IfSome, IfNone, IsTrue, Some, None};
 ghost use Rattle.bl_layout.specs.Words.{frame_count};
-ghost use Rattle.bl_store.specs.Pages.{Released, Takes, Refuses};
-ghost use Rattle.bl_store.specs.Frames.{owner_at};
-ghost use Rattle.bl_store.specs.Observed.{wanted};
+ghost use Rattle.bl_frames.specs.Pages.{Released, Takes, Refuses};
+ghost use Rattle.bl_frames.specs.Frames.{owner_at};
+ghost use Rattle.bl_frames.specs.Observed.{wanted};
 ghost use Rattle.bl_store.specs.Hands.{known, IsSameHand, IsSameReading, IsSameStage, IsSameStock, IsQuiet, HasNoStock, IsStockOf, MayRetire, SawTaken, IsTried, IsWhy, WasRefused};
 
-use crate::plays::{Allot, Ask, Note, Refuse, Reserve, Return, Take};
-use crate::rule::{PagePlay, PageRule, TimePlay};
 use crate::stock::{NoRoom, Stock};
 use crate::store::{Hand, RING, Store};
+use bl_frames::{Allot, Ask, Note, PagePlay, PageRule, Refuse, Reserve, Return, Take, TimePlay};
 use bl_layout::held_by;
 use std::alloc::Allocator;
 use std::marker::Brand;

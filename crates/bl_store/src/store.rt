@@ -2,16 +2,17 @@
 ghost use Rattle.std.specs.Prelude.{◌≡◌, ◌≢◌, ℕ, ◌+◌, ◌*◌, ◌<◌, ◌≤◌, true, false, List, [], length, slice_index, Some, None};
 ghost use Rattle.bl_layout.specs.Words.{frame_count};
 ghost use Rattle.bl_layout.specs.Cells.{cell_count};
-ghost use Rattle.bl_store.specs.Frames.{process_at, page_at, place_at};
-ghost use Rattle.bl_store.specs.Pages.{Owner, Begins, Ends, Gets};
+ghost use Rattle.bl_frames.specs.Frames.{process_at, page_at, place_at};
+ghost use Rattle.bl_frames.specs.Pages.{Owner, Begins, Ends, Gets};
 ghost use Rattle.bl_store.specs.Hands.{known, read_words, IsIdle, IsRunning, IsSameHand, IsSameStage, IsSameStock, IsSameRefusal, IsSameLook, ReadsFrom, HasSeen};
-ghost use Rattle.bl_store.specs.declared.view.Reading.TheVariants.{At};
-ghost use Rattle.bl_store.specs.declared.view.Sealing.TheVariants.{Unsealed};
+ghost use Rattle.bl_frames.specs.declared.view.Reading.TheVariants.{At};
+ghost use Rattle.bl_frames.specs.declared.view.Sealing.TheVariants.{Unsealed};
 
-use crate::plays::{Clock, Copy, Enter, Leave, Look, Raise, Renew};
-use crate::rule::{PagePlay, PageRule, TimePlay};
-use crate::view::{Framed, Ground, View};
 use atomic_table::{Seat, Table};
+use bl_frames::{
+    Clock, Copy, Enter, Framed, Ground, Leave, Look, PagePlay, PageRule, Raise, Renew, TimePlay,
+    View,
+};
 use bl_layout::{Layout, PROCESS_CELLS};
 use std::alloc::{Allocator, Global};
 use std::sync::atomic::AtomicU64;

@@ -1,13 +1,12 @@
 //! Sweeps: pages and frames that no process can read any more are released.
 ghost use Rattle.std.specs.Prelude.{◌≡◌, ◌⊎◌, ℕ, ◌+◌, ◌*◌, ◌/◌, ◌%◌, ◌<◌, ◌≤◌, true, false, List, length};
 ghost use Rattle.bl_layout.specs.Words.{frame_count};
-ghost use Rattle.bl_store.specs.Pages.{Releases, ReleasesMany};
+ghost use Rattle.bl_frames.specs.Pages.{Releases, ReleasesMany};
 ghost use Rattle.bl_store.specs.Hands.{known, IsSameHand, IsSameReading, IsSameStage, IsSameStock};
-ghost use Rattle.bl_store.specs.declared.view.Sweep.TheVariants.{Over};
+ghost use Rattle.bl_frames.specs.declared.view.Sweep.TheVariants.{Over};
 
-use crate::plays::{Free, Horizon, Pass, Release};
-use crate::rule::{PageRule, SweepPlay};
 use crate::store::{Hand, RING, Store};
+use bl_frames::{Free, Horizon, PageRule, Pass, Release, SweepPlay};
 use std::alloc::Allocator;
 use std::sync::atomic::Ordering;
 

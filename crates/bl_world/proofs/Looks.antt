@@ -17,10 +17,10 @@ use Rattle.bl_proc.specs.declared.searching.FindStage.{FindStage}
 use Rattle.bl_proc.specs.declared.searching.FindStage.TheVariants as find
 use Rattle.bl_proc.specs.declared.parts.PartStage.{PartStage}
 use Rattle.bl_proc.specs.declared.parts.PartStage.TheVariants as part
-use Rattle.bl_proc.specs.declared.writing.WriteStage.{WriteStage}
-use Rattle.bl_proc.specs.declared.writing.WriteStage.TheVariants as write
-use Rattle.bl_proc.specs.declared.posting.PostStage.{PostStage}
-use Rattle.bl_proc.specs.declared.posting.PostStage.TheVariants as post
+use Rattle.bl_proc_writes.specs.declared.writing.WriteStage.{WriteStage}
+use Rattle.bl_proc_writes.specs.declared.writing.WriteStage.TheVariants as write
+use Rattle.bl_proc_writes.specs.declared.posting.PostStage.{PostStage}
+use Rattle.bl_proc_writes.specs.declared.posting.PostStage.TheVariants as post
 use Rattle.bl_rearrange.specs.declared.sides.Side.{Side}
 use Rattle.bl_rearrange.specs.declared.sides.Side.TheVariants as side
 use Rattle.bl_proc_compress.specs.declared.compressing.Puts.{Puts}
@@ -39,15 +39,15 @@ use Rattle.bl_proc.specs.declared.lowering.LowerStage.TheVariants as lower
 use Rattle.bl_proc.specs.declared.kinds.Proc.TheVariants as proc
 use Rattle.bl_proc.specs.Searches.{find_next_in}
 use Rattle.bl_proc.specs.Parts.{part_next_in}
-use Rattle.bl_proc.specs.Writes.{write_next_in}
-use Rattle.bl_proc.specs.Posts.{post_next_in}
+use Rattle.bl_proc_writes.specs.Writes.{write_next_in}
+use Rattle.bl_proc_writes.specs.Posts.{post_next_in}
 use Rattle.bl_proc_compress.specs.Compresses.{compress_next_in}
 use Rattle.bl_proc.specs.Reclaims.{reclaim_next_in}
 use Rattle.bl_proc_base.specs.Lowerings.{lowering_next}
 use Rattle.bl_proc.specs.Lowers.{lower_next_in}
-use Rattle.bl_proc.specs.declared.climbing.ClimbStage.{ClimbStage}
-use Rattle.bl_proc.specs.declared.climbing.ClimbStage.TheVariants as climb
-use Rattle.bl_proc.specs.Climbs.{climb_next_in}
+use Rattle.bl_proc_writes.specs.declared.climbing.ClimbStage.{ClimbStage}
+use Rattle.bl_proc_writes.specs.declared.climbing.ClimbStage.TheVariants as climb
+use Rattle.bl_proc_writes.specs.Climbs.{climb_next_in}
 use Rattle.bl_proc.specs.Processes.{next_of, Takes}
 
 abbrev pub IsOfTree : Action → Type 0

@@ -13,9 +13,9 @@ use Rattle.bl_core.proofs.WorldLaws.{live_status}
 use Rattle.bl_core_tree.specs.Trees.{is_live}
 use Rattle.bl_core_tree.proofs.Statuses.{free_dead}
 use Rattle.std.proofs.lemmas.Bool.{false≢true}
-use Rattle.bl_proc_base.specs.declared.onwards.Step.{Step}
-use Rattle.bl_proc_base.specs.declared.onwards.Step.TheVariants as onward
-use Rattle.bl_proc_base.specs.Onwards.{top_of, Leads}
+use Rattle.bl_proc_pages.specs.declared.onwards.Step.{Step}
+use Rattle.bl_proc_pages.specs.declared.onwards.Step.TheVariants as onward
+use Rattle.bl_proc_pages.specs.Onwards.{top_of, Leads}
 use Rattle.bl_proc_unique.proofs.Onwards.{leads_one}
 use Rattle.bl_proc_invariant.specs.Knowing.{know}
 use Rattle.bl_proc_invariant.proofs.Starting.{run_laws}

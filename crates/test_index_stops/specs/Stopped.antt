@@ -2,7 +2,7 @@
 use Rattle.std.specs.Prelude.{ℕ}
 use Rattle.bl_model.specs.declared.deciding.KeyWrite.TheVariants.{Delete}
 use Rattle.bl_proc_base.specs.declared.approaching.Approach.TheVariants.{Latched}
-use Rattle.bl_proc.specs.declared.writing.WriteStage.TheVariants.{Coming}
+use Rattle.bl_proc_writes.specs.declared.writing.WriteStage.TheVariants.{Coming}
 use Rattle.bl_store.specs.declared.store.Glance.{Glance}
 use Rattle.bl_store.specs.declared.store.Hand.{Hand}
 use Rattle.bl_store.specs.Hands.{known, read_words, HasNoStock, ReadsFrom}

@@ -4,7 +4,7 @@ use Rattle.std.proofs.lemmas.Bool.{false≢true}
 use Rattle.bl_rearrange.specs.Neighbours.{AreNeighbours, together}
 use Rattle.bl_proc_base.specs.declared.acts.Action.TheVariants as act
 use Rattle.bl_proc_base.specs.declared.acts.Seen.TheVariants as seen
-use Rattle.bl_proc_base.proofs.Spellings.{pairs_counted}
+use Rattle.bl_proc_pages.proofs.Spellings.{pairs_counted}
 use Rattle.bl_proc_compress.specs.declared.compressing.Compression.TheVariants.{LatchedRight, OpeningRight}
 use Rattle.bl_proc_compress.specs.declared.compressing.Decision.TheVariants.{Enough, Lost}
 use Rattle.bl_proc_compress.specs.declared.compressing.Siblings.{Siblings}

@@ -3,7 +3,7 @@ use Rattle.bl_page.specs.declared.page.Page.TheVariants.{Inner}
 use Rattle.bl_page.specs.declared.page.Inner.{Inner as InnerIs}
 use Rattle.bl_page.specs.Words.{words_of}
 use Rattle.bl_proc_base.specs.declared.acts.Seen.TheVariants as seen
-use Rattle.bl_proc_base.proofs.Spellings.{pairs_counted}
+use Rattle.bl_proc_pages.proofs.Spellings.{pairs_counted}
 use Rattle.bl_proc_compress.specs.declared.compressing.Compression.TheVariants.{LatchingLeft}
 use Rattle.bl_proc_compress.specs.declared.squeezing.CompressReply.TheVariants as reply
 use Rattle.bl_proc_compress.specs.declared.squeezing.CompressStage.TheVariants as stages

@@ -3,7 +3,7 @@ use Rattle.bl_page.specs.Nodes.{node_of}
 use Rattle.bl_page.specs.Words.{words_of}
 use Rattle.bl_proc_base.specs.declared.acts.Seen.TheVariants as seen
 use Rattle.bl_proc_base.specs.Approaches.{Turns}
-use Rattle.bl_proc_base.specs.Onwards.{Leads}
+use Rattle.bl_proc_pages.specs.Onwards.{Leads}
 use Rattle.bl_store.specs.Hands.{known, read_words, IsRunning}
 use Rattle.bl_store.specs.declared.store.Hand.{Hand}
 use Rattle.bl_index_rule.specs.declared.known.PassState.{PassState}

@@ -1,6 +1,6 @@
 use Rattle.std.proofs.Common.{ℕ, None, sym, subst, ◌∙◌}
 use Rattle.bl_proc_base.specs.declared.editing.Edit.TheVariants as edit
-use Rattle.bl_proc.specs.declared.writing.WriteStage.TheVariants as write
+use Rattle.bl_proc_writes.specs.declared.writing.WriteStage.TheVariants as write
 use Rattle.bl_store.specs.Hands.{known, IsSameHand}
 use Rattle.bl_store.specs.declared.store.Hand.{Hand}
 use Rattle.bl_index_rule.specs.declared.known.PassState.{PassState}

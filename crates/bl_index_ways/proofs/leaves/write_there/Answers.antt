@@ -4,7 +4,7 @@ use Rattle.bl_model.specs.declared.deciding.Effect.{Effect}
 use Rattle.bl_model.specs.Rows.{map_of}
 use Rattle.bl_model.specs.Writes.{effect_of}
 use Rattle.bl_page.specs.Faults.{HasPairs, pairs_of}
-use Rattle.bl_proc_base.proofs.Spellings.{tree_pairs}
+use Rattle.bl_proc_pages.proofs.Spellings.{tree_pairs}
 use Rattle.bl_store.specs.Hands.{known, read_words, IsSameHand}
 use Rattle.bl_store.specs.declared.store.Hand.{Hand}
 use Rattle.bl_index_rule.specs.declared.known.PassState.{PassState}

@@ -1,9 +1,9 @@
 use Rattle.std.proofs.Common.{rules, ℕ, Some, inl, refl, sym, subst, ◌≡◌, ◌∙◌}
-use Rattle.bl_proc.specs.declared.posting.PostReply.{PostReply}
-use Rattle.bl_proc.specs.declared.posting.PostStage.TheVariants as post
+use Rattle.bl_proc_writes.specs.declared.posting.PostReply.{PostReply}
+use Rattle.bl_proc_writes.specs.declared.posting.PostStage.TheVariants as post
 use Rattle.bl_proc.specs.declared.kinds.Proc.{Proc}
-use Rattle.bl_proc.specs.Levels.{MayReply}
-use Rattle.bl_proc.specs.Posts.{post_reply}
+use Rattle.bl_proc_writes.specs.Levels.{MayReply}
+use Rattle.bl_proc_writes.specs.Posts.{post_reply}
 use Rattle.bl_proc_base.specs.declared.acts.Seen.TheVariants as seen
 use Rattle.bl_proc_base.specs.declared.editing.Edit.TheVariants as edit
 use Rattle.bl_store.specs.Hands.{known}

@@ -1,6 +1,6 @@
 use Rattle.std.proofs.Common.{sym, ap, ◌∙◌}
-use Rattle.bl_proc.specs.declared.writing.WriteStage.TheVariants as write
-use Rattle.bl_proc.specs.Writes.{write_answer}
+use Rattle.bl_proc_writes.specs.declared.writing.WriteStage.TheVariants as write
+use Rattle.bl_proc_writes.specs.Writes.{write_answer}
 use Rattle.bl_proc_unique.specs.Frames.{op_of, work_of}
 use Rattle.bl_index_write.specs.Events.{writing}
 use Rattle.bl_index_ways.specs.Writers.{left_reply}

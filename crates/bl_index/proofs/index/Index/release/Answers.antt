@@ -1,6 +1,6 @@
 use Rattle.std.proofs.Common.{ℕ, subst}
 use Rattle.bl_store.specs.Hands.{known}
-use Rattle.bl_store.specs.Pages.{ReleasesMany}
+use Rattle.bl_frames.specs.Pages.{ReleasesMany}
 use Rattle.bl_index_rule.specs.Simulation.{Simulates}
 use Rattle.bl_index_rule.specs.Observed.{sweeps}
 use Rattle.bl_index_rule.proofs.Releasing.{sweeps_pages}

@@ -5,7 +5,7 @@ use Rattle.bl_proc_base.specs.declared.acts.Seen.TheVariants as seen
 use Rattle.bl_proc.specs.Processes.{next_of}
 use Rattle.bl_store.specs.Drafts.{IsSpread}
 use Rattle.bl_store.specs.Hands.{known, words_in, BeginsAt}
-use Rattle.bl_store.specs.declared.view.Reading.{Reading}
+use Rattle.bl_frames.specs.declared.view.Reading.{Reading}
 use Rattle.bl_index_rule.specs.declared.known.PassState.{PassState}
 use Rattle.bl_index_rule.specs.Observed.{Goes}
 use Rattle.bl_index_rule.proofs.Pages.{puts_page, refuses_put}

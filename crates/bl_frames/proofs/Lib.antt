@@ -1,0 +1,9 @@
+pub mod Lists
+pub mod Keeps
+pub mod Time
+pub mod Reserving
+pub mod Putting
+pub mod Owning
+pub mod Ticking
+pub mod Sweeping
+pub mod Joining

@@ -1,0 +1,3 @@
+pub mod Spellings
+pub mod Shifts
+pub mod Respellings

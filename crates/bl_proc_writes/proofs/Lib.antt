@@ -1,0 +1,4 @@
+pub mod Arrivals
+pub mod Below
+pub mod Named
+pub mod Stepping

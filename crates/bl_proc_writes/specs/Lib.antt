@@ -1,0 +1,6 @@
+pub mod Writes
+pub mod Levels
+pub mod Posts
+pub mod Paths
+pub mod Stands
+pub mod Climbs
