@@ -6,7 +6,7 @@
 //! the rule, the events and their proofs. Stamps, frames and their release are this project's own.
 #![tactic(auto)]
 
-mod plays;
+pub mod plays;
 mod rule;
 mod view;
 

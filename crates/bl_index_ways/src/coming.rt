@@ -112,7 +112,7 @@ fn read_next<J: Target>(
     let own = level_in(&shown, hand);
     let way = step_in(&shown, hand, &mut 0, key, level);
     target.note(path, page, own, way);
-    way.approach(level, own, page)
+    approach_by(way, level, own, page)
 }
 
 /// It goes on to the page that is to be latched, unless the way begins again.

@@ -74,7 +74,7 @@ fn entered(level: u32, anchor: &Page) -> Approach
 fn turned_by(level: u32, key: u64, at: u32, page: &Page) -> Approach
     ensures { Approaches level key (approach.At at) (seen.Words page.now) (approached.On result) }
 {
-    way_from(page, key, level).approach(level, level_of(page), at)
+    approach_by(way_from(page, key, level), level, level_of(page), at)
 }
 
 /// From a page that is held.
@@ -153,22 +153,20 @@ fn neared(approach: Approach, level: u32, key: u64, seen: Seen) -> Came
     }
 }
 
-impl Step {
-    /// How a writer of that level goes on from the page `at`, which it has got without a latch, and which is of the level `own`
-    /// and leads it so.
-    #[inline(always)]
-    pub fn approach(self, level: u32, own: u32, at: u32) -> Approach
-        requires { (c : Page) × (key : ℕ) × Leads c key level self × (own ≡ (node_of c).shape.level) }
-        ensures { (c : Page) → own ≡ (node_of c).shape.level → Turns level at c self result }
-    {
-        match self {
-            Step::Again => Approach::Start,
-            Step::Right(next) if own == level => Approach::Latching(next),
-            Step::Right(next) => Approach::At(next),
-            Step::Down(next) if own - 1 == level => Approach::Latching(next),
-            Step::Down(next) => Approach::At(next),
-            Step::Here => Approach::Latching(at),
-        }
+/// How a writer of that level goes on by that way from the page `at`, which it has got without a latch, and which is of the level
+/// `own`.
+#[inline(always)]
+pub fn approach_by(way: Step, level: u32, own: u32, at: u32) -> Approach
+    requires { (c : Page) × (key : ℕ) × Leads c key level way × (own ≡ (node_of c).shape.level) }
+    ensures { (c : Page) → own ≡ (node_of c).shape.level → Turns level at c way result }
+{
+    match way {
+        Step::Again => Approach::Start,
+        Step::Right(next) if own == level => Approach::Latching(next),
+        Step::Right(next) => Approach::At(next),
+        Step::Down(next) if own - 1 == level => Approach::Latching(next),
+        Step::Down(next) => Approach::At(next),
+        Step::Here => Approach::Latching(at),
     }
 }
 

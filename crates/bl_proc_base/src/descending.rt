@@ -9,7 +9,7 @@ ghost use Rattle.bl_proc_base.specs.declared.approaching.Approach.TheVariants as
 ghost use Rattle.bl_proc_base.specs.declared.approaching.Approached.TheVariants as approached;
 ghost use Rattle.bl_proc_base.specs.Approaches.{Enters, Approaches, IsToLook};
 
-use crate::approaching::Approach;
+use crate::approaching::{Approach, approach_by};
 use bl_page::Words;
 use bl_proc_pages::{level_in, levels_in, step_in, top_in};
 
@@ -42,7 +42,7 @@ fn turned_in<W: Words>(source: &W, hand: &mut W::Hand, level: u32, key: u64, at:
     ensures turns { (c : Page) → W.shown source.now hand.old ≡ words_of c → Approaches level key (approach.At at) (seen.Words c) (approached.On result) }
 {
     let own = level_in(source, hand);
-    step_in(source, hand, &mut 0, key, level).approach(level, own, at)
+    approach_by(step_in(source, hand, &mut 0, key, level), level, own, at)
 }
 
 impl Approach {

@@ -23,7 +23,7 @@ mod thin;
 
 pub use acts::{Action, Seen};
 pub use answers::{Answer, Hint, Level, Posted, Reclaimed, Squeezed};
-pub use approaching::{Approach, Approached, Came};
+pub use approaching::{Approach, Approached, Came, approach_by};
 pub use descent::{Descended, Descent};
 pub use editing::{Edit, Edited, Full, Outcome, Splitting};
 pub use edits::{dropping, entering, replacing};

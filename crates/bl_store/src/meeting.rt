@@ -5,7 +5,8 @@ ghost use Rattle.bl_store.specs.Hands.{known, IsIdle, IsSameHand, IsSameStage, I
 
 use crate::store::{Hand, Store};
 use atomic_table::{Join, Split};
-use bl_frames::{MeetPlay, Met, PageRule, View};
+use bl_frames::plays::Met;
+use bl_frames::{MeetPlay, PageRule, View};
 use std::alloc::Allocator;
 use std::marker::PhantomData;
 use std::mem;

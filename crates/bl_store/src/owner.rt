@@ -7,7 +7,8 @@ ghost use Rattle.bl_frames.specs.Frames.{IsLive};
 
 use crate::store::{Hand, Store};
 use atomic_table::Seat;
-use bl_frames::{Aim, Open, PagePlay, PageRule, Publish, Seal, TimePlay, Try, View};
+use bl_frames::plays::{Aim, Open, Publish, Seal, Try};
+use bl_frames::{PagePlay, PageRule, TimePlay, View};
 use bl_layout::{held_by, retired_at};
 use std::alloc::Allocator;
 use std::marker::Brand;

@@ -12,7 +12,8 @@ ghost use Rattle.bl_frames.specs.declared.view.Dropping.TheVariants.{Dropped};
 use crate::stock::Stock;
 use crate::store::{Glance, Hand, RING, Store};
 use crate::sweep::LOOKS;
-use bl_frames::{Confirm, PagePlay, PageRule, Settle, Swap, Tick, Write};
+use bl_frames::plays::{Confirm, Settle, Swap, Tick, Write};
+use bl_frames::{PagePlay, PageRule};
 use bl_layout::retired_at;
 use std::alloc::Allocator;
 
@@ -188,8 +189,8 @@ impl<D, R: PageRule<D>, A: Allocator> Store<D, R, A> {
         }
     }
 
-    // The next words of the frame that was reserved last, so many pairs of them, are those of the page that the hand looked at
-    // last, from the word `source` on. Two words a round take less time than one.
+    // The next words of the frame that was reserved last, so many pairs of them, are those at the same place of the page that the
+    // hand looked at last. Two words a round take less time than one.
     #[inline(always)]
     fn carry(
         &self,
@@ -199,28 +200,27 @@ impl<D, R: PageRule<D>, A: Allocator> Store<D, R, A> {
         glance: Glance,
         from: usize,
         pairs: usize,
-        source: usize,
     )
         requires own { IsHandOf self.now hand.old }
         requires frame { (frame < frame_count self.now.layout) × (first ≡ place_at self.now.layout frame 0) }
         requires reads { ReadsFrom hand.old.seat glance }
-        requires range { (from + 2 * pairs ≤ 32) × (source ≤ from) }
+        requires range { from + 2 * pairs ≤ 32 }
         requires draft { HasDraft hand.old.seat frame from }
         ensures same { IsQuiet hand.old.seat hand.new.seat × IsSameReading hand.old.seat hand.new.seat }
         ensures draft { HasDraft hand.new.seat frame (from + 2 * pairs) × (other_drafts hand.new.seat ≡ other_drafts hand.old.seat) }
         ensures kept { (k : ℕ) → k < from → slice_index (draft_words hand.new.seat) k ≡ slice_index (draft_words hand.old.seat) k }
         ensures carried { (k : ℕ) → from ≤ k → k < from + 2 * pairs
-            → slice_index (draft_words hand.new.seat) k ≡ slice_index (read_words hand.old.seat) (k - from + source) }
+            → slice_index (draft_words hand.new.seat) k ≡ slice_index (read_words hand.old.seat) k }
     {
         for pair in 0..pairs {
-            let one = self.seen_word(hand, glance, source + 2 * pair);
-            let two = self.seen_word(hand, glance, source + 2 * pair + 1);
+            let one = self.seen_word(hand, glance, from + 2 * pair);
+            let two = self.seen_word(hand, glance, from + 2 * pair + 1);
             self.write_next(hand, frame, first, from + 2 * pair, one);
             self.write_next(hand, frame, first, from + 2 * pair + 1, two);
         }
     }
 
-    // The same of words that are 0 mostly, one by one up to the last word of the frame.
+    // The same from its word `source` on, of words that are 0 mostly, one by one up to the last word of the frame.
     #[inline(always)]
     fn carry_rest(
         &self,
@@ -264,7 +264,7 @@ impl<D, R: PageRule<D>, A: Allocator> Store<D, R, A> {
         self.write_next(hand, frame, first, 0, change.first);
         let low = self.seen_word(hand, glance, 1);
         self.write_next(hand, frame, first, 1, low);
-        self.carry(hand, frame, first, glance, 2, 1 + place, 2);
+        self.carry(hand, frame, first, glance, 2, 1 + place);
         self.write_next(hand, frame, first, 4 + 2 * place, change.key);
         self.write_next(hand, frame, first, 5 + 2 * place, change.word);
         self.carry_rest(hand, frame, first, glance, 6 + 2 * place, 4 + 2 * place);

@@ -8,7 +8,8 @@ ghost use Rattle.bl_store.specs.Hands.{known, IsSameHand, IsSameReading, IsSameS
 
 use crate::stock::{NoRoom, Stock};
 use crate::store::{Hand, RING, Store};
-use bl_frames::{Allot, Ask, Note, PagePlay, PageRule, Refuse, Reserve, Return, Take, TimePlay};
+use bl_frames::plays::{Allot, Ask, Note, Refuse, Reserve, Return, Take};
+use bl_frames::{PagePlay, PageRule, TimePlay};
 use bl_layout::held_by;
 use std::alloc::Allocator;
 use std::marker::Brand;

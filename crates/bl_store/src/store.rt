@@ -9,10 +9,8 @@ ghost use Rattle.bl_frames.specs.declared.view.Reading.TheVariants.{At};
 ghost use Rattle.bl_frames.specs.declared.view.Sealing.TheVariants.{Unsealed};
 
 use atomic_table::{Seat, Table};
-use bl_frames::{
-    Clock, Copy, Enter, Framed, Ground, Leave, Look, PagePlay, PageRule, Raise, Renew, TimePlay,
-    View,
-};
+use bl_frames::plays::{Clock, Copy, Enter, Leave, Look, Raise, Renew};
+use bl_frames::{Framed, Ground, PagePlay, PageRule, TimePlay, View};
 use bl_layout::{Layout, PROCESS_CELLS};
 use std::alloc::{Allocator, Global};
 use std::sync::atomic::AtomicU64;

@@ -6,7 +6,8 @@ ghost use Rattle.bl_store.specs.Hands.{known, IsSameHand, IsSameReading, IsSameS
 ghost use Rattle.bl_frames.specs.declared.view.Sweep.TheVariants.{Over};
 
 use crate::store::{Hand, RING, Store};
-use bl_frames::{Free, Horizon, PageRule, Pass, Release, SweepPlay};
+use bl_frames::plays::{Free, Horizon, Pass, Release};
+use bl_frames::{PageRule, SweepPlay};
 use std::alloc::Allocator;
 use std::sync::atomic::Ordering;
 

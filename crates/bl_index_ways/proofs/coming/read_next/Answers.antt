@@ -21,8 +21,8 @@ note-requires g c =
     let leads = subst (λ (z : ℕ × ℕ). Leads went.0 z.0 z.1 c.step_in-way.result) (λ i. (c.key-key.ensures i, c.level-level.ensures i)) (c.step_in-way.ensures.leads went.0 is) in
     (went.0, leads, c.level_in-own.ensures.level went.0 went.1)
 
-pub approach-requires : goal.approach-requires
-approach-requires g c =
+pub approach_by-requires : goal.approach_by-requires
+approach_by-requires g c =
     let went = c.look-glance.ensures.goes in
     let is = ap (λ (h : Hand PassState). read_words h.seat) c.level_in-own.ensures.same ∙ went.1 in
     (went.0, c.key-key.result, c.step_in-way.ensures.leads went.0 is, c.level_in-own.ensures.level went.0 went.1)
@@ -37,9 +37,9 @@ returns-clause-runs g c = record {
       let is = ap (λ (h : Hand PassState). read_words h.seat) c.level_in-own.ensures.same ∙ went.1 in
       let own = c.level_in-own.ensures.level went.0 went.1 in
       let leads = subst (λ (z : ℕ × ℕ). Leads went.0 z.0 z.1 c.step_in-way.result) (λ i. (c.key-key.ensures i, c.level-level.ensures i)) (c.step_in-way.ensures.leads went.0 is) in
-      let turns = subst (λ (z : ℕ). Turns z c.args.page went.0 c.step_in-way.result c.approach.result) c.level-level.ensures (c.approach.ensures went.0 own) in
-      let on = on_goes layout (seen.Words went.0) _ _ _ _ c.requires.runs.on went.2 (g.met.J.Target.turns j c.args.path.now c.note.new.path c.args.page went.0 c.step_in-way.result c.approach.result leads turns (c.note.ensures went.0 own)) in
-      subst (λ (h : Hand PassState). IsOn layout (known h.seat) (g.J.Target.at j c.note.new.path c.approach.result)) (sym (c.step_in-way.ensures.same ∙ c.level_in-own.ensures.same)) on);
+      let turns = subst (λ (z : ℕ). Turns z c.args.page went.0 c.step_in-way.result c.approach_by.result) c.level-level.ensures (c.approach_by.ensures went.0 own) in
+      let on = on_goes layout (seen.Words went.0) _ _ _ _ c.requires.runs.on went.2 (g.met.J.Target.turns j c.args.path.now c.note.new.path c.args.page went.0 c.step_in-way.result c.approach_by.result leads turns (c.note.ensures went.0 own)) in
+      subst (λ (h : Hand PassState). IsOn layout (known h.seat) (g.J.Target.at j c.note.new.path c.approach_by.result)) (sym (c.step_in-way.ensures.same ∙ c.level_in-own.ensures.same)) on);
 }
 
 pub returns-clause-since : goal.returns-clause-since

@@ -10,5 +10,5 @@ invariant-loop-pair g l = record {
   draft : HasDraft l.hand.seat l.fn.frame (l.fn.from + 2 * l.pair);
   others : other_drafts l.hand.seat ≡ other_drafts l.fn.hand.seat;
   kept : (k : ℕ) → k < l.fn.from → get_or (draft_words l.hand.seat) k 0 ≡ get_or (draft_words l.fn.hand.seat) k 0;
-  carried : (k : ℕ) → l.fn.from ≤ k → k < l.fn.from + 2 * l.pair → get_or (draft_words l.hand.seat) k 0 ≡ get_or (read_words l.fn.hand.seat) (k - l.fn.from + l.fn.source) 0;
+  carried : (k : ℕ) → l.fn.from ≤ k → k < l.fn.from + 2 * l.pair → get_or (draft_words l.hand.seat) k 0 ≡ get_or (read_words l.fn.hand.seat) k 0;
 }
