@@ -14,7 +14,7 @@ use Rattle.bl_rearrange.specs.declared.sides.Side.{Side}
 use Rattle.bl_rearrange.specs.declared.sides.Side.TheVariants as side
 use Rattle.bl_claims.specs.Trails.{Mark, Trail}
 use Rattle.bl_claims.specs.Meanings.{writes_in, writes_of, Unwritten}
-use Rattle.bl_core.proofs.Meant.{writes_of-append, begun_now, unwritten_on, got_on, got_last}
+use Rattle.bl_core.proofs.Meant.{writes_of-append, unwritten_since, unwritten_now, none_written, unwritten_on, got_on, got_last}
 use Rattle.bl_proc_base.specs.declared.acts.Seen.{Seen}
 use Rattle.bl_proc_base.specs.declared.acts.Seen.TheVariants as seen
 use Rattle.bl_proc_base.specs.declared.answers.Hint.{Hint}
@@ -71,15 +71,7 @@ writes_of-acts (m ∷ ms) = ap (λ z. writes_in m.event.act ++ z) (writes_of-act
 
 -- since the latch nothing was written
 pub since_unwritten : {ms : Trail} {x : ℕ} {acts : List (Act Page Reply)} → writes_among acts ≡ [] → Since ms x acts → Unwritten ms
-since_unwritten none h = record {
-  earlier = h.first.earlier;
-  begin = h.first.begin;
-  since = h.first.since ++ h.latch ∷ h.during;
-  split = h.split ∙ (ap (λ z. z ++ h.latch ∷ h.during) h.first.split ∙ append_assoc h.first.earlier (h.first.begin ∷ h.first.since) (h.latch ∷ h.during));
-  begun = h.first.begun;
-  is = writes_of-append h.first.since (h.latch ∷ h.during)
-      ∙ (ap (λ z. z ++ writes_of (h.latch ∷ h.during)) h.first.is ∙ (ap (λ z. writes_in z ++ writes_of h.during) h.latched ∙ (writes_of-acts h.during ∙ (ap writes_among h.acts_are ∙ none))));
-}
+since_unwritten none h = unwritten_since h.before (h.latch ∷ h.during) h.first h.split (ap (λ z. writes_in z ++ writes_of h.during) h.latched ∙ (writes_of-acts h.during ∙ (ap writes_among h.acts_are ∙ none)))
 
 -- which of the two children a put is of
 put_event : (sd : Side) (u : Puts) → event_of None (put_of sd u) seen.Done ≡ put_act sd u
@@ -282,7 +274,7 @@ module _ (ms : Trail) (m : Mark) where
     module _ (least : 0 < level) where
       -- any step of a compression
       pub compress_on : {waits : Bool} {a a' : CompressStage} {what : Seen} → CompressCase level key waits a what a' → m.event.act ≡ event_of None (compress_next_in a) what → ((x : ℕ) (e : Page) → m.event.act ≡ Get x → what ≡ seen.Words e → m.saw ≡ Some e) → compress_log level key a ms → compress_log level key a' more
-      compress_on (CompressCase.Began a t) did saw h = subst (λ z. come_log z more) (sym t) (begun_now ms m (λ acts. acts ≡ []) did refl)
+      compress_on (CompressCase.Began a t) did saw h = subst (λ z. come_log z more) (sym t) (unwritten_now ms m did h)
       compress_on (CompressCase.NoLevel c t) did saw h = once_now (inl (record { first = unwritten_on ms m (ap writes_in did) h; anchor = c; got = got_last ms m did (saw 0 c did refl); few = t }))
       compress_on (CompressCase.Came a what b t) did saw h = way_goes m level key (λ x k. since_unwritten refl k) (unwritten_on ms m) since_now a b what t did h
       compress_on (CompressCase.Met x parent f l t) did saw h = met_on x parent f t l did (saw x (InnerPage parent) did refl) h
@@ -309,7 +301,7 @@ module _ (ms : Trail) (m : Mark) where
     squeeze_stays (OpeningParent x ended) h = decision_on level key ended (ap writes_in did) h
 
     pub compress_stays : (a : CompressStage) → compress_log level key a ms → compress_log level key a more
-    compress_stays compress.New h = tt
+    compress_stays compress.New h = none_written ms m (ap writes_in did) h
     compress_stays (compress.Coming a) h = way_stays (unwritten_on ms m (ap writes_in did)) (λ x k. since_on [] (ap acts_in did) k) a h
     compress_stays (compress.Compressing c) h = squeeze_stays c h
     compress_stays (compress.Staying x) h = once_on (ap writes_in did) h

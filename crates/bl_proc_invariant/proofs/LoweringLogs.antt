@@ -10,7 +10,7 @@ use Rattle.bl_page.specs.Nodes.{roots_of}
 use Rattle.bl_claims.specs.Trails.{Mark, Trail, marks_of}
 use Rattle.bl_claims.specs.Meanings.{HasGot, writes_in, Unwritten}
 use Rattle.bl_core.specs.Worlds.{World}
-use Rattle.bl_core.proofs.Meant.{begun_now, unwritten_on, got_on, got_last}
+use Rattle.bl_core.proofs.Meant.{unwritten_now, none_written, unwritten_on, got_on, got_last}
 use Rattle.bl_proc_base.specs.declared.acts.Seen.{Seen}
 use Rattle.bl_proc_base.specs.declared.acts.Seen.TheVariants as seen
 use Rattle.bl_proc_base.specs.declared.lowering.Lowered.{Lowered}
@@ -109,7 +109,7 @@ module _ (ms : Trail) (m : Mark) where
   lowering_over (LoweringCase.OpenedAnchor end last t) did saw h = subst (λ z. MeansLowered z more) (sym t) (lowered_on end (ap writes_in did) h)
 
   pub lower_on : {a b : LowerStage} {what : Seen} → LowerCase a what b → m.event.act ≡ event_of None (lower_next_in a) what → ((x : ℕ) (c : Page) → m.event.act ≡ Get x → what ≡ seen.Words c → m.saw ≡ Some c) → lower_log a ms → lower_log b more
-  lower_on (LowerCase.Began l t) did saw h = subst (λ z. lowering_log z more) (sym t) (begun_now ms m (λ acts. acts ≡ []) did refl)
+  lower_on (LowerCase.Began l t) did saw h = subst (λ z. lowering_log z more) (sym t) (unwritten_now ms m did h)
   lower_on (LowerCase.Sank l what k t) did saw h = lowering_on (lowering_case l what _ t) did saw h
   lower_on (LowerCase.Finished l what r t) did saw h = lowering_over (lowering_case l what _ t) did saw h
   lower_on (LowerCase.Ended r last t) did saw h = subst (λ z. MeansLowered z more) (sym t) (lowered_on r (ap writes_in did) h)
@@ -129,7 +129,7 @@ module _ (ms : Trail) (m : Mark) where
     lowering_stays (OpeningAnchor r) h = lowered_on r (ap writes_in did) h
 
     pub lower_stays : (a : LowerStage) → lower_log a ms → lower_log a more
-    lower_stays lower.New h = tt
+    lower_stays lower.New h = none_written ms m (ap writes_in did) h
     lower_stays (lower.Sinking l) h = lowering_stays l h
     lower_stays (lower.Ending r) h = lowered_on r (ap writes_in did) h
     lower_stays (lower.Over r) h = lowered_on r (ap writes_in did) h

@@ -205,7 +205,7 @@ written_log does (written.Done there hint) marks = effect_log (effect_of does th
 written_log does written.NoRoom marks = Unwritten marks
 
 abbrev pub write_log : KeyWrite → WriteStage → Trail → Type 0
-write_log does write.New marks = Unit {0}
+write_log does write.New marks = writes_of marks ≡ []
 write_log does (write.Coming a) marks = way_log a marks
 write_log does (write.Keeping x there) marks = Unwritten marks × (effect_of does there ≡ Keep)
 write_log does (write.Editing noted c) marks = entry_log (IsAsNoted (effect_of does noted.there) noted) (MaySplit (effect_of does noted.there)) c marks
@@ -284,7 +284,7 @@ pressed_log level key (pressed.Unposted hint) marks = Once marks (HasUnposted le
 pressed_log level key pressed.NoRoom marks = Once marks (LacksPlace level key)
 
 abbrev pub compress_log : ℕ → ℕ → CompressStage → Trail → Type 0
-compress_log level key compress.New marks = Unit {0}
+compress_log level key compress.New marks = writes_of marks ≡ []
 compress_log level key (compress.Coming a) marks = come_log a marks
 compress_log level key (compress.Compressing c) marks = squeeze_log level key c marks
 compress_log level key (compress.Staying x) marks = pressed_log level key pressed.Alone marks
@@ -292,7 +292,7 @@ compress_log level key (compress.Ending r) marks = pressed_log level key r marks
 compress_log level key (compress.Over r) marks = pressed_log level key r marks
 
 abbrev pub lower_log : LowerStage → Trail → Type 0
-lower_log lower.New marks = Unit {0}
+lower_log lower.New marks = writes_of marks ≡ []
 lower_log (lower.Sinking l) marks = lowering_log l marks
 lower_log (lower.Ending r) marks = MeansLowered r marks
 lower_log (lower.Over r) marks = MeansLowered r marks
