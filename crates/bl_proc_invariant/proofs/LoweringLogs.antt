@@ -72,7 +72,7 @@ module _ (ms : Trail) (m : Mark) where
 
   -- an anchor of one level was got just now
   one_got : (c : Page) → Unwritten ms → m.event.act ≡ Get 0 → m.saw ≡ Some c → (roots_of c).levels ≤ 1 → MeansLowered lowered.Needed more
-  one_got c first did saw one = once_now ms m (inl (record { first = unwritten_on ms m (ap writes_in did) first; anchor = c; got = got_last ms m did saw; few = one }))
+  one_got c first did saw one = once_now ms m (inl (record { first = unwritten_on ms m (ap writes_in did) first; anchor = c; got = got_last ms m did saw; few = λ a e. subst (λ (z : Page). (roots_of z).levels ≤ 1) e one }))
 
   pub lowering_on : {l new : Lowering} {what : Seen} → LoweringCase l what (On new) → m.event.act ≡ event_of None (lowering_next l) what → ((x : ℕ) (c : Page) → m.event.act ≡ Get x → what ≡ seen.Words c → m.saw ≡ Some c) → lowering_log l ms → lowering_log new more
   lowering_on (LoweringCase.SawMore c new t) did saw h = subst (λ z. lowering_log z more) (sym t.0) (unwritten_on ms m (ap writes_in did) h)

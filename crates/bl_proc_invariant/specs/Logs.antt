@@ -24,6 +24,7 @@ use Rattle.bl_proc.specs.declared.posting.PostStage.{PostStage}
 use Rattle.bl_proc.specs.declared.posting.PostStage.TheVariants as post
 use Rattle.bl_rearrange.specs.declared.sides.Side.{Side}
 use Rattle.bl_rearrange.specs.declared.sides.Side.TheVariants as side
+use Rattle.bl_proc_compress.specs.declared.compressing.Siblings.{Siblings}
 use Rattle.bl_proc_compress.specs.declared.compressing.Puts.{Puts}
 use Rattle.bl_proc_compress.specs.declared.compressing.Family.{Family}
 use Rattle.bl_proc_base.specs.declared.answers.Hint.{Hint}
@@ -36,7 +37,7 @@ use Rattle.bl_proc_compress.specs.declared.squeezing.CompressReply.{CompressRepl
 use Rattle.bl_proc_compress.specs.declared.squeezing.CompressReply.TheVariants as pressed
 use Rattle.bl_proc_compress.specs.declared.squeezing.CompressStage.{CompressStage}
 use Rattle.bl_proc_compress.specs.declared.squeezing.CompressStage.TheVariants as compress
-use Rattle.bl_claims.specs.Squeezed.{Since, AtParent, to_right, Once, HasMerged, HasEvened, HasEnough, HasUnposted, HasNoLevel, HasOneChild, LacksPlace}
+use Rattle.bl_claims.specs.Squeezed.{Since, AtParent, Once, HasMerged, HasEvened, HasEnough, HasUnposted, HasNoLevel, HasOneChild, LacksPlace}
 use Rattle.bl_proc_compress.specs.Compressions.{Decides, other}
 use Rattle.bl_model.specs.declared.deciding.KeyWrite.{KeyWrite}
 use Rattle.bl_model.specs.declared.deciding.KeyWrite.TheVariants.{Insert}
@@ -217,7 +218,11 @@ write_log does (write.Over r) marks = written_log does r marks
 abbrev pub come_log : Approach → Trail → Type 0
 come_log a marks = on_way (Unwritten marks) (λ x. Since marks x []) a
 
--- What is done after the latch of the parent, up to the first put, the second and the last one.
+-- What is done after the latch of the parent: up to the get of the right child, and more.
+abbrev pub to_right : Siblings → List (Act Page Reply) → List (Act Page Reply)
+to_right at more = Get at.parent ∷ Latch at.left ∷ Get at.left ∷ Latch at.right ∷ Get at.right ∷ more
+
+-- What is done up to the first put, the second and the last one.
 abbrev pub put_act : Side → Puts → Act Page Reply
 put_act side.Left p = Put p.at.left p.left
 put_act side.Right p = Put p.at.right p.right
