@@ -1,5 +1,5 @@
 -- What a process holds when it latches, told of its own marks.
-use Rattle.std.specs.Prelude.{ℕ, ◌≡◌, ◌≢◌, ◌==◌, Bool, true, false, if◌then◌else◌, Some, [], ◌∷◌, take, slice_get}
+use Rattle.std.specs.Prelude.{ℕ, ◌≡◌, ◌≢◌, ◌==◌, Bool, true, false, if◌then◌else◌, Some, fold, take, slice_get}
 use Rattle.bl_model.specs.declared.operation.Reply.{Reply}
 use Rattle.bl_page.specs.declared.page.Page.{Page}
 use Rattle.bl_page.specs.Machine.{Act}
@@ -14,13 +14,9 @@ holds_after y held (Act.Open x) = if x == y then false else held
 holds_after y held (Retire x) = if x == y then false else held
 holds_after y held act = held
 
-abbrev pub holds_on : ℕ → Bool → Trail → Bool
-holds_on y held [] = held
-holds_on y held (m ∷ ms) = holds_on y (holds_after y held m.event.act) ms
-
 -- It has latched or taken the page, and has neither opened nor retired it since.
 abbrev pub Keeps : Trail → ℕ → Type 0
-Keeps marks y = holds_on y false marks ≡ true
+Keeps marks y = fold (λ (held : Bool) (m : Mark). holds_after y held m.event.act) false marks ≡ true
 
 -- It holds no page when it latches one.
 abbrev pub LatchesAlone : Trail → Type 0

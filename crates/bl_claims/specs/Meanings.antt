@@ -1,5 +1,5 @@
 -- What the answers of a post mean, told of what its process has done: what it latched, what it got, and what it wrote.
-use Rattle.std.specs.Prelude.{◌≡◌, ◌≢◌, ◌⊎◌, ℕ, suc, ◌<◌, ◌++◌, Option, None, Some, List, [], ◌∷◌, Contains}
+use Rattle.std.specs.Prelude.{◌≡◌, ◌≢◌, ◌⊎◌, ℕ, suc, ◌<◌, ◌++◌, Option, None, Some, List, [], ◌∷◌, Contains, flat_map}
 use Rattle.bl_model.specs.declared.operation.Reply.{Reply}
 use Rattle.bl_page.specs.declared.page.Page.{Page}
 use Rattle.bl_page.specs.Machine.{Act}
@@ -24,8 +24,7 @@ writes_in (Release x) = Release x ∷ []
 writes_in act = []
 
 abbrev pub writes_of : Trail → List (Act Page Reply)
-writes_of [] = []
-writes_of (m ∷ ms) = writes_in m.event.act ++ writes_of ms
+writes_of marks = flat_map (λ (m : Mark). writes_in m.event.act) marks
 
 -- the process has begun, and what it has written since is so
 pub record Wrote (marks : Trail) (Is : List (Act Page Reply) → Type 0) : Type 0 where
@@ -36,9 +35,9 @@ pub record Wrote (marks : Trail) (Is : List (Act Page Reply) → Type 0) : Type 
   pub begun : begin.event.act ≡ Begin
   pub is : Is (writes_of since)
 
--- it has begun, and has written nothing since
+-- the process has begun, and has written nothing
 abbrev pub Unwritten : Trail → Type 0
-Unwritten marks = Wrote marks (λ acts. acts ≡ [])
+Unwritten marks = ((begin : Mark) × Contains marks begin × (begin.event.act ≡ Begin)) × (writes_of marks ≡ [])
 
 -- Page x is to be the top page of a new level, and this the anchor that names it there, as its last level.
 pub record IsNewTop (level x : ℕ) (top anchor : Page) : Type 0 where

@@ -1,5 +1,5 @@
 -- Trails: what has happened, event by event, with the point of each answered operation.
-use Rattle.std.specs.Prelude.{◌≡◌, ℕ, ◌<◌, ◌≤◌, ◌==◌, ◌&&◌, ◌++◌, Bool, if◌then◌else◌, Option, Some, None, List, [], ◌∷◌, slice_get}
+use Rattle.std.specs.Prelude.{◌≡◌, ℕ, ◌<◌, ◌≤◌, ◌==◌, ◌&&◌, Bool, Option, Some, None, List, [], ◌∷◌, slice_get, filter, flat_map, option_map, option_to_list}
 use Rattle.bl_model.specs.declared.operation.Op.{Op}
 use Rattle.bl_model.specs.declared.operation.Reply.{Reply}
 use Rattle.bl_model.specs.declared.operation.Entry.{Entry}
@@ -28,21 +28,18 @@ events_of [] = []
 events_of (m ∷ ms) = m.event ∷ events_of ms
 
 abbrev pub entries_at : Name → Option Said → List Entry
-entries_at p None = []
-entries_at p (Some s) = record { pass = p.pass; op = s.op; reply = s.reply } ∷ []
+entries_at p said = option_to_list (option_map (λ (s : Said). record { pass = p.pass; op = s.op; reply = s.reply }) said)
 
 -- the history: the answered operations in the order of their points
 abbrev pub history_of : Trail → List Entry
-history_of [] = []
-history_of (m ∷ ms) = entries_at m.event.process m.said ++ history_of ms
+history_of trail = flat_map (λ (m : Mark). entries_at m.event.process m.said) trail
 
 abbrev pub same_name : Name → Name → Bool
 same_name p q = (p.pass == q.pass) && (p.number == q.number)
 
 -- what one process did
 abbrev pub marks_of : Name → Trail → Trail
-marks_of p [] = []
-marks_of p (m ∷ ms) = if same_name m.event.process p then m ∷ marks_of p ms else marks_of p ms
+marks_of p trail = filter (λ (m : Mark). same_name m.event.process p) trail
 
 -- at that place stands an event of p that does this
 pub record DoesAt (trail : Trail) (i : ℕ) (p : Name) (act : Act Page Reply) : Type 0 where

@@ -1,5 +1,6 @@
 -- What a process has done stays done: what an answer means is not undone by one mark more.
 use Rattle.std.proofs.Common.{ℕ, ◌≡◌, ◌++◌, List, [], ◌∷◌, Option, Some, ap, sym, subst, ◌∙◌, refl, inl, inr, append_assoc, append-nil}
+use Rattle.std.specs.Prelude.{Contains}
 use Rattle.std.proofs.lemmas.List.Elements.{Contains-push, Contains-append_left}
 use Rattle.bl_page.specs.declared.page.Page.{Page}
 use Rattle.bl_model.specs.declared.operation.Reply.{Reply}
@@ -16,16 +17,16 @@ writes_of-append (m ∷ ms) ys = ap (λ z. writes_in m.event.act ++ z) (writes_o
 pub writes_of-push : (ms : Trail) (m : Mark) → writes_of (ms ++ m ∷ []) ≡ writes_of ms ++ writes_in m.event.act
 writes_of-push ms m = writes_of-append ms (m ∷ []) ∙ ap (λ z. writes_of ms ++ z) (append-nil (writes_in m.event.act))
 
+-- it had written nothing, and has written nothing since
+pub unwritten_since : {ms : Trail} (before since : Trail) → Unwritten before → ms ≡ before ++ since → writes_of since ≡ [] → Unwritten ms
+unwritten_since before since h split none = (
+  (h.0.0, subst (λ z. Contains z h.0.0) (sym split) (Contains-append_left before since h.0.0 h.0.1), h.0.2),
+  ap writes_of split ∙ (writes_of-append before since ∙ (λ i. h.1 i ++ none i)),
+)
+
 -- it has latched a page, and has written nothing since either
 pub latched_unwritten : {ms : Trail} {x : ℕ} → WroteHeld ms x [] → Unwritten ms
-latched_unwritten {ms} {x} h = record {
-  earlier = h.first.earlier;
-  begin = h.first.begin;
-  since = h.first.since ++ h.latch ∷ h.since;
-  split = h.split ∙ (ap (λ z. z ++ h.latch ∷ h.since) h.first.split ∙ append_assoc h.first.earlier (h.first.begin ∷ h.first.since) (h.latch ∷ h.since));
-  begun = h.first.begun;
-  is = writes_of-append h.first.since (h.latch ∷ h.since) ∙ (ap (λ z. z ++ writes_of (h.latch ∷ h.since)) h.first.is ∙ (ap (λ z. writes_in z ++ writes_of h.since) h.latched ∙ h.writes_are));
-}
+latched_unwritten h = unwritten_since h.before (h.latch ∷ h.since) h.first h.split (ap (λ z. writes_in z ++ writes_of h.since) h.latched ∙ h.writes_are)
 
 module _ (ms : Trail) (m : Mark) where
   -- the process begins now; it writes this now
@@ -47,7 +48,15 @@ module _ (ms : Trail) (m : Mark) where
   wrote_still Is quiet h = wrote_on (λ acts is. subst Is (sym (ap (λ z. acts ++ z) quiet ∙ append-nil acts)) is) h
 
   pub unwritten_on : writes_in m.event.act ≡ [] → Unwritten ms → Unwritten (ms ++ m ∷ [])
-  unwritten_on quiet h = wrote_still (λ acts. acts ≡ []) quiet h
+  unwritten_on quiet h = unwritten_since ms (m ∷ []) h refl (append-nil (writes_in m.event.act) ∙ quiet)
+
+  -- it begins now, and had written nothing before
+  pub unwritten_now : m.event.act ≡ Act.Begin → writes_of ms ≡ [] → Unwritten (ms ++ m ∷ [])
+  unwritten_now e none = ((m, Contains-push ms m, e), writes_of-push ms m ∙ (λ i. none i ++ writes_in (e i)))
+
+  -- it has written nothing, and does not now
+  pub none_written : writes_in m.event.act ≡ [] → writes_of ms ≡ [] → writes_of (ms ++ m ∷ []) ≡ []
+  none_written quiet none = writes_of-push ms m ∙ (λ i. none i ++ quiet i)
 
   -- it latches a page now, and has written nothing before
   pub latched_now : {x : ℕ} → m.event.act ≡ Latch x → Unwritten ms → WroteHeld (ms ++ m ∷ []) x []

@@ -1,5 +1,5 @@
 -- What a process keeps by its own marks, it owns.
-use Rattle.std.proofs.Common.{ℕ, ◌≡◌, ◌≢◌, ◌⊎◌, ◌==◌, ◌++◌, Bool, true, false, if◌then◌else◌, [], ◌∷◌, arith, ap, sym, ◌∙◌, refl, inl, inr, subst}
+use Rattle.std.proofs.Common.{ℕ, ◌≡◌, ◌≢◌, ◌⊎◌, ◌==◌, ◌++◌, Bool, true, false, if◌then◌else◌, [], ◌∷◌, fold, arith, ap, sym, ◌∙◌, refl, inl, inr, subst}
 use Rattle.std.proofs.lemmas.Bool.{cases_eq, false≢true}
 use Rattle.bl_model.specs.declared.operation.Reply.{Reply}
 use Rattle.bl_page.specs.declared.page.Page.{Page}
@@ -9,8 +9,12 @@ use Rattle.bl_page.specs.Machine.Act.{Begin, End, Get, Put, Take, Latch, Retire,
 use Rattle.bl_claims.specs.Trails.{Mark, Trail, marks_of}
 use Rattle.bl_core.proofs.Pushes.{name_cases, marks_of-own, marks_of-other}
 use Rattle.bl_core.specs.Worlds.{World, Extends}
-use Rattle.bl_claims.specs.Latches.{holds_after, holds_on}
+use Rattle.bl_claims.specs.Latches.{holds_after}
 use Rattle.bl_proc_bounds.specs.Latches.{AllOwned}
+
+-- whether it keeps page y after these marks, where it did or did not before
+abbrev pub holds_on : ℕ → Bool → Trail → Bool
+holds_on y held marks = fold (λ (before : Bool) (m : Mark). holds_after y before m.event.act) held marks
 
 pub holds_push : (y : ℕ) (held : Bool) (ms : Trail) (m : Mark) → holds_on y held (ms ++ m ∷ []) ≡ holds_after y (holds_on y held ms) m.event.act
 holds_push y held [] m = refl

@@ -1,6 +1,6 @@
 -- What an insertion that posts has done, and one event more: what is told of it in the next state, and what its answer means.
 use Rattle.std.proofs.Common.{ℕ, ◌≡◌, ◌≢◌, ◌+◌, ◌++◌, zero, suc, List, [], ◌∷◌, Option, None, Some, Contains, ap, sym, ◌∙◌, refl, subst, append_assoc, append-nil}
-use Rattle.std.proofs.lemmas.List.Elements.{Contains-push, Contains-append_left, Contains-append_right}
+use Rattle.std.proofs.lemmas.List.Elements.{Contains-append_left}
 use Rattle.bl_model.specs.declared.operation.Reply.{Reply}
 use Rattle.bl_model.specs.declared.deciding.KeyWrite.TheVariants.{Insert}
 use Rattle.bl_model.specs.Writes.{effect_of}
@@ -65,11 +65,8 @@ has_split value None level separator marks log =
     record { first = one.0; leaf = subst (λ z. WroteLeaf z marks) one.1 log.1 }
 has_split value (Some other) level separator marks log = absurd (let f = log.1 in cc)
 
-has_begin : {x : ℕ} {acts : List (Act Page Reply)} {marks : Trail} (h : WroteHeld marks x acts) → Contains marks h.first.begin
-has_begin {marks = marks} h =
-    let b = h.first.begin in
-    let mid : Contains (h.first.earlier ++ b ∷ h.first.since) b = Contains-append_right h.first.earlier (b ∷ h.first.since) b (Contains-append_left (b ∷ []) h.first.since b (Contains-push [] b)) in
-    subst (λ z. Contains z b) (sym h.split) (Contains-append_left h.before (h.latch ∷ h.since) b (subst (λ z. Contains z b) (sym h.first.split) mid))
+has_begin : {x : ℕ} {acts : List (Act Page Reply)} {marks : Trail} (h : WroteHeld marks x acts) → Contains marks h.first.0.0
+has_begin h = subst (λ z. Contains z h.first.0.0) (sym h.split) (Contains-append_left h.before (h.latch ∷ h.since) h.first.0.0 h.first.0.1)
 
 -- a post that begins has written nothing since
 from_log : (level x : ℕ) (begin : Mark) → begin.event.act ≡ Begin → approach_log level (from_page x) (begin ∷ [])
@@ -85,16 +82,16 @@ from_log level x begin begun = by_page x
 split_on : (value level separator : ℕ) (q : Post) (path : Path) (marks : Trail) → HasSplit level separator marks → (q.level ≡ level) × (q.key ≡ separator) × (q.stage ≡ post.Coming (from_page (page_at path level))) → IsPostingOn (post_log q.level q.key q.stage) q.level q.key marks
 split_on value level separator q path marks h t =
     let held = h.leaf.3 in
-    let begun = held.first.begun in
+    let begun = held.first.0.2 in
     rw (t.0, t.1, t.2) (record {
-      begin = held.first.begin;
+      begin = held.first.0.0;
       begun = begun;
       before = marks;
       rest = [];
       split = sym (append-nil marks);
-      does = from_log level (page_at path level) held.first.begin begun;
+      does = from_log level (page_at path level) held.first.0.0 begun;
       whole = λ a left more posts. record {
-        begin = held.first.begin;
+        begin = held.first.0.0;
         begun = begun;
         first = marks;
         rest = more;
@@ -102,7 +99,7 @@ split_on value level separator q path marks h t =
         own = has_begin held;
         separator = separator;
         wrote = (Some separator, h.leaf, refl);
-        posts = subst (λ l. PostsUp held.first.begin a left l separator more) h.first posts;
+        posts = subst (λ l. PostsUp held.first.0.0 a left l separator more) h.first posts;
       };
     })
 

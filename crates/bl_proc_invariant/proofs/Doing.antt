@@ -1,5 +1,6 @@
 -- What a compression has done, and one mark more.
-use Rattle.std.proofs.Common.{ℕ, ◌≡◌, ◌<◌, ◌++◌, List, [], ◌∷◌, Option, None, Some, ap, sym, ◌∙◌, refl, subst, inl, inr, append_assoc, append-nil, Bool}
+use Rattle.std.proofs.Common.{ℕ, ◌≡◌, ◌<◌, ◌≤◌, ◌++◌, List, [], ◌∷◌, length, Option, None, Some, ap, sym, ◌∙◌, refl, subst, inl, inr, append_assoc, append-nil, Bool}
+use Rattle.std.proofs.lemmas.Bool.{cases_lt}
 use Rattle.bl_model.specs.declared.operation.Reply.{Reply}
 use Rattle.bl_page.specs.declared.page.Page.{Page}
 use Rattle.bl_page.specs.declared.page.Page.TheVariants.{Inner as InnerPage}
@@ -8,13 +9,14 @@ use Rattle.bl_page.specs.declared.machine.Missed.{Missed}
 use Rattle.bl_page.specs.declared.machine.Missed.TheVariants as missed
 use Rattle.bl_page.specs.Machine.{Act}
 use Rattle.bl_page.specs.Machine.Act.{Get, Put, Latch, Retire, Miss}
-use Rattle.bl_rearrange.specs.Rearranged.{high_of}
-use Rattle.bl_page.specs.Nodes.{Covers, node_of}
+use Rattle.bl_rearrange.specs.Rearranged.{pairs_of, high_of}
+use Rattle.bl_rearrange.specs.Neighbours.{AreNeighbours}
+use Rattle.bl_page.specs.Nodes.{Covers, node_of, roots_of}
 use Rattle.bl_rearrange.specs.declared.sides.Side.{Side}
 use Rattle.bl_rearrange.specs.declared.sides.Side.TheVariants as side
 use Rattle.bl_claims.specs.Trails.{Mark, Trail}
 use Rattle.bl_claims.specs.Meanings.{writes_in, writes_of, Unwritten}
-use Rattle.bl_core.proofs.Meant.{writes_of-append, begun_now, unwritten_on, got_on, got_last}
+use Rattle.bl_core.proofs.Meant.{writes_of-append, unwritten_since, unwritten_now, none_written, unwritten_on, got_on, got_last}
 use Rattle.bl_proc_base.specs.declared.acts.Seen.{Seen}
 use Rattle.bl_proc_base.specs.declared.acts.Seen.TheVariants as seen
 use Rattle.bl_proc_base.specs.declared.answers.Hint.{Hint}
@@ -29,16 +31,17 @@ use Rattle.bl_proc_compress.specs.declared.compressing.Compression.{Compression}
 use Rattle.bl_proc_compress.specs.declared.compressing.Compression.TheVariants.{LatchingLeft, LatchedLeft, LatchingRight, LatchedRight, PuttingFirst, PuttingParent, PuttingLast, Retiring, OpeningRight, OpeningLeft, OpeningParent}
 use Rattle.bl_proc_compress.specs.declared.compressing.Compressed.TheVariants as step
 use Rattle.bl_proc_pages.specs.Onwards.{Leads}
-use Rattle.bl_proc_compress.specs.Compressions.{put_of, other, after_puts, AreSiblings, Links, Decides, compression_next}
+use Rattle.bl_proc_compress.specs.Compressions.{put_of, other, after_puts, IsFew, Links, Decides, compression_next}
 use Rattle.bl_proc_compress.specs.declared.squeezing.CompressReply.{CompressReply}
 use Rattle.bl_proc_compress.specs.declared.squeezing.CompressReply.TheVariants as reply
 use Rattle.bl_proc_compress.specs.declared.squeezing.CompressStage.{CompressStage}
 use Rattle.bl_proc_compress.specs.declared.squeezing.CompressStage.TheVariants as compress
 use Rattle.bl_proc_compress.specs.Compresses.{compress_reply, compress_next_in, CompressArrives}
 use Rattle.bl_proc_invariant.specs.Turns.{event_of}
-use Rattle.bl_claims.specs.Squeezed.{acts_in, acts_of, Since, to_right, LacksPlace, Once}
-use Rattle.bl_proc_invariant.specs.Logs.{AtFamily, AtLeft, AtBoth, put_act, to_last, IsToSqueeze, come_log, decision_log, squeeze_log, pressed_log, compress_log}
-use Rattle.bl_proc_invariant.proofs.ByPages.{got_both, merge_of, evened_of, evening_of, has_merged, has_evened}
+use Rattle.bl_claims.specs.Squeezed.{acts_in, acts_of, Since, AreBeside, LacksPlace, Once}
+use Rattle.bl_proc_invariant.specs.Logs.{to_right, AtFamily, AtLeft, AtBoth, put_act, to_last, IsToSqueeze, come_log, decision_log, squeeze_log, pressed_log, compress_log}
+use Rattle.bl_proc_invariant.proofs.SideBySide.{beside}
+use Rattle.bl_proc_invariant.proofs.ByPages.{right_is, got_both, merge_of, evened_of, evening_of, has_merged, has_evened}
 use Rattle.bl_proc_invariant.proofs.Logging.{way_stays, way_goes}
 use Rattle.bl_proc_unique.proofs.WayCases.{SqueezeCase, squeeze_case}
 use Rattle.bl_proc_unique.proofs.KindCases.{CompressCase}
@@ -71,15 +74,7 @@ writes_of-acts (m ∷ ms) = ap (λ z. writes_in m.event.act ++ z) (writes_of-act
 
 -- since the latch nothing was written
 pub since_unwritten : {ms : Trail} {x : ℕ} {acts : List (Act Page Reply)} → writes_among acts ≡ [] → Since ms x acts → Unwritten ms
-since_unwritten none h = record {
-  earlier = h.first.earlier;
-  begin = h.first.begin;
-  since = h.first.since ++ h.latch ∷ h.during;
-  split = h.split ∙ (ap (λ z. z ++ h.latch ∷ h.during) h.first.split ∙ append_assoc h.first.earlier (h.first.begin ∷ h.first.since) (h.latch ∷ h.during));
-  begun = h.first.begun;
-  is = writes_of-append h.first.since (h.latch ∷ h.during)
-      ∙ (ap (λ z. z ++ writes_of (h.latch ∷ h.during)) h.first.is ∙ (ap (λ z. writes_in z ++ writes_of h.during) h.latched ∙ (writes_of-acts h.during ∙ (ap writes_among h.acts_are ∙ none))));
-}
+since_unwritten none h = unwritten_since h.before (h.latch ∷ h.during) h.first h.split (ap (λ z. writes_in z ++ writes_of h.during) h.latched ∙ (writes_of-acts h.during ∙ (ap writes_among h.acts_are ∙ none)))
 
 -- which of the two children a put is of
 put_event : (sd : Side) (u : Puts) → event_of None (put_of sd u) seen.Done ≡ put_act sd u
@@ -99,6 +94,12 @@ not_evened h e = cc
 
 decided_at : (f : Family) (c d : Page) (u : Puts) → Decides f c d (PuttingFirst u) → u.at ≡ f.at
 decided_at f c d u h = elim h [ inl m ↦ m.1.at | inr v ↦ v.at ]
+
+decided_near : (f : Family) (c d : Page) (u : Puts) → Decides f c d (PuttingFirst u) → AreNeighbours c d
+decided_near f c d u h = elim h [ inl m ↦ m.0 | inr v ↦ v.may.neighbours ]
+
+many : (page : Page) → ¬ IsFew page → 7 ≤ length (pairs_of page)
+many page h = elim (cases_lt (length (pairs_of page)) 7) [ inl few ↦ absurd (h few) | inr enough ↦ enough ]
 
 module _ (ms : Trail) (m : Mark) where
   abbrev more : Trail
@@ -200,7 +201,7 @@ module _ (ms : Trail) (m : Mark) where
       mark = m;
       split = refl;
       refused = did;
-      both = got_both h.family h.left h.right (λ at. []) (subst (λ (t : Siblings). AtBoth level key ms h.family h.left h.right (to_right t [])) h.at h.both);
+      both = got_both h.family h.left h.right (λ at. []) (decided_near h.family h.left h.right u h.decided) (subst (λ (t : Siblings). AtBoth level key ms h.family h.left h.right (to_right t [])) h.at h.both);
       due = elim h.decided [
         | inl d ↦ inl (u.left, u.parent, u.right, merge_of h.family h.left h.right u d.0 d.1)
         | inr v ↦ inr (evened_of u v.separator, u.parent, evening_of h.family h.left h.right u v)
@@ -219,14 +220,14 @@ module _ (ms : Trail) (m : Mark) where
 
     links_on : (f : Family) (c : Page) (d : Compression) → Links f c d → m.event.act ≡ Get f.at.left → m.saw ≡ Some c → AtFamily level key ms f (Get f.at.parent ∷ Latch f.at.left ∷ []) → squeeze_log level key d more
     links_on f c (LatchingRight h page) t did saw log = rw (← t.0, ← t.1) at (left_got c did saw log)
-    links_on f c (OpeningLeft at ended) t did saw log = subst (λ z. decision_log level key z more) (sym t.2) (once_now (let got = left_got c did saw log in record { family = f; at = got.family; left = c; got = got.got; between = t.1; hint_is = ap (λ l. post.Post l (high_of c)) log.level_is }))
+    links_on f c (OpeningLeft at ended) t did saw log = subst (λ z. decision_log level key z more) (sym t.2) (once_now (let got = left_got c did saw log in record { first = record { family = f; at = got.family; left = c; got = got.got }; between = λ e. t.1 (right_is c ∙ e); hint_is = ap (λ l. post.Post l (high_of c)) log.level_is }))
     links_on f c old t did saw log = absurd t
 
     decides_on : (f : Family) (c d : Page) (new : Compression) → Decides f c d new → m.event.act ≡ Get f.at.right → m.saw ≡ Some d → AtLeft level key ms f c (Get f.at.parent ∷ Latch f.at.left ∷ Get f.at.left ∷ Latch f.at.right ∷ []) → squeeze_log level key new more
     decides_on f c d (PuttingFirst u) t did saw log =
         let same = decided_at f c d u t in
         record { family = f; left = c; right = d; at = same; both = subst (λ (z : Siblings). AtBoth level key more f c d (to_right z [])) (sym same) (right_got d did saw log); decided = t }
-    decides_on f c d (OpeningRight at decision.Enough) t did saw log = once_now (record { both = got_both f c d (λ at. []) (right_got d did saw log); neighbours = t.1; past = t.2; left_many = t.3; right_many = t.4 })
+    decides_on f c d (OpeningRight at decision.Enough) t did saw log = once_now (record { both = got_both f c d (λ at. []) t.1 (right_got d did saw log); past = t.2; many = (many c t.3, many d t.4) })
     decides_on f c d (OpeningRight at decision.Lost) t did saw log = unwritten_on ms m (ap writes_in did) (since_unwritten refl log.family.since)
     decides_on f c d old t did saw log = absurd t
 
@@ -263,7 +264,7 @@ module _ (ms : Trail) (m : Mark) where
           got = got_last now.during m get (saw ∙ ap Some here);
           level_is = ap (λ v. (node_of v).shape.level) (sym here) ∙ l.2;
           covers = subst (λ z. Covers (node_of z).shape key) here l.1;
-          siblings = subst (λ z. AreSiblings z key f.parent (Some f)) e (subst (λ z. AreSiblings x key z (Some f)) (sym family.parent_is) siblings);
+          siblings = subst (λ (z : Inner). AreBeside key z (Some f)) (sym family.parent_is) (beside x key parent f siblings l.1.0);
         }
 
     single_on : (x : ℕ) (parent : Inner) (y : ℕ) → CompressArrives key x parent (compress.Staying y) → Leads (InnerPage parent) key level Here → m.event.act ≡ Get x → m.saw ≡ Some (InnerPage parent) → Since ms x [] → compress_log level key (compress.Staying y) more
@@ -282,8 +283,8 @@ module _ (ms : Trail) (m : Mark) where
     module _ (least : 0 < level) where
       -- any step of a compression
       pub compress_on : {waits : Bool} {a a' : CompressStage} {what : Seen} → CompressCase level key waits a what a' → m.event.act ≡ event_of None (compress_next_in a) what → ((x : ℕ) (e : Page) → m.event.act ≡ Get x → what ≡ seen.Words e → m.saw ≡ Some e) → compress_log level key a ms → compress_log level key a' more
-      compress_on (CompressCase.Began a t) did saw h = subst (λ z. come_log z more) (sym t) (begun_now ms m (λ acts. acts ≡ []) did refl)
-      compress_on (CompressCase.NoLevel c t) did saw h = once_now (inl (record { first = unwritten_on ms m (ap writes_in did) h; anchor = c; got = got_last ms m did (saw 0 c did refl); few = t }))
+      compress_on (CompressCase.Began a t) did saw h = subst (λ z. come_log z more) (sym t) (unwritten_now ms m did h)
+      compress_on (CompressCase.NoLevel c t) did saw h = once_now (inl (record { first = unwritten_on ms m (ap writes_in did) h; anchor = c; got = got_last ms m did (saw 0 c did refl); few = λ a e. subst (λ (z : Page). (roots_of z).levels ≤ level) e t }))
       compress_on (CompressCase.Came a what b t) did saw h = way_goes m level key (λ x k. since_unwritten refl k) (unwritten_on ms m) since_now a b what t did h
       compress_on (CompressCase.Met x parent f l t) did saw h = met_on x parent f t l did (saw x (InnerPage parent) did refl) h
       compress_on (CompressCase.Single x parent y l t) did saw h = single_on x parent y t l did (saw x (InnerPage parent) did refl) h
@@ -309,7 +310,7 @@ module _ (ms : Trail) (m : Mark) where
     squeeze_stays (OpeningParent x ended) h = decision_on level key ended (ap writes_in did) h
 
     pub compress_stays : (a : CompressStage) → compress_log level key a ms → compress_log level key a more
-    compress_stays compress.New h = tt
+    compress_stays compress.New h = none_written ms m (ap writes_in did) h
     compress_stays (compress.Coming a) h = way_stays (unwritten_on ms m (ap writes_in did)) (λ x k. since_on [] (ap acts_in did) k) a h
     compress_stays (compress.Compressing c) h = squeeze_stays c h
     compress_stays (compress.Staying x) h = once_on (ap writes_in did) h

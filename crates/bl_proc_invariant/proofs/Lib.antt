@@ -42,5 +42,6 @@ pub mod Relisting
 pub mod Splitting
 pub mod Deciding
 pub mod SiblingLemmas
+pub mod SideBySide
 pub mod Squeezing
 pub mod Pressing

@@ -56,12 +56,12 @@ early_post carried level key got child (post.Growing growth.Latching) e marks = 
 early_post carried level key got child (post.Editing (edit.Putting x page)) e marks = absurd (let f = e in cc)
 early_post carried level key got child old e marks = absurd (let f = e in cc)
 
-early_press : (level key : ℕ) (got : ℕ → Page) (a : CompressStage) → (know_compress level key got a).stage ≡ Stage.Early → (marks : Trail) → compress_log level key a marks
-early_press level key got compress.New e marks = tt
-early_press level key got (compress.Coming way.Start) e marks = absurd (let f = e in cc)
-early_press level key got (compress.Coming (way.Leaving x None)) e marks = absurd (let f = e in cc)
-early_press level key got (compress.Compressing (LatchingLeft h)) e marks = absurd (let f = e in cc)
-early_press level key got old e marks = absurd (let f = e in cc)
+early_press : (level key : ℕ) (got : ℕ → Page) (a : CompressStage) → (know_compress level key got a).stage ≡ Stage.Early → (marks : Trail) → writes_of marks ≡ [] → compress_log level key a marks
+early_press level key got compress.New e marks none = none
+early_press level key got (compress.Coming way.Start) e marks none = absurd (let f = e in cc)
+early_press level key got (compress.Coming (way.Leaving x None)) e marks none = absurd (let f = e in cc)
+early_press level key got (compress.Compressing (LatchingLeft h)) e marks none = absurd (let f = e in cc)
+early_press level key got old e marks none = absurd (let f = e in cc)
 
 -- a post within an insertion has begun
 not_early : (carried : Carried) → (level key : ℕ) (got : ℕ → Page) (child : ℕ) (a : PostStage) → IsPosting a → (know_post carried level key got child a).stage ≡ Stage.Early → ⊥
@@ -72,32 +72,32 @@ not_early carried level key got child (post.Growing growth.Latching) h e = (let 
 not_early carried level key got child (post.Editing (edit.Putting x page)) h e = (let f = e in cc)
 not_early carried level key got child old h e = (let f = e in cc)
 
-early_write : (goes : List Goes) → (key : ℕ) (does : KeyWrite) (got : ℕ → Page) (a : WriteStage) → (know_write goes key does got a).stage ≡ Stage.Early → (marks : Trail) → write_log does a marks
-early_write goes key does got write.New e marks = tt
-early_write goes key does got (write.Coming way.Start) e marks = absurd (let f = e in cc)
-early_write goes key does got (write.Coming (way.Leaving x None)) e marks = absurd (let f = e in cc)
-early_write goes key does got (write.Editing noted (edit.Putting x page)) e marks = absurd (let f = e in cc)
-early_write goes key does got old e marks = absurd (let f = e in cc)
+early_write : (goes : List Goes) → (key : ℕ) (does : KeyWrite) (got : ℕ → Page) (a : WriteStage) → (know_write goes key does got a).stage ≡ Stage.Early → (marks : Trail) → writes_of marks ≡ [] → write_log does a marks
+early_write goes key does got write.New e marks none = none
+early_write goes key does got (write.Coming way.Start) e marks none = absurd (let f = e in cc)
+early_write goes key does got (write.Coming (way.Leaving x None)) e marks none = absurd (let f = e in cc)
+early_write goes key does got (write.Editing noted (edit.Putting x page)) e marks none = absurd (let f = e in cc)
+early_write goes key does got old e marks none = absurd (let f = e in cc)
 
-early_lower : (got : ℕ → Page) (a : LowerStage) → (know_lower got a).stage ≡ Stage.Early → (marks : Trail) → lower_log a marks
-early_lower got lower.New e marks = tt
-early_lower got (lower.Sinking Looking) e marks = absurd (let f = e in cc)
-early_lower got old e marks = absurd (let f = e in cc)
+early_lower : (got : ℕ → Page) (a : LowerStage) → (know_lower got a).stage ≡ Stage.Early → (marks : Trail) → writes_of marks ≡ [] → lower_log a marks
+early_lower got lower.New e marks none = none
+early_lower got (lower.Sinking Looking) e marks none = absurd (let f = e in cc)
+early_lower got old e marks none = absurd (let f = e in cc)
 
-early_climb : (key value : ℕ) (path : Path) (got : ℕ → Page) (child : ℕ) (a : ClimbStage) → Stands key value path a → (know_climb key value path got child a).stage ≡ Stage.Early → (marks : Trail) → climb_log value a marks
-early_climb key value path got child (climb.Writing v) stands e marks = early_write (path_goes path) key (Insert value) got v.stage e marks
-early_climb key value path got child (climb.Posting q) stands e marks = absurd (not_early (inserted key value path) q.level q.key got child q.stage stands e)
-early_climb key value path got child old stands e marks = absurd (let f = e in cc)
+early_climb : (key value : ℕ) (path : Path) (got : ℕ → Page) (child : ℕ) (a : ClimbStage) → Stands key value path a → (know_climb key value path got child a).stage ≡ Stage.Early → (marks : Trail) → writes_of marks ≡ [] → climb_log value a marks
+early_climb key value path got child (climb.Writing v) stands e marks none = early_write (path_goes path) key (Insert value) got v.stage e marks none
+early_climb key value path got child (climb.Posting q) stands e marks none = absurd (not_early (inserted key value path) q.level q.key got child q.stage stands e)
+early_climb key value path got child old stands e marks none = absurd (let f = e in cc)
 
 early_state : (got : ℕ → Page) (child time : ℕ) (a : Proc) → (know_of got child time a).stage ≡ Stage.Early → (marks : Trail) → writes_of marks ≡ [] → proc_log a marks
 early_state got child time (Find a) e marks none = none
-early_state got child time (Write a) e marks none = early_write [] a.key a.write got a.stage e marks
+early_state got child time (Write a) e marks none = early_write [] a.key a.write got a.stage e marks none
 early_state got child time (Post a) e marks none = early_post alone a.level a.key got child a.stage e marks
 early_state got child time (Part a) e marks none = none
-early_state got child time (Compress a) e marks none = early_press a.level a.key got a.stage e marks
+early_state got child time (Compress a) e marks none = early_press a.level a.key got a.stage e marks none
 early_state got child time (Reclaim a) e marks none = tt
-early_state got child time (Lower a) e marks none = early_lower got a.stage e marks
-early_state got child time (InsertPost a) e marks none = early_climb a.key a.value a.path got child a.stage a.stands e marks
+early_state got child time (Lower a) e marks none = early_lower got a.stage e marks none
+early_state got child time (InsertPost a) e marks none = early_climb a.key a.value a.path got child a.stage a.stands e marks none
 
 pub early_log : (b : Run) → (know b).stage ≡ Stage.Early → (marks : Trail) → writes_of marks ≡ [] → proc_log b.state marks
 early_log b e marks none = early_state b.got b.child b.time b.state e marks none

@@ -10,7 +10,7 @@ use Rattle.bl_page.specs.Nodes.{roots_of}
 use Rattle.bl_claims.specs.Trails.{Mark, Trail, marks_of}
 use Rattle.bl_claims.specs.Meanings.{HasGot, writes_in, Unwritten}
 use Rattle.bl_core.specs.Worlds.{World}
-use Rattle.bl_core.proofs.Meant.{begun_now, unwritten_on, got_on, got_last}
+use Rattle.bl_core.proofs.Meant.{unwritten_now, none_written, unwritten_on, got_on, got_last}
 use Rattle.bl_proc_base.specs.declared.acts.Seen.{Seen}
 use Rattle.bl_proc_base.specs.declared.acts.Seen.TheVariants as seen
 use Rattle.bl_proc_base.specs.declared.lowering.Lowered.{Lowered}
@@ -72,7 +72,7 @@ module _ (ms : Trail) (m : Mark) where
 
   -- an anchor of one level was got just now
   one_got : (c : Page) → Unwritten ms → m.event.act ≡ Get 0 → m.saw ≡ Some c → (roots_of c).levels ≤ 1 → MeansLowered lowered.Needed more
-  one_got c first did saw one = once_now ms m (inl (record { first = unwritten_on ms m (ap writes_in did) first; anchor = c; got = got_last ms m did saw; few = one }))
+  one_got c first did saw one = once_now ms m (inl (record { first = unwritten_on ms m (ap writes_in did) first; anchor = c; got = got_last ms m did saw; few = λ a e. subst (λ (z : Page). (roots_of z).levels ≤ 1) e one }))
 
   pub lowering_on : {l new : Lowering} {what : Seen} → LoweringCase l what (On new) → m.event.act ≡ event_of None (lowering_next l) what → ((x : ℕ) (c : Page) → m.event.act ≡ Get x → what ≡ seen.Words c → m.saw ≡ Some c) → lowering_log l ms → lowering_log new more
   lowering_on (LoweringCase.SawMore c new t) did saw h = subst (λ z. lowering_log z more) (sym t.0) (unwritten_on ms m (ap writes_in did) h)
@@ -109,7 +109,7 @@ module _ (ms : Trail) (m : Mark) where
   lowering_over (LoweringCase.OpenedAnchor end last t) did saw h = subst (λ z. MeansLowered z more) (sym t) (lowered_on end (ap writes_in did) h)
 
   pub lower_on : {a b : LowerStage} {what : Seen} → LowerCase a what b → m.event.act ≡ event_of None (lower_next_in a) what → ((x : ℕ) (c : Page) → m.event.act ≡ Get x → what ≡ seen.Words c → m.saw ≡ Some c) → lower_log a ms → lower_log b more
-  lower_on (LowerCase.Began l t) did saw h = subst (λ z. lowering_log z more) (sym t) (begun_now ms m (λ acts. acts ≡ []) did refl)
+  lower_on (LowerCase.Began l t) did saw h = subst (λ z. lowering_log z more) (sym t) (unwritten_now ms m did h)
   lower_on (LowerCase.Sank l what k t) did saw h = lowering_on (lowering_case l what _ t) did saw h
   lower_on (LowerCase.Finished l what r t) did saw h = lowering_over (lowering_case l what _ t) did saw h
   lower_on (LowerCase.Ended r last t) did saw h = subst (λ z. MeansLowered z more) (sym t) (lowered_on r (ap writes_in did) h)
@@ -129,7 +129,7 @@ module _ (ms : Trail) (m : Mark) where
     lowering_stays (OpeningAnchor r) h = lowered_on r (ap writes_in did) h
 
     pub lower_stays : (a : LowerStage) → lower_log a ms → lower_log a more
-    lower_stays lower.New h = tt
+    lower_stays lower.New h = none_written ms m (ap writes_in did) h
     lower_stays (lower.Sinking l) h = lowering_stays l h
     lower_stays (lower.Ending r) h = lowered_on r (ap writes_in did) h
     lower_stays (lower.Over r) h = lowered_on r (ap writes_in did) h

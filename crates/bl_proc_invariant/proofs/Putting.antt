@@ -6,7 +6,7 @@ use Rattle.bl_page.specs.Machine.Act.{Put, Take, Miss}
 use Rattle.bl_page.specs.Machine.{Act}
 use Rattle.bl_claims.specs.Trails.{Mark, Trail}
 use Rattle.bl_claims.specs.Meanings.{writes_in, Unwritten, WroteHeld, WritesBack}
-use Rattle.bl_core.proofs.Meant.{begun_now, unwritten_on, latched_unwritten, latched_now, held_writes, held_still}
+use Rattle.bl_core.proofs.Meant.{unwritten_now, none_written, unwritten_on, latched_unwritten, latched_now, held_writes, held_still}
 use Rattle.bl_proc_base.specs.declared.acts.Seen.{Seen}
 use Rattle.bl_proc_base.specs.declared.approaching.Approach.{Approach}
 use Rattle.bl_proc_base.specs.declared.approaching.Approached.TheVariants as came
@@ -74,7 +74,7 @@ module _ (marks : Trail) (m : Mark) where
     way_still a h = way_stays (unwritten_on marks m quiet) (λ x k. held_still marks m quiet k) a h
 
     pub write_stays : (does : KeyWrite) (a : WriteStage) → write_log does a marks → write_log does a more
-    write_stays does write.New h = tt
+    write_stays does write.New h = none_written marks m quiet h
     write_stays does (write.Coming a) h = way_still a h
     write_stays does (write.Keeping x there) h = (unwritten_on marks m quiet h.0, h.1)
     write_stays does (write.Editing noted c) h = entry_stays (IsAsNoted (effect_of does noted.there) noted) (MaySplit (effect_of does noted.there)) c h
@@ -147,7 +147,7 @@ module _ (marks : Trail) (m : Mark) where
 
   -- a write
   pub write_on : {key : ℕ} {does : KeyWrite} {old new : WriteStage} {what : Seen} → WriteCase key does old what new → m.event.act ≡ event_of (write_end does old) (write_next_in old) what → write_log does old marks → write_log does new more
-  write_on (WriteCase.Began a t) did h = subst (λ z. way_log z more) (sym t) (begun_now marks m (λ acts. acts ≡ []) did refl)
+  write_on (WriteCase.Began a t) did h = subst (λ z. way_log z more) (sym t) (unwritten_now marks m did h)
   write_on {key = key} (WriteCase.Came a what b t) did h = coming_on key a b what t did h
   write_on (WriteCase.Kept x c y there l t) did h = (unwritten_on marks m (ap writes_in did) (latched_unwritten h), t.2)
   write_on {key = key} {does = does} (WriteCase.Changed x c noted d l t) did h = arrived_write (effect_of does noted.there) key x c noted d t.1 t.2 (held_still marks m (ap writes_in did) h)

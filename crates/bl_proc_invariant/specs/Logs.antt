@@ -24,6 +24,7 @@ use Rattle.bl_proc_writes.specs.declared.posting.PostStage.{PostStage}
 use Rattle.bl_proc_writes.specs.declared.posting.PostStage.TheVariants as post
 use Rattle.bl_rearrange.specs.declared.sides.Side.{Side}
 use Rattle.bl_rearrange.specs.declared.sides.Side.TheVariants as side
+use Rattle.bl_proc_compress.specs.declared.compressing.Siblings.{Siblings}
 use Rattle.bl_proc_compress.specs.declared.compressing.Puts.{Puts}
 use Rattle.bl_proc_compress.specs.declared.compressing.Family.{Family}
 use Rattle.bl_proc_base.specs.declared.answers.Hint.{Hint}
@@ -36,7 +37,7 @@ use Rattle.bl_proc_compress.specs.declared.squeezing.CompressReply.{CompressRepl
 use Rattle.bl_proc_compress.specs.declared.squeezing.CompressReply.TheVariants as pressed
 use Rattle.bl_proc_compress.specs.declared.squeezing.CompressStage.{CompressStage}
 use Rattle.bl_proc_compress.specs.declared.squeezing.CompressStage.TheVariants as compress
-use Rattle.bl_claims.specs.Squeezed.{Since, AtParent, to_right, Once, HasMerged, HasEvened, HasEnough, HasUnposted, HasNoLevel, HasOneChild, LacksPlace}
+use Rattle.bl_claims.specs.Squeezed.{Since, AtParent, Once, HasMerged, HasEvened, HasEnough, HasUnposted, HasNoLevel, HasOneChild, LacksPlace}
 use Rattle.bl_proc_compress.specs.Compressions.{Decides, other}
 use Rattle.bl_model.specs.declared.deciding.KeyWrite.{KeyWrite}
 use Rattle.bl_model.specs.declared.deciding.KeyWrite.TheVariants.{Insert}
@@ -205,7 +206,7 @@ written_log does (written.Done there hint) marks = effect_log (effect_of does th
 written_log does written.NoRoom marks = Unwritten marks
 
 abbrev pub write_log : KeyWrite → WriteStage → Trail → Type 0
-write_log does write.New marks = Unit {0}
+write_log does write.New marks = writes_of marks ≡ []
 write_log does (write.Coming a) marks = way_log a marks
 write_log does (write.Keeping x there) marks = Unwritten marks × (effect_of does there ≡ Keep)
 write_log does (write.Editing noted c) marks = entry_log (IsAsNoted (effect_of does noted.there) noted) (MaySplit (effect_of does noted.there)) c marks
@@ -217,7 +218,11 @@ write_log does (write.Over r) marks = written_log does r marks
 abbrev pub come_log : Approach → Trail → Type 0
 come_log a marks = on_way (Unwritten marks) (λ x. Since marks x []) a
 
--- What is done after the latch of the parent, up to the first put, the second and the last one.
+-- What is done after the latch of the parent: up to the get of the right child, and more.
+abbrev pub to_right : Siblings → List (Act Page Reply) → List (Act Page Reply)
+to_right at more = Get at.parent ∷ Latch at.left ∷ Get at.left ∷ Latch at.right ∷ Get at.right ∷ more
+
+-- What is done up to the first put, the second and the last one.
 abbrev pub put_act : Side → Puts → Act Page Reply
 put_act side.Left p = Put p.at.left p.left
 put_act side.Right p = Put p.at.right p.right
@@ -284,7 +289,7 @@ pressed_log level key (pressed.Unposted hint) marks = Once marks (HasUnposted le
 pressed_log level key pressed.NoRoom marks = Once marks (LacksPlace level key)
 
 abbrev pub compress_log : ℕ → ℕ → CompressStage → Trail → Type 0
-compress_log level key compress.New marks = Unit {0}
+compress_log level key compress.New marks = writes_of marks ≡ []
 compress_log level key (compress.Coming a) marks = come_log a marks
 compress_log level key (compress.Compressing c) marks = squeeze_log level key c marks
 compress_log level key (compress.Staying x) marks = pressed_log level key pressed.Alone marks
@@ -292,7 +297,7 @@ compress_log level key (compress.Ending r) marks = pressed_log level key r marks
 compress_log level key (compress.Over r) marks = pressed_log level key r marks
 
 abbrev pub lower_log : LowerStage → Trail → Type 0
-lower_log lower.New marks = Unit {0}
+lower_log lower.New marks = writes_of marks ≡ []
 lower_log (lower.Sinking l) marks = lowering_log l marks
 lower_log (lower.Ending r) marks = MeansLowered r marks
 lower_log (lower.Over r) marks = MeansLowered r marks
