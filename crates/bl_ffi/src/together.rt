@@ -6,7 +6,7 @@ ghost use Rattle.bl_ffi.specs.Told.{Shows};
 ghost use Rattle.bl_ffi.specs.Places.{seats_in, closed};
 ghost use Rattle.bl_ffi.specs.Together.{AreOfOneMap, AreAtOneMap, Meets, ClosesSeats, ClosesImage, IsCodeOfFault};
 
-use crate::codes::{AGAIN, CLOSED, FEW_BYTES, NO_MEMORY, OK, SEATS_OPEN};
+use crate::codes::{AGAIN, CLOSED, FEW_BYTES, NO_MEMORY, OK, SEATS_LOST, SEATS_OPEN};
 use crate::places::{put_all, put_back, take_all, taken};
 use crate::seat::SeatOfC;
 use bl_image::image_length;
@@ -61,10 +61,11 @@ fn code_of(why: CloseFault) -> i32
         CloseFault::Underway => AGAIN,
         CloseFault::Missing | CloseFault::Shared => SEATS_OPEN,
         CloseFault::Memory => NO_MEMORY,
+        CloseFault::Lost => SEATS_LOST,
     }
 }
 
-/// The map of all these seats is closed, if there is room for its image. Else they are put back into their places.
+/// The map of all these seats is closed, if there is room for its image. Else those that come back are put into their places.
 fn close_boxes(
     alloc: Global,
     places: &mut [SeatOfC],
