@@ -49,11 +49,16 @@ abbrev pub GoesOnAt : Next → Part → Type 0
 GoesOnAt (More key) part = (part.more ≡ true) × (part.next ≡ key)
 GoesOnAt End part = part.more ≡ false
 
+-- a reply to a part
+abbrev pub IsRows : Reply → Type 0
+IsRows (Rows pairs next) = Unit {0}
+IsRows other = ⊥
+
 -- The rows of the reply are the first ones of the array, and the others are as they were. The part says how many there are, and how they go on.
 abbrev pub IsListed : Reply → List Row → List Row → Part → Type 0
 IsListed (Rows pairs next) old new part =
     (new ≡ map row_of pairs.items ++ drop (length pairs.items) old) × (part.count ≡ length pairs.items) × GoesOnAt next part
-IsListed other old new part = new ≡ old
+IsListed other old new part = ⊥
 
 -- The same of a part of the rows, which are listed.
 abbrev pub Lists : ℕ → List Row → List Row → Part → ℤ → Seat → Seat → Type 0
