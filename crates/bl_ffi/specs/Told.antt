@@ -1,5 +1,6 @@
 -- What a call tells C.
 use Rattle.std.specs.Prelude.{◌≡◌, ◌⊎◌, ℕ, ℤ, pos, true, false, Some, None, List, ◌++◌, map, drop, length, MatchOption}
+use denote.RawPtr.{Ptr}
 use Rattle.bl_model.specs.declared.operation.Next.{Next}
 use Rattle.bl_model.specs.declared.operation.Next.TheVariants.{More, End}
 use Rattle.bl_ffi.specs.declared.calls.Row.{Row}
@@ -81,6 +82,7 @@ waiting_of seat = length (hints_of seat.upkeep)
 abbrev pub dropped_of : Seat → ℕ
 dropped_of seat = seat.upkeep.dropped
 
--- The seat is as it was. No clause says what is shown.
-abbrev pub Shows : SeatOfC → SeatOfC → ℤ → Type 0
-Shows old new code = MatchOption old.seat ((code ≡ pos 9) × (new.seat ≡ None)) (λ s. (code ≡ pos 0) × (new.seat ≡ Some s))
+-- The seat is as it was, and a closed one leaves the place as it was. Of what an open one shows no clause says more, since no clause of `Arc` says
+-- where its value lies.
+abbrev pub Shows : SeatOfC → SeatOfC → Ptr → Ptr → ℤ → Type 0
+Shows old new place place' code = MatchOption old.seat ((code ≡ pos 9) × (new.seat ≡ None) × (place' ≡ place)) (λ s. (code ≡ pos 0) × (new.seat ≡ Some s))

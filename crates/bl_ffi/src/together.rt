@@ -32,10 +32,11 @@ pub extern "C" fn blink_try_meet(alloc: Global, one: &mut SeatOfC, two: &mut Sea
     if met { OK } else { AGAIN }
 }
 
-/// A place in the memory of the seat's map, by whose address maps are told apart. No clause says more of it.
+/// A place in the memory of the seat's map, by whose address maps are told apart. No clause says so, since none of `Arc` says where its value lies.
+/// A closed seat shows none.
 #[unsafe(no_mangle)]
 pub extern "C" fn blink_map(alloc: Global, seat: &mut SeatOfC, place: &mut *const u32) -> i32
-    ensures { Shows seat.old seat.new result }
+    ensures { Shows seat.old seat.new place.old place.new result }
 {
     let Some(mine) = taken(alloc, seat) else {
         return CLOSED;
