@@ -67,6 +67,7 @@ enum {
     BLINK_SEATS_OPEN = 11, /* a seat of the map is not among these, or was closed by blink_close: nothing is closed */
     BLINK_FEW_BYTES = 12, /* there is room for fewer bytes than the image has: nothing is closed */
     BLINK_OTHER_MAP = 13, /* the seats are of two maps: nothing was done */
+    BLINK_SEATS_LOST = 14, /* the map went while it was closed, and has no image: see blink_try_close_image */
 };
 
 /* The most rows of one leaf, and so the least room that blink_try_rows takes. */
@@ -146,7 +147,8 @@ uint64_t blink_image_length(uint32_t pages);
 /* Closes a map by all its seats, and writes its image, as `blink` and blink_open_image read it, into the caller's array. BLINK_OK: all seats are
  * closed, and `*length` bytes are the image. Else all seats are open still: BLINK_AGAIN; BLINK_CLOSED, one of these was closed before;
  * BLINK_SEATS_OPEN, a seat of the map is not among them (so a map of which blink_close has closed a seat has no image any more);
- * BLINK_FEW_BYTES, `*length` says how many are needed; BLINK_NO_MEMORY. */
+ * BLINK_FEW_BYTES, `*length` says how many are needed; BLINK_NO_MEMORY. Or BLINK_SEATS_LOST: all seats are closed, and there is no image.
+ * Nobody is told so where all owners of the map are its seats, as they are; but no proof says so. */
 int32_t blink_try_close_image(blink_seat *seats, size_t count, uint8_t *bytes, size_t room, uint64_t *length);
 
 /* ---- Guards. ---- */
@@ -314,6 +316,7 @@ static inline const char *blink_text(int32_t code) {
         case BLINK_SEATS_OPEN: return "a seat of the map is not among these";
         case BLINK_FEW_BYTES: return "there is room for fewer bytes than the image has";
         case BLINK_OTHER_MAP: return "the seats are of two maps";
+        case BLINK_SEATS_LOST: return "the map is gone, without an image";
         default: return "no code of this library";
     }
 }

@@ -27,6 +27,7 @@ fault_kept fault.Underway code h = again code (pos 4) h refl
 fault_kept fault.Missing code h = again code (pos 11) h refl
 fault_kept fault.Shared code h = again code (pos 11) h refl
 fault_kept fault.Memory code h = again code (pos 7) h refl
+fault_kept fault.Lost code h = again code (pos 14) h refl
 
 pub closes_kept : (seats : List Seat) (places : List (Option Seat)) (old new : List ℕ) (long : ℕ) (code : ℤ) → ClosesSeats seats places old new long code → ClosesSeats seats places old new long (to_z w32 (of_z w32 code))
 closes_kept seats places old new long code (inl (is, done)) = inl (again code (pos 0) is refl, done)
@@ -42,9 +43,9 @@ too_long boxes box bytes long first one is low =
 pub back_fits : (old back : List Seat) (why : CloseFault) → IsNotClosed old back why → length back ≤ length old
 back_fits old back fault.Underway h = (let same = length_all_zip HasSettled old back h.0 in omega (arith, same))
 back_fits old back fault.Missing h = (let same = ap length h.0 in omega (arith, same))
-back_fits old back fault.Shared (all, inl is) = (let same = ap length is in omega (arith, same))
-back_fits old back fault.Shared (all, inr is) = (let same = ap length is in omega (arith, same))
+back_fits old back fault.Shared h = (let same = ap length h.1 in omega (arith, same))
 back_fits old back fault.Memory h = (let same = ap length h.1 in omega (arith, same))
+back_fits old back fault.Lost h = (let same = ap length h.1 in omega (arith, same))
 
 pub closed_to : (seats : List Seat) (places : List (Option Seat)) (old spelled : List ℕ) (long n : ℕ) (pages : List (Option Page)) → HaveClosed seats pages → n ≡ length seats → places ≡ closed n → IsImage pages spelled → length spelled ≡ long
     → IsClosedTo seats places old (spelled ++ drop long old) long

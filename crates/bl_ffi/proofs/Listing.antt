@@ -4,9 +4,11 @@ use Rattle.std.proofs.lemmas.List.{take_more}
 use Rattle.bl_ffi.specs.declared.calls.Row.{Row}
 use Rattle.bl_ffi.specs.declared.calls.Part.{Part}
 use Rattle.bl_model.specs.declared.operation.Reply.{Reply}
-use Rattle.bl_model.specs.declared.operation.Reply.TheVariants.{Found, Absent, Inserted, Present, Deleted, Changed, Differs, Rows, NoRoom}
+use Rattle.bl_model.specs.declared.operation.Reply.TheVariants.{Rows}
 use Rattle.bl_model.specs.declared.operation.Next.TheVariants.{More, End}
-use Rattle.bl_ffi.specs.Told.{row_of, IsListed}
+use Rattle.bl_model.specs.declared.operation.Op.TheVariants as op
+use Rattle.bl_model.specs.Map.{Map, MayAnswer}
+use Rattle.bl_ffi.specs.Told.{row_of, IsRows, IsListed}
 
 set_behind : (front old : List Row) (x : Row) → 0 < length old → set (front ++ old) (length front) x ≡ front ++ x ∷ drop 1 old
 set_behind [] [] x lt = absurd (omega (arith, lt))
@@ -60,11 +62,8 @@ same_there (x ∷ l) (suc i) d e lt = same_there l i d e (omega (arith, lt))
 pub near_any : (reply : Reply) (old new : List Row) (part : Part) (near : ℕ) → IsListed reply old new part → IsListed reply old new (record { count = part.count; next = part.next; more = part.more; near = near })
 near_any (Rows pairs (More key)) old new part near h = h
 near_any (Rows pairs End) old new part near h = h
-near_any (Found v) old new part near h = h
-near_any Absent old new part near h = h
-near_any Inserted old new part near h = h
-near_any (Present v) old new part near h = h
-near_any (Deleted v) old new part near h = h
-near_any Changed old new part near h = h
-near_any (Differs v) old new part near h = h
-near_any NoRoom old new part near h = h
+near_any reply old new part near h = absurd h
+
+pub may_be_rows : (m : Map) (from : ℕ) (reply : Reply) → MayAnswer m (op.Part from) reply → IsRows reply
+may_be_rows m from (Rows pairs next) may = tt
+may_be_rows m from reply may = absurd may

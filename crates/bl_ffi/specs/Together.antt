@@ -47,6 +47,7 @@ IsCodeOfFault fault.Underway code = code ≡ pos 4
 IsCodeOfFault fault.Missing code = code ≡ pos 11
 IsCodeOfFault fault.Shared code = code ≡ pos 11
 IsCodeOfFault fault.Memory code = code ≡ pos 7
+IsCodeOfFault fault.Lost code = code ≡ pos 14
 
 -- The map of these seats is closed, and so are their places. The first bytes are its image, and the others are as they were.
 pub record IsClosedTo (seats : List Seat) (places : List (Option Seat)) (old new : List ℕ) (long : ℕ) : Type 0 where
@@ -67,7 +68,8 @@ ClosesSeats seats places old new long code =
     ⊎ ((code ≡ pos 12) × IsTooLong seats old long × (places ≡ opened seats) × (new ≡ old))
     ⊎ ((why : CloseFault) × (back : List Seat) × IsCodeOfFault why code × IsNotClosed seats back why × (places ≡ placed back (length seats)) × (new ≡ old))
 
--- There was no memory, or one of the places is closed, and nothing was done; or all are open, and their seats close the map, or are back.
+-- There was no memory, or one of the places is closed, and nothing was done; or all are open, and their seats close the map, or are back. With any
+-- code but 0 and 14 they are all open still: as they were, or with 4 gone on.
 abbrev pub ClosesImage : List (Option Seat) → List (Option Seat) → List ℕ → List ℕ → ℕ → ℤ → Type 0
 ClosesImage places places' old new long code =
     ((code ≡ pos 7) × (places' ≡ places) × (new ≡ old))

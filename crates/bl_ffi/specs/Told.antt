@@ -1,5 +1,6 @@
 -- What a call tells C.
 use Rattle.std.specs.Prelude.{◌≡◌, ◌⊎◌, ℕ, ℤ, pos, true, false, Some, None, List, ◌++◌, map, drop, length, MatchOption}
+use denote.RawPtr.{Ptr}
 use Rattle.bl_model.specs.declared.operation.Next.{Next}
 use Rattle.bl_model.specs.declared.operation.Next.TheVariants.{More, End}
 use Rattle.bl_ffi.specs.declared.calls.Row.{Row}
@@ -49,11 +50,16 @@ abbrev pub GoesOnAt : Next → Part → Type 0
 GoesOnAt (More key) part = (part.more ≡ true) × (part.next ≡ key)
 GoesOnAt End part = part.more ≡ false
 
+-- a reply to a part
+abbrev pub IsRows : Reply → Type 0
+IsRows (Rows pairs next) = Unit {0}
+IsRows other = ⊥
+
 -- The rows of the reply are the first ones of the array, and the others are as they were. The part says how many there are, and how they go on.
 abbrev pub IsListed : Reply → List Row → List Row → Part → Type 0
 IsListed (Rows pairs next) old new part =
     (new ≡ map row_of pairs.items ++ drop (length pairs.items) old) × (part.count ≡ length pairs.items) × GoesOnAt next part
-IsListed other old new part = new ≡ old
+IsListed other old new part = ⊥
 
 -- The same of a part of the rows, which are listed.
 abbrev pub Lists : ℕ → List Row → List Row → Part → ℤ → Seat → Seat → Type 0
@@ -76,6 +82,7 @@ waiting_of seat = length (hints_of seat.upkeep)
 abbrev pub dropped_of : Seat → ℕ
 dropped_of seat = seat.upkeep.dropped
 
--- The seat is as it was. No clause says what is shown.
-abbrev pub Shows : SeatOfC → SeatOfC → ℤ → Type 0
-Shows old new code = MatchOption old.seat ((code ≡ pos 9) × (new.seat ≡ None)) (λ s. (code ≡ pos 0) × (new.seat ≡ Some s))
+-- The seat is as it was, and a closed one leaves the place as it was. Of what an open one shows no clause says more, since no clause of `Arc` says
+-- where its value lies.
+abbrev pub Shows : SeatOfC → SeatOfC → Ptr → Ptr → ℤ → Type 0
+Shows old new place place' code = MatchOption old.seat ((code ≡ pos 9) × (new.seat ≡ None) × (place' ≡ place)) (λ s. (code ≡ pos 0) × (new.seat ≡ Some s))

@@ -4,7 +4,7 @@ ghost use Rattle.std.specs.Prelude.{◌≡◌, ◌≢◌, ◌<◌, ◌≤◌, po
 ghost use Rattle.bl_model.specs.declared.operation.Op.TheVariants as op;
 ghost use Rattle.bl_model.specs.Replies.{reply_of};
 ghost use Rattle.bl_model.specs.Writes.{write_op};
-ghost use Rattle.bl_ffi.specs.Told.{IsCodeOf, Tells, Calls, IsListed, Lists, Tends, Counts, waiting_of, dropped_of};
+ghost use Rattle.bl_ffi.specs.Told.{IsCodeOf, Tells, Calls, IsRows, IsListed, Lists, Tends, Counts, waiting_of, dropped_of};
 
 use crate::codes::{ABSENT, AGAIN, CLOSED, FEW_ROWS, NO_ROOM, OK, PRESENT};
 use crate::places::{put_back, taken};
@@ -162,11 +162,12 @@ pub struct Part {
 
 /// Writes the rows of a reply into the caller's array.
 fn listed(reply: &Reply, rows: &mut [Row], part: &mut Part)
-    requires { 14 ≤ length rows.old }
+    requires room { 14 ≤ length rows.old }
+    requires told { IsRows reply.now }
     ensures { IsListed reply.now rows.old rows.new part.new }
 {
     let Reply::Rows(pairs, next) = reply else {
-        return;
+        unreachable!()
     };
     part.count = pairs.len() as u64;
     for number in 0..pairs.len() {

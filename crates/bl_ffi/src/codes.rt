@@ -27,3 +27,5 @@ pub(crate) const FEW_ROWS: i32 = 10;
 pub(crate) const SEATS_OPEN: i32 = 11;
 /// There is room for fewer bytes than the image has.
 pub(crate) const FEW_BYTES: i32 = 12;
+/// A share of the map was taken while its seats gave theirs up.
+pub(crate) const SEATS_LOST: i32 = 14;

@@ -6,7 +6,7 @@ ghost use Rattle.bl_ffi.specs.Told.{Shows};
 ghost use Rattle.bl_ffi.specs.Places.{seats_in, closed};
 ghost use Rattle.bl_ffi.specs.Together.{AreOfOneMap, AreAtOneMap, Meets, ClosesSeats, ClosesImage, IsCodeOfFault};
 
-use crate::codes::{AGAIN, CLOSED, FEW_BYTES, NO_MEMORY, OK, SEATS_OPEN};
+use crate::codes::{AGAIN, CLOSED, FEW_BYTES, NO_MEMORY, OK, SEATS_LOST, SEATS_OPEN};
 use crate::places::{put_all, put_back, take_all, taken};
 use crate::seat::SeatOfC;
 use bl_image::image_length;
@@ -32,10 +32,11 @@ pub extern "C" fn blink_try_meet(alloc: Global, one: &mut SeatOfC, two: &mut Sea
     if met { OK } else { AGAIN }
 }
 
-/// A place in the memory of the seat's map, by whose address maps are told apart. No clause says more of it.
+/// A place in the memory of the seat's map, by whose address maps are told apart. No clause says so, since none of `Arc` says where its value lies.
+/// A closed seat shows none.
 #[unsafe(no_mangle)]
 pub extern "C" fn blink_map(alloc: Global, seat: &mut SeatOfC, place: &mut *const u32) -> i32
-    ensures { Shows seat.old seat.new result }
+    ensures { Shows seat.old seat.new place.old place.new result }
 {
     let Some(mine) = taken(alloc, seat) else {
         return CLOSED;
@@ -61,10 +62,11 @@ fn code_of(why: CloseFault) -> i32
         CloseFault::Underway => AGAIN,
         CloseFault::Missing | CloseFault::Shared => SEATS_OPEN,
         CloseFault::Memory => NO_MEMORY,
+        CloseFault::Lost => SEATS_LOST,
     }
 }
 
-/// The map of all these seats is closed, if there is room for its image. Else they are put back into their places.
+/// The map of all these seats is closed, if there is room for its image. Else those that come back are put into their places.
 fn close_boxes(
     alloc: Global,
     places: &mut [SeatOfC],

@@ -26,13 +26,19 @@ use bl_proc_base::Outcome;
 use bl_proc_pages::words_with;
 use bl_store::{Hand, Stock};
 
+/// The page that is split, and the new one, which was taken for its upper part.
+#[derive(Clone, Copy)]
+struct SplitPages {
+    at: u32,
+    new: u32,
+}
+
 /// Puts the two parts of the page with these words, whose entries with a pair more are those, and opens the new one.
 fn put_parts<J: Editor>(
     tree: &Tree,
     hand: &mut Hand<PassState>,
     editor: &J,
-    at: u32,
-    new: u32,
+    pages: SplitPages,
     words: &[u64; 32],
     entries: &[u64; 30],
     stock: Stock,
@@ -42,8 +48,8 @@ fn put_parts<J: Editor>(
     requires stock { IsStockOf hand.old.seat stock × (stock.count ≡ 2) }
     requires process { (left : Page) × (right : Page) × AreParts new words.now entries.now left right
         × IsOn tree.now.store.layout (known hand.old.seat) (J.editing editor.now (edit.PuttingNew (record {
-          at = at;
-          new = new;
+          at = pages.at;
+          new = pages.new;
           left = left;
           right = right;
           separator = slice_index entries.now 16;
@@ -51,11 +57,12 @@ fn put_parts<J: Editor>(
     requires head { 14 ≤ slice_index words.now 0 }
     ensures same { IsSameHand hand.old.seat hand.new.seat × IsSameStage hand.old.seat hand.new.seat }
     ensures empty { HasNoStock hand.new.seat }
-    ensures runs { Runs tree.now hand.new (J.editing editor.now (edit.Opening at result)) }
+    ensures runs { Runs tree.now hand.new (J.editing editor.now (edit.Opening pages.at result)) }
     ensures since { IsSameProcess (known hand.old.seat) (known hand.new.seat) }
     ensures split { result ≡ outcomes.SplitAt (slice_index entries.now 16) }
 {
     let _ = editor;
+    let SplitPages { at, new } = pages;
     let mut stock = stock;
     let separator = entries[16];
     let upper = laid_out(words[0] - 7, separator, words[2], words[3], &entries[16..]);
@@ -99,7 +106,8 @@ pub(crate) fn split_full<J: Editor>(
         Some((new, stock)) => {
             let mut entries = [0; 30];
             entries_with(words, key, word, &mut entries);
-            put_parts(tree, hand, editor, at, new, words, &entries, stock)
+            let pages = SplitPages { at, new };
+            put_parts(tree, hand, editor, pages, words, &entries, stock)
         }
         None => Outcome::Refused,
     }

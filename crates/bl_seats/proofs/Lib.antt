@@ -7,3 +7,4 @@ pub mod Starts
 pub mod Gone
 pub mod Pieces
 pub mod Closings
+pub mod PartReplies

@@ -76,14 +76,16 @@ IsNotPrepared seats fault.Underway = ⊥
 IsNotPrepared seats fault.Missing = All (LacksOne seats) seats
 IsNotPrepared seats fault.Shared = AreComplete seats
 IsNotPrepared seats fault.Memory = AreComplete seats
+IsNotPrepared seats fault.Lost = ⊥
 
--- Why an index was not closed, and its seats then. Where one is missing, or all are there and there was no memory, they are as they were. So they
--- are where somebody else has a share; or, where nobody but they had one when that was looked at, they are gone.
+-- Why an index was not closed, and its seats then. Where one is missing, or all are there and there was no memory, or somebody else has a share,
+-- they are as they were. They are gone where all were there, and nobody but they had a share when that was looked at.
 abbrev pub IsNotClosed : List Seat → List Seat → CloseFault → Type 0
 IsNotClosed old new fault.Underway = HaveSettled old new × IsOneUnderway new
 IsNotClosed old new fault.Missing = (new ≡ old) × All (LacksOne old) old
-IsNotClosed old new fault.Shared = AreComplete old × ((new ≡ old) ⊎ (new ≡ []))
+IsNotClosed old new fault.Shared = AreComplete old × (new ≡ old)
 IsNotClosed old new fault.Memory = AreComplete old × (new ≡ old)
+IsNotClosed old new fault.Lost = AreComplete old × (new ≡ [])
 
 -- a share of their index, which has a seat of each number among them, and room for a close by them
 pub record IsFor (seats : List Seat) (prepared : Prepared) : Type 0 where

@@ -26,6 +26,8 @@ pub enum CloseFault {
     Shared,
     /// There was no memory.
     Memory,
+    /// Somebody took a share of the index while its seats gave theirs up: the seats are gone.
+    Lost,
 }
 
 /// What a close fills, with a share of the index that is its last one then.
@@ -107,12 +109,12 @@ fn settle_all(seats: &mut [Box<Seat, Global>]) -> bool
 }
 
 /// The seats go, and their hands close the index. Somebody else cannot have a share of it, since all its seats are there, but no clause of
-/// `Arc` says so.
+/// `Arc` says so. Where somebody had, the seats could not come back: a share for each is more than `Arc` promises.
 fn shut(seats: Vec<Box<Seat, Global>>, prepared: Prepared) -> Result<Quiet, CloseFault>
     requires prepared { IsFor (values seats.items) prepared }
     requires rest { AllRest (values seats.items) }
     ensures ok { IfOk result (λ quiet. AreShut (values seats.items) quiet.image.pages.items) }
-    ensures fault { IfErr result (λ why. why ≡ fault.Shared) }
+    ensures fault { IfErr result (λ why. why ≡ fault.Lost) }
 {
     let Prepared {
         index,
@@ -128,13 +130,13 @@ fn shut(seats: Vec<Box<Seat, Global>>, prepared: Prepared) -> Result<Quiet, Clos
     }
     match Arc::try_unwrap(index) {
         Ok(index) => Ok(index.close_hands(hands, room)),
-        Err(_) => Err(CloseFault::Shared),
+        Err(_) => Err(CloseFault::Lost),
     }
 }
 
 /// Closes an index by all its seats: the image of its pages, which is sound, and whose rows are the map after all that has happened. Else the
 /// seats come back: what was underway at them has gone on where something is underway still, and they are as they were where one of them
-/// is missing, somebody else has a share of the index, or there is no memory.
+/// is missing, somebody else has a share of the index, or there is no memory. They are gone where it says so.
 pub fn close(
     alloc: Global,
     seats: Vec<Box<Seat, Global>>,

@@ -1,11 +1,11 @@
 //! What is drawn by lot: which process starts, and whose turn it is.
 
-use crate::crew::Crew;
-use crate::twins::Twins;
 use bl_proc::Hint;
 use bl_world::Turn;
 use std::alloc::Global;
-use test_world_walks::{Job, Law, Tree, add, is_to_post};
+use test_world_running::{Job, is_to_post};
+use test_world_walks::{Law, Tree, add};
+use test_world_watched::{Crew, Twins};
 
 /// How large a world is, and how its processes are drawn.
 #[derive(Clone, Copy)]

@@ -1,21 +1,19 @@
 //! Small worlds with processes of all kinds, in an order of turns that is drawn by lot. After each turn the laws of the tree
 //! are checked by plain walks over the pages, apart from all definitions and proofs.
 
-use crate::crew::{
-    Crew, change_of, goes_on, lists_first, lists_own, lowers, parts, puts_in_compression,
-};
 use crate::draws::{Lots, Size};
-use crate::owners::{held_page, keeps_owners, number_of, owns, page_of};
-use crate::tally::{NONE, Tally, one_more};
-use crate::twins::Twins;
 use bl_model::{Next, Op, PlainMap, Reply};
 use bl_page::Page;
 use bl_proc::Answer;
 use bl_world::{Act, Event, Owner, Turn};
 use std::alloc::Global;
+use test_world_running::{Job, Running, hint_of};
 use test_world_walks::{
-    Fresh, Job, Law, Lists, Moment, Running, Tree, add, found, hint_of, holds, is_same_page, keep,
-    leads_back, walked,
+    Fresh, Law, Lists, Moment, Tree, add, found, holds, is_same_page, keep, leads_back, walked,
+};
+use test_world_watched::{
+    Crew, NONE, Tally, Twins, change_of, goes_on, held_page, keeps_owners, lists_first, lists_own,
+    lowers, number_of, one_more, owns, page_of, parts, puts_in_compression,
 };
 
 /// What stands in a world, as the events so far have left it.

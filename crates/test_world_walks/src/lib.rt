@@ -1,5 +1,5 @@
-//! The laws of the tree by plain walks over the pages of a world, and what the processes of one may do and answer, apart from
-//! all definitions and proofs; and worlds whose number of pages is known.
+//! The laws of the tree by plain walks over the pages of a world, apart from all definitions and proofs; and worlds whose number
+//! of pages is known.
 //!
 //! For `test_world_drawn` and `test_world`, whose tests are proved and run apart from these. What it promises is in the words of
 //! each law that it finds broken.
@@ -7,14 +7,10 @@
 
 mod laws;
 mod lists;
-mod running;
 mod sized;
-mod squeezes;
 mod trees;
 
 pub use laws::{Law, add, holds};
 pub use lists::Lists;
-pub use running::{Job, Running, hint_of, is_to_post};
 pub use sized::SizedWorld;
-pub use squeezes::{Squeeze, Way};
 pub use trees::{Fresh, Listed, Live, Moment, Tree, descends, is_same_page, leads_back, walked};

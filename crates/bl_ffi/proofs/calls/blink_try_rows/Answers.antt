@@ -1,8 +1,14 @@
 use Rattle.std.proofs.Common.{Some, inl, inr, refl, sym, ap, ◌∙◌}
 use Rattle.bl_seats.specs.declared.seat.Seat.{Seat}
 use Rattle.bl_ffi.proofs.Called.{called}
-use Rattle.bl_ffi.proofs.Listing.{near_any}
+use Rattle.bl_ffi.proofs.Listing.{near_any, may_be_rows}
+use Rattle.bl_seats.proofs.PartReplies.{part_may}
 use Rattle.bl_ffi.proofs.calls.blink_try_rows.Goals as goal
+
+pub listed-requires-clause-told : goal.listed-requires-clause-told
+listed-requires-clause-told c =
+    let may = part_may c.part-answer.new.self.hand c.args.from c.in-Some-answer.reply c.in-Some-answer.ensures.listed in
+    may_be_rows may.0 c.args.from c.in-Some-answer.reply may.1
 
 pub returns-in-Some-answer-clause-told : goal.returns-in-Some-answer-clause-told
 returns-in-Some-answer-clause-told c = λ enough.

@@ -9,7 +9,7 @@ loop-number-preserved c =
     let pairs = c.in-Rows.pairs.items in let i = c.loop-number.number in let inv = c.loop-number.invariant in let old = c.args.rows.now in
     let pair = get_or pairs i (0, 0) in
     let made = ap (λ (z : List (ℕ × ℕ)). row_of (get_or z i (0, 0))) c.deref.ensures.0 in
-    let value = c.len-number-end.ensures.value in let fits = c.len-number-end.ensures.fits in let room = c.requires in
+    let value = c.len-number-end.ensures.value in let fits = c.len-number-end.ensures.fits in let room = c.requires.room in
     let lt : i < length pairs = omega (arith, c.loop-number-test.true, value) in
     let low : i < length old = omega (arith, c.loop-number-test.true, value, fits, room) in
     record {

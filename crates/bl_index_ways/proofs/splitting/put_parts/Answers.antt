@@ -20,14 +20,14 @@ put_reserved-requires-clause-runs g c = record {
 pub put_reserved-requires-clause-next : goal.put_reserved-requires-clause-next
 put_reserved-requires-clause-next g c =
     let laws = g.J.Editor in let j = c.args.editor.now in
-    let p : Splitting = record { at = c.args.at; new = c.args.new; left = c.requires.process.0; right = c.requires.process.1; separator = get_or c.args.entries.now 16 0 } in
+    let p : Splitting = record { at = c.args.pages.at; new = c.args.pages.new; left = c.requires.process.0; right = c.requires.process.1; separator = get_or c.args.entries.now 16 0 } in
     let on = c.requires.process.3 in
     (p.right, ap next_of on.state ∙ laws.acts j (edit.PuttingNew p), c.laid_out-upper.ensures ∙ (ap (λ (es : List ℕ). layout (get_or c.args.words.now 0 0 - 7) (get_or c.args.entries.now 16 0) (get_or c.args.words.now 2 0) (get_or c.args.words.now 3 0) es) (upper_part c.args.entries.now c.told-entries) ∙ sym c.requires.process.2.upper))
 
 pub put_reserved-requires-clause-course : goal.put_reserved-requires-clause-course
 put_reserved-requires-clause-course g c =
     let laws = g.J.Editor in let j = c.args.editor.now in
-    let p : Splitting = record { at = c.args.at; new = c.args.new; left = c.requires.process.0; right = c.requires.process.1; separator = get_or c.args.entries.now 16 0 } in
+    let p : Splitting = record { at = c.args.pages.at; new = c.args.pages.new; left = c.requires.process.0; right = c.requires.process.1; separator = get_or c.args.entries.now 16 0 } in
     let on = c.requires.process.3 in
     course_at seen.Done _ _ on.state (laws.courses j (edit.PuttingNew p) seen.Done tt)
 
@@ -36,7 +36,7 @@ put_reserved-requires-2-clause-runs g c = record {
   own = search rules;
   running = search rules;
   on = (let laws = g.J.Editor in let j = c.args.editor.now in
-      let p : Splitting = record { at = c.args.at; new = c.args.new; left = c.requires.process.0; right = c.requires.process.1; separator = get_or c.args.entries.now 16 0 } in
+      let p : Splitting = record { at = c.args.pages.at; new = c.args.pages.new; left = c.requires.process.0; right = c.requires.process.1; separator = get_or c.args.entries.now 16 0 } in
       let on = c.requires.process.3 in
       let one = on_goes _ seen.Done _ _ _ _ on c.put_reserved.ensures.goes (laws.goes j (edit.PuttingNew p) (edit.PuttingOld p) seen.Done refl) in
       on_itself _ _ _ one);
@@ -45,7 +45,7 @@ put_reserved-requires-2-clause-runs g c = record {
 pub put_reserved-requires-2-clause-next : goal.put_reserved-requires-2-clause-next
 put_reserved-requires-2-clause-next g c =
     let laws = g.J.Editor in let j = c.args.editor.now in
-    let p : Splitting = record { at = c.args.at; new = c.args.new; left = c.requires.process.0; right = c.requires.process.1; separator = get_or c.args.entries.now 16 0 } in
+    let p : Splitting = record { at = c.args.pages.at; new = c.args.pages.new; left = c.requires.process.0; right = c.requires.process.1; separator = get_or c.args.entries.now 16 0 } in
     let on = c.requires.process.3 in
     let one = on_goes _ seen.Done _ _ _ _ on c.put_reserved.ensures.goes (laws.goes j (edit.PuttingNew p) (edit.PuttingOld p) seen.Done refl) in
     (p.left, ap next_of one.state ∙ laws.acts j (edit.PuttingOld p), c.laid_out-lower.ensures ∙ sym c.requires.process.2.lower)
@@ -53,7 +53,7 @@ put_reserved-requires-2-clause-next g c =
 pub put_reserved-requires-2-clause-course : goal.put_reserved-requires-2-clause-course
 put_reserved-requires-2-clause-course g c =
     let laws = g.J.Editor in let j = c.args.editor.now in
-    let p : Splitting = record { at = c.args.at; new = c.args.new; left = c.requires.process.0; right = c.requires.process.1; separator = get_or c.args.entries.now 16 0 } in
+    let p : Splitting = record { at = c.args.pages.at; new = c.args.pages.new; left = c.requires.process.0; right = c.requires.process.1; separator = get_or c.args.entries.now 16 0 } in
     let on = c.requires.process.3 in
     let one = on_goes _ seen.Done _ _ _ _ on c.put_reserved.ensures.goes (laws.goes j (edit.PuttingNew p) (edit.PuttingOld p) seen.Done refl) in
     course_at seen.Done _ _ one.state (laws.courses j (edit.PuttingOld p) seen.Done tt)
@@ -63,7 +63,7 @@ reopen-requires-clause-runs g c = record {
   own = search rules;
   running = search rules;
   on = (let laws = g.J.Editor in let j = c.args.editor.now in
-      let p : Splitting = record { at = c.args.at; new = c.args.new; left = c.requires.process.0; right = c.requires.process.1; separator = get_or c.args.entries.now 16 0 } in
+      let p : Splitting = record { at = c.args.pages.at; new = c.args.pages.new; left = c.requires.process.0; right = c.requires.process.1; separator = get_or c.args.entries.now 16 0 } in
       let on = c.requires.process.3 in
       let one = on_goes _ seen.Done _ _ _ _ on c.put_reserved.ensures.goes (laws.goes j (edit.PuttingNew p) (edit.PuttingOld p) seen.Done refl) in
       let two = on_goes _ seen.Done _ _ _ _ one c.put_reserved-2.ensures.goes (laws.goes j (edit.PuttingOld p) (edit.OpeningNew p.at p.new p.separator) seen.Done refl) in
@@ -73,7 +73,7 @@ reopen-requires-clause-runs g c = record {
 pub reopen-requires-clause-next : goal.reopen-requires-clause-next
 reopen-requires-clause-next g c =
     let laws = g.J.Editor in let j = c.args.editor.now in
-    let p : Splitting = record { at = c.args.at; new = c.args.new; left = c.requires.process.0; right = c.requires.process.1; separator = get_or c.args.entries.now 16 0 } in
+    let p : Splitting = record { at = c.args.pages.at; new = c.args.pages.new; left = c.requires.process.0; right = c.requires.process.1; separator = get_or c.args.entries.now 16 0 } in
     let on = c.requires.process.3 in
     let one = on_goes _ seen.Done _ _ _ _ on c.put_reserved.ensures.goes (laws.goes j (edit.PuttingNew p) (edit.PuttingOld p) seen.Done refl) in
     let two = on_goes _ seen.Done _ _ _ _ one c.put_reserved-2.ensures.goes (laws.goes j (edit.PuttingOld p) (edit.OpeningNew p.at p.new p.separator) seen.Done refl) in
@@ -82,7 +82,7 @@ reopen-requires-clause-next g c =
 pub reopen-requires-clause-course : goal.reopen-requires-clause-course
 reopen-requires-clause-course g c =
     let laws = g.J.Editor in let j = c.args.editor.now in
-    let p : Splitting = record { at = c.args.at; new = c.args.new; left = c.requires.process.0; right = c.requires.process.1; separator = get_or c.args.entries.now 16 0 } in
+    let p : Splitting = record { at = c.args.pages.at; new = c.args.pages.new; left = c.requires.process.0; right = c.requires.process.1; separator = get_or c.args.entries.now 16 0 } in
     let on = c.requires.process.3 in
     let one = on_goes _ seen.Done _ _ _ _ on c.put_reserved.ensures.goes (laws.goes j (edit.PuttingNew p) (edit.PuttingOld p) seen.Done refl) in
     let two = on_goes _ seen.Done _ _ _ _ one c.put_reserved-2.ensures.goes (laws.goes j (edit.PuttingOld p) (edit.OpeningNew p.at p.new p.separator) seen.Done refl) in
@@ -93,7 +93,7 @@ returns-clause-runs g c = record {
   own = search rules;
   running = search rules;
   on = (let laws = g.J.Editor in let j = c.args.editor.now in
-      let p : Splitting = record { at = c.args.at; new = c.args.new; left = c.requires.process.0; right = c.requires.process.1; separator = get_or c.args.entries.now 16 0 } in
+      let p : Splitting = record { at = c.args.pages.at; new = c.args.pages.new; left = c.requires.process.0; right = c.requires.process.1; separator = get_or c.args.entries.now 16 0 } in
       let on = c.requires.process.3 in
       let one = on_goes _ seen.Done _ _ _ _ on c.put_reserved.ensures.goes (laws.goes j (edit.PuttingNew p) (edit.PuttingOld p) seen.Done refl) in
       let two = on_goes _ seen.Done _ _ _ _ one c.put_reserved-2.ensures.goes (laws.goes j (edit.PuttingOld p) (edit.OpeningNew p.at p.new p.separator) seen.Done refl) in

@@ -3,14 +3,15 @@
 use bl_world::{Act, Event, Owner, Turn};
 use test_world_walks::{Law, holds, keep};
 
-pub(crate) fn number_of(turn: Turn) -> usize {
+/// The process whose turn it is.
+pub fn number_of(turn: Turn) -> usize {
     match turn {
         Turn::Step(number) | Turn::Take(number, _) | Turn::Refuse(number) => number,
     }
 }
 
 /// The page that an event names.
-pub(crate) fn page_of(act: Act) -> Option<u32> {
+pub fn page_of(act: Act) -> Option<u32> {
     match act {
         Act::Get(at) | Act::Put(at) | Act::Latch(at) | Act::Take(at) | Act::Open(at) => Some(at),
         Act::See(at) | Act::Release(at) | Act::Retire(at) => Some(at),
@@ -121,7 +122,7 @@ fn change_of_page(act: Act, held: Owner, place: usize) -> Option<Change> {
 }
 
 /// What becomes of the owner of the page that the event at that place names.
-pub(crate) fn owns(
+pub fn owns(
     event: Event,
     place: usize,
     before: Option<Owner>,
@@ -142,11 +143,7 @@ pub(crate) fn owns(
 }
 
 /// No page but those that an event names has got another owner.
-pub(crate) fn keeps_owners(
-    after: &[Owner],
-    before: &[Owner],
-    named: Option<u32>,
-) -> Result<(), Law> {
+pub fn keeps_owners(after: &[Owner], before: &[Owner], named: Option<u32>) -> Result<(), Law> {
     keep!(
         after.len() == before.len(),
         "there are as many pages as before"
@@ -174,7 +171,7 @@ pub(crate) fn held_by(number: usize, owners: &[Owner]) -> usize {
 }
 
 /// The one page that the process with that number holds, which takes another one.
-pub(crate) fn held_page(number: usize, owners: &[Owner]) -> Result<u32, Law> {
+pub fn held_page(number: usize, owners: &[Owner]) -> Result<u32, Law> {
     let mut page = None;
     for (at, owner) in owners.iter().enumerate() {
         if *owner == Owner::Held(number) {

@@ -1,13 +1,11 @@
 //! Processes that run, and what they may do and answer.
 
-use crate::keep;
-use crate::laws::{Law, add, holds};
 use crate::squeezes::{Squeeze, rights_of};
-use crate::trees::Tree;
 use bl_model::Reply;
 use bl_proc::{Answer, Hint, Lowered, Posted, Reclaimed, Squeezed};
 use bl_world::{Act, Owner, Turn};
 use std::alloc::Global;
+use test_world_walks::{Law, Tree, add, holds, keep};
 
 /// What a process is to do.
 #[derive(Clone, Copy)]
@@ -147,6 +145,7 @@ fn without_hint(answer: Answer) -> Answer {
     }
 }
 
+/// The hint that an answer leaves.
 pub fn hint_of(answer: &Answer) -> Option<Hint> {
     match answer {
         Answer::Op(_, hint) => *hint,
@@ -157,6 +156,7 @@ pub fn hint_of(answer: &Answer) -> Option<Hint> {
     }
 }
 
+/// The hint names a page that its parent does not list yet.
 pub fn is_to_post(hint: &Hint) -> bool {
     match hint {
         Hint::Post { .. } => true,

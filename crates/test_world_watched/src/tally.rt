@@ -2,7 +2,7 @@
 
 use bl_model::Reply;
 use bl_proc::{Answer, Hint, Lowered, Posted, Reclaimed, Squeezed};
-use test_world_walks::{Job, Running, Squeeze, Way, is_to_post};
+use test_world_running::{Job, Running, Squeeze, Way, is_to_post};
 
 /// Answers of operations, but for changes of a value.
 #[derive(Clone, Copy, Debug)]
@@ -68,7 +68,7 @@ struct Lowerings {
 
 /// Pages that were to be released, and what came of dead pages.
 #[derive(Clone, Copy, Debug)]
-pub(crate) struct Pages {
+pub struct Pages {
     released: u32,
     kept: u32,
     /// Those that were kept since a process may have read them, and those whose release was missed.
@@ -92,7 +92,7 @@ struct Shapes {
 
 /// How many answers of each kind there were, and what else was met.
 #[derive(Clone, Copy, Debug)]
-pub(crate) struct Tally {
+pub struct Tally {
     operations: Operations,
     changes: Changes,
     posts: Posts,
@@ -115,7 +115,7 @@ const NO_SHAPES: Shapes = Shapes {
 };
 
 /// Nothing was met.
-pub(crate) const NONE: Tally = Tally {
+pub const NONE: Tally = Tally {
     operations: Operations {
         found: 0,
         absent: 0,
@@ -173,7 +173,8 @@ pub(crate) const NONE: Tally = Tally {
     levels: 0,
 };
 
-pub(crate) fn one_more(count: &mut u32) {
+/// Counts one more.
+pub fn one_more(count: &mut u32) {
     *count = count.saturating_add(1);
 }
 
@@ -322,7 +323,7 @@ impl Shapes {
 
 impl Tally {
     /// A process that was to do this has answered.
-    pub(crate) fn answered(&mut self, job: Job, answer: &Answer) {
+    pub fn answered(&mut self, job: Job, answer: &Answer) {
         match answer {
             Answer::Op(reply, _) => match job {
                 Job::Change(_, old, new) => self.changes.answered(old == new, reply),
@@ -349,7 +350,8 @@ impl Tally {
         }
     }
 
-    pub(crate) fn hinted(&mut self, answer: &Answer, hint: &Hint) {
+    /// An answer had this hint.
+    pub fn hinted(&mut self, answer: &Answer, hint: &Hint) {
         let is_split = is_to_post(hint);
         if is_split && matches!(answer, Answer::Compress(_, _)) {
             // another process has split it
@@ -359,7 +361,7 @@ impl Tally {
     }
 
     /// An insertion that posts has split the named page from another one, of which it tells nobody.
-    pub(crate) fn split_by(&mut self, running: &Running, named: Option<u32>) {
+    pub fn split_by(&mut self, running: &Running, named: Option<u32>) {
         if let Job::InsertPost(_, _) = running.job
             && let Some((level, _)) = running.split
             && named.is_some()
@@ -369,7 +371,7 @@ impl Tally {
     }
 
     /// A compression has put all.
-    pub(crate) fn squeezed(&mut self, squeeze: &Squeeze) {
+    pub fn squeezed(&mut self, squeeze: &Squeeze) {
         let way = squeeze.way();
         match way {
             Way::Merged => {}
@@ -379,12 +381,13 @@ impl Tally {
         self.shapes(squeeze.level() == 0).squeezed(way);
     }
 
-    pub(crate) fn meet_levels(&mut self, levels: usize) {
+    /// A tree had so many levels.
+    pub fn meet_levels(&mut self, levels: usize) {
         self.levels = self.levels.max(levels);
     }
 
     /// Enough of all that small worlds are to meet.
-    pub(crate) fn is_of_small_worlds(&self) -> bool {
+    pub fn is_of_small_worlds(&self) -> bool {
         let posts = self
             .posts
             .done
@@ -400,7 +403,7 @@ impl Tally {
     }
 
     /// Enough of all that wide worlds are to meet.
-    pub(crate) fn is_of_wide_worlds(&self) -> bool {
+    pub fn is_of_wide_worlds(&self) -> bool {
         self.inner_pages.least() > 0 && self.levels > 2
     }
 }

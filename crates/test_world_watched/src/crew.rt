@@ -5,17 +5,19 @@ use bl_model::Op;
 use bl_proc::{Answer, Posted};
 use bl_world::{Act, Owner, Turn};
 use std::alloc::Global;
-use test_world_walks::{Job, Law, Running, Squeeze, Tree, add, found, holds, keep};
+use test_world_running::{Job, Running, Squeeze};
+use test_world_walks::{Law, Tree, add, found, holds, keep};
 
+/// Those that run, in the order in which they were started.
 #[derive(Drop)]
-pub(crate) struct Crew {
+pub struct Crew {
     pub list: Vec<Running>,
     /// How many processes were started.
     pub started: usize,
 }
 
 /// The change that a running process has made by that event, which led to this tree. A deletion may leave its leaf thin.
-pub(crate) fn change_of(running: &mut Running, act: Act, tree: &Tree) -> Result<Op, Law> {
+pub fn change_of(running: &mut Running, act: Act, tree: &Tree) -> Result<Op, Law> {
     match running.job {
         Job::Insert(key, value) | Job::InsertPost(key, value) => Ok(Op::Insert(key, value)),
         Job::Delete(key) => {
@@ -41,7 +43,7 @@ fn puts_last(squeeze: &mut Option<Squeeze>, page: u32) -> Result<bool, Law> {
 }
 
 /// A process that puts this page compresses, and goes on with that. It is among those that compress up to its last put.
-pub(crate) fn puts_in_compression(
+pub fn puts_in_compression(
     alloc: Global,
     running: &mut Running,
     tree: &Tree,
@@ -63,7 +65,7 @@ pub(crate) fn puts_in_compression(
 }
 
 /// An insertion that posts has listed what it split, where this tree lists it and the one before did not.
-pub(crate) fn lists_own(running: &mut Running, before: &Tree, tree: &Tree) {
+pub fn lists_own(running: &mut Running, before: &Tree, tree: &Tree) {
     if let Job::InsertPost(_, _) = running.job
         && let Some((level, key)) = running.split
         && tree.lists(level, key)
@@ -76,7 +78,7 @@ pub(crate) fn lists_own(running: &mut Running, before: &Tree, tree: &Tree) {
 
 /// A post answers that it is done where this tree lists its key and the one before it did not. A new top level lists the key 0,
 /// which is no work of a post for that key.
-pub(crate) fn lists_first(running: &mut Running, before: &Tree, tree: &Tree) {
+pub fn lists_first(running: &mut Running, before: &Tree, tree: &Tree) {
     if let Job::Post(level, key) = running.job
         && key != 0
         && tree.lists(level as usize, key)
@@ -87,12 +89,7 @@ pub(crate) fn lists_first(running: &mut Running, before: &Tree, tree: &Tree) {
 }
 
 /// A process that takes the top level away has put this page, which led from the one tree to the other.
-pub(crate) fn lowers(
-    running: &mut Running,
-    page: u32,
-    before: &Tree,
-    tree: &Tree,
-) -> Result<(), Law> {
+pub fn lowers(running: &mut Running, page: u32, before: &Tree, tree: &Tree) -> Result<(), Law> {
     match running.job {
         Job::Lower => running.sinks(page, before, tree),
         _ => Ok(()),
@@ -100,7 +97,7 @@ pub(crate) fn lowers(
 }
 
 /// A running process has split the named page from another one.
-pub(crate) fn parts(running: &mut Running, tree: &Tree, named: Option<u32>) -> Result<(), Law> {
+pub fn parts(running: &mut Running, tree: &Tree, named: Option<u32>) -> Result<(), Law> {
     if let Some(page) = named {
         let live = found!(tree.live_at(page), "a page that is named is live");
         running.split = Some((live.level.saturating_add(1), live.low));
@@ -118,7 +115,7 @@ fn waits(running: &Running, turn: Turn, act: Act) -> bool {
 }
 
 /// A process that runs is not to answer yet.
-pub(crate) fn goes_on(running: &Running) -> Result<(), Law> {
+pub fn goes_on(running: &Running) -> Result<(), Law> {
     both(
         running.saw.is_none() || matches!(running.saw, Some(Owner::Retired(_))),
         "who sees a page that is not retired answers in that turn",
@@ -128,7 +125,8 @@ pub(crate) fn goes_on(running: &Running) -> Result<(), Law> {
 }
 
 impl Crew {
-    pub(crate) fn new(alloc: Global) -> Crew {
+    /// Nobody runs.
+    pub fn new(alloc: Global) -> Crew {
         Crew {
             list: Vec::new(alloc),
             started: 0,
@@ -136,14 +134,14 @@ impl Crew {
     }
 
     /// Adds the process that was started with that number.
-    pub(crate) fn start(&mut self, alloc: Global, number: usize, job: Job) -> Result<(), Law> {
+    pub fn start(&mut self, alloc: Global, number: usize, job: Job) -> Result<(), Law> {
         self.started = self.started.wrapping_add(1);
         keep!(number == self.started, "processes count from 1");
         add(&mut self.list, Running::new(alloc, number, job))
     }
 
     /// The process with that number, if it runs.
-    pub(crate) fn of(&mut self, number: usize) -> Option<&mut Running> {
+    pub fn of(&mut self, number: usize) -> Option<&mut Running> {
         for running in self.list.as_mut_slice() {
             if running.number == number {
                 return Some(running);
@@ -152,14 +150,16 @@ impl Crew {
         None
     }
 
-    pub(crate) fn number_at(&self, place: usize) -> Option<usize> {
+    /// The number of the process at that place among those that run.
+    pub fn number_at(&self, place: usize) -> Option<usize> {
         match self.list.as_slice().get(place) {
             Some(running) => Some(running.number),
             None => None,
         }
     }
 
-    pub(crate) fn is_running(&self, number: usize) -> bool {
+    /// The process with that number runs.
+    pub fn is_running(&self, number: usize) -> bool {
         for running in self.list.as_slice() {
             if running.number == number {
                 return true;
@@ -169,7 +169,7 @@ impl Crew {
     }
 
     /// One that has seen a retired page.
-    pub(crate) fn releasing(&self) -> Option<usize> {
+    pub fn releasing(&self) -> Option<usize> {
         for running in self.list.as_slice() {
             if running.saw.is_some() {
                 return Some(running.number);
@@ -180,7 +180,7 @@ impl Crew {
 
     /// What a process has done in this turn by the event at that place, and the owner before it of the page that it names.
     /// Whether it waits in a compression.
-    pub(crate) fn note(
+    pub fn note(
         &mut self,
         turn: Turn,
         act: Act,
@@ -203,7 +203,7 @@ impl Crew {
     }
 
     /// What the process was about to reserve was refused.
-    pub(crate) fn is_refused(&mut self, number: usize) {
+    pub fn is_refused(&mut self, number: usize) {
         if let Some(running) = self.of(number) {
             running.refused = true;
         }
@@ -222,7 +222,7 @@ impl Crew {
     }
 
     /// A process may still read what was retired by the event at that place.
-    pub(crate) fn is_read(&self, place: usize) -> bool {
+    pub fn is_read(&self, place: usize) -> bool {
         for running in self.list.as_slice() {
             if self.may_read(running.number, place) {
                 return true;
@@ -244,7 +244,7 @@ impl Crew {
     }
 
     /// Who looks at a process that may read its page is blocked. Whether it is.
-    pub(crate) fn looks_at(&mut self, number: usize, other: usize) -> bool {
+    pub fn looks_at(&mut self, number: usize, other: usize) -> bool {
         let Some(place) = self.saw_retired(number) else {
             return false;
         };
@@ -259,7 +259,7 @@ impl Crew {
 
     /// Who latches a page holds none, or compresses and holds two at most, or takes the top level away and holds the anchor at
     /// most.
-    pub(crate) fn latches(&self, number: usize, before: &[Owner]) -> Result<(), Law> {
+    pub fn latches(&self, number: usize, before: &[Owner]) -> Result<(), Law> {
         let held = held_by(number, before);
         for running in self.list.as_slice() {
             if running.number == number && matches!(running.job, Job::Compress(_, _)) {
@@ -274,7 +274,7 @@ impl Crew {
     }
 
     /// A page that is held is held by a process that runs.
-    pub(crate) fn holds_all(&self, owners: &[Owner]) -> Result<(), Law> {
+    pub fn holds_all(&self, owners: &[Owner]) -> Result<(), Law> {
         for owner in owners {
             if let Owner::Held(number) = owner {
                 keep!(self.is_running(*number), "who holds a page runs");
@@ -284,7 +284,7 @@ impl Crew {
     }
 
     /// Those that the tree shows to be in the middle of an evening.
-    pub(crate) fn evens(&mut self, tree: &Tree) {
+    pub fn evens(&mut self, tree: &Tree) {
         for running in self.list.as_mut_slice() {
             for number in tree.evening.as_slice() {
                 running.evens = running.evens || running.number == *number;
@@ -293,7 +293,7 @@ impl Crew {
     }
 
     /// What is a right answer in this tree is noted.
-    pub(crate) fn look(&mut self, tree: &Tree) -> Result<(), Law> {
+    pub fn look(&mut self, tree: &Tree) -> Result<(), Law> {
         for running in self.list.as_mut_slice() {
             running.look(tree)?;
         }
@@ -301,7 +301,7 @@ impl Crew {
     }
 
     /// The process begins in this tree.
-    pub(crate) fn looks_from(&mut self, number: usize, tree: &Tree) -> Result<(), Law> {
+    pub fn looks_from(&mut self, number: usize, tree: &Tree) -> Result<(), Law> {
         match self.of(number) {
             Some(running) => running.look(tree),
             None => Ok(()),

@@ -9,10 +9,12 @@ use crate::owners::{both, number_of};
 use bl_proc::{Answer, Part, Proc};
 use bl_world::{Event, Owner, Turn, WorldFault};
 use std::alloc::Global;
-use test_world_walks::{Job, Law, Lists, SizedWorld, Tree, descends, found, holds, keep};
+use test_world_running::Job;
+use test_world_walks::{Law, Lists, SizedWorld, Tree, descends, found, holds, keep};
 
+/// The world, and the model that takes the same turns.
 #[derive(Drop)]
-pub(crate) struct Twins {
+pub struct Twins {
     world: SizedWorld,
     model: Model,
 }
@@ -37,7 +39,8 @@ fn part_near(from: u64, page: u32) -> Proc
 }
 
 impl Twins {
-    pub(crate) fn open(alloc: Global, pages: u32) -> Result<Twins, Law> {
+    /// An opening world of that many pages, and its model.
+    pub fn open(alloc: Global, pages: u32) -> Result<Twins, Law> {
         let model = Model::new(alloc, pages)?;
         match SizedWorld::open(alloc, pages) {
             Ok(world) => Ok(Twins { world, model }),
@@ -46,29 +49,32 @@ impl Twins {
     }
 
     /// What stands on the pages, as the model has it.
-    pub(crate) fn lists(&self) -> &Lists {
+    pub fn lists(&self) -> &Lists {
         &self.model.lists
     }
 
-    pub(crate) fn owners(&self) -> &[Owner] {
+    /// Who owns each page, as the model has it.
+    pub fn owners(&self) -> &[Owner] {
         self.model.lists.owners.as_slice()
     }
 
     /// How many events there were.
-    pub(crate) fn events(&self) -> usize {
+    pub fn events(&self) -> usize {
         self.world.steps().len()
     }
 
-    pub(crate) fn answer(&self, number: usize) -> Option<Answer> {
+    /// What the process with that number has answered in the world.
+    pub fn answer(&self, number: usize) -> Option<Answer> {
         self.world.answer(number)
     }
 
-    pub(crate) fn turn_of(&self, number: usize, page: Option<u32>) -> Turn {
+    /// The turn that the process with that number is to have next, with that page where it takes one.
+    pub fn turn_of(&self, number: usize, page: Option<u32>) -> Turn {
         self.world.turn_of(number, page)
     }
 
     /// The process with that number is about to reserve something.
-    pub(crate) fn is_reserving(&self, number: usize) -> bool {
+    pub fn is_reserving(&self, number: usize) -> bool {
         self.model.is_reserving(number)
     }
 
@@ -82,7 +88,7 @@ impl Twins {
     }
 
     /// The number of the process that is to do this.
-    pub(crate) fn enter(&mut self, job: Job) -> Result<usize, Law> {
+    pub fn enter(&mut self, job: Job) -> Result<usize, Law> {
         match job {
             Job::Find(key) => self.begin(Proc::find(key), Proc::find(key)),
             Job::Insert(key, value) => self.begin(
@@ -128,7 +134,7 @@ impl Twins {
     }
 
     /// Nobody has that turn.
-    pub(crate) fn gives_nobody(&mut self, turn: Turn) -> Result<(), Law> {
+    pub fn gives_nobody(&mut self, turn: Turn) -> Result<(), Law> {
         let events = self.world.steps().len();
         let ran = self.world.run(&[turn]);
         both(
@@ -140,7 +146,7 @@ impl Twins {
     }
 
     /// The one event of that turn, in the world and in its model.
-    pub(crate) fn run(&mut self, turn: Turn) -> Result<Event, Law> {
+    pub fn run(&mut self, turn: Turn) -> Result<Event, Law> {
         let place = self.world.steps().len();
         let ran = self.world.run(&[turn]);
         keep!(ran == Ok(()), "there is memory");
@@ -160,12 +166,14 @@ impl Twins {
         )
     }
 
-    pub(crate) fn owner_of(&self, page: Option<u32>) -> Option<Owner> {
+    /// Who owns the page, if there is such a page.
+    pub fn owner_of(&self, page: Option<u32>) -> Option<Owner> {
         let at = page?;
         self.model.lists.owners.as_slice().get(at as usize).copied()
     }
 
-    pub(crate) fn all_descend(&self, tree: &Tree, keys: u64) -> Result<(), Law> {
+    /// From the anchor each of these keys leads to its leaf, and the greatest key too.
+    pub fn all_descend(&self, tree: &Tree, keys: u64) -> Result<(), Law> {
         for key in 0..keys {
             self.descends_from(tree, key)?;
         }

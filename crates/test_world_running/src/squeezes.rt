@@ -1,12 +1,9 @@
 //! What a compression is to do, by the pages before its first put.
 
-use crate::laws::{Law, add, holds};
-use crate::lists::Lists;
-use crate::trees::{Listed, Live, Tree};
-use crate::{found, keep};
 use bl_page::Dead;
 use bl_proc::{Answer, Hint, Level, Squeezed};
 use std::alloc::Global;
+use test_world_walks::{Law, Listed, Lists, Live, Tree, add, found, holds, keep};
 
 /// Two neighbouring children, as their parent lists them.
 #[derive(Clone, Copy)]
@@ -234,6 +231,7 @@ impl Squeeze {
         self.count().saturating_add(1) / 2
     }
 
+    /// What it is to come to, by how many pairs its children have.
     pub fn way(&self) -> Way {
         if self.count() <= 14 {
             Way::Merged
@@ -390,6 +388,7 @@ impl Squeeze {
         Ok(Answer::Compress(Squeezed::Evened, None))
     }
 
+    /// The level of the children.
     pub fn level(&self) -> usize {
         self.left.level
     }
