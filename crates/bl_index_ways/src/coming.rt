@@ -16,7 +16,7 @@ ghost use Rattle.bl_index_ways.specs.Events.{HoldsNone, IsToLatch, IsThere, HasA
 use crate::targets::{Target, Unborn};
 use bl_index_rule::{Began, Launch, PassState};
 use bl_index_steps::{FrameView, Tree};
-use bl_proc_base::Approach;
+use bl_proc_base::{Approach, approach_by};
 use bl_proc_pages::{Step, level_in, step_in};
 use bl_store::{Glance, Hand};
 use crossbeam_utils::Backoff;
