@@ -149,7 +149,7 @@ module _ (l : Layout) (hands : List (Hand PassState)) (result : List (List ℕ))
     pub closed_sound : AreSound pages
     closed_sound = rests_sound _ w c.kept.good pages fit are_left
 
-module _ (index : Index) (hands : List (Hand PassState)) (all : HasEach (passes_of index) hands) (result : List (List ℕ)) (c : IsClosed Simulates index.tree.store.layout hands result) (pages : List (Option Page)) (spells : map page_words pages ≡ result) (fit : AllFit pages) where
+module _ (index : Index) (hands : List (Hand PassState)) (all : HasEach (passes_of index) hands) (result : List (List ℕ)) (c : IsClosed Simulates index.store.layout hands result) (pages : List (Option Page)) (spells : map page_words pages ≡ result) (fit : AllFit pages) where
   knows : (k : ℕ) (hand : Hand PassState) → get_elem? hands k ≡ some hand → IsHand c.kept.world hand.number Idle (known hand.seat)
   knows k hand at = c.kept.hands hand.number Idle (known hand.seat) (c.stand k hand at)
 
@@ -157,15 +157,15 @@ module _ (index : Index) (hands : List (Hand PassState)) (all : HasEach (passes_
   page_count = sym (map_length pages) ∙ (ap length spells ∙ c.count)
 
   counted : IsCount (length pages)
-  counted = let within = index.tree.store.layout.pages_within in (omega (arith, within.0, page_count), omega (arith, within.1, page_count))
+  counted = let within = index.store.layout.pages_within in (omega (arith, within.0, page_count), omega (arith, within.1, page_count))
 
   sound : AreSound pages
-  sound = closed_sound index.tree.store.layout hands result c all pages spells fit
+  sound = closed_sound index.store.layout hands result c all pages spells fit
 
   pub closes_hands : ClosesHands index hands pages
   closes_hands =
       let f = c.kept in let w = f.world in
-      let left = are_left index.tree.store.layout hands result c all pages spells fit in
+      let left = are_left index.store.layout hands result c all pages spells fit in
       let list = one_list pages (image_bytes pages) (record { count = counted; words = fit; bytes_are = refl }) sound in
       record {
         first = f.image;
@@ -205,7 +205,7 @@ module _ (index : Index) (passes : List Pass) (hands : List (Hand PassState)) (o
   -- the hands are those of the passes, which know that the index began as it did
   pub closes : (pages : List (Option Page)) → AreOf index passes → AreAll index passes → ClosesHands index hands pages → Closes index passes pages
   closes pages own all c =
-      let within = index.tree.store.layout.passes_within in
+      let within = index.store.layout.passes_within in
       let has = all 0 (omega (arith, within.0)) in let a = of.all has.place has.pass has.at in
       let so : c.first ≡ first_of index = sym (c.firsts a.0 has.pass.hand a.1) ∙ (all_there (IsPassOf index) passes has.place has.pass own has.at).2 in
       let s = c.seen.linear in

@@ -62,7 +62,7 @@ opens many contents four f passes =
 pub new_hands : (table : TableId) (l : Layout) (first : List (Option Page)) (known : PassState) (passes : ℕ) (hands : List (Hand PassState)) → known ≡ beginner first → IsDealt table l known passes hands → AreNew table l first 0 hands
 new_hands table l first known passes hands is h j hand at = let same : j ≡ 0 + j = omega arith in subst (λ (z : ℕ). IsNewHand table l first z hand) same (subst (λ (z : PassState). (hand.number ≡ j) × (hand.seat.table_id ≡ table) × (hand.seat.me.0 ≡ share l z j (j + 1))) is (h.each j hand at))
 
-pub is_begun : (first image : List (Option Page)) (pages among : ℕ) (index : Index) (hands : List (Hand PassState)) (passes : List Pass) → index.tree.store.layout.pages ≡ pages → index.tree.store.layout.passes ≡ among → length hands ≡ among → ArePasses index.tree.store.table.shared.table_id index.tree.store.layout first (length hands) passes → first_of index ≡ first → first ≡ image → IsSeen image [] → IsBegun image pages among index passes
+pub is_begun : (first image : List (Option Page)) (pages among : ℕ) (index : Index) (hands : List (Hand PassState)) (passes : List Pass) → index.store.layout.pages ≡ pages → index.store.layout.passes ≡ among → length hands ≡ among → ArePasses index.store.table.shared.table_id index.store.layout first (length hands) passes → first_of index ≡ first → first ≡ image → IsSeen image [] → IsBegun image pages among index passes
 is_begun first image pages among index hands passes pages_are passes_are many are begins same seen = record {
   pages = pages_are;
   passes_are = passes_are;

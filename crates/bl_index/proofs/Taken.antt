@@ -34,6 +34,10 @@ next_pass config index passes more rest one two o e f = (o.each (length rest) on
 pub same_of : (index : Index) (old new : Pass) → IsSamePass old new → IsPassOf index old → IsPassOf index new
 same_of index old new same of = (same.0 ∙ of.0, same.1 ∙ of.1, same.3 ∙ of.2)
 
+-- a pass of an index, as its fields show it
+pub of_inside : {index index' : Index} {pass pass' : Pass} → index ≡ index' → pass ≡ pass' → IsPassOf index' pass' → IsPassOf index pass
+of_inside at same of = subst (λ (z : Index × Pass). IsPassOf z.0 z.1) (λ i. (sym at i, sym same i)) of
+
 -- the pass has gone on with the same hand, and knows the same beginning
 pub same_pass : (old new : Hand PassState) → IsSameHand old.seat new.seat → (known new.seat).first ≡ (known old.seat).first
     → (new.seat.table_id ≡ old.seat.table_id) × (new.seat.me.0.layout ≡ old.seat.me.0.layout) × (new.number ≡ old.number) × ((known new.seat).first ≡ (known old.seat).first)

@@ -25,34 +25,24 @@ use Rattle.bl_store.specs.Hands.{known, WasRefused}
 use Rattle.bl_claims.specs.Seeing.{first_map, IsLinearizable, own, name}
 use Rattle.bl_index_rule.specs.Observed.{IsRelease}
 use Rattle.bl_index_steps.specs.Refused.{LacksForPage, LacksForWrite, LacksForPost}
-use Rattle.bl_store.specs.declared.store.Hand.{Hand}
-use Rattle.bl_index_rule.specs.declared.known.PassState.{PassState}
-use Rattle.bl_index_steps.specs.declared.tree.Tree.{Tree}
 use Rattle.bl_index.specs.declared.index.Index.{Index}
 use Rattle.bl_index.specs.declared.index.Pass.{Pass}
 use Rattle.bl_index_steps.specs.Answered.{Answers, Adds, InCall}
 
 abbrev pub pages_of : Index → ℕ
-pages_of index = index.tree.store.layout.pages
+pages_of index = index.store.layout.pages
 
 abbrev pub passes_of : Index → ℕ
-passes_of index = index.tree.store.layout.passes
+passes_of index = index.store.layout.passes
 
 -- what the index began with, as its store lent it to each pass: the pages of an image, or no pages where it was opened empty
 abbrev pub first_of : Index → List (Option Page)
-first_of index = index.tree.store.table.shared.key.known.value.first
+first_of index = index.store.table.shared.key.known.value.first
 
 -- the pass is of this index, and knows what it began with
 abbrev pub IsPassOf : Index → Pass → Type 0
-IsPassOf index pass = (pass.hand.seat.table_id ≡ index.tree.store.table.shared.table_id) × (pass.hand.seat.me.0.layout ≡ index.tree.store.layout)
+IsPassOf index pass = (pass.hand.seat.table_id ≡ index.store.table.shared.table_id) × (pass.hand.seat.me.0.layout ≡ index.store.layout)
     × ((known pass.hand.seat).first ≡ first_of index)
-
--- the hand by which a pass works, and the tree that the passes of an index share
-abbrev pub hand_of : Pass → Hand PassState
-hand_of pass = pass.hand
-
-abbrev pub tree_of : Index → Tree
-tree_of index = index.tree
 
 abbrev pub number_of : Pass → ℕ
 number_of pass = pass.hand.number
@@ -94,7 +84,7 @@ IsSamePass old new = (new.hand.seat.table_id ≡ old.hand.seat.table_id) × (new
 
 -- In an index of one pass each call is a step of one map.
 abbrev pub StepsAlone : List (Option Page) → Index → Op → Reply → Trail → Trail → Type 0
-StepsAlone first index op reply old new = index.tree.store.layout.passes ≡ 1 → IsMapStep (map_after first old) op reply (map_after first new)
+StepsAlone first index op reply old new = index.store.layout.passes ≡ 1 → IsMapStep (map_after first old) op reply (map_after first new)
 
 -- A sweep of the pass that answered a number. Its events are releases of pages, no more than that number, all of them by one
 -- process of its own, which had done nothing before and does not begin. The entries of the pass are those of before, and if

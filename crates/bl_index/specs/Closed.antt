@@ -64,7 +64,7 @@ pub record IsRefused (index : Index) (passes : List Pass) (back : Index) (passes
 
 -- a hand of the index, outside a process
 abbrev pub IsIdleOf : Index → Hand PassState → Type 0
-IsIdleOf index hand = IsHandOfStore index.tree.store hand × IsIdle hand.seat
+IsIdleOf index hand = IsHandOfStore index.store hand × IsIdle hand.seat
 
 -- The same of hands. What the index began with is what each of them knows that it began with.
 pub record ClosesHands (index : Index) (hands : List (Hand PassState)) (pages : List (Option Page)) : Type 0 where

@@ -8,6 +8,7 @@ ghost use Rattle.bl_index_steps.specs.Runs.{IsWithin};
 use bl_index_rule::PassState;
 use bl_index_steps::Tree;
 use bl_store::Hand;
+use std::marker::Model;
 
 /// Pages of a tree that threads share.
 #[derive(Drop)]
@@ -15,11 +16,21 @@ pub struct Index {
     pub(crate) tree: Tree,
 }
 
-/// One who works with an index. Each thread has a pass of its own, and between two calls it runs no process. What it has
-/// seen is always a trail that an index may have, of the passes that there are.
-#[derive(Drop)]
-pub struct Pass {
-    pub(crate) hand: Hand<PassState>,
+// A clause sees the tree.
+impl Model for Index {
+    ghost use Rattle.bl_index_steps.specs.declared.tree.Tree.{Tree};
+    ghost use Rattle.bl_index_steps.specs.contracts.tree.Tree.{the_row};
+
+    ghost Value = { Tree };
+
+    ghost coded = { the_row.coded };
+
+    ghost view = { λ index. index.tree };
+}
+
+/// A pass as clauses see it: its hand, and what is true of that between two calls. No value of it is made while a program runs.
+pub struct Worker {
+    pub hand: Hand<PassState>,
     pub ghost idle: { IsIdle hand.seat },
     pub ghost empty: { HasNoStock hand.seat },
     pub ghost within: { IsWithin hand.seat },
@@ -27,9 +38,37 @@ pub struct Pass {
     pub ghost seen: { ∥ IsSeen (known hand.seat).first (known hand.seat).trail ∥₁ },
 }
 
-impl Pass {
-    ghost use Rattle.bl_index.specs.Calls.{hand_of};
+/// One who works with an index. Each thread has a pass of its own, and between two calls it runs no process. What it has
+/// seen is always a trail that an index may have, of the passes that there are.
+#[derive(Drop)]
+pub struct Pass {
+    pub(crate) hand: Hand<PassState>,
+    ghost idle: { IsIdle hand.seat },
+    ghost empty: { HasNoStock hand.seat },
+    ghost within: { IsWithin hand.seat },
+    ghost rests: { (known hand.seat).runs ≡ false },
+    ghost seen: { ∥ IsSeen (known hand.seat).first (known hand.seat).trail ∥₁ },
+}
 
+impl Model for Pass {
+    ghost use Rattle.bl_index.specs.declared.index.Worker.{Worker};
+    ghost use Rattle.bl_index.specs.contracts.index.Worker.{the_row};
+
+    ghost Value = { Worker };
+
+    ghost coded = { the_row.coded };
+
+    ghost view = { λ pass. record {
+      hand = pass.hand;
+      idle = pass.idle;
+      empty = pass.empty;
+      within = pass.within;
+      rests = pass.rests;
+      seen = pass.seen;
+    } };
+}
+
+impl Pass {
     /// Whether a sweep is worth its time now. It is a hint: a sweep does its whole work whatever this says.
     pub fn is_due(&self) -> bool {
         self.hand.is_due()
@@ -37,14 +76,14 @@ impl Pass {
 
     /// The hand by which it works, for one who runs a process event by event.
     pub fn into_hand(self) -> Hand<PassState>
-        ensures { result ≡ hand_of self }
+        ensures { result ≡ self.hand }
     {
         self.hand
     }
 }
 
 impl Index {
-    ghost use Rattle.bl_index.specs.Calls.{pages_of, tree_of};
+    ghost use Rattle.bl_index.specs.Calls.{pages_of};
 
     /// So many gets answer every search, where nothing is put meanwhile: the number of pages.
     pub fn patience(&self) -> u32
@@ -55,7 +94,7 @@ impl Index {
 
     /// The tree that its passes share, for one who runs a process event by event.
     pub fn tree(&self) -> &Tree
-        ensures { result.now ≡ tree_of self.now }
+        ensures { result.now ≡ self.now }
     {
         &self.tree
     }

@@ -10,6 +10,7 @@ ghost use Rattle.bl_index_steps.specs.Runs.{Keeps};
 use crate::index::{Index, Pass};
 use bl_frames::MeetPlay;
 use bl_index_rule::PassState;
+use bl_index_steps::Tree;
 use bl_store::Hand;
 use std::marker::{Brand, PhantomData};
 
@@ -64,14 +65,14 @@ impl Index {
 
     /// The same of hands, each outside a process and with nothing reserved.
     pub fn meet_hands(&self, one: &mut Hand<PassState>, two: &mut Hand<PassState>)
-        requires own { IsHandOf self.now.tree.store one.old × IsHandOf self.now.tree.store two.old }
+        requires own { IsHandOf self.now.store one.old × IsHandOf self.now.store two.old }
         requires idle { (IsIdle one.old.seat × HasNoStock one.old.seat) × (IsIdle two.old.seat × HasNoStock two.old.seat) }
         ensures same { StaysIdle one.old one.new × StaysIdle two.old two.new }
         ensures meet { Meet (known one.old.seat).first one.old.number two.old.number (known one.old.seat).trail (known two.old.seat).trail
             (known one.new.seat).trail (known two.new.seat).trail }
     {
-        self.learn_by::<Brand>(one, two);
-        self.tell_by::<Brand>(two, one);
+        learn_by::<Brand>(&self.tree, one, two);
+        tell_by::<Brand>(&self.tree, two, one);
     }
 
     /// The pass learns all that has happened in the index, and so all that the other one knows.
@@ -82,19 +83,7 @@ impl Index {
         ensures learns { Learns (number_of pass.old) (number_of other.old) (trail pass.old) (trail other.old) (trail pass.new) }
         ensures seen { IsSeen (first_of self.now) (trail pass.new) }
     {
-        self.learn_by::<Brand>(&mut pass.hand, &mut other.hand);
-    }
-
-    fn learn_by<J: Meeting>(&self, hand: &mut Hand<PassState>, other: &mut Hand<PassState>)
-        requires own { IsHandOf self.now.tree.store hand.old × IsHandOf self.now.tree.store other.old }
-        requires idle { IsIdle other.old.seat × HasNoStock other.old.seat }
-        requires names { (hand.old.number ≡ J.pass) × (other.old.number ≡ J.other) × (self.now.tree.store.layout.passes ≡ J.passes) }
-        ensures same { Keeps hand.old.seat hand.new.seat }
-        ensures other { IsSameHand other.old.seat other.new.seat × IsIdle other.new.seat × HasNoStock other.new.seat
-            × (known other.new.seat ≡ known other.old.seat) }
-        ensures observed { learned J.pass J.other J.passes (known hand.old.seat) (known other.old.seat) (known hand.new.seat) }
-    {
-        self.tree.store.meet::<Learned<J>>(hand, other);
+        learn_by::<Brand>(&self.tree, &mut pass.hand, &mut other.hand);
     }
 
     /// The pass is told what the other one knows, which begins with what it knew.
@@ -105,19 +94,31 @@ impl Index {
         ensures other { IsSamePass other.old other.new × (trail other.new ≡ trail other.old) }
         ensures hears { Hears (number_of pass.old) (trail pass.old) (trail other.old) (trail pass.new) }
     {
-        self.tell_by::<Brand>(&mut pass.hand, &mut other.hand);
+        tell_by::<Brand>(&self.tree, &mut pass.hand, &mut other.hand);
     }
+}
 
-    fn tell_by<J: Meeting>(&self, hand: &mut Hand<PassState>, other: &mut Hand<PassState>)
-        requires own { IsHandOf self.now.tree.store hand.old × IsHandOf self.now.tree.store other.old }
-        requires idle { IsIdle other.old.seat × HasNoStock other.old.seat }
-        requires names { hand.old.number ≡ J.pass }
-        requires begins { GoesOnFrom (known hand.old.seat).trail (known other.old.seat).trail }
-        ensures same { Keeps hand.old.seat hand.new.seat }
-        ensures other { IsSameHand other.old.seat other.new.seat × IsIdle other.new.seat × HasNoStock other.new.seat
-            × (known other.new.seat ≡ known other.old.seat) }
-        ensures observed { heard J.pass (known hand.old.seat) (known other.old.seat) (known hand.new.seat) }
-    {
-        self.tree.store.meet::<Heard<J>>(hand, other);
-    }
+fn learn_by<J: Meeting>(tree: &Tree, hand: &mut Hand<PassState>, other: &mut Hand<PassState>)
+    requires own { IsHandOf tree.now.store hand.old × IsHandOf tree.now.store other.old }
+    requires idle { IsIdle other.old.seat × HasNoStock other.old.seat }
+    requires names { (hand.old.number ≡ J.pass) × (other.old.number ≡ J.other) × (tree.now.store.layout.passes ≡ J.passes) }
+    ensures same { Keeps hand.old.seat hand.new.seat }
+    ensures other { IsSameHand other.old.seat other.new.seat × IsIdle other.new.seat × HasNoStock other.new.seat
+        × (known other.new.seat ≡ known other.old.seat) }
+    ensures observed { learned J.pass J.other J.passes (known hand.old.seat) (known other.old.seat) (known hand.new.seat) }
+{
+    tree.store.meet::<Learned<J>>(hand, other);
+}
+
+fn tell_by<J: Meeting>(tree: &Tree, hand: &mut Hand<PassState>, other: &mut Hand<PassState>)
+    requires own { IsHandOf tree.now.store hand.old × IsHandOf tree.now.store other.old }
+    requires idle { IsIdle other.old.seat × HasNoStock other.old.seat }
+    requires names { hand.old.number ≡ J.pass }
+    requires begins { GoesOnFrom (known hand.old.seat).trail (known other.old.seat).trail }
+    ensures same { Keeps hand.old.seat hand.new.seat }
+    ensures other { IsSameHand other.old.seat other.new.seat × IsIdle other.new.seat × HasNoStock other.new.seat
+        × (known other.new.seat ≡ known other.old.seat) }
+    ensures observed { heard J.pass (known hand.old.seat) (known other.old.seat) (known hand.new.seat) }
+{
+    tree.store.meet::<Heard<J>>(hand, other);
 }

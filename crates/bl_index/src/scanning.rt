@@ -17,7 +17,7 @@ use bl_index_read::{
     Behind, append_rows, descend_to_leaf, end_part, fetch_behind, go_behind, portion_in, set_off,
 };
 use bl_index_rule::PassState;
-use bl_index_steps::FrameView;
+use bl_index_steps::{FrameView, Tree};
 use bl_proc_base::Descent;
 use bl_store::Hand;
 use std::mem;
@@ -90,83 +90,83 @@ impl Index {
         ensures scans { MayScan (first_of self.now) (pages_of self.now) (number_of pass.old) turns from to (vec_capacity result.0 - vec_len result.0) result.1
             rows.items result.0.items (trail pass.old) (trail pass.new) }
     {
-        self.append_parts(&mut pass.hand, from, to, turns, rows)
+        append_parts(&self.tree, &mut pass.hand, from, to, turns, rows)
     }
+}
 
-    /// The parts of a scan, one after another: behind each, the next one has set off.
-    fn append_parts(
-        &self,
-        hand: &mut Hand<PassState>,
-        from: u64,
-        to: Option<u64>,
-        turns: u32,
-        rows: Vec<(u64, u64)>,
-    ) -> (Vec<(u64, u64)>, Result<(), ScanFault>)
-        requires own { IsHandOf self.now.tree.store hand.old }
-        requires idle { IsIdle hand.old.seat }
-        requires below { IsBelow to from }
-        ensures same { IsSameHand hand.old.seat hand.new.seat × IsSameStock hand.old.seat hand.new.seat }
-        ensures rests { Rests hand.new.seat }
-        ensures first { (known hand.new.seat).first ≡ (known hand.old.seat).first }
-        ensures seen { IsSeen (known hand.new.seat).first (known hand.new.seat).trail }
-        ensures scans { MayScan (known hand.old.seat).first self.now.tree.store.layout.pages hand.old.number turns from to
-            (vec_capacity result.0 - vec_len result.0) result.1 rows.items result.0.items (known hand.old.seat).trail (known hand.new.seat).trail }
-    {
-        let mut rows = rows;
-        let mut way = set_off(&self.tree, hand, from, None);
-        let mut behind = Behind::Part(from, 0);
-        while let Behind::Part(at, _) = behind {
-            let (more, part) = self.append_part(hand, at, way, to, turns, rows);
-            rows = more;
-            match part {
-                Ok((next, on)) => {
-                    behind = next;
-                    way = on;
-                }
-                Err(fault) => return (rows, Err(fault)),
+/// The parts of a scan, one after another: behind each, the next one has set off.
+fn append_parts(
+    tree: &Tree,
+    hand: &mut Hand<PassState>,
+    from: u64,
+    to: Option<u64>,
+    turns: u32,
+    rows: Vec<(u64, u64)>,
+) -> (Vec<(u64, u64)>, Result<(), ScanFault>)
+    requires own { IsHandOf tree.now.store hand.old }
+    requires idle { IsIdle hand.old.seat }
+    requires below { IsBelow to from }
+    ensures same { IsSameHand hand.old.seat hand.new.seat × IsSameStock hand.old.seat hand.new.seat }
+    ensures rests { Rests hand.new.seat }
+    ensures first { (known hand.new.seat).first ≡ (known hand.old.seat).first }
+    ensures seen { IsSeen (known hand.new.seat).first (known hand.new.seat).trail }
+    ensures scans { MayScan (known hand.old.seat).first tree.now.store.layout.pages hand.old.number turns from to
+        (vec_capacity result.0 - vec_len result.0) result.1 rows.items result.0.items (known hand.old.seat).trail (known hand.new.seat).trail }
+{
+    let mut rows = rows;
+    let mut way = set_off(tree, hand, from, None);
+    let mut behind = Behind::Part(from, 0);
+    while let Behind::Part(at, _) = behind {
+        let (more, part) = append_part(tree, hand, at, way, to, turns, rows);
+        rows = more;
+        match part {
+            Ok((next, on)) => {
+                behind = next;
+                way = on;
             }
+            Err(fault) => return (rows, Err(fault)),
         }
-        (rows, Ok(()))
     }
+    (rows, Ok(()))
+}
 
-    /// Appends the rows of one part, which has set off, that lie below the end, and says how the scan goes on.
-    #[inline(always)]
-    fn append_part(
-        &self,
-        hand: &mut Hand<PassState>,
-        from: u64,
-        way: Descent,
-        to: Option<u64>,
-        turns: u32,
-        rows: Vec<(u64, u64)>,
-    ) -> (Vec<(u64, u64)>, Result<(Behind, Descent), ScanFault>)
-        requires off { (old : Knows) × (pass : ℕ) × HasSetOff self.now.tree hand.old pass from way old }
-        requires below { IsBelow to from }
-        ensures same { IsSameHand hand.old.seat hand.new.seat × IsSameStock hand.old.seat hand.new.seat }
-        ensures appends { (old : Knows) → HasSetOff self.now.tree hand.old hand.old.number from way old → GoesOrStops self.now.tree hand.new hand.old.number
-            (λ behind. AppendsPart old.first self.now.tree.store.layout.pages hand.old.number turns from to behind rows.items result.0.items)
-            (λ fault. LeavesPart old.first self.now.tree.store.layout.pages hand.old.number turns from to
-            (vec_capacity result.0 - vec_len result.0) fault rows.items result.0.items) old result.1 }
-    {
-        let Some(glance) = descend_to_leaf(&self.tree, hand, from, way, turns) else {
-            return (rows, Err(ScanFault::OutOfTurns(from)));
-        };
-        let shown = FrameView {
-            store: &self.tree.store,
-            glance,
-        };
-        let portion = portion_in(&shown, hand, from, to);
-        fetch_behind(&self.tree, portion.behind);
-        let (rows, appended) = append_rows(&shown, hand, portion.first, portion.last, rows);
-        match appended {
-            Ok(()) => {
-                let on = go_behind(&self.tree, hand, portion.behind);
-                (rows, Ok((portion.behind, on)))
-            }
-            Err(_) => {
-                end_part(&self.tree, hand);
-                (rows, Err(ScanFault::Memory(from)))
-            }
+/// Appends the rows of one part, which has set off, that lie below the end, and says how the scan goes on.
+#[inline(always)]
+fn append_part(
+    tree: &Tree,
+    hand: &mut Hand<PassState>,
+    from: u64,
+    way: Descent,
+    to: Option<u64>,
+    turns: u32,
+    rows: Vec<(u64, u64)>,
+) -> (Vec<(u64, u64)>, Result<(Behind, Descent), ScanFault>)
+    requires off { (old : Knows) × (pass : ℕ) × HasSetOff tree.now hand.old pass from way old }
+    requires below { IsBelow to from }
+    ensures same { IsSameHand hand.old.seat hand.new.seat × IsSameStock hand.old.seat hand.new.seat }
+    ensures appends { (old : Knows) → HasSetOff tree.now hand.old hand.old.number from way old → GoesOrStops tree.now hand.new hand.old.number
+        (λ behind. AppendsPart old.first tree.now.store.layout.pages hand.old.number turns from to behind rows.items result.0.items)
+        (λ fault. LeavesPart old.first tree.now.store.layout.pages hand.old.number turns from to
+        (vec_capacity result.0 - vec_len result.0) fault rows.items result.0.items) old result.1 }
+{
+    let Some(glance) = descend_to_leaf(tree, hand, from, way, turns) else {
+        return (rows, Err(ScanFault::OutOfTurns(from)));
+    };
+    let shown = FrameView {
+        store: &tree.store,
+        glance,
+    };
+    let portion = portion_in(&shown, hand, from, to);
+    fetch_behind(tree, portion.behind);
+    let (rows, appended) = append_rows(&shown, hand, portion.first, portion.last, rows);
+    match appended {
+        Ok(()) => {
+            let on = go_behind(tree, hand, portion.behind);
+            (rows, Ok((portion.behind, on)))
+        }
+        Err(_) => {
+            end_part(tree, hand);
+            (rows, Err(ScanFault::Memory(from)))
         }
     }
 }

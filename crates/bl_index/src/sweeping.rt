@@ -8,6 +8,7 @@ ghost use Rattle.bl_index_steps.specs.Runs.{Keeps, IsWithin};
 
 use crate::index::{Index, Pass};
 use bl_index_rule::{PassState, Sweeper, Swept};
+use bl_index_steps::Tree;
 use bl_store::Hand;
 use std::marker::Brand;
 
@@ -24,25 +25,25 @@ impl Index {
         ensures seen { ∥ IsSeen (first_of self.now) (trail pass.new) ∥₁ }
         ensures count { released_by pass.new ≡ released_by pass.old + result }
     {
-        self.release::<Brand>(&mut pass.hand)
+        release::<Brand>(&self.tree, &mut pass.hand)
     }
 
     /// Whether a change may find too few frames now, while some wait to be released. It is a hint of which nothing is promised.
     pub fn lacks_frames(&self, pass: &Pass) -> bool {
         self.tree.store.lacks_frames(&pass.hand)
     }
+}
 
-    // The releases of a sweep, by the process that the bound names beside its pass.
-    fn release<J: Sweeper>(&self, hand: &mut Hand<PassState>) -> u32
-        requires own { IsHandOf self.now.tree.store hand.old }
-        requires rests { (known hand.old.seat).runs ≡ false }
-        requires names { (hand.old.number ≡ J.pass) × ((known hand.old.seat).number + 1 ≡ J.number) × (self.now.tree.store.layout.passes ≡ J.passes) }
-        requires within { IsWithin hand.old.seat }
-        ensures same { Keeps hand.old.seat hand.new.seat }
-        ensures observed { (pages : ℕ) × (pages ≤ result) × sweeps J.pass J.number J.passes (known hand.old.seat) pages (known hand.new.seat) }
-        ensures within { IsWithin hand.new.seat }
-        ensures count { hand.new.seat.me.0.releases ≡ hand.old.seat.me.0.releases + result }
-    {
-        self.tree.store.sweep::<Swept<J>>(hand)
-    }
+// The releases of a sweep, by the process that the bound names beside its pass.
+fn release<J: Sweeper>(tree: &Tree, hand: &mut Hand<PassState>) -> u32
+    requires own { IsHandOf tree.now.store hand.old }
+    requires rests { (known hand.old.seat).runs ≡ false }
+    requires names { (hand.old.number ≡ J.pass) × ((known hand.old.seat).number + 1 ≡ J.number) × (tree.now.store.layout.passes ≡ J.passes) }
+    requires within { IsWithin hand.old.seat }
+    ensures same { Keeps hand.old.seat hand.new.seat }
+    ensures observed { (pages : ℕ) × (pages ≤ result) × sweeps J.pass J.number J.passes (known hand.old.seat) pages (known hand.new.seat) }
+    ensures within { IsWithin hand.new.seat }
+    ensures count { hand.new.seat.me.0.releases ≡ hand.old.seat.me.0.releases + result }
+{
+    tree.store.sweep::<Swept<J>>(hand)
 }

@@ -17,7 +17,7 @@ use bl_index_read::{
     Behind, descend_to_leaf, fetch_behind, go_behind, portion_in, set_off, tell_rows,
 };
 use bl_index_rule::PassState;
-use bl_index_steps::FrameView;
+use bl_index_steps::{FrameView, Tree};
 use bl_proc_base::Descent;
 use bl_store::Hand;
 
@@ -75,76 +75,76 @@ impl Index {
         ensures tells { TellsScan (λ p x q. F.step p x tt q) (first_of self.now) (pages_of self.now) (number_of pass.old) turns from to result
             visit.old visit.new (trail pass.old) (trail pass.new) }
     {
-        self.tell_parts(&mut pass.hand, from, to, turns, visit)
+        tell_parts(&self.tree, &mut pass.hand, from, to, turns, visit)
     }
+}
 
-    /// The parts of a scan, one after another: behind each, the next one has set off.
-    fn tell_parts<F: FnMut((u64, u64))>(
-        &self,
-        hand: &mut Hand<PassState>,
-        from: u64,
-        to: Option<u64>,
-        turns: u32,
-        visit: &mut F,
-    ) -> Result<(), OutOfTurnsAt>
-        requires own { IsHandOf self.now.tree.store hand.old }
-        requires idle { IsIdle hand.old.seat }
-        requires below { IsBelow to from }
-        requires callable { F.IsAlwaysCallable visit.old }
-        ensures same { IsSameHand hand.old.seat hand.new.seat × IsSameStock hand.old.seat hand.new.seat }
-        ensures rests { Rests hand.new.seat }
-        ensures first { (known hand.new.seat).first ≡ (known hand.old.seat).first }
-        ensures seen { IsSeen (known hand.new.seat).first (known hand.new.seat).trail }
-        ensures callable { F.IsAlwaysCallable visit.new }
-        ensures tells { TellsScan (λ p x q. F.step p x tt q) (known hand.old.seat).first self.now.tree.store.layout.pages hand.old.number turns from to
-            result visit.old visit.new (known hand.old.seat).trail (known hand.new.seat).trail }
-    {
-        let mut way = set_off(&self.tree, hand, from, None);
-        let mut behind = Behind::Part(from, 0);
-        while let Behind::Part(at, _) = behind {
-            match self.tell_part(hand, at, way, to, turns, visit) {
-                Ok((next, on)) => {
-                    behind = next;
-                    way = on;
-                }
-                Err(out) => return Err(out),
+/// The parts of a scan, one after another: behind each, the next one has set off.
+fn tell_parts<F: FnMut((u64, u64))>(
+    tree: &Tree,
+    hand: &mut Hand<PassState>,
+    from: u64,
+    to: Option<u64>,
+    turns: u32,
+    visit: &mut F,
+) -> Result<(), OutOfTurnsAt>
+    requires own { IsHandOf tree.now.store hand.old }
+    requires idle { IsIdle hand.old.seat }
+    requires below { IsBelow to from }
+    requires callable { F.IsAlwaysCallable visit.old }
+    ensures same { IsSameHand hand.old.seat hand.new.seat × IsSameStock hand.old.seat hand.new.seat }
+    ensures rests { Rests hand.new.seat }
+    ensures first { (known hand.new.seat).first ≡ (known hand.old.seat).first }
+    ensures seen { IsSeen (known hand.new.seat).first (known hand.new.seat).trail }
+    ensures callable { F.IsAlwaysCallable visit.new }
+    ensures tells { TellsScan (λ p x q. F.step p x tt q) (known hand.old.seat).first tree.now.store.layout.pages hand.old.number turns from to
+        result visit.old visit.new (known hand.old.seat).trail (known hand.new.seat).trail }
+{
+    let mut way = set_off(tree, hand, from, None);
+    let mut behind = Behind::Part(from, 0);
+    while let Behind::Part(at, _) = behind {
+        match tell_part(tree, hand, at, way, to, turns, visit) {
+            Ok((next, on)) => {
+                behind = next;
+                way = on;
             }
+            Err(out) => return Err(out),
         }
-        Ok(())
     }
+    Ok(())
+}
 
-    /// Tells the rows of one part, which has set off, that lie below the end, and says how the scan goes on.
-    #[inline(always)]
-    fn tell_part<F: FnMut((u64, u64))>(
-        &self,
-        hand: &mut Hand<PassState>,
-        from: u64,
-        way: Descent,
-        to: Option<u64>,
-        turns: u32,
-        visit: &mut F,
-    ) -> Result<(Behind, Descent), OutOfTurnsAt>
-        requires off { (old : Knows) × (pass : ℕ) × HasSetOff self.now.tree hand.old pass from way old }
-        requires below { IsBelow to from }
-        requires callable { F.IsAlwaysCallable visit.old }
-        ensures same { IsSameHand hand.old.seat hand.new.seat × IsSameStock hand.old.seat hand.new.seat }
-        ensures callable { F.IsAlwaysCallable visit.new }
-        ensures tells { (old : Knows) → HasSetOff self.now.tree hand.old hand.old.number from way old → GoesOrStops self.now.tree hand.new hand.old.number
-            (λ behind. TellsPart (λ p x q. F.step p x tt q) old.first self.now.tree.store.layout.pages hand.old.number turns from to behind
-            visit.old visit.new)
-            (λ out. TellsNothing old.first self.now.tree.store.layout.pages hand.old.number turns from out visit.old visit.new) old result }
-    {
-        let Some(glance) = descend_to_leaf(&self.tree, hand, from, way, turns) else {
-            return Err(OutOfTurnsAt { key: from });
-        };
-        let shown = FrameView {
-            store: &self.tree.store,
-            glance,
-        };
-        let portion = portion_in(&shown, hand, from, to);
-        fetch_behind(&self.tree, portion.behind);
-        tell_rows(&shown, hand, portion.first, portion.last, visit);
-        let on = go_behind(&self.tree, hand, portion.behind);
-        Ok((portion.behind, on))
-    }
+/// Tells the rows of one part, which has set off, that lie below the end, and says how the scan goes on.
+#[inline(always)]
+fn tell_part<F: FnMut((u64, u64))>(
+    tree: &Tree,
+    hand: &mut Hand<PassState>,
+    from: u64,
+    way: Descent,
+    to: Option<u64>,
+    turns: u32,
+    visit: &mut F,
+) -> Result<(Behind, Descent), OutOfTurnsAt>
+    requires off { (old : Knows) × (pass : ℕ) × HasSetOff tree.now hand.old pass from way old }
+    requires below { IsBelow to from }
+    requires callable { F.IsAlwaysCallable visit.old }
+    ensures same { IsSameHand hand.old.seat hand.new.seat × IsSameStock hand.old.seat hand.new.seat }
+    ensures callable { F.IsAlwaysCallable visit.new }
+    ensures tells { (old : Knows) → HasSetOff tree.now hand.old hand.old.number from way old → GoesOrStops tree.now hand.new hand.old.number
+        (λ behind. TellsPart (λ p x q. F.step p x tt q) old.first tree.now.store.layout.pages hand.old.number turns from to behind
+        visit.old visit.new)
+        (λ out. TellsNothing old.first tree.now.store.layout.pages hand.old.number turns from out visit.old visit.new) old result }
+{
+    let Some(glance) = descend_to_leaf(tree, hand, from, way, turns) else {
+        return Err(OutOfTurnsAt { key: from });
+    };
+    let shown = FrameView {
+        store: &tree.store,
+        glance,
+    };
+    let portion = portion_in(&shown, hand, from, to);
+    fetch_behind(tree, portion.behind);
+    tell_rows(&shown, hand, portion.first, portion.last, visit);
+    let on = go_behind(tree, hand, portion.behind);
+    Ok((portion.behind, on))
 }

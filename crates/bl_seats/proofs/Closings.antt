@@ -291,8 +291,8 @@ all_lack seats k one at one_index lacks = λ i d lt.
 pub complete : (index : Index) (seats : List Seat) → All (IsAt index) seats → AreAll index seats → AreComplete seats
 complete index seats at all = λ k d lt. subst (λ (z : Index). AreAll z seats) (sym (at k d lt)) all
 
-pub count_of : (tree : Tree) (index : Index) (seat : Seat) (box : Boxed) → tree ≡ index.tree → index ≡ arc_value seat.index → seat ≡ box.value → tree.passes ≡ passes_of (arc_value box.value.index)
-count_of tree index seat box t i s = let first = arc_value box.value.index in ap (λ (z : Tree). z.passes) (t ∙ ap (λ (z : Index). z.tree) (i ∙ ap (λ (z : Seat). arc_value z.index) s)) ∙ first.tree.shared
+pub count_of : (tree : Tree) (index : Index) (seat : Seat) (box : Boxed) → tree ≡ index → index ≡ arc_value seat.index → seat ≡ box.value → tree.passes ≡ passes_of (arc_value box.value.index)
+count_of tree index seat box t i s = let first = arc_value box.value.index in ap (λ (z : Tree). z.passes) (t ∙ (i ∙ ap (λ (z : Seat). arc_value z.index) s)) ∙ first.shared
 
 -- where there is a seat for each number of the first one's index, all are there
 pub all_complete : (boxes : List Boxed) (box : Boxed) (count : ℕ) → Some box ≡ slice_get boxes 0 → count ≡ passes_of (arc_value box.value.index) → AreAtOne (values boxes) → ((n : ℕ) → n < count → HasSeat (values boxes) n)

@@ -21,7 +21,7 @@ use Rattle.bl_index_turns.specs.Stages.{Stands, HasTurnedIn}
 
 -- the hand is one of the index's, and runs no process, or the one that it is about
 abbrev pub IsSeated : Index → Hand PassState → Stage → Type 0
-IsSeated index hand stage = Stands index.tree hand stage
+IsSeated index hand stage = Stands index hand stage
 
 -- the same hand, of the same index, as far as it tells
 abbrev pub IsSameOne : Hand PassState → Hand PassState → Type 0

@@ -15,7 +15,7 @@ use std::test::Fail;
 /// The hand of a pass: it rests.
 fn hand_of(index: &Index, pass: Pass) -> Hand<PassState>
     requires { IsPassOf index.now pass }
-    ensures { IsAtRest index.now.tree result }
+    ensures { IsAtRest index.now result }
 {
     let _ = index;
     pass.into_hand()

@@ -51,7 +51,7 @@ fn is_raised(flag: &AtomicBool) -> bool {
 /// A deletion of key 2 begins, and holds its leaf.
 fn hold<R: Wait>(rt: &R, index: &Index, pass: Pass) -> (Hand<PassState>, u32, Glance)
     requires { IsPassOf index.now pass }
-    ensures { IsHeld index.now.tree result.0 2 result.1 result.2 }
+    ensures { IsHeld index.now result.0 2 result.1 result.2 }
 {
     let mut hand = pass.into_hand();
     let (at, glance) = begin_write(index.tree(), rt, &mut hand, 2, KeyWrite::Delete);
@@ -67,7 +67,7 @@ fn go_on(
     glance: Glance,
     course: &Course,
 ) -> (bool, KeyReply, Option<Hint>)
-    requires { IsHeld index.now.tree hand 2 at glance }
+    requires { IsHeld index.now hand 2 at glance }
 {
     let mut hand = hand;
     let waits = is_raised(&course.waits);
@@ -115,7 +115,7 @@ fn a_writer_goes_on_beside_one_that_waits(rt: HostRuntime) -> Result<(), Fail> {
     let ((goes_on, reply, hint), (waited, inserted)) = join(
         &rt,
         || -> (bool, KeyReply, Option<Hint>)
-            requires { IsHeld index.tree hand 2 at glance }
+            requires { IsHeld index hand 2 at glance }
         { go_on(&index, hand, at, glance, &course) },
         || -> ((KeyReply, Option<Hint>), (KeyReply, Option<Hint>))
             requires { (IsPassOf index second) × (IsPassOf index third) }

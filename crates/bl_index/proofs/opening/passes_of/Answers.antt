@@ -13,14 +13,19 @@ remove-requires c = (let left = c.loop-number.invariant.left in omega arith)
 pub invariant_of-push : goal.invariant_of-push
 invariant_of-push c = (
     let left = c.loop-number.invariant.left in
-    let is = first_new c.args.store.now.table.shared.table_id c.args.store.now.layout c.args.first.now c.loop-number._number c.loop-number.hands.items c.remove.result (omega arith) c.loop-number.invariant.hands c.remove.ensures.value in
-    record {
-      idle = ap (λ (v : View _). v.stamp) is.2;
-      empty = ap (λ (v : View _). v.stock) is.2;
-      rests = ap (λ (v : View PassState). v.known.runs) is.2;
-      within = subst (λ (v : View PassState). AreWithin v.layout.passes v.known.trail) (sym is.2) (none_within _);
-      seen = subst (λ (v : View PassState). ∥ IsSeen v.known.first v.known.trail ∥₁) (sym is.2) ∣ c.requires.seen ∣₁;
-    })
+    let is = first_new c.args.store.now.table.shared.table_id c.args.store.now.layout c.args.first.now c.loop-number._number c.loop-number.hands.items c.remove.result (omega arith) c.loop-number.invariant.hands c.remove.ensures.value in (
+      ap (λ (v : View _). v.stamp) is.2,
+      (
+        ap (λ (v : View _). v.stock) is.2,
+        (
+          subst (λ (v : View PassState). AreWithin v.layout.passes v.known.trail) (sym is.2) (none_within _),
+          (
+            ap (λ (v : View PassState). v.known.runs) is.2,
+            (subst (λ (v : View PassState). ∥ IsSeen v.known.first v.known.trail ∥₁) (sym is.2) ∣ c.requires.seen ∣₁, tt),
+          ),
+        ),
+      ),
+    ))
 
 pub loop-number-preserved : goal.loop-number-preserved
 loop-number-preserved c = (

@@ -24,9 +24,9 @@ loop-seats-preserved c =
     let next = first_taken boxes left box some_left c.remove.ensures.value c.remove.ensures.by_index.2 in
     let inner : c.into_inner-seat.result ≡ box.value = c.into_inner-seat.ensures in
     let pushed = c.push_reserved.ensures.items ∙ ap (λ (z : Seat). hands ++ z.hand ∷ []) inner in
-    let tree_is : c.tree.result.now ≡ index.tree = c.tree.ensures ∙ ap (λ (z : Index). z.tree) c.deref.ensures in
+    let tree_is : c.tree.result.now ≡ index = c.tree.ensures ∙ c.deref.ensures in
     let stage_is : c.into_inner-seat.result.stage ≡ stage.Rests = ap (λ (z : Seat). z.stage) inner ∙ first_rests index (values c.args.seats.items) boxes left box hands now next inv.given in
-    let rests : IsAtRest index.tree box.value.hand = subst (λ (z : Tree × (Seat × Stage)). Stands z.0 z.1.0.hand z.1.1) (λ i. (tree_is i, (inner i, stage_is i))) c.stands.ensures in
+    let rests : IsAtRest index box.value.hand = subst (λ (z : Tree × (Seat × Stage)). Stands z.0 z.1.0.hand z.1.1) (λ i. (tree_is i, (inner i, stage_is i))) c.stands.ensures in
     record {
       given = one_given index (values c.args.seats.items) boxes left box hands now next inv.given pushed (rests.own, rests.rests.idle);
       fits = (let a = ap length next in let b = ap length pushed ∙ length_push hands box.value.hand in let cap = c.push_reserved.ensures.capacity in let fits = inv.fits in omega (arith, a, b, cap, fits));

@@ -8,7 +8,7 @@ use Rattle.bl_seats.proofs.opening.seat_of.Goals as goal
 pub invariant_of-result : goal.invariant_of-result
 invariant_of-result c =
     let pass = c.args.pass in
-    let tree = (arc_value c.args.index).tree in
+    let tree = arc_value c.args.index in
     let rests : IsAtRest tree pass.hand = record {
       own = (c.requires.0, c.requires.1);
       rests = record { idle = pass.idle; within = pass.within; over = pass.rests };

@@ -20,12 +20,12 @@ returns-clause-gone c =
 pub returns-clause-rests : goal.returns-clause-rests
 returns-clause-rests c =
     let num = same_number c.args.hand.now c.advance.new.hand c.advance.ensures.same in
-    rests_after 256 c.args.index.now.tree c.args.hand.now c.advance.new.hand num c.args.stage.now c.advance.result c.advance.new.stage c.advance.ensures.answers
+    rests_after 256 c.args.index.now c.args.hand.now c.advance.new.hand num c.args.stage.now c.advance.result c.advance.new.stage c.advance.ensures.answers
 
 pub returns-clause-worked : goal.returns-clause-worked
 returns-clause-worked c =
     let num = same_number c.args.hand.now c.advance.new.hand c.advance.ensures.same in
-    worked_after 256 c.args.index.now.tree c.args.hand.now c.advance.new.hand num c.args.stage.now c.advance.result c.advance.new.stage c.advance.ensures.answers
+    worked_after 256 c.args.index.now c.args.hand.now c.advance.new.hand num c.args.stage.now c.advance.result c.advance.new.stage c.advance.ensures.answers
 
 pub returns-clause-still : goal.returns-clause-still
 returns-clause-still c =

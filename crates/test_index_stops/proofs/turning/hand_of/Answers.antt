@@ -7,5 +7,5 @@ use Rattle.test_index_stops.proofs.turning.hand_of.Goals as goal
 pub returns : goal.returns
 returns c =
     let pass = c.args.pass in
-    subst (λ (h : Hand PassState). IsAtRest c.args.index.now.tree h) (sym c.into_hand.ensures)
+    subst (λ (h : Hand PassState). IsAtRest c.args.index.now h) (sym c.into_hand.ensures)
     (record { own = (c.requires.0, c.requires.1); rests = record { idle = pass.idle; within = pass.within; over = pass.rests }; empty = pass.empty })

@@ -4,35 +4,49 @@ use Rattle.bl_page.specs.declared.page.Page.{Page}
 use Rattle.bl_store.specs.Hands.{known}
 use Rattle.bl_index_rule.specs.declared.known.PassState.{PassState}
 use Rattle.bl_claims.specs.Seeing.{IsSeen, AreWithin}
-use Rattle.bl_index.proofs.Taken.{same_pass}
+use Rattle.bl_index.proofs.Taken.{same_pass, of_inside}
 use Rattle.bl_index.proofs.index.Index.learn.Goals as goal
 
-pub invariant_of-pass : goal.invariant_of-pass
-invariant_of-pass c = let e = c.learn_by.ensures in record {
-  idle = e.same.1 ∙ c.args.pass.now.idle;
-  empty = e.same.2.0 ∙ c.args.pass.now.empty;
-  within = subst (λ (z : Layout). AreWithin z.passes (known c.learn_by.new.hand.seat).trail) (sym (e.same.0.1 ∙ c.requires.own.0.1)) e.observed.within;
-  rests = e.observed.runs ∙ c.args.pass.now.rests;
-  seen = ∣ e.observed.seen ∣₁;
-}
+pub invariant_of-pass-inside : goal.invariant_of-pass-inside
+invariant_of-pass-inside c =
+    let own = of_inside c.self.view_is c.pass.view_is c.requires.own.0 in let e = c.learn_by.ensures in (
+      e.same.1 ∙ c.pass.inside.idle,
+      (
+        e.same.2.0 ∙ c.pass.inside.empty,
+        (
+          subst (λ (z : Layout). AreWithin z.passes (known c.learn_by.new.hand.seat).trail) (sym (e.same.0.1 ∙ own.1)) e.observed.within,
+          (
+            e.observed.runs ∙ c.pass.inside.rests,
+            (∣ e.observed.seen ∣₁, tt),
+          ),
+        ),
+      ),
+    )
 
-pub invariant_of-other : goal.invariant_of-other
-invariant_of-other c = let e = c.learn_by.ensures in record {
-  idle = e.other.1;
-  empty = e.other.2;
-  within = subst (λ (z : Layout × PassState). AreWithin z.0.passes z.1.trail) (λ i. (sym e.other.0.1 i, sym e.other.3 i)) c.args.other.now.within;
-  rests = ap (λ (z : PassState). z.runs) e.other.3 ∙ c.args.other.now.rests;
-  seen = subst (λ (z : PassState). ∥ IsSeen z.first z.trail ∥₁) (sym e.other.3) c.args.other.now.seen;
-}
+pub invariant_of-other-inside : goal.invariant_of-other-inside
+invariant_of-other-inside c =
+    let e = c.learn_by.ensures in (
+      e.other.1,
+      (
+        e.other.2,
+        (
+          subst (λ (z : Layout × PassState). AreWithin z.0.passes z.1.trail) (λ i. (sym e.other.0.1 i, sym e.other.3 i)) c.other.inside.within,
+          (
+            ap (λ (z : PassState). z.runs) e.other.3 ∙ c.other.inside.rests,
+            (subst (λ (z : PassState). ∥ IsSeen z.first z.trail ∥₁) (sym e.other.3) c.other.inside.seen, tt),
+          ),
+        ),
+      ),
+    )
 
 pub returns-clause-learns : goal.returns-clause-learns
-returns-clause-learns c = c.learn_by.ensures.observed.learns
+returns-clause-learns c = rw (← c.pass.view_is, ← c.other.view_is) (c.learn_by.ensures.observed.learns)
 
 pub returns-clause-seen : goal.returns-clause-seen
-returns-clause-seen c = let e = c.learn_by.ensures in subst (λ (z : List (Option Page)). IsSeen z (known c.learn_by.new.hand.seat).trail) (e.observed.first ∙ c.requires.own.0.2) e.observed.seen
+returns-clause-seen c = let own = of_inside c.self.view_is c.pass.view_is c.requires.own.0 in rw (← c.self.view_is) (let e = c.learn_by.ensures in subst (λ (z : List (Option Page)). IsSeen z (known c.learn_by.new.hand.seat).trail) (e.observed.first ∙ own.2) e.observed.seen)
 
 pub returns-clause-same : goal.returns-clause-same
-returns-clause-same c = same_pass c.args.pass.now.hand c.learn_by.new.hand c.learn_by.ensures.same.0 c.learn_by.ensures.observed.first
+returns-clause-same c = rw (← c.pass.view_is) (same_pass c.pass.inside.hand c.learn_by.new.hand c.learn_by.ensures.same.0 c.learn_by.ensures.observed.first)
 
 pub returns-clause-other : goal.returns-clause-other
-returns-clause-other c = let e = c.learn_by.ensures in (same_pass c.args.other.now.hand c.learn_by.new.other e.other.0 (ap (λ (z : PassState). z.first) e.other.3), ap (λ (z : PassState). z.trail) e.other.3)
+returns-clause-other c = rw (← c.other.view_is) (let e = c.learn_by.ensures in (same_pass c.other.inside.hand c.learn_by.new.other e.other.0 (ap (λ (z : PassState). z.first) e.other.3), ap (λ (z : PassState). z.trail) e.other.3))

@@ -9,7 +9,7 @@ use Rattle.bl_index.proofs.Encounters.{met}
 use Rattle.bl_index.proofs.index.Index.meet_hands.Goals as goal
 
 pub tell_by-requires-clause-own : goal.tell_by-requires-clause-own
-tell_by-requires-clause-own c = let l = c.learn_by.ensures in let own = c.requires.own in
+tell_by-requires-clause-own c = let l = c.learn_by.ensures in let own = rw (← c.self.view_is) at c.requires.own in
     ((l.other.0.0 ∙ own.1.0, l.other.0.1 ∙ own.1.1), (l.same.0.0 ∙ own.0.0, l.same.0.1 ∙ own.0.1))
 
 pub tell_by-requires-clause-idle : goal.tell_by-requires-clause-idle
@@ -21,9 +21,9 @@ tell_by-requires-clause-begins c = let l = c.learn_by.ensures in
 
 pub returns-clause-same : goal.returns-clause-same
 returns-clause-same c =
-    let own = c.requires.own in let l = c.learn_by.ensures in let t = c.tell_by.ensures in
-    let layout_one : c.tell_by.new.other.seat.me.0.layout ≡ c.args.self.now.tree.store.layout = t.other.0.1 ∙ (l.same.0.1 ∙ own.0.1) in
-    let layout_two : c.tell_by.new.hand.seat.me.0.layout ≡ c.args.self.now.tree.store.layout = t.same.0.1 ∙ (l.other.0.1 ∙ own.1.1) in
+    let own = rw (← c.self.view_is) at c.requires.own in let l = c.learn_by.ensures in let t = c.tell_by.ensures in
+    let layout_one : c.tell_by.new.other.seat.me.0.layout ≡ c.self.inside.tree.store.layout = t.other.0.1 ∙ (l.same.0.1 ∙ own.0.1) in
+    let layout_two : c.tell_by.new.hand.seat.me.0.layout ≡ c.self.inside.tree.store.layout = t.same.0.1 ∙ (l.other.0.1 ∙ own.1.1) in
     let one_is : known c.tell_by.new.other.seat ≡ known c.learn_by.new.hand.seat = t.other.3 in
     let seen = l.observed.within in (
       record {

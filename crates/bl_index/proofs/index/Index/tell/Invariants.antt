@@ -1,4 +1,4 @@
 use Rattle.bl_index.proofs.index.Index.tell.Given as goal
 
 abbrev pub ghosts-tell_by : goal.ghosts-tell_by
-ghosts-tell_by a = record { pass = a.hand.now.number; other = a.other.now.number; passes = a.self.now.tree.store.layout.passes }
+ghosts-tell_by a = record { pass = a.hand.now.number; other = a.other.now.number; passes = a.tree.now.store.layout.passes }

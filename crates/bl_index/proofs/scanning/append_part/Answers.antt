@@ -10,7 +10,7 @@ use Rattle.bl_index_read.proofs.Setting.{same_number}
 use Rattle.bl_index.proofs.Appended.{part_appends, part_leaves}
 use Rattle.bl_index_read.proofs.Picked.{between_rows, between_length}
 use Rattle.bl_index_read.proofs.Ranges.{below_less}
-use Rattle.bl_index.proofs.index.Index.append_part.Goals as goal
+use Rattle.bl_index.proofs.scanning.append_part.Goals as goal
 
 pub descend_to_leaf-requires : goal.descend_to_leaf-requires
 descend_to_leaf-requires c = record { off = c.requires.off }
@@ -35,7 +35,7 @@ returns-in-Ok-clause-appends c = λ old off.
     ∙ ap (λ z. c.args.rows.items ++ z) (between_rows _ c.args.from c.args.to _ _ portion.ensures.first portion.ensures.last) in
     record {
       new = behind.0;
-      stands = subst (λ (z : ℕ). StandsBehind c.args.self.now.tree c.go_behind-on.new.hand z portion.result.behind c.go_behind-on.result behind.0) (same_number c.args.hand.now c.append_rows-rows.new.hand (search rules)) behind.2;
+      stands = subst (λ (z : ℕ). StandsBehind c.args.tree.now c.go_behind-on.new.hand z portion.result.behind c.go_behind-on.result behind.0) (same_number c.args.hand.now c.append_rows-rows.new.hand (search rules)) behind.2;
       first = ended.0.notes.first ∙ has.since.beginning;
       seen = ended.0.notes.seen;
       does = part_appends _ _ c.args.from c.args.turns old c.descend_to_leaf.new.hand.seat behind.0 _ has ended c.args.to _ _ portion.result.behind portion.ensures.behind grown;

@@ -6,7 +6,7 @@ use Rattle.bl_index_read.specs.declared.leaf_rows.Behind.{Behind}
 use Rattle.bl_index_read.proofs.Setting.{same_number}
 use Rattle.bl_index.proofs.PartByPart.{scans_none, set_off_again, left_behind}
 use Rattle.bl_index.proofs.Callbacks.{tells_on, tells_until}
-use Rattle.bl_index.proofs.index.Index.tell_parts.Goals as goal
+use Rattle.bl_index.proofs.telling.tell_parts.Goals as goal
 
 pub loop-behind-init : goal.loop-behind-init
 loop-behind-init g c = record {
@@ -30,7 +30,7 @@ loop-behind-preserved g c =
       same = search rules;
       callable = c.tell_part.ensures.callable;
       mid = went.new;
-      stands = subst (λ (z : ℕ). StandsBehind c.args.self.now.tree c.tell_part.new.hand z c.in-Ok.next c.in-Ok.on went.new) (same_number c.args.hand.now c.loop-behind.hand inv.same.0) went.stands;
+      stands = subst (λ (z : ℕ). StandsBehind c.args.tree.now c.tell_part.new.hand z c.in-Ok.next c.in-Ok.on went.new) (same_number c.args.hand.now c.loop-behind.hand inv.same.0) went.stands;
       first = went.first ∙ inv.first;
       seen = λ _. went.seen;
       listed = inv.listed ++ on.rows;

@@ -11,7 +11,7 @@ use Rattle.bl_index_read.proofs.Setting.{same_number}
 use Rattle.bl_index_read.proofs.Picked.{between_rows}
 use Rattle.bl_index_read.proofs.Ranges.{below_less}
 use Rattle.bl_index.proofs.Callbacks.{part_tells}
-use Rattle.bl_index.proofs.index.Index.tell_part.Goals as goal
+use Rattle.bl_index.proofs.telling.tell_part.Goals as goal
 
 pub descend_to_leaf-requires : goal.descend_to_leaf-requires
 descend_to_leaf-requires g c = record { off = c.requires.off }
@@ -35,7 +35,7 @@ returns-clause-tells g c = λ old off.
     let told = subst (λ (z : List (ℕ × ℕ)). FoldsTo (λ p x q. goal.F-step g p x tt q) c.args.visit.now z c.tell_rows.new.visit) (between_rows _ c.args.from c.args.to _ _ portion.ensures.first portion.ensures.last) all in
     record {
       new = behind.0;
-      stands = subst (λ (z : ℕ). StandsBehind c.args.self.now.tree c.go_behind-on.new.hand z portion.result.behind c.go_behind-on.result behind.0) (same_number c.args.hand.now c.tell_rows.new.hand (search rules)) behind.2;
+      stands = subst (λ (z : ℕ). StandsBehind c.args.tree.now c.go_behind-on.new.hand z portion.result.behind c.go_behind-on.result behind.0) (same_number c.args.hand.now c.tell_rows.new.hand (search rules)) behind.2;
       first = ended.0.notes.first ∙ has.since.beginning;
       seen = ended.0.notes.seen;
       does = part_tells _ _ _ c.args.from c.args.turns old c.descend_to_leaf.new.hand.seat behind.0 _ has ended c.args.to portion.result.behind _ _ portion.ensures.behind told;

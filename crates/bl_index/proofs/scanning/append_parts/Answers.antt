@@ -5,7 +5,7 @@ use Rattle.bl_index_read.specs.Parts.{StandsBehind}
 use Rattle.bl_index_read.specs.declared.leaf_rows.Behind.{Behind}
 use Rattle.bl_index_read.proofs.Setting.{same_number}
 use Rattle.bl_index.proofs.PartByPart.{scans_none, set_off_again, part_on, stops_at, left_behind}
-use Rattle.bl_index.proofs.index.Index.append_parts.Goals as goal
+use Rattle.bl_index.proofs.scanning.append_parts.Goals as goal
 
 pub loop-behind-init : goal.loop-behind-init
 loop-behind-init c = record {
@@ -27,7 +27,7 @@ loop-behind-preserved c =
     record {
       same = search rules;
       mid = went.new;
-      stands = subst (λ (z : ℕ). StandsBehind c.args.self.now.tree c.append_part-more.new.hand z c.in-Ok.next c.in-Ok.on went.new) (same_number c.args.hand.now c.loop-behind.hand inv.same.0) went.stands;
+      stands = subst (λ (z : ℕ). StandsBehind c.args.tree.now c.append_part-more.new.hand z c.in-Ok.next c.in-Ok.on went.new) (same_number c.args.hand.now c.loop-behind.hand inv.same.0) went.stands;
       first = went.first ∙ inv.first;
       seen = λ _. went.seen;
       listed = inv.listed ++ gone.rows;

@@ -4,8 +4,8 @@ use Rattle.bl_frames.specs.Pages.{Meets}
 use Rattle.bl_index_rule.specs.Simulation.{Simulates}
 use Rattle.bl_index.specs.Meetings.{heard}
 use Rattle.bl_index.proofs.Learning.{hears_all}
-use Rattle.bl_index.proofs.index.Index.tell_by.Goals as goal
+use Rattle.bl_index.proofs.meeting.tell_by.Goals as goal
 
 pub meet-requires-clause-rule : goal.meet-requires-clause-rule
-meet-requires-clause-rule g c = let l = c.args.self.now.tree.store.layout in let n = c.args.hand.now.number in let m = c.args.other.now.number in let d = known c.args.hand.now.seat in let e = known c.args.other.now.seat in
+meet-requires-clause-rule g c = let l = c.args.tree.now.store.layout in let n = c.args.hand.now.number in let m = c.args.other.now.number in let d = known c.args.hand.now.seat in let e = known c.args.other.now.seat in
     subst (λ (z : ℕ). Meets Simulates l n d m e (heard z)) c.requires.names (hears_all l n m d e c.requires.begins)
