@@ -1,5 +1,6 @@
 -- A seat that has answered a part has told what the part may answer on some map.
 use Rattle.std.proofs.Common.{◌++◌, ℕ, ap, ◌∙◌}
+use Rattle.bl_model.specs.declared.operation.Entry.{Entry}
 use Rattle.bl_model.specs.declared.operation.Op.TheVariants as op
 use Rattle.bl_model.specs.declared.operation.Reply.{Reply}
 use Rattle.bl_model.specs.History.{final_map}
@@ -17,6 +18,6 @@ pub part_may : (hand : Hand PassState) (from : ℕ) (reply : Reply) → HasRepli
 part_may hand from reply h =
     let first = (known hand.seat).first in let more = h.answers.holds.more in
     let on = ap history_of h.answers.holds.begins ∙ history_append h.before more in
-    let e = record { pass = hand.number; op = op.Part from; reply = reply } in
+    let e : Entry = record { pass = hand.number; op = op.Part from; reply = reply } in
     let there = answered (first_map first) hand.number e (history_of h.before) (history_of more) (history_of (known hand.seat).trail) on h.answers.seen.legal h.answers.once in
     (final_map (first_map first) (history_of h.before ++ there.before), there.may)
