@@ -4,6 +4,7 @@ use Rattle.bl_proc.specs.declared.kinds.Proc.{Proc}
 use Rattle.bl_proc.specs.Processes.{next_of, Takes}
 use Rattle.bl_claims.specs.Trails.{marks_of}
 use Rattle.bl_proc_bounds.specs.Latches.{IsTidy}
+use Rattle.bl_proc_invariant.specs.Logs.{proc_log}
 use Rattle.bl_proc_unique.specs.Courses.{GoesOn}
 use Rattle.bl_store.specs.Hands.{known}
 use Rattle.bl_claims.specs.Seeing.{name}
@@ -26,6 +27,13 @@ returns-clause-tidy g c =
     let goes = g.met.P.Kind.goes c.args.process.now c.took.new.self seen.Done c.took.ensures in
     let takes : Takes (known c.args.hand.now.seat).state seen.Done (g.P.Kind.proc_of c.took.new.self) = subst (λ (z : Proc). Takes z seen.Done (g.P.Kind.proc_of c.took.new.self)) (sym c.requires.runs.on.state) goes in
     subst (λ (z : Proc). IsTidy z (marks_of (name (known c.args.hand.now.seat).pass (known c.args.hand.now.seat).number) (known c.end.new.hand.seat).trail)) (ended.1.state ∙ sym (ended.1.course.only _ takes)) ended.0.notes.tidy
+
+pub returns-clause-log : goal.returns-clause-log
+returns-clause-log g c =
+    let ended = c.end.ensures.observed.1 in
+    let goes = g.met.P.Kind.goes c.args.process.now c.took.new.self seen.Done c.took.ensures in
+    let takes : Takes (known c.args.hand.now.seat).state seen.Done (g.P.Kind.proc_of c.took.new.self) = subst (λ (z : Proc). Takes z seen.Done (g.P.Kind.proc_of c.took.new.self)) (sym c.requires.runs.on.state) goes in
+    subst (λ (z : Proc). proc_log z (marks_of (name (known c.args.hand.now.seat).pass (known c.args.hand.now.seat).number) (known c.end.new.hand.seat).trail)) (sym (ended.1.course.only _ takes)) ended.1.log
 
 pub end-requires-clause-own : goal.end-requires-clause-own
 end-requires-clause-own g c = c.requires.runs.own
