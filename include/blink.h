@@ -55,7 +55,7 @@ extern "C" {
 enum {
     BLINK_OK = 0,         /* done; where a value goes with it, it is written */
     BLINK_ABSENT = 1,     /* the key is not there */
-    BLINK_PRESENT = 2,    /* the key is there with another value, which it keeps, and which is written */
+    BLINK_PRESENT = 2,    /* the key is there with a value, which it keeps, and which is written */
     BLINK_NO_ROOM = 3,    /* no page or frame was to be had: nothing has changed */
     BLINK_AGAIN = 4,      /* not answered yet: let another thread run, and make the same call again */
     BLINK_BAD_PAGES = 5,  /* the number of pages is not 4 to 65,536 */
@@ -304,7 +304,7 @@ static inline const char *blink_text(int32_t code) {
     switch (code) {
         case BLINK_OK: return "done";
         case BLINK_ABSENT: return "the key is not there";
-        case BLINK_PRESENT: return "the key is there with another value";
+        case BLINK_PRESENT: return "the key is there with a value that it keeps";
         case BLINK_NO_ROOM: return "no room";
         case BLINK_AGAIN: return "not answered yet";
         case BLINK_BAD_PAGES: return "the number of pages is not 4 to 65,536";

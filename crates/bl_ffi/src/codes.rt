@@ -4,7 +4,7 @@
 pub(crate) const OK: i32 = 0;
 /// The key is absent.
 pub(crate) const ABSENT: i32 = 1;
-/// The key is there with another value, and keeps it.
+/// The key is there with a value, and keeps it.
 pub(crate) const PRESENT: i32 = 2;
 /// There was no room, and nothing has changed.
 pub(crate) const NO_ROOM: i32 = 3;
