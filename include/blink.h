@@ -130,7 +130,8 @@ int32_t blink_try_rows(blink_seat *seat, uint64_t from, blink_row *rows, size_t 
  * BLINK_AGAIN: something is; BLINK_CLOSED. */
 int32_t blink_tend(blink_seat *seat, uint32_t most);
 
-/* How many pieces of upkeep of this seat wait, 32 at most; and how many were dropped, since 32 waited. Neither is a fault: see the manual. */
+/* How many pieces of upkeep of this seat wait, 32 at most; and how many were dropped, since 32 waited. Neither is a fault: see the
+ * manual. A closed seat has 0 of both. */
 uint32_t blink_waiting(blink_seat *seat);
 uint64_t blink_dropped(blink_seat *seat);
 
@@ -224,7 +225,7 @@ static inline int32_t blink_rows(blink_seat *seat, uint64_t from, blink_row *row
 }
 
 /* Rows from a key on, as many leaves as surely fit: room is 14 at least. `*count` is how many there are, `*next` the key to go on from where
- * `*more` is true. Each leaf is answered as the map stood at one moment of the call. */
+ * `*more` is true. Each leaf is answered as the map stood at one moment of the call. BLINK_OK; BLINK_FEW_ROWS, room is less; BLINK_CLOSED. */
 static inline int32_t blink_scan(blink_seat *seat, uint64_t from, blink_row *rows, size_t room, size_t *count, uint64_t *next, bool *more) {
     blink_part part = { 0, 0, true, 0 };
     *count = 0;
@@ -287,7 +288,7 @@ static inline int32_t blink_close_image(blink_seat *seats, size_t count, uint8_t
     }
 }
 
-/* Does all upkeep that this seat can do now. */
+/* Does all upkeep that this seat can do now. BLINK_OK: nothing is left to do; BLINK_AGAIN: something waits for others; BLINK_CLOSED. */
 static inline int32_t blink_rest(blink_seat *seat) {
     int32_t answer;
     int round;
