@@ -46,7 +46,7 @@ fn put_parts<J: Editor>(
     requires own { IsHandOf tree.now.store hand.old }
     requires running { IsRunning hand.old.seat }
     requires stock { IsStockOf hand.old.seat stock × (stock.count ≡ 2) }
-    requires process { (left : Page) × (right : Page) × AreParts new words.now entries.now left right
+    requires process { (left : Page) × (right : Page) × AreParts pages.new words.now entries.now left right
         × IsOn tree.now.store.layout (known hand.old.seat) (J.editing editor.now (edit.PuttingNew (record {
           at = pages.at;
           new = pages.new;
