@@ -25,7 +25,7 @@ invariant_of-one-inside c =
 
 pub invariant_of-two-inside : goal.invariant_of-two-inside
 invariant_of-two-inside c =
-    let own = of_inside refl c.one.view_is c.requires.own.0 in let theirs = of_inside refl c.two.view_is c.requires.own.1 in let e = c.meet_hands.ensures in let s = e.same.1 in (
+    let own = of_inside {index = c.args.self.now} refl c.one.view_is c.requires.own.0 in let theirs = of_inside {index = c.args.self.now} refl c.two.view_is c.requires.own.1 in let e = c.meet_hands.ensures in let s = e.same.1 in (
       s.idle,
       (
         s.empty,
@@ -47,6 +47,6 @@ returns-clause-same c =
 
 pub returns-clause-meet : goal.returns-clause-meet
 returns-clause-meet c =
-    let own = of_inside refl c.one.view_is c.requires.own.0 in rw (← c.one.view_is, ← c.two.view_is) (
+    let own = of_inside {index = c.args.self.now} refl c.one.view_is c.requires.own.0 in rw (← c.one.view_is, ← c.two.view_is) (
     let e = c.meet_hands.ensures in
     subst (λ (z : List (Option Page)). Meet z c.one.inside.hand.number c.two.inside.hand.number (known c.one.inside.hand.seat).trail (known c.two.inside.hand.seat).trail (known c.meet_hands.new.one.seat).trail (known c.meet_hands.new.two.seat).trail) own.2 e.meet)
