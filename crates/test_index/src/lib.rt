@@ -1,8 +1,10 @@
-//! Tests of the calls of an index that need threads or want of memory: two threads that search and insert, eight whose passes meet, a
-//! scan beside four that write and a close after it, a scan whose memory is refused. Calls of one thread are lines of `test_worked_calls`.
+//! Tests of the calls of an index and of what stands on it. Of an index, those that need threads or want of memory: two threads that
+//! search and insert, eight whose passes meet, a scan beside four that write and a close after it, a scan whose memory is refused; calls of
+//! one thread are lines of `test_worked_calls`. Of the map for programs and of seats: their public calls.
 //!
-//! They stand apart from `bl_index`, and nothing else uses them: whatever is built on the index need not wait until these tests
-//! are proved. What a process on its way holds back is tested with the hands of a store, in `test_store_rule`.
+//! They stand apart from what they test, and nothing else uses them: whatever is built on the index need not wait until these tests
+//! are proved. They stand together, since each crate of tests is linked with all that lies below. What a process on its way holds back
+//! is tested with the hands of a store, in `test_store_rule`.
 #![tactic(auto)]
 
 #[cfg(test)]
@@ -10,6 +12,12 @@ mod calls;
 #[cfg(test)]
 mod closings;
 #[cfg(test)]
+mod maps;
+#[cfg(test)]
 mod meetings;
 #[cfg(test)]
 mod scans;
+#[cfg(test)]
+mod seats;
+#[cfg(test)]
+mod stops;

@@ -1,8 +1,8 @@
 //! The laws of the tree by plain walks over the pages of a world, apart from all definitions and proofs; and worlds whose number
 //! of pages is known.
 //!
-//! For `test_world_drawn` and `test_world`, whose tests are proved and run apart from these. What it promises is in the words of
-//! each law that it finds broken.
+//! For `test_world`, whose tests are proved and run apart from these. What it promises is in the words of each law that it finds
+//! broken.
 #![tactic(auto)]
 
 mod laws;

@@ -1,4 +1,4 @@
-//! What `test_world_drawn` watches in its worlds: their processes, the owners of their pages, and how often each kind of thing was met.
+//! What `test_world` watches in worlds that it draws: their processes, the owners of their pages, and how often each kind of thing was met.
 //!
 //! A world shows its events and answers, and not its pages. So a plain model takes the same turns, step by step, without the
 //! world: each event and each answer of the world has to be the model's, and the walks go over the model's pages.
