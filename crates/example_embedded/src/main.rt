@@ -30,6 +30,15 @@ struct Counts {
     deleted: AtomicU64,
 }
 
+/// What the threads have done, and what a handle saw then: the value of key 50, and rows of both threads.
+#[derive(Drop)]
+struct Seen {
+    inserted: u64,
+    deleted: u64,
+    value: u64,
+    rows: Vec<(u64, u64)>,
+}
+
 /// A map without rows, with a seat for each thread. A page has room for 14 rows, so 512 pages are far more than these rows need.
 fn opened(alloc: Global) -> Option<(Map, Vec<Seat>)>
     ensures { IfSome result (λ t. AreSeatsOf t.0 t.1.items) }
@@ -73,21 +82,30 @@ fn shrink<R: Wait>(rt: &R, handle: &mut Handle<'_>, behind: u64, counts: &Counts
     }
 }
 
-/// Each handle works in a thread of its own. The threads have ended when this returns.
-fn work<R: Threads + Wait + Sync>(rt: &R, map: &Map, handles: &mut [Handle<'_>], counts: &Counts)
+/// Each handle works in a thread of its own. The threads have ended when this returns: it says how many rows they have inserted, and
+/// how many they have deleted.
+fn work<R: Threads + Wait + Sync>(rt: &R, map: &Map, handles: &mut [Handle<'_>]) -> (u64, u64)
     requires { All (IsHandleOf map.now) handles.old }
     ensures { All (IsHandleOf map.now) handles.new }
 {
+    let counts = Counts {
+        inserted: AtomicU64::new(0),
+        deleted: AtomicU64::new(0),
+    };
     thread::for_each_mut(
         rt,
         handles,
         THREADS as usize,
         &|place, handle| {
             let behind = ROWS.wrapping_mul(place as u64);
-            fill(rt, handle, behind, counts);
-            shrink(rt, handle, behind, counts);
+            fill(rt, handle, behind, &counts);
+            shrink(rt, handle, behind, &counts);
         },
     );
+    (
+        counts.inserted.load(Ordering::SeqCst),
+        counts.deleted.load(Ordering::SeqCst),
+    )
 }
 
 /// The value of a key, if it has one.
@@ -168,32 +186,50 @@ fn reopened(alloc: Global, map: Map, seats: Vec<Seat>) -> Option<(Map, Seat)>
     Some((map, seat))
 }
 
+/// The threads share the map, and then one handle looks at what both have done. Gives the seats back, with what was seen.
+fn shared<R: Threads + Wait + Sync>(
+    rt: &R,
+    alloc: Global,
+    map: &Map,
+    seats: Vec<Seat>,
+) -> Option<(Vec<Seat>, Seen)>
+    requires { AreSeatsOf map.now seats.items }
+    ensures { IfSome result (λ t. AreSeatsOf map.now t.0.items) }
+{
+    let mut handles = handles_of(alloc, map, seats)?;
+    let (inserted, deleted) = work(rt, map, handles.as_mut_slice());
+    let (mut one, mut two) = both(map, handles)?;
+    let (value, rows) = look(rt, alloc, &mut two, &mut one)?;
+    let seats = seats_of(alloc, map, one, two).ok()?;
+    Some((
+        seats,
+        Seen {
+            inserted,
+            deleted,
+            value,
+            rows,
+        },
+    ))
+}
+
+/// Prints what was seen.
+fn print(rt: &HostRuntime, seen: &Seen) -> anyhow::Result<()> {
+    println!(rt; "inserted {}, deleted {}", seen.inserted, seen.deleted)?;
+    println!(rt; "50 has {}", seen.value)?;
+    for (key, value) in seen.rows.as_slice() {
+        println!(rt; "{key} {value}")?;
+    }
+    Ok(())
+}
+
 fn main(rt: HostRuntime) -> anyhow::Result<()> {
     let Some((map, seats)) = opened(rt.alloc()) else {
         anyhow::bail!("out of memory");
     };
-    let Some(mut handles) = handles_of(rt.alloc(), &map, seats) else {
-        anyhow::bail!("out of memory");
+    let Some((seats, seen)) = shared(&rt, rt.alloc(), &map, seats) else {
+        anyhow::bail!("a handle or a row is missing, or memory");
     };
-    let counts = Counts {
-        inserted: AtomicU64::new(0),
-        deleted: AtomicU64::new(0),
-    };
-    work(&rt, &map, handles.as_mut_slice(), &counts);
-    let inserted = counts.inserted.load(Ordering::SeqCst);
-    let deleted = counts.deleted.load(Ordering::SeqCst);
-    println!(rt; "inserted {inserted}, deleted {deleted}")?;
-    let Some((mut one, mut two)) = both(&map, handles) else {
-        anyhow::bail!("a handle is missing");
-    };
-    let Some((value, rows)) = look(&rt, rt.alloc(), &mut two, &mut one) else {
-        anyhow::bail!("a row is missing, or memory");
-    };
-    println!(rt; "50 has {value}")?;
-    for (key, value) in rows.as_slice() {
-        println!(rt; "{key} {value}")?;
-    }
-    let seats = seats_of(rt.alloc(), &map, one, two)?;
+    print(&rt, &seen)?;
     let Some((map, seat)) = reopened(rt.alloc(), map, seats) else {
         anyhow::bail!("no map from the image");
     };
