@@ -4,7 +4,7 @@ ghost use Rattle.std.specs.Prelude.{◌≡◌};
 ghost use Rattle.std.specs.Io.{WritesAtMost};
 ghost use Rattle.std.specs.Io.KnownBytes.{Keeps, WriteAppends};
 
-use memchr::memchr_iter;
+use memchr::memchr;
 use std::io;
 use std::io::Write;
 
@@ -42,8 +42,14 @@ fn norooms_in(text: &[u8], after_m: bool) -> u64 {
     if after_m && text.first().copied() == Some(b'\n') {
         norooms = 1;
     }
-    for at in memchr_iter(b'm', text) {
-        if at < text.len() && text[at..].get(1).copied() == Some(b'\n') {
+    let mut rest = text;
+    for _ in 0..text.len() {
+        let Some(at) = memchr(b'm', rest) else {
+            break;
+        };
+        let (_, found) = rest.split_at(at);
+        rest = found.get(1..).unwrap_or(&[]);
+        if rest.first().copied() == Some(b'\n') {
             norooms = norooms.saturating_add(1);
         }
     }

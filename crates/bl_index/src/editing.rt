@@ -17,8 +17,8 @@ impl Index {
     ghost use Rattle.bl_store.specs.Hands.{WasRefused};
     ghost use Rattle.bl_index.specs.Calls.{first_of, IsPassOf, IsSamePass, number_of, trail, Writes, Inserts, InsertLacks, WriteLacks, StepsAlone};
 
-    /// Writes the key so: an insertion, a deletion or a change, each of which is also a call of its own, below.
-    #[inline(always)]
+    /// Writes the key so: an insertion, a deletion or a change, each of which is also a call of its own, below. It answers what that
+    /// call answers.
     pub fn write<R: Wait>(
         &self,
         rt: &R,
@@ -36,7 +36,9 @@ impl Index {
         write_key(&self.tree, rt, &mut pass.hand, key, write)
     }
 
-    /// Puts the value at the key, where the key has none. Where the leaf was split, there is a hint to post its upper part.
+    /// Puts the value at the key, where the key has none. It answers `Inserted`; `Present` with the value that the key has, which stays;
+    /// or `NoRoom` where no page or frame was left, and nothing has changed then. Where the leaf was split, there is a hint to post its
+    /// upper part.
     pub fn insert<R: Wait>(
         &self,
         rt: &R,
@@ -53,7 +55,8 @@ impl Index {
         self.write(rt, pass, key, KeyWrite::Insert(value))
     }
 
-    /// Takes the key and its value away. Where the leaf is thin then, there is a hint to merge it or even it out.
+    /// Takes the key and its value away. It answers `Deleted` with the value that the key had; `Absent`; or `NoRoom` where no frame was
+    /// left, and nothing has changed then. Where the leaf is thin then, there is a hint to merge it or even it out.
     pub fn delete<R: Wait>(&self, rt: &R, pass: &mut Pass, key: u64) -> (KeyReply, Option<Hint>)
         requires { IsPassOf self.now pass.old }
         ensures same { IsSamePass pass.old pass.new }

@@ -24,7 +24,8 @@ pub enum ImageFault {
     Memory,
 }
 
-/// An index of so many pages, 4 to 65,536, without rows, and so many seats at it, 1 to 64.
+/// An index of so many pages, 4 to 65,536, without rows, and so many seats at it, 1 to 64. It fails with `Pages` or `Passes` where a
+/// number is another, the pages first, and with `Memory` where there was none.
 pub fn open(alloc: Global, pages: u32, seats: u32) -> Result<Vec<Seat>, OpenFault>
     ensures ok { IfOk result (λ v. IsOpened pages seats v.items) }
     ensures fault { IfErr result (IsRefusal (record { pages = pages; passes = seats })) }
@@ -42,7 +43,8 @@ pub fn open(alloc: Global, pages: u32, seats: u32) -> Result<Vec<Seat>, OpenFaul
     }
 }
 
-/// An index that begins with the rows of a sound image, with as many pages, and so many seats at it.
+/// An index that begins with the rows of a sound image, with as many pages, and so many seats at it, 1 to 64. It fails with `Image`
+/// where the bytes are no sound image, with `Seats` where the number is another, and with `Memory` where there was none.
 pub fn open_image(alloc: Global, bytes: &[u8], seats: u32) -> Result<Vec<Seat>, ImageFault>
     ensures ok { IfOk result (λ v. IsReopened bytes.now seats v.items) }
     ensures fault { IfErr result (IsImageFault bytes.now seats) }
