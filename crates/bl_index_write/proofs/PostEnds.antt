@@ -24,7 +24,7 @@ use Rattle.bl_proc_base.specs.declared.answers.Hint.{Hint}
 use Rattle.bl_proc_base.specs.declared.answers.Posted.{Posted}
 use Rattle.bl_frames.specs.declared.view.View.{View}
 use Rattle.bl_index_rule.specs.declared.known.PassState.{PassState}
-use Rattle.bl_index_steps.specs.Runs.{IsDone, IsSince, IsSameProcess, EndsAs}
+use Rattle.bl_index_steps.specs.Runs.{IsDone, IsSameProcess, EndsAs}
 use Rattle.bl_index_write.specs.Events.{HasPosted, IsPostAnswer, IsPostOver, posting}
 use Rattle.bl_index_steps.proofs.Quiet.{first_of, second_of}
 use Rattle.bl_index_steps.proofs.Ends.{not_end_way, not_end}

@@ -76,8 +76,7 @@ pub(crate) fn write<R: Wait>(
             let (reply, _posted, left) = index.insert_posting(rt, pass, key, value);
             (reply, left)
         }
-        KeyWrite::Delete => index.write(rt, pass, key, KeyWrite::Delete),
-        KeyWrite::Change(old, new) => index.write(rt, pass, key, KeyWrite::Change(old, new)),
+        KeyWrite::Delete | KeyWrite::Change(..) => index.write(rt, pass, key, write),
     }
 }
 

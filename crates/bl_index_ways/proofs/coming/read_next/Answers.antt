@@ -1,6 +1,4 @@
 use Rattle.std.proofs.Common.{rules, ℕ, sym, ap, subst, ◌∙◌}
-use Rattle.bl_page.specs.Nodes.{node_of}
-use Rattle.bl_page.specs.Words.{words_of}
 use Rattle.bl_proc_base.specs.declared.acts.Seen.TheVariants as seen
 use Rattle.bl_proc_base.specs.Approaches.{Turns}
 use Rattle.bl_proc_pages.specs.Onwards.{Leads}

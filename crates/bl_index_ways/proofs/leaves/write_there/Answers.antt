@@ -1,6 +1,5 @@
 use Rattle.std.proofs.Common.{ℕ, ◌≡◌, sym, ap, subst, ◌∙◌}
 use Rattle.bl_model.specs.declared.deciding.Decided.{Decided}
-use Rattle.bl_model.specs.declared.deciding.Effect.{Effect}
 use Rattle.bl_model.specs.Rows.{map_of}
 use Rattle.bl_model.specs.Writes.{effect_of}
 use Rattle.bl_page.specs.Faults.{HasPairs, pairs_of}

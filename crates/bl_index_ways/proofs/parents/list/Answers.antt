@@ -1,4 +1,4 @@
-use Rattle.std.proofs.Common.{rules, ℕ, Some, inl, refl, sym, subst, ◌≡◌, ◌∙◌}
+use Rattle.std.proofs.Common.{rules, ℕ, inl, refl, sym, subst, ◌≡◌, ◌∙◌}
 use Rattle.bl_proc_writes.specs.declared.posting.PostReply.{PostReply}
 use Rattle.bl_proc_writes.specs.declared.posting.PostStage.TheVariants as post
 use Rattle.bl_proc.specs.declared.kinds.Proc.{Proc}

@@ -1,9 +1,7 @@
-use Rattle.std.proofs.Common.{ℕ, ◌-◌, ◌<◌, Some, None, refl, sym, ap, subst, ◌∙◌}
+use Rattle.std.proofs.Common.{ℕ, ◌-◌, ◌<◌, refl, sym, ap, subst, ◌∙◌}
 use Rattle.bl_page.specs.Nodes.{node_of}
 use Rattle.bl_proc_pages.specs.declared.onwards.Step.TheVariants.{Here, Down}
 use Rattle.bl_proc_pages.specs.Onwards.{Leads}
-use Rattle.bl_proc_writes.specs.declared.posting.PostStage.TheVariants as post
-use Rattle.bl_proc_writes.specs.declared.posting.PostReply.TheVariants as reply
 use Rattle.bl_store.specs.Hands.{known, read_words, IsSameHand}
 use Rattle.bl_store.specs.declared.store.Hand.{Hand}
 use Rattle.bl_index_rule.specs.declared.known.PassState.{PassState}

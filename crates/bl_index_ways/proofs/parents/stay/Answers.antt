@@ -1,8 +1,6 @@
-use Rattle.std.proofs.Common.{rules, Some, refl, ◌∙◌}
+use Rattle.std.proofs.Common.{rules, refl, ◌∙◌}
 use Rattle.bl_proc_base.specs.declared.acts.Seen.TheVariants as seen
-use Rattle.bl_proc_writes.specs.declared.posting.PostReply.{PostReply}
-use Rattle.bl_store.specs.Hands.{known}
-use Rattle.bl_index_steps.proofs.Standing.{on_as, on_goes, same_goes}
+use Rattle.bl_index_steps.proofs.Standing.{on_goes, same_goes}
 use Rattle.bl_index_ways.proofs.Walked.{opens_staying, some_same}
 use Rattle.bl_index_ways.proofs.parents.stay.Goals as goal
 

@@ -1,4 +1,4 @@
-use Rattle.std.proofs.Common.{◌≡◌, ◌<◌, ◌≤◌}
+use Rattle.std.proofs.Common.{◌<◌, ◌≤◌}
 use Rattle.bl_proc_writes.specs.declared.posting.PostStage.TheVariants as post
 use Rattle.bl_store.specs.Hands.{known, IsSameHand, HasNoStock}
 use Rattle.bl_index_steps.specs.Runs.{Runs, IsSameProcess}

@@ -1,4 +1,4 @@
-use Rattle.std.proofs.Common.{rules, ℕ, ◌≡◌, Option, Some, inl, inr, refl, sym, ap, subst, ◌∙◌}
+use Rattle.std.proofs.Common.{rules, ℕ, ◌≡◌, Some, inl, inr, sym, ap, subst, ◌∙◌}
 use Rattle.bl_model.specs.declared.operation.Op.TheVariants as op
 use Rattle.bl_model.specs.declared.operation.Reply.TheVariants as reply
 use Rattle.bl_model.specs.Replies.{reply_of}
@@ -19,7 +19,7 @@ use Rattle.bl_index_steps.specs.Runs.{IsOn, IsSince}
 use Rattle.bl_index_steps.proofs.Rooms.{lacks_climb, words_not_refused}
 use Rattle.bl_index_steps.proofs.Standing.{on_as}
 use Rattle.bl_index_write.specs.Climbing.{rises}
-use Rattle.bl_index_write.proofs.Climbs.{IsEnded, ended, has_answer, said_by, no_room_page, left_post, rises_on}
+use Rattle.bl_index_write.proofs.Climbs.{ended, has_answer, said_by, no_room_page, left_post, rises_on}
 use Rattle.bl_index_write.proofs.climbing.climb_above.Goals as goal
 
 pub carry_on-process-requires-clause-runs : goal.carry_on-process-requires-clause-runs

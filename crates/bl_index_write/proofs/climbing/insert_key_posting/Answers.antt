@@ -6,7 +6,6 @@ use Rattle.bl_proc_writes.specs.declared.climbing.Climbed.TheVariants as climbed
 use Rattle.bl_proc_writes.specs.declared.climbing.ClimbStage.TheVariants as climb
 use Rattle.bl_proc_writes.specs.Writes.{write_answer}
 use Rattle.bl_proc_unique.specs.Frames.{op_of, work_of}
-use Rattle.bl_store.specs.Hands.{known}
 use Rattle.bl_index_steps.proofs.Standing.{on_itself}
 use Rattle.bl_index_write.specs.Climbing.{climb_unborn}
 use Rattle.bl_index_ways.specs.Writers.{left_reply}

@@ -1,10 +1,6 @@
-use Rattle.std.proofs.Common.{Some, refl, sym, ap, subst, ◌∙◌}
-use Rattle.bl_proc.specs.declared.kinds.Proc.{Proc}
+use Rattle.std.proofs.Common.{Some, ap, ◌∙◌}
 use Rattle.bl_proc_writes.specs.declared.posting.PostStage.TheVariants as post
-use Rattle.bl_proc_base.specs.declared.acts.Seen.TheVariants as seen
-use Rattle.bl_proc_unique.proofs.Posts.{post_goes}
 use Rattle.bl_proc_unique.specs.Frames.{op_of, work_of}
-use Rattle.bl_index_steps.specs.Runs.{EndsAs}
 use Rattle.bl_index_steps.proofs.Standing.{on_itself}
 use Rattle.bl_index_write.specs.Events.{posting}
 use Rattle.bl_index_ways.proofs.Walked.{lacks_post_same}

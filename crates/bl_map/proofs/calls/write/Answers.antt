@@ -1,7 +1,6 @@
-use Rattle.std.proofs.Common.{ℕ, subst, sym, refl}
+use Rattle.std.proofs.Common.{subst, sym}
 use Rattle.bl_model.specs.declared.deciding.KeyWrite.{KeyWrite}
-use Rattle.bl_index.specs.Calls.{number_of, trail, WriteLacks}
-use Rattle.bl_map.specs.Works.{FoundNoRoom}
+use Rattle.bl_index.specs.Calls.{WriteLacks}
 use Rattle.bl_map.proofs.Lacking.{found_last, insert_lacks}
 use Rattle.bl_map.proofs.calls.write.Goals as goal
 
@@ -10,9 +9,4 @@ returns-in-Insert-clause-no_room g c = λ is. found_last _ _ _ _ c.wait_for_fram
     (subst (λ (z : KeyWrite). WriteLacks c.wait_for_frames.new.pass c.args.key z c.insert_posting-reply.new.pass) (sym c.in-Insert.is) (insert_lacks _ _ c.wait_for_frames.new.pass c.insert_posting-reply.new.pass (c.insert_posting-reply.ensures.no_room is)))
 
 pub returns-in-Delete-clause-no_room : goal.returns-in-Delete-clause-no_room
-returns-in-Delete-clause-no_room g c = λ is. found_last _ _ _ _ c.wait_for_frames.new.pass c.write.new.pass c.wait_for_frames.ensures.same.2 c.wait_for_frames.ensures.adds.begins
-    (subst (λ (z : KeyWrite). WriteLacks c.wait_for_frames.new.pass c.args.key z c.write.new.pass) (sym c.in-Delete.is) (c.write.ensures.no_room is))
-
-pub returns-in-Change-clause-no_room : goal.returns-in-Change-clause-no_room
-returns-in-Change-clause-no_room g c = λ is. found_last _ _ _ _ c.wait_for_frames.new.pass c.write-in-Change.new.pass c.wait_for_frames.ensures.same.2 c.wait_for_frames.ensures.adds.begins
-    (subst (λ (z : KeyWrite). WriteLacks c.wait_for_frames.new.pass c.args.key z c.write-in-Change.new.pass) (sym c.in-Change.is) (c.write-in-Change.ensures.no_room is))
+returns-in-Delete-clause-no_room g c = λ is. found_last _ _ _ _ c.wait_for_frames.new.pass c.write.new.pass c.wait_for_frames.ensures.same.2 c.wait_for_frames.ensures.adds.begins (c.write.ensures.no_room is)

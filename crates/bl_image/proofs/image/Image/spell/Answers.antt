@@ -1,7 +1,7 @@
-use Rattle.std.proofs.Common.{rules, refl, sym, get_or, Option, List, ◌≡◌, ◌<◌, length, ◌∙◌, ap, arith}
+use Rattle.std.proofs.Common.{rules, sym, get_or, Option, List, ◌≡◌, ◌<◌, length, ◌∙◌, ap, arith}
 use Rattle.std.proofs.lemmas.List.{length-take-le}
 use Rattle.bl_page.specs.declared.page.Page.{Page}
-use Rattle.bl_image.specs.Images.{head_bytes, page_words, word_bytes}
+use Rattle.bl_image.specs.Images.{head_bytes, word_bytes}
 use Rattle.bl_image.proofs.Spelled.{spelled_more}
 use Rattle.bl_image.proofs.Writes.{page_fits}
 use Rattle.bl_image.proofs.image.Image.spell.Goals as goal
