@@ -19,10 +19,7 @@ pub fn number(text: &[u8]) -> Option<u64>
             return None;
         }
         let digit = u64::from(*byte - b'0');
-        if value > (u64::MAX - digit) / 10 {
-            return None;
-        }
-        value = value * 10 + digit;
+        value = value.checked_mul(10)?.checked_add(digit)?;
     }
     Some(value)
 }

@@ -28,6 +28,16 @@ pub fn push_number(out: &mut Vec<u8>, word: &[u8], value: u64) -> Result<(), All
     out.extend_from_slice(buffer.format(value).as_bytes())
 }
 
+/// Begins an output line: its number and a space.
+fn push_line_number(out: &mut Vec<u8>, number: u64) -> Result<(), AllocError>
+    ensures { OnOk result (out.new.items ≡ out.old.items ++ (decimal number ++ codes " ")) }
+{
+    let mut buffer = Buffer::new();
+    out.extend_from_slice(buffer.format(number).as_bytes())?;
+    out.push(b' ')?;
+    Ok(())
+}
+
 /// Appends a row.
 pub fn push_row(out: &mut Vec<u8>, row: &(u64, u64)) -> Result<(), AllocError>
     ensures { OnOk result (out.new.items ≡ out.old.items ++ row_text row.now) }
@@ -108,8 +118,7 @@ fn push_response(out: &mut Vec<u8>, response: &Response) -> Result<(), AllocErro
 pub fn push_line(out: &mut Vec<u8>, number: u64, response: &Response) -> Result<(), AllocError>
     ensures { OnOk result (out.new.items ≡ out.old.items ++ numbered number (response_text response.now)) }
 {
-    push_number(out, b"", number)?;
-    out.extend_from_slice(b" ")?;
+    push_line_number(out, number)?;
     push_response(out, response)?;
     out.push(b'\n')?;
     Ok(())
@@ -119,8 +128,7 @@ pub fn push_line(out: &mut Vec<u8>, number: u64, response: &Response) -> Result<
 pub fn push_key_line(out: &mut Vec<u8>, number: u64, reply: KeyReply) -> Result<(), AllocError>
     ensures { OnOk result (out.new.items ≡ out.old.items ++ numbered number (reply_text (reply_of reply))) }
 {
-    push_number(out, b"", number)?;
-    out.extend_from_slice(b" ")?;
+    push_line_number(out, number)?;
     push_key_reply(out, reply)?;
     out.push(b'\n')?;
     Ok(())
@@ -130,8 +138,7 @@ pub fn push_key_line(out: &mut Vec<u8>, number: u64, reply: KeyReply) -> Result<
 pub fn push_word_line(out: &mut Vec<u8>, number: u64, word: &[u8]) -> Result<(), AllocError>
     ensures { OnOk result (out.new.items ≡ out.old.items ++ numbered number word.now) }
 {
-    push_number(out, b"", number)?;
-    out.extend_from_slice(b" ")?;
+    push_line_number(out, number)?;
     out.extend_from_slice(word)?;
     out.push(b'\n')?;
     Ok(())
