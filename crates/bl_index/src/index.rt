@@ -74,6 +74,11 @@ impl Pass {
         self.hand.is_due()
     }
 
+    /// How many puts it has made, for who wants to know whether it has changed something. Nothing is promised of it.
+    pub fn puts(&self) -> u64 {
+        self.hand.puts()
+    }
+
     /// The hand by which it works, for one who runs a process event by event.
     pub fn into_hand(self) -> Hand<PassState>
         ensures { result ≡ self.hand }

@@ -9,6 +9,7 @@
 mod carrying;
 mod events;
 mod frame_view;
+mod guessing;
 mod kinds;
 mod pausing;
 mod running;

@@ -23,7 +23,7 @@ goes_on old mid new a b = (a.0 ++ b.0, b.1 ∙ (ap (λ (z : Trail). z ++ b.0) a.
 same_pass : (p q r : Pass) → IsSamePass p q → IsSamePass q r → IsSamePass p r
 same_pass p q r a b = (b.0 ∙ a.0, b.1 ∙ a.1, b.2 ∙ a.2, b.3 ∙ a.3)
 
-same_again : (p q r : Handle) → IsSameHandle p q → IsSameHandle q r → IsSameHandle p r
+pub same_again : (p q r : Handle) → IsSameHandle p q → IsSameHandle q r → IsSameHandle p r
 same_again p q r a b = (b.0 ∙ a.0, same_pass p.pass q.pass r.pass a.1 b.1)
 
 same_self : (p : Handle) → IsSameHandle p p

@@ -11,15 +11,15 @@ use Rattle.bl_proc_base.specs.declared.answers.Posted.{Posted}
 use Rattle.bl_proc_base.specs.declared.answers.Posted.TheVariants as posting
 use Rattle.bl_proc_base.specs.declared.answers.Squeezed.{Squeezed}
 use Rattle.bl_proc_base.specs.declared.answers.Squeezed.TheVariants as squeezing
-use Rattle.bl_index.specs.Calls.{Posts, Compresses, LowersTree}
+use Rattle.bl_index.specs.Calls.{Posts, Compresses, LowersTree, Sweeps}
 use Rattle.bl_map.specs.declared.upkeep.Followed.{Followed}
 use Rattle.bl_map.specs.declared.upkeep.Followed.TheVariants.{Done, NoRoom}
 use Rattle.bl_map.specs.declared.waiting.Waiting.{Waiting}
 use Rattle.bl_proc_base.specs.declared.lowering.Lowered.{Lowered}
-use Rattle.bl_map.specs.Works.{Works, Adds, Swept}
-use Rattle.bl_map.specs.Follows.{Makes, Written, TriesPost, TriesCompression, Tries, TriesHint, may_fall, has_fallen, Lowers, FollowsHint, FollowsOnce, AreDone, StopsAt, FollowsHints, FollowsSplit, WritesLeaving}
+use Rattle.bl_map.specs.Works.{Works, Adds, Swept, Never, Again}
+use Rattle.bl_map.specs.Follows.{Makes, Written, TriesPost, TriesCompression, Tries, TriesHint, may_fall, has_fallen, Lowers, FollowsHint, FollowsOnce, AreDone, StopsAt, FollowsHints, FollowsSplit, WritesLeaving, KeptUp, NothingDone, ThenSwept, ThenFollowed}
 use Rattle.bl_map.specs.Waits.{Changes, TriesOldest, AreTried, TriesAgain}
-use Rattle.bl_map.proofs.Adding.{nothing, then_adds, call_adds, call_works, adds_works, works_on, swept_adds, swept_as}
+use Rattle.bl_map.proofs.Adding.{nothing, then_adds, call_adds, call_works, adds_works, works_on, swept_adds, swept_as, sweep_adds}
 
 -- ---- what they add
 
@@ -75,6 +75,11 @@ split_adds first pass None left old new f = hints_add first pass None left old n
 split_adds first pass (Some (hint.Post level key)) left old new f = hints_add first pass (Some (hint.Post level key)) left old new f
 split_adds first pass (Some (hint.Thin level key)) left old new f = stays_adds first pass old new f.1
 
+pub upkeep_adds : (first : List (Option Page)) (pass : ℕ) (old new : Trail) → KeptUp first pass old new → Adds first pass old new
+upkeep_adds first pass old new NothingDone = nothing first pass old
+upkeep_adds first pass old new (ThenSwept {mid = mid} {answer = answer} k s) = then_adds first pass old mid new (upkeep_adds first pass old mid k) (sweep_adds first pass pass answer mid new refl s)
+upkeep_adds first pass old new (ThenFollowed {mid = mid} {hint = h} {result = result} k f) = then_adds first pass old mid new (upkeep_adds first pass old mid k) (hint_adds first pass h result mid new f)
+
 makes_works : (first : List (Option Page)) (pass : ℕ) (op : Op) (reply : Reply) (next : Option Hint) (old new : Trail) → Makes first pass op reply next old new → Works first pass op reply old new
 makes_works first pass (op.Find key) reply next old new m = call_works first pass pass (op.Find key) reply old new refl m.answers
 makes_works first pass (op.Insert key value) reply next old new m = call_works first pass pass (op.Insert key value) reply old new refl m.1.answers
@@ -83,7 +88,7 @@ makes_works first pass (op.Change key before after) reply next old new m = call_
 makes_works first pass (op.Part key) reply next old new m = call_works first pass pass (op.Part key) reply old new refl m.answers
 
 pub written_works : (first : List (Option Page)) (pass : ℕ) (op : Op) (reply : Reply) (next : Option Hint) (old new : Trail) → Written first pass op reply next old new → Works first pass op reply old new
-written_works first pass op reply next old new w = adds_works first pass op reply old w.mid new (swept_adds first pass old w.mid w.waits) (makes_works first pass op reply next w.mid new w.makes)
+written_works first pass op reply next old new w = adds_works first pass op reply old w.mid new (upkeep_adds first pass old w.mid w.readies) (makes_works first pass op reply next w.mid new w.makes)
 
 pub leaving_works : (first : List (Option Page)) (pass : ℕ) (op : Op) (reply : Reply) (left : Option Hint) (old new : Trail) → WritesLeaving first pass op reply left old new → Works first pass op reply old new
 leaving_works first pass op reply left old new w =
@@ -219,3 +224,30 @@ tried_more first pass it count next before waiting after old mid new same is t o
 pub none_there : {A : Type 0} (xs : List A) → length xs ≡ 0 → xs ≡ []
 none_there [] is = refl
 none_there (x ∷ xs) is = absurd (omega (arith, is))
+
+-- ---- upkeep goes on
+
+-- by sweeps, as many as there were
+keeps_swept_own : (first : List (Option Page)) (pass : ℕ) (old mid new : Trail) → KeptUp first pass old mid → Swept first pass mid new → KeptUp first pass old new
+keeps_swept_own first pass old mid new k Never = k
+keeps_swept_own first pass old mid new k (Again {mid = next} s one) = ThenSwept (keeps_swept_own first pass old mid next k s) one
+
+pub keeps_swept : (first : List (Option Page)) (pass it : ℕ) (old mid new : Trail) → it ≡ pass → KeptUp first pass old mid → Swept first it mid new → KeptUp first pass old new
+keeps_swept first pass it old mid new same k s = keeps_swept_own first pass old mid new k (swept_as first pass it mid new same s)
+
+-- by one more
+pub keeps_sweep : (first : List (Option Page)) (pass it answer : ℕ) (old mid new : Trail) → it ≡ pass → KeptUp first pass old mid → Sweeps first it answer mid new → KeptUp first pass old new
+keeps_sweep first pass it answer old mid new same k s = ThenSwept k (subst (λ (z : ℕ). Sweeps first z answer mid new) same s)
+
+-- by a hint
+pub keeps_followed : (first : List (Option Page)) (pass it : ℕ) (h : Hint) (result : Followed) (old mid new : Trail) → it ≡ pass → KeptUp first pass old mid → FollowsHint first it h result mid new → KeptUp first pass old new
+keeps_followed first pass it h result old mid new same k f = ThenFollowed k (subst (λ (z : ℕ). FollowsHint first z h result mid new) same f)
+
+-- by all that another part of it did
+keeps_own : (first : List (Option Page)) (pass : ℕ) (old mid new : Trail) → KeptUp first pass old mid → KeptUp first pass mid new → KeptUp first pass old new
+keeps_own first pass old mid new k NothingDone = k
+keeps_own first pass old mid new k (ThenSwept {mid = next} l s) = ThenSwept (keeps_own first pass old mid next k l) s
+keeps_own first pass old mid new k (ThenFollowed {mid = next} l f) = ThenFollowed (keeps_own first pass old mid next k l) f
+
+pub keeps_on : (first : List (Option Page)) (pass it : ℕ) (old mid new : Trail) → it ≡ pass → KeptUp first pass old mid → KeptUp first it mid new → KeptUp first pass old new
+keeps_on first pass it old mid new same k l = keeps_own first pass old mid new k (subst (λ (z : ℕ). KeptUp first z mid new) same l)

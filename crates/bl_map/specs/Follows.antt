@@ -13,7 +13,7 @@ use Rattle.bl_proc_base.specs.declared.answers.Squeezed.{Squeezed}
 use Rattle.bl_proc_base.specs.declared.answers.Squeezed.TheVariants as squeezed
 use Rattle.bl_proc_base.specs.declared.lowering.Lowered.{Lowered}
 use Rattle.bl_proc_base.specs.declared.lowering.Lowered.TheVariants as lowered
-use Rattle.bl_index.specs.Calls.{Writes, Climbs, Posts, Compresses, LowersTree}
+use Rattle.bl_index.specs.Calls.{Writes, Climbs, Posts, Compresses, LowersTree, Sweeps}
 use Rattle.bl_map.specs.declared.upkeep.Followed.{Followed}
 use Rattle.bl_map.specs.declared.upkeep.Followed.TheVariants as followed
 use Rattle.bl_map.specs.Works.{Swept}
@@ -23,12 +23,6 @@ use Rattle.bl_map.specs.Works.{Swept}
 abbrev pub Makes : List (Option Page) → ℕ → Op → Reply → Option Hint → Trail → Trail → Type 0
 Makes first pass (op.Insert key value) reply next old new = (last : Option Posted) × Climbs first pass key value reply last next old new
 Makes first pass op reply next old new = Writes first pass op reply next old new
-
--- A key was written: the pass swept while it lacked frames, and then a call of it was answered so, with this hint.
-pub record Written (first : List (Option Page)) (pass : ℕ) (op : Op) (reply : Reply) (next : Option Hint) (old new : Trail) : Type 0 where
-  pub mid : Trail
-  pub waits : Swept first pass old mid
-  pub makes : Makes first pass op reply next mid new
 
 -- What a compression answers that may have left a top level which is not needed: it has merged two children, or found one alone.
 abbrev pub may_fall : Squeezed → Bool
@@ -83,7 +77,20 @@ pub record FollowsHint (first : List (Option Page)) (pass : ℕ) (hint : Hint) (
   pub tries : TriesHint first pass hint (result, falls) old mid
   pub lowers : Lowers first pass 11 falls mid new
 
--- The same, with what is left then: what doing it has left, where there was room, or else the hint itself.
+-- The pass has swept and followed hints, one after another, as often as it may be, and has done nothing else.
+pub data KeptUp (first : List (Option Page)) (pass : ℕ) : Trail → Trail → Type 0 where
+  NothingDone : {old : Trail} → KeptUp first pass old old
+  ThenSwept : {old mid new : Trail} {answer : ℕ} → KeptUp first pass old mid → Sweeps first pass answer mid new → KeptUp first pass old new
+  ThenFollowed : {old mid new : Trail} {hint : Hint} {result : Followed} → KeptUp first pass old mid → FollowsHint first pass hint result mid new
+      → KeptUp first pass old new
+
+-- A key was written: the pass looked for room, by sweeps and by hints of thin pages, and then a call of it was answered so, with this hint.
+pub record Written (first : List (Option Page)) (pass : ℕ) (op : Op) (reply : Reply) (next : Option Hint) (old new : Trail) : Type 0 where
+  pub mid : Trail
+  pub readies : KeptUp first pass old mid
+  pub makes : Makes first pass op reply next mid new
+
+-- A hint was followed, with what is left then: what doing it has left, where there was room, or else the hint itself.
 abbrev pub FollowsOnce : List (Option Page) → ℕ → Hint → Option Hint → Bool → Trail → Trail → Type 0
 FollowsOnce first pass hint left true old new = FollowsHint first pass hint (followed.Done left) old new
 FollowsOnce first pass hint left false old new = (left ≡ Some hint) × FollowsHint first pass hint followed.NoRoom old new

@@ -14,7 +14,7 @@ use Rattle.bl_map.specs.declared.handle.Handle.{Handle}
 use Rattle.bl_map.specs.declared.upkeep.Followed.{Followed}
 use Rattle.bl_map.specs.Works.{Works, Adds, Searched, Swept, FoundNoRoom}
 use Rattle.bl_map.specs.Follows.{FollowsHint, WritesLeaving}
-use Rattle.bl_map.specs.Waits.{hints_of, Changes, TriesAgain, IsNone}
+use Rattle.bl_map.specs.Waits.{hints_of, Changes, TriesAgain, Tidies, IsNone}
 
 -- the index that a handle works on: that of its map
 abbrev pub index_of : Handle → Index
@@ -103,6 +103,10 @@ HasChanged op reply old new = Changes (first_map_of old) (number_of_seat old) op
 -- Hints that wait were tried, so many at most, and what is left of them is kept.
 abbrev pub HasTriedAgain : ℕ → Handle → Handle → Type 0
 HasTriedAgain most old new = TriesAgain (first_map_of old) (number_of_seat old) most old.waiting new.waiting (seen_by old) (seen_by new)
+
+-- Hints that wait were tried, and others were followed.
+abbrev pub HasTidied : Handle → Handle → Type 0
+HasTidied old new = Tidies (first_map_of old) (number_of_seat old) old.waiting new.waiting (seen_by old) (seen_by new)
 
 -- The handle works on this index from that seat, and has nothing to keep up.
 abbrev pub IsHandleOver : Index → Pass → Handle → Type 0

@@ -6,7 +6,7 @@ use Rattle.bl_page.specs.declared.page.Page.{Page}
 use Rattle.bl_claims.specs.Trails.{Trail}
 use Rattle.bl_proc_base.specs.declared.answers.Hint.{Hint}
 use Rattle.bl_map.specs.Works.{Swept}
-use Rattle.bl_map.specs.Follows.{Written, FollowsHints}
+use Rattle.bl_map.specs.Follows.{Written, FollowsHints, KeptUp}
 use Rattle.bl_map.specs.declared.waiting.Waiting.{Waiting}
 
 -- the hints that wait, the oldest first
@@ -74,3 +74,9 @@ pub record TriesAgain (first : List (Option Page)) (pass most : ℕ) (before aft
   pub mid : Trail
   pub tried : HasTried first pass most before after old mid
   pub sweeps : Swept first pass mid new
+
+-- The hints that wait were tried, and then the pass has swept and followed hints.
+pub record Tidies (first : List (Option Page)) (pass : ℕ) (before after : Waiting) (old new : Trail) : Type 0 where
+  pub mid : Trail
+  pub tried : TriesAgain first pass 32 before after old mid
+  pub keeps_up : KeptUp first pass mid new

@@ -11,7 +11,7 @@ ghost use Rattle.bl_map.specs.Works.{Works, Searched, FoundNoRoom};
 ghost use Rattle.bl_map.specs.Follows.{Written};
 ghost use Rattle.bl_map.specs.Scans.{Scanned};
 
-use crate::upkeep::wait_for_frames;
+use crate::room::make_room;
 use bl_index::{Hint, Index, KeyReply, KeyWrite, Pass, Reply, ScanFault};
 use std::alloc::AllocError;
 use std::sync::Wait;
@@ -70,13 +70,24 @@ pub(crate) fn write<R: Wait>(
     ensures written { Written (first_of index.now) (number_of pass.old) (write_op key write) (reply_of result.0) result.1 (trail pass.old) (trail pass.new) }
     ensures no_room { result.0 ≡ replies.NoRoom → FoundNoRoom (number_of pass.old) key write (trail pass.old) (trail pass.new) }
 {
-    wait_for_frames(index, pass);
+    make_room(rt, index, pass, key, write);
     match write {
         KeyWrite::Insert(value) => {
             let (reply, _posted, left) = index.insert_posting(rt, pass, key, value);
             (reply, left)
         }
-        KeyWrite::Delete | KeyWrite::Change(..) => index.write(rt, pass, key, write),
+        KeyWrite::Delete | KeyWrite::Change(..) => {
+            let written = index.write(rt, pass, key, write);
+            note_change(index, write);
+            written
+        }
+    }
+}
+
+/// A row that goes leaves its page with less than before, so a walk may find room again.
+fn note_change(index: &Index, write: KeyWrite) {
+    if write == KeyWrite::Delete {
+        index.tree().store.note_change();
     }
 }
 

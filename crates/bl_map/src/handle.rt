@@ -12,7 +12,7 @@ ghost use Rattle.bl_map.specs.Seats.{IsPassOf-prop};
 
 use crate::upkeep::{self, Followed};
 use crate::waiting::Waiting;
-use crate::{calls, changes, telling};
+use crate::{calls, changes, room, telling};
 use bl_index::{Hint, Index, KeyReply, KeyWrite, Pass, Reply};
 use std::alloc::AllocError;
 use std::sync::Wait;
@@ -36,7 +36,7 @@ pub struct Handle<'a> {
 }
 
 impl<'a> Handle<'a> {
-    ghost use Rattle.bl_map.specs.Handles.{IsSameHandle, HasCalled, HasSearched, HasChanged, HasWritten, HasFoundNoRoom, HasKeptUp, HasFollowed, HasSwept, HasTriedAgain};
+    ghost use Rattle.bl_map.specs.Handles.{IsSameHandle, HasCalled, HasSearched, HasChanged, HasWritten, HasFoundNoRoom, HasKeptUp, HasFollowed, HasSwept, HasTriedAgain, HasTidied};
     ghost use Rattle.bl_map.specs.Handles.{HaveMet, KeepsHints, AreOfOne, IsHandleOver};
     ghost use Rattle.bl_map.specs.Handles.{first_map_of, pages_of_map, number_of_seat, seat_of, seen_by, waiting_of, dropped_of};
     ghost use Rattle.bl_map.specs.Scans.{Scanned, Tells};
@@ -177,6 +177,37 @@ impl<'a> Handle<'a> {
         ensures waits { (result.waiting ≡ waiting_of self.new) × (result.dropped ≡ dropped_of self.new) }
     {
         changes::try_again(rt, self.index, &mut self.pass, &mut self.waiting, most);
+        self.backlog()
+    }
+
+    /// Puts the map in order: tries all pieces again that had found no room, looks at all pages, merges those that are half full at most
+    /// with their neighbours or evens them out, level by level, takes top levels away that are not needed, and gives back what was swapped
+    /// out. It takes time with each page of the map, so it is for when rows have gone and nobody hurries. Where others change the map
+    /// meanwhile it does what it comes to. Says what waits still, as [`Handle::upkeep`] does.
+    pub fn tidy<R: Wait>(&mut self, rt: &R) -> Backlog
+        ensures same { IsSameHandle self.old self.new }
+        ensures kept { HasKeptUp self.old self.new }
+        ensures tidied { HasTidied self.old self.new }
+        ensures waits { (result.waiting ≡ waiting_of self.new) × (result.dropped ≡ dropped_of self.new) }
+    {
+        room::tidy(rt, self.index, &mut self.pass, &mut self.waiting);
+        self.backlog()
+    }
+
+    /// How many pages of the map are free, about: others take and release some meanwhile.
+    pub fn free_pages(&self) -> u64 {
+        self.index.tree().store.free_pages()
+    }
+
+    /// Whether so few are free that changes by all handles at once may want more.
+    pub fn lacks_pages(&self) -> bool {
+        self.index.tree().store.lacks_pages()
+    }
+
+    /// What waits, and what was dropped.
+    fn backlog(&self) -> Backlog
+        ensures { (result.waiting ≡ waiting_of self.now) × (result.dropped ≡ dropped_of self.now) }
+    {
         Backlog {
             waiting: self.waiting.len(),
             dropped: self.waiting.dropped,

@@ -21,6 +21,7 @@ mod changes;
 mod handle;
 mod map;
 mod meeting;
+mod room;
 mod seating;
 mod telling;
 mod upkeep;

@@ -11,9 +11,9 @@ use std::sync::Wait;
 use std::thread;
 
 /// How many levels a tree may have: a split is followed by at most one post on each.
-const LEVELS: u32 = 12;
+pub(crate) const LEVELS: u32 = 12;
 
-/// How often a pass looks for free frames at most before a change, a post or a compression. With 1,024 pages so many looks take a tenth of a
+/// How often a pass looks at most for what it lacks, before a change, a post or a compression. With 1,024 pages so many looks take a tenth of a
 /// second, by estimate, and longer with more: longer than a thread waits for a processor that it has lost within a process, even where
 /// there are ten threads for each.
 const LOOKS: u32 = 32_768;
@@ -27,17 +27,37 @@ pub enum Followed {
     NoRoom,
 }
 
-/// Waits before a change, a post or a compression that may find too few frames while some wait to be released: others may hold back
-/// what is retired, for as long as they run a process. The pass runs none meanwhile. It sweeps and lets others run, so many times at
-/// most.
-pub(crate) fn wait_for_frames(index: &Index, pass: &mut Pass)
+/// What a pass may lack while some of it waits to be released.
+#[derive(Clone, Copy, Debug, PartialEq, Eq)]
+pub(crate) enum Want {
+    /// Frames for a change, a post or a compression.
+    Frames,
+    /// Pages for a split.
+    Pages,
+    /// Nothing: all pages that are retired are to be released.
+    Nothing,
+}
+
+/// Whether the pass lacks what it wants, and some of that waits to be released.
+fn lacks(index: &Index, pass: &Pass, want: Want) -> bool {
+    let store = &index.tree().store;
+    match want {
+        Want::Frames => index.lacks_frames(pass),
+        Want::Pages => store.lacks_pages() && store.retiring_pages() > 0,
+        Want::Nothing => store.retiring_pages() > 0,
+    }
+}
+
+/// Waits while the pass lacks what it wants and some of that waits to be released: others may hold back what is retired, for as long as
+/// they run a process. The pass runs none meanwhile. It sweeps and lets others run, so many times at most.
+pub(crate) fn wait_for(index: &Index, pass: &mut Pass, want: Want)
     requires { IsPassOf index.now pass.old }
     ensures same { IsSamePass pass.old pass.new }
     ensures adds { Adds (first_of index.now) (number_of pass.old) (trail pass.old) (trail pass.new) }
     ensures swept { Swept (first_of index.now) (number_of pass.old) (trail pass.old) (trail pass.new) }
 {
     for _ in 0..LOOKS {
-        if !index.lacks_frames(pass) {
+        if !lacks(index, pass, want) {
             return;
         }
         index.sweep(pass);
@@ -107,7 +127,7 @@ pub(crate) fn try_hint<R: Wait>(
     ensures same { IsSamePass pass.old pass.new }
     ensures tries { TriesHint (first_of index.now) (number_of pass.old) hint result (trail pass.old) (trail pass.new) }
 {
-    wait_for_frames(index, pass);
+    wait_for(index, pass, Want::Frames);
     post_or_compress(rt, index, pass, hint)
 }
 
@@ -133,7 +153,7 @@ pub(crate) fn lower<R: Wait>(rt: &R, index: &Index, pass: &mut Pass, may_fall: b
         if !may_fall {
             return;
         }
-        wait_for_frames(index, pass);
+        wait_for(index, pass, Want::Frames);
         may_fall = has_fallen(index.lower(rt, pass));
     }
 }

@@ -5,6 +5,7 @@ ghost use Rattle.std.specs.Arc.{arc_value};
 ghost use Rattle.bl_seats.specs.Pieces.{are_pieces};
 ghost use Rattle.bl_seats.specs.Seats.{IsSeated};
 
+use crate::walk::{Walk, is_looked_through, may_lack_pages, waits_for_pages};
 use crate::working::{
     begin_following, begin_lowering, begin_writing, find, go_on, meet, part, release,
 };
@@ -21,10 +22,10 @@ use std::{mem, ptr};
 /// How many pieces of upkeep a change does at most before it begins.
 const PIECES: u32 = 16;
 
-/// How often a change looks for free frames at most before it is to be made again.
+/// How often a change looks for free frames at most, or for free pages, before it is to be made again.
 const LOOKS: u32 = 8;
 
-/// How often in a row it is to be made again at most for want of frames, before it begins all the same.
+/// How often in a row it is to be made again at most for want of them, before it begins all the same.
 const PATIENCE: u32 = 65_536;
 
 /// One thread's place at an index.
@@ -49,8 +50,12 @@ pub(crate) struct Upkeep {
     dropped: u64,
     /// Whether the top level may be one that is not needed.
     may_fall: bool,
-    /// How often in a row a change has found too few frames.
+    /// How often in a row a change has found too few frames, or too few pages.
     lacked: u32,
+    /// The walk over all pages that is underway, where pieces were dropped or pages are scarce.
+    walk: Walk,
+    /// Whether a piece was dropped since the last walk began.
+    missed: bool,
     ghost real: { are_pieces hints.items ≡ true },
 }
 
@@ -66,6 +71,8 @@ impl Upkeep {
             dropped: 0,
             may_fall: false,
             lacked: 0,
+            walk: Walk::none(),
+            missed: false,
         }
     }
 
@@ -79,6 +86,7 @@ impl Upkeep {
         };
         if self.hints.is_full() {
             self.dropped = self.dropped.saturating_add(1);
+            self.missed = true;
         } else {
             self.hints.push(Some(hint));
         }
@@ -117,7 +125,7 @@ impl Upkeep {
         }
     }
 
-    /// A change has found too few frames. Says whether it is to begin all the same.
+    /// A change has found too few frames, or too few pages. Says whether it is to begin all the same.
     fn is_out_of_patience(&mut self) -> bool
         ensures { result ≡ false → 0 < self.new.lacked }
     {
@@ -195,6 +203,7 @@ impl Seat {
         ensures most { result ≡ false → HasDoneMost most self.old self.new }
     {
         for _piece in 0..most {
+            self.look_about();
             if !self.takes_up() {
                 return true;
             }
@@ -203,6 +212,7 @@ impl Seat {
                 return false;
             }
         }
+        self.look_about();
         self.has_nothing_to_do()
     }
 
@@ -317,6 +327,7 @@ impl Seat {
         let answer = go_on(&self.index, &mut self.hand, &mut self.stage);
         if let Some(answer) = &answer {
             self.upkeep.note(answer);
+            note_change(&self.index, answer);
         }
         answer
     }
@@ -383,6 +394,10 @@ impl Seat {
         if !self.has_room() {
             return false;
         }
+        if !self.has_pages(key, write) {
+            return false;
+        }
+        self.upkeep.lacked = 0;
         begin_writing(&self.index, &mut self.hand, &mut self.stage, key, write)
     }
 
@@ -395,11 +410,70 @@ impl Seat {
     {
         for _look in 0..LOOKS {
             if !self.index.tree().store.lacks_frames(&self.hand) {
-                self.upkeep.lacked = 0;
                 return true;
             }
             self.sweep();
         }
         self.upkeep.is_out_of_patience()
+    }
+
+    /// Whether an insertion finds a page for a split, or may begin since none is to be found: a walk has looked at all pages. Else the hint
+    /// of a thin page waits now, or what is retired is not released yet.
+    fn has_pages(&mut self, key: u64, write: KeyWrite) -> bool
+        ensures same { IsSameSeat self.old self.new }
+        ensures told { account_of self.new ≡ account_of self.old }
+        ensures keeps { self.new.stage ≡ self.old.stage }
+        ensures waits { result ≡ false → 0 < self.new.upkeep.lacked }
+    {
+        if !may_lack_pages(self.index.tree(), key, write) {
+            return true;
+        }
+        self.release_pages();
+        if is_looked_through(self.index.tree()) {
+            return true;
+        }
+        self.upkeep.missed = true;
+        self.look_about();
+        self.upkeep.is_out_of_patience()
+    }
+
+    /// Sweeps while pages are scarce and some wait to be released, so many times at most.
+    fn release_pages(&mut self)
+        ensures same { IsSameSeat self.old self.new }
+        ensures told { account_of self.new ≡ account_of self.old }
+        ensures keeps { self.new.stage ≡ self.old.stage }
+    {
+        for _look in 0..LOOKS {
+            if !waits_for_pages(self.index.tree()) {
+                return;
+            }
+            self.sweep();
+        }
+    }
+
+    /// Where pieces were dropped or pages are scarce, and nothing waits, it looks at pages until it comes to one that is half full at most.
+    /// The hint of that waits then.
+    fn look_about(&mut self)
+        ensures same { (self.new.index ≡ self.old.index) × (self.new.hand ≡ self.old.hand) × (self.new.stage ≡ self.old.stage) }
+    {
+        if !self.has_nothing_to_do() {
+            return;
+        }
+        let tree = self.index.tree();
+        if self.upkeep.missed && !self.upkeep.walk.is_underway() {
+            self.upkeep.missed = false;
+            self.upkeep.walk.begin(tree, &self.hand);
+        }
+        if self.upkeep.walk.is_underway() {
+            let hint = self.upkeep.walk.find(tree, &self.hand);
+            self.upkeep.keep(hint);
+        }
+    }
+}
+
+/// A row that goes leaves its page with less than before, so a walk may find room again.
+fn note_change(index: &Index, answer: &Answer) {
+    if let Answer::Op(Reply::Deleted(_), _) = answer {
+        index.tree().store.note_change();
     }
 }

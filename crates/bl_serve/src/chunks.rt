@@ -91,6 +91,7 @@ pub fn new_slots(alloc: Global, count: usize, workers: usize) -> Result<Vec<Slot
     for number in 0..count {
         slots.push(Slot {
             role: role_of(number, workers),
+            last: number + 1 == count,
             log: Vec::new(alloc),
             failed: false,
         })?;
@@ -264,6 +265,7 @@ fn answer_chunk<'a, 'b, R: Threads + Wait + Sync, G: Gate + Sync, I: Read>(
         batches: &batches,
         lines: lines.as_slice(),
         before: totals.requests,
+        last: ahead.is_last,
     };
     let threads = threads_for(lines, plan, handles.len());
     let places = slots.as_mut_slice();

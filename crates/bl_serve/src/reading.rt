@@ -34,6 +34,8 @@ pub struct ReadAhead {
     pub lines: ParsedLines,
     /// How reading of them ended.
     pub end: Result<SectionEnd, ServeFault>,
+    /// Whether the input ends with the lines before them.
+    pub is_last: bool,
 }
 
 /// What came next.
@@ -121,6 +123,7 @@ impl ReadAhead {
             most: 0,
             lines: ParsedLines::new(alloc),
             end: Ok(SectionEnd::Finished),
+            is_last: false,
         })
     }
 }

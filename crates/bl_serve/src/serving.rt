@@ -71,6 +71,11 @@ fn goes_on(end: SectionEnd, count: usize, chunk: u64) -> bool
     end == SectionEnd::Finished && chunk <= count as u64
 }
 
+/// Whether the input ends with lines that were read together, with that end, behind which the section is open or not.
+fn is_last(open: bool, end: SectionEnd) -> bool {
+    !open && end != SectionEnd::Synced
+}
+
 /// Answers lines that were read together, counts them, and reads on meanwhile. Bytes after the last LF are a malformed line. The output
 /// goes behind the text.
 fn serve_chunk<'a, T: Threads + Wait + Sync, R: Read, G: Gate + Sync>(
@@ -147,6 +152,7 @@ fn serve_section<'a, T: Threads + Wait + Sync, R: Read, G: Gate + Sync>(
         let end = ahead.end?;
         mem::swap(lines, &mut ahead.lines);
         let open = goes_on(end, lines.len(), chunk);
+        ahead.is_last = is_last(open, end);
         chunk = chunk_behind(chunk);
         let requests = session.totals.requests;
         ahead.most = if open {

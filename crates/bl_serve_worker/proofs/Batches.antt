@@ -11,12 +11,14 @@ use Rattle.bl_page.specs.declared.page.Page.{Page}
 use Rattle.bl_claims.specs.Trails.{Trail}
 use Rattle.bl_claims.specs.Seeing.{own}
 use Rattle.bl_serve_worker.specs.declared.chunk.BatchOutput.{BatchOutput}
+use Rattle.bl_serve_worker.specs.declared.chunk.Slot.{Slot}
 use Rattle.bl_map.specs.declared.handle.Handle.{Handle}
-use Rattle.bl_map.specs.Handles.{IsSameHandle, first_map_of, number_of_seat}
+use Rattle.bl_map.specs.Handles.{IsSameHandle, HasKeptUp, first_map_of, number_of_seat, seen_by}
 use Rattle.bl_map.specs.Works.{Adds}
-use Rattle.bl_map.proofs.Same.{by_same}
+use Rattle.bl_map.proofs.AllMet.{same_again}
+use Rattle.bl_map.proofs.Same.{by_same, kept_as}
 use Rattle.bl_serve_worker.specs.Answering.{answers_text, AnswersLines}
-use Rattle.bl_serve_worker.specs.Batches.{Piece, IsPiece, Logs, lines_in}
+use Rattle.bl_serve_worker.specs.Batches.{Piece, IsPiece, Logs, TakesTurn, lines_in}
 use Rattle.bl_serve_worker.proofs.Lines.{goes_on, stays}
 
 pub no_logs : (first : List (Option Page)) (number : ℕ) (lines : List (Option Request)) (pass : ℕ) (old : Trail) (log : List BatchOutput) → Logs first number lines pass old old log log
@@ -46,3 +48,17 @@ then_logs one two number lines old mid new a b c same x y' = let pass = number_o
 
 pub idle_logs : (first : List (Option Page)) (number : ℕ) (lines : List (Option Request)) (pass : ℕ) (old new : Trail) (log : List BatchOutput) → log ≡ [] → Adds first pass old new → Logs first number lines pass old new [] log
 idle_logs first number lines pass old new log is a = record { pieces = []; log = is; each = All-nil (IsPiece number lines); begins = a.begins; seen = a.seen; mine = a.none ∙ sym (append-nil (own pass old)) }
+
+-- a turn, and then what adds no entry
+pub turn_idle : (a b c : Handle) (number : ℕ) (lines : List (Option Request)) (slot : Slot) → TakesTurn number lines a b slot → IsSameHandle b c → HasKeptUp b c → TakesTurn number lines a c slot
+turn_idle a b c number lines slot t same kept = let k = kept_as a b c t.0 kept in (
+  same_again a b c t.0 same,
+  λ ok. let x = t.1 ok in record {
+    pieces = x.pieces;
+    log = x.log;
+    each = x.each;
+    begins = goes_on (seen_by a) (seen_by b) (seen_by c) x.begins k.begins;
+    seen = λ s. k.seen (x.seen s);
+    mine = k.none ∙ x.mine;
+  },
+)

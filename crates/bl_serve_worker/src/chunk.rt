@@ -35,6 +35,8 @@ pub enum Role {
 #[derive(Drop)]
 pub struct Slot {
     pub role: Role,
+    /// It is the last one: where the input ends with the chunk, its handle puts the index in order behind all others.
+    pub last: bool,
     pub log: Vec<BatchOutput>,
     /// There was no memory for all that it was to write.
     pub failed: bool,
@@ -51,5 +53,7 @@ pub struct Chunk<'a, G> {
     pub lines: &'a [Option<Request>],
     /// How many lines of the input stand before them.
     pub before: u64,
+    /// Whether the input ends with them.
+    pub last: bool,
     pub ghost room: { before + length lines.now < 2 ^ 64 },
 }

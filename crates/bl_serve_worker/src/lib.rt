@@ -2,7 +2,8 @@
 //!
 //! A worker answers the lines of a batch, one after another: it carries a request out and prints the reply. What a call takes and what
 //! keeps the tree in order is `bl_map`'s, whose handles give back the hint that a change has left. A compressor follows the hints that
-//! workers leave, and rests where none waits. A worker sweeps now and then, a compressor behind each hint.
+//! workers leave, and rests where none waits; where hints were dropped it looks at all pages. Behind the last line of the input the last handle
+//! puts the index in order. A worker sweeps now and then, a compressor behind each hint.
 //!
 //! Promised to `bl_serve`, which makes threads of them: a turn of a handle adds to what it has seen the entries of the lines that it
 //! answered, in their order, and no others, and the output of a batch prints their answers. How hints are followed, and when a handle

@@ -8,10 +8,6 @@ use bl_map::Handle;
 use std::sync::Wait;
 use std::sync::atomic::{AtomicU64, Ordering};
 
-/// A compressor follows so many waiting hints, whether or not workers are at work still. So hints are followed too where it comes
-/// behind workers that have ended, as for a chunk that is too short for threads.
-const BEHIND: u32 = 64;
-
 /// How many workers of the chunk are at work, how many compressors rest, and a bell that wakes these.
 #[derive(Drop)]
 pub struct Wakeup {
@@ -55,6 +51,18 @@ impl Wakeup {
         self.resting.fetch_sub(1, Ordering::SeqCst);
     }
 
+    /// Waits until all workers have ended.
+    pub(crate) fn wait_for_workers<R: Wait>(&self, rt: &R) {
+        for _ in rt.forever() {
+            let rung = self.bell.load(Ordering::SeqCst);
+            if self.working.load(Ordering::SeqCst) == 0 {
+                return;
+            }
+            self.bell.park(rt, (rung & 0xffff_ffff) as u32);
+        }
+        unreachable!()
+    }
+
     /// A worker has ended.
     pub(crate) fn worker_done(&self) {
         self.working.fetch_sub(1, Ordering::SeqCst);
@@ -62,31 +70,38 @@ impl Wakeup {
     }
 }
 
-/// Follows hints that wait, so many at most.
-fn follow_some<R: Wait>(rt: &R, hints: &Hints, handle: &mut Handle<'_>)
+/// Puts the index in order where hints were dropped: who follows hints alone never comes to those pages again.
+fn tidy_if_dropped<R: Wait>(rt: &R, hints: &Hints, handle: &mut Handle<'_>)
     ensures same { IsSameHandle handle.old handle.new }
     ensures kept { HasKeptUp handle.old handle.new }
 {
-    for _number in 0..BEHIND {
-        if !follow_hint(rt, hints, handle) {
-            return;
-        }
+    if hints.take_dropped() {
+        handle.tidy(rt);
     }
 }
 
-/// Follows hints until the workers have ended, and some at least.
+/// Follows hints until the workers have ended and none waits.
+fn follow_all<R: Wait>(rt: &R, hints: &Hints, wakeup: &Wakeup, handle: &mut Handle<'_>)
+    ensures same { IsSameHandle handle.old handle.new }
+    ensures kept { HasKeptUp handle.old handle.new }
+{
+    for _ in rt.forever() {
+        let rung = wakeup.bell.load(Ordering::SeqCst);
+        let over = wakeup.working.load(Ordering::SeqCst) == 0;
+        let followed = follow_hint(rt, hints, handle);
+        if over && !followed {
+            return;
+        }
+        wakeup.rest(rt, hints, rung, followed || over);
+    }
+    unreachable!()
+}
+
+/// Follows hints until the workers have ended and none waits. Where some were dropped it looks for what they were of.
 pub(crate) fn follow_hints<R: Wait>(rt: &R, hints: &Hints, wakeup: &Wakeup, handle: &mut Handle<'_>)
     ensures same { IsSameHandle handle.old handle.new }
     ensures kept { HasKeptUp handle.old handle.new }
 {
-    follow_some(rt, hints, handle);
-    for _ in rt.forever() {
-        let rung = wakeup.bell.load(Ordering::SeqCst);
-        if wakeup.working.load(Ordering::SeqCst) == 0 {
-            return;
-        }
-        let followed = follow_hint(rt, hints, handle);
-        wakeup.rest(rt, hints, rung, followed);
-    }
-    unreachable!()
+    follow_all(rt, hints, wakeup, handle);
+    tidy_if_dropped(rt, hints, handle);
 }

@@ -91,7 +91,34 @@ fn compress_at<R: Wait, G: Gate>(
     follow_hints(rt, service.hints, chunk.wakeup, handle);
 }
 
-/// A handle does what its slot says for one chunk.
+/// A handle answers lines or follows hints, as its slot says.
+fn work_at<R: Wait, G: Gate>(rt: &R, chunk: &Chunk<'_, G>, handle: &mut Handle<'_>, slot: &mut Slot)
+    ensures { TakesTurn (suc chunk.now.before) chunk.now.lines.now handle.old handle.new slot.new }
+{
+    match slot.role {
+        Role::Serve => serve_at(rt, chunk, handle, slot),
+        Role::Compress => compress_at(rt, chunk, handle, slot),
+    }
+}
+
+/// Behind the last line the last handle puts the index in order, once all workers have ended. All of them have begun: a thread has the
+/// turns of its handles in their order, and those of the last threads come behind all others where there is no thread for them.
+fn tidy_at_last<R: Wait, G: Gate>(
+    rt: &R,
+    chunk: &Chunk<'_, G>,
+    handle: &mut Handle<'_>,
+    slot: &Slot,
+)
+    ensures same { IsSameHandle handle.old handle.new }
+    ensures kept { HasKeptUp handle.old handle.new }
+{
+    if chunk.last && slot.last {
+        chunk.wakeup.wait_for_workers(rt);
+        handle.tidy(rt);
+    }
+}
+
+/// A handle does what its slot says for one chunk, and what is due behind the last line.
 pub fn take_turn<R: Wait, G: Gate>(
     rt: &R,
     chunk: &Chunk<'_, G>,
@@ -100,8 +127,6 @@ pub fn take_turn<R: Wait, G: Gate>(
 )
     ensures { TakesTurn (suc chunk.now.before) chunk.now.lines.now handle.old handle.new slot.new }
 {
-    match slot.role {
-        Role::Serve => serve_at(rt, chunk, handle, slot),
-        Role::Compress => compress_at(rt, chunk, handle, slot),
-    }
+    work_at(rt, chunk, handle, slot);
+    tidy_at_last(rt, chunk, handle, slot);
 }

@@ -22,6 +22,7 @@ mod opening;
 mod owner;
 mod put;
 mod reserve;
+mod room;
 mod scarce;
 mod stock;
 mod store;

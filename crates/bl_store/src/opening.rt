@@ -5,6 +5,7 @@ ghost use Rattle.bl_frames.specs.Frames.{share};
 ghost use Rattle.bl_store.specs.Opening.{first_pages, is_blank, Laid, IsDealt};
 ghost use Rattle.bl_frames.specs.declared.view.Sealing.TheVariants.{Unsealed};
 
+use crate::room::Room;
 use crate::store::{APART, Hand, RING, Store};
 use atomic_table::{Seat, Split, Table};
 use bl_frames::{Ground, PageRule, View};
@@ -78,6 +79,7 @@ impl<D, R: PageRule<D>> Store<D, R, Global> {
             stamps: layout.process_cell(0),
             apart: [0; APART],
             least_free: AtomicU64::new(1),
+            room: Room::new(count_blank(first)),
             behind: [0; APART],
         };
         let hands = store.deal(alloc, seat)?;
@@ -123,9 +125,17 @@ impl<D> Hand<D> {
             untried: 0,
             unswept: 0,
             owed: 0,
+            gone: [0; RING],
+            leaving: 0,
+            puts: 0,
             apart: [0; APART],
         }
     }
+}
+
+// How many pages have only zeros.
+fn count_blank(first: &[[u64; 32]]) -> u64 {
+    first.iter().filter(|words| is_all_zeros(words)).count() as u64
 }
 
 // Gives each page that is not all zeros the frame of its own number.

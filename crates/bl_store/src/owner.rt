@@ -76,6 +76,8 @@ impl<D, R: PageRule<D>, A: Allocator> Store<D, R, A> {
         self.table
             .shared
             .store::<Publish>(&mut hand.seat, at, retired_at(time));
+        self.room.note_retired();
+        hand.note_gone(page);
     }
 
     // The tick by which the page is retired.

@@ -298,6 +298,7 @@ impl<D, R: PageRule<D>, A: Allocator> Store<D, R, A> {
         requires own { IsHandOf self.now hand.old }
         ensures same { hand.new.seat ≡ hand.old.seat }
     {
+        hand.puts = hand.puts.wrapping_add(1);
         hand.untried = hand.untried.saturating_add(1);
         hand.unswept = hand.unswept.saturating_add(1);
         if hand.waiting < RING as u32 {

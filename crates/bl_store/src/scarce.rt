@@ -1,4 +1,5 @@
-//! Whether frames are scarce.
+//! Whether frames or pages are scarce, and what a walk over all pages tells of it. All of it is a hint, of which nothing is promised: others
+//! take and release meanwhile.
 
 ghost use Rattle.std.specs.Prelude.{◌≤◌};
 ghost use Rattle.bl_layout.specs.Words.{frame_count};
@@ -9,6 +10,9 @@ use std::alloc::Allocator;
 
 /// How many frames a reservation asks for at most.
 const MOST: u32 = 3;
+
+/// Pages are scarce where fewer are free than so many for each hand: one for a leaf, and one for each of two levels above it.
+const PAGES_A_HAND: u64 = 3;
 
 impl<D, R: PageRule<D>, A: Allocator> Store<D, R, A> {
     /// Whether a reservation may find too few frames now while some wait to be released: fewer are free than all hands together
@@ -69,5 +73,78 @@ impl<D, R: PageRule<D>, A: Allocator> Store<D, R, A> {
             retired = retired || state % 4 == 3;
         }
         (free, retired)
+    }
+
+    /// How many pages are free, as the hands count it together.
+    pub fn free_pages(&self) -> u64 {
+        self.room.free()
+    }
+
+    /// Whether pages are scarce: so few are free that changes by all hands at once may want more.
+    #[inline(always)]
+    pub fn lacks_pages(&self) -> bool {
+        self.room.free() < PAGES_A_HAND * u64::from(self.layout.passes)
+    }
+
+    /// How many pages are retired and not released yet: they are as good as free, once no process runs that began before.
+    pub fn retiring_pages(&self) -> u64 {
+        self.room.retiring()
+    }
+
+    /// Whether pages are not scarce any more, once those are released that are retired.
+    pub fn is_freeing_enough(&self) -> bool {
+        let freeing = self.room.free().saturating_add(self.room.retiring());
+        freeing >= PAGES_A_HAND * u64::from(self.layout.passes)
+    }
+
+    /// Whether they are so scarce that not each hand finds one.
+    pub fn is_short_of_pages(&self) -> bool {
+        self.room.free() < u64::from(self.layout.passes)
+    }
+
+    /// Who walks over all pages to find such as can be merged says when it begins, and gets the number of its walk.
+    pub fn begin_walk(&self) -> u64 {
+        self.room.begin_walk()
+    }
+
+    /// And that it has found none.
+    pub fn end_walk(&self, number: u64) {
+        self.room.end_walk(number);
+    }
+
+    /// Whether such a walk has found none, where nothing has come since that may be found.
+    pub fn is_walked(&self) -> bool {
+        self.room.has_none()
+    }
+
+    /// Something has come that a walk may find: a page has less on it than before.
+    #[inline(always)]
+    pub fn note_change(&self) {
+        self.room.note_change();
+    }
+
+    /// Whether a page is neither released nor retired now.
+    pub fn is_in_use(&self, page: u32) -> bool {
+        if page >= self.layout.pages {
+            return false;
+        }
+        let state = self.table.shared.peek(self.layout.page_owner_cell(page));
+        state != 0 && state % 4 != 3
+    }
+
+    /// A word of a page as it stands now, which is no event and tells nothing: the next one may be of another put. 0 where there is
+    /// none such.
+    pub fn peek(&self, page: u32, place: usize) -> u64 {
+        if page >= self.layout.pages || place >= 32 {
+            return 0;
+        }
+        let found = self.table.shared.peek(self.heads + page as usize);
+        let frame = found.wrapping_sub(1);
+        if frame >= self.layout.frames() as u64 {
+            return 0;
+        }
+        self.table
+            .shared
+            .peek(self.firsts + 32 * frame as usize + place)
     }
 }

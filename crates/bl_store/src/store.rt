@@ -8,6 +8,7 @@ ghost use Rattle.bl_store.specs.Hands.{known, read_words, IsIdle, IsRunning, IsS
 ghost use Rattle.bl_frames.specs.declared.view.Reading.TheVariants.{At};
 ghost use Rattle.bl_frames.specs.declared.view.Sealing.TheVariants.{Unsealed};
 
+use crate::room::Room;
 use atomic_table::{Seat, Table};
 use bl_frames::plays::{Clock, Copy, Enter, Leave, Look, Raise, Renew};
 use bl_frames::{Framed, Ground, PagePlay, PageRule, TimePlay, View};
@@ -44,6 +45,11 @@ pub struct Hand<D> {
     // How many it has retired since its last sweep, and how many sweeps it owes.
     pub(crate) unswept: u32,
     pub(crate) owed: u32,
+    // Pages that it has retired, at which its next sweeps look first, and how many.
+    pub(crate) gone: [u32; RING],
+    pub(crate) leaving: u32,
+    // How many puts it has made.
+    pub(crate) puts: u64,
     // It keeps two hands that stand beside each other apart: each put writes to the fields above, and each call reads the first ones.
     pub(crate) apart: [u64; APART],
     pub ghost own: { (number ≡ seat.me.0.number) × (number < seat.me.0.layout.passes) × (seat.me.0.sealing ≡ Unsealed) × (seat.me.1 ≡ []) },
@@ -66,10 +72,11 @@ pub struct Store<D, R: PageRule<D>, A: Allocator = Global> {
     pub(crate) heads: usize,
     pub(crate) firsts: usize,
     pub(crate) stamps: usize,
-    // It keeps the hint, which each take writes, apart from the fields above, which each call reads.
+    // It keeps what each take writes apart from the fields above, which each call reads.
     pub(crate) apart: [u64; APART],
-    // The least page that may be released, as one thread alone sees it. No proof rests on it.
+    // The least page that may be released, as one thread alone sees it. No proof rests on it, nor on the room.
     pub(crate) least_free: AtomicU64,
+    pub(crate) room: Room,
     // And apart from what stands behind the store.
     pub(crate) behind: [u64; APART],
     pub ghost key: { table.shared.key.layout ≡ layout },
@@ -108,6 +115,12 @@ impl<D> Hand<D> {
     /// that it has retired. It is a hint, and a sweep does its whole work whatever this says.
     pub fn is_due(&self) -> bool {
         self.owed > 0
+    }
+
+    /// How many puts it has made since the store was made. It counts for who wants to know whether something was changed, and nothing is
+    /// promised of it.
+    pub fn puts(&self) -> u64 {
+        self.puts
     }
 
     /// The number of the hand, by which a rule and an owner name it.

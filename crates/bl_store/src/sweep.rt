@@ -28,14 +28,46 @@ fn behind(first: u32, steps: u32, many: u32) -> u32
     }
 }
 
+impl<D> Hand<D> {
+    // It keeps a page in sight that it has retired. Where it has no room for it, sweeps over all owner words find it again.
+    pub(crate) fn note_gone(&mut self, page: u32)
+        ensures same { self.new.seat ≡ self.old.seat }
+    {
+        if self.leaving < RING as u32 {
+            self.gone[self.leaving as usize] = page;
+            self.leaving += 1;
+        }
+    }
+
+    // Takes the page out of sight that it has retired last.
+    fn take_gone(&mut self) -> Option<u32>
+        ensures same { self.new.seat ≡ self.old.seat }
+    {
+        if self.leaving == 0 || self.leaving > RING as u32 {
+            return None;
+        }
+        self.leaving -= 1;
+        Some(self.gone[self.leaving as usize])
+    }
+
+    // A sweep that went from no page of its own leads the next such one on.
+    fn go_on_from(&mut self, page: Option<u32>, owner: u32)
+        ensures same { self.new.seat ≡ self.old.seat }
+    {
+        if page.is_none() {
+            self.owner = owner;
+        }
+    }
+}
+
 impl<D, R: PageRule<D>, A: Allocator> Store<D, R, A> {
     ghost use Rattle.bl_store.specs.Owners.{IsHandOf};
 
     /// Releases pages and frames that were retired before each process began that still runs. Returns how many; so the pages
     /// of which the hand is told are no more.
     ///
-    /// It looks at 64 owner words, or all where there are fewer, from where the hand's last sweep ended, and then
-    /// once at each process word, if it found anything retired.
+    /// It looks at 64 owner words, or all where there are fewer, from a page on that the hand has retired itself, or else from where its
+    /// last such sweep ended, and then once at each process word, if it found anything retired.
     pub fn sweep<M: SweepPlay<D>>(&self, hand: &mut Hand<D>) -> u32
         requires own { IsHandOf self.now hand.old }
         requires rule { ReleasesMany R.holds self.now.layout hand.old.number (known hand.old.seat) M.then }
@@ -47,7 +79,8 @@ impl<D, R: PageRule<D>, A: Allocator> Store<D, R, A> {
         hand.owed = hand.owed.saturating_sub(1);
         let owners = self.layout.pages + self.layout.frames();
         let looks = owners.min(LOOKS);
-        let first = hand.owner % owners;
+        let mine = hand.take_gone();
+        let first = mine.unwrap_or(hand.owner) % owners;
         let mut states = [0u64; LOOKS as usize];
         let mut any = false;
         for i in 0..looks {
@@ -59,7 +92,7 @@ impl<D, R: PageRule<D>, A: Allocator> Store<D, R, A> {
                 any = true;
             }
         }
-        hand.owner = behind(first, looks, owners);
+        hand.go_on_from(mine, behind(first, looks, owners));
         if !any {
             return 0;
         }
@@ -74,7 +107,23 @@ impl<D, R: PageRule<D>, A: Allocator> Store<D, R, A> {
                 }
             }
         }
+        self.keep_gone(hand, mine);
         released
+    }
+
+    // The hand keeps a page in sight, which it has retired, where it is not released yet.
+    fn keep_gone(&self, hand: &mut Hand<D>, page: Option<u32>)
+        ensures same { hand.new.seat ≡ hand.old.seat }
+    {
+        let Some(page) = page else {
+            return;
+        };
+        if page >= self.layout.pages {
+            return;
+        }
+        if self.table.shared.peek(self.layout.page_owner_cell(page)) % 4 == 3 {
+            hand.note_gone(page);
+        }
     }
 
     // A time at which or after which each process began that still runs.
@@ -179,6 +228,7 @@ impl<D, R: PageRule<D>, A: Allocator> Store<D, R, A> {
                 return false;
             }
             self.least_free.fetch_min(at as u64, Ordering::SeqCst);
+            self.room.note_released();
             return true;
         }
         let word = self.layout.frame_owner_cell(at - self.layout.pages);

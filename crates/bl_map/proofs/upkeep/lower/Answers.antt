@@ -10,13 +10,13 @@ loop-level-init g c = record { same = search rules; adds = nothing _ _ _; on = �
 pub loop-level-preserved : goal.loop-level-preserved
 loop-level-preserved g c =
     let inv = c.loop-level.invariant in
-    let one = c.wait_for_frames.ensures.same.2 ∙ inv.same.2 in
+    let one = c.wait_for.ensures.same.2 ∙ inv.same.2 in
     record {
       same = search rules;
-      adds = then_adds _ _ _ _ _ (then_adds _ _ _ _ _ inv.adds (adds_as _ _ _ _ _ inv.same.2 c.wait_for_frames.ensures.adds)) (call_adds _ _ _ _ _ one c.lower.ensures.lowers.adds);
+      adds = then_adds _ _ _ _ _ (then_adds _ _ _ _ _ inv.adds (adds_as _ _ _ _ _ inv.same.2 c.wait_for.ensures.adds)) (call_adds _ _ _ _ _ one c.lower.ensures.lowers.adds);
       on = λ end l. inv.on end (lowers_more (first_of c.args.index.now) (number_of c.args.pass.now) _ _ (12 - c.loop-level._level) (12 - (c.loop-level._level + 1)) c.loop-level.may_fall c.has_fallen-may_fall.result c.lower.result
-          (trail c.loop-level.pass) (trail c.wait_for_frames.new.pass) (trail c.lower.new.pass) end inv.same.2 one (omega arith) (search rules) c.has_fallen-may_fall.ensures
-          c.wait_for_frames.ensures.swept c.lower.ensures.lowers l);
+          (trail c.loop-level.pass) (trail c.wait_for.new.pass) (trail c.lower.new.pass) end inv.same.2 one (omega arith) (search rules) c.has_fallen-may_fall.ensures
+          c.wait_for.ensures.swept c.lower.ensures.lowers l);
     }
 
 pub returns-then-not-may_fall-clause-lowers : goal.returns-then-not-may_fall-clause-lowers

@@ -1,5 +1,5 @@
-use Rattle.bl_serve_worker.proofs.Batches.{idle_logs}
+use Rattle.bl_serve_worker.proofs.Batches.{turn_idle}
 use Rattle.bl_serve_worker.proofs.working.take_turn.Goals as goal
 
-pub returns-in-Compress : goal.returns-in-Compress
-returns-in-Compress g c = (c.compress_at.ensures.same, λ ok. idle_logs _ _ _ _ _ _ _ c.compress_at.ensures.empty c.compress_at.ensures.kept)
+pub returns-clause : goal.returns-clause
+returns-clause g c = turn_idle _ _ _ _ _ _ c.work_at.ensures c.tidy_at_last.ensures.same c.tidy_at_last.ensures.kept

@@ -1,7 +1,7 @@
 use Rattle.std.proofs.Common.{rules}
 use Rattle.bl_map.proofs.Adding.{nothing, then_adds, sweep_adds, swept_more}
 use Rattle.bl_map.specs.Works.{Never}
-use Rattle.bl_map.proofs.upkeep.wait_for_frames.Goals as goal
+use Rattle.bl_map.proofs.upkeep.wait_for.Goals as goal
 
 pub loop-init : goal.loop-init
 loop-init c = record { same = search rules; adds = nothing _ _ _; swept = Never }

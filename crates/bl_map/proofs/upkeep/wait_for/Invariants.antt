@@ -1,6 +1,6 @@
 use Rattle.bl_index.specs.Calls.{first_of, IsSamePass, number_of, trail}
 use Rattle.bl_map.specs.Works.{Adds, Swept}
-use Rattle.bl_map.proofs.upkeep.wait_for_frames.Given as goal
+use Rattle.bl_map.proofs.upkeep.wait_for.Given as goal
 
 abbrev pub invariant-loop : goal.invariant-loop
 invariant-loop l = record {
