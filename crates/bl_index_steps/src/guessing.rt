@@ -46,12 +46,12 @@ impl Head {
     }
 }
 
-/// The hint of a thin page that covers the key, whose parent has that level, if a parent can have it.
+/// The hint of a thin page of that level that covers the key, if a parent can have it.
 fn thin(level: u64, key: u64) -> Option<Hint> {
-    if level < 1 || level > TOP {
+    if level >= TOP {
         return None;
     }
-    let level = Level::new(level as u32);
+    let level = Level::new(level as u32 + 1);
     Some(Hint::Thin { level, key })
 }
 
@@ -70,7 +70,7 @@ impl Tree {
         if !head.is_half_full_at_most() {
             return None;
         }
-        thin(head.level + 1, self.store.peek(page, 1))
+        thin(head.level, self.store.peek(page, 1))
     }
 
     /// Whether an insertion of the key may split a leaf: the leaf that seems to cover it seems to be full, or none is found.

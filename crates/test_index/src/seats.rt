@@ -198,3 +198,42 @@ fn a_close_without_all_seats_is_refused(rt: HostRuntime) {
     let mut seat = back.pop().expect(&rt, "it is back");
     assert_eq!(rt; seat.find(1), Some(KeyReply::Absent));
 }
+
+/// A window of so many living rows moves over so many insertions, with 256 pages.
+const LIVING: u64 = 1_222;
+
+const INSERTIONS: u64 = 12_000;
+
+/// Writes a key, and makes the call again while it is to be made again, so often at most.
+fn written(seat: &mut Seat, key: u64, write: KeyWrite) -> Option<Reply> {
+    for _call in 0..4_096 {
+        let reply = seat.write(key, write);
+        if reply.is_some() {
+            return reply;
+        }
+    }
+    None
+}
+
+/// How many keys of a window are not inserted, or not deleted when so many came behind them.
+fn moved_in_vain(seat: &mut Seat) -> u64 {
+    let mut wrong = 0u64;
+    for key in 0..INSERTIONS + LIVING {
+        let new = key >= INSERTIONS
+            || written(seat, key, KeyWrite::Insert(key)) == Some(Reply::Inserted);
+        let old = key < LIVING
+            || written(seat, key - LIVING, KeyWrite::Delete) == Some(Reply::Deleted(key - LIVING));
+        if !new || !old {
+            wrong = wrong.saturating_add(1);
+        }
+    }
+    wrong
+}
+
+#[test]
+fn a_window_moves_and_leaves_nothing_to_do(rt: HostRuntime) {
+    let mut seat = opened(rt.alloc(), 256).expect(&rt, "it is opened");
+    assert_eq!(rt; moved_in_vain(&mut seat), 0);
+    assert!(rt; seat.tend(4_096) && seat.waiting() == 0);
+    assert_eq!(rt; insert_many(&mut seat, 1_528), 1_528);
+}
