@@ -25,7 +25,7 @@ const WAITING: u32 = 32;
 
 /// How far a walk over pages goes.
 #[derive(Clone, Copy, Debug, PartialEq, Eq)]
-enum Walk {
+enum Extent {
     /// To the end.
     Whole,
     /// Until pages are no longer scarce, as soon as those are released that are retired.
@@ -48,8 +48,8 @@ fn wants_walk(index: &Index) -> bool {
 }
 
 /// Whether a walk has come as far as it is to go.
-fn is_enough(index: &Index, walk: Walk) -> bool {
-    walk == Walk::Enough && index.tree().store.is_freeing_enough()
+fn is_enough(index: &Index, extent: Extent) -> bool {
+    extent == Extent::Enough && index.tree().store.is_freeing_enough()
 }
 
 /// Looks for frames before a write. Where it may split a leaf while pages are scarce, thin pages are merged before, and what is retired is
@@ -78,7 +78,7 @@ fn find_pages<R: Wait>(rt: &R, index: &Index, pass: &mut Pass)
             walk_piece(rt, index, pass);
             return;
         }
-        walk_all(rt, index, pass, Walk::Enough);
+        walk_all(rt, index, pass, Extent::Enough);
         wait_for(index, pass, Want::Pages);
     }
 }
@@ -95,7 +95,14 @@ fn walk_piece<R: Wait>(rt: &R, index: &Index, pass: &mut Pass)
     }
     let pages = index.patience();
     let from = (pass.puts() % 65_536) as u32 * 61 % pages.max(1);
-    walk(rt, index, pass, from, pages.min(from + PIECE), Walk::Enough);
+    walk(
+        rt,
+        index,
+        pass,
+        from,
+        pages.min(from + PIECE),
+        Extent::Enough,
+    );
 }
 
 /// Puts the map in order: tries the hints again that wait, and then follows one for each page that is half full at most, until nothing
@@ -116,7 +123,7 @@ fn merge_all<R: Wait>(rt: &R, index: &Index, pass: &mut Pass)
     ensures readies { KeptUp (first_of index.now) (number_of pass.old) (trail pass.old) (trail pass.new) }
 {
     for _round in 0..ROUNDS {
-        let changed = walk_all(rt, index, pass, Walk::Whole);
+        let changed = walk_all(rt, index, pass, Extent::Whole);
         wait_for(index, pass, Want::Nothing);
         if !changed {
             return;
@@ -126,7 +133,7 @@ fn merge_all<R: Wait>(rt: &R, index: &Index, pass: &mut Pass)
 
 /// Walks over all pages. Says whether that has changed any, or has not come to the last one. Where it has neither, all know that there is
 /// nothing to find.
-fn walk_all<R: Wait>(rt: &R, index: &Index, pass: &mut Pass, how: Walk) -> bool
+fn walk_all<R: Wait>(rt: &R, index: &Index, pass: &mut Pass, extent: Extent) -> bool
     requires { IsPassOf index.now pass.old }
     ensures same { IsSamePass pass.old pass.new }
     ensures readies { KeptUp (first_of index.now) (number_of pass.old) (trail pass.old) (trail pass.new) }
@@ -134,7 +141,7 @@ fn walk_all<R: Wait>(rt: &R, index: &Index, pass: &mut Pass, how: Walk) -> bool
     let store = &index.tree().store;
     let number = store.begin_walk();
     let puts = pass.puts();
-    let ended = walk(rt, index, pass, 1, index.patience(), how);
+    let ended = walk(rt, index, pass, 1, index.patience(), extent);
     if !ended || pass.puts() != puts {
         return true;
     }
@@ -143,13 +150,13 @@ fn walk_all<R: Wait>(rt: &R, index: &Index, pass: &mut Pass, how: Walk) -> bool
 }
 
 /// Looks at the pages from one on and below another, and mends those that are thin. Says whether it has come to the end.
-fn walk<R: Wait>(rt: &R, index: &Index, pass: &mut Pass, from: u32, to: u32, how: Walk) -> bool
+fn walk<R: Wait>(rt: &R, index: &Index, pass: &mut Pass, from: u32, to: u32, extent: Extent) -> bool
     requires { IsPassOf index.now pass.old }
     ensures same { IsSamePass pass.old pass.new }
     ensures readies { KeptUp (first_of index.now) (number_of pass.old) (trail pass.old) (trail pass.new) }
 {
     for page in from..to {
-        if is_enough(index, how) {
+        if is_enough(index, extent) {
             return false;
         }
         mend(rt, index, pass, index.tree().thin_at(page));
