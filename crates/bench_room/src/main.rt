@@ -1,5 +1,6 @@
-//! A window of rows that moves over a map of 1,024 pages, for `bench/room`: rows with rising keys are inserted, and each is deleted once so
-//! many live. It prints how many rows were inserted so far, how many pages are in use then, and how many insertions were refused.
+//! A window of rows that moves over a map of 1,024 pages, for `bench/room`: rows with rising keys are inserted by one handle, and each is
+//! deleted by another once so many live. It prints how many rows were inserted so far, how many pages are in use then, and how many
+//! insertions were refused; and last, when all rows are deleted and the map is put in order, how many pages are in use.
 #![tactic(auto)]
 
 ghost use Rattle.std.specs.Prelude.{IfSome};
@@ -33,27 +34,48 @@ impl Load {
     }
 }
 
-/// A map with one seat.
-fn opened(alloc: Global) -> Option<(Map, Seat)>
-    ensures { IfSome result (λ t. IsSeatOf t.0 t.1) }
+/// A map with two seats.
+fn opened(alloc: Global) -> Option<(Map, Seat, Seat)>
+    ensures { IfSome result (λ t. IsSeatOf t.0 t.1 × IsSeatOf t.0 t.2) }
 {
-    let (map, mut seats) = Map::open(alloc, PAGES, 1).ok()?;
-    let seat = seats.pop()?;
-    Some((map, seat))
+    let (map, mut seats) = Map::open(alloc, PAGES, 2).ok()?;
+    let two = seats.pop()?;
+    let one = seats.pop()?;
+    Some((map, one, two))
 }
 
 /// Inserts the rows from one on and below another, and deletes for each the one that came so many before. Says how many were refused.
-fn move_on<R: Wait>(rt: &R, handle: &mut Handle<'_>, from: u64, to: u64, living: u64) -> u64 {
+fn move_on<R: Wait>(
+    rt: &R,
+    one: &mut Handle<'_>,
+    other: &mut Handle<'_>,
+    from: u64,
+    to: u64,
+    living: u64,
+) -> u64 {
     let mut refused = 0u64;
     for key in from..to {
-        if handle.insert(rt, key, key) == KeyReply::NoRoom {
+        if one.insert(rt, key, key) == KeyReply::NoRoom {
             refused = refused.wrapping_add(1);
         }
         if key >= living {
-            handle.delete(rt, key - living);
+            other.delete(rt, key - living);
         }
     }
     refused
+}
+
+/// Deletes the rows from one on and below another, and puts the map in order.
+fn empty<R: Wait>(rt: &R, handle: &mut Handle<'_>, from: u64, to: u64) {
+    for key in from..to {
+        handle.delete(rt, key);
+    }
+    handle.tidy(rt);
+}
+
+/// How many pages are in use.
+fn used(handle: &Handle<'_>) -> u64 {
+    u64::from(PAGES).saturating_sub(handle.free_pages())
 }
 
 fn main(rt: HostRuntime) -> anyhow::Result<()> {
@@ -62,18 +84,22 @@ fn main(rt: HostRuntime) -> anyhow::Result<()> {
         eprintln!(&rt; "usage: bench_room ROWS LIVING STEP")?;
         return Ok(());
     };
-    let Some((map, seat)) = opened(rt.alloc()) else {
+    let Some((map, one, two)) = opened(rt.alloc()) else {
         eprintln!(&rt; "out of memory")?;
         return Ok(());
     };
-    let mut handle = map.handle(seat);
+    let mut one = map.handle(one);
+    let mut two = map.handle(two);
     let mut done = 0u64;
     while done < load.rows {
         let to = done.saturating_add(load.step.max(1)).min(load.rows);
-        let refused = move_on(&rt, &mut handle, done, to, load.living);
-        let used = u64::from(PAGES).saturating_sub(handle.free_pages());
-        println!(&rt; "{to} {used} {refused}")?;
+        let refused = move_on(&rt, &mut one, &mut two, done, to, load.living);
+        let pages = used(&one);
+        println!(&rt; "{to} {pages} {refused}")?;
         done = to;
     }
+    empty(&rt, &mut two, done.saturating_sub(load.living), done);
+    let pages = used(&two);
+    println!(&rt; "empty {pages}")?;
     Ok(())
 }

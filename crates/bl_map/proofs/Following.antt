@@ -18,7 +18,7 @@ use Rattle.bl_map.specs.declared.waiting.Waiting.{Waiting}
 use Rattle.bl_proc_base.specs.declared.lowering.Lowered.{Lowered}
 use Rattle.bl_map.specs.Works.{Works, Adds, Swept, Never, Again}
 use Rattle.bl_map.specs.Follows.{Makes, Written, TriesPost, TriesCompression, Tries, TriesHint, may_fall, has_fallen, Lowers, FollowsHint, FollowsOnce, AreDone, StopsAt, FollowsHints, FollowsSplit, WritesLeaving, KeptUp, NothingDone, ThenSwept, ThenFollowed}
-use Rattle.bl_map.specs.Waits.{Changes, TriesOldest, AreTried, TriesAgain}
+use Rattle.bl_map.specs.Waits.{Changes, TriesOldest, AreTried, TriesAgain, Tidies}
 use Rattle.bl_map.proofs.Adding.{nothing, then_adds, call_adds, call_works, adds_works, works_on, swept_adds, swept_as, sweep_adds}
 
 -- ---- what they add
@@ -251,3 +251,9 @@ keeps_own first pass old mid new k (ThenFollowed {mid = next} l f) = ThenFollowe
 
 pub keeps_on : (first : List (Option Page)) (pass it : ℕ) (old mid new : Trail) → it ≡ pass → KeptUp first pass old mid → KeptUp first it mid new → KeptUp first pass old new
 keeps_on first pass it old mid new same k l = keeps_own first pass old mid new k (subst (λ (z : ℕ). KeptUp first z mid new) same l)
+
+pub upkeep_as : (first : List (Option Page)) (pass it : ℕ) (old new : Trail) → it ≡ pass → KeptUp first it old new → KeptUp first pass old new
+upkeep_as first pass it old new same k = subst (λ (z : ℕ). KeptUp first z old new) same k
+
+pub tidies_adds : (first : List (Option Page)) (pass : ℕ) (before after : Waiting) (old new : Trail) → Tidies first pass before after old new → Adds first pass old new
+tidies_adds first pass before after old new t = then_adds first pass old t.mid new (again_adds first pass 32 before after old t.mid t.tried) (upkeep_adds first pass t.mid new t.keeps_up)
