@@ -37,6 +37,12 @@
 #include <stddef.h>
 #include <stdint.h>
 
+/* The version, which docs/make writes from the file VERSION. */
+#define BLINK_VERSION_MAJOR 0
+#define BLINK_VERSION_MINOR 1
+#define BLINK_VERSION_PATCH 0
+#define BLINK_VERSION "0.1.0"
+
 #ifndef BLINK_YIELD
 #include <sched.h>
 #define BLINK_YIELD() ((void)sched_yield()) /* lets another thread run: what a call that is to be made again waits by */
