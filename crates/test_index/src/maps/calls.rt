@@ -6,6 +6,7 @@ ghost use Rattle.bl_map.specs.Maps.{IsSeatOf};
 use bl_map::{Backlog, Handle, KeyReply, Map, OpenFault, Seat};
 use std::alloc::Global;
 use std::sync::Wait;
+use std::test::Fail;
 use std::thread;
 use std::thread::Threads;
 
@@ -49,10 +50,8 @@ fn row_replies<R: Wait>(rt: &R, handle: &mut Handle<'_>) -> [KeyReply; 9] {
 }
 
 #[test]
-fn a_row_comes_and_goes(rt: HostRuntime) {
-    let Some((map, seat)) = opened(rt.alloc(), 4) else {
-        return;
-    };
+fn a_row_comes_and_goes(rt: HostRuntime) -> Result<(), Fail> {
+    let (map, seat) = opened(rt.alloc(), 4).ok_or("no map")?;
     let mut handle = map.handle(seat);
     let replies = row_replies(&rt, &mut handle);
     let wanted = [
@@ -67,6 +66,7 @@ fn a_row_comes_and_goes(rt: HostRuntime) {
         KeyReply::Absent,
     ];
     assert!(rt; replies == wanted);
+    Ok(())
 }
 
 /// Inserts the keys from one on and below another. Says how many were inserted.
@@ -91,10 +91,8 @@ fn shrink<R: Wait>(rt: &R, handle: &mut Handle<'_>) -> u64 {
 }
 
 #[test]
-fn many_rows_come_and_go(rt: HostRuntime) {
-    let Some((map, seat)) = opened(rt.alloc(), 1_024) else {
-        return;
-    };
+fn many_rows_come_and_go(rt: HostRuntime) -> Result<(), Fail> {
+    let (map, seat) = opened(rt.alloc(), 1_024).ok_or("no map")?;
     let mut handle = map.handle(seat);
     assert!(rt; fill(&rt, &mut handle, 0, MANY) == MANY);
     assert!(rt; shrink(&rt, &mut handle) == GONE);
@@ -107,6 +105,7 @@ fn many_rows_come_and_go(rt: HostRuntime) {
     let mut rows = Vec::new(rt.alloc());
     assert!(rt; handle.scan(&rt, 3, Some(4_993), &mut rows).is_ok());
     assert!(rt; rows.as_slice() == [(4_990, 49_900), (4_991, 49_910), (4_992, 49_920)].as_slice());
+    Ok(())
 }
 
 /// The rows of a range, as a callback is told them.
@@ -124,16 +123,15 @@ fn told<R: Wait>(rt: &R, handle: &mut Handle<'_>, from: u64, to: Option<u64>) ->
 }
 
 #[test]
-fn a_callback_is_told_each_row_once(rt: HostRuntime) {
-    let Some((map, seat)) = opened(rt.alloc(), 1_024) else {
-        return;
-    };
+fn a_callback_is_told_each_row_once(rt: HostRuntime) -> Result<(), Fail> {
+    let (map, seat) = opened(rt.alloc(), 1_024).ok_or("no map")?;
     let mut handle = map.handle(seat);
     assert!(rt; fill(&rt, &mut handle, 0, MANY) == MANY);
     let all = told(&rt, &mut handle, 0, None);
     let some = told(&rt, &mut handle, 100, Some(150));
     let none = told(&rt, &mut handle, 150, Some(150));
     assert!(rt; all == (MANY, 4_999, true) && some == (50, 149, true) && none == (0, 0, true));
+    Ok(())
 }
 
 fn fill_all<R: Threads + Wait + Sync>(rt: &R, handles: &mut [Handle<'_>]) {
@@ -149,27 +147,25 @@ fn fill_all<R: Threads + Wait + Sync>(rt: &R, handles: &mut [Handle<'_>]) {
 }
 
 #[test]
-fn two_threads_share_a_map(rt: HostRuntime) {
-    let Some((map, one, two)) = shared(rt.alloc(), 1_024) else {
-        return;
-    };
+fn two_threads_share_a_map(rt: HostRuntime) -> Result<(), Fail> {
+    let (map, one, two) = shared(rt.alloc(), 1_024).ok_or("no map")?;
     let mut handles = [map.handle(one), map.handle(two)];
     fill_all(&rt, &mut handles);
     let mut rows = Vec::new(rt.alloc());
     assert!(rt; handles[0].scan(&rt, 0, None, &mut rows).is_ok());
     assert!(rt; rows.len() == MANY as usize);
+    Ok(())
 }
 
 #[test]
-fn handles_meet(rt: HostRuntime) {
-    let Some((map, one, two)) = shared(rt.alloc(), 1_024) else {
-        return;
-    };
+fn handles_meet(rt: HostRuntime) -> Result<(), Fail> {
+    let (map, one, two) = shared(rt.alloc(), 1_024).ok_or("no map")?;
     let mut one = map.handle(one);
     let mut two = map.handle(two);
     let inserted = one.insert(&rt, 7, 70);
     one.meet(&mut two);
     assert!(rt; inserted == KeyReply::Inserted && two.find(&rt, 7) == KeyReply::Found(70));
+    Ok(())
 }
 
 #[test]

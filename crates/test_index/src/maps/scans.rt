@@ -3,6 +3,7 @@
 use crate::maps::calls::{fill, shared};
 use bl_map::{Handle, KeyReply};
 use std::sync::Wait;
+use std::test::Fail;
 
 /// Three times as many as the largest map of two seats has frames.
 const ROWS: u64 = 400_000;
@@ -28,14 +29,13 @@ fn scan_beside_changes<R: Wait>(rt: &R, one: &mut Handle<'_>, two: &mut Handle<'
 /// Each change takes a frame and swaps another one out, so there is room for so many only where frames are given back while the scan
 /// runs.
 #[test]
-fn frames_are_given_back_while_a_scan_runs(rt: HostRuntime) {
-    let Some((map, one, two)) = shared(rt.alloc(), PAGES) else {
-        return;
-    };
+fn frames_are_given_back_while_a_scan_runs(rt: HostRuntime) -> Result<(), Fail> {
+    let (map, one, two) = shared(rt.alloc(), PAGES).ok_or("no map")?;
     let mut one = map.handle(one);
     let mut two = map.handle(two);
     assert!(rt; fill(&rt, &mut one, 0, ROWS) == ROWS);
     let (told, changed) = scan_beside_changes(&rt, &mut one, &mut two);
     assert!(rt; told == ROWS && changed == ROWS);
     assert!(rt; two.find(&rt, 0) == KeyReply::Found(ROWS));
+    Ok(())
 }

@@ -1,4 +1,6 @@
-//! A deletion stands still while it holds its leaf, and another waits for that leaf. An insertion into another leaf is answered meanwhile.
+//! A deletion stands still while it holds its leaf, and another waits for that leaf. Meanwhile each kind of write that programs call is
+//! answered in another leaf: an insertion that posts by itself and one that does not, a change and a deletion, by a pass and by a handle
+//! of the map.
 
 ghost use Rattle.bl_index.specs.Calls.{IsPassOf};
 ghost use Rattle.test_index.specs.Stopped.{IsHeld};
@@ -7,6 +9,7 @@ use crate::stops::begun::{fill, opened};
 use bl_index::{Index, KeyReply, Pass};
 use bl_index_rule::PassState;
 use bl_index_write::{begin_write, end_write};
+use bl_map::Handle;
 use bl_model::KeyWrite;
 use bl_proc::{Hint, Level};
 use bl_store::{Glance, Hand};
@@ -58,8 +61,8 @@ fn hold<R: Wait>(rt: &R, index: &Index, pass: Pass) -> (Hand<PassState>, u32, Gl
     (hand, at, glance)
 }
 
-/// It goes on once the insertion was answered, which it waits for after the other deletion has waited for long; or at its limit. Whether
-/// the insertion was answered, and what the deletion answers.
+/// It goes on once all other writes were answered, which it waits for after the other deletion has waited for long; or at its limit. Whether
+/// they were answered, and what the deletion answers.
 fn go_on(
     index: &Index,
     hand: Hand<PassState>,
@@ -89,35 +92,65 @@ fn wait<R: Wait>(rt: &R, index: &Index, pass: Pass, course: &Course) -> (KeyRepl
     index.delete(rt, &mut pass, 1)
 }
 
-/// Inserts key 16, once it may.
-fn insert<R: Wait>(rt: &R, index: &Index, pass: Pass, course: &Course) -> (KeyReply, Option<Hint>)
+/// Whether each write of a pass by itself is answered as it should be: keys 16 and 17 are inserted, and 9 is changed. They are in another
+/// leaf than the one that is held.
+fn writes_by_pass<R: Wait>(rt: &R, index: &Index, pass: &mut Pass) -> bool
+    requires { IsPassOf index.now pass.old }
+    ensures { IsPassOf index.now pass.new }
+{
+    let inserted = index.insert(rt, pass, 16, 160);
+    let (posting, posted, left) = index.insert_posting(rt, pass, 17, 170);
+    let changed = index.change(rt, pass, 9, 90, 91);
+    inserted == (KeyReply::Inserted, None)
+        && posting == KeyReply::Inserted
+        && posted.is_none()
+        && left.is_none()
+        && changed == KeyReply::Changed
+}
+
+/// The same of a handle, by which programs write: key 18 is inserted, changed and deleted.
+fn writes_by_handle<R: Wait>(rt: &R, index: &Index, pass: Pass) -> bool
+    requires { IsPassOf index.now pass }
+{
+    let mut handle = Handle::over(index, pass);
+    let inserted = handle.insert(rt, 18, 180);
+    let changed = handle.change(rt, 18, 180, 181);
+    let deleted = handle.delete(rt, 18);
+    inserted == KeyReply::Inserted
+        && changed == KeyReply::Changed
+        && deleted == KeyReply::Deleted(181)
+}
+
+/// All of them, once they may.
+fn write_elsewhere<R: Wait>(rt: &R, index: &Index, pass: Pass, course: &Course) -> bool
     requires { IsPassOf index.now pass }
 {
     let mut pass = pass;
     for _ in rt.forever() {
         if course.goes.load(Ordering::SeqCst) {
-            let answer = index.insert(rt, &mut pass, 16, 160);
+            let by_pass = writes_by_pass(rt, index, &mut pass);
+            let by_handle = writes_by_handle(rt, index, pass);
             course.answered.store(true, Ordering::SeqCst);
-            return answer;
+            return by_pass && by_handle;
         }
         thread::yield_now();
     }
     unreachable!()
 }
 
-// One lock round all writers would let the insertion wait for the deletion that waits.
+// One lock round all writers, in the index or in the map, would let these writes wait for the deletion that waits.
 #[test]
 fn a_writer_goes_on_beside_one_that_waits(rt: HostRuntime) -> Result<(), Fail> {
     let (index, mut first, second, third) = opened(rt.alloc()).ok_or("no index")?;
     assert!(rt; fill(&rt, &index, &mut first));
     let course = Course::new();
     let (hand, at, glance) = hold(&rt, &index, first);
-    let ((goes_on, reply, hint), (waited, inserted)) = join(
+    let ((goes_on, reply, hint), (waited, are_written)) = join(
         &rt,
         || -> (bool, KeyReply, Option<Hint>)
             requires { IsHeld index hand 2 at glance }
         { go_on(&index, hand, at, glance, &course) },
-        || -> ((KeyReply, Option<Hint>), (KeyReply, Option<Hint>))
+        || -> ((KeyReply, Option<Hint>), bool)
             requires { (IsPassOf index second) × (IsPassOf index third) }
         {
             join(
@@ -125,14 +158,14 @@ fn a_writer_goes_on_beside_one_that_waits(rt: HostRuntime) -> Result<(), Fail> {
                 || -> (KeyReply, Option<Hint>)
                     requires { IsPassOf index second }
                 { wait(&rt, &index, second, &course) },
-                || -> (KeyReply, Option<Hint>)
+                || -> bool
                     requires { IsPassOf index third }
-                { insert(&rt, &index, third, &course) },
+                { write_elsewhere(&rt, &index, third, &course) },
             )
         },
     );
     assert!(rt; goes_on);
-    assert!(rt; inserted == (KeyReply::Inserted, None));
+    assert!(rt; are_written);
     assert!(rt; reply == KeyReply::Deleted(20) && hint.is_none());
     let thin = Hint::Thin {
         level: Level::new(1),
