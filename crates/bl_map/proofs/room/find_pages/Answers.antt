@@ -9,7 +9,7 @@ loop-walk-init g c = record { same = search rules; readies = keeps_swept _ _ _ _
 pub loop-walk-preserved : goal.loop-walk-preserved
 loop-walk-preserved g c = let inv = c.loop-walk.invariant in record {
   same = search rules;
-  readies = keeps_swept _ _ _ _ _ _ (c.walk_all.ensures.same.2 ∙ inv.same.2) (keeps_on _ _ _ _ _ _ inv.same.2 inv.readies c.walk_all.ensures.readies) c.wait_for-2.ensures.swept;
+  readies = keeps_swept _ _ _ _ _ _ (c.walk_all.ensures.same.2 ∙ inv.same.2) (keeps_on _ _ _ _ _ _ inv.same.2 inv.readies c.walk_all.ensures.readies) c.wait_for-in-loop-walk.ensures.swept;
 }
 
 pub returns-then-not-wants_walk-clause-readies : goal.returns-then-not-wants_walk-clause-readies

@@ -11,8 +11,8 @@ loop-preserved g c = record {
   kept = kept_more c.args.handle.now c.loop.handle c.follow_hint-followed.new.handle c.loop.invariant.same c.loop.invariant.kept c.follow_hint-followed.ensures.kept;
 }
 
-pub returns-then-over-not_followed : goal.returns-then-over-not_followed
-returns-then-over-not_followed g c = record {
+pub returns-then-not-followed : goal.returns-then-not-followed
+returns-then-not-followed g c = record {
   same = search rules;
   kept = kept_more c.args.handle.now c.loop.handle c.follow_hint-followed.new.handle c.loop.invariant.same c.loop.invariant.kept c.follow_hint-followed.ensures.kept;
 }

@@ -1,0 +1,10 @@
+use Rattle.std.proofs.Common.{◌≡◌}
+use Rattle.bl_seats.specs.Calls.{IsSameSeat, account_of}
+use Rattle.bl_seats.proofs.seat.Seat.release_pages.Given as goal
+
+abbrev pub invariant-loop-look : goal.invariant-loop-look
+invariant-loop-look l = record {
+  same : IsSameSeat l.fn.self l.self;
+  told : account_of l.self ≡ account_of l.fn.self;
+  stage : l.self.stage ≡ l.fn.self.stage;
+}
