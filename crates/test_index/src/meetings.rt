@@ -4,6 +4,7 @@ ghost use Rattle.std.specs.Prelude.{All};
 ghost use Rattle.bl_index.specs.Calls.{IsPassOf};
 
 use crate::calls::opened;
+use crate::scans::follow;
 use bl_index::{Index, KeyReply, Pass};
 use std::sync::Wait;
 use std::thread;
@@ -15,22 +16,13 @@ const THREADS: u64 = 8;
 /// How many keys each of them inserts.
 const ROWS: u64 = 50;
 
-/// How many levels a tree may have: a split is followed by at most one post on each.
-const LEVELS: u32 = 12;
-
 /// Inserts a key, and lists the pages that were split.
 fn put<R: Wait>(rt: &R, index: &Index, pass: &mut Pass, key: u64)
     requires { IsPassOf index.now pass.old }
     ensures { IsPassOf index.now pass.new }
 {
-    let (_reply, first) = index.insert(rt, pass, key, 1000 - key.min(1000));
-    let mut hint = first;
-    for _level in 0..LEVELS {
-        let Some(next) = hint else {
-            return;
-        };
-        hint = index.post(rt, pass, next).1;
-    }
+    let (_reply, hint) = index.insert(rt, pass, key, 1000 - key.min(1000));
+    follow(rt, index, pass, hint);
 }
 
 /// Inserts every eighth key, from the thread's own place on.

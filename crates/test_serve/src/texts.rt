@@ -72,6 +72,11 @@ fn small_inputs(rt: HostRuntime) {
             b"insert 18446744073709551615 1\nsync\nfind 18446744073709551615\n".as_slice(),
             b"1 inserted\n2 synced\n3 found 1\n".as_slice(),
         ),
+        // The greatest line has 69 bytes, and one of a byte more is malformed.
+        (
+            b"insert 18446744073709551615 18446744073709551615\nsync\nchange 18446744073709551615 18446744073709551615 18446744073709551614\nsync\nchange 18446744073709551615 18446744073709551615 18446744073709551614 \n".as_slice(),
+            b"1 inserted\n2 synced\n3 changed\n4 synced\n5 malformed\n".as_slice(),
+        ),
     ] {
         assert_eq!(rt; both_answer(&rt, rt.alloc(), input, output), (true, true));
     }

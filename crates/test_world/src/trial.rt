@@ -336,6 +336,10 @@ impl Trial {
                 self.gets(page);
                 Ok(())
             }
+            Act::See(page) => {
+                self.sees(number, page, before);
+                Ok(())
+            }
             _ => Ok(()),
         }
     }
@@ -350,6 +354,14 @@ impl Trial {
     fn looks_at(&mut self, number: usize, other: usize) {
         if self.crew.looks_at(number, other) {
             one_more(&mut self.tally.pages.read);
+        }
+    }
+
+    fn sees(&mut self, number: usize, page: u32, before: &[Owner]) {
+        let owner = before.get(page as usize).copied();
+        let held = self.standing.pages.as_slice().get(page as usize);
+        if let Some(running) = self.crew.of(number) {
+            self.tally.looked(running.job, owner, held);
         }
     }
 

@@ -1,7 +1,9 @@
 //! How often each kind of thing was met.
 
 use bl_model::Reply;
+use bl_page::Page;
 use bl_proc::{Answer, Hint, Lowered, Posted, Reclaimed, Squeezed};
+use bl_world::Owner;
 use test_world_running::{Job, Running, Squeeze, Way, is_to_post};
 
 /// Answers of operations, but for changes of a value.
@@ -79,6 +81,20 @@ pub struct Pages {
     pub taken_again: u32,
 }
 
+/// What parts saw of the pages that they had in mind.
+#[derive(Clone, Copy, Debug)]
+struct Minds {
+    anchors: u32,
+    leaves: u32,
+    /// Pages above the leaves, as one is that was a leaf and was taken anew.
+    inner_pages: u32,
+    held: u32,
+    retired: u32,
+    released: u32,
+    /// Numbers of no page.
+    nowhere: u32,
+}
+
 /// What befell pages of one kind: leaves, or pages above them.
 #[derive(Clone, Copy, Debug)]
 struct Shapes {
@@ -100,6 +116,7 @@ pub struct Tally {
     compressions: Compressions,
     lowerings: Lowerings,
     pub pages: Pages,
+    minds: Minds,
     leaves: Shapes,
     inner_pages: Shapes,
     /// Latches that were missed in a compression.
@@ -166,6 +183,15 @@ pub const NONE: Tally = Tally {
         missed: 0,
         dead_pages_got: 0,
         taken_again: 0,
+    },
+    minds: Minds {
+        anchors: 0,
+        leaves: 0,
+        inner_pages: 0,
+        held: 0,
+        retired: 0,
+        released: 0,
+        nowhere: 0,
     },
     leaves: NO_SHAPES,
     inner_pages: NO_SHAPES,
@@ -299,6 +325,30 @@ impl Pages {
     }
 }
 
+impl Minds {
+    /// A part has looked at its page, which had this owner and held this.
+    fn looked(&mut self, owner: Option<Owner>, page: Option<&Page>) {
+        let count = match owner {
+            None => &mut self.nowhere,
+            Some(Owner::Released) => &mut self.released,
+            Some(Owner::Retired(_)) => &mut self.retired,
+            Some(Owner::Held(_)) => &mut self.held,
+            Some(Owner::Open) => match page {
+                Some(Page::Anchor(_)) => &mut self.anchors,
+                Some(Page::Leaf(_)) => &mut self.leaves,
+                _ => &mut self.inner_pages,
+            },
+        };
+        one_more(count);
+    }
+
+    fn least(&self) -> u32 {
+        let open = self.anchors.min(self.leaves).min(self.inner_pages);
+        let others = self.held.min(self.retired).min(self.released);
+        open.min(others).min(self.nowhere)
+    }
+}
+
 impl Shapes {
     fn hinted(&mut self, is_split: bool) {
         if is_split {
@@ -339,6 +389,13 @@ impl Tally {
                     self.own_posts.answered(posted);
                 }
             }
+        }
+    }
+
+    /// Who was to do this has looked at a page, which had this owner and held this.
+    pub fn looked(&mut self, job: Job, owner: Option<Owner>, page: Option<&Page>) {
+        if let Job::PartNear(_, _) = job {
+            self.minds.looked(owner, page);
         }
     }
 
@@ -400,6 +457,7 @@ impl Tally {
             && others.min(self.waits).min(self.posts.refused) > 3
             && self.lowerings.least() > 1
             && self.own_posts.done > 9
+            && self.minds.least() > 3
     }
 
     /// Enough of all that wide worlds are to meet.
