@@ -61,7 +61,8 @@ fn page_in(word: u64) -> u32 {
 }
 
 impl Tree {
-    /// The hint to follow for a page that seems to be half full at most: with a neighbour as thin as it is it fits one page.
+    /// The hint to follow for a page that seems to be less than half full, or half full beside one to its right that is no fuller: the
+    /// two fit one page.
     pub fn thin_at(&self, page: u32) -> Option<Hint> {
         if !self.store.is_in_use(page) {
             return None;
@@ -70,7 +71,16 @@ impl Tree {
         if !head.is_half_full_at_most() {
             return None;
         }
+        if head.count == HALF && !self.is_beside_half_full(page) {
+            return None;
+        }
         thin(head.level, self.store.peek(page, 1))
+    }
+
+    // Whether the page to which one links seems to be half full at most.
+    fn is_beside_half_full(&self, page: u32) -> bool {
+        let right = page_in(self.store.peek(page, 3));
+        right > 0 && Head::of(self.store.peek(right, 0)).is_half_full_at_most()
     }
 
     /// Whether an insertion of the key may split a leaf: the leaf that seems to cover it seems to be full, or none is found.

@@ -5,7 +5,7 @@ use Rattle.bl_model.specs.declared.operation.Op.{Op}
 use Rattle.bl_model.specs.declared.operation.Reply.{Reply}
 use Rattle.bl_page.specs.declared.page.Page.{Page}
 use Rattle.bl_claims.specs.Trails.{Trail}
-use Rattle.bl_index.specs.Calls.{first_of, pages_of, IsPassOf, IsSamePass, number_of, trail}
+use Rattle.bl_index.specs.Calls.{first_of, pages_of, IsPassOf, IsSamePass, number_of, trail, released_by}
 use Rattle.bl_index.specs.Meetings.{Meet}
 use Rattle.bl_index.specs.declared.index.Index.{Index}
 use Rattle.bl_index.specs.declared.index.Pass.{Pass}
@@ -35,6 +35,10 @@ seen_by handle = trail handle.pass
 -- the number of its seat, which its entries have
 abbrev pub number_of_seat : Handle → ℕ
 number_of_seat handle = number_of handle.pass
+
+-- how many pages and frames sweeps of it have released
+abbrev pub released_in : Handle → ℕ
+released_in handle = released_by handle.pass
 
 -- both are of one map
 abbrev pub AreOfOne : Handle → Handle → Type 0

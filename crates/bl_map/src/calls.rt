@@ -78,15 +78,15 @@ pub(crate) fn write<R: Wait>(
         }
         KeyWrite::Delete | KeyWrite::Change(..) => {
             let written = index.write(rt, pass, key, write);
-            note_change(index, write);
+            note_change(index, &written.0);
             written
         }
     }
 }
 
 /// A row that goes leaves its page with less than before, so a walk may find room again.
-fn note_change(index: &Index, write: KeyWrite) {
-    if write == KeyWrite::Delete {
+fn note_change(index: &Index, reply: &KeyReply) {
+    if let KeyReply::Deleted(_) = reply {
         index.tree().store.note_change();
     }
 }

@@ -1,6 +1,6 @@
 //! What a thread works with.
 
-ghost use Rattle.std.specs.Prelude.{◌≡◌, ◌-◌, vec_len};
+ghost use Rattle.std.specs.Prelude.{◌≡◌, ◌+◌, ◌-◌, vec_len};
 ghost use Rattle.std.specs.Vec.{vec_capacity};
 ghost use Rattle.bl_model.specs.declared.operation.Op.TheVariants as op;
 ghost use Rattle.bl_model.specs.declared.deciding.KeyWrite.TheVariants as key_write;
@@ -37,7 +37,7 @@ pub struct Handle<'a> {
 
 impl<'a> Handle<'a> {
     ghost use Rattle.bl_map.specs.Handles.{IsSameHandle, HasCalled, HasSearched, HasChanged, HasWritten, HasFoundNoRoom, HasKeptUp, HasFollowed, HasSwept, HasTriedAgain, HasTidied};
-    ghost use Rattle.bl_map.specs.Handles.{HaveMet, KeepsHints, AreOfOne, IsHandleOver};
+    ghost use Rattle.bl_map.specs.Handles.{HaveMet, KeepsHints, AreOfOne, IsHandleOver, released_in};
     ghost use Rattle.bl_map.specs.Handles.{first_map_of, pages_of_map, number_of_seat, seat_of, seen_by, waiting_of, dropped_of};
     ghost use Rattle.bl_map.specs.Scans.{Scanned, Tells};
 
@@ -230,6 +230,7 @@ impl<'a> Handle<'a> {
         ensures same { IsSameHandle self.old self.new }
         ensures kept { HasKeptUp self.old self.new }
         ensures sweeps { Sweeps (first_map_of self.old) (number_of_seat self.old) result (seen_by self.old) (seen_by self.new) }
+        ensures count { released_in self.new ≡ released_in self.old + result }
         ensures keeps { KeepsHints self.old self.new }
     {
         self.index.sweep(&mut self.pass)

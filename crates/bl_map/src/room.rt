@@ -17,8 +17,9 @@ const WALKS: u32 = 4;
 /// And how often to put a map in order.
 const ROUNDS: u32 = 64;
 
-/// Where pages are scarce, but there is one for each hand, a walk before an insertion looks at so many pages at most.
-const PIECE: u32 = 1024;
+/// Where pages are scarce, but there is one for each hand, a walk before an insertion looks at so many pages at most: it is to take no
+/// time that anybody feels.
+const PIECE: u32 = 64;
 
 /// How many pieces of upkeep wait at most.
 const WAITING: u32 = 32;
@@ -122,10 +123,18 @@ fn merge_all<R: Wait>(rt: &R, index: &Index, pass: &mut Pass)
     ensures same { IsSamePass pass.old pass.new }
     ensures readies { KeptUp (first_of index.now) (number_of pass.old) (trail pass.old) (trail pass.new) }
 {
+    merge_in_rounds(rt, index, pass);
+    wait_for(index, pass, Want::Nothing);
+}
+
+/// Walks over all pages until nothing changes any more.
+fn merge_in_rounds<R: Wait>(rt: &R, index: &Index, pass: &mut Pass)
+    requires { IsPassOf index.now pass.old }
+    ensures same { IsSamePass pass.old pass.new }
+    ensures readies { KeptUp (first_of index.now) (number_of pass.old) (trail pass.old) (trail pass.new) }
+{
     for _round in 0..ROUNDS {
-        let changed = walk_all(rt, index, pass, Extent::Whole);
-        wait_for(index, pass, Want::Nothing);
-        if !changed {
+        if !walk_all(rt, index, pass, Extent::Whole) {
             return;
         }
     }

@@ -51,10 +51,11 @@ impl Room {
         self.retiring.fetch_add(1, Ordering::SeqCst);
     }
 
-    /// A page was taken.
+    /// A page was taken. Pages that splits have left are half full at least, so a walk is to look at them only where no page is left.
     pub(crate) fn note_taken(&self) {
-        self.free.fetch_sub(1, Ordering::SeqCst);
-        self.note_change();
+        if self.free.fetch_sub(1, Ordering::SeqCst) == 1 {
+            self.note_change();
+        }
     }
 
     /// A page was released.

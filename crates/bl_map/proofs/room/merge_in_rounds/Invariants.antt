@@ -1,6 +1,6 @@
 use Rattle.bl_index.specs.Calls.{first_of, IsSamePass, number_of, trail}
 use Rattle.bl_map.specs.Follows.{KeptUp}
-use Rattle.bl_map.proofs.room.merge_all.Given as goal
+use Rattle.bl_map.proofs.room.merge_in_rounds.Given as goal
 
 abbrev pub invariant-loop-round : goal.invariant-loop-round
 invariant-loop-round g l = record {
