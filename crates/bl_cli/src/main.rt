@@ -9,20 +9,23 @@ ghost use Rattle.std.specs.Prelude.{◌≤◌, IfOk};
 ghost use Rattle.bl_serve_lines.specs.Options.{AreWithin};
 ghost use Rattle.bl_serve.specs.Origins.{HasPages};
 
+use bl_check::Quiet;
 use bl_cli_commands::{
-    CommandFault, Counting, DumpFault, Form, Usage, check_file, draw_file, load_file, may_replace,
-    noroom_line, reason_of, replace_file, replay_file, stats_line, used_pages,
+    CommandFault, Counting, DumpFault, Form, Piped, Usage, argument_line, check_file, draw_file,
+    load_file, malformed_line, may_replace, noroom_line, reason_of, replace_file, replay_file,
+    stats_line, used_pages,
 };
 use bl_cli_options::{Invocation, ServeOptions, Server, read_words};
 use bl_model::Watched;
-use bl_serve::{Origin, Totals, dump_index, serve_index};
+use bl_serve::{Origin, ServeFault, Totals, dump_index, serve_index};
 use clap::Error;
 use clap::error::ErrorKind;
 use std::alloc::AllocError;
-use std::io;
+use std::io::Printer;
 use std::process::ExitCode;
 use std::sync::Wait;
 use std::thread::Threads;
+use std::{io, process};
 
 fn main(rt: HostRuntime) -> anyhow::Result<ExitCode> {
     match carry_out(&rt, &rt) {
@@ -41,9 +44,13 @@ fn carry_out<T: Threads + Wait + Sync>(
     threads: &T,
 ) -> Result<ExitCode, CommandFault> {
     let alloc = rt.alloc();
-    let words: Vec<String> = std::env::args(rt)?.collect(alloc)?;
+    let words: Vec<String> = match std::env::args(rt) {
+        Ok(words) => words.collect(alloc)?,
+        Err(error) if error.kind() == io::ErrorKind::InvalidData => return Ok(refuse_text(rt)),
+        Err(error) => return Err(CommandFault::from(error)),
+    };
     match read_words(alloc, words.as_slice()) {
-        Ok(Invocation::Serve(server)) => serve(rt, threads, server),
+        Ok(Invocation::Serve(server)) => Ok(serve(rt, threads, server)),
         Ok(Invocation::Dump(server, file)) => dump(rt, threads, server, file.as_str()),
         Ok(Invocation::Check(file)) => Ok(check(rt, file.as_str())),
         Ok(Invocation::Draw(file, svg)) => Ok(draw(rt, file.as_str(), svg)),
@@ -67,34 +74,51 @@ fn end_with(rt: &HostRuntime, file: &str, fault: CommandFault) -> ExitCode {
     ExitCode::from(fault.status())
 }
 
-/// Ends as the image in the file is sound, or as the fault says.
-fn end_of(rt: &HostRuntime, file: &str, sound: Result<bool, CommandFault>) -> ExitCode {
+/// What the program writes to.
+type Output<'a> = Watched<Piped<Printer<'a, HostRuntime>>>;
+
+/// Standard output.
+fn output(rt: &HostRuntime) -> Output<'_> {
+    Watched::new(Piped::new(io::writer(rt)))
+}
+
+/// Ends as the image in the file is sound, or as the fault says. Where a write failed since the reader has gone, the status alone tells
+/// it: whoever ends a pipe early has what they wanted.
+fn end_of(
+    rt: &HostRuntime,
+    file: &str,
+    sound: Result<bool, CommandFault>,
+    writer: Output<'_>,
+) -> ExitCode {
     match sound {
         Ok(is_sound) => ExitCode::from(if is_sound { 0 } else { 1 }),
+        Err(CommandFault::Write) if writer.into_inner().is_gone() => {
+            ExitCode::from(CommandFault::Write.status())
+        }
         Err(fault) => end_with(rt, file, fault),
     }
 }
 
 /// Checks the image in the file.
 fn check(rt: &HostRuntime, file: &str) -> ExitCode {
-    let mut writer = Watched::new(io::writer(rt));
+    let mut writer = output(rt);
     let sound = check_file(rt, file, &mut writer);
-    end_of(rt, file, sound)
+    end_of(rt, file, sound, writer)
 }
 
 /// Draws the image in the file.
 fn draw(rt: &HostRuntime, file: &str, svg: bool) -> ExitCode {
     let form = if svg { Form::Svg } else { Form::Text };
-    let mut writer = Watched::new(io::writer(rt));
+    let mut writer = output(rt);
     let sound = draw_file(rt, file, form, &mut writer);
-    end_of(rt, file, sound)
+    end_of(rt, file, sound, writer)
 }
 
 /// Carries out the script in the file.
 fn replay(rt: &HostRuntime, file: &str) -> ExitCode {
-    let mut writer = Watched::new(io::writer(rt));
+    let mut writer = output(rt);
     let replayed = replay_file(rt, file, &mut writer);
-    end_of(rt, file, replayed.map(|()| true))
+    end_of(rt, file, replayed.map(|()| true), writer)
 }
 
 /// What a server begins with: the image in that file, where one is named. Where it cannot be had, that is said, and how the
@@ -116,15 +140,52 @@ fn origin_of(rt: &HostRuntime, pages: u32, image: Option<&str>) -> Result<Origin
 #[derive(Clone, Copy)]
 struct Counts {
     totals: Totals,
+    /// The line of the first malformed request.
+    first_malformed: Option<u64>,
     norooms: u64,
     /// The pages, where the index was closed.
     usage: Option<Usage>,
 }
 
-/// Says what was counted, where that was asked for; else, that requests found no room, where some did.
+/// What a server writes to.
+type Replies<'a> = Watched<Counting<Piped<Printer<'a, HostRuntime>>>>;
+
+/// Standard output, for a server.
+fn replies(rt: &HostRuntime) -> Replies<'_> {
+    Watched::new(Counting::new(Piped::new(io::writer(rt))))
+}
+
+/// What was counted, where these replies were written.
+fn counts_of(totals: Totals, usage: Option<Usage>, writer: Replies<'_>) -> Counts {
+    let counting = writer.into_inner();
+    Counts {
+        totals,
+        first_malformed: counting.first_malformed(),
+        norooms: counting.norooms(),
+        usage,
+    }
+}
+
+/// Ends as a server that has met a fault, where these replies were written. Where whoever read them has gone, the status alone
+/// tells it.
+fn end_serving(rt: &HostRuntime, fault: ServeFault, writer: Replies<'_>) -> ExitCode {
+    let fault = CommandFault::from(fault);
+    let is_gone = writer.into_inner().into_inner().is_gone();
+    if fault != CommandFault::Write || !is_gone {
+        let _ = eprintln!(rt; "{fault}");
+    }
+    ExitCode::from(fault.status())
+}
+
+/// Says that requests were malformed, where some were. Then says what was counted, where that was asked for; else, that requests found
+/// no room, where some did.
 fn say_counts(rt: &HostRuntime, server: &Server, counts: &Counts) {
     let alloc = rt.alloc();
     let (norooms, pages) = (counts.norooms, server.options.pages);
+    if let Some(first) = counts.first_malformed {
+        let line = malformed_line(alloc, counts.totals.malformed, first);
+        say(rt, line.map(Some));
+    }
     if server.stats {
         let line = stats_line(alloc, &counts.totals, norooms, counts.usage);
         say(rt, line.map(Some));
@@ -134,68 +195,98 @@ fn say_counts(rt: &HostRuntime, server: &Server, counts: &Counts) {
     }
 }
 
+/// Serves standard input over an index that begins so, and closes it.
+fn serve_and_close<T: Threads + Wait + Sync>(
+    rt: &HostRuntime,
+    threads: &T,
+    origin: Origin,
+    options: ServeOptions,
+    writer: &mut Replies<'_>,
+) -> Result<(Totals, Result<Quiet, AllocError>), ServeFault>
+    requires pages { HasPages origin }
+    requires options { AreWithin options }
+{
+    let mut reader = Watched::new(rt.stdin());
+    let (workers, compressors) = (options.workers, options.compressors);
+    let alloc = rt.alloc();
+    dump_index(
+        threads,
+        alloc,
+        origin,
+        workers,
+        compressors,
+        &mut reader,
+        writer,
+    )
+}
+
+/// The same, and leaves the index open.
+fn serve_alone<T: Threads + Wait + Sync>(
+    rt: &HostRuntime,
+    threads: &T,
+    origin: Origin,
+    options: ServeOptions,
+    writer: &mut Replies<'_>,
+) -> Result<Totals, ServeFault>
+    requires pages { HasPages origin }
+    requires options { AreWithin options }
+{
+    let mut reader = Watched::new(rt.stdin());
+    let (workers, compressors) = (options.workers, options.compressors);
+    let alloc = rt.alloc();
+    serve_index(
+        threads,
+        alloc,
+        origin,
+        workers,
+        compressors,
+        &mut reader,
+        writer,
+    )
+}
+
 /// Serves standard input over an index that begins so. With `--stats` the index is closed at the end, so that its pages can be
-/// counted.
+/// counted. Where a fault comes, it is said, and this is how the program ends.
 fn serve_from<T: Threads + Wait + Sync>(
     rt: &HostRuntime,
     threads: &T,
     origin: Origin,
     options: ServeOptions,
     stats: bool,
-) -> Result<Counts, CommandFault>
+) -> Result<Counts, ExitCode>
     requires pages { HasPages origin }
     requires options { AreWithin options }
 {
-    let (workers, compressors) = (options.workers, options.compressors);
-    let mut reader = Watched::new(rt.stdin());
-    let mut writer = Watched::new(Counting::new(io::writer(rt)));
-    let alloc = rt.alloc();
-    let (totals, usage) = if stats {
-        let (totals, closed) = dump_index(
-            threads,
-            alloc,
-            origin,
-            workers,
-            compressors,
-            &mut reader,
-            &mut writer,
-        )?;
-        (totals, closed.ok().map(|quiet| used_pages(quiet.image())))
+    let mut writer = replies(rt);
+    let served = if stats {
+        serve_and_close(rt, threads, origin, options, &mut writer).map(|(totals, closed)| (
+            totals,
+            closed.ok().map(|quiet| used_pages(quiet.image())),
+        ))
     } else {
-        let totals = serve_index(
-            threads,
-            alloc,
-            origin,
-            workers,
-            compressors,
-            &mut reader,
-            &mut writer,
-        )?;
-        (totals, None)
+        serve_alone(rt, threads, origin, options, &mut writer).map(|totals| (totals, None))
     };
-    let norooms = writer.into_inner().norooms();
-    Ok(Counts {
-        totals,
-        norooms,
-        usage,
-    })
+    match served {
+        Ok((totals, usage)) => Ok(counts_of(totals, usage, writer)),
+        Err(fault) => Err(end_serving(rt, fault, writer)),
+    }
 }
 
 /// Serves standard input.
-fn serve<T: Threads + Wait + Sync>(
-    rt: &HostRuntime,
-    threads: &T,
-    server: Server,
-) -> Result<ExitCode, CommandFault>
+fn serve<T: Threads + Wait + Sync>(rt: &HostRuntime, threads: &T, server: Server) -> ExitCode
     requires { AreWithin server.options }
 {
     let origin = match origin_of(rt, server.options.pages, server.image.as_deref()) {
         Ok(origin) => origin,
-        Err(code) => return Ok(code),
+        Err(code) => return code,
     };
-    let counts = serve_from(rt, threads, origin, server.options, server.stats)?;
-    say_counts(rt, &server, &counts);
-    Ok(ExitCode::SUCCESS)
+    match serve_from(rt, threads, origin, server.options, server.stats) {
+        Ok(counts) => {
+            say_counts(rt, &server, &counts);
+            ExitCode::SUCCESS
+        }
+        Err(code) => code,
+    }
 }
 
 /// Ends with the fault of a dump's file.
@@ -203,6 +294,18 @@ fn fail(rt: &HostRuntime, fault: DumpFault) -> ExitCode {
     let _ = eprintln!(rt; "{fault}");
     say(rt, fault.reason(rt.alloc()));
     ExitCode::from(fault.status())
+}
+
+/// Writes the image to the file in its place, and says what was counted.
+fn keep(rt: &HostRuntime, server: &Server, file: &str, quiet: &Quiet, counts: &Counts) -> ExitCode {
+    let process = process::id(rt.process());
+    match replace_file(rt, file, process, quiet.image()) {
+        Ok(()) => {
+            say_counts(rt, server, counts);
+            ExitCode::SUCCESS
+        }
+        Err(fault) => fail(rt, fault),
+    }
 }
 
 /// Serves standard input, and then writes the image of the index to the file. Where the file cannot be replaced, that is said
@@ -215,47 +318,43 @@ fn dump<T: Threads + Wait + Sync>(
 ) -> Result<ExitCode, CommandFault>
     requires { AreWithin server.options }
 {
-    if let Err(fault) = may_replace(rt, file) {
+    if let Err(fault) = may_replace(rt, file, process::id(rt.process())) {
         return Ok(fail(rt, fault));
     }
-    let ServeOptions {
-        pages,
-        workers,
-        compressors,
-    } = server.options;
-    let origin = match origin_of(rt, pages, server.image.as_deref()) {
+    let origin = match origin_of(rt, server.options.pages, server.image.as_deref()) {
         Ok(origin) => origin,
         Err(code) => return Ok(code),
     };
-    let mut reader = Watched::new(rt.stdin());
-    let mut writer = Watched::new(Counting::new(io::writer(rt)));
-    let (totals, closed) = dump_index(
-        threads,
-        rt.alloc(),
-        origin,
-        workers,
-        compressors,
-        &mut reader,
-        &mut writer,
-    )?;
-    let quiet = closed?;
-    let counts = Counts {
-        totals,
-        norooms: writer.into_inner().norooms(),
-        usage: Some(used_pages(quiet.image())),
+    let mut writer = replies(rt);
+    let (totals, closed) = match serve_and_close(rt, threads, origin, server.options, &mut writer) {
+        Ok(served) => served,
+        Err(fault) => return Ok(end_serving(rt, fault, writer)),
     };
-    if let Err(fault) = replace_file(rt, file, quiet.image()) {
-        return Ok(fail(rt, fault));
-    }
-    say_counts(rt, &server, &counts);
-    Ok(ExitCode::SUCCESS)
+    let quiet = closed?;
+    let usage = Some(used_pages(quiet.image()));
+    let counts = counts_of(totals, usage, writer);
+    Ok(keep(rt, &server, file, &quiet, &counts))
 }
 
-/// Ends as clap asks: with its text, or for want of memory.
+/// Ends as clap asks: with its text, or for want of memory. Where the text cannot be written, that is said, unless whoever was to read
+/// it has gone.
 fn refuse(rt: &HostRuntime, error: Error) -> Result<ExitCode, CommandFault> {
     if error.kind() == ErrorKind::OutOfMemory {
         return Err(CommandFault::Memory);
     }
-    error.print(rt)?;
-    Ok(ExitCode::from((error.exit_code() & 0xff) as u8))
+    match error.print(rt) {
+        Ok(()) => Ok(ExitCode::from((error.exit_code() & 0xff) as u8)),
+        Err(failed) => match failed.kind() {
+            io::ErrorKind::BrokenPipe => Ok(ExitCode::from(CommandFault::Write.status())),
+            io::ErrorKind::OutOfMemory => Err(CommandFault::Memory),
+            _ => Err(CommandFault::Write),
+        },
+    }
+}
+
+/// Refuses a command line of which an argument is no text.
+fn refuse_text(rt: &HostRuntime) -> ExitCode {
+    let _ = eprintln!(rt; "error: invalid UTF-8 was detected in one or more arguments");
+    say(rt, argument_line(rt));
+    ExitCode::from(2)
 }

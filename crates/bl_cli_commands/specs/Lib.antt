@@ -1,3 +1,4 @@
 pub mod Statuses
 pub mod Checks
 pub mod Replays
+pub mod Counted

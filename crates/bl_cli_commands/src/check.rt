@@ -7,13 +7,14 @@ ghost use Rattle.bl_cli_commands.specs.Checks.{report_text, fault_text, IsVerdic
 ghost use Rattle.bl_cli_commands.specs.declared.fault.CommandFault.TheVariants as command;
 
 use crate::fault::CommandFault;
+use crate::limits::LONGEST_IMAGE;
 use bl_check::{Fault, Report, check};
 use bl_model::{Watched, write_out};
 use bl_serve_lines::source::read_some;
 use std::alloc::{AllocError, Global};
 use std::fs;
 use std::fs::OpenFile;
-use std::io::{Read, Write};
+use std::io::{Read, Take, Write};
 use std::rt::Files;
 
 /// How many bytes one call reads at most.
@@ -133,13 +134,21 @@ pub fn check_image<R: Read, W: Write>(
     }
 }
 
-/// The length of a file, which a pipe or a device has not.
+/// The length of a file, which a pipe or a device has not. That of a file that is too long for an image says nothing: it is not read
+/// to its end.
 pub(crate) fn length_of<F: OpenFile>(file: &F) -> Result<Option<u64>, CommandFault> {
     match file.metadata() {
-        Ok(metadata) if metadata.is_file() => Ok(Some(metadata.len())),
+        Ok(metadata) if metadata.is_file() && metadata.len() <= LONGEST_IMAGE => {
+            Ok(Some(metadata.len()))
+        }
         Ok(_) => Ok(None),
         Err(_) => Err(CommandFault::Read),
     }
+}
+
+/// The bytes of a file, as many as show that it is too long for an image where it is: so a device that has no end is read to one.
+pub(crate) fn image_file<F: Read + Drop>(file: F) -> Watched<Take<F>> {
+    Watched::new(file.take(LONGEST_IMAGE + 1))
 }
 
 /// Checks the image in a file. A missing file, a folder, and a file that is cut while it is read are failed reads.
@@ -152,5 +161,5 @@ pub fn check_file<R: Files + AllocGlobal, W: Write>(
         return Err(CommandFault::Read);
     };
     let length = length_of(&file)?;
-    check_image(rt.alloc(), &mut Watched::new(file), length, writer)
+    check_image(rt.alloc(), &mut image_file(file), length, writer)
 }

@@ -1,6 +1,6 @@
 //! The command `draw`.
 
-use crate::check::{length_of, read_observed};
+use crate::check::{image_file, length_of, read_observed};
 use crate::fault::CommandFault;
 use bl_draw::{svg_of, text_of};
 use bl_model::{Watched, write_out};
@@ -48,5 +48,5 @@ pub fn draw_file<R: Files + AllocGlobal, W: Write>(
         return Err(CommandFault::Read);
     };
     let length = length_of(&file)?;
-    draw_image(rt.alloc(), &mut Watched::new(file), length, form, writer)
+    draw_image(rt.alloc(), &mut image_file(file), length, form, writer)
 }

@@ -81,7 +81,7 @@ impl From<ReplayFault> for CommandFault {
     }
 }
 
-/// The command line's words could not be read, or clap's text could not be written.
+/// The command line's words could not be read.
 impl From<io::Error> for CommandFault {
     ghost from_gives = { IsFaultOf };
 

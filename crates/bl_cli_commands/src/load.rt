@@ -4,7 +4,7 @@ ghost use Rattle.std.specs.Prelude.{◌≡◌, true, ℕ, List, IfOk, IfErr};
 ghost use Rattle.bl_image.specs.Images.{IsImage};
 ghost use Rattle.bl_cli_commands.specs.Checks.{ReadsAll, HasLength, CannotLoad};
 
-use crate::check::{length_of, read_observed};
+use crate::check::{image_file, length_of, read_observed};
 use crate::fault::CommandFault;
 use bl_check::{Fault, Quiet, load};
 use bl_model::Watched;
@@ -42,5 +42,5 @@ pub fn load_file<R: Files + AllocGlobal>(rt: &R, path: &str) -> Result<Quiet, Co
         return Err(CommandFault::Read);
     };
     let length = length_of(&file)?;
-    load_image(rt.alloc(), &mut Watched::new(file), length)
+    load_image(rt.alloc(), &mut image_file(file), length)
 }

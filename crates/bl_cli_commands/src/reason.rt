@@ -1,21 +1,63 @@
-//! Which file a fault is of, and why. These lines are tested.
+//! Which file or argument a fault is of, and why. These lines are tested.
 
 use crate::fault::CommandFault;
+use crate::limits::LONGEST_IMAGE;
 use bl_draw::rule_words;
-use std::alloc::AllocError;
+use bl_model::Watched;
+use bl_serve_lines::request::LINE_LIMIT;
+use bl_serve_lines::source::read_some;
+use std::alloc::{AllocError, Global};
+use std::env::FillError;
 use std::fs;
 use std::fs::OpenFile;
-use std::rt::Files;
+use std::io::Read;
+use std::rt::{Env, Files};
+use std::str::from_utf8;
 
-/// Why a file cannot be read: what the system says when it is opened, or that it is a folder.
+/// How many bytes one call reads at most.
+const PIECE: usize = 16_384;
+
+/// How many bytes a file gives, as far as an image may go. None where reading it fails.
+fn count_bytes<F: Read + Drop>(file: F) -> Option<u64> {
+    let mut reader = Watched::new(file.take(LONGEST_IMAGE));
+    let mut piece = [0; PIECE];
+    let mut count = 0u64;
+    for _ in 0..=LONGEST_IMAGE {
+        match read_some(&mut reader, &mut piece) {
+            Ok(0) => break,
+            Ok(more) => count = count.saturating_add(more as u64),
+            Err(_) => return None,
+        }
+    }
+    Some(count)
+}
+
+/// Why a regular file cannot be read whole: it gives another number of bytes than the system tells, or reading it fails.
+fn unread_file<F: Read + Drop>(
+    alloc: Global,
+    path: &str,
+    file: F,
+    told: u64,
+) -> Result<String, AllocError> {
+    match count_bytes(file) {
+        Some(count) if count != told => format!(in alloc;
+            "blink: {path}: has {count} bytes, and the system tells a length of {told}"
+        ),
+        _ => format!(in alloc; "blink: {path}: cannot be read to its end"),
+    }
+}
+
+/// Why a file cannot be read: what the system says when it is opened, or what it is.
 fn unread<R: Files + AllocGlobal>(rt: &R, path: &str) -> Result<String, AllocError> {
     let alloc = rt.alloc();
-    match fs::open(rt, path) {
-        Err(error) => format!(in alloc; "blink: {path}: {error}"),
-        Ok(file) => match file.metadata() {
-            Ok(metadata) if metadata.is_dir() => format!(in alloc; "blink: {path}: is a folder"),
-            _ => format!(in alloc; "blink: {path}: cannot be read to its end"),
-        },
+    let file = match fs::open(rt, path) {
+        Ok(file) => file,
+        Err(error) => return format!(in alloc; "blink: {path}: {error}"),
+    };
+    match file.metadata() {
+        Ok(metadata) if metadata.is_dir() => format!(in alloc; "blink: {path}: is a folder"),
+        Ok(metadata) if metadata.is_file() => unread_file(alloc, path, file, metadata.len()),
+        _ => format!(in alloc; "blink: {path}: cannot be read to its end"),
     }
 }
 
@@ -30,7 +72,7 @@ pub fn reason_of<R: Files + AllocGlobal>(
     match fault {
         CommandFault::Read => Ok(Some(unread(rt, path)?)),
         CommandFault::Script(line) => Ok(Some(format!(in alloc;
-            "blink: {path}: line {line} is no valid line there (see blink help replay)"
+            "blink: {path}: line {line} is no valid line there, of {LINE_LIMIT} bytes at most (see blink help replay)"
         )?)),
         CommandFault::Unsound(rule, page) => {
             let words = rule_words(rule);
@@ -39,5 +81,34 @@ pub fn reason_of<R: Files + AllocGlobal>(
             )?))
         }
         CommandFault::Write | CommandFault::Memory | CommandFault::Lost(_) => Ok(None),
+    }
+}
+
+/// Linux takes no argument of more bytes.
+const LONGEST_ARGUMENT: usize = 131_072;
+
+/// The number of the first argument that is no UTF-8 text, and None where there is none. The name of the program has the number 0.
+fn wrong_argument<R: Env>(rt: &R, buffer: &mut [u8]) -> Option<usize> {
+    for number in 0..usize::MAX {
+        match rt.arg(number, buffer) {
+            Ok(count) => {
+                if from_utf8(buffer.get(..count)?).is_err() {
+                    return Some(number);
+                }
+            }
+            Err(FillError::TooLong) => {}
+            Err(FillError::NotPresent) => return None,
+        }
+    }
+    None
+}
+
+/// The line that names the argument that is no UTF-8 text, where there is one.
+pub fn argument_line<R: Env + AllocGlobal>(rt: &R) -> Result<Option<String>, AllocError> {
+    let alloc = rt.alloc();
+    let mut buffer = vec![in alloc; 0; LONGEST_ARGUMENT]?;
+    match wrong_argument(rt, buffer.as_mut_slice()) {
+        Some(number) => Ok(Some(format!(in alloc; "blink: argument {number} is no UTF-8 text")?)),
+        None => Ok(None),
     }
 }

@@ -5,6 +5,7 @@ ghost use Rattle.std.specs.Io.KnownBytes.{Consumes, IsAtEnd};
 ghost use Rattle.bl_cli_commands.specs.Replays.{Replays, StopsReplay};
 
 use crate::fault::CommandFault;
+use crate::limits::ScriptFile;
 use bl_model::Watched;
 use bl_replay::{PLAYED, replay};
 use bl_replay_script::read_script;
@@ -40,7 +41,8 @@ pub fn replay_script<R: Read, W: Write>(
     }
 }
 
-/// Carries out the script in a file. A missing file and a folder are failed reads.
+/// Carries out the script in a file. A missing file and a folder are failed reads. What stands behind a line that is too long is
+/// not read: so a device that has no end is a bad script.
 pub fn replay_file<R: Files + AllocGlobal, W: Write>(
     rt: &R,
     path: &str,
@@ -49,5 +51,6 @@ pub fn replay_file<R: Files + AllocGlobal, W: Write>(
     let Ok(file) = fs::open(rt, path) else {
         return Err(CommandFault::Read);
     };
-    replay_script(rt.alloc(), &mut Watched::new(file), writer)
+    let mut reader = Watched::new(ScriptFile::new(file));
+    replay_script(rt.alloc(), &mut reader, writer)
 }

@@ -1,4 +1,7 @@
-//! What a server says at its end. These lines are tested.
+//! What a server says at its end. But for the line on malformed requests, these are tested.
+
+ghost use Rattle.std.specs.Prelude.{◌≡◌, ◌≢◌, IfOk, string_bytes};
+ghost use Rattle.bl_cli_commands.specs.Counted.{malformed_text, one_malformed_text};
 
 use bl_image::Image;
 use bl_model::limits::MOST_PAGES;
@@ -64,4 +67,16 @@ pub fn noroom_line(
     format!(in alloc;
         "blink: {norooms} {requests} found no room; more --pages than {pages} may help"
     )
+}
+
+/// The line for so many malformed requests, of which the first is the one of that line.
+pub fn malformed_line(alloc: Global, malformed: u64, first: u64) -> Result<String, AllocError>
+    ensures one { malformed ≡ 1 → IfOk result (λ line. string_bytes line ≡ one_malformed_text first) }
+    ensures more { malformed ≢ 1 → IfOk result (λ line. string_bytes line ≡ malformed_text malformed first) }
+{
+    if malformed == 1 {
+        format!(in alloc; "blink: 1 request was malformed: line {first}")
+    } else {
+        format!(in alloc; "blink: {malformed} requests were malformed; the first is line {first}")
+    }
 }

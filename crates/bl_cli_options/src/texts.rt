@@ -26,7 +26,8 @@ to 18446744073709551615:
   scan LO HI        rows K=V K=V, the rows from key LO on and below key HI, by
                     rising keys
   sync              synced: the end of a section
-Any other line is malformed. Each reply begins with the number of its line.
+Any other line is malformed; standard error says at the end how many were, and
+which was the first. Each reply begins with the number of its line.
 Replies are written at each sync and at the end of the input. All requests
 before a sync are carried out before those after it; those between two syncs in
 any order, and by one worker in theirs.
@@ -58,9 +59,10 @@ was lost.";
 pub(crate) const ABOUT_DUMP: &str = "\
 Reads request lines and writes replies as `blink serve` does (`blink help serve`
 has the lines). Where that ends without a fault, the image of the index is
-written to FILE.new, which must not be there, and FILE.new is then renamed to
-FILE: FILE has the whole image, or what it had. `blink check FILE` says what is
-in it, and `blink draw FILE` shows it.
+written to a new file FILE.PID.new, which is then renamed to FILE: FILE has the
+whole image, or what it had. Its mode stays, and a link is followed. What is no
+regular file is refused before anything is read. `blink check FILE` says what
+is in FILE, and `blink draw FILE` shows it.
 
 With --image the index begins with the rows of that image, and has as many
 pages.
@@ -72,7 +74,8 @@ Examples:
 
 Exit status: 0 all is well; 1 that image breaks a rule, which standard error
 names as `blink check` does; 3 reading or writing failed; 4 out of memory; 5 the
-answer of a request was lost. Where it is not 0, FILE is as it was.";
+answer of a request was lost. Where it is not 0, FILE is as it was, unless
+standard error says that its folder could not be synced.";
 
 /// Of `check`.
 pub(crate) const ABOUT_CHECK: &str = "\

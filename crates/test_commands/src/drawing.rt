@@ -1,10 +1,8 @@
-//! Pictures of images, and the lines of what a server has counted.
+//! Pictures of images.
 
 use crate::checking::{Byte, split};
-use crate::streams::Full;
-use bl_cli_commands::{CommandFault, Counting, Form, Usage, draw_image, noroom_line, stats_line};
-use bl_model::{Watched, write_text};
-use bl_serve_lines::Totals;
+use bl_cli_commands::{CommandFault, Form, draw_image};
+use bl_model::Watched;
 use std::alloc::Global;
 use std::test::Fail;
 
@@ -57,91 +55,4 @@ fn pictures_for_a_browser(rt: HostRuntime) {
     let (sound, written) = drawn(rt.alloc(), &[], Form::Svg);
     let text = written.as_slice();
     assert!(rt; sound == Ok(true) && text.starts_with(b"<svg ") && text.ends_with(b"</svg>\n"));
-}
-
-/// Whether the lines of a server's end are those.
-fn says(alloc: Global, norooms: u64, pages: u32, image: bool, wanted: &str) -> Result<bool, Fail> {
-    let line = noroom_line(alloc, norooms, pages, image)?;
-    Ok(line.as_str() == wanted)
-}
-
-#[test]
-fn lines_on_no_room(rt: HostRuntime) -> Result<(), Fail> {
-    for (norooms, pages, image, wanted) in [
-        (
-            1,
-            4,
-            false,
-            "blink: 1 request found no room; more --pages than 4 may help",
-        ),
-        (
-            22_767,
-            1024,
-            false,
-            "blink: 22767 requests found no room; more --pages than 1024 may help",
-        ),
-        (
-            2,
-            65_536,
-            false,
-            "blink: 2 requests found no room; 65536 pages are the most",
-        ),
-        (
-            2,
-            1024,
-            true,
-            "blink: 2 requests found no room; an index has as many pages as its image",
-        ),
-    ] {
-        assert!(rt;
-            says(rt.alloc(), norooms, pages, image, wanted)?,
-            "{wanted}"
-        );
-    }
-    Ok(())
-}
-
-#[test]
-fn lines_of_counts(rt: HostRuntime) -> Result<(), Fail> {
-    let totals = Totals {
-        requests: 12,
-        malformed: 1,
-        sections: 2,
-    };
-    let usage = Usage { used: 3, all: 8 };
-    let line = stats_line(rt.alloc(), &totals, 4, Some(usage))?;
-    assert_eq!(rt;
-        line.as_str(),
-        "blink: requests 12 malformed 1 sections 2 noroom 4 pages 3 of 8"
-    );
-    let line = stats_line(rt.alloc(), &totals, 4, None)?;
-    assert_eq!(rt;
-        line.as_str(),
-        "blink: requests 12 malformed 1 sections 2 noroom 4"
-    );
-    Ok(())
-}
-
-/// How many lines of no room are counted where these pieces are written one after the other.
-fn counted(alloc: Global, pieces: &[&[u8]]) -> u64 {
-    let mut writer = Watched::new(Counting::new(Full {
-        bytes: Vec::new(alloc),
-        room: 999,
-    }));
-    for piece in pieces {
-        let _ = write_text(&mut writer, piece);
-    }
-    writer.into_inner().norooms()
-}
-
-#[test]
-fn lines_on_no_room_are_counted(rt: HostRuntime) {
-    let alloc = rt.alloc();
-    let whole = b"1 noroom\n2 malformed\n3 rows 1=1\n4 noroom\n".as_slice();
-    assert_eq!(rt; counted(alloc, &[whole]), 2);
-    // wherever a piece ends
-    for at in 0..whole.len() {
-        assert_eq!(rt; counted(alloc, &[&whole[..at], &whole[at..]]), 2);
-    }
-    assert_eq!(rt; counted(alloc, &[b"1 absent\n"]), 0);
 }

@@ -1,11 +1,13 @@
 //! Tests of the commands `check`, `draw` and `replay`: images and damages, streams that fail, memory that is refused, paths that are no
-//! file, and words. Scripts with all that they print are data of `test_worked_scripts`.
+//! file, what a server counts, and words. Scripts with all that they print are data of `test_worked_scripts`.
 //!
 //! They stand apart from `bl_cli_commands` and `bl_replay`, and nothing else uses them: the program need not wait until these tests are proved.
 #![tactic(auto)]
 
 #[cfg(test)]
 mod checking;
+#[cfg(test)]
+mod counts;
 #[cfg(test)]
 mod drawing;
 #[cfg(test)]

@@ -1,14 +1,17 @@
-//! The command `replay` over streams that fail, and where memory is refused; and paths that are no file. What it prints for scripts is
-//! compared by `test_worked_scripts`.
+//! The command `replay` over streams that fail or have no end, and where memory is refused; paths that are no file, and arguments that are
+//! no text. What `replay` prints for scripts is compared by `test_worked_scripts`.
 
 use crate::streams::Full;
 use bl_cli_commands::{
-    CommandFault, Form, check_file, draw_file, load_file, reason_of, replay_file, replay_script,
+    CommandFault, Form, ScriptFile, argument_line, check_file, draw_file, load_file, reason_of,
+    replay_file, replay_script,
 };
 use bl_model::Watched;
 use std::alloc::Global;
+use std::env::FillError;
 use std::io;
 use std::io::{ErrorKind, Read};
+use std::rt::Env;
 use std::test::Fail;
 
 /// Gives a text in pieces of at most 5 bytes, and then fails.
@@ -136,7 +139,9 @@ fn lines_that_name_a_file(rt: HostRuntime) -> Result<(), Fail> {
         (
             "s",
             CommandFault::Script(7),
-            Some("blink: s: line 7 is no valid line there (see blink help replay)"),
+            Some(
+                "blink: s: line 7 is no valid line there, of 69 bytes at most (see blink help replay)",
+            ),
         ),
         (
             "i",
@@ -149,5 +154,85 @@ fn lines_that_name_a_file(rt: HostRuntime) -> Result<(), Fail> {
     for (path, fault, wanted) in cases {
         assert!(rt; is_reason(&rt, path, fault, wanted)?, "{path}");
     }
+    Ok(())
+}
+
+/// Gives zeros without end.
+#[derive(Drop)]
+struct Endless;
+
+impl Read for Endless {
+    fn read(&mut self, buf: &mut [u8]) -> io::Result<usize> {
+        buf.fill(0);
+        Ok(buf.len())
+    }
+}
+
+/// How a script ends of which that is the beginning, and which goes on by zeros without end.
+fn replay_endless(alloc: Global, beginning: &[u8]) -> Result<(), CommandFault> {
+    let mut writer = Watched::new(Vec::new(alloc));
+    let file = ScriptFile::new(beginning.chain(Endless));
+    replay_script(alloc, &mut Watched::new(file), &mut writer)
+}
+
+#[test]
+fn a_script_without_end_is_bad(rt: HostRuntime) {
+    let alloc = rt.alloc();
+    assert_eq!(rt; replay_endless(alloc, b""), Err(CommandFault::Script(1)));
+    let begun = replay_endless(alloc, b"pages 4\nfind 5\n");
+    assert_eq!(rt; begun, Err(CommandFault::Script(3)));
+}
+
+/// A command line of three words.
+#[derive(Drop)]
+struct Words<'a> {
+    alloc: Global,
+    words: [&'a [u8]; 3],
+}
+
+impl<'a> Alloc for Words<'a> {
+    type A = Global;
+
+    fn alloc(&self) -> Global {
+        self.alloc
+    }
+}
+
+impl<'a> Env for Words<'a> {
+    fn arg(&self, i: usize, buf: &mut [u8]) -> Result<usize, FillError> {
+        let Some(word) = self.words.get(i) else {
+            return Err(FillError::NotPresent);
+        };
+        if word.len() > buf.len() {
+            return Err(FillError::TooLong);
+        }
+        buf[..word.len()].copy_from_slice(word);
+        Ok(word.len())
+    }
+
+    fn var(&self, _name: &str, _buf: &mut [u8]) -> Result<usize, FillError> {
+        Err(FillError::NotPresent)
+    }
+
+    fn var_at(&self, _i: usize, _buf: &mut [u8]) -> Result<usize, FillError> {
+        Err(FillError::NotPresent)
+    }
+}
+
+/// Whether the line for a command line of these words is that one.
+fn is_argument_line(alloc: Global, words: [&[u8]; 3], wanted: Option<&str>) -> Result<bool, Fail> {
+    let line = argument_line(&Words { alloc, words })?;
+    Ok(match &line {
+        Some(line) => wanted == Some(line.as_str()),
+        None => wanted.is_none(),
+    })
+}
+
+#[test]
+fn lines_that_name_an_argument(rt: HostRuntime) -> Result<(), Fail> {
+    let alloc = rt.alloc();
+    let wrong = Some("blink: argument 2 is no UTF-8 text");
+    assert!(rt; is_argument_line(alloc, [b"blink", b"check", b"caf\xe9"], wrong)?);
+    assert!(rt; is_argument_line(alloc, [b"blink", b"check", b"caf\xc3\xa9"], None)?);
     Ok(())
 }

@@ -218,9 +218,11 @@ fn words_that_are_refused(rt: HostRuntime) -> Result<(), Fail> {
 #[derive(Clone, Copy)]
 enum Failing {
     Memory,
+    Refuse,
     Make,
     Fill,
     Rename,
+    Sync,
 }
 
 /// The fault of a dump to this file.
@@ -228,9 +230,11 @@ fn fault_of(alloc: Global, failing: Failing) -> Result<DumpFault, Fail> {
     let path = String::from_str(alloc, "i.new")?;
     Ok(match failing {
         Failing::Memory => DumpFault::Memory,
+        Failing::Refuse => DumpFault::Refuse(path),
         Failing::Make => DumpFault::Make(path),
         Failing::Fill => DumpFault::Fill(path),
         Failing::Rename => DumpFault::Rename(path),
+        Failing::Sync => DumpFault::Sync(path),
     })
 }
 
@@ -255,6 +259,12 @@ fn words_of_a_dump_that_fails(rt: HostRuntime) -> Result<(), Fail> {
     for (failing, text, reason, status) in [
         (Failing::Memory, "blink: out of memory", "", 4),
         (
+            Failing::Refuse,
+            "blink: write failed",
+            "blink: cannot replace i.new",
+            3,
+        ),
+        (
             Failing::Make,
             "blink: write failed",
             "blink: cannot make i.new",
@@ -270,6 +280,12 @@ fn words_of_a_dump_that_fails(rt: HostRuntime) -> Result<(), Fail> {
             Failing::Rename,
             "blink: write failed",
             "blink: cannot rename i.new",
+            3,
+        ),
+        (
+            Failing::Sync,
+            "blink: write failed",
+            "blink: cannot sync the folder of the new image, i.new",
             3,
         ),
     ] {

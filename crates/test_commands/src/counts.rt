@@ -1,0 +1,145 @@
+//! What a server counts at its end, and whether whoever reads its output has gone.
+
+use crate::streams::Full;
+use bl_cli_commands::{Counting, Piped, Usage, malformed_line, noroom_line, stats_line};
+use bl_model::{Watched, write_text};
+use bl_serve_lines::Totals;
+use std::alloc::Global;
+use std::io::Write;
+use std::test::Fail;
+
+/// Whether the lines of a server's end are those.
+fn says(alloc: Global, norooms: u64, pages: u32, image: bool, wanted: &str) -> Result<bool, Fail> {
+    let line = noroom_line(alloc, norooms, pages, image)?;
+    Ok(line.as_str() == wanted)
+}
+
+#[test]
+fn lines_on_no_room(rt: HostRuntime) -> Result<(), Fail> {
+    for (norooms, pages, image, wanted) in [
+        (
+            1,
+            4,
+            false,
+            "blink: 1 request found no room; more --pages than 4 may help",
+        ),
+        (
+            22_767,
+            1024,
+            false,
+            "blink: 22767 requests found no room; more --pages than 1024 may help",
+        ),
+        (
+            2,
+            65_536,
+            false,
+            "blink: 2 requests found no room; 65536 pages are the most",
+        ),
+        (
+            2,
+            1024,
+            true,
+            "blink: 2 requests found no room; an index has as many pages as its image",
+        ),
+    ] {
+        assert!(rt;
+            says(rt.alloc(), norooms, pages, image, wanted)?,
+            "{wanted}"
+        );
+    }
+    Ok(())
+}
+
+#[test]
+fn lines_of_counts(rt: HostRuntime) -> Result<(), Fail> {
+    let totals = Totals {
+        requests: 12,
+        malformed: 1,
+        sections: 2,
+    };
+    let usage = Usage { used: 3, all: 8 };
+    let line = stats_line(rt.alloc(), &totals, 4, Some(usage))?;
+    assert_eq!(rt;
+        line.as_str(),
+        "blink: requests 12 malformed 1 sections 2 noroom 4 pages 3 of 8"
+    );
+    let line = stats_line(rt.alloc(), &totals, 4, None)?;
+    assert_eq!(rt;
+        line.as_str(),
+        "blink: requests 12 malformed 1 sections 2 noroom 4"
+    );
+    Ok(())
+}
+
+/// How many lines of no room are counted where these pieces are written one after the other.
+fn counted(alloc: Global, pieces: &[&[u8]]) -> u64 {
+    let mut writer = Watched::new(Counting::new(Full {
+        bytes: Vec::new(alloc),
+        room: 999,
+    }));
+    for piece in pieces {
+        let _ = write_text(&mut writer, piece);
+    }
+    writer.into_inner().norooms()
+}
+
+#[test]
+fn lines_on_no_room_are_counted(rt: HostRuntime) {
+    let alloc = rt.alloc();
+    let whole = b"1 noroom\n2 malformed\n3 rows 1=1\n4 noroom\n".as_slice();
+    assert_eq!(rt; counted(alloc, &[whole]), 2);
+    // wherever a piece ends
+    for at in 0..whole.len() {
+        assert_eq!(rt; counted(alloc, &[&whole[..at], &whole[at..]]), 2);
+    }
+    assert_eq!(rt; counted(alloc, &[b"1 absent\n"]), 0);
+}
+
+/// The first malformed line where these pieces are written one after the other.
+fn first_malformed(alloc: Global, pieces: &[&[u8]]) -> Option<u64> {
+    let mut writer = Watched::new(Counting::new(Full {
+        bytes: Vec::new(alloc),
+        room: 999,
+    }));
+    for piece in pieces {
+        let _ = write_text(&mut writer, piece);
+    }
+    writer.into_inner().first_malformed()
+}
+
+#[test]
+fn the_first_malformed_line_is_found(rt: HostRuntime) {
+    let alloc = rt.alloc();
+    let whole = b"8 found 12\n9 noroom\n10 malformed\n11 rows 1=1\n12 malformed\n".as_slice();
+    assert_eq!(rt; first_malformed(alloc, &[whole]), Some(10));
+    // wherever a piece ends
+    for at in 0..whole.len() {
+        assert_eq!(rt;
+            first_malformed(alloc, &[&whole[..at], &whole[at..]]),
+            Some(10)
+        );
+    }
+    assert_eq!(rt; first_malformed(alloc, &[b"1 noroom\n2 absent\n"]), None);
+}
+
+#[test]
+fn lines_of_malformed_requests(rt: HostRuntime) -> Result<(), Fail> {
+    let one = malformed_line(rt.alloc(), 1, 5)?;
+    let more = malformed_line(rt.alloc(), 14, 1)?;
+    assert_eq!(rt; one.as_str(), "blink: 1 request was malformed: line 5");
+    assert_eq!(rt;
+        more.as_str(),
+        "blink: 14 requests were malformed; the first is line 1"
+    );
+    Ok(())
+}
+
+#[test]
+fn a_reader_that_has_gone_is_told(rt: HostRuntime) {
+    let mut writer = Piped::new(Full {
+        bytes: Vec::new(rt.alloc()),
+        room: 2,
+    });
+    assert!(rt; writer.write(b"ab").is_ok() && !writer.is_gone());
+    assert!(rt; writer.write(b"c").is_err() && writer.is_gone());
+}
