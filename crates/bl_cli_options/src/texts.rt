@@ -121,6 +121,7 @@ The lines of a script; the first is `pages N`:
   turn P, turn P X   one turn of process P; a take tries page X
   refuse P           process P is refused what it is about to reserve
   run P M            turns of process P, at most M, until it has answered
+  settle M           turns of those that wait for none, at most M, to the end
 Processes are numbered from 1 in the order in which they start. Each turn prints
 its event.
 

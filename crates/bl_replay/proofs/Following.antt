@@ -1,14 +1,18 @@
 -- Commands, one after the other.
 use Rattle.std.proofs.Common.{ℕ, ◌≡◌, ◌⊎◌, ◌<◌, ◌≤◌, ◌+◌, ◌++◌, zero, suc, Some, None, List, [], ◌∷◌, take, drop, slice_get, arith, ap, sym, ◌∙◌, subst, inl, inr, append_assoc, append-nil}
+use Rattle.std.proofs.lemmas.Option.{slice_get_within}
 use Rattle.bl_replay_script.specs.declared.command.Command.{Command}
 use Rattle.bl_replay_script.specs.declared.command.Kinds.{Kinds}
 use Rattle.bl_replay_script.specs.Commands.{MayStand, starts, started_by}
 use Rattle.bl_replay_script.specs.Scripts.{AllStand}
 use Rattle.bl_world.specs.Views.{View}
-use Rattle.bl_replay.specs.Plays.{HasAnswer, PrintsChosen, PrintsTurns, Does, Plays, BreaksOff}
+use Rattle.bl_world.specs.Turns.{IsStarted}
+use Rattle.bl_world.specs.Waits.{MayGoOn}
+use Rattle.bl_replay.specs.Plays.{HasAnswer, PrintsChosen, PrintsTurns, PrintsSettling, Does, Plays, BreaksOff}
 use Rattle.bl_replay.specs.Plays.PrintsTurns.{More}
+use Rattle.bl_replay.specs.Plays.PrintsSettling.{Onward}
 use Rattle.bl_replay.specs.Plays.Plays.{Then}
-use Rattle.bl_replay.specs.Plays.BreaksOff.{Behind, Within}
+use Rattle.bl_replay.specs.Plays.BreaksOff.{Behind, Within, Unsettled}
 use Rattle.bl_replay.specs.Emits.{Partly}
 
 -- a list, split at one of its places
@@ -63,7 +67,10 @@ breaks_off v mid commands i c text more e p part =
       | inl none ↦ Behind (take i commands) (c ∷ drop (suc i) commands) (text ++ more) mid is (subst (λ t. Plays v (take i commands) t mid) (sym (ap (λ t. text ++ t) none ∙ append-nil text)) p)
       | inr some ↦ elim some [
         | inl d ↦ Behind (take i commands ++ c ∷ []) (drop (suc i) commands) (text ++ more) d.0 (is ∙ sym (append_assoc (take i commands) (c ∷ []) (drop (suc i) commands))) (Then (take i commands) c text more mid d.0 p d.1)
-        | inr (number, most, count, v', run, few, turns) ↦ Within (take i commands) (drop (suc i) commands) number most count text more mid v' (is ∙ ap (λ z. take i commands ++ z ∷ drop (suc i) commands) run) p few turns
+        | inr some ↦ elim some [
+          | inl (number, most, count, v', run, few, turns) ↦ Within (take i commands) (drop (suc i) commands) number most count text more mid v' (is ∙ ap (λ z. take i commands ++ z ∷ drop (suc i) commands) run) p few turns
+          | inr (most, count, v', rest, few, turns) ↦ Unsettled (take i commands) (drop (suc i) commands) most count text more mid v' (is ∙ ap (λ z. take i commands ++ z ∷ drop (suc i) commands) rest) p few turns
+        ]
       ]
     ]
 
@@ -77,3 +84,16 @@ pub run_breaks : (number most count : ℕ) (v mid : View) (text more : List ℕ)
     → (n : ℕ) × (after : View) × (n ≤ most) × PrintsTurns number v n (text ++ more) after
 run_breaks number most count v mid text more few p unanswered (inl none) = (count, mid, omega (arith, few), subst (λ t. PrintsTurns number v count t mid) (sym (ap (λ t. text ++ t) none ∙ append-nil text)) p)
 run_breaks number most count v mid text more few p unanswered (inr (after, d)) = (count + 1, after, omega (arith, few), More count text more mid after p unanswered d)
+
+-- who may go on was started
+pub goer_started : (v : View) (number : ℕ) → MayGoOn v number → IsStarted v number
+goer_started v number go =
+    let counts = go.runs.counts in
+    let within = slice_get_within v.processes go.runs.place go.runs.process go.runs.stood in
+    (omega (arith, counts), omega (arith, counts, within))
+
+-- a world that was left to itself was broken off, before a turn or behind it
+pub settle_breaks : (number most count : ℕ) (v mid : View) (text more : List ℕ) → count < most → PrintsSettling v count text mid → MayGoOn mid number → (more ≡ []) ⊎ ((after : View) × PrintsChosen mid number None more after)
+    → (n : ℕ) × (after : View) × (n ≤ most) × PrintsSettling v n (text ++ more) after
+settle_breaks number most count v mid text more few p go (inl none) = (count, mid, omega (arith, few), subst (λ t. PrintsSettling v count t mid) (sym (ap (λ t. text ++ t) none ∙ append-nil text)) p)
+settle_breaks number most count v mid text more few p go (inr (after, d)) = (count + 1, after, omega (arith, few), Onward count number text more mid after p go d)

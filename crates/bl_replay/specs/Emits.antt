@@ -4,14 +4,16 @@ use Rattle.std.specs.Io.KnownBytes.{Appends}
 use Rattle.bl_replay_script.specs.declared.command.Command.{Command}
 use Rattle.bl_replay_script.specs.declared.command.Command.TheVariants as command
 use Rattle.bl_world.specs.Views.{View}
-use Rattle.bl_replay.specs.Plays.{Does, PrintsTurns}
+use Rattle.bl_replay.specs.Plays.{Does, PrintsTurns, PrintsSettling}
 
 -- Behind what was pending the text was added, and some of it all was written, and is pending no more.
 abbrev pub Emits : Option (List ℕ) → Option (List ℕ) → List ℕ → List ℕ → List ℕ → Type 0
 Emits old new pending left text = (out : List ℕ) × Appends old new out × (pending ++ text ≡ out ++ left)
 
--- A command printed this before it was broken off: nothing, all of its text, or that of some turns of a run.
+-- A command printed this before it was broken off: nothing, all of its text, or that of some turns of a run or of a world that was left to
+-- itself.
 abbrev pub Partly : View → Command → List ℕ → Type 0
 Partly v c text = (text ≡ [])
     ⊎ (((v' : View) × Does v c text v')
-    ⊎ ((number : ℕ) × (most : ℕ) × (count : ℕ) × (v' : View) × (c ≡ command.Run number most) × (count ≤ most) × PrintsTurns number v count text v'))
+    ⊎ (((number : ℕ) × (most : ℕ) × (count : ℕ) × (v' : View) × (c ≡ command.Run number most) × (count ≤ most) × PrintsTurns number v count text v')
+    ⊎ ((most : ℕ) × (count : ℕ) × (v' : View) × (c ≡ command.Settle most) × (count ≤ most) × PrintsSettling v count text v')))

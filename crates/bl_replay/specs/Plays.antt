@@ -23,6 +23,7 @@ use Rattle.bl_world.specs.Views.{View}
 use Rattle.bl_world.specs.Turns.{TurnsTo}
 use Rattle.bl_world.specs.WorldSteps.{IsOpening, Starts}
 use Rattle.bl_world.specs.Choices.{Chooses}
+use Rattle.bl_world.specs.Waits.{MayGoOn, HaveAnswered}
 use Rattle.bl_world.specs.Accounts.{Account}
 use Rattle.bl_replay.specs.Texts.{event_line, answer_line}
 
@@ -62,6 +63,13 @@ pub data PrintsTurns (number : ℕ) (v : View) : ℕ → List ℕ → View → T
       → PrintsChosen mid number None more v'
       → PrintsTurns number v (count + 1) (text ++ more) v'
 
+-- So many turns of processes that might go on, each the one that came next for its process.
+pub data PrintsSettling (v : View) : ℕ → List ℕ → View → Type 0 where
+  Resting : PrintsSettling v 0 [] v
+  Onward : (count number : ℕ) (text more : List ℕ) (mid v' : View) → PrintsSettling v count text mid → MayGoOn mid number
+      → PrintsChosen mid number None more v'
+      → PrintsSettling v (count + 1) (text ++ more) v'
+
 -- a part that is to begin, and to look at that page then
 abbrev pub IsPartNear : ℕ → ℕ → Proc → Type 0
 IsPartNear from page (proc.Part p) = (p.from ≡ from) × (p.stage ≡ part.Near page)
@@ -87,7 +95,8 @@ IsStart (start.Compress level key) p = IsCompress level key p
 IsStart (start.Reclaim page) p = IsReclaim page p
 IsStart start.Lower p = IsLower p
 
--- What one command does and prints. A run ends with its last turn, or when its process has answered.
+-- What one command does and prints. A run ends with its last turn, or when its process has answered. A world is left to itself until all
+-- have answered, or for so many turns.
 abbrev pub Does : View → Command → List ℕ → View → Type 0
 Does v (command.Start start) text v' = (p : Proc) × IsStart start p × Starts v p v' × (text ≡ [])
 Does v (command.Turn number) text v' = PrintsChosen v number None text v'
@@ -95,6 +104,7 @@ Does v (command.TurnAt number page) text v' = PrintsChosen v number (Some page) 
 Does v (command.Refuse number) text v' = Prints v number (turn.Refuse number) text v'
 Does v (command.Run number most) text v' =
     (count : ℕ) × (count ≤ most) × PrintsTurns number v count text v' × ((count ≡ most) ⊎ ((a : Answer) × HasAnswer v' number (Some a)))
+Does v (command.Settle most) text v' = (count : ℕ) × (count ≤ most) × PrintsSettling v count text v' × ((count ≡ most) ⊎ HaveAnswered v')
 
 -- What a list of commands does and prints.
 pub data Plays (v : View) : List Command → List ℕ → View → Type 0 where
@@ -102,12 +112,15 @@ pub data Plays (v : View) : List Command → List ℕ → View → Type 0 where
   Then : (commands : List Command) (next : Command) (text more : List ℕ) (mid v' : View) → Plays v commands text mid → Does mid next more v'
       → Plays v (commands ++ next ∷ []) (text ++ more) v'
 
--- A list of commands was broken off: behind some of them, and maybe behind some turns of a run.
+-- A list of commands was broken off: behind some of them, and maybe behind some turns of a run or of a world that was left to itself.
 pub data BreaksOff (v : View) (commands : List Command) : List ℕ → Type 0 where
   Behind : (done rest : List Command) (text : List ℕ) (v' : View) → commands ≡ done ++ rest → Plays v done text v' → BreaksOff v commands text
   Within : (done rest : List Command) (number most count : ℕ) (text more : List ℕ) (mid v' : View) → commands ≡ done ++ command.Run number most ∷ rest
       → Plays v done text mid
       → count ≤ most → PrintsTurns number mid count more v' → BreaksOff v commands (text ++ more)
+  Unsettled : (done rest : List Command) (most count : ℕ) (text more : List ℕ) (mid v' : View) → commands ≡ done ++ command.Settle most ∷ rest
+      → Plays v done text mid
+      → count ≤ most → PrintsSettling mid count more v' → BreaksOff v commands (text ++ more)
 
 -- What a script that was carried out has printed; and what may be believed of the world in the end.
 abbrev pub PlaysOut : ℕ → List Command → List ℕ → Type 0

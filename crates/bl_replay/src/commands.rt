@@ -11,7 +11,7 @@ ghost use Rattle.bl_replay.specs.declared.fault.ReplayFault.TheVariants as fault
 ghost use Rattle.bl_model.specs.Writes.{IsRead};
 ghost use Rattle.bl_proc_base.specs.declared.acts.Action.TheVariants as act;
 ghost use Rattle.bl_proc.specs.Processes.{next_of};
-ghost use Rattle.bl_replay.specs.Plays.{Prints, PrintsChosen, PrintsTurns, Reads, Carries, IsStart, Does, all_kinds};
+ghost use Rattle.bl_replay.specs.Plays.{Prints, PrintsChosen, PrintsTurns, PrintsSettling, Reads, Carries, IsStart, Does, all_kinds};
 ghost use Rattle.bl_replay.specs.Emits.{Emits, Partly};
 
 use crate::fault::ReplayFault;
@@ -153,6 +153,32 @@ fn play_run<W: Write>(
     Ok(())
 }
 
+/// Gives turns to processes that may go on, at most so many, until all have answered, and prints them.
+fn play_settle<W: Write>(
+    world: &mut World,
+    most: u64,
+    pending: &mut Vec<u8>,
+    writer: &mut Watched<W>,
+) -> Result<(), ReplayFault>
+    ensures ok { OnOk result ((text : List ℕ)
+        × Does world.old (command.Settle most) text world.new
+        × Emits (W.contents writer.old.inner) (W.contents writer.new.inner) pending.old.items pending.new.items text) }
+    ensures count { OnOk result (length world.new.processes ≡ length world.old.processes) }
+    ensures size { OnOk result (length world.new.pages ≡ length world.old.pages) }
+    ensures err { OnErr result ((text : List ℕ) × (count : ℕ) × (after : View)
+        × (count ≤ most) × PrintsSettling world.old count text after
+        × StartsOut (W.contents writer.old.inner) (W.contents writer.new.inner) (pending.old.items ++ text)) }
+    ensures write { result ≡ Err fault.Write → writer.new.failed ≡ true }
+{
+    for _ in 0..most {
+        match world.ready() {
+            Some(number) => play_chosen(world, number, None, pending, writer)?,
+            None => return Ok(()),
+        }
+    }
+    Ok(())
+}
+
 /// Carries out a command, and prints what it does.
 pub fn play_command<W: Write>(
     world: &mut World,
@@ -185,5 +211,6 @@ pub fn play_command<W: Write>(
             play_turn(world, number as usize, turn, pending, writer)
         }
         Command::Run(number, most) => play_run(world, number as usize, most, pending, writer),
+        Command::Settle(most) => play_settle(world, most, pending, writer),
     }
 }

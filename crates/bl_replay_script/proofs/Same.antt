@@ -41,6 +41,7 @@ line_text kinds pages started count (command.Turn a) h = plain_one (codes "turn 
 line_text kinds pages started count (command.TurnAt a b) h = plain_two (codes "turn ") a b refl (omega arith) h.0.2 (small_page b pages count h.1)
 line_text kinds pages started count (command.Refuse a) h = plain_one (codes "refuse ") a refl (omega arith) h.2
 line_text kinds pages started count (command.Run a b) h = plain_two (codes "run ") a b refl (omega arith) h.0.2 h.1
+line_text kinds pages started count (command.Settle a) h = plain_one (codes "settle ") a refl (omega arith) h
 
 -- the first three letters of a line, as one number; of a command's text it says the kind of the command
 abbrev letters : List ℕ → ℕ
@@ -62,6 +63,7 @@ kind_of (command.Turn a) = 7632242
 kind_of (command.TurnAt a b) = 7632242
 kind_of (command.Refuse a) = 7497062
 kind_of (command.Run a b) = 7501166
+kind_of (command.Settle a) = 7562612
 
 kind_is : (c : Command) → letters (command_text c) ≡ kind_of c
 kind_is (command.Start (Operation (Find a))) = refl
@@ -79,6 +81,7 @@ kind_is (command.Turn a) = refl
 kind_is (command.TurnAt a b) = refl
 kind_is (command.Refuse a) = refl
 kind_is (command.Run a b) = refl
+kind_is (command.Settle a) = refl
 
 other_kind : (c d : Command) → command_text c ≡ command_text d → (kind_of c ≡ kind_of d → ⊥) → ⊥
 other_kind c d e apart = apart (sym (kind_is c) ∙ (ap letters e ∙ kind_is d))
@@ -105,6 +108,7 @@ text_same kinds pages started count (command.TurnAt a b) (command.Turn c) h k e 
 text_same kinds pages started count (command.TurnAt a b) (command.TurnAt c d) h k e = let same = two_same a b c d h.0.2 (small_page b pages count h.1) k.0.2 (small_page d pages count k.1) (append_cancel_left (codes "turn ") (two a b) (two c d) e) in ap (λ z. (command.TurnAt z b)) same.0 ∙ ap (λ z. (command.TurnAt c z)) same.1
 text_same kinds pages started count (command.Refuse a) (command.Refuse c) h k e = ap (λ z. (command.Refuse z)) (one_same a c h.2 k.2 (append_cancel_left (codes "refuse ") (one a) (one c) e))
 text_same kinds pages started count (command.Run a b) (command.Run c d) h k e = let same = two_same a b c d h.0.2 h.1 k.0.2 k.1 (append_cancel_left (codes "run ") (two a b) (two c d) e) in ap (λ z. (command.Run z b)) same.0 ∙ ap (λ z. (command.Run c z)) same.1
+text_same kinds pages started count (command.Settle a) (command.Settle c) h k e = ap (λ z. (command.Settle z)) (one_same a c h k (append_cancel_left (codes "settle ") (one a) (one c) e))
 text_same kinds pages started count c (command.Start (Operation (Find x))) h k e = absurd (other_kind c (command.Start (Operation (Find x))) e (λ i. omega (arith, i)))
 text_same kinds pages started count c (command.Start (Operation (Insert x y))) h k e = absurd (other_kind c (command.Start (Operation (Insert x y))) e (λ i. omega (arith, i)))
 text_same kinds pages started count c (command.Start (Operation (Delete x))) h k e = absurd (other_kind c (command.Start (Operation (Delete x))) e (λ i. omega (arith, i)))

@@ -38,6 +38,7 @@ command_text (command.Turn process) = codes "turn " ++ one process
 command_text (command.TurnAt process page) = codes "turn " ++ two process page
 command_text (command.Refuse process) = codes "refuse " ++ one process
 command_text (command.Run process most) = codes "run " ++ two process most
+command_text (command.Settle most) = codes "settle " ++ one most
 
 -- the text of the first line
 abbrev pub head_text : ℕ → List ℕ
@@ -78,6 +79,7 @@ MayStand kinds pages started (command.Turn process) = IsStarted started process
 MayStand kinds pages started (command.TurnAt process page) = IsStarted started process × (page < pages)
 MayStand kinds pages started (command.Refuse process) = IsStarted started process
 MayStand kinds pages started (command.Run process most) = IsStarted started process × Fits most
+MayStand kinds pages started (command.Settle most) = Fits most
 
 -- how many processes a command starts
 abbrev pub starts : Command → ℕ
@@ -86,6 +88,7 @@ starts (command.Turn process) = 0
 starts (command.TurnAt process page) = 0
 starts (command.Refuse process) = 0
 starts (command.Run process most) = 0
+starts (command.Settle most) = 0
 
 abbrev pub started_by : List Command → ℕ
 started_by [] = 0

@@ -54,6 +54,8 @@ pub enum Command {
     Refuse(u64),
     /// Turns of a process, at most so many, until it has answered.
     Run(u64, u64),
+    /// Turns of processes that wait for none, at most so many, until all have answered.
+    Settle(u64),
 }
 
 /// A whole script.

@@ -230,8 +230,11 @@ pub fn command_of(kinds: Kinds, pages: u32, started: u64, line: &[u8]) -> Option
     if let Some(process) = one_within(line, b"refuse ", 1, started) {
         return Some(Command::Refuse(process));
     }
-    let Some((process, most)) = two_within(line, b"run ", 1, started, MOST) else {
+    if let Some((process, most)) = two_within(line, b"run ", 1, started, MOST) {
+        return Some(Command::Run(process, most));
+    }
+    let Some(most) = one_within(line, b"settle ", 0, MOST) else {
         return None;
     };
-    Some(Command::Run(process, most))
+    Some(Command::Settle(most))
 }

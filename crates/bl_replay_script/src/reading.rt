@@ -90,6 +90,10 @@ fn processes_in(command: Command) -> u64
 {
     match command {
         Command::Start(_) => 1,
-        Command::Turn(_) | Command::TurnAt(_, _) | Command::Refuse(_) | Command::Run(_, _) => 0,
+        Command::Turn(_)
+        | Command::TurnAt(_, _)
+        | Command::Refuse(_)
+        | Command::Run(_, _)
+        | Command::Settle(_) => 0,
     }
 }

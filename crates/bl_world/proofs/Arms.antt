@@ -62,7 +62,7 @@ set_cases Q xs n v l at rest i a is = elim (cases_eq i n) [
 ]
 
 -- what is told of a page that is open
-open_there : (o : Option Owner) → is_open o ≡ true → o ≡ Some own.Open
+pub open_there : (o : Option Owner) → is_open o ≡ true → o ≡ Some own.Open
 open_there None e = absurd (cc e)
 open_there (Some own.Released) e = absurd (cc e)
 open_there (Some own.Open) e = refl

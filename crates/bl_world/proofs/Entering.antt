@@ -192,4 +192,5 @@ enters pages owners processes events p small next h =
         releases = h.releases;
       },
       ([], sym (append-nil old.trail)),
+      λ x far. refl,
     )

@@ -24,6 +24,7 @@ use Rattle.bl_world.proofs.Arms.{begins, ends, gets, probes, misses, puts, latch
 use Rattle.bl_world.proofs.ReclaimArms.{sees, looks, frees, keeps}
 use Rattle.bl_world.proofs.Near.{within}
 use Rattle.bl_world.proofs.Reserving.{Reserves, reserves}
+use Rattle.bl_world.proofs.Runs.{turn_size}
 
 -- the lists that stand there are those of a world
 abbrev pub Has : View → Type 0
@@ -93,11 +94,12 @@ turn_grows v v' t h does = at_to v v' does.place does.process does.stood h t doe
 
 -- a list of turns
 pub runs_grow : (v v' : View) (turns : List Turn) (h : Has v) → RunsTo v turns v' → GrowsTo h v'
-runs_grow v v' [] h e = subst (λ z. GrowsTo h z) (sym e) (h, ([], sym (append-nil h.world.trail)))
+runs_grow v v' [] h e = subst (λ z. GrowsTo h z) (sym e) (h, ([], sym (append-nil h.world.trail)), λ x far. refl)
 runs_grow v v' (t ∷ turns) h r =
     let one = turn_grows v r.0 t h r.1 in
     let rest = runs_grow r.0 v' turns one.0 r.2 in
-    (rest.0, (one.1.0 ++ rest.1.0, rest.1.1 ∙ (ap (λ z. z ++ rest.1.0) one.1.1 ∙ append_assoc h.world.trail one.1.0 rest.1.0)))
+    let size : one.0.world.size ≡ h.world.size = one.0.size ∙ (turn_size v r.0 t r.1 ∙ sym h.size) in
+    (rest.0, (one.1.0 ++ rest.1.0, rest.1.1 ∙ (ap (λ z. z ++ rest.1.0) one.1.1 ∙ append_assoc h.world.trail one.1.0 rest.1.0)), λ x far. rest.2 x (omega (arith, far, size)) ∙ one.2 x far)
 
 pub runs_keep : (v v' : View) (turns : List Turn) → IsWorld v → RunsTo v turns v' → IsWorld v'
 runs_keep v v' turns h r = ∥∥₁_map h (λ h. (runs_grow v v' turns h r).0)

@@ -25,3 +25,8 @@ pub mod Openings
 pub mod Laying
 pub mod Examples
 pub mod Walks
+pub mod Waiting
+pub mod Needing
+pub mod Weights
+pub mod Counted
+pub mod Nearing

@@ -1,10 +1,11 @@
 -- One turn on the lists of a world.
-use Rattle.std.proofs.Common.{ℕ, ◌≡◌, ◌≢◌, ◌<◌, ◌++◌, suc, Some, List, [], ◌∷◌, length, slice_get, arith, ap, sym, ◌∙◌, refl, inl, inr}
+use Rattle.std.proofs.Common.{ℕ, ◌≡◌, ◌≢◌, ◌<◌, ◌≤◌, ◌++◌, suc, Some, List, [], ◌∷◌, length, slice_get, arith, ap, sym, ◌∙◌, refl, inl, inr}
 use Rattle.std.proofs.lemmas.Bool.{cases_eq}
 use Rattle.bl_model.specs.Map.{empty}
 use Rattle.bl_model.specs.declared.operation.Reply.{Reply}
 use Rattle.bl_page.specs.declared.page.Page.{Page}
-use Rattle.bl_page.specs.Machine.{Name, State, Act as MachineAct, Changes}
+use Rattle.bl_page.specs.Machine.{Name, State, Act as MachineAct, Enabled, Changes}
+use Rattle.bl_page.specs.Machine.Owner.{Released, Held}
 use Rattle.bl_page.specs.Machine.Act.{Begin, End, Get, Put, Take, Latch, Retire, Look, Release, Miss}
 use Rattle.bl_claims.specs.Trails.{Mark, Trail, events_of, marks_of}
 use Rattle.bl_core.proofs.Pushes.{marks_of-other}
@@ -58,9 +59,29 @@ own_event events n i act other ne s =
     let g : suc n ≡ suc i = ap (λ z. z.process) f in
     ne (omega (arith, g))
 
--- The lists after one event, and how the trail goes on.
+-- the pages that no list shows stay as they were
+beyond : (s s' : State Page) (p : Name) (a : MachineAct Page Reply) (size : ℕ) → ((x : ℕ) → s.owner x ≡ Held p → x < size) → Enabled s p a → Changes s p a s' → (x : ℕ) → size ≤ x → s'.contents x ≡ s.contents x
+beyond s s' p Begin size small enabled c x far = c.0 x
+beyond s s' p (End answer) size small enabled c x far = c.0 x
+beyond s s' p (Get y) size small enabled c x far = c.0 x
+beyond s s' p (Put y d) size small enabled c x far = c.0.others x (λ e. (let l = small y enabled in omega (arith, e, l, far)))
+beyond s s' p (Take y) size small enabled c x far = c.0 x
+beyond s s' p (Latch y) size small enabled c x far = c.0 x
+beyond s s' p (MachineAct.Open y) size small enabled c x far = c.0 x
+beyond s s' p (Retire y) size small enabled c x far = c.3.0 x
+beyond s s' p (Look it) size small enabled c x far = c.0 x
+beyond s s' p (Release y) size small enabled c x far = c.0 x
+beyond s s' p (Miss what) size small enabled c x far = c.0 x
+
+-- a page that is held is one of the lists
+held_small : {pages : List Page} {owners : List Owner} {processes : List Proc} {events : List Event} (h : HasWorld pages owners processes events) (x : ℕ) (p : Name) → h.world.now.owner x ≡ Held p → x < h.world.size
+held_small h x p held = h.good.owned.small x (λ f. (let o : Released ≡ Held p = sym (h.good.owned.free x f) ∙ held in cc))
+
+-- The lists after one event, how the trail goes on, and that no other page changes.
 abbrev pub Grows : {pages : List Page} {owners : List Owner} {processes : List Proc} {events : List Event} → HasWorld pages owners processes events → List Page → List Owner → List Proc → List Event → Type 0
-Grows h pages owners processes events = (after : HasWorld pages owners processes events) × ((more : Trail) × (after.world.trail ≡ h.world.trail ++ more))
+Grows h pages owners processes events =
+    (after : HasWorld pages owners processes events) × ((more : Trail) × (after.world.trail ≡ h.world.trail ++ more))
+    × ((x : ℕ) → h.world.size ≤ x → after.world.now.contents x ≡ h.world.now.contents x)
 
 -- After one turn of process n the lists are those of the world after it.
 pub turned_lists : (pages pages' : List Page) (owners owners' : List Owner) (processes processes' : List Proc) (events : List Event) (n : ℕ) (a : MachineAct Page Reply) (s : State Page) (b : Run) → (h : HasWorld pages owners processes events) → n < length processes → length pages' ≡ length pages → length owners' ≡ length owners → length processes' ≡ length processes → ((x : ℕ) (c : Page) → slice_get pages' x ≡ Some c → s.contents x ≡ c) → ((x : ℕ) (o : Owner) → slice_get owners' x ≡ Some o → s.owner x ≡ owner_of o) → ((p : Proc) → slice_get processes' n ≡ Some p → b.state ≡ p) → ((i : ℕ) → i ≢ n → slice_get processes' i ≡ slice_get processes i) → s.clock ≡ suc h.world.now.clock → ((q : Reclaim) → slice_get processes' n ≡ Some (proc.Reclaim q) → (q.page < length pages) × IsReclaiming (events ++ record { process = suc n; act = act_shown a } ∷ []) (suc n) q.page b.time q.stage) → ((x : ℕ) → act_shown a ≡ shown.Release x → (k : ℕ) × HasSeen events (suc n) x k (length events) × IsRetired events x k (length events)) → Paced h.world (name_of (suc n)) a s b → Grows h pages' owners' processes' (events ++ record { process = suc n; act = act_shown a } ∷ [])
@@ -106,4 +127,5 @@ turned_lists pages pages' owners owners' processes processes' events n a s b h h
         releases = releases_on events _ releases h.releases;
       },
       (_ ∷ [], e.trail),
+      beyond old.now next.now p a old.size (λ x held. held_small h x p held) e.steps.enabled e.steps.changes,
     )

@@ -6,3 +6,5 @@ pub mod Accounts
 pub mod Worlds
 pub mod Choices
 pub mod Lone
+pub mod Waits
+pub mod Settles

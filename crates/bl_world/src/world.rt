@@ -52,15 +52,18 @@ fn key_of(process: &Proc) -> u64
 }
 
 impl World {
-    ghost use Rattle.std.specs.Prelude.{◌≡◌, ◌≢◌, ◌⊎◌, ◌<◌, ◌≤◌, ◌+◌, ◌↔◌, Some, None, Ok, Err, slice_get, length, IfOk, IfErr, OnOk, OnErr};
+    ghost use Rattle.std.specs.Prelude.{◌≡◌, ◌≢◌, ◌⊎◌, ◌<◌, ◌≤◌, ◌+◌, ◌↔◌, Some, None, Ok, Err, slice_get, length, IfSome, IfNone, IfOk, IfErr, OnOk, OnErr};
     ghost use Rattle.bl_proc.specs.declared.kinds.Proc.{Proc as AnyProc};
     ghost use Rattle.bl_proc.specs.Processes.{answer_of};
     ghost use Rattle.bl_world.specs.declared.turns.WorldFault.TheVariants as fault;
+    ghost use Rattle.bl_world.specs.Views.{View};
     ghost use Rattle.bl_world.specs.Turns.{RunsTo, RunsInto, IsStarted, HasUnknown};
     ghost use Rattle.bl_world.specs.WorldSteps.{IsOpening, MayStart, Starts};
     ghost use Rattle.bl_world.specs.Choices.{Chooses};
     ghost use Rattle.bl_world.specs.Accounts.{Account, Continues};
     ghost use Rattle.bl_world.specs.Lone.{IsLoneWalk};
+    ghost use Rattle.bl_world.specs.Waits.{IsGoing, MayGoOn, HoldsSome, NoneHeld, HaveAnswered, WaitEnds};
+    ghost use Rattle.bl_world.specs.Settles.{Settles, turns_to_rest};
 
     /// A world with the opening index of that many pages, 4 to 65,536: page 0 names one level, page 1 is an empty leaf, and
     /// all other pages are released. Any other number is `BadPages`.
@@ -121,6 +124,36 @@ impl World {
         ensures { Chooses self.now number page result }
     {
         self.lists.choose(number, page)
+    }
+
+    /// The number of a process that may go on: it has not answered, and waits for no other to open a page. It holds a page, if
+    /// any is held. None exactly where all have answered. So no processes wait for one another in a circle: each wait
+    /// ends at a process that may go on.
+    pub fn ready(&self) -> Option<usize>
+        ensures goes { IfSome result (λ number. MayGoOn self.now number × (HoldsSome self.now number ⊎ NoneHeld self.now)) }
+        ensures none { IfNone result (HaveAnswered self.now) }
+        ensures ends { (number : ℕ) → IsGoing self.now number → ∥ WaitEnds self.now number ∥₁ }
+    {
+        self.lists.ready()
+    }
+
+    /// Leaves the world to itself: gives turns to processes that may go on, until all have answered or so many turns are done, and
+    /// tells how many it gave. Each turn is the one that comes next for its process, as `turn_of` tells it. So many turns as
+    /// `turns_to_rest` says for this number of pages and of processes are enough for all to answer, and so they are whichever of
+    /// those that may go on is given the next turn. Without memory what stands is what stood after the turns before.
+    pub fn settle(&mut self, most: u64) -> Result<u64, WorldFault>
+        ensures turns { IfOk result (λ count. Settles self.old count self.new × (count ≤ most)) }
+        ensures rest { IfOk result (λ count. (count ≡ most) ⊎ HaveAnswered self.new) }
+        ensures ends { turns_to_rest (length self.old.pages) (length self.old.processes) ≤ most → OnOk result (HaveAnswered self.new) }
+        ensures always { (count : ℕ) (after : View) → Settles self.old count after
+            → count < turns_to_rest (length self.old.pages) (length self.old.processes) }
+        ensures memory { IfErr result (λ why. (why ≡ fault.Memory) × ((count : ℕ) × Settles self.old count self.new)) }
+        ensures account { ∥ Continues self.old self.new ∥₁ }
+    {
+        match self.lists.settle(most) {
+            Ok(done) => Ok(done),
+            Err(_) => Err(WorldFault::Memory),
+        }
     }
 
     /// The events so far, one for each turn.

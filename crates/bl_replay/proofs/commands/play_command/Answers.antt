@@ -1,4 +1,4 @@
-use Rattle.std.proofs.Common.{[]}
+use Rattle.std.proofs.Common.{[], refl, inr}
 use Rattle.bl_replay_script.specs.declared.command.Command.TheVariants as command
 use Rattle.bl_replay.proofs.Emitting.{emits_start, ok_map, err_map}
 use Rattle.bl_replay.proofs.Following.{partly_one}
@@ -15,3 +15,6 @@ returns-in-TurnAt-clause-err g c = rw c.in-TurnAt.is (err_map c.play_chosen-in-T
 
 pub returns-in-Refuse-clause-err : goal.returns-in-Refuse-clause-err
 returns-in-Refuse-clause-err g c = rw c.in-Refuse.is (err_map c.play_turn.result (λ e. (e.0, partly_one c.args.world.now (command.Refuse c.in-Refuse.number) e.0 e.1, e.2)) c.play_turn.ensures.err)
+
+pub returns-in-Settle-clause-err : goal.returns-in-Settle-clause-err
+returns-in-Settle-clause-err g c = rw c.in-Settle.is (err_map c.play_settle.result (λ e. (e.0, inr (inr (inr (c.in-Settle.most, e.1, e.2, refl, e.3, e.4))), e.5)) c.play_settle.ensures.err)

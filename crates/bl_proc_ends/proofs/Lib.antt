@@ -1,0 +1,9 @@
+pub mod Plain
+pub mod Squeezes
+pub mod Posts
+pub mod Climbs
+pub mod Turning
+pub mod Few
+pub mod Spending
+pub mod Meaning
+pub mod FewPuts

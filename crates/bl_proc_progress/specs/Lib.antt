@@ -1,0 +1,4 @@
+pub mod Order
+pub mod Waits
+pub mod Holds
+pub mod Ways

@@ -1,0 +1,5 @@
+pub mod Patient
+pub mod Children
+pub mod Missing
+pub mod Resting
+pub mod Levels
