@@ -83,13 +83,13 @@ fn go_on(
     (waits && answered, reply, hint)
 }
 
-/// Deletes key 1, for which it waits.
+/// A handle deletes key 1, for which it waits. What is left to do then comes back.
 fn wait<R: Wait>(rt: &R, index: &Index, pass: Pass, course: &Course) -> (KeyReply, Option<Hint>)
     requires { IsPassOf index.now pass }
 {
-    let mut pass = pass;
+    let mut handle = Handle::over(index, pass);
     course.waits.store(true, Ordering::SeqCst);
-    index.delete(rt, &mut pass, 1)
+    handle.write_leaving(rt, 1, KeyWrite::Delete)
 }
 
 /// Whether each write of a pass by itself is answered as it should be: keys 16 and 17 are inserted, and 9 is changed. They are in another
