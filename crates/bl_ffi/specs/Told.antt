@@ -10,7 +10,7 @@ use Rattle.bl_model.specs.declared.operation.Op.TheVariants as op
 use Rattle.bl_model.specs.declared.operation.Reply.{Reply}
 use Rattle.bl_model.specs.declared.operation.Reply.TheVariants.{Found, Absent, Inserted, Present, Deleted, Changed, Differs, Rows, NoRoom}
 use Rattle.bl_seats.specs.declared.seat.Seat.{Seat}
-use Rattle.bl_seats.specs.Calls.{IsSameSeat, HasToldLast, HasTold, HasGoneOn, HasGoneOnOrBegun, HasNothingToDo}
+use Rattle.bl_seats.specs.Calls.{IsSameSeat, HasToldLast, HasTold, HasGoneOn, HasGoneOnOrBegun, HasNothingToDo, HasCarriedOn, HasNoAnswer, HasToWait, HasSwept, HasDoneMost}
 use Rattle.bl_seats.specs.Waits.{hints_of}
 use Rattle.bl_ffi.specs.declared.seat.SeatOfC.{SeatOfC}
 
@@ -31,15 +31,28 @@ IsCodeOf NoRoom code written = code ≡ pos 3
 abbrev pub Calls : SeatOfC → SeatOfC → ℤ → (Seat → Seat → Type 0) → Type 0
 Calls old new code Comes = MatchOption old.seat ((code ≡ pos 9) × (new.seat ≡ None)) (λ s. (t : Seat) × (new.seat ≡ Some t) × IsSameSeat s t × Comes s t)
 
--- The call is to be made again, and may have begun; or the code and the value are those of a reply to this very call, which the seat has
+-- Why a search is to be made again: it ran out of turns, or something is underway still, which was carried on.
+abbrev pub SearchesAgain : Seat → Seat → Type 0
+SearchesAgain old new = HasGoneOn old new × HasCarriedOn old new × HasNoAnswer new
+
+-- Why a write is to be made again: something is underway, this very write or another, or there was no room. It may have begun.
+abbrev pub WritesAgain : Op → Seat → Seat → Type 0
+WritesAgain op old new = HasGoneOnOrBegun op old new × HasToWait new
+
+-- The call is to be made again, for such a reason; or the code and the value are those of a reply to this very call, which the seat has
 -- told, and told last.
-abbrev pub Replies : Op → ℤ → ℕ → Seat → Seat → Type 0
-Replies op code written old new =
-    ((code ≡ pos 4) × HasGoneOnOrBegun op old new)
+abbrev pub Replies : (Seat → Seat → Type 0) → Op → ℤ → ℕ → Seat → Seat → Type 0
+Replies Again op code written old new =
+    ((code ≡ pos 4) × Again old new)
     ⊎ ((reply : Reply) × IsCodeOf reply code written × HasTold op reply old new × HasToldLast op reply new)
 
+-- a search
+abbrev pub Finds : Op → SeatOfC → SeatOfC → ℤ → ℕ → Type 0
+Finds op old new code written = Calls old new code (Replies SearchesAgain op code written)
+
+-- a write
 abbrev pub Tells : Op → SeatOfC → SeatOfC → ℤ → ℕ → Type 0
-Tells op old new code written = Calls old new code (Replies op code written)
+Tells op old new code written = Calls old new code (Replies (WritesAgain op) op code written)
 
 -- a key and its value, as C has them
 abbrev pub row_of : ℕ × ℕ → Row
@@ -64,13 +77,15 @@ IsListed other old new part = ⊥
 -- The same of a part of the rows, which are listed.
 abbrev pub Lists : ℕ → List Row → List Row → Part → ℤ → Seat → Seat → Type 0
 Lists from rows rows' part code old new =
-    ((code ≡ pos 4) × HasGoneOn old new)
+    ((code ≡ pos 4) × SearchesAgain old new)
     ⊎ ((code ≡ pos 0) × ((reply : Reply) × HasTold (op.Part from) reply old new × HasToldLast (op.Part from) reply new × IsListed reply rows rows' part))
 
--- It has told what was underway, if that has ended, and no more; and the code says whether anything is left to do.
-abbrev pub Tends : SeatOfC → SeatOfC → ℤ → Type 0
-Tends old new code =
-    Calls old new code (λ s t. HasGoneOn s t × (((code ≡ pos 0) × HasNothingToDo t) ⊎ ((code ≡ pos 4) × (HasNothingToDo t → ⊥))))
+-- It has told what was underway, if that has ended, and no more; it has done so many pieces of upkeep, or all that there are, and then it has
+-- swept; and the code says whether anything is left to do.
+abbrev pub Tends : ℕ → SeatOfC → SeatOfC → ℤ → Type 0
+Tends most old new code =
+    Calls old new code (λ s t. HasGoneOn s t × ((mid : Seat) × IsSameSeat s mid × ((count : ℕ) × HasSwept count mid t)
+    × (((code ≡ pos 0) × HasNothingToDo t) ⊎ ((code ≡ pos 4) × (HasNothingToDo t → ⊥) × HasDoneMost most s mid))))
 
 -- what is said of a seat by a number, and 0 of a closed one; nothing is done
 abbrev pub Counts : (Seat → ℕ) → SeatOfC → SeatOfC → ℕ → Type 0

@@ -4,7 +4,7 @@ ghost use Rattle.std.specs.Prelude.{◌≡◌, ◌≢◌, ◌<◌, ◌≤◌, po
 ghost use Rattle.bl_model.specs.declared.operation.Op.TheVariants as op;
 ghost use Rattle.bl_model.specs.Replies.{reply_of};
 ghost use Rattle.bl_model.specs.Writes.{write_op};
-ghost use Rattle.bl_ffi.specs.Told.{IsCodeOf, Tells, Calls, IsRows, IsListed, Lists, Tends, Counts, waiting_of, dropped_of};
+ghost use Rattle.bl_ffi.specs.Told.{IsCodeOf, Finds, Tells, Calls, IsRows, IsListed, Lists, Tends, Counts, waiting_of, dropped_of};
 
 use crate::codes::{ABSENT, AGAIN, CLOSED, FEW_ROWS, NO_ROOM, OK, PRESENT};
 use crate::places::{put_back, taken};
@@ -76,13 +76,13 @@ pub extern "C" fn blink_try_find(
     key: u64,
     value: &mut u64,
 ) -> i32
-    ensures { Tells (op.Find key) seat.old seat.new result value.new }
+    ensures { Finds (op.Find key) seat.old seat.new result value.new }
 {
     let Some(mut mine) = taken(alloc, seat) else {
         return CLOSED;
     };
     let answer = mine.find(key);
-    put_back(seat, mine);
+    put_back(alloc, seat, mine);
     match answer {
         Some(reply) => found(reply, value),
         None => AGAIN,
@@ -97,7 +97,7 @@ fn write(alloc: Global, seat: &mut SeatOfC, key: u64, write: KeyWrite, value: &m
         return CLOSED;
     };
     let answer = mine.write(key, write);
-    put_back(seat, mine);
+    put_back(alloc, seat, mine);
     match answer {
         Some(reply) => told(reply, value),
         None => AGAIN,
@@ -208,7 +208,7 @@ pub extern "C" fn blink_try_rows(
         Some(part.near)
     };
     let answer = mine.part(from, &mut near);
-    put_back(seat, mine);
+    put_back(alloc, seat, mine);
     match answer {
         Some(reply) => {
             listed(&reply, rows, part);
@@ -222,14 +222,14 @@ pub extern "C" fn blink_try_rows(
 /// Does so many pieces of upkeep at most.
 #[unsafe(no_mangle)]
 pub extern "C" fn blink_tend(alloc: Global, seat: &mut SeatOfC, most: u32) -> i32
-    ensures { Tends seat.old seat.new result }
+    ensures { Tends most seat.old seat.new result }
 {
     let Some(mut mine) = taken(alloc, seat) else {
         return CLOSED;
     };
     let done = mine.tend(most);
     mine.sweep();
-    put_back(seat, mine);
+    put_back(alloc, seat, mine);
     if done { OK } else { AGAIN }
 }
 
@@ -242,7 +242,7 @@ pub extern "C" fn blink_waiting(alloc: Global, seat: &mut SeatOfC) -> u32
         return 0;
     };
     let waiting = mine.waiting();
-    put_back(seat, mine);
+    put_back(alloc, seat, mine);
     waiting
 }
 
@@ -255,6 +255,6 @@ pub extern "C" fn blink_dropped(alloc: Global, seat: &mut SeatOfC) -> u64
         return 0;
     };
     let dropped = mine.dropped();
-    put_back(seat, mine);
+    put_back(alloc, seat, mine);
     dropped
 }

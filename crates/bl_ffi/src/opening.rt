@@ -35,7 +35,7 @@ fn hand_out(alloc: Global, seats: Vec<Seat>, places: &mut [SeatOfC]) -> i32
         return NO_MEMORY;
     };
     close_all(alloc, places);
-    put_all(places, boxes);
+    put_all(alloc, places, boxes);
     OK
 }
 

@@ -19,11 +19,12 @@ pub(crate) fn taken(alloc: Global, seat: &mut SeatOfC) -> Option<Box<Seat, Globa
     held.into_box(alloc)
 }
 
-/// Puts a seat's box into a place that has none.
-pub(crate) fn put_back(place: &mut SeatOfC, seat: Box<Seat, Global>)
+/// Puts a seat's box into a place. One that was there is closed.
+pub(crate) fn put_back(alloc: Global, place: &mut SeatOfC, seat: Box<Seat, Global>)
     ensures { place.new.seat ≡ Some seat.value }
 {
-    *place = SeatOfC::of(Loose::of(seat));
+    let before = mem::replace(place, SeatOfC::of(Loose::of(seat)));
+    let _ = before.into_box(alloc);
 }
 
 /// Takes the boxes out of the places, up to the first place that has none, into room for all.
@@ -45,8 +46,8 @@ pub(crate) fn take_all(
     boxes
 }
 
-/// Puts the boxes into the first places, which have none.
-pub(crate) fn put_all(places: &mut [SeatOfC], boxes: Vec<Box<Seat, Global>>)
+/// Puts the boxes into the first places. Those that were there are closed.
+pub(crate) fn put_all(alloc: Global, places: &mut [SeatOfC], boxes: Vec<Box<Seat, Global>>)
     requires { length boxes.items ≤ length places.old }
     ensures { seats_in places.new ≡ opened (values boxes.items) ++ drop (length boxes.items) (seats_in places.old) }
 {
@@ -56,7 +57,7 @@ pub(crate) fn put_all(places: &mut [SeatOfC], boxes: Vec<Box<Seat, Global>>)
             return;
         }
         let seat = boxes.remove(0);
-        put_back(&mut places[number], seat);
+        put_back(alloc, &mut places[number], seat);
     }
 }
 

@@ -20,9 +20,8 @@ pub struct Hidden {
     byte: u8,
 }
 
-/// The header's `blink_seat`.
+/// The header's `blink_seat`. It cannot be dropped, so none that owns a seat is forgotten: [`SeatOfC::into_box`] alone ends one.
 #[repr(C)]
-#[derive(Drop)]
 pub struct SeatOfC {
     at: *mut Hidden,
     /// The seat in the box, if the pointer is not null.

@@ -23,12 +23,12 @@ pub extern "C" fn blink_try_meet(alloc: Global, one: &mut SeatOfC, two: &mut Sea
         return CLOSED;
     };
     let Some(mut theirs) = taken(alloc, two) else {
-        put_back(one, mine);
+        put_back(alloc, one, mine);
         return CLOSED;
     };
     let met = mine.meet(&mut theirs);
-    put_back(one, mine);
-    put_back(two, theirs);
+    put_back(alloc, one, mine);
+    put_back(alloc, two, theirs);
     if met { OK } else { AGAIN }
 }
 
@@ -42,7 +42,7 @@ pub extern "C" fn blink_map(alloc: Global, seat: &mut SeatOfC, place: &mut *cons
         return CLOSED;
     };
     *place = mine.place();
-    put_back(seat, mine);
+    put_back(alloc, seat, mine);
     OK
 }
 
@@ -85,7 +85,7 @@ fn close_boxes(
     let needed = image_length(first.pages());
     if needed > bytes.len() as u64 {
         *long = needed;
-        put_all(places, boxes);
+        put_all(alloc, places, boxes);
         return FEW_BYTES;
     }
     match close(alloc, boxes) {
@@ -95,7 +95,7 @@ fn close_boxes(
             OK
         }
         Err((boxes, why)) => {
-            put_all(places, boxes);
+            put_all(alloc, places, boxes);
             code_of(why)
         }
     }
@@ -117,7 +117,7 @@ pub extern "C" fn blink_try_close_image(
     };
     let boxes = take_all(alloc, seats, room);
     if boxes.len() < seats.len() {
-        put_all(seats, boxes);
+        put_all(alloc, seats, boxes);
         return CLOSED;
     }
     close_boxes(alloc, seats, boxes, bytes, long)

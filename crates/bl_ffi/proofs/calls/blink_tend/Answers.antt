@@ -1,5 +1,6 @@
-use Rattle.std.proofs.Common.{Some, inl, inr, refl, sym, ap, ◌∙◌}
+use Rattle.std.proofs.Common.{ℕ, Some, inl, inr, refl, sym, ap, ◌∙◌, subst}
 use Rattle.bl_seats.specs.declared.seat.Seat.{Seat}
+use Rattle.bl_seats.specs.Calls.{HasSwept}
 use Rattle.bl_ffi.proofs.Called.{called, tended, not_true}
 use Rattle.bl_ffi.proofs.calls.blink_tend.Goals as goal
 
@@ -8,11 +9,15 @@ returns-then-done c =
     let was = c.in-Some.ensures.held ∙ ap (λ (z : Seat). Some z) (sym c.deref_mut.ensures.value) in
     let e = c.tend-done.ensures in let f = c.sweep.ensures in
     let t = tended c.deref_mut.result.now c.tend-done.new.self c.deref_mut-2.result.now c.sweep.new.self c.deref_mut-2.ensures.value e.same e.told f.same f.told f.keeps in
-    called c.args.seat.now c.put_back.new.place _ _ c.deref_mut.result.now c.sweep.new.self was c.put_back.ensures t.same (t.gone, inl (refl, t.idle (e.done.0 c.if-done.true)))
+    let swept = subst (λ (z : Seat). HasSwept c.sweep.result z c.sweep.new.self) c.deref_mut-2.ensures.value f.swept in
+    called c.args.seat.now c.put_back.new.place _ _ c.deref_mut.result.now c.sweep.new.self was c.put_back.ensures t.same
+    (t.gone, (c.tend-done.new.self, e.same, (c.sweep.result, swept), inl (refl, t.idle (e.done.0 c.if-done.true))))
 
 pub returns-else-done : goal.returns-else-done
 returns-else-done c =
     let was = c.in-Some.ensures.held ∙ ap (λ (z : Seat). Some z) (sym c.deref_mut.ensures.value) in
     let e = c.tend-done.ensures in let f = c.sweep.ensures in
     let t = tended c.deref_mut.result.now c.tend-done.new.self c.deref_mut-2.result.now c.sweep.new.self c.deref_mut-2.ensures.value e.same e.told f.same f.told f.keeps in
-    called c.args.seat.now c.put_back.new.place _ _ c.deref_mut.result.now c.sweep.new.self was c.put_back.ensures t.same (t.gone, inr (refl, λ idle. not_true c.tend-done.result c.if-done.false (e.done.1 (t.was_idle idle))))
+    let swept = subst (λ (z : Seat). HasSwept c.sweep.result z c.sweep.new.self) c.deref_mut-2.ensures.value f.swept in
+    called c.args.seat.now c.put_back.new.place _ _ c.deref_mut.result.now c.sweep.new.self was c.put_back.ensures t.same
+    (t.gone, (c.tend-done.new.self, e.same, (c.sweep.result, swept), inr (refl, (λ idle. not_true c.tend-done.result c.if-done.false (e.done.1 (t.was_idle idle))), e.most c.if-done.false)))

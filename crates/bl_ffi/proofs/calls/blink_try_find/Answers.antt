@@ -13,4 +13,4 @@ returns-in-Some-answer c =
 pub returns-in-None : goal.returns-in-None
 returns-in-None c =
     let was = c.in-Some.ensures.held ∙ ap (λ (z : Seat). Some z) (sym c.deref_mut.ensures.value) in
-    called c.args.seat.now c.put_back.new.place _ _ c.deref_mut.result.now c.find-answer.new.self was c.put_back.ensures c.find-answer.ensures.same (inl (refl, inl c.in-None.ensures.told))
+    called c.args.seat.now c.put_back.new.place _ _ c.deref_mut.result.now c.find-answer.new.self was c.put_back.ensures c.find-answer.ensures.same (inl (refl, (c.in-None.ensures.told, c.find-answer.ensures.worked, c.in-None.ensures.missed)))

@@ -19,4 +19,4 @@ returns-in-Some-answer-clause-told c = λ enough.
 pub returns-in-None-clause-told : goal.returns-in-None-clause-told
 returns-in-None-clause-told c = λ enough.
     let was = c.in-Some.ensures.held ∙ ap (λ (z : Seat). Some z) (sym c.deref_mut.ensures.value) in
-    called c.args.seat.now c.put_back.new.place _ _ c.deref_mut.result.now c.part-answer.new.self was c.put_back.ensures c.part-answer.ensures.same (inl (refl, c.in-None.ensures.told))
+    called c.args.seat.now c.put_back.new.place _ _ c.deref_mut.result.now c.part-answer.new.self was c.put_back.ensures c.part-answer.ensures.same (inl (refl, (c.in-None.ensures.told, c.part-answer.ensures.worked, c.in-None.ensures.missed)))
