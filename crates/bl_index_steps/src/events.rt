@@ -20,6 +20,10 @@ ghost use Rattle.bl_index_steps.specs.Runs.{Runs, Keeps, Rests, IsSince, IsDone,
 use crate::tree::Tree;
 use bl_index_rule::{Ended, Got, Opened, PassState, Probed, Put, Refused, Took, Tried};
 use bl_store::{Glance, Hand, Spread, Stock};
+use std::thread;
+
+/// How often a process lets others run at most where it finds too few frames.
+const YIELDS: u32 = 256;
 
 impl Tree {
     /// The process gets the page.
@@ -77,6 +81,26 @@ impl Tree {
         self.store.open::<Opened>(hand, page);
     }
 
+    /// Lets other threads run while a reservation would find too few frames, so often at most: those that hold frames back may be in the
+    /// middle of a process, and this one may have lost its processor since it looked for frames before it began. It holds others back
+    /// itself meanwhile, so it may not be for long. Those who may not wait do not call it.
+    #[inline(always)]
+    pub fn await_frames(&self, hand: &Hand<PassState>) {
+        if !self.store.finds_frames(hand) {
+            self.let_others_run(hand);
+        }
+    }
+
+    #[inline(never)]
+    fn let_others_run(&self, hand: &Hand<PassState>) {
+        for _ in 0..YIELDS {
+            if self.store.finds_frames(hand) {
+                return;
+            }
+            thread::yield_now();
+        }
+    }
+
     /// The process reserves a frame and puts the page with these words, or is refused.
     #[inline(always)]
     pub fn replace(&self, hand: &mut Hand<PassState>, page: u32, words: &[u64; 32]) -> bool
@@ -90,6 +114,7 @@ impl Tree {
         ensures refused { result ≡ false → Goes seen.Refused (known hand.old.seat) (known hand.new.seat) }
         ensures asked { result ≡ false → WasRefused hand.new.seat 0 1 }
     {
+        self.await_frames(hand);
         match self.store.reserve::<Took, Refused>(hand, 0, 1) {
             Ok(stock) => {
                 let mut stock = stock;
@@ -121,6 +146,7 @@ impl Tree {
         ensures refused { result ≡ false → Goes seen.Refused (known hand.old.seat) (known hand.new.seat) }
         ensures asked { result ≡ false → WasRefused hand.new.seat 0 1 }
     {
+        self.await_frames(hand);
         match self.store.reserve::<Took, Refused>(hand, 0, 1) {
             Ok(stock) => {
                 let mut stock = stock;
@@ -143,6 +169,7 @@ impl Tree {
             × IsStockOf hand.new.seat t.1 × (t.1.count ≡ 2) × Goes (seen.Took t.0) (known hand.old.seat) (known hand.new.seat)) }
         ensures asked { IfNone result (WasRefused hand.new.seat 1 2) }
     {
+        self.await_frames(hand);
         match self.store.reserve::<Took, Refused>(hand, 1, 2) {
             Ok(stock) => match stock.page() {
                 Some(page) => Some((page, stock)),

@@ -14,7 +14,6 @@ use bl_layout::held_by;
 use std::alloc::Allocator;
 use std::marker::Brand;
 use std::sync::atomic::Ordering;
-use std::thread;
 
 /// At this time and later no reservation is given.
 const END_OF_TIME: u64 = 1 << 60;
@@ -22,15 +21,11 @@ const END_OF_TIME: u64 = 1 << 60;
 /// A hand that has retired so many frames tries to release them. It looks at every process then, which takes some time.
 const RETIRED_TO_TRY: u32 = 64;
 
-/// So often a reservation searches again for frames that were all taken, and lets others run before. Its process holds others back all
-/// the while, so it may not be for long.
-const SEARCHES: u32 = 256;
-
 impl<D, R: PageRule<D>, A: Allocator> Store<D, R, A> {
     ghost use Rattle.bl_store.specs.Owners.{IsHandOf};
 
-    /// Reserves as many frames, and as many pages. Each page from 1 upward is tried once, and each frame so too, or more
-    /// often where too few are found. A refused reservation is one event, and leaves nothing reserved.
+    /// Reserves as many frames, and as many pages. Each frame and each page from 1 upward is tried once. A refused
+    /// reservation is one event, and leaves nothing reserved.
     pub fn reserve<T: PagePlay<D>, M: TimePlay<D>>(
         &self,
         hand: &mut Hand<D>,
@@ -114,30 +109,6 @@ impl<D, R: PageRule<D>, A: Allocator> Store<D, R, A> {
     {
         self.try_released(hand, stock, wanted);
         if stock.count < wanted {
-            self.search_frames(hand, stock, wanted);
-            self.search_again(hand, stock, wanted);
-        }
-    }
-
-    // Searches again, so often at most, while there are too few: others run meanwhile, and release what they have retired. Without it a
-    // hand that lost its processor behind a look at the frames may find them taken by those that ran.
-    #[inline(never)]
-    fn search_again(&self, hand: &mut Hand<D>, stock: &mut Stock, wanted: u32)
-        requires own { IsHandOf self.now hand.old }
-        requires wanted { (wanted ≤ 3) × (wanted ≤ hand.old.seat.me.0.puts) }
-        requires stock { IsStockOf hand.old.seat stock.old × (stock.old.count ≤ wanted) }
-        requires seen { stock.old.count < wanted → (f : ℕ) → f < frame_count hand.old.seat.me.0.layout → IsTried hand.old.seat f }
-        ensures same { IsQuiet hand.old.seat hand.new.seat × (stock.new.page ≡ stock.old.page) }
-        ensures stock { IsStockOf hand.new.seat stock.new × (stock.new.count ≤ wanted) }
-        ensures got { length hand.new.seat.me.0.got + stock.old.count ≡ length hand.old.seat.me.0.got + stock.new.count }
-        ensures seen { stock.new.count < wanted → (f : ℕ) → f < frame_count hand.new.seat.me.0.layout → IsTried hand.new.seat f }
-        ensures reads { IsSameReading hand.old.seat hand.new.seat }
-    {
-        for _ in 0..SEARCHES {
-            if stock.count >= wanted {
-                return;
-            }
-            thread::yield_now();
             self.search_frames(hand, stock, wanted);
         }
     }

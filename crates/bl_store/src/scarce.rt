@@ -33,6 +33,20 @@ impl<D, R: PageRule<D>, A: Allocator> Store<D, R, A> {
         more < wanted - free && (retired || others)
     }
 
+    /// Whether a reservation that begins now finds its frames, as far as is seen. It is a hint as well.
+    #[inline(always)]
+    pub fn finds_frames(&self, hand: &Hand<D>) -> bool {
+        self.has_ready(hand) || self.sees_frames(hand)
+    }
+
+    // Whether as many frames are free as a reservation asks for at most, from those that the hand would try first on.
+    fn sees_frames(&self, hand: &Hand<D>) -> bool {
+        let total = self.layout.frames();
+        let first = hand.frame.min(total);
+        let (free, _) = self.look_over(first, total, MOST);
+        free >= MOST || self.look_over(0, first, MOST - free).0 >= MOST - free
+    }
+
     // Whether the hand has released as many frames as a reservation asks for, and nobody has taken those that it would try first.
     fn has_ready(&self, hand: &Hand<D>) -> bool {
         let ready = hand.ready.min(RING as u32);
