@@ -3,8 +3,8 @@
 //! insertions were refused; and last, when all rows are deleted and the map is put in order, how many pages are in use.
 #![tactic(auto)]
 
-ghost use Rattle.std.specs.Prelude.{IfSome};
-ghost use Rattle.bl_map.specs.Maps.{IsSeatOf};
+ghost use Rattle.std.specs.Prelude.{All, IfSome};
+ghost use Rattle.bl_map.specs.Maps.{AreSeatsOf, IsHandleOf};
 
 use bl_map::{Handle, KeyReply, Map, Seat};
 use std::alloc::Global;
@@ -34,14 +34,24 @@ impl Load {
     }
 }
 
-/// A map with two seats.
-fn opened(alloc: Global) -> Option<(Map, Seat, Seat)>
-    ensures { IfSome result (λ t. IsSeatOf t.0 t.1 × IsSeatOf t.0 t.2) }
+/// A map with a seat for each of two handles.
+fn opened(alloc: Global) -> Option<(Map, Vec<Seat>)>
+    ensures { IfSome result (λ t. AreSeatsOf t.0 t.1.items) }
 {
-    let (map, mut seats) = Map::open(alloc, PAGES, 2).ok()?;
-    let two = seats.pop()?;
-    let one = seats.pop()?;
-    Some((map, one, two))
+    Map::open(alloc, PAGES, 2).ok()
+}
+
+/// A handle for each seat.
+fn handles_of<'a>(alloc: Global, map: &'a Map, seats: Vec<Seat>) -> Option<Vec<Handle<'a>>>
+    requires { AreSeatsOf map.now seats.items }
+    ensures { IfSome result (λ handles. All (IsHandleOf map.now) handles.items) }
+{
+    let mut seats = seats;
+    let mut handles = Vec::new(alloc);
+    while let Some(seat) = seats.pop() {
+        handles.push(map.handle(seat)).ok()?;
+    }
+    Some(handles)
 }
 
 /// Inserts the rows from one on and below another, and deletes for each the one that came so many before. Says how many were refused.
@@ -84,15 +94,24 @@ fn main(rt: HostRuntime) -> anyhow::Result<()> {
         eprintln!(&rt; "usage: bench_room ROWS LIVING STEP")?;
         return Ok(());
     };
-    let Some((map, one, two)) = opened(rt.alloc()) else {
+    let Some((map, seats)) = opened(rt.alloc()) else {
         eprintln!(&rt; "out of memory")?;
         return Ok(());
     };
-    let mut one = map.handle(one);
-    let mut two = map.handle(two);
+    let Some(mut handles) = handles_of(rt.alloc(), &map, seats) else {
+        eprintln!(&rt; "out of memory")?;
+        return Ok(());
+    };
+    let Some(mut two) = handles.pop() else {
+        return Ok(());
+    };
+    let Some(mut one) = handles.pop() else {
+        return Ok(());
+    };
+    let steps = load.rows.checked_div(load.step).unwrap_or(0);
     let mut done = 0u64;
-    while done < load.rows {
-        let to = done.saturating_add(load.step.max(1)).min(load.rows);
+    for _step in 0..steps {
+        let to = done.saturating_add(load.step);
         let refused = move_on(&rt, &mut one, &mut two, done, to, load.living);
         let pages = used(&one);
         println!(&rt; "{to} {pages} {refused}")?;
