@@ -6,7 +6,7 @@ use Rattle.test_index.proofs.maps.calls.shared.Goals as goal
 pub returns : goal.returns
 returns c =
     let index = c.in_ok-map.map.index in
-    let all : All (IsPassOf index) c.in_ok-map.seats.items = search rules in
+    let all : All (IsPassOf index) c.in_ok-map.seats.items = search (c.open.ensures.seats, c.ok.ensures.value, c.in_ok-map.ensures.value, c.in_ok-map.is, rules) in
     let rest = All-pop (IsPassOf index) _ _ (Some c.in_ok-two.two) c.in_ok-two.ensures.items all in
     let last = All-pop (IsPassOf index) _ _ (Some c.in_ok-one.one) c.in_ok-one.ensures.items rest.0 in
     (last.1, rest.1)
