@@ -1,6 +1,6 @@
 /* What becomes of a map when seats are closed in the middle of things: closing finish, closing leave. Seven threads write the same keys, and each
  * closes its seat once it was told BLINK_AGAIN; with `finish` it makes the same call again before. Then the seat that is left makes 2,000 changes.
- * With `finish` each is done. With `leave` nothing is damaged, as rule 7 of blink.h says, but what others replace may be held back: each
+ * With `finish` each is done. With `leave` nothing is damaged, as blink.h says of a call that is given up, but what others replace may be held back: each
  * call has an answer, of which it says how many were BLINK_NO_ROOM or still BLINK_AGAIN after 100 calls. */
 #include "blink.h"
 
