@@ -80,7 +80,7 @@ enum {
     BLINK_PRESENT = 2,    /* the key has a value, which it keeps, and which is written */
     BLINK_NO_ROOM = 3,    /* no free page or frame; nothing has changed */
     BLINK_AGAIN = 4,      /* no answer yet: let another thread run and call again */
-    BLINK_BAD_PAGES = 5,  /* the number of pages is not 4 to 65,536 */
+    BLINK_BAD_PAGES = 5,  /* the number of pages is not 4 to 2^28 */
     BLINK_BAD_SEATS = 6,  /* the number of seats is not 1 to 64 */
     BLINK_NO_MEMORY = 7,  /* malloc refused; nothing was opened */
     BLINK_BAD_IMAGE = 8,  /* the bytes are no sound image */
@@ -357,7 +357,7 @@ static inline const char *blink_text(int32_t code) {
         case BLINK_PRESENT: return "the key is there with a value that it keeps";
         case BLINK_NO_ROOM: return "no room";
         case BLINK_AGAIN: return "not answered yet";
-        case BLINK_BAD_PAGES: return "the number of pages is not 4 to 65,536";
+        case BLINK_BAD_PAGES: return "the number of pages is not 4 to 2^28";
         case BLINK_BAD_SEATS: return "the number of seats is not 1 to 64";
         case BLINK_NO_MEMORY: return "there is no memory";
         case BLINK_BAD_IMAGE: return "the bytes are no sound image";

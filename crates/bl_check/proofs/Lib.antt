@@ -1,4 +1,5 @@
 pub mod Reaching
+pub mod Within
 pub mod Rulings
 pub mod Rising
 mod Examples

@@ -2,7 +2,7 @@
 use Rattle.std.proofs.Common.{◌≡◌, ℕ, ◌<◌, List, length, Option, Some, None, Result, Ok, Err, refl, sym, ap, subst, ◌∙◌, arith}
 use Rattle.std.specs.Prelude.{IfErr, MatchResult}
 use Rattle.bl_page.specs.declared.page.Page.{Page}
-use Rattle.bl_image.specs.Images.{IsImage}
+use Rattle.bl_image.specs.Images.{IsImage, AreWithin}
 use Rattle.bl_image.specs.declared.fault.ImageFault.TheVariants as image
 use Rattle.bl_image.proofs.Chunks.{image_same, read_fault}
 use Rattle.bl_check.specs.declared.fault.Fault.{Fault}
@@ -11,6 +11,7 @@ use Rattle.bl_check.specs.Rules.{Rule, number_of, Keeps, AllKeep, IsFirst}
 use Rattle.bl_check.specs.Rules.Rule.{OneAnchor, Leftmost, Links, Chains, Children, NoneDead}
 use Rattle.bl_check.specs.Faults.{KeptBefore, IsPageFault, Breaks, IsFault, AreSoundImage}
 use Rattle.bl_check.specs.Faults.Breaks.{Head, Words, Pages}
+use Rattle.bl_check.proofs.Within.{sound_within}
 
 pub kept : (rule : Rule) (pages : List (Option Page)) (found : Option ℕ) → IsFirst rule pages found → found ≡ None → AllKeep rule pages
 kept rule pages found h none = subst (IsFirst rule pages) none h
@@ -71,14 +72,14 @@ at_last (Err f) pages found before h k = refused pages NoneDead 8 found f refl b
 
 -- a sound image has no fault but want of memory
 
-pub in_bytes : (f : Fault) (pages : List (Option Page)) (bytes : List ℕ) → IsImage pages bytes → IsPageFault f pages → IsFault f bytes
-in_bytes (fault.Rule number x) pages bytes whole broken = Pages pages whole broken
-in_bytes fault.Memory pages bytes whole broken = tt
+pub in_bytes : (f : Fault) (pages : List (Option Page)) (bytes : List ℕ) → IsImage pages bytes → AreWithin pages → IsPageFault f pages → IsFault f bytes
+in_bytes (fault.Rule number x) pages bytes whole within broken = Pages pages whole within broken
+in_bytes fault.Memory pages bytes whole within broken = tt
 
 not_broken : (number x : ℕ) (bytes : List ℕ) → AreSoundImage bytes → Breaks bytes number x → ⊥
-not_broken number x bytes (pages, whole, sound) (Head one zero h) = let e = read_fault image.Head pages bytes h whole in absurd cc
-not_broken number x bytes (pages, whole, sound) (Words two h) = let e = read_fault (image.Page x) pages bytes h whole in absurd cc
-not_broken number x bytes (pages, whole, sound) (Pages others other broken) =
+not_broken number x bytes (pages, whole, sound) (Head one zero h) = let e = read_fault image.Head pages bytes h whole (sound_within pages whole.count sound) in absurd cc
+not_broken number x bytes (pages, whole, sound) (Words two h) = let e = read_fault (image.Page x) pages bytes h whole (sound_within pages whole.count sound) in absurd cc
+not_broken number x bytes (pages, whole, sound) (Pages others other within broken) =
     let same = image_same others pages bytes other whole in
     broken.least.1 (subst (λ p. Keeps broken.rule p x) (sym same) (sound broken.rule x (subst (λ p. x < length p) same broken.least.0)))
 

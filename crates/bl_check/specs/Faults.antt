@@ -1,7 +1,7 @@
 -- Why an image is not sound.
 use Rattle.std.specs.Prelude.{◌≡◌, ℕ, ◌<◌, List, Option, Some}
 use Rattle.bl_page.specs.declared.page.Page.{Page}
-use Rattle.bl_image.specs.Images.{IsImage, IsFault as IsImageFault}
+use Rattle.bl_image.specs.Images.{IsImage, AreWithin, IsFault as IsImageFault}
 use Rattle.bl_image.specs.declared.fault.ImageFault.TheVariants as image
 use Rattle.bl_check.specs.declared.fault.Fault.{Fault}
 use Rattle.bl_check.specs.declared.fault.Fault.TheVariants as fault
@@ -28,7 +28,7 @@ IsPageFault fault.Memory pages = Unit {0}
 pub data Breaks (bytes : List ℕ) (number x : ℕ) : Type 0 where
   Head : number ≡ 1 → x ≡ 0 → IsImageFault image.Head bytes → Breaks bytes number x
   Words : number ≡ 2 → IsImageFault (image.Page x) bytes → Breaks bytes number x
-  Pages : (pages : List (Option Page)) → IsImage pages bytes → IsBroken pages number x → Breaks bytes number x
+  Pages : (pages : List (Option Page)) → IsImage pages bytes → AreWithin pages → IsBroken pages number x → Breaks bytes number x
 
 -- What is wrong with these bytes. Memory says nothing of them.
 abbrev pub IsFault : Fault → List ℕ → Type 0

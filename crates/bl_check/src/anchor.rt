@@ -1,6 +1,6 @@
 //! The anchor and the leftmost pages.
 
-ghost use Rattle.std.specs.Prelude.{◌≡◌, ◌≤◌, length};
+ghost use Rattle.std.specs.Prelude.{◌^◌, ◌≡◌, ◌≤◌, length};
 ghost use Rattle.bl_check.specs.Spans.{roots as the_roots};
 ghost use Rattle.bl_check.specs.Rules.{IsFirst, Rule, is_anchor as the_is_anchor};
 
@@ -15,7 +15,7 @@ fn is_anchor(page: &Option<Page>) -> bool
 
 /// The least page that breaks the rule of anchors.
 pub fn wrong_anchor(pages: &[Option<Page>]) -> Option<u32>
-    requires { length pages.now ≤ 65536 }
+    requires { length pages.now ≤ 2 ^ 28 }
     ensures { IsFirst Rule.OneAnchor pages.now result }
 {
     for (x, page) in pages.iter().enumerate() {

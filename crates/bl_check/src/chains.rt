@@ -1,6 +1,6 @@
 //! The chains of the levels.
 
-ghost use Rattle.std.specs.Prelude.{◌≡◌, ◌≤◌, ◌<◌, ◌⊎◌, ℕ, length, IsSome, None, Some};
+ghost use Rattle.std.specs.Prelude.{◌^◌, ◌≡◌, ◌≤◌, ◌<◌, ◌⊎◌, ℕ, length, IsSome, None, Some};
 ghost use Rattle.bl_check.specs.Spans.{span_at as the_span_at, levels};
 ghost use Rattle.bl_check.specs.Rules.{IsFirst, Rule, Reaches, AllKeep};
 ghost use Rattle.bl_check.specs.Walks.{GoesOn, Stops, IsMarked, MarksChains, IsLesser};
@@ -86,7 +86,7 @@ pub fn wrong_link(pages: &[Option<Page>], marks: &mut [bool]) -> Option<u32>
 
 /// The least live page that is on no chain, where the pages of all chains are marked.
 pub fn off_chain(pages: &[Option<Page>], marks: &[bool]) -> Option<u32>
-    requires limit { length pages.now ≤ 65536 }
+    requires limit { length pages.now ≤ 2 ^ 28 }
     requires count { length marks.now ≡ length pages.now }
     requires leftmost { AllKeep Rule.Leftmost pages.now }
     requires marked { MarksChains marks.now pages.now (levels pages.now) }

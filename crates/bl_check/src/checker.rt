@@ -1,8 +1,8 @@
 //! The checker.
 
-ghost use Rattle.std.specs.Prelude.{◌≡◌, ◌≤◌, ◌<◌, ℕ, List, Option, length, None, Some, OnOk, IfOk, IfErr, MatchResult};
+ghost use Rattle.std.specs.Prelude.{◌^◌, ◌≡◌, ◌≤◌, ◌<◌, ℕ, List, Option, length, None, Some, OnOk, IfOk, IfErr, MatchResult};
 ghost use Rattle.bl_page.specs.declared.page.Page.{Page};
-ghost use Rattle.bl_image.specs.Images.{IsImage, IsFault as IsImageFault};
+ghost use Rattle.bl_image.specs.Images.{IsImage, AreWithin, IsFault as IsImageFault};
 ghost use Rattle.bl_check.specs.declared.fault.Fault.TheVariants as fault;
 ghost use Rattle.bl_check.specs.Rules.{AreSound};
 ghost use Rattle.bl_check.specs.Faults.{IsPageFault, IsFault, AreSoundImage};
@@ -42,7 +42,7 @@ fn refuse(rule: u32, found: Option<u32>) -> Result<(), Fault>
 /// The first rule that a page breaks.
 fn keep_rules(alloc: Global, pages: &[Option<Page>]) -> Result<(), Fault>
     requires some { 0 < length pages.now }
-    requires limit { length pages.now ≤ 65536 }
+    requires limit { length pages.now ≤ 2 ^ 28 }
     ensures ok { OnOk result (AreSound pages.now) }
     ensures fault { IfErr result (λ fault. IsPageFault fault pages.now) }
 {
@@ -58,6 +58,7 @@ fn keep_rules(alloc: Global, pages: &[Option<Page>]) -> Result<(), Fault>
 /// The image that the bytes spell, or the rule that they break.
 fn image_in(alloc: Global, bytes: &[u8]) -> Result<Image, Fault>
     ensures ok { IfOk result (λ image. IsImage image.pages.items bytes.now) }
+    ensures within { IfOk result (λ image. AreWithin image.pages.items) }
     ensures fault { IfErr result (λ fault. IsFault fault bytes.now) }
 {
     match read(alloc, bytes) {

@@ -1,6 +1,6 @@
 //! Children and their pages.
 
-ghost use Rattle.std.specs.Prelude.{◌≤◌, ◌↔◌, length, IsTrue};
+ghost use Rattle.std.specs.Prelude.{◌^◌, ◌≤◌, ◌↔◌, length, IsTrue};
 ghost use Rattle.std.specs.List.{AllByRecursion};
 ghost use Rattle.bl_check.specs.Spans.{StandsAt};
 ghost use Rattle.bl_check.specs.Rules.{IsFirst, Rule, ChildrenFit};
@@ -31,7 +31,7 @@ fn children_fit(pages: &[Option<Page>], page: &Option<Page>) -> bool
 
 /// The least inner page with a pair that does not name its child.
 pub fn wrong_parent(pages: &[Option<Page>]) -> Option<u32>
-    requires { length pages.now ≤ 65536 }
+    requires { length pages.now ≤ 2 ^ 28 }
     ensures { IsFirst Rule.Children pages.now result }
 {
     for (x, page) in pages.iter().enumerate() {

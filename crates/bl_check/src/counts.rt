@@ -1,6 +1,6 @@
 //! The numbers of a sound image.
 
-ghost use Rattle.std.specs.Prelude.{◌≡◌, ◌<◌, ◌≤◌, ◌*◌, ◌||◌, ◌==◌, ℕ, length, false, IfOk, slice_index_or};
+ghost use Rattle.std.specs.Prelude.{◌^◌, ◌≡◌, ◌<◌, ◌≤◌, ◌*◌, ◌||◌, ◌==◌, ℕ, length, false, IfOk, slice_index_or};
 ghost use Rattle.std.specs.List.{sum_by, count_by, list_any};
 ghost use Rattle.bl_check.specs.Reports.{IsReport, rows_in as the_rows_in, is_leaf as the_is_leaf, is_inner as the_is_inner, is_thin as the_is_thin, lists, is_unposted, count_below, top};
 
@@ -84,7 +84,7 @@ fn top_root(pages: &[Option<Page>]) -> u32
 
 /// How many live pages no inner page lists, but for the leftmost page of the top level.
 fn unposted(pages: &[Option<Page>], listed: &[bool]) -> u32
-    requires limit { length pages.now ≤ 65536 }
+    requires limit { length pages.now ≤ 2 ^ 28 }
     requires count { length listed.now ≡ length pages.now }
     requires listed { (x : ℕ) → x < length pages.now →
         slice_index_or listed.now x false ≡ list_any (lists x) pages.now }
@@ -102,7 +102,7 @@ fn unposted(pages: &[Option<Page>], listed: &[bool]) -> u32
 
 /// Pairs of all leaves.
 fn rows(pages: &[Option<Page>]) -> u32
-    requires { length pages.now ≤ 65536 }
+    requires { length pages.now ≤ 2 ^ 28 }
     ensures { result ≡ sum_by the_rows_in pages.now }
 {
     let mut rows = 0;
@@ -113,21 +113,21 @@ fn rows(pages: &[Option<Page>]) -> u32
 }
 
 fn leaves(pages: &[Option<Page>]) -> u32
-    requires { length pages.now ≤ 65536 }
+    requires { length pages.now ≤ 2 ^ 28 }
     ensures { result ≡ count_by the_is_leaf pages.now }
 {
     pages.iter().filter(|page| is_leaf(page)).count() as u32
 }
 
 fn inners(pages: &[Option<Page>]) -> u32
-    requires { length pages.now ≤ 65536 }
+    requires { length pages.now ≤ 2 ^ 28 }
     ensures { result ≡ count_by the_is_inner pages.now }
 {
     pages.iter().filter(|page| is_inner(page)).count() as u32
 }
 
 fn thin(pages: &[Option<Page>]) -> u32
-    requires { length pages.now ≤ 65536 }
+    requires { length pages.now ≤ 2 ^ 28 }
     ensures { result ≡ count_by the_is_thin pages.now }
 {
     pages.iter().filter(|page| is_thin(page)).count() as u32
@@ -146,7 +146,7 @@ fn listed_pages(alloc: Global, pages: &[Option<Page>]) -> Result<Vec<bool>, Allo
 
 /// The numbers of these pages.
 pub fn report_of(alloc: Global, pages: &[Option<Page>]) -> Result<Report, AllocError>
-    requires { length pages.now ≤ 65536 }
+    requires { length pages.now ≤ 2 ^ 28 }
     ensures { IfOk result (λ report. IsReport report pages.now) }
 {
     let listed = listed_pages(alloc, pages)?;

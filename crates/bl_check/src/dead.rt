@@ -1,6 +1,6 @@
 //! Dead pages.
 
-ghost use Rattle.std.specs.Prelude.{◌≡◌, ◌≤◌, length};
+ghost use Rattle.std.specs.Prelude.{◌^◌, ◌≡◌, ◌≤◌, length};
 ghost use Rattle.bl_check.specs.Rules.{IsFirst, Rule, is_dead as the_is_dead};
 
 use bl_page::Page;
@@ -13,7 +13,7 @@ fn is_dead(page: &Option<Page>) -> bool
 
 /// The least dead page.
 pub fn dead_page(pages: &[Option<Page>]) -> Option<u32>
-    requires { length pages.now ≤ 65536 }
+    requires { length pages.now ≤ 2 ^ 28 }
     ensures { IsFirst Rule.NoneDead pages.now result }
 {
     for (x, page) in pages.iter().enumerate() {

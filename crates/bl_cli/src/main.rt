@@ -5,7 +5,7 @@
 //! what was served; and what `bl_cli_commands` promises of `check` and `replay`. What is said on standard error is tested.
 #![tactic(auto)]
 
-ghost use Rattle.std.specs.Prelude.{◌≤◌, IfOk};
+ghost use Rattle.std.specs.Prelude.{◌≤◌, ◌^◌, IfOk};
 ghost use Rattle.bl_serve_lines.specs.Options.{AreWithin};
 ghost use Rattle.bl_serve.specs.Origins.{HasPages};
 
@@ -124,7 +124,7 @@ fn replay(rt: &HostRuntime, file: &str) -> ExitCode {
 /// What a server begins with: the image in that file, where one is named. Where it cannot be had, that is said, and how the
 /// program ends.
 fn origin_of(rt: &HostRuntime, pages: u32, image: Option<&str>) -> Result<Origin, ExitCode>
-    requires { (4 ≤ pages) × (pages ≤ 65536) }
+    requires { (4 ≤ pages) × (pages ≤ 2 ^ 28) }
     ensures { IfOk result HasPages }
 {
     let Some(file) = image else {

@@ -4,7 +4,7 @@ ghost use Rattle.std.specs.Prelude.{◌≡◌, ◌≢◌, IfOk, string_bytes};
 ghost use Rattle.bl_cli_commands.specs.Counted.{malformed_text, one_malformed_text};
 
 use bl_image::Image;
-use bl_model::limits::MOST_PAGES;
+use bl_model::limits::{MOST_LARGE_PAGES, MOST_PAGES};
 use bl_serve_lines::Totals;
 use std::alloc::{AllocError, Global};
 
@@ -59,9 +59,14 @@ pub fn noroom_line(
             "blink: {norooms} {requests} found no room; an index has as many pages as its image"
         );
     }
+    if pages >= MOST_LARGE_PAGES {
+        return format!(in alloc;
+            "blink: {norooms} {requests} found no room; {MOST_LARGE_PAGES} pages are the most"
+        );
+    }
     if pages >= MOST_PAGES {
         return format!(in alloc;
-            "blink: {norooms} {requests} found no room; {MOST_PAGES} pages are the most"
+            "blink: {norooms} {requests} found no room; more pages than {pages} by --large may help"
         );
     }
     format!(in alloc;

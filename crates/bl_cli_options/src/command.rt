@@ -49,6 +49,16 @@ fn pages_option<'a>(alloc: Global) -> Arg<'a> {
         .default_value("1024")
 }
 
+/// How many pages a large index has.
+fn large_option<'a>(alloc: Global) -> Result<Arg<'a>, AllocError> {
+    Arg::new(alloc, "large")
+        .long("large")
+        .value_name("N")
+        .help("Pages of a large index, 4 to 268435456, in place of --pages")
+        .value_parser(value_parser!(u32).range(4..=268435456))
+        .conflicts_with("pages")
+}
+
 /// How many workers there are.
 fn workers_option<'a>(alloc: Global) -> Arg<'a> {
     Arg::new(alloc, "workers")
@@ -75,7 +85,8 @@ fn image_option<'a>(alloc: Global) -> Result<Arg<'a>, AllocError> {
         .long("image")
         .value_name("FILE")
         .help("Begin with the rows and pages of this image")
-        .conflicts_with("pages")
+        .conflicts_with("pages")?
+        .conflicts_with("large")
 }
 
 /// Whether the server says at its end what it has counted.
@@ -91,7 +102,11 @@ fn with_pages_and_workers<'a>(
     alloc: Global,
     command: Command<'a>,
 ) -> Result<Command<'a>, AllocError> {
-    command.arg(pages_option(alloc))?.arg(workers_option(alloc))
+    let large = large_option(alloc)?;
+    command
+        .arg(pages_option(alloc))?
+        .arg(large)?
+        .arg(workers_option(alloc))
 }
 
 /// The command with the next options of a server.
@@ -149,6 +164,10 @@ fn server_of(alloc: Global, found: &ArgMatches) -> Result<Server, AllocError>
         found.get_one::<u32>("workers"),
         found.get_one::<u32>("compressors"),
     );
+    let options = match found.get_one::<u32>("large") {
+        Some(pages) => options.having_large(pages),
+        None => options,
+    };
     let image = match found.get_str("image") {
         Some(file) => Some(String::from_str(alloc, file)?),
         None => None,

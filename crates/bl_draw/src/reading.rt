@@ -1,7 +1,7 @@
 //! The pages of an image, as far as they can be read.
 
-use bl_model::limits::MOST_PAGES;
-use bl_page::{Page, from_words};
+use bl_model::limits::{MOST_LARGE_PAGES, MOST_PAGES};
+use bl_page::{KIND_UNIT, LEVEL_UNIT, Page, from_words_below};
 use byteorder::{ByteOrder, LittleEndian};
 use std::alloc::{AllocError, Global};
 
@@ -39,7 +39,12 @@ fn words_at(bytes: &[u8], at: usize) -> [u64; 32] {
 
 /// The pages behind a head, also where the head is damaged or a part of the last page is cut off, which is then left out.
 pub(crate) fn found_in(alloc: Global, bytes: &[u8]) -> Result<Found, AllocError> {
-    let count = (bytes.len().saturating_sub(HEAD) / PAGE).min(MOST_PAGES as usize);
+    let count = (bytes.len().saturating_sub(HEAD) / PAGE).min(MOST_LARGE_PAGES as usize);
+    let most = if count > MOST_PAGES as usize {
+        KIND_UNIT
+    } else {
+        LEVEL_UNIT
+    };
     let mut pages = Vec::new(alloc);
     let mut unread = Vec::new(alloc);
     for x in 0..count {
@@ -48,7 +53,7 @@ pub(crate) fn found_in(alloc: Global, bytes: &[u8]) -> Result<Found, AllocError>
             pages.push(None)?;
             continue;
         }
-        match from_words(&words) {
+        match from_words_below(&words, most) {
             Ok(page) => pages.push(Some(page))?,
             Err(_) => {
                 unread.push(x as u32)?;

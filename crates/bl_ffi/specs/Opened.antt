@@ -1,5 +1,5 @@
 -- A map is opened for C.
-use Rattle.std.specs.Prelude.{◌≡◌, ◌⊎◌, ◌<◌, ℕ, ℤ, pos, List, Option, length}
+use Rattle.std.specs.Prelude.{◌≡◌, ◌⊎◌, ◌<◌, ◌^◌, ℕ, ℤ, pos, List, Option, length}
 use Rattle.bl_check.specs.Faults.{AreSoundImage}
 use Rattle.bl_seats.specs.declared.seat.Seat.{Seat}
 use Rattle.bl_seats.specs.Opened.{IsOpened, IsReopened}
@@ -15,7 +15,7 @@ AreBadSeats count = (count < 1) ⊎ (64 < count)
 
 -- Why no map of so many pages was opened: the pages are not within their limits; the seats are not; or there was no memory.
 abbrev pub IsNotOpened : ℕ → ℕ → ℤ → Type 0
-IsNotOpened pages count code = ((code ≡ pos 5) × ((pages < 4) ⊎ (65536 < pages))) ⊎ ((code ≡ pos 6) × AreBadSeats count) ⊎ (code ≡ pos 7)
+IsNotOpened pages count code = ((code ≡ pos 5) × ((pages < 4) ⊎ (2 ^ 28 < pages))) ⊎ ((code ≡ pos 6) × AreBadSeats count) ⊎ (code ≡ pos 7)
 
 -- The places have the seats of one new map without rows; or none was opened, and they are as they were.
 abbrev pub Opens : ℕ → List (Option Seat) → List (Option Seat) → ℤ → Type 0

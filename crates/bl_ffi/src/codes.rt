@@ -10,7 +10,7 @@ pub(crate) const PRESENT: i32 = 2;
 pub(crate) const NO_ROOM: i32 = 3;
 /// It is not answered yet, and is to be made again.
 pub(crate) const AGAIN: i32 = 4;
-/// The number of pages is not 4 to 65,536.
+/// The number of pages is not 4 to 2^28.
 pub(crate) const BAD_PAGES: i32 = 5;
 /// The number of seats is not 1 to 64.
 pub(crate) const BAD_SEATS: i32 = 6;

@@ -277,7 +277,7 @@ module _ {D : Type 0} (l : Layout) (first : D) (holds : Pages D → Type 0) wher
             record { layout = refl; number = refl; upto = refl; stands = mine.stands; clocked = mine.clocked; reads = mine.reads; stocks = mine.stocks; drops = mine.drops; seals = mine.seals; sweeps = mine.sweeps; budget = mine.budget; joined = refl } refl refl r.kept,
         (
           refl,
-          λ g ys j e equal small. let both = sym reads ∙ e in let is_f : f ≡ g = ap frame_of both in let passes = ap (λ (z : Layout). z.passes) same in let pages = ap (λ (z : Layout). z.pages) same in let is_k : k ≡ j = omega arith in
+          λ g ys j e equal small. let both = sym reads ∙ e in let is_f : f ≡ g = ap frame_of both in let passes = ap (λ (z : Layout). z.passes) same in let pages = ap (λ (z : Layout). z.pages) same in let spare = ap (λ (z : Layout). z.spare) same in let is_k : k ≡ j = omega arith in
               ap (λ (z : ℕ). get_or st.words z 0) i_is ∙ (was.3 k (omega arith) ∙ (ap (λ (z : List ℕ). get_or z k 0) (ap words_read both) ∙ ap (λ (z : ℕ). get_or ys z 0) is_k)),
         ),
       )

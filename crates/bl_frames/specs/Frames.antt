@@ -131,7 +131,7 @@ Seals l ws os q (Sealed x t) = (slice_index ws (owner_at l x) ≡ 4 * q + 2) × 
 
 -- the smallest store
 abbrev pub smallest : Layout
-smallest = record { pages = 4; passes = 1; pages_within = (le_refl 4, le-add_right 4 65532); passes_within = (le_refl 1, le-add_right 1 63) }
+smallest = record { pages = 4; passes = 1; spare = 12; spare_within = (le-add_right 1 11, le-add_right 12 536870900); pages_within = (le_refl 4, le-add_right 4 268435452); passes_within = (le_refl 1, le-add_right 1 63) }
 
 module _ {D : Type 0} where
   -- each hand with a number below k is idle, or began its process at m or later

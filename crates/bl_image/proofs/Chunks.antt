@@ -13,7 +13,7 @@ use Rattle.bl_page.specs.Faults.{Kind, number, kind_in}
 use Rattle.bl_page.proofs.Writing.{length-entries_of}
 use Rattle.bl_page.proofs.FaultLemmas.{kind_of, fits}
 use Rattle.bl_page.proofs.Once.{once}
-use Rattle.bl_image.specs.Images.{word_bytes, page_words, page_bytes, image_bytes, head_bytes, Fits64, IsCount, IsHead, IsImage, IsFault, ArePage, chunk}
+use Rattle.bl_image.specs.Images.{word_bytes, page_words, page_bytes, image_bytes, head_bytes, bound_of, Fits64, NamesBelow, AreWithin, IsCount, IsHead, IsImage, IsFault, ArePage, chunk}
 use Rattle.bl_image.specs.declared.fault.ImageFault.{ImageFault}
 use Rattle.bl_image.specs.declared.fault.ImageFault.TheVariants as fault
 
@@ -91,6 +91,15 @@ fits_at x [] h lt = absurd (omega arith)
 fits_at zero (page ∷ pages) h lt = h.0
 fits_at (suc x) (page ∷ pages) h lt = fits_at x pages h.1 (omega arith)
 
+pub below_at : (most x : ℕ) (pages : List (Option Page)) → AllByRecursion (NamesBelow most) pages → x < length pages → NamesBelow most (get_or pages x None)
+below_at most x [] h lt = absurd (omega arith)
+below_at most zero (page ∷ pages) h lt = h.0
+below_at most (suc x) (page ∷ pages) h lt = below_at most x pages h.1 (omega arith)
+
+pub below_more : (most : ℕ) (pages : List (Option Page)) (page : Option Page) → AllByRecursion (NamesBelow most) pages → NamesBelow most page → AllByRecursion (NamesBelow most) (pages ++ page ∷ [])
+below_more most [] page h is = (is, tt)
+below_more most (first ∷ pages) page h is = (h.0, below_more most pages page h.1 is)
+
 pub head_of_image : (pages : List (Option Page)) (bytes : List ℕ) → IsImage pages bytes → IsHead bytes (length pages)
 head_of_image pages bytes image = record {
   count_fits = image.count;
@@ -102,10 +111,12 @@ same_count : (bytes : List ℕ) (a b : ℕ) → IsHead bytes a → IsHead bytes 
 same_count bytes a b p q = omega (arith, p.long, q.long)
 
 -- no fault but want of memory is found in an image
-pub no_page_fault : (pages : List (Option Page)) (bytes : List ℕ) (x : ℕ) → IsImage pages bytes → IsFault (fault.Page x) bytes → ⊥
-no_page_fault pages bytes x image (count, head, below, other, least) =
-    let lt : x < length pages = omega (arith, below, same_count bytes count (length pages) head (head_of_image pages bytes image)) in
-    other (get_or pages x None, fits_at x pages image.words lt, chunk_is x pages bytes image.bytes_are lt)
+pub no_page_fault : (pages : List (Option Page)) (bytes : List ℕ) (x : ℕ) → IsImage pages bytes → AreWithin pages → IsFault (fault.Page x) bytes → ⊥
+no_page_fault pages bytes x image small (count, head, below, other, least) =
+    let same = same_count bytes count (length pages) head (head_of_image pages bytes image) in
+    let lt : x < length pages = omega (arith, below, same) in
+    let names : NamesBelow (bound_of count) (get_or pages x None) = subst (λ (n : ℕ). NamesBelow (bound_of n) (get_or pages x None)) (sym same) (below_at (bound_of (length pages)) x pages small lt) in
+    other (get_or pages x None, names, fits_at x pages image.words lt, chunk_is x pages bytes image.bytes_are lt)
 
 pub take-more : (m n : ℕ) (xs : List ℕ) → take (m + n) xs ≡ take m xs ++ take n (drop m xs)
 take-more zero n xs = ap (λ k. take k xs) (let e : 0 + n ≡ n = omega arith in e)
@@ -121,8 +132,8 @@ fits_64 [] h = tt
 fits_64 (word ∷ words) h = (h 0, fits_64 words (λ i. h (suc i)))
 
 -- words that are read from bytes are refused only where these are no page's
-pub no_page : (words bytes : List ℕ) → length words ≡ 32 → Fits64 words → word_bytes words ≡ bytes → ((page : Option Page) → words ≡ page_words page → ⊥) → ¬ ArePage bytes
-no_page words bytes long small is refused (page, fits, spelled) = refused page (word_bytes-same words (page_words page) (long ∙ sym (length-page_words page)) small fits (is ∙ spelled))
+pub no_page : (most : ℕ) (words bytes : List ℕ) → length words ≡ 32 → Fits64 words → word_bytes words ≡ bytes → ((page : Option Page) → NamesBelow most page → words ≡ page_words page → ⊥) → ¬ ArePage most bytes
+no_page most words bytes long small is refused (page, names, fits, spelled) = refused page names (word_bytes-same words (page_words page) (long ∙ sym (length-page_words page)) small fits (is ∙ spelled))
 
 pub pages_words-same : (a b : Option Page) → page_words a ≡ page_words b → a ≡ b
 pages_words-same None None e = refl
@@ -173,13 +184,14 @@ bytes_more pages new page x bytes is here so_far =
     ∙ sym (take-more (256 * x) 256 (drop 32 bytes)) ∙ ap (λ n. take n (drop 32 bytes)) (sym e)
 
 -- an image is read unless memory runs out
-pub read_fault : (f : ImageFault) (pages : List (Option Page)) (bytes : List ℕ) → IsFault f bytes → IsImage pages bytes → f ≡ fault.Memory
-read_fault fault.Head pages bytes h image = absurd (h (length pages) (head_of_image pages bytes image))
-read_fault (fault.Page x) pages bytes h image = absurd (no_page_fault pages bytes x image h)
-read_fault fault.Memory pages bytes h image = refl
+pub read_fault : (f : ImageFault) (pages : List (Option Page)) (bytes : List ℕ) → IsFault f bytes → IsImage pages bytes → AreWithin pages → f ≡ fault.Memory
+read_fault fault.Head pages bytes h image small = absurd (h (length pages) (head_of_image pages bytes image))
+read_fault (fault.Page x) pages bytes h image small = absurd (no_page_fault pages bytes x image small h)
+read_fault fault.Memory pages bytes h image small = refl
 
 -- what the words of page x were found to be
-pub page_found : (o : Option (Option Page)) (words bytes : List ℕ) → length words ≡ 32 → Fits64 words → word_bytes words ≡ bytes → IfSome o (λ page. words ≡ page_words page)
-    → ((page : Option Page) → words ≡ page_words page → o ≡ Some page) → MatchOption o (¬ ArePage bytes) (λ page. Fits64 (page_words page) × (bytes ≡ page_bytes page))
-page_found None words bytes long fits is h only = no_page words bytes long fits is (λ page e. let k = only page e in absurd cc)
-page_found (Some page) words bytes long fits is h only = (subst Fits64 h fits, sym is ∙ ap word_bytes h)
+pub page_found : (most : ℕ) (o : Option (Option Page)) (words bytes : List ℕ) → length words ≡ 32 → Fits64 words → word_bytes words ≡ bytes → IfSome o (λ page. words ≡ page_words page)
+    → IfSome o (NamesBelow most) → ((page : Option Page) → NamesBelow most page → words ≡ page_words page → o ≡ Some page)
+    → MatchOption o (¬ ArePage most bytes) (λ page. NamesBelow most page × Fits64 (page_words page) × (bytes ≡ page_bytes page))
+page_found most None words bytes long fits is h names only = no_page most words bytes long fits is (λ page small e. let k = only page small e in absurd cc)
+page_found most (Some page) words bytes long fits is h names only = (names, subst Fits64 h fits, sym is ∙ ap word_bytes h)

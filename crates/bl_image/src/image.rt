@@ -1,6 +1,6 @@
 //! What an image holds.
 
-ghost use Rattle.std.specs.Prelude.{◌≡◌, ◌≤◌, [], length, map, vec_capacity, IfOk, OnOk};
+ghost use Rattle.std.specs.Prelude.{◌≡◌, ◌^◌, ◌≤◌, [], length, map, vec_capacity, IfOk, OnOk};
 ghost use Rattle.std.specs.List.{AllByRecursion};
 ghost use Rattle.bl_image.specs.Images.{IsCount, IsSpelled, Fits64, page_words};
 
@@ -11,10 +11,10 @@ use std::alloc::{AllocError, Global};
 /// The pages of an index at rest.
 #[derive(Drop)]
 pub struct Image {
-    /// Each page by its number, None where it is not in use: 4 to 65,536 of them.
+    /// Each page by its number, None where it is not in use: 4 to 2^28 of them.
     pub pages: Vec<Option<Page>>,
     ghost some: { 4 ≤ length pages.items },
-    ghost limit: { length pages.items ≤ 65536 },
+    ghost limit: { length pages.items ≤ 2 ^ 28 },
 }
 
 /// The page that has these words, None where they are zeros.
@@ -42,7 +42,7 @@ fn words_in(alloc: Global, pages: &[Option<Page>]) -> Result<Vec<[u64; 32]>, All
 }
 
 impl Image {
-    /// The image of pages with these words, 4 to 65,536 of them, each by its number: those of a page, or zeros where it is
+    /// The image of pages with these words, 4 to 2^28 of them, each by its number: those of a page, or zeros where it is
     /// not in use. It takes an empty vector with room for all pages, and no memory.
     pub fn from_words(words: &[[u64; 32]], room: Vec<Option<Page>>) -> Image
         requires count { IsCount (length words.now) }

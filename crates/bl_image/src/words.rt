@@ -1,10 +1,10 @@
 //! The bytes of one page.
 
-ghost use Rattle.std.specs.Prelude.{◌≡◌, ◌+◌, ◌*◌, ◌≤◌, ◌↔◌, true, Option, Some, length, replicate, IfSome, IsTrue, MatchOption};
+ghost use Rattle.std.specs.Prelude.{◌≡◌, ◌+◌, ◌*◌, ◌^◌, ◌≤◌, ◌↔◌, true, Option, Some, length, replicate, IfSome, IsTrue, MatchOption};
 ghost use Rattle.bl_page.specs.declared.page.Page.{Page};
-ghost use Rattle.bl_image.specs.Images.{word_bytes, page_words, page_bytes, ArePage, Fits64, chunk};
+ghost use Rattle.bl_image.specs.Images.{word_bytes, page_words, page_bytes, ArePage, NamesBelow, Fits64, chunk};
 
-use bl_page::{Page, from_words};
+use bl_page::{Page, from_wide_words, from_words_below};
 use byteorder::{ByteOrder, LittleEndian};
 
 /// The words that 256 bytes spell.
@@ -64,18 +64,35 @@ pub fn page_in(words: &[u64; 32]) -> Option<Option<Page>>
     if is_zero(words) {
         return Some(None);
     }
-    match from_words(words) {
+    match from_wide_words(words) {
         Ok(page) => Some(Some(page)),
         Err(_) => None,
     }
 }
 
-/// The page number x, if its bytes are a page's.
-pub fn page_at(bytes: &[u8], x: u32) -> Option<Option<Page>>
-    requires { 32 + 256 * (x + 1) ≤ length bytes.now }
-    ensures { MatchOption result (¬ ArePage (chunk bytes.now x))
-        (λ page. Fits64 (page_words page) × (chunk bytes.now x ≡ page_bytes page)) }
+/// The same, where it names pages below that bound alone.
+fn page_below(words: &[u64; 32], most: u64) -> Option<Option<Page>>
+    requires { most ≤ 2 ^ 32 }
+    ensures some { IfSome result (λ page. words.now ≡ page_words page) }
+    ensures below { IfSome result (NamesBelow most) }
+    ensures only { (page : Option Page) → NamesBelow most page → words.now ≡ page_words page → result ≡ Some page }
+{
+    if is_zero(words) {
+        return Some(None);
+    }
+    match from_words_below(words, most) {
+        Ok(page) => Some(Some(page)),
+        Err(_) => None,
+    }
+}
+
+/// The page number x, if its bytes are those of a page that names pages below that bound.
+pub fn page_at(bytes: &[u8], x: u32, most: u64) -> Option<Option<Page>>
+    requires long { 32 + 256 * (x + 1) ≤ length bytes.now }
+    requires most { most ≤ 2 ^ 32 }
+    ensures { MatchOption result (¬ ArePage most (chunk bytes.now x))
+        (λ page. NamesBelow most page × Fits64 (page_words page) × (chunk bytes.now x ≡ page_bytes page)) }
 {
     let at = 32 + 256 * x as usize;
-    page_in(&words_in(&bytes[at..at + 256]))
+    page_below(&words_in(&bytes[at..at + 256]), most)
 }

@@ -1,6 +1,6 @@
 //! Writing an image.
 
-ghost use Rattle.std.specs.Prelude.{◌≡◌, ◌≤◌, true, false, List, ℕ, length, flat_map, OnOk, OnErr};
+ghost use Rattle.std.specs.Prelude.{◌≡◌, ◌^◌, ◌≤◌, true, false, List, ℕ, length, flat_map, OnOk, OnErr};
 ghost use Rattle.std.specs.List.{AllByRecursion};
 ghost use Rattle.std.specs.Io.KnownBytes.{Appends};
 ghost use Rattle.bl_model.specs.Stream.{StartsOut};
@@ -31,7 +31,7 @@ fn write_pages<W: Write>(writer: &mut Watched<W>, pages: &[Option<Page>]) -> Res
 
 /// Writes the head and the pages, and flushes the writer.
 fn write_image<W: Write>(writer: &mut Watched<W>, pages: &[Option<Page>]) -> Result<(), Failed>
-    requires { length pages.now ≤ 65536 }
+    requires { length pages.now ≤ 2 ^ 28 }
     ensures ok { OnOk result (Appends (W.contents writer.old.inner) (W.contents writer.new.inner)
         (image_bytes pages.now)) }
     ensures flushed { OnOk result (writer.new.pending ≡ false) }

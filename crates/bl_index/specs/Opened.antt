@@ -1,5 +1,5 @@
 -- An index that was just made.
-use Rattle.std.specs.Prelude.{◌≡◌, ◌⊎◌, ℕ, zero, suc, ◌+◌, ◌<◌, ◌≤◌, Option, List, [], ◌∷◌, length, replicate}
+use Rattle.std.specs.Prelude.{◌≡◌, ◌⊎◌, ℕ, zero, suc, ◌+◌, ◌^◌, ◌<◌, ◌≤◌, Option, List, [], ◌∷◌, length, replicate}
 use mathlib.Core.Option.{some}
 use lib.ListN.{get_elem?}
 use Rattle.atomic_table.specs.Seated.{TableId}
@@ -22,16 +22,23 @@ use Rattle.bl_index.specs.declared.index.Index.{Index}
 use Rattle.bl_index.specs.declared.index.Pass.{Pass}
 use Rattle.bl_index.specs.Calls.{pages_of, passes_of, first_of, IsPassOf, number_of, trail}
 
--- it has as many pages as an index may have
-abbrev pub HasPages : Config → Type 0
-HasPages config = (4 ≤ config.pages) × (config.pages ≤ 65536)
+-- it has as many pages as an index may have, so many at most
+abbrev pub HasPages : ℕ → Config → Type 0
+HasPages most config = (4 ≤ config.pages) × (config.pages ≤ most)
 
 -- Why an index of that size was refused: the pages are not within their limits; they are, and the passes are not; or both
 -- are, and there was no memory.
+abbrev pub IsRefusalOf : ℕ → Config → OpenFault → Type 0
+IsRefusalOf most config Pages = (config.pages < 4) ⊎ (most < config.pages)
+IsRefusalOf most config Passes = HasPages most config × ((config.passes < 1) ⊎ (64 < config.passes))
+IsRefusalOf most config Memory = HasPages most config × ((1 ≤ config.passes) × (config.passes ≤ 64))
+
 abbrev pub IsRefusal : Config → OpenFault → Type 0
-IsRefusal config Pages = (config.pages < 4) ⊎ (65536 < config.pages)
-IsRefusal config Passes = HasPages config × ((config.passes < 1) ⊎ (64 < config.passes))
-IsRefusal config Memory = HasPages config × ((1 ≤ config.passes) × (config.passes ≤ 64))
+IsRefusal config why = IsRefusalOf 65536 config why
+
+-- the same of a large index
+abbrev pub IsLargeRefusal : Config → OpenFault → Type 0
+IsLargeRefusal config why = IsRefusalOf (2 ^ 28) config why
 
 -- The index has so many pages, and began so. There is a pass of it for each number, in their order. None has seen anything, so
 -- that it stands at what the index began with.

@@ -1,10 +1,10 @@
 //! An index is made.
 
-ghost use Rattle.std.specs.Prelude.{◌≡◌, ◌≤◌, [], length, IfOk, IfErr};
+ghost use Rattle.std.specs.Prelude.{◌≡◌, ◌≤◌, ◌^◌, [], length, IfOk, IfErr};
 ghost use Rattle.bl_store.specs.Opening.{first_pages as store_pages};
 ghost use Rattle.bl_claims.specs.Seeing.{IsSeen};
 ghost use Rattle.bl_index_rule.specs.Simulation.{beginner as unborn_pass, Simulates};
-ghost use Rattle.bl_index.specs.Opened.{IsRefusal, IsFirstAnchor, IsFirstLeaf, IsFirst, AreFirst, AreNew, ArePasses, IsBegun, IsOpened, IsReopened, IsImageRefusal};
+ghost use Rattle.bl_index.specs.Opened.{IsRefusal, IsLargeRefusal, IsRefusalOf, IsFirstAnchor, IsFirstLeaf, IsFirst, AreFirst, AreNew, ArePasses, IsBegun, IsOpened, IsReopened, IsImageRefusal};
 
 use crate::config::{Config, OpenFault};
 use crate::index::{Index, Pass};
@@ -12,7 +12,7 @@ use arrayvec::ArrayVec;
 use bl_check::Quiet;
 use bl_index_rule::{FirstPages, GhostTrail, PassState, Passes};
 use bl_index_steps::Tree;
-use bl_model::limits::{LEAST_PAGES, MOST_PAGES};
+use bl_model::limits::{LEAST_PAGES, MOST_LARGE_PAGES, MOST_PAGES};
 use bl_page::{Anchor, Leaf, Page};
 use bl_proc::{Find, FindStage, Proc};
 use bl_store::{Hand, Store};
@@ -60,6 +60,21 @@ fn first_pages(alloc: Global, pages: u32) -> Result<Vec<[u64; 32]>, AllocError>
         first.push(first_words(page))?;
     }
     Ok(first)
+}
+
+/// How many frames an index has to spare beside one for each page: as many as pages, but of a large one an eighth of them, and no
+/// fewer than one that is not large has. Each put takes one, until no process is left that may read the one that it retires.
+fn spare_of(pages: u32, passes: u32) -> u32
+    requires pages { (4 ≤ pages) × (pages ≤ 2 ^ 28) }
+    requires passes { passes ≤ 64 }
+    ensures { (1 ≤ result) × (result ≤ 2 ^ 29) }
+{
+    let spare = if pages > MOST_PAGES {
+        (pages / 8).max(MOST_PAGES)
+    } else {
+        pages
+    };
+    spare + 8 * passes
 }
 
 /// What an index begins with that is opened empty.
@@ -117,7 +132,27 @@ impl Index {
         ensures ok { IfOk result (λ t. IsOpened config t.0 t.1.items) }
         ensures fault { IfErr result (IsRefusal config) }
     {
-        if config.pages < LEAST_PAGES || config.pages > MOST_PAGES {
+        Self::open_within(alloc, config, MOST_PAGES)
+    }
+
+    /// The same of up to 2^28 pages.
+    pub fn open_large(alloc: Global, config: Config) -> Result<(Index, Vec<Pass>), OpenFault>
+        ensures ok { IfOk result (λ t. IsOpened config t.0 t.1.items) }
+        ensures fault { IfErr result (IsLargeRefusal config) }
+    {
+        Self::open_within(alloc, config, MOST_LARGE_PAGES)
+    }
+
+    fn open_within(
+        alloc: Global,
+        config: Config,
+        most: u32,
+    ) -> Result<(Index, Vec<Pass>), OpenFault>
+        requires { most ≤ 2 ^ 28 }
+        ensures ok { IfOk result (λ t. IsOpened config t.0 t.1.items) }
+        ensures fault { IfErr result (IsRefusalOf most config) }
+    {
+        if config.pages < LEAST_PAGES || config.pages > most {
             return Err(OpenFault::Pages);
         }
         if config.passes < 1 || config.passes > 64 {
@@ -130,7 +165,7 @@ impl Index {
     }
 
     fn made(alloc: Global, config: Config) -> Result<(Index, Vec<Pass>), AllocError>
-        requires pages { (4 ≤ config.pages) × (config.pages ≤ 65536) }
+        requires pages { (4 ≤ config.pages) × (config.pages ≤ 2 ^ 28) }
         requires passes { (1 ≤ config.passes) × (config.passes ≤ 64) }
         ensures { IfOk result (λ t. IsOpened config t.0 t.1.items) }
     {
@@ -146,7 +181,7 @@ impl Index {
         passes: u32,
         image: &Vec<Option<Page>>,
     ) -> Result<(Index, Vec<Pass>), AllocError>
-        requires pages { (4 ≤ length words.now) × (length words.now ≤ 65536) }
+        requires pages { (4 ≤ length words.now) × (length words.now ≤ 2 ^ 28) }
         requires passes { (1 ≤ passes) × (passes ≤ 64) }
         requires rule { Simulates (store_pages words.now passes (unborn_pass image.now.items)) }
         requires seen { IsSeen image.now.items [] }
@@ -155,9 +190,10 @@ impl Index {
         let first = FirstPages::of(image);
         let observed = FirstPages::of(image);
         let known = beginner(alloc, observed);
-        let (store, hands) = Store::new(alloc, words, passes, &known)?;
-        let made = passes_of(alloc, &store, &first, hands)?;
         let pages = words.len() as u32;
+        let spare = spare_of(pages, passes);
+        let (store, hands) = Store::sparing(alloc, words, passes, spare, &known)?;
+        let made = passes_of(alloc, &store, &first, hands)?;
         let tree = Tree {
             store,
             pages,

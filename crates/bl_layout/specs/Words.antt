@@ -5,7 +5,7 @@ use Rattle.bl_layout.specs.declared.word.Word.{Word}
 use Rattle.bl_layout.specs.declared.word.Word.TheVariants.{Clock, Process, Page, PageOwner, FrameOwner, FrameWord}
 
 abbrev pub frame_count : Layout → ℕ
-frame_count l = 2 * l.pages + 8 * l.passes
+frame_count l = l.pages + l.spare
 
 -- the number of all words together
 abbrev pub word_count : Layout → ℕ

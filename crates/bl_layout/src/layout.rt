@@ -1,25 +1,41 @@
 //! The sizes of a store, and the number of each of its words.
-ghost use Rattle.std.specs.Prelude.{◌≡◌, ◌<◌, ◌≤◌, ◌+◌, ◌*◌, ◌↔◌, IsTrue};
+ghost use Rattle.std.specs.Prelude.{◌≡◌, ◌<◌, ◌≤◌, ◌+◌, ◌*◌, ◌^◌, ◌↔◌, IsTrue};
 
 use crate::word::Word;
 
-/// How many pages and passes a store has: 4 to 65,536 pages, and 1 to 64 passes.
+/// How many pages and passes a store has: 4 to 2^28 pages, and 1 to 64 passes. Beside a frame for each page it has some to spare.
 #[derive(Clone, Copy)]
 pub struct Layout {
     pub pages: u32,
     pub passes: u32,
-    pub ghost pages_within: { (4 ≤ pages) × (pages ≤ 65536) },
+    pub spare: u32,
+    pub ghost pages_within: { (4 ≤ pages) × (pages ≤ 2 ^ 28) },
     pub ghost passes_within: { (1 ≤ passes) × (passes ≤ 64) },
+    pub ghost spare_within: { (1 ≤ spare) × (spare ≤ 2 ^ 29) },
 }
 
 impl Layout {
     ghost use Rattle.bl_layout.specs.Words.{frame_count, word_count, number_of, IsNamed};
 
+    /// A store with twice as many frames as pages, and eight more for each pass.
+    pub fn of(pages: u32, passes: u32) -> Layout
+        requires pages { (4 ≤ pages) × (pages ≤ 2 ^ 28) }
+        requires passes { (1 ≤ passes) × (passes ≤ 64) }
+        ensures sizes { (result.pages ≡ pages) × (result.passes ≡ passes) }
+        ensures frames { frame_count result ≡ 2 * pages + 8 * passes }
+    {
+        Layout {
+            pages,
+            passes,
+            spare: pages + 8 * passes,
+        }
+    }
+
     /// The number of frames.
     pub fn frames(self) -> u32
         ensures { result ≡ frame_count self }
     {
-        2 * self.pages + 8 * self.passes
+        self.pages + self.spare
     }
 
     /// The number of all words together.

@@ -15,7 +15,7 @@ pub struct Map {
 }
 
 impl Map {
-    /// An empty map of so many pages, 4 to 65,536, and a seat for each of so many threads, 1 to 64.
+    /// An empty map of so many pages, 4 to 2^28, and a seat for each of so many threads, 1 to 64.
     pub fn open(alloc: Global, pages: u32, seats: u32) -> Result<(Map, Vec<Pass>), OpenFault>
         ensures ok { IfOk result (λ t. IsOpened pages seats t.0 t.1.items) }
         ensures seats { IfOk result (λ t. AreSeatsOf t.0 t.1.items) }
@@ -25,7 +25,7 @@ impl Map {
             pages,
             passes: seats,
         };
-        let (index, seats) = Index::open(alloc, config)?;
+        let (index, seats) = Index::open_large(alloc, config)?;
         Ok((Map { index }, seats))
     }
 

@@ -2,7 +2,7 @@
 use Rattle.std.specs.Prelude.{◌≡◌, ℕ, zero, suc, ◌+◌, ◌*◌, ◌/◌, ◌%◌, ◌<◌, ◌≤◌, ◌^◌, List, [], ◌∷◌, slice_index, take, drop}
 use Rattle.bl_page.specs.declared.page.WordFault.{WordFault}
 use Rattle.bl_page.specs.declared.page.WordFault.TheVariants as fault
-use Rattle.bl_page.specs.Pairs.{end_of, RisesFrom, AllWithin, BeginsWith, NameChildren, AreChildren}
+use Rattle.bl_page.specs.Pairs.{end_of, RisesFrom, AllWithin, BeginsWith, NameNumbers, AreNumbers}
 
 pub data Kind : Type 0 where
   Anchor : Kind
@@ -50,7 +50,7 @@ width Leaf count = 2 * count
 width Inner count = 2 * count
 width Dead count = 0
 
--- What is demanded of the words of each kind.
+-- What is demanded of the words of each kind. Where they name pages, the numbers are below a bound.
 
 abbrev pub IsOf : Kind → List ℕ → Type 0
 IsOf kind words = kind_in words ≡ number kind
@@ -67,11 +67,11 @@ CountFits Leaf words = count_in words ≤ 14
 CountFits Inner words = (1 ≤ count_in words) × (count_in words ≤ 14)
 CountFits Dead words = count_in words ≡ 0
 
-abbrev pub BoundsFit : Kind → List ℕ → Type 0
-BoundsFit Anchor words = (slice_index words 1 ≡ 0) × (slice_index words 2 ≡ 0) × (slice_index words 3 ≡ 0)
-BoundsFit Leaf words = (slice_index words 1 < end_of (slice_index words 2)) × (slice_index words 3 < 2 ^ 16)
-BoundsFit Inner words = (slice_index words 1 < end_of (slice_index words 2)) × (slice_index words 3 < 2 ^ 16)
-BoundsFit Dead words = (slice_index words 2 ≡ 0) × (slice_index words 3 < 2 ^ 16)
+abbrev pub BoundsFit : ℕ → Kind → List ℕ → Type 0
+BoundsFit most Anchor words = (slice_index words 1 ≡ 0) × (slice_index words 2 ≡ 0) × (slice_index words 3 ≡ 0)
+BoundsFit most Leaf words = (slice_index words 1 < end_of (slice_index words 2)) × (slice_index words 3 < most)
+BoundsFit most Inner words = (slice_index words 1 < end_of (slice_index words 2)) × (slice_index words 3 < most)
+BoundsFit most Dead words = (slice_index words 2 ≡ 0) × (slice_index words 3 < most)
 
 abbrev pub OrderFits : Kind → List ℕ → Type 0
 OrderFits Anchor words = Unit {0}
@@ -79,25 +79,25 @@ OrderFits Leaf words = RisesFrom 0 (pairs_of words)
 OrderFits Inner words = RisesFrom 0 (pairs_of words)
 OrderFits Dead words = Unit {0}
 
-abbrev pub CoverFits : Kind → List ℕ → Type 0
-CoverFits Anchor words = AreChildren (take (count_in words) (drop 4 words))
-CoverFits Leaf words = AllWithin (slice_index words 1) (slice_index words 2) (pairs_of words)
-CoverFits Inner words =
-    AllWithin (slice_index words 1) (slice_index words 2) (pairs_of words) × BeginsWith (slice_index words 1) (pairs_of words) × NameChildren (pairs_of words)
-CoverFits Dead words = Unit {0}
+abbrev pub CoverFits : ℕ → Kind → List ℕ → Type 0
+CoverFits most Anchor words = AreNumbers most (take (count_in words) (drop 4 words))
+CoverFits most Leaf words = AllWithin (slice_index words 1) (slice_index words 2) (pairs_of words)
+CoverFits most Inner words =
+    AllWithin (slice_index words 1) (slice_index words 2) (pairs_of words) × BeginsWith (slice_index words 1) (pairs_of words) × NameNumbers most (pairs_of words)
+CoverFits most Dead words = Unit {0}
 
 abbrev pub RestFits : Kind → List ℕ → Type 0
 RestFits kind words = (i : ℕ) → 4 + width kind (count_in words) ≤ i → i < 32 → slice_index words i ≡ 0
 
 -- The fault is the first that applies: the demands before it are met, its own is not.
-abbrev pub IsFault : WordFault → List ℕ → Type 0
-IsFault fault.Kind words = (kind : Kind) → ¬ IsOf kind words
-IsFault fault.Level words = (kind : Kind) × IsOf kind words × ¬ LevelFits kind words
-IsFault fault.Count words = (kind : Kind) × IsOf kind words × LevelFits kind words × ¬ CountFits kind words
-IsFault fault.Bounds words = (kind : Kind) × IsOf kind words × LevelFits kind words × CountFits kind words × ¬ BoundsFit kind words
-IsFault fault.Order words = (kind : Kind) × IsOf kind words × LevelFits kind words × CountFits kind words × BoundsFit kind words × ¬ OrderFits kind words
-IsFault fault.Cover words =
-    (kind : Kind) × IsOf kind words × LevelFits kind words × CountFits kind words × BoundsFit kind words × OrderFits kind words × ¬ CoverFits kind words
-IsFault fault.Rest words =
-    (kind : Kind) × IsOf kind words × LevelFits kind words × CountFits kind words × BoundsFit kind words × OrderFits kind words × CoverFits kind words
+abbrev pub IsFault : ℕ → WordFault → List ℕ → Type 0
+IsFault most fault.Kind words = (kind : Kind) → ¬ IsOf kind words
+IsFault most fault.Level words = (kind : Kind) × IsOf kind words × ¬ LevelFits kind words
+IsFault most fault.Count words = (kind : Kind) × IsOf kind words × LevelFits kind words × ¬ CountFits kind words
+IsFault most fault.Bounds words = (kind : Kind) × IsOf kind words × LevelFits kind words × CountFits kind words × ¬ BoundsFit most kind words
+IsFault most fault.Order words = (kind : Kind) × IsOf kind words × LevelFits kind words × CountFits kind words × BoundsFit most kind words × ¬ OrderFits kind words
+IsFault most fault.Cover words =
+    (kind : Kind) × IsOf kind words × LevelFits kind words × CountFits kind words × BoundsFit most kind words × OrderFits kind words × ¬ CoverFits most kind words
+IsFault most fault.Rest words =
+    (kind : Kind) × IsOf kind words × LevelFits kind words × CountFits kind words × BoundsFit most kind words × OrderFits kind words × CoverFits most kind words
     × ¬ RestFits kind words

@@ -12,9 +12,13 @@ end_of high = if high == 0 then 2 ^ 64 else high
 abbrev pub IsWithin : ℕ → ℕ → ℕ → Type 0
 IsWithin low high k = (low ≤ k) × (k < end_of high)
 
--- a page number that an entry may have
+-- a page number that an entry may have, below a bound of all numbers
+abbrev pub IsNumber : ℕ → ℕ → Type 0
+IsNumber most x = (0 < x) × (x < most)
+
+-- the same, below the bound of all page numbers there are
 abbrev pub IsChild : ℕ → Type 0
-IsChild x = (0 < x) × (x < 2 ^ 16)
+IsChild x = IsNumber (2 ^ 32) x
 
 -- The keys rise strictly, from that key on.
 abbrev pub RisesFrom : ℕ → List (ℕ × ℕ) → Type 0
@@ -31,14 +35,20 @@ abbrev pub BeginsWith : ℕ → List (ℕ × ℕ) → Type 0
 BeginsWith low [] = ⊥
 BeginsWith low (pair ∷ pairs) = pair.0 ≡ low
 
--- Every pair names a page.
+-- Every pair names a page, by a number below that bound.
+abbrev pub NameNumbers : ℕ → List (ℕ × ℕ) → Type 0
+NameNumbers most [] = Unit {0}
+NameNumbers most (pair ∷ pairs) = IsNumber most pair.1 × NameNumbers most pairs
+
 abbrev pub NameChildren : List (ℕ × ℕ) → Type 0
-NameChildren [] = Unit {0}
-NameChildren (pair ∷ pairs) = IsChild pair.1 × NameChildren pairs
+NameChildren pairs = NameNumbers (2 ^ 32) pairs
+
+abbrev pub AreNumbers : ℕ → List ℕ → Type 0
+AreNumbers most [] = Unit {0}
+AreNumbers most (x ∷ xs) = IsNumber most x × AreNumbers most xs
 
 abbrev pub AreChildren : List ℕ → Type 0
-AreChildren [] = Unit {0}
-AreChildren (x ∷ xs) = IsChild x × AreChildren xs
+AreChildren xs = AreNumbers (2 ^ 32) xs
 
 -- The child is listed with the greatest key that is not above k.
 pub record IsChildFor (pairs : List (ℕ × ℕ)) (k child : ℕ) : Type 0 where
@@ -61,8 +71,11 @@ RisesFrom-prop least (pair ∷ pairs) = ×_prop le_prop (RisesFrom-prop (pair.0 
 pub IsWithin-prop : (low high k : ℕ) → IsProp (IsWithin low high k)
 IsWithin-prop low high k = ×_prop le_prop le_prop
 
+pub IsNumber-prop : (most x : ℕ) → IsProp (IsNumber most x)
+IsNumber-prop most x = ×_prop le_prop le_prop
+
 pub IsChild-prop : (x : ℕ) → IsProp (IsChild x)
-IsChild-prop x = ×_prop le_prop le_prop
+IsChild-prop x = IsNumber-prop (2 ^ 32) x
 
 pub AllWithin-prop : (low high : ℕ) (pairs : List (ℕ × ℕ)) → IsProp (AllWithin low high pairs)
 AllWithin-prop low high [] = Unit-prop

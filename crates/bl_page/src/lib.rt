@@ -15,7 +15,7 @@ pub use keys::is_within;
 pub use machine::Missed;
 pub use page::{Anchor, Dead, Inner, Leaf, Page, Pairs, WordFault};
 pub use pairs::{listed_with, place_of};
-pub use reading::from_words;
+pub use reading::{from_wide_words, from_words, from_words_below};
 pub use seeking::{child_in, listed_in, place_in};
 pub use source::{Words, word, words_from};
 pub use spelling::{KIND_UNIT, LEVEL_UNIT};

@@ -31,7 +31,7 @@ pub struct Leaf {
     /// Keys and their values.
     pub rows: Pairs,
     ghost bounds: { low < end_of high },
-    ghost link: { right < 2 ^ 16 },
+    ghost link: { right < 2 ^ 32 },
     ghost few: { length rows.items ≤ 14 },
     ghost order: { RisesFrom 0 rows.items } by { RisesFrom-prop 0 rows.items },
     ghost cover: { AllWithin low high rows.items } by { AllWithin-prop low high rows.items },
@@ -53,7 +53,7 @@ pub struct Inner {
     ghost above_leaves: { 0 < level },
     ghost below_limit: { level < 12 },
     ghost bounds: { low < end_of high },
-    ghost link: { right < 2 ^ 16 },
+    ghost link: { right < 2 ^ 32 },
     ghost few: { length children.items ≤ 14 },
     ghost order: { RisesFrom 0 children.items } by { RisesFrom-prop 0 children.items },
     ghost cover: { AllWithin low high children.items } by { AllWithin-prop low high children.items },
@@ -71,7 +71,7 @@ pub struct Dead {
     /// The page that took its contents. 0 is none: the page was the top of the tree, and whoever gets it begins again.
     pub right: u32,
     ghost below_limit: { level < 12 },
-    ghost link: { right < 2 ^ 16 },
+    ghost link: { right < 2 ^ 32 },
 }
 
 /// What a page holds. The tree is that of Lehman and Yao, "Efficient locking for concurrent operations on B-trees"

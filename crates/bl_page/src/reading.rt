@@ -1,8 +1,8 @@
 //! Words read as a page.
 
-ghost use Rattle.std.specs.Prelude.{◌≡◌, ℕ, ◌+◌, ◌<◌, ◌≤◌, ◌↔◌, length, drop, take, IsTrue, IfOk, IfErr, MatchOption, Ok, slice_index};
-ghost use Rattle.bl_page.specs.Pairs.{RisesFrom, AllWithin, BeginsWith, NameChildren, AreChildren};
-ghost use Rattle.bl_page.specs.Words.{words_of};
+ghost use Rattle.std.specs.Prelude.{◌≡◌, ℕ, ◌+◌, ◌<◌, ◌≤◌, ◌^◌, ◌↔◌, length, drop, take, IsTrue, IfOk, IfErr, IfSome, MatchOption, Ok, slice_index};
+ghost use Rattle.bl_page.specs.Pairs.{RisesFrom, AllWithin, BeginsWith, NameChildren, NameNumbers, AreChildren, AreNumbers};
+ghost use Rattle.bl_page.specs.Words.{words_of, IsBelow};
 ghost use Rattle.bl_page.specs.Faults.{Kind, IsFault, IsOf, BoundsFit, count_in, level_in, pairs_in};
 ghost use Rattle.bl_page.specs.declared.page.Page.TheVariants as page;
 ghost use Rattle.bl_page.specs.declared.page.Page.{Page};
@@ -51,12 +51,12 @@ fn keys_are_within(low: u64, high: u64, pairs: &[(u64, u64)]) -> bool
     true
 }
 
-/// Every pair names a page.
-fn pairs_name_children(pairs: &[(u64, u64)]) -> bool
-    ensures { IsTrue result ↔ NameChildren pairs.now }
+/// Every pair names a page, by a number below that bound.
+fn pairs_name_pages(pairs: &[(u64, u64)], most: u64) -> bool
+    ensures { IsTrue result ↔ NameNumbers most pairs.now }
 {
     for pair in pairs {
-        if pair.1 == 0 || pair.1 >= LEVEL_UNIT {
+        if pair.1 == 0 || pair.1 >= most {
             return false;
         }
     }
@@ -98,22 +98,24 @@ fn count_at(words: &[u64; 32]) -> usize
 }
 
 /// The bounds and the link of a leaf or an inner page.
-fn bounds_fit(words: &[u64; 32]) -> bool
-    ensures { IsTrue result ↔ BoundsFit Kind.Leaf words.now }
+fn bounds_fit(words: &[u64; 32], most: u64) -> bool
+    ensures { IsTrue result ↔ BoundsFit most Kind.Leaf words.now }
 {
-    (words[2] == 0 || words[1] < words[2]) && words[3] < LEVEL_UNIT
+    (words[2] == 0 || words[1] < words[2]) && words[3] < most
 }
 
-/// That many page numbers behind the head, if each is one.
-fn leftmost_at(words: &[u64; 32], count: usize) -> Option<ArrayVec<u32, MOST_LEVELS>>
-    requires { count ≤ 12 }
-    ensures { MatchOption result (¬ AreChildren (take count (drop 4 words.now)))
+/// That many page numbers behind the head, if each is one below that bound.
+fn leftmost_at(words: &[u64; 32], count: usize, most: u64) -> Option<ArrayVec<u32, MOST_LEVELS>>
+    requires count { count ≤ 12 }
+    requires most { most ≤ 2 ^ 32 }
+    ensures found { MatchOption result (¬ AreNumbers most (take count (drop 4 words.now)))
         (λ leftmost. AreChildren leftmost.items × (leftmost.items ≡ take count (drop 4 words.now))) }
+    ensures below { IfSome result (λ leftmost. AreNumbers most leftmost.items) }
 {
     let mut leftmost = ArrayVec::new();
     for i in 0..count {
         let page = words[4 + i];
-        if page == 0 || page >= LEVEL_UNIT {
+        if page == 0 || page >= most {
             return None;
         }
         leftmost.push(page as u32);
@@ -121,10 +123,12 @@ fn leftmost_at(words: &[u64; 32], count: usize) -> Option<ArrayVec<u32, MOST_LEV
     Some(leftmost)
 }
 
-fn anchor_in(words: &[u64; 32]) -> Result<Anchor, WordFault>
-    requires { IsOf Kind.Anchor words.now }
+fn anchor_in(words: &[u64; 32], most: u64) -> Result<Anchor, WordFault>
+    requires kind { IsOf Kind.Anchor words.now }
+    requires most { most ≤ 2 ^ 32 }
     ensures ok { IfOk result (λ anchor. words.now ≡ words_of (page.Anchor anchor)) }
-    ensures fault { IfErr result (λ fault. IsFault fault words.now) }
+    ensures below { IfOk result (λ anchor. IsBelow most (page.Anchor anchor)) }
+    ensures fault { IfErr result (λ fault. IsFault most fault words.now) }
 {
     if level_at(words) != 0 {
         return Err(WordFault::Level);
@@ -136,7 +140,7 @@ fn anchor_in(words: &[u64; 32]) -> Result<Anchor, WordFault>
     if words[1] != 0 || words[2] != 0 || words[3] != 0 {
         return Err(WordFault::Bounds);
     }
-    let Some(leftmost) = leftmost_at(words, count) else {
+    let Some(leftmost) = leftmost_at(words, count, most) else {
         return Err(WordFault::Cover);
     };
     if !is_zero_from(words, 4 + count) {
@@ -145,10 +149,12 @@ fn anchor_in(words: &[u64; 32]) -> Result<Anchor, WordFault>
     Ok(Anchor { leftmost })
 }
 
-fn leaf_in(words: &[u64; 32]) -> Result<Leaf, WordFault>
-    requires { IsOf Kind.Leaf words.now }
+fn leaf_in(words: &[u64; 32], most: u64) -> Result<Leaf, WordFault>
+    requires kind { IsOf Kind.Leaf words.now }
+    requires most { most ≤ 2 ^ 32 }
     ensures ok { IfOk result (λ leaf. words.now ≡ words_of (page.Leaf leaf)) }
-    ensures fault { IfErr result (λ fault. IsFault fault words.now) }
+    ensures below { IfOk result (λ leaf. IsBelow most (page.Leaf leaf)) }
+    ensures fault { IfErr result (λ fault. IsFault most fault words.now) }
 {
     if level_at(words) != 0 {
         return Err(WordFault::Level);
@@ -157,7 +163,7 @@ fn leaf_in(words: &[u64; 32]) -> Result<Leaf, WordFault>
     if count > MOST_PAIRS {
         return Err(WordFault::Count);
     }
-    if !bounds_fit(words) {
+    if !bounds_fit(words, most) {
         return Err(WordFault::Bounds);
     }
     let rows = pairs_at(words, count);
@@ -179,19 +185,23 @@ fn leaf_in(words: &[u64; 32]) -> Result<Leaf, WordFault>
 }
 
 /// The children of an inner page whose keys rise, with what else is asked of them.
-fn children_fit(words: &[u64; 32], children: &[(u64, u64)]) -> bool
-    ensures { IsTrue result ↔ (AllWithin (slice_index words.now 1) (slice_index words.now 2) children.now
-        × BeginsWith (slice_index words.now 1) children.now × NameChildren children.now) }
+fn children_fit(words: &[u64; 32], children: &[(u64, u64)], most: u64) -> bool
+    requires { most ≤ 2 ^ 32 }
+    ensures fit { IsTrue result ↔ (AllWithin (slice_index words.now 1) (slice_index words.now 2) children.now
+        × BeginsWith (slice_index words.now 1) children.now × NameNumbers most children.now) }
+    ensures children { IsTrue result → NameChildren children.now }
 {
     keys_are_within(words[1], words[2], children)
         && begins_with(words[1], children)
-        && pairs_name_children(children)
+        && pairs_name_pages(children, most)
 }
 
-fn inner_in(words: &[u64; 32]) -> Result<Inner, WordFault>
-    requires { IsOf Kind.Inner words.now }
+fn inner_in(words: &[u64; 32], most: u64) -> Result<Inner, WordFault>
+    requires kind { IsOf Kind.Inner words.now }
+    requires most { most ≤ 2 ^ 32 }
     ensures ok { IfOk result (λ inner. words.now ≡ words_of (page.Inner inner)) }
-    ensures fault { IfErr result (λ fault. IsFault fault words.now) }
+    ensures below { IfOk result (λ inner. IsBelow most (page.Inner inner)) }
+    ensures fault { IfErr result (λ fault. IsFault most fault words.now) }
 {
     let level = level_at(words);
     if level == 0 || level > 11 {
@@ -201,14 +211,14 @@ fn inner_in(words: &[u64; 32]) -> Result<Inner, WordFault>
     if count == 0 || count > MOST_PAIRS {
         return Err(WordFault::Count);
     }
-    if !bounds_fit(words) {
+    if !bounds_fit(words, most) {
         return Err(WordFault::Bounds);
     }
     let children = pairs_at(words, count);
     if !keys_rise(children.as_slice()) {
         return Err(WordFault::Order);
     }
-    if !children_fit(words, children.as_slice()) {
+    if !children_fit(words, children.as_slice(), most) {
         return Err(WordFault::Cover);
     }
     if !is_zero_from(words, 4 + 2 * count) {
@@ -223,10 +233,12 @@ fn inner_in(words: &[u64; 32]) -> Result<Inner, WordFault>
     })
 }
 
-fn dead_in(words: &[u64; 32]) -> Result<Dead, WordFault>
-    requires { IsOf Kind.Dead words.now }
+fn dead_in(words: &[u64; 32], most: u64) -> Result<Dead, WordFault>
+    requires kind { IsOf Kind.Dead words.now }
+    requires most { most ≤ 2 ^ 32 }
     ensures ok { IfOk result (λ dead. words.now ≡ words_of (page.Dead dead)) }
-    ensures fault { IfErr result (λ fault. IsFault fault words.now) }
+    ensures below { IfOk result (λ dead. IsBelow most (page.Dead dead)) }
+    ensures fault { IfErr result (λ fault. IsFault most fault words.now) }
 {
     let level = level_at(words);
     if level > 11 {
@@ -235,7 +247,7 @@ fn dead_in(words: &[u64; 32]) -> Result<Dead, WordFault>
     if count_at(words) != 0 {
         return Err(WordFault::Count);
     }
-    if words[2] != 0 || words[3] >= LEVEL_UNIT {
+    if words[2] != 0 || words[3] >= most {
         return Err(WordFault::Bounds);
     }
     if !is_zero_from(words, 4) {
@@ -249,27 +261,57 @@ fn dead_in(words: &[u64; 32]) -> Result<Dead, WordFault>
 }
 
 /// The page that the words spell, or the first fault that applies.
-fn page_in(words: &[u64; 32]) -> Result<Page, WordFault>
+fn page_in(words: &[u64; 32], most: u64) -> Result<Page, WordFault>
+    requires { most ≤ 2 ^ 32 }
     ensures ok { IfOk result (λ page. words.now ≡ words_of page) }
-    ensures fault { IfErr result (λ fault. IsFault fault words.now) }
+    ensures below { IfOk result (λ page. IsBelow most page) }
+    ensures fault { IfErr result (λ fault. IsFault most fault words.now) }
 {
     match words[0] / KIND_UNIT {
-        1 => Ok(Page::Anchor(anchor_in(words)?)),
-        2 => Ok(Page::Leaf(leaf_in(words)?)),
-        3 => Ok(Page::Inner(inner_in(words)?)),
-        4 => Ok(Page::Dead(dead_in(words)?)),
+        1 => Ok(Page::Anchor(anchor_in(words, most)?)),
+        2 => Ok(Page::Leaf(leaf_in(words, most)?)),
+        3 => Ok(Page::Inner(inner_in(words, most)?)),
+        4 => Ok(Page::Dead(dead_in(words, most)?)),
         _ => Err(WordFault::Kind),
     }
 }
 
-/// The page that the words spell. Any other words are refused with the first fault that applies.
+/// The page that the words spell, where it names pages below a bound alone. Any other words are refused with the first fault
+/// that applies.
+pub fn from_words_below(words: &[u64; 32], most: u64) -> Result<Page, WordFault>
+    requires { most ≤ 2 ^ 32 }
+    // What is read is spelled so.
+    ensures ok { IfOk result (λ page. words.now ≡ words_of page) }
+    ensures below { IfOk result (λ page. IsBelow most page) }
+    // What is spelled so is read.
+    ensures only { (page : Page) → IsBelow most page → words.now ≡ words_of page → result ≡ Ok page }
+    // Which fault it is.
+    ensures fault { IfErr result (λ fault. IsFault most fault words.now) }
+{
+    page_in(words, most)
+}
+
+/// The page that the words spell, which are those of an index of at most 65,536 pages: it names pages from 1 to 65,535.
 pub fn from_words(words: &[u64; 32]) -> Result<Page, WordFault>
+    // What is read is spelled so.
+    ensures ok { IfOk result (λ page. words.now ≡ words_of page) }
+    ensures below { IfOk result (λ page. IsBelow (2 ^ 16) page) }
+    // What is spelled so is read.
+    ensures only { (page : Page) → IsBelow (2 ^ 16) page → words.now ≡ words_of page → result ≡ Ok page }
+    // Which fault it is.
+    ensures fault { IfErr result (λ fault. IsFault (2 ^ 16) fault words.now) }
+{
+    from_words_below(words, LEVEL_UNIT)
+}
+
+/// The page that the words spell, whatever pages it names.
+pub fn from_wide_words(words: &[u64; 32]) -> Result<Page, WordFault>
     // What is read is spelled so.
     ensures ok { IfOk result (λ page. words.now ≡ words_of page) }
     // What is spelled so is read.
     ensures only { (page : Page) → words.now ≡ words_of page → result ≡ Ok page }
     // Which fault it is.
-    ensures fault { IfErr result (λ fault. IsFault fault words.now) }
+    ensures fault { IfErr result (λ fault. IsFault (2 ^ 32) fault words.now) }
 {
-    page_in(words)
+    from_words_below(words, KIND_UNIT)
 }

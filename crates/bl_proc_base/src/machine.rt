@@ -12,7 +12,7 @@ ghost use Rattle.bl_page.specs.Words.{words_of};
 
 use crate::acts::{Action, Seen};
 use crate::answers::Answer;
-use bl_page::{Words, from_words, words_from};
+use bl_page::{Words, from_wide_words, words_from};
 
 /// A process of one kind: whoever runs it asks for its next action, carries it out, and tells it what the action gave,
 /// until it answers.
@@ -75,7 +75,7 @@ pub fn took_page<P: Process, W: Words>(process: &mut P, source: &W, hand: &mut W
     ensures same { hand.new ≡ hand.old }
     ensures takes { (c : Page) → W.shown source.now hand.old ≡ words_of c → P.Takes process.old (seen.Words c) process.new }
 {
-    match from_words(&words_from(source, hand)) {
+    match from_wide_words(&words_from(source, hand)) {
         Ok(page) => process.took(Seen::Words(page)),
         Err(_) => unreachable!(),
     }

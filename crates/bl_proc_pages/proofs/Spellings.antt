@@ -53,7 +53,7 @@ levels_are (page.Inner n) words e one = absurd (let k : kind_in words ≡ 3 = ap
 levels_are (page.Dead d) words e one = absurd (let k : kind_in words ≡ 4 = ap kind_in e ∙ (fits (page.Dead d)).is_of in omega (arith, k, one))
 
 -- the last entry of an anchor is the leftmost page of its top level
-pub top_is : (c : Page) (words : List ℕ) → words ≡ words_of c → kind_in words ≡ 1 → (get_or words (3 + count_in words) 0 ≡ top_of (roots_of c)) × (get_or words (3 + count_in words) 0 < 2 ^ 16)
+pub top_is : (c : Page) (words : List ℕ) → words ≡ words_of c → kind_in words ≡ 1 → (get_or words (3 + count_in words) 0 ≡ top_of (roots_of c)) × (get_or words (3 + count_in words) 0 < 2 ^ 32)
 top_is (page.Anchor a) words e one =
     let n = length a.leftmost.items in
     let fit = fits (page.Anchor a) in

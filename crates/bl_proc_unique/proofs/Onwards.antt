@@ -110,7 +110,7 @@ leads_some (Dead d) key level = elim (cases_eq d.right 0) [
 ]
 
 -- a link to the right is a page's number, or 0
-pub right_small : (c : Page) (key level y : ℕ) → Leads c key level (Right y) → y < 2 ^ 16
+pub right_small : (c : Page) (key level y : ℕ) → Leads c key level (Right y) → y < 2 ^ 32
 right_small (Anchor a) key level y h = elim h.1 [ inl d ↦ absurd d.0 | inr t ↦ absurd t.0 ]
 right_small (Leaf l) key level y h = (let e = h.0 in let link = l.link in omega arith)
 right_small (Inner i) key level y h = (let e = h.0 in let link = i.link in omega arith)

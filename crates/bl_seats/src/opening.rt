@@ -3,7 +3,7 @@
 ghost use Rattle.std.specs.Prelude.{All, IfOk, IfErr};
 ghost use Rattle.std.specs.Arc.{arc_value};
 ghost use Rattle.bl_index.specs.Calls.{IsPassOf};
-ghost use Rattle.bl_index.specs.Opened.{IsRefusal};
+ghost use Rattle.bl_index.specs.Opened.{IsLargeRefusal};
 ghost use Rattle.bl_seats.specs.Opened.{AreSeatsOf, IsOpened, IsReopened, IsImageFault, IsNewSeat};
 
 use crate::seat::{Seat, Upkeep};
@@ -24,17 +24,17 @@ pub enum ImageFault {
     Memory,
 }
 
-/// An index of so many pages, 4 to 65,536, without rows, and so many seats at it, 1 to 64. It fails with `Pages` or `Passes` where a
+/// An index of so many pages, 4 to 2^28, without rows, and so many seats at it, 1 to 64. It fails with `Pages` or `Passes` where a
 /// number is another, the pages first, and with `Memory` where there was none.
 pub fn open(alloc: Global, pages: u32, seats: u32) -> Result<Vec<Seat>, OpenFault>
     ensures ok { IfOk result (λ v. IsOpened pages seats v.items) }
-    ensures fault { IfErr result (IsRefusal (record { pages = pages; passes = seats })) }
+    ensures fault { IfErr result (IsLargeRefusal (record { pages = pages; passes = seats })) }
 {
     let config = Config {
         pages,
         passes: seats,
     };
-    match Index::open(alloc, config) {
+    match Index::open_large(alloc, config) {
         Ok((index, passes)) => match shared(alloc, index, passes) {
             Ok(seats) => Ok(seats),
             Err(_) => Err(OpenFault::Memory),

@@ -1,5 +1,5 @@
 -- What a server begins with, and serving from there on.
-use Rattle.std.specs.Prelude.{◌≡◌, ◌≤◌, ℕ, List, [], length}
+use Rattle.std.specs.Prelude.{◌≡◌, ◌≤◌, ◌^◌, ℕ, List, [], length}
 use Rattle.bl_model.specs.Rows.{map_of}
 use Rattle.bl_check.specs.Rows.{AreRowsOf}
 use Rattle.bl_serve_lines.specs.declared.serving.Totals.{Totals}
@@ -11,7 +11,7 @@ use Rattle.bl_serve.specs.declared.origin.Origin.TheVariants.{Empty, Image}
 
 -- it has as many pages as an index may have, as an image has by its type
 abbrev pub HasPages : Origin → Type 0
-HasPages (Empty pages) = (4 ≤ pages) × (pages ≤ 65536)
+HasPages (Empty pages) = (4 ≤ pages) × (pages ≤ 2 ^ 28)
 HasPages (Image quiet) = Unit {0}
 
 -- how many pages the index has

@@ -1,6 +1,6 @@
 //! The server over an index of its own.
 
-ghost use Rattle.std.specs.Prelude.{◌≡◌, ◌+◌, ◌≤◌, ℕ, List, [], ◌++◌, true, IfOk, MatchResult, false, OnOk};
+ghost use Rattle.std.specs.Prelude.{◌≡◌, ◌+◌, ◌^◌, ◌≤◌, ℕ, List, [], ◌++◌, true, IfOk, MatchResult, false, OnOk};
 ghost use Rattle.bl_index.specs.Opened.{IsBegun, IsReopened};
 ghost use Rattle.bl_serve.specs.Begun.{IsBegunFrom};
 ghost use Rattle.bl_serve.specs.Origins.{HasPages, ServedFrom, StopsFrom};
@@ -25,11 +25,11 @@ const ALONE: usize = 1_024;
 
 /// An index without rows, of so many pages, with so many passes.
 fn open_empty(alloc: Global, pages: u32, passes: u32) -> Result<(Index, Vec<Pass>), AllocError>
-    requires pages { (4 ≤ pages) × (pages ≤ 65536) }
+    requires pages { (4 ≤ pages) × (pages ≤ 2 ^ 28) }
     requires passes { (1 ≤ passes) × (passes ≤ 64) }
     ensures { IfOk result (λ t. IsBegun [] pages passes t.0 t.1.items) }
 {
-    match Index::open(alloc, Config { pages, passes }) {
+    match Index::open_large(alloc, Config { pages, passes }) {
         Ok(opened) => Ok(opened),
         Err(OpenFault::Memory) => Err(AllocError),
         Err(_) => unreachable!(),

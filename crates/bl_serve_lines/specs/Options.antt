@@ -1,10 +1,10 @@
 -- The options of a server and their limits.
-use Rattle.std.specs.Prelude.{◌≡◌, ◌≤◌, ℕ, Option, Some, None}
+use Rattle.std.specs.Prelude.{◌≡◌, ◌≤◌, ◌^◌, ℕ, Option, Some, None}
 use Rattle.bl_serve_lines.specs.declared.options.ServeOptions.{ServeOptions}
 
--- 4 to 65,536 pages, 1 to 32 workers, 16 compressors at most
+-- 4 to 2^28 pages, 1 to 32 workers, 16 compressors at most
 abbrev pub AreWithin : ServeOptions → Type 0
-AreWithin options = (4 ≤ options.pages) × (options.pages ≤ 65536) × (1 ≤ options.workers) × (options.workers ≤ 32) × (options.compressors ≤ 16)
+AreWithin options = (4 ≤ options.pages) × (options.pages ≤ 2 ^ 28) × (1 ≤ options.workers) × (options.workers ≤ 32) × (options.compressors ≤ 16)
 
 -- what is held of an option is within the limits: the value that was given, where that is within them, and the default where none was
 abbrev pub IsHeld : Option ℕ → ℕ → ℕ → ℕ → ℕ → Type 0

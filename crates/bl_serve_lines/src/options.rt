@@ -1,9 +1,9 @@
 //! What a server is told on the command line.
 
-ghost use Rattle.std.specs.Prelude.{◌≤◌};
+ghost use Rattle.std.specs.Prelude.{◌≡◌, ◌≤◌, ◌^◌, Some};
 ghost use Rattle.bl_serve_lines.specs.Options.{AreWithin, IsHeld};
 
-use bl_model::limits::{LEAST_PAGES, MOST_PAGES};
+use bl_model::limits::{LEAST_PAGES, MOST_LARGE_PAGES, MOST_PAGES};
 
 /// The pages of a server where none are asked for.
 pub const PAGES: u32 = 1024;
@@ -19,7 +19,7 @@ pub const MOST_COMPRESSORS: u32 = 16;
 /// The options of a server.
 #[derive(Clone, Copy, Debug, PartialEq, Eq)]
 pub struct ServeOptions {
-    /// Pages of the index, 4 to 65,536.
+    /// Pages of the index, 4 to 65,536, and up to 2^28 of a large one.
     pub pages: u32,
     /// Threads that answer requests, 1 to 32.
     pub workers: u32,
@@ -50,6 +50,19 @@ impl ServeOptions {
             pages: held(pages, PAGES, LEAST_PAGES, MOST_PAGES),
             workers: held(workers, WORKERS, 1, MOST_WORKERS),
             compressors: held(compressors, COMPRESSORS, 0, MOST_COMPRESSORS),
+        }
+    }
+
+    /// The same of a large index of so many pages, brought within its limits.
+    pub fn having_large(self, pages: u32) -> ServeOptions
+        requires { AreWithin self }
+        ensures within { AreWithin result }
+        ensures pages { IsHeld (Some pages) 1024 4 (2 ^ 28) result.pages }
+        ensures others { (result.workers ≡ self.workers) × (result.compressors ≡ self.compressors) }
+    {
+        ServeOptions {
+            pages: held(Some(pages), PAGES, LEAST_PAGES, MOST_LARGE_PAGES),
+            ..self
         }
     }
 }

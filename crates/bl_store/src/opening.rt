@@ -1,5 +1,5 @@
 //! A store is made, and its hands are dealt out.
-ghost use Rattle.std.specs.Prelude.{◌≡◌, ℕ, ◌+◌, ◌<◌, ◌≤◌, false, [], length, replicate, slice_index_or, IfOk};
+ghost use Rattle.std.specs.Prelude.{◌≡◌, ℕ, ◌+◌, ◌<◌, ◌≤◌, ◌^◌, false, [], length, replicate, slice_index_or, IfOk};
 ghost use Rattle.bl_layout.specs.Cells.{cell_count};
 ghost use Rattle.bl_frames.specs.Frames.{share};
 ghost use Rattle.bl_store.specs.Opening.{first_pages, is_blank, Laid, IsDealt};
@@ -35,16 +35,36 @@ impl<D, R: PageRule<D>> Store<D, R, Global> {
         passes: u32,
         known: &D,
     ) -> Result<(Store<D, R, Global>, Vec<Hand<D>>), AllocError>
-        requires pages { (4 ≤ length first.now) × (length first.now ≤ 65536) }
+        requires pages { (4 ≤ length first.now) × (length first.now ≤ 2 ^ 28) }
         requires passes { (1 ≤ passes) × (passes ≤ 64) }
         requires rule { R.holds (first_pages first.now passes known.now) }
         ensures layout { IfOk result (λ t. (t.0.layout.pages ≡ length first.now) × (t.0.layout.passes ≡ passes)) }
         ensures hands { IfOk result (λ t. IsDealt t.0.table.shared.table_id t.0.layout known.now passes t.1.items) }
         ensures known { IfOk result (λ t. t.0.table.shared.key.known.value ≡ known.now) }
     {
+        Self::of_layout(alloc, Layout::of(first.len() as u32, passes), first, known)
+    }
+
+    /// The same with so many frames beside one for each page. Each put takes one, until the one that it retires is released.
+    pub fn sparing(
+        alloc: Global,
+        first: &[[u64; 32]],
+        passes: u32,
+        spare: u32,
+        known: &D,
+    ) -> Result<(Store<D, R, Global>, Vec<Hand<D>>), AllocError>
+        requires pages { (4 ≤ length first.now) × (length first.now ≤ 2 ^ 28) }
+        requires passes { (1 ≤ passes) × (passes ≤ 64) }
+        requires spare { (1 ≤ spare) × (spare ≤ 2 ^ 29) }
+        requires rule { R.holds (first_pages first.now passes known.now) }
+        ensures layout { IfOk result (λ t. (t.0.layout.pages ≡ length first.now) × (t.0.layout.passes ≡ passes) × (t.0.layout.spare ≡ spare)) }
+        ensures hands { IfOk result (λ t. IsDealt t.0.table.shared.table_id t.0.layout known.now passes t.1.items) }
+        ensures known { IfOk result (λ t. t.0.table.shared.key.known.value ≡ known.now) }
+    {
         let layout = Layout {
             pages: first.len() as u32,
             passes,
+            spare,
         };
         Self::of_layout(alloc, layout, first, known)
     }

@@ -30,8 +30,8 @@ pub struct Spread {
 /// After so many puts a sweep is due.
 const PUTS_TO_SWEEP: u32 = 64;
 
-/// With so many pages for each hand, all hands may leave a ring of retired frames behind them, and frames are left.
-const SPARE_PAGES: u32 = 256;
+/// With so many frames to spare for each hand, all hands may leave a ring of retired frames behind them, and frames are left.
+const SPARE_FRAMES: u32 = 256;
 
 impl<D, R: PageRule<D>, A: Allocator> Store<D, R, A> {
     ghost use Rattle.bl_store.specs.Owners.{IsHandOf};
@@ -307,8 +307,8 @@ impl<D, R: PageRule<D>, A: Allocator> Store<D, R, A> {
         } else {
             hand.owed = (self.layout.pages + self.layout.frames()) / LOOKS + 1;
         }
-        // With few pages there are few frames to spare, and none may wait for long.
-        let patience = if self.layout.pages / SPARE_PAGES >= self.layout.passes {
+        // With few frames to spare none may wait for long.
+        let patience = if self.layout.spare / SPARE_FRAMES >= self.layout.passes {
             PUTS_TO_SWEEP
         } else {
             1

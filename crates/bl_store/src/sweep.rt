@@ -1,5 +1,5 @@
 //! Sweeps: pages and frames that no process can read any more are released.
-ghost use Rattle.std.specs.Prelude.{◌≡◌, ◌⊎◌, ℕ, ◌+◌, ◌*◌, ◌/◌, ◌%◌, ◌<◌, ◌≤◌, true, false, List, length};
+ghost use Rattle.std.specs.Prelude.{◌≡◌, ◌⊎◌, ℕ, ◌+◌, ◌*◌, ◌/◌, ◌%◌, ◌^◌, ◌<◌, ◌≤◌, true, false, List, length};
 ghost use Rattle.bl_layout.specs.Words.{frame_count};
 ghost use Rattle.bl_frames.specs.Pages.{Releases, ReleasesMany};
 ghost use Rattle.bl_store.specs.Hands.{known, IsSameHand, IsSameReading, IsSameStage, IsSameStock};
@@ -17,7 +17,7 @@ pub(crate) const LOOKS: u32 = 64;
 /// The number that lies so many behind another one, where the last is followed by 0. A remainder takes longer.
 #[inline(always)]
 fn behind(first: u32, steps: u32, many: u32) -> u32
-    requires { (first < many) × (steps ≤ many) × (many ≤ 1000000) }
+    requires { (first < many) × (steps ≤ many) × (many ≤ 2 ^ 31) }
     ensures within { result < many }
     ensures place { result ≡ (first + steps) % many }
 {

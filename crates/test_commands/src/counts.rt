@@ -33,7 +33,7 @@ fn lines_on_no_room(rt: HostRuntime) -> Result<(), Fail> {
             2,
             65_536,
             false,
-            "blink: 2 requests found no room; 65536 pages are the most",
+            "blink: 2 requests found no room; more pages than 65536 by --large may help",
         ),
         (
             2,

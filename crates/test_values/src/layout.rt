@@ -4,10 +4,7 @@ use bl_layout::{Layout, Word, held_by, retired_at};
 
 #[test]
 fn small_store(rt: HostRuntime) {
-    let layout = Layout {
-        pages: 4,
-        passes: 1,
-    };
+    let layout = Layout::of(4, 1);
     let numbers = [
         layout.frames() as usize,
         layout.words(),
@@ -24,10 +21,7 @@ fn small_store(rt: HostRuntime) {
 
 #[test]
 fn cells_of_a_small_store(rt: HostRuntime) {
-    let layout = Layout {
-        pages: 4,
-        passes: 2,
-    };
+    let layout = Layout::of(4, 2);
     let cells = [
         layout.clock_cell(),
         layout.page_cell(0),
@@ -45,10 +39,7 @@ fn cells_of_a_small_store(rt: HostRuntime) {
 
 #[test]
 fn largest_store(rt: HostRuntime) {
-    let layout = Layout {
-        pages: 65_536,
-        passes: 64,
-    };
+    let layout = Layout::of(65_536, 64);
     let last = layout.number(Word::FrameWord(131_583, 31));
     let numbers = [layout.frames() as usize, layout.words(), last];
     assert!(rt; numbers == [131_584, 4_473_409, 4_473_408]);

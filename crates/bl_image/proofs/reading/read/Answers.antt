@@ -3,10 +3,10 @@ use Rattle.bl_image.proofs.Chunks.{image_same, read_fault, head_of_image}
 use Rattle.bl_image.proofs.reading.read.Goals as goal
 
 pub returns-in-None-clause-only : goal.returns-in-None-clause-only
-returns-in-None-clause-only c pages image = absurd (c.in-None.ensures (length pages) (head_of_image pages c.args.bytes.now image))
+returns-in-None-clause-only c pages image small = absurd (c.in-None.ensures (length pages) (head_of_image pages c.args.bytes.now image))
 
 pub returns-in-Ok-clause-only : goal.returns-in-Ok-clause-only
-returns-in-Ok-clause-only c pages image = image_same c.in-Ok.pages.items pages c.args.bytes.now c.in-Ok.ensures.ok image
+returns-in-Ok-clause-only c pages image small = image_same c.in-Ok.pages.items pages c.args.bytes.now c.in-Ok.ensures.ok image
 
 pub returns-in-Err-clause-only : goal.returns-in-Err-clause-only
-returns-in-Err-clause-only c pages image = read_fault c.in-Err.fault pages c.args.bytes.now c.in-Err.ensures.fault image
+returns-in-Err-clause-only c pages image small = read_fault c.in-Err.fault pages c.args.bytes.now c.in-Err.ensures.fault image small

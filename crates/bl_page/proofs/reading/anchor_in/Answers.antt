@@ -7,10 +7,10 @@ use Rattle.bl_page.proofs.reading.anchor_in.Goals as goal
 pub returns-clause-ok : goal.returns-clause-ok
 returns-clause-ok c =
     let words = c.args.words.now in
-    let front = c.in-Some.ensures.1 in
+    let front = c.in-Some.ensures.found.1 in
     let room : c.count_at-count.result ≤ length (drop 4 words) = omega (arith, length-drop 4 words, c.told-words, c.if-count-gt-MOST_LEVELS.false) in
     let size : length c.in-Some.leftmost.items ≡ c.count_at-count.result = ap length front ∙ length-take-le c.count_at-count.result (drop 4 words) room in
-    let is_kind : get_or words 0 0 / 2 ^ 32 ≡ 1 = c.requires in
+    let is_kind : get_or words 0 0 / 2 ^ 32 ≡ 1 = c.requires.kind in
     let is_level : get_or words 0 0 / 2 ^ 16 % 2 ^ 16 ≡ 0 = sym c.level_at.ensures ∙ c.if-level_at-ne0.false in
     let is_count : get_or words 0 0 % 2 ^ 16 ≡ c.count_at-count.result = sym c.count_at-count.ensures in
     let first : get_or words 0 0 ≡ head 1 0 (length c.in-Some.leftmost.items) = omega (arith, head_is (get_or words 0 0)) in

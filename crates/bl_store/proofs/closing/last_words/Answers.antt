@@ -19,7 +19,7 @@ returns-then-owner-eq0-clause-here g c = λ not. let ws : List ℕ = slots_items
 
 pub overflow_cast-found : goal.overflow_cast-found
 overflow_cast-found g c = let ws : List ℕ = slots_items c.args.closed.now.words in let at_page = c.page_cell.ensures.cell in let found : get_or ws (page_at c.args.layout c.args.page) 0 ≡ c.word-found.result = ap (λ (z : ℕ). get_or ws z 0) (sym at_page) ∙ index_of ws c.page_cell.result 0 c.word-found.result c.word-found.ensures in
-    let low = c.requires.frame in let pages = c.args.layout.pages_within.1 in let passes = c.args.layout.passes_within.1 in record { fits = omega arith }
+    let low = c.requires.frame in let pages = c.args.layout.pages_within.1 in let passes = c.args.layout.passes_within.1 in let spare = c.args.layout.spare_within.1 in record { fits = omega arith }
 
 pub frame_word_cell-first-requires-clause-frame : goal.frame_word_cell-first-requires-clause-frame
 frame_word_cell-first-requires-clause-frame g c = let ws : List ℕ = slots_items c.args.closed.now.words in let at_page = c.page_cell.ensures.cell in let found : get_or ws (page_at c.args.layout c.args.page) 0 ≡ c.word-found.result = ap (λ (z : ℕ). get_or ws z 0) (sym at_page) ∙ index_of ws c.page_cell.result 0 c.word-found.result c.word-found.ensures in

@@ -7,8 +7,8 @@ use Rattle.bl_index_rule.specs.Simulation.{beginner, Simulates}
 use Rattle.bl_index.proofs.Firsts.{new_hands, is_begun}
 use Rattle.bl_index.proofs.index.Index.begun.Goals as goal
 
-pub new-requires-clause-rule : goal.new-requires-clause-rule
-new-requires-clause-rule c = subst (λ (z : PassState). Simulates (first_pages c.args.words.now c.args.passes z)) (sym (c.beginner-known.ensures ∙ ap beginner c.of-observed.ensures)) c.requires.rule
+pub sparing-requires-clause-rule : goal.sparing-requires-clause-rule
+sparing-requires-clause-rule c = subst (λ (z : PassState). Simulates (first_pages c.args.words.now c.args.passes z)) (sym (c.beginner-known.ensures ∙ ap beginner c.of-observed.ensures)) c.requires.rule
 
 pub passes_of-requires-clause-hands : goal.passes_of-requires-clause-hands
 passes_of-requires-clause-hands c = new_hands _ _ _ _ _ _ (c.beginner-known.ensures ∙ ap beginner (c.of-observed.ensures ∙ sym c.of-first.ensures)) c.in_ok-store.ensures.hands
@@ -17,4 +17,4 @@ pub passes_of-requires-clause-seen : goal.passes_of-requires-clause-seen
 passes_of-requires-clause-seen c = subst (λ (z : List (Option Page)). IsSeen z []) (sym c.of-first.ensures) c.requires.seen
 
 pub returns : goal.returns
-returns c = is_begun c.of-first.result c.args.image.now.items _ _ _ _ _ c.in_ok-store.ensures.layout.0 c.in_ok-store.ensures.layout.1 c.in_ok-store.ensures.hands.count c.in_ok-made.ensures (ap (λ (z : PassState). z.first) (c.in_ok-store.ensures.known ∙ c.beginner-known.ensures) ∙ (c.of-observed.ensures ∙ sym c.of-first.ensures)) c.of-first.ensures c.requires.seen
+returns c = is_begun c.of-first.result c.args.image.now.items _ _ _ _ _ c.in_ok-store.ensures.layout.0 c.in_ok-store.ensures.layout.1.0 c.in_ok-store.ensures.hands.count c.in_ok-made.ensures (ap (λ (z : PassState). z.first) (c.in_ok-store.ensures.known ∙ c.beginner-known.ensures) ∙ (c.of-observed.ensures ∙ sym c.of-first.ensures)) c.of-first.ensures c.requires.seen

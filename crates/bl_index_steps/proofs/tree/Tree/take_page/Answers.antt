@@ -17,5 +17,5 @@ returns-in-Some-clause-took c =
     let took = c.in-Ok.ensures.page refl in
     let same : took.0 ≡ c.in-Some.page = same_number (sym took.1 ∙ (sym c.page.ensures ∙ c.in-Some.is)) in
     let least : 0 < c.in-Some.page = omega arith in
-    let most : c.in-Some.page < 65536 = omega (arith, c.args.self.now.store.layout) in
+    let most : c.in-Some.page < 4294967296 = omega (arith, c.args.self.now.store.layout) in
     ((least, most), c.in-Ok.ensures.stock.0, c.in-Ok.ensures.stock.1, subst (λ (z : ℕ). Goes (seen.Took z) (known c.args.hand.now.seat) (known c.reserve.new.hand.seat)) same took.4.1)

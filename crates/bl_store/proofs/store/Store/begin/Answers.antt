@@ -12,6 +12,6 @@ pub store-requires : goal.store-requires
 store-requires g c = let st = c.args.self.now in let wide = st.wide in let own = c.args.hand.now.own in let first = st.stamps_at in let low : c.args.hand.now.number < st.layout.passes = subst (λ (z : Layout). c.args.hand.now.number < z.passes) c.requires.own.1 own.1 in let e = c.load-clock.ensures.2 in let number : c.args.hand.now.number ≡ c.load-clock.new.seat.me.0.number = own.0 ∙ sym e.0.1 in (
   search rules,
   omega arith,
-  stamps _ _ _ g.M.TimePlay.then _ _ _ _ c.load-clock.result _ (let key = st.key in omega (arith, ap (λ (z : Layout). z.pages) key, ap (λ (z : Layout). z.passes) key)) refl e.3
+  stamps _ _ _ g.M.TimePlay.then _ _ _ _ c.load-clock.result _ (let key = st.key in omega (arith, ap (λ (z : Layout). z.pages) key, ap (λ (z : Layout). z.passes) key, ap (λ (z : Layout). z.spare) key)) refl e.3
       (subst (λ (z : Layout × ℕ × g.row.D.Denot). Begins g.R.PageRule.holds z.0 z.1 z.2 g.M.TimePlay.then) (λ i. (sym st.key i, number i, sym e.2 i)) c.requires.rule) (live_on c.args.hand.now c.load-clock.new.seat.me e.0.0 e.0.1),
 )

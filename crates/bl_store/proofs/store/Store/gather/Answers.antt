@@ -10,14 +10,14 @@ use Rattle.bl_store.proofs.Living.{live_hand}
 use Rattle.bl_store.proofs.store.Store.gather.Goals as goal
 
 pub load-requires : goal.load-requires
-load-requires g c = let st = c.args.self.now in let wide = st.wide in let inv = c.loop-i.invariant in let passes = ap (λ (z : Layout). z.passes) st.key in let pages = ap (λ (z : Layout). z.pages) st.key in
+load-requires g c = let st = c.args.self.now in let wide = st.wide in let inv = c.loop-i.invariant in let passes = ap (λ (z : Layout). z.passes) st.key in let spare_of = ap (λ (z : Layout). z.spare) st.key in let pages = ap (λ (z : Layout). z.pages) st.key in let spare_of = ap (λ (z : Layout). z.spare) st.key in
     let reading = ap (λ (m : Me (Unit {0}) (View g.row.D.Denot)). m.0.reading) inv.me in let layout = ap (λ (m : Me (Unit {0}) (View g.row.D.Denot)). m.0.layout) inv.me in
     (search rules, omega arith, copies _ _ _ _ _ _ c.args.frame c.loop-i.i _ c.requires.reads.0 (omega arith) (reading ∙ c.requires.reads.2) (layout ∙ (c.requires.own.1 ∙ sym st.key)) (omega arith) (live_hand c.loop-i.hand))
 
 pub loop-i-preserved : goal.loop-i-preserved
 loop-i-preserved g c = let inv = c.loop-i.invariant in let long = inv.long in
     let reading = ap (λ (m : Me (Unit {0}) (View g.row.D.Denot)). m.0.reading) inv.me in let layout = ap (λ (m : Me (Unit {0}) (View g.row.D.Denot)). m.0.layout) inv.me in
-    let passes = ap (λ (z : Layout). z.passes) (layout ∙ c.requires.own.1) in let pages = ap (λ (z : Layout). z.pages) (layout ∙ c.requires.own.1) in record {
+    let passes = ap (λ (z : Layout). z.passes) (layout ∙ c.requires.own.1) in let spare_of = ap (λ (z : Layout). z.spare) (layout ∙ c.requires.own.1) in let pages = ap (λ (z : Layout). z.pages) (layout ∙ c.requires.own.1) in let spare_of = ap (λ (z : Layout). z.spare) (layout ∙ c.requires.own.1) in record {
       table = search rules;
       me = c.load.ensures.2.0 ∙ inv.me;
       long = length-set c.loop-i.words c.loop-i.i c.load.result ∙ inv.long;

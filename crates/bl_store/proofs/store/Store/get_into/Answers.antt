@@ -10,7 +10,7 @@ use Rattle.bl_store.proofs.Living.{live_hand}
 use Rattle.bl_store.proofs.store.Store.get_into.Goals as goal
 
 pub load-found-requires : goal.load-found-requires
-load-found-requires g c = let st = c.args.self.now in let wide = st.wide in let own = c.args.hand.now.own in let passes = ap (λ (z : Layout). z.passes) st.key in let pages = ap (λ (z : Layout). z.pages) st.key in (
+load-found-requires g c = let st = c.args.self.now in let wide = st.wide in let own = c.args.hand.now.own in let passes = ap (λ (z : Layout). z.passes) st.key in let spare_of = ap (λ (z : Layout). z.spare) st.key in let pages = ap (λ (z : Layout). z.pages) st.key in let spare_of = ap (λ (z : Layout). z.spare) st.key in (
   search rules,
   omega arith,
   looks _ _ _ g.M.PagePlay.then _ _ _ _ c.args.page _ (omega arith) (omega arith) (c.requires.own.1 ∙ sym st.key) c.requires.running.1
@@ -18,23 +18,23 @@ load-found-requires g c = let st = c.args.self.now in let wide = st.wide in let 
 )
 
 pub overflow_cast-found : goal.overflow_cast-found
-overflow_cast-found g c = let l = c.args.hand.now.seat.me.0.layout in let pages = l.pages_within.1 in let passes = l.passes_within.1 in let m = c.requires.own.1 in let same = ap (λ (z : Layout). z.passes) m in let e = c.load-found.ensures.2 in let t = e.3 c.args.page (omega arith) in
+overflow_cast-found g c = let l = c.args.hand.now.seat.me.0.layout in let pages = l.pages_within.1 in let passes = l.passes_within.1 in let spare = l.spare_within.1 in let m = c.requires.own.1 in let same = ap (λ (z : Layout). z.passes) m in let spare_of = ap (λ (z : Layout). z.spare) m in let e = c.load-found.ensures.2 in let t = e.3 c.args.page (omega arith) in
     let f = t.2.1 c.if-found-eq0.false in let low = f.2 in let up = f.1 in let layout = e.0.0 in let count = ap (λ (z : Layout). frame_count z) layout in omega arith
 
 pub gather-requires-clause-frame : goal.gather-requires-clause-frame
-gather-requires-clause-frame g c = let m = c.requires.own.1 in let same = ap (λ (z : Layout). z.passes) m in let e = c.load-found.ensures.2 in let t = e.3 c.args.page (omega arith) in
+gather-requires-clause-frame g c = let m = c.requires.own.1 in let same = ap (λ (z : Layout). z.passes) m in let spare_of = ap (λ (z : Layout). z.spare) m in let e = c.load-found.ensures.2 in let t = e.3 c.args.page (omega arith) in
     let f = t.2.1 c.if-found-eq0.false in let low = f.2 in let up = f.1 in let layout = e.0.0 in let count = ap (λ (z : Layout). frame_count z) (layout ∙ m) in omega arith
 
 pub gather-requires-clause-reads : goal.gather-requires-clause-reads
-gather-requires-clause-reads g c = let same = ap (λ (z : Layout). z.passes) c.requires.own.1 in let t = c.load-found.ensures.2.3 c.args.page (omega arith) in
+gather-requires-clause-reads g c = let same = ap (λ (z : Layout). z.passes) c.requires.own.1 in let spare_of = ap (λ (z : Layout). z.spare) c.requires.own.1 in let t = c.load-found.ensures.2.3 c.args.page (omega arith) in
     let f = t.2.1 c.if-found-eq0.false in let up = f.1 in let back : f.0 ≡ c.load-found.result - 1 = omega arith in (t.1, f.3, f.4 ∙ ap (λ (z : ℕ). At z t.1) back)
 
 pub returns-then-found-eq0-clause-observed : goal.returns-then-found-eq0-clause-observed
-returns-then-found-eq0-clause-observed g c = let same = ap (λ (z : Layout). z.passes) c.requires.own.1 in let t = c.load-found.ensures.2.3 c.args.page (omega arith) in
+returns-then-found-eq0-clause-observed g c = let same = ap (λ (z : Layout). z.passes) c.requires.own.1 in let spare_of = ap (λ (z : Layout). z.spare) c.requires.own.1 in let t = c.load-found.ensures.2.3 c.args.page (omega arith) in
     (t.0, subst (λ (z : List ℕ). g.M.PagePlay.then c.args.hand.now.seat.me.0.known c.args.page t.0 z c.load-found.new.seat.me.0.known) (t.2.0 c.if-found-eq0.true) t.3)
 
 pub returns-else-found-eq0-clause-observed : goal.returns-else-found-eq0-clause-observed
-returns-else-found-eq0-clause-observed g c = let same = ap (λ (z : Layout). z.passes) c.requires.own.1 in let t = c.load-found.ensures.2.3 c.args.page (omega arith) in
+returns-else-found-eq0-clause-observed g c = let same = ap (λ (z : Layout). z.passes) c.requires.own.1 in let spare_of = ap (λ (z : Layout). z.spare) c.requires.own.1 in let t = c.load-found.ensures.2.3 c.args.page (omega arith) in
     let f = t.2.1 c.if-found-eq0.false in let up = f.1 in let back : f.0 ≡ c.load-found.result - 1 = omega arith in
     let words = c.gather.ensures.words t.1 f.3 (f.4 ∙ ap (λ (z : ℕ). At z t.1) back) in let known = ap (λ (m : Me (Unit {0}) (View g.row.D.Denot)). m.0.known) c.gather.ensures.same.1 in
     (t.0, subst (λ (z : List ℕ × g.row.D.Denot). g.M.PagePlay.then c.args.hand.now.seat.me.0.known c.args.page t.0 z.0 z.1) (λ i. (sym words i, sym known i)) t.3)

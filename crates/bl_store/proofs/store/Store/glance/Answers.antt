@@ -9,7 +9,7 @@ use Rattle.bl_store.proofs.Living.{live_hand}
 use Rattle.bl_store.proofs.store.Store.glance.Goals as goal
 
 pub load-found-requires : goal.load-found-requires
-load-found-requires g c = let st = c.args.self.now in let wide = st.wide in let heads = st.heads_at in let own = c.args.hand.now.own in let passes = ap (λ (z : Layout). z.passes) st.key in let pages = ap (λ (z : Layout). z.pages) st.key in (
+load-found-requires g c = let st = c.args.self.now in let wide = st.wide in let heads = st.heads_at in let own = c.args.hand.now.own in let passes = ap (λ (z : Layout). z.passes) st.key in let spare_of = ap (λ (z : Layout). z.spare) st.key in let pages = ap (λ (z : Layout). z.pages) st.key in let spare_of = ap (λ (z : Layout). z.spare) st.key in (
   search rules,
   omega arith,
   looks _ _ _ g.M.PagePlay.then _ _ _ _ c.args.page _ (omega arith) (omega arith) (c.requires.own.1 ∙ sym st.key) c.requires.running.1
@@ -18,20 +18,20 @@ load-found-requires g c = let st = c.args.self.now in let wide = st.wide in let 
 
 pub overflow_mul-first : goal.overflow_mul-first
 overflow_mul-first g c =
-    let l = c.args.hand.now.seat.me.0.layout in let pages = l.pages_within.1 in let passes = l.passes_within.1 in let m = c.requires.own.1 in let same = ap (λ (z : Layout). z.passes) m in let same_pages = ap (λ (z : Layout). z.pages) m in let e = c.load-found.ensures.2 in let heads = c.args.self.now.heads_at in let t = e.3 c.args.page (omega arith) in
+    let l = c.args.hand.now.seat.me.0.layout in let pages = l.pages_within.1 in let passes = l.passes_within.1 in let spare = l.spare_within.1 in let m = c.requires.own.1 in let same = ap (λ (z : Layout). z.passes) m in let spare_of = ap (λ (z : Layout). z.spare) m in let same_pages = ap (λ (z : Layout). z.pages) m in let spare_of = ap (λ (z : Layout). z.spare) m in let e = c.load-found.ensures.2 in let heads = c.args.self.now.heads_at in let t = e.3 c.args.page (omega arith) in
     let f = t.2.1 c.if-found-eq0.false in let low = f.2 in let up = f.1 in let layout = e.0.0 in let count = ap (λ (z : Layout). frame_count z) layout in let at = c.args.self.now.firsts_at in omega arith
 
 pub overflow_add-first : goal.overflow_add-first
 overflow_add-first g c =
-    let l = c.args.hand.now.seat.me.0.layout in let pages = l.pages_within.1 in let passes = l.passes_within.1 in let m = c.requires.own.1 in let same = ap (λ (z : Layout). z.passes) m in let same_pages = ap (λ (z : Layout). z.pages) m in let e = c.load-found.ensures.2 in let heads = c.args.self.now.heads_at in let t = e.3 c.args.page (omega arith) in
+    let l = c.args.hand.now.seat.me.0.layout in let pages = l.pages_within.1 in let passes = l.passes_within.1 in let spare = l.spare_within.1 in let m = c.requires.own.1 in let same = ap (λ (z : Layout). z.passes) m in let spare_of = ap (λ (z : Layout). z.spare) m in let same_pages = ap (λ (z : Layout). z.pages) m in let spare_of = ap (λ (z : Layout). z.spare) m in let e = c.load-found.ensures.2 in let heads = c.args.self.now.heads_at in let t = e.3 c.args.page (omega arith) in
     let f = t.2.1 c.if-found-eq0.false in let low = f.2 in let up = f.1 in let layout = e.0.0 in let count = ap (λ (z : Layout). frame_count z) layout in let at = c.args.self.now.firsts_at in omega arith
 
 pub returns-then-found-eq0-clause-observed : goal.returns-then-found-eq0-clause-observed
-returns-then-found-eq0-clause-observed g c = let same = ap (λ (z : Layout). z.passes) c.requires.own.1 in let heads = c.args.self.now.heads_at in let t = c.load-found.ensures.2.3 c.args.page (omega arith) in
+returns-then-found-eq0-clause-observed g c = let same = ap (λ (z : Layout). z.passes) c.requires.own.1 in let spare_of = ap (λ (z : Layout). z.spare) c.requires.own.1 in let heads = c.args.self.now.heads_at in let t = c.load-found.ensures.2.3 c.args.page (omega arith) in
     (t.0, t.1, t.2.0 c.if-found-eq0.true, t.3)
 
 pub returns-else-found-eq0-clause-observed : goal.returns-else-found-eq0-clause-observed
-returns-else-found-eq0-clause-observed g c = let same = ap (λ (z : Layout). z.passes) c.requires.own.1 in let e = c.load-found.ensures.2 in let heads = c.args.self.now.heads_at in let t = e.3 c.args.page (omega arith) in
+returns-else-found-eq0-clause-observed g c = let same = ap (λ (z : Layout). z.passes) c.requires.own.1 in let spare_of = ap (λ (z : Layout). z.spare) c.requires.own.1 in let e = c.load-found.ensures.2 in let heads = c.args.self.now.heads_at in let t = e.3 c.args.page (omega arith) in
     let f = t.2.1 c.if-found-eq0.false in let up = f.1 in let xs : words_in c.load-found.new.seat.me.0.reading ≡ t.1 = ap words_in f.4 in
-    let layout = e.0.0 ∙ c.requires.own.1 in let passes = ap (λ (z : Layout). z.passes) layout in let pages = ap (λ (z : Layout). z.pages) layout in let at = c.args.self.now.firsts_at in
+    let layout = e.0.0 ∙ c.requires.own.1 in let passes = ap (λ (z : Layout). z.passes) layout in let spare_of = ap (λ (z : Layout). z.spare) layout in let pages = ap (λ (z : Layout). z.pages) layout in let spare_of = ap (λ (z : Layout). z.spare) layout in let at = c.args.self.now.firsts_at in
     (t.0, t.1, ((f.0, f.4 ∙ ap (λ (z : List ℕ). At f.0 z) (sym xs), f.2, ap length xs ∙ f.3, omega arith), sym xs), t.3)

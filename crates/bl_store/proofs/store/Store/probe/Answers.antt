@@ -10,7 +10,7 @@ use Rattle.bl_store.proofs.Living.{live_hand}
 use Rattle.bl_store.proofs.store.Store.probe.Goals as goal
 
 pub load-requires : goal.load-requires
-load-requires g c = let st = c.args.self.now in let wide = st.wide in let own = c.args.hand.now.own in let number = own.0 in let passes = ap (λ (z : Layout). z.passes) st.key in let pages = ap (λ (z : Layout). z.pages) st.key in (
+load-requires g c = let st = c.args.self.now in let wide = st.wide in let own = c.args.hand.now.own in let number = own.0 in let passes = ap (λ (z : Layout). z.passes) st.key in let spare_of = ap (λ (z : Layout). z.spare) st.key in let pages = ap (λ (z : Layout). z.pages) st.key in let spare_of = ap (λ (z : Layout). z.spare) st.key in (
   search rules,
   omega arith,
   probes _ _ _ g.M.PagePlay.then _ _ _ c.args.page _ (omega arith) (omega arith) (c.requires.own.1 ∙ sym st.key)
@@ -18,5 +18,5 @@ load-requires g c = let st = c.args.self.now in let wide = st.wide in let own = 
 )
 
 pub returns-clause-observed : goal.returns-clause-observed
-returns-clause-observed g c = let passes = ap (λ (z : Layout). z.passes) c.requires.own.1 in let pages = ap (λ (z : Layout). z.pages) c.requires.own.1 in let t = c.load.ensures.2.3 c.args.page (omega arith) in
+returns-clause-observed g c = let passes = ap (λ (z : Layout). z.passes) c.requires.own.1 in let spare_of = ap (λ (z : Layout). z.spare) c.requires.own.1 in let pages = ap (λ (z : Layout). z.pages) c.requires.own.1 in let spare_of = ap (λ (z : Layout). z.spare) c.requires.own.1 in let t = c.load.ensures.2.3 c.args.page (omega arith) in
     (t.0, t.1, ((λ h. t.2 (eqb-true c.load.result 1 h)), λ e. dite (ℕ_discrete c.load.result 1) (eq-eqb c.load.result 1) (λ ne. absurd (t.3 ne e))), t.4)

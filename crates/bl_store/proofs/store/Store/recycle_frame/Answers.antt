@@ -6,7 +6,7 @@ use Rattle.bl_store.proofs.Living.{live_hand}
 use Rattle.bl_store.proofs.store.Store.recycle_frame.Goals as goal
 
 pub compare_exchange-found-requires : goal.compare_exchange-found-requires
-compare_exchange-found-requires g c = let st = c.args.self.now in let wide = st.wide in let passes = ap (λ (z : Layout). z.passes) st.key in let pages = ap (λ (z : Layout). z.pages) st.key in let state = c.requires.state.0 in let before = c.requires.state.1 in
+compare_exchange-found-requires g c = let st = c.args.self.now in let wide = st.wide in let passes = ap (λ (z : Layout). z.passes) st.key in let spare_of = ap (λ (z : Layout). z.spare) st.key in let pages = ap (λ (z : Layout). z.pages) st.key in let spare_of = ap (λ (z : Layout). z.spare) st.key in let state = c.requires.state.0 in let before = c.requires.state.1 in
     (search rules, omega arith, releases_frame _ _ _ _ _ _ _ c.args.frame (c.args.state / 4) c.args.oldest _ (omega arith) (omega arith) (omega arith) before (c.requires.swept ∙ ap (λ (z : ℕ). Over c.args.oldest z) (sym passes)) (live_hand c.args.hand.now))
 
 pub returns-then-hand : goal.returns-then-hand

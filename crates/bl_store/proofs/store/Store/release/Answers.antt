@@ -8,7 +8,7 @@ use Rattle.bl_store.proofs.Living.{live_hand}
 use Rattle.bl_store.proofs.store.Store.release.Goals as goal
 
 pub compare_exchange-found-requires : goal.compare_exchange-found-requires
-compare_exchange-found-requires g c = let st = c.args.self.now in let wide = st.wide in let own = c.args.hand.now.own in let passes = ap (λ (z : Layout). z.passes) st.key in let pages = ap (λ (z : Layout). z.pages) st.key in let state = c.requires.state.0 in let before = c.requires.state.1 in (
+compare_exchange-found-requires g c = let st = c.args.self.now in let wide = st.wide in let own = c.args.hand.now.own in let passes = ap (λ (z : Layout). z.passes) st.key in let spare_of = ap (λ (z : Layout). z.spare) st.key in let pages = ap (λ (z : Layout). z.pages) st.key in let spare_of = ap (λ (z : Layout). z.spare) st.key in let state = c.requires.state.0 in let before = c.requires.state.1 in (
   search rules,
   omega arith,
   frees _ _ _ (λ d e. g.M.SweepPlay.then d 1 e) _ _ _ _ c.args.at (c.args.state / 4) c.args.oldest _ (omega arith) (omega arith) (omega arith) before (c.requires.own.1 ∙ sym st.key) (c.requires.swept ∙ ap (λ (z : ℕ). Over c.args.oldest z) (sym passes))
@@ -16,7 +16,7 @@ compare_exchange-found-requires g c = let st = c.args.self.now in let wide = st.
 )
 
 pub compare_exchange-found-requires-2 : goal.compare_exchange-found-requires-2
-compare_exchange-found-requires-2 g c = let st = c.args.self.now in let wide = st.wide in let passes = ap (λ (z : Layout). z.passes) st.key in let pages = ap (λ (z : Layout). z.pages) st.key in let state = c.requires.state.0 in let before = c.requires.state.1 in
+compare_exchange-found-requires-2 g c = let st = c.args.self.now in let wide = st.wide in let passes = ap (λ (z : Layout). z.passes) st.key in let spare_of = ap (λ (z : Layout). z.spare) st.key in let pages = ap (λ (z : Layout). z.pages) st.key in let spare_of = ap (λ (z : Layout). z.spare) st.key in let state = c.requires.state.0 in let before = c.requires.state.1 in
     (search rules, omega arith, releases_frame _ _ _ _ _ _ _ (c.args.at - c.args.self.now.layout.pages) (c.args.state / 4) c.args.oldest _ (omega arith) (omega arith) (omega arith) before (c.requires.swept ∙ ap (λ (z : ℕ). Over c.args.oldest z) (sym passes)) (live_hand c.args.hand.now))
 
 pub returns-then-found-state : goal.returns-then-found-state

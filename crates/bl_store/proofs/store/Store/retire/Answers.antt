@@ -7,7 +7,7 @@ use Rattle.bl_store.proofs.Living.{live_on}
 use Rattle.bl_store.proofs.store.Store.retire.Goals as goal
 
 pub store-requires : goal.store-requires
-store-requires g c = let st = c.args.self.now in let wide = st.wide in let passes = ap (λ (z : Layout). z.passes) st.key in let pages = ap (λ (z : Layout). z.pages) st.key in
+store-requires g c = let st = c.args.self.now in let wide = st.wide in let passes = ap (λ (z : Layout). z.passes) st.key in let spare_of = ap (λ (z : Layout). z.spare) st.key in let pages = ap (λ (z : Layout). z.pages) st.key in let spare_of = ap (λ (z : Layout). z.spare) st.key in
     (search rules, omega arith, publishes _ _ _ _ _ _ _ c.args.page c.seal-time.result _ (omega arith) (omega arith) c.seal-time.ensures.sealed.0 (live_on c.args.hand.now c.seal-time.new.seat.me c.seal-time.ensures.same.0.1 c.seal-time.ensures.same.0.2))
 
 pub seal-time-requires-clause-rule : goal.seal-time-requires-clause-rule
