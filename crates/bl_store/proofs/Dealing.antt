@@ -25,7 +25,7 @@ use mathlib.Core.Option.{some-ne-none}
 use Rattle.atomic_table.proofs.Lists.{at_snoc, at_map, at_longer, at_last}
 use Rattle.atomic_table.specs.Seated.{TableId}
 use Rattle.bl_store.specs.declared.store.Hand.{Hand}
-use Rattle.bl_store.specs.Opening.{is_blank, first_owner, first_pages, Laid, IsDealt}
+use Rattle.bl_store.specs.Opening.{is_blank, first_owner, first_pages, padded, Laid, IsDealt}
 use Rattle.bl_frames.proofs.Putting.{first_put, shows_put}
 
 module _ {A : Type 0} where
@@ -45,6 +45,19 @@ module _ {A : Type 0} where
   same_list [] (y ∷ ys) e each = absurd (omega arith)
   same_list (x ∷ xs) [] e each = absurd (omega arith)
   same_list (x ∷ xs) (y ∷ ys) e each = let here : x ≡ y = some-injective x y (each 0 y refl) in let rest = same_list xs ys (omega arith) (λ i a at. each (suc i) a at) in λ k. here k ∷ rest k
+
+  -- an element of two lists stands in the first one or in the second
+  at_append : (xs ys : List A) (i : ℕ) (a : A) → get_elem? (xs ++ ys) i ≡ some a → ((i < length xs) × (get_elem? xs i ≡ some a)) ⊎ ((length xs ≤ i) × (j : ℕ) × (get_elem? ys j ≡ some a))
+  at_append [] ys i a e = inr (omega arith, i, e)
+  at_append (x ∷ xs) ys zero a e = inl (omega arith, e)
+  at_append (x ∷ xs) ys (suc i) a e = ⊎_elim (λ (h : (i < length xs) × (get_elem? xs i ≡ some a)). inl (omega (arith, h.0), h.1)) (λ (h : (length xs ≤ i) × (j : ℕ) × (get_elem? ys j ≡ some a)). inr (omega (arith, h.0), h.1, h.2)) (at_append xs ys i a e)
+
+whole : (a b : ℕ) → a ≤ b → a + (b - a) ≡ b
+whole a b few = omega (arith, few)
+
+-- so many pages have so many words
+pub padded_long : (pages : ℕ) (cs : List (List ℕ)) → length cs ≤ pages → length (padded pages cs) ≡ pages
+padded_long pages cs few = length-append cs (replicate (pages - length cs) (replicate 32 0)) ∙ (ap (λ (n : ℕ). length cs + n) (length-replicate (pages - length cs) (replicate 32 0)) ∙ whole (length cs) pages few)
 
 unmap : {A B : Type 0} (f : A → B) (l : List A) (i : ℕ) (y : B) → get_elem? (map f l) i ≡ some y → (x : A) × (get_elem? l i ≡ some x) × (f x ≡ y)
 unmap f [] i y e = absurd (some-ne-none y (sym e))
@@ -198,6 +211,24 @@ module _ (l : Layout) (cs : List (List ℕ)) where
         rest = λ y low high. let other : y ≢ x = (λ e. omega arith) in let d = r.rest y (omega arith) high in (set_else r.pages.contents x y xs other ∙ d.0, set_else r.pages.owners x y Open other ∙ d.1);
         free = λ f low high. set_else r.frames x f new (λ e. omega arith) ∙ r.free f low high;
       }
+
+  -- the first pages are laid, and all others have only zeros
+  pub laid_padded : (ws : List ℕ) → length cs ≤ l.pages → Laid l cs ws (length cs) → Laid l (padded l.pages cs) ws l.pages
+  laid_padded ws few r = record {
+    pages = r.pages;
+    frames = r.frames;
+    orderly = r.orderly;
+    shows = r.shows;
+    hands = r.hands;
+    clock = r.clock;
+    done = λ y words low at. ⊎_elim (λ (h : (y < length cs) × (get_elem? cs y ≡ some words)). r.done y words h.0 h.1) (λ (h : (length cs ≤ y) × (j : ℕ) × (get_elem? (replicate (l.pages - length cs) (replicate 32 0)) j ≡ some words)). behind y words low h.0 h.1 h.2) (at_append cs (replicate (l.pages - length cs) (replicate 32 0)) y words at);
+    rest = λ y low high. absurd (omega arith);
+    free = λ f low high. r.free f (omega arith) high;
+  }
+    where
+      behind : (y : ℕ) (words : List ℕ) → y < l.pages → length cs ≤ y → (j : ℕ) → get_elem? (replicate (l.pages - length cs) (replicate 32 0)) j ≡ some words → (get_elem? r.pages.contents y ≡ some words) × (get_elem? r.pages.owners y ≡ some (first_owner words))
+      behind y words low high j at = let zeros : replicate 32 0 ≡ words = of_all (l.pages - length cs) (replicate 32 0) j words at in let was = r.rest y high low in
+          (was.0 ∙ ap (λ (z : List ℕ). some z) zeros, was.1 ∙ ap (λ (z : List ℕ). some (first_owner z)) zeros)
 
   -- the rule at the start
   pub opens_with : {D : Type 0} (d : D) (holds : Pages D → Type 0) (ws : List ℕ) → length cs ≡ l.pages → Laid l cs ws l.pages → holds (first_pages cs l.passes d) → Kept {S = Unit {0}} l d holds (opening ws [] (starting l d))

@@ -1,5 +1,5 @@
 -- A store at its start.
-use Rattle.std.specs.Prelude.{◌≡◌, ℕ, ◌+◌, ◌<◌, ◌≤◌, ◌==◌, Bool, if◌then◌else◌, List, length, map, replicate}
+use Rattle.std.specs.Prelude.{◌≡◌, ℕ, ◌+◌, ◌-◌, ◌++◌, ◌<◌, ◌≤◌, ◌==◌, Bool, if◌then◌else◌, List, length, map, replicate}
 use Rattle.std.specs.List.{list_all}
 use mathlib.Core.Option.{some}
 use lib.ListN.{get_elem?}
@@ -20,6 +20,10 @@ first_owner words = if is_blank words then Released else Open
 -- The pages at the start: each has its first words, those with only zeros are released and the others open, and no hand has begun.
 abbrev pub first_pages : {D : Type 0} → List (List ℕ) → ℕ → D → Pages D
 first_pages contents passes d = record { contents = contents; owners = map first_owner contents; clock = 0; hands = replicate passes (Idle, d) }
+
+-- the words of so many pages, of which these are the first, and all others have only zeros
+abbrev pub padded : ℕ → List (List ℕ) → List (List ℕ)
+padded pages contents = contents ++ replicate (pages - length contents) (replicate 32 0)
 
 -- The words show the first x of the pages.
 pub record Laid (l : Layout) (contents : List (List ℕ)) (ws : List ℕ) (x : ℕ) : Type 0 where

@@ -30,4 +30,4 @@ mod sweep;
 
 pub use put::Spread;
 pub use stock::{NoRoom, Stock};
-pub use store::{Glance, Hand, Store};
+pub use store::{Glance, Hand, Peek, Store};

@@ -2,10 +2,10 @@
 ghost use Rattle.std.specs.Prelude.{◌≡◌, ℕ, ◌+◌, ◌<◌, ◌≤◌, ◌^◌, false, [], length, replicate, slice_index_or, IfOk};
 ghost use Rattle.bl_layout.specs.Cells.{cell_count};
 ghost use Rattle.bl_frames.specs.Frames.{share};
-ghost use Rattle.bl_store.specs.Opening.{first_pages, is_blank, Laid, IsDealt};
+ghost use Rattle.bl_store.specs.Opening.{first_pages, padded, is_blank, Laid, IsDealt};
 ghost use Rattle.bl_frames.specs.declared.view.Sealing.TheVariants.{Unsealed};
 
-use crate::room::Room;
+use crate::room::{Room, first_frame, is_large};
 use crate::store::{APART, Hand, RING, Store};
 use atomic_table::{Seat, Split, Table};
 use bl_frames::{Ground, PageRule, View};
@@ -13,7 +13,9 @@ use bl_layout::Layout;
 use std::alloc::{AllocError, Global};
 use std::mem;
 use std::snapshot::Snapshot;
-use std::sync::atomic::AtomicU64;
+
+/// In a large store so many puts lie between two sweeps of many that are owed: all of them take a while.
+const PUTS_BETWEEN: u32 = 8;
 
 // The numbers that a hand has to deal out, but its own, go to the next hand.
 pub(crate) struct Deal;
@@ -45,38 +47,15 @@ impl<D, R: PageRule<D>> Store<D, R, Global> {
         Self::of_layout(alloc, Layout::of(first.len() as u32, passes), first, known)
     }
 
-    /// The same with so many frames beside one for each page. Each put takes one, until the one that it retires is released.
-    pub fn sparing(
-        alloc: Global,
-        first: &[[u64; 32]],
-        passes: u32,
-        spare: u32,
-        known: &D,
-    ) -> Result<(Store<D, R, Global>, Vec<Hand<D>>), AllocError>
-        requires pages { (4 ≤ length first.now) × (length first.now ≤ 2 ^ 28) }
-        requires passes { (1 ≤ passes) × (passes ≤ 64) }
-        requires spare { (1 ≤ spare) × (spare ≤ 2 ^ 29) }
-        requires rule { R.holds (first_pages first.now passes known.now) }
-        ensures layout { IfOk result (λ t. (t.0.layout.pages ≡ length first.now) × (t.0.layout.passes ≡ passes) × (t.0.layout.spare ≡ spare)) }
-        ensures hands { IfOk result (λ t. IsDealt t.0.table.shared.table_id t.0.layout known.now passes t.1.items) }
-        ensures known { IfOk result (λ t. t.0.table.shared.key.known.value ≡ known.now) }
-    {
-        let layout = Layout {
-            pages: first.len() as u32,
-            passes,
-            spare,
-        };
-        Self::of_layout(alloc, layout, first, known)
-    }
-
-    fn of_layout(
+    /// The same of so many pages, with so many frames to spare. These are the words of the first pages, and all others have only zeros.
+    pub fn of_layout(
         alloc: Global,
         layout: Layout,
         first: &[[u64; 32]],
         known: &D,
     ) -> Result<(Store<D, R, Global>, Vec<Hand<D>>), AllocError>
-        requires pages { length first.now ≡ layout.pages }
-        requires rule { R.holds (first_pages first.now layout.passes known.now) }
+        requires pages { length first.now ≤ layout.pages }
+        requires rule { R.holds (first_pages (padded layout.pages first.now) layout.passes known.now) }
         ensures layout { IfOk result (λ t. t.0.layout ≡ layout) }
         ensures hands { IfOk result (λ t. IsDealt t.0.table.shared.table_id layout known.now layout.passes t.1.items) }
         ensures known { IfOk result (λ t. t.0.table.shared.key.known.value ≡ known.now) }
@@ -98,8 +77,7 @@ impl<D, R: PageRule<D>> Store<D, R, Global> {
             firsts: layout.frame_word_cell(0, 0),
             stamps: layout.process_cell(0),
             apart: [0; APART],
-            least_free: AtomicU64::new(1),
-            room: Room::new(count_blank(first)),
+            room: Room::new(alloc, layout.pages, layout.passes, first)?,
             behind: [0; APART],
         };
         let hands = store.deal(alloc, seat)?;
@@ -126,17 +104,24 @@ impl<D, R: PageRule<D>> Store<D, R, Global> {
 }
 
 impl<D> Hand<D> {
-    // Hands begin far apart in the frames and in the owners, so that two threads seldom write to one cache line.
+    // Hands begin far apart in the frames and in the owners, so that two threads seldom write to one cache line. In a large store each
+    // begins with a chunk of frames that nobody has used.
     fn of(seat: Seat<(), View<D>>, number: u32, layout: Layout) -> Hand<D>
         requires { (number ≡ seat.me.0.number) × (number < seat.me.0.layout.passes) × (seat.me.0.sealing ≡ Unsealed) × (seat.me.1 ≡ []) }
         ensures { (result.number ≡ number) × (result.seat ≡ seat) }
     {
         let frames = layout.frames();
+        let is_large = is_large(layout.pages);
+        let frame = if is_large {
+            first_frame(number)
+        } else {
+            number.wrapping_mul(frames / layout.passes)
+        };
         Hand {
             seat,
             number,
             stamp: 0,
-            frame: number.wrapping_mul(frames / layout.passes),
+            frame,
             owner: number.wrapping_mul((layout.pages + frames) / layout.passes),
             retired: [0; RING],
             waiting: 0,
@@ -145,6 +130,7 @@ impl<D> Hand<D> {
             untried: 0,
             unswept: 0,
             owed: 0,
+            between: if is_large { PUTS_BETWEEN } else { 0 },
             gone: [0; RING],
             leaving: 0,
             puts: 0,
@@ -153,18 +139,13 @@ impl<D> Hand<D> {
     }
 }
 
-// How many pages have only zeros.
-fn count_blank(first: &[[u64; 32]]) -> u64 {
-    first.iter().filter(|words| is_all_zeros(words)).count() as u64
-}
-
 // Gives each page that is not all zeros the frame of its own number.
 fn lay(layout: Layout, first: &[[u64; 32]], words: &mut [u64])
-    requires pages { length first.now ≡ layout.pages }
+    requires pages { length first.now ≤ layout.pages }
     requires words { words.old ≡ replicate (cell_count layout) 0 }
-    ensures { Laid layout first.now words.new layout.pages }
+    ensures { Laid layout first.now words.new (length first.now) }
 {
-    for page in 0..layout.pages {
+    for page in 0..first.len() as u32 {
         if !is_all_zeros(&first[page as usize]) {
             lay_page(layout, first, page, words);
         }
@@ -172,8 +153,8 @@ fn lay(layout: Layout, first: &[[u64; 32]], words: &mut [u64])
 }
 
 fn lay_page(layout: Layout, first: &[[u64; 32]], page: u32, words: &mut [u64])
-    requires pages { length first.now ≡ layout.pages }
-    requires page { page < layout.pages }
+    requires pages { length first.now ≤ layout.pages }
+    requires page { page < length first.now }
     requires words { is_blank (slice_index_or first.now page []) ≡ false }
     requires laid { Laid layout first.now words.old page }
     ensures { Laid layout first.now words.new (page + 1) }
@@ -187,7 +168,7 @@ fn lay_page(layout: Layout, first: &[[u64; 32]], page: u32, words: &mut [u64])
     words[layout.page_owner_cell(page)] = 1;
 }
 
-fn is_all_zeros(words: &[u64; 32]) -> bool
+pub(crate) fn is_all_zeros(words: &[u64; 32]) -> bool
     ensures { result ≡ is_blank words.now }
 {
     words.iter().all(|word| *word == 0)

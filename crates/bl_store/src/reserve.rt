@@ -6,6 +6,7 @@ ghost use Rattle.bl_frames.specs.Frames.{owner_at};
 ghost use Rattle.bl_frames.specs.Observed.{wanted};
 ghost use Rattle.bl_store.specs.Hands.{known, IsSameHand, IsSameReading, IsSameStage, IsSameStock, IsQuiet, HasNoStock, IsStockOf, MayRetire, SawTaken, IsTried, IsWhy, WasRefused};
 
+use crate::room::{end_near, is_large};
 use crate::stock::{NoRoom, Stock};
 use crate::store::{Hand, RING, Store};
 use bl_frames::plays::{Allot, Ask, Note, Refuse, Reserve, Return, Take};
@@ -13,7 +14,6 @@ use bl_frames::{PagePlay, PageRule, TimePlay};
 use bl_layout::held_by;
 use std::alloc::Allocator;
 use std::marker::Brand;
-use std::sync::atomic::Ordering;
 
 /// At this time and later no reservation is given.
 const END_OF_TIME: u64 = 1 << 60;
@@ -24,7 +24,7 @@ const RETIRED_TO_TRY: u32 = 64;
 impl<D, R: PageRule<D>, A: Allocator> Store<D, R, A> {
     ghost use Rattle.bl_store.specs.Owners.{IsHandOf};
 
-    /// Reserves as many frames, and as many pages. Each frame and each page from 1 upward is tried once. A refused
+    /// Reserves as many frames, and as many pages. It is refused where each frame, or each page from 1 upward, was tried. A refused
     /// reservation is one event, and leaves nothing reserved.
     pub fn reserve<T: PagePlay<D>, M: TimePlay<D>>(
         &self,
@@ -113,8 +113,8 @@ impl<D, R: PageRule<D>, A: Allocator> Store<D, R, A> {
         }
     }
 
-    // Tries each frame once, from the hand's cursor on, until there are enough. Frames of the ring leave the cursor where it
-    // is, as most of those around them are in use.
+    // Tries frames from the hand's cursor on until there are enough, in a large store some of them and then such as nobody has used yet, and
+    // at last each one. Frames of the ring leave the cursor where it is, as most of those around them are in use.
     #[inline(never)]
     fn search_frames(&self, hand: &mut Hand<D>, stock: &mut Stock, wanted: u32)
         requires own { IsHandOf self.now hand.old }
@@ -129,10 +129,24 @@ impl<D, R: PageRule<D>, A: Allocator> Store<D, R, A> {
         let ready = stock.count;
         let total = self.layout.frames();
         let first = hand.frame.min(total);
-        self.try_frames(hand, stock, first, total, wanted);
-        self.try_frames(hand, stock, 0, first, wanted);
+        let end = end_near(self.layout.pages, first, total);
+        self.try_frames(hand, stock, first, end, wanted);
+        let (from, to) = self.fresh_frames(stock.count < wanted);
+        self.try_frames(hand, stock, from, to, wanted);
+        self.try_frames(hand, stock, 0, total, wanted);
         if stock.count > ready {
             hand.frame = stock.frames[stock.count as usize - 1];
+        }
+    }
+
+    // Frames of a large store that nobody has used yet, where they are wanted.
+    fn fresh_frames(&self, are_wanted: bool) -> (u32, u32)
+        ensures { (result.0 ≤ result.1) × (result.1 ≤ frame_count self.now.layout) }
+    {
+        if are_wanted && is_large(self.layout.pages) {
+            self.room.take_chunk(self.layout.frames())
+        } else {
+            (0, 0)
         }
     }
 
@@ -242,7 +256,7 @@ impl<D, R: PageRule<D>, A: Allocator> Store<D, R, A> {
         }
     }
 
-    // Takes the least page that is released, as far as the hint goes that all hands share. Each is tried once.
+    // Takes the least page that is released, as far as the hints go that all hands share, and where they lead to none, tries each.
     fn take<T: PagePlay<D>>(&self, hand: &mut Hand<D>) -> Option<u32>
         requires own { IsHandOf self.now hand.old }
         requires takes { (x : ℕ) → Takes R.holds self.now.layout hand.old.number (known hand.old.seat) x T.then }
@@ -253,16 +267,15 @@ impl<D, R: PageRule<D>, A: Allocator> Store<D, R, A> {
             × ((x : ℕ) → 0 < x → x < self.now.layout.pages → SawTaken hand.new.seat (owner_at self.now.layout x))) }
     {
         let pages = self.layout.pages;
-        let hint = self.least_free.load(Ordering::SeqCst);
-        let first = if hint < pages as u64 {
-            (hint as u32).max(1)
-        } else {
-            1
-        };
-        if let Some(page) = self.take_from::<T>(hand, first, pages) {
+        let (first, end) = self.room.near(pages);
+        if let Some(page) = self.take_from::<T>(hand, first, end) {
             return Some(page);
         }
-        self.take_from::<T>(hand, 1, first)
+        let (from, to) = self.room.next_block(end, pages);
+        if let Some(page) = self.take_from::<T>(hand, from, to) {
+            return Some(page);
+        }
+        self.take_from::<T>(hand, 1, pages)
     }
 
     fn take_from<T: PagePlay<D>>(&self, hand: &mut Hand<D>, from: u32, to: u32) -> Option<u32>
@@ -278,8 +291,7 @@ impl<D, R: PageRule<D>, A: Allocator> Store<D, R, A> {
     {
         for page in from..to {
             if self.try_page::<T>(hand, page) {
-                self.least_free.store(page as u64 + 1, Ordering::SeqCst);
-                self.room.note_taken();
+                self.room.note_taken(page);
                 return Some(page);
             }
         }

@@ -1,6 +1,20 @@
-//! How much room there is, as the hands of a store count it together. No proof rests on it.
+//! How much room there is and where, as the hands of a store count it together. No proof rests on it: who looks for a page or a frame looks
+//! first where this says, and then at all.
 
+ghost use Rattle.std.specs.Prelude.{◌<◌, ◌≤◌, ◌^◌};
+
+use crate::opening::is_all_zeros;
+use std::alloc::{AllocError, Global};
 use std::sync::atomic::{AtomicU64, Ordering};
+
+/// So many pages are counted together: to find the least free one is to look at a count for each such block, and then at one block.
+const BLOCK: u32 = 4_096;
+
+/// So many frames that nobody has used yet a hand takes at once, and it looks at so many before it does.
+const CHUNK: u32 = 1_024;
+
+/// A store with more pages is a large one.
+const MOST_SMALL: u32 = 65_536;
 
 /// Nobody has walked since room may have come.
 const UNKNOWN: u64 = 0;
@@ -22,17 +36,45 @@ pub(crate) struct Room {
     walks: AtomicU64,
     // `UNKNOWN`, `NONE`, or the number of the last walk that has begun. It is written where pages are scarce, and read elsewhere.
     last: AtomicU64,
+    // The least page that may be free, as one thread alone sees it.
+    least: AtomicU64,
+    // How many pages of each block are free.
+    blocks: Vec<AtomicU64>,
+    // The least frame that nobody has used yet, of a large store.
+    fresh: AtomicU64,
 }
 
 impl Room {
-    /// So many pages are free.
-    pub(crate) fn new(free: u64) -> Room {
-        Room {
+    /// A store of so many pages, of which the first have these words. Those with only zeros are free, and so are all others.
+    pub(crate) fn new(
+        alloc: Global,
+        pages: u32,
+        passes: u32,
+        first: &[[u64; 32]],
+    ) -> Result<Room, AllocError>
+        requires { pages ≤ 2 ^ 28 }
+    {
+        let count = pages / BLOCK + 1;
+        let mut blocks = Vec::with_capacity(alloc, count as usize)?;
+        let mut free = 0u64;
+        for block in 0..count {
+            let blank = blanks(
+                first,
+                (block * BLOCK).max(1),
+                pages.min(block * BLOCK + BLOCK),
+            );
+            free = free.wrapping_add(blank);
+            blocks.push(AtomicU64::new(blank))?;
+        }
+        Ok(Room {
             free: AtomicU64::new(free),
             retiring: AtomicU64::new(0),
             walks: AtomicU64::new(FIRST_WALK),
             last: AtomicU64::new(UNKNOWN),
-        }
+            least: AtomicU64::new(1),
+            blocks,
+            fresh: AtomicU64::new((first.len() as u64).max(u64::from(first_frame(passes)))),
+        })
     }
 
     /// How many pages are free, about: others take and release some meanwhile.
@@ -52,16 +94,80 @@ impl Room {
     }
 
     /// A page was taken. Pages that splits have left are half full at least, so a walk is to look at them only where no page is left.
-    pub(crate) fn note_taken(&self) {
+    pub(crate) fn note_taken(&self, page: u32) {
+        self.least.store(u64::from(page) + 1, Ordering::SeqCst);
+        if let Some(block) = self.blocks.get((page / BLOCK) as usize) {
+            block.fetch_sub(1, Ordering::SeqCst);
+        }
         if self.free.fetch_sub(1, Ordering::SeqCst) == 1 {
             self.note_change();
         }
     }
 
     /// A page was released.
-    pub(crate) fn note_released(&self) {
+    pub(crate) fn note_released(&self, page: u32) {
+        self.least.fetch_min(u64::from(page), Ordering::SeqCst);
+        if let Some(block) = self.blocks.get((page / BLOCK) as usize) {
+            block.fetch_add(1, Ordering::SeqCst);
+        }
         self.free.fetch_add(1, Ordering::SeqCst);
         self.retiring.fetch_sub(1, Ordering::SeqCst);
+    }
+
+    /// The pages in whose order the least free one stands, as one thread alone sees it: from the least that may be free to the end of its
+    /// block. There are none where the block has no free page.
+    pub(crate) fn near(&self, pages: u32) -> (u32, u32)
+        requires { (0 < pages) × (pages ≤ 2 ^ 28) }
+        ensures { (0 < result.0) × (result.0 ≤ result.1) × (result.1 ≤ pages) }
+    {
+        let least = self.least.load(Ordering::SeqCst);
+        if least == 0 || least >= u64::from(pages) {
+            return (1, 1);
+        }
+        let first = least as u32;
+        if !self.has_free(first / BLOCK) {
+            return (first, first);
+        }
+        (first, pages.min(first / BLOCK * BLOCK + BLOCK))
+    }
+
+    /// The pages of the next block that has a free one, from the block of that page on and around. There are none where no block has one.
+    pub(crate) fn next_block(&self, page: u32, pages: u32) -> (u32, u32)
+        requires { (0 < pages) × (pages ≤ 2 ^ 28) × (page ≤ pages) }
+        ensures { (0 < result.0) × (result.0 ≤ result.1) × (result.1 ≤ pages) }
+    {
+        let count = pages / BLOCK + 1;
+        for step in 0..count {
+            let block = (page / BLOCK + step) % count;
+            let from = (block * BLOCK).max(1);
+            if from < pages && self.has_free(block) {
+                return (from, pages.min(block * BLOCK + BLOCK));
+            }
+        }
+        (1, 1)
+    }
+
+    // Whether a block has free pages, as it is counted.
+    fn has_free(&self, block: u32) -> bool {
+        match self.blocks.get(block as usize) {
+            Some(free) => free.load(Ordering::SeqCst) > 0,
+            None => false,
+        }
+    }
+
+    /// The next frames that nobody has used yet, from the first to before the second.
+    pub(crate) fn take_chunk(&self, frames: u32) -> (u32, u32)
+        requires { frames ≤ 2 ^ 30 }
+        ensures { (result.0 ≤ result.1) × (result.1 ≤ frames) }
+    {
+        if self.fresh.load(Ordering::SeqCst) >= u64::from(frames) {
+            return (frames, frames);
+        }
+        let first = self.fresh.fetch_add(u64::from(CHUNK), Ordering::SeqCst);
+        if first >= u64::from(frames) {
+            return (frames, frames);
+        }
+        (first as u32, frames.min(first as u32 + CHUNK))
     }
 
     /// A walk may find room that the last one did not.
@@ -90,4 +196,40 @@ impl Room {
     pub(crate) fn has_none(&self) -> bool {
         self.last.load(Ordering::SeqCst) == NONE
     }
+}
+
+/// Whether a store of so many pages is a large one. A small one keeps the frames in use close together and takes low ones first; in a
+/// large one it would take too long to pass by all that are in use.
+pub(crate) fn is_large(pages: u32) -> bool {
+    pages > MOST_SMALL
+}
+
+/// The frame at which the hand of that number begins to look, in a large store.
+pub(crate) fn first_frame(number: u32) -> u32 {
+    number.wrapping_mul(CHUNK)
+}
+
+/// The end of what a hand looks at from a frame on, in a store of so many pages and frames, before it takes frames that nobody has used.
+pub(crate) fn end_near(pages: u32, frame: u32, frames: u32) -> u32
+    requires { (frame ≤ frames) × (frames ≤ 2 ^ 30) }
+    ensures { (frame ≤ result) × (result ≤ frames) }
+{
+    if is_large(pages) {
+        frames.min(frame + CHUNK)
+    } else {
+        frames
+    }
+}
+
+// How many of the pages of a range have only zeros.
+fn blanks(first: &[[u64; 32]], from: u32, to: u32) -> u64 {
+    let mut blank = 0u64;
+    for page in from..to {
+        let is_blank = match first.get(page as usize) {
+            Some(words) => is_all_zeros(words),
+            None => true,
+        };
+        blank = blank.wrapping_add(u64::from(is_blank));
+    }
+    blank
 }

@@ -34,9 +34,12 @@ impl<D, R: PageRule<D>, A: Allocator> Store<D, R, A> {
     }
 
     /// Whether a reservation that begins now finds its frames, as far as is seen. It is a hint as well.
+    ///
+    /// A hand that has released as many frames as a reservation asks for is taken at its word: to look whether others have taken them would
+    /// cost each change, and such a look is a hint at best.
     #[inline(always)]
     pub fn finds_frames(&self, hand: &Hand<D>) -> bool {
-        self.has_ready(hand) || self.sees_frames(hand)
+        hand.ready >= MOST || self.sees_frames(hand)
     }
 
     // Whether as many frames are free as a reservation asks for at most, from those that the hand would try first on.
@@ -149,16 +152,12 @@ impl<D, R: PageRule<D>, A: Allocator> Store<D, R, A> {
     /// A word of a page as it stands now, which is no event and tells nothing: the next one may be of another put. 0 where there is
     /// none such.
     pub fn peek(&self, page: u32, place: usize) -> u64 {
-        if page >= self.layout.pages || place >= 32 {
+        if place >= 32 {
             return 0;
         }
-        let found = self.table.shared.peek(self.heads + page as usize);
-        let frame = found.wrapping_sub(1);
-        if frame >= self.layout.frames() as u64 {
-            return 0;
+        match self.peek_page(page) {
+            Some(peek) => self.peek_word(peek, place),
+            None => 0,
         }
-        self.table
-            .shared
-            .peek(self.firsts + 32 * frame as usize + place)
     }
 }

@@ -1,5 +1,5 @@
 //! The store, and the calls that begin and end a process and read pages.
-ghost use Rattle.std.specs.Prelude.{◌≡◌, ◌≢◌, ℕ, ◌+◌, ◌*◌, ◌<◌, ◌≤◌, true, false, List, [], length, slice_index, Some, None};
+ghost use Rattle.std.specs.Prelude.{◌≡◌, ◌≢◌, ℕ, ◌+◌, ◌*◌, ◌<◌, ◌≤◌, true, false, List, [], length, slice_index, Some, None, IfSome};
 ghost use Rattle.bl_layout.specs.Words.{frame_count};
 ghost use Rattle.bl_layout.specs.Cells.{cell_count};
 ghost use Rattle.bl_frames.specs.Frames.{process_at, page_at, place_at};
@@ -14,7 +14,6 @@ use bl_frames::plays::{Clock, Copy, Enter, Leave, Look, Raise, Renew};
 use bl_frames::{Framed, Ground, PagePlay, PageRule, TimePlay, View};
 use bl_layout::{Layout, PROCESS_CELLS};
 use std::alloc::{Allocator, Global};
-use std::sync::atomic::AtomicU64;
 
 /// How many frames a hand keeps in sight that it has retired, and that it has released.
 pub(crate) const RING: usize = 128;
@@ -45,6 +44,8 @@ pub struct Hand<D> {
     // How many it has retired since its last sweep, and how many sweeps it owes.
     pub(crate) unswept: u32,
     pub(crate) owed: u32,
+    // How many puts lie between two sweeps, where it owes several.
+    pub(crate) between: u32,
     // Pages that it has retired, at which its next sweeps look first, and how many.
     pub(crate) gone: [u32; RING],
     pub(crate) leaving: u32,
@@ -74,8 +75,6 @@ pub struct Store<D, R: PageRule<D>, A: Allocator = Global> {
     pub(crate) stamps: usize,
     // It keeps what each take writes apart from the fields above, which each call reads.
     pub(crate) apart: [u64; APART],
-    // The least page that may be released, as one thread alone sees it. No proof rests on it, nor on the room.
-    pub(crate) least_free: AtomicU64,
     pub(crate) room: Room,
     // And apart from what stands behind the store.
     pub(crate) behind: [u64; APART],
@@ -85,6 +84,13 @@ pub struct Store<D, R: PageRule<D>, A: Allocator = Global> {
     pub ghost stamps_at: { stamps ≡ process_at layout 0 },
     pub ghost wide: { table.shared.table_id.words ≡ cell_count layout },
     pub ghost bare: { table.shared.table_id.slots ≡ 0 },
+}
+
+/// Where the words of a page stood when someone peeked at it. Nothing is known of them: they may be those of another page by now.
+#[derive(Clone, Copy)]
+pub struct Peek {
+    // The cell of the first of them.
+    pub(crate) first: usize,
 }
 
 impl Glance {
@@ -114,7 +120,7 @@ impl<D> Hand<D> {
     /// Whether a sweep is worth its time now: some puts have passed since the last one, or the hand has lost sight of frames
     /// that it has retired. It is a hint, and a sweep does its whole work whatever this says.
     pub fn is_due(&self) -> bool {
-        self.owed > 0
+        self.owed == 1 || (self.owed > 1 && self.unswept >= self.between)
     }
 
     /// How many puts it has made since the store was made. It counts for who wants to know whether something was changed, and nothing is
@@ -132,7 +138,7 @@ impl<D> Hand<D> {
 }
 
 impl<D, R: PageRule<D>, A: Allocator> Store<D, R, A> {
-    ghost use Rattle.bl_store.specs.Owners.{IsHandOf};
+    ghost use Rattle.bl_store.specs.Owners.{IsHandOf, IsPeekIn};
 
     /// Begins a process of the hand.
     pub fn begin<M: TimePlay<D>>(&self, hand: &mut Hand<D>)
@@ -210,6 +216,48 @@ impl<D, R: PageRule<D>, A: Allocator> Store<D, R, A> {
         let frame = found.wrapping_sub(1);
         if frame < self.layout.frames() as u64 {
             self.table.shared.peek(self.firsts + 32 * frame as usize);
+        }
+    }
+
+    /// Where the words of a page stand now, if it has any. It is no event and tells nothing.
+    #[inline(always)]
+    pub fn peek_page(&self, page: u32) -> Option<Peek>
+        ensures { IfSome result (IsPeekIn self.now) }
+    {
+        if page >= self.layout.pages {
+            return None;
+        }
+        let found = self.table.shared.peek(self.heads + page as usize);
+        let frame = found.wrapping_sub(1);
+        if frame < self.layout.frames() as u64 {
+            let first = self.firsts + 32 * frame as usize;
+            Some(Peek { first })
+        } else {
+            None
+        }
+    }
+
+    /// The word that stands at a place there now. It is no event and tells nothing.
+    #[inline(always)]
+    pub fn peek_word(&self, peek: Peek, place: usize) -> u64
+        requires there { IsPeekIn self.now peek }
+        requires place { place < 32 }
+    {
+        self.table.shared.peek(peek.first + place)
+    }
+
+    /// Fetches all of a page ahead of a look at it, and its owner's word. It is no event and tells nothing.
+    #[inline(always)]
+    pub fn fetch_whole(&self, page: u32) {
+        if page >= self.layout.pages {
+            return;
+        }
+        self.table.shared.peek(self.layout.page_owner_cell(page));
+        if let Some(peek) = self.peek_page(page) {
+            self.peek_word(peek, 0);
+            self.peek_word(peek, 8);
+            self.peek_word(peek, 16);
+            self.peek_word(peek, 24);
         }
     }
 

@@ -9,7 +9,6 @@ use crate::store::{Hand, RING, Store};
 use bl_frames::plays::{Free, Horizon, Pass, Release};
 use bl_frames::{PageRule, SweepPlay};
 use std::alloc::Allocator;
-use std::sync::atomic::Ordering;
 
 /// How many owner words a sweep looks at, or all where there are fewer.
 pub(crate) const LOOKS: u32 = 64;
@@ -174,7 +173,7 @@ impl<D, R: PageRule<D>, A: Allocator> Store<D, R, A> {
                 continue;
             }
             if state / 4 < oldest {
-                self.recycle_frame(hand, frame, state, oldest);
+                self.release_frame(hand, frame, state, oldest);
             } else {
                 hand.retired[kept as usize] = frame;
                 kept += 1;
@@ -183,8 +182,8 @@ impl<D, R: PageRule<D>, A: Allocator> Store<D, R, A> {
         hand.waiting = kept;
     }
 
-    // Releases a frame, where it is still in that state of retirement.
-    fn recycle_frame(&self, hand: &mut Hand<D>, frame: u32, state: u64, oldest: u64)
+    // Releases a frame, where it is still in that state of retirement. The hand keeps it in sight, as far as it has room for it.
+    fn release_frame(&self, hand: &mut Hand<D>, frame: u32, state: u64, oldest: u64) -> bool
         requires own { IsHandOf self.now hand.old }
         requires frame { frame < frame_count self.now.layout }
         requires state { (state % 4 ≡ 3) × (state / 4 < oldest) }
@@ -193,16 +192,22 @@ impl<D, R: PageRule<D>, A: Allocator> Store<D, R, A> {
             × (known hand.new.seat ≡ known hand.old.seat) × (hand.new.seat.me.0.sweep ≡ hand.old.seat.me.0.sweep) }
         ensures kept { (hand.new.retired ≡ hand.old.retired) × (hand.new.waiting ≡ hand.old.waiting) }
         ensures reads { IsSameReading hand.old.seat hand.new.seat }
+        ensures yes { result ≡ true → hand.new.seat.me.0.releases ≡ hand.old.seat.me.0.releases + 1 }
+        ensures no { result ≡ false → hand.new.seat.me.0.releases ≡ hand.old.seat.me.0.releases }
     {
         let word = self.layout.frame_owner_cell(frame);
         let found = self
             .table
             .shared
             .compare_exchange::<Release>(&mut hand.seat, word, state, 0);
-        if found == state && hand.ready < RING as u32 {
+        if found != state {
+            return false;
+        }
+        if hand.ready < RING as u32 {
             hand.released[hand.ready as usize] = frame;
             hand.ready += 1;
         }
+        true
     }
 
     // Releases the page or the frame that has the owner word, where it is still in that state of retirement.
@@ -227,20 +232,9 @@ impl<D, R: PageRule<D>, A: Allocator> Store<D, R, A> {
             if found != state {
                 return false;
             }
-            self.least_free.fetch_min(at as u64, Ordering::SeqCst);
-            self.room.note_released();
+            self.room.note_released(at);
             return true;
         }
-        let word = self.layout.frame_owner_cell(at - self.layout.pages);
-        let found = self
-            .table
-            .shared
-            .compare_exchange::<Release>(&mut hand.seat, word, state, 0);
-        if found != state {
-            return false;
-        }
-        // Low frames are used again first, so that the frames in use lie close together and stay in the cache.
-        hand.frame = hand.frame.min(at - self.layout.pages);
-        true
+        self.release_frame(hand, at - self.layout.pages, state, oldest)
     }
 }

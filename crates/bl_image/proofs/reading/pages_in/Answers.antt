@@ -32,6 +32,10 @@ returns-clause-within c =
 
 pub returns-in_default-clause-fault : goal.returns-in_default-clause-fault
 returns-in_default-clause-fault c =
-    let most = c.bound_of-most.ensures.bound in
-    (c.args.count, c.requires, omega (arith, c.loop-x-test.true), subst (λ (n : ℕ). ¬ ArePage n (chunk c.args.bytes.now c.loop-x.x)) most c.in_default.ensures,
-    λ y lt. subst (λ (n : ℕ). ArePage n (chunk c.args.bytes.now y)) most (c.loop-x.invariant.each y lt))
+    let most = c.bound_of-most.ensures.bound in (
+      c.args.count,
+      c.requires,
+      omega (arith, c.loop-x-test.true),
+      subst (λ (n : ℕ). ¬ ArePage n (chunk c.args.bytes.now c.loop-x.x)) most c.in_default.ensures,
+      λ y lt. subst (λ (n : ℕ). ArePage n (chunk c.args.bytes.now y)) most (c.loop-x.invariant.each y lt),
+    )

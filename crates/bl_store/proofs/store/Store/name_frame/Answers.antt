@@ -8,7 +8,7 @@ use Rattle.bl_store.proofs.Living.{live_hand}
 use Rattle.bl_store.proofs.store.Store.name_frame.Goals as goal
 
 pub swap-before-requires : goal.swap-before-requires
-swap-before-requires g c = let st = c.args.self.now in let wide = st.wide in let own = c.args.hand.now.own in let passes = ap (λ (z : Layout). z.passes) st.key in let spare_of = ap (λ (z : Layout). z.spare) st.key in let pages = ap (λ (z : Layout). z.pages) st.key in let spare_of = ap (λ (z : Layout). z.spare) st.key in (
+swap-before-requires g c = let st = c.args.self.now in let wide = st.wide in let own = c.args.hand.now.own in let passes = ap (λ (z : Layout). z.passes) st.key in let spare_of = ap (λ (z : Layout). z.spare) st.key in let pages = ap (λ (z : Layout). z.pages) st.key in (
   search rules,
   omega arith,
   swaps _ _ _ g.M.PagePlay.then _ _ _ _ c.args.page c.args.frame _ (draft_words c.args.hand.now.seat) (other_drafts c.args.hand.now.seat) (omega arith) (omega arith) (omega arith) (c.requires.own.1 ∙ sym st.key) c.requires.draft.0 c.requires.draft.1

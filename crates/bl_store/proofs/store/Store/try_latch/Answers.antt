@@ -10,7 +10,7 @@ use Rattle.bl_store.proofs.Living.{live_hand}
 use Rattle.bl_store.proofs.store.Store.try_latch.Goals as goal
 
 pub compare_exchange-requires : goal.compare_exchange-requires
-compare_exchange-requires g c = let st = c.args.self.now in let wide = st.wide in let own = c.args.hand.now.own in let number = own.0 in let passes = ap (λ (z : Layout). z.passes) st.key in let spare_of = ap (λ (z : Layout). z.spare) st.key in let pages = ap (λ (z : Layout). z.pages) st.key in let spare_of = ap (λ (z : Layout). z.spare) st.key in (
+compare_exchange-requires g c = let st = c.args.self.now in let wide = st.wide in let own = c.args.hand.now.own in let number = own.0 in let passes = ap (λ (z : Layout). z.passes) st.key in let spare_of = ap (λ (z : Layout). z.spare) st.key in let pages = ap (λ (z : Layout). z.pages) st.key in (
   search rules,
   omega arith,
   tries _ _ _ g.M.PagePlay.then _ _ _ _ c.args.page _ (omega arith) (omega arith) (omega arith) (c.requires.own.1 ∙ sym st.key)

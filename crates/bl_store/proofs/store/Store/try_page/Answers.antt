@@ -13,7 +13,7 @@ load-requires g c = let st = c.args.self.now in let wide = st.wide in (search ru
 
 pub compare_exchange-requires : goal.compare_exchange-requires
 compare_exchange-requires g c = let st = c.args.self.now in let wide = st.wide in let own = c.args.hand.now.own in let e = c.load.ensures.2.0 in let number : c.args.hand.now.number ≡ c.load.new.seat.me.0.number = own.0 ∙ sym e.0.1 in
-    let passes = ap (λ (z : Layout). z.passes) st.key in let spare_of = ap (λ (z : Layout). z.spare) st.key in let pages = ap (λ (z : Layout). z.pages) st.key in let spare_of = ap (λ (z : Layout). z.spare) st.key in let few = own.1 in (
+    let passes = ap (λ (z : Layout). z.passes) st.key in let spare_of = ap (λ (z : Layout). z.spare) st.key in let pages = ap (λ (z : Layout). z.pages) st.key in let few = own.1 in (
       search rules,
       omega arith,
       takes _ _ _ g.T.PagePlay.then _ _ _ _ c.args.page _ (omega arith) (omega arith) (omega arith) (e.0.0 ∙ (c.requires.own.1 ∙ sym st.key))

@@ -8,7 +8,7 @@ use Rattle.bl_store.proofs.Written.{has_draft, next_draft, next_others, next_kep
 use Rattle.bl_store.proofs.store.Store.write_blank.Goals as goal
 
 pub load-requires : goal.load-requires
-load-requires g c = let st = c.args.self.now in let wide = st.wide in let passes = ap (λ (z : Layout). z.passes) st.key in let spare_of = ap (λ (z : Layout). z.spare) st.key in let pages = ap (λ (z : Layout). z.pages) st.key in let spare_of = ap (λ (z : Layout). z.spare) st.key in let low = c.requires.draft.0 in let first = c.requires.frame.1 in
+load-requires g c = let st = c.args.self.now in let wide = st.wide in let passes = ap (λ (z : Layout). z.passes) st.key in let spare_of = ap (λ (z : Layout). z.spare) st.key in let pages = ap (λ (z : Layout). z.pages) st.key in let low = c.requires.draft.0 in let first = c.requires.frame.1 in
     let own = c.requires.own.1 in
     (search rules, omega arith, confirms _ _ _ _ _ _ c.args.frame c.args.at _ _ (other_drafts c.args.hand.now.seat) (omega arith) c.requires.draft.1.0 c.requires.draft.1.1 low (live_hand c.args.hand.now))
 
