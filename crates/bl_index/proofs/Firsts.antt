@@ -1,5 +1,5 @@
 -- An index as it is made.
-use Rattle.std.proofs.Common.{ℕ, zero, suc, ◌≡◌, ◌+◌, ◌<◌, ◌≤◌, Option, List, [], ◌∷◌, length, replicate, refl, sym, ap, ◌∙◌, subst, arith}
+use Rattle.std.proofs.Common.{ℕ, zero, suc, ◌≡◌, ◌⊎◌, ⊎_elim, ◌++◌, append-nil, ◌-◌, ◌+◌, ◌<◌, ◌≤◌, Option, List, [], ◌∷◌, length, replicate, refl, sym, ap, ◌∙◌, subst, arith}
 use Rattle.std.specs.Prelude.{Result, Ok, Err, IfOk}
 use mathlib.Core.Option.{some}
 use lib.ListN.{get_elem?}
@@ -8,7 +8,8 @@ use Rattle.bl_layout.specs.declared.layout.Layout.{Layout}
 use Rattle.bl_page.specs.declared.page.Page.{Page}
 use Rattle.bl_page.specs.declared.page.Page.TheVariants.{Anchor, Leaf, Inner, Dead}
 use Rattle.bl_page.specs.Words.{words_of}
-use Rattle.bl_store.specs.Opening.{first_pages, IsDealt}
+use Rattle.bl_store.specs.Opening.{first_pages, padded, IsDealt}
+use Rattle.bl_store.proofs.Dealing.{at_append, of_all, padded_long}
 use Rattle.bl_frames.specs.declared.view.View.{View}
 use Rattle.bl_frames.specs.Frames.{share}
 use Rattle.bl_index_rule.specs.Simulation.{beginner, newcomer, Simulates}
@@ -20,7 +21,7 @@ use Rattle.bl_claims.specs.Seeing.{IsSeen}
 use Rattle.bl_index.specs.declared.index.Index.{Index}
 use Rattle.bl_index.specs.declared.index.Pass.{Pass}
 use Rattle.bl_index.specs.Calls.{first_of}
-use Rattle.bl_index.specs.Opened.{IsFirstAnchor, IsFirstLeaf, AreFirst, IsNewHand, AreNew, ArePasses, IsBegun}
+use Rattle.bl_index.specs.Opened.{IsFirstAnchor, IsFirstLeaf, AreFirst, IsFirst, IsNewHand, AreNew, ArePasses, IsBegun}
 
 there : {A : Type 0} (l : List A) (i : ℕ) → i < length l → (a : A) × (get_elem? l i ≡ some a)
 there [] i h = absurd (omega arith)
@@ -38,6 +39,27 @@ leaf_words (Anchor a) is = absurd is
 leaf_words (Leaf l) is = rw (is.0, is.1, is.2, is.3) refl
 leaf_words (Inner i) is = absurd is
 leaf_words (Dead d) is = absurd is
+
+-- with only zeros behind its first pages, they are the words of the opening index
+pub pads : (many : ℕ) (contents : List (List ℕ)) → 2 ≤ many → AreFirst 2 contents → AreFirst many (padded many contents)
+pads many contents two f = let count = f.count in record {
+  count = padded_long many contents (omega (arith, count, two));
+  each = λ x words at. ⊎_elim (λ (h : (x < length contents) × (get_elem? contents x ≡ some words)). f.each x words h.1)
+      (λ (h : (length contents ≤ x) × (j : ℕ) × (get_elem? (replicate (many - length contents) (replicate 32 0)) j ≡ some words)). behind x words (omega (arith, count, h.0)) (sym (of_all (many - length contents) (replicate 32 0) h.1 words h.2)))
+      (at_append contents (replicate (many - length contents) (replicate 32 0)) x words at);
+}
+  where
+    behind : (x : ℕ) (words : List ℕ) → 2 ≤ x → words ≡ replicate 32 0 → IsFirst x words
+    behind zero words low is = absurd (omega (arith, low))
+    behind (suc zero) words low is = absurd (omega (arith, low))
+    behind (suc (suc x)) words low is = is
+
+-- nothing stands behind all pages
+pub padded_all : (many : ℕ) (contents : List (List ℕ)) → length contents ≡ many → padded many contents ≡ contents
+padded_all many contents all = ap (λ (n : ℕ). contents ++ replicate n (replicate 32 0)) (none (length contents) many all) ∙ append-nil contents
+  where
+    none : (a b : ℕ) → a ≡ b → b - a ≡ 0
+    none a b same = omega (arith, same)
 
 pub opens : (many : ℕ) (contents : List (List ℕ)) → 4 ≤ many → AreFirst many contents → (passes : ℕ) → Simulates (first_pages contents passes newcomer)
 opens many contents four f passes =

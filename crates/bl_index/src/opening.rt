@@ -1,7 +1,7 @@
 //! An index is made.
 
 ghost use Rattle.std.specs.Prelude.{◌≡◌, ◌≤◌, ◌^◌, [], length, IfOk, IfErr};
-ghost use Rattle.bl_store.specs.Opening.{first_pages as store_pages};
+ghost use Rattle.bl_store.specs.Opening.{first_pages as store_pages, padded};
 ghost use Rattle.bl_claims.specs.Seeing.{IsSeen};
 ghost use Rattle.bl_index_rule.specs.Simulation.{beginner as unborn_pass, Simulates};
 ghost use Rattle.bl_index.specs.Opened.{IsRefusal, IsLargeRefusal, IsRefusalOf, IsFirstAnchor, IsFirstLeaf, IsFirst, AreFirst, AreNew, ArePasses, IsBegun, IsOpened, IsReopened, IsImageRefusal};
@@ -12,12 +12,16 @@ use arrayvec::ArrayVec;
 use bl_check::Quiet;
 use bl_index_rule::{FirstPages, GhostTrail, PassState, Passes};
 use bl_index_steps::Tree;
+use bl_layout::Layout;
 use bl_model::limits::{LEAST_PAGES, MOST_LARGE_PAGES, MOST_PAGES};
 use bl_page::{Anchor, Leaf, Page};
 use bl_proc::{Find, FindStage, Proc};
 use bl_store::{Hand, Store};
 use std::alloc::{AllocError, Global};
 use std::collections::LinkedList;
+
+/// So many pages an index has in use when it is opened without rows.
+const PAGES_AT_FIRST: u32 = 2;
 
 /// The anchor of a tree whose only page is page 1.
 fn first_anchor() -> Page
@@ -51,7 +55,7 @@ fn first_words(page: u32) -> [u64; 32]
     }
 }
 
-/// The words of all its pages.
+/// The words of its first pages, so many.
 fn first_pages(alloc: Global, pages: u32) -> Result<Vec<[u64; 32]>, AllocError>
     ensures { IfOk result (λ v. AreFirst pages v.items) }
 {
@@ -169,30 +173,38 @@ impl Index {
         requires passes { (1 ≤ config.passes) × (config.passes ≤ 64) }
         ensures { IfOk result (λ t. IsOpened config t.0 t.1.items) }
     {
-        let words = first_pages(alloc, config.pages)?;
+        let words = first_pages(alloc, PAGES_AT_FIRST)?;
         let image = no_pages(alloc);
-        Self::begun(alloc, words.as_slice(), config.passes, &image)
+        Self::begun(alloc, words.as_slice(), config, &image)
     }
 
-    /// An index whose pages have these words, which are those of the image, or of the opening index where there is no image.
+    // An index whose first pages have these words, which are those of the image, or of the opening index where there is no image. All other
+    // pages are free.
     fn begun(
         alloc: Global,
         words: &[[u64; 32]],
-        passes: u32,
+        config: Config,
         image: &Vec<Option<Page>>,
     ) -> Result<(Index, Vec<Pass>), AllocError>
-        requires pages { (4 ≤ length words.now) × (length words.now ≤ 2 ^ 28) }
-        requires passes { (1 ≤ passes) × (passes ≤ 64) }
-        requires rule { Simulates (store_pages words.now passes (unborn_pass image.now.items)) }
+        requires pages { (4 ≤ config.pages) × (config.pages ≤ 2 ^ 28) }
+        requires passes { (1 ≤ config.passes) × (config.passes ≤ 64) }
+        requires words { length words.now ≤ config.pages }
+        requires rule { Simulates (store_pages (padded config.pages words.now) config.passes (unborn_pass image.now.items)) }
         requires seen { IsSeen image.now.items [] }
-        ensures { IfOk result (λ t. IsBegun image.now.items (length words.now) passes t.0 t.1.items) }
+        ensures { IfOk result (λ t. IsBegun image.now.items config.pages config.passes t.0 t.1.items) }
     {
         let first = FirstPages::of(image);
         let observed = FirstPages::of(image);
         let known = beginner(alloc, observed);
-        let pages = words.len() as u32;
+        let pages = config.pages;
+        let passes = config.passes;
         let spare = spare_of(pages, passes);
-        let (store, hands) = Store::sparing(alloc, words, passes, spare, &known)?;
+        let layout = Layout {
+            pages,
+            passes,
+            spare,
+        };
+        let (store, hands) = Store::of_layout(alloc, layout, words, &known)?;
         let made = passes_of(alloc, &store, &first, hands)?;
         let tree = Tree {
             store,
@@ -231,6 +243,12 @@ impl Index {
     {
         let image = quiet.image();
         let words = image.to_words(alloc)?;
-        Self::begun(alloc, words.as_slice(), passes, &image.pages)
+        let pages = words.len() as u32;
+        Self::begun(
+            alloc,
+            words.as_slice(),
+            Config { pages, passes },
+            &image.pages,
+        )
     }
 }

@@ -47,7 +47,7 @@ module _ {A : Type 0} where
   same_list (x ∷ xs) (y ∷ ys) e each = let here : x ≡ y = some-injective x y (each 0 y refl) in let rest = same_list xs ys (omega arith) (λ i a at. each (suc i) a at) in λ k. here k ∷ rest k
 
   -- an element of two lists stands in the first one or in the second
-  at_append : (xs ys : List A) (i : ℕ) (a : A) → get_elem? (xs ++ ys) i ≡ some a → ((i < length xs) × (get_elem? xs i ≡ some a)) ⊎ ((length xs ≤ i) × (j : ℕ) × (get_elem? ys j ≡ some a))
+  pub at_append : (xs ys : List A) (i : ℕ) (a : A) → get_elem? (xs ++ ys) i ≡ some a → ((i < length xs) × (get_elem? xs i ≡ some a)) ⊎ ((length xs ≤ i) × (j : ℕ) × (get_elem? ys j ≡ some a))
   at_append [] ys i a e = inr (omega arith, i, e)
   at_append (x ∷ xs) ys zero a e = inl (omega arith, e)
   at_append (x ∷ xs) ys (suc i) a e = ⊎_elim (λ (h : (i < length xs) × (get_elem? xs i ≡ some a)). inl (omega (arith, h.0), h.1)) (λ (h : (length xs ≤ i) × (j : ℕ) × (get_elem? ys j ≡ some a)). inr (omega (arith, h.0), h.1, h.2)) (at_append xs ys i a e)

@@ -212,10 +212,8 @@ impl<D, R: PageRule<D>, A: Allocator> Store<D, R, A> {
             return;
         }
         self.table.shared.peek(self.layout.page_owner_cell(page));
-        let found = self.table.shared.peek(self.heads + page as usize);
-        let frame = found.wrapping_sub(1);
-        if frame < self.layout.frames() as u64 {
-            self.table.shared.peek(self.firsts + 32 * frame as usize);
+        if let Some(peek) = self.peek_page(page) {
+            self.peek_word(peek, 0);
         }
     }
 
@@ -249,12 +247,8 @@ impl<D, R: PageRule<D>, A: Allocator> Store<D, R, A> {
     /// Fetches all of a page ahead of a look at it, and its owner's word. It is no event and tells nothing.
     #[inline(always)]
     pub fn fetch_whole(&self, page: u32) {
-        if page >= self.layout.pages {
-            return;
-        }
-        self.table.shared.peek(self.layout.page_owner_cell(page));
+        self.fetch(page);
         if let Some(peek) = self.peek_page(page) {
-            self.peek_word(peek, 0);
             self.peek_word(peek, 8);
             self.peek_word(peek, 16);
             self.peek_word(peek, 24);

@@ -2,12 +2,12 @@ use Rattle.std.proofs.Common.{◌≡◌, ◌∙◌, ℕ, List, length, map, sym,
 use Rattle.bl_image.specs.Images.{page_words, image_bytes}
 use Rattle.bl_image.specs.declared.image.Image.{Image}
 use Rattle.bl_check_tree.proofs.Beginnings.{AllFit}
-use Rattle.bl_store.specs.Opening.{first_pages}
+use Rattle.bl_store.specs.Opening.{first_pages, padded}
 use Rattle.bl_index_rule.specs.Simulation.{beginner, Simulates}
 use Rattle.bl_index_rule.proofs.Reopened.{beginner_seen, reopens, map_length}
 use Rattle.std.specs.Prelude.{IfOk}
 use Rattle.bl_index.specs.Opened.{IsReopened}
-use Rattle.bl_index.proofs.Firsts.{if_ok}
+use Rattle.bl_index.proofs.Firsts.{if_ok, padded_all}
 use Rattle.bl_index.proofs.Reopening.{is_image, is_reopened}
 use Rattle.bl_index.proofs.index.Index.made_from.Goals as goal
 
@@ -24,7 +24,10 @@ begun-requires-clause-rule c =
     let image = c.image-image.result.now in
     let fits : AllFit image.pages.items = c.in_ok-words.ensures.fits in
     let words : c.as_slice.result.now ≡ map page_words image.pages.items = c.as_slice.ensures.value ∙ c.in_ok-words.ensures.words in
-    subst (λ (z : List (List ℕ)). Simulates (first_pages z c.args.passes (beginner image.pages.items))) (sym words) (reopens image.pages.items (image_bytes image.pages.items) (is_image image fits) c.image-image.ensures.sound c.args.passes)
+    let count : length c.as_slice.result.now ≡ length image.pages.items = ap length words ∙ map_length image.pages.items in
+    let many = c.as_slice.ensures.len in
+    let all : padded _ c.as_slice.result.now ≡ map page_words image.pages.items = padded_all _ c.as_slice.result.now (omega arith) ∙ words in
+    subst (λ (z : List (List ℕ)). Simulates (first_pages z c.args.passes (beginner image.pages.items))) (sym all) (reopens image.pages.items (image_bytes image.pages.items) (is_image image fits) c.image-image.ensures.sound c.args.passes)
 
 pub begun-requires-clause-seen : goal.begun-requires-clause-seen
 begun-requires-clause-seen c =
