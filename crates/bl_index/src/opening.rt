@@ -243,12 +243,10 @@ impl Index {
     {
         let image = quiet.image();
         let words = image.to_words(alloc)?;
-        let pages = words.len() as u32;
-        Self::begun(
-            alloc,
-            words.as_slice(),
-            Config { pages, passes },
-            &image.pages,
-        )
+        let config = Config {
+            pages: words.len() as u32,
+            passes,
+        };
+        Self::begun(alloc, words.as_slice(), config, &image.pages)
     }
 }
