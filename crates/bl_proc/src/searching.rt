@@ -5,6 +5,7 @@ ghost use Rattle.bl_proc.specs.declared.searching.FindStage.TheVariants as find_
 ghost use Rattle.bl_proc_base.specs.Given.{Gives};
 ghost use Rattle.bl_proc.specs.Searches.{find_next_in, find_answer_in, find_next, find_needs, find_answer, FindGoes, FindTakes};
 
+use crate::parts::first_way;
 use bl_model::Reply;
 use bl_page::Words;
 use bl_proc_base::{Action, Answer, Descended, Descent, Process, Reader, Seen};
@@ -22,6 +23,10 @@ pub struct Find {
 pub enum FindStage {
     /// It is to begin.
     New,
+    /// It is to begin, and then to look at that page, from which its way may be short.
+    Near(u32),
+    /// It is to look whether that page is open.
+    Probing(u32),
     /// It is on its way to the leaf that covers its key.
     Descending(Descent),
     /// It is to end, with the key's value, if there is one.
@@ -38,6 +43,10 @@ fn went(key: u64, stage: FindStage, seen: &Seen) -> FindStage
 {
     match (stage, seen) {
         (FindStage::New, Seen::Done) => FindStage::Descending(Descent::AtAnchor),
+        (FindStage::Near(page), Seen::Done) => FindStage::Probing(page),
+        (FindStage::Probing(page), Seen::Probed(free)) => {
+            FindStage::Descending(first_way(page, *free))
+        }
         (FindStage::Descending(descent), Seen::Words(page)) => match descent.took(key, page) {
             Descended::On(next) => FindStage::Descending(next),
             Descended::Here => FindStage::Ending(listed(page, key)),
@@ -58,6 +67,17 @@ impl Find {
             stage: FindStage::New,
         }
     }
+
+    /// A search that is to begin, and then to look at that page, from which its way may be short. It may be any page.
+    pub fn near(key: u64, page: u32) -> Find
+        ensures key { result.key ≡ key }
+        ensures stage { result.stage ≡ find_stage.Near page }
+    {
+        Find {
+            key,
+            stage: FindStage::Near(page),
+        }
+    }
 }
 
 impl Process for Find {
@@ -71,7 +91,8 @@ impl Process for Find {
 
     fn next(&self) -> Action {
         match self.stage {
-            FindStage::New => Action::Begin,
+            FindStage::New | FindStage::Near(_) => Action::Begin,
+            FindStage::Probing(page) => Action::Probe(page),
             FindStage::Descending(descent) => descent.next(),
             FindStage::Ending(_) | FindStage::Over(_) => Action::End,
         }

@@ -42,6 +42,7 @@ left_paced w w' m b e g g' none all = then_paced w w' m b e g g' (λ p i. subst 
 
 find_early : (size : ℕ) (contents : ℕ → Page) (trail : Trail) (p : Name) (k : ℕ) (a : FindStage) → (know_find k a).stage ≡ Stage.Early → IsKept size contents trail p k (find_place a)
 find_early size contents trail p k find.New e = tt
+find_early size contents trail p k (find.Near x) e = tt
 find_early size contents trail p k old e = absurd (cc e)
 
 part_early : (size : ℕ) (contents : ℕ → Page) (trail : Trail) (p : Name) (k : ℕ) (a : PartStage) → (know_part k a).stage ≡ Stage.Early → IsKept size contents trail p k (part_place a)
@@ -80,6 +81,8 @@ not_begun w p g phase = (let none : IsPhase w.trail p Waiting = subst (IsPhase w
 
 find_within : (w : World Run) (p : Name) (k : ℕ) (a : FindStage) → IsGood know w → Knows w p k (find_place a) → IsKept w.size w.now.contents w.trail p k (find_place a) → IsWithinBound w.size p w.trail
 find_within w p k find.New g is h = not_begun w p g is.0
+find_within w p k (find.Near x) g is h = not_begun w p g is.0
+find_within w p k (find.Probing x) g is h = h.0.within
 find_within w p k (find.Descending d) g is h = h.within
 find_within w p k (find.Ending v) g is h = h.within
 find_within w p k (find.Over v) g is h = h.within

@@ -49,6 +49,8 @@ Knows w p k After = Unit {0}
 
 find_knows : (w : World Run) (p : Name) (k : ℕ) (a : FindStage) → IsSure w p (know_find k a) → Knows w p k (find_place a)
 find_knows w p k find.New is = (is.stage, is.sound)
+find_knows w p k (find.Near x) is = (is.stage, is.sound)
+find_knows w p k (find.Probing x) is = is.sound
 find_knows w p k (find.Descending d) is = (is.goes, is.sound)
 find_knows w p k (find.Ending v) is = tt
 find_knows w p k (find.Over v) is = tt
@@ -105,6 +107,8 @@ record Moved (s : State Page) (k : ℕ) (old : Place) (what : Seen) (a : Act Pag
 
 find_moved : (s : State Page) (size k : ℕ) (old : FindStage) (what : Seen) (new : FindStage) → FindGoes k old what new → IsObserved s size (find_next_in old) what → Moved s k (find_place old) what (event_of (find_end old) (find_next_in old) what) (find_place new)
 find_moved s size k find.New seen.Done (find.Descending d) h observed = record { goes = h; act = refl; observed = tt }
+find_moved s size k (find.Near x) seen.Done (find.Probing y) h observed = record { goes = tt; act = refl; observed = tt }
+find_moved s size k (find.Probing x) (seen.Probed free) (find.Descending d) h observed = record { goes = h; act = refl; observed = observed }
 find_moved s size k (find.Descending d) (seen.Words c) (find.Descending e) h observed = record { goes = h; act = refl; observed = observed }
 find_moved s size k (find.Descending d) (seen.Words c) (find.Ending v) h observed = record { goes = tt; act = refl; observed = observed }
 find_moved s size k (find.Ending v) seen.Done (find.Over u) h observed = record { goes = tt; act = (_, refl); observed = tt }

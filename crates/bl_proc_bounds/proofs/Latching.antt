@@ -207,6 +207,8 @@ lower_below got old x y e h = absurd (cc e)
 
 find_looks : (a : FindStage) (x : ℕ) → find_next_in a ≢ act.Latch x
 find_looks find.New x e = cc
+find_looks (find.Near y) x e = cc
+find_looks (find.Probing y) x e = cc
 find_looks (find.Descending d) x e = cc
 find_looks (find.Ending v) x e = cc
 find_looks (find.Over v) x e = cc

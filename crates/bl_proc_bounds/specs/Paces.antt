@@ -53,6 +53,8 @@ pub record Spends (size : ℕ) (contents : ℕ → Page) (trail : Trail) (p : Na
 
 abbrev pub find_place : FindStage → Place
 find_place find.New = Before
+find_place (find.Near x) = Before
+find_place (find.Probing x) = Trying x
 find_place (find.Descending d) = Going d
 find_place (find.Ending value) = After
 find_place (find.Over value) = After

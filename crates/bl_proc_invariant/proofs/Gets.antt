@@ -100,6 +100,8 @@ module _ {P : Type 0} (w : World P) (p : Name) where
 
   find_got : (key : ℕ) (a : FindStage) → IsSure w p (know_find key a) → IsGot w p (find_next_in a)
   find_got key find.New is = tt
+  find_got key (find.Near x) is = tt
+  find_got key (find.Probing x) is = tt
   find_got key (find.Descending d) is = descent_got key d is
   find_got key (find.Ending v) is = tt
   find_got key (find.Over v) is = tt

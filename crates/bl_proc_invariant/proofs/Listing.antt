@@ -61,7 +61,7 @@ module _ {P : Type 0} (know : P → Know) (w : World P) (g : IsGood know w) (p :
       is_part (w.map 0) (nodes w.now x).look (nodes w.now x).shape.low (nodes w.now x).shape.end from r.rows.items r.next (λ k low high. leaf_says know w g p x k may l.0 l.2 (low, high)) sound.covered l.1.0 l.1.1 g.bounded part.rows part.next
 
   -- an open page, but for the anchor, is one of the tree, which it may get
-  probed : (x : ℕ) (free : Bool) → IsStage Stage.Busy (w.now.phase p) → (free ≡ true → w.now.owner x ≡ Owner.Open) → Each (IsGoes w p) (descent_goes (way_by x free))
+  pub probed : (x : ℕ) (free : Bool) → IsStage Stage.Busy (w.now.phase p) → (free ≡ true → w.now.owner x ≡ Owner.Open) → Each (IsGoes w p) (descent_goes (way_by x free))
   probed zero free busy observed = tt
   probed (suc x) false busy observed = tt
   probed (suc x) true busy observed =

@@ -19,6 +19,8 @@ use Rattle.bl_proc_unique.proofs.KindCases.{FindCase, PartCase}
 
 find_writes : {key : ℕ} {a b : FindStage} {what : Seen} → FindCase key a what b → writes_in (event_of (find_end a) (find_next_in a) what) ≡ []
 find_writes (FindCase.Began d t) = refl
+find_writes (FindCase.BeganNear x y t) = refl
+find_writes (FindCase.Looked x free d t) = refl
 find_writes (FindCase.Went d c e t) = refl
 find_writes (FindCase.Found d c value t) = refl
 find_writes (FindCase.Ended value last t) = refl

@@ -111,6 +111,8 @@ module _ {P : Type 0} (know : P → Know) (w : World P) (g : IsGood know w) (p :
 
   find_near : (key : ℕ) (a : FindStage) → IsSure w p (know_find key a) → IsNear w p (find_next_in a)
   find_near key find.New is = tt
+  find_near key (find.Near x) is = tt
+  find_near key (find.Probing x) is = tt
   find_near key (find.Descending d) is = descent_there know w g p key d is
   find_near key (find.Ending v) is = tt
   find_near key (find.Over v) is = tt

@@ -66,6 +66,8 @@ growth_plain carried level key got growth.OpeningRefused = record { middle = ref
 
 find_plain : (key : ℕ) (a : FindStage) → IsPlain (know_find key a)
 find_plain key find.New = record { middle = refl }
+find_plain key (find.Near x) = record { middle = refl }
+find_plain key (find.Probing x) = record { middle = refl }
 find_plain key (find.Descending d) = record { middle = refl }
 find_plain key (find.Ending v) = record { middle = refl }
 find_plain key (find.Over v) = record { middle = refl }

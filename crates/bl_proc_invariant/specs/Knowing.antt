@@ -76,6 +76,8 @@ found key value = Some (record { op = op.Find key; reply = found_reply value })
 
 abbrev pub know_find : ℕ → FindStage → Know
 know_find key find.New = early key
+know_find key (find.Near x) = early key
+know_find key (find.Probing x) = record (idle Stage.Busy) { sound = key < unbounded }
 know_find key (find.Descending d) = know_descent key d
 know_find key (find.Ending value) = ending (found key value)
 know_find key (find.Over value) = late (found key value)
@@ -294,6 +296,8 @@ know r = know_of r.got r.child r.time r.state
 -- what is answered at an end
 abbrev pub find_end : FindStage → Option Reply
 find_end find.New = None
+find_end (find.Near x) = None
+find_end (find.Probing x) = None
 find_end (find.Descending d) = None
 find_end (find.Ending value) = Some (found_reply value)
 find_end (find.Over value) = None

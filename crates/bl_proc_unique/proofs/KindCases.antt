@@ -112,12 +112,16 @@ came_by level key a what m P Q h t lacks on there = absurd h.1
 
 pub data FindCase (key : ℕ) : FindStage → Seen → FindStage → Type 0 where
   Began : (d : Descent) → d ≡ descent.AtAnchor → FindCase key find.New seen.Done (find.Descending d)
+  BeganNear : (x y : ℕ) → y ≡ x → FindCase key (find.Near x) seen.Done (find.Probing y)
+  Looked : (x : ℕ) (free : Bool) (d : Descent) → d ≡ way_by x free → FindCase key (find.Probing x) (seen.Probed free) (find.Descending d)
   Went : (d : Descent) (c : Page) (e : Descent) → Descends key d c (descended.On e) → FindCase key (find.Descending d) (seen.Words c) (find.Descending e)
   Found : (d : Descent) (c : Page) (value : Option ℕ) → Descends key d c descended.Here × (value ≡ (node_of c).look key) → FindCase key (find.Descending d) (seen.Words c) (find.Ending value)
   Ended : (value last : Option ℕ) → last ≡ value → FindCase key (find.Ending value) seen.Done (find.Over last)
 
 pub find_case : (key : ℕ) (a : FindStage) (what : Seen) (b : FindStage) → FindGoes key a what b → FindCase key a what b
 find_case key find.New seen.Done (find.Descending d) t = Began d t
+find_case key (find.Near x) seen.Done (find.Probing y) t = BeganNear x y t
+find_case key (find.Probing x) (seen.Probed free) (find.Descending d) t = Looked x free d t
 find_case key (find.Descending d) (seen.Words c) (find.Descending e) t = Went d c e t
 find_case key (find.Descending d) (seen.Words c) (find.Ending value) t = Found d c value t
 find_case key (find.Ending value) seen.Done (find.Over last) t = Ended value last t

@@ -53,6 +53,8 @@ no_room a b e r = (let f : b ≡ a = cc in subst IsNoRoom f r)
 
 find_answers : (a : FindStage) (b : Answer) → find_answer_in a ≡ Some b → IsNoRoom b → ⊥
 find_answers find.New b e r = none_answer b e
+find_answers (find.Near x) b e r = none_answer b e
+find_answers (find.Probing x) b e r = none_answer b e
 find_answers (find.Descending d) b e r = none_answer b e
 find_answers (find.Ending v) b e r = none_answer b e
 find_answers (find.Over None) b e r = no_room _ b e r

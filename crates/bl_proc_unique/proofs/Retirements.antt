@@ -15,9 +15,6 @@ use Rattle.bl_proc_base.specs.Edits.{edit_next}
 use Rattle.bl_proc_base.specs.Growths.{growth_next}
 use Rattle.bl_rearrange.specs.declared.sides.Side.{Side}
 use Rattle.bl_rearrange.specs.declared.sides.Side.TheVariants as side
-use Rattle.bl_proc.specs.declared.searching.Find.{Find}
-use Rattle.bl_proc.specs.declared.searching.FindStage.{FindStage}
-use Rattle.bl_proc.specs.declared.searching.FindStage.TheVariants as find
 use Rattle.bl_proc_writes.specs.declared.writing.WriteStage.{WriteStage}
 use Rattle.bl_proc_writes.specs.declared.writing.WriteStage.TheVariants as write
 use Rattle.bl_proc_writes.specs.Writes.{write_next_in}
@@ -35,7 +32,6 @@ use Rattle.bl_proc_compress.specs.declared.squeezing.CompressStage.{CompressStag
 use Rattle.bl_proc_compress.specs.Compressions.{put_of, other, compression_next, Links, Decides}
 use Rattle.bl_proc_compress.specs.Compresses.{compress_next_in}
 use Rattle.bl_proc.specs.declared.kinds.Proc.TheVariants as proc
-use Rattle.bl_proc.specs.Searches.{find_next_in}
 use Rattle.bl_proc_writes.specs.Posts.{post_next_in}
 use Rattle.bl_proc.specs.Processes.{next_of, Takes}
 use Rattle.bl_proc_unique.specs.Retirements.{IsPutDone, RetiresAfter}
@@ -67,12 +63,6 @@ module _ (old : Action) (what : Seen) where
   growth_none (growth.OpeningTop x) = tt
   growth_none growth.OpeningGrown = tt
   growth_none growth.OpeningRefused = tt
-
-  find_none : (a : FindStage) → RetiresAfter old what (find_next_in a)
-  find_none find.New = tt
-  find_none (find.Descending d) = tt
-  find_none (find.Ending v) = tt
-  find_none (find.Over v) = tt
 
   pub write_none : (a : WriteStage) → RetiresAfter old what (write_next_in a)
   write_none write.New = tt
@@ -138,9 +128,6 @@ stage_after (CompressCase.Came a what b t) = approach_none (approach_next a) wha
 stage_after (CompressCase.Squeezed c what d t) = after_unless (compression_next c) what d (λ at decision e. to_retiring (squeeze_case _ c what _ t) e)
 stage_after (CompressCase.Lost c what a t) = approach_none (compression_next c) what a
 stage_after other = tt
-
-pub find_retires : (p q : Find) (what : Seen) → Takes (proc.Find p) what (proc.Find q) → RetiresAfter (next_of (proc.Find p)) what (next_of (proc.Find q))
-find_retires p q what t = find_none (next_of (proc.Find p)) what q.stage
 
 pub post_retires : (p q : Post) (what : Seen) → Takes (proc.Post p) what (proc.Post q) → RetiresAfter (next_of (proc.Post p)) what (next_of (proc.Post q))
 post_retires p q what t = post_none (next_of (proc.Post p)) what q.stage

@@ -14,8 +14,9 @@ use Rattle.bl_proc.specs.declared.kinds.Proc.{Proc}
 use Rattle.bl_proc.specs.declared.kinds.Proc.TheVariants.{Find}
 use Rattle.bl_proc.specs.declared.searching.Find.{Find as FindState}
 use Rattle.bl_proc.specs.declared.searching.FindStage.{FindStage}
-use Rattle.bl_proc.specs.declared.searching.FindStage.TheVariants.{New, Descending, Ending, Over}
+use Rattle.bl_proc.specs.declared.searching.FindStage.TheVariants.{New, Near, Probing, Descending, Ending, Over}
 use Rattle.bl_proc.specs.Searches.{find_next_in, find_answer_in, FindGoes}
+use Rattle.bl_proc.specs.Parts.{way_by}
 use Rattle.bl_proc.specs.Processes.{Takes}
 use Rattle.bl_proc_unique.specs.Courses.{GoesOn}
 use Rattle.bl_proc_unique.proofs.Descents.{descent_some, on_one, on_here}
@@ -23,6 +24,8 @@ use Rattle.bl_proc_unique.proofs.KindCases.{FindCase, find_case}
 
 find_same : {key : ℕ} {old : FindStage} {what : Seen} {a b : FindStage} → FindCase key old what a → FindCase key old what b → b ≡ a
 find_same (FindCase.Began d s) (FindCase.Began e t) = ap Descending (t ∙ sym s)
+find_same (FindCase.BeganNear x y s) (FindCase.BeganNear _ z t) = ap Probing (t ∙ sym s)
+find_same (FindCase.Looked x free d s) (FindCase.Looked _ _ e t) = ap Descending (t ∙ sym s)
 find_same {key = key} (FindCase.Went d c e s) (FindCase.Went _ _ f t) = ap Descending (on_one key d c e f s t)
 find_same {key = key} (FindCase.Went d c e s) (FindCase.Found _ _ v t) = absurd (on_here key d c e s t.0)
 find_same {key = key} (FindCase.Found d c v s) (FindCase.Went _ _ e t) = absurd (on_here key d c e t s.0)
@@ -35,6 +38,8 @@ descends key d c Here t = (Ending ((node_of c).look key), (t, refl))
 
 stage_goes : (key : ℕ) (old : FindStage) (what : Seen) → find_answer_in old ≡ None → Gives (find_next_in old) None what → (new : FindStage) × FindGoes key old what new
 stage_goes key New seen.Done a g = (Descending AtAnchor, refl)
+stage_goes key (Near x) seen.Done a g = (Probing x, refl)
+stage_goes key (Probing x) (seen.Probed free) a g = (Descending (way_by x free), refl)
 stage_goes key (Descending d) (seen.Words c) a g = (let to = descent_some key d c in descends key d c to.0 to.1)
 stage_goes key (Ending v) seen.Done a g = (Over v, refl)
 stage_goes key (Over v) what a g = (let z : Some _ ≡ None = a in cc)
