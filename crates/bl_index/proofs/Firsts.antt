@@ -20,7 +20,8 @@ use Rattle.bl_index_rule.specs.declared.known.PassState.{PassState}
 use Rattle.bl_claims.specs.Seeing.{IsSeen}
 use Rattle.bl_index.specs.declared.index.Index.{Index}
 use Rattle.bl_index.specs.declared.index.Pass.{Pass}
-use Rattle.bl_index.specs.Calls.{first_of}
+use Rattle.bl_layout.specs.Words.{HasFrames}
+use Rattle.bl_index.specs.Calls.{first_of, frames_of}
 use Rattle.bl_index.specs.Opened.{IsFirstAnchor, IsFirstLeaf, AreFirst, IsFirst, IsNewHand, AreNew, ArePasses, IsBegun}
 
 there : {A : Type 0} (l : List A) (i : ℕ) → i < length l → (a : A) × (get_elem? l i ≡ some a)
@@ -84,10 +85,11 @@ opens many contents four f passes =
 pub new_hands : (table : TableId) (l : Layout) (first : List (Option Page)) (known : PassState) (passes : ℕ) (hands : List (Hand PassState)) → known ≡ beginner first → IsDealt table l known passes hands → AreNew table l first 0 hands
 new_hands table l first known passes hands is h j hand at = let same : j ≡ 0 + j = omega arith in subst (λ (z : ℕ). IsNewHand table l first z hand) same (subst (λ (z : PassState). (hand.number ≡ j) × (hand.seat.table_id ≡ table) × (hand.seat.me.0 ≡ share l z j (j + 1))) is (h.each j hand at))
 
-pub is_begun : (first image : List (Option Page)) (pages among : ℕ) (index : Index) (hands : List (Hand PassState)) (passes : List Pass) → index.store.layout.pages ≡ pages → index.store.layout.passes ≡ among → length hands ≡ among → ArePasses index.store.table.shared.table_id index.store.layout first (length hands) passes → first_of index ≡ first → first ≡ image → IsSeen image [] → IsBegun image pages among index passes
-is_begun first image pages among index hands passes pages_are passes_are many are begins same seen = record {
+pub is_begun : (first image : List (Option Page)) (pages among : ℕ) (index : Index) (hands : List (Hand PassState)) (passes : List Pass) → index.store.layout.pages ≡ pages → index.store.layout.passes ≡ among → HasFrames pages among (frames_of index) → length hands ≡ among → ArePasses index.store.table.shared.table_id index.store.layout first (length hands) passes → first_of index ≡ first → first ≡ image → IsSeen image [] → IsBegun image pages among index passes
+is_begun first image pages among index hands passes pages_are passes_are frames many are begins same seen = record {
   pages = pages_are;
   passes_are = passes_are;
+  frames = frames;
   count = are.count ∙ many;
   each = λ n pass at. (let is = are.each n pass at in ((is.1, ap (λ (v : View PassState). v.layout) is.2, ap (λ (v : View PassState). v.known.first) is.2 ∙ sym begins), is.0, ap (λ (v : View PassState). v.known.trail) is.2));
   first = begins ∙ same;

@@ -21,6 +21,7 @@ use Rattle.bl_claims.specs.Hinted.{MeansInserted, MeansWritten}
 use Rattle.bl_claims.specs.Climbed.{MeansClimbed}
 use Rattle.bl_claims.specs.Squeezed.{MeansSqueezed}
 use Rattle.bl_claims.specs.Lowered.{MeansLowered}
+use Rattle.bl_layout.specs.Words.{frame_count}
 use Rattle.bl_store.specs.Hands.{known, WasRefused}
 use Rattle.bl_claims.specs.Seeing.{first_map, IsLinearizable, own, name}
 use Rattle.bl_index_rule.specs.Observed.{IsRelease}
@@ -34,6 +35,10 @@ pages_of index = index.store.layout.pages
 
 abbrev pub passes_of : Index → ℕ
 passes_of index = index.store.layout.passes
+
+-- how many frames it has: each keeps the words of a page
+abbrev pub frames_of : Index → ℕ
+frames_of index = frame_count index.store.layout
 
 -- what the index began with, as its store lent it to each pass: the pages of an image, or no pages where it was opened empty
 abbrev pub first_of : Index → List (Option Page)

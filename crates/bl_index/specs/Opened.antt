@@ -20,7 +20,8 @@ use Rattle.bl_index.specs.declared.config.OpenFault.{OpenFault}
 use Rattle.bl_index.specs.declared.config.OpenFault.TheVariants.{Pages, Passes, Memory}
 use Rattle.bl_index.specs.declared.index.Index.{Index}
 use Rattle.bl_index.specs.declared.index.Pass.{Pass}
-use Rattle.bl_index.specs.Calls.{pages_of, passes_of, first_of, IsPassOf, number_of, trail}
+use Rattle.bl_layout.specs.Words.{HasFrames}
+use Rattle.bl_index.specs.Calls.{pages_of, passes_of, frames_of, first_of, IsPassOf, number_of, trail}
 
 -- it has as many pages as an index may have, so many at most
 abbrev pub HasPages : ℕ → Config → Type 0
@@ -40,11 +41,12 @@ IsRefusal config why = IsRefusalOf 65536 config why
 abbrev pub IsLargeRefusal : Config → OpenFault → Type 0
 IsLargeRefusal config why = IsRefusalOf (2 ^ 28) config why
 
--- The index has so many pages, and began so. There is a pass of it for each number, in their order. None has seen anything, so
+-- The index has so many pages, and the frames that these take, and began so. There is a pass of it for each number, in their order. None has seen anything, so
 -- that it stands at what the index began with.
 pub record IsBegun (image : List (Option Page)) (size among : ℕ) (index : Index) (passes : List Pass) : Type 0 where
   pub pages : pages_of index ≡ size
   pub passes_are : passes_of index ≡ among
+  pub frames : HasFrames size among (frames_of index)
   pub count : length passes ≡ among
   pub each : (n : ℕ) (pass : Pass) → get_elem? passes n ≡ some pass → IsPassOf index pass × (number_of pass ≡ n) × (trail pass ≡ [])
   pub first : first_of index ≡ image

@@ -66,21 +66,6 @@ fn first_pages(alloc: Global, pages: u32) -> Result<Vec<[u64; 32]>, AllocError>
     Ok(first)
 }
 
-/// How many frames an index has to spare beside one for each page: as many as pages, but of a large one an eighth of them, and no
-/// fewer than one that is not large has. Each put takes one, until no process is left that may read the one that it retires.
-fn spare_of(pages: u32, passes: u32) -> u32
-    requires pages { (4 ≤ pages) × (pages ≤ 2 ^ 28) }
-    requires passes { passes ≤ 64 }
-    ensures { (1 ≤ result) × (result ≤ 2 ^ 29) }
-{
-    let spare = if pages > MOST_PAGES {
-        (pages / 8).max(MOST_PAGES)
-    } else {
-        pages
-    };
-    spare + 8 * passes
-}
-
 /// What an index begins with that is opened empty.
 fn no_pages(alloc: Global) -> Vec<Option<Page>>
     ensures { result.items ≡ [] }
@@ -196,20 +181,13 @@ impl Index {
         let first = FirstPages::of(image);
         let observed = FirstPages::of(image);
         let known = beginner(alloc, observed);
-        let pages = config.pages;
-        let passes = config.passes;
-        let spare = spare_of(pages, passes);
-        let layout = Layout {
-            pages,
-            passes,
-            spare,
-        };
+        let layout = Layout::of(config.pages, config.passes);
         let (store, hands) = Store::of_layout(alloc, layout, words, &known)?;
         let made = passes_of(alloc, &store, &first, hands)?;
         let tree = Tree {
             store,
-            pages,
-            passes,
+            pages: config.pages,
+            passes: config.passes,
         };
         Ok((Index { tree }, made))
     }

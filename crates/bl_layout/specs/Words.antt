@@ -1,11 +1,18 @@
 -- Where each word of a store stands in its table.
-use Rattle.std.specs.Prelude.{ℕ, ◌+◌, ◌*◌, ◌<◌}
+use Rattle.std.specs.Prelude.{ℕ, ◌≡◌, ◌+◌, ◌*◌, ◌/◌, ◌<◌, ◌≤◌}
 use Rattle.bl_layout.specs.declared.layout.Layout.{Layout}
 use Rattle.bl_layout.specs.declared.word.Word.{Word}
 use Rattle.bl_layout.specs.declared.word.Word.TheVariants.{Clock, Process, Page, PageOwner, FrameOwner, FrameWord}
 
 abbrev pub frame_count : Layout → ℕ
 frame_count l = l.pages + l.spare
+
+-- So many frames are those that so many pages and passes take: two for each page up to 65,536 pages, and above one for each and an eighth of
+-- that, or 65,536 where an eighth is less; and eight for each pass.
+abbrev pub HasFrames : ℕ → ℕ → ℕ → Type 0
+HasFrames pages passes frames = (pages ≤ 65536 → frames ≡ 2 * pages + 8 * passes)
+    × (65536 < pages → pages / 8 ≤ 65536 → frames ≡ pages + 65536 + 8 * passes)
+    × (65536 < pages → 65536 < pages / 8 → frames ≡ pages + pages / 8 + 8 * passes)
 
 -- the number of all words together
 abbrev pub word_count : Layout → ℕ

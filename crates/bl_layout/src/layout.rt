@@ -3,6 +3,9 @@ ghost use Rattle.std.specs.Prelude.{◌≡◌, ◌<◌, ◌≤◌, ◌+◌, ◌*
 
 use crate::word::Word;
 
+/// A store with more pages is a large one.
+const MOST_SMALL_PAGES: u32 = 65_536;
+
 /// How many pages and passes a store has: 4 to 2^28 pages, and 1 to 64 passes. Beside a frame for each page it has some to spare.
 #[derive(Clone, Copy)]
 pub struct Layout {
@@ -15,20 +18,34 @@ pub struct Layout {
 }
 
 impl Layout {
-    ghost use Rattle.bl_layout.specs.Words.{frame_count, word_count, number_of, IsNamed};
+    ghost use Rattle.bl_layout.specs.Words.{frame_count, HasFrames, word_count, number_of, IsNamed};
 
-    /// A store with twice as many frames as pages, and eight more for each pass.
+    /// A store with the frames that so many pages and passes take: one for each page, and to spare as many as pages, but of a large store an
+    /// eighth of them, and no fewer than a small one has; and eight for each pass. Each put takes a frame, until no process is left that
+    /// may read the one that it retires.
     pub fn of(pages: u32, passes: u32) -> Layout
         requires pages { (4 ≤ pages) × (pages ≤ 2 ^ 28) }
         requires passes { (1 ≤ passes) × (passes ≤ 64) }
         ensures sizes { (result.pages ≡ pages) × (result.passes ≡ passes) }
-        ensures frames { frame_count result ≡ 2 * pages + 8 * passes }
+        ensures frames { HasFrames pages passes (frame_count result) }
     {
+        let spare = if pages > MOST_SMALL_PAGES {
+            (pages / 8).max(MOST_SMALL_PAGES)
+        } else {
+            pages
+        };
         Layout {
             pages,
             passes,
-            spare: pages + 8 * passes,
+            spare: spare + 8 * passes,
         }
+    }
+
+    /// Whether it has so many pages that not each may have two frames.
+    pub fn is_large(self) -> bool
+        ensures { IsTrue result ↔ 65536 < self.pages }
+    {
+        self.pages > MOST_SMALL_PAGES
     }
 
     /// The number of frames.

@@ -1,6 +1,7 @@
 //! The numbers of the words in which a store of pages keeps everything that threads share.
 //!
-//! A store of `pages` pages that `passes` passes use has `2 * pages + 8 * passes` frames, each with room for the 32 words of one page.
+//! A store of `pages` pages that `passes` passes use has `2 * pages + 8 * passes` frames, each with room for the 32 words of one page; with
+//! more than 65,536 pages it has fewer beside one for each page.
 //! Its words are numbered in this order: the clock, a process word for each pass, a word for each page, an owner for each page, an
 //! owner for each frame, and the words of the frames. The numbers are this project's own format.
 //!

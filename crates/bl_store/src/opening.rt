@@ -5,7 +5,7 @@ ghost use Rattle.bl_frames.specs.Frames.{share};
 ghost use Rattle.bl_store.specs.Opening.{first_pages, padded, is_blank, Laid, IsDealt};
 ghost use Rattle.bl_frames.specs.declared.view.Sealing.TheVariants.{Unsealed};
 
-use crate::room::{Room, first_frame, is_large};
+use crate::room::{Room, first_frame};
 use crate::store::{APART, Hand, RING, Store};
 use atomic_table::{Seat, Split, Table};
 use bl_frames::{Ground, PageRule, View};
@@ -111,7 +111,7 @@ impl<D> Hand<D> {
         ensures { (result.number ≡ number) × (result.seat ≡ seat) }
     {
         let frames = layout.frames();
-        let is_large = is_large(layout.pages);
+        let is_large = layout.is_large();
         let frame = if is_large {
             first_frame(number)
         } else {

@@ -6,7 +6,7 @@ ghost use Rattle.bl_frames.specs.Frames.{owner_at};
 ghost use Rattle.bl_frames.specs.Observed.{wanted};
 ghost use Rattle.bl_store.specs.Hands.{known, IsSameHand, IsSameReading, IsSameStage, IsSameStock, IsQuiet, HasNoStock, IsStockOf, MayRetire, SawTaken, IsTried, IsWhy, WasRefused};
 
-use crate::room::{end_near, is_large};
+use crate::room::end_near;
 use crate::stock::{NoRoom, Stock};
 use crate::store::{Hand, RING, Store};
 use bl_frames::plays::{Allot, Ask, Note, Refuse, Reserve, Return, Take};
@@ -129,7 +129,7 @@ impl<D, R: PageRule<D>, A: Allocator> Store<D, R, A> {
         let ready = stock.count;
         let total = self.layout.frames();
         let first = hand.frame.min(total);
-        let end = end_near(self.layout.pages, first, total);
+        let end = end_near(self.layout, first);
         self.try_frames(hand, stock, first, end, wanted);
         let (from, to) = self.fresh_frames(stock.count < wanted);
         self.try_frames(hand, stock, from, to, wanted);
@@ -143,7 +143,7 @@ impl<D, R: PageRule<D>, A: Allocator> Store<D, R, A> {
     fn fresh_frames(&self, are_wanted: bool) -> (u32, u32)
         ensures { (result.0 ≤ result.1) × (result.1 ≤ frame_count self.now.layout) }
     {
-        if are_wanted && is_large(self.layout.pages) {
+        if are_wanted && self.layout.is_large() {
             self.room.take_chunk(self.layout.frames())
         } else {
             (0, 0)

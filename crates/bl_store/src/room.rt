@@ -2,8 +2,10 @@
 //! first where this says, and then at all.
 
 ghost use Rattle.std.specs.Prelude.{◌<◌, ◌≤◌, ◌^◌};
+ghost use Rattle.bl_layout.specs.Words.{frame_count};
 
 use crate::opening::is_all_zeros;
+use bl_layout::Layout;
 use std::alloc::{AllocError, Global};
 use std::sync::atomic::{AtomicU64, Ordering};
 
@@ -12,9 +14,6 @@ const BLOCK: u32 = 4_096;
 
 /// So many frames that nobody has used yet a hand takes at once, and it looks at so many before it does.
 const CHUNK: u32 = 1_024;
-
-/// A store with more pages is a large one.
-const MOST_SMALL: u32 = 65_536;
 
 /// Nobody has walked since room may have come.
 const UNKNOWN: u64 = 0;
@@ -198,26 +197,21 @@ impl Room {
     }
 }
 
-/// Whether a store of so many pages is a large one. A small one keeps the frames in use close together and takes low ones first; in a
-/// large one it would take too long to pass by all that are in use.
-pub(crate) fn is_large(pages: u32) -> bool {
-    pages > MOST_SMALL
-}
-
 /// The frame at which the hand of that number begins to look, in a large store.
 pub(crate) fn first_frame(number: u32) -> u32 {
     number.wrapping_mul(CHUNK)
 }
 
-/// The end of what a hand looks at from a frame on, in a store of so many pages and frames, before it takes frames that nobody has used.
-pub(crate) fn end_near(pages: u32, frame: u32, frames: u32) -> u32
-    requires { (frame ≤ frames) × (frames ≤ 2 ^ 30) }
-    ensures { (frame ≤ result) × (result ≤ frames) }
+/// The end of what a hand looks at from a frame on, before it takes frames that nobody has used. A small store keeps the frames in use close
+/// together, and all are looked at; in a large one it would take too long to pass by all that are in use.
+pub(crate) fn end_near(layout: Layout, frame: u32) -> u32
+    requires { frame ≤ frame_count layout }
+    ensures { (frame ≤ result) × (result ≤ frame_count layout) }
 {
-    if is_large(pages) {
-        frames.min(frame + CHUNK)
+    if layout.is_large() {
+        layout.frames().min(frame + CHUNK)
     } else {
-        frames
+        layout.frames()
     }
 }
 
