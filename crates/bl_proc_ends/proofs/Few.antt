@@ -93,6 +93,8 @@ module _ (w : World Run) (g : IsGood know w) (p : Name) where
 
   find_few : (key : ℕ) (a : FindStage) → know (w.proc p) ≡ know_find key a → Few (find_left w.size w.now.contents key a) most
   find_few key find.New is = record { turns = most; left = refl; few = omega arith }
+  find_few key (find.Near x) is = record { turns = most; left = refl; few = omega arith }
+  find_few key (find.Probing x) is = record { turns = 8 * w.size + 39; left = omega arith; few = omega arith }
   find_few key (find.Descending d) is = (let s = sure_of w g p (know_find key (find.Descending d)) is in let n = descent_near know w g key s.sound p d s.goes in let few = n.few in record { turns = 4 * n.gets + 1; left = record { gets = n.gets; ahead = n.ahead; count = omega arith }; few = omega (arith, few) })
   find_few key (find.Ending value) is = record { turns = 1; left = refl; few = omega arith }
   find_few key (find.Over value) is = record { turns = 0; left = refl; few = omega arith }

@@ -1,10 +1,11 @@
 -- Each turn of a search, a write of one key and a lowering that puts nothing leaves fewer turns, but for a missed latch.
-use Rattle.std.proofs.Common.{ℕ, ◌≡◌, ◌⊎◌, ◌+◌, ◌*◌, ◌<◌, ◌≤◌, List, arith, ap, sym, refl, inl, inr, subst}
+use Rattle.std.proofs.Common.{ℕ, Bool, ◌≡◌, ◌⊎◌, ◌+◌, ◌*◌, ◌<◌, ◌≤◌, List, arith, ap, sym, refl, inl, inr, subst}
 use Rattle.bl_model.specs.declared.deciding.KeyWrite.{KeyWrite}
 use Rattle.bl_page.specs.declared.page.Page.{Page}
 use Rattle.bl_page.specs.Machine.{Name}
 use Rattle.bl_page.specs.Nodes.{unbounded, roots_of}
 use Rattle.bl_core.specs.Worlds.{Know, World, IsSure, IsGood}
+use Rattle.bl_proc_base.specs.declared.acts.Action.TheVariants as act
 use Rattle.bl_proc_base.specs.declared.acts.Seen.{Seen}
 use Rattle.bl_proc_base.specs.declared.acts.Seen.TheVariants as seen
 use Rattle.bl_proc_base.specs.declared.approaching.Approach.{Approach}
@@ -32,7 +33,7 @@ use Rattle.bl_proc_writes.specs.declared.writing.WriteStage.TheVariants as write
 use Rattle.bl_proc_writes.specs.Writes.{write_next_in}
 use Rattle.bl_proc_unique.proofs.WayCases.{edit_case}
 use Rattle.bl_proc_unique.proofs.KindCases.{FindCase, PartCase, WriteCase, LowerCase}
-use Rattle.bl_proc_unique.proofs.KindCases.FindCase.{Began as FindBegan, Ended as FindEnded, Found as FindFound, Went as FindWent}
+use Rattle.bl_proc_unique.proofs.KindCases.FindCase.{Began as FindBegan, BeganNear as FindBeganNear, Ended as FindEnded, Found as FindFound, Looked as FindLooked, Went as FindWent}
 use Rattle.bl_proc_unique.proofs.KindCases.PartCase.{Began as PartBegan, BeganNear as PartBeganNear, Ended as PartEnded, Listed as PartListed, Looked as PartLooked, Went as PartWent}
 use Rattle.bl_proc_unique.proofs.KindCases.WriteCase.{Began as WriteBegan, Came as WriteCame, Changed as WriteChanged, Edited as WriteEdited, Ended as WriteEnded, Finished as WriteFinished, Kept as WriteKept, Opened as WriteOpened}
 use Rattle.bl_proc_unique.proofs.KindCases.LowerCase.{Began as LowerBegan, Ended as LowerEnded, Finished as LowerFinished, Sank as LowerSank}
@@ -46,7 +47,7 @@ use Rattle.bl_proc_progress.specs.Holds.{edit_hold}
 use Rattle.bl_proc_progress.specs.Ways.{IsLeft}
 use Rattle.bl_proc_progress.proofs.Nearing.{edit_near, edit_most, edit_some}
 use Rattle.bl_proc_progress.proofs.Shortening.{shortens}
-use Rattle.bl_proc_ends.specs.Left.{IsOnWay, find_left, part_left, write_left, lowering_turns, lower_left}
+use Rattle.bl_proc_ends.specs.Left.{most_turns, IsOnWay, find_left, part_left, write_left, lowering_turns, lower_left}
 
 -- so many turns are left then: fewer, or one more after a missed latch
 pub record Fewer (P : ℕ → Type 0) (what : Seen) (turns : ℕ) : Type 0 where
@@ -98,8 +99,17 @@ module _ (w : World Run) (g : IsGood know w) (p : Name) where
   pub from_anchor : (key : ℕ) → key < unbounded → Near w.now.contents key AtAnchor (2 * w.size)
   from_anchor key small = (let n = anchor_near know w g key small in let few = n.few in record { gets = n.gets; ahead = n.ahead; few = omega (arith, few) })
 
+  -- a search has looked at the page that it has in mind
+  probed_off : (key x : ℕ) (free : Bool) (d : Descent) (turns : ℕ) → key < unbounded → IsObserved w.now w.size (act.Probe x) (seen.Probed free) → d ≡ way_by x free → turns + 1 ≡ most_turns w.size → Fewer (λ n. IsLeft w.now.contents key d 1 0 n) (seen.Probed free) turns
+  probed_off key x free d turns small observed e l =
+      let n = probed_near know w g key small x free observed in
+      let few = n.few in
+      subst (λ v. Fewer (λ m. IsLeft w.now.contents key v 1 0 m) (seen.Probed free) turns) (sym e) (set_off key (way_by x free) (seen.Probed free) turns (record { gets = n.gets; ahead = n.ahead; few = omega (arith, few) }) (omega (arith, l)))
+
   pub find_fewer : {key : ℕ} {a b : FindStage} {what : Seen} (turns : ℕ) → FindCase key a what b → know (w.proc p) ≡ know_find key a → IsObserved w.now w.size (find_next_in a) what → find_left w.size w.now.contents key a turns → Fewer (find_left w.size w.now.contents key b) what turns
   find_fewer {key} turns (FindBegan d e) is observed l = subst (λ v. Fewer (λ n. IsLeft w.now.contents key v 1 0 n) seen.Done turns) (sym e) (set_off key AtAnchor seen.Done turns (from_anchor key (sure_of (know_find key find.New) is).sound) (omega (arith, l)))
+  find_fewer {key} turns (FindBeganNear x y e) is observed l = fewer _ seen.Done turns (8 * w.size + 39) (omega arith) (omega (arith, l))
+  find_fewer {key} turns (FindLooked x free d e) is observed l = probed_off key x free d turns (sure_of (know_find key (find.Probing x)) is).sound observed e l
   find_fewer {key} turns (FindWent d c e h) is observed l = search_on w.now.contents key d e c (seen.Words c) turns observed h l
   find_fewer {key} turns (FindFound d c value h) is observed l = fewer _ (seen.Words c) turns 1 refl (left_some w.now.contents key d turns l)
   find_fewer {key} turns (FindEnded value last e) is observed l = fewer _ seen.Done turns 0 refl (omega (arith, l))
@@ -107,10 +117,7 @@ module _ (w : World Run) (g : IsGood know w) (p : Name) where
   pub part_fewer : {from : ℕ} {a b : PartStage} {what : Seen} (turns : ℕ) → PartCase from a what b → know (w.proc p) ≡ know_part from a → IsObserved w.now w.size (part_next_in a) what → part_left w.size w.now.contents from a turns → Fewer (part_left w.size w.now.contents from b) what turns
   part_fewer {from} turns (PartBegan d e) is observed l = subst (λ v. Fewer (λ n. IsLeft w.now.contents from v 1 0 n) seen.Done turns) (sym e) (set_off from AtAnchor seen.Done turns (from_anchor from (sure_of (know_part from part.New) is).sound) (omega (arith, l)))
   part_fewer {from} turns (PartBeganNear x y e) is observed l = fewer _ seen.Done turns (8 * w.size + 39) (omega arith) (omega (arith, l))
-  part_fewer {from} turns (PartLooked x free d e) is observed l =
-      let n = probed_near know w g from (sure_of (know_part from (part.Probing x)) is).sound x free observed in
-      let few = n.few in
-      subst (λ v. Fewer (λ m. IsLeft w.now.contents from v 1 0 m) (seen.Probed free) turns) (sym e) (set_off from (way_by x free) (seen.Probed free) turns (record { gets = n.gets; ahead = n.ahead; few = omega (arith, few) }) (omega (arith, l)))
+  part_fewer {from} turns (PartLooked x free d e) is observed l = probed_off from x free d turns (sure_of (know_part from (part.Probing x)) is).sound observed e l
   part_fewer {from} turns (PartWent d c e h) is observed l = search_on w.now.contents from d e c (seen.Words c) turns observed h l
   part_fewer {from} turns (PartListed d c r h) is observed l = fewer _ (seen.Words c) turns 1 refl (left_some w.now.contents from d turns l)
   part_fewer {from} turns (PartEnded r last e) is observed l = fewer _ seen.Done turns 0 refl (omega (arith, l))

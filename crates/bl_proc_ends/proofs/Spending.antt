@@ -358,6 +358,8 @@ climb_spends (ClimbEnded r last e) = inl (keeps 0 act.End seen.Done 0 (omega ari
 
 find_none : (a : FindStage) (x : ℕ) (c : Page) → find_next_in a ≢ act.Put x c
 find_none find.New x c e = cc
+find_none (find.Near y) x c e = cc
+find_none (find.Probing y) x c e = cc
 find_none (find.Descending d) x c e = cc
 find_none (find.Ending v) x c e = cc
 find_none (find.Over v) x c e = cc

@@ -48,6 +48,8 @@ pub record IsOnWay (contents : ℕ → Page) (key : ℕ) (a : Approach) (more tu
 
 abbrev pub find_left : ℕ → (ℕ → Page) → ℕ → FindStage → ℕ → Type 0
 find_left size contents key find.New turns = turns ≡ most_turns size
+find_left size contents key (find.Near x) turns = turns ≡ most_turns size
+find_left size contents key (find.Probing x) turns = turns + 1 ≡ most_turns size
 find_left size contents key (find.Descending d) turns = IsLeft contents key d 1 0 turns
 find_left size contents key (find.Ending value) turns = turns ≡ 1
 find_left size contents key (find.Over value) turns = turns ≡ 0

@@ -102,6 +102,8 @@ coming_alone level key a x e = approach_alone (unsaid []) level key a x e
 
 pub find_looks : (a : FindStage) (x : ℕ) → find_next_in a ≢ act.Latch x
 find_looks find.New x e = cc
+find_looks (find.Near y) x e = cc
+find_looks (find.Probing y) x e = cc
 find_looks (find.Descending d) x e = cc
 find_looks (find.Ending v) x e = cc
 find_looks (find.Over v) x e = cc
@@ -243,6 +245,8 @@ climb_none key value path got child (climb.Over r) e = refl
 
 find_none : (key : ℕ) (a : FindStage) → (know_find key a).holds ≡ []
 find_none key find.New = refl
+find_none key (find.Near x) = refl
+find_none key (find.Probing x) = refl
 find_none key (find.Descending d) = refl
 find_none key (find.Ending value) = refl
 find_none key (find.Over value) = refl

@@ -169,6 +169,8 @@ module _ (w : World Run) (g : IsGood know w) (p : Name) where
 
   find_none : (a : FindStage) (x : ℕ) (c : Page) → find_next_in a ≡ act.Put x c → ⊥
   find_none find.New x c e = cc
+  find_none (find.Near y) x c e = cc
+  find_none (find.Probing y) x c e = cc
   find_none (find.Descending d) x c e = cc
   find_none (find.Ending v) x c e = cc
   find_none (find.Over v) x c e = cc

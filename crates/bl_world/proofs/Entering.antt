@@ -56,6 +56,7 @@ use Rattle.bl_world.proofs.Places.{push_cases, push_length}
 -- A process that is to begin has done nothing.
 
 find_blank : (k : ℕ) (a : FindStage) → k < 2 ^ 64 → find_next_in a ≡ act.Begin → IsBlank (know_find k a)
+find_blank k (find.Near x) small e = record { stage = refl; said = refl; holds = refl; goes = refl; children = refl; passed = refl; sound = small }
 find_blank k find.New small e = record { stage = refl; said = refl; holds = refl; goes = refl; children = refl; passed = refl; sound = small }
 find_blank k old small e = absurd cc
 

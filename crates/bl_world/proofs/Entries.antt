@@ -111,6 +111,8 @@ squeeze_said level key got (OpeningParent x end) = refl
 
 find_op : (k : ℕ) (a : FindStage) (s : Said) → (know_find k a).said ≡ Some s → Some (op.Find k) ≡ Some s.op
 find_op k find.New s e = none_said s e
+find_op k (find.Near x) s e = none_said s e
+find_op k (find.Probing x) s e = none_said s e
 find_op k (find.Descending d) s e = none_said s e
 find_op k (find.Ending v) s e = same_op _ s e
 find_op k (find.Over v) s e = same_op _ s e
@@ -241,6 +243,8 @@ pub record HasAnswered (said : Option Said) (reply : Reply) : Type 0 where
 
 find_answered : (k : ℕ) (a : FindStage) (reply : Reply) (hint : Option Hint) → find_answer_in a ≡ Some (answer.Op reply hint) → HasAnswered (know_find k a).said reply
 find_answered k find.New reply hint e = none_answer _ e
+find_answered k (find.Near x) reply hint e = none_answer _ e
+find_answered k (find.Probing x) reply hint e = none_answer _ e
 find_answered k (find.Descending d) reply hint e = none_answer _ e
 find_answered k (find.Ending v) reply hint e = none_answer _ e
 find_answered k (find.Over None) reply hint e = record { it = _; is = refl; reply_is = same_reply _ _ _ _ e }
@@ -331,6 +335,8 @@ answered_said got child time (proc.InsertPost p) reply hint e = climb_not_op p.v
 
 find_late : (k : ℕ) (a : FindStage) (b : Answer) → find_answer_in a ≡ Some b → (know_find k a).stage ≡ Stage.Late
 find_late k find.New b e = none_answer _ e
+find_late k (find.Near x) b e = none_answer _ e
+find_late k (find.Probing x) b e = none_answer _ e
 find_late k (find.Descending d) b e = none_answer _ e
 find_late k (find.Ending v) b e = none_answer _ e
 find_late k (find.Over v) b e = refl

@@ -109,6 +109,8 @@ squeeze_tree (OpeningParent x end) = tt
 
 find_tree : (a : FindStage) → IsOfTree (find_next_in a)
 find_tree find.New = tt
+find_tree (find.Near x) = tt
+find_tree (find.Probing x) = tt
 find_tree (find.Descending d) = tt
 find_tree (find.Ending v) = tt
 find_tree (find.Over v) = tt

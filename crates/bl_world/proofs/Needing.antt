@@ -105,6 +105,8 @@ lower_takes old e = absurd (cc e)
 
 find_takes : (a : FindStage) → find_next_in a ≡ act.Take → ⊥
 find_takes find.New e = cc
+find_takes (find.Near x) e = cc
+find_takes (find.Probing x) e = cc
 find_takes (find.Descending d) e = cc
 find_takes (find.Ending v) e = cc
 find_takes (find.Over v) e = cc
