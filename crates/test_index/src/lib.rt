@@ -12,6 +12,8 @@ mod calls;
 #[cfg(test)]
 mod closings;
 #[cfg(test)]
+mod large;
+#[cfg(test)]
 mod maps;
 #[cfg(test)]
 mod meetings;
