@@ -381,5 +381,5 @@ pub(crate) fn link_in<W: Words>(source: &W, hand: &mut W::Hand) -> u32
     requires sees { W.Sees source.now hand.old }
     ensures same { hand.new ≡ hand.old }
 {
-    (word(source, hand, 3) % LEVEL_UNIT) as u32
+    (word(source, hand, 3) % KIND_UNIT) as u32
 }
