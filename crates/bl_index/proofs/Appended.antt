@@ -11,19 +11,20 @@ use Rattle.bl_index_rule.specs.declared.known.PassState.{PassState}
 use Rattle.bl_index_rule.specs.Observed.{ends}
 use Rattle.bl_index.specs.declared.scanning.ScanFault.TheVariants.{Memory}
 use Rattle.bl_index_read.specs.LeafRows.{rows_between}
-use Rattle.bl_index_read.specs.Parts.{HasLeaf}
+use Rattle.bl_index_read.specs.declared.sought.Sought.TheVariants as sought
+use Rattle.bl_index_read.specs.LeafWays.{HasLeaf}
 use Rattle.bl_index_read.specs.declared.leaf_rows.Behind.{Behind}
 use Rattle.bl_index.specs.Scans.{AppendsPart, LeavesPart}
-use Rattle.bl_index_read.proofs.Listings.{part_finds}
+use Rattle.bl_index_read.proofs.Answered.{part_finds}
 use Rattle.bl_index_read.proofs.Leaves.{TellsBehind, below_are}
 
-module _ (l : Layout) (pass from turns : ℕ) (old : PassState) (h : Seat (Unit {0}) (View PassState)) (e : PassState) (glance : Glance) (has : HasLeaf l pass from turns old h glance) (ended : ends (known h) 0 e) (to : Option ℕ) (before after : List (ℕ × ℕ)) where
+module _ (l : Layout) (pass from turns : ℕ) (old : PassState) (h : Seat (Unit {0}) (View PassState)) (e : PassState) (glance : Glance) (has : HasLeaf l pass sought.Rows from turns old h glance) (ended : ends (known h) 0 e) (to : Option ℕ) (before after : List (ℕ × ℕ)) where
   -- its rows below the end were appended
   pub part_appends : (behind : Behind) → TellsBehind to (read_words h) behind → after ≡ before ++ rows_between from to (pairs_of (read_words h)) → AppendsPart old.first l.pages pass turns from to behind before after old.trail e.trail
   part_appends behind tells grown = record {
-    reply = Rows has.leaf.rows.rows has.leaf.rows.next;
+    reply = Rows has.leaf.ends.0.rows has.leaf.ends.0.next;
     finds = part_finds l pass from turns old h e glance has ended;
-    ends = tells has.leaf.page has.leaf.rows.next has.leaf.leads.0 has.leaf.is has.leaf.lists.next;
+    ends = tells has.leaf.page has.leaf.ends.0.next has.leaf.leads.0 has.leaf.is has.leaf.ends.1.next;
     appended = grown ∙ ap (λ (z : List (ℕ × ℕ)). before ++ z) (sym (below_are from (read_words h) (known h) has.leaf to));
   }
 
@@ -33,7 +34,7 @@ module _ (l : Layout) (pass from turns : ℕ) (old : PassState) (h : Seat (Unit 
     key = refl;
     kept = kept;
     stops = record {
-      reply = Rows has.leaf.rows.rows has.leaf.rows.next;
+      reply = Rows has.leaf.ends.0.rows has.leaf.ends.0.next;
       finds = part_finds l pass from turns old h e glance has ended;
       more = subst (λ (z : List (ℕ × ℕ)). room < length z) (sym (below_are from (read_words h) (known h) has.leaf to)) more;
     };

@@ -15,13 +15,14 @@ use Rattle.bl_store.specs.declared.store.Hand.{Hand}
 use Rattle.bl_index_rule.specs.declared.known.PassState.{PassState}
 use Rattle.bl_index_rule.specs.Observed.{ends}
 use Rattle.bl_index_read.specs.LeafRows.{rows_between}
-use Rattle.bl_index_read.specs.Parts.{HasLeaf}
+use Rattle.bl_index_read.specs.declared.sought.Sought.TheVariants as sought
+use Rattle.bl_index_read.specs.LeafWays.{HasLeaf}
 use Rattle.bl_index_read.specs.declared.leaf_rows.Behind.{Behind}
 use Rattle.bl_index_read.specs.declared.leaf_rows.Behind.TheVariants.{Part}
 use Rattle.bl_index.specs.declared.scanning.ScanFault.TheVariants.{OutOfTurns}
 use Rattle.bl_index.specs.declared.telling.OutOfTurnsAt.{OutOfTurnsAt}
 use Rattle.bl_index.specs.Scans.{rows_below, AppendsPart, LeavesPart, TellsPart, TellsNothing, TellsScan}
-use Rattle.bl_index_read.proofs.Listings.{part_finds}
+use Rattle.bl_index_read.proofs.Answered.{part_finds}
 use Rattle.bl_index_read.proofs.Leaves.{TellsBehind, below_are}
 use Rattle.bl_index_read.proofs.Told.{folds_append}
 use Rattle.bl_index.proofs.PartByPart.{IsSoFar, left_behind, part_more, stops_there}
@@ -29,12 +30,12 @@ use Rattle.bl_index_read.proofs.Setting.{same_number}
 
 module _ {F : Type 0} (leads : F → ℕ × ℕ → F → Type 0) where
   -- its rows below the end were told
-  pub part_tells : (l : Layout) (pass from turns : ℕ) (old : PassState) (h : Seat (Unit {0}) (View PassState)) (e : PassState) (glance : Glance) → HasLeaf l pass from turns old h glance → ends (known h) 0 e
+  pub part_tells : (l : Layout) (pass from turns : ℕ) (old : PassState) (h : Seat (Unit {0}) (View PassState)) (e : PassState) (glance : Glance) → HasLeaf l pass sought.Rows from turns old h glance → ends (known h) 0 e
       → (to : Option ℕ) (behind : Behind) (p q : F) → TellsBehind to (read_words h) behind → FoldsTo leads p (rows_between from to (pairs_of (read_words h))) q → TellsPart leads old.first l.pages pass turns from to behind p q old.trail e.trail
   part_tells l pass from turns old h e glance has ended to behind p q tells told = record {
-    reply = Rows has.leaf.rows.rows has.leaf.rows.next;
+    reply = Rows has.leaf.ends.0.rows has.leaf.ends.0.next;
     finds = part_finds l pass from turns old h e glance has ended;
-    ends = tells has.leaf.page has.leaf.rows.next has.leaf.leads.0 has.leaf.is has.leaf.lists.next;
+    ends = tells has.leaf.page has.leaf.ends.0.next has.leaf.leads.0 has.leaf.is has.leaf.ends.1.next;
     told = subst (λ (z : List (ℕ × ℕ)). FoldsTo leads p z q) (sym (below_are from (read_words h) (known h) has.leaf to)) told;
   }
 

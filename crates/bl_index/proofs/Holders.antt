@@ -84,6 +84,8 @@ squeeze_holds level key got (compression.OpeningParent x decision) = refl
 
 find_holds : (key : ℕ) (a : FindStage) → MayHold (know_find key a)
 find_holds key find.New = inr refl
+find_holds key (find.Near x) = inr refl
+find_holds key (find.Probing x) = inr refl
 find_holds key (find.Descending d) = inr refl
 find_holds key (find.Ending value) = inr refl
 find_holds key (find.Over value) = inr refl

@@ -22,6 +22,26 @@ impl Index {
         ensures runs_out { IfErr result (λ _. RunsOut (first_of self.now) (pages_of self.now) (number_of pass.old) turns (trail pass.old) (trail pass.new)) }
         ensures alone { IfOk result (λ reply. StepsAlone (first_of self.now) self.now (op.Find key) (reply_of reply) (trail pass.old) (trail pass.new)) }
     {
-        find_key(&self.tree, &mut pass.hand, key, turns)
+        self.find_near(pass, key, None, turns)
+    }
+
+    /// The same for one who has a page in mind, from which the way to the key may be short: the search looks first whether that page is
+    /// open. Any number will do for it, and with none the search goes the whole way.
+    #[inline(always)]
+    pub fn find_near(
+        &self,
+        pass: &mut Pass,
+        key: u64,
+        near: Option<u32>,
+        turns: u32,
+    ) -> Result<KeyReply, OutOfTurns>
+        requires { IsPassOf self.now pass.old }
+        ensures same { IsSamePass pass.old pass.new }
+        ensures found { IfOk result (λ reply. Finds (first_of self.now) (pages_of self.now) (number_of pass.old) turns (op.Find key) (reply_of reply)
+            (trail pass.old) (trail pass.new)) }
+        ensures runs_out { IfErr result (λ _. RunsOut (first_of self.now) (pages_of self.now) (number_of pass.old) turns (trail pass.old) (trail pass.new)) }
+        ensures alone { IfOk result (λ reply. StepsAlone (first_of self.now) self.now (op.Find key) (reply_of reply) (trail pass.old) (trail pass.new)) }
+    {
+        find_key(&self.tree, &mut pass.hand, key, near, turns)
     }
 }

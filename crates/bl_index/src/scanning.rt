@@ -7,14 +7,16 @@ ghost use Rattle.bl_store.specs.Owners.{IsHandOf};
 ghost use Rattle.bl_claims.specs.Seeing.{IsSeen};
 ghost use Rattle.bl_index_rule.specs.declared.known.PassState.{PassState as Knows};
 ghost use Rattle.bl_index_steps.specs.Runs.{Rests};
-ghost use Rattle.bl_index_read.specs.Parts.{HasSetOff};
+ghost use Rattle.bl_index_read.specs.declared.sought.Sought.TheVariants as sought;
+ghost use Rattle.bl_index_read.specs.LeafWays.{HasSetOff};
 ghost use Rattle.bl_index_read.specs.LeafRows.{is_below as below, IsBelow, IsOver};
 ghost use Rattle.bl_index.specs.Scans.{AppendsPart, LeavesPart, MayScan};
 ghost use Rattle.bl_index.specs.Within.{GoesOrStops};
 
 use crate::index::{Index, Pass};
 use bl_index_read::{
-    Behind, append_rows, descend_to_leaf, end_part, fetch_behind, go_behind, portion_in, set_off,
+    Behind, Sought, append_rows, descend_to_leaf, end_at_leaf, fetch_behind, go_behind, portion_in,
+    set_off,
 };
 use bl_index_rule::PassState;
 use bl_index_steps::{FrameView, Tree};
@@ -114,7 +116,7 @@ fn append_parts(
         (vec_capacity result.0 - vec_len result.0) result.1 rows.items result.0.items (known hand.old.seat).trail (known hand.new.seat).trail }
 {
     let mut rows = rows;
-    let mut way = set_off(tree, hand, from, None);
+    let mut way = set_off(tree, hand, Sought::Rows, from, None);
     let mut behind = Behind::Part(from, 0);
     while let Behind::Part(at, _) = behind {
         let (more, part) = append_part(tree, hand, at, way, to, turns, rows);
@@ -141,15 +143,15 @@ fn append_part(
     turns: u32,
     rows: Vec<(u64, u64)>,
 ) -> (Vec<(u64, u64)>, Result<(Behind, Descent), ScanFault>)
-    requires off { (old : Knows) × (pass : ℕ) × HasSetOff tree.now hand.old pass from way old }
+    requires off { (old : Knows) × (pass : ℕ) × HasSetOff tree.now hand.old pass sought.Rows from way old }
     requires below { IsBelow to from }
     ensures same { IsSameHand hand.old.seat hand.new.seat × IsSameStock hand.old.seat hand.new.seat }
-    ensures appends { (old : Knows) → HasSetOff tree.now hand.old hand.old.number from way old → GoesOrStops tree.now hand.new hand.old.number
+    ensures appends { (old : Knows) → HasSetOff tree.now hand.old hand.old.number sought.Rows from way old → GoesOrStops tree.now hand.new hand.old.number
         (λ behind. AppendsPart old.first tree.now.store.layout.pages hand.old.number turns from to behind rows.items result.0.items)
         (λ fault. LeavesPart old.first tree.now.store.layout.pages hand.old.number turns from to
         (vec_capacity result.0 - vec_len result.0) fault rows.items result.0.items) old result.1 }
 {
-    let Some(glance) = descend_to_leaf(tree, hand, from, way, turns) else {
+    let Some(glance) = descend_to_leaf(tree, hand, Sought::Rows, from, way, turns) else {
         return (rows, Err(ScanFault::OutOfTurns(from)));
     };
     let shown = FrameView {
@@ -165,7 +167,7 @@ fn append_part(
             (rows, Ok((portion.behind, on)))
         }
         Err(_) => {
-            end_part(tree, hand);
+            end_at_leaf(tree, hand);
             (rows, Err(ScanFault::Memory(from)))
         }
     }

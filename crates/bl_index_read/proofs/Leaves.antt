@@ -22,13 +22,14 @@ use Rattle.bl_index_rule.specs.declared.known.PassState.{PassState}
 use Rattle.bl_index_rule.specs.Observed.{ends}
 use Rattle.bl_index_read.specs.Searching.{Finds}
 use Rattle.bl_index_read.specs.LeafRows.{rows_from, rows_between, is_below, GoesOnWithin}
-use Rattle.bl_index_read.specs.Parts.{IsAtLeaf, HasLeaf}
+use Rattle.bl_index_read.specs.declared.sought.Sought.TheVariants as sought
+use Rattle.bl_index_read.specs.LeafWays.{IsAtLeaf, HasLeaf}
 use Rattle.bl_index_read.specs.declared.leaf_rows.Behind.{Behind}
-use Rattle.bl_index_read.proofs.Listings.{part_finds}
+use Rattle.bl_index_read.proofs.Answered.{part_finds}
 use Rattle.bl_index_read.proofs.Picked.{listed_rows, part_rows}
 
 -- a leaf has pairs, and where its next part begins is read of its words
-pub leaf_pairs : (from : ℕ) (words : List ℕ) (d : PassState) → IsAtLeaf from words d → HasPairs words
+pub leaf_pairs : (from : ℕ) (words : List ℕ) (d : PassState) → IsAtLeaf sought.Rows from words d → HasPairs words
 leaf_pairs from words d leaf = tree_pairs leaf.page words leaf.leads.0 leaf.is
 
 -- this is where the part behind the page with these words begins
@@ -40,18 +41,18 @@ abbrev pub TellsBehind : Option ℕ → List ℕ → Behind → Type 0
 TellsBehind to words behind = (c : Page) (next : Next) → IsTreePage c → words ≡ words_of c → GoesOnAt (node_of c).shape.end next → GoesOnWithin to (next_key next) behind
 
 -- those below an end of the rows that a part lists
-pub below_are : (from : ℕ) (words : List ℕ) (d : PassState) (leaf : IsAtLeaf from words d) (to : Option ℕ) → filter (λ row. is_below to row.0) leaf.rows.rows.items ≡ rows_between from to (pairs_of words)
-below_are from words d leaf to = ap (filter (λ row. is_below to row.0)) (part_rows leaf.page words from leaf.leads.0 leaf.is leaf.rows leaf.lists)
+pub below_are : (from : ℕ) (words : List ℕ) (d : PassState) (leaf : IsAtLeaf sought.Rows from words d) (to : Option ℕ) → filter (λ row. is_below to row.0) leaf.ends.0.rows.items ≡ rows_between from to (pairs_of words)
+below_are from words d leaf to = ap (filter (λ row. is_below to row.0)) (part_rows leaf.page words from leaf.leads.0 leaf.is leaf.ends.0 leaf.ends.1)
 
-module _ (from : ℕ) (words : List ℕ) (d : PassState) (leaf : IsAtLeaf from words d) (next : Next) (goes : GoesOnBehind words next) where
+module _ (from : ℕ) (words : List ℕ) (d : PassState) (leaf : IsAtLeaf sought.Rows from words d) (next : Next) (goes : GoesOnBehind words next) where
   -- the rows and the next key that were read are those of the part
-  pub rows_are : (read : PartRows) → read.rows.items ≡ rows_from from (pairs_of words) → read.next ≡ next → leaf.rows ≡ read
-  rows_are read is same = part_one leaf.page from leaf.rows read leaf.lists (record {
+  pub rows_are : (read : PartRows) → read.rows.items ≡ rows_from from (pairs_of words) → read.next ≡ next → leaf.ends.0 ≡ read
+  rows_are read is same = part_one leaf.page from leaf.ends.0 read leaf.ends.1 (record {
     rows = listed_rows leaf.page words from leaf.leads.0 leaf.is read.rows.items is;
     next = subst (λ (z : Next). GoesOnAt (node_of leaf.page).shape.end z) (sym same) (goes leaf.page leaf.leads.0 leaf.is);
   })
 
-module _ (l : Layout) (pass from turns : ℕ) (old : PassState) (h h' : Seat (Unit {0}) (View PassState)) (glance : Glance) (has : HasLeaf l pass from turns old h glance) (ended : ends (known h) 0 (known h')) where
+module _ (l : Layout) (pass from turns : ℕ) (old : PassState) (h h' : Seat (Unit {0}) (View PassState)) (glance : Glance) (has : HasLeaf l pass sought.Rows from turns old h glance) (ended : ends (known h) 0 (known h')) where
   -- the part is answered by what was read
   pub part_answers : (next : Next) (goes : GoesOnBehind (read_words h) next) (read : PartRows) → read.rows.items ≡ rows_from from (pairs_of (read_words h)) → read.next ≡ next → Finds old.first l.pages pass turns (op.Part from) (Rows read.rows read.next) old.trail (known h').trail
   part_answers next goes read is same = subst (λ (z : PartRows). Finds old.first l.pages pass turns (op.Part from) (Rows z.rows z.next) old.trail (known h').trail) (rows_are from (read_words h) (known h) has.leaf next goes read is same) (part_finds l pass from turns old h (known h') glance has ended)

@@ -1,8 +1,8 @@
 pub mod Silent
-pub mod Searches
-pub mod Listings
 pub mod Paces
+pub mod Ways
 pub mod Setting
+pub mod Answered
 pub mod Ranges
 pub mod Picked
 pub mod Portions

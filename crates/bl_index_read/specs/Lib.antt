@@ -1,4 +1,5 @@
 pub mod Searching
 pub mod Turns
 pub mod LeafRows
+pub mod LeafWays
 pub mod Parts

@@ -1,8 +1,5 @@
 -- What a search tells the pass that makes it.
 use Rattle.std.specs.Prelude.{Option, ◌≡◌, ◌≤◌, ◌<◌, ℕ, List, Result, IfOk, IfErr, Ok, Err}
-use Rattle.bl_proc.specs.declared.searching.FindStage.{FindStage}
-use Rattle.bl_proc_bounds.specs.Paces.{find_place}
-use Rattle.bl_proc_bounds.specs.Searches.{IsGoing}
 use Rattle.bl_model.specs.declared.operation.Op.{Op}
 use Rattle.bl_model.specs.declared.operation.Reply.{Reply}
 use Rattle.bl_page.specs.declared.page.Page.{Page}
@@ -41,7 +38,3 @@ pub record AnswersOrRunsOut (first : List (Option Page)) (pages pass turns : ℕ
 abbrev pub found_of : Result KeyReply OutOfTurns → Result Reply OutOfTurns
 found_of (Ok r) = Ok (reply_of r)
 found_of (Err fault) = Err fault
-
--- a search that goes on
-abbrev pub IsSearching : FindStage → Type 0
-IsSearching stage = IsGoing (find_place stage)

@@ -1,21 +1,25 @@
-//! Searches.
+//! Searches: the value of a key is read from its leaf's words.
 
-ghost use Rattle.std.specs.Prelude.{◌≡◌, None};
+ghost use Rattle.std.specs.Prelude.{◌≡◌, ℕ};
 ghost use Rattle.bl_model.specs.declared.operation.Op.TheVariants as op;
 ghost use Rattle.bl_proc_invariant.specs.Knowing.{found_reply};
 ghost use Rattle.bl_store.specs.Hands.{known, IsIdle, IsSameHand, IsSameStock};
 ghost use Rattle.bl_store.specs.Owners.{IsHandOf};
 ghost use Rattle.bl_claims.specs.Seeing.{IsSeen};
-ghost use Rattle.bl_proc_base.specs.declared.acts.Action.TheVariants as act;
-ghost use Rattle.bl_proc.specs.Searches.{find_next_in};
+ghost use Rattle.bl_index_rule.specs.declared.known.PassState.{PassState as Knows};
 ghost use Rattle.bl_index_steps.specs.Runs.{Rests};
 ghost use Rattle.bl_model.specs.Replies.{reply_of};
-ghost use Rattle.bl_index_read.specs.Searching.{AnswersOrRunsOut, found_of, IsSearching};
+ghost use Rattle.bl_index_read.specs.Searching.{AnswersOrRunsOut, found_of};
+ghost use Rattle.bl_index_read.specs.declared.sought.Sought.TheVariants as sought;
+ghost use Rattle.bl_index_read.specs.LeafWays.{HasSetOff};
 
+use crate::leaf_ways::{descend_to_leaf, end_at_leaf, set_off};
+use crate::sought::Sought;
 use bl_index_rule::PassState;
-use bl_index_steps::Tree;
+use bl_index_steps::{FrameView, Tree};
 use bl_model::KeyReply;
-use bl_proc::{Find, FindStage};
+use bl_proc_base::Descent;
+use bl_proc_pages::row_in;
 use bl_store::Hand;
 
 /// A search or a part has got as many pages as it was allowed, and has answered nothing.
@@ -33,24 +37,42 @@ fn found(value: Option<u64>) -> KeyReply
     }
 }
 
-/// The page that a search is to get next.
+/// A search that has set off gets so many pages at most, and ends: it is answered, or has got so many.
 #[inline(always)]
-fn page_of(stage: FindStage) -> u32
-    requires { IsSearching stage }
-    ensures { find_next_in stage ≡ act.Get result }
+pub fn find_from(
+    tree: &Tree,
+    hand: &mut Hand<PassState>,
+    key: u64,
+    way: Descent,
+    turns: u32,
+) -> Result<KeyReply, OutOfTurns>
+    requires off { (old : Knows) × (pass : ℕ) × HasSetOff tree.now hand.old pass sought.Value key way old }
+    ensures same { IsSameHand hand.old.seat hand.new.seat × IsSameStock hand.old.seat hand.new.seat }
+    ensures rests { Rests hand.new.seat }
+    ensures seen { IsSeen (known hand.new.seat).first (known hand.new.seat).trail }
+    ensures answers { (old : Knows) (pass : ℕ) → HasSetOff tree.now hand.old pass sought.Value key way old → ((known hand.new.seat).first ≡ old.first)
+        × AnswersOrRunsOut old.first tree.now.store.layout.pages pass turns (op.Find key) (found_of result) old.trail (known hand.new.seat).trail }
 {
-    match stage {
-        FindStage::Descending(descent) => descent.page(),
-        _ => unreachable!(),
-    }
+    let Some(glance) = descend_to_leaf(tree, hand, Sought::Value, key, way, turns) else {
+        return Err(OutOfTurns);
+    };
+    let shown = FrameView {
+        store: &tree.store,
+        glance,
+    };
+    let value = row_in(&shown, hand, &mut 0, key);
+    end_at_leaf(tree, hand);
+    Ok(found(value))
 }
 
-/// Carries a search out, from its begin to its end: it is answered, or has got so many pages.
+/// Carries a search out, from its begin to its end: it is answered, or has got so many pages. With a page in mind it looks at that one
+/// first.
 #[inline(always)]
 pub fn find_key(
     tree: &Tree,
     hand: &mut Hand<PassState>,
     key: u64,
+    near: Option<u32>,
     turns: u32,
 ) -> Result<KeyReply, OutOfTurns>
     requires own { IsHandOf tree.now.store hand.old }
@@ -62,16 +84,6 @@ pub fn find_key(
     ensures answers { AnswersOrRunsOut (known hand.old.seat).first tree.now.store.layout.pages hand.old.number turns (op.Find key) (found_of result)
         (known hand.old.seat).trail (known hand.new.seat).trail }
 {
-    let mut process = Find::new(key);
-    tree.begin(hand, &mut process);
-    for _turn in 0..turns {
-        let page = page_of(process.stage);
-        tree.read(hand, &mut process, page);
-        if let FindStage::Ending(value) = process.stage {
-            tree.finish(hand, &mut process);
-            return Ok(found(value));
-        }
-    }
-    tree.give_up(hand);
-    Err(OutOfTurns)
+    let way = set_off(tree, hand, Sought::Value, key, near);
+    find_from(tree, hand, key, way, turns)
 }

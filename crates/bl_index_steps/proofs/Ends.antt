@@ -104,9 +104,13 @@ find_reply_said None reply hint e = cc
 
 find_ends : (key : ℕ) (a b : FindStage) (reply : Reply) (hint : Option Hint) → find_next_in a ≡ act.End → FindGoes key a seen.Done b → find_answer_in b ≡ Some (Op reply hint) → (find_end a ≡ Some reply) × ((know_find key a).said ≡ Some (record { op = op.Find key; reply = reply }))
 find_ends key find.New b reply hint e t h = cc
+find_ends key (find.Near x) b reply hint e t h = cc
+find_ends key (find.Probing x) b reply hint e t h = cc
 find_ends key (find.Descending d) b reply hint e t h = cc
 find_ends key (find.Over v) b reply hint e t h = absurd t
 find_ends key (find.Ending v) find.New reply hint e t h = absurd t
+find_ends key (find.Ending v) (find.Near x) reply hint e t h = absurd t
+find_ends key (find.Ending v) (find.Probing x) reply hint e t h = absurd t
 find_ends key (find.Ending v) (find.Descending d) reply hint e t h = absurd t
 find_ends key (find.Ending v) (find.Ending u) reply hint e t h = absurd t
 find_ends key (find.Ending v) (find.Over u) reply hint e t h =

@@ -1,6 +1,6 @@
 //! Kinds of processes, each by its own type.
 
-use bl_proc::{Compress, Find, Lower, Process, Reader};
+use bl_proc::{Compress, Lower, Process, Reader};
 use bl_proc_writes::{InsertPost, Post};
 
 /// A kind of process that the index carries out: each is one of the kinds that the world of processes knows, and goes on
@@ -34,32 +34,6 @@ pub trait Kind: Process + Reader {
     ghost follows: { (p q : Self) (what : Seen) → Self.Process.Takes p what q → Follows (proc_of p) what (proc_of q) };
 
     ghost retires: { (p q : Self) (what : Seen) → Self.Process.Takes p what q → RetiresAfter (next_in (proc_of p)) what (next_in (proc_of q)) };
-}
-
-impl Kind for Find {
-    ghost use Rattle.std.specs.Prelude.{refl};
-    ghost use Rattle.bl_proc.specs.declared.kinds.Proc.TheVariants as proc;
-    ghost use Rattle.bl_proc_unique.proofs.Searches.{find_goes};
-    ghost use Rattle.bl_proc_unique.proofs.Following.{find_wants, find_follows};
-    ghost use Rattle.bl_proc_unique.proofs.Retirements.{find_retires};
-
-    ghost proc_of = { λ p. proc.Find p };
-
-    ghost acts = { λ p. refl };
-
-    ghost asks = { λ p. refl };
-
-    ghost answers = { λ p. refl };
-
-    ghost goes = { λ p q what t. t };
-
-    ghost courses = { find_goes };
-
-    ghost wants = { find_wants };
-
-    ghost follows = { find_follows };
-
-    ghost retires = { find_retires };
 }
 
 impl Kind for Post {

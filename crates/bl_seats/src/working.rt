@@ -39,7 +39,7 @@ pub(crate) fn find(
 {
     stands(index.tree(), hand, stage);
     match stage {
-        Stage::Rests => match find_key(index.tree(), hand, key, index.patience()) {
+        Stage::Rests => match find_key(index.tree(), hand, key, None, index.patience()) {
             Ok(found) => Some(found),
             Err(_) => None,
         },

@@ -4,7 +4,10 @@ use Rattle.bl_store.specs.Hands.{known, read_words}
 use Rattle.bl_store.specs.declared.store.Hand.{Hand}
 use Rattle.bl_index_rule.specs.declared.known.PassState.{PassState}
 use Rattle.bl_index_rule.specs.Observed.{ends}
-use Rattle.bl_index_read.specs.Parts.{IsAtLeaf, StandsBehind}
+use Rattle.bl_index_read.specs.declared.sought.Sought.{Sought}
+use Rattle.bl_index_read.specs.declared.sought.Sought.TheVariants as sought
+use Rattle.bl_index_read.specs.LeafWays.{IsAtLeaf}
+use Rattle.bl_index_read.specs.Parts.{StandsBehind}
 use Rattle.bl_index_read.proofs.Leaves.{leaf_pairs}
 use Rattle.bl_index_read.proofs.Setting.{same_number}
 use Rattle.bl_index.proofs.Appended.{part_appends, part_leaves}
@@ -45,15 +48,15 @@ pub returns-in-Err-clause-appends : goal.returns-in-Err-clause-appends
 returns-in-Err-clause-appends c = λ old off.
     let has = c.in-Some.ensures.came old c.args.hand.now.number off in
     let portion = c.portion_in-portion in
-    let ended = subst (λ (h : Hand PassState). ends (known h.seat) 0 (known c.end_part.new.hand.seat)) (c.append_rows-rows.ensures.same ∙ portion.ensures.same) c.end_part.ensures.ended in
+    let ended = subst (λ (h : Hand PassState). ends (known h.seat) 0 (known c.end_at_leaf.new.hand.seat)) (c.append_rows-rows.ensures.same ∙ portion.ensures.same) c.end_at_leaf.ensures.ended in
     let none = rw c.in-Err.is at c.append_rows-rows.ensures.none in
     let full = rw c.in-Err.is at c.append_rows-rows.ensures.more in
     let many = between_length _ has.reads.3 (leaf_pairs _ _ _ has.leaf) c.args.from c.args.to _ _ portion.ensures.first portion.ensures.last in
     record {
-      rests = record { idle = c.end_part.ensures.idle; within = c.end_part.ensures.within; over = ended.0.runs };
+      rests = record { idle = c.end_at_leaf.ensures.idle; within = c.end_at_leaf.ensures.within; over = ended.0.runs };
       first = ended.0.notes.first ∙ has.since.beginning;
       seen = ended.0.notes.seen;
-      does = part_leaves _ _ c.args.from c.args.turns old c.descend_to_leaf.new.hand.seat (known c.end_part.new.hand.seat) _ has ended c.args.to _ _ _ none (omega (arith, full, many));
+      does = part_leaves _ _ c.args.from c.args.turns old c.descend_to_leaf.new.hand.seat (known c.end_at_leaf.new.hand.seat) _ has ended c.args.to _ _ _ none (omega (arith, full, many));
     }
 
 pub returns-in_default-clause-appends : goal.returns-in_default-clause-appends
@@ -70,9 +73,9 @@ pub returns-in_default-clause-same : goal.returns-in_default-clause-same
 returns-in_default-clause-same c = c.descend_to_leaf.ensures.same
 
 pub go_behind-on-requires-clause-leaf : goal.go_behind-on-requires-clause-leaf
-go_behind-on-requires-clause-leaf c = subst (λ (h : Hand PassState). (at : ℕ) × (words : List ℕ) × IsAtLeaf at words (known h.seat)) (sym (c.append_rows-rows.ensures.same ∙ c.portion_in-portion.ensures.same))
+go_behind-on-requires-clause-leaf c = subst (λ (h : Hand PassState). (at : ℕ) × (words : List ℕ) × IsAtLeaf sought.Rows at words (known h.seat)) (sym (c.append_rows-rows.ensures.same ∙ c.portion_in-portion.ensures.same))
     (c.args.from, _, (c.in-Some.ensures.came c.requires.off.0 c.requires.off.1 c.requires.off.2).leaf)
 
-pub end_part-requires-clause-leaf : goal.end_part-requires-clause-leaf
-end_part-requires-clause-leaf c = subst (λ (h : Hand PassState). (at : ℕ) × (words : List ℕ) × IsAtLeaf at words (known h.seat)) (sym (c.append_rows-rows.ensures.same ∙ c.portion_in-portion.ensures.same))
-    (c.args.from, _, (c.in-Some.ensures.came c.requires.off.0 c.requires.off.1 c.requires.off.2).leaf)
+pub end_at_leaf-requires-clause-leaf : goal.end_at_leaf-requires-clause-leaf
+end_at_leaf-requires-clause-leaf c = subst (λ (h : Hand PassState). (kind : Sought) × (at : ℕ) × (words : List ℕ) × IsAtLeaf kind at words (known h.seat)) (sym (c.append_rows-rows.ensures.same ∙ c.portion_in-portion.ensures.same))
+    (sought.Rows, c.args.from, _, (c.in-Some.ensures.came c.requires.off.0 c.requires.off.1 c.requires.off.2).leaf)

@@ -3,26 +3,28 @@ use Rattle.bl_store.specs.Hands.{known, read_words}
 use Rattle.bl_store.specs.declared.store.Hand.{Hand}
 use Rattle.bl_index_rule.specs.declared.known.PassState.{PassState}
 use Rattle.bl_index_rule.specs.Observed.{ends}
-use Rattle.bl_index_read.specs.Parts.{IsAtLeaf}
+use Rattle.bl_index_read.specs.declared.sought.Sought.{Sought}
+use Rattle.bl_index_read.specs.declared.sought.Sought.TheVariants as sought
+use Rattle.bl_index_read.specs.LeafWays.{IsAtLeaf}
 use Rattle.bl_index_read.proofs.Leaves.{GoesOnBehind, leaf_pairs, part_answers}
 use Rattle.bl_index_read.proofs.listing.list_part.Goals as goal
 
 pub rows_in-rows-requires-clause-pairs : goal.rows_in-rows-requires-clause-pairs
 rows_in-rows-requires-clause-pairs c = leaf_pairs _ _ _ (c.in-Some.ensures.came _ _ c.set_off-way.ensures.set_off).leaf
 
-pub end_part-requires-clause-leaf : goal.end_part-requires-clause-leaf
-end_part-requires-clause-leaf c =
+pub end_at_leaf-requires-clause-leaf : goal.end_at_leaf-requires-clause-leaf
+end_at_leaf-requires-clause-leaf c =
     let leaf = (c.in-Some.ensures.came _ _ c.set_off-way.ensures.set_off).leaf in
-    subst (λ (h : Hand PassState). (from : ℕ) × (words : List ℕ) × IsAtLeaf from words (known h.seat)) (sym (c.link_in.ensures.same ∙ (c.next_in-next.ensures.same ∙ c.rows_in-rows.ensures.same))) (c.args.from, _, leaf)
+    subst (λ (h : Hand PassState). (kind : Sought) × (from : ℕ) × (words : List ℕ) × IsAtLeaf kind from words (known h.seat)) (sym (c.link_in.ensures.same ∙ (c.next_in-next.ensures.same ∙ c.rows_in-rows.ensures.same))) (sought.Rows, c.args.from, _, leaf)
 
 pub returns-clause-answers : goal.returns-clause-answers
 returns-clause-answers c =
     let has = (c.in-Some.ensures.came _ _ c.set_off-way.ensures.set_off) in
     let same = c.link_in.ensures.same ∙ (c.next_in-next.ensures.same ∙ c.rows_in-rows.ensures.same) in
-    let ended = subst (λ (h : Hand PassState). ends (known h.seat) 0 (known c.end_part.new.hand.seat)) same c.end_part.ensures.ended in
+    let ended = subst (λ (h : Hand PassState). ends (known h.seat) 0 (known c.end_at_leaf.new.hand.seat)) same c.end_at_leaf.ensures.ended in
     let goes : GoesOnBehind (read_words c.descend_to_leaf.new.hand.seat) c.next_in-next.result = λ page tree e. c.next_in-next.ensures.next page tree (ap (λ (h : Hand PassState). read_words h.seat) c.rows_in-rows.ensures.same ∙ e) in
     record {
-      answered = part_answers _ _ c.args.from c.args.turns _ c.descend_to_leaf.new.hand.seat c.end_part.new.hand.seat _ has ended c.next_in-next.result goes (record { rows = c.rows_in-rows.result; next = c.next_in-next.result }) c.rows_in-rows.ensures.rows refl;
+      answered = part_answers _ _ c.args.from c.args.turns _ c.descend_to_leaf.new.hand.seat c.end_at_leaf.new.hand.seat _ has ended c.next_in-next.result goes (record { rows = c.rows_in-rows.result; next = c.next_in-next.result }) c.rows_in-rows.ensures.rows refl;
       refused = tt;
     }
 
@@ -31,8 +33,8 @@ descend_to_leaf-requires c = record { off = (_, _, c.set_off-way.ensures.set_off
 
 pub returns-clause-rests : goal.returns-clause-rests
 returns-clause-rests c = record {
-  idle = c.end_part.ensures.idle;
-  within = c.end_part.ensures.within;
+  idle = c.end_at_leaf.ensures.idle;
+  within = c.end_at_leaf.ensures.within;
   over = search rules;
 }
 
@@ -55,5 +57,5 @@ pub returns-clause-first : goal.returns-clause-first
 returns-clause-first c =
     let has = c.in-Some.ensures.came _ _ c.set_off-way.ensures.set_off in
     let same = c.link_in.ensures.same ∙ (c.next_in-next.ensures.same ∙ c.rows_in-rows.ensures.same) in
-    let ended = subst (λ (h : Hand PassState). ends (known h.seat) 0 (known c.end_part.new.hand.seat)) same c.end_part.ensures.ended in
+    let ended = subst (λ (h : Hand PassState). ends (known h.seat) 0 (known c.end_at_leaf.new.hand.seat)) same c.end_at_leaf.ensures.ended in
     ended.0.notes.first ∙ has.since.beginning
