@@ -17,7 +17,7 @@ use bl_proc::{Answer, Hint, Lowered, Posted, Squeezed};
 use bl_store::Hand;
 use std::alloc::Global;
 use std::sync::Arc;
-use std::{mem, ptr};
+use std::ptr;
 
 /// How many pieces of upkeep a change does at most before it begins.
 const PIECES: u32 = 16;
@@ -353,15 +353,13 @@ impl Seat {
     {
         if self.upkeep.may_fall {
             self.upkeep.may_fall = false;
-            let stage = mem::replace(&mut self.stage, Stage::Rests);
-            self.stage = begin_lowering(&self.index, &mut self.hand, stage);
+            begin_lowering(&self.index, &mut self.hand, &mut self.stage);
             return true;
         }
         let Some(piece) = self.upkeep.take() else {
             return false;
         };
-        let stage = mem::replace(&mut self.stage, Stage::Rests);
-        self.stage = begin_following(&self.index, &mut self.hand, stage, piece);
+        begin_following(&self.index, &mut self.hand, &mut self.stage, piece);
         true
     }
 

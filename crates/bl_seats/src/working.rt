@@ -127,39 +127,35 @@ pub(crate) fn start_writing(
     start_write(index.tree(), hand, stage, key, write, EVENTS)
 }
 
-/// What the hint asks for begins, unless a process is underway.
+/// What the hint asks for begins where no process is underway.
 pub(crate) fn begin_following(
     index: &Index,
     hand: &mut Hand<PassState>,
-    stage: Stage,
+    stage: &mut Stage,
     hint: Hint,
-) -> Stage
-    requires { ∥ IsSeated index.now hand.old stage ∥₁ }
+)
+    requires seated { ∥ IsSeated index.now hand.old stage.old ∥₁ }
+    requires rests { stage.old ≡ stages.Rests }
     ensures same { IsSameOne hand.old hand.new }
-    ensures stands { IsSeated index.now hand.new result }
-    ensures began { stage ≡ stages.Rests → IsFor hint result × (begun_in hand.new ≡ begun_in hand.old + 1) }
-    ensures told { account hand.new result ≡ account hand.old stage }
+    ensures stands { IsSeated index.now hand.new stage.new }
+    ensures began { IsFor hint stage.new × (begun_in hand.new ≡ begun_in hand.old + 1) }
+    ensures told { account hand.new stage.new ≡ account hand.old stage.old }
 {
-    stands(index.tree(), hand, &stage);
-    match stage {
-        Stage::Rests => begin_hint(index.tree(), hand, hint),
-        underway => underway,
-    }
+    stands(index.tree(), hand, stage);
+    *stage = begin_hint(index.tree(), hand, hint);
 }
 
-/// A lowering begins, unless a process is underway.
-pub(crate) fn begin_lowering(index: &Index, hand: &mut Hand<PassState>, stage: Stage) -> Stage
-    requires { ∥ IsSeated index.now hand.old stage ∥₁ }
+/// A lowering begins where no process is underway.
+pub(crate) fn begin_lowering(index: &Index, hand: &mut Hand<PassState>, stage: &mut Stage)
+    requires seated { ∥ IsSeated index.now hand.old stage.old ∥₁ }
+    requires rests { stage.old ≡ stages.Rests }
     ensures same { IsSameOne hand.old hand.new }
-    ensures stands { IsSeated index.now hand.new result }
-    ensures began { stage ≡ stages.Rests → IsLowering result × (begun_in hand.new ≡ begun_in hand.old + 1) }
-    ensures told { account hand.new result ≡ account hand.old stage }
+    ensures stands { IsSeated index.now hand.new stage.new }
+    ensures began { IsLowering stage.new × (begun_in hand.new ≡ begun_in hand.old + 1) }
+    ensures told { account hand.new stage.new ≡ account hand.old stage.old }
 {
-    stands(index.tree(), hand, &stage);
-    match stage {
-        Stage::Rests => begin_lower(index.tree(), hand),
-        underway => underway,
-    }
+    stands(index.tree(), hand, stage);
+    *stage = begin_lower(index.tree(), hand);
 }
 
 /// Two hands meet, unless a process is underway at one of them. Says whether they have.
