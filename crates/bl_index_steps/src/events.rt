@@ -83,7 +83,8 @@ impl Tree {
 
     /// Lets other threads run while a reservation would find too few frames, so often at most: those that hold frames back may be in the
     /// middle of a process, and this one may have lost its processor since it looked for frames before it began. It holds others back
-    /// itself meanwhile, so it may not be for long. Those who may not wait do not call it.
+    /// itself meanwhile, so it may not be for long. Who may wait calls it before a process changes the page that it holds; nothing else here
+    /// waits.
     #[inline(always)]
     pub fn await_frames(&self, hand: &Hand<PassState>) {
         if !self.store.finds_frames(hand) {
@@ -114,7 +115,6 @@ impl Tree {
         ensures refused { result ≡ false → Goes seen.Refused (known hand.old.seat) (known hand.new.seat) }
         ensures asked { result ≡ false → WasRefused hand.new.seat 0 1 }
     {
-        self.await_frames(hand);
         match self.store.reserve::<Took, Refused>(hand, 0, 1) {
             Ok(stock) => {
                 let mut stock = stock;
@@ -146,7 +146,6 @@ impl Tree {
         ensures refused { result ≡ false → Goes seen.Refused (known hand.old.seat) (known hand.new.seat) }
         ensures asked { result ≡ false → WasRefused hand.new.seat 0 1 }
     {
-        self.await_frames(hand);
         match self.store.reserve::<Took, Refused>(hand, 0, 1) {
             Ok(stock) => {
                 let mut stock = stock;
@@ -169,7 +168,6 @@ impl Tree {
             × IsStockOf hand.new.seat t.1 × (t.1.count ≡ 2) × Goes (seen.Took t.0) (known hand.old.seat) (known hand.new.seat)) }
         ensures asked { IfNone result (WasRefused hand.new.seat 1 2) }
     {
-        self.await_frames(hand);
         match self.store.reserve::<Took, Refused>(hand, 1, 2) {
             Ok(stock) => match stock.page() {
                 Some(page) => Some((page, stock)),

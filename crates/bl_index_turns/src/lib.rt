@@ -15,6 +15,6 @@ mod writing;
 
 pub use carrying::go_on;
 pub use holding::Holder;
-pub use stages::{Stage, advance, begin_hint, begin_lower, begin_write, stands};
+pub use stages::{Stage, advance, begin_hint, begin_lower, stands, start_write};
 pub use sweeping::sweep;
 pub use writing::Writing;

@@ -1,14 +1,22 @@
 //! What a hand is about between two calls, and how it goes on.
 
+ghost use Rattle.std.specs.Prelude.{◌≡◌, IfSome, IfNone};
+ghost use Rattle.bl_model.specs.declared.operation.KeyReply.TheVariants as replies;
+ghost use Rattle.bl_model.specs.Replies.{reply_of};
+ghost use Rattle.bl_proc_base.specs.declared.answers.Answer.TheVariants as answers;
 ghost use Rattle.bl_store.specs.Hands.{known, IsSameHand};
+ghost use Rattle.bl_index_steps.specs.Rooms.{LacksWrite};
 ghost use Rattle.bl_index_steps.specs.Runs.{IsSince};
+ghost use Rattle.bl_index_write.specs.Events.{HasWritten};
+ghost use Rattle.bl_index_turns.specs.declared.stages.Stage.TheVariants as stages;
 ghost use Rattle.bl_index_turns.specs.Stages.{IsAtRest, Stands, HasAdvanced, IsWriteOf, IsFor, IsLowering};
 
 use crate::carrying::go_on;
 use crate::writing::Writing;
 use bl_index_rule::PassState;
 use bl_index_steps::Tree;
-use bl_model::KeyWrite;
+use bl_index_write::write_within;
+use bl_model::{KeyReply, KeyWrite};
 use bl_proc::{Answer, Compress, Hint, Lower, Process};
 use bl_proc_writes::Post;
 use bl_store::{Hand, Stock};
@@ -28,17 +36,31 @@ pub enum Stage {
     Lowers(Lower, Option<Stock>),
 }
 
-/// A hand that rests begins a write of the key.
-pub fn begin_write(tree: &Tree, hand: &mut Hand<PassState>, key: u64, write: KeyWrite) -> Stage
-    requires { IsAtRest tree.now hand.old }
+/// A hand that rests begins a write of the key, and goes on with it by the words of pages. Gives its reply, with its hint, where it has
+/// ended. Where it has given up on its way to the leaf, at a page that another process holds or after so many turns, it is underway.
+pub fn start_write(
+    tree: &Tree,
+    hand: &mut Hand<PassState>,
+    stage: &mut Stage,
+    key: u64,
+    write: KeyWrite,
+    turns: u32,
+) -> Option<(KeyReply, Option<Hint>)>
+    requires { IsAtRest tree.now hand.old × (stage.old ≡ stages.Rests) }
     ensures same { IsSameHand hand.old.seat hand.new.seat }
-    ensures stands { Stands tree.now hand.new result }
-    ensures since { IsSince hand.old.number (known hand.old.seat) (known hand.new.seat) }
-    ensures about { IsWriteOf key write result }
+    ensures stands { Stands tree.now hand.new stage.new }
+    ensures underway { IfNone result (IsWriteOf key write stage.new × IsSince hand.old.number (known hand.old.seat) (known hand.new.seat)) }
+    ensures ended { IfSome result (λ said. (stage.new ≡ stages.Rests)
+        × HasWritten hand.old.number (known hand.old.seat) (known hand.new.seat) key write (answers.Op (reply_of said.0) said.1)) }
+    ensures no_room { IfSome result (λ said. said.0 ≡ replies.NoRoom → LacksWrite key write hand.new.seat) }
 {
-    let mut process = Writing::new(key, write);
-    tree.begin(hand, &mut process);
-    Stage::Writes(process, None)
+    match write_within(tree, hand, key, write, turns) {
+        Ok(said) => Some(said),
+        Err(way) => {
+            *stage = Stage::Writes(Writing::on_way(key, write, way), None);
+            None
+        }
+    }
 }
 
 /// A hand that rests begins what the hint asks for: a post, or a compression. That does not wait for a child while it holds the parent:

@@ -19,17 +19,15 @@ pub struct Writing {
 }
 
 impl Writing {
-    /// A write that is to begin.
-    pub fn new(key: u64, write: KeyWrite) -> Writing
-        ensures key { result.write.key ≡ key }
-        ensures write { result.write.write ≡ write }
-        ensures stage { result.write.stage ≡ write_stage.New }
+    /// A write that has come so far on its way to its leaf.
+    pub fn on_way(key: u64, write: KeyWrite, way: Approach) -> Writing
+        ensures { result.write ≡ record { key = key; write = write; stage = write_stage.Coming way } }
     {
         Writing {
             write: Write {
                 key,
                 write,
-                stage: WriteStage::New,
+                stage: WriteStage::Coming(way),
             },
         }
     }

@@ -1,5 +1,5 @@
 -- Where a writer stands, of which a pass has no value: it knows where the process stands.
-use Rattle.std.specs.Prelude.{◌≡◌, ◌<◌, ℕ, Bool, true, false, Option, Some, None, List}
+use Rattle.std.specs.Prelude.{◌≡◌, ◌<◌, ℕ, Bool, true, false, Option, Some, None, Result, Ok, Err, List}
 use Rattle.atomic_table.specs.declared.shared.Seat.{Seat}
 use Rattle.bl_model.specs.Rows.{map_of}
 use Rattle.bl_page.specs.declared.page.Page.{Page}
@@ -54,10 +54,14 @@ HoldsNone (Latching x) = Unit {0}
 HoldsNone (Latched x) = ⊥
 HoldsNone (Leaving x to) = ⊥
 
--- It is to latch that page; or its way begins again.
-abbrev pub IsToLatch : (Approach → Proc) → Layout → PassState → Option ℕ → Type 0
-IsToLatch at l d (Some x) = IsOn l d (at (Latching x))
-IsToLatch at l d None = IsOn l d (at Start)
+-- It stands so, and holds no page.
+abbrev pub HasGivenUp : (Approach → Proc) → Layout → PassState → Approach → Type 0
+HasGivenUp at l d a = HoldsNone a × IsOn l d (at a)
+
+-- It is to latch that page; or it stands so.
+abbrev pub IsSought : (Approach → Proc) → Layout → PassState → Result ℕ Approach → Type 0
+IsSought at l d (Ok x) = IsOn l d (at (Latching x))
+IsSought at l d (Err a) = HasGivenUp at l d a
 
 -- The writer that held a page of its level, to cover that key, has got it: the page has these words, and covers the key.
 pub record IsThere (level key : ℕ) (latched : Proc) (words : List ℕ) (d : PassState) : Type 0 where
@@ -78,10 +82,19 @@ HasArrived level key at x l h (There glance) =
     ReadsFrom h glance × IsThere level key (at (Latched x)) (read_words h) (known h) × IsOn l (known h) (known h).state
 HasArrived level key at x l h (Away to) = IsOn l (known h) (at (Leaving x to))
 
--- It is at the page of its level that covers its key; or its way begins again.
+-- It is at the page of its level that covers its key, which it holds and has got.
+abbrev pub HasComeTo : ℕ → ℕ → (Approach → Proc) → Layout → Seat (Unit {0}) (View PassState) → ℕ × Glance → Type 0
+HasComeTo level key at l h t = ReadsFrom h t.1 × IsThere level key (at (Latched t.0)) (read_words h) (known h) × IsOn l (known h) (known h).state
+
+-- The same; or its way begins again.
 abbrev pub HasCome : ℕ → ℕ → (Approach → Proc) → Layout → Seat (Unit {0}) (View PassState) → Option (ℕ × Glance) → Type 0
-HasCome level key at l h (Some t) = ReadsFrom h t.1 × IsThere level key (at (Latched t.0)) (read_words h) (known h) × IsOn l (known h) (known h).state
+HasCome level key at l h (Some t) = HasComeTo level key at l h t
 HasCome level key at l h None = IsOn l (known h) (at Start)
+
+-- The same; or it has given up, and stands so.
+abbrev pub HasComeWithin : ℕ → ℕ → (Approach → Proc) → Layout → Seat (Unit {0}) (View PassState) → Result (ℕ × Glance) Approach → Type 0
+HasComeWithin level key at l h (Ok t) = HasComeTo level key at l h t
+HasComeWithin level key at l h (Err a) = HasGivenUp at l (known h) a
 
 -- A process that stands so has got its leaf, which it holds: the leaf has these words, and lists that with the key.
 pub record IsAtLeaf (key : ℕ) (staged : WriteStage → Proc) (at : ℕ) (there : Option ℕ) (words : List ℕ) (d : PassState) : Type 0 where

@@ -11,7 +11,7 @@ ghost use Rattle.bl_proc.specs.Processes.{next_of};
 ghost use Rattle.bl_proc_unique.specs.Courses.{GoesOn};
 ghost use Rattle.bl_index_rule.specs.Observed.{Begins, IsUnborn};
 ghost use Rattle.bl_index_steps.specs.Runs.{Runs, Keeps, IsOn, IsSince, IsSameProcess};
-ghost use Rattle.bl_index_ways.specs.Events.{HoldsNone, IsToLatch, IsThere, HasArrived, HasCome};
+ghost use Rattle.bl_index_ways.specs.Events.{HoldsNone, IsSought, IsThere, HasArrived, HasCome, HasComeWithin};
 
 use crate::targets::{Target, Unborn};
 use bl_index_rule::{Began, Launch, PassState};
@@ -115,32 +115,32 @@ fn read_next<J: Target>(
     approach_by(way, level, own, page)
 }
 
-/// It goes on to the page that is to be latched, unless the way begins again.
+/// It goes on to the page that is to be latched. Where the way begins again, or after so many turns, it says where it stands.
 #[inline(always)]
-fn seek<J: Target, R: Wait>(
+fn seek<J: Target>(
     tree: &Tree,
-    rt: &R,
     hand: &mut Hand<PassState>,
     target: &J,
     path: &mut J::Path,
     from: Approach,
-) -> Option<u32>
+    turns: u32,
+) -> Result<u32, Approach>
     requires runs { Runs tree.now hand.old (J.at target.now path.old from) }
     requires free { HoldsNone from }
     ensures same { Keeps hand.old.seat hand.new.seat }
-    ensures process { IsToLatch (J.at target.now path.new) tree.now.store.layout (known hand.new.seat) result }
+    ensures sought { IsSought (J.at target.now path.new) tree.now.store.layout (known hand.new.seat) result }
     ensures since { IsSameProcess (known hand.old.seat) (known hand.new.seat) }
 {
     let mut approach = from;
-    for _ in rt.forever() {
+    for _turn in 0..turns {
         match approach {
             Approach::At(page) => approach = read_next(tree, hand, target, path, page),
-            Approach::Latching(page) => return Some(page),
-            Approach::Start => return None,
+            Approach::Latching(page) => return Ok(page),
+            Approach::Start => return Err(Approach::Start),
             Approach::Latched(_) | Approach::Leaving(_, _) => unreachable!(),
         }
     }
-    unreachable!()
+    Err(approach)
 }
 
 /// It tries to latch the page that it has come to.
@@ -215,6 +215,44 @@ fn move_on<J: Target>(
     }
 }
 
+/// From there it comes to the page of its level that covers its key, which it holds then and got last. It gives up where the way begins
+/// again, where it misses the latch or has latched another page, and after so many turns: it holds no page then, and says where it stands.
+#[inline(always)]
+pub(crate) fn come_within<J: Target>(
+    tree: &Tree,
+    hand: &mut Hand<PassState>,
+    target: &J,
+    path: &mut J::Path,
+    from: Approach,
+    turns: u32,
+) -> Result<(u32, Glance), Approach>
+    requires runs { Runs tree.now hand.old (J.at target.now path.old from) }
+    requires free { HoldsNone from }
+    ensures same { Keeps hand.old.seat hand.new.seat }
+    ensures came { HasComeWithin (J.level_of target.now) (J.key_of target.now) (J.at target.now path.new) tree.now.store.layout hand.new.seat result }
+    ensures since { IsSameProcess (known hand.old.seat) (known hand.new.seat) }
+{
+    let page = match seek(tree, hand, target, path, from, turns) {
+        Ok(page) => page,
+        Err(way) => return Err(way),
+    };
+    if !latch_there(tree, hand, target, path, page) {
+        return Err(Approach::At(page));
+    }
+    match read_latched(tree, hand, target, path, page) {
+        Arrived::There(glance) => Ok((page, glance)),
+        Arrived::Away(to) => Err(move_on(tree, hand, target, path, page, to)),
+    }
+}
+
+/// Pauses after a miss. After a latch the next miss is a first one.
+fn pause_after(backoff: &Backoff, way: &Approach) {
+    match way {
+        Approach::At(_) => backoff.snooze(),
+        _ => backoff.reset(),
+    }
+}
+
 /// From there it comes to the page of its level that covers its key, which it holds then and got last, unless the way
 /// begins again. After a miss the thread pauses.
 #[inline(always)]
@@ -235,22 +273,35 @@ pub(crate) fn come_from<J: Target, R: Wait>(
     let backoff = Backoff::new();
     let mut from = from;
     for _ in rt.forever() {
-        let page = match seek(tree, rt, hand, target, path, from) {
-            Some(page) => page,
-            None => return None,
-        };
-        if latch_there(tree, hand, target, path, page) {
-            backoff.reset();
-            match read_latched(tree, hand, target, path, page) {
-                Arrived::There(glance) => return Some((page, glance)),
-                Arrived::Away(to) => from = move_on(tree, hand, target, path, page, to),
+        match come_within(tree, hand, target, path, from, u32::MAX) {
+            Ok(found) => return Some(found),
+            Err(Approach::Start) => return None,
+            Err(way) => {
+                pause_after(&backoff, &way);
+                from = way;
             }
-        } else {
-            backoff.snooze();
-            from = Approach::At(page);
         }
     }
     unreachable!()
+}
+
+/// It comes to the page of its level that covers its key, as above, or gives up.
+#[inline(always)]
+pub fn descend_within<J: Target>(
+    tree: &Tree,
+    hand: &mut Hand<PassState>,
+    target: &J,
+    path: &mut J::Path,
+    turns: u32,
+) -> Result<(u32, Glance), Approach>
+    requires runs { Runs tree.now hand.old (J.at target.now path.old approach.Start) }
+    requires led { (c : Page) → J.IsLedBy target.now c }
+    ensures same { Keeps hand.old.seat hand.new.seat }
+    ensures came { HasComeWithin (J.level_of target.now) (J.key_of target.now) (J.at target.now path.new) tree.now.store.layout hand.new.seat result }
+    ensures since { IsSameProcess (known hand.old.seat) (known hand.new.seat) }
+{
+    let from = read_anchor(tree, hand, target, path);
+    come_within(tree, hand, target, path, from, turns)
 }
 
 /// It comes to the page of its level that covers its key, which it holds then and got last.

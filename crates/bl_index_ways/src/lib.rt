@@ -18,7 +18,7 @@ mod splitting;
 mod targets;
 mod writers;
 
-pub use coming::{begin_descent, descend};
+pub use coming::{begin_descent, descend, descend_within};
 pub use leaves::write_there;
 pub use parents::post_there;
 pub use posters::Poster;

@@ -309,6 +309,7 @@ fn climb<R: Wait>(
                     rising: &rising,
                     path: &path,
                 };
+                tree.await_frames(hand);
                 let Some(reply) = post_there(tree, rt, hand, &riser, at, glance) else {
                     from = Approach::Start;
                     continue;
@@ -357,6 +358,7 @@ pub fn insert_key_posting<R: Wait>(
     let mut path = unborn.path;
     let (at, glance) = descend(tree, rt, hand, &Climbing { key, value }, &mut path);
     let climber = Climber { key, value, path };
+    tree.await_frames(hand);
     let left = write_there(tree, hand, at, &climber, glance);
     match left {
         Left::Split(_there, separator) => climb(tree, rt, hand, climber, separator),

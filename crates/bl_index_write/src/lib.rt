@@ -14,4 +14,4 @@ mod writing;
 
 pub use climbing::insert_key_posting;
 pub use posting::post_key;
-pub use writing::{begin_write, end_write, write_key};
+pub use writing::{begin_write, end_write, write_key, write_within};

@@ -125,6 +125,7 @@ fn post_until<R: Wait>(
     for _ in rt.forever() {
         match reach(tree, rt, hand, &target, &mut (), Approach::Start) {
             Reached::Parent(at, glance) => {
+                tree.await_frames(hand);
                 if let Some(reply) = post_there(tree, rt, hand, &target, at, glance) {
                     return end_post(tree, hand, target, reply);
                 }

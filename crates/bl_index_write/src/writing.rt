@@ -1,6 +1,6 @@
 //! Writes of one key, by the words of pages: a leaf that is not split gets its new words from those that were read.
 
-ghost use Rattle.std.specs.Prelude.{◌≡◌, ℕ, ◌<◌, None};
+ghost use Rattle.std.specs.Prelude.{◌≡◌, ℕ, ◌<◌, None, IfOk, IfErr};
 ghost use Rattle.bl_model.specs.declared.operation.KeyReply.TheVariants as replies;
 ghost use Rattle.bl_model.specs.Replies.{reply_of};
 ghost use Rattle.bl_proc_base.specs.declared.answers.Answer.TheVariants as answers;
@@ -13,15 +13,16 @@ ghost use Rattle.bl_store.specs.Owners.{IsHandOf};
 ghost use Rattle.bl_index_rule.specs.declared.known.PassState.{PassState as Knows};
 ghost use Rattle.bl_index_steps.specs.Rooms.{LacksWrite};
 ghost use Rattle.bl_index_steps.specs.Runs.{Runs, Rests, IsSince};
-ghost use Rattle.bl_index_ways.specs.Events.{IsThere};
+ghost use Rattle.bl_index_ways.specs.Events.{IsThere, HoldsNone};
 ghost use Rattle.bl_index_write.specs.Events.{writing, HasWritten};
 
 use crate::targets::Writing;
 use bl_index_rule::PassState;
 use bl_index_steps::Tree;
-use bl_index_ways::{begin_descent, descend, write_there};
+use bl_index_ways::{begin_descent, descend, descend_within, write_there};
 use bl_model::{KeyReply, KeyWrite, decide};
 use bl_proc::Hint;
+use bl_proc_base::Approach;
 use bl_proc_writes::WriteReply;
 use bl_store::{Glance, Hand};
 use std::sync::Wait;
@@ -61,7 +62,7 @@ pub fn begin_write<R: Wait>(
     descend(tree, rt, hand, &target, &mut ())
 }
 
-/// A write that holds its leaf goes on to its end.
+/// A write that holds its leaf goes on to its end. It waits for nothing.
 #[inline(always)]
 pub fn end_write(
     tree: &Tree,
@@ -105,5 +106,34 @@ pub fn write_key<R: Wait>(
     ensures no_room { result.0 ≡ replies.NoRoom → LacksWrite key write hand.new.seat }
 {
     let (at, glance) = begin_write(tree, rt, hand, key, write);
+    tree.await_frames(hand);
     end_write(tree, hand, at, key, write, glance)
+}
+
+/// The same, which waits for nothing. Where it gives up on its way to the leaf, after so many turns at most, the write stands so, and
+/// holds no page.
+#[inline(always)]
+pub fn write_within(
+    tree: &Tree,
+    hand: &mut Hand<PassState>,
+    key: u64,
+    write: KeyWrite,
+    turns: u32,
+) -> Result<(KeyReply, Option<Hint>), Approach>
+    requires own { IsHandOf tree.now.store hand.old }
+    requires idle { IsIdle hand.old.seat × HasNoStock hand.old.seat }
+    ensures same { IsSameHand hand.old.seat hand.new.seat }
+    ensures empty { HasNoStock hand.new.seat }
+    ensures ended { IfOk result (λ said. Rests hand.new.seat
+        × HasWritten hand.old.number (known hand.old.seat) (known hand.new.seat) key write (answers.Op (reply_of said.0) said.1)) }
+    ensures no_room { IfOk result (λ said. said.0 ≡ replies.NoRoom → LacksWrite key write hand.new.seat) }
+    ensures underway { IfErr result (λ way. HoldsNone way × Runs tree.now hand.new (writing key write (stages.Coming way))
+        × IsSince hand.old.number (known hand.old.seat) (known hand.new.seat)) }
+{
+    let target = Writing { key, write };
+    begin_descent(tree, hand, &target);
+    match descend_within(tree, hand, &target, &mut (), turns) {
+        Ok((at, glance)) => Ok(end_write(tree, hand, at, key, write, glance)),
+        Err(way) => Err(way),
+    }
 }

@@ -4,6 +4,7 @@ pub mod CompressEnds
 pub mod Accounts
 pub mod Searched
 pub mod Starts
+pub mod Started
 pub mod Gone
 pub mod Pieces
 pub mod Closings

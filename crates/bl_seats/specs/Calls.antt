@@ -4,6 +4,7 @@ use Rattle.std.specs.Prelude.{◌≡◌, ◌≢◌, ◌⊎◌, ℕ, ◌+◌, ◌
 use Rattle.bl_model.specs.declared.deciding.KeyWrite.{KeyWrite}
 use Rattle.bl_model.specs.declared.operation.Op.{Op}
 use Rattle.bl_model.specs.declared.operation.Reply.{Reply}
+use Rattle.bl_model.specs.Writes.{write_op}
 use Rattle.bl_page.specs.declared.page.Page.{Page}
 use Rattle.bl_claims.specs.Trails.{Trail}
 use Rattle.bl_proc_base.specs.declared.answers.Hint.{Hint}
@@ -13,6 +14,8 @@ use Rattle.bl_index_rule.specs.declared.known.PassState.{PassState}
 use Rattle.bl_index_turns.specs.declared.stages.Stage.{Stage}
 use Rattle.bl_index_turns.specs.declared.stages.Stage.TheVariants as stage
 use Rattle.bl_index_turns.specs.Stages.{IsWriteOf, IsFor, IsLowering}
+use Rattle.bl_seats.specs.declared.seat.Come.{Come}
+use Rattle.bl_seats.specs.declared.seat.Come.TheVariants.{Waits, Underway, Answered}
 use Rattle.bl_seats.specs.declared.seat.Seat.{Seat}
 use Rattle.bl_seats.specs.declared.seat.Upkeep.{Upkeep}
 use Rattle.bl_seats.specs.Seats.{IsSameOne, HasReplied, HasWritten, HasReleased, HasNotFound, HasWorked, begun_in}
@@ -110,3 +113,9 @@ abbrev pub HasBegunPiece : Seat → Seat → Type 0
 HasBegunPiece old new =
     ((old.upkeep.may_fall ≡ true) × IsLowering new.stage × (hints_of new.upkeep ≡ hints_of old.upkeep) × (new.upkeep.dropped ≡ old.upkeep.dropped))
     ⊎ ((hint : Hint) × IsFor hint new.stage × IsTaken (Some hint) old.upkeep new.upkeep)
+
+-- A write of the key has not begun, and is to be made again; or it is underway, and was so or began; or it has told its reply.
+abbrev pub HasCome : ℕ → KeyWrite → Seat → Seat → Come → Type 0
+HasCome key write old new Waits = HasToWait new × HasGoneOn old new
+HasCome key write old new Underway = IsAbout key write new × ((new ≡ old) ⊎ HasBegun (write_op key write) old new)
+HasCome key write old new (Answered reply) = HasChanged (write_op key write) reply new × HasTold (write_op key write) reply old new

@@ -7,7 +7,7 @@ ghost use Rattle.bl_seats.specs.Seats.{IsSeated};
 
 use crate::walk::{Walk, is_looked_through, may_lack_pages, waits_for_pages};
 use crate::working::{
-    begin_following, begin_lowering, begin_writing, find, go_on, meet, part, release,
+    begin_following, begin_lowering, find, go_on, meet, part, release, start_writing,
 };
 use arrayvec::ArrayVec;
 use bl_index::{Index, KeyReply, KeyWrite, Reply};
@@ -17,7 +17,7 @@ use bl_proc::{Answer, Hint, Lowered, Posted, Squeezed};
 use bl_store::Hand;
 use std::alloc::Global;
 use std::sync::Arc;
-use std::{mem, ptr};
+use std::ptr;
 
 /// How many pieces of upkeep a change does at most before it begins.
 const PIECES: u32 = 16;
@@ -36,6 +36,16 @@ pub struct Seat {
     pub(crate) stage: Stage,
     pub(crate) upkeep: Upkeep,
     pub ghost own: { ∥ IsSeated (arc_value index) hand stage ∥₁ },
+}
+
+/// How far a write of a seat has come.
+pub(crate) enum Come {
+    /// It has not begun, and is to be made again.
+    Waits,
+    /// It is underway.
+    Underway,
+    /// It has ended with this reply.
+    Answered(Reply),
 }
 
 /// What there is to do behind the changes of a seat.
@@ -145,9 +155,9 @@ impl Seat {
     ghost use Rattle.bl_model.specs.Replies.{reply_of};
     ghost use Rattle.bl_model.specs.Writes.{write_op};
     ghost use Rattle.bl_seats.specs.Seats.{HasAnswered};
-    ghost use Rattle.bl_seats.specs.Accounts.{HasGone};
+    ghost use Rattle.bl_seats.specs.Accounts.{AddsEntry, HasGone, Starts};
     ghost use Rattle.bl_seats.specs.Waits.{hints_of, left_by, IsKept};
-    ghost use Rattle.bl_seats.specs.Calls.{IsSameSeat, HasToldLast, HasTold, HasGoneOn, HasBegun, HasGoneOnOrBegun, HasChanged, HasSwept, HasNothingToDo, HasBegunPiece};
+    ghost use Rattle.bl_seats.specs.Calls.{IsSameSeat, HasToldLast, HasTold, HasGoneOn, HasGoneOnOrBegun, HasChanged, HasCome, HasSwept, HasNothingToDo, HasBegunPiece};
     ghost use Rattle.bl_seats.specs.Calls.{HasNoAnswer, HasToWait, HasCarriedOn, HasDoneMost, count_underway};
     ghost use Rattle.bl_seats.specs.Calls.{IsAbout, number_of, account_of, released_by, begun_by};
     ghost use Rattle.bl_seats.specs.Meetings.{AreOfOne, HaveMet};
@@ -186,12 +196,13 @@ impl Seat {
         ensures told { MatchOption result (HasGoneOnOrBegun (write_op key write) self.old self.new)
             (λ reply. HasTold (write_op key write) reply self.old self.new) }
     {
-        if !self.comes_to(key, write) {
-            return None;
-        }
-        match self.go_on() {
-            Some(Answer::Op(reply, _)) => Some(reply),
-            _ => None,
+        match self.comes_to(key, write) {
+            Come::Waits => None,
+            Come::Answered(reply) => Some(reply),
+            Come::Underway => match self.go_on() {
+                Some(Answer::Op(reply, _)) => Some(reply),
+                _ => None,
+            },
         }
     }
 
@@ -327,7 +338,7 @@ impl Seat {
         let answer = go_on(&self.index, &mut self.hand, &mut self.stage);
         if let Some(answer) = &answer {
             self.upkeep.note(answer);
-            note_change(&self.index, answer);
+            note_answer(&self.index, answer);
         }
         answer
     }
@@ -342,15 +353,13 @@ impl Seat {
     {
         if self.upkeep.may_fall {
             self.upkeep.may_fall = false;
-            let stage = mem::replace(&mut self.stage, Stage::Rests);
-            self.stage = begin_lowering(&self.index, &mut self.hand, stage);
+            begin_lowering(&self.index, &mut self.hand, &mut self.stage);
             return true;
         }
         let Some(piece) = self.upkeep.take() else {
             return false;
         };
-        let stage = mem::replace(&mut self.stage, Stage::Rests);
-        self.stage = begin_following(&self.index, &mut self.hand, stage, piece);
+        begin_following(&self.index, &mut self.hand, &mut self.stage, piece);
         true
     }
 
@@ -367,25 +376,29 @@ impl Seat {
         self.begin_piece()
     }
 
-    /// This very write is underway, or begins now. Says whether.
-    fn comes_to(&mut self, key: u64, write: KeyWrite) -> bool
+    /// This very write is underway; or it begins now, if it may, and may be answered at once.
+    fn comes_to(&mut self, key: u64, write: KeyWrite) -> Come
         ensures same { IsSameSeat self.old self.new }
-        ensures about { result ≡ true → IsAbout key write self.new }
-        ensures waits { result ≡ false → HasToWait self.new }
-        ensures told { MatchBool result ((self.new ≡ self.old) ⊎ HasBegun (write_op key write) self.old self.new) (HasGoneOn self.old self.new) }
+        ensures came { HasCome key write self.old self.new result }
     {
         if self.is_writing(key, write) {
-            return true;
+            return Come::Underway;
         }
-        self.begin(key, write)
+        if !self.may_begin(key, write) {
+            return Come::Waits;
+        }
+        match self.start(key, write) {
+            Some(reply) => Come::Answered(reply),
+            None => Come::Underway,
+        }
     }
 
-    /// Looks for room, and begins the write. Says whether it has begun.
-    fn begin(&mut self, key: u64, write: KeyWrite) -> bool
+    /// Does upkeep, and looks for room. Says whether the write may begin: nothing is underway then.
+    fn may_begin(&mut self, key: u64, write: KeyWrite) -> bool
         ensures same { IsSameSeat self.old self.new }
-        ensures about { result ≡ true → IsAbout key write self.new }
+        ensures told { HasGoneOn self.old self.new }
+        ensures rests { result ≡ true → self.new.stage ≡ stages.Rests }
         ensures waits { result ≡ false → HasToWait self.new }
-        ensures told { MatchBool result (HasBegun (write_op key write) self.old self.new) (HasGoneOn self.old self.new) }
     {
         self.tend(PIECES);
         if !self.is_at_rest() {
@@ -398,7 +411,27 @@ impl Seat {
             return false;
         }
         self.upkeep.lacked = 0;
-        begin_writing(&self.index, &mut self.hand, &mut self.stage, key, write)
+        true
+    }
+
+    /// The write begins, and goes on by the words of pages. Its reply, where it is answered at once: what it leaves to do waits then. Else it
+    /// is underway.
+    fn start(&mut self, key: u64, write: KeyWrite) -> Option<Reply>
+        requires { self.old.stage ≡ stages.Rests }
+        ensures same { IsSameSeat self.old self.new }
+        ensures underway { IfNone result (IsAbout key write self.new × Starts (write_op key write) (account_of self.old) (account_of self.new)) }
+        ensures answered { IfSome result (λ reply. HasChanged (write_op key write) reply self.new
+            × AddsEntry (number_of self.old) (write_op key write) reply (account_of self.old) (account_of self.new)) }
+    {
+        match start_writing(&self.index, &mut self.hand, &mut self.stage, key, write) {
+            Some((reply, hint)) => {
+                self.upkeep.keep(hint);
+                let reply = reply.reply();
+                note_change(&self.index, &reply);
+                Some(reply)
+            }
+            None => None,
+        }
     }
 
     /// Whether a change finds enough frames. It sweeps, so many times at most.
@@ -472,8 +505,15 @@ impl Seat {
 }
 
 /// A row that goes leaves its page with less than before, so a walk may find room again.
-fn note_change(index: &Index, answer: &Answer) {
-    if let Answer::Op(Reply::Deleted(_), _) = answer {
+fn note_change(index: &Index, reply: &Reply) {
+    if let Reply::Deleted(_) = reply {
         index.tree().store.note_change();
+    }
+}
+
+/// The same of what was underway and has ended.
+fn note_answer(index: &Index, answer: &Answer) {
+    if let Answer::Op(reply, _) = answer {
+        note_change(index, reply);
     }
 }

@@ -4,7 +4,7 @@ ghost use Rattle.std.specs.Prelude.{◌≡◌, ◌≢◌, ◌⊎◌, ◌+◌, If
 ghost use Rattle.bl_model.specs.declared.operation.Op.TheVariants as op;
 ghost use Rattle.bl_model.specs.Replies.{reply_of};
 ghost use Rattle.bl_model.specs.Writes.{write_op};
-ghost use Rattle.bl_seats.specs.Seats.{IsSeated, IsSameOne, HasAnswered, HasFound, HasReplied, HasReleased, HasNotFound, HasWorked, begun_in};
+ghost use Rattle.bl_seats.specs.Seats.{IsSeated, IsSameOne, HasAnswered, HasFound, HasReplied, HasReleased, HasNotFound, HasWorked, HasWritten, begun_in};
 ghost use Rattle.bl_seats.specs.Accounts.{account, HasGone, AddsEntry, Starts};
 ghost use Rattle.bl_index_turns.specs.Stages.{IsWriteOf, IsFor, IsLowering};
 ghost use Rattle.bl_store.specs.Hands.{known};
@@ -14,7 +14,7 @@ ghost use Rattle.bl_index_turns.specs.declared.stages.Stage.TheVariants as stage
 use bl_index::{Hint, Index, KeyReply, KeyWrite, Reply};
 use bl_index_read::{find_key, list_part};
 use bl_index_rule::PassState;
-use bl_index_turns::{Stage, advance, begin_hint, begin_lower, begin_write, stands, sweep};
+use bl_index_turns::{Stage, advance, begin_hint, begin_lower, stands, start_write, sweep};
 use bl_proc::Answer;
 use bl_store::Hand;
 
@@ -106,64 +106,56 @@ pub(crate) fn go_on(index: &Index, hand: &mut Hand<PassState>, stage: &mut Stage
     advance(index.tree(), hand, stage, EVENTS)
 }
 
-/// A write begins, unless a process is underway. Says whether it has begun.
-pub(crate) fn begin_writing(
+/// A write begins where no process is underway, and goes on by the words of pages. Its reply, with its hint, where it has ended; else it
+/// is underway.
+pub(crate) fn start_writing(
     index: &Index,
     hand: &mut Hand<PassState>,
     stage: &mut Stage,
     key: u64,
     write: KeyWrite,
-) -> bool
-    requires { ∥ IsSeated index.now hand.old stage.old ∥₁ }
+) -> Option<(KeyReply, Option<Hint>)>
+    requires seated { ∥ IsSeated index.now hand.old stage.old ∥₁ }
+    requires rests { stage.old ≡ stages.Rests }
     ensures same { IsSameOne hand.old hand.new }
     ensures stands { IsSeated index.now hand.new stage.new }
-    ensures about { result ≡ true → IsWriteOf key write stage.new }
-    ensures began { result ≡ true → Starts (write_op key write) (account hand.old stage.old) (account hand.new stage.new) }
-    ensures not { result ≡ false → (account hand.new stage.new ≡ account hand.old stage.old) × (stage.old ≢ stages.Rests) }
+    ensures underway { IfNone result (IsWriteOf key write stage.new × Starts (write_op key write) (account hand.old stage.old) (account hand.new stage.new)) }
+    ensures answered { IfSome result (λ said. (stage.new ≡ stages.Rests) × HasWritten hand.new (write_op key write) (reply_of said.0) said.1
+        × AddsEntry hand.old.number (write_op key write) (reply_of said.0) (account hand.old stage.old) (account hand.new stage.new)) }
 {
     stands(index.tree(), hand, stage);
-    match stage {
-        Stage::Rests => {
-            *stage = begin_write(index.tree(), hand, key, write);
-            true
-        }
-        _ => false,
-    }
+    start_write(index.tree(), hand, stage, key, write, EVENTS)
 }
 
-/// What the hint asks for begins, unless a process is underway.
+/// What the hint asks for begins where no process is underway.
 pub(crate) fn begin_following(
     index: &Index,
     hand: &mut Hand<PassState>,
-    stage: Stage,
+    stage: &mut Stage,
     hint: Hint,
-) -> Stage
-    requires { ∥ IsSeated index.now hand.old stage ∥₁ }
+)
+    requires seated { ∥ IsSeated index.now hand.old stage.old ∥₁ }
+    requires rests { stage.old ≡ stages.Rests }
     ensures same { IsSameOne hand.old hand.new }
-    ensures stands { IsSeated index.now hand.new result }
-    ensures began { stage ≡ stages.Rests → IsFor hint result × (begun_in hand.new ≡ begun_in hand.old + 1) }
-    ensures told { account hand.new result ≡ account hand.old stage }
+    ensures stands { IsSeated index.now hand.new stage.new }
+    ensures began { IsFor hint stage.new × (begun_in hand.new ≡ begun_in hand.old + 1) }
+    ensures told { account hand.new stage.new ≡ account hand.old stage.old }
 {
-    stands(index.tree(), hand, &stage);
-    match stage {
-        Stage::Rests => begin_hint(index.tree(), hand, hint),
-        underway => underway,
-    }
+    stands(index.tree(), hand, stage);
+    *stage = begin_hint(index.tree(), hand, hint);
 }
 
-/// A lowering begins, unless a process is underway.
-pub(crate) fn begin_lowering(index: &Index, hand: &mut Hand<PassState>, stage: Stage) -> Stage
-    requires { ∥ IsSeated index.now hand.old stage ∥₁ }
+/// A lowering begins where no process is underway.
+pub(crate) fn begin_lowering(index: &Index, hand: &mut Hand<PassState>, stage: &mut Stage)
+    requires seated { ∥ IsSeated index.now hand.old stage.old ∥₁ }
+    requires rests { stage.old ≡ stages.Rests }
     ensures same { IsSameOne hand.old hand.new }
-    ensures stands { IsSeated index.now hand.new result }
-    ensures began { stage ≡ stages.Rests → IsLowering result × (begun_in hand.new ≡ begun_in hand.old + 1) }
-    ensures told { account hand.new result ≡ account hand.old stage }
+    ensures stands { IsSeated index.now hand.new stage.new }
+    ensures began { IsLowering stage.new × (begun_in hand.new ≡ begun_in hand.old + 1) }
+    ensures told { account hand.new stage.new ≡ account hand.old stage.old }
 {
-    stands(index.tree(), hand, &stage);
-    match stage {
-        Stage::Rests => begin_lower(index.tree(), hand),
-        underway => underway,
-    }
+    stands(index.tree(), hand, stage);
+    *stage = begin_lower(index.tree(), hand);
 }
 
 /// Two hands meet, unless a process is underway at one of them. Says whether they have.

@@ -1,4 +1,4 @@
-//! Two writes of one leaf go on in turns, on one thread: each opens the leaf before it comes back.
+//! Writes of one leaf on one thread: each ends as it starts, or goes on in turns and opens the leaf before it comes back.
 
 ghost use Rattle.bl_index.specs.Calls.{IsPassOf};
 ghost use Rattle.bl_index_turns.specs.Stages.{IsAtRest};
@@ -6,8 +6,9 @@ ghost use Rattle.bl_index_turns.specs.Stages.{IsAtRest};
 use crate::stops::begun::opened;
 use bl_index::{Index, Pass};
 use bl_index_rule::PassState;
-use bl_index_turns::{advance, begin_write};
-use bl_model::{KeyWrite, Reply};
+use bl_index_turns::{Stage, advance, start_write};
+use bl_index_write::{begin_write, end_write};
+use bl_model::{KeyReply, KeyWrite, Reply};
 use bl_proc::Answer;
 use bl_store::Hand;
 use std::test::Fail;
@@ -21,17 +22,20 @@ fn hand_of(index: &Index, pass: Pass) -> Hand<PassState>
     pass.into_hand()
 }
 
-// Each gets the anchor, and latches the leaf. A write that came back then would hold it, and the other one would miss its latch.
+// Each gets the anchor, and then latches the leaf. A write that came back then would hold it, and the other one would miss its latch.
 #[test]
 fn a_write_opens_its_leaf_before_it_comes_back(rt: HostRuntime) -> Result<(), Fail> {
     let (index, first, second, _) = opened(rt.alloc()).ok_or("no index")?;
     let tree = index.tree();
     let mut one = hand_of(&index, first);
     let mut other = hand_of(&index, second);
-    let mut insertion = begin_write(tree, &mut one, 5, KeyWrite::Insert(50));
-    let mut deletion = begin_write(tree, &mut other, 5, KeyWrite::Delete);
-    assert!(rt; advance(tree, &mut one, &mut insertion, 2).is_none());
-    assert!(rt; advance(tree, &mut other, &mut deletion, 2).is_none());
+    let mut insertion = Stage::Rests;
+    let mut deletion = Stage::Rests;
+    let insert = KeyWrite::Insert(50);
+    assert!(rt; start_write(tree, &mut one, &mut insertion, 5, insert, 0).is_none());
+    assert!(rt; start_write(tree, &mut other, &mut deletion, 5, KeyWrite::Delete, 0).is_none());
+    assert!(rt; advance(tree, &mut one, &mut insertion, 1).is_none());
+    assert!(rt; advance(tree, &mut other, &mut deletion, 1).is_none());
     let inserted = Some(Answer::Op(Reply::Inserted, None));
     let deleted = Some(Answer::Op(Reply::Deleted(50), None));
     assert!(rt; advance(tree, &mut one, &mut insertion, 1) == inserted);
@@ -39,17 +43,49 @@ fn a_write_opens_its_leaf_before_it_comes_back(rt: HostRuntime) -> Result<(), Fa
     Ok(())
 }
 
-// By the first call it gets the anchor. By the second one it latches the leaf, and goes on until it has opened it. The third ends it.
+// As it starts it gets the anchor. By the second call it latches the leaf, and goes on until it has opened it. The third ends it.
 #[test]
 fn a_write_makes_all_events_of_a_hold_in_one_call(rt: HostRuntime) -> Result<(), Fail> {
     let (index, first, _, _) = opened(rt.alloc()).ok_or("no index")?;
     let tree = index.tree();
     let mut hand = hand_of(&index, first);
-    let mut insertion = begin_write(tree, &mut hand, 5, KeyWrite::Insert(50));
+    let mut insertion = Stage::Rests;
+    let insert = KeyWrite::Insert(50);
+    assert!(rt; start_write(tree, &mut hand, &mut insertion, 5, insert, 0).is_none());
     assert!(rt; advance(tree, &mut hand, &mut insertion, 0).is_none());
-    assert!(rt; advance(tree, &mut hand, &mut insertion, 1).is_none());
     assert!(rt; advance(tree, &mut hand, &mut insertion, 1).is_none());
     let inserted = Some(Answer::Op(Reply::Inserted, None));
     assert!(rt; advance(tree, &mut hand, &mut insertion, 1) == inserted);
+    Ok(())
+}
+
+#[test]
+fn a_write_that_meets_nobody_ends_as_it_starts(rt: HostRuntime) -> Result<(), Fail> {
+    let (index, first, _, _) = opened(rt.alloc()).ok_or("no index")?;
+    let tree = index.tree();
+    let mut hand = hand_of(&index, first);
+    let mut stage = Stage::Rests;
+    let inserted = start_write(tree, &mut hand, &mut stage, 5, KeyWrite::Insert(50), 1);
+    assert!(rt; inserted == Some((KeyReply::Inserted, None)));
+    assert!(rt; advance(tree, &mut hand, &mut stage, 1).is_none());
+    Ok(())
+}
+
+// An insertion holds the leaf. A deletion gives up there, holds nothing, and goes on once the leaf is open.
+#[test]
+fn a_write_gives_up_where_another_one_holds_its_leaf(rt: HostRuntime) -> Result<(), Fail> {
+    let (index, first, second, _) = opened(rt.alloc()).ok_or("no index")?;
+    let tree = index.tree();
+    let mut one = hand_of(&index, first);
+    let mut other = hand_of(&index, second);
+    let insert = KeyWrite::Insert(50);
+    let (at, glance) = begin_write(tree, &rt, &mut one, 5, insert);
+    let mut deletion = Stage::Rests;
+    assert!(rt; start_write(tree, &mut other, &mut deletion, 5, KeyWrite::Delete, 256).is_none());
+    assert!(rt; advance(tree, &mut other, &mut deletion, 4).is_none());
+    let inserted = end_write(tree, &mut one, at, 5, insert, glance);
+    assert!(rt; inserted == (KeyReply::Inserted, None));
+    let deleted = Some(Answer::Op(Reply::Deleted(50), None));
+    assert!(rt; advance(tree, &mut other, &mut deletion, 256) == deleted);
     Ok(())
 }

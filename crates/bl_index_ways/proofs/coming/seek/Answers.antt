@@ -2,10 +2,10 @@ use Rattle.std.proofs.Common.{rules}
 use Rattle.bl_index_steps.proofs.Standing.{same_all}
 use Rattle.bl_index_ways.proofs.coming.seek.Goals as goal
 
-pub loop-preserved : goal.loop-preserved
-loop-preserved g c = record {
+pub loop-turn-preserved : goal.loop-turn-preserved
+loop-turn-preserved g c = record {
   same = search rules;
   process = c.read_next-approach.ensures.runs.on;
   free = c.read_next-approach.ensures.free;
-  since = same_all _ _ _ c.loop.invariant.since c.read_next-approach.ensures.since;
+  since = same_all _ _ _ c.loop-turn.invariant.since c.read_next-approach.ensures.since;
 }

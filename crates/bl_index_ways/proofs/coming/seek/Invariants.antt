@@ -3,8 +3,8 @@ use Rattle.bl_index_steps.specs.Runs.{IsOn, IsSameProcess}
 use Rattle.bl_index_ways.specs.Events.{HoldsNone}
 use Rattle.bl_index_ways.proofs.coming.seek.Given as goal
 
-abbrev pub invariant-loop : goal.invariant-loop
-invariant-loop g l = record {
+abbrev pub invariant-loop-turn : goal.invariant-loop-turn
+invariant-loop-turn g l = record {
   same : IsSameHand l.fn.hand.seat l.hand.seat × IsSameStage l.fn.hand.seat l.hand.seat × IsSameStock l.fn.hand.seat l.hand.seat;
   process : IsOn l.tree.store.layout (known l.hand.seat) (g.J.Target.at l.target l.path l.approach);
   free : HoldsNone l.approach;

@@ -1,11 +1,11 @@
-use Rattle.std.proofs.Common.{ℕ, ◌≡◌, ◌⊎◌, Option, Some, ap, ◌∙◌, subst}
-use Rattle.std.specs.Prelude.{MatchBool, MatchOption}
+use Rattle.std.proofs.Common.{ℕ, ◌≡◌, Option, Some, ap, ◌∙◌, subst}
+use Rattle.std.specs.Prelude.{MatchOption}
 use Rattle.bl_model.specs.Writes.{write_op}
 use Rattle.bl_proc_base.specs.declared.answers.Answer.{Answer}
 use Rattle.bl_seats.specs.Seats.{HasAnswered}
 use Rattle.bl_seats.specs.Waits.{IsKept, left_by}
 use Rattle.bl_seats.specs.Accounts.{HasGone}
-use Rattle.bl_seats.specs.Calls.{HasBegun, HasGoneOn, account_of, number_of}
+use Rattle.bl_seats.specs.Calls.{account_of, number_of}
 use Rattle.bl_seats.proofs.Gone.{about_op, written_of, as_accounts, write_told}
 use Rattle.bl_seats.proofs.seat.Seat.write.Goals as goal
 
@@ -15,16 +15,15 @@ returns-in-Some-Op-clause-told c =
     let mid = c.comes_to.new.self in
     let new = c.go_on.new.self in
     let op = write_op c.args.key c.args.write in
-    let began = c.if-not-comes_to.false in
+    let came = c.in-Underway.ensures.came in
     let gone = subst (λ (z : ℕ × Option Answer). HasGone z.0 (account_of mid) z.1 (account_of new)) (λ i. (c.comes_to.ensures.same.1.0 i, (c.in-Some-Op.is ∙ ap (λ (z : Answer). Some z) c.in-Some-Op.field-0-is) i)) c.go_on.ensures.gone in
-    let came = subst (λ z. MatchBool z ((mid ≡ old) ⊎ HasBegun op old mid) (HasGoneOn old mid)) began c.comes_to.ensures.told in
-    write_told (number_of old) op (account_of old) (account_of mid) (account_of new) c.in-Some-Op.reply c.in-Some-Op.field-0-1 (about_op c.args.key c.args.write mid.stage (c.comes_to.ensures.about began)) (as_accounts old mid op came) gone
+    write_told (number_of old) op (account_of old) (account_of mid) (account_of new) c.in-Some-Op.reply c.in-Some-Op.field-0-1 (about_op c.args.key c.args.write mid.stage came.0) (as_accounts old mid op came.1) gone
 
 pub returns-in-Some-Op-clause-changed : goal.returns-in-Some-Op-clause-changed
 returns-in-Some-Op-clause-changed c =
     let mid = c.comes_to.new.self in
     let new = c.go_on.new.self in
-    let about = c.comes_to.ensures.about c.if-not-comes_to.false in
+    let about = c.in-Underway.ensures.came.0 in
     let is = c.in-Some-Op.is ∙ ap (λ (z : Answer). Some z) c.in-Some-Op.field-0-is in
     record {
       hint = c.in-Some-Op.field-0-1;
