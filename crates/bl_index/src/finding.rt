@@ -6,6 +6,7 @@ ghost use Rattle.bl_model.specs.Replies.{reply_of};
 
 use crate::index::{Index, Pass};
 use bl_index_read::{OutOfTurns, find_key};
+use bl_index_steps::ABREAST;
 use bl_model::KeyReply;
 
 impl Index {
@@ -43,5 +44,12 @@ impl Index {
         ensures alone { IfOk result (λ reply. StepsAlone (first_of self.now) self.now (op.Find key) (reply_of reply) (trail pass.old) (trail pass.new)) }
     {
         find_key(&self.tree, &mut pass.hand, key, near, turns)
+    }
+
+    /// Fetches from memory, side by side, the pages on the ways to the first of these keys, eight at most, and gives for each a page to have in
+    /// mind in a search for it. It changes nothing, and what it gives are guesses, of which nothing is promised.
+    #[inline(always)]
+    pub fn fetch(&self, keys: &[u64]) -> [u32; ABREAST] {
+        self.tree.fetch_leaves(keys)
     }
 }

@@ -2,6 +2,7 @@
 //! whoever acts by a guess does what is right if the guess is wrong.
 
 use crate::tree::Tree;
+use bl_model::KeyWrite;
 use bl_page::{KIND_UNIT, LEVEL_UNIT};
 use bl_proc_base::{Hint, Level};
 
@@ -83,8 +84,16 @@ impl Tree {
         right > 0 && Head::of(self.store.peek(right, 0)).is_half_full_at_most()
     }
 
-    /// Whether an insertion of the key may split a leaf: the leaf that seems to cover it seems to be full, or none is found.
-    pub fn may_split(&self, key: u64) -> bool {
+    /// Whether a write may split a leaf while pages are scarce.
+    pub fn may_lack_pages(&self, key: u64, write: KeyWrite) -> bool {
+        match write {
+            KeyWrite::Insert(_) => self.store.lacks_pages() && self.may_split(key),
+            KeyWrite::Delete | KeyWrite::Change(..) => false,
+        }
+    }
+
+    // Whether an insertion of the key may split a leaf: the leaf that seems to cover it seems to be full, or none is found.
+    fn may_split(&self, key: u64) -> bool {
         let mut page = 0;
         for _step in 0..STEPS {
             let next = self.page_behind(page, key);

@@ -8,6 +8,7 @@
 
 mod carrying;
 mod events;
+mod fetching;
 mod frame_view;
 mod guessing;
 mod kinds;
@@ -16,6 +17,7 @@ mod running;
 mod stepping;
 mod tree;
 
+pub use fetching::ABREAST;
 pub use frame_view::FrameView;
 pub use kinds::Kind;
 pub use pausing::Pause;

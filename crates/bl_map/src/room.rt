@@ -33,14 +33,6 @@ enum Extent {
     Enough,
 }
 
-/// Whether a write may split a leaf while pages are scarce.
-fn may_lack_pages(index: &Index, key: u64, write: KeyWrite) -> bool {
-    match write {
-        KeyWrite::Insert(_) => index.tree().store.lacks_pages() && index.tree().may_split(key),
-        KeyWrite::Delete | KeyWrite::Change(..) => false,
-    }
-}
-
 /// Whether a walk over all pages is to be made for an insertion: not each hand may find a page, and it is not known that a walk would find
 /// nothing.
 fn wants_walk(index: &Index) -> bool {
@@ -61,7 +53,7 @@ pub(crate) fn make_room<R: Wait>(rt: &R, index: &Index, pass: &mut Pass, key: u6
     ensures readies { KeptUp (first_of index.now) (number_of pass.old) (trail pass.old) (trail pass.new) }
 {
     wait_for(index, pass, Want::Frames);
-    if may_lack_pages(index, key, write) {
+    if index.tree().may_lack_pages(key, write) {
         find_pages(rt, index, pass);
     }
 }

@@ -5,7 +5,7 @@ ghost use Rattle.std.specs.Arc.{arc_value};
 ghost use Rattle.bl_seats.specs.Pieces.{are_pieces};
 ghost use Rattle.bl_seats.specs.Seats.{IsSeated};
 
-use crate::walk::{Walk, is_looked_through, may_lack_pages, waits_for_pages};
+use crate::walk::{Walk, is_looked_through, waits_for_pages};
 use crate::working::{
     begin_following, begin_lowering, find, go_on, meet, part, release, start_writing,
 };
@@ -16,8 +16,8 @@ use bl_index_turns::Stage;
 use bl_proc::{Answer, Hint, Lowered, Posted, Squeezed};
 use bl_store::Hand;
 use std::alloc::Global;
-use std::sync::Arc;
 use std::ptr;
+use std::sync::Arc;
 
 /// How many pieces of upkeep a change does at most before it begins.
 const PIECES: u32 = 16;
@@ -458,7 +458,7 @@ impl Seat {
         ensures keeps { self.new.stage ≡ self.old.stage }
         ensures waits { result ≡ false → 0 < self.new.upkeep.lacked }
     {
-        if !may_lack_pages(self.index.tree(), key, write) {
+        if !self.index.tree().may_lack_pages(key, write) {
             return true;
         }
         self.release_pages();

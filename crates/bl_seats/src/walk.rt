@@ -74,14 +74,6 @@ impl Walk {
     }
 }
 
-/// Whether the write may split a leaf while pages are scarce.
-pub(crate) fn may_lack_pages(tree: &Tree, key: u64, write: KeyWrite) -> bool {
-    match write {
-        KeyWrite::Insert(_) => tree.store.lacks_pages() && tree.may_split(key),
-        KeyWrite::Delete | KeyWrite::Change(..) => false,
-    }
-}
-
 /// Whether pages are scarce while some wait to be released.
 pub(crate) fn waits_for_pages(tree: &Tree) -> bool {
     tree.store.lacks_pages() && tree.store.retiring_pages() > 0
