@@ -221,9 +221,15 @@ def post_there(level, key, first=None, noted=None):
 # The kinds of process, each from its begin to its end.
 
 
-def find(key):
+def way_from(near):
+    """The page at which a way begins that has that page in mind, if it is open."""
+    return near if near is not None and (yield "probe", near) else None
+
+
+def find(key, near=None):
     yield ("begin",)
-    page = yield from search(key)
+    first = yield from way_from(near)
+    page = yield from search(key, first)
     yield ("end",)
     there = page.listed(key)
     return "absent" if there is None else f"found {there}"
@@ -231,7 +237,7 @@ def find(key):
 
 def part(key, near=None):
     yield ("begin",)
-    first = near if near is not None and (yield "probe", near) else None
+    first = yield from way_from(near)
     page = yield from search(key, first)
     yield ("end",)
     rows = "".join(f" {low}={value}" for low, value in page.pairs if low >= key)
@@ -408,7 +414,7 @@ def reclaim(page):
     return "released" if (yield "release", page, retired) else "kept"
 
 
-KINDS = {it.__name__: it for it in (find, part, insert, insertpost, delete, change, post, compress, lower, reclaim)} | {"partnear": part}
+KINDS = {it.__name__: it for it in (find, part, insert, insertpost, delete, change, post, compress, lower, reclaim)} | {"findnear": find, "partnear": part}
 
 
 class Process:

@@ -116,7 +116,8 @@ pub(crate) const ABOUT_REPLAY: &str = "\
 The lines of a script; the first is `pages N`:
   find K, insert K V, delete K, change K OLD NEW, part K  each starts a process
   insertpost K V     so does this: an insertion that lists what it splits itself
-  partnear K X       and this: a part that looks first at page X
+  findnear K X       and this: a search that looks first at page X
+  partnear K X       and this: a part that does so
   post L K, compress L K, lower, reclaim X  and these, which keep up the tree
   turn P, turn P X   one turn of process P; a take tries page X
   refuse P           process P is refused what it is about to reserve

@@ -14,6 +14,7 @@ use Rattle.bl_replay_script.specs.Scripts.{AllStand}
 use Rattle.bl_proc_base.specs.declared.answers.Answer.{Answer}
 use Rattle.bl_proc.specs.declared.kinds.Proc.{Proc}
 use Rattle.bl_proc.specs.declared.kinds.Proc.TheVariants as proc
+use Rattle.bl_proc.specs.declared.searching.FindStage.TheVariants as find
 use Rattle.bl_proc.specs.declared.parts.PartStage.TheVariants as part
 use Rattle.bl_proc.specs.Processes.{answer_of, IsFind, IsWrite, IsPost, IsPart, IsCompress, IsReclaim, IsLower, IsInsertPost}
 use Rattle.bl_world.specs.declared.turns.Event.{Event}
@@ -70,6 +71,11 @@ pub data PrintsSettling (v : View) : ℕ → List ℕ → View → Type 0 where
       → PrintsChosen mid number None more v'
       → PrintsSettling v (count + 1) (text ++ more) v'
 
+-- a search that is to begin, and to look at that page then
+abbrev pub IsFindNear : ℕ → ℕ → Proc → Type 0
+IsFindNear key page (proc.Find p) = (p.key ≡ key) × (p.stage ≡ find.Near page)
+IsFindNear key page p = ⊥
+
 -- a part that is to begin, and to look at that page then
 abbrev pub IsPartNear : ℕ → ℕ → Proc → Type 0
 IsPartNear from page (proc.Part p) = (p.from ≡ from) × (p.stage ≡ part.Near page)
@@ -89,6 +95,7 @@ Carries o p = Reads o p ⊎ ((key : ℕ) × (does : KeyWrite) × (write_op key d
 abbrev pub IsStart : Start → Proc → Type 0
 IsStart (start.Operation o) p = Carries o p
 IsStart (start.InsertPost key value) p = IsInsertPost key value p
+IsStart (start.FindNear key page) p = IsFindNear key page p
 IsStart (start.PartNear from page) p = IsPartNear from page p
 IsStart (start.Post level key) p = IsPost level key p
 IsStart (start.Compress level key) p = IsCompress level key p

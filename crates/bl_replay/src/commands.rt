@@ -18,7 +18,7 @@ use crate::fault::ReplayFault;
 use crate::output::write_much;
 use crate::turning::{answer_of, print_turn};
 use bl_model::{Op, Watched};
-use bl_proc::{Part, Proc};
+use bl_proc::{Find, Part, Proc};
 use bl_replay_script::{Command, Start};
 use bl_world::{Turn, World, WorldFault};
 use std::io::Write;
@@ -57,6 +57,7 @@ fn process_of(start: Start) -> Proc
         Start::Operation(op) => process_for(op),
         Start::InsertPost { key, value } => Proc::insert_posting(key, value),
         Start::Post { level, key } => Proc::post(level, key),
+        Start::FindNear { key, page } => Proc::Find(Find::near(key, page)),
         Start::PartNear { from, page } => Proc::Part(Part::near(from, page)),
         Start::Compress { level, key } => Proc::compress(level, key),
         Start::Reclaim(page) => Proc::reclaim(page),

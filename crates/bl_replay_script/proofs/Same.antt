@@ -5,7 +5,7 @@ use Rattle.std.proofs.lemmas.Fmt.{digits_decimal}
 use Rattle.std.proofs.lemmas.Str.Parse.{not_in_digits}
 use Rattle.bl_serve_lines.proofs.Numbers.{own, at_middle}
 use Rattle.bl_model.specs.declared.operation.Op.TheVariants.{Find, Insert, Delete, Change, Part}
-use Rattle.bl_replay_script.specs.declared.command.Start.TheVariants.{Operation, InsertPost, PartNear, Post, Compress, Reclaim, Lower}
+use Rattle.bl_replay_script.specs.declared.command.Start.TheVariants.{Operation, FindNear, InsertPost, PartNear, Post, Compress, Reclaim, Lower}
 use Rattle.bl_replay_script.specs.declared.command.Command.{Command}
 use Rattle.bl_replay_script.specs.declared.command.Command.TheVariants as command
 use Rattle.bl_replay_script.specs.declared.command.Kinds.{Kinds}
@@ -27,6 +27,7 @@ small_page page pages count lt = omega (arith, count.1)
 
 pub line_text : (kinds : Kinds) (pages started : ℕ) → IsPageCount pages → (c : Command) → MayStand kinds pages started c → IsPlain (command_text c)
 line_text kinds pages started count (command.Start (Operation (Find a))) h = plain_one (codes "find ") a refl (omega arith) h
+line_text kinds pages started count (command.Start (FindNear a b)) h = plain_two (codes "findnear ") a b refl (omega arith) h.0 (small_page b pages count h.1)
 line_text kinds pages started count (command.Start (Operation (Insert a b))) h = plain_two (codes "insert ") a b refl (omega arith) h.0 h.1
 line_text kinds pages started count (command.Start (InsertPost a b)) h = plain_two (codes "insertpost ") a b refl (omega arith) h.0 h.1
 line_text kinds pages started count (command.Start (Operation (Delete a))) h = plain_one (codes "delete ") a refl (omega arith) h
@@ -49,6 +50,7 @@ letters text = get_or text 0 0 * 65536 + get_or text 1 0 * 256 + get_or text 2 0
 
 abbrev kind_of : Command → ℕ
 kind_of (command.Start (Operation (Find a))) = 6711662
+kind_of (command.Start (FindNear a b)) = 6711662
 kind_of (command.Start (Operation (Insert a b))) = 6909555
 kind_of (command.Start (InsertPost a b)) = 6909555
 kind_of (command.Start (Operation (Delete a))) = 6579564
@@ -67,6 +69,7 @@ kind_of (command.Settle a) = 7562612
 
 kind_is : (c : Command) → letters (command_text c) ≡ kind_of c
 kind_is (command.Start (Operation (Find a))) = refl
+kind_is (command.Start (FindNear a b)) = refl
 kind_is (command.Start (Operation (Insert a b))) = refl
 kind_is (command.Start (InsertPost a b)) = refl
 kind_is (command.Start (Operation (Delete a))) = refl
@@ -88,6 +91,9 @@ other_kind c d e apart = apart (sym (kind_is c) ∙ (ap letters e ∙ kind_is d)
 
 pub text_same : (kinds : Kinds) (pages started : ℕ) → IsPageCount pages → (c d : Command) → MayStand kinds pages started c → MayStand kinds pages started d → command_text c ≡ command_text d → c ≡ d
 text_same kinds pages started count (command.Start (Operation (Find a))) (command.Start (Operation (Find c))) h k e = ap (λ z. (command.Start (Operation (Find z)))) (one_same a c h k (append_cancel_left (codes "find ") (one a) (one c) e))
+text_same kinds pages started count (command.Start (Operation (Find a))) (command.Start (FindNear c d)) h k e = absurd (let at : 32 ≡ 110 = ap (λ t. get_or t 4 0) e in omega arith)
+text_same kinds pages started count (command.Start (FindNear a b)) (command.Start (Operation (Find c))) h k e = absurd (let at : 110 ≡ 32 = ap (λ t. get_or t 4 0) e in omega arith)
+text_same kinds pages started count (command.Start (FindNear a b)) (command.Start (FindNear c d)) h k e = let same = two_same a b c d h.0 (small_page b pages count h.1) k.0 (small_page d pages count k.1) (append_cancel_left (codes "findnear ") (two a b) (two c d) e) in ap (λ z. (command.Start (FindNear z b))) same.0 ∙ ap (λ z. (command.Start (FindNear c z))) same.1
 text_same kinds pages started count (command.Start (Operation (Insert a b))) (command.Start (Operation (Insert c d))) h k e = let same = two_same a b c d h.0 h.1 k.0 k.1 (append_cancel_left (codes "insert ") (two a b) (two c d) e) in ap (λ z. (command.Start (Operation (Insert z b)))) same.0 ∙ ap (λ z. (command.Start (Operation (Insert c z)))) same.1
 text_same kinds pages started count (command.Start (Operation (Insert a b))) (command.Start (InsertPost c d)) h k e = absurd (let at : 32 ≡ 112 = ap (λ t. get_or t 6 0) e in omega arith)
 text_same kinds pages started count (command.Start (InsertPost a b)) (command.Start (Operation (Insert c d))) h k e = absurd (let at : 112 ≡ 32 = ap (λ t. get_or t 6 0) e in omega arith)

@@ -2,7 +2,7 @@
 use Rattle.std.specs.Prelude.{ℕ, ◌+◌, ◌<◌, ◌≤◌, ◌^◌, List, [], ◌∷◌, ◌++◌, codes, decimal, IsTrue}
 use Rattle.bl_model.specs.declared.operation.Op.TheVariants.{Find, Insert, Delete, Change, Part}
 use Rattle.bl_replay_script.specs.declared.command.Start.{Start}
-use Rattle.bl_replay_script.specs.declared.command.Start.TheVariants.{Operation, InsertPost, PartNear, Post, Compress, Reclaim, Lower}
+use Rattle.bl_replay_script.specs.declared.command.Start.TheVariants.{Operation, FindNear, InsertPost, PartNear, Post, Compress, Reclaim, Lower}
 use Rattle.bl_replay_script.specs.declared.command.Command.{Command}
 use Rattle.bl_replay_script.specs.declared.command.Command.TheVariants as command
 use Rattle.bl_replay_script.specs.declared.command.Kinds.{Kinds}
@@ -20,6 +20,7 @@ three a b d = two a b ++ codes " " ++ decimal d
 -- the text of the line that starts a process
 abbrev pub start_text : Start → List ℕ
 start_text (Operation (Find key)) = codes "find " ++ one key
+start_text (FindNear key page) = codes "findnear " ++ two key page
 start_text (Operation (Insert key value)) = codes "insert " ++ two key value
 start_text (InsertPost key value) = codes "insertpost " ++ two key value
 start_text (Operation (Delete key)) = codes "delete " ++ one key
@@ -61,6 +62,7 @@ IsStarted started process = (1 ≤ process) × (process ≤ started) × Fits pro
 -- The process may be started: its kind is there, its level is one of 1 to 12, its page one of the script's.
 abbrev pub MayStart : Kinds → ℕ → Start → Type 0
 MayStart kinds pages (Operation (Find key)) = Fits key
+MayStart kinds pages (FindNear key page) = Fits key × (page < pages)
 MayStart kinds pages (Operation (Insert key value)) = Fits key × Fits value
 MayStart kinds pages (InsertPost key value) = Fits key × Fits value
 MayStart kinds pages (Operation (Delete key)) = Fits key

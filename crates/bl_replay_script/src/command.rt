@@ -7,6 +7,13 @@ use bl_model::Op;
 pub enum Start {
     /// An operation on the map.
     Operation(Op),
+    /// A search, which looks at a page first.
+    FindNear {
+        /// The key.
+        key: u64,
+        /// The page, from which its way may be short.
+        page: u32,
+    },
     /// A part of the map, which looks at a page first.
     PartNear {
         /// The key that it begins with.

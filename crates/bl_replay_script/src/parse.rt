@@ -91,6 +91,19 @@ fn part_line(kinds: Kinds, line: &[u8]) -> Option<u64>
     }
 }
 
+/// The key and the page of a line with that word.
+fn near_line(line: &[u8], word: &[u8], pages: u32) -> Option<(u64, u32)>
+    requires { 0 < pages }
+    ensures { MatchOption result
+        ((a b : ℕ) → Fits a → b < pages → line.now ≢ word.now ++ two a b)
+        (λ p. Fits p.0 × (p.1 < pages) × (line.now ≡ word.now ++ two p.0 p.1)) }
+{
+    let Some((key, page)) = two_within(line, word, 0, MOST, u64::from(pages) - 1) else {
+        return None;
+    };
+    Some((key, page as u32))
+}
+
 /// A `partnear` line's key and page, where such a process may be started.
 fn part_near_line(kinds: Kinds, pages: u32, line: &[u8]) -> Option<(u64, u32)>
     requires { 0 < pages }
@@ -101,10 +114,7 @@ fn part_near_line(kinds: Kinds, pages: u32, line: &[u8]) -> Option<(u64, u32)>
     if !kinds.part {
         return None;
     }
-    let Some((from, page)) = two_within(line, b"partnear ", 0, MOST, u64::from(pages) - 1) else {
-        return None;
-    };
-    Some((from, page as u32))
+    near_line(line, b"partnear ", pages)
 }
 
 /// The level and the key of a line with that word.
@@ -164,6 +174,9 @@ fn start_of(kinds: Kinds, pages: u32, line: &[u8]) -> Option<Start>
 {
     if let Some(key) = one_within(line, b"find ", 0, MOST) {
         return Some(Start::Operation(Op::Find(key)));
+    }
+    if let Some((key, page)) = near_line(line, b"findnear ", pages) {
+        return Some(Start::FindNear { key, page });
     }
     if let Some((key, value)) = two_within(line, b"insert ", 0, MOST, MOST) {
         return Some(Start::Operation(Op::Insert(key, value)));

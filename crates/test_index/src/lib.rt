@@ -18,6 +18,8 @@ mod maps;
 #[cfg(test)]
 mod meetings;
 #[cfg(test)]
+mod near;
+#[cfg(test)]
 mod scans;
 #[cfg(test)]
 mod seats;

@@ -263,7 +263,7 @@ impl Lots {
     fn job_on_tree(&mut self, tree: &Tree, started: usize) -> Job {
         let key = self.draws.key(self.size.keys);
         match self.draws.below(30) {
-            0..=3 => Job::Find(key),
+            0..=3 => self.find(key),
             4 | 5 => self.part(key),
             6 | 7 => self.post(tree),
             8..=11 => self.compression(tree),
@@ -273,13 +273,27 @@ impl Lots {
         }
     }
 
-    /// A part from the key on. Mostly it has a page in mind: any one, a number of no page, or the last one that was retired.
-    fn part(&mut self, key: u64) -> Job {
+    /// A page to have in mind, mostly: any one, a number of no page, or the last one that was retired.
+    fn page_in_mind(&mut self) -> Option<u32> {
         let page = self.draws.page((self.size.pages as u64).wrapping_add(3));
         match self.draws.below(4) {
-            0 => Job::Part(key),
-            1 => Job::PartNear(key, self.retired.last().copied().unwrap_or(page)),
-            _ => Job::PartNear(key, page),
+            0 => None,
+            1 => Some(self.retired.last().copied().unwrap_or(page)),
+            _ => Some(page),
+        }
+    }
+
+    fn find(&mut self, key: u64) -> Job {
+        match self.page_in_mind() {
+            Some(page) => Job::FindNear(key, page),
+            None => Job::Find(key),
+        }
+    }
+
+    fn part(&mut self, key: u64) -> Job {
+        match self.page_in_mind() {
+            Some(page) => Job::PartNear(key, page),
+            None => Job::Part(key),
         }
     }
 

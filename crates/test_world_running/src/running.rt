@@ -11,6 +11,8 @@ use test_world_walks::{Law, Tree, add, holds, keep};
 #[derive(Clone, Copy)]
 pub enum Job {
     Find(u64),
+    /// A search of that key that has a page in mind.
+    FindNear(u64, u32),
     Insert(u64, u64),
     /// An insertion that posts what it splits.
     InsertPost(u64, u64),
@@ -67,8 +69,10 @@ pub struct Running {
 /// What is right of an operation on a key with that value, if it changes nothing.
 fn reply_in(job: Job, value: Option<u64>) -> Option<Reply> {
     match (job, value) {
-        (Job::Find(_), Some(value)) => Some(Reply::Found(value)),
-        (Job::Find(_) | Job::Delete(_) | Job::Change(_, _, _), None) => Some(Reply::Absent),
+        (Job::Find(_) | Job::FindNear(_, _), Some(value)) => Some(Reply::Found(value)),
+        (Job::Find(_) | Job::FindNear(_, _) | Job::Delete(_) | Job::Change(_, _, _), None) => Some(
+            Reply::Absent,
+        ),
         (Job::Insert(_, _) | Job::InsertPost(_, _), Some(value)) => Some(Reply::Present(value)),
         (Job::Change(_, old, _), Some(value)) if value != old => Some(Reply::Differs(value)),
         // it puts the value that is there
@@ -102,6 +106,7 @@ fn rights_of_part(tree: &Tree, from: u64, right: &mut Vec<Answer>) -> Result<(),
 fn rights_in(tree: &Tree, job: Job, right: &mut Vec<Answer>) -> Result<(), Law> {
     match job {
         Job::Find(key)
+        | Job::FindNear(key, _)
         | Job::Insert(key, _)
         | Job::InsertPost(key, _)
         | Job::Delete(key)
@@ -250,7 +255,8 @@ impl Running {
                 Ok(())
             }
             Act::See(at) => {
-                let is_near = matches!(self.job, Job::PartNear(_, page) if page == at);
+                let is_near =
+                    matches!(self.job, Job::FindNear(_, page) | Job::PartNear(_, page) if page == at);
                 let begun = self.begun.map(|begun| begun < place);
                 holds(
                     is_near && begun == Some(true),

@@ -394,7 +394,7 @@ impl Tally {
 
     /// Who was to do this has looked at a page, which had this owner and held this.
     pub fn looked(&mut self, job: Job, owner: Option<Owner>, page: Option<&Page>) {
-        if let Job::PartNear(_, _) = job {
+        if let Job::FindNear(_, _) | Job::PartNear(_, _) = job {
             self.minds.looked(owner, page);
         }
     }

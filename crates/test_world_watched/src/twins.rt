@@ -6,7 +6,7 @@ ghost use Rattle.bl_proc.specs.Processes.{next_of};
 
 use crate::model::Model;
 use crate::owners::{both, number_of};
-use bl_proc::{Answer, Part, Proc};
+use bl_proc::{Answer, Find, Part, Proc};
 use bl_world::{Event, Owner, Turn, WorldFault};
 use std::alloc::Global;
 use test_world_running::Job;
@@ -29,6 +29,13 @@ fn only_event(steps: &[Event], place: usize, turn: Turn) -> Result<Event, Law> {
         "an event is of the process whose turn it is",
     )?;
     Ok(event)
+}
+
+/// A search of that key that looks at that page first.
+fn find_near(key: u64, page: u32) -> Proc
+    ensures { next_of result ≡ act.Begin }
+{
+    Proc::Find(Find::near(key, page))
 }
 
 /// A part from that key on that looks at that page first.
@@ -91,6 +98,7 @@ impl Twins {
     pub fn enter(&mut self, job: Job) -> Result<usize, Law> {
         match job {
             Job::Find(key) => self.begin(Proc::find(key), Proc::find(key)),
+            Job::FindNear(key, page) => self.begin(find_near(key, page), find_near(key, page)),
             Job::Insert(key, value) => self.begin(
                 Proc::insert(key, value),
                 Proc::insert(key, value),
