@@ -1,4 +1,5 @@
-use Rattle.std.proofs.Common.{subst}
+use Rattle.std.proofs.Common.{sym, ◌∙◌, subst}
+use Rattle.bl_index_steps.specs.declared.tree.Tree.{Tree}
 use Rattle.bl_index_turns.proofs.Advancing.{same_number}
 use Rattle.bl_index_turns.specs.declared.stages.Stage.{Stage}
 use Rattle.bl_index_turns.specs.Stages.{Stands}
@@ -6,7 +7,10 @@ use Rattle.bl_seats.proofs.Started.{first_started, underway_started, answered_st
 use Rattle.bl_seats.proofs.working.start_writing.Goals as goal
 
 pub start_write-requires : goal.start_write-requires
-start_write-requires c = (subst (λ (s : Stage). Stands c.args.index.now.tree c.args.hand.now s) c.requires.rests c.stands.ensures, c.requires.rests)
+start_write-requires c =
+    let hand = c.args.hand.now in
+    let stood = subst (λ (z : Tree × Stage). Stands z.0 hand z.1) (λ i. ((c.tree.ensures ∙ sym c.tree-2.ensures) i, c.requires.rests i)) c.stands.ensures in
+    (stood, c.requires.rests)
 
 pub returns-clause-same : goal.returns-clause-same
 returns-clause-same c =

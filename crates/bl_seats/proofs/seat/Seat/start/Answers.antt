@@ -1,4 +1,20 @@
+use Rattle.std.proofs.Common.{sym, subst}
+use Rattle.bl_model.specs.declared.operation.Reply.{Reply}
+use Rattle.bl_model.specs.Writes.{write_op}
+use Rattle.bl_seats.specs.Seats.{HasWritten}
+use Rattle.bl_seats.specs.Accounts.{account, AddsEntry}
+use Rattle.bl_seats.specs.Calls.{account_of, number_of}
 use Rattle.bl_seats.proofs.seat.Seat.start.Goals as goal
 
 pub returns-in-Some-clause-answered : goal.returns-in-Some-clause-answered
-returns-in-Some-clause-answered c = (record { hint = c.in-Some.hint; written = c.in-Some.ensures.answered.1; before = c.args.self.now.upkeep; kept = c.keep.ensures.kept }, c.in-Some.ensures.answered.2)
+returns-in-Some-clause-answered c =
+    let old = c.args.self.now in let hand = c.start_writing.new.hand in let stage = c.start_writing.new.stage in
+    let op = write_op c.args.key c.args.write in
+    let is = sym c.reply-reply.ensures in
+    let said = c.in-Some.ensures.answered in
+    (record {
+      hint = c.in-Some.hint;
+      written = subst (λ (z : Reply). HasWritten hand op z c.in-Some.hint) is said.1;
+      before = old.upkeep;
+      kept = c.keep.ensures.kept;
+    }, subst (λ (z : Reply). AddsEntry (number_of old) op z (account_of old) (account hand stage)) is said.2)
