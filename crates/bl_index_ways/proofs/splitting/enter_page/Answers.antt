@@ -10,7 +10,7 @@ use Rattle.bl_store.specs.Hands.{known}
 use Rattle.bl_index_steps.specs.Runs.{IsOn}
 use Rattle.bl_index_steps.specs.Held.{HasRoom, own_marks}
 use Rattle.bl_index_steps.proofs.Held.{goes_keeps, keeps_held, put_latches_not}
-use Rattle.bl_index_steps.proofs.Standing.{on_held, on_goes, same_goes}
+use Rattle.bl_index_steps.proofs.Standing.{on_held, on_goes, same_goes, course_at}
 use Rattle.bl_index_ways.proofs.Walked.{enters_putting, enters_taking}
 use Rattle.bl_index_ways.proofs.splitting.enter_page.Goals as goal
 
@@ -114,3 +114,11 @@ returns-else-replace-clause-same g c = c.replace.ensures.same
 
 pub returns-else-replace-clause-empty : goal.returns-else-replace-clause-empty
 returns-else-replace-clause-empty g c = c.replace.ensures.empty
+
+pub replace-requires-clause-course : goal.replace-requires-clause-course
+replace-requires-clause-course g c =
+    let enter = c.requires.page.1 in let j = c.args.editor.now in
+    let room : length (pairs_of enter.page) < 14 = omega (arith, pairs_counted enter.page c.args.words.now enter.tree enter.is, c.if-words-ge14.false) in
+    let putting = enters_putting c.args.at c.args.key c.args.word c.args.words.now c.requires.page.0 enter room in
+    let on = subst (λ (z : Edit). IsOn c.args.tree.now.store.layout (known c.args.hand.now.seat) (g.J.Editor.editing j z)) putting.2 c.requires.page.2 in
+    (course_at seen.Done _ _ on.state (g.J.Editor.courses j (edit.Putting c.args.at putting.0) seen.Done tt), course_at seen.Refused _ _ on.state (g.J.Editor.courses j (edit.Putting c.args.at putting.0) seen.Refused refl))
