@@ -1,11 +1,13 @@
 //! The load of `bench_index` on a plain Rust `RwLock<BTreeMap>`, for comparison. `index_twin ROWS THREADS FINDS MIXED SCANS`
-//! prints what `bench_index` prints.
+//! prints what `bench_index` prints. `index_twin large ROWS THREADS CALLS rising|random` does the load of `bench_large`, and prints what that
+//! prints of rows, finds and scans.
 
 use std::collections::BTreeMap;
 use std::env;
 use std::sync::RwLock;
 use std::sync::atomic::{AtomicU64, Ordering};
 use std::thread;
+use std::time::Instant;
 
 fn key_of(row: u64) -> u64 {
     row.wrapping_mul(0x9e37_79b9_7f4a_7c15)
@@ -112,7 +114,82 @@ fn run(threads: u64, work: impl Fn(u64) -> u64 + Sync) -> u64 {
     done.into_inner()
 }
 
+const WIDTH: u64 = 100;
+
+/// A number that looks random, another one for each.
+fn scattered(number: u64) -> u64 {
+    let first = number.wrapping_add(1).wrapping_mul(0x9e37_79b9_7f4a_7c15);
+    let second = (first ^ (first >> 30)).wrapping_mul(0xbf58_476d_1ce4_e5b9);
+    let third = (second ^ (second >> 27)).wrapping_mul(0x94d0_49bb_1331_11eb);
+    third ^ (third >> 31)
+}
+
+/// The load of `bench_large`.
+struct Large {
+    rows: u64,
+    threads: u64,
+    calls: u64,
+    rises: bool,
+}
+
+impl Large {
+    fn read(words: &[String]) -> Option<Large> {
+        let [kind, rows, threads, calls, order] = words else {
+            return None;
+        };
+        let (rows, threads, calls) = (rows.parse().ok()?, threads.parse::<u64>().ok()?.max(1), calls.parse().ok()?);
+        (kind == "large").then_some(Large { rows, threads, calls, rises: order == "rising" })
+    }
+
+    fn key(&self, row: u64) -> u64 {
+        if self.rises { row } else { scattered(row) }
+    }
+
+    fn drawn(&self, seed: u64) -> u64 {
+        (seed >> 8).checked_rem(self.rows).unwrap_or(0)
+    }
+
+    fn timed(&self, part: &str, calls: u64, work: impl Fn(u64) -> u64 + Sync) {
+        let start = Instant::now();
+        let done = run(self.threads, work);
+        println!("{part} {calls} {done} {} 0", start.elapsed().as_micros());
+    }
+
+    fn run(&self) {
+        let map = RwLock::new(BTreeMap::new());
+        let turns = self.calls / self.threads;
+        let width = if self.rises { WIDTH } else { u64::MAX / WIDTH / (self.rows / WIDTH + 1) * WIDTH };
+        self.timed("rows", self.rows, |place| {
+            let rows = (0..self.rows / self.threads).map(|turn| turn * self.threads + place);
+            rows.filter(|row| insert(&map, self.key(*row), *row)).count() as u64
+        });
+        self.timed("finds", self.calls, |place| {
+            let mut seed = scattered(place);
+            let draw = (0..turns).map(|_| {
+                seed = scattered(seed);
+                self.key(self.drawn(seed))
+            });
+            draw.filter(|key| find(&map, *key).is_some()).count() as u64
+        });
+        self.timed("scans", self.calls / WIDTH, |place| {
+            let (mut done, mut seed, mut listed) = (0, scattered(place), Vec::new());
+            for _ in 0..turns / WIDTH {
+                seed = scattered(seed);
+                let from = self.key(self.drawn(seed));
+                listed.clear();
+                listed.extend(map.read().unwrap().range(from..from.saturating_add(width)).map(|(key, value)| (*key, *value)));
+                done += listed.len() as u64;
+            }
+            done
+        });
+    }
+}
+
 fn main() {
+    if let Some(large) = Large::read(&env::args().skip(1).collect::<Vec<_>>()) {
+        large.run();
+        return;
+    }
     let words: Vec<u64> = env::args().skip(1).filter_map(|word| word.parse().ok()).collect();
     let [rows, threads, finds, mixed, scans] = words[..] else {
         eprintln!("usage: index_twin ROWS THREADS FINDS MIXED SCANS");

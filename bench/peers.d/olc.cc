@@ -1,7 +1,7 @@
 // A B+-tree with optimistic lock coupling, after Leis, Haubenschild and Neumann (2019), of PAIRS pairs a node. A reader notes the version of a
 // node and looks afterwards whether it is still the same; a writer locks a node by its version. Full nodes are split on the way down. Nodes are
 // never merged, and none is given back, so no reader meets one that is freed. A node with an odd version bit 1 is locked.
-#include "load.h"
+#include "large.h"
 
 #include <cstring>
 #include <immintrin.h>
@@ -232,4 +232,4 @@ public:
     }
 };
 
-int main(int count, char** words) { return load<Tree>(count, words); }
+int main(int count, char** words) { return loads<Tree>(count, words); }

@@ -1,5 +1,5 @@
 // oneTBB's concurrent_map, a skip list. Its interface has no deletion that others may run beside, so a mixed load leaves deletions out.
-#include "load.h"
+#include "large.h"
 
 #include <oneapi/tbb/concurrent_map.h>
 
@@ -22,4 +22,4 @@ struct Map {
     }
 };
 
-int main(int count, char** words) { return load<Map>(count, words); }
+int main(int count, char** words) { return loads<Map>(count, words); }
