@@ -1,5 +1,5 @@
-//! A load on a map that may be a large one, for `bench/large`: so many threads insert so many rows, search for them one by one and list them,
-//! and then mix searches, insertions and deletions, of which each call is timed. It prints for each part how many calls were made, how many
+//! A load on a map that may be a large one, for `bench/large`: so many threads insert so many rows, search for them one by one and many at
+//! a time, list them, and then mix searches, insertions and deletions, of which each call is timed. It prints for each part how many calls were made, how many
 //! of them were answered as they should be, the microseconds of all together, and last the nanoseconds of the longest call of the mix.
 #![tactic(auto)]
 
@@ -16,6 +16,9 @@ use std::time::{Clock, Instant};
 
 /// So many threads at most.
 const MOST_THREADS: usize = 16;
+
+/// So many keys are looked up at a time.
+const GROUP: usize = 64;
 
 /// So many rows a scan lists, about.
 const WIDTH: u64 = 100;
@@ -36,6 +39,7 @@ struct Load {
 enum Part {
     Rows,
     Finds,
+    Groups,
     Scans,
     Mixed,
 }
@@ -111,6 +115,33 @@ fn search<R: Wait>(rt: &R, handle: &mut Handle<'_>, place: u64, load: Load) -> u
         }
     }
     done
+}
+
+/// Searches for rows that were inserted, many at a time. Says how many were found.
+fn search_groups<R: Wait>(rt: &R, handle: &mut Handle<'_>, place: u64, load: Load) -> u64
+    ensures { handle.new.index ≡ handle.old.index }
+{
+    let mut done = 0u64;
+    let mut seed = scattered(place);
+    let mut keys = [0u64; GROUP];
+    let mut replies = [KeyReply::Absent; GROUP];
+    for _group in 0..load.share(load.calls) / GROUP as u64 {
+        for key in keys.iter_mut() {
+            seed = scattered(seed);
+            *key = load.key(load.row(seed, 1));
+        }
+        handle.find_many(rt, &keys, &mut replies);
+        done = done.wrapping_add(found_in(&replies));
+    }
+    done
+}
+
+/// How many replies are those of keys that were found.
+fn found_in(replies: &[KeyReply]) -> u64 {
+    replies
+        .iter()
+        .filter(|reply| matches!(reply, KeyReply::Found(_)))
+        .count() as u64
 }
 
 /// Lists rows from some that were inserted on. Says how many were listed.
@@ -194,6 +225,7 @@ fn run<R: Threads + Wait + Clock + Sync>(rt: &R, handles: &mut [Handle<'_>], loa
             let (mine, most) = match part {
                 Part::Rows => (fill(rt, handle, place, load), 0),
                 Part::Finds => (search(rt, handle, place, load), 0),
+                Part::Groups => (search_groups(rt, handle, place, load), 0),
                 Part::Scans => (scan(rt, handle, place, load), 0),
                 Part::Mixed => mixed(rt, handle, place, load),
             };
@@ -237,6 +269,7 @@ fn main(rt: HostRuntime) -> anyhow::Result<()> {
     let parts = [
         (Part::Rows, "rows", load.rows),
         (Part::Finds, "finds", load.calls),
+        (Part::Groups, "groups", load.calls),
         (Part::Scans, "scans", load.calls / WIDTH),
         (Part::Mixed, "mixed", load.calls),
     ];

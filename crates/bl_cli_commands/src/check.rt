@@ -7,14 +7,13 @@ ghost use Rattle.bl_cli_commands.specs.Checks.{report_text, fault_text, IsVerdic
 ghost use Rattle.bl_cli_commands.specs.declared.fault.CommandFault.TheVariants as command;
 
 use crate::fault::CommandFault;
-use crate::limits::LONGEST_IMAGE;
+use crate::image_file::image_file;
 use bl_check::{Fault, Report, check};
 use bl_model::{Watched, write_out};
 use bl_serve_lines::source::read_some;
 use std::alloc::{AllocError, Global};
 use std::fs;
-use std::fs::OpenFile;
-use std::io::{Read, Take, Write};
+use std::io::{Read, Write};
 use std::rt::Files;
 
 /// How many bytes one call reads at most.
@@ -134,23 +133,6 @@ pub fn check_image<R: Read, W: Write>(
     }
 }
 
-/// The length of a file, which a pipe or a device has not. That of a file that is too long for an image says nothing: it is not read
-/// to its end.
-pub(crate) fn length_of<F: OpenFile>(file: &F) -> Result<Option<u64>, CommandFault> {
-    match file.metadata() {
-        Ok(metadata) if metadata.is_file() && metadata.len() <= LONGEST_IMAGE => {
-            Ok(Some(metadata.len()))
-        }
-        Ok(_) => Ok(None),
-        Err(_) => Err(CommandFault::Read),
-    }
-}
-
-/// The bytes of a file, as many as show that it is too long for an image where it is: so a device that has no end is read to one.
-pub(crate) fn image_file<F: Read + Drop>(file: F) -> Watched<Take<F>> {
-    Watched::new(file.take(LONGEST_IMAGE + 1))
-}
-
 /// Checks the image in a file. A missing file, a folder, and a file that is cut while it is read are failed reads.
 pub fn check_file<R: Files + AllocGlobal, W: Write>(
     rt: &R,
@@ -160,6 +142,6 @@ pub fn check_file<R: Files + AllocGlobal, W: Write>(
     let Ok(file) = fs::open(rt, path) else {
         return Err(CommandFault::Read);
     };
-    let length = length_of(&file)?;
-    check_image(rt.alloc(), &mut image_file(file), length, writer)
+    let (mut bytes, length) = image_file(rt.alloc(), file)?;
+    check_image(rt.alloc(), &mut bytes, length, writer)
 }

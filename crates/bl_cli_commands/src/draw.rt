@@ -1,6 +1,7 @@
 //! The command `draw`.
 
-use crate::check::{image_file, length_of, read_observed};
+use crate::check::read_observed;
+use crate::image_file::image_file;
 use crate::fault::CommandFault;
 use bl_draw::{svg_of, text_of};
 use bl_model::{Watched, write_out};
@@ -47,6 +48,6 @@ pub fn draw_file<R: Files + AllocGlobal, W: Write>(
     let Ok(file) = fs::open(rt, path) else {
         return Err(CommandFault::Read);
     };
-    let length = length_of(&file)?;
-    draw_image(rt.alloc(), &mut image_file(file), length, form, writer)
+    let (mut bytes, length) = image_file(rt.alloc(), file)?;
+    draw_image(rt.alloc(), &mut bytes, length, form, writer)
 }

@@ -12,6 +12,7 @@ mod draw;
 mod dump;
 mod fault;
 mod kinds;
+mod image_file;
 mod limits;
 mod load;
 mod piped;

@@ -1,13 +1,9 @@
-//! How much is read of a file that may have no end, as a device or a pipe. These limits are tested.
+//! How much is read of a script that may have no end, as a device or a pipe. These limits are tested.
 
-use bl_model::limits::MOST_PAGES;
 use bl_serve_lines::request::LINE_LIMIT;
 use memchr::memrchr;
 use std::io;
 use std::io::Read;
-
-/// No image has more bytes.
-pub(crate) const LONGEST_IMAGE: u64 = 32 + 256 * MOST_PAGES as u64;
 
 /// Gives the bytes of a script up to where a line has become too long to be one: the script is bad then, whatever follows.
 #[derive(Drop)]

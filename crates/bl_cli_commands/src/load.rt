@@ -4,7 +4,8 @@ ghost use Rattle.std.specs.Prelude.{◌≡◌, true, ℕ, List, IfOk, IfErr};
 ghost use Rattle.bl_image.specs.Images.{IsImage};
 ghost use Rattle.bl_cli_commands.specs.Checks.{ReadsAll, HasLength, CannotLoad};
 
-use crate::check::{image_file, length_of, read_observed};
+use crate::check::read_observed;
+use crate::image_file::image_file;
 use crate::fault::CommandFault;
 use bl_check::{Fault, Quiet, load};
 use bl_model::Watched;
@@ -41,6 +42,6 @@ pub fn load_file<R: Files + AllocGlobal>(rt: &R, path: &str) -> Result<Quiet, Co
     let Ok(file) = fs::open(rt, path) else {
         return Err(CommandFault::Read);
     };
-    let length = length_of(&file)?;
-    load_image(rt.alloc(), &mut image_file(file), length)
+    let (mut bytes, length) = image_file(rt.alloc(), file)?;
+    load_image(rt.alloc(), &mut bytes, length)
 }

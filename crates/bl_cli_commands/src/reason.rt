@@ -1,9 +1,8 @@
 //! Which file or argument a fault is of, and why. These lines are tested.
 
 use crate::fault::CommandFault;
-use crate::limits::LONGEST_IMAGE;
+use crate::image_file::image_file;
 use bl_draw::rule_words;
-use bl_model::Watched;
 use bl_serve_lines::request::LINE_LIMIT;
 use bl_serve_lines::source::read_some;
 use std::alloc::{AllocError, Global};
@@ -17,12 +16,12 @@ use std::str::from_utf8;
 /// How many bytes one call reads at most.
 const PIECE: usize = 16_384;
 
-/// How many bytes a file gives, as far as an image may go. None where reading it fails.
-fn count_bytes<F: Read + Drop>(file: F) -> Option<u64> {
-    let mut reader = Watched::new(file.take(LONGEST_IMAGE));
+/// How many bytes a file gives, as far as its image may go. None where reading it fails.
+fn count_bytes<F: OpenFile + Read + Drop>(alloc: Global, file: F) -> Option<u64> {
+    let (mut reader, _) = image_file(alloc, file).ok()?;
     let mut piece = [0; PIECE];
     let mut count = 0u64;
-    for _ in 0..=LONGEST_IMAGE {
+    for _ in 0..u64::MAX {
         match read_some(&mut reader, &mut piece) {
             Ok(0) => break,
             Ok(more) => count = count.saturating_add(more as u64),
@@ -33,13 +32,13 @@ fn count_bytes<F: Read + Drop>(file: F) -> Option<u64> {
 }
 
 /// Why a regular file cannot be read whole: it gives another number of bytes than the system tells, or reading it fails.
-fn unread_file<F: Read + Drop>(
+fn unread_file<F: OpenFile + Read + Drop>(
     alloc: Global,
     path: &str,
     file: F,
     told: u64,
 ) -> Result<String, AllocError> {
-    match count_bytes(file) {
+    match count_bytes(alloc, file) {
         Some(count) if count != told => format!(in alloc;
             "blink: {path}: has {count} bytes, and the system tells a length of {told}"
         ),
