@@ -17,12 +17,14 @@ abbrev entry : ℕ → ℕ → KeyReply → Entry
 entry pass key reply = record { pass = pass; op = op.Find key; reply = reply_of reply }
 
 finds_more : (pass : ℕ) (keys : List ℕ) (replies : List KeyReply) (key : ℕ) (reply : KeyReply) → length replies ≡ length keys → finds_of pass (keys ++ key ∷ []) (replies ++ reply ∷ []) ≡ finds_of pass keys replies ++ entry pass key reply ∷ []
+unfolding finds_of
 finds_more pass [] [] key reply e = refl
 finds_more pass [] (r ∷ rs) key reply e = absurd (omega (arith, e))
 finds_more pass (k ∷ ks) [] key reply e = absurd (omega (arith, e))
 finds_more pass (k ∷ ks) (r ∷ rs) key reply e = ap (λ (z : List Entry). entry pass k r ∷ z) (finds_more pass ks rs key reply (let f : length rs ≡ length ks = omega (arith, e) in f))
 
 pub finds_none : (first : List (Option Page)) (pages pass : ℕ) (old : Trail) → FindsMany first pages pass [] [] old old
+unfolding finds_of
 finds_none first pages pass old = record { each = refl; begins = ([], sym (append-nil old)); seen = λ s. s; mine = sym (append-nil _); searches = NoneMade }
 
 pub finds_one_more : (first : List (Option Page)) (pages pass it : ℕ) (keys : List ℕ) (replies : List KeyReply) (key : ℕ) (reply : KeyReply) (old mid new : Trail) → it ≡ pass → FindsMany first pages pass keys replies old mid → Works first it (op.Find key) (reply_of reply) mid new → Searched first pages it (op.Find key) (reply_of reply) mid new → FindsMany first pages pass (keys ++ key ∷ []) (replies ++ reply ∷ []) old new

@@ -1,4 +1,5 @@
 pub mod Adding
+pub mod Finding
 pub mod Elements
 pub mod Following
 pub mod Lacking

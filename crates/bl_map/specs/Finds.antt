@@ -10,7 +10,7 @@ use Rattle.bl_claims.specs.Seeing.{IsLinearizable, own, GoesOnFrom}
 use Rattle.bl_map.specs.Works.{Searches}
 
 -- the entries of the searches for these keys, one after another, each with its reply
-pub finds_of : ℕ → List ℕ → List KeyReply → List Entry
+unfoldable pub finds_of : ℕ → List ℕ → List KeyReply → List Entry
 finds_of pass [] replies = []
 finds_of pass (key ∷ keys) [] = []
 finds_of pass (key ∷ keys) (reply ∷ replies) = record { pass = pass; op = op.Find key; reply = reply_of reply } ∷ finds_of pass keys replies

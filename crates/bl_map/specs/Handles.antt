@@ -1,6 +1,7 @@
 -- What a call of a handle promises.
 use Rattle.std.specs.Prelude.{◌≡◌, ℕ, List, Option, length, map}
 use Rattle.bl_model.specs.declared.deciding.KeyWrite.{KeyWrite}
+use Rattle.bl_model.specs.declared.operation.KeyReply.{KeyReply}
 use Rattle.bl_model.specs.declared.operation.Op.{Op}
 use Rattle.bl_model.specs.declared.operation.Reply.{Reply}
 use Rattle.bl_page.specs.declared.page.Page.{Page}
@@ -13,6 +14,7 @@ use Rattle.bl_proc_base.specs.declared.answers.Hint.{Hint}
 use Rattle.bl_map.specs.declared.handle.Handle.{Handle}
 use Rattle.bl_map.specs.declared.upkeep.Followed.{Followed}
 use Rattle.bl_map.specs.Works.{Works, Adds, Searched, Swept, FoundNoRoom}
+use Rattle.bl_map.specs.Finds.{FindsMany}
 use Rattle.bl_map.specs.Follows.{FollowsHint, WritesLeaving}
 use Rattle.bl_map.specs.Waits.{hints_of, Changes, TriesAgain, Tidies, IsNone}
 
@@ -55,6 +57,10 @@ HasCalled op reply old new = Works (first_map_of old) (number_of_seat old) op re
 -- It has done nothing but search: searches that ran out of turns, and then one that was answered so.
 abbrev pub HasSearched : Op → Reply → Handle → Handle → Type 0
 HasSearched op reply old new = Searched (first_map_of old) (pages_of_map old) (number_of_seat old) op reply (seen_by old) (seen_by new)
+
+-- It has looked these keys up, one after another, each with its reply, and has done nothing but search.
+abbrev pub HasFoundMany : List ℕ → List KeyReply → Handle → Handle → Type 0
+HasFoundMany keys replies old new = FindsMany (first_map_of old) (pages_of_map old) (number_of_seat old) keys replies (seen_by old) (seen_by new)
 
 -- It has written a key, and listed the pages that were split. What is left to do then is left.
 abbrev pub HasWritten : Op → Reply → Option Hint → Handle → Handle → Type 0

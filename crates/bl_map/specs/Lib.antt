@@ -1,4 +1,5 @@
 pub mod Works
+pub mod Finds
 pub mod Follows
 pub mod Waits
 pub mod Handles

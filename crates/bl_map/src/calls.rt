@@ -1,6 +1,6 @@
 //! Calls of a pass: each looks for room before it changes something, and is made again where it ran out of turns.
 
-ghost use Rattle.std.specs.Prelude.{◌≡◌, ◌-◌, vec_len};
+ghost use Rattle.std.specs.Prelude.{◌≡◌, ◌-◌, length, vec_len};
 ghost use Rattle.std.specs.Vec.{vec_capacity};
 ghost use Rattle.bl_model.specs.declared.operation.Op.TheVariants as op;
 ghost use Rattle.bl_model.specs.declared.operation.KeyReply.TheVariants as replies;
@@ -8,16 +8,23 @@ ghost use Rattle.bl_index.specs.Calls.{first_of, pages_of, IsPassOf, IsSamePass,
 ghost use Rattle.bl_model.specs.Replies.{reply_of};
 ghost use Rattle.bl_model.specs.Writes.{write_op};
 ghost use Rattle.bl_map.specs.Works.{Works, Searched, FoundNoRoom};
+ghost use Rattle.bl_map.specs.Finds.{FindsMany};
 ghost use Rattle.bl_map.specs.Follows.{Written};
 ghost use Rattle.bl_map.specs.Scans.{Scanned};
 
 use crate::room::make_room;
-use bl_index::{Hint, Index, KeyReply, KeyWrite, Pass, Reply, ScanFault};
+use bl_index::{ABREAST, Hint, Index, KeyReply, KeyWrite, Pass, Reply, ScanFault};
 use std::alloc::AllocError;
 use std::sync::Wait;
 
-/// The value of a key, or that the key is absent.
-pub(crate) fn find<R: Wait>(rt: &R, index: &Index, pass: &mut Pass, key: u64) -> KeyReply
+/// The value of a key, or that the key is absent. It looks first at the page that is near, if there is one.
+pub(crate) fn find<R: Wait>(
+    rt: &R,
+    index: &Index,
+    pass: &mut Pass,
+    key: u64,
+    near: Option<u32>,
+) -> KeyReply
     requires { IsPassOf index.now pass.old }
     ensures same { IsSamePass pass.old pass.new }
     ensures works { Works (first_of index.now) (number_of pass.old) (op.Find key) (reply_of result) (trail pass.old) (trail pass.new) }
@@ -25,12 +32,37 @@ pub(crate) fn find<R: Wait>(rt: &R, index: &Index, pass: &mut Pass, key: u64) ->
         (trail pass.old) (trail pass.new) }
 {
     let turns = index.patience();
+    let mut near = near;
     for _ in rt.forever() {
-        if let Ok(reply) = index.find(pass, key, turns) {
+        if let Ok(reply) = index.find_near(pass, key, near, turns) {
             return reply;
         }
+        near = None;
     }
     unreachable!()
+}
+
+/// The values of keys, one after another. The pages of some keys at a time are fetched side by side, so that the thread waits for all of
+/// them at once.
+pub(crate) fn find_many<R: Wait>(
+    rt: &R,
+    index: &Index,
+    pass: &mut Pass,
+    keys: &[u64],
+    replies: &mut [KeyReply],
+)
+    requires own { IsPassOf index.now pass.old }
+    requires room { length replies.old ≡ length keys.now }
+    ensures same { IsSamePass pass.old pass.new }
+    ensures found { FindsMany (first_of index.now) (pages_of index.now) (number_of pass.old) keys.now replies.new (trail pass.old) (trail pass.new) }
+{
+    let mut near = [0; ABREAST];
+    for i in 0..keys.len() {
+        if i % ABREAST == 0 {
+            near = index.fetch(&keys[i..]);
+        }
+        replies[i] = find(rt, index, pass, keys[i], Some(near[i % ABREAST]));
+    }
 }
 
 /// The rows of one leaf from a key on. It looks first at the page that is near, if there is one, and leaves there the page to which

@@ -1,6 +1,6 @@
 //! What a thread works with.
 
-ghost use Rattle.std.specs.Prelude.{◌≡◌, ◌+◌, ◌-◌, vec_len};
+ghost use Rattle.std.specs.Prelude.{◌≡◌, ◌+◌, ◌-◌, length, vec_len};
 ghost use Rattle.std.specs.Vec.{vec_capacity};
 ghost use Rattle.bl_model.specs.declared.operation.Op.TheVariants as op;
 ghost use Rattle.bl_model.specs.declared.deciding.KeyWrite.TheVariants as key_write;
@@ -36,7 +36,7 @@ pub struct Handle<'a> {
 }
 
 impl<'a> Handle<'a> {
-    ghost use Rattle.bl_map.specs.Handles.{IsSameHandle, HasCalled, HasSearched, HasChanged, HasWritten, HasFoundNoRoom, HasKeptUp, HasFollowed, HasSwept, HasTriedAgain, HasTidied};
+    ghost use Rattle.bl_map.specs.Handles.{IsSameHandle, HasCalled, HasSearched, HasFoundMany, HasChanged, HasWritten, HasFoundNoRoom, HasKeptUp, HasFollowed, HasSwept, HasTriedAgain, HasTidied};
     ghost use Rattle.bl_map.specs.Handles.{HaveMet, KeepsHints, AreOfOne, IsHandleOver, released_in};
     ghost use Rattle.bl_map.specs.Handles.{first_map_of, pages_of_map, number_of_seat, seat_of, seen_by, waiting_of, dropped_of};
     ghost use Rattle.bl_map.specs.Scans.{Scanned, Tells};
@@ -60,7 +60,24 @@ impl<'a> Handle<'a> {
         ensures searched { HasSearched (op.Find key) (reply_of result) self.old self.new }
         ensures keeps { KeepsHints self.old self.new }
     {
-        calls::find(rt, self.index, &mut self.pass, key)
+        calls::find(rt, self.index, &mut self.pass, key, None)
+    }
+
+    /// Fetches from memory, side by side, the pages that calls about these keys will read, 8 keys at most, so that they are near when the
+    /// calls come: searches, changes and scans alike. It changes nothing and tells nothing.
+    pub fn fetch(&self, keys: &[u64]) {
+        let _pages = self.index.fetch(keys);
+    }
+
+    /// The values of keys, one after another: each reply is `Found`, or `Absent`. The pages of some keys at a time are fetched from memory
+    /// side by side, so in a large map this takes less time than a call for each key.
+    pub fn find_many<R: Wait>(&mut self, rt: &R, keys: &[u64], replies: &mut [KeyReply])
+        requires { length replies.old ≡ length keys.now }
+        ensures same { IsSameHandle self.old self.new }
+        ensures found { HasFoundMany keys.now replies.new self.old self.new }
+        ensures keeps { KeepsHints self.old self.new }
+    {
+        calls::find_many(rt, self.index, &mut self.pass, keys, replies);
     }
 
     /// The rows of one leaf from a key on, in a `Rows` that says where it ends. It looks first at the page that is near, if there is
