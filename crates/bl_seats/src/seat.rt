@@ -16,8 +16,8 @@ use bl_index_turns::Stage;
 use bl_proc::{Answer, Hint, Lowered, Posted, Squeezed};
 use bl_store::Hand;
 use std::alloc::Global;
-use std::sync::Arc;
 use std::ptr;
+use std::sync::Arc;
 
 /// How many pieces of upkeep a change does at most before it begins.
 const PIECES: u32 = 16;
