@@ -1,9 +1,10 @@
 //! Writers over the pages that threads share: writes of one key, insertions that post what they split, and posts. What they have in common
 //! is in `bl_index_ways`.
 //!
-//! Promised to the index: what each answers, with its hint, and that its process did what a process of its kind does. They go by
-//! their events and by the words of the pages, so that no page is made of words that are only looked at. Where a tree is to get one
-//! more level, which is rare, a post goes by a process value.
+//! Promised to the index: what each answers, with its hint, and that its process did what a process of its kind does. They go by their
+//! events and by the words of the pages, so that no page is made of words that are only looked at. Where a tree is to get one more level,
+//! which is rare, a post goes by a process value. A write of one key may also go without waiting: it gives up where it would wait, and says
+//! where it stands.
 #![tactic(auto)]
 
 mod climbing;

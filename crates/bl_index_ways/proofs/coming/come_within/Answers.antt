@@ -1,4 +1,3 @@
-use Rattle.std.proofs.Common.{rules}
 use Rattle.bl_index_steps.proofs.Standing.{same_all}
 use Rattle.bl_index_ways.proofs.coming.come_within.Goals as goal
 

@@ -1,5 +1,4 @@
-use Rattle.std.proofs.Common.{ℕ, inl, inr, ap, subst, sym}
-use Rattle.bl_index_turns.specs.declared.stages.Stage.TheVariants as stage
+use Rattle.std.proofs.Common.{ℕ, inl, inr, ap, subst}
 use Rattle.bl_index_turns.specs.Stages.{op_in}
 use Rattle.bl_model.specs.Writes.{write_op}
 use Rattle.bl_seats.specs.Accounts.{AddsEntry}

@@ -11,10 +11,12 @@ returns-in-Some-clause-answered c =
     let old = c.args.self.now in let hand = c.start_writing.new.hand in let stage = c.start_writing.new.stage in
     let op = write_op c.args.key c.args.write in
     let is = sym c.reply-reply.ensures in
-    let said = c.in-Some.ensures.answered in
-    (record {
-      hint = c.in-Some.hint;
-      written = subst (λ (z : Reply). HasWritten hand op z c.in-Some.hint) is said.1;
-      before = old.upkeep;
-      kept = c.keep.ensures.kept;
-    }, subst (λ (z : Reply). AddsEntry (number_of old) op z (account_of old) (account hand stage)) is said.2)
+    let said = c.in-Some.ensures.answered in (
+      record {
+        hint = c.in-Some.hint;
+        written = subst (λ (z : Reply). HasWritten hand op z c.in-Some.hint) is said.1;
+        before = old.upkeep;
+        kept = c.keep.ensures.kept;
+      },
+      subst (λ (z : Reply). AddsEntry (number_of old) op z (account_of old) (account hand stage)) is said.2,
+    )
