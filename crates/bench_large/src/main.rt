@@ -78,9 +78,7 @@ impl Load {
 
 /// A number that looks random, another one for each.
 fn scattered(number: u64) -> u64 {
-    let first = number
-        .wrapping_add(1)
-        .wrapping_mul(0x9e37_79b9_7f4a_7c15);
+    let first = number.wrapping_add(1).wrapping_mul(0x9e37_79b9_7f4a_7c15);
     let second = (first ^ (first >> 30)).wrapping_mul(0xbf58_476d_1ce4_e5b9);
     let third = (second ^ (second >> 27)).wrapping_mul(0x94d0_49bb_1331_11eb);
     third ^ (third >> 31)
@@ -153,7 +151,10 @@ fn scan<R: Wait>(rt: &R, handle: &mut Handle<'_>, place: u64, load: Load) -> u64
     let width = if load.rising {
         WIDTH
     } else {
-        (u64::MAX / WIDTH.max(1)).checked_div(load.rows / WIDTH + 1).unwrap_or(0).saturating_mul(WIDTH)
+        (u64::MAX / WIDTH.max(1))
+            .checked_div(load.rows / WIDTH + 1)
+            .unwrap_or(0)
+            .saturating_mul(WIDTH)
     };
     for _call in 0..load.share(load.calls) / WIDTH {
         seed = scattered(seed);
@@ -213,7 +214,12 @@ fn nanos_since<R: Clock>(rt: &R, start: Option<Instant>) -> u64 {
 }
 
 /// Does a part with all handles. Says how many calls were answered as they should be, and how long the longest took, of a mix.
-fn run<R: Threads + Wait + Clock + Sync>(rt: &R, handles: &mut [Handle<'_>], load: Load, part: Part) -> (u64, u64) {
+fn run<R: Threads + Wait + Clock + Sync>(
+    rt: &R,
+    handles: &mut [Handle<'_>],
+    load: Load,
+    part: Part,
+) -> (u64, u64) {
     let done = AtomicU64::new(0);
     let longest = AtomicU64::new(0);
     thread::for_each_mut(
@@ -260,7 +266,12 @@ fn main(rt: HostRuntime) -> anyhow::Result<()> {
         eprintln!(&rt; "the map was not opened")?;
         return Ok(());
     };
-    println!(&rt; "open {} {} {} 0", load.pages, load.pages, start.elapsed(&rt)?.as_micros())?;
+    println!(&rt;
+        "open {} {} {} 0",
+        load.pages,
+        load.pages,
+        start.elapsed(&rt)?.as_micros()
+    )?;
     let Some(mut handles) = handles_of(rt.alloc(), &map, seats) else {
         eprintln!(&rt; "out of memory")?;
         return Ok(());

@@ -1,8 +1,8 @@
 //! The command `draw`.
 
 use crate::check::read_observed;
-use crate::image_file::image_file;
 use crate::fault::CommandFault;
+use crate::image_file::image_file;
 use bl_draw::{svg_of, text_of};
 use bl_model::{Watched, write_out};
 use std::alloc::Global;

@@ -5,8 +5,8 @@ ghost use Rattle.bl_image.specs.Images.{IsImage};
 ghost use Rattle.bl_cli_commands.specs.Checks.{ReadsAll, HasLength, CannotLoad};
 
 use crate::check::read_observed;
-use crate::image_file::image_file;
 use crate::fault::CommandFault;
+use crate::image_file::image_file;
 use bl_check::{Fault, Quiet, load};
 use bl_model::Watched;
 use std::alloc::Global;

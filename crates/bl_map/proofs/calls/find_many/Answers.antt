@@ -18,7 +18,7 @@ loop-i-preserved g c =
       same = search rules;
       long = length-set c.loop-i.replies c.loop-i.i c.find.result ∙ inv.long;
       found = subst (λ (z : List ℕ × List KeyReply). FindsMany (first_of c.args.index.now) (pages_of c.args.index.now) (number_of c.args.pass.now) z.0 z.1 (trail c.args.pass.now) (trail c.find.new.pass)) (λ i. (sym keys i, sym replies i))
-        (finds_one_more _ _ _ _ _ _ _ _ _ _ _ inv.same.2 inv.found c.find.ensures.works c.find.ensures.searched);
+          (finds_one_more _ _ _ _ _ _ _ _ _ _ _ inv.same.2 inv.found c.find.ensures.works c.find.ensures.searched);
     }
 
 pub returns-clause-found : goal.returns-clause-found
