@@ -35,10 +35,12 @@ any order, and by one worker in theirs.
 Sizes. The number of pages is fixed at the start, and a page has room for 14
 rows. Rows in an empty index before the first noroom, by the order of the keys,
 and rows in all where random keys went on; by one worker, by more about as many:
-  --pages   falling    rising    random    in all   memory
-     1024     6,153     7,174     9,100    12,840     4 MB
-    65536   393,232   458,758   582,000   823,198    88 MB
-Some six rows a page surely fit. A request that finds no room changes nothing.
+    pages     falling     rising     random    in all   memory
+     1024      11,347      7,174      9,100    12,840   0.6 MB
+    65536     723,121    458,758    583,000   823,198    36 MB
+  1048576  10,208,534  7,340,030  9,331,000         -   328 MB
+Some six rows a page surely fit. More than 65536 pages are had by --large. A
+request that finds no room changes nothing.
 --stats says how many did, and how many pages are in use.
 
 With --image the index begins with the rows of the image, as `blink dump` writes
