@@ -1,7 +1,8 @@
 -- An index as it is made.
-use Rattle.std.proofs.Common.{ℕ, zero, suc, ◌≡◌, ◌⊎◌, ⊎_elim, ◌++◌, append-nil, ◌-◌, ◌+◌, ◌<◌, ◌≤◌, Option, List, [], ◌∷◌, length, replicate, refl, sym, ap, ◌∙◌, subst, arith}
+use Rattle.std.proofs.Common.{ℕ, zero, suc, ◌≡◌, ◌++◌, append-nil, ◌-◌, ◌+◌, ◌<◌, ◌≤◌, Option, List, [], ◌∷◌, length, replicate, refl, sym, ap, ◌∙◌, subst, arith}
 use Rattle.std.specs.Prelude.{Result, Ok, Err, IfOk}
-use mathlib.Core.Option.{some}
+use Rattle.std.proofs.lemmas.List.{length-replicate}
+use mathlib.Core.Option.{some, some-injective, some-ne-none}
 use lib.ListN.{get_elem?}
 use Rattle.atomic_table.specs.Seated.{TableId}
 use Rattle.bl_layout.specs.declared.layout.Layout.{Layout}
@@ -9,7 +10,6 @@ use Rattle.bl_page.specs.declared.page.Page.{Page}
 use Rattle.bl_page.specs.declared.page.Page.TheVariants.{Anchor, Leaf, Inner, Dead}
 use Rattle.bl_page.specs.Words.{words_of}
 use Rattle.bl_store.specs.Opening.{first_pages, padded, IsDealt}
-use Rattle.bl_store.proofs.Dealing.{at_append, of_all, padded_long}
 use Rattle.bl_frames.specs.declared.view.View.{View}
 use Rattle.bl_frames.specs.Frames.{share}
 use Rattle.bl_index_rule.specs.Simulation.{beginner, newcomer, Simulates}
@@ -41,19 +41,28 @@ leaf_words (Leaf l) is = rw (is.0, is.1, is.2, is.3) refl
 leaf_words (Inner i) is = absurd is
 leaf_words (Dead d) is = absurd is
 
--- with only zeros behind its first pages, they are the words of the opening index
+all_alike : {A : Type 0} (n : ℕ) (a : A) (k : ℕ) (b : A) → get_elem? (replicate n a) k ≡ some b → b ≡ a
+all_alike zero a k b e = absurd (some-ne-none b (sym e))
+all_alike (suc n) a zero b e = sym (some-injective a b e)
+all_alike (suc n) a (suc k) b e = all_alike n a k b e
+
+-- with only zeros behind its two first pages, they are the words of the opening index
 pub pads : (many : ℕ) (contents : List (List ℕ)) → 2 ≤ many → AreFirst 2 contents → AreFirst many (padded many contents)
-pads many contents two f = let count = f.count in record {
-  count = padded_long many contents (omega (arith, count, two));
-  each = λ x words at. ⊎_elim (λ (h : (x < length contents) × (get_elem? contents x ≡ some words)). f.each x words h.1)
-      (λ (h : (length contents ≤ x) × (j : ℕ) × (get_elem? (replicate (many - length contents) (replicate 32 0)) j ≡ some words)). behind x words (omega (arith, count, h.0)) (sym (of_all (many - length contents) (replicate 32 0) h.1 words h.2)))
-      (at_append contents (replicate (many - length contents) (replicate 32 0)) x words at);
+pads many [] two f = let count = f.count in absurd (omega (arith, count))
+pads many (a ∷ []) two f = let count = f.count in absurd (omega (arith, count))
+pads many (a ∷ b ∷ []) two f = record {
+  count = ap (λ (n : ℕ). suc (suc n)) (length-replicate (many - 2) (replicate 32 0)) ∙ whole many two;
+  each = each;
 }
   where
-    behind : (x : ℕ) (words : List ℕ) → 2 ≤ x → words ≡ replicate 32 0 → IsFirst x words
-    behind zero words low is = absurd (omega (arith, low))
-    behind (suc zero) words low is = absurd (omega (arith, low))
-    behind (suc (suc x)) words low is = is
+    whole : (n : ℕ) → 2 ≤ n → suc (suc (n - 2)) ≡ n
+    whole n two = omega (arith, two)
+
+    each : (x : ℕ) (words : List ℕ) → get_elem? (a ∷ b ∷ replicate (many - 2) (replicate 32 0)) x ≡ some words → IsFirst x words
+    each zero words at = f.each zero words at
+    each (suc zero) words at = f.each (suc zero) words at
+    each (suc (suc x)) words at = all_alike (many - 2) (replicate 32 0) x words at
+pads many (a ∷ b ∷ c ∷ rest) two f = let count = f.count in absurd (omega (arith, count))
 
 -- nothing stands behind all pages
 pub padded_all : (many : ℕ) (contents : List (List ℕ)) → length contents ≡ many → padded many contents ≡ contents

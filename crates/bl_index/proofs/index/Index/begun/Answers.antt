@@ -6,6 +6,7 @@ use Rattle.bl_store.specs.Opening.{first_pages, padded}
 use Rattle.bl_index_rule.specs.declared.known.PassState.{PassState}
 use Rattle.bl_claims.specs.Seeing.{IsSeen}
 use Rattle.bl_index_rule.specs.Simulation.{beginner, Simulates}
+use Rattle.bl_index.specs.Opened.{AreNew}
 use Rattle.bl_index.proofs.Firsts.{new_hands, is_begun}
 use Rattle.bl_index.proofs.index.Index.begun.Goals as goal
 
@@ -14,7 +15,8 @@ of_layout-requires-clause-rule c = let sizes = c.of-layout.ensures.sizes in let 
     subst (λ (z : ℕ × ℕ × PassState). Simulates (first_pages (padded z.0 c.args.words.now) z.1 z.2)) (λ i. (sym sizes.0 i, sym sizes.1 i, knew i)) c.requires.rule
 
 pub passes_of-requires-clause-hands : goal.passes_of-requires-clause-hands
-passes_of-requires-clause-hands c = new_hands _ _ _ _ _ _ (c.beginner-known.ensures ∙ ap beginner (c.of-observed.ensures ∙ sym c.of-first.ensures)) c.in_ok-store.ensures.hands
+passes_of-requires-clause-hands c = subst (λ (z : Layout). AreNew c.in_ok-store.store.table.shared.table_id z c.of-first.result 0 c.in_ok-store.hands.items) (sym c.in_ok-store.ensures.layout)
+    (new_hands _ _ _ _ _ _ (c.beginner-known.ensures ∙ ap beginner (c.of-observed.ensures ∙ sym c.of-first.ensures)) c.in_ok-store.ensures.hands)
 
 pub passes_of-requires-clause-seen : goal.passes_of-requires-clause-seen
 passes_of-requires-clause-seen c = subst (λ (z : List (Option Page)). IsSeen z []) (sym c.of-first.ensures) c.requires.seen

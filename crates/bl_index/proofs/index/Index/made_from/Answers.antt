@@ -41,5 +41,7 @@ returns c =
     let fits : AllFit image.pages.items = c.in_ok-words.ensures.fits in
     let words : c.as_slice.result.now ≡ map page_words image.pages.items = c.as_slice.ensures.value ∙ c.in_ok-words.ensures.words in
     let count : length c.as_slice.result.now ≡ length image.pages.items = ap length words ∙ map_length image.pages.items in
+    let many = c.as_slice.ensures.len in
+    let same : c.len.result ≡ length image.pages.items = omega (arith, count) in
     subst (λ (z : Image). IfOk c.begun.result (λ t. IsReopened z.pages.items c.args.passes t.0 t.1.items)) c.image-image.ensures.same
-    (if_ok _ _ c.begun.result (λ t begun. is_reopened image _ c.args.passes t.0 t.1.items fits c.image-image.ensures.sound count begun) c.begun.ensures)
+    (if_ok _ _ c.begun.result (λ t begun. is_reopened image _ c.args.passes t.0 t.1.items fits c.image-image.ensures.sound same begun) c.begun.ensures)
