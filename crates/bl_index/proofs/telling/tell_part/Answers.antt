@@ -5,7 +5,6 @@ use Rattle.bl_store.specs.Hands.{known, read_words}
 use Rattle.bl_store.specs.declared.store.Hand.{Hand}
 use Rattle.bl_index_rule.specs.declared.known.PassState.{PassState}
 use Rattle.bl_index_rule.specs.Observed.{ends}
-use Rattle.bl_index_read.specs.declared.sought.Sought.{Sought}
 use Rattle.bl_index_read.specs.declared.sought.Sought.TheVariants as sought
 use Rattle.bl_index_read.specs.LeafWays.{IsAtLeaf}
 use Rattle.bl_index_read.specs.Parts.{StandsBehind}

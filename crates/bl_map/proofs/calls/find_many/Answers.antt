@@ -1,4 +1,4 @@
-use Rattle.std.proofs.Common.{rules, ℕ, ◌≡◌, ◌+◌, ◌∙◌, List, length, sym, subst, arith}
+use Rattle.std.proofs.Common.{rules, ℕ, ◌∙◌, List, sym, subst, arith}
 use Rattle.std.proofs.lemmas.List.{take_more, take_more_set, length-set, take_all}
 use Rattle.bl_model.specs.declared.operation.KeyReply.{KeyReply}
 use Rattle.bl_index.specs.Calls.{first_of, pages_of, number_of, trail}
