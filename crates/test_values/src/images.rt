@@ -2,6 +2,7 @@
 
 ghost use Rattle.std.specs.Prelude.{◌≡◌, ◌≤◌, IfOk, OnOk, MatchResult};
 ghost use Rattle.std.specs.Io.KnownBytes.{Appends};
+ghost use Rattle.bl_image.specs.Images.{AreWithin};
 ghost use Rattle.bl_image.specs.declared.fault.ImageFault.TheVariants.{Memory};
 
 use bl_image::{Image, ImageFault, image_length, read};
@@ -65,9 +66,9 @@ fn copy<W: Write>(
     }
 }
 
-/// What is written is read as it was, unless memory runs out: for any image.
+/// What is written is read as it was, unless memory runs out: for any image whose pages name pages by numbers that its version has.
 fn reread(alloc: Global, image: &Image) -> Result<Image, ImageFault>
-    ensures { MatchResult result (λ back. back.pages.items ≡ image.now.pages.items) (λ fault. fault ≡ Memory) }
+    ensures { AreWithin image.now.pages.items → MatchResult result (λ back. back.pages.items ≡ image.now.pages.items) (λ fault. fault ≡ Memory) }
 {
     let mut writer = Watched::new(Vec::new(alloc));
     match image.write(&mut writer) {
