@@ -12,7 +12,7 @@ fn is_found(index: &Index, pass: &mut Pass, key: u64, near: Option<u32>, turns: 
     requires { IsPassOf index.now pass.old }
     ensures { IsPassOf index.now pass.new }
 {
-    index.find_near(pass, key, near, turns) == Ok(KeyReply::Found(10 * key))
+    index.find_near(pass, key, near, turns) == Ok(KeyReply::Found(key.wrapping_mul(10)))
 }
 
 // Any page will do: the leaf itself, one to its left, one to its right, the parent, the anchor, one that is not in use, one that there
