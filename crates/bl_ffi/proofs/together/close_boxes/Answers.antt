@@ -1,15 +1,16 @@
-use Rattle.std.proofs.Common.{◌≡◌, ◌+◌, ◌*◌, Some, List, length, inl, inr, refl, sym, ap, ◌∙◌, arith}
+use Rattle.std.proofs.Common.{◌≡◌, ◌+◌, ◌*◌, Some, List, length, inl, inr, refl, sym, ap, subst, ◌∙◌, arith}
 use Rattle.std.specs.Prelude.{slice_get}
 use Rattle.std.specs.Arc.{arc_value}
 use Rattle.std.proofs.lemmas.List.{length-take-le}
 use Rattle.bl_index.specs.Calls.{pages_of}
+use Rattle.bl_image.specs.Images.{IsImage}
 use Rattle.bl_image.specs.declared.image.Image.{Image}
 use Rattle.bl_seats.specs.Closed.{values}
 use Rattle.bl_seats.specs.declared.seat.Seat.{Seat}
 use Rattle.bl_seats.proofs.Closings.{Boxed}
 use Rattle.bl_ffi.specs.Places.{seats_in}
 use Rattle.bl_ffi.proofs.Placing.{put_full, pages_closed, value_length}
-use Rattle.bl_ffi.proofs.ClosedTo.{too_long, back_fits}
+use Rattle.bl_ffi.proofs.ClosedTo.{too_long, back_fits, closed_to}
 use Rattle.bl_ffi.proofs.together.close_boxes.Goals as goal
 
 pub returns-then-needed-bytes : goal.returns-then-needed-bytes
@@ -36,3 +37,13 @@ pub put_all-requires-in-Err : goal.put_all-requires-in-Err
 put_all-requires-in-Err c =
     let fits = back_fits (values c.args.boxes.items) (values c.in-Err.boxes.items) c.in-Err.why c.in-Err.ensures.fault in
     let a = value_length c.args.boxes.items in let b = value_length c.in-Err.boxes.items in let count = c.requires.count in omega (arith, fits, a, b, count)
+
+pub returns-in-Ok : goal.returns-in-Ok
+returns-in-Ok c =
+    let boxes = c.args.boxes.items in
+    inl (
+      refl,
+      closed_to (values boxes) (seats_in c.args.places.now) c.args.bytes.now c.spell.new.bytes c.image_length-needed.result (length c.args.places.now) c.in-Ok.quiet.image.pages.items c.in-Ok.ensures.ok
+          (sym (value_length boxes ∙ c.requires.count)) c.requires.empty (subst (λ (z : Image). IsImage z.pages.items c.spell.new.bytes) c.image.ensures.same c.spell.ensures)
+          (c.spell.auto.bytes ∙ length-take-le c.image_length-needed.result c.args.bytes.now (omega (arith, c.if-needed-bytes.false))),
+    )
