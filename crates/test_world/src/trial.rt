@@ -634,7 +634,7 @@ const WIDE: Size = Size {
 #[test]
 fn small_worlds_keep_the_laws(rt: HostRuntime) {
     let mut tally = NONE;
-    for seed in 0..200u64 {
+    for seed in 0..600u64 {
         let law = broken(rt.alloc(), seed, small(seed), &mut tally);
         assert_eq!(rt; law, None, "world {seed}");
     }
