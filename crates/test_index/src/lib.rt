@@ -1,10 +1,10 @@
-//! Tests of the calls of an index and of what stands on it. Of an index, those that need threads or want of memory: two threads that
-//! search and insert, eight whose passes meet, a scan beside four that write and a close after it, a scan whose memory is refused; calls of
-//! one thread are lines of `test_worked_calls`. Of the map for programs and of seats: their public calls.
+//! Tests of the calls of an index that need threads or want of memory: two threads that search and insert, eight whose passes meet, a scan
+//! beside four that write and a close after it, a scan whose memory is refused, writers that stop half-way. Calls of one thread are lines
+//! of `test_worked_calls`.
 //!
 //! They stand apart from what they test, and nothing else uses them: whatever is built on the index need not wait until these tests
-//! are proved. They stand together, since each crate of tests is linked with all that lies below. What a process on its way holds back
-//! is tested with the hands of a store, in `test_store_rule`.
+//! are proved. What a process on its way holds back is tested with the hands of a store, in `test_store_rule`. What stands on the index
+//! is tested in `test_map`.
 #![tactic(auto)]
 
 #[cfg(test)]
@@ -14,14 +14,10 @@ mod closings;
 #[cfg(test)]
 mod large;
 #[cfg(test)]
-mod maps;
-#[cfg(test)]
 mod meetings;
 #[cfg(test)]
 mod near;
 #[cfg(test)]
 mod scans;
-#[cfg(test)]
-mod seats;
 #[cfg(test)]
 mod stops;

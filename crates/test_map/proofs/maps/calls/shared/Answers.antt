@@ -1,7 +1,7 @@
 use Rattle.std.proofs.Common.{rules, All, Some}
 use Rattle.std.proofs.lemmas.List.Elements.{All-pop}
 use Rattle.bl_index.specs.Calls.{IsPassOf}
-use Rattle.test_index.proofs.maps.calls.shared.Goals as goal
+use Rattle.test_map.proofs.maps.calls.shared.Goals as goal
 
 pub returns : goal.returns
 returns c =

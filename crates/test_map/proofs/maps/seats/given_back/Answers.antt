@@ -2,7 +2,7 @@ use Rattle.std.proofs.Common.{length, ap, arith}
 use Rattle.std.proofs.lemmas.List.{length-map}
 use Rattle.bl_map.specs.Handles.{seat_of}
 use Rattle.bl_map.proofs.Handed.{their_seats}
-use Rattle.test_index.proofs.maps.seats.given_back.Goals as goal
+use Rattle.test_map.proofs.maps.seats.given_back.Goals as goal
 
 pub give_seats-requires : goal.give_seats-requires
 give_seats-requires c =
