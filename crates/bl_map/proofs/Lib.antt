@@ -1,8 +1,10 @@
 pub mod Adding
+pub mod Listing
 pub mod Finding
 pub mod Elements
 pub mod Following
 pub mod Lacking
+pub mod Writing
 pub mod AllMet
 pub mod Same
 pub mod Scanning

@@ -1,19 +1,12 @@
 -- What a call promises that looks many keys up.
-use Rattle.std.specs.Prelude.{◌≡◌, ℕ, ◌++◌, List, [], ◌∷◌, Option, length}
+use Rattle.std.specs.Prelude.{◌≡◌, ℕ, ◌++◌, List, Option, length}
 use Rattle.bl_model.specs.declared.operation.Op.TheVariants as op
 use Rattle.bl_model.specs.declared.operation.KeyReply.{KeyReply}
-use Rattle.bl_model.specs.declared.operation.Entry.{Entry}
-use Rattle.bl_model.specs.Replies.{reply_of}
 use Rattle.bl_page.specs.declared.page.Page.{Page}
 use Rattle.bl_claims.specs.Trails.{Trail}
 use Rattle.bl_claims.specs.Seeing.{IsLinearizable, own, GoesOnFrom}
+use Rattle.bl_map.specs.Entries.{entries_of}
 use Rattle.bl_map.specs.Works.{Searches}
-
--- the entries of the searches for these keys, one after another, each with its reply
-unfoldable pub finds_of : ℕ → List ℕ → List KeyReply → List Entry
-finds_of pass [] replies = []
-finds_of pass (key ∷ keys) [] = []
-finds_of pass (key ∷ keys) (reply ∷ replies) = record { pass = pass; op = op.Find key; reply = reply_of reply } ∷ finds_of pass keys replies
 
 -- The pass has looked these keys up, one after another, and each has its reply: these are its new entries, in that order, and it has
 -- done nothing but search.
@@ -21,5 +14,5 @@ pub record FindsMany (first : List (Option Page)) (pages pass : ℕ) (keys : Lis
   pub each : length replies ≡ length keys
   pub begins : GoesOnFrom old new
   pub seen : IsLinearizable first old → IsLinearizable first new
-  pub mine : own pass new ≡ own pass old ++ finds_of pass keys replies
-  pub searches : Searches first pages pass (finds_of pass keys replies) old new
+  pub mine : own pass new ≡ own pass old ++ entries_of pass op.Find keys replies
+  pub searches : Searches first pages pass (entries_of pass op.Find keys replies) old new

@@ -1,5 +1,5 @@
 -- What a call of a handle promises.
-use Rattle.std.specs.Prelude.{◌≡◌, ℕ, List, Option, length, map}
+use Rattle.std.specs.Prelude.{◌≡◌, ◌×◌, ℕ, List, Option, length, map}
 use Rattle.bl_model.specs.declared.deciding.KeyWrite.{KeyWrite}
 use Rattle.bl_model.specs.declared.operation.KeyReply.{KeyReply}
 use Rattle.bl_model.specs.declared.operation.Op.{Op}
@@ -15,6 +15,7 @@ use Rattle.bl_map.specs.declared.handle.Handle.{Handle}
 use Rattle.bl_map.specs.declared.upkeep.Followed.{Followed}
 use Rattle.bl_map.specs.Works.{Works, Adds, Searched, Swept, FoundNoRoom}
 use Rattle.bl_map.specs.Finds.{FindsMany}
+use Rattle.bl_map.specs.Many.{WritesMany, StopsFull}
 use Rattle.bl_map.specs.Follows.{FollowsHint, WritesLeaving}
 use Rattle.bl_map.specs.Waits.{hints_of, Changes, TriesAgain, Tidies, IsNone}
 
@@ -66,9 +67,18 @@ HasFoundMany keys replies old new = FindsMany (first_map_of old) (pages_of_map o
 abbrev pub HasWritten : Op → Reply → Option Hint → Handle → Handle → Type 0
 HasWritten op reply left old new = WritesLeaving (first_map_of old) (number_of_seat old) op reply left (seen_by old) (seen_by new)
 
--- In a call of it that writes the key so, the index found no room.
+-- The last that it has done is a call of the index that writes the key so, and that found no room.
 abbrev pub HasFoundNoRoom : ℕ → KeyWrite → Handle → Handle → Type 0
-HasFoundNoRoom key does old new = FoundNoRoom (number_of_seat old) key does (seen_by old) (seen_by new)
+HasFoundNoRoom key does old new = FoundNoRoom key does old.pass new.pass
+
+-- It has made the writes that these ask for, one after another, each with its reply.
+abbrev pub HasWrittenMany : {A : Type 0} → (A → ℕ × KeyWrite) → List A → List KeyReply → Handle → Handle → Type 0
+HasWrittenMany ask as replies old new =
+    WritesMany (first_map_of old) (number_of_seat old) ask as replies old.waiting new.waiting (seen_by old) (seen_by new)
+
+-- So many of them were answered, the last one by want of room.
+abbrev pub HasStoppedFull : {A : Type 0} → (A → ℕ × KeyWrite) → List A → List KeyReply → ℕ → Handle → Handle → Type 0
+HasStoppedFull ask as replies count old new = StopsFull ask as replies count old.pass new.pass
 
 -- It has followed a hint.
 abbrev pub HasFollowed : Hint → Followed → Handle → Handle → Type 0

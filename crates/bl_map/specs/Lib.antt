@@ -1,7 +1,9 @@
 pub mod Works
+pub mod Entries
 pub mod Finds
 pub mod Follows
 pub mod Waits
+pub mod Many
 pub mod Handles
 pub mod Meetings
 pub mod Seats

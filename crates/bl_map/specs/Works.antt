@@ -42,11 +42,10 @@ pub data Swept (first : List (Option Page)) (pass : ℕ) : Trail → Trail → T
   Never : {old : Trail} → Swept first pass old old
   Again : {old mid new : Trail} {answer : ℕ} → Swept first pass old mid → Sweeps first pass answer mid new → Swept first pass old new
 
--- Between the two, one call of an index that writes the key so found no room: the pass was that before the call, and this after it.
-pub record FoundNoRoom (pass key : ℕ) (does : KeyWrite) (old new : Trail) : Type 0 where
+-- The last call of the index that the pass has made is one that writes the key so, and it found no room: what it wanted is what the pass was
+-- refused last. It has done nothing since.
+pub record FoundNoRoom (key : ℕ) (does : KeyWrite) (old new : Pass) : Type 0 where
   pub before : Pass
-  pub after : Pass
-  pub mine : number_of before ≡ pass
-  pub begins : GoesOnFrom old (trail before)
-  pub goes_on : GoesOnFrom (trail after) new
-  pub lacks : WriteLacks before key does after
+  pub mine : number_of before ≡ number_of old
+  pub begins : GoesOnFrom (trail old) (trail before)
+  pub lacks : WriteLacks before key does new

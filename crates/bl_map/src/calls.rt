@@ -100,7 +100,7 @@ pub(crate) fn write<R: Wait>(
     requires { IsPassOf index.now pass.old }
     ensures same { IsSamePass pass.old pass.new }
     ensures written { Written (first_of index.now) (number_of pass.old) (write_op key write) (reply_of result.0) result.1 (trail pass.old) (trail pass.new) }
-    ensures no_room { result.0 ≡ replies.NoRoom → FoundNoRoom (number_of pass.old) key write (trail pass.old) (trail pass.new) }
+    ensures no_room { result.0 ≡ replies.NoRoom → FoundNoRoom key write pass.old pass.new }
 {
     make_room(rt, index, pass, key, write);
     match write {

@@ -28,9 +28,13 @@ pub(crate) fn write<R: Wait>(
     ensures same { IsSamePass pass.old pass.new }
     ensures changes { Changes (first_of index.now) (number_of pass.old) (write_op key write) (reply_of result) waiting.old waiting.new
         (trail pass.old) (trail pass.new) }
-    ensures no_room { result ≡ replies.NoRoom → FoundNoRoom (number_of pass.old) key write (trail pass.old) (trail pass.new) }
+    ensures no_room { result ≡ replies.NoRoom → FoundNoRoom key write pass.old pass.new }
 {
     let (reply, hint) = calls::write(rt, index, pass, key, write);
+    // Nothing is written and nothing is left to do, and the pass knows still what it was refused.
+    if let KeyReply::NoRoom = reply {
+        return reply;
+    }
     let left = follow(rt, index, pass, hint);
     waiting.keep(left);
     sweep_if_due(index, pass);
@@ -49,9 +53,12 @@ pub(crate) fn write_leaving<R: Wait>(
     ensures same { IsSamePass pass.old pass.new }
     ensures leaves { WritesLeaving (first_of index.now) (number_of pass.old) (write_op key write) (reply_of result.0) result.1
         (trail pass.old) (trail pass.new) }
-    ensures no_room { result.0 ≡ replies.NoRoom → FoundNoRoom (number_of pass.old) key write (trail pass.old) (trail pass.new) }
+    ensures no_room { result.0 ≡ replies.NoRoom → FoundNoRoom key write pass.old pass.new }
 {
     let (reply, hint) = calls::write(rt, index, pass, key, write);
+    if let KeyReply::NoRoom = reply {
+        return (reply, None);
+    }
     let left = follow_split(rt, index, pass, hint);
     (reply, left)
 }

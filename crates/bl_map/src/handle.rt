@@ -1,6 +1,6 @@
 //! What a thread works with.
 
-ghost use Rattle.std.specs.Prelude.{◌≡◌, ◌+◌, ◌-◌, length, vec_len};
+ghost use Rattle.std.specs.Prelude.{◌≡◌, ◌<◌, ◌≤◌, ◌+◌, ◌-◌, length, take, vec_len};
 ghost use Rattle.std.specs.Vec.{vec_capacity};
 ghost use Rattle.bl_model.specs.declared.operation.Op.TheVariants as op;
 ghost use Rattle.bl_model.specs.declared.deciding.KeyWrite.TheVariants as key_write;
@@ -12,7 +12,7 @@ ghost use Rattle.bl_map.specs.Seats.{IsPassOf-prop};
 
 use crate::upkeep::{self, Followed};
 use crate::waiting::Waiting;
-use crate::{calls, changes, room, telling};
+use crate::{calls, changes, many, room, telling};
 use bl_index::{Hint, Index, KeyReply, KeyWrite, Pass, Reply};
 use std::alloc::AllocError;
 use std::sync::Wait;
@@ -37,6 +37,8 @@ pub struct Handle<'a> {
 
 impl<'a> Handle<'a> {
     ghost use Rattle.bl_map.specs.Handles.{IsSameHandle, HasCalled, HasSearched, HasFoundMany, HasChanged, HasWritten, HasFoundNoRoom, HasKeptUp, HasFollowed, HasSwept, HasTriedAgain, HasTidied};
+    ghost use Rattle.bl_map.specs.Handles.{HasWrittenMany, HasStoppedFull};
+    ghost use Rattle.bl_map.specs.Many.{insertion_of, deletion_of};
     ghost use Rattle.bl_map.specs.Handles.{HaveMet, KeepsHints, AreOfOne, IsHandleOver, released_in};
     ghost use Rattle.bl_map.specs.Handles.{first_map_of, pages_of_map, number_of_seat, seat_of, seen_by, waiting_of, dropped_of};
     ghost use Rattle.bl_map.specs.Scans.{Scanned, Tells};
@@ -147,6 +149,42 @@ impl<'a> Handle<'a> {
         ensures no_room { result ≡ replies.NoRoom → HasFoundNoRoom key (key_write.Change old new) self.old self.new }
     {
         self.write(rt, key, KeyWrite::Change(old, new))
+    }
+
+    /// Inserts rows one after another, each as [`Handle::insert`] does, up to the first that finds no room. The pages of some rows at a time
+    /// are fetched from memory side by side. Says how many were answered: their replies stand first, and where not all rows were, the last of
+    /// them is `NoRoom`.
+    pub fn insert_many<R: Wait>(
+        &mut self,
+        rt: &R,
+        rows: &[(u64, u64)],
+        replies: &mut [KeyReply],
+    ) -> usize
+        requires { length replies.old ≡ length rows.now }
+        ensures same { IsSameHandle self.old self.new }
+        ensures most { result ≤ length rows.now }
+        ensures written { HasWrittenMany insertion_of (take result rows.now) (take result replies.new) self.old self.new }
+        ensures stops { result < length rows.now → HasStoppedFull insertion_of rows.now replies.new result self.old self.new }
+    {
+        let index = self.index;
+        many::write(rt, index, &mut self.pass, &mut self.waiting, rows, replies)
+    }
+
+    /// Takes keys away one after another, each as [`Handle::delete`] does: see [`Handle::insert_many`].
+    pub fn delete_many<R: Wait>(
+        &mut self,
+        rt: &R,
+        keys: &[u64],
+        replies: &mut [KeyReply],
+    ) -> usize
+        requires { length replies.old ≡ length keys.now }
+        ensures same { IsSameHandle self.old self.new }
+        ensures most { result ≤ length keys.now }
+        ensures written { HasWrittenMany deletion_of (take result keys.now) (take result replies.new) self.old self.new }
+        ensures stops { result < length keys.now → HasStoppedFull deletion_of keys.now replies.new result self.old self.new }
+    {
+        let index = self.index;
+        many::write(rt, index, &mut self.pass, &mut self.waiting, keys, replies)
     }
 
     /// Appends the rows from a key on and below an end, if there is one, by rising keys. It is no snapshot: each key is answered as the

@@ -19,6 +19,7 @@
 mod calls;
 mod changes;
 mod handle;
+mod many;
 mod map;
 mod meeting;
 mod room;

@@ -46,3 +46,44 @@ fn keys_are_looked_up_in_an_empty_map(rt: HostRuntime) -> Result<(), Fail> {
     assert!(rt; replies == [KeyReply::Absent, KeyReply::Absent]);
     Ok(())
 }
+
+// More than one group, a key twice, and a row that is there already.
+#[test]
+fn many_rows_are_inserted_and_taken_away(rt: HostRuntime) -> Result<(), Fail> {
+    let (map, seat) = opened(rt.alloc(), 64).ok_or("no map")?;
+    let mut handle = map.handle(seat);
+    assert!(rt; handle.insert(&rt, 5, 55) == KeyReply::Inserted);
+    let rows = [(9, 90), (1, 10), (5, 50), (8, 80), (2, 20), (7, 70), (3, 30), (6, 60), (4, 40), (9, 91)];
+    let mut replies = [KeyReply::Absent; 10];
+    assert!(rt; handle.insert_many(&rt, &rows, &mut replies) == 10);
+    let mut wanted = [KeyReply::Inserted; 10];
+    wanted[2] = KeyReply::Present(55);
+    wanted[9] = KeyReply::Present(90);
+    assert!(rt; replies == wanted);
+    let mut gone = [KeyReply::NoRoom; 3];
+    assert!(rt; handle.delete_many(&rt, &[9, 5, 9], &mut gone) == 3);
+    assert!(rt; gone == [KeyReply::Deleted(90), KeyReply::Deleted(55), KeyReply::Absent]);
+    assert!(rt; handle.find(&rt, 4) == KeyReply::Found(40));
+    Ok(())
+}
+
+// A map of four pages has room for three leaves at most: where there is none the call ends, and says so in its last reply.
+#[test]
+fn rows_are_inserted_up_to_the_first_that_finds_no_room(rt: HostRuntime) -> Result<(), Fail> {
+    let (map, seat) = opened(rt.alloc(), 4).ok_or("no map")?;
+    let mut handle = map.handle(seat);
+    let mut rows = [(0, 0); 64];
+    for i in 0..64 {
+        rows[i] = (i as u64, 7);
+    }
+    let mut replies = [KeyReply::Absent; 64];
+    let answered = handle.insert_many(&rt, &rows, &mut replies);
+    assert!(rt; 14 < answered && answered < 64);
+    for i in 0..answered - 1 {
+        assert!(rt; replies[i] == KeyReply::Inserted);
+    }
+    assert!(rt; replies[answered - 1] == KeyReply::NoRoom);
+    assert!(rt; replies[answered] == KeyReply::Absent);
+    assert!(rt; handle.find(&rt, answered as u64 - 1) == KeyReply::Absent);
+    Ok(())
+}

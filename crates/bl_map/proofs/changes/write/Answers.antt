@@ -1,9 +1,13 @@
-use Rattle.std.proofs.Common.{◌∙◌}
+use Rattle.std.proofs.Common.{◌∙◌, ap}
 use Rattle.bl_index.specs.Calls.{trail}
+use Rattle.bl_model.specs.Replies.{reply_of}
 use Rattle.bl_map.proofs.Adding.{swept_as}
-use Rattle.bl_map.proofs.Following.{follows_as, hints_add}
-use Rattle.bl_map.proofs.Lacking.{found_on}
+use Rattle.bl_map.proofs.Following.{follows_as}
+use Rattle.bl_map.proofs.Lacking.{refused_changes}
 use Rattle.bl_map.proofs.changes.write.Goals as goal
+
+pub returns-in-NoRoom-clause-changes : goal.returns-in-NoRoom-clause-changes
+returns-in-NoRoom-clause-changes g c = refused_changes _ _ _ _ _ _ _ _ (ap reply_of c.in-NoRoom.is) c.write-reply.ensures.written
 
 pub returns-clause-changes : goal.returns-clause-changes
 returns-clause-changes g c =
@@ -18,8 +22,3 @@ returns-clause-changes g c =
       kept = c.keep.ensures;
       sweeps = swept_as _ _ _ _ _ number c.sweep_if_due.ensures.swept;
     }
-
-pub returns-clause-no_room : goal.returns-clause-no_room
-returns-clause-no_room g c = λ is.
-    let followed = hints_add _ _ _ _ _ _ c.follow-left.ensures.follows in
-    found_on _ _ _ _ _ _ (found_on _ _ _ _ _ _ (c.write-reply.ensures.no_room is) followed.begins) c.sweep_if_due.ensures.adds.begins

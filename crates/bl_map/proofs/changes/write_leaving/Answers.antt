@@ -1,7 +1,12 @@
+use Rattle.std.proofs.Common.{ap}
 use Rattle.bl_index.specs.Calls.{trail}
-use Rattle.bl_map.proofs.Following.{split_as, split_adds}
-use Rattle.bl_map.proofs.Lacking.{found_on}
+use Rattle.bl_model.specs.Replies.{reply_of}
+use Rattle.bl_map.proofs.Following.{split_as}
+use Rattle.bl_map.proofs.Lacking.{refused_leaves}
 use Rattle.bl_map.proofs.changes.write_leaving.Goals as goal
+
+pub returns-in-NoRoom-clause-leaves : goal.returns-in-NoRoom-clause-leaves
+returns-in-NoRoom-clause-leaves g c = refused_leaves _ _ _ _ _ _ _ (ap reply_of c.in-NoRoom.is) c.write-reply.ensures.written
 
 pub returns-clause-leaves : goal.returns-clause-leaves
 returns-clause-leaves g c = record {
@@ -10,6 +15,3 @@ returns-clause-leaves g c = record {
   written = c.write-reply.ensures.written;
   follows = split_as _ _ _ _ _ _ _ c.write-reply.ensures.same.2 c.follow_split-left.ensures.follows;
 }
-
-pub returns-clause-no_room : goal.returns-clause-no_room
-returns-clause-no_room g c = λ is. found_on _ _ _ _ _ _ (c.write-reply.ensures.no_room is) (split_adds _ _ _ _ _ _ c.follow_split-left.ensures.follows).begins
