@@ -1,5 +1,5 @@
 -- A write that found no room has left nothing.
-use Rattle.std.proofs.Common.{ℕ, ◌≡◌, Option, None, Some, List, [], refl, subst, sym}
+use Rattle.std.proofs.Common.{ℕ, ◌≡◌, ◌≢◌, Option, None, Some, List, [], refl, subst, sym}
 use Rattle.bl_model.specs.declared.deciding.KeyWrite.{KeyWrite}
 use Rattle.bl_model.specs.declared.deciding.KeyWrite.TheVariants.{Insert}
 use Rattle.bl_model.specs.declared.operation.Op.{Op}
@@ -22,9 +22,12 @@ use Rattle.bl_map.specs.declared.waiting.Waiting.{Waiting}
 pub insert_lacks : (key value : ℕ) (before after : Pass) → InsertLacks before key after → WriteLacks before key (Insert value) after
 insert_lacks key value before after lacks = record { number = lacks.number; holds = lacks.holds; is = (None, lacks.is) }
 
+not_inserted : reply.NoRoom ≢ reply.Inserted
+not_inserted = λ z. cc
+
 climbed_none : (last : Option Posted) (left : Option Hint) (marks : Trail) → MeansClimbed reply.NoRoom last left marks → left ≡ None
 climbed_none None left marks m = m.1
-climbed_none (Some a) left marks m = absurd m.0
+climbed_none (Some a) left marks m = absurd (not_inserted m.0)
 
 makes_none : (first : List (Option Page)) (pass : ℕ) (o : Op) (next : Option Hint) (old new : Trail) → Makes first pass o reply.NoRoom next old new → next ≡ None
 makes_none first pass (op.Find key) next old new m = m.hint.1

@@ -9,8 +9,8 @@ use Rattle.bl_map.specs.Entries.{entries_of}
 abbrev pub entry : {A : Type 0} → ℕ → (A → Op) → A → KeyReply → Entry
 entry pass ask a reply = record { pass = pass; op = ask a; reply = reply_of reply }
 
-pub entries_more : {A : Type 0} (pass : ℕ) (ask : A → Op) (as : List A) (replies : List KeyReply) (a : A) (reply : KeyReply) → length replies ≡ length as
-    → entries_of pass ask (as ++ a ∷ []) (replies ++ reply ∷ []) ≡ entries_of pass ask as replies ++ entry pass ask a reply ∷ []
+pub entries_more : {A : Type 0} (pass : ℕ) (ask : A → Op) (list : List A) (replies : List KeyReply) (a : A) (reply : KeyReply) → length replies ≡ length list
+    → entries_of pass ask (list ++ a ∷ []) (replies ++ reply ∷ []) ≡ entries_of pass ask list replies ++ entry pass ask a reply ∷ []
 unfolding entries_of
 entries_more pass ask [] [] a reply e = refl
 entries_more pass ask [] (r ∷ rs) a reply e = absurd (omega (arith, e))

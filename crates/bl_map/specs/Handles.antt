@@ -1,5 +1,5 @@
 -- What a call of a handle promises.
-use Rattle.std.specs.Prelude.{◌≡◌, ◌×◌, ℕ, List, Option, length, map}
+use Rattle.std.specs.Prelude.{◌≡◌, ℕ, List, Option, length, map}
 use Rattle.bl_model.specs.declared.deciding.KeyWrite.{KeyWrite}
 use Rattle.bl_model.specs.declared.operation.KeyReply.{KeyReply}
 use Rattle.bl_model.specs.declared.operation.Op.{Op}
@@ -73,12 +73,12 @@ HasFoundNoRoom key does old new = FoundNoRoom key does old.pass new.pass
 
 -- It has made the writes that these ask for, one after another, each with its reply.
 abbrev pub HasWrittenMany : {A : Type 0} → (A → ℕ × KeyWrite) → List A → List KeyReply → Handle → Handle → Type 0
-HasWrittenMany ask as replies old new =
-    WritesMany (first_map_of old) (number_of_seat old) ask as replies old.waiting new.waiting (seen_by old) (seen_by new)
+HasWrittenMany ask list replies old new =
+    WritesMany (first_map_of old) (number_of_seat old) ask list replies old.waiting new.waiting (seen_by old) (seen_by new)
 
 -- So many of them were answered, the last one by want of room.
 abbrev pub HasStoppedFull : {A : Type 0} → (A → ℕ × KeyWrite) → List A → List KeyReply → ℕ → Handle → Handle → Type 0
-HasStoppedFull ask as replies count old new = StopsFull ask as replies count old.pass new.pass
+HasStoppedFull ask list replies count old new = StopsFull ask list replies count old.pass new.pass
 
 -- It has followed a hint.
 abbrev pub HasFollowed : Hint → Followed → Handle → Handle → Type 0

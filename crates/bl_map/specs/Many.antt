@@ -1,5 +1,5 @@
 -- What a call promises that writes many keys.
-use Rattle.std.specs.Prelude.{◌≡◌, ◌×◌, ℕ, ◌+◌, ◌++◌, List, [], ◌∷◌, Option, length}
+use Rattle.std.specs.Prelude.{◌≡◌, ℕ, ◌+◌, ◌++◌, List, [], ◌∷◌, Option, length}
 use mathlib.Core.Option.{some}
 use lib.ListN.{get_elem?}
 use Rattle.bl_model.specs.declared.deciding.KeyWrite.{KeyWrite}
@@ -33,24 +33,24 @@ op_at at = write_op at.0 at.1
 pub data ChangesMany {A : Type 0} (first : List (Option Page)) (pass : ℕ) (ask : A → ℕ × KeyWrite)
     : List A → List KeyReply → Waiting → Waiting → Trail → Trail → Type 0 where
   NoneChanged : {waiting : Waiting} {old : Trail} → ChangesMany first pass ask [] [] waiting waiting old old
-  OneChanged : {as : List A} {replies : List KeyReply} {before mid after : Waiting} {old between new : Trail} (a : A) (said : KeyReply)
-      → ChangesMany first pass ask as replies before mid old between → Changes first pass (op_at (ask a)) (reply_of said) mid after between new
-      → ChangesMany first pass ask (as ++ a ∷ []) (replies ++ said ∷ []) before after old new
+  OneChanged : {list : List A} {replies : List KeyReply} {before mid after : Waiting} {old between new : Trail} (a : A) (said : KeyReply)
+      → ChangesMany first pass ask list replies before mid old between → Changes first pass (op_at (ask a)) (reply_of said) mid after between new
+      → ChangesMany first pass ask (list ++ a ∷ []) (replies ++ said ∷ []) before after old new
 
 -- The same, and these are the new entries of the pass, in that order.
-pub record WritesMany {A : Type 0} (first : List (Option Page)) (pass : ℕ) (ask : A → ℕ × KeyWrite) (as : List A) (replies : List KeyReply)
+pub record WritesMany {A : Type 0} (first : List (Option Page)) (pass : ℕ) (ask : A → ℕ × KeyWrite) (list : List A) (replies : List KeyReply)
     (before after : Waiting) (old new : Trail) : Type 0 where
-  pub each : length replies ≡ length as
+  pub each : length replies ≡ length list
   pub begins : GoesOnFrom old new
   pub seen : IsLinearizable first old → IsLinearizable first new
-  pub mine : own pass new ≡ own pass old ++ entries_of pass (λ a. op_at (ask a)) as replies
-  pub changes : ChangesMany first pass ask as replies before after old new
+  pub mine : own pass new ≡ own pass old ++ entries_of pass (λ a. op_at (ask a)) list replies
+  pub changes : ChangesMany first pass ask list replies before after old new
 
 -- So many were answered, and the last of them found no room, which is the last that the pass has done.
-pub record StopsFull {A : Type 0} (ask : A → ℕ × KeyWrite) (as : List A) (replies : List KeyReply) (count : ℕ) (old new : Pass) : Type 0 where
+pub record StopsFull {A : Type 0} (ask : A → ℕ × KeyWrite) (list : List A) (replies : List KeyReply) (count : ℕ) (old new : Pass) : Type 0 where
   pub last : ℕ
   pub is_last : count ≡ last + 1
   pub a : A
-  pub asked : get_elem? as last ≡ some a
+  pub asked : get_elem? list last ≡ some a
   pub refused : get_elem? replies last ≡ some reply.NoRoom
   pub lacks : FoundNoRoom (ask a).0 (ask a).1 old new

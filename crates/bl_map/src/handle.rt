@@ -171,12 +171,7 @@ impl<'a> Handle<'a> {
     }
 
     /// Takes keys away one after another, each as [`Handle::delete`] does: see [`Handle::insert_many`].
-    pub fn delete_many<R: Wait>(
-        &mut self,
-        rt: &R,
-        keys: &[u64],
-        replies: &mut [KeyReply],
-    ) -> usize
+    pub fn delete_many<R: Wait>(&mut self, rt: &R, keys: &[u64], replies: &mut [KeyReply]) -> usize
         requires { length replies.old ≡ length keys.now }
         ensures same { IsSameHandle self.old self.new }
         ensures most { result ≤ length keys.now }

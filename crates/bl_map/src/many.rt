@@ -13,7 +13,7 @@ use std::sync::Wait;
 
 /// What asks for a write of a key, as an element of a list.
 pub(crate) trait Asks: Copy {
-    ghost use Rattle.std.specs.Prelude.{◌≡◌, ◌×◌, ℕ};
+    ghost use Rattle.std.specs.Prelude.{◌≡◌, ℕ};
     ghost use Rattle.bl_model.specs.declared.deciding.KeyWrite.{KeyWrite as Does};
 
     ghost asked: { Self → ℕ × Does };

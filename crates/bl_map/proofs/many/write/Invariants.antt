@@ -8,5 +8,5 @@ abbrev pub invariant-loop-i : goal.invariant-loop-i
 invariant-loop-i g l = record {
   same : IsSamePass l.fn.pass l.pass;
   long : length l.replies ≡ length l.list;
-  writes : WritesMany (first_of l.index) (number_of l.fn.pass) g.A.asked (take l.i l.list) (take l.i l.replies) l.fn.waiting l.waiting (trail l.fn.pass) (trail l.pass);
+  writes : WritesMany (first_of l.index) (number_of l.fn.pass) g.A.Asks.asked (take l.i l.list) (take l.i l.replies) l.fn.waiting l.waiting (trail l.fn.pass) (trail l.pass);
 }
