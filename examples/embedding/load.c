@@ -79,7 +79,7 @@ int main(int count, char **words) {
     for (uint64_t n = 0; n < THREADS * keys_each; n++) wanted += n % 3 != 0;
     printf("rows %llu, wanted %llu, wrong %llu\n", (unsigned long long)left, (unsigned long long)wanted, (unsigned long long)wrong);
     need(blink_meet(&seats[0], &seats[1]), BLINK_OK, "meet");
-    for (size_t t = 0; t < THREADS; t++) blink_rest(&seats[t]);
+    for (size_t t = 0; t < THREADS; t++) blink_upkeep_all(&seats[t]);
     if (count > 3) keep(words[3], pages);
     for (size_t t = 0; t < THREADS; t++) blink_close(&seats[t]);
     return left != wanted || wrong != 0;
