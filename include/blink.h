@@ -121,7 +121,7 @@ typedef struct blink_seat {
     void *at;
 } blink_seat;
 
-#define BLINK_SEAT_INIT { 0 }
+#define BLINK_SEAT_INIT { NULL }
 
 /* A key and its value. */
 typedef struct blink_row {
