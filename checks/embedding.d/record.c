@@ -1,8 +1,8 @@
 /* Writes down calls of maps through blink.h, as `record_calls` does for the library in Rattle, for the checker of checks/linearizable:
- * record SECONDS PAGES THREADS KEYS CALLS SEED. One map after the other is opened, for so many seconds, and one at least. In each of the
+ * record SECONDS PAGES THREADS KEYS CALLS SEED OFTEN. One map after the other is opened, for so many seconds, and one at least. In each of the
  * three rounds of a map so many threads make so many calls each, on few keys: searches, insertions, deletions, changes, and scans of some
- * keys side by side, which tell of each key that they pass. Some calls that are told BLINK_AGAIN are given up: their thread makes
- * another call, which settles them. Behind a round the map is closed to its image, and opened anew from that; but in the third one
+ * keys side by side, which tell of each key that they pass. One in OFTEN answers BLINK_AGAIN lets a thread give its call up and make
+ * another one, which settles the first; with 0 nothing is given up. Behind a round the map is closed to its image, and opened anew from that; but in the third one
  * each thread other than the first gives a write up half-way and goes, and its seat is closed by itself, or by the main thread. The
  * next map has other keys. A line is printed for each call: the thread, the nanoseconds right before the call and right behind it,
  * the key, what was asked, and what was answered; and behind each round the line `round`. What was given up has a thread of its own,
@@ -35,7 +35,7 @@ typedef struct worker {
 
 static worker workers[MOST];
 static blink_seat seats[MOST];
-static uint64_t first_key, keys, calls_each, maps, closed_midway;
+static uint64_t first_key, keys, calls_each, often, maps, closed_midway;
 static uint32_t pages;
 static int threads, round_of_map;
 
@@ -101,8 +101,8 @@ static bool is_to_go(const worker *me) {
 
 /* Whether a call that was told BLINK_AGAIN is given up. One at a time, so that a thread ends behind a call that settles it. */
 static bool gives_up(worker *me, const call *it) {
-    if (me->pending || me->count >= calls_each) return false;
-    return (it->asked != FIND && is_to_go(me)) || draw(me, 4) == 0;
+    if (often == 0 || me->pending || me->count >= calls_each) return false;
+    return (it->asked != FIND && is_to_go(me)) || draw(me, often) == 0;
 }
 
 /* Makes a call until it is answered or given up. */
@@ -231,12 +231,13 @@ static void run_map(uint8_t *bytes) {
 
 int main(int count, char **words) {
     uint64_t given_up = 0, until = now();
-    if (count < 7) return 2;
+    if (count < 8) return 2;
     until += strtoull(words[1], NULL, 10) * 1000000000u;
     pages = (uint32_t)strtoul(words[2], NULL, 10);
     threads = atoi(words[3]);
     keys = strtoull(words[4], NULL, 10);
     calls_each = strtoull(words[5], NULL, 10);
+    often = strtoull(words[7], NULL, 10);
     uint8_t *bytes = malloc((size_t)blink_image_length(pages));
     if (!bytes || threads < 1 || threads > MOST) return 2;
     for (int t = 0; t < threads; t++) {
