@@ -1,6 +1,7 @@
 //! Decides whether recorded calls of a map are linearizable, for `checks/linearizable`. It knows nothing of the index or its proof.
 //!
-//!   linearizable < LINES          lines of `record_calls`: THREAD BEGIN END KEY ASKED REPLY, and `round` behind each round
+//!   linearizable < LINES          lines of `record_calls`: THREAD BEGIN END KEY ASKED REPLY, and `round` behind each round; the
+//!                                 reply is `Unknown` of a call that was given up, whose end is when it was settled
 //!   linearizable plant FAULT      plants a fault once in 10,000 calls of a map under a lock, and says whether it is seen:
 //!                                 `none`, `stale` (a search of an old copy), `twice` (an insertion in two steps), `lost` (a
 //!                                 deletion that is answered and not done)
@@ -34,6 +35,8 @@ enum Reply {
     Changed,
     Differs(u64),
     NoRoom,
+    /// Of a call that was given up: it has taken effect by its end, or it never does.
+    Unknown,
 }
 
 #[derive(Clone, Copy, Debug)]
@@ -65,6 +68,20 @@ fn step(had: Value, asked: Asked, reply: Reply) -> Option<Value> {
     }
 }
 
+/// What the key may have after the call.
+fn steps(had: Value, asked: Asked, reply: Reply) -> [Option<Value>; 2] {
+    if reply != Reply::Unknown {
+        return [step(had, asked, reply), None];
+    }
+    let done = match (asked, had) {
+        (Asked::Insert(v), None) => Some(v),
+        (Asked::Delete, _) => None,
+        (Asked::Change(old, new), Some(w)) if old == w => Some(new),
+        _ => had,
+    };
+    [Some(had), (done != had).then_some(done)]
+}
+
 /// The calls of one key, in order of each thread; the key may have any of these values at first. The values that it may have at
 /// the end, of which there are none where no order fits.
 fn ends(threads: &[Vec<Call>], firsts: &[Value]) -> Vec<Value> {
@@ -83,11 +100,12 @@ fn ends(threads: &[Vec<Call>], firsts: &[Value]) -> Vec<Value> {
         };
         for thread in 0..threads.len() {
             let Some(call) = next(thread).filter(|call| call.begin <= least) else { continue };
-            let Some(has) = step(had, call.asked, call.reply) else { continue };
-            let mut more = placed.clone();
-            more[thread] += 1;
-            if seen.insert((more.clone(), has)) {
-                open.push((more, has));
+            for has in steps(had, call.asked, call.reply).into_iter().flatten() {
+                let mut more = placed.clone();
+                more[thread] += 1;
+                if seen.insert((more.clone(), has)) {
+                    open.push((more, has));
+                }
             }
         }
     }
@@ -171,6 +189,7 @@ fn reply(text: &str) -> Option<Reply> {
         ("Changed", _) => Some(Reply::Changed),
         ("Differs", n) => Some(Reply::Differs(*n.first()?)),
         ("NoRoom", _) => Some(Reply::NoRoom),
+        ("Unknown", _) => Some(Reply::Unknown),
         _ => None,
     }
 }
@@ -338,6 +357,15 @@ mod tests {
     #[test]
     fn of_two_changes_one_wins() {
         assert!(!fits(&[(Asked::Insert(5), Reply::Inserted, 0, 1), (Asked::Change(5, 6), Reply::Changed, 2, 9), (Asked::Change(5, 7), Reply::Changed, 2, 9)]));
+    }
+
+    #[test]
+    fn what_was_given_up_may_be_done_until_its_end() {
+        let given_up = (Asked::Insert(5), Reply::Unknown, 0, 4);
+        assert!(fits(&[given_up, (Asked::Find, Reply::Absent, 1, 2), (Asked::Find, Reply::Found(5), 3, 5)]));
+        assert!(fits(&[given_up, (Asked::Find, Reply::Absent, 1, 2), (Asked::Find, Reply::Absent, 5, 6)]));
+        assert!(!fits(&[given_up, (Asked::Find, Reply::Absent, 5, 6), (Asked::Find, Reply::Found(5), 7, 8)]));
+        assert!(!fits(&[given_up, (Asked::Find, Reply::Found(5), 1, 2), (Asked::Find, Reply::Absent, 5, 6)]));
     }
 
     /// All orders of a few calls, held against the search.

@@ -1,12 +1,11 @@
 /* blink.h: an ordered map of 64-bit keys and values that many threads use at once.
  *
  * A map is a B-link tree over a fixed number of pages. Each thread works through a seat
- * of its own, and all seats of a map are made when it is opened. Every call is
- * linearizable: there is one order of all calls in which each answer is that of a plain
- * map, and which keeps the order of calls that did not overlap. (Proved for the calls of
- * one seat, and of seats that have met by blink_meet; of others the order of calls that
- * did not overlap is tested, and follows from the processor's atomics.) A scan is many
- * calls, each of which answers the rows of one leaf.
+ * of its own, and all seats of a map are made when it is opened. Each answer is that of a
+ * plain map. There is one order of all calls, which keeps the order of calls that did not
+ * overlap. It is proved for the calls of one seat and for seats that have met
+ * (blink_meet); between others it is tested. A scan is many calls, each of which answers
+ * the rows of one leaf.
  *
  * Behind this header stands a library whose functions are proved: whatever a caller does
  * that keeps the rules below, no call reads or writes memory that is not its own, and
@@ -15,8 +14,8 @@
  *
  *   1. A seat is all zeros before its first use (BLINK_SEAT_INIT), and is changed by
  *      these functions alone.
- *      Otherwise the call treats whatever bytes are there as a seat. The program reads
- *      and writes memory at random.
+ *      Else: the call treats whatever bytes are there as a seat. The program reads and
+ *      writes memory at random.
  *   2. A seat is not copied, or only one of the copies is used from then on, and only it
  *      is closed.
  *      Else: two calls work on one seat, or on one that is freed. As above.
@@ -35,15 +34,25 @@
  *      BLINK_OTHER_MAP.)
  *      Else: the program reads and writes memory at random.
  *   7. A thread that was told BLINK_AGAIN makes some further call of its seat before
- *      long. (blink_find and the others do.)
+ *      long, be it blink_close. (blink_find and the others do.)
  *      Else: nothing is damaged. A change or a merge that was begun latches no page
  *      meanwhile, but one page may stay latched where a split is listed or a top level is
  *      taken away. What others swap out is held back, and they are told BLINK_AGAIN or
  *      BLINK_NO_ROOM.
  *
+ * A seat whose thread has died may be closed by another thread, by rule 3: blink_close
+ * then ends what was left underway. A thread that dies inside of a call takes its seat
+ * with it: the seat reads as closed (with the guard below: as in a call), and what that
+ * call held stays held. So do not cancel threads inside of calls.
+ *
  * With -DBLINK_GUARD the inline functions look at rules 1 to 3 as far as a seat shows it:
  * a null pointer for a seat, a call of a seat that is in a call, and a call of a closed
- * seat end the program with a message.
+ * seat other than blink_close end the program with a message.
+ *
+ * blink_find, and each other function for which there is one with `try` in its name,
+ * makes that call again until it is answered. It is inline here, and the library has it
+ * under the same name too, for other languages. Each call writes to its seat, even
+ * blink_waiting, so none takes a const one.
  */
 #ifndef BLINK_H
 #define BLINK_H
@@ -52,7 +61,8 @@
 #include <stddef.h>
 #include <stdint.h>
 
-/* The version, which docs/make writes from the file VERSION. */
+/* The version of this header. docs/make writes it from the file VERSION, and
+ * checks/documents says when it is another one. */
 #define BLINK_VERSION_MAJOR 0
 #define BLINK_VERSION_MINOR 1
 #define BLINK_VERSION_PATCH 0
@@ -60,8 +70,15 @@
 
 #ifndef BLINK_YIELD
 #include <sched.h>
-/* Lets another thread run: what a call that is to be made again waits by. */
+/* Lets another thread run: what a call that is to be made again waits by. A program with
+ * threads of its own kind may define it before. */
 #define BLINK_YIELD() ((void)sched_yield())
+#endif
+
+#ifndef BLINK_INLINE
+/* What the functions with bodies here are. The library's own file defines it as nothing,
+ * and so exports them. */
+#define BLINK_INLINE static inline
 #endif
 
 #ifdef BLINK_GUARD
@@ -73,26 +90,30 @@
 extern "C" {
 #endif
 
-/* What a call answers. */
+/* ---- Codes and types. ---- */
+
+/* What a call answers. Under each call stands which of these it has. */
 enum {
-    BLINK_OK = 0,         /* done; where a value goes with it, it is written */
-    BLINK_ABSENT = 1,     /* the key is not there */
-    BLINK_PRESENT = 2,    /* the key has a value, which it keeps, and which is written */
-    BLINK_NO_ROOM = 3,    /* no free page or frame; nothing has changed */
-    BLINK_AGAIN = 4,      /* no answer yet: let another thread run and call again */
-    BLINK_BAD_PAGES = 5,  /* the number of pages is not 4 to 2^28 */
-    BLINK_BAD_SEATS = 6,  /* the number of seats is not 1 to 64 */
-    BLINK_NO_MEMORY = 7,  /* malloc refused; nothing was opened */
-    BLINK_BAD_IMAGE = 8,  /* the bytes are no sound image */
-    BLINK_CLOSED = 9,     /* the seat is closed */
-    BLINK_FEW_ROWS = 10,  /* there is room for fewer than BLINK_LEAF_ROWS rows */
-    BLINK_SEATS_OPEN = 11, /* a seat of the map is missing here, or was closed before */
-    BLINK_FEW_BYTES = 12, /* too few bytes of room for the image: nothing is closed */
-    BLINK_OTHER_MAP = 13, /* the seats are of two maps: nothing was done */
-    BLINK_SEATS_LOST = 14, /* closed without an image: see blink_try_close_image */
+    BLINK_OK = 0,          /* done; where a value goes with it, it is written */
+    BLINK_ABSENT = 1,      /* the key is not there */
+    BLINK_PRESENT = 2,     /* the key has a value, which it keeps, and which is written */
+    BLINK_NO_ROOM = 3,     /* no free page or frame; nothing has changed */
+    BLINK_AGAIN = 4,       /* no answer yet: let another thread run and call again */
+    BLINK_BAD_PAGES = 5,   /* the number of pages is not 4 to 2^28 */
+    BLINK_BAD_SEATS = 6,   /* the number of seats is not 1 to 64 */
+    BLINK_NO_MEMORY = 7,   /* malloc refused; nothing has changed */
+    BLINK_BAD_IMAGE = 8,   /* the bytes are no sound image */
+    BLINK_CLOSED = 9,      /* the seat is closed */
+    BLINK_FEW_ROWS = 10,   /* there is room for fewer than BLINK_LEAF_ROWS rows */
+    BLINK_SEATS_OPEN = 11, /* a seat of the map is not among these, or was closed before,
+                              or somebody else has a share, which no proof excludes */
+    BLINK_FEW_BYTES = 12,  /* too few bytes of room for the image: nothing is closed */
+    BLINK_OTHER_MAP = 13,  /* the seats are of two maps: nothing was done */
+    BLINK_SEATS_LOST = 14  /* all seats are closed, and there is no image. Cannot happen
+                              as long as only seats own the map, which is not proved */
 };
 
-/* The most rows of one leaf, and so the least room that blink_try_rows takes. */
+/* The most rows of one leaf, and so the least room for rows that a call takes. */
 #define BLINK_LEAF_ROWS 14
 
 /* One thread's place at a map: a pointer that this library owns, or null. */
@@ -100,7 +121,7 @@ typedef struct blink_seat {
     void *at;
 } blink_seat;
 
-#define BLINK_SEAT_INIT { 0 }
+#define BLINK_SEAT_INIT { NULL }
 
 /* A key and its value. */
 typedef struct blink_row {
@@ -116,81 +137,211 @@ typedef struct blink_part {
     uint32_t near;  /* opaque; pass it back unchanged (any value is safe) */
 } blink_part;
 
-/* ---- The library's own functions. None waits: some may answer BLINK_AGAIN. ---- */
+/* ---- Opening and closing. ---- */
 
-/* Opens a map without rows, of so many pages, with a seat for each place. A page holds up
- * to 14 rows; some are kept for the tree and for changes underway. Answers BLINK_OK,
- * BLINK_BAD_PAGES, BLINK_BAD_SEATS or BLINK_NO_MEMORY. A place that was open is closed,
- * on BLINK_OK alone. */
+/* Opens a map without rows, of so many pages, with a seat for each of the `count` places.
+ * A page holds up to 14 rows, and some are kept for the tree and for changes underway:
+ * plan a page for each 6 rows. A place that was open is closed, on BLINK_OK alone, and
+ * what was underway at it is not ended: so close it first.
+ *   BLINK_OK          all places are open
+ *   BLINK_BAD_PAGES   `pages` is not 4 to 2^28
+ *   BLINK_BAD_SEATS   `count` is not 1 to 64
+ *   BLINK_NO_MEMORY   malloc refused; all places are as they were, here and below */
 int32_t blink_open(uint32_t pages, blink_seat *seats, size_t count);
 
-/* The same for a map that begins with the rows of an image, as `blink` writes it, with as
- * many pages. Also BLINK_BAD_IMAGE. */
+/* The same for a map that begins with the rows of an image, as `blink dump` and
+ * blink_close_image write it, with as many pages.
+ *   BLINK_OK          all places are open
+ *   BLINK_BAD_IMAGE   the bytes are no sound image
+ *   BLINK_BAD_SEATS   `count` is not 1 to 64
+ *   BLINK_NO_MEMORY   malloc refused */
 int32_t blink_open_image(const uint8_t *bytes, size_t length, blink_seat *seats,
                          size_t count);
 
-/* Closes a seat, and leaves it all zeros. A map goes with its last seat, and its rows
- * with it: for an image all seats are closed together, by blink_close_image. A closed
- * seat may be closed again. */
-void blink_close(blink_seat *seat);
+/* Closes a seat, and leaves it all zeros. What was underway at it is ended first, so a
+ * write that was told BLINK_AGAIN may take effect. A map goes with its last seat, and its
+ * rows with it: for an image all seats are closed together, by blink_close_image.
+ *   BLINK_OK          it is closed; it holds no page, and nothing is underway at it
+ *   BLINK_CLOSED      it was closed already */
+BLINK_INLINE int32_t blink_close(blink_seat *seat);
 
-/* BLINK_OK with the key's value, BLINK_ABSENT, BLINK_AGAIN, BLINK_CLOSED. */
-int32_t blink_try_find(blink_seat *seat, uint64_t key, uint64_t *value);
-
-/* Puts the value at the key, where the key has none: BLINK_OK, BLINK_PRESENT with the
- * value that is there, BLINK_NO_ROOM, BLINK_AGAIN, BLINK_CLOSED. Told BLINK_AGAIN, a
- * caller who does not make the same call again does not learn whether it takes effect. */
-int32_t blink_try_insert(blink_seat *seat, uint64_t key, uint64_t value, uint64_t *there);
-
-/* Takes the key away: BLINK_OK with its value, BLINK_ABSENT, BLINK_NO_ROOM, BLINK_AGAIN,
- * BLINK_CLOSED. */
-int32_t blink_try_delete(blink_seat *seat, uint64_t key, uint64_t *gone);
-
-/* Puts the new value at a key that has the old one: BLINK_OK, BLINK_PRESENT with another
- * value, BLINK_ABSENT, BLINK_NO_ROOM, BLINK_AGAIN, BLINK_CLOSED. */
-int32_t blink_try_change(blink_seat *seat, uint64_t key, uint64_t old_value,
-                         uint64_t new_value, uint64_t *there);
-
-/* The rows of one leaf from a key on, by rising keys, into the caller's array, which has
- * room for 14 at least, and how far they go: BLINK_OK, BLINK_AGAIN, BLINK_CLOSED,
- * BLINK_FEW_ROWS. A part may have no row and still go on. */
-int32_t blink_try_rows(blink_seat *seat, uint64_t from, blink_row *rows, size_t room,
-                       blink_part *part);
-
-/* Uses idle time: does at most so many pieces of upkeep, then reclaims what was replaced.
- * BLINK_OK: nothing is left to do; BLINK_AGAIN: something is; BLINK_CLOSED. */
-int32_t blink_tend(blink_seat *seat, uint32_t most);
-
-/* How many pieces of upkeep of this seat wait, 32 at most; and how many were dropped,
- * since 32 waited. Neither is an error: queued work is done by later calls; dropped work
- * costs speed, never answers. A closed seat has 0 of both. */
-uint32_t blink_waiting(blink_seat *seat);
-uint64_t blink_dropped(blink_seat *seat);
-
-/* The two seats meet: each then has seen all that the other had. BLINK_OK, BLINK_AGAIN,
- * BLINK_CLOSED. Both are of one map, and are two seats. */
-int32_t blink_try_meet(blink_seat *one, blink_seat *two);
-
-/* A place in the memory of the seat's map, by whose address two maps that are open are
- * told apart: it is not to be read. BLINK_OK, or BLINK_CLOSED, where `*place` stays as it
- * is. */
-int32_t blink_map(blink_seat *seat, const uint32_t **place);
-
-/* How many bytes the image of a map of so many pages has. */
+/* How many bytes the image of a map of so many pages has: 32 + 256 * pages. */
 uint64_t blink_image_length(uint32_t pages);
 
 /* Closes a map by all its seats, and writes its image, as `blink` and blink_open_image
- * read it, into the caller's array. BLINK_OK: all seats are closed, and `*length` bytes
- * are the image. Else all seats are open still: BLINK_AGAIN; BLINK_CLOSED, one of these
- * was closed before; BLINK_SEATS_OPEN, a seat of the map is not among them (so a map of
- * which blink_close has closed a seat has no image any more); BLINK_FEW_BYTES, `*length`
- * says how many are needed; BLINK_NO_MEMORY. Or BLINK_SEATS_LOST: all seats are closed,
- * and there is no image. This cannot happen as long as only seats own the map, which is
- * so today but not proved. */
+ * read it, into the caller's array, which has room for so many bytes. With every answer
+ * but BLINK_OK and BLINK_SEATS_LOST all seats are open as they were.
+ *   BLINK_OK          all seats are closed, and the first `*length` bytes are the image
+ *   BLINK_CLOSED      one of these seats was closed before
+ *   BLINK_OTHER_MAP   the seats are of two maps
+ *   BLINK_SEATS_OPEN  a seat of the map is not among these: so a map of which blink_close
+ *                     has closed a seat has no image any more; or somebody else has a
+ *                     share, which no proof excludes
+ *   BLINK_FEW_BYTES   `room` is too small: `*length` says how many bytes are needed
+ *   BLINK_NO_MEMORY   malloc refused
+ *   BLINK_SEATS_LOST  all seats are closed, and there is no image: cannot happen as long
+ *                     as only seats own the map, which is so today but not proved */
+BLINK_INLINE int32_t blink_close_image(blink_seat *seats, size_t count, uint8_t *bytes,
+                                       size_t room, uint64_t *length);
+
+/* ---- Keys. ---- */
+
+/* Looks a key up.
+ *   BLINK_OK          it is there, and `*value` is its value
+ *   BLINK_ABSENT      it is not there; `*value` is as it was
+ *   BLINK_CLOSED      the seat is closed */
+BLINK_INLINE int32_t blink_find(blink_seat *seat, uint64_t key, uint64_t *value);
+
+/* Puts the value at the key, where the key has none.
+ *   BLINK_OK          it is put; `*there` is as it was
+ *   BLINK_PRESENT     the key has the value `*there`, and keeps it
+ *   BLINK_NO_ROOM     no page or frame was free; nothing has changed
+ *   BLINK_CLOSED      the seat is closed */
+BLINK_INLINE int32_t blink_insert(blink_seat *seat, uint64_t key, uint64_t value,
+                                  uint64_t *there);
+
+/* Takes the key away.
+ *   BLINK_OK          it is gone, and `*gone` is the value that it had
+ *   BLINK_ABSENT      it was not there
+ *   BLINK_NO_ROOM     no frame was free; nothing has changed
+ *   BLINK_CLOSED      the seat is closed */
+BLINK_INLINE int32_t blink_delete(blink_seat *seat, uint64_t key, uint64_t *gone);
+
+/* Puts the new value at a key that has the old one.
+ *   BLINK_OK          it is put; `*there` is as it was
+ *   BLINK_PRESENT     the key has another value, `*there`, and keeps it
+ *   BLINK_ABSENT      the key is not there
+ *   BLINK_NO_ROOM     no frame was free; nothing has changed
+ *   BLINK_CLOSED      the seat is closed */
+BLINK_INLINE int32_t blink_change(blink_seat *seat, uint64_t key, uint64_t old_value,
+                                  uint64_t new_value, uint64_t *there);
+
+/* ---- Rows. ---- */
+
+/* Rows from a key on, by rising keys, as many leaves as surely fit into the array.
+ * `*count` is how many there are, `*next` the key to go on from where `*more` is true.
+ * Each leaf is answered as the map stood at one moment of the call; a scan is no
+ * snapshot. Look at the answer before `*more`, which stays true with BLINK_CLOSED.
+ *   BLINK_OK          the rows are written
+ *   BLINK_FEW_ROWS    `room` is less than 14
+ *   BLINK_CLOSED      the seat is closed */
+BLINK_INLINE int32_t blink_scan(blink_seat *seat, uint64_t from, blink_row *rows,
+                                size_t room, size_t *count, uint64_t *next, bool *more);
+
+/* The rows of one leaf from a key on, 14 at most, and how far they go. A part may have no
+ * row and still go on.
+ *   BLINK_OK          the rows are written
+ *   BLINK_FEW_ROWS    `room` is less than 14
+ *   BLINK_CLOSED      the seat is closed; `*part` is as it was */
+BLINK_INLINE int32_t blink_rows(blink_seat *seat, uint64_t from, blink_row *rows,
+                                size_t room, blink_part *part);
+
+/* ---- Upkeep. ---- */
+
+/* Uses idle time: does at most so many pieces of upkeep, then reclaims what was replaced.
+ * No program need call it: a seat does its upkeep before its next write.
+ *   BLINK_OK          nothing is left to do
+ *   BLINK_AGAIN       something is: more than `most` pieces, or others hold it up
+ *   BLINK_CLOSED      the seat is closed */
+BLINK_INLINE int32_t blink_upkeep(blink_seat *seat, uint32_t most);
+
+/* The same without a bound: does all that can be done now.
+ *   BLINK_OK          nothing is left to do
+ *   BLINK_AGAIN       something waits for others still
+ *   BLINK_CLOSED      the seat is closed */
+BLINK_INLINE int32_t blink_upkeep_all(blink_seat *seat);
+
+/* How many pieces of upkeep of this seat wait, 0 to 32. Later calls do them. A closed
+ * seat has 0. */
+uint32_t blink_waiting(blink_seat *seat);
+
+/* How many pieces were dropped since the seat was opened, since 32 waited. That is no
+ * error: it costs speed, never answers. A closed seat has 0. */
+uint64_t blink_dropped(blink_seat *seat);
+
+/* ---- Two seats. ---- */
+
+/* The two seats meet: each then has seen all that the other had. A seat that is to meet
+ * itself has done so.
+ *   BLINK_OK          they have met
+ *   BLINK_OTHER_MAP   they are of two maps
+ *   BLINK_CLOSED      one of them is closed */
+BLINK_INLINE int32_t blink_meet(blink_seat *one, blink_seat *two);
+
+/* A place in the memory of the seat's map, by whose address two maps that are open are
+ * told apart: it is not to be read.
+ *   BLINK_OK          `*place` is that place
+ *   BLINK_CLOSED      the seat is closed; `*place` is as it was */
+int32_t blink_map(blink_seat *seat, const uint32_t **place);
+
+/* ---- What this is. ---- */
+
+/* What a code means, as a text of a few words that is never freed; of any other number
+ * that it is no code of this library. */
+BLINK_INLINE const char *blink_text(int32_t code);
+
+/* The version of the library that is linked, as "0.1.0", which is never freed. That of
+ * the header is BLINK_VERSION. */
+const char *blink_version(void);
+
+/* ---- Calls that come back at once. ---- */
+
+/* What the functions above call. None of these waits, and no guard looks at their rules.
+ * Told BLINK_AGAIN, a page is latched by another thread, or others hold back what was
+ * replaced: let another thread run and make the same call again. A write that was told
+ * BLINK_AGAIN is underway; the next call of the seat, whatever it is, goes on with it
+ * first, so a caller who makes another call does not learn whether it takes effect. */
+
+/* Closes a seat, which settles first.
+ *   BLINK_OK          it is closed; it holds no page, and nothing is underway at it
+ *   BLINK_AGAIN       something is underway at it, and it is open still
+ *   BLINK_CLOSED      it was closed already */
+int32_t blink_try_close(blink_seat *seat);
+
+/* Looks a key up, as blink_find.
+ *   BLINK_OK, BLINK_ABSENT, BLINK_CLOSED  as there
+ *   BLINK_AGAIN       no answer yet: nothing of the search is left underway */
+int32_t blink_try_find(blink_seat *seat, uint64_t key, uint64_t *value);
+
+/* Puts a value, as blink_insert.
+ *   BLINK_OK, BLINK_PRESENT, BLINK_NO_ROOM, BLINK_CLOSED  as there
+ *   BLINK_AGAIN       no answer yet: it may take effect later */
+int32_t blink_try_insert(blink_seat *seat, uint64_t key, uint64_t value, uint64_t *there);
+
+/* Takes a key away, as blink_delete.
+ *   BLINK_OK, BLINK_ABSENT, BLINK_NO_ROOM, BLINK_CLOSED  as there
+ *   BLINK_AGAIN       no answer yet: it may take effect later */
+int32_t blink_try_delete(blink_seat *seat, uint64_t key, uint64_t *gone);
+
+/* Changes a value, as blink_change.
+ *   BLINK_OK, BLINK_PRESENT, BLINK_ABSENT, BLINK_NO_ROOM, BLINK_CLOSED  as there
+ *   BLINK_AGAIN       no answer yet: it may take effect later */
+int32_t blink_try_change(blink_seat *seat, uint64_t key, uint64_t old_value,
+                         uint64_t new_value, uint64_t *there);
+
+/* The rows of one leaf, as blink_rows.
+ *   BLINK_OK, BLINK_FEW_ROWS, BLINK_CLOSED  as there
+ *   BLINK_AGAIN       no answer yet: nothing is written */
+int32_t blink_try_rows(blink_seat *seat, uint64_t from, blink_row *rows, size_t room,
+                       blink_part *part);
+
+/* Upkeep, as blink_upkeep, which is this call behind the guard.
+ *   BLINK_OK, BLINK_AGAIN, BLINK_CLOSED  as there */
+int32_t blink_tend(blink_seat *seat, uint32_t most);
+
+/* Two seats meet, as by blink_meet. Both are of one map, and are two seats: rule 6.
+ *   BLINK_OK, BLINK_CLOSED  as there
+ *   BLINK_AGAIN       something is underway at one of them */
+int32_t blink_try_meet(blink_seat *one, blink_seat *two);
+
+/* Closes a map, as blink_close_image. All seats are of one map: rule 6.
+ *   BLINK_OK, BLINK_CLOSED, BLINK_SEATS_OPEN, BLINK_FEW_BYTES  as there
+ *   BLINK_NO_MEMORY, BLINK_SEATS_LOST  as there
+ *   BLINK_AGAIN       something is underway at one of them, and all are open still */
 int32_t blink_try_close_image(blink_seat *seats, size_t count, uint8_t *bytes,
                               size_t room, uint64_t *length);
 
-/* ---- Guards. ---- */
+/* ---- Guards: from here on nothing need be read. ---- */
 
 #ifdef BLINK_GUARD
 #define BLINK_IN_CALL ((void *)1)
@@ -200,78 +351,95 @@ static inline void blink_refuse_(const char *call, const char *why) {
     abort();
 }
 
-/* Takes the seat out of its place for the time of a call. */
-static inline blink_seat blink_enter_(blink_seat *seat, const char *call) {
-    blink_seat mine = BLINK_SEAT_INIT;
+/* Moves a seat, open or closed, out of its place for the time of a call: to `room`. */
+static inline blink_seat *blink_take_(blink_seat *seat, blink_seat *room,
+                                      const char *call) {
     if (!seat) blink_refuse_(call, "no seat");
-    mine.at = __atomic_exchange_n(&seat->at, BLINK_IN_CALL, __ATOMIC_SEQ_CST);
-    if (mine.at == BLINK_IN_CALL) blink_refuse_(call, "the seat is in another call");
-    if (!mine.at) blink_refuse_(call, "the seat is closed, or was never opened");
+    room->at = __atomic_exchange_n(&seat->at, BLINK_IN_CALL, __ATOMIC_SEQ_CST);
+    if (room->at == BLINK_IN_CALL) blink_refuse_(call, "the seat is in another call");
+    return room;
+}
+
+/* The same of a seat that has to be open. */
+static inline blink_seat *blink_enter_(blink_seat *seat, blink_seat *room,
+                                       const char *call) {
+    blink_seat *mine = blink_take_(seat, room, call);
+    if (!mine->at) blink_refuse_(call, "the seat is closed, or was never opened");
     return mine;
 }
 
-static inline void blink_leave_(blink_seat *seat, blink_seat mine) {
-    __atomic_store_n(&seat->at, mine.at, __ATOMIC_SEQ_CST);
+static inline void blink_leave_(blink_seat *seat, const blink_seat *mine) {
+    __atomic_store_n(&seat->at, mine->at, __ATOMIC_SEQ_CST);
 }
-
-#define BLINK_TAKE_(seat, mine, call) ((mine) = blink_enter_(seat, call))
-#define BLINK_GIVE_(seat, mine) blink_leave_(seat, mine)
-#define BLINK_LOOK_(seat, call) blink_leave_(seat, blink_enter_(seat, call))
-
-#define BLINK_CALL_(seat, call, answer, ...)                       \
-    do {                                                           \
-        blink_seat mine_ = blink_enter_(seat, #call);              \
-        (answer) = call(&mine_, __VA_ARGS__);                      \
-        blink_leave_(seat, mine_);                                 \
-    } while (0)
 #else
-#define BLINK_TAKE_(seat, mine, call) ((mine) = *(seat))
-#define BLINK_GIVE_(seat, mine) (*(seat) = (mine))
-#define BLINK_LOOK_(seat, call) ((void)(seat))
-#define BLINK_CALL_(seat, call, answer, ...) ((answer) = call(seat, __VA_ARGS__))
+#define blink_take_(seat, room, call) ((void)(room), (seat))
+#define blink_enter_(seat, room, call) ((void)(room), (seat))
+#define blink_leave_(seat, mine) ((void)(seat), (void)(mine))
 #endif
 
-/* ---- The same calls, made again until they are answered. Between two tries other
- * threads run. ---- */
+/* Makes a call of one seat, between the guards. */
+#define BLINK_CALL_(seat, call, answer, ...)                                            \
+    do {                                                                                \
+        blink_seat room_ = BLINK_SEAT_INIT;                                             \
+        blink_seat *mine_ = blink_enter_(seat, &room_, #call);                          \
+        (answer) = call(mine_, __VA_ARGS__);                                            \
+        blink_leave_(seat, mine_);                                                      \
+    } while (0)
 
-/* Makes the call until it is answered, and returns the answer. */
-#define BLINK_RETURN_ANSWER_(seat, call, ...)                      \
-    for (;;) {                                                     \
-        int32_t answer_;                                           \
-        BLINK_CALL_(seat, call, answer_, __VA_ARGS__);             \
-        if (answer_ != BLINK_AGAIN) return answer_;                \
-        BLINK_YIELD();                                             \
+/* Does what makes one try of a call and sets `answer_`, until there is an answer, and
+ * returns it. Between two tries other threads run. */
+#define BLINK_RETURN_ANSWER_(one_try)                                                   \
+    for (;;) {                                                                          \
+        int32_t answer_;                                                                \
+        one_try;                                                                        \
+        if (answer_ != BLINK_AGAIN) return answer_;                                     \
+        BLINK_YIELD();                                                                  \
     }
 
-static inline int32_t blink_find(blink_seat *seat, uint64_t key, uint64_t *value) {
-    BLINK_RETURN_ANSWER_(seat, blink_try_find, key, value)
+/* The same of a call of one seat. */
+#define BLINK_RETURN_CALL_(seat, call, ...)                                             \
+    BLINK_RETURN_ANSWER_(BLINK_CALL_(seat, call, answer_, __VA_ARGS__))
+
+/* ---- Bodies. ---- */
+
+/* A seat that is closed already passes the guard. */
+static inline int32_t blink_close_once_(blink_seat *seat) {
+    blink_seat room = BLINK_SEAT_INIT;
+    blink_seat *mine = blink_take_(seat, &room, "blink_close");
+    int32_t answer = blink_try_close(mine);
+    blink_leave_(seat, mine);
+    return answer;
 }
 
-static inline int32_t blink_insert(blink_seat *seat, uint64_t key, uint64_t value,
-                                   uint64_t *there) {
-    BLINK_RETURN_ANSWER_(seat, blink_try_insert, key, value, there)
+BLINK_INLINE int32_t blink_close(blink_seat *seat) {
+    BLINK_RETURN_ANSWER_(answer_ = blink_close_once_(seat))
 }
 
-static inline int32_t blink_delete(blink_seat *seat, uint64_t key, uint64_t *gone) {
-    BLINK_RETURN_ANSWER_(seat, blink_try_delete, key, gone)
+BLINK_INLINE int32_t blink_find(blink_seat *seat, uint64_t key, uint64_t *value) {
+    BLINK_RETURN_CALL_(seat, blink_try_find, key, value)
 }
 
-static inline int32_t blink_change(blink_seat *seat, uint64_t key, uint64_t old_value,
-                                   uint64_t new_value, uint64_t *there) {
-    BLINK_RETURN_ANSWER_(seat, blink_try_change, key, old_value, new_value, there)
+BLINK_INLINE int32_t blink_insert(blink_seat *seat, uint64_t key, uint64_t value,
+                                  uint64_t *there) {
+    BLINK_RETURN_CALL_(seat, blink_try_insert, key, value, there)
 }
 
-static inline int32_t blink_rows(blink_seat *seat, uint64_t from, blink_row *rows,
-                                 size_t room, blink_part *part) {
-    BLINK_RETURN_ANSWER_(seat, blink_try_rows, from, rows, room, part)
+BLINK_INLINE int32_t blink_delete(blink_seat *seat, uint64_t key, uint64_t *gone) {
+    BLINK_RETURN_CALL_(seat, blink_try_delete, key, gone)
 }
 
-/* Rows from a key on, as many leaves as surely fit: room is 14 at least. `*count` is how
- * many there are, `*next` the key to go on from where `*more` is true. Each leaf is
- * answered as the map stood at one moment of the call. BLINK_OK; BLINK_FEW_ROWS, room is
- * less; BLINK_CLOSED. */
-static inline int32_t blink_scan(blink_seat *seat, uint64_t from, blink_row *rows,
-                                 size_t room, size_t *count, uint64_t *next, bool *more) {
+BLINK_INLINE int32_t blink_change(blink_seat *seat, uint64_t key, uint64_t old_value,
+                                  uint64_t new_value, uint64_t *there) {
+    BLINK_RETURN_CALL_(seat, blink_try_change, key, old_value, new_value, there)
+}
+
+BLINK_INLINE int32_t blink_rows(blink_seat *seat, uint64_t from, blink_row *rows,
+                                size_t room, blink_part *part) {
+    BLINK_RETURN_CALL_(seat, blink_try_rows, from, rows, room, part)
+}
+
+BLINK_INLINE int32_t blink_scan(blink_seat *seat, uint64_t from, blink_row *rows,
+                                size_t room, size_t *count, uint64_t *next, bool *more) {
     blink_part part = { 0, 0, true, 0 };
     *count = 0;
     *next = from;
@@ -287,70 +455,74 @@ static inline int32_t blink_scan(blink_seat *seat, uint64_t from, blink_row *row
     return BLINK_OK;
 }
 
-/* Whether the seats are of one map: BLINK_OK, BLINK_OTHER_MAP, BLINK_CLOSED. */
-static inline int32_t blink_one_map_(blink_seat *seats, size_t count) {
-    const uint32_t *first = NULL, *place = NULL;
+BLINK_INLINE int32_t blink_upkeep(blink_seat *seat, uint32_t most) {
+    int32_t answer;
+    BLINK_CALL_(seat, blink_tend, answer, most);
+    return answer;
+}
+
+BLINK_INLINE int32_t blink_upkeep_all(blink_seat *seat) {
+    int32_t answer = BLINK_AGAIN;
+    int round;
+    /* Not for ever: what others hold up does not get done by asking. */
+    for (round = 0; round < 1024 && answer == BLINK_AGAIN; round++) {
+        if (round > 0) BLINK_YIELD();
+        answer = blink_upkeep(seat, 64);
+    }
+    return answer;
+}
+
+/* Whether two seats are of one map: BLINK_OK, BLINK_OTHER_MAP, BLINK_CLOSED. */
+static inline int32_t blink_same_map_(blink_seat *one, blink_seat *two) {
+    const uint32_t *place = NULL, *other = NULL;
+    int32_t answer = blink_map(one, &place);
+    if (answer == BLINK_OK) answer = blink_map(two, &other);
+    return answer == BLINK_OK && place != other ? BLINK_OTHER_MAP : answer;
+}
+
+static inline int32_t blink_meet_once_(blink_seat *one, blink_seat *two) {
+    blink_seat rooms[2] = { BLINK_SEAT_INIT, BLINK_SEAT_INIT };
+    blink_seat *mine = blink_enter_(one, &rooms[0], "blink_meet");
+    blink_seat *theirs = blink_enter_(two, &rooms[1], "blink_meet");
+    int32_t answer = blink_same_map_(mine, theirs);
+    if (answer == BLINK_OK) answer = blink_try_meet(mine, theirs);
+    blink_leave_(one, mine);
+    blink_leave_(two, theirs);
+    return answer;
+}
+
+BLINK_INLINE int32_t blink_meet(blink_seat *one, blink_seat *two) {
+    const uint32_t *place = NULL;
+    if (one == two) {
+        int32_t answer;
+        BLINK_CALL_(one, blink_map, answer, &place);
+        return answer;
+    }
+    BLINK_RETURN_ANSWER_(answer_ = blink_meet_once_(one, two))
+}
+
+static inline int32_t blink_close_image_once_(blink_seat *seats, size_t count,
+                                              uint8_t *bytes, size_t room,
+                                              uint64_t *length) {
     size_t i;
     for (i = 0; i < count; i++) {
-        int32_t answer = blink_map(&seats[i], &place);
+        /* The call takes the array, so the guard looks at a seat, and leaves it there. */
+        blink_seat kept = BLINK_SEAT_INIT;
+        int32_t answer;
+        blink_leave_(&seats[i], blink_enter_(&seats[i], &kept, "blink_close_image"));
+        answer = blink_same_map_(&seats[0], &seats[i]);
         if (answer != BLINK_OK) return answer;
-        if (i > 0 && place != first) return BLINK_OTHER_MAP;
-        first = place;
     }
-    return BLINK_OK;
+    return blink_try_close_image(seats, count, bytes, room, length);
 }
 
-/* The seats meet. Also BLINK_OTHER_MAP. A seat that is to meet itself has done so. */
-static inline int32_t blink_meet(blink_seat *one, blink_seat *two) {
-    if (one == two) {
-        BLINK_LOOK_(one, "blink_meet");
-        return blink_one_map_(one, 1);
-    }
-    for (;;) {
-        int32_t answer;
-        blink_seat both[2];
-        BLINK_TAKE_(one, both[0], "blink_meet");
-        BLINK_TAKE_(two, both[1], "blink_meet");
-        answer = blink_one_map_(both, 2);
-        if (answer == BLINK_OK) answer = blink_try_meet(&both[0], &both[1]);
-        BLINK_GIVE_(one, both[0]);
-        BLINK_GIVE_(two, both[1]);
-        if (answer != BLINK_AGAIN) return answer;
-        BLINK_YIELD();
-    }
+BLINK_INLINE int32_t blink_close_image(blink_seat *seats, size_t count, uint8_t *bytes,
+                                       size_t room, uint64_t *length) {
+    BLINK_RETURN_ANSWER_(
+        answer_ = blink_close_image_once_(seats, count, bytes, room, length))
 }
 
-/* Closes a map by all its seats, and writes its image. Also BLINK_OTHER_MAP. */
-static inline int32_t blink_close_image(blink_seat *seats, size_t count, uint8_t *bytes,
-                                        size_t room, uint64_t *length) {
-    for (;;) {
-        int32_t answer;
-        size_t i;
-        for (i = 0; i < count; i++) BLINK_LOOK_(&seats[i], "blink_close_image");
-        answer = blink_one_map_(seats, count);
-        if (answer == BLINK_OK) {
-            answer = blink_try_close_image(seats, count, bytes, room, length);
-        }
-        if (answer != BLINK_AGAIN) return answer;
-        BLINK_YIELD();
-    }
-}
-
-/* Does all upkeep that this seat can do now. BLINK_OK: nothing is left to do;
- * BLINK_AGAIN: something waits for others; BLINK_CLOSED. */
-static inline int32_t blink_rest(blink_seat *seat) {
-    int32_t answer;
-    int round;
-    for (round = 0; round < 1024; round++) {
-        BLINK_CALL_(seat, blink_tend, answer, 64);
-        if (answer != BLINK_AGAIN) return answer;
-        BLINK_YIELD();
-    }
-    return BLINK_AGAIN;
-}
-
-/* What a code means, as a text. */
-static inline const char *blink_text(int32_t code) {
+BLINK_INLINE const char *blink_text(int32_t code) {
     switch (code) {
         case BLINK_OK: return "done";
         case BLINK_ABSENT: return "the key is not there";

@@ -1,38 +1,73 @@
-/* What becomes of a map when seats are closed in the middle of things: closing finish, closing leave. Seven threads write the same keys, and each
- * closes its seat once it was told BLINK_AGAIN; with `finish` it makes the same call again before. Then the seat that is left makes 2,000 changes.
- * With `finish` each is done. With `leave` nothing is damaged, as blink.h says of a call that is given up, but what others replace may be held back: each
- * call has an answer, of which it says how many were BLINK_NO_ROOM or still BLINK_AGAIN after 100 calls. */
+/* What becomes of a map when seats are closed in the middle of things: closing finish|leave|others [ROUNDS]. Seven threads write the same
+ * keys, and each goes once it was told BLINK_AGAIN: with `finish` it makes the same call again before, and closes its seat; with `leave` it
+ * closes its seat at once; with `others` it ends, and another thread closes its seat, as that of a thread that has died. Then the seat
+ * that is left makes 2,000 changes, and each has to be done.
+ *
+ * closing orders: the seats of a map with rows, and with upkeep that waits, are closed in each order, some by a map that is opened in their
+ * places, some by an image, some twice. Under valgrind it shows whether anything is lost. */
 #include "blink.h"
 
 #include <pthread.h>
 #include <stdio.h>
+#include <stdlib.h>
 #include <string.h>
 
-enum { SEATS = 8, PAGES = 64, ROUNDS = 10, CHANGES = 2000 };
+enum { SEATS = 8, PAGES = 64, CHANGES = 2000, IN_ORDER = 4, ROWS = 200 };
+enum way { FINISH, LEAVE, OTHERS };
+
+typedef struct writer {
+    blink_seat *seat;
+    bool has_ended; /* set by the thread, read by the main thread */
+} writer;
 
 static blink_seat seats[SEATS];
-static int finishes, told_again;
+static enum way way;
+static int told_again, orders;
+
+static void need(int32_t answer, int32_t wanted, const char *what) {
+    if (answer == wanted) return;
+    fprintf(stderr, "closing: %s: %s, in place of %s\n", what, blink_text(answer), blink_text(wanted));
+    exit(1);
+}
 
 static int32_t write_key(blink_seat *seat, int round) {
     uint64_t value, key = (uint64_t)(round % 3);
     return round % 2 ? blink_try_insert(seat, key, 1, &value) : blink_try_delete(seat, key, &value);
 }
 
+/* Writes until it was told BLINK_AGAIN, and then goes. */
 static void *work(void *place) {
-    blink_seat *seat = place;
+    writer *me = place;
     int round;
     for (round = 0; round < 200000; round++) {
-        if (write_key(seat, round) != BLINK_AGAIN) continue;
+        if (write_key(me->seat, round) != BLINK_AGAIN) continue;
         __atomic_add_fetch(&told_again, 1, __ATOMIC_SEQ_CST);
-        while (finishes && write_key(seat, round) == BLINK_AGAIN) BLINK_YIELD();
+        while (way == FINISH && write_key(me->seat, round) == BLINK_AGAIN) BLINK_YIELD();
         break;
     }
-    blink_close(seat);
+    if (way != OTHERS) need(blink_close(me->seat), BLINK_OK, "close");
+    __atomic_store_n(&me->has_ended, true, __ATOMIC_SEQ_CST);
     return NULL;
 }
 
-/* One seat alone inserts and deletes a key. Counts what it was answered. */
-static void change(uint64_t *done, uint64_t *no_room, uint64_t *again) {
+/* Joins the threads in the order in which they end, and closes what they have left: until then it may hold the others up. */
+static void join_all(writer *writers, pthread_t *threads) {
+    bool is_joined[SEATS] = {false};
+    int left = SEATS - 1, i;
+    while (left > 0) {
+        for (i = 1; i < SEATS; i++) {
+            if (is_joined[i] || !__atomic_load_n(&writers[i].has_ended, __ATOMIC_SEQ_CST)) continue;
+            pthread_join(threads[i], NULL);
+            need(blink_close(&seats[i]), way == OTHERS ? BLINK_OK : BLINK_CLOSED, "close of a seat whose thread has ended");
+            is_joined[i] = true;
+            left--;
+        }
+        BLINK_YIELD();
+    }
+}
+
+/* One seat alone inserts and deletes a key. Nobody is there who could hold it up. */
+static void change(void) {
     uint64_t value;
     int round, tries;
     for (round = 0; round < CHANGES; round++) {
@@ -40,28 +75,95 @@ static void change(uint64_t *done, uint64_t *no_room, uint64_t *again) {
         for (tries = 0; answer == BLINK_AGAIN && tries < 100; tries++) {
             answer = round % 2 ? blink_try_delete(&seats[0], 77, &value) : blink_try_insert(&seats[0], 77, 7, &value);
         }
-        if (answer == BLINK_NO_ROOM) ++*no_room;
-        else if (answer == BLINK_AGAIN) ++*again;
-        else ++*done;
+        need(answer, BLINK_OK, "a change by the seat that is left");
     }
 }
 
-int main(int count, char **words) {
-    uint64_t done = 0, no_room = 0, again = 0;
+static void run_threads(int rounds) {
+    writer writers[SEATS];
     pthread_t threads[SEATS];
     int round, i;
-    finishes = count > 1 && !strcmp(words[1], "finish");
-    for (round = 0; round < ROUNDS; round++) {
-        if (blink_open(PAGES, seats, SEATS) != BLINK_OK) return 2;
+    for (round = 0; round < rounds; round++) {
+        need(blink_open(PAGES, seats, SEATS), BLINK_OK, "open");
         for (i = 1; i < SEATS; i++) {
-            if (pthread_create(&threads[i], NULL, work, &seats[i])) return 2;
+            writers[i].seat = &seats[i];
+            writers[i].has_ended = false;
+            if (pthread_create(&threads[i], NULL, work, &writers[i])) exit(2);
         }
-        for (i = 1; i < SEATS; i++) pthread_join(threads[i], NULL);
-        change(&done, &no_room, &again);
-        blink_close(&seats[0]);
+        join_all(writers, threads);
+        change();
+        need(blink_close(&seats[0]), BLINK_OK, "close of the last seat");
     }
-    printf("%d seats closed after BLINK_AGAIN; then %llu changes done, %llu without room, %llu not answered\n", told_again,
-           (unsigned long long)done, (unsigned long long)no_room, (unsigned long long)again);
-    if (done + no_room + again != (uint64_t)ROUNDS * CHANGES) return 1;
-    return finishes && (no_room || again);
+    printf("%d seats closed after BLINK_AGAIN; then %d changes, all done\n", told_again, rounds * CHANGES);
+}
+
+/* A map of four seats, each of which has inserted rows and deleted most of them. */
+static void fill(void) {
+    uint64_t key, value;
+    need(blink_open(PAGES, seats, IN_ORDER), BLINK_OK, "open");
+    for (key = 0; key < ROWS; key++) need(blink_insert(&seats[key % IN_ORDER], key, key, &value), BLINK_OK, "insert");
+    for (key = 0; key < ROWS; key++) {
+        if (key % 5) need(blink_delete(&seats[key * 7 % IN_ORDER], key, &value), BLINK_OK, "delete");
+    }
+}
+
+/* Closes the seats in an order, one of them by a map that is opened in its place. Once one is closed there is no image any more. */
+static void close_in(const int *order, int opened_over) {
+    static uint8_t bytes[32 + 256 * PAGES];
+    uint64_t length, value;
+    int i;
+    fill();
+    for (i = 0; i < IN_ORDER; i++) {
+        blink_seat *seat = &seats[order[i]];
+        if (i > 0) need(blink_close_image(seats, IN_ORDER, bytes, sizeof bytes, &length), BLINK_CLOSED, "image of a map with a closed seat");
+        if (i == opened_over) {
+            need(blink_open(4, seat, 1), BLINK_OK, "open over a seat");
+            need(blink_find(seat, 0, &value), BLINK_ABSENT, "find in the new map");
+        }
+        need(blink_close(seat), BLINK_OK, "close");
+        need(blink_close(seat), BLINK_CLOSED, "close again");
+    }
+    orders++;
+}
+
+/* All orders of the seats from one place on. */
+static void close_in_orders(int *order, int from) {
+    int i, swapped;
+    for (i = from; i < IN_ORDER; i++) {
+        swapped = order[from], order[from] = order[i], order[i] = swapped;
+        close_in_orders(order, from + 1);
+        swapped = order[from], order[from] = order[i], order[i] = swapped;
+    }
+    if (from < IN_ORDER) return;
+    for (i = -1; i < IN_ORDER; i++) close_in(order, i);
+}
+
+/* A map that is closed to its image, and one that is opened from that over open seats. */
+static void close_by_image(void) {
+    static uint8_t bytes[32 + 256 * PAGES];
+    uint64_t length, value;
+    int i;
+    fill();
+    need(blink_close_image(seats, IN_ORDER, bytes, sizeof bytes, &length), BLINK_OK, "image");
+    need(blink_open(4, seats, IN_ORDER), BLINK_OK, "open");
+    need(blink_open_image(bytes, (size_t)length, seats, IN_ORDER), BLINK_OK, "open an image over open seats");
+    need(blink_find(&seats[1], 5, &value), BLINK_OK, "find");
+    need(blink_open_image(bytes, (size_t)length - 1, seats, IN_ORDER), BLINK_BAD_IMAGE, "open an image that is cut");
+    for (i = 0; i < IN_ORDER; i++) need(blink_close(&seats[i]), BLINK_OK, "close");
+}
+
+int main(int count, char **words) {
+    static const char *const ways[] = {"finish", "leave", "others"};
+    int order[IN_ORDER] = {0, 1, 2, 3};
+    if (count < 2) return 2;
+    for (way = FINISH; way <= OTHERS; way++) {
+        if (strcmp(words[1], ways[way])) continue;
+        run_threads(count > 2 ? atoi(words[2]) : 10);
+        return 0;
+    }
+    if (strcmp(words[1], "orders")) return 2;
+    close_in_orders(order, 0);
+    close_by_image();
+    printf("%d closes of four seats in all orders\n", orders);
+    return 0;
 }

@@ -1,8 +1,12 @@
-/* Writes down calls of a map through blink.h, as `record_calls` does for the library in Rattle, for the checker of checks/linearizable:
- * record PAGES THREADS KEYS CALLS ROUNDS SEED. In each round so many threads make so many calls each, on few keys: searches, insertions, deletions,
- * changes, and scans of some keys side by side, which tell of each key that they pass. Then all threads are joined, and a line is printed for
- * each call: the thread, the nanoseconds right before the call and right behind it, the key, what was asked, and what was answered; and
- * behind them the line `round`. */
+/* Writes down calls of maps through blink.h, as `record_calls` does for the library in Rattle, for the checker of checks/linearizable:
+ * record SECONDS PAGES THREADS KEYS CALLS SEED OFTEN. One map after the other is opened, for so many seconds, and one at least. In each of the
+ * three rounds of a map so many threads make so many calls each, on few keys: searches, insertions, deletions, changes, and scans of some
+ * keys side by side, which tell of each key that they pass. One in OFTEN answers BLINK_AGAIN lets a thread give its call up and make
+ * another one, which settles the first; with 0 nothing is given up. Behind a round the map is closed to its image, and opened anew from that; but in the third one
+ * each thread other than the first gives a write up half-way and goes, and its seat is closed by itself, or by the main thread. The
+ * next map has other keys. A line is printed for each call: the thread, the nanoseconds right before the call and right behind it,
+ * the key, what was asked, and what was answered; and behind each round the line `round`. What was given up has a thread of its own,
+ * and is answered Unknown. At the end it says on standard error how often what has happened. */
 #include "blink.h"
 
 #include <inttypes.h>
@@ -11,23 +15,34 @@
 #include <stdlib.h>
 #include <time.h>
 
-enum { MOST = 64, SPAN = 24 };
+enum { MOST = 64, SPAN = 24, ROUNDS = 3, UNKNOWN = -1 };
+enum asked { FIND, INSERT, DELETE, CHANGE };
 
 typedef struct call {
     uint64_t begin, end, key, old_value, new_value, value;
-    int asked; /* 0 find, 1 insert, 2 delete, 3 change */
+    enum asked asked;
     int32_t answer;
 } call;
 
 typedef struct worker {
-    blink_seat seat;
-    uint64_t drawn, stamp, key, value;
+    blink_seat *seat;
+    uint64_t drawn, stamp, key, value, given_up;
     call *calls;
     size_t count;
+    call *pending; /* one that was given up, and is not settled */
+    bool has_ended; /* set by the thread, read by the main thread */
 } worker;
 
 static worker workers[MOST];
-static uint64_t keys, calls_each;
+static blink_seat seats[MOST];
+static uint64_t first_key, keys, calls_each, often, maps, closed_midway;
+static uint32_t pages;
+static int threads, round_of_map;
+
+static void fail(const char *what, int32_t answer) {
+    fprintf(stderr, "record: %s: %s\n", what, blink_text(answer));
+    exit(1);
+}
 
 static uint64_t now(void) {
     struct timespec time;
@@ -42,19 +57,27 @@ static uint64_t draw(worker *me, uint64_t limit) {
     return (me->drawn * 0x2545F4914F6CDD1Du >> 33) % limit;
 }
 
+/* What was given up is settled now. */
+static void settle(worker *me) {
+    if (me->pending) me->pending->end = now();
+    me->pending = NULL;
+}
+
 static void list(worker *me, uint64_t first) {
     blink_row rows[SPAN * 2 + BLINK_LEAF_ROWS];
     size_t count = 0, at = 0;
     uint64_t next = 0, begin = now(), end, last = first + draw(me, SPAN);
     bool more = false;
-    if (blink_scan(&me->seat, first, rows, SPAN * 2 + BLINK_LEAF_ROWS, &count, &next, &more) != BLINK_OK) abort();
+    int32_t answer = blink_scan(me->seat, first, rows, SPAN * 2 + BLINK_LEAF_ROWS, &count, &next, &more);
+    if (answer != BLINK_OK) fail("scan", answer);
     end = now();
+    settle(me);
     if (more && next <= last) last = next - 1;
-    if (last >= keys) last = keys - 1;
+    if (last >= first_key + keys) last = first_key + keys - 1;
     for (uint64_t key = first; key <= last; key++) {
         call *it = &me->calls[me->count++];
         while (at < count && rows[at].key < key) at++;
-        *it = (call){begin, end, key, 0, 0, 0, 0, BLINK_ABSENT};
+        *it = (call){begin, end, key, 0, 0, 0, FIND, BLINK_ABSENT};
         if (at < count && rows[at].key == key) {
             it->answer = BLINK_OK;
             it->value = rows[at].value;
@@ -62,75 +85,175 @@ static void list(worker *me, uint64_t first) {
     }
 }
 
+static int32_t try_call(worker *me, call *it) {
+    switch (it->asked) {
+        case FIND: return blink_try_find(me->seat, it->key, &it->value);
+        case INSERT: return blink_try_insert(me->seat, it->key, it->new_value, &it->value);
+        case DELETE: return blink_try_delete(me->seat, it->key, &it->value);
+        default: return blink_try_change(me->seat, it->key, it->old_value, it->new_value, &it->value);
+    }
+}
+
+/* Whether this thread is to go, in the last round of its map. */
+static bool is_to_go(const worker *me) {
+    return round_of_map == ROUNDS - 1 && me != workers && me->count > calls_each / 2;
+}
+
+/* Whether a call that was told BLINK_AGAIN is given up. One at a time, so that a thread ends behind a call that settles it. */
+static bool gives_up(worker *me, const call *it) {
+    if (often == 0 || me->pending || me->count >= calls_each) return false;
+    return (it->asked != FIND && is_to_go(me)) || draw(me, often) == 0;
+}
+
+/* Makes a call until it is answered or given up. */
+static void make(worker *me, call *it) {
+    it->begin = now();
+    while ((it->answer = try_call(me, it)) == BLINK_AGAIN) {
+        if (gives_up(me, it)) {
+            it->answer = UNKNOWN;
+            me->given_up++;
+            /* A search leaves nothing behind, and has nothing to tell. */
+            if (it->asked == FIND) me->count--;
+            else me->pending = it;
+            return;
+        }
+        BLINK_YIELD();
+    }
+    it->end = now();
+    settle(me);
+    if (it->answer == BLINK_PRESENT || (it->asked == FIND && it->answer == BLINK_OK)) {
+        me->key = it->key;
+        me->value = it->value;
+    }
+}
+
 static void *work(void *place) {
     worker *me = place;
     me->count = 0;
-    while (me->count < calls_each) {
-        uint64_t key = draw(me, keys), drawn = draw(me, 100);
+    while (me->count < calls_each && !(me->pending && is_to_go(me))) {
+        uint64_t key = first_key + draw(me, keys), drawn = draw(me, 100);
         if (drawn < 6) {
             list(me, key);
             continue;
         }
         call *it = &me->calls[me->count++];
-        *it = (call){0, 0, key, 0, ++me->stamp, 0, drawn < 40 ? 0 : drawn < 70 ? 1 : drawn < 95 ? 2 : 3, 0};
-        if (it->asked == 3) {
-            it->key = key = me->key;
+        *it = (call){0, 0, key, 0, ++me->stamp, 0, drawn < 40 ? FIND : drawn < 70 ? INSERT : drawn < 95 ? DELETE : CHANGE, 0};
+        if (it->asked == CHANGE && me->key >= first_key) {
+            it->key = me->key;
             it->old_value = me->value;
         }
-        it->begin = now();
-        if (it->asked == 0) it->answer = blink_find(&me->seat, key, &it->value);
-        if (it->asked == 1) it->answer = blink_insert(&me->seat, key, it->new_value, &it->value);
-        if (it->asked == 2) it->answer = blink_delete(&me->seat, key, &it->value);
-        if (it->asked == 3) it->answer = blink_change(&me->seat, key, it->old_value, it->new_value, &it->value);
-        it->end = now();
-        if (it->answer == BLINK_PRESENT || (it->asked == 0 && it->answer == BLINK_OK)) {
-            me->key = key;
-            me->value = it->value;
-        }
+        make(me, it);
     }
+    if (me->pending && draw(me, 2)) {
+        int32_t answer = blink_close(me->seat);
+        if (answer != BLINK_OK) fail("close", answer);
+        settle(me);
+    }
+    __atomic_store_n(&me->has_ended, true, __ATOMIC_SEQ_CST);
     return NULL;
 }
 
+/* Joins a thread that has ended. Where it has left a call, its seat is closed; only the last round of a map ends so. */
+static void end(worker *me, pthread_t id) {
+    pthread_join(id, NULL);
+    if (me->pending) {
+        int32_t answer = blink_close(me->seat);
+        if (answer != BLINK_OK) fail("close of a thread that has ended", answer);
+        settle(me);
+    }
+    if (!me->seat->at) closed_midway++;
+}
+
+static void run_round(void) {
+    pthread_t ids[MOST];
+    bool is_joined[MOST] = {false};
+    for (int t = 0; t < threads; t++) {
+        workers[t].has_ended = false;
+        if (pthread_create(&ids[t], NULL, work, &workers[t])) exit(2);
+    }
+    /* In whatever order they end, since one that has left a call holds others up until its seat is closed. */
+    for (int left = threads; left > 0;) {
+        for (int t = 0; t < threads; t++) {
+            if (is_joined[t] || !__atomic_load_n(&workers[t].has_ended, __ATOMIC_SEQ_CST)) continue;
+            end(&workers[t], ids[t]);
+            is_joined[t] = true;
+            left--;
+        }
+        nanosleep(&(struct timespec){0, 200000}, NULL);
+    }
+}
+
 static void print(int thread, const call *it) {
-    printf("%d %" PRIu64 " %" PRIu64 " %" PRIu64 " ", thread, it->begin, it->end, it->key);
-    if (it->asked == 0) printf("Find ");
-    if (it->asked == 1) printf("Insert(%" PRIu64 ") ", it->new_value);
-    if (it->asked == 2) printf("Delete ");
-    if (it->asked == 3) printf("Change(%" PRIu64 ", %" PRIu64 ") ", it->old_value, it->new_value);
-    if (it->answer == BLINK_ABSENT) printf("Absent\n");
+    static const char *const done[] = {"Found", "Inserted", "Deleted", "Changed"};
+    printf("%d %" PRIu64 " %" PRIu64 " %" PRIu64 " ", it->answer == UNKNOWN ? MOST + thread : thread, it->begin, it->end, it->key);
+    if (it->asked == FIND) printf("Find ");
+    if (it->asked == INSERT) printf("Insert(%" PRIu64 ") ", it->new_value);
+    if (it->asked == DELETE) printf("Delete ");
+    if (it->asked == CHANGE) printf("Change(%" PRIu64 ", %" PRIu64 ") ", it->old_value, it->new_value);
+    if (it->answer == UNKNOWN) printf("Unknown\n");
+    else if (it->answer == BLINK_ABSENT) printf("Absent\n");
     else if (it->answer == BLINK_NO_ROOM) printf("NoRoom\n");
-    else if (it->answer == BLINK_PRESENT) printf("%s(%" PRIu64 ")\n", it->asked == 1 ? "Present" : "Differs", it->value);
-    else if (it->asked == 0) printf("Found(%" PRIu64 ")\n", it->value);
-    else if (it->asked == 1) printf("Inserted\n");
-    else if (it->asked == 2) printf("Deleted(%" PRIu64 ")\n", it->value);
-    else printf("Changed\n");
+    else if (it->answer == BLINK_PRESENT) printf("%s(%" PRIu64 ")\n", it->asked == INSERT ? "Present" : "Differs", it->value);
+    else if (it->answer != BLINK_OK) fail("a call", it->answer);
+    else if (it->asked == FIND || it->asked == DELETE) printf("%s(%" PRIu64 ")\n", done[it->asked], it->value);
+    else printf("%s\n", done[it->asked]);
+}
+
+static void print_round(void) {
+    for (int t = 0; t < threads; t++)
+        for (size_t i = 0; i < workers[t].count; i++) print(t, &workers[t].calls[i]);
+    printf("round\n");
+}
+
+/* Closes the map to its image, and opens it anew from that. */
+static void open_anew(uint8_t *bytes) {
+    uint64_t length = blink_image_length(pages);
+    int32_t answer = blink_close_image(seats, (size_t)threads, bytes, (size_t)length, &length);
+    if (answer == BLINK_OK) answer = blink_open_image(bytes, (size_t)length, seats, (size_t)threads);
+    if (answer != BLINK_OK) fail("close and open", answer);
+}
+
+static void run_map(uint8_t *bytes) {
+    int32_t answer = blink_open(pages, seats, (size_t)threads);
+    if (answer != BLINK_OK) fail("open", answer);
+    for (round_of_map = 0; round_of_map < ROUNDS; round_of_map++) {
+        run_round();
+        print_round();
+        if (round_of_map + 1 < ROUNDS) open_anew(bytes);
+    }
+    for (int t = 0; t < threads; t++) {
+        answer = blink_close(&seats[t]);
+        if (answer != BLINK_OK && answer != BLINK_CLOSED) fail("close", answer);
+    }
+    first_key += keys;
+    maps++;
 }
 
 int main(int count, char **words) {
-    static blink_seat seats[MOST];
-    pthread_t ids[MOST];
-    if (count < 7) return 2;
-    uint32_t pages = (uint32_t)strtoul(words[1], NULL, 10);
-    int threads = atoi(words[2]), rounds = atoi(words[5]);
-    keys = strtoull(words[3], NULL, 10);
-    calls_each = strtoull(words[4], NULL, 10);
-    if (threads > MOST || blink_open(pages, seats, (size_t)threads) != BLINK_OK) return 1;
+    uint64_t given_up = 0, until = now();
+    if (count < 8) return 2;
+    until += strtoull(words[1], NULL, 10) * 1000000000u;
+    pages = (uint32_t)strtoul(words[2], NULL, 10);
+    threads = atoi(words[3]);
+    keys = strtoull(words[4], NULL, 10);
+    calls_each = strtoull(words[5], NULL, 10);
+    often = strtoull(words[7], NULL, 10);
+    uint8_t *bytes = malloc((size_t)blink_image_length(pages));
+    if (!bytes || threads < 1 || threads > MOST) return 2;
     for (int t = 0; t < threads; t++) {
-        workers[t].seat = seats[t];
+        workers[t].seat = &seats[t];
         workers[t].drawn = (strtoull(words[6], NULL, 10) + 1) * 0x9E3779B97F4A7C15u + (uint64_t)t * 7919;
         workers[t].stamp = (uint64_t)t << 40;
         workers[t].calls = malloc((calls_each + SPAN) * sizeof(call));
+        if (!workers[t].calls) return 2;
     }
-    for (int round = 0; round < rounds; round++) {
-        for (int t = 0; t < threads; t++) pthread_create(&ids[t], NULL, work, &workers[t]);
-        for (int t = 0; t < threads; t++) pthread_join(ids[t], NULL);
-        for (int t = 0; t < threads; t++)
-            for (size_t i = 0; i < workers[t].count; i++) print(t, &workers[t].calls[i]);
-        printf("round\n");
-    }
+    do run_map(bytes);
+    while (now() < until);
     for (int t = 0; t < threads; t++) {
-        blink_close(&workers[t].seat);
+        given_up += workers[t].given_up;
         free(workers[t].calls);
     }
+    free(bytes);
+    fprintf(stderr, "%" PRIu64 " maps, %" PRIu64 " calls given up, %" PRIu64 " seats closed midway\n", maps, given_up, closed_midway);
     return 0;
 }

@@ -35,7 +35,8 @@ int main(int count, char **words) {
     if (count < 2 || blink_open(64, &seat, 1) != BLINK_OK || blink_insert(&seat, 1, 2, &value) != BLINK_OK) return 2;
     if (!strcmp(words[1], "none")) {
         int32_t answer = blink_find(&seat, 1, &value);
-        blink_close(&seat);
+        /* A seat that is closed may be closed again. */
+        if (blink_close(&seat) != BLINK_OK || blink_close(&seat) != BLINK_CLOSED) return 1;
         return answer != BLINK_OK || value != 2;
     }
     if (!strcmp(words[1], "other") || !strcmp(words[1], "open") || !strcmp(words[1], "few")) {
@@ -49,7 +50,8 @@ int main(int count, char **words) {
     }
 #ifdef BLINK_GUARD
     if (!strcmp(words[1], "twice")) {
-        blink_enter_(&seat, "another call");
+        blink_seat room = BLINK_SEAT_INIT;
+        blink_enter_(&seat, &room, "another call");
         blink_find(&seat, 1, &value);
     }
 #endif

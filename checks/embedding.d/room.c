@@ -35,7 +35,7 @@ int main(int count, char **words) {
         if (key >= LIVING) delete_row(&seats[1], key - LIVING);
     }
     for (int seat = 0; seat < 2; seat++)
-        if ((code = blink_rest(&seats[seat])) != BLINK_OK) fail("rest", (uint64_t)seat, code);
+        if ((code = blink_upkeep_all(&seats[seat])) != BLINK_OK) fail("upkeep", (uint64_t)seat, code);
     size_t room = (size_t)blink_image_length(PAGES);
     uint8_t *bytes = malloc(room);
     uint64_t length = 0;

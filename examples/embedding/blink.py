@@ -1,29 +1,25 @@
-"""The map from Python, by ctypes over a shared object. ctypes lets other threads of Python run during a call, so each has to have a seat of its
+"""The map from Python, by ctypes over libblink.so. ctypes lets other threads of Python run during a call, so each has to have a seat of its
 own. Run as a program it does the load of load.c: blink.py LIBRARY [KEYS-EACH [PAGES [FILE]]]."""
 import ctypes
 import operator
-import os
 import sys
 import threading
 
 U64, U32, I32, SIZE = ctypes.c_uint64, ctypes.c_uint32, ctypes.c_int32, ctypes.c_size_t
+# Codes of blink.h.
 OK, ABSENT, PRESENT, NO_ROOM, AGAIN = range(5)
-WHY = {
-    5: "the number of pages is not 4 to 65,536", 6: "the number of seats is not 1 to 64", 7: "out of memory", 8: "the bytes are no sound image",
-    9: "the seat is closed", 10: "there is room for too few rows", 11: "a seat of the map is not among these, or was closed alone",
-    12: "there is room for fewer bytes than the image has", 13: "the seats are of two maps", 14: "the map went while it was closed",
-}  # fmt: skip
+NO_MEMORY, CLOSED = 7, 9
+LEAF_ROWS = 14
 
 
 class Closed(ValueError):
     """A call of a seat that is closed."""
 
 
-def refused(call, code):
+def refused(lib, call, code):
     """The exception for a code that is no answer of the call."""
-    if code in (NO_ROOM, 7):
-        return MemoryError("no room: nothing has changed" if code == NO_ROOM else f"{call}: {WHY[code]}")
-    return (Closed if code == 9 else ValueError)(f"{call}: {WHY.get(code, 'an unknown answer')} ({code})")
+    kind = {NO_ROOM: MemoryError, NO_MEMORY: MemoryError, CLOSED: Closed}.get(code, ValueError)
+    return kind(f"{call.__name__}: {lib.blink_text(code).decode()} ({code})")
 
 
 def number(value):
@@ -51,20 +47,21 @@ def library(path):
     for name, *rest in (
         ("open", U32, seat, SIZE),
         ("open_image", ctypes.c_char_p, SIZE, seat, SIZE),
-        ("try_find", seat, U64, word),
-        ("try_insert", seat, U64, U64, word),
-        ("try_delete", seat, U64, word),
-        ("try_change", seat, U64, U64, U64, word),
-        ("try_rows", seat, U64, ctypes.POINTER(Row), SIZE, ctypes.POINTER(Part)),
-        ("tend", seat, U32),
-        ("try_meet", seat, seat),
-        ("map", seat, ctypes.POINTER(ctypes.c_void_p)),
-        ("try_close_image", seat, SIZE, ctypes.c_char_p, SIZE, word),
+        ("close", seat),
+        ("find", seat, U64, word),
+        ("insert", seat, U64, U64, word),
+        ("delete", seat, U64, word),
+        ("change", seat, U64, U64, U64, word),
+        ("rows", seat, U64, ctypes.POINTER(Row), SIZE, ctypes.POINTER(Part)),
+        ("upkeep", seat, U32),
+        ("meet", seat, seat),
+        ("close_image", seat, SIZE, ctypes.c_char_p, SIZE, word),
     ):
         call = getattr(lib, "blink_" + name)
         call.argtypes, call.restype = rest, I32
-    lib.blink_close.argtypes, lib.blink_close.restype = [seat], None
     lib.blink_image_length.argtypes, lib.blink_image_length.restype = [U32], U64
+    lib.blink_text.argtypes, lib.blink_text.restype = [I32], ctypes.c_char_p
+    lib.blink_version.argtypes, lib.blink_version.restype = [], ctypes.c_char_p
     return lib
 
 
@@ -75,66 +72,61 @@ class Seat:
         self.lib, self.at, self.owner = lib, ctypes.pointer(raw), owner
 
     def told(self, call, *rest, answers=(OK,)):
-        """Makes the call until it is answered: the answer, which is one of these."""
-        while (code := call(self.at, *rest)) == AGAIN:
-            os.sched_yield()
+        """Makes the call: its answer, which is one of these."""
+        code = call(self.at, *rest)
         if code not in answers:
-            raise refused(call.__name__, code)
+            raise refused(self.lib, call, code)
         return code
 
     def find(self, key):
         """The key's value, or None."""
         value = U64()
-        code = self.told(self.lib.blink_try_find, number(key), value, answers=(OK, ABSENT))
+        code = self.told(self.lib.blink_find, number(key), value, answers=(OK, ABSENT))
         return value.value if code == OK else None
 
     def insert(self, key, value):
         """None, or the value that is there already."""
         there = U64()
-        code = self.told(self.lib.blink_try_insert, number(key), number(value), there, answers=(OK, PRESENT))
+        code = self.told(self.lib.blink_insert, number(key), number(value), there, answers=(OK, PRESENT))
         return there.value if code == PRESENT else None
 
     def delete(self, key):
         """The value that has gone, or None where there was none."""
         gone = U64()
-        code = self.told(self.lib.blink_try_delete, number(key), gone, answers=(OK, ABSENT))
+        code = self.told(self.lib.blink_delete, number(key), gone, answers=(OK, ABSENT))
         return gone.value if code == OK else None
 
     def rows(self, start=0):
-        part, rows = Part(next=number(start), more=True), (Row * 14)()
+        part, rows = Part(next=number(start), more=True), (Row * LEAF_ROWS)()
         while part.more:
-            self.told(self.lib.blink_try_rows, part.next, rows, 14, part)
+            self.told(self.lib.blink_rows, part.next, rows, LEAF_ROWS, part)
             yield from [(rows[i].key, rows[i].value) for i in range(part.count)]
 
-    def place(self):
-        """A place in the memory of its map, which is not read."""
-        place = ctypes.c_void_p()
-        if code := self.lib.blink_map(self.at, place):
-            raise refused("blink_map", code)
-        return place.value
+    def upkeep(self, most):
+        """Does at most so many pieces of upkeep. Whether nothing is left to do."""
+        return self.told(self.lib.blink_upkeep, most, answers=(OK, AGAIN)) == OK
 
     def meet(self, other):
-        if self.place() != other.place():
-            raise ValueError("the seats are of two maps")
-        self.told(self.lib.blink_try_meet, other.at)
+        self.told(self.lib.blink_meet, other.at)
 
     def close(self):
-        self.lib.blink_close(self.at)
+        """Closes the seat; one that is closed already stays so."""
+        self.told(self.lib.blink_close, answers=(OK, CLOSED))
 
 
 def open_map(lib, pages, seats):
-    if not (4 <= pages <= 65536 and 1 <= seats <= 64):
-        raise ValueError("a map has 4 to 65,536 pages and 1 to 64 seats")
+    if not (4 <= pages <= 2**28 and 1 <= seats <= 64):
+        raise ValueError("a map has 4 to 2^28 pages and 1 to 64 seats")
     raw = (RawSeat * seats)()
     if code := lib.blink_open(pages, raw, seats):
-        raise refused("blink_open", code)
+        raise refused(lib, lib.blink_open, code)
     return [Seat(lib, raw[i], raw) for i in range(seats)]
 
 
 def close_image(lib, seats, pages):
     """Closes a map of so many pages by all its seats, those that open_map has given: its image."""
     bytes_, length = ctypes.create_string_buffer(lib.blink_image_length(pages)), U64()
-    seats[0].told(lib.blink_try_close_image, len(seats), bytes_, len(bytes_), length)
+    seats[0].told(lib.blink_close_image, len(seats), bytes_, len(bytes_), length)
     return bytes_.raw[: length.value]
 
 

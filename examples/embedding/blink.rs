@@ -23,24 +23,21 @@ struct Part {
     near: u32,
 }
 
-// Nothing compares these lines with the library's: they are those of blink.h.
+// The functions of blink.h, as the library exports them; checks/embedding compares these lines with the header.
 unsafe extern "C" {
     fn blink_open(pages: u32, seats: *mut Seat, count: usize) -> i32;
     fn blink_open_image(bytes: *const u8, length: usize, seats: *mut Seat, count: usize) -> i32;
-    fn blink_close(seat: *mut Seat);
-    fn blink_try_find(seat: *mut Seat, key: u64, value: *mut u64) -> i32;
-    fn blink_try_insert(seat: *mut Seat, key: u64, value: u64, there: *mut u64) -> i32;
-    fn blink_try_delete(seat: *mut Seat, key: u64, gone: *mut u64) -> i32;
-    fn blink_try_change(seat: *mut Seat, key: u64, old: u64, new: u64, there: *mut u64) -> i32;
-    fn blink_try_rows(seat: *mut Seat, from: u64, rows: *mut Row, room: usize, part: *mut Part) -> i32;
-    fn blink_tend(seat: *mut Seat, most: u32) -> i32;
-    fn blink_try_meet(one: *mut Seat, two: *mut Seat) -> i32;
-    fn blink_map(seat: *mut Seat, place: *mut *const u32) -> i32;
+    fn blink_close(seat: *mut Seat) -> i32;
+    fn blink_find(seat: *mut Seat, key: u64, value: *mut u64) -> i32;
+    fn blink_insert(seat: *mut Seat, key: u64, value: u64, there: *mut u64) -> i32;
+    fn blink_delete(seat: *mut Seat, key: u64, gone: *mut u64) -> i32;
+    fn blink_change(seat: *mut Seat, key: u64, old_value: u64, new_value: u64, there: *mut u64) -> i32;
+    fn blink_rows(seat: *mut Seat, from: u64, rows: *mut Row, room: usize, part: *mut Part) -> i32;
+    fn blink_upkeep(seat: *mut Seat, most: u32) -> i32;
+    fn blink_meet(one: *mut Seat, two: *mut Seat) -> i32;
     fn blink_image_length(pages: u32) -> u64;
-    fn blink_try_close_image(seats: *mut Seat, count: usize, bytes: *mut u8, room: usize, length: *mut u64) -> i32;
+    fn blink_close_image(seats: *mut Seat, count: usize, bytes: *mut u8, room: usize, length: *mut u64) -> i32;
 }
-
-const AGAIN: i32 = 4;
 
 /// What a write comes to.
 #[derive(Clone, Copy, Debug, PartialEq, Eq)]
@@ -59,23 +56,11 @@ pub struct OpenFault(pub i32);
 #[derive(Clone, Copy, Debug, PartialEq, Eq)]
 pub struct Fault(pub i32);
 
-const OTHER_MAP: i32 = 13;
-
 // SAFETY: a seat is moved between threads by Rust's rules, which order its calls.
 unsafe impl Send for Seat {}
 
 fn closed(seats: usize) -> Vec<Seat> {
     (0..seats).map(|_| Seat { at: core::ptr::null_mut() }).collect()
-}
-
-/// Makes a call again until it is answered, and lets other threads run in between.
-fn until_answered(mut call: impl FnMut() -> i32) -> i32 {
-    loop {
-        match call() {
-            AGAIN => std::thread::yield_now(),
-            code => return code,
-        }
-    }
 }
 
 /// A map of so many pages, and its seats.
@@ -100,16 +85,10 @@ pub fn open_image(bytes: &[u8], seats: usize) -> Result<Vec<Seat>, OpenFault> {
 
 /// Closes a map of so many pages by all its seats: its image.
 pub fn close_image(mut seats: Vec<Seat>, pages: u32) -> Result<Vec<u8>, (Vec<Seat>, Fault)> {
-    if let Some((first, others)) = seats.split_first_mut() {
-        let place = first.place();
-        if others.iter_mut().any(|seat| seat.place() != place) {
-            return Err((seats, Fault(OTHER_MAP)));
-        }
-    }
-    // SAFETY: here and below, the seats are those of one map, and each pointer and its length are of one vector or of a local variable.
+    // SAFETY: here and below, each pointer and its length are of one vector or of a local variable.
     let mut bytes = vec![0; unsafe { blink_image_length(pages) } as usize];
     let mut length = 0;
-    match until_answered(|| unsafe { blink_try_close_image(seats.as_mut_ptr(), seats.len(), bytes.as_mut_ptr(), bytes.len(), &mut length) }) {
+    match unsafe { blink_close_image(seats.as_mut_ptr(), seats.len(), bytes.as_mut_ptr(), bytes.len(), &mut length) } {
         0 => {
             bytes.truncate(length as usize);
             Ok(bytes)
@@ -119,20 +98,10 @@ pub fn close_image(mut seats: Vec<Seat>, pages: u32) -> Result<Vec<u8>, (Vec<Sea
 }
 
 impl Seat {
-    /// A place in the memory of its map, which is not read.
-    fn place(&mut self) -> *const u32 {
-        let mut place = core::ptr::null();
-        unsafe { blink_map(self, &mut place) };
-        place
-    }
-
     /// The seats meet: each then has seen all that the other had.
     pub fn meet(&mut self, other: &mut Seat) -> Result<(), Fault> {
-        if self.place() != other.place() {
-            return Err(Fault(OTHER_MAP));
-        }
-        // SAFETY: the seats are of one map, and are two, since each is borrowed.
-        match until_answered(|| unsafe { blink_try_meet(self, other) }) {
+        // SAFETY: the seats are two, since each is borrowed.
+        match unsafe { blink_meet(self, other) } {
             0 => Ok(()),
             code => Err(Fault(code)),
         }
@@ -141,20 +110,20 @@ impl Seat {
     pub fn find(&mut self, key: u64) -> Option<u64> {
         let mut value = 0;
         // SAFETY: here and below, the seat is this one's alone, and each pointer is of a local variable.
-        let code = until_answered(|| unsafe { blink_try_find(self, key, &mut value) });
+        let code = unsafe { blink_find(self, key, &mut value) };
         (code == 0).then_some(value)
     }
 
     pub fn insert(&mut self, key: u64, value: u64) -> Answer {
         let mut there = 0;
-        let code = until_answered(|| unsafe { blink_try_insert(self, key, value, &mut there) });
+        let code = unsafe { blink_insert(self, key, value, &mut there) };
         answer(code, there)
     }
 
     /// The value that the key had; Err where there was no room.
     pub fn delete(&mut self, key: u64) -> Result<Option<u64>, Answer> {
         let mut gone = 0;
-        match until_answered(|| unsafe { blink_try_delete(self, key, &mut gone) }) {
+        match unsafe { blink_delete(self, key, &mut gone) } {
             0 => Ok(Some(gone)),
             1 => Ok(None),
             _ => Err(Answer::NoRoom),
@@ -163,7 +132,7 @@ impl Seat {
 
     pub fn change(&mut self, key: u64, old: u64, new: u64) -> Answer {
         let mut there = 0;
-        let code = until_answered(|| unsafe { blink_try_change(self, key, old, new, &mut there) });
+        let code = unsafe { blink_change(self, key, old, new, &mut there) };
         answer(code, there)
     }
 
@@ -173,14 +142,14 @@ impl Seat {
         let mut rows = [Row::default(); 14];
         while part.more {
             let from = part.next;
-            until_answered(|| unsafe { blink_try_rows(self, from, rows.as_mut_ptr(), rows.len(), &mut part) });
+            unsafe { blink_rows(self, from, rows.as_mut_ptr(), rows.len(), &mut part) };
             rows[..part.count as usize].iter().for_each(|row| visit(*row));
         }
     }
 
     /// Does so many pieces of upkeep at most. Says whether nothing is left to do.
-    pub fn tend(&mut self, most: u32) -> bool {
-        unsafe { blink_tend(self, most) == 0 }
+    pub fn upkeep(&mut self, most: u32) -> bool {
+        unsafe { blink_upkeep(self, most) == 0 }
     }
 }
 
@@ -195,6 +164,7 @@ fn answer(code: i32, there: u64) -> Answer {
 
 impl Drop for Seat {
     fn drop(&mut self) {
-        unsafe { blink_close(self) }
+        // One that is closed already stays so.
+        unsafe { blink_close(self) };
     }
 }

@@ -79,8 +79,9 @@ int main(int count, char **words) {
     for (uint64_t n = 0; n < THREADS * keys_each; n++) wanted += n % 3 != 0;
     printf("rows %llu, wanted %llu, wrong %llu\n", (unsigned long long)left, (unsigned long long)wanted, (unsigned long long)wrong);
     need(blink_meet(&seats[0], &seats[1]), BLINK_OK, "meet");
-    for (size_t t = 0; t < THREADS; t++) blink_rest(&seats[t]);
+    for (size_t t = 0; t < THREADS; t++) blink_upkeep_all(&seats[t]);
     if (count > 3) keep(words[3], pages);
-    for (size_t t = 0; t < THREADS; t++) blink_close(&seats[t]);
+    /* Those of a map that was closed to its image are closed already. */
+    for (size_t t = 0; t < THREADS; t++) need(blink_close(&seats[t]), count > 3 ? BLINK_CLOSED : BLINK_OK, "close");
     return left != wanted || wrong != 0;
 }
