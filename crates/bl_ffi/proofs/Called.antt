@@ -1,17 +1,22 @@
 -- What a call of a seat tells C.
-use Rattle.std.proofs.Common.{◌≡◌, ℕ, Bool, true, false, Option, Some, None, refl, sym, ap, ◌∙◌, subst}
+use Rattle.std.proofs.Common.{◌≡◌, ◌≢◌, ◌⊎◌, ◌+◌, ℕ, Bool, true, false, Option, Some, None, refl, sym, ap, ◌∙◌, subst}
 use mir.Val.{to_z, of_z}
 use mir.Syntax.{w32}
-use Rattle.bl_model.specs.declared.operation.Op.{Op}
 use Rattle.bl_model.specs.declared.operation.Reply.{Reply}
 use Rattle.bl_model.specs.declared.operation.Reply.TheVariants.{Found, Absent, Inserted, Present, Deleted, Changed, Differs, Rows, NoRoom}
 use Rattle.std.specs.Prelude.{ℤ, pos, MatchOption}
 use Rattle.bl_seats.specs.declared.seat.Seat.{Seat}
-use Rattle.bl_seats.specs.Calls.{IsSameSeat, HasChanged, HasToldLast, HasGoneOn, HasNothingToDo, account_of, number_of}
+use Rattle.bl_seats.specs.Calls.{IsSameSeat, HasGoneOn, HasNothingToDo, HasSwept, account_of, number_of, released_by}
+use Rattle.bl_seats.specs.Tended.{SweepsOnce}
+use Rattle.bl_seats.proofs.Tending.{seat_after}
 use Rattle.bl_seats.specs.Accounts.{GoesTo}
 use Rattle.bl_seats.specs.Waits.{IsIdle}
 use Rattle.bl_ffi.specs.declared.seat.SeatOfC.{SeatOfC}
-use Rattle.bl_ffi.specs.Told.{IsCodeOf, Calls, Counts}
+use Rattle.std.specs.Arc.{arc_value}
+use Rattle.bl_index_turns.specs.declared.stages.Stage.TheVariants as stage
+use Rattle.bl_index_turns.specs.Stages.{IsAtRest}
+use Rattle.bl_seats.specs.Meetings.{HasSettled}
+use Rattle.bl_ffi.specs.Told.{IsCodeOf, Calls, Closes, Counts}
 
 pub called : (old new : SeatOfC) (code : ℤ) (Comes : Seat → Seat → Type 0) (s t : Seat) → old.seat ≡ Some s → new.seat ≡ Some t → IsSameSeat s t → Comes s t → Calls old new code Comes
 called old new code Comes s t was is same comes =
@@ -20,6 +25,18 @@ called old new code Comes s t was is same comes =
 pub closed : (old new : SeatOfC) (code : ℤ) (Comes : Seat → Seat → Type 0) → old.seat ≡ None → code ≡ pos 9 → new.seat ≡ None → Calls old new code Comes
 closed old new code Comes was is none =
     subst (λ (z : Option Seat). MatchOption z ((code ≡ pos 9) × (new.seat ≡ None)) (λ u. (t : Seat) × (new.seat ≡ Some t) × IsSameSeat u t × Comes u t)) (sym was) (is, none)
+
+-- what a close of an open one has come to
+abbrev ClosesTo : Seat → Seat → SeatOfC → ℤ → Type 0
+ClosesTo s t new code = ((code ≡ pos 0) × (new.seat ≡ None) × IsAtRest (arc_value t.index) t.hand) ⊎ ((code ≡ pos 4) × (new.seat ≡ Some t) × (t.stage ≢ stage.Rests))
+
+pub closes : (old new : SeatOfC) (code : ℤ) (s t : Seat) → old.seat ≡ Some s → HasSettled s t → ClosesTo s t new code → Closes old new code
+closes old new code s t was settled so =
+    subst (λ (z : Option Seat). MatchOption z ((code ≡ pos 9) × (new.seat ≡ None)) (λ u. (t : Seat) × HasSettled u t × ClosesTo u t new code)) (sym was) (t, settled, so)
+
+pub closes_not : (old new : SeatOfC) (code : ℤ) → old.seat ≡ None → code ≡ pos 9 → new.seat ≡ None → Closes old new code
+closes_not old new code was is none =
+    subst (λ (z : Option Seat). MatchOption z ((code ≡ pos 9) × (new.seat ≡ None)) (λ u. (t : Seat) × HasSettled u t × ClosesTo u t new code)) (sym was) (is, none)
 
 pub counted : (count : Seat → ℕ) (old new : SeatOfC) (result : ℕ) (s : Seat) → old.seat ≡ Some s → result ≡ count s → new.seat ≡ Some s → Counts count old new result
 counted count old new result s was is same = subst (λ (z : Option Seat). MatchOption z ((result ≡ 0) × (new.seat ≡ None)) (λ u. (result ≡ count u) × (new.seat ≡ Some u))) (sym was) (is, same)
@@ -42,10 +59,6 @@ code_kept (Differs v) code w h = (again code (pos 2) h.0 refl, h.1)
 code_kept (Rows rows next) code w h = again code (pos 4) h refl
 code_kept NoRoom code w h = again code (pos 3) h refl
 
--- a write that was told has been told last
-pub told_last : (op : Op) (reply : Reply) (seat : Seat) → HasChanged op reply seat → HasToldLast op reply seat
-told_last op reply seat h = record { before = h.written.before; answers = h.written.writes.answers }
-
 pub not_true : (b : Bool) → b ≡ false → b ≡ true → ⊥
 not_true b isnt is = absurd (let f : false ≡ true = sym isnt ∙ is in cc)
 
@@ -55,15 +68,18 @@ pub record IsTendedSo (s u t : Seat) : Type 0 where
   pub gone : HasGoneOn s t
   pub idle : HasNothingToDo u → HasNothingToDo t
   pub was_idle : HasNothingToDo t → HasNothingToDo u
+  pub swept : SweepsOnce u t
 
-pub tended : (s u v t : Seat) → v ≡ u → IsSameSeat s u → HasGoneOn s u → IsSameSeat v t → account_of t ≡ account_of v → (t.stage ≡ v.stage) × (t.upkeep ≡ v.upkeep) → IsTendedSo s u t
-tended s u v t is same gone kept told keeps =
+pub tended : (s u v t : Seat) (answer : ℕ) → v ≡ u → IsSameSeat s u → HasGoneOn s u → IsSameSeat v t → account_of t ≡ account_of v → (t.stage ≡ v.stage) × (t.upkeep ≡ v.upkeep) → HasSwept answer v t
+    → released_by t ≡ released_by v + answer → IsTendedSo s u t
+tended s u v t answer is same gone kept told keeps swept count =
     let k : IsSameSeat u t = subst (λ (z : Seat). IsSameSeat z t) is kept in
     let a : account_of t ≡ account_of u = subst (λ (z : Seat). account_of t ≡ account_of z) is told in
     let st : t.stage ≡ u.stage = keeps.0 ∙ ap (λ (z : Seat). z.stage) is in
     let up : t.upkeep ≡ u.upkeep = keeps.1 ∙ ap (λ (z : Seat). z.upkeep) is in record {
-      same = (k.0 ∙ same.0, (k.1.0 ∙ same.1.0, k.1.1 ∙ same.1.1));
+      same = seat_after s u t same k;
       gone = subst (GoesTo (number_of s) (account_of s)) (sym a) gone;
       idle = λ n. (st ∙ n.0, subst IsIdle (sym up) n.1);
       was_idle = λ n. (sym st ∙ n.0, subst IsIdle up n.1);
+      swept = record { answer = answer; same = k; swept = subst (λ (z : Seat). HasSwept answer z t) is swept; count = subst (λ (z : Seat). released_by t ≡ released_by z + answer) is count; keeps = (st, up) };
     }

@@ -11,6 +11,7 @@ use Rattle.bl_seats.specs.declared.closing.CloseFault.{CloseFault}
 use Rattle.bl_seats.specs.declared.closing.CloseFault.TheVariants as fault
 use Rattle.bl_seats.specs.declared.seat.Seat.{Seat}
 use Rattle.bl_seats.specs.Calls.{IsSameSeat, HasGoneOn, HasCarriedOn}
+use Rattle.bl_seats.specs.Tended.{KeepsUpkeep}
 use Rattle.bl_seats.specs.Meetings.{AreOfOne, HaveMet}
 use Rattle.bl_seats.specs.Closed.{HaveClosed, IsNotClosed}
 use Rattle.bl_ffi.specs.Places.{opened, closed, placed}
@@ -23,9 +24,10 @@ AreOfOneMap one two = (s t : Seat) → one ≡ Some s → two ≡ Some t → Are
 abbrev pub AreAtOneMap : List (Option Seat) → Type 0
 AreAtOneMap places = (i j : ℕ) (s t : Seat) → get_elem? places i ≡ some (Some s) → get_elem? places j ≡ some (Some t) → AreOfOne s t
 
--- Both have gone on, and something is underway at one of them still.
+-- Both have gone on, and something is underway at one of them still. They lose no upkeep.
 abbrev pub WaitToMeet : Seat → Seat → Seat → Seat → Type 0
-WaitToMeet s t s' t' = (HasGoneOn s s' × HasGoneOn t t') × (HasCarriedOn s s' × HasCarriedOn t t') × ((s'.stage ≢ stage.Rests) ⊎ (t'.stage ≢ stage.Rests))
+WaitToMeet s t s' t' = (HasGoneOn s s' × HasGoneOn t t') × (HasCarriedOn s s' × HasCarriedOn t t') × (KeepsUpkeep s s' × KeepsUpkeep t t')
+    × ((s'.stage ≢ stage.Rests) ⊎ (t'.stage ≢ stage.Rests))
 
 -- Two open places have the same seats then, which have met, or are to try again.
 pub record ComeTogether (one two one' two' : Option Seat) (code : ℤ) : Type 0 where

@@ -1,5 +1,5 @@
 -- What a call tells C.
-use Rattle.std.specs.Prelude.{◌≡◌, ◌⊎◌, ℕ, ℤ, pos, true, false, Some, None, List, ◌++◌, map, drop, length, MatchOption}
+use Rattle.std.specs.Prelude.{◌≡◌, ◌≢◌, ◌⊎◌, ℕ, ℤ, pos, true, false, Some, None, List, ◌++◌, map, drop, length, MatchOption}
 use denote.RawPtr.{Ptr}
 use Rattle.bl_model.specs.declared.operation.Next.{Next}
 use Rattle.bl_model.specs.declared.operation.Next.TheVariants.{More, End}
@@ -10,7 +10,14 @@ use Rattle.bl_model.specs.declared.operation.Op.TheVariants as op
 use Rattle.bl_model.specs.declared.operation.Reply.{Reply}
 use Rattle.bl_model.specs.declared.operation.Reply.TheVariants.{Found, Absent, Inserted, Present, Deleted, Changed, Differs, Rows, NoRoom}
 use Rattle.bl_seats.specs.declared.seat.Seat.{Seat}
-use Rattle.bl_seats.specs.Calls.{IsSameSeat, HasToldLast, HasTold, HasGoneOn, HasGoneOnOrBegun, HasNothingToDo, HasCarriedOn, HasNoAnswer, HasToWait, HasSwept, HasDoneMost}
+use Rattle.bl_model.specs.declared.deciding.KeyWrite.{KeyWrite}
+use Rattle.bl_model.specs.Writes.{write_op}
+use Rattle.std.specs.Arc.{arc_value}
+use Rattle.bl_index_turns.specs.declared.stages.Stage.TheVariants as stage
+use Rattle.bl_index_turns.specs.Stages.{IsAtRest}
+use Rattle.bl_seats.specs.Calls.{IsSameSeat, HasToldLast, HasTold, HasGoneOn, HasGoneOnOrBegun, HasNothingToDo, HasCarriedOn, HasDoneMost}
+use Rattle.bl_seats.specs.Tended.{KeepsUpkeep, HasTended, HasPrepared, HasToWait, HasChanged, SweepsOnce}
+use Rattle.bl_seats.specs.Meetings.{HasSettled, HasNoAnswer}
 use Rattle.bl_seats.specs.Waits.{hints_of}
 use Rattle.bl_ffi.specs.declared.seat.SeatOfC.{SeatOfC}
 
@@ -33,26 +40,34 @@ Calls old new code Comes = MatchOption old.seat ((code ≡ pos 9) × (new.seat �
 
 -- Why a search is to be made again: it ran out of turns, or something is underway still, which was carried on.
 abbrev pub SearchesAgain : Seat → Seat → Type 0
-SearchesAgain old new = HasGoneOn old new × HasCarriedOn old new × HasNoAnswer new
+SearchesAgain old new = HasGoneOn old new × HasCarriedOn old new × HasNoAnswer old new
 
--- Why a write is to be made again: something is underway, this very write or another, or there was no room. It may have begun.
-abbrev pub WritesAgain : Op → Seat → Seat → Type 0
-WritesAgain op old new = HasGoneOnOrBegun op old new × HasToWait new
+-- Why a write is to be made again: what is underway, this very write or another process, was carried on, or there was no room. It may have
+-- begun. Upkeep was done before.
+abbrev pub WritesAgain : ℕ → KeyWrite → Seat → Seat → Type 0
+WritesAgain key write old new = HasGoneOnOrBegun (write_op key write) old new × HasToWait write old new × HasPrepared old new.upkeep
 
--- The call is to be made again, for such a reason; or the code and the value are those of a reply to this very call, which the seat has
--- told, and told last.
-abbrev pub Replies : (Seat → Seat → Type 0) → Op → ℤ → ℕ → Seat → Seat → Type 0
-Replies Again op code written old new =
+-- The seat has told this reply to the search, and told it last.
+abbrev pub TellsFound : Op → Reply → Seat → Seat → Type 0
+TellsFound op reply old new = HasTold op reply old new × HasToldLast op reply new
+
+-- The same of a write, which has written what the reply means.
+abbrev pub TellsWritten : ℕ → KeyWrite → Reply → Seat → Seat → Type 0
+TellsWritten key write reply old new = HasTold (write_op key write) reply old new × HasChanged key write reply old new
+
+-- The call is to be made again, for such a reason; or the code and the value are those of a reply to this very call, which was told so.
+abbrev pub Replies : (Seat → Seat → Type 0) → (Reply → Seat → Seat → Type 0) → ℤ → ℕ → Seat → Seat → Type 0
+Replies Again Told code written old new =
     ((code ≡ pos 4) × Again old new)
-    ⊎ ((reply : Reply) × IsCodeOf reply code written × HasTold op reply old new × HasToldLast op reply new)
+    ⊎ ((reply : Reply) × IsCodeOf reply code written × Told reply old new)
 
--- a search
+-- A search. It loses no upkeep.
 abbrev pub Finds : Op → SeatOfC → SeatOfC → ℤ → ℕ → Type 0
-Finds op old new code written = Calls old new code (Replies SearchesAgain op code written)
+Finds op old new code written = Calls old new code (λ s t. KeepsUpkeep s t × Replies SearchesAgain (TellsFound op) code written s t)
 
 -- a write
-abbrev pub Tells : Op → SeatOfC → SeatOfC → ℤ → ℕ → Type 0
-Tells op old new code written = Calls old new code (Replies (WritesAgain op) op code written)
+abbrev pub Tells : ℕ → KeyWrite → SeatOfC → SeatOfC → ℤ → ℕ → Type 0
+Tells key write old new code written = Calls old new code (Replies (WritesAgain key write) (TellsWritten key write) code written)
 
 -- a key and its value, as C has them
 abbrev pub row_of : ℕ × ℕ → Row
@@ -76,16 +91,21 @@ IsListed other old new part = ⊥
 
 -- The same of a part of the rows, which are listed.
 abbrev pub Lists : ℕ → List Row → List Row → Part → ℤ → Seat → Seat → Type 0
-Lists from rows rows' part code old new =
-    ((code ≡ pos 4) × SearchesAgain old new)
-    ⊎ ((code ≡ pos 0) × ((reply : Reply) × HasTold (op.Part from) reply old new × HasToldLast (op.Part from) reply new × IsListed reply rows rows' part))
+Lists from rows rows' part code old new = KeepsUpkeep old new
+    × (((code ≡ pos 4) × SearchesAgain old new) ⊎ ((code ≡ pos 0) × ((reply : Reply) × TellsFound (op.Part from) reply old new × IsListed reply rows rows' part)))
 
 -- It has told what was underway, if that has ended, and no more; it has done so many pieces of upkeep, or all that there are, and then it has
 -- swept; and the code says whether anything is left to do.
 abbrev pub Tends : ℕ → SeatOfC → SeatOfC → ℤ → Type 0
 Tends most old new code =
-    Calls old new code (λ s t. HasGoneOn s t × ((mid : Seat) × IsSameSeat s mid × ((count : ℕ) × HasSwept count mid t)
+    Calls old new code (λ s t. HasGoneOn s t × ((mid : Seat) × IsSameSeat s mid × HasTended most s mid × SweepsOnce mid t
     × (((code ≡ pos 0) × HasNothingToDo t) ⊎ ((code ≡ pos 4) × (HasNothingToDo t → ⊥) × HasDoneMost most s mid))))
+
+-- A closed seat stays so. Another one is closed once it rests: its hand runs no process then, and holds no page. Else something is underway
+-- still, which was carried on, and it is open.
+abbrev pub Closes : SeatOfC → SeatOfC → ℤ → Type 0
+Closes old new code = MatchOption old.seat ((code ≡ pos 9) × (new.seat ≡ None)) (λ s. (t : Seat) × HasSettled s t
+    × (((code ≡ pos 0) × (new.seat ≡ None) × IsAtRest (arc_value t.index) t.hand) ⊎ ((code ≡ pos 4) × (new.seat ≡ Some t) × (t.stage ≢ stage.Rests))))
 
 -- what is said of a seat by a number, and 0 of a closed one; nothing is done
 abbrev pub Counts : (Seat → ℕ) → SeatOfC → SeatOfC → ℕ → Type 0

@@ -1,10 +1,10 @@
 //! The calls.
 
-ghost use Rattle.std.specs.Prelude.{◌≡◌, ◌≢◌, ◌<◌, ◌≤◌, pos, length, None, Some, MatchOption};
+ghost use Rattle.std.specs.Prelude.{◌≡◌, ◌≢◌, ◌<◌, ◌≤◌, pos, length, MatchOption};
 ghost use Rattle.bl_model.specs.declared.operation.Op.TheVariants as op;
 ghost use Rattle.bl_model.specs.Replies.{reply_of};
-ghost use Rattle.bl_model.specs.Writes.{write_op};
-ghost use Rattle.bl_ffi.specs.Told.{IsCodeOf, Finds, Tells, Calls, IsRows, IsListed, Lists, Tends, Counts, waiting_of, dropped_of};
+ghost use Rattle.bl_model.specs.declared.deciding.KeyWrite.TheVariants as key_write;
+ghost use Rattle.bl_ffi.specs.Told.{IsCodeOf, Finds, Tells, Closes, Calls, IsRows, IsListed, Lists, Tends, Counts, waiting_of, dropped_of};
 
 use crate::codes::{ABSENT, AGAIN, CLOSED, FEW_ROWS, NO_ROOM, OK, PRESENT};
 use crate::places::{put_back, taken};
@@ -60,12 +60,19 @@ fn found(reply: KeyReply, value: &mut u64) -> i32
     }
 }
 
-/// Closes the seat. The index goes with its last seat.
+/// Closes the seat, once nothing is underway at it. The index goes with its last seat.
 #[unsafe(no_mangle)]
-pub extern "C" fn blink_close(alloc: Global, seat: &mut SeatOfC)
-    ensures { seat.new.seat ≡ None }
+pub extern "C" fn blink_try_close(alloc: Global, seat: &mut SeatOfC) -> i32
+    ensures { Closes seat.old seat.new result }
 {
-    let _ = taken(alloc, seat);
+    let Some(mut mine) = taken(alloc, seat) else {
+        return CLOSED;
+    };
+    if mine.rest() {
+        return OK;
+    }
+    put_back(alloc, seat, mine);
+    AGAIN
 }
 
 /// The value of a key.
@@ -91,7 +98,7 @@ pub extern "C" fn blink_try_find(
 
 /// Writes a key, and puts the value beside the reply.
 fn write(alloc: Global, seat: &mut SeatOfC, key: u64, write: KeyWrite, value: &mut u64) -> i32
-    ensures { Tells (write_op key write) seat.old seat.new result value.new }
+    ensures { Tells key write seat.old seat.new result value.new }
 {
     let Some(mut mine) = taken(alloc, seat) else {
         return CLOSED;
@@ -113,7 +120,7 @@ pub extern "C" fn blink_try_insert(
     value: u64,
     there: &mut u64,
 ) -> i32
-    ensures { Tells (op.Insert key value) seat.old seat.new result there.new }
+    ensures { Tells key (key_write.Insert value) seat.old seat.new result there.new }
 {
     write(alloc, seat, key, KeyWrite::Insert(value), there)
 }
@@ -126,7 +133,7 @@ pub extern "C" fn blink_try_delete(
     key: u64,
     gone: &mut u64,
 ) -> i32
-    ensures { Tells (op.Delete key) seat.old seat.new result gone.new }
+    ensures { Tells key key_write.Delete seat.old seat.new result gone.new }
 {
     write(alloc, seat, key, KeyWrite::Delete, gone)
 }
@@ -141,7 +148,7 @@ pub extern "C" fn blink_try_change(
     new: u64,
     there: &mut u64,
 ) -> i32
-    ensures { Tells (op.Change key old new) seat.old seat.new result there.new }
+    ensures { Tells key (key_write.Change old new) seat.old seat.new result there.new }
 {
     write(alloc, seat, key, KeyWrite::Change(old, new), there)
 }

@@ -14,7 +14,7 @@ mod seat;
 mod together;
 
 pub use calls::{
-    Part, Row, blink_close, blink_dropped, blink_tend, blink_try_change, blink_try_delete,
+    Part, Row, blink_dropped, blink_tend, blink_try_change, blink_try_close, blink_try_delete,
     blink_try_find, blink_try_insert, blink_try_rows, blink_waiting,
 };
 pub use opening::{blink_open, blink_open_image};

@@ -1,4 +1,5 @@
 pub mod Holding
 pub mod Writings
+pub mod Rooms
 pub mod Stages
 pub mod Ways

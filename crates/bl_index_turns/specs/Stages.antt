@@ -2,6 +2,8 @@
 use Rattle.std.specs.Prelude.{◌≡◌, ◌≢◌, ◌⊎◌, ◌+◌, ◌≤◌, ℕ, false, Option, None, length}
 use Rattle.bl_model.specs.declared.deciding.KeyWrite.{KeyWrite}
 use Rattle.bl_model.specs.declared.operation.Op.{Op}
+use Rattle.atomic_table.specs.declared.shared.Seat.{Seat}
+use Rattle.bl_frames.specs.declared.view.View.{View}
 use Rattle.bl_store.specs.declared.stock.Stock.{Stock}
 use Rattle.bl_store.specs.declared.store.Hand.{Hand}
 use Rattle.bl_store.specs.Hands.{known, HasNoStock}
@@ -19,6 +21,7 @@ use Rattle.bl_index_steps.specs.Held.{own_marks}
 use Rattle.bl_index_steps.specs.declared.tree.Tree.{Tree}
 use Rattle.bl_index_steps.specs.Runs.{Runs, Rests, IsSince, IsSameProcess, IsDone, HasReserved}
 use Rattle.bl_index_turns.specs.Holding.{HoldsNone, IsSlow}
+use Rattle.bl_index_turns.specs.Rooms.{KnowsRoom, LacksRoom}
 use Rattle.bl_index_turns.specs.declared.stages.Stage.{Stage}
 use Rattle.bl_index_turns.specs.declared.stages.Stage.TheVariants as stage
 
@@ -41,6 +44,7 @@ pub record CanGoOn (tree : Tree) (hand : Hand PassState) (process : Proc) (held 
   pub old : PassState
   pub since : IsSince hand.number old (known hand.seat)
   pub yields : Yields process
+  pub room : KnowsRoom hand.seat process
 
 abbrev pub Stands : Tree → Hand PassState → Stage → Type 0
 Stands tree hand stage.Rests = IsAtRest tree hand
@@ -81,6 +85,14 @@ IsFor h s = ⊥
 abbrev pub IsLowering : Stage → Type 0
 IsLowering (stage.Lowers p held) = Unit {0}
 IsLowering s = ⊥
+
+-- The hand was refused what that lacks which was underway.
+abbrev pub LacksIn : Stage → Seat (Unit {0}) (View PassState) → Type 0
+LacksIn stage.Rests h = ⊥
+LacksIn (stage.Writes p held) h = LacksRoom (proc.Write p.write) h
+LacksIn (stage.Posts p held) h = LacksRoom (proc.Post p) h
+LacksIn (stage.Compresses p held) h = LacksRoom (proc.Compress p) h
+LacksIn (stage.Lowers p held) h = LacksRoom (proc.Lower p) h
 
 -- The process, which has begun when its pass knew something, has ended with that answer, and has done what the answer means. The hand
 -- rests then.

@@ -1,11 +1,15 @@
 //! A process goes on by so many events.
 
-ghost use Rattle.std.specs.Prelude.{◌≡◌, ◌≢◌, ℕ, None, true, false};
+ghost use Rattle.std.specs.Prelude.{◌≡◌, ◌≢◌, ℕ, None, Some, true, false};
 ghost use Rattle.bl_proc_base.specs.declared.acts.Action.TheVariants as act;
 ghost use Rattle.bl_proc_unique.specs.Frames.{op_of, work_of};
 ghost use Rattle.bl_store.specs.Hands.{known, IsSameHand, HasNoStock};
 ghost use Rattle.bl_index_rule.specs.declared.known.PassState.{PassState as Knows};
 ghost use Rattle.bl_index_steps.specs.Runs.{Runs, Rests, IsSince, IsSameProcess, IsDone, HasReserved};
+ghost use Rattle.bl_claims.specs.Seeing.{GoesOnFrom};
+ghost use Rattle.bl_proc_base.specs.declared.answers.Answer.{Answer as AnswerIs};
+ghost use Rattle.bl_proc_unique.specs.Refusals.{IsNoRoom};
+ghost use Rattle.bl_index_turns.specs.Rooms.{KnowsRoom, LacksRoom};
 ghost use Rattle.bl_index_turns.specs.Stages.{HasTurned, Yields};
 
 use crate::holding::Holder;
@@ -33,12 +37,16 @@ pub fn go_on<P: Holder>(
     requires runs { Runs tree.now hand.old (P.proc_of process.old) }
     requires going { (P.answer_of process.old ≡ None) × (P.next_of process.old ≢ act.Begin) }
     requires reserved { HasReserved hand.old.seat held.old (P.proc_of process.old) }
+    requires room { KnowsRoom hand.old.seat (P.proc_of process.old) }
     ensures same { IsSameHand hand.old.seat hand.new.seat }
+    ensures on { GoesOnFrom (known hand.old.seat).trail (known hand.new.seat).trail }
     ensures rests { result ≡ true → Rests hand.new.seat × HasNoStock hand.new.seat }
     ensures done { result ≡ true → (pass : ℕ) (old : Knows) → IsSince pass old (known hand.old.seat)
         → IsDone pass old (known hand.new.seat) (P.proc_of process.old) (P.proc_of process.new) }
+    ensures no_room { result ≡ true → (a : AnswerIs) → P.answer_of process.new ≡ Some a → IsNoRoom a → LacksRoom (P.proc_of process.old) hand.new.seat }
     ensures runs { result ≡ false → Runs tree.now hand.new (P.proc_of process.new) × HasReserved hand.new.seat held.new (P.proc_of process.new) }
     ensures going { result ≡ false → (P.answer_of process.new ≡ None) × (P.next_of process.new ≢ act.Begin) }
+    ensures room { result ≡ false → KnowsRoom hand.new.seat (P.proc_of process.new) }
     ensures since { result ≡ false → IsSameProcess (known hand.old.seat) (known hand.new.seat) }
     ensures turns { result ≡ false → HasTurned events (known hand.old.seat) (known hand.new.seat) (P.proc_of process.new) }
     ensures yields { result ≡ false → Yields (P.proc_of process.old) → Yields (P.proc_of process.new) }

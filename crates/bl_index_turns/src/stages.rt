@@ -9,7 +9,9 @@ ghost use Rattle.bl_index_steps.specs.Rooms.{LacksWrite};
 ghost use Rattle.bl_index_steps.specs.Runs.{IsSince};
 ghost use Rattle.bl_index_write.specs.Events.{HasWritten};
 ghost use Rattle.bl_index_turns.specs.declared.stages.Stage.TheVariants as stages;
-ghost use Rattle.bl_index_turns.specs.Stages.{IsAtRest, Stands, HasAdvanced, IsWriteOf, IsFor, IsLowering};
+ghost use Rattle.bl_claims.specs.Seeing.{GoesOnFrom};
+ghost use Rattle.bl_proc_unique.specs.Refusals.{IsNoRoom};
+ghost use Rattle.bl_index_turns.specs.Stages.{IsAtRest, Stands, HasAdvanced, IsWriteOf, IsFor, IsLowering, LacksIn};
 
 use crate::carrying::go_on;
 use crate::writing::Writing;
@@ -109,6 +111,8 @@ pub fn advance(
     requires { Stands tree.now hand.old stage.old }
     ensures same { IsSameHand hand.old.seat hand.new.seat }
     ensures stands { Stands tree.now hand.new stage.new }
+    ensures on { GoesOnFrom (known hand.old.seat).trail (known hand.new.seat).trail }
+    ensures no_room { IfSome result (λ answer. IsNoRoom answer → LacksIn stage.old hand.new.seat) }
     ensures answers { HasAdvanced events (known hand.old.seat) (known hand.new.seat) stage.old result stage.new }
 {
     match stage {

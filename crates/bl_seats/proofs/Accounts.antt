@@ -39,8 +39,10 @@ use Rattle.bl_seats.proofs.CompressEnds.{IsCompressAnswer, compress_has_answer}
 use Rattle.bl_index.proofs.Lowerings.{lower_has_answer, lower_answered}
 use Rattle.bl_index_turns.specs.declared.stages.Stage.{Stage}
 use Rattle.bl_index_turns.specs.declared.stages.Stage.TheVariants as stage
-use Rattle.bl_index_turns.specs.Stages.{Stands, HasAdvanced, HasTurnedIn, IsStill, EndsOrGoesOn, IsSameKind, IsSameWork, op_in}
-use Rattle.bl_seats.specs.Seats.{IfOp, HasAnswered}
+use Rattle.bl_index_turns.specs.Stages.{Stands, HasAdvanced, HasTurnedIn, IsStill, EndsOrGoesOn, IsSameKind, IsSameWork, op_in, LacksIn}
+use Rattle.bl_proc_unique.specs.Refusals.{IsNoRoom}
+use Rattle.bl_index_steps.specs.Rooms.{LacksWrite}
+use Rattle.bl_seats.specs.Seats.{IfWritten, HasAnswered}
 use Rattle.bl_seats.specs.Accounts.{Account, account, told_in, HasGone}
 
 -- ---- how a process ends: it answers
@@ -167,16 +169,22 @@ module _ (events : ℕ) (tree : Tree) (hand hand' : Hand PassState) (num : hand'
 
   -- ---- a write that was underway
 
-  wrote : (old : PassState) (op : Op) (a : Option Answer) → WriteEnds hand.number old e op a → IfOp hand' op a
-  wrote old op a w = subst (IfOp hand' op) (sym w.is) (record { before = old.trail; writes = subst (λ (z : ℕ). Writes e.first z op w.reply w.hint old.trail e.trail) (sym num) w.writes })
+  wrote : (old : PassState) (key : ℕ) (does : KeyWrite) (a : Option Answer) → WriteEnds hand.number old e (write_op key does) a → IfSome a (λ x. IsNoRoom x → LacksWrite key does hand'.seat) → IfWritten hand' key does a
+  wrote old key does a w lacks =
+      let said : IsNoRoom (answers.Op w.reply w.hint) → LacksWrite key does hand'.seat = subst (λ (z : Option Answer). IfSome z (λ x. IsNoRoom x → LacksWrite key does hand'.seat)) w.is lacks in
+      subst (IfWritten hand' key does) (sym w.is) (record {
+        before = old.trail;
+        writes = subst (λ (z : ℕ). Writes e.first z (write_op key does) w.reply w.hint old.trail e.trail) (sym num) w.writes;
+        no_room = λ none. said (subst (λ (z : Reply). IsNoRoom (answers.Op z w.hint)) (sym none) tt);
+      })
 
-  pub replied : (s : Stage) (a : Option Answer) (s' : Stage) → Stands tree hand s → HasAdvanced events d e s a s' → HasAnswered hand' s a
-  replied stage.Rests a s' st adv = tt
-  replied (stage.Writes p held) a s' st (inl end) = wrote st.old _ a (write_ends hand.number st.old e p.write end.last a end.kind end.answers (end.done hand.number st.old st.since))
-  replied (stage.Writes p held) a s' st (inr still) = subst (IfOp hand' (write_op p.write.key p.write.write)) (sym still.none) tt
-  replied (stage.Posts p held) a s' st adv = tt
-  replied (stage.Compresses p held) a s' st adv = tt
-  replied (stage.Lowers p held) a s' st adv = tt
+  pub replied : (s : Stage) (a : Option Answer) (s' : Stage) → Stands tree hand s → HasAdvanced events d e s a s' → IfSome a (λ x. IsNoRoom x → LacksIn s hand'.seat) → HasAnswered hand' s a
+  replied stage.Rests a s' st adv lacks = tt
+  replied (stage.Writes p held) a s' st (inl end) lacks = wrote st.old p.write.key p.write.write a (write_ends hand.number st.old e p.write end.last a end.kind end.answers (end.done hand.number st.old st.since)) lacks
+  replied (stage.Writes p held) a s' st (inr still) lacks = subst (IfWritten hand' p.write.key p.write.write) (sym still.none) tt
+  replied (stage.Posts p held) a s' st adv lacks = tt
+  replied (stage.Compresses p held) a s' st adv lacks = tt
+  replied (stage.Lowers p held) a s' st adv lacks = tt
 
   -- ---- where the process has ended, the hand rests
 

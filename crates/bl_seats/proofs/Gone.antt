@@ -18,7 +18,9 @@ use Rattle.bl_index_rule.specs.declared.known.PassState.{PassState}
 use Rattle.bl_index.specs.declared.index.Index.{Index}
 use Rattle.std.specs.Prelude.{IfNone}
 use Rattle.bl_seats.specs.Seats.{HasNotFound, HasWorked, HasAnswered, HasWritten}
+use Rattle.std.specs.Arc.{arc_value}
 use Rattle.bl_seats.specs.Calls.{HasBegun, account_of, number_of}
+use Rattle.bl_seats.specs.Meetings.{HasSettled}
 
 pub stays : (pass : ℕ) (old : Account) → GoesTo pass old old
 stays pass old = (None, refl)
@@ -53,9 +55,9 @@ about_op key write (stage.Posts p held) about = absurd about
 about_op key write (stage.Compresses p held) about = absurd about
 about_op key write (stage.Lowers p held) about = absurd about
 
-pub written_of : (key : ℕ) (write : KeyWrite) (s : Stage) (hand : Hand PassState) (reply : Reply) (hint : Option Hint) → IsWriteOf key write s → HasAnswered hand s (Some (answers.Op reply hint)) → HasWritten hand (write_op key write) reply hint
+pub written_of : (key : ℕ) (write : KeyWrite) (s : Stage) (hand : Hand PassState) (reply : Reply) (hint : Option Hint) → IsWriteOf key write s → HasAnswered hand s (Some (answers.Op reply hint)) → HasWritten hand key write reply hint
 written_of key write stage.Rests hand reply hint about h = absurd about
-written_of key write (stage.Writes p held) hand reply hint about h = subst (λ (z : ℕ × KeyWrite). HasWritten hand (write_op z.0 z.1) reply hint) (λ i. (about.0 i, about.1 i)) h
+written_of key write (stage.Writes p held) hand reply hint about h = subst (λ (z : ℕ × KeyWrite). HasWritten hand z.0 z.1 reply hint) (λ i. (about.0 i, about.1 i)) h
 written_of key write (stage.Posts p held) hand reply hint about h = absurd about
 written_of key write (stage.Compresses p held) hand reply hint about h = absurd about
 written_of key write (stage.Lowers p held) hand reply hint about h = absurd about
@@ -87,9 +89,10 @@ as_accounts old mid op (inr began) = inr began
 
 -- ---- why a search is not answered
 
-pub no_answer : {X : Type 0} (r : Option X) (index other : Index) (s : Stage) (mid new : Hand PassState) → index ≡ other → IfNone r (HasNotFound index s mid new) → IfNone r ((m : Hand PassState) × HasNotFound other s m new)
-no_answer None index other s mid new same missed = (mid, subst (λ (z : Index). HasNotFound z s mid new) same missed)
-no_answer (Some x) index other s mid new same missed = tt
+pub no_answer : {X : Type 0} (r : Option X) (index : Index) (old mid : Seat) (hand : Hand PassState) → index ≡ arc_value mid.index → HasSettled old mid → IfNone r (HasNotFound index mid.stage mid.hand hand)
+    → IfNone r ((m : Seat) × HasSettled old m × HasNotFound (arc_value mid.index) mid.stage m.hand hand)
+no_answer None index old mid hand at settled missed = (mid, settled, subst (λ (z : Index). HasNotFound z mid.stage mid.hand hand) at missed)
+no_answer (Some x) index old mid hand at settled missed = tt
 
 pub worked_still : (old mid new : Hand PassState) (s : Stage) → HasWorked old s mid → (s ≢ stage.Rests → new ≡ mid) → HasWorked old s new
 worked_still old mid new stage.Rests worked kept = inl refl

@@ -1,4 +1,6 @@
 pub mod Begun
+pub mod Goes
+pub mod Tending
 pub mod Made
 pub mod CompressEnds
 pub mod Accounts

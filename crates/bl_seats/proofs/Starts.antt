@@ -2,7 +2,7 @@
 use Rattle.std.proofs.Common.{ℕ, ◌≡◌, ◌+◌, ◌≤◌, Some, inl, inr, refl, sym, ap, ◌∙◌, subst}
 use Rattle.bl_model.specs.declared.deciding.KeyWrite.{KeyWrite}
 use Rattle.bl_model.specs.Writes.{write_op}
-use Rattle.bl_claims.specs.Seeing.{own}
+use Rattle.bl_claims.specs.Seeing.{own, GoesOnFrom}
 use Rattle.bl_proc_base.specs.declared.answers.Hint.{Hint}
 use Rattle.bl_proc_base.specs.declared.answers.Hint.TheVariants as hint
 use Rattle.bl_store.specs.declared.store.Hand.{Hand}
@@ -51,6 +51,9 @@ module _ (hand hand' : Hand PassState) (num : hand'.number ≡ hand.number) (cou
 
   pub swept : (s : Stage) → s ≡ stage.Rests → HasReleased answer s hand hand'
   swept s rests = subst (λ (z : Stage). HasReleased answer z hand hand') (sym rests) released
+
+  pub sweep_goes : GoesOnFrom (known hand.seat).trail (known hand'.seat).trail
+  sweep_goes = (released.more, released.begins)
 
   pub sweep_first : (known hand'.seat).first ≡ (known hand.seat).first
   sweep_first = elim does [

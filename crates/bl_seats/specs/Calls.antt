@@ -1,26 +1,19 @@
 -- What the calls of a seat tell.
-use Rattle.std.specs.Arc.{arc_value}
-use Rattle.std.specs.Prelude.{◌≡◌, ◌≢◌, ◌⊎◌, ℕ, ◌+◌, ◌<◌, ◌≤◌, true, Option, Some, List}
+use Rattle.std.specs.Prelude.{◌≡◌, ◌≢◌, ◌⊎◌, ℕ, ◌+◌, ◌≤◌, true, Option, Some, List}
 use Rattle.bl_model.specs.declared.deciding.KeyWrite.{KeyWrite}
 use Rattle.bl_model.specs.declared.operation.Op.{Op}
 use Rattle.bl_model.specs.declared.operation.Reply.{Reply}
-use Rattle.bl_model.specs.Writes.{write_op}
 use Rattle.bl_page.specs.declared.page.Page.{Page}
 use Rattle.bl_claims.specs.Trails.{Trail}
 use Rattle.bl_proc_base.specs.declared.answers.Hint.{Hint}
-use Rattle.bl_store.specs.declared.store.Hand.{Hand}
 use Rattle.bl_store.specs.Hands.{known}
-use Rattle.bl_index_rule.specs.declared.known.PassState.{PassState}
 use Rattle.bl_index_turns.specs.declared.stages.Stage.{Stage}
 use Rattle.bl_index_turns.specs.declared.stages.Stage.TheVariants as stage
 use Rattle.bl_index_turns.specs.Stages.{IsWriteOf, IsFor, IsLowering}
-use Rattle.bl_seats.specs.declared.seat.Come.{Come}
-use Rattle.bl_seats.specs.declared.seat.Come.TheVariants.{Waits, Underway, Answered}
 use Rattle.bl_seats.specs.declared.seat.Seat.{Seat}
-use Rattle.bl_seats.specs.declared.seat.Upkeep.{Upkeep}
-use Rattle.bl_seats.specs.Seats.{IsSameOne, HasReplied, HasWritten, HasReleased, HasNotFound, HasWorked, begun_in}
+use Rattle.bl_seats.specs.Seats.{IsSameOne, HasReplied, HasReleased, HasWorked, begun_in}
 use Rattle.bl_seats.specs.Accounts.{Account, account, GoesTo, Tells, Begins}
-use Rattle.bl_seats.specs.Waits.{hints_of, IsIdle, IsKept, IsTaken}
+use Rattle.bl_seats.specs.Waits.{hints_of, IsIdle, IsTaken, lacked_in}
 
 -- the number of its pass, which its entries have
 abbrev pub number_of : Seat → ℕ
@@ -69,14 +62,6 @@ HasBegun op old new = Begins (number_of old) op (account_of old) (account_of new
 abbrev pub HasGoneOnOrBegun : Op → Seat → Seat → Type 0
 HasGoneOnOrBegun op old new = HasGoneOn old new ⊎ HasBegun op old new
 
--- Why a search or a part is not answered: something is underway; or the last that the seat has done is a search that ran out of turns.
-abbrev pub HasNoAnswer : Seat → Type 0
-HasNoAnswer new = (mid : Hand PassState) × HasNotFound (arc_value new.index) new.stage mid new.hand
-
--- Why a write is not answered: something is underway; or there was no room, once or more often in a row.
-abbrev pub HasToWait : Seat → Type 0
-HasToWait new = (new.stage ≢ stage.Rests) ⊎ (0 < new.upkeep.lacked)
-
 -- What was underway has ended, or has gone on by 256 events and a few more until it holds no page.
 abbrev pub HasCarriedOn : Seat → Seat → Type 0
 HasCarriedOn old new = HasWorked old.hand new.stage new.hand
@@ -97,13 +82,6 @@ HasDoneMost most old new = (new.stage ≢ stage.Rests) ⊎ (begun_by old + most 
 abbrev pub HasNothingToDo : Seat → Type 0
 HasNothingToDo seat = (seat.stage ≡ stage.Rests) × IsIdle seat.upkeep
 
--- The write has told its reply last, and has written what that means; what it has left to do waits, behind what waited before it ended.
-pub record HasChanged (op : Op) (reply : Reply) (new : Seat) : Type 0 where
-  pub hint : Option Hint
-  pub written : HasWritten new.hand op reply hint
-  pub before : Upkeep
-  pub kept : IsKept hint before new.upkeep
-
 -- It has swept, if nothing is underway, and was answered how many pages and frames are released.
 abbrev pub HasSwept : ℕ → Seat → Seat → Type 0
 HasSwept answer old new = HasReleased answer old.stage old.hand new.hand
@@ -111,11 +89,6 @@ HasSwept answer old new = HasReleased answer old.stage old.hand new.hand
 -- A piece of upkeep is underway that was due: a lowering where the top level may be one that is not needed, or the oldest that waited.
 abbrev pub HasBegunPiece : Seat → Seat → Type 0
 HasBegunPiece old new =
-    ((old.upkeep.may_fall ≡ true) × IsLowering new.stage × (hints_of new.upkeep ≡ hints_of old.upkeep) × (new.upkeep.dropped ≡ old.upkeep.dropped))
+    ((old.upkeep.may_fall ≡ true) × IsLowering new.stage × (hints_of new.upkeep ≡ hints_of old.upkeep) × (new.upkeep.dropped ≡ old.upkeep.dropped)
+    × (lacked_in new.upkeep ≡ lacked_in old.upkeep))
     ⊎ ((hint : Hint) × IsFor hint new.stage × IsTaken (Some hint) old.upkeep new.upkeep)
-
--- A write of the key has not begun, and is to be made again; or it is underway, and was so or began; or it has told its reply.
-abbrev pub HasCome : ℕ → KeyWrite → Seat → Seat → Come → Type 0
-HasCome key write old new Waits = HasToWait new × HasGoneOn old new
-HasCome key write old new Underway = IsAbout key write new × ((new ≡ old) ⊎ HasBegun (write_op key write) old new)
-HasCome key write old new (Answered reply) = HasChanged (write_op key write) reply new × HasTold (write_op key write) reply old new

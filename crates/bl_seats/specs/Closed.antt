@@ -1,6 +1,6 @@
 -- An index is closed by its seats.
 use Rattle.std.specs.Arc.{arc_value}
-use Rattle.std.specs.Prelude.{◌≡◌, ◌≢◌, ◌⊎◌, ℕ, ◌<◌, ◌≤◌, List, [], Option, All, length, map, vec_capacity, Box}
+use Rattle.std.specs.Prelude.{◌≡◌, ◌≢◌, ℕ, ◌<◌, ◌≤◌, List, [], Option, All, length, map, vec_capacity, Box}
 use Rattle.std.specs.List.{AllZip}
 use Rattle.std.specs.declared.alloc.Global.{Global}
 use mathlib.Core.Option.{some}

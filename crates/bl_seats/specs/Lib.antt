@@ -3,6 +3,7 @@ pub mod Pieces
 pub mod Seats
 pub mod Waits
 pub mod Calls
+pub mod Tended
 pub mod Opened
 pub mod Meetings
 pub mod Closed

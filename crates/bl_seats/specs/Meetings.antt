@@ -4,6 +4,8 @@ use Rattle.std.specs.Prelude.{◌≡◌}
 use Rattle.bl_index.specs.Meetings.{Meet}
 use Rattle.bl_index_turns.specs.declared.stages.Stage.TheVariants as stage
 use Rattle.bl_seats.specs.declared.seat.Seat.{Seat}
+use Rattle.bl_seats.specs.Seats.{HasNotFound}
+use Rattle.bl_seats.specs.Tended.{KeepsUpkeep}
 use Rattle.bl_seats.specs.Calls.{number_of, first_of_seat, seen_by, IsSameSeat, HasGoneOn, HasCarriedOn}
 
 -- both are at one index
@@ -15,7 +17,12 @@ pub record HasSettled (old new : Seat) : Type 0 where
   pub same : IsSameSeat old new
   pub told : HasGoneOn old new
   pub worked : HasCarriedOn old new
+  pub upkeep : KeepsUpkeep old new
   pub kept : old.stage ≡ stage.Rests → new ≡ old
+
+-- Why a search or a part is not answered: the seat has settled, and something is underway still; or a search ran out of turns then.
+abbrev pub HasNoAnswer : Seat → Seat → Type 0
+HasNoAnswer old new = (mid : Seat) × HasSettled old mid × HasNotFound (arc_value new.index) new.stage mid.hand new.hand
 
 -- The seat has settled, and rests.
 abbrev pub HasRested : Seat → Seat → Type 0

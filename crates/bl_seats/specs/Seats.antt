@@ -3,8 +3,12 @@ use Rattle.std.specs.Prelude.{◌≡◌, ◌≢◌, ◌⊎◌, ℕ, Option, Some
 use Rattle.bl_model.specs.declared.operation.Op.{Op}
 use Rattle.bl_model.specs.declared.operation.Op.TheVariants as op
 use Rattle.bl_model.specs.declared.operation.Reply.{Reply}
+use Rattle.bl_model.specs.declared.operation.Reply.TheVariants as replies
+use Rattle.bl_model.specs.declared.deciding.KeyWrite.{KeyWrite}
 use Rattle.bl_model.specs.Writes.{write_op}
 use Rattle.bl_claims.specs.Trails.{Trail}
+use Rattle.bl_claims.specs.Seeing.{GoesOnFrom}
+use Rattle.bl_index_steps.specs.Rooms.{LacksWrite}
 use Rattle.bl_proc_base.specs.declared.answers.Answer.{Answer}
 use Rattle.bl_proc_base.specs.declared.answers.Answer.TheVariants as answers
 use Rattle.bl_proc_base.specs.declared.answers.Hint.{Hint}
@@ -23,9 +27,10 @@ use Rattle.bl_index_turns.specs.Stages.{Stands, HasTurnedIn}
 abbrev pub IsSeated : Index → Hand PassState → Stage → Type 0
 IsSeated index hand stage = Stands index hand stage
 
--- the same hand, of the same index, as far as it tells
+-- the same hand, of the same index, as far as it tells; and what it has seen goes on from what it had seen
 abbrev pub IsSameOne : Hand PassState → Hand PassState → Type 0
-IsSameOne old new = (new.number ≡ old.number) × ((known new.seat).first ≡ (known old.seat).first)
+IsSameOne old new =
+    (new.number ≡ old.number) × ((known new.seat).first ≡ (known old.seat).first) × GoesOnFrom (known old.seat).trail (known new.seat).trail
 
 -- The last call that the hand has answered is this one: it was one process, begun and ended after all that the hand had seen when it
 -- began; what the hand has seen now is linearizable, and the call's entry is the last one of its own.
@@ -37,10 +42,12 @@ pub record HasReplied (hand : Hand PassState) (op : Op) (reply : Reply) : Type 0
 abbrev pub HasFound : Hand PassState → ℕ → Reply → Type 0
 HasFound hand key reply = HasReplied hand (op.Find key) reply
 
--- The last call that the hand has answered is this write, which has written what its reply means with the hint beside it.
-pub record HasWritten (hand : Hand PassState) (op : Op) (reply : Reply) (hint : Option Hint) : Type 0 where
+-- The last call that the hand has answered is this write, which has written what its reply means with the hint beside it. Where there was
+-- no room, the hand was refused what the write lacks.
+pub record HasWritten (hand : Hand PassState) (key : ℕ) (write : KeyWrite) (reply : Reply) (hint : Option Hint) : Type 0 where
   pub before : Trail
-  pub writes : Writes (known hand.seat).first hand.number op reply hint before (known hand.seat).trail
+  pub writes : Writes (known hand.seat).first hand.number (write_op key write) reply hint before (known hand.seat).trail
+  pub no_room : reply ≡ replies.NoRoom → LacksWrite key write hand.seat
 
 -- A search took as many turns as the index has pages, and was not answered.
 abbrev pub HasRunOut : Index → Hand PassState → Hand PassState → Type 0
@@ -60,12 +67,12 @@ abbrev pub HasWorked : Hand PassState → Stage → Hand PassState → Type 0
 HasWorked old s new = (s ≡ stage.Rests) ⊎ HasTurnedIn 256 (known old.seat) (known new.seat) s
 
 -- Of what was underway a write of a key has answered that, where it has ended. Of anything else nothing is said.
-abbrev pub IfOp : Hand PassState → Op → Option Answer → Type 0
-IfOp hand o (Some (answers.Op reply hint)) = HasWritten hand o reply hint
-IfOp hand o other = Unit {0}
+abbrev pub IfWritten : Hand PassState → ℕ → KeyWrite → Option Answer → Type 0
+IfWritten hand key write (Some (answers.Op reply hint)) = HasWritten hand key write reply hint
+IfWritten hand key write other = Unit {0}
 
 abbrev pub HasAnswered : Hand PassState → Stage → Option Answer → Type 0
-HasAnswered hand (stage.Writes p held) answer = IfOp hand (write_op p.write.key p.write.write) answer
+HasAnswered hand (stage.Writes p held) answer = IfWritten hand p.write.key p.write.write answer
 HasAnswered hand other answer = Unit {0}
 
 -- Something was underway, and nothing is done; or the hand has swept, and was answered how many pages and frames are released.

@@ -2,17 +2,18 @@
 
 ghost use Rattle.std.specs.Prelude.{◌≡◌, ◌<◌, IfNone, [], true, false};
 ghost use Rattle.std.specs.Arc.{arc_value};
-ghost use Rattle.bl_seats.specs.Pieces.{are_pieces};
+ghost use Rattle.bl_seats.specs.Pieces.{are_pieces, reply_in};
 ghost use Rattle.bl_seats.specs.Seats.{IsSeated};
 
-use crate::walk::{Walk, is_looked_through, waits_for_pages};
+use crate::walk::{Walk, is_insertion, is_looked_through, waits_for_pages};
 use crate::working::{
     begin_following, begin_lowering, find, go_on, meet, part, release, start_writing,
 };
 use arrayvec::ArrayVec;
 use bl_index::{Index, KeyReply, KeyWrite, Reply};
 use bl_index_rule::PassState;
-use bl_index_turns::Stage;
+use bl_index_steps::Tree;
+use bl_index_turns::{Stage, stands};
 use bl_proc::{Answer, Hint, Lowered, Posted, Squeezed};
 use bl_store::Hand;
 use std::alloc::Global;
@@ -70,7 +71,8 @@ pub(crate) struct Upkeep {
 }
 
 impl Upkeep {
-    ghost use Rattle.bl_seats.specs.Waits.{hints_of, IsIdle, IsKept, IsTaken, left_by, falls_after};
+    ghost use Rattle.std.specs.Prelude.{◌+◌, ◌≤◌};
+    ghost use Rattle.bl_seats.specs.Waits.{hints_of, lacked_in, ArePieces, IsIdle, IsKept, IsTaken, left_by, falls_after};
 
     pub(crate) fn new() -> Upkeep
         ensures { IsIdle result × (result.dropped ≡ 0) }
@@ -89,7 +91,7 @@ impl Upkeep {
     /// The piece waits behind the others, if there is one.
     fn keep(&mut self, piece: Option<Hint>)
         ensures kept { IsKept piece self.old self.new }
-        ensures same { (self.new.may_fall ≡ self.old.may_fall) × (self.new.doing ≡ self.old.doing) }
+        ensures same { (self.new.may_fall ≡ self.old.may_fall) × (self.new.doing ≡ self.old.doing) × (lacked_in self.new ≡ lacked_in self.old) }
     {
         let Some(hint) = piece else {
             return;
@@ -119,6 +121,7 @@ impl Upkeep {
     fn note(&mut self, answer: &Answer)
         ensures kept { IsKept (left_by self.old.doing answer.now) self.old self.new }
         ensures falls { self.new.may_fall ≡ falls_after self.old.may_fall answer.now }
+        ensures row { lacked_in self.new ≡ lacked_in self.old }
     {
         let doing = self.doing;
         match answer {
@@ -137,7 +140,8 @@ impl Upkeep {
 
     /// A change has found too few frames, or too few pages. Says whether it is to begin all the same.
     fn is_out_of_patience(&mut self) -> bool
-        ensures { result ≡ false → 0 < self.new.lacked }
+        ensures pieces { ArePieces self.old self.new }
+        ensures again { result ≡ false → (lacked_in self.new ≡ lacked_in self.old + 1) × (lacked_in self.new ≤ 65536) }
     {
         if self.lacked < PATIENCE {
             self.lacked += 1;
@@ -145,6 +149,27 @@ impl Upkeep {
         }
         self.lacked = 0;
         true
+    }
+
+    /// A walk is to look at all pages.
+    fn is_to_look(&mut self)
+        ensures { ArePieces self.old self.new × (lacked_in self.new ≡ lacked_in self.old) }
+    {
+        self.missed = true;
+    }
+
+    /// Where a walk over all pages is underway, or is to begin, it goes on to the next page that seems half full at most. The hint of that.
+    fn seek(&mut self, tree: &Tree, hand: &Hand<PassState>) -> Option<Hint>
+        ensures { ArePieces self.old self.new × (lacked_in self.new ≡ lacked_in self.old) }
+    {
+        if self.missed && !self.walk.is_underway() {
+            self.missed = false;
+            self.walk.begin(tree, hand);
+        }
+        if !self.walk.is_underway() {
+            return None;
+        }
+        self.walk.find(tree, hand)
     }
 }
 
@@ -154,20 +179,25 @@ impl Seat {
     ghost use Rattle.bl_index_turns.specs.declared.stages.Stage.TheVariants as stages;
     ghost use Rattle.bl_model.specs.Replies.{reply_of};
     ghost use Rattle.bl_model.specs.Writes.{write_op};
-    ghost use Rattle.bl_seats.specs.Seats.{HasAnswered};
+    ghost use Rattle.bl_seats.specs.Seats.{HasAnswered, HasWritten};
     ghost use Rattle.bl_seats.specs.Accounts.{AddsEntry, HasGone, Starts};
-    ghost use Rattle.bl_seats.specs.Waits.{hints_of, left_by, IsKept};
-    ghost use Rattle.bl_seats.specs.Calls.{IsSameSeat, HasToldLast, HasTold, HasGoneOn, HasGoneOnOrBegun, HasChanged, HasCome, HasSwept, HasNothingToDo, HasBegunPiece};
-    ghost use Rattle.bl_seats.specs.Calls.{HasNoAnswer, HasToWait, HasCarriedOn, HasDoneMost, count_underway};
+    ghost use Rattle.std.specs.Prelude.{ℕ, Option};
+    ghost use Rattle.bl_proc_base.specs.declared.answers.Hint.{Hint as HintIs};
+    ghost use Rattle.bl_index_turns.specs.Stages.{IsAtRest};
+    ghost use Rattle.bl_seats.specs.Waits.{hints_of, lacked_in, IsKept, IsFound, IsLeft};
+    ghost use Rattle.bl_seats.specs.Calls.{IsSameSeat, HasToldLast, HasTold, HasGoneOn, HasGoneOnOrBegun, HasSwept, HasNothingToDo, HasBegunPiece};
+    ghost use Rattle.bl_seats.specs.Calls.{HasCarriedOn, HasDoneMost, count_underway};
     ghost use Rattle.bl_seats.specs.Calls.{IsAbout, number_of, account_of, released_by, begun_by};
-    ghost use Rattle.bl_seats.specs.Meetings.{AreOfOne, HaveMet};
+    ghost use Rattle.bl_seats.specs.Tended.{IsAsItWas, KeepsUpkeep, Swept, Tends, DoesNoPiece, HasTended, HasPrepared, IsInsertion, HasToWait, HasChanged, HasCome};
+    ghost use Rattle.bl_seats.specs.Meetings.{AreOfOne, HaveMet, HasSettled, HasNoAnswer};
     ghost use Rattle.bl_index.specs.Calls.{pages_of};
 
     /// The value of a key, or that the key is absent. None: it ran out of turns, or a change is underway; it is to be made again.
     pub fn find(&mut self, key: u64) -> Option<KeyReply>
         ensures same { IsSameSeat self.old self.new }
         ensures worked { HasCarriedOn self.old self.new }
-        ensures missed { IfNone result (HasNoAnswer self.new) }
+        ensures upkeep { KeepsUpkeep self.old self.new }
+        ensures missed { IfNone result (HasNoAnswer self.old self.new) }
         ensures found { IfSome result (λ reply. HasToldLast (op.Find key) (reply_of reply) self.new) }
         ensures told { MatchOption result (HasGoneOn self.old self.new) (λ reply. HasTold (op.Find key) (reply_of reply) self.old self.new) }
     {
@@ -179,7 +209,8 @@ impl Seat {
     pub fn part(&mut self, from: u64, near: &mut Option<u32>) -> Option<Reply>
         ensures same { IsSameSeat self.old self.new }
         ensures worked { HasCarriedOn self.old self.new }
-        ensures missed { IfNone result (HasNoAnswer self.new) }
+        ensures upkeep { KeepsUpkeep self.old self.new }
+        ensures missed { IfNone result (HasNoAnswer self.old self.new) }
         ensures listed { IfSome result (λ reply. HasToldLast (op.Part from) reply self.new) }
         ensures told { MatchOption result (HasGoneOn self.old self.new) (λ reply. HasTold (op.Part from) reply self.old self.new) }
     {
@@ -191,8 +222,8 @@ impl Seat {
     /// may still take effect, in a later call of the seat.
     pub fn write(&mut self, key: u64, write: KeyWrite) -> Option<Reply>
         ensures same { IsSameSeat self.old self.new }
-        ensures waits { IfNone result (HasToWait self.new) }
-        ensures changed { IfSome result (λ reply. HasChanged (write_op key write) reply self.new) }
+        ensures waits { IfNone result (HasToWait write self.old self.new × HasPrepared self.old self.new.upkeep) }
+        ensures changed { IfSome result (λ reply. HasChanged key write reply self.old self.new) }
         ensures told { MatchOption result (HasGoneOnOrBegun (write_op key write) self.old self.new)
             (λ reply. HasTold (write_op key write) reply self.old self.new) }
     {
@@ -200,8 +231,8 @@ impl Seat {
             Come::Waits => None,
             Come::Answered(reply) => Some(reply),
             Come::Underway => match self.go_on() {
-                Some(Answer::Op(reply, _)) => Some(reply),
-                _ => None,
+                Some(answer) => reply_in(answer),
+                None => None,
             },
         }
     }
@@ -212,13 +243,15 @@ impl Seat {
         ensures told { HasGoneOn self.old self.new }
         ensures done { result ≡ true ↔ HasNothingToDo self.new }
         ensures most { result ≡ false → HasDoneMost most self.old self.new }
+        ensures tended { HasTended most self.old self.new }
+        ensures row { lacked_in self.new.upkeep ≡ lacked_in self.old.upkeep }
     {
         for _piece in 0..most {
             self.look_about();
             if !self.takes_up() {
                 return true;
             }
-            self.go_on();
+            let _ = self.go_on();
             if !self.is_at_rest() {
                 return false;
             }
@@ -245,6 +278,7 @@ impl Seat {
         ensures same { IsSameSeat self.old self.new × IsSameSeat other.old other.new }
         ensures told { HasGoneOn self.old self.new × HasGoneOn other.old other.new }
         ensures worked { HasCarriedOn self.old self.new × HasCarriedOn other.old other.new }
+        ensures upkeep { KeepsUpkeep self.old self.new × KeepsUpkeep other.old other.new }
         ensures waits { result ≡ false → (self.new.stage ≢ stages.Rests) ⊎ (other.new.stage ≢ stages.Rests) }
         ensures met { result ≡ true → HaveMet self.old other.old self.new other.new }
     {
@@ -257,6 +291,17 @@ impl Seat {
             &mut other.hand,
             &other.stage,
         )
+    }
+
+    /// What is underway goes on. Says whether the seat rests: its hand runs no process, and holds no page. One that rests may be dropped; a seat
+    /// that is dropped before keeps all others from releasing what was swapped out, and may leave a page latched.
+    pub fn rest(&mut self) -> bool
+        ensures settled { HasSettled self.old self.new }
+        ensures rests { result ≡ true ↔ self.new.stage ≡ stages.Rests }
+        ensures idle { result ≡ true → IsAtRest (arc_value self.new.index) self.new.hand }
+    {
+        self.settle();
+        self.is_idle()
     }
 
     /// How many pages its index has.
@@ -294,6 +339,15 @@ impl Seat {
         }
     }
 
+    /// Whether its hand runs no process, and holds no page.
+    fn is_idle(&self) -> bool
+        ensures rests { result ≡ true ↔ self.now.stage ≡ stages.Rests }
+        ensures idle { result ≡ true → IsAtRest (arc_value self.now.index) self.now.hand }
+    {
+        stands(self.index.tree(), &self.hand, &self.stage);
+        self.is_at_rest()
+    }
+
     /// Whether nothing is underway, and nothing waits.
     fn has_nothing_to_do(&self) -> bool
         ensures { result ≡ true ↔ HasNothingToDo self.now }
@@ -316,11 +370,13 @@ impl Seat {
         ensures same { IsSameSeat self.old self.new }
         ensures told { HasGoneOn self.old self.new }
         ensures worked { HasCarriedOn self.old self.new }
+        ensures upkeep { KeepsUpkeep self.old self.new }
         ensures kept { self.old.stage ≡ stages.Rests → self.new ≡ self.old }
     {
-        if !self.is_at_rest() {
-            self.go_on();
+        if self.is_at_rest() {
+            return;
         }
+        self.go_on();
     }
 
     /// What is underway goes on. What it leaves to do waits. Gives its answer, where it has ended.
@@ -332,8 +388,7 @@ impl Seat {
         ensures worked { HasCarriedOn self.old self.new }
         ensures still { IfNone result ((self.old.stage ≡ stages.Rests) ⊎ (self.new.stage ≢ stages.Rests)) }
         ensures begun { begun_by self.new ≡ begun_by self.old }
-        ensures noted { MatchOption result (self.new.upkeep ≡ self.old.upkeep)
-            (λ answer. IsKept (left_by self.old.upkeep.doing answer) self.old.upkeep self.new.upkeep) }
+        ensures left { IsLeft result self.old.upkeep self.new.upkeep }
     {
         let answer = go_on(&self.index, &mut self.hand, &mut self.stage);
         if let Some(answer) = &answer {
@@ -348,8 +403,9 @@ impl Seat {
         requires { self.old.stage ≡ stages.Rests }
         ensures same { IsSameSeat self.old self.new }
         ensures told { account_of self.new ≡ account_of self.old }
-        ensures piece { MatchBool result (HasBegunPiece self.old self.new) (HasNothingToDo self.new) }
+        ensures piece { MatchBool result (HasBegunPiece self.old self.new) (HasNothingToDo self.new × IsAsItWas self.old self.new) }
         ensures begun { result ≡ true → begun_by self.new ≡ begun_by self.old + 1 }
+        ensures row { lacked_in self.new.upkeep ≡ lacked_in self.old.upkeep }
     {
         if self.upkeep.may_fall {
             self.upkeep.may_fall = false;
@@ -367,7 +423,9 @@ impl Seat {
     fn takes_up(&mut self) -> bool
         ensures same { IsSameSeat self.old self.new }
         ensures told { account_of self.new ≡ account_of self.old }
-        ensures none { result ≡ false → HasNothingToDo self.new }
+        ensures none { result ≡ false → HasNothingToDo self.new × IsAsItWas self.old self.new }
+        ensures piece { result ≡ true → ((self.old.stage ≢ stages.Rests) × (self.new ≡ self.old)) ⊎ ((self.old.stage ≡ stages.Rests) × HasBegunPiece self.old self.new) }
+        ensures row { lacked_in self.new.upkeep ≡ lacked_in self.old.upkeep }
         ensures begun { result ≡ true → begun_by self.new + count_underway self.old.stage ≡ begun_by self.old + 1 }
     {
         if !self.is_at_rest() {
@@ -398,20 +456,18 @@ impl Seat {
         ensures same { IsSameSeat self.old self.new }
         ensures told { HasGoneOn self.old self.new }
         ensures rests { result ≡ true → self.new.stage ≡ stages.Rests }
-        ensures waits { result ≡ false → HasToWait self.new }
+        ensures prepared { HasPrepared self.old self.new.upkeep }
+        ensures waits { result ≡ false → HasToWait write self.old self.new }
     {
         self.tend(PIECES);
         if !self.is_at_rest() {
             return false;
         }
-        if !self.has_room() {
-            return false;
+        if self.finds_room(key, write) {
+            self.upkeep.lacked = 0;
+            return true;
         }
-        if !self.has_pages(key, write) {
-            return false;
-        }
-        self.upkeep.lacked = 0;
-        true
+        self.upkeep.is_out_of_patience()
     }
 
     /// The write begins, and goes on by the words of pages. Its reply, where it is answered at once: what it leaves to do waits then. Else it
@@ -419,8 +475,9 @@ impl Seat {
     fn start(&mut self, key: u64, write: KeyWrite) -> Option<Reply>
         requires { self.old.stage ≡ stages.Rests }
         ensures same { IsSameSeat self.old self.new }
-        ensures underway { IfNone result (IsAbout key write self.new × Starts (write_op key write) (account_of self.old) (account_of self.new)) }
-        ensures answered { IfSome result (λ reply. HasChanged (write_op key write) reply self.new
+        ensures underway { IfNone result (IsAbout key write self.new × Starts (write_op key write) (account_of self.old) (account_of self.new)
+            × (self.new.upkeep ≡ self.old.upkeep)) }
+        ensures answered { IfSome result (λ reply. ((hint : Option HintIs) × HasWritten self.new.hand key write reply hint × IsKept hint self.old.upkeep self.new.upkeep)
             × AddsEntry (number_of self.old) (write_op key write) reply (account_of self.old) (account_of self.new)) }
     {
         match start_writing(&self.index, &mut self.hand, &mut self.stage, key, write) {
@@ -434,20 +491,39 @@ impl Seat {
         }
     }
 
-    /// Whether a change finds enough frames. It sweeps, so many times at most.
-    fn has_room(&mut self) -> bool
+    /// Whether a change finds enough frames, and enough pages. It looks for them, so many times at most.
+    fn finds_room(&mut self, key: u64, write: KeyWrite) -> bool
         ensures same { IsSameSeat self.old self.new }
         ensures told { account_of self.new ≡ account_of self.old }
-        ensures keeps { self.new.stage ≡ self.old.stage }
-        ensures waits { result ≡ false → 0 < self.new.upkeep.lacked }
+        ensures keeps { (self.new.stage ≡ self.old.stage) × (lacked_in self.new.upkeep ≡ lacked_in self.old.upkeep) }
+        ensures looked { DoesNoPiece self.old self.new }
+        ensures none { result ≡ false → Swept 8 self.old self.new ⊎ (IsInsertion write × Tends 0 self.old self.new) }
+    {
+        if !self.has_frames() {
+            return false;
+        }
+        self.has_pages(key, write)
+    }
+
+    /// Whether a change finds enough frames. It sweeps, so many times at most.
+    fn has_frames(&mut self) -> bool
+        ensures same { IsSameSeat self.old self.new }
+        ensures told { account_of self.new ≡ account_of self.old }
+        ensures keeps { (self.new.stage ≡ self.old.stage) × (self.new.upkeep ≡ self.old.upkeep) }
+        ensures swept { (n : ℕ) × Swept n self.old self.new × (result ≡ false → n ≡ 8) }
     {
         for _look in 0..LOOKS {
-            if !self.index.tree().store.lacks_frames(&self.hand) {
+            if !self.lacks_frames() {
                 return true;
             }
             self.sweep();
         }
-        self.upkeep.is_out_of_patience()
+        false
+    }
+
+    /// Whether too few frames are free now while some wait to be released.
+    fn lacks_frames(&self) -> bool {
+        self.index.tree().store.lacks_frames(&self.hand)
     }
 
     /// Whether an insertion finds a page for a split, or may begin since none is to be found: a walk has looked at all pages. Else the hint
@@ -455,9 +531,13 @@ impl Seat {
     fn has_pages(&mut self, key: u64, write: KeyWrite) -> bool
         ensures same { IsSameSeat self.old self.new }
         ensures told { account_of self.new ≡ account_of self.old }
-        ensures keeps { self.new.stage ≡ self.old.stage }
-        ensures waits { result ≡ false → 0 < self.new.upkeep.lacked }
+        ensures keeps { (self.new.stage ≡ self.old.stage) × (lacked_in self.new.upkeep ≡ lacked_in self.old.upkeep) }
+        ensures looked { DoesNoPiece self.old self.new }
+        ensures only { result ≡ false → IsInsertion write }
     {
+        if !is_insertion(write) {
+            return true;
+        }
         if !self.index.tree().may_lack_pages(key, write) {
             return true;
         }
@@ -465,18 +545,19 @@ impl Seat {
         if is_looked_through(self.index.tree()) {
             return true;
         }
-        self.upkeep.missed = true;
+        self.upkeep.is_to_look();
         self.look_about();
-        self.upkeep.is_out_of_patience()
+        false
     }
 
     /// Sweeps while pages are scarce and some wait to be released, so many times at most.
     fn release_pages(&mut self)
         ensures same { IsSameSeat self.old self.new }
         ensures told { account_of self.new ≡ account_of self.old }
-        ensures keeps { self.new.stage ≡ self.old.stage }
+        ensures keeps { (self.new.stage ≡ self.old.stage) × (self.new.upkeep ≡ self.old.upkeep) }
+        ensures swept { (n : ℕ) × Swept n self.old self.new }
     {
-        for _look in 0..LOOKS {
+        for _sweep in 0..LOOKS {
             if !waits_for_pages(self.index.tree()) {
                 return;
             }
@@ -488,19 +569,24 @@ impl Seat {
     /// The hint of that waits then.
     fn look_about(&mut self)
         ensures same { (self.new.index ≡ self.old.index) × (self.new.hand ≡ self.old.hand) × (self.new.stage ≡ self.old.stage) }
+        ensures found { (piece : Option HintIs) × IsFound piece self.old.upkeep self.new.upkeep }
     {
         if !self.has_nothing_to_do() {
             return;
         }
         let tree = self.index.tree();
-        if self.upkeep.missed && !self.upkeep.walk.is_underway() {
-            self.upkeep.missed = false;
-            self.upkeep.walk.begin(tree, &self.hand);
-        }
-        if self.upkeep.walk.is_underway() {
-            let hint = self.upkeep.walk.find(tree, &self.hand);
-            self.upkeep.keep(hint);
-        }
+        let hint = self.upkeep.seek(tree, &self.hand);
+        self.upkeep.keep(hint);
+    }
+}
+
+/// The reply of an operation of the map.
+fn reply_in(answer: Answer) -> Option<Reply>
+    ensures { result ≡ reply_in answer }
+{
+    match answer {
+        Answer::Op(reply, _) => Some(reply),
+        _ => None,
     }
 }
 

@@ -1,5 +1,8 @@
 //! A walk over all pages of an index, to find such as are half full at most. It stops at each, and goes on from there.
 
+ghost use Rattle.std.specs.Prelude.{◌≡◌, true};
+ghost use Rattle.bl_seats.specs.Tended.{IsInsertion};
+
 use bl_index::{Hint, KeyWrite};
 use bl_index_rule::PassState;
 use bl_index_steps::Tree;
@@ -72,6 +75,13 @@ impl Walk {
         }
         None
     }
+}
+
+/// Whether it inserts.
+pub(crate) fn is_insertion(write: KeyWrite) -> bool
+    ensures { result ≡ true → IsInsertion write }
+{
+    matches!(write, KeyWrite::Insert(_))
 }
 
 /// Whether pages are scarce while some wait to be released.

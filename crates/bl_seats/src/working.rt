@@ -120,7 +120,7 @@ pub(crate) fn start_writing(
     ensures same { IsSameOne hand.old hand.new }
     ensures stands { IsSeated index.now hand.new stage.new }
     ensures underway { IfNone result (IsWriteOf key write stage.new × Starts (write_op key write) (account hand.old stage.old) (account hand.new stage.new)) }
-    ensures answered { IfSome result (λ said. (stage.new ≡ stages.Rests) × HasWritten hand.new (write_op key write) (reply_of said.0) said.1
+    ensures answered { IfSome result (λ said. (stage.new ≡ stages.Rests) × HasWritten hand.new key write (reply_of said.0) said.1
         × AddsEntry hand.old.number (write_op key write) (reply_of said.0) (account hand.old stage.old) (account hand.new stage.new)) }
 {
     stands(index.tree(), hand, stage);

@@ -14,9 +14,9 @@ pub returns-in-Some-answer-clause-told : goal.returns-in-Some-answer-clause-told
 returns-in-Some-answer-clause-told c = λ enough.
     let was = c.in-Some.ensures.held ∙ ap (λ (z : Seat). Some z) (sym c.deref_mut.ensures.value) in
     called c.args.seat.now c.put_back.new.place _ _ c.deref_mut.result.now c.part-answer.new.self was c.put_back.ensures c.part-answer.ensures.same
-    (inr (refl, (c.in-Some-answer.reply, c.in-Some-answer.ensures.told, c.in-Some-answer.ensures.listed, near_any c.in-Some-answer.reply c.args.rows.now c.listed.new.rows c.listed.new.part c.unwrap_or-part.result c.listed.ensures)))
+    (c.part-answer.ensures.upkeep, inr (refl, (c.in-Some-answer.reply, (c.in-Some-answer.ensures.told, c.in-Some-answer.ensures.listed), near_any c.in-Some-answer.reply c.args.rows.now c.listed.new.rows c.listed.new.part c.unwrap_or-part.result c.listed.ensures)))
 
 pub returns-in-None-clause-told : goal.returns-in-None-clause-told
 returns-in-None-clause-told c = λ enough.
     let was = c.in-Some.ensures.held ∙ ap (λ (z : Seat). Some z) (sym c.deref_mut.ensures.value) in
-    called c.args.seat.now c.put_back.new.place _ _ c.deref_mut.result.now c.part-answer.new.self was c.put_back.ensures c.part-answer.ensures.same (inl (refl, (c.in-None.ensures.told, c.part-answer.ensures.worked, c.in-None.ensures.missed)))
+    called c.args.seat.now c.put_back.new.place _ _ c.deref_mut.result.now c.part-answer.new.self was c.put_back.ensures c.part-answer.ensures.same (c.part-answer.ensures.upkeep, inl (refl, (c.in-None.ensures.told, c.part-answer.ensures.worked, c.in-None.ensures.missed)))

@@ -23,5 +23,5 @@ returns-else-met c = let e = c.meet-met.ensures in inr (record {
   were = (c.in-Some.ensures.held ∙ ap (λ (z : Seat). Some z) (sym c.deref_mut.ensures.value), c.in-Some-taken.ensures.held ∙ ap (λ (z : Seat). Some z) (sym c.deref_mut-2.ensures.value));
   are = (c.put_back-2.ensures, c.put_back-3.ensures);
   same = e.same;
-  come = inr (refl, (e.told, e.worked, e.waits c.if-met.false));
+  come = inr (refl, (e.told, e.worked, e.upkeep, e.waits c.if-met.false));
 })

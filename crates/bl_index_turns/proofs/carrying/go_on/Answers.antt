@@ -1,4 +1,4 @@
-use Rattle.std.proofs.Common.{ℕ, ◌≡◌, ◌≤◌, ◌+◌, ◌-◌, rules, refl, sym, ap, ◌∙◌, subst, inl, inr, arith}
+use Rattle.std.proofs.Common.{ℕ, ◌≡◌, ◌≤◌, ◌+◌, ◌-◌, ◌++◌, [], ◌∷◌, rules, refl, sym, ap, ◌∙◌, subst, inl, inr, arith}
 use Rattle.bl_claims.specs.Trails.{marks_of}
 use Rattle.bl_proc_bounds.specs.Latches.{IsTidy}
 use Rattle.bl_proc_invariant.specs.Logs.{proc_log}
@@ -13,6 +13,14 @@ use Rattle.std.proofs.lemmas.Bool.{false≢true}
 use Rattle.bl_index_turns.specs.Holding.{HoldsNone}
 use Rattle.bl_index_turns.proofs.Briefs.{near_on, none_after, yields_on}
 use Rattle.bl_index_turns.proofs.Marks.{more_marks}
+use Rattle.bl_proc_base.specs.declared.acts.Seen.TheVariants as seen
+use Rattle.bl_proc.specs.declared.kinds.Proc.{Proc}
+use Rattle.bl_proc_unique.proofs.RefusedAnswers.{answers_refused}
+use Rattle.bl_index_steps.proofs.Held.{ends_keeps}
+use Rattle.bl_index_steps.proofs.Standing.{on_held}
+use Rattle.bl_index_turns.specs.Rooms.{LacksRoom}
+use Rattle.bl_index_turns.proofs.Goes.{goes_nowhere, goes_further}
+use Rattle.bl_index_turns.proofs.Rooms.{knows_on, lacks_back, ends_lacking}
 use Rattle.bl_index_turns.proofs.carrying.go_on.Goals.{else-event-least-via-then-event-least+else-holds_none, else-event-least-via-else-event-least}
 use Rattle.bl_index_turns.proofs.carrying.go_on.Goals as goal
 
@@ -37,6 +45,9 @@ loop-event-preserved g c =
       yields = λ first. yields_on _ after.3.0 _ after.3.2 (inv.yields first);
       op = follows.op ∙ inv.op;
       work = follows.work ∙ inv.work;
+      on = goes_further _ _ _ inv.on (_, after.1.1.steps.notes.trail);
+      room = knows_on c.loop-event.hand.seat c.step.new.hand.seat (g.P.Kind.proc_of c.loop-event.process) after.3.0 (g.P.Kind.proc_of c.step.new.process) inv.process.state (on_held _ (known c.loop-event.hand.seat) _ inv.process) after.1 after.3.2 after.3.3 after.4 inv.room;
+      about = λ h lacks. inv.about h (lacks_back (g.P.Kind.proc_of c.loop-event.process) after.3.0 (g.P.Kind.proc_of c.step.new.process) after.3.2 h lacks);
       reserved = after.2;
     }
 
@@ -71,6 +82,34 @@ returns-in-AtEnd-clause-done g c = λ _ pass old begun.
       log = subst (λ (z : ℕ × ℕ). proc_log (g.P.Kind.proc_of c.finish.new.process) (marks_of (name z.0 z.1) (known c.finish.new.hand.seat).trail)) (λ i. (since.named i, since.number i)) finish.log;
       tidy = subst (λ (z : ℕ × ℕ). IsTidy (g.P.Kind.proc_of c.finish.new.process) (marks_of (name z.0 z.1) (known c.finish.new.hand.seat).trail)) (λ i. (since.named i, since.number i)) finish.tidy;
     }
+
+pub returns-in-AtEnd-clause-on : goal.returns-in-AtEnd-clause-on
+returns-in-AtEnd-clause-on g c =
+    let after = c.in-AtEnd.ensures.after in
+    goes_further _ _ _ c.loop-event.invariant.on (_, c.finish.ensures.observed.notes.trail ∙ ap (λ (z : PassState). z.trail ++ (c.finish.ensures.observed.notes.between ++ c.finish.ensures.observed.notes.last ∷ [])) after.2)
+
+pub returns-in-AtEnd-clause-no_room : goal.returns-in-AtEnd-clause-no_room
+returns-in-AtEnd-clause-no_room g c = λ _ a is none.
+    let laws = g.met.P.Kind in
+    let inv = c.loop-event.invariant in
+    let after = c.in-AtEnd.ensures.after in
+    let p = g.P.Kind.proc_of c.loop-event.process in let q = g.P.Kind.proc_of c.step.new.process in let last = g.P.Kind.proc_of c.finish.new.process in
+    let takes = laws.goes _ _ _ c.finish.ensures.takes in
+    let lacks = ends_lacking c.loop-event.hand.seat c.step.new.hand.seat c.finish.new.hand.seat p q last after.1 after.2 after.4 takes c.finish.ensures.refusal
+    (ends_keeps _ (known c.step.new.hand.seat) (known c.finish.new.hand.seat) c.finish.ensures.observed) inv.room (answers_refused _ a (laws.answers c.finish.new.process ∙ is) none) in
+    inv.about c.finish.new.hand.seat (subst (λ (z : Proc). LacksRoom z c.finish.new.hand.seat) after.1 (lacks_back q seen.Done last takes c.finish.new.hand.seat lacks))
+
+pub returns-after-loop-event-clause-on : goal.returns-after-loop-event-clause-on
+returns-after-loop-event-clause-on g c = c.loop-event.invariant.on
+
+pub returns-after-loop-event-clause-room : goal.returns-after-loop-event-clause-room
+returns-after-loop-event-clause-room g c = λ _. c.loop-event.invariant.room
+
+pub returns-then-holds_none-clause-on : goal.returns-then-holds_none-clause-on
+returns-then-holds_none-clause-on g c = c.loop-event.invariant.on
+
+pub returns-then-holds_none-clause-room : goal.returns-then-holds_none-clause-room
+returns-then-holds_none-clause-room g c = λ _. c.loop-event.invariant.room
 
 pub returns-after-loop-event-clause-runs : goal.returns-after-loop-event-clause-runs
 returns-after-loop-event-clause-runs g c = let inv = c.loop-event.invariant in λ _. (record { own = search rules; running = inv.running; on = inv.process }, inv.reserved)

@@ -4,6 +4,11 @@ use Rattle.bl_store.specs.Hands.{known, IsRunning, IsSameHand}
 use Rattle.bl_proc_unique.specs.Frames.{op_of, work_of}
 use Rattle.bl_index_steps.specs.Runs.{IsOn, HasReserved, IsSameProcess}
 use Rattle.bl_index_steps.specs.Held.{own_marks}
+use Rattle.atomic_table.specs.declared.shared.Seat.{Seat}
+use Rattle.bl_frames.specs.declared.view.View.{View}
+use Rattle.bl_claims.specs.Seeing.{GoesOnFrom}
+use Rattle.bl_index_rule.specs.declared.known.PassState.{PassState}
+use Rattle.bl_index_turns.specs.Rooms.{KnowsRoom, LacksRoom}
 use Rattle.bl_index_turns.specs.Stages.{Yields}
 use Rattle.bl_index_turns.proofs.Briefs.{IsNear}
 use Rattle.bl_index_turns.proofs.carrying.go_on.Given as goal
@@ -20,5 +25,8 @@ invariant-loop-event g l = record {
   yields : Yields (g.P.Kind.proc_of l.fn.process) → Yields (g.P.Kind.proc_of l.process);
   op : op_of (g.P.Kind.proc_of l.process) ≡ op_of (g.P.Kind.proc_of l.fn.process);
   work : work_of (g.P.Kind.proc_of l.process) ≡ work_of (g.P.Kind.proc_of l.fn.process);
+  on : GoesOnFrom (known l.fn.hand.seat).trail (known l.hand.seat).trail;
+  room : KnowsRoom l.hand.seat (g.P.Kind.proc_of l.process);
+  about : (h : Seat (Unit {0}) (View PassState)) → LacksRoom (g.P.Kind.proc_of l.process) h → LacksRoom (g.P.Kind.proc_of l.fn.process) h;
   reserved : HasReserved l.hand.seat l.stock (g.P.Kind.proc_of l.process);
 }

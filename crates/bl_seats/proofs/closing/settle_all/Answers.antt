@@ -18,7 +18,7 @@ loop-number-preserved c =
     let inv = c.loop-number.invariant in let long = inv.long in
     let lt : i < length now = omega (arith, c.loop-number-test.true, long) in
     let e = c.settle.ensures in
-    let settled : HasSettled was.value is.value = subst (λ (z : Seat). HasSettled z c.settle.new.self) (c.deref_mut.ensures.value ∙ ap (λ (z : Boxed). z.value) (sym c.index-seats-number.is)) (record { same = e.same; told = e.told; worked = e.worked; kept = e.kept }) in
+    let settled : HasSettled was.value is.value = subst (λ (z : Seat). HasSettled z c.settle.new.self) (c.deref_mut.ensures.value ∙ ap (λ (z : Boxed). z.value) (sym c.index-seats-number.is)) (record { same = e.same; told = e.told; worked = e.worked; upkeep = e.upkeep; kept = e.kept }) in
     let at = item_at now i was lt c.index-seats-number.is in
     let stage = ap (λ (z : Seat). z.stage) c.deref.ensures in
     elim c.if-not-is_at_rest.branch [

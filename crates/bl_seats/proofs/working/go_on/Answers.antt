@@ -5,12 +5,12 @@ use Rattle.bl_seats.proofs.working.go_on.Goals as goal
 pub returns-clause-same : goal.returns-clause-same
 returns-clause-same c =
     let num = same_number c.args.hand.now c.advance.new.hand c.advance.ensures.same in
-    (num, first_after 256 _ c.args.hand.now c.advance.new.hand num c.args.stage.now c.advance.result c.advance.new.stage c.stands.ensures c.advance.ensures.answers)
+    (num, first_after 256 _ c.args.hand.now c.advance.new.hand num c.args.stage.now c.advance.result c.advance.new.stage c.stands.ensures c.advance.ensures.answers, c.advance.ensures.on)
 
 pub returns-clause-answers : goal.returns-clause-answers
 returns-clause-answers c =
     let num = same_number c.args.hand.now c.advance.new.hand c.advance.ensures.same in
-    replied 256 _ c.args.hand.now c.advance.new.hand num c.args.stage.now c.advance.result c.advance.new.stage c.stands.ensures c.advance.ensures.answers
+    replied 256 _ c.args.hand.now c.advance.new.hand num c.args.stage.now c.advance.result c.advance.new.stage c.stands.ensures c.advance.ensures.answers c.advance.ensures.no_room
 
 pub returns-clause-gone : goal.returns-clause-gone
 returns-clause-gone c =

@@ -1,4 +1,4 @@
-use Rattle.std.proofs.Common.{sym, subst}
+use Rattle.std.proofs.Common.{refl, sym, subst}
 use Rattle.bl_model.specs.declared.operation.Reply.{Reply}
 use Rattle.bl_model.specs.Writes.{write_op}
 use Rattle.bl_seats.specs.Seats.{HasWritten}
@@ -12,11 +12,12 @@ returns-in-Some-clause-answered c =
     let op = write_op c.args.key c.args.write in
     let is = sym c.reply-reply.ensures in
     let said = c.in-Some.ensures.answered in (
-      record {
-        hint = c.in-Some.hint;
-        written = subst (λ (z : Reply). HasWritten hand op z c.in-Some.hint) is said.1;
-        before = old.upkeep;
-        kept = c.keep.ensures.kept;
-      },
+      (c.in-Some.hint, subst (λ (z : Reply). HasWritten hand c.args.key c.args.write z c.in-Some.hint) is said.1, c.keep.ensures.kept),
       subst (λ (z : Reply). AddsEntry (number_of old) op z (account_of old) (account hand stage)) is said.2,
     )
+
+pub returns-in-Some-clause-same : goal.returns-in-Some-clause-same
+returns-in-Some-clause-same c = (refl, c.start_writing.ensures.same)
+
+pub returns-in-None-clause-same : goal.returns-in-None-clause-same
+returns-in-None-clause-same c = (refl, c.start_writing.ensures.same)

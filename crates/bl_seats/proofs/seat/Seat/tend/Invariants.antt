@@ -1,6 +1,8 @@
 use Rattle.std.proofs.Common.{◌≡◌, ◌⊎◌, ◌+◌, ◌≤◌}
 use Rattle.bl_index_turns.specs.declared.stages.Stage.TheVariants as stage
 use Rattle.bl_seats.specs.Calls.{IsSameSeat, HasGoneOn, begun_by, count_underway}
+use Rattle.bl_seats.specs.Tended.{Tends}
+use Rattle.bl_seats.specs.Waits.{lacked_in}
 use Rattle.bl_seats.proofs.seat.Seat.tend.Given as goal
 
 abbrev pub invariant-loop-piece : goal.invariant-loop-piece
@@ -9,4 +11,6 @@ invariant-loop-piece l = record {
   told : HasGoneOn l.fn.self l.self;
   rests : (l.self.stage ≡ stage.Rests) ⊎ ((l._piece ≡ 0) × (l.self ≡ l.fn.self));
   done : begun_by l.fn.self + l._piece ≤ begun_by l.self + count_underway l.fn.self.stage;
+  tends : Tends l._piece l.fn.self l.self;
+  row : lacked_in l.self.upkeep ≡ lacked_in l.fn.self.upkeep;
 }
