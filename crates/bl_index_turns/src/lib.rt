@@ -1,4 +1,4 @@
-//! Processes in so many turns, for programs that may not wait. A write starts by the words of pages, and is mostly over then. A process
+//! Processes in so many turns, for programs that may not wait. A write and a post start by the words of pages, and are mostly over then. A process
 //! that is not goes on by so many events, and by a few more until it holds no page. It is then at its end, or comes back as it stands and
 //! is taken up again by a later call. Where a latch is another's it spins a little, and lets no other thread run: its caller does that
 //! between two calls.
@@ -9,6 +9,7 @@
 
 mod carrying;
 mod holding;
+mod posting;
 mod spinning;
 mod stages;
 mod sweeping;
@@ -16,6 +17,7 @@ mod writing;
 
 pub use carrying::go_on;
 pub use holding::Holder;
+pub use posting::start_post;
 pub use stages::{Stage, advance, begin_hint, begin_lower, stands, start_write};
 pub use sweeping::sweep;
 pub use writing::Writing;

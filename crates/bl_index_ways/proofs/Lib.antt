@@ -2,3 +2,4 @@ pub mod Written
 pub mod Spreading
 pub mod Splits
 pub mod Walked
+pub mod HandedOver

@@ -40,6 +40,8 @@ use Rattle.bl_index_ways.specs.declared.writers.Left.TheVariants.{Refused}
 use Rattle.bl_index_steps.specs.declared.tree.Tree.{Tree}
 use Rattle.bl_index_ways.specs.declared.parents.Walked.{Walked}
 use Rattle.bl_index_ways.specs.declared.parents.Walked.TheVariants.{On, Found, Stale, Lost}
+use Rattle.bl_index_ways.specs.declared.reaching.Neared.{Neared}
+use Rattle.bl_index_ways.specs.declared.reaching.Neared.TheVariants as neared
 use Rattle.bl_index_ways.specs.declared.reaching.Reached.{Reached}
 use Rattle.bl_index_ways.specs.declared.reaching.Reached.TheVariants.{Parent, Again, NoLevel}
 use Rattle.bl_index_ways.specs.Posters.{Staged, Opened}
@@ -142,12 +144,40 @@ HasWalked level key staged l x words y d Found = (below : level < 12) × (c : Ed
 HasWalked level key staged l x words y d Stale = IsOn l d (staged (post.Staying x reply.Stale) tt tt)
 HasWalked level key staged l x words y d Lost = IsOn l d (staged (post.Coming (Leaving x None)) tt tt)
 
+-- It is the walk with that key from page x, which has these words, that is to get page y.
+abbrev pub IsWalkOf : ℕ → ℕ → List ℕ → ℕ → Walk → Type 0
+IsWalkOf x key words y walk = (walk.at ≡ x) × (walk.key ≡ key) × (words ≡ words_of (Inner walk.parent)) × (walk.child ≡ y)
+
+-- It holds its parent x, which has these words, and is to get page y on its way to the child that covers its key.
+pub record WalksOn (tree : Tree) (h : Seat (Unit {0}) (View PassState)) (hand : Hand PassState) (level key : ℕ) (staged : Staged level) (x : ℕ)
+    (words : List ℕ) (y : ℕ) : Type 0 where
+  pub same : IsSameHand h hand.seat
+  pub empty : HasNoStock hand.seat
+  pub runs : Runs tree hand (known hand.seat).state
+  pub walking : IsWalking level key staged x words y (known hand.seat).state
+  pub since : IsSameProcess (known h) (known hand.seat)
+
+-- It holds its parent, and is on that walk.
+pub record WalksStill (tree : Tree) (h : Seat (Unit {0}) (View PassState)) (hand : Hand PassState) (level : ℕ) (staged : Staged level) (walk : Walk) :
+    Type 0 where
+  pub same : IsSameHand h hand.seat
+  pub empty : HasNoStock hand.seat
+  pub below : level < 12
+  pub runs : Runs tree hand (staged (post.Walking walk) below tt)
+  pub since : IsSameProcess (known h) (known hand.seat)
+
 -- It is at the page of its level that covers its key; or its way begins again; or it has got the anchor of a tree without its level.
 abbrev pub HasReached : ℕ → ℕ → (Approach → Proc) → Layout → Seat (Unit {0}) (View PassState) → Reached → Type 0
 HasReached level key at l h (Parent x glance) = ReadsFrom h glance × IsThere level key (at (Latched x)) (read_words h) (known h)
     × IsOn l (known h) (known h).state
 HasReached level key at l h Again = IsOn l (known h) (at Start)
 HasReached level key at l h (NoLevel glance) = ReadsFrom h glance × HasGotAnchor (at Start) (read_words h) (known h) × IsOn l (known h) (known h).state
+
+-- The same of one who may not wait: it is there, has given up and stands so, or has got that anchor.
+abbrev pub HasNeared : ℕ → ℕ → (Approach → Proc) → Layout → Seat (Unit {0}) (View PassState) → Neared → Type 0
+HasNeared level key at l h (neared.Parent x glance) = HasComeTo level key at l h (x, glance)
+HasNeared level key at l h (neared.Underway a) = HasGivenUp at l (known h) a
+HasNeared level key at l h (neared.NoLevel glance) = ReadsFrom h glance × HasGotAnchor (at Start) (read_words h) (known h) × IsOn l (known h) (known h).state
 
 -- the same, by what it has come to where the tree has its level
 abbrev pub reached_by : Option (ℕ × Glance) → Reached

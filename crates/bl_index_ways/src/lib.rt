@@ -17,12 +17,14 @@ mod posters;
 mod reaching;
 mod splitting;
 mod targets;
+mod walks;
 mod writers;
 
 pub use coming::{begin_descent, descend, descend_within};
 pub use leaves::write_there;
 pub use parents::post_there;
 pub use posters::Poster;
-pub use reaching::{Reached, reach};
+pub use reaching::{Neared, Reached, reach, reach_within};
 pub use targets::{Target, Unborn};
+pub use walks::post_there_within;
 pub use writers::{Left, Writer};

@@ -1,6 +1,6 @@
 //! At a parent that who posts holds, by the words of pages.
 
-ghost use Rattle.std.specs.Prelude.{◌≡◌, ◌≢◌, ◌<◌, ◌-◌, Some, None};
+ghost use Rattle.std.specs.Prelude.{◌≡◌, ◌≢◌, ◌<◌, ◌-◌, Some, None, MatchOption, IfOk, IfErr};
 ghost use Rattle.bl_page.specs.declared.page.Page.{Page};
 ghost use Rattle.bl_page.specs.Words.{words_of};
 ghost use Rattle.bl_page.specs.Nodes.{node_of, IsTreePage};
@@ -14,7 +14,7 @@ ghost use Rattle.bl_proc_writes.specs.Posts.{post_reply};
 ghost use Rattle.bl_store.specs.Hands.{known, read_words, IsRunning, HasNoStock, ReadsFrom};
 ghost use Rattle.bl_store.specs.Owners.{IsHandOf};
 ghost use Rattle.bl_index_steps.specs.Runs.{Runs, Keeps, IsOn, IsSameProcess};
-ghost use Rattle.bl_index_ways.specs.Events.{IsThere, IsToEnter, IsWalking, HasWalked, LeavesParent};
+ghost use Rattle.bl_index_ways.specs.Events.{IsThere, IsToEnter, IsWalking, HasWalked, LeavesParent, WalksOn};
 ghost use Rattle.bl_proc_writes.specs.declared.posting.PostReply.TheVariants as replies;
 
 use crate::editors::Listing;
@@ -75,7 +75,7 @@ fn low_in<W: Words>(source: &W, hand: &mut W::Hand) -> u64
 }
 
 /// The parent that it holds stays as it is.
-fn stay<P: Poster>(
+pub(crate) fn stay<P: Poster>(
     tree: &Tree,
     hand: &mut Hand<PassState>,
     poster: &P,
@@ -161,7 +161,40 @@ fn walk_on<P: Poster>(
 }
 
 /// It walks from the parent, with these words, to the child that covers its key. What it replies, unless its way begins
-/// again.
+/// again. Where it has not come to the child after so many turns, it gives the page that it is to get next, and holds the parent still.
+pub(crate) fn walk_within<P: Poster>(
+    tree: &Tree,
+    hand: &mut Hand<PassState>,
+    poster: &P,
+    at: u32,
+    parent: &[u64; 32],
+    child: u32,
+    turns: u32,
+) -> Result<Option<PostReply>, u32>
+    requires runs { Runs tree.now hand.old (known hand.old.seat).state }
+    requires empty { HasNoStock hand.old.seat }
+    requires walking { IsWalking (P.level_of poster.now) (P.key_of poster.now) (P.staged poster.now) at parent.now child (known hand.old.seat).state }
+    ensures left { IfOk result (λ replies. LeavesParent tree.now hand.old.seat hand.new (P.level_of poster.now) (P.key_of poster.now) (P.staged poster.now)
+        (P.opened poster.now) replies) }
+    ensures walks { IfErr result (λ next. WalksOn tree.now hand.old.seat hand.new (P.level_of poster.now) (P.key_of poster.now) (P.staged poster.now) at
+        parent.now next) }
+{
+    let mut child = child;
+    for _turn in 0..turns {
+        match walk_on(tree, hand, poster, at, parent, child) {
+            Walked::On(next) => child = next,
+            Walked::Found => return Ok(list(tree, hand, poster, at, parent, child)),
+            Walked::Stale => return Ok(stay(tree, hand, poster, at, PostReply::Stale)),
+            Walked::Lost => {
+                tree.reopen(hand, at);
+                return Ok(None);
+            }
+        }
+    }
+    Err(child)
+}
+
+/// The same, however long it takes.
 fn walk<P: Poster, R: Wait>(
     tree: &Tree,
     rt: &R,
@@ -178,17 +211,43 @@ fn walk<P: Poster, R: Wait>(
 {
     let mut child = child;
     for _ in rt.forever() {
-        match walk_on(tree, hand, poster, at, parent, child) {
-            Walked::On(next) => child = next,
-            Walked::Found => return list(tree, hand, poster, at, parent, child),
-            Walked::Stale => return stay(tree, hand, poster, at, PostReply::Stale),
-            Walked::Lost => {
-                tree.reopen(hand, at);
-                return None;
-            }
+        match walk_within(tree, hand, poster, at, parent, child, u32::MAX) {
+            Ok(replies) => return replies,
+            Err(next) => child = next,
         }
     }
     unreachable!()
+}
+
+/// At the parent that it holds, which covers the key. Notes the parent's words. Gives the child that its walk begins with, unless the
+/// parent lists the key.
+pub(crate) fn begin_walk<P: Poster>(
+    tree: &Tree,
+    hand: &mut Hand<PassState>,
+    poster: &P,
+    at: u32,
+    glance: Glance,
+    parent: &mut [u64; 32],
+) -> Option<u32>
+    requires runs { Runs tree.now hand.old (known hand.old.seat).state }
+    requires reads { ReadsFrom hand.old.seat glance }
+    requires there { IsThere (P.level_of poster.now) (P.key_of poster.now) (P.staged poster.now (post.Coming (approach.Latched at)) tt tt)
+        (read_words hand.old.seat) (known hand.old.seat) }
+    ensures same { hand.new ≡ hand.old }
+    ensures begins { MatchOption result ((known hand.old.seat).state ≡ P.staged poster.now (post.Staying at replies.Already) tt tt)
+        (λ child. IsWalking (P.level_of poster.now) (P.key_of poster.now) (P.staged poster.now) at parent.new child (known hand.old.seat).state) }
+{
+    let _ = at;
+    let key = poster.key();
+    let shown = FrameView {
+        store: &tree.store,
+        glance,
+    };
+    if let Some(_child) = row_in(&shown, hand, &mut 0, key) {
+        return None;
+    }
+    *parent = words_from(&shown, hand);
+    Some(first_child(parent, poster.level(), key))
 }
 
 /// At the parent that it holds, which covers the key.
@@ -207,15 +266,9 @@ pub fn post_there<P: Poster, R: Wait>(
         (read_words hand.old.seat) (known hand.old.seat) }
     ensures { LeavesParent tree.now hand.old.seat hand.new (P.level_of poster.now) (P.key_of poster.now) (P.staged poster.now) (P.opened poster.now) result }
 {
-    let key = poster.key();
-    let shown = FrameView {
-        store: &tree.store,
-        glance,
-    };
-    if let Some(_child) = row_in(&shown, hand, &mut 0, key) {
-        return stay(tree, hand, poster, at, PostReply::Already);
+    let mut parent = [0; 32];
+    match begin_walk(tree, hand, poster, at, glance, &mut parent) {
+        Some(child) => walk(tree, rt, hand, poster, at, &parent, child),
+        None => stay(tree, hand, poster, at, PostReply::Already),
     }
-    let parent = words_from(&shown, hand);
-    let child = first_child(&parent, poster.level(), key);
-    walk(tree, rt, hand, poster, at, &parent, child)
 }

@@ -6,9 +6,9 @@ ghost use Rattle.bl_page.specs.Nodes.{roots_of};
 ghost use Rattle.bl_proc_base.specs.declared.approaching.Approach.TheVariants as approach;
 ghost use Rattle.bl_store.specs.Hands.{known, read_words, ReadsFrom};
 ghost use Rattle.bl_index_steps.specs.Runs.{Runs, Keeps, IsSameProcess};
-ghost use Rattle.bl_index_ways.specs.Events.{HasGotAnchor, HasReached, HoldsNone, reached_by};
+ghost use Rattle.bl_index_ways.specs.Events.{HasGotAnchor, HasNeared, HasReached, HoldsNone, reached_by};
 
-use crate::coming::come_from;
+use crate::coming::{come_from, come_within};
 use crate::targets::Target;
 use bl_index_rule::PassState;
 use bl_index_steps::{FrameView, Tree};
@@ -24,6 +24,17 @@ pub enum Reached {
     Parent(u32, Glance),
     /// Its way begins again.
     Again,
+    /// The anchor of a tree that has no such level, which it has looked at.
+    NoLevel(Glance),
+}
+
+/// What a writer has come to that looks for a parent and may not wait.
+#[derive(Clone, Copy)]
+pub enum Neared {
+    /// The page of its level that covers its key, which it holds and has looked at.
+    Parent(u32, Glance),
+    /// It has given up on its way, and holds no page.
+    Underway(Approach),
     /// The anchor of a tree that has no such level, which it has looked at.
     NoLevel(Glance),
 }
@@ -93,5 +104,30 @@ pub fn reach<J: Target, R: Wait>(
             Err(glance) => Reached::NoLevel(glance),
         },
         _ => Reached::by(come_from(tree, rt, hand, target, path, from)),
+    }
+}
+
+/// From the anchor it comes to the page of its level that covers its key, as above, unless the tree has no such level. It waits for
+/// nothing, and gives up as any writer does that may not wait.
+#[inline(always)]
+pub fn reach_within<J: Target>(
+    tree: &Tree,
+    hand: &mut Hand<PassState>,
+    target: &J,
+    path: &mut J::Path,
+    turns: u32,
+) -> Neared
+    requires runs { Runs tree.now hand.old (J.at target.now path.old approach.Start) }
+    requires led { (c : Page) → J.level_of target.now < (roots_of c).levels → J.IsLedBy target.now c }
+    ensures same { Keeps hand.old.seat hand.new.seat }
+    ensures neared { HasNeared (J.level_of target.now) (J.key_of target.now) (J.at target.now path.new) tree.now.store.layout hand.new.seat result }
+    ensures since { IsSameProcess (known hand.old.seat) (known hand.new.seat) }
+{
+    match look_up(tree, hand, target, path) {
+        Ok(way) => match come_within(tree, hand, target, path, way, turns) {
+            Ok((at, glance)) => Neared::Parent(at, glance),
+            Err(way) => Neared::Underway(way),
+        },
+        Err(glance) => Neared::NoLevel(glance),
     }
 }

@@ -1,3 +1,4 @@
 pub mod Alone
 pub mod PostEnds
+pub mod Underway
 pub mod Climbs

@@ -1,9 +1,11 @@
 -- A process of which a pass has no value: it knows where the process stands.
-use Rattle.std.specs.Prelude.{◌≡◌, ℕ, Option, Some, None}
+use Rattle.std.specs.Prelude.{◌≡◌, ◌≢◌, ℕ, Option, Some, None}
 use Rattle.atomic_table.specs.declared.shared.Seat.{Seat}
 use Rattle.bl_model.specs.declared.deciding.KeyWrite.{KeyWrite}
 use Rattle.bl_frames.specs.declared.view.View.{View}
+use Rattle.bl_store.specs.declared.store.Hand.{Hand}
 use Rattle.bl_store.specs.Hands.{known, HasNoStock}
+use Rattle.bl_proc_base.specs.declared.acts.Action.TheVariants as act
 use Rattle.bl_proc_base.specs.declared.answers.Answer.TheVariants as answer
 use Rattle.bl_proc_base.specs.declared.answers.Hint.{Hint}
 use Rattle.bl_proc_base.specs.declared.answers.Posted.{Posted}
@@ -17,10 +19,12 @@ use Rattle.bl_proc_writes.specs.declared.posting.PostStage.TheVariants as post
 use Rattle.bl_proc_writes.specs.Levels.{IsBelowTop}
 use Rattle.bl_proc.specs.declared.kinds.Proc.{Proc}
 use Rattle.bl_proc.specs.declared.kinds.Proc.TheVariants as proc
-use Rattle.bl_proc.specs.Processes.{answer_of}
+use Rattle.bl_proc.specs.Processes.{answer_of, next_of}
+use Rattle.bl_proc_unique.specs.Refusals.{IsRefused, PutsRefused}
 use Rattle.bl_index_rule.specs.declared.known.PassState.{PassState}
 use Rattle.bl_index_write.specs.declared.targets.Posting.{Posting}
-use Rattle.bl_index_steps.specs.Runs.{IsSince, IsDone, Rests}
+use Rattle.bl_index_steps.specs.Runs.{IsSince, IsDone, Rests, Runs, HasReserved}
+use Rattle.bl_index_steps.specs.declared.tree.Tree.{Tree}
 use Rattle.bl_index_steps.specs.Rooms.{LacksPost}
 use Rattle.bl_proc_base.specs.declared.answers.Posted.TheVariants as posted
 use Rattle.bl_proc_base.specs.declared.answers.Answer.{Answer}
@@ -51,6 +55,15 @@ pub record IsPostOver (j : Posting) (d : PassState) (h : Seat (Unit {0}) (View P
   pub empty : HasNoStock h
   pub no_room : what ≡ posted.NoRoom → LacksPost j.level j.key h
   pub is_posted : (pass : ℕ) (old : PassState) → IsSince pass old d → HasPosted pass old (known h) (posting j post.New tt) what hint
+
+-- The post of that key to that level is underway: the hand runs it, has reserved nothing, and was refused nothing.
+pub record IsPostUnderway (tree : Tree) (hand : Hand PassState) (level key : ℕ) (p : Post) : Type 0 where
+  pub level_is : p.level ≡ level
+  pub key_is : p.key ≡ key
+  pub runs : Runs tree hand (proc.Post p)
+  pub going : (answer_of (proc.Post p) ≡ None) × (next_of (proc.Post p) ≢ act.Begin)
+  pub reserved : HasReserved hand.seat None (proc.Post p)
+  pub free : (IsRefused (proc.Post p) → ⊥) × (PutsRefused (proc.Post p) → ⊥)
 
 -- the answer of a post
 abbrev pub IsPostAnswer : Option Answer → Type 0

@@ -3,8 +3,8 @@
 //!
 //! Promised to the index: what each answers, with its hint, and that its process did what a process of its kind does. They go by their
 //! events and by the words of the pages, so that no page is made of words that are only looked at. Where a tree is to get one more level,
-//! which is rare, a post goes by a process value. A write of one key may also go without waiting: it gives up where it would wait, and says
-//! where it stands.
+//! which is rare, a post goes by a process value. A write of one key and a post may also go without waiting: they give up where they would
+//! wait, and say where they stand.
 #![tactic(auto)]
 
 mod climbing;
@@ -14,5 +14,5 @@ mod targets;
 mod writing;
 
 pub use climbing::insert_key_posting;
-pub use posting::post_key;
+pub use posting::{post_key, post_within};
 pub use writing::{begin_write, end_write, write_key, write_within};

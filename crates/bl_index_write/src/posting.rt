@@ -1,9 +1,14 @@
 //! Posts, by the words of pages.
 
-ghost use Rattle.std.specs.Prelude.{◌≡◌, ◌<◌, ◌≤◌, ◌-◌, ℕ, Some, None};
+ghost use Rattle.std.specs.Prelude.{◌≡◌, ◌<◌, ◌≤◌, ◌-◌, ℕ, Some, None, IfOk, IfErr};
+ghost use Rattle.bl_page.specs.declared.page.Page.{Page};
+ghost use Rattle.bl_page.specs.Words.{words_of};
+ghost use Rattle.bl_proc_base.specs.declared.acts.Seen.TheVariants as seen;
 ghost use Rattle.bl_proc_base.specs.declared.answers.Answer.TheVariants as answers;
 ghost use Rattle.bl_proc_base.specs.declared.approaching.Approach.TheVariants as approach;
 ghost use Rattle.bl_proc.specs.declared.kinds.Proc.{Proc};
+ghost use Rattle.bl_proc.specs.declared.kinds.Proc.TheVariants as proc;
+ghost use Rattle.bl_proc.specs.Processes.{Takes};
 ghost use Rattle.bl_proc_writes.specs.declared.posting.PostStage.TheVariants as post;
 ghost use Rattle.bl_proc_writes.specs.Levels.{MayReply};
 ghost use Rattle.bl_proc_writes.specs.Posts.{posted_answer};
@@ -11,9 +16,9 @@ ghost use Rattle.bl_proc_unique.specs.Frames.{work_of};
 ghost use Rattle.bl_store.specs.Hands.{known, read_words, IsIdle, IsSameHand, HasNoStock, ReadsFrom};
 ghost use Rattle.bl_store.specs.Owners.{IsHandOf};
 ghost use Rattle.bl_index_rule.specs.declared.known.PassState.{PassState as Knows};
-ghost use Rattle.bl_index_steps.specs.Runs.{Runs, Rests, IsSince};
-ghost use Rattle.bl_index_ways.specs.Events.{HasGotAnchor};
-ghost use Rattle.bl_index_write.specs.Events.{posting, HasPosted, IsPostOver, IsPostAnswer};
+ghost use Rattle.bl_index_steps.specs.Runs.{Runs, Rests, IsSince, IsSameProcess};
+ghost use Rattle.bl_index_ways.specs.Events.{HasGotAnchor, IsThere};
+ghost use Rattle.bl_index_write.specs.Events.{posting, HasPosted, IsPostOver, IsPostUnderway, IsPostAnswer};
 ghost use Rattle.bl_index_steps.specs.Rooms.{LacksPost};
 ghost use Rattle.bl_proc_base.specs.declared.answers.Posted.TheVariants as postings;
 ghost use Rattle.bl_proc_writes.specs.declared.posting.PostReply.TheVariants as replies;
@@ -21,12 +26,18 @@ ghost use Rattle.bl_proc_writes.specs.declared.posting.PostReply.TheVariants as 
 use crate::targets::Posting;
 use bl_index_rule::PassState;
 use bl_index_steps::{FrameView, Tree};
-use bl_index_ways::{Reached, begin_descent, post_there, reach};
+use bl_index_ways::{
+    Neared, Reached, begin_descent, post_there, post_there_within, reach, reach_within,
+};
 use bl_proc::{Answer, Hint, Posted, Process, Reader};
 use bl_proc_base::{Approach, Level};
-use bl_proc_writes::{Post, PostReply, PostStage};
+use bl_proc_writes::{Post, PostReply, PostStage, Walk};
 use bl_store::{Glance, Hand};
 use std::sync::Wait;
+
+/// How many pages a post gets at most on its walk from a parent that it holds to the child, before it goes on as a value. Until then it has
+/// made no more than 64 events while it held that: the parent's own get is one, and a parent that is split takes five.
+const WALK: u32 = 58;
 
 /// What became of a post, and its hint.
 fn posted(answer: Option<Answer>) -> (Posted, Option<Hint>)
@@ -78,6 +89,52 @@ fn end_post(
     posted_by(target.level, reply)
 }
 
+/// A post that has come so far on its way to its parent.
+fn on_way(target: Posting, way: Approach) -> Post
+    ensures { proc.Post result ≡ posting target (post.Coming way) tt }
+{
+    Post {
+        level: target.level,
+        key: target.key,
+        stage: PostStage::Coming(way),
+    }
+}
+
+/// A post that is on that walk from its parent to its child.
+fn on_walk(target: Posting, walk: Walk) -> Post
+    requires { target.level < 12 }
+    ensures { (below : target.level < 12) → proc.Post result ≡ posting target (post.Walking walk) below }
+{
+    Post {
+        level: target.level,
+        key: target.key,
+        stage: PostStage::Walking(walk),
+    }
+}
+
+/// The tree has no such level: the post has got the anchor, and goes on as a value.
+fn looked_up(tree: &Tree, hand: &mut Hand<PassState>, target: Posting, glance: Glance) -> Post
+    requires runs { Runs tree.now hand.old (known hand.old.seat).state }
+    requires reads { ReadsFrom hand.old.seat glance }
+    requires empty { HasNoStock hand.old.seat }
+    requires anchor { HasGotAnchor (posting target (post.Coming approach.Start) tt) (read_words hand.old.seat) (known hand.old.seat) }
+    ensures same { hand.new ≡ hand.old }
+    ensures underway { IsPostUnderway tree.now hand.new target.level target.key result }
+    ensures takes { (c : Page) → read_words hand.old.seat ≡ words_of c → Takes (posting target (post.Coming approach.Start) tt) (seen.Words c) (proc.Post result) }
+{
+    let shown = FrameView {
+        store: &tree.store,
+        glance,
+    };
+    let mut process = Post {
+        level: target.level,
+        key: target.key,
+        stage: PostStage::Coming(Approach::Start),
+    };
+    process.took_words(&shown, hand);
+    process
+}
+
 /// The tree has no such level: it gets one more, or the post ends. This is rare, and goes by a process value.
 #[inline(never)]
 fn post_above<R: Wait>(
@@ -95,16 +152,7 @@ fn post_above<R: Wait>(
     ensures same { IsSameHand hand.old.seat hand.new.seat }
     ensures over { IsPostOver target (known hand.old.seat) hand.new.seat result.0 result.1 }
 {
-    let shown = FrameView {
-        store: &tree.store,
-        glance,
-    };
-    let mut process = Post {
-        level: target.level,
-        key: target.key,
-        stage: PostStage::Coming(Approach::Start),
-    };
-    process.took_words(&shown, hand);
+    let process = looked_up(tree, hand, target, glance);
     let process = tree.carry_on(rt, hand, process);
     posted(process.answer())
 }
@@ -159,4 +207,59 @@ pub fn post_key<R: Wait>(
     let target = Posting { level, key };
     begin_descent(tree, hand, &target);
     post_until(tree, rt, hand, target)
+}
+
+/// At the parent that it holds, which covers the key. It waits for nothing.
+fn post_at(
+    tree: &Tree,
+    hand: &mut Hand<PassState>,
+    target: Posting,
+    at: u32,
+    glance: Glance,
+) -> Result<(Posted, Option<Hint>), Post>
+    requires runs { Runs tree.now hand.old (known hand.old.seat).state }
+    requires empty { HasNoStock hand.old.seat }
+    requires reads { ReadsFrom hand.old.seat glance }
+    requires there { IsThere target.level target.key (posting target (post.Coming (approach.Latched at)) tt) (read_words hand.old.seat)
+        (known hand.old.seat) }
+    ensures same { IsSameHand hand.old.seat hand.new.seat }
+    ensures over { IfOk result (λ said. IsPostOver target (known hand.old.seat) hand.new.seat said.0 said.1) }
+    ensures underway { IfErr result (λ process. IsPostUnderway tree.now hand.new target.level target.key process
+        × IsSameProcess (known hand.old.seat) (known hand.new.seat)) }
+{
+    match post_there_within(tree, hand, &target, at, glance, WALK) {
+        Ok(Some(reply)) => Ok(end_post(tree, hand, target, reply)),
+        Ok(None) => Err(on_way(target, Approach::Start)),
+        Err(walk) => Err(on_walk(target, walk)),
+    }
+}
+
+/// Carries a post out, from its begin to its end, unless it would wait. Where it gives up on its way to the parent, after so many turns at
+/// most, where its walk from there to the child is long, and where the tree has no such level, it is underway, as the value that it
+/// gives: it holds no page, or the parent on such a walk.
+pub fn post_within(
+    tree: &Tree,
+    hand: &mut Hand<PassState>,
+    level: u32,
+    key: u64,
+    turns: u32,
+) -> Result<(Posted, Option<Hint>), Post>
+    requires own { IsHandOf tree.now.store hand.old }
+    requires idle { IsIdle hand.old.seat × HasNoStock hand.old.seat }
+    requires least { 0 < level }
+    requires most { level ≤ 12 }
+    ensures same { IsSameHand hand.old.seat hand.new.seat }
+    ensures ended { IfOk result (λ said. Rests hand.new.seat × HasNoStock hand.new.seat × ((first : Proc) × (work_of first ≡ Some (level, key))
+        × HasPosted hand.old.number (known hand.old.seat) (known hand.new.seat) first said.0 said.1)) }
+    ensures no_room { IfOk result (λ said. said.0 ≡ postings.NoRoom → LacksPost level key hand.new.seat) }
+    ensures underway { IfErr result (λ process. IsPostUnderway tree.now hand.new level key process
+        × IsSince hand.old.number (known hand.old.seat) (known hand.new.seat)) }
+{
+    let target = Posting { level, key };
+    begin_descent(tree, hand, &target);
+    match reach_within(tree, hand, &target, &mut (), turns) {
+        Neared::Parent(at, glance) => post_at(tree, hand, target, at, glance),
+        Neared::Underway(way) => Err(on_way(target, way)),
+        Neared::NoLevel(glance) => Err(looked_up(tree, hand, target, glance)),
+    }
 }

@@ -1,48 +1,25 @@
-use Rattle.std.proofs.Common.{ℕ, ◌-◌, ◌<◌, refl, sym, ap, subst, ◌∙◌}
-use Rattle.bl_page.specs.Nodes.{node_of}
-use Rattle.bl_proc_pages.specs.declared.onwards.Step.TheVariants.{Here, Down}
-use Rattle.bl_proc_pages.specs.Onwards.{Leads}
-use Rattle.bl_store.specs.Hands.{known, read_words, IsSameHand}
+use Rattle.std.proofs.Common.{sym, ap, subst, ◌∙◌}
+use Rattle.bl_store.specs.Hands.{known}
 use Rattle.bl_store.specs.declared.store.Hand.{Hand}
 use Rattle.bl_index_rule.specs.declared.known.PassState.{PassState}
-use Rattle.bl_index_steps.specs.Runs.{IsSameProcess}
-use Rattle.bl_index_ways.specs.Events.{IsWalking}
-use Rattle.bl_index_steps.proofs.Standing.{none_of}
-use Rattle.bl_index_ways.proofs.Walked.{stands_already, stands_walking, leaves_since}
+use Rattle.bl_index_ways.specs.Events.{IsWalking, LeavesParent}
 use Rattle.bl_index_ways.proofs.parents.post_there.Goals as goal
-
-pub stay-requires-clause-process : goal.stay-requires-clause-process
-stay-requires-clause-process g c =
-    let p = c.args.poster.now in let there = c.requires.there in
-    let row = c.row_in.ensures.row there.page there.is ∙ ap (λ z. (node_of there.page).look z) c.key-key.ensures in
-    let stands = stands_already (g.P.Poster.level_of p) (g.P.Poster.key_of p) (g.P.Poster.staged p) (g.P.Poster.opened p) (g.P.Poster.posts p) c.args.at there.page _ there.takes there.leads c.in-Some._child (sym c.in-Some.is ∙ row) in
-    (tt, ap (λ (h : Hand PassState). (known h.seat).state) c.row_in.ensures.same ∙ stands)
-
-pub returns-in-Some : goal.returns-in-Some
-returns-in-Some g c =
-    let still = sym c.row_in.ensures.same in
-    leaves_since c.args.tree.now c.args.hand.now.seat c.row_in.new.hand.seat c.stay.new.hand _ _ _ _ _
-    (subst (λ (h : Hand PassState). IsSameHand c.args.hand.now.seat h.seat) still (refl, refl, refl)) (subst (λ (h : Hand PassState). IsSameProcess (known c.args.hand.now.seat) (known h.seat)) still (λ pass old since. since)) c.stay.ensures
-
-pub first_child-child-requires-clause-least : goal.first_child-child-requires-clause-least
-first_child-child-requires-clause-least g c = subst (λ (z : ℕ). 0 < z) (sym c.level.ensures) (g.P.Poster.posts c.args.poster.now).least
-
-pub first_child-child-requires-clause-page : goal.first_child-child-requires-clause-page
-first_child-child-requires-clause-page g c =
-    let there = c.requires.there in
-    (there.page, c.words_from-parent.ensures.words ∙ (ap (λ (h : Hand PassState). read_words h.seat) c.row_in.ensures.same ∙ there.is), subst (λ (z : ℕ × ℕ). Leads there.page z.0 z.1 Here) (λ i. (sym c.key-key.ensures i, sym c.level.ensures i)) there.leads)
 
 pub walk-requires-clause-walking : goal.walk-requires-clause-walking
 walk-requires-clause-walking g c =
-    let p = c.args.poster.now in let level = g.P.Poster.level_of p in let key = g.P.Poster.key_of p in let staged = g.P.Poster.staged p in let there = c.requires.there in
-    let is = c.words_from-parent.ensures.words ∙ (ap (λ (h : Hand PassState). read_words h.seat) c.row_in.ensures.same ∙ there.is) in
-    let none = sym (none_of c.row_in.result c.in_default.not-Some) ∙ (c.row_in.ensures.row there.page there.is ∙ ap (λ z. (node_of there.page).look z) c.key-key.ensures) in
-    let down = subst (λ (z : ℕ × ℕ). Leads there.page z.0 (z.1 - 1) (Down c.first_child-child.result)) (λ i. (c.key-key.ensures i, c.level.ensures i)) (c.first_child-child.ensures there.page is) in
-    let walking = stands_walking level key staged (g.P.Poster.opened p) (g.P.Poster.posts p) c.args.at c.first_child-child.result there.page c.words_from-parent.result _ there.takes is there.leads none down in
-    subst (λ (h : Hand PassState). IsWalking level key staged c.args.at c.words_from-parent.result c.first_child-child.result (known h.seat).state) (sym (c.words_from-parent.ensures.same ∙ c.row_in.ensures.same)) walking
+    let p = c.args.poster.now in
+    subst (λ (h : Hand PassState). IsWalking (g.P.Poster.level_of p) (g.P.Poster.key_of p) (g.P.Poster.staged p) c.args.at c.begin_walk.new.parent c.in-Some.child (known h.seat).state) (sym c.begin_walk.ensures.same)
+    c.in-Some.ensures.begins
 
-pub returns : goal.returns
-returns g c =
-    let still = sym (c.words_from-parent.ensures.same ∙ c.row_in.ensures.same) in
-    leaves_since c.args.tree.now c.args.hand.now.seat c.words_from-parent.new.hand.seat c.walk.new.hand _ _ _ _ _
-    (subst (λ (h : Hand PassState). IsSameHand c.args.hand.now.seat h.seat) still (refl, refl, refl)) (subst (λ (h : Hand PassState). IsSameProcess (known c.args.hand.now.seat) (known h.seat)) still (λ pass old since. since)) c.walk.ensures
+pub stay-requires-clause-process : goal.stay-requires-clause-process
+stay-requires-clause-process g c = (tt, ap (λ (h : Hand PassState). (known h.seat).state) c.begin_walk.ensures.same ∙ c.in-None.ensures.begins)
+
+pub returns-in-Some : goal.returns-in-Some
+returns-in-Some g c =
+    let p = c.args.poster.now in
+    subst (λ (h : Hand PassState). LeavesParent c.args.tree.now h.seat c.walk.new.hand (g.P.Poster.level_of p) (g.P.Poster.key_of p) (g.P.Poster.staged p) (g.P.Poster.opened p) c.walk.result) c.begin_walk.ensures.same c.walk.ensures
+
+pub returns-in-None : goal.returns-in-None
+returns-in-None g c =
+    let p = c.args.poster.now in
+    subst (λ (h : Hand PassState). LeavesParent c.args.tree.now h.seat c.stay.new.hand (g.P.Poster.level_of p) (g.P.Poster.key_of p) (g.P.Poster.staged p) (g.P.Poster.opened p) c.stay.result) c.begin_walk.ensures.same c.stay.ensures
