@@ -53,7 +53,18 @@ fn many_rows_are_inserted_and_taken_away(rt: HostRuntime) -> Result<(), Fail> {
     let (map, seat) = opened(rt.alloc(), 64).ok_or("no map")?;
     let mut handle = map.handle(seat);
     assert!(rt; handle.insert(&rt, 5, 55) == KeyReply::Inserted);
-    let rows = [(9, 90), (1, 10), (5, 50), (8, 80), (2, 20), (7, 70), (3, 30), (6, 60), (4, 40), (9, 91)];
+    let rows = [
+        (9, 90),
+        (1, 10),
+        (5, 50),
+        (8, 80),
+        (2, 20),
+        (7, 70),
+        (3, 30),
+        (6, 60),
+        (4, 40),
+        (9, 91),
+    ];
     let mut replies = [KeyReply::Absent; 10];
     assert!(rt; handle.insert_many(&rt, &rows, &mut replies) == 10);
     let mut wanted = [KeyReply::Inserted; 10];
@@ -62,7 +73,13 @@ fn many_rows_are_inserted_and_taken_away(rt: HostRuntime) -> Result<(), Fail> {
     assert!(rt; replies == wanted);
     let mut gone = [KeyReply::NoRoom; 3];
     assert!(rt; handle.delete_many(&rt, &[9, 5, 9], &mut gone) == 3);
-    assert!(rt; gone == [KeyReply::Deleted(90), KeyReply::Deleted(55), KeyReply::Absent]);
+    assert!(rt;
+        gone == [
+            KeyReply::Deleted(90),
+            KeyReply::Deleted(55),
+            KeyReply::Absent
+        ]
+    );
     assert!(rt; handle.find(&rt, 4) == KeyReply::Found(40));
     Ok(())
 }
