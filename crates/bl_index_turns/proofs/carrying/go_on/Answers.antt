@@ -19,7 +19,7 @@ use Rattle.bl_proc_unique.proofs.RefusedAnswers.{answers_refused}
 use Rattle.bl_index_steps.proofs.Held.{ends_keeps}
 use Rattle.bl_index_steps.proofs.Standing.{on_held}
 use Rattle.bl_index_turns.specs.Rooms.{LacksRoom}
-use Rattle.bl_index_turns.proofs.Goes.{goes_nowhere, goes_further}
+use Rattle.bl_index_turns.proofs.Goes.{goes_further}
 use Rattle.bl_index_turns.proofs.Rooms.{knows_on, lacks_back, ends_lacking}
 use Rattle.bl_index_turns.proofs.carrying.go_on.Goals.{else-event-least-via-then-event-least+else-holds_none, else-event-least-via-else-event-least}
 use Rattle.bl_index_turns.proofs.carrying.go_on.Goals as goal
