@@ -5,15 +5,17 @@ use Rattle.bl_model.specs.declared.operation.Op.{Op}
 use Rattle.bl_model.specs.declared.operation.Reply.{Reply}
 use Rattle.bl_page.specs.declared.page.Page.{Page}
 use Rattle.bl_claims.specs.Trails.{Trail}
+use Rattle.bl_proc_base.specs.declared.answers.Answer.{Answer}
 use Rattle.bl_proc_base.specs.declared.answers.Hint.{Hint}
 use Rattle.bl_store.specs.Hands.{known}
 use Rattle.bl_index_turns.specs.declared.stages.Stage.{Stage}
 use Rattle.bl_index_turns.specs.declared.stages.Stage.TheVariants as stage
 use Rattle.bl_index_turns.specs.Stages.{IsWriteOf, IsFor, IsLowering}
 use Rattle.bl_seats.specs.declared.seat.Seat.{Seat}
-use Rattle.bl_seats.specs.Seats.{IsSameOne, HasReplied, HasReleased, HasWorked, begun_in}
+use Rattle.bl_seats.specs.declared.seat.Upkeep.{Upkeep}
+use Rattle.bl_seats.specs.Seats.{IsSameOne, HasReplied, HasFollowed, HasReleased, HasWorked, begun_in}
 use Rattle.bl_seats.specs.Accounts.{Account, account, GoesTo, Tells, Begins}
-use Rattle.bl_seats.specs.Waits.{hints_of, IsIdle, IsTaken, lacked_in}
+use Rattle.bl_seats.specs.Waits.{hints_of, IsIdle, IsLeft, IsTaken, lacked_in}
 
 -- the number of its pass, which its entries have
 abbrev pub number_of : Seat → ℕ
@@ -86,9 +88,21 @@ HasNothingToDo seat = (seat.stage ≡ stage.Rests) × IsIdle seat.upkeep
 abbrev pub HasSwept : ℕ → Seat → Seat → Type 0
 HasSwept answer old new = HasReleased answer old.stage old.hand new.hand
 
--- A piece of upkeep is underway that was due: a lowering where the top level may be one that is not needed, or the oldest that waited.
+-- The oldest piece that waited was a post, and is done: what it leaves to do waits.
+pub record HasDonePiece (old new : Seat) : Type 0 where
+  pub hint : Hint
+  pub answer : Answer
+  pub mid : Upkeep
+  pub rests : new.stage ≡ stage.Rests
+  pub followed : HasFollowed new.hand hint answer
+  pub taken : IsTaken (Some hint) old.upkeep mid
+  pub left : IsLeft (Some answer) mid new.upkeep
+
+-- A piece of upkeep is underway that was due: a lowering where the top level may be one that is not needed, or the oldest that waited. Or
+-- that is done at once.
 abbrev pub HasBegunPiece : Seat → Seat → Type 0
 HasBegunPiece old new =
     ((old.upkeep.may_fall ≡ true) × IsLowering new.stage × (hints_of new.upkeep ≡ hints_of old.upkeep) × (new.upkeep.dropped ≡ old.upkeep.dropped)
     × (lacked_in new.upkeep ≡ lacked_in old.upkeep))
     ⊎ ((hint : Hint) × IsFor hint new.stage × IsTaken (Some hint) old.upkeep new.upkeep)
+    ⊎ HasDonePiece old new

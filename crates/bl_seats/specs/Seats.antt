@@ -12,13 +12,17 @@ use Rattle.bl_index_steps.specs.Rooms.{LacksWrite}
 use Rattle.bl_proc_base.specs.declared.answers.Answer.{Answer}
 use Rattle.bl_proc_base.specs.declared.answers.Answer.TheVariants as answers
 use Rattle.bl_proc_base.specs.declared.answers.Hint.{Hint}
+use Rattle.bl_proc_base.specs.declared.answers.Hint.TheVariants as hint
+use Rattle.bl_proc_base.specs.declared.answers.Posted.{Posted}
+use Rattle.bl_proc_base.specs.declared.answers.Posted.TheVariants as posted
 use Rattle.bl_store.specs.declared.store.Hand.{Hand}
 use Rattle.bl_store.specs.Hands.{known}
 use Rattle.bl_index_rule.specs.declared.known.PassState.{PassState}
 use Rattle.bl_index_read.specs.Searching.{RunsOut}
 use Rattle.bl_index_steps.specs.Answered.{Answers}
+use Rattle.bl_index_steps.specs.Rooms.{LacksPost}
 use Rattle.bl_index.specs.declared.index.Index.{Index}
-use Rattle.bl_index.specs.Calls.{pages_of, Writes, Sweeps}
+use Rattle.bl_index.specs.Calls.{pages_of, Writes, Posts, Sweeps}
 use Rattle.bl_index_turns.specs.declared.stages.Stage.{Stage}
 use Rattle.bl_index_turns.specs.declared.stages.Stage.TheVariants as stage
 use Rattle.bl_index_turns.specs.Stages.{Stands, HasTurnedIn}
@@ -48,6 +52,18 @@ pub record HasWritten (hand : Hand PassState) (key : ℕ) (write : KeyWrite) (re
   pub before : Trail
   pub writes : Writes (known hand.seat).first hand.number (write_op key write) reply hint before (known hand.seat).trail
   pub no_room : reply ≡ replies.NoRoom → LacksWrite key write hand.seat
+
+-- The last that the hand has done is this post, which has done what its answer means with the hint beside it. Where there was no room, it
+-- was refused what the post lacks.
+pub record HasPosted (hand : Hand PassState) (level key : ℕ) (what : Posted) (next : Option Hint) : Type 0 where
+  pub before : Trail
+  pub posts : Posts (known hand.seat).first hand.number level key what next before (known hand.seat).trail
+  pub no_room : what ≡ posted.NoRoom → LacksPost level key hand.seat
+
+-- What the hint asks for is done, and was answered so: it was a post.
+abbrev pub HasFollowed : Hand PassState → Hint → Answer → Type 0
+HasFollowed hand (hint.Post level key) (answers.Post what next) = HasPosted hand level key what next
+HasFollowed hand asked answer = ⊥
 
 -- A search took as many turns as the index has pages, and was not answered.
 abbrev pub HasRunOut : Index → Hand PassState → Hand PassState → Type 0

@@ -398,7 +398,7 @@ impl Seat {
         answer
     }
 
-    /// Begins a piece of upkeep. Says whether there was one.
+    /// Begins a piece of upkeep. Says whether there was one. A post is mostly done at once: what it leaves to do waits then.
     fn begin_piece(&mut self) -> bool
         requires { self.old.stage ≡ stages.Rests }
         ensures same { IsSameSeat self.old self.new }
@@ -415,7 +415,10 @@ impl Seat {
         let Some(piece) = self.upkeep.take() else {
             return false;
         };
-        begin_following(&self.index, &mut self.hand, &mut self.stage, piece);
+        let answer = begin_following(&self.index, &mut self.hand, &mut self.stage, piece);
+        if let Some(answer) = &answer {
+            self.upkeep.note(answer);
+        }
         true
     }
 

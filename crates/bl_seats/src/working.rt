@@ -4,7 +4,7 @@ ghost use Rattle.std.specs.Prelude.{◌≡◌, ◌≢◌, ◌⊎◌, ◌+◌, If
 ghost use Rattle.bl_model.specs.declared.operation.Op.TheVariants as op;
 ghost use Rattle.bl_model.specs.Replies.{reply_of};
 ghost use Rattle.bl_model.specs.Writes.{write_op};
-ghost use Rattle.bl_seats.specs.Seats.{IsSeated, IsSameOne, HasAnswered, HasFound, HasReplied, HasReleased, HasNotFound, HasWorked, HasWritten, begun_in};
+ghost use Rattle.bl_seats.specs.Seats.{IsSeated, IsSameOne, HasAnswered, HasFound, HasReplied, HasReleased, HasNotFound, HasWorked, HasWritten, HasFollowed, begun_in};
 ghost use Rattle.bl_seats.specs.Accounts.{account, HasGone, AddsEntry, Starts};
 ghost use Rattle.bl_index_turns.specs.Stages.{IsWriteOf, IsFor, IsLowering};
 ghost use Rattle.bl_store.specs.Hands.{known};
@@ -14,7 +14,9 @@ ghost use Rattle.bl_index_turns.specs.declared.stages.Stage.TheVariants as stage
 use bl_index::{Hint, Index, KeyReply, KeyWrite, Reply};
 use bl_index_read::{find_key, list_part};
 use bl_index_rule::PassState;
-use bl_index_turns::{Stage, advance, begin_hint, begin_lower, stands, start_write, sweep};
+use bl_index_turns::{
+    Stage, advance, begin_hint, begin_lower, stands, start_post, start_write, sweep,
+};
 use bl_proc::Answer;
 use bl_store::Hand;
 
@@ -127,22 +129,36 @@ pub(crate) fn start_writing(
     start_write(index.tree(), hand, stage, key, write, EVENTS)
 }
 
-/// What the hint asks for begins where no process is underway.
+/// What the hint asks for begins where no process is underway. A post goes on by the words of pages: its answer, where it has ended. Else
+/// what it asks for is underway.
 pub(crate) fn begin_following(
     index: &Index,
     hand: &mut Hand<PassState>,
     stage: &mut Stage,
     hint: Hint,
-)
+) -> Option<Answer>
     requires seated { ∥ IsSeated index.now hand.old stage.old ∥₁ }
     requires rests { stage.old ≡ stages.Rests }
     ensures same { IsSameOne hand.old hand.new }
     ensures stands { IsSeated index.now hand.new stage.new }
-    ensures began { IsFor hint stage.new × (begun_in hand.new ≡ begun_in hand.old + 1) }
+    ensures began { IfNone result (IsFor hint stage.new) }
+    ensures ended { IfSome result (λ answer. (stage.new ≡ stages.Rests) × HasFollowed hand.new hint answer) }
+    ensures begun { begun_in hand.new ≡ begun_in hand.old + 1 }
     ensures told { account hand.new stage.new ≡ account hand.old stage.old }
 {
     stands(index.tree(), hand, stage);
-    *stage = begin_hint(index.tree(), hand, hint);
+    match hint {
+        Hint::Post { .. } => {
+            match start_post(index.tree(), hand, stage, hint.level(), hint.key(), EVENTS) {
+                Some((posted, more)) => Some(Answer::Post(posted, more)),
+                None => None,
+            }
+        }
+        Hint::Thin { .. } => {
+            *stage = begin_hint(index.tree(), hand, hint);
+            None
+        }
+    }
 }
 
 /// A lowering begins where no process is underway.
