@@ -1,10 +1,11 @@
 //! What a seat's hand does at its index, by what it is about.
 
-ghost use Rattle.std.specs.Prelude.{◌≡◌, ◌≢◌, ◌⊎◌, ◌+◌, IfSome, IfNone, MatchOption, true, false};
+ghost use Rattle.std.specs.Prelude.{◌≡◌, ◌≢◌, ◌⊎◌, ◌+◌, ◌<◌, ◌≤◌, IfSome, IfNone, MatchOption, true, false};
 ghost use Rattle.bl_model.specs.declared.operation.Op.TheVariants as op;
 ghost use Rattle.bl_model.specs.Replies.{reply_of};
+ghost use Rattle.bl_proc_base.specs.declared.answers.Hint.TheVariants as hints;
 ghost use Rattle.bl_model.specs.Writes.{write_op};
-ghost use Rattle.bl_seats.specs.Seats.{IsSeated, IsSameOne, HasAnswered, HasFound, HasReplied, HasReleased, HasNotFound, HasWorked, HasWritten, HasFollowed, begun_in};
+ghost use Rattle.bl_seats.specs.Seats.{IsSeated, IsSameOne, HasAnswered, HasFound, HasReplied, HasReleased, HasNotFound, HasWorked, HasWritten, HasFollowed, HasPosted, begun_in};
 ghost use Rattle.bl_seats.specs.Accounts.{account, HasGone, AddsEntry, Starts};
 ghost use Rattle.bl_index_turns.specs.Stages.{IsWriteOf, IsFor, IsLowering};
 ghost use Rattle.bl_store.specs.Hands.{known};
@@ -17,7 +18,7 @@ use bl_index_rule::PassState;
 use bl_index_turns::{
     Stage, advance, begin_hint, begin_lower, stands, start_post, start_write, sweep,
 };
-use bl_proc::Answer;
+use bl_proc::{Answer, Posted};
 use bl_store::Hand;
 
 /// How many events a call takes at most for each process that it carries on.
@@ -129,6 +130,43 @@ pub(crate) fn start_writing(
     start_write(index.tree(), hand, stage, key, write, EVENTS)
 }
 
+/// A post begins where no process is underway, and goes on by the words of pages. What became of it, with its hint, where it has ended; else
+/// it is underway.
+fn start_posting(
+    index: &Index,
+    hand: &mut Hand<PassState>,
+    stage: &mut Stage,
+    level: u32,
+    key: u64,
+) -> Option<(Posted, Option<Hint>)>
+    requires seated { ∥ IsSeated index.now hand.old stage.old ∥₁ }
+    requires rests { stage.old ≡ stages.Rests }
+    requires least { 0 < level }
+    requires most { level ≤ 12 }
+    ensures same { IsSameOne hand.old hand.new }
+    ensures stands { IsSeated index.now hand.new stage.new }
+    ensures began { IfNone result (IsFor (hints.Post level key) stage.new) }
+    ensures ended { IfSome result (λ said. (stage.new ≡ stages.Rests) × HasPosted hand.new level key said.0 said.1) }
+    ensures begun { begun_in hand.new ≡ begun_in hand.old + 1 }
+    ensures told { account hand.new stage.new ≡ account hand.old stage.old }
+{
+    stands(index.tree(), hand, stage);
+    start_post(index.tree(), hand, stage, level, key, EVENTS)
+}
+
+/// What the hint asks for begins where no process is underway.
+fn begin_hinted(index: &Index, hand: &mut Hand<PassState>, stage: &mut Stage, hint: Hint)
+    requires seated { ∥ IsSeated index.now hand.old stage.old ∥₁ }
+    requires rests { stage.old ≡ stages.Rests }
+    ensures same { IsSameOne hand.old hand.new }
+    ensures stands { IsSeated index.now hand.new stage.new }
+    ensures began { IsFor hint stage.new × (begun_in hand.new ≡ begun_in hand.old + 1) }
+    ensures told { account hand.new stage.new ≡ account hand.old stage.old }
+{
+    stands(index.tree(), hand, stage);
+    *stage = begin_hint(index.tree(), hand, hint);
+}
+
 /// What the hint asks for begins where no process is underway. A post goes on by the words of pages: its answer, where it has ended. Else
 /// what it asks for is underway.
 pub(crate) fn begin_following(
@@ -146,16 +184,13 @@ pub(crate) fn begin_following(
     ensures begun { begun_in hand.new ≡ begun_in hand.old + 1 }
     ensures told { account hand.new stage.new ≡ account hand.old stage.old }
 {
-    stands(index.tree(), hand, stage);
     match hint {
         Hint::Post { .. } => {
-            match start_post(index.tree(), hand, stage, hint.level(), hint.key(), EVENTS) {
-                Some((posted, more)) => Some(Answer::Post(posted, more)),
-                None => None,
-            }
+            let said = start_posting(index, hand, stage, hint.level(), hint.key());
+            said.map(|(posted, more)| Answer::Post(posted, more))
         }
         Hint::Thin { .. } => {
-            *stage = begin_hint(index.tree(), hand, hint);
+            begin_hinted(index, hand, stage, hint);
             None
         }
     }

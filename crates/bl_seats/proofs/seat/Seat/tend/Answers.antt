@@ -1,10 +1,11 @@
-use Rattle.std.proofs.Common.{rules, ◌≡◌, ◌≢◌, ◌+◌, inl, inr, refl, sym, ◌∙◌, arith}
+use Rattle.std.proofs.Common.{rules, ℕ, subst, ◌≡◌, ◌≢◌, ◌+◌, inl, inr, refl, sym, ◌∙◌, arith}
 use Rattle.std.proofs.lemmas.Bool.{false≢true}
 use Rattle.bl_index_turns.specs.declared.stages.Stage.TheVariants as stage
 use Rattle.bl_seats.specs.Tended.{LooksAbout, TakesUp, GoesOn, Tends}
 use Rattle.bl_seats.proofs.Tending.{seat_same, seat_after, seat_still, carried_on, left_row, looks_still}
 use Rattle.bl_seats.specs.Calls.{number_of, account_of}
-use Rattle.bl_seats.proofs.Gone.{stays}
+use Rattle.bl_seats.specs.Accounts.{account, HasGone}
+use Rattle.bl_seats.proofs.Gone.{stays, goes_on, goes_same}
 use Rattle.bl_seats.proofs.seat.Seat.tend.Goals as goal
 
 pub loop-piece-init : goal.loop-piece-init
@@ -16,10 +17,14 @@ loop-piece-preserved c =
     let looks : LooksAbout c.loop-piece.self c.look_about.new.self = record { index = e.same.0; hand = e.same.1; stage = e.same.2; found = e.found } in
     let takes : TakesUp c.look_about.new.self c.takes_up.new.self = record { same = t.same; told = t.told; begun = t.piece c.if-not-takes_up.false } in
     let goes : GoesOn c.go_on.result c.takes_up.new.self c.go_on.new.self = record { same = g.same; told = g.gone; worked = g.worked; left = g.left } in
+    let old = c.args.self.now in
+    let before = seat_after old c.look_about.new.self c.takes_up.new.self (seat_still old c.loop-piece.self c.look_about.new.self inv.same e.same.0 e.same.1) t.same in
     record {
       same = seat_after c.args.self.now c.look_about.new.self c.go_on.new.self (seat_still c.args.self.now c.loop-piece.self c.look_about.new.self inv.same e.same.0 e.same.1)
           (seat_after c.look_about.new.self c.takes_up.new.self c.go_on.new.self t.same g.same);
-      told = search rules;
+      told = goes_on (number_of old) (account_of old) (account_of c.takes_up.new.self) (account_of c.go_on.new.self) c.go_on.result
+          (goes_same (number_of old) (account_of old) (account_of c.loop-piece.self) (account_of c.takes_up.new.self) inv.told (t.told ∙ (λ i. account (e.same.1 i) (e.same.2 i))))
+          (subst (λ (z : ℕ). HasGone z (account_of c.takes_up.new.self) c.go_on.result (account_of c.go_on.new.self)) before.1.0 g.gone);
       rests = search rules;
       done = search rules;
       tends = Tends.Does (Tends.Looks inv.tends looks) takes goes;

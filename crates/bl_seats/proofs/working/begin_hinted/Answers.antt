@@ -1,7 +1,7 @@
 use Rattle.bl_store.specs.Hands.{known}
 use Rattle.bl_index_turns.proofs.Advancing.{same_number}
 use Rattle.bl_seats.proofs.Goes.{since_goes}
-use Rattle.bl_seats.proofs.working.begin_following.Goals as goal
+use Rattle.bl_seats.proofs.working.begin_hinted.Goals as goal
 
 pub returns-clause-same : goal.returns-clause-same
 returns-clause-same c =
