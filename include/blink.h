@@ -40,10 +40,10 @@
  *      taken away. What others swap out is held back, and they are told BLINK_AGAIN or
  *      BLINK_NO_ROOM.
  *
- * A seat whose thread has died may be closed by another thread, by rule 3: blink_close
- * then ends what was left underway. A thread that dies inside of a call takes its seat
- * with it: the seat reads as closed (with the guard below: as in a call), and what that
- * call held stays held. So do not cancel threads inside of calls.
+ * A seat whose thread has died may be closed by another thread, as any seat may go to
+ * another one: blink_close then ends what was left underway. A thread that dies inside of
+ * a call takes its seat with it: the seat reads as closed (with the guard below: as in a
+ * call), and what that call held stays held. So do not cancel threads inside of calls.
  *
  * With -DBLINK_GUARD the inline functions look at rules 1 to 3 as far as a seat shows it:
  * a null pointer for a seat, a call of a seat that is in a call, and a call of a closed
@@ -329,12 +329,12 @@ int32_t blink_try_rows(blink_seat *seat, uint64_t from, blink_row *rows, size_t 
  *   BLINK_OK, BLINK_AGAIN, BLINK_CLOSED  as there */
 int32_t blink_tend(blink_seat *seat, uint32_t most);
 
-/* Two seats meet, as by blink_meet. Both are of one map, and are two seats: rule 6.
+/* Two seats meet, as by blink_meet. Both are of one map, and are two seats.
  *   BLINK_OK, BLINK_CLOSED  as there
  *   BLINK_AGAIN       something is underway at one of them */
 int32_t blink_try_meet(blink_seat *one, blink_seat *two);
 
-/* Closes a map, as blink_close_image. All seats are of one map: rule 6.
+/* Closes a map, as blink_close_image. All seats are of one map.
  *   BLINK_OK, BLINK_CLOSED, BLINK_SEATS_OPEN, BLINK_FEW_BYTES  as there
  *   BLINK_NO_MEMORY, BLINK_SEATS_LOST  as there
  *   BLINK_AGAIN       something is underway at one of them, and all are open still */
