@@ -8,6 +8,7 @@ pub mod Writing
 pub mod AllMet
 pub mod Same
 pub mod Scanning
+pub mod Looking
 pub mod Seated
 pub mod Handed
 pub mod Told

@@ -11,7 +11,7 @@ use Rattle.bl_model.specs.Parts.{ended_at}
 use Rattle.bl_claims.specs.Trails.{Trail, history_of, entries_at}
 use Rattle.bl_page.specs.declared.page.Page.{Page}
 use Rattle.bl_claims.specs.Seeing.{first_map, own}
-use Rattle.bl_index_read.specs.Searching.{Finds}
+use Rattle.bl_index_read.specs.Searching.{Finds, RunsOut}
 use Rattle.bl_index_read.specs.LeafRows.{IsBelow}
 use Rattle.bl_index.specs.Scans.{rows_below, AreParts, AreCalls, Scans, IsRight, StopsScan, EndsScan, FindsNoRoom}
 use Rattle.bl_index.specs.declared.scanning.ScanFault.{ScanFault}
@@ -204,6 +204,14 @@ searched_none first pages pass from to old = record { scanned = scanned_none fir
 
 pub all_rows : (listed rows before middle after : List (ℕ × ℕ)) → middle ≡ before ++ listed → after ≡ middle ++ rows → after ≡ before ++ (listed ++ rows)
 all_rows listed rows before middle after grown appended = appended ∙ (ap (λ (z : List (ℕ × ℕ)). z ++ rows) grown ∙ append_assoc before listed rows)
+
+-- a call of one part that ran out of turns loses nothing
+pub searched_lost : (first : List (Option Page)) (pages pass it turns from : ℕ) (to upto : Option ℕ) (rows : List (ℕ × ℕ)) (old mid new : Trail) → it ≡ pass → turns ≡ pages → HasSearched first pages pass from to upto rows old mid → RunsOut first pages it turns mid new → HasSearched first pages pass from to upto rows old new
+unfolding scanned_adds
+searched_lost first pages pass it turns from to upto rows old mid new same is_turns s lost = record {
+  scanned = scanned_adds first pass from to upto rows old mid new s.scanned (call_adds first pass it mid new same lost.adds);
+  searches = lost_more first pages pass it turns s.scanned.parts old mid new same is_turns s.searches lost;
+}
 
 module _ (first : List (Option Page)) (pages pass it turns from at : ℕ) (to : Option ℕ) (room : ℕ) (listed rows before middle after : List (ℕ × ℕ)) (old mid new : Trail)
     (same : it ≡ pass) (is_turns : turns ≡ pages) (s : HasSearched first pages pass from to (Some at) listed old mid) (low : from ≤ at) (grown : middle ≡ before ++ listed) (appended : after ≡ middle ++ rows) where

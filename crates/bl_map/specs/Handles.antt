@@ -15,6 +15,7 @@ use Rattle.bl_map.specs.declared.handle.Handle.{Handle}
 use Rattle.bl_map.specs.declared.upkeep.Followed.{Followed}
 use Rattle.bl_map.specs.Works.{Works, Adds, Searched, Swept, FoundNoRoom}
 use Rattle.bl_map.specs.Finds.{FindsMany}
+use Rattle.bl_map.specs.Leasts.{FindsLeast, CountsRows}
 use Rattle.bl_map.specs.Many.{WritesMany, StopsFull}
 use Rattle.bl_map.specs.Follows.{FollowsHint, WritesLeaving}
 use Rattle.bl_map.specs.Waits.{hints_of, Changes, TriesAgain, Tidies, IsNone}
@@ -62,6 +63,14 @@ HasSearched op reply old new = Searched (first_map_of old) (pages_of_map old) (n
 -- It has looked these keys up, one after another, each with its reply, and has done nothing but search.
 abbrev pub HasFoundMany : List ℕ → List KeyReply → Handle → Handle → Type 0
 HasFoundMany keys replies old new = FindsMany (first_map_of old) (pages_of_map old) (number_of_seat old) keys replies (seen_by old) (seen_by new)
+
+-- It has looked for the least row from a key on.
+abbrev pub HasFoundLeast : ℕ → Option (ℕ × ℕ) → Handle → Handle → Type 0
+HasFoundLeast from answer old new = FindsLeast (first_map_of old) (pages_of_map old) (number_of_seat old) from answer (seen_by old) (seen_by new)
+
+-- It has counted the rows from a key on up to an end, or to that of the map.
+abbrev pub HasCounted : ℕ → Option ℕ → ℕ → Handle → Handle → Type 0
+HasCounted from to answer old new = CountsRows (first_map_of old) (pages_of_map old) (number_of_seat old) from to answer (seen_by old) (seen_by new)
 
 -- It has written a key, and listed the pages that were split. What is left to do then is left.
 abbrev pub HasWritten : Op → Reply → Option Hint → Handle → Handle → Type 0

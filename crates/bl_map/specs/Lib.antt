@@ -8,4 +8,5 @@ pub mod Handles
 pub mod Meetings
 pub mod Seats
 pub mod Scans
+pub mod Leasts
 pub mod Maps

@@ -17,6 +17,9 @@ use bl_index::{ABREAST, Hint, Index, KeyReply, KeyWrite, Pass, Reply, ScanFault}
 use std::alloc::AllocError;
 use std::sync::Wait;
 
+/// So many keys at least are fetched side by side: for fewer that takes more time than it saves.
+pub(crate) const FETCHED: usize = 4;
+
 /// The value of a key, or that the key is absent. It looks first at the page that is near, if there is one.
 pub(crate) fn find<R: Wait>(
     rt: &R,
@@ -56,12 +59,18 @@ pub(crate) fn find_many<R: Wait>(
     ensures same { IsSamePass pass.old pass.new }
     ensures found { FindsMany (first_of index.now) (pages_of index.now) (number_of pass.old) keys.now replies.new (trail pass.old) (trail pass.new) }
 {
+    let fetches = keys.len() >= FETCHED;
     let mut near = [0; ABREAST];
     for i in 0..keys.len() {
-        if i % ABREAST == 0 {
+        if fetches && i % ABREAST == 0 {
             near = index.fetch(&keys[i..]);
         }
-        replies[i] = find(rt, index, pass, keys[i], Some(near[i % ABREAST]));
+        let page = if fetches {
+            Some(near[i % ABREAST])
+        } else {
+            None
+        };
+        replies[i] = find(rt, index, pass, keys[i], page);
     }
 }
 

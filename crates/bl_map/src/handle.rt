@@ -1,6 +1,6 @@
 //! What a thread works with.
 
-ghost use Rattle.std.specs.Prelude.{◌≡◌, ◌<◌, ◌≤◌, ◌+◌, ◌-◌, length, take, vec_len};
+ghost use Rattle.std.specs.Prelude.{◌≡◌, ◌<◌, ◌≤◌, ◌+◌, ◌-◌, ◌^◌, None, length, take, vec_len};
 ghost use Rattle.std.specs.Vec.{vec_capacity};
 ghost use Rattle.bl_model.specs.declared.operation.Op.TheVariants as op;
 ghost use Rattle.bl_model.specs.declared.deciding.KeyWrite.TheVariants as key_write;
@@ -12,7 +12,7 @@ ghost use Rattle.bl_map.specs.Seats.{IsPassOf-prop};
 
 use crate::upkeep::{self, Followed};
 use crate::waiting::Waiting;
-use crate::{calls, changes, many, room, telling};
+use crate::{calls, changes, counting, least, many, room, telling};
 use bl_index::{Hint, Index, KeyReply, KeyWrite, Pass, Reply};
 use std::alloc::AllocError;
 use std::sync::Wait;
@@ -36,7 +36,7 @@ pub struct Handle<'a> {
 }
 
 impl<'a> Handle<'a> {
-    ghost use Rattle.bl_map.specs.Handles.{IsSameHandle, HasCalled, HasSearched, HasFoundMany, HasChanged, HasWritten, HasFoundNoRoom, HasKeptUp, HasFollowed, HasSwept, HasTriedAgain, HasTidied};
+    ghost use Rattle.bl_map.specs.Handles.{IsSameHandle, HasCalled, HasSearched, HasFoundMany, HasChanged, HasWritten, HasFoundNoRoom, HasFoundLeast, HasCounted, HasKeptUp, HasFollowed, HasSwept, HasTriedAgain, HasTidied};
     ghost use Rattle.bl_map.specs.Handles.{HasWrittenMany, HasStoppedFull};
     ghost use Rattle.bl_map.specs.Many.{insertion_of, deletion_of};
     ghost use Rattle.bl_map.specs.Handles.{HaveMet, KeepsHints, AreOfOne, IsHandleOver, released_in};
@@ -216,6 +216,48 @@ impl<'a> Handle<'a> {
         ensures keeps { KeepsHints self.old self.new }
     {
         telling::tell(rt, self.index, &mut self.pass, from, to, visit);
+    }
+
+    /// The row of the least key, if there is one. No key below it was in the map all the while: each was absent at some moment of the call. It
+    /// goes along the leaves until one has a row, so it takes longer where many at the front are empty.
+    pub fn first<R: Wait>(&mut self, rt: &R) -> Option<(u64, u64)>
+        ensures same { IsSameHandle self.old self.new }
+        ensures found { HasFoundLeast 0 result self.old self.new }
+        ensures keeps { KeepsHints self.old self.new }
+    {
+        self.first_from(rt, 0)
+    }
+
+    /// The row of the least key that is not below this one, if there is one: see [`Handle::first`].
+    pub fn first_from<R: Wait>(&mut self, rt: &R, key: u64) -> Option<(u64, u64)>
+        ensures same { IsSameHandle self.old self.new }
+        ensures found { HasFoundLeast key result self.old self.new }
+        ensures keeps { KeepsHints self.old self.new }
+    {
+        least::least_from(rt, self.index, &mut self.pass, key)
+    }
+
+    /// The row of the least key above this one, if there is one: see [`Handle::first`]. Above the greatest number there is none, and nothing is
+    /// looked for.
+    pub fn next<R: Wait>(&mut self, rt: &R, key: u64) -> Option<(u64, u64)>
+        ensures same { IsSameHandle self.old self.new }
+        ensures found { key + 1 < 2 ^ 64 → HasFoundLeast (key + 1) result self.old self.new }
+        ensures none { key + 1 ≡ 2 ^ 64 → (result ≡ None) × (seen_by self.new ≡ seen_by self.old) }
+        ensures keeps { KeepsHints self.old self.new }
+    {
+        match key.checked_add(1) {
+            Some(from) => self.first_from(rt, from),
+            None => None,
+        }
+    }
+
+    /// How many rows there are from a key on and below an end, if there is one: as many as [`Handle::scan`] lists, and no snapshot either.
+    pub fn count<R: Wait>(&mut self, rt: &R, from: u64, to: Option<u64>) -> u64
+        ensures same { IsSameHandle self.old self.new }
+        ensures counted { HasCounted from to result self.old self.new }
+        ensures keeps { KeepsHints self.old self.new }
+    {
+        counting::count(rt, self.index, &mut self.pass, from, to)
     }
 
     /// Gives idle time to the map: tries again at most so many pieces of upkeep that had found no room, and gives back what was

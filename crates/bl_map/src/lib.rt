@@ -18,7 +18,9 @@
 
 mod calls;
 mod changes;
+mod counting;
 mod handle;
+mod least;
 mod many;
 mod map;
 mod meeting;

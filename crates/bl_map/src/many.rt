@@ -6,6 +6,7 @@ ghost use Rattle.bl_model.specs.declared.deciding.KeyWrite.TheVariants as key_wr
 ghost use Rattle.bl_index.specs.Calls.{first_of, IsPassOf, IsSamePass, number_of, trail};
 ghost use Rattle.bl_map.specs.Many.{WritesMany, StopsFull};
 
+use crate::calls::FETCHED;
 use crate::changes;
 use crate::waiting::Waiting;
 use bl_index::{ABREAST, Index, KeyReply, KeyWrite, Pass};
@@ -45,8 +46,11 @@ impl Asks for u64 {
     }
 }
 
-/// The pages that the first of these will read are fetched side by side.
+/// The pages that the first of these will read are fetched side by side, where there are enough of them.
 fn fetch<A: Asks>(index: &Index, list: &[A]) {
+    if list.len() < FETCHED {
+        return;
+    }
     let mut keys = [0; ABREAST];
     let count = list.len().min(ABREAST);
     for i in 0..count {
