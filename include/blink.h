@@ -192,6 +192,21 @@ BLINK_INLINE int32_t blink_close_image(blink_seat *seats, size_t count, uint8_t 
  *   BLINK_CLOSED      the seat is closed */
 BLINK_INLINE int32_t blink_find(blink_seat *seat, uint64_t key, uint64_t *value);
 
+/* Looks many keys up, each as blink_find does, one after another. `found[i]` says whether
+ * `keys[i]` is there, and `values[i]` is its value then, else 0. The pages of eight keys
+ * at a time are fetched side by side, which takes a fraction of the time of single calls
+ * in a map larger than the processor's own memory.
+ *   BLINK_OK          all were looked up
+ *   BLINK_CLOSED      the seat is closed; nothing is written */
+BLINK_INLINE int32_t blink_find_many(blink_seat *seat, const uint64_t *keys, size_t count,
+                                     uint64_t *values, bool *found);
+
+/* Fetches the pages that calls about these keys will read, 8 keys at most, so that they
+ * are near when the calls come. It changes nothing.
+ *   BLINK_OK          they are on their way
+ *   BLINK_CLOSED      the seat is closed */
+int32_t blink_fetch(blink_seat *seat, const uint64_t *keys, size_t count);
+
 /* Puts the value at the key, where the key has none.
  *   BLINK_OK          it is put; `*there` is as it was
  *   BLINK_PRESENT     the key has the value `*there`, and keeps it
@@ -417,6 +432,25 @@ BLINK_INLINE int32_t blink_close(blink_seat *seat) {
 
 BLINK_INLINE int32_t blink_find(blink_seat *seat, uint64_t key, uint64_t *value) {
     BLINK_RETURN_CALL_(seat, blink_try_find, key, value)
+}
+
+BLINK_INLINE int32_t blink_find_many(blink_seat *seat, const uint64_t *keys, size_t count,
+                                     uint64_t *values, bool *found) {
+    size_t i;
+    for (i = 0; i < count; i++) {
+        uint64_t value = 0;
+        int32_t answer = BLINK_OK;
+        /* Fetching pays where some are fetched together. */
+        if (i % 8 == 0 && count - i >= 4) {
+            size_t some = count - i < 8 ? count - i : 8;
+            BLINK_CALL_(seat, blink_fetch, answer, keys + i, some);
+        }
+        if (answer != BLINK_CLOSED) answer = blink_find(seat, keys[i], &value);
+        if (answer == BLINK_CLOSED) return answer;
+        found[i] = answer == BLINK_OK;
+        values[i] = value;
+    }
+    return BLINK_OK;
 }
 
 BLINK_INLINE int32_t blink_insert(blink_seat *seat, uint64_t key, uint64_t value,

@@ -24,6 +24,19 @@ static void need(int32_t answer, int32_t wanted, const char *what) {
     }
 }
 
+/* Looks up keys many at a time: of each two one that was inserted, and one that nobody inserts. */
+static void find_many(blink_seat *seat, uint64_t first) {
+    enum { MANY = 100 };
+    uint64_t keys[MANY], values[MANY];
+    bool found[MANY];
+    for (uint64_t n = first; n + MANY / 2 <= first + keys_each; n += MANY / 2) {
+        for (size_t i = 0; i < MANY; i++) keys[i] = key_of(i % 2 ? n + i / 2 + THREADS * keys_each : n + i / 2);
+        need(blink_find_many(seat, keys, MANY, values, found), BLINK_OK, "find many");
+        for (size_t i = 0; i < MANY; i++)
+            if (found[i] == (i % 2 == 1) || values[i] != (i % 2 ? 0 : n + i / 2)) need(-1, BLINK_OK, "what many keys have");
+    }
+}
+
 static void *work(void *place) {
     size_t me = (size_t)(uintptr_t)place;
     blink_seat *seat = &seats[me];
@@ -34,6 +47,7 @@ static void *work(void *place) {
         need(blink_find(seat, key_of(n), &value), BLINK_OK, "find");
         if (value != n) need(-1, BLINK_OK, "the value found");
     }
+    find_many(seat, first);
     for (uint64_t n = first; n < first + keys_each; n++)
         if (n % 3 == 0) {
             need(blink_delete(seat, key_of(n), &value), BLINK_OK, "delete");

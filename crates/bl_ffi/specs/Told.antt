@@ -107,6 +107,10 @@ abbrev pub Closes : SeatOfC → SeatOfC → ℤ → Type 0
 Closes old new code = MatchOption old.seat ((code ≡ pos 9) × (new.seat ≡ None)) (λ s. (t : Seat) × HasSettled s t
     × (((code ≡ pos 0) × (new.seat ≡ None) × IsAtRest (arc_value t.index) t.hand) ⊎ ((code ≡ pos 4) × (new.seat ≡ Some t) × (t.stage ≢ stage.Rests))))
 
+-- Nothing is done. The code says whether the seat is closed.
+abbrev pub StaysAsItWas : SeatOfC → SeatOfC → ℤ → Type 0
+StaysAsItWas old new code = MatchOption old.seat ((code ≡ pos 9) × (new.seat ≡ None)) (λ s. (code ≡ pos 0) × (new.seat ≡ Some s))
+
 -- what is said of a seat by a number, and 0 of a closed one; nothing is done
 abbrev pub Counts : (Seat → ℕ) → SeatOfC → SeatOfC → ℕ → Type 0
 Counts count old new result = MatchOption old.seat ((result ≡ 0) × (new.seat ≡ None)) (λ s. (result ≡ count s) × (new.seat ≡ Some s))

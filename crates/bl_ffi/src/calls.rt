@@ -4,7 +4,7 @@ ghost use Rattle.std.specs.Prelude.{◌≡◌, ◌≢◌, ◌<◌, ◌≤◌, po
 ghost use Rattle.bl_model.specs.declared.operation.Op.TheVariants as op;
 ghost use Rattle.bl_model.specs.Replies.{reply_of};
 ghost use Rattle.bl_model.specs.declared.deciding.KeyWrite.TheVariants as key_write;
-ghost use Rattle.bl_ffi.specs.Told.{IsCodeOf, Finds, Tells, Closes, Calls, IsRows, IsListed, Lists, Tends, Counts, waiting_of, dropped_of};
+ghost use Rattle.bl_ffi.specs.Told.{IsCodeOf, Finds, Tells, Closes, Calls, IsRows, IsListed, Lists, Tends, StaysAsItWas, Counts, waiting_of, dropped_of};
 
 use crate::codes::{ABSENT, AGAIN, CLOSED, FEW_ROWS, NO_ROOM, OK, PRESENT};
 use crate::places::{put_back, taken};
@@ -94,6 +94,19 @@ pub extern "C" fn blink_try_find(
         Some(reply) => found(reply, value),
         None => AGAIN,
     }
+}
+
+/// Fetches from memory, side by side, the pages that calls about these keys will read, 8 keys at most. It changes nothing and tells nothing.
+#[unsafe(no_mangle)]
+pub extern "C" fn blink_fetch(alloc: Global, seat: &mut SeatOfC, keys: &[u64]) -> i32
+    ensures { StaysAsItWas seat.old seat.new result }
+{
+    let Some(mine) = taken(alloc, seat) else {
+        return CLOSED;
+    };
+    mine.fetch(keys);
+    put_back(alloc, seat, mine);
+    OK
 }
 
 /// Writes a key, and puts the value beside the reply.

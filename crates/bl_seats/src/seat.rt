@@ -205,6 +205,12 @@ impl Seat {
         find(&self.index, &mut self.hand, &self.stage, key)
     }
 
+    /// Fetches from memory, side by side, the pages that calls about these keys will read, 8 keys at most, so that they are near when the calls
+    /// come. It changes nothing and tells nothing.
+    pub fn fetch(&self, keys: &[u64]) {
+        let _pages = self.index.fetch(keys);
+    }
+
     /// The rows of one leaf from a key on, and where the next part begins. None: as for a search.
     pub fn part(&mut self, from: u64, near: &mut Option<u32>) -> Option<Reply>
         ensures same { IsSameSeat self.old self.new }
