@@ -1,5 +1,6 @@
 //! A load on a map that may be a large one, for `bench/large`: so many threads insert so many rows, search for them one by one and many at
-//! a time, list them, and then mix searches, insertions and deletions, of which each call is timed. It prints for each part how many calls were made, how many
+//! a time, list them, and then mix searches, insertions and deletions, of which each call is timed. With GROUP it
+//! only inserts that many rows at a time and looks up as many. It prints for each part how many calls were made, how many
 //! of them were answered as they should be, the microseconds of all together, and last the nanoseconds of the longest call of the mix.
 #![tactic(auto)]
 
@@ -17,8 +18,11 @@ use std::time::{Clock, Instant};
 /// So many threads at most.
 const MOST_THREADS: usize = 16;
 
-/// So many keys are looked up at a time.
+/// So many keys are looked up at a time, where no other number is named.
 const GROUP: usize = 64;
+
+/// So many at most.
+const MOST_KEYS: usize = 1_000;
 
 /// So many rows a scan lists, about.
 const WIDTH: u64 = 100;
@@ -32,6 +36,10 @@ struct Load {
     calls: u64,
     // Whether the keys rise, or look random.
     rising: bool,
+    // So many keys are looked up at a time.
+    group: usize,
+    // Whether so many rows are inserted at a time too, and no more is done than that.
+    grouped: bool,
 }
 
 /// The parts of a load, one after another.
@@ -46,8 +54,13 @@ enum Part {
 
 impl Load {
     fn read(words: &[String]) -> Option<Load> {
-        let [_, pages, rows, threads, calls, order] = words else {
+        let [_, pages, rows, threads, calls, order, group @ ..] = words else {
             return None;
+        };
+        let group = match group {
+            [] => None,
+            [group] => Some(group.parse::<usize>().ok()?.clamp(1, MOST_KEYS)),
+            _ => return None,
         };
         Some(Load {
             pages: pages.parse::<u32>().ok()?,
@@ -55,12 +68,20 @@ impl Load {
             threads: threads.parse::<u32>().ok()?,
             calls: calls.parse::<u64>().ok()?,
             rising: order.as_str() == "rising",
+            group: group.unwrap_or(GROUP),
+            grouped: group.is_some(),
         })
     }
 
     // The key of a row.
     fn key(self, row: u64) -> u64 {
         if self.rising { row } else { scattered(row) }
+    }
+
+    // The number of a thread's row: each takes every so many-th.
+    fn own(self, turn: u64, place: u64) -> u64 {
+        turn.wrapping_mul(u64::from(self.threads))
+            .wrapping_add(place)
     }
 
     // How many of so many calls each thread makes.
@@ -84,20 +105,46 @@ fn scattered(number: u64) -> u64 {
     third ^ (third >> 31)
 }
 
-/// Inserts the rows of a thread. Says how many were new.
+/// Inserts the rows of a thread one by one. Says how many were new.
 fn fill<R: Wait>(rt: &R, handle: &mut Handle<'_>, place: u64, load: Load) -> u64
     ensures { handle.new.index ≡ handle.old.index }
 {
     let mut done = 0u64;
     for turn in 0..load.share(load.rows) {
-        let row = turn
-            .wrapping_mul(u64::from(load.threads))
-            .wrapping_add(place);
+        let row = load.own(turn, place);
         if handle.insert(rt, load.key(row), row) == KeyReply::Inserted {
             done = done.wrapping_add(1);
         }
     }
     done
+}
+
+/// Inserts them many at a time. Says how many were new.
+fn fill_groups<R: Wait>(rt: &R, handle: &mut Handle<'_>, place: u64, load: Load) -> u64
+    ensures { handle.new.index ≡ handle.old.index }
+{
+    let mut done = 0u64;
+    let mut rows = [(0u64, 0u64); MOST_KEYS];
+    let mut replies = [KeyReply::Absent; MOST_KEYS];
+    let share = load.share(load.rows);
+    for group in (0..share).step_by(load.group.max(1)) {
+        let count = load.group.min((share - group) as usize).min(MOST_KEYS);
+        for (turn, row) in rows[..count].iter_mut().enumerate() {
+            let number = load.own(group.wrapping_add(turn as u64), place);
+            *row = (load.key(number), number);
+        }
+        handle.insert_many(rt, &rows[..count], &mut replies[..count]);
+        done = done.wrapping_add(inserted_in(&replies[..count]));
+    }
+    done
+}
+
+/// How many replies are those of rows that were new.
+fn inserted_in(replies: &[KeyReply]) -> u64 {
+    replies
+        .iter()
+        .filter(|reply| matches!(reply, KeyReply::Inserted))
+        .count() as u64
 }
 
 /// Searches for rows that were inserted. Says how many were found.
@@ -121,15 +168,16 @@ fn search_groups<R: Wait>(rt: &R, handle: &mut Handle<'_>, place: u64, load: Loa
 {
     let mut done = 0u64;
     let mut seed = scattered(place);
-    let mut keys = [0u64; GROUP];
-    let mut replies = [KeyReply::Absent; GROUP];
-    for _group in 0..load.share(load.calls) / GROUP as u64 {
-        for key in keys.iter_mut() {
+    let mut keys = [0u64; MOST_KEYS];
+    let mut replies = [KeyReply::Absent; MOST_KEYS];
+    let count = load.group.clamp(1, MOST_KEYS);
+    for _group in 0..load.share(load.calls) / count as u64 {
+        for key in keys[..count].iter_mut() {
             seed = scattered(seed);
             *key = load.key(load.row(seed, 1));
         }
-        handle.find_many(rt, &keys, &mut replies);
-        done = done.wrapping_add(found_in(&replies));
+        handle.find_many(rt, &keys[..count], &mut replies[..count]);
+        done = done.wrapping_add(found_in(&replies[..count]));
     }
     done
 }
@@ -229,6 +277,7 @@ fn run<R: Threads + Wait + Clock + Sync>(
         &|place, handle| {
             let place = place as u64;
             let (mine, most) = match part {
+                Part::Rows if load.grouped => (fill_groups(rt, handle, place, load), 0),
                 Part::Rows => (fill(rt, handle, place, load), 0),
                 Part::Finds => (search(rt, handle, place, load), 0),
                 Part::Groups => (search_groups(rt, handle, place, load), 0),
@@ -258,7 +307,7 @@ fn handles_of<'a>(alloc: Global, map: &'a Map, seats: Vec<Seat>) -> Option<Vec<H
 fn main(rt: HostRuntime) -> anyhow::Result<()> {
     let words: Vec<String> = std::env::args(&rt)?.collect(rt.alloc())?;
     let Some(load) = Load::read(words.as_slice()) else {
-        eprintln!(&rt; "usage: bench_large PAGES ROWS THREADS CALLS rising|random")?;
+        eprintln!(&rt; "usage: bench_large PAGES ROWS THREADS CALLS rising|random [GROUP]")?;
         return Ok(());
     };
     let start = Instant::now(&rt)?;
@@ -285,6 +334,9 @@ fn main(rt: HostRuntime) -> anyhow::Result<()> {
         (Part::Mixed, "mixed", load.calls),
     ];
     for (part, name, calls) in parts {
+        if load.grouped && matches!(part, Part::Scans) {
+            break;
+        }
         let start = Instant::now(&rt)?;
         let (done, longest) = run(&rt, handles, load, part);
         let micros = start.elapsed(&rt)?.as_micros();
