@@ -38,6 +38,10 @@ if mapping_tests:
         def test_update(self):
             pass
 
+        @unittest.skip("it wants popitem without a place, and this takes one, as SortedDict's does")
+        def test_popitem(self):
+            pass
+
 
 class Rows(unittest.TestCase):
     def test_edges(self):

@@ -437,7 +437,7 @@ class Map(MutableMapping[int, int]):
         both.update(other)
         return both
 
-    def __ior__(self, other: Any) -> Map:
+    def __ior__(self, other: Mapping[int, int]) -> Map:
         self.update(other)
         return self
 
@@ -516,7 +516,7 @@ class _Keys(KeysView[int]):
     """The keys of a map."""
 
     def __reversed__(self) -> Iterator[int]:
-        return reversed(self._mapping)  # type: ignore[call-overload, no-any-return, attr-defined]
+        return reversed(self._mapping)  # type: ignore[attr-defined]
 
 
 class _Items(ItemsView[int, int]):
