@@ -18,6 +18,10 @@
  * Equality, ranges, ORDER BY k and ORDER BY k DESC go to the map. A statement that fails, ROLLBACK and ROLLBACK TO are undone
  * by writing back what was there. That is right for the connection's own changes; tables that share a map see each other's
  * changes before they are committed. An image has what was written, committed or not.
+ *
+ * SQLite's own ways with virtual tables differ from ordinary ones in this: DROP TABLE is final, also in a transaction that is
+ * rolled back; a value of a wrong type undoes a whole statement OR FAIL or OR IGNORE; UPDATE OR REPLACE of keys reads all rows before it
+ * changes the first; and an insertion without a key is refused where the greatest key is taken.
  */
 #include <sqlite3ext.h>
 SQLITE_EXTENSION_INIT1

@@ -31,6 +31,19 @@ def run(db, sql):
         return ("error", text)
 
 
+def run_plain(db, sql):
+    """The same over the ordinary table. Where a value of a wrong type ends a statement OR FAIL or OR IGNORE, SQLite undoes all
+    of it over a virtual table, and keeps the rows before over an ordinary one: so they are undone here."""
+    if "OR FAIL" not in sql and "OR IGNORE" not in sql:
+        return run(db, sql)
+    db.execute("SAVEPOINT before_it")
+    answer = run(db, sql)
+    if answer == ("error", "datatype"):
+        db.execute("ROLLBACK TO before_it")
+    db.execute("RELEASE before_it")
+    return answer
+
+
 class Maker:
     def __init__(self, seed, rows):
         self.r = random.Random(seed)
@@ -154,7 +167,7 @@ def main(extension, count="20000", seed="1", rows="0"):
         sql = maker.statement()
         if sql.startswith("INSERT INTO t(v)") and plain.execute("SELECT 1 FROM t WHERE k = 9223372036854775807").fetchone():
             continue  # SQLite draws a key by chance there, and the extension refuses
-        one, two = run(ours, sql), run(plain, sql)
+        one, two = run(ours, sql), run_plain(plain, sql)
         kind = " ".join(sql.split()[:2]) if sql.startswith("INSERT OR") else sql.split()[0]
         kinds.setdefault(kind, [0, 0])[one[0] == "error"] += 1
         if one[0] == "error":
