@@ -1,4 +1,5 @@
-//! Where libblink.a is: below `BLINK_PREFIX`, a folder that `./install` has filled, or where pkg-config says.
+//! Where libblink.a is: below `BLINK_PREFIX`, a folder that `./install` has filled; below the folder where this crate was put by
+//! that; or where pkg-config says.
 use std::path::Path;
 use std::process::{exit, Command};
 
@@ -6,7 +7,7 @@ fn main() {
     println!("cargo:rerun-if-env-changed=BLINK_PREFIX");
     let folder = match std::env::var("BLINK_PREFIX") {
         Ok(prefix) => format!("{}/lib", prefix),
-        Err(_) => asked().unwrap_or_else(|why| fail(&why)),
+        Err(_) => beside().or_else(asked).unwrap_or_else(|| fail(UNKNOWN)),
     };
     let archive = Path::new(&folder).join("libblink.a");
     if !archive.exists() {
@@ -17,14 +18,18 @@ fn main() {
     println!("cargo:rustc-link-lib=static=blink");
 }
 
-/// The folder of the installed library.
-fn asked() -> Result<String, String> {
-    let said = Command::new("pkg-config").args(["--variable=libdir", "blink"]).output();
-    let said = said.map_err(|error| format!("set BLINK_PREFIX; pkg-config was not to be had: {}", error))?;
-    if !said.status.success() {
-        return Err("pkg-config knows no blink: install it, or set BLINK_PREFIX to where ./install has put it".to_string());
-    }
-    Ok(String::from_utf8_lossy(&said.stdout).trim().to_string())
+const UNKNOWN: &str = "pkg-config is not there or knows no blink: install it, or set BLINK_PREFIX to where ./install has put it";
+
+/// The folder of the library where this crate stands in share/blink/rust below the same folder.
+fn beside() -> Option<String> {
+    let folder = Path::new(&std::env::var("CARGO_MANIFEST_DIR").ok()?).ancestors().nth(4)?.join("lib");
+    Some(folder.to_str()?.to_string()).filter(|_| folder.join("libblink.a").exists())
+}
+
+/// The folder of the installed library, by pkg-config.
+fn asked() -> Option<String> {
+    let said = Command::new("pkg-config").args(["--variable=libdir", "blink"]).output().ok()?;
+    Some(String::from_utf8_lossy(&said.stdout).trim().to_string()).filter(|_| said.status.success())
 }
 
 fn fail(why: &str) -> ! {
