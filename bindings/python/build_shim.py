@@ -71,7 +71,12 @@ def made():
         source = file.read()
     ffi = FFI()
     ffi.cdef(DECLARED)
-    ffi.set_source("blink._shim", source, include_dirs=include, extra_objects=[archive], libraries=["pthread"])
+    # A distribution links the shared object, so that it can mend the library alone; else the wheel needs no other file.
+    if os.environ.get("BLINK_LINK") == "shared":
+        linked = {"libraries": ["blink", "pthread"], "library_dirs": [os.path.dirname(archive)]}
+    else:
+        linked = {"libraries": ["pthread"], "extra_objects": [archive]}
+    ffi.set_source("blink._shim", source, include_dirs=include, **linked)
     return ffi
 
 
