@@ -4,6 +4,7 @@
 #include <cstdio>
 #include <map>
 #include <random>
+#include <string>
 #include <thread>
 #include <type_traits>
 

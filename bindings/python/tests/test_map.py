@@ -2,6 +2,7 @@
 
 import array
 import doctest
+import gc
 import os
 import pathlib
 import random
@@ -53,6 +54,7 @@ class Rows(unittest.TestCase):
         self.assertEqual(list(reversed(m.items())), [(TOP, 0), (0, TOP)])
         self.assertEqual((list(m.irange(1, TOP - 1)), list(m.irange(5, 4)), list(m.irange(-5, 2**70))), ([], [], [0, TOP]))
         self.assertEqual(list(m.irange(0, TOP, (False, False))), [])
+        self.assertEqual((list(m.irange(2**70, 2**71)), list(m.irange(None, -1, reverse=True)), list(m.irange(2**70))), ([], [], []))
         self.assertEqual((m.peekitem(1), m.peekitem(-2)), ((TOP, 0), (0, TOP)))
         for wrong in (2, -3):
             with self.assertRaisesRegex(IndexError, f"no row {wrong}"):
@@ -144,7 +146,7 @@ class Rows(unittest.TestCase):
         n = len(m)
         self.assertEqual(list(m), list(range(n)))
         self.assertGreaterEqual(n, 14)
-        with self.assertRaisesRegex(NoRoom, f"no room; {n} of 1000 pairs were put") as raised:
+        with self.assertRaisesRegex(NoRoom, f"no room; {n} pairs were put") as raised:
             Map(pages=8).put_many(array.array("Q", range(1000)), array.array("Q", range(1000)))
         self.assertIsInstance(raised.exception, (MemoryError, blink.Error))
 
@@ -226,10 +228,13 @@ class Images(unittest.TestCase):
 
     def test_file_that_cannot_be_written(self):
         m = Map({1: 10}, pages=16, path=self.path.with_name("no") / "such")
-        for call in (m.save, m.close):
+        for name in ("save", "close"):
             with self.assertRaises(FileNotFoundError):
-                call()
+                getattr(m, name)()
             self.assertEqual((m.closed, m[1], len(m)), (False, 10, 1))
+        with self.assertWarnsRegex(ResourceWarning, "was not closed"):
+            del m
+            gc.collect()
         with self.assertRaisesRegex(ValueError, "no path"):
             Map(pages=16).save()
         self.path.write_bytes(b"no image")
@@ -346,7 +351,12 @@ class Threads(unittest.TestCase):
                 try:
                     os._exit(10 if m[1] == 2 else 12)
                 except Closed:
-                    os._exit(11)
+                    try:
+                        Map(pages=16)
+                    except blink.Error:
+                        os._exit(11)
+                finally:
+                    os._exit(13)
             return os.waitstatus_to_exitcode(os.waitpid(pid, 0)[1])
 
         stop = threading.Event()

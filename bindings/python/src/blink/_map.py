@@ -5,6 +5,7 @@ from __future__ import annotations
 import itertools
 import os
 import threading
+import warnings
 import weakref
 from array import array
 from bisect import bisect_left, bisect_right
@@ -140,13 +141,15 @@ class Map(MutableMapping[int, int]):
 
     def _begin(self, pages: int, seats: int, image: Any, path: Any) -> None:
         made = _new("shim_map **")
+        if _is_orphan:
+            raise Error("the library cannot be used in the child of a fork of a program with threads: spawn it")
         if not 0 <= index(pages) < 2**32 or not 0 <= index(seats) < 2**32:
             raise ValueError(f"a map has 4 to 2**28 pages and 1 to 64 seats, not {pages} and {seats}")
         bytes_ = ffi.NULL if image is None else ffi.from_buffer("uint8_t[]", image)
         code = lib.shim_open(pages, seats, bytes_, 0 if image is None else len(bytes_), made)
         if code != _OK:
             _refuse(code, f": {os.fspath(path)}" if image is not None and path is not None else "")
-        self._at = ffi.gc(made[0], _freeing(os.getpid()))
+        self._at = ffi.gc(made[0], _free)
         self._path = path
         self._saving = threading.Lock()
         _living[id(self)] = self
@@ -200,11 +203,18 @@ class Map(MutableMapping[int, int]):
     @overload
     def get(self, key: int, /, default: int | _Default) -> int | _Default: ...
     def get(self, key: Any, default: Any = None) -> Any:
-        value = self._look(key)
-        return default if value is None else value
+        if type(key) is int:
+            try:
+                value = _find(self._at, key)
+            except OverflowError:
+                return default
+            if value != _UNSURE:
+                return value
+        surely = self._look(key)
+        return default if surely is None else surely
 
     def __contains__(self, key: object) -> bool:
-        return self._look(key) is not None
+        return self.get(key) is not None  # type: ignore[call-overload]
 
     def __setitem__(self, key: int, value: int) -> None:
         if type(key) is not int or type(value) is not int:
@@ -299,28 +309,35 @@ class Map(MutableMapping[int, int]):
         return out
 
     def put_many(self, keys: Any, values: Any) -> None:
-        """Sets the values of many keys in their order, by one call in C; both are buffers as in get_many."""
+        """Sets the values of many keys in their order, by one call in C; both are buffers as in get_many. NoRoom says how
+        many were set before."""
+        self._put_part(keys, values, 0)
+
+    def _put_part(self, keys: Any, values: Any, before: int) -> int:
+        """Sets values, behind so many others: how many these are together."""
         asked = _numbers(keys, "keys")
         given = _numbers(values, "values", len(asked))
         done = _new("size_t *")
         code = lib.shim_put_many(self._at, asked, given, len(asked), done)
         if code != _OK:
-            _refuse(code, f"; {done[0]} of {len(asked)} pairs were put" if code == _NO_ROOM else "")
+            _refuse(code, f"; {before + done[0]} pairs were put" if code == _NO_ROOM else "")
+        return before + len(asked)
 
     def update(self, rows: Any = (), /, **names: Any) -> None:
         """Sets the values of the pairs, or of the rows of a mapping, some thousand at a time. Sorted pairs are fastest."""
         if names:
             raise TypeError("a key is an integer, not str")
+        done = 0
         if isinstance(rows, Map):
             for keys, values in rows._parts(0, _MOST):
-                self.put_many(array("Q", keys), array("Q", values))
+                done = self._put_part(array("Q", keys), array("Q", values), done)
             return
         if hasattr(rows, "keys"):
             rows = rows.items() if hasattr(rows, "items") else ((key, rows[key]) for key in rows.keys())
         pairs = iter(rows)
         while part := list(itertools.islice(pairs, 4096)):
             keys, values = zip(*part)
-            self.put_many(_words(keys, "key"), _words(values, "value"))
+            done = self._put_part(_words(keys, "key"), _words(values, "value"), done)
 
     def clear(self) -> None:
         """Takes all rows away, one by one."""
@@ -331,9 +348,12 @@ class Map(MutableMapping[int, int]):
 
     def _parts(self, low: int, high: int, is_falling: bool = False) -> Iterator[tuple[list[int], list[int]]]:
         """The keys and values of a range, both bounds among it, in lists of some length."""
+        if low > high:
+            return
         keys, values, fall = array("Q", bytes(4096)), array("Q", bytes(4096)), _new("blink_fall *")
         into = ffi.from_buffer("uint64_t[]", keys), ffi.from_buffer("uint64_t[]", values)
-        fall.next, fall.more = high if is_falling else low, low <= high
+        fall.next, fall.more = high if is_falling else low, True
+        # Few at first, since many iterations are left early.
         most = 32
         while fall.more and low <= fall.next <= high:
             code = lib.shim_rows(self._at, is_falling, most, *into, fall)
@@ -511,6 +531,11 @@ class Map(MutableMapping[int, int]):
     def __exit__(self, *_: object) -> None:
         self.close()
 
+    def __del__(self) -> None:
+        # As a file does: what was put since the last save() goes with the map.
+        if getattr(self, "_path", None) is not None and not self.closed:
+            warnings.warn(f"the map of {os.fspath(self._path)} was not closed", ResourceWarning, source=self)
+
 
 class _Keys(KeysView[int]):
     """The keys of a map."""
@@ -566,15 +591,14 @@ def _write(path: str | os.PathLike[str], image: bytearray) -> None:
 # Forks. A child of a program with threads may not call the library, not even to free a map.
 
 _living: weakref.WeakValueDictionary[int, Map] = weakref.WeakValueDictionary()
+# Whether the program had threads when it forked last, and whether this process is the child of one that had.
 _had_threads = False
+_is_orphan = False
 
 
-def _freeing(process: int) -> Any:
-    def free(at: Any) -> None:
-        if os.getpid() == process or not _had_threads:
-            lib.shim_free(at)
-
-    return free
+def _free(at: Any) -> None:
+    if not _is_orphan:
+        lib.shim_free(at)
 
 
 def _closed_map() -> Any:
@@ -594,7 +618,9 @@ def _before_fork() -> None:
 
 
 def _in_child() -> None:
-    if _had_threads:
+    global _is_orphan
+    _is_orphan = _is_orphan or _had_threads
+    if _is_orphan:
         for map_ in list(_living.values()):
             map_._at = _CLOSED
             map_._saving = threading.Lock()

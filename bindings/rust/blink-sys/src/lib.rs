@@ -1,13 +1,9 @@
 //! The functions of `blink.h`, as the library exports them, with its codes and types. What each call does, which codes it
 //! answers and the rules that its caller has to keep stand in that header; the crate `blink` keeps them by types.
-#![no_std]
 #![deny(missing_docs)]
 #![allow(non_camel_case_types)]
 
-use core::ffi::c_void;
-
-/// The character of C on the processors that the library is for.
-pub type c_char = i8;
+use std::os::raw::{c_char, c_void};
 
 /// One thread's place at a map: a pointer that the library owns, or null.
 #[repr(C)]
