@@ -42,7 +42,8 @@ use std::sync::{Arc, Mutex, MutexGuard, PoisonError};
 #[repr(transparent)]
 struct Seat(blink_seat);
 
-// SAFETY: a seat may go from one thread to another where a lock or a join stands between, as it does wherever Rust moves a value.
+// SAFETY: a seat may go from one thread to another where what they do is ordered as by a lock, as it is wherever safe Rust moves a
+// value between threads.
 unsafe impl Send for Seat {}
 
 impl Drop for Seat {
