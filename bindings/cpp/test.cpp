@@ -118,6 +118,17 @@ static void lists(blink::Handle handle) {
     }
 }
 
+// Why a map is not closed.
+static int32_t refused_close(blink::Map &map) {
+    try {
+        map.close_image();
+        return BLINK_OK;
+    } catch (const blink::Error &error) {
+        CHECK(error.what() == std::string(blink_text(error.code())));
+        return error.code();
+    }
+}
+
 static void threads(uint64_t times) {
     blink::Map map(8192, 5);
     map.handle().insert(uint64_t(1) << 40, 0);
@@ -128,12 +139,7 @@ static void threads(uint64_t times) {
     auto handle = map.handle();
     CHECK(handle.find(uint64_t(1) << 40) == 4 * times);
     CHECK(std::distance(handle.range().begin(), blink::Range::iterator()) == 4 * 100 + 1);
-    try {
-        map.close_image();
-        CHECK(false);
-    } catch (const blink::Error &error) {
-        CHECK(error.code() == BLINK_SEATS_OPEN && error.what() == std::string("a seat of the map is not among these"));
-    }
+    CHECK(refused_close(map) == BLINK_SEATS_OPEN);
 }
 
 static void edges() {
@@ -151,14 +157,10 @@ static void edges() {
         auto at = range.begin();
         CHECK(at->first == top && (*at++).second == 2 && at == range.end());
         CHECK(handle.upkeep(10));
+        CHECK(refused_close(map) == BLINK_SEATS_OPEN);
     }
     map.close_image();
-    try {
-        map.close_image();
-        CHECK(false);
-    } catch (const blink::Error &error) {
-        CHECK(error.code() == BLINK_CLOSED);
-    }
+    CHECK(refused_close(map) == BLINK_CLOSED);
 }
 
 static void refusals() {
@@ -190,6 +192,10 @@ static void refusals() {
     CHECK(key >= 14 && key < 200 && std::distance(other.range().begin(), {}) == std::ptrdiff_t(key));
     one = map.handle();
     CHECK(one.find(0) == 0 && one.find(key) == std::nullopt);
+    // Both are out; the seat of one that is assigned to goes back.
+    CHECK(!map.try_handle());
+    other = std::move(one);
+    CHECK(map.try_handle() && other.find(0) == 0);
 }
 
 int main(int count, char **words) {

@@ -19,9 +19,10 @@
  * by writing back what was there. That is right for the connection's own changes; tables that share a map see each other's
  * changes before they are committed. An image has what was written, committed or not.
  *
- * SQLite's own ways with virtual tables differ from ordinary ones in this: DROP TABLE is final, also in a transaction that is
- * rolled back; a value of a wrong type undoes a whole statement OR FAIL or OR IGNORE; UPDATE OR REPLACE of keys reads all rows before it
- * changes the first; and an insertion without a key is refused where the greatest key is taken.
+ * SQLite's own ways with virtual tables differ from ordinary ones in this: a value of a wrong type undoes a whole statement
+ * OR FAIL or OR IGNORE; UPDATE OR REPLACE of keys reads all rows before it changes the first; and an insertion without a key
+ * is refused where the greatest key is taken. A table that is dropped inside of BEGIN keeps its memory until one of its name
+ * is made or the connection is closed.
  */
 #include <sqlite3ext.h>
 SQLITE_EXTENSION_INIT1
@@ -68,6 +69,7 @@ typedef struct Table {
     int shown; /* by how many sqlite3_vtab */
     bool is_dropped;
     char *schema, *name, *image;
+    char *before; /* its name before it was renamed, or null */
     Map *map;
     size_t place; /* of the seat */
     Undo *undo;
@@ -246,6 +248,7 @@ static void free_table(Table *t) {
     sqlite3_free(t->schema);
     sqlite3_free(t->name);
     sqlite3_free(t->image);
+    sqlite3_free(t->before);
     free(t->undo);
     free(t->marks);
     free(t);
@@ -258,6 +261,32 @@ static void drop_table(Home *home, Table *t) {
     if (*at) *at = t->next;
     t->is_dropped = true;
     if (t->shown == 0) free_table(t);
+}
+
+/* Writes one thing back that was there before a change, under the seat's lock. */
+static int32_t write_back(Map *map, blink_seat *seat, const Undo *undo) {
+    uint64_t old = 0;
+    int32_t answer;
+    if (!undo->had) {
+        answer = blink_delete(seat, undo->key, &old);
+        if (answer == BLINK_OK) __atomic_sub_fetch(&map->rows, 1, __ATOMIC_RELAXED);
+        return answer == BLINK_ABSENT ? BLINK_OK : answer;
+    }
+    answer = blink_more_put(seat, undo->key, undo->value, &old);
+    if (answer == BLINK_OK) __atomic_add_fetch(&map->rows, 1, __ATOMIC_RELAXED);
+    return answer == BLINK_PRESENT ? BLINK_OK : answer;
+}
+
+/* Writes back what was there, down to so many undos. What was deleted may find no room, where others have filled the map since. */
+static int32_t undo_to(Table *t, size_t count) {
+    int32_t answer = BLINK_OK;
+    blink_seat *seat = hold(t);
+    while (answer == BLINK_OK && t->undos > count) {
+        answer = write_back(t->map, seat, &t->undo[t->undos - 1]);
+        if (answer == BLINK_OK) t->undos--;
+    }
+    let_go(t);
+    return answer;
 }
 
 /* What a table is made with. Numbers are 0 where they are not said. */
@@ -396,6 +425,18 @@ static Table *find_table(const Home *home, const char *schema, const char *name)
     return t;
 }
 
+/* One that had the name before it was renamed, and that nothing shows: so that was rolled back, and it has the name again. */
+static Table *find_renamed(const Home *home, const char *schema, const char *name) {
+    for (Table *t = home->tables; t; t = t->next) {
+        if (t->shown > 0 || !t->before || sqlite3_stricmp(t->schema, schema) != 0 || sqlite3_stricmp(t->before, name) != 0) continue;
+        sqlite3_free(t->name);
+        t->name = t->before;
+        t->before = NULL;
+        return t;
+    }
+    return NULL;
+}
+
 /* A new table as the words wish it. */
 static int make_table(Home *home, int count, const char *const *words, Table **made, char **error) {
     Wish wish = { 0, 0, NULL, NULL };
@@ -447,15 +488,20 @@ static int show_table(sqlite3 *db, Table *t, sqlite3_vtab **made) {
 static int connect_table(sqlite3 *db, void *data, int count, const char *const *words, sqlite3_vtab **made, char **error) {
     Home *home = data;
     Table *t = find_table(home, words[1], words[2]);
-    int code = t ? SQLITE_OK : make_table(home, count, words, &t, error);
-    return code == SQLITE_OK ? show_table(db, t, made) : code;
+    int code;
+    if (!t) t = find_renamed(home, words[1], words[2]);
+    code = t ? SQLITE_OK : make_table(home, count, words, &t, error);
+    if (code == SQLITE_OK) code = show_table(db, t, made);
+    /* A transaction that dropped the table was rolled back, and its changes before that are still to be undone. */
+    if (code == SQLITE_OK && t->shown == 1) undo_to(t, 0);
+    return code;
 }
 
 static int create_table(sqlite3 *db, void *data, int count, const char *const *words, sqlite3_vtab **made, char **error) {
     Home *home = data;
     Table *old = find_table(home, words[1], words[2]), *t = NULL;
     int code;
-    /* One whose making was rolled back. */
+    /* One whose making was rolled back, or whose end was committed. */
     if (old) drop_table(home, old);
     code = make_table(home, count, words, &t, error);
     if (code == SQLITE_OK) code = show_table(db, t, made);
@@ -470,10 +516,11 @@ static int disconnect_table(sqlite3_vtab *base) {
     return SQLITE_OK;
 }
 
-/* DROP TABLE, which is final, even where its transaction is rolled back. */
+/* DROP TABLE. In a transaction the table is kept, since that may be rolled back: until one of its name is made, or the
+ * connection is closed. */
 static int destroy_table(sqlite3_vtab *base) {
     Table *t = table_of(base);
-    drop_table(t->home, t);
+    if (sqlite3_get_autocommit(t->home->db)) drop_table(t->home, t);
     return disconnect_table(base);
 }
 
@@ -791,34 +838,7 @@ static int update_row(sqlite3_vtab *base, int count, sqlite3_value **values, sql
     return code == SQLITE_OK && !is_new ? take_away(base, key_of(was)) : code;
 }
 
-/* ---- Undoing. ---- */
-
-/* Writes one thing back that was there before a change, under the seat's lock. */
-static int32_t write_back(Map *map, blink_seat *seat, const Undo *undo) {
-    uint64_t old = 0;
-    int32_t answer;
-    if (!undo->had) {
-        answer = blink_delete(seat, undo->key, &old);
-        if (answer == BLINK_OK) __atomic_sub_fetch(&map->rows, 1, __ATOMIC_RELAXED);
-        return answer == BLINK_ABSENT ? BLINK_OK : answer;
-    }
-    answer = blink_more_put(seat, undo->key, undo->value, &old);
-    if (answer == BLINK_OK) __atomic_add_fetch(&map->rows, 1, __ATOMIC_RELAXED);
-    return answer == BLINK_PRESENT ? BLINK_OK : answer;
-}
-
-static int undo_to(sqlite3_vtab *base, size_t count) {
-    Table *t = table_of(base);
-    int32_t answer = BLINK_OK;
-    blink_seat *seat = hold(t);
-    /* What was deleted may find no room, where others have filled the map since. */
-    while (answer == BLINK_OK && t->undos > count) {
-        answer = write_back(t->map, seat, &t->undo[t->undos - 1]);
-        if (answer == BLINK_OK) t->undos--;
-    }
-    let_go(t);
-    return told(base, answer);
-}
+/* ---- Transactions. ---- */
 
 static int begin_changes(sqlite3_vtab *base) {
     Table *t = table_of(base);
@@ -836,7 +856,7 @@ static int sync_changes(sqlite3_vtab *base) {
 
 static int commit_changes(sqlite3_vtab *base) { return begin_changes(base); }
 
-static int roll_back(sqlite3_vtab *base) { return undo_to(base, 0); }
+static int roll_back(sqlite3_vtab *base) { return told(base, undo_to(table_of(base), 0)); }
 
 static int set_savepoint(sqlite3_vtab *base, int number) {
     Table *t = table_of(base);
@@ -857,14 +877,15 @@ static int release_savepoint(sqlite3_vtab *base, int number) {
 
 static int roll_back_to(sqlite3_vtab *base, int number) {
     Table *t = table_of(base);
-    return number < t->mark_count ? undo_to(base, t->marks[number]) : SQLITE_OK;
+    return number < t->mark_count ? told(base, undo_to(t, t->marks[number])) : SQLITE_OK;
 }
 
 static int rename_table(sqlite3_vtab *base, const char *name) {
     Table *t = table_of(base);
     char *copy = sqlite3_mprintf("%s", name);
     if (!copy) return SQLITE_NOMEM;
-    sqlite3_free(t->name);
+    sqlite3_free(t->before);
+    t->before = t->name;
     t->name = copy;
     return SQLITE_OK;
 }
