@@ -425,10 +425,10 @@ static Table *find_table(const Home *home, const char *schema, const char *name)
     return t;
 }
 
-/* One that had the name before it was renamed, and that nothing shows: so that was rolled back, and it has the name again. */
+/* One that had the name before it was renamed. As SQLite asks for that name, the renaming was rolled back, and it has it again. */
 static Table *find_renamed(const Home *home, const char *schema, const char *name) {
     for (Table *t = home->tables; t; t = t->next) {
-        if (t->shown > 0 || !t->before || sqlite3_stricmp(t->schema, schema) != 0 || sqlite3_stricmp(t->before, name) != 0) continue;
+        if (!t->before || sqlite3_stricmp(t->schema, schema) != 0 || sqlite3_stricmp(t->before, name) != 0) continue;
         sqlite3_free(t->name);
         t->name = t->before;
         t->before = NULL;
@@ -846,6 +846,11 @@ static int begin_changes(sqlite3_vtab *base) {
     t->undos = 0;
     let_go(t);
     t->mark_count = 0;
+    /* Outside of BEGIN and COMMIT a renaming is not rolled back any more. */
+    if (sqlite3_get_autocommit(t->home->db)) {
+        sqlite3_free(t->before);
+        t->before = NULL;
+    }
     return SQLITE_OK;
 }
 

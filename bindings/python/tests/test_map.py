@@ -336,7 +336,8 @@ class Threads(unittest.TestCase):
                 for _ in range(20):
                     before = list(m)
                     m.save(path)
-                    assert set(before) <= set(Map.open(path, seats=1))
+                    with Map.open(path, seats=1) as saved:
+                        assert set(before) <= set(saved)
 
             self.together(save, *[lambda t=t: put(t) for t in range(4)])
             self.assertEqual(list(m), list(range(1200)))

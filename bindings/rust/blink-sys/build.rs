@@ -11,14 +11,18 @@ fn main() {
     };
     let archive = Path::new(&folder).join("libblink.a");
     if !archive.exists() {
-        fail(&format!("there is no {}: run ./install --library PREFIX and set BLINK_PREFIX to that PREFIX", archive.display()));
+        fail(&format!(
+            "there is no {}: run ./install --library PREFIX and set BLINK_PREFIX to that PREFIX",
+            archive.display()
+        ));
     }
     println!("cargo:rerun-if-changed={}", archive.display());
     println!("cargo:rustc-link-search=native={}", folder);
     println!("cargo:rustc-link-lib=static=blink");
 }
 
-const UNKNOWN: &str = "pkg-config is not there or knows no blink: install it, or set BLINK_PREFIX to where ./install has put it";
+const UNKNOWN: &str =
+    "pkg-config is not there or knows no blink: install it, or set BLINK_PREFIX to where ./install has put it";
 
 /// The folder of the library where this crate stands in share/blink/rust below the same folder.
 fn beside() -> Option<String> {

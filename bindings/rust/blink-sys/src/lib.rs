@@ -76,13 +76,33 @@ extern "C" {
     pub fn blink_open_image(bytes: *const u8, length: usize, seats: *mut blink_seat, count: usize) -> i32;
     pub fn blink_close(seat: *mut blink_seat) -> i32;
     pub fn blink_image_length(pages: u32) -> u64;
-    pub fn blink_close_image(seats: *mut blink_seat, count: usize, bytes: *mut u8, room: usize, length: *mut u64) -> i32;
+    pub fn blink_close_image(
+        seats: *mut blink_seat,
+        count: usize,
+        bytes: *mut u8,
+        room: usize,
+        length: *mut u64,
+    ) -> i32;
     pub fn blink_find(seat: *mut blink_seat, key: u64, value: *mut u64) -> i32;
     pub fn blink_insert(seat: *mut blink_seat, key: u64, value: u64, there: *mut u64) -> i32;
     pub fn blink_delete(seat: *mut blink_seat, key: u64, gone: *mut u64) -> i32;
     pub fn blink_change(seat: *mut blink_seat, key: u64, old_value: u64, new_value: u64, there: *mut u64) -> i32;
-    pub fn blink_scan(seat: *mut blink_seat, from: u64, rows: *mut blink_row, room: usize, count: *mut usize, next: *mut u64, more: *mut bool) -> i32;
-    pub fn blink_rows(seat: *mut blink_seat, from: u64, rows: *mut blink_row, room: usize, part: *mut blink_part) -> i32;
+    pub fn blink_scan(
+        seat: *mut blink_seat,
+        from: u64,
+        rows: *mut blink_row,
+        room: usize,
+        count: *mut usize,
+        next: *mut u64,
+        more: *mut bool,
+    ) -> i32;
+    pub fn blink_rows(
+        seat: *mut blink_seat,
+        from: u64,
+        rows: *mut blink_row,
+        room: usize,
+        part: *mut blink_part,
+    ) -> i32;
     pub fn blink_upkeep(seat: *mut blink_seat, most: u32) -> i32;
     pub fn blink_upkeep_all(seat: *mut blink_seat) -> i32;
     pub fn blink_waiting(seat: *mut blink_seat) -> u32;
@@ -96,8 +116,20 @@ extern "C" {
     pub fn blink_try_insert(seat: *mut blink_seat, key: u64, value: u64, there: *mut u64) -> i32;
     pub fn blink_try_delete(seat: *mut blink_seat, key: u64, gone: *mut u64) -> i32;
     pub fn blink_try_change(seat: *mut blink_seat, key: u64, old_value: u64, new_value: u64, there: *mut u64) -> i32;
-    pub fn blink_try_rows(seat: *mut blink_seat, from: u64, rows: *mut blink_row, room: usize, part: *mut blink_part) -> i32;
+    pub fn blink_try_rows(
+        seat: *mut blink_seat,
+        from: u64,
+        rows: *mut blink_row,
+        room: usize,
+        part: *mut blink_part,
+    ) -> i32;
     pub fn blink_tend(seat: *mut blink_seat, most: u32) -> i32;
     pub fn blink_try_meet(one: *mut blink_seat, two: *mut blink_seat) -> i32;
-    pub fn blink_try_close_image(seats: *mut blink_seat, count: usize, bytes: *mut u8, room: usize, length: *mut u64) -> i32;
+    pub fn blink_try_close_image(
+        seats: *mut blink_seat,
+        count: usize,
+        bytes: *mut u8,
+        room: usize,
+        length: *mut u64,
+    ) -> i32;
 }

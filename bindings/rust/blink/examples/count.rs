@@ -16,7 +16,9 @@ fn main() -> Result<(), Box<dyn std::error::Error>> {
         let threads: Vec<_> = words
             .chunks(words.len() / 4 + 1)
             .filter_map(|part| Some((part, map.handle()?)))
-            .map(|(part, handle)| scope.spawn(move || part.iter().try_for_each(|word| count(&handle, word.len() as u64))))
+            .map(|(part, handle)| {
+                scope.spawn(move || part.iter().try_for_each(|word| count(&handle, word.len() as u64)))
+            })
             .collect();
         threads.into_iter().try_for_each(|thread| thread.join().expect("no thread panics"))
     })?;

@@ -78,11 +78,20 @@ impl Worker {
     /// The rows of a few keys, by rising or falling keys: a search of each key that is passed.
     fn list(&mut self, handle: &Handle, first: u64, last: u64, start: Instant, lines: &mut Vec<Line>) {
         let begin = start.elapsed().as_nanos() as u64;
-        let rows: Vec<(u64, u64)> = if self.draw(2) == 0 { handle.range(first..=last).collect() } else { handle.range(first..=last).rev().collect() };
+        let rows: Vec<(u64, u64)> = if self.draw(2) == 0 {
+            handle.range(first..=last).collect()
+        } else {
+            handle.range(first..=last).rev().collect()
+        };
         let end = start.elapsed().as_nanos() as u64;
         for key in first..=last {
             let row = rows.iter().find(|row| row.0 == key);
-            lines.push((begin, end, key, format!("Find {}", row.map_or("Absent".to_string(), |row| format!("Found({})", row.1)))));
+            lines.push((
+                begin,
+                end,
+                key,
+                format!("Find {}", row.map_or("Absent".to_string(), |row| format!("Found({})", row.1))),
+            ));
         }
     }
 
@@ -105,7 +114,13 @@ impl Worker {
     }
 }
 
-fn round(map: &Map, workers: &mut [Worker], keys: &std::ops::Range<u64>, calls: usize, start: Instant) -> Vec<Vec<Line>> {
+fn round(
+    map: &Map,
+    workers: &mut [Worker],
+    keys: &std::ops::Range<u64>,
+    calls: usize,
+    start: Instant,
+) -> Vec<Vec<Line>> {
     std::thread::scope(|scope| {
         let threads: Vec<_> = workers
             .iter_mut()
@@ -128,13 +143,19 @@ fn main() -> Result<(), Box<dyn std::error::Error>> {
     let (start, mut first, mut maps) = (Instant::now(), 0, 0);
     let mut out = BufWriter::new(io::stdout().lock());
     let mut workers: Vec<Worker> = (0..threads)
-        .map(|t| Worker { drawn: (seed + 1).wrapping_mul(0x9E37_79B9_7F4A_7C15).wrapping_add(t * 7919), stamp: t << 40, seen: None })
+        .map(|t| Worker {
+            drawn: (seed + 1).wrapping_mul(0x9E37_79B9_7F4A_7C15).wrapping_add(t * 7919),
+            stamp: t << 40,
+            seen: None,
+        })
         .collect();
     while maps == 0 || start.elapsed() < Duration::from_secs(seconds) {
         let mut map = Map::new(pages, threads as usize)?;
         for number in 0..ROUNDS {
             for (thread, lines) in round(&map, &mut workers, &(first..first + keys), calls, start).iter().enumerate() {
-                lines.iter().try_for_each(|(begin, end, key, told)| writeln!(out, "{} {} {} {} {}", thread, begin, end, key, told))?;
+                lines.iter().try_for_each(|(begin, end, key, told)| {
+                    writeln!(out, "{} {} {} {} {}", thread, begin, end, key, told)
+                })?;
             }
             writeln!(out, "round")?;
             if number + 1 < ROUNDS {

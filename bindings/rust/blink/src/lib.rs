@@ -163,7 +163,8 @@ impl Map {
         let mut length = 0;
         // SAFETY: the seats are all those of one map, the lock keeps others from them, and each pointer is of a vector or a
         // variable that is there, with the length of the vector beside it.
-        let code = unsafe { blink_close_image(seats.as_mut_ptr(), seats.len(), bytes.as_mut_ptr(), bytes.len(), &mut length) };
+        let code =
+            unsafe { blink_close_image(seats.as_mut_ptr(), seats.len(), bytes.as_mut_ptr(), bytes.len(), &mut length) };
         // What the call has left of the seats is theirs: closed, or as it was.
         for (seat, left) in free.iter_mut().zip(seats) {
             seat.0 = left;
@@ -180,7 +181,10 @@ impl Map {
 
 impl fmt::Debug for Map {
     fn fmt(&self, f: &mut fmt::Formatter<'_>) -> fmt::Result {
-        f.debug_struct("Map").field("pages", &self.shared.pages).field("handles", &self.shared.handles).finish_non_exhaustive()
+        f.debug_struct("Map")
+            .field("pages", &self.shared.pages)
+            .field("handles", &self.shared.handles)
+            .finish_non_exhaustive()
     }
 }
 

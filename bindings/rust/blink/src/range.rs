@@ -46,7 +46,9 @@ impl<'a> Range<'a> {
         let (mut count, mut next, mut more) = (0, 0, false);
         self.front.rows.resize(room, blink_row::default());
         // SAFETY: the seat is the handle's alone, and each other pointer is of a vector or a variable that is there.
-        let code = unsafe { blink_scan(self.handle.at(), from, self.front.rows.as_mut_ptr(), room, &mut count, &mut next, &mut more) };
+        let code = unsafe {
+            blink_scan(self.handle.at(), from, self.front.rows.as_mut_ptr(), room, &mut count, &mut next, &mut more)
+        };
         if code != BLINK_OK {
             error::unexpected(code);
         }
@@ -110,6 +112,10 @@ impl FusedIterator for Range<'_> {}
 
 impl fmt::Debug for Range<'_> {
     fn fmt(&self, f: &mut fmt::Formatter<'_>) -> fmt::Result {
-        f.debug_struct("Range").field("low", &self.low).field("high", &self.high).field("is_done", &self.is_done).finish_non_exhaustive()
+        f.debug_struct("Range")
+            .field("low", &self.low)
+            .field("high", &self.high)
+            .field("is_done", &self.is_done)
+            .finish_non_exhaustive()
     }
 }

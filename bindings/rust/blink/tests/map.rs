@@ -48,7 +48,9 @@ fn step(handle: &Handle, model: &mut Model, x: &mut u64) {
                 assert_eq!(handle.compare_exchange(k, there, v), Ok(()));
                 model.insert(k, v);
             }
-            Some(there) => assert_eq!(handle.compare_exchange(k, there.wrapping_add(1), v), Err(ExchangeError::Differs(there))),
+            Some(there) => {
+                assert_eq!(handle.compare_exchange(k, there.wrapping_add(1), v), Err(ExchangeError::Differs(there)))
+            }
         },
         6 => {
             assert_eq!(handle.update(k, |v| v ^ 5), Ok(old));
