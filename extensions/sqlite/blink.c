@@ -68,6 +68,7 @@ typedef struct Table {
     struct Home *home;
     int shown; /* by how many sqlite3_vtab */
     bool is_dropped;
+    bool is_kept; /* dropped in a transaction, which may be rolled back */
     char *schema, *name, *image;
     char *before; /* its name before it was renamed, or null */
     Map *map;
@@ -491,10 +492,13 @@ static int connect_table(sqlite3 *db, void *data, int count, const char *const *
     int code;
     if (!t) t = find_renamed(home, words[1], words[2]);
     code = t ? SQLITE_OK : make_table(home, count, words, &t, error);
-    if (code == SQLITE_OK) code = show_table(db, t, made);
-    /* A transaction that dropped the table was rolled back, and its changes before that are still to be undone. */
-    if (code == SQLITE_OK && t->shown == 1) undo_to(t, 0);
-    return code;
+    if (code == SQLITE_OK && t->is_kept) {
+        /* The transaction was rolled back. What it changed before it dropped the table is still to be undone. */
+        int32_t answer = undo_to(t, 0);
+        if (answer != BLINK_OK) return refused(error, SQLITE_ERROR, sqlite3_mprintf("blink: a rollback: %s", blink_text(answer)));
+        t->is_kept = false;
+    }
+    return code == SQLITE_OK ? show_table(db, t, made) : code;
 }
 
 static int create_table(sqlite3 *db, void *data, int count, const char *const *words, sqlite3_vtab **made, char **error) {
@@ -520,7 +524,8 @@ static int disconnect_table(sqlite3_vtab *base) {
  * connection is closed. */
 static int destroy_table(sqlite3_vtab *base) {
     Table *t = table_of(base);
-    if (sqlite3_get_autocommit(t->home->db)) drop_table(t->home, t);
+    t->is_kept = !sqlite3_get_autocommit(t->home->db);
+    if (!t->is_kept) drop_table(t->home, t);
     return disconnect_table(base);
 }
 
