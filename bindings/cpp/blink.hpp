@@ -1,0 +1,472 @@
+// blink.hpp: the map for C++17, over blink.h and blink_more.h.
+//
+//     blink::Map map(4096, 8);                             // pages, and handles at once
+//     blink::Handle handle = map.handle();                 // one for each thread
+//     handle.insert(5, 50);
+//     for (auto [key, value] : handle.range(0, 100)) ...   // keys 0 to 99, rising
+//     std::vector<uint8_t> image = map.close_image();
+//
+// A call that is refused throws blink::Error, or blink::NoRoom, which says that nothing
+// has changed. With std::nothrow as its last argument it throws nothing, and answers a
+// blink::Result, which has the value or the code.
+//
+// What blink.h asks of a caller is kept by types: a Handle owns its seat, is moved, not
+// copied, and is used by one thread at a time. Maps are copied and shared; handles may
+// outlive them. In the child of a fork of a program with threads no call may be made.
+#pragma once
+#include "blink.h"
+#include "blink_more.h"
+
+#include <array>
+#include <cstddef>
+#include <cstdint>
+#include <cstdlib>
+#include <iterator>
+#include <memory>
+#include <mutex>
+#include <new>
+#include <optional>
+#include <stdexcept>
+#include <utility>
+#include <vector>
+
+namespace blink {
+
+// A call that was refused; code() is one of blink.h, and what() says what it means.
+class Error : public std::runtime_error {
+public:
+    explicit Error(int32_t code) : std::runtime_error(blink_text(code)), code_(code) {}
+    int32_t code() const noexcept { return code_; }
+
+private:
+    int32_t code_;
+};
+
+// No page or frame was free, and nothing has changed.
+class NoRoom : public Error {
+public:
+    NoRoom() : Error(BLINK_NO_ROOM) {}
+};
+
+namespace detail {
+
+// Throws what a code means that is no answer; without exceptions it ends the program.
+[[noreturn]] inline void refuse(int32_t code) {
+#if defined(__cpp_exceptions)
+    if (code == BLINK_NO_ROOM) throw NoRoom();
+    throw Error(code);
+#else
+    (void)code;
+    std::abort();
+#endif
+}
+
+// The seats of a map that are in no handle, with room for all, so that a seat goes back
+// without an allocation.
+struct Seats {
+    std::mutex lock;
+    std::vector<blink_seat> free;
+    uint32_t pages = 0;
+    size_t handles = 0;
+    bool is_closed = false;
+
+    Seats() = default;
+    Seats(const Seats &) = delete;
+    Seats &operator=(const Seats &) = delete;
+    ~Seats() {
+        for (blink_seat &seat : free) blink_close(&seat);
+    }
+};
+
+} // namespace detail
+
+// A value, or the code of blink.h that says why there is none.
+template <class T> class Result {
+public:
+    Result(T value) : value_(std::move(value)) {}
+    static Result refused(int32_t code) { return Result(code, nullptr); }
+
+    explicit operator bool() const noexcept { return value_.has_value(); }
+    int32_t code() const noexcept { return code_; }
+    const char *what() const noexcept { return blink_text(code_); }
+
+    // The value; Error or NoRoom where there is none.
+    const T &value() const & {
+        if (!value_) detail::refuse(code_);
+        return *value_;
+    }
+    T value() && {
+        if (!value_) detail::refuse(code_);
+        return std::move(*value_);
+    }
+    // The value, where there is one.
+    const T &operator*() const & { return *value_; }
+    T operator*() && { return std::move(*value_); }
+    const T *operator->() const { return &*value_; }
+
+private:
+    Result(int32_t code, std::nullptr_t) : code_(code) {}
+    std::optional<T> value_;
+    int32_t code_ = BLINK_OK;
+};
+
+using Key = uint64_t;
+using Value = uint64_t;
+using Row = std::pair<Key, Value>;
+
+// What insert answers: the value that the key has now, and whether this call has put it
+// there.
+struct Inserted {
+    Value value;
+    bool is_new;
+};
+
+// What compare_exchange answers.
+enum class Exchanged {
+    done,    // the key had the expected value, and has the new one
+    differs, // the key has another value, which is in `expected` now
+    absent   // the key is not there
+};
+
+// The rows of a range of keys, rising or falling, for a `for`. It goes along once. Each
+// leaf is read at one moment; the whole is no snapshot. Rows may be changed meanwhile,
+// also by the same handle, which has to stay where it is as long as the range is used.
+class Range {
+public:
+    class iterator {
+    public:
+        using iterator_category = std::input_iterator_tag;
+        using value_type = Row;
+        using difference_type = std::ptrdiff_t;
+        using pointer = const Row *;
+        using reference = const Row &;
+
+        iterator() = default;
+        reference operator*() const { return row_; }
+        pointer operator->() const { return &row_; }
+        iterator &operator++() {
+            step();
+            return *this;
+        }
+        // The row before the step, by value.
+        class Kept {
+        public:
+            const Row &operator*() const { return row_; }
+
+        private:
+            friend class iterator;
+            explicit Kept(const Row &row) : row_(row) {}
+            Row row_;
+        };
+        Kept operator++(int) {
+            Kept kept(row_);
+            step();
+            return kept;
+        }
+        bool operator==(const iterator &other) const { return range_ == other.range_; }
+        bool operator!=(const iterator &other) const { return range_ != other.range_; }
+
+    private:
+        friend class Range;
+        explicit iterator(Range *range) : range_(range) { step(); }
+        void step() {
+            if (!range_->next(row_)) range_ = nullptr;
+        }
+        Range *range_ = nullptr;
+        Row row_{};
+    };
+
+    iterator begin() { return iterator(this); }
+    iterator end() { return iterator(); }
+
+    // Writes the next row; false where there is none.
+    bool next(Row &row) {
+        while (at_ == count_) {
+            if (!more_ || next_ < low_ || next_ > high_) return false;
+            read();
+        }
+        const blink_row &found = rows_[at_];
+        if (found.key < low_ || found.key > high_) {
+            more_ = false;
+            count_ = at_;
+            return false;
+        }
+        at_++;
+        row = Row(found.key, found.value);
+        return true;
+    }
+
+private:
+    friend class Handle;
+    Range(blink_seat *seat, Key low, Key high, bool is_falling)
+        : seat_(seat), low_(low), high_(high), next_(is_falling ? high : low),
+          more_(low <= high), is_falling_(is_falling) {}
+
+    // Reads further rows. Few at first, since many ranges are left early.
+    void read() {
+        int32_t code;
+        if (is_falling_) {
+            code = blink_more_scan_down(seat_, next_, rows_.data(), room_, &fall_);
+            count_ = fall_.count;
+            next_ = fall_.next;
+            more_ = fall_.more;
+        } else {
+            code = blink_scan(seat_, next_, rows_.data(), room_, &count_, &next_, &more_);
+        }
+        at_ = 0;
+        if (code != BLINK_OK) {
+            count_ = 0;
+            more_ = false;
+            detail::refuse(code);
+        }
+        room_ = rows_.size();
+    }
+
+    blink_seat *seat_;
+    Key low_, high_, next_;
+    bool more_, is_falling_;
+    size_t at_ = 0, count_ = 0, room_ = 32;
+    blink_fall fall_ = {};
+    std::array<blink_row, 128> rows_{};
+};
+
+// One thread's place at a map. It goes back to the map at its end.
+class Handle {
+public:
+    Handle(Handle &&other) noexcept
+        : seats_(std::move(other.seats_)),
+          seat_(std::exchange(other.seat_, blink_seat{})) {}
+    // The seat that it had goes back.
+    Handle &operator=(Handle &&other) noexcept {
+        Handle taken(std::move(other));
+        std::swap(seats_, taken.seats_);
+        std::swap(seat_, taken.seat_);
+        return *this;
+    }
+    Handle(const Handle &) = delete;
+    Handle &operator=(const Handle &) = delete;
+    ~Handle() {
+        if (!seats_) return;
+        const std::lock_guard<std::mutex> hold(seats_->lock);
+        seats_->free.push_back(seat_);
+    }
+
+    // The key's value, if it is there.
+    Result<std::optional<Value>> find(Key key, std::nothrow_t) noexcept {
+        Value value = 0;
+        const int32_t code = blink_find(&seat_, key, &value);
+        return some(code, BLINK_OK, BLINK_ABSENT, value);
+    }
+    std::optional<Value> find(Key key) { return find(key, std::nothrow).value(); }
+    bool contains(Key key) { return find(key).has_value(); }
+
+    // Puts the value at the key where it has none.
+    Result<Inserted> insert(Key key, Value value, std::nothrow_t) noexcept {
+        Value there = 0;
+        const int32_t code = blink_insert(&seat_, key, value, &there);
+        if (code == BLINK_OK) return Inserted{value, true};
+        if (code == BLINK_PRESENT) return Inserted{there, false};
+        return Result<Inserted>::refused(code);
+    }
+    Inserted insert(Key key, Value value) {
+        return insert(key, value, std::nothrow).value();
+    }
+
+    // Puts the value at the key, whatever is there: the value that was there. It is an
+    // insertion, or an insertion and a change, and goes round while others write the key
+    // in between; it takes effect at one moment, that of its last call.
+    Result<std::optional<Value>> put(Key key, Value value, std::nothrow_t) noexcept {
+        Value old = 0;
+        const int32_t code = blink_more_put(&seat_, key, value, &old);
+        return some(code, BLINK_PRESENT, BLINK_OK, old);
+    }
+    std::optional<Value> put(Key key, Value value) {
+        return put(key, value, std::nothrow).value();
+    }
+
+    // Takes the key away: the value that it had.
+    Result<std::optional<Value>> erase(Key key, std::nothrow_t) noexcept {
+        Value gone = 0;
+        const int32_t code = blink_delete(&seat_, key, &gone);
+        return some(code, BLINK_OK, BLINK_ABSENT, gone);
+    }
+    std::optional<Value> erase(Key key) { return erase(key, std::nothrow).value(); }
+
+    // Puts the desired value at a key that has the expected one, as std::atomic does.
+    Result<Exchanged> compare_exchange(Key key, Value &expected, Value desired,
+                                       std::nothrow_t) noexcept {
+        Value there = 0;
+        const int32_t code = blink_change(&seat_, key, expected, desired, &there);
+        if (code == BLINK_OK) return Exchanged::done;
+        if (code == BLINK_ABSENT) return Exchanged::absent;
+        if (code != BLINK_PRESENT) return Result<Exchanged>::refused(code);
+        expected = there;
+        return Exchanged::differs;
+    }
+    Exchanged compare_exchange(Key key, Value &expected, Value desired) {
+        return compare_exchange(key, expected, desired, std::nothrow).value();
+    }
+
+    // Puts at a key that is there what the function makes of its value, by
+    // compare_exchange; the function is called again where others write in between. The
+    // value before, if the key is there.
+    template <class Function> std::optional<Value> update(Key key, Function &&make) {
+        std::optional<Value> there = find(key);
+        while (there) {
+            switch (compare_exchange(key, *there, make(std::as_const(*there)))) {
+                case Exchanged::done: return there;
+                case Exchanged::absent: return std::nullopt;
+                case Exchanged::differs: break;
+            }
+        }
+        return std::nullopt;
+    }
+
+    // Looks so many keys up. A value is written at the place of each key that is there,
+    // and 1 in `found`, if that is not null, else 0; other places of `values` stay as
+    // they are. How many keys are there.
+    Result<size_t> get_many(const Key *keys, size_t count, Value *values, uint8_t *found,
+                            std::nothrow_t) noexcept {
+        size_t hits = 0;
+        const int32_t code =
+            blink_more_find_many(&seat_, keys, count, values, found, &hits);
+        return code == BLINK_OK ? Result<size_t>(hits) : Result<size_t>::refused(code);
+    }
+    std::vector<std::optional<Value>> get_many(const std::vector<Key> &keys) {
+        std::vector<Value> values(keys.size());
+        std::vector<uint8_t> found(keys.size());
+        std::vector<std::optional<Value>> answers(keys.size());
+        get_many(keys.data(), keys.size(), values.data(), found.data(), std::nothrow)
+            .value();
+        for (size_t at = 0; at < keys.size(); at++)
+            if (found[at]) answers[at] = values[at];
+        return answers;
+    }
+
+    // All rows, those from a key on, or those from a key on and below another one.
+    Range range(Key from = 0) { return Range(&seat_, from, UINT64_MAX, false); }
+    Range range(Key from, Key below) { return bounded(from, below, false); }
+    // The same rows by falling keys. A row costs about twice what it costs upwards.
+    Range range_down(Key from = 0) { return Range(&seat_, from, UINT64_MAX, true); }
+    Range range_down(Key from, Key below) { return bounded(from, below, true); }
+
+    // The first and the last row; the last one is searched in up to 64 leaves.
+    std::optional<Row> first() {
+        Row row;
+        return range().next(row) ? std::optional(row) : std::nullopt;
+    }
+    std::optional<Row> last() {
+        blink_row row;
+        const int32_t code = blink_more_last(&seat_, UINT64_MAX, &row);
+        if (code == BLINK_OK) return Row(row.key, row.value);
+        if (code != BLINK_ABSENT) detail::refuse(code);
+        return std::nullopt;
+    }
+
+    // Does so many pieces of upkeep at most: whether nothing is left to do. No program
+    // need call it.
+    bool upkeep(uint32_t most) {
+        const int32_t code = blink_upkeep(&seat_, most);
+        if (code != BLINK_OK && code != BLINK_AGAIN) detail::refuse(code);
+        return code == BLINK_OK;
+    }
+
+private:
+    friend class Map;
+    Handle(std::shared_ptr<detail::Seats> seats, blink_seat seat) noexcept
+        : seats_(std::move(seats)), seat_(seat) {}
+
+    // No key is below 0.
+    Range bounded(Key from, Key below, bool is_falling) {
+        if (below == 0) return Range(&seat_, 1, 0, is_falling);
+        return Range(&seat_, from, below - 1, is_falling);
+    }
+    // A value where the code says that there is one, nothing where it says that there is
+    // none.
+    static Result<std::optional<Value>> some(int32_t code, int32_t is_there,
+                                             int32_t is_absent, Value value) noexcept {
+        if (code == is_there) return std::optional<Value>(value);
+        if (code == is_absent) return std::optional<Value>();
+        return Result<std::optional<Value>>::refused(code);
+    }
+
+    std::shared_ptr<detail::Seats> seats_;
+    blink_seat seat_;
+};
+
+// A map. Copies of it share the rows.
+class Map {
+public:
+    // A map without rows, of 4 to 2^28 pages (plan one for each six rows), with 1 to 64
+    // handles.
+    Map(uint32_t pages, size_t handles) : seats_(made(handles)) {
+        opened(blink_open(pages, seats_->free.data(), handles));
+        seats_->pages = pages;
+    }
+    // A map that begins with the rows of an image, as close_image() and `blink dump` make
+    // it.
+    static Map from_image(const std::vector<uint8_t> &image, size_t handles) {
+        Map map(made(handles));
+        auto &seats = *map.seats_;
+        opened(blink_open_image(image.data(), image.size(), seats.free.data(), handles));
+        // The library does not tell how many pages a map has.
+        const uint64_t page = blink_image_length(1) - blink_image_length(0);
+        const uint64_t rest = image.size() - blink_image_length(0);
+        seats.pages = static_cast<uint32_t>(rest / page);
+        return map;
+    }
+
+    // A handle, if one is free.
+    std::optional<Handle> try_handle() {
+        const std::lock_guard<std::mutex> hold(seats_->lock);
+        if (seats_->free.empty()) return std::nullopt;
+        const blink_seat seat = seats_->free.back();
+        seats_->free.pop_back();
+        return Handle(seats_, seat);
+    }
+    // The same; std::runtime_error where all handles are out, or the map is closed.
+    Handle handle() {
+        if (auto handle = try_handle()) return std::move(*handle);
+#if defined(__cpp_exceptions)
+        throw std::runtime_error("all handles of the map are out, or it is closed");
+#else
+        std::abort();
+#endif
+    }
+    uint32_t pages() const noexcept { return seats_->pages; }
+
+    // Closes the map, if all handles are back: its image. Else, or without memory, it
+    // throws, and the map is open as it was.
+    std::vector<uint8_t> close_image() {
+        const std::lock_guard<std::mutex> hold(seats_->lock);
+        auto &seats = *seats_;
+        if (seats.is_closed) detail::refuse(BLINK_CLOSED);
+        if (seats.free.size() != seats.handles) detail::refuse(BLINK_SEATS_OPEN);
+        std::vector<uint8_t> bytes(blink_image_length(seats.pages));
+        uint64_t length = 0;
+        const int32_t code = blink_close_image(seats.free.data(), seats.free.size(),
+                                               bytes.data(), bytes.size(), &length);
+        if (code != BLINK_OK) detail::refuse(code);
+        seats.free.clear();
+        seats.is_closed = true;
+        bytes.resize(length);
+        return bytes;
+    }
+
+private:
+    explicit Map(std::shared_ptr<detail::Seats> seats) : seats_(std::move(seats)) {}
+    static std::shared_ptr<detail::Seats> made(size_t handles) {
+        if (handles < 1 || handles > 64) detail::refuse(BLINK_BAD_SEATS);
+        auto seats = std::make_shared<detail::Seats>();
+        seats->free.assign(handles, blink_seat{});
+        seats->handles = handles;
+        return seats;
+    }
+    static void opened(int32_t code) {
+        if (code != BLINK_OK) detail::refuse(code);
+    }
+
+    std::shared_ptr<detail::Seats> seats_;
+};
+
+} // namespace blink

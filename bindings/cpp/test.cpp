@@ -1,0 +1,208 @@
+// Tests of blink.hpp: beside a std::map, edges by hand, and by threads: test [STEPS].
+#include "blink.hpp"
+
+#include <cstdio>
+#include <map>
+#include <random>
+#include <string>
+#include <thread>
+#include <type_traits>
+
+#define CHECK(what)                                                                     \
+    do {                                                                                \
+        if (!(what)) {                                                                  \
+            std::fprintf(stderr, "%s:%d: %s\n", __FILE__, __LINE__, #what);             \
+            std::exit(1);                                                               \
+        }                                                                               \
+    } while (0)
+
+using Model = std::map<uint64_t, uint64_t>;
+static const uint64_t top = UINT64_MAX;
+
+static_assert(!std::is_copy_constructible_v<blink::Handle> && !std::is_copy_assignable_v<blink::Handle>);
+static_assert(std::is_nothrow_move_constructible_v<blink::Handle> && std::is_nothrow_move_assignable_v<blink::Handle>);
+static_assert(std::is_copy_constructible_v<blink::Map>);
+
+static std::optional<uint64_t> in(const Model &model, uint64_t key) {
+    const auto at = model.find(key);
+    return at == model.end() ? std::nullopt : std::optional(at->second);
+}
+
+// The rows of a range, both ways, are those of the model.
+static void same_range(blink::Handle &handle, const Model &model, uint64_t from, uint64_t below) {
+    auto at = model.lower_bound(from);
+    for (auto [key, value] : handle.range(from, below)) {
+        CHECK(at != model.end() && key == at->first && value == at->second);
+        ++at;
+    }
+    CHECK(at == model.lower_bound(std::max(from, below)));
+    for (auto [key, value] : handle.range_down(from, below)) {
+        --at;
+        CHECK(key == at->first && value == at->second);
+    }
+    CHECK(at == model.lower_bound(from));
+}
+
+static void write(blink::Handle &handle, Model &model, uint64_t key, uint64_t value, uint64_t what) {
+    const auto there = in(model, key);
+    if (what == 0) {
+        const auto [now, is_new] = handle.insert(key, value);
+        CHECK(is_new == !there && now == there.value_or(value));
+        model.emplace(key, value);
+    } else if (what == 1) {
+        CHECK(handle.put(key, value) == there);
+        model[key] = value;
+    } else if (what == 2) {
+        CHECK(handle.erase(key) == there);
+        model.erase(key);
+    } else if (what == 3) {
+        uint64_t expected = there && value % 2 ? *there : value;
+        const bool fits = there && expected == *there;
+        const auto done = handle.compare_exchange(key, expected, value ^ 1);
+        CHECK(done == (!there ? blink::Exchanged::absent : fits ? blink::Exchanged::done : blink::Exchanged::differs));
+        CHECK(!there || fits || expected == *there);
+        if (fits) model[key] = value ^ 1;
+    } else {
+        CHECK(handle.update(key, [](uint64_t old) { return old * 3; }) == there);
+        if (there) model[key] = *there * 3;
+    }
+}
+
+static void beside_a_map(unsigned seed, int steps) {
+    std::mt19937_64 draw(seed);
+    blink::Map map(4096, 1);
+    Model model;
+    {
+        auto handle = map.handle();
+        CHECK(!map.try_handle());
+        for (int step = 0; step < steps; step++) {
+            const uint64_t key = draw() % 2 ? draw() % 500 : draw(), value = draw(), what = draw() % 8;
+            if (what < 5) write(handle, model, key, value, what);
+            else if (what == 5) CHECK(handle.find(key) == in(model, key) && handle.contains(key) == in(model, key).has_value());
+            else if (what == 6) CHECK(handle.get_many({key, 5, 7}) == std::vector({in(model, key), in(model, 5), in(model, 7)}));
+            else if (step % 8 == 0) same_range(handle, model, key, key + draw() % 100);
+        }
+        same_range(handle, model, 0, top);
+        CHECK(handle.first()->first == model.begin()->first && handle.last()->first == model.rbegin()->first);
+    }
+    const auto image = map.close_image();
+    auto again = blink::Map::from_image(image, 3);
+    auto handle = again.handle();
+    same_range(handle, model, 0, top);
+    CHECK(again.pages() == 4096 && !map.try_handle());
+}
+
+static void counts(blink::Handle handle, uint64_t thread, uint64_t times) {
+    const uint64_t counter = uint64_t(1) << 40;
+    for (uint64_t n = 0; n < times; n++) {
+        CHECK(handle.update(counter, [](uint64_t old) { return old + 1; }));
+        CHECK(handle.insert(n * 4 + thread, n).is_new);
+        CHECK(handle.find(n * 4 + thread) == n);
+        if (n >= 100) CHECK(handle.erase((n - 100) * 4 + thread) == n - 100);
+    }
+}
+
+static void lists(blink::Handle handle) {
+    const uint64_t counter = uint64_t(1) << 40;
+    for (int round = 0; round < 50; round++) {
+        std::optional<uint64_t> last;
+        for (auto [key, value] : handle.range()) {
+            CHECK((!last || *last < key) && (key == counter || key / 4 == value));
+            last = key;
+        }
+        CHECK(last == counter);
+        for (auto [key, value] : handle.range_down()) {
+            CHECK((key == counter || key < *last) && (key == counter || key / 4 == value));
+            last = key;
+        }
+    }
+}
+
+// Why a map is not closed.
+static int32_t refused_close(blink::Map &map) {
+    try {
+        map.close_image();
+        return BLINK_OK;
+    } catch (const blink::Error &error) {
+        CHECK(error.what() == std::string(blink_text(error.code())));
+        return error.code();
+    }
+}
+
+static void threads(uint64_t times) {
+    blink::Map map(8192, 5);
+    map.handle().insert(uint64_t(1) << 40, 0);
+    std::vector<std::thread> all;
+    for (uint64_t t = 0; t < 4; t++) all.emplace_back(counts, map.handle(), t, times);
+    all.emplace_back(lists, map.handle());
+    for (auto &thread : all) thread.join();
+    auto handle = map.handle();
+    CHECK(handle.find(uint64_t(1) << 40) == 4 * times);
+    CHECK(std::distance(handle.range().begin(), blink::Range::iterator()) == 4 * 100 + 1);
+    CHECK(refused_close(map) == BLINK_SEATS_OPEN);
+}
+
+static void edges() {
+    blink::Map map(16, 1);
+    {
+        auto handle = map.handle();
+        CHECK(!handle.first() && !handle.last());
+        handle.insert(0, 1);
+        handle.insert(top, 2);
+        CHECK(handle.first() == blink::Row(0, 1) && handle.last() == blink::Row(top, 2));
+        same_range(handle, {{0, 1}, {top, 2}}, 0, 0);
+        same_range(handle, {{0, 1}, {top, 2}}, 5, 5);
+        same_range(handle, {{0, 1}, {top, 2}}, 0, top);
+        auto range = handle.range_down(1);
+        auto at = range.begin();
+        CHECK(at->first == top && (*at++).second == 2 && at == range.end());
+        CHECK(handle.upkeep(10));
+        CHECK(refused_close(map) == BLINK_SEATS_OPEN);
+    }
+    map.close_image();
+    CHECK(refused_close(map) == BLINK_CLOSED);
+}
+
+static void refusals() {
+    for (auto [pages, handles] : {std::pair(3u, size_t(1)), {(1u << 28) + 1, 1}, {16u, 0}, {16u, 65}}) {
+        try {
+            blink::Map map(pages, handles);
+            CHECK(false);
+        } catch (const blink::Error &error) {
+            CHECK(error.code() == (handles == 1 ? BLINK_BAD_PAGES : BLINK_BAD_SEATS));
+        }
+    }
+    try {
+        blink::Map::from_image({1, 2, 3}, 1);
+        CHECK(false);
+    } catch (const blink::Error &error) {
+        CHECK(error.code() == BLINK_BAD_IMAGE);
+    }
+    blink::Map map(8, 2);
+    auto one = map.handle();
+    auto other = std::move(one);
+    uint64_t key = 0;
+    try {
+        for (;; key++) other.insert(key, key);
+    } catch (const blink::NoRoom &) {
+    }
+    const auto refused = other.insert(key, key, std::nothrow);
+    CHECK(!refused && refused.code() == BLINK_NO_ROOM && refused.what() == std::string("no room"));
+    CHECK(other.insert(0, 9, std::nothrow)->value == 0 && (*other.find(3, std::nothrow)) == 3);
+    CHECK(key >= 14 && key < 200 && std::distance(other.range().begin(), {}) == std::ptrdiff_t(key));
+    one = map.handle();
+    CHECK(one.find(0) == 0 && one.find(key) == std::nullopt);
+    // Both are out; the seat of one that is assigned to goes back.
+    CHECK(!map.try_handle());
+    other = std::move(one);
+    CHECK(map.try_handle() && other.find(0) == 0);
+}
+
+int main(int count, char **words) {
+    const int steps = count > 1 ? std::atoi(words[1]) : 20000;
+    for (unsigned seed = 1; seed < 5; seed++) beside_a_map(seed, steps);
+    threads(uint64_t(steps) / 2);
+    edges();
+    refusals();
+    std::printf("%d steps as of a std::map, edges, refusals, five threads\n", 4 * steps);
+}

@@ -1,0 +1,258 @@
+/* What the Python package calls: a map with its seats, of which each call takes a free one. One call of Python is one call
+ * here, so that no signal that Python handles, as that of Ctrl-C, comes between taking a seat and giving it back. cffi lets
+ * other threads of Python run during each call. */
+#include "blink.h"
+#include "blink_more.h"
+
+#include <pthread.h>
+#include <stdlib.h>
+
+/* What find answers where there is no value to tell: the key may be absent, or have just this value. */
+#define SHIM_UNSURE 0x8F3A61C5D27E90B4u
+
+typedef struct shim_map {
+    blink_seat *seats;
+    uint64_t free;    /* a bit for each seat that is in no call */
+    uint32_t waiting; /* how many threads wait for a seat */
+    uint32_t pages, count;
+    int64_t rows; /* how many rows there are, since the library does not tell it */
+    pthread_mutex_t lock;
+    pthread_cond_t given;
+} shim_map;
+
+static uint64_t shim_all(const shim_map *map) {
+    return map->count == 64 ? UINT64_MAX : ((uint64_t)1 << map->count) - 1;
+}
+
+/* Takes these seats, all of them, where all are free: whether it did. */
+static bool shim_try_take(shim_map *map, uint64_t wanted) {
+    uint64_t free = __atomic_load_n(&map->free, __ATOMIC_SEQ_CST);
+    while ((free & wanted) == wanted)
+        if (__atomic_compare_exchange_n(&map->free, &free, free & ~wanted, false, __ATOMIC_SEQ_CST, __ATOMIC_SEQ_CST))
+            return true;
+    return false;
+}
+
+/* Takes a free seat, if there is one: its number, or -1. */
+static int shim_try_one(shim_map *map) {
+    uint64_t free = __atomic_load_n(&map->free, __ATOMIC_SEQ_CST);
+    while (free) {
+        int place = __builtin_ctzll(free);
+        if (__atomic_compare_exchange_n(&map->free, &free, free & (free - 1), false, __ATOMIC_SEQ_CST, __ATOMIC_SEQ_CST))
+            return place;
+    }
+    return -1;
+}
+
+/* Waits for a free seat: its number. */
+static int shim_take(shim_map *map) {
+    int place = shim_try_one(map);
+    if (place >= 0) return place;
+    pthread_mutex_lock(&map->lock);
+    __atomic_add_fetch(&map->waiting, 1, __ATOMIC_SEQ_CST);
+    while ((place = shim_try_one(map)) < 0) pthread_cond_wait(&map->given, &map->lock);
+    __atomic_sub_fetch(&map->waiting, 1, __ATOMIC_SEQ_CST);
+    pthread_mutex_unlock(&map->lock);
+    return place;
+}
+
+/* Waits until no seat is in a call, and takes them all. */
+static void shim_take_all(shim_map *map) {
+    pthread_mutex_lock(&map->lock);
+    __atomic_add_fetch(&map->waiting, 1, __ATOMIC_SEQ_CST);
+    while (!shim_try_take(map, shim_all(map))) pthread_cond_wait(&map->given, &map->lock);
+    __atomic_sub_fetch(&map->waiting, 1, __ATOMIC_SEQ_CST);
+    pthread_mutex_unlock(&map->lock);
+}
+
+/* Gives seats back. Who began to wait before it looked sees them, or is counted here. */
+static void shim_give(shim_map *map, uint64_t places) {
+    __atomic_or_fetch(&map->free, places, __ATOMIC_SEQ_CST);
+    if (__atomic_load_n(&map->waiting, __ATOMIC_SEQ_CST) == 0) return;
+    pthread_mutex_lock(&map->lock);
+    pthread_cond_broadcast(&map->given);
+    pthread_mutex_unlock(&map->lock);
+}
+
+static void shim_count(shim_map *map, int64_t more) { __atomic_add_fetch(&map->rows, more, __ATOMIC_RELAXED); }
+
+/* Does what makes a call with the seat `seat` and sets `answer`, between taking that seat and giving it back. */
+#define SHIM_CALL(map, call)                       \
+    int place_ = shim_take(map);                   \
+    blink_seat *seat = &(map)->seats[place_];      \
+    int32_t answer;                                \
+    call;                                          \
+    shim_give(map, (uint64_t)1 << place_);
+
+/* Counts the rows of a map that was just opened. */
+static void shim_count_all(shim_map *map) {
+    blink_row rows[512];
+    uint64_t from = 0;
+    size_t count = 0;
+    bool more = true;
+    map->rows = 0;
+    while (more && blink_scan(&map->seats[0], from, rows, 512, &count, &from, &more) == BLINK_OK)
+        map->rows += (int64_t)count;
+}
+
+/* How many pages the map has whose image has so many bytes, which the library does not tell. */
+static uint32_t shim_pages(size_t length) {
+    return length < 32 ? 0 : (uint32_t)((length - 32) / (blink_image_length(1) - blink_image_length(0)));
+}
+
+/* Opens a map without rows, or, where `image` is not null, with the rows of an image. */
+static int32_t shim_open(uint32_t pages, uint32_t count, const uint8_t *image, size_t length, shim_map **made) {
+    shim_map *map;
+    int32_t answer;
+    if (count < 1 || count > 64) return BLINK_BAD_SEATS;
+    map = calloc(1, sizeof *map);
+    if (!map) return BLINK_NO_MEMORY;
+    map->seats = calloc(count, sizeof *map->seats);
+    answer = !map->seats ? BLINK_NO_MEMORY
+             : image     ? blink_open_image(image, length, map->seats, count)
+                         : blink_open(pages, map->seats, count);
+    if (answer != BLINK_OK) {
+        free(map->seats);
+        free(map);
+        return answer;
+    }
+    map->pages = image ? shim_pages(length) : pages;
+    map->count = count;
+    map->free = shim_all(map);
+    pthread_mutex_init(&map->lock, NULL);
+    pthread_cond_init(&map->given, NULL);
+    if (image) shim_count_all(map);
+    *made = map;
+    return BLINK_OK;
+}
+
+/* Waits until no call is underway, and closes all seats. Later calls are answered BLINK_CLOSED. */
+static void shim_close(shim_map *map) {
+    uint32_t at;
+    shim_take_all(map);
+    for (at = 0; at < map->count; at++) blink_close(&map->seats[at]);
+    map->rows = 0;
+    shim_give(map, shim_all(map));
+}
+
+static void shim_free(shim_map *map) {
+    shim_close(map);
+    pthread_cond_destroy(&map->given);
+    pthread_mutex_destroy(&map->lock);
+    free(map->seats);
+    free(map);
+}
+
+/* Closes the map, and writes its image to the array, which has room for it. Where it is to go on, it is opened from the
+ * image again before other threads' calls, which wait meanwhile; `*goes_on` says whether it is open behind this. */
+static int32_t shim_image(shim_map *map, uint8_t *bytes, size_t room, bool *goes_on) {
+    uint64_t length = 0;
+    int32_t answer;
+    shim_take_all(map);
+    answer = blink_close_image(map->seats, map->count, bytes, room, &length);
+    if (answer == BLINK_OK && *goes_on)
+        *goes_on = blink_open_image(bytes, (size_t)length, map->seats, map->count) == BLINK_OK;
+    if (answer == BLINK_OK && !*goes_on) map->rows = 0;
+    shim_give(map, shim_all(map));
+    return answer;
+}
+
+/* Opens a map that was closed again, from its image. */
+static int32_t shim_reopen(shim_map *map, const uint8_t *bytes, size_t length) {
+    int32_t answer;
+    shim_take_all(map);
+    answer = blink_open_image(bytes, length, map->seats, map->count);
+    if (answer == BLINK_OK) shim_count_all(map);
+    shim_give(map, shim_all(map));
+    return answer;
+}
+
+/* The key's value, or SHIM_UNSURE, behind which shim_find_surely is called. */
+static uint64_t shim_find(shim_map *map, uint64_t key) {
+    uint64_t value = SHIM_UNSURE;
+    SHIM_CALL(map, answer = blink_find(seat, key, &value))
+    return answer == BLINK_OK ? value : SHIM_UNSURE;
+}
+
+static int32_t shim_find_surely(shim_map *map, uint64_t key, uint64_t *value) {
+    SHIM_CALL(map, answer = blink_find(seat, key, value))
+    return answer;
+}
+
+static int32_t shim_insert(shim_map *map, uint64_t key, uint64_t value, uint64_t *there) {
+    SHIM_CALL(map, answer = blink_insert(seat, key, value, there))
+    if (answer == BLINK_OK) shim_count(map, 1);
+    return answer;
+}
+
+/* Puts a value, and tells no old one: so BLINK_OK in place of BLINK_PRESENT. */
+static int32_t shim_set(shim_map *map, uint64_t key, uint64_t value) {
+    uint64_t old = 0;
+    SHIM_CALL(map, answer = blink_more_put(seat, key, value, &old))
+    if (answer == BLINK_OK) shim_count(map, 1);
+    return answer == BLINK_PRESENT ? BLINK_OK : answer;
+}
+
+static int32_t shim_put(shim_map *map, uint64_t key, uint64_t value, uint64_t *old) {
+    SHIM_CALL(map, answer = blink_more_put(seat, key, value, old))
+    if (answer == BLINK_OK) shim_count(map, 1);
+    return answer;
+}
+
+static int32_t shim_delete(shim_map *map, uint64_t key, uint64_t *gone) {
+    SHIM_CALL(map, answer = blink_delete(seat, key, gone))
+    if (answer == BLINK_OK) shim_count(map, -1);
+    return answer;
+}
+
+static int32_t shim_change(shim_map *map, uint64_t key, uint64_t old_value, uint64_t new_value, uint64_t *there) {
+    SHIM_CALL(map, answer = blink_change(seat, key, old_value, new_value, there))
+    return answer;
+}
+
+static int32_t shim_last(shim_map *map, uint64_t most, blink_row *row) {
+    SHIM_CALL(map, answer = blink_more_last(seat, most, row))
+    return answer;
+}
+
+/* Rows by rising or by falling keys from `fall->next` on, as keys and values apart: so many at most, 32 to 512. `fall` tells
+ * how far they go, upwards too, and is all zeros but for `next` at first. */
+static int32_t shim_rows(shim_map *map, bool is_falling, size_t most, uint64_t *keys, uint64_t *values,
+                         blink_fall *fall) {
+    blink_row rows[512];
+    uint64_t from = fall->next;
+    size_t at;
+    SHIM_CALL(map, answer = is_falling ? blink_more_scan_down(seat, from, rows, most, fall)
+                                       : blink_scan(seat, from, rows, most, &fall->count, &fall->next, &fall->more))
+    if (answer != BLINK_OK) return answer;
+    for (at = 0; at < fall->count; at++) {
+        keys[at] = rows[at].key;
+        values[at] = rows[at].value;
+    }
+    return BLINK_OK;
+}
+
+static int32_t shim_get_many(shim_map *map, const uint64_t *keys, size_t count, uint64_t *values, uint8_t *found,
+                             size_t *hits) {
+    SHIM_CALL(map, answer = blink_more_find_many(seat, keys, count, values, found, hits))
+    return answer;
+}
+
+/* Puts so many pairs, in their order, up to the first that finds no room; `*done` says how many were put. */
+static int32_t shim_put_many(shim_map *map, const uint64_t *keys, const uint64_t *values, size_t count, size_t *done) {
+    int64_t fresh = 0;
+    uint64_t old = 0;
+    *done = 0;
+    SHIM_CALL(map, answer = BLINK_OK;
+              for (; *done < count && answer != BLINK_NO_ROOM && answer != BLINK_CLOSED; *done += answer <= BLINK_PRESENT) {
+                  answer = blink_more_put(seat, keys[*done], values[*done], &old);
+                  fresh += answer == BLINK_OK;
+              })
+    shim_count(map, fresh);
+    return answer == BLINK_PRESENT ? BLINK_OK : answer;
+}
+
+static int64_t shim_length(const shim_map *map) {
+    int64_t rows = __atomic_load_n(&map->rows, __ATOMIC_RELAXED);
+    return rows < 0 ? 0 : rows;
+}

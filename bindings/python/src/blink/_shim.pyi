@@ -1,0 +1,6 @@
+"""The module that build_shim.py makes."""
+
+from typing import Any
+
+ffi: Any
+lib: Any

@@ -1,0 +1,135 @@
+//! The functions of `blink.h`, as the library exports them, with its codes and types. What each call does, which codes it
+//! answers and the rules that its caller has to keep stand in that header; the crate `blink` keeps them by types.
+#![deny(missing_docs)]
+#![allow(non_camel_case_types)]
+
+use std::os::raw::{c_char, c_void};
+
+/// One thread's place at a map: a pointer that the library owns, or null.
+#[repr(C)]
+#[derive(Debug)]
+pub struct blink_seat {
+    /// What the library owns.
+    pub at: *mut c_void,
+}
+
+/// A key and its value.
+#[repr(C)]
+#[derive(Clone, Copy, Debug, Default, PartialEq, Eq)]
+pub struct blink_row {
+    /// The key.
+    pub key: u64,
+    /// Its value.
+    pub value: u64,
+}
+
+/// How far a part of the rows goes. All zeros before the first part.
+#[repr(C)]
+#[derive(Clone, Copy, Debug, Default)]
+pub struct blink_part {
+    /// How many rows were written.
+    pub count: u64,
+    /// The key from which the rows go on, if they do.
+    pub next: u64,
+    /// Whether they go on.
+    pub more: bool,
+    /// Opaque; it is passed back unchanged.
+    pub near: u32,
+}
+
+/// Done.
+pub const BLINK_OK: i32 = 0;
+/// The key is not there.
+pub const BLINK_ABSENT: i32 = 1;
+/// The key has a value, which it keeps.
+pub const BLINK_PRESENT: i32 = 2;
+/// No free page or frame; nothing has changed.
+pub const BLINK_NO_ROOM: i32 = 3;
+/// No answer yet: let another thread run and call again.
+pub const BLINK_AGAIN: i32 = 4;
+/// The number of pages is not 4 to 2^28.
+pub const BLINK_BAD_PAGES: i32 = 5;
+/// The number of seats is not 1 to 64.
+pub const BLINK_BAD_SEATS: i32 = 6;
+/// malloc refused; nothing has changed.
+pub const BLINK_NO_MEMORY: i32 = 7;
+/// The bytes are no sound image.
+pub const BLINK_BAD_IMAGE: i32 = 8;
+/// The seat is closed.
+pub const BLINK_CLOSED: i32 = 9;
+/// There is room for fewer than [`BLINK_LEAF_ROWS`] rows.
+pub const BLINK_FEW_ROWS: i32 = 10;
+/// A seat of the map is not among these.
+pub const BLINK_SEATS_OPEN: i32 = 11;
+/// Too few bytes of room for the image.
+pub const BLINK_FEW_BYTES: i32 = 12;
+/// The seats are of two maps.
+pub const BLINK_OTHER_MAP: i32 = 13;
+/// All seats are closed, and there is no image.
+pub const BLINK_SEATS_LOST: i32 = 14;
+/// The most rows of one leaf, and so the least room for rows that a call takes.
+pub const BLINK_LEAF_ROWS: usize = 14;
+
+#[allow(missing_docs)] // The header has them.
+extern "C" {
+    pub fn blink_open(pages: u32, seats: *mut blink_seat, count: usize) -> i32;
+    pub fn blink_open_image(bytes: *const u8, length: usize, seats: *mut blink_seat, count: usize) -> i32;
+    pub fn blink_close(seat: *mut blink_seat) -> i32;
+    pub fn blink_image_length(pages: u32) -> u64;
+    pub fn blink_close_image(
+        seats: *mut blink_seat,
+        count: usize,
+        bytes: *mut u8,
+        room: usize,
+        length: *mut u64,
+    ) -> i32;
+    pub fn blink_find(seat: *mut blink_seat, key: u64, value: *mut u64) -> i32;
+    pub fn blink_insert(seat: *mut blink_seat, key: u64, value: u64, there: *mut u64) -> i32;
+    pub fn blink_delete(seat: *mut blink_seat, key: u64, gone: *mut u64) -> i32;
+    pub fn blink_change(seat: *mut blink_seat, key: u64, old_value: u64, new_value: u64, there: *mut u64) -> i32;
+    pub fn blink_scan(
+        seat: *mut blink_seat,
+        from: u64,
+        rows: *mut blink_row,
+        room: usize,
+        count: *mut usize,
+        next: *mut u64,
+        more: *mut bool,
+    ) -> i32;
+    pub fn blink_rows(
+        seat: *mut blink_seat,
+        from: u64,
+        rows: *mut blink_row,
+        room: usize,
+        part: *mut blink_part,
+    ) -> i32;
+    pub fn blink_upkeep(seat: *mut blink_seat, most: u32) -> i32;
+    pub fn blink_upkeep_all(seat: *mut blink_seat) -> i32;
+    pub fn blink_waiting(seat: *mut blink_seat) -> u32;
+    pub fn blink_dropped(seat: *mut blink_seat) -> u64;
+    pub fn blink_meet(one: *mut blink_seat, two: *mut blink_seat) -> i32;
+    pub fn blink_map(seat: *mut blink_seat, place: *mut *const u32) -> i32;
+    pub fn blink_text(code: i32) -> *const c_char;
+    pub fn blink_version() -> *const c_char;
+    pub fn blink_try_close(seat: *mut blink_seat) -> i32;
+    pub fn blink_try_find(seat: *mut blink_seat, key: u64, value: *mut u64) -> i32;
+    pub fn blink_try_insert(seat: *mut blink_seat, key: u64, value: u64, there: *mut u64) -> i32;
+    pub fn blink_try_delete(seat: *mut blink_seat, key: u64, gone: *mut u64) -> i32;
+    pub fn blink_try_change(seat: *mut blink_seat, key: u64, old_value: u64, new_value: u64, there: *mut u64) -> i32;
+    pub fn blink_try_rows(
+        seat: *mut blink_seat,
+        from: u64,
+        rows: *mut blink_row,
+        room: usize,
+        part: *mut blink_part,
+    ) -> i32;
+    pub fn blink_tend(seat: *mut blink_seat, most: u32) -> i32;
+    pub fn blink_try_meet(one: *mut blink_seat, two: *mut blink_seat) -> i32;
+    pub fn blink_try_close_image(
+        seats: *mut blink_seat,
+        count: usize,
+        bytes: *mut u8,
+        room: usize,
+        length: *mut u64,
+    ) -> i32;
+}

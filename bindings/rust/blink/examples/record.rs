@@ -1,0 +1,171 @@
+//! Records calls of maps for the checker of `checks/linearizable`: `record SECONDS PAGES THREADS KEYS CALLS SEED`.
+//!
+//! One map after the other is opened, for so many seconds, and one at least. In each of the three rounds of a map so many threads
+//! make so many calls each, through handles, on few keys: searches, insertions, deletions, changes, and ranges of some keys, up and
+//! down, which tell of each key that they pass. Behind a round the map is closed to its image and opened from that. The next map
+//! has other keys. A line is printed for each call: the thread, the nanoseconds right before the call and right behind it, the key,
+//! what was asked and what was answered; and behind each round the line `round`.
+use blink::{ExchangeError, Handle, Map, NoRoom};
+use std::io::{self, BufWriter, Write};
+use std::time::{Duration, Instant};
+
+const ROUNDS: usize = 3;
+/// How many keys a range spans at most.
+const SPAN: u64 = 24;
+
+/// A line without its thread.
+type Line = (u64, u64, u64, String);
+
+/// What is drawn, and what a change is tried with.
+struct Worker {
+    drawn: u64,
+    stamp: u64,
+    seen: Option<(u64, u64)>,
+}
+
+impl Worker {
+    fn draw(&mut self, limit: u64) -> u64 {
+        self.drawn ^= self.drawn << 13;
+        self.drawn ^= self.drawn >> 7;
+        self.drawn ^= self.drawn << 17;
+        (self.drawn.wrapping_mul(0x2545_F491_4F6C_DD1D) >> 33) % limit
+    }
+
+    fn stamped(&mut self) -> u64 {
+        self.stamp += 1;
+        self.stamp
+    }
+
+    /// What is asked of the key, and what is answered.
+    fn call(&mut self, handle: &Handle, key: u64) -> (u64, String) {
+        let value = self.stamped();
+        let drawn = self.draw(100);
+        match (drawn, self.seen) {
+            (0..=39, _) => {
+                let found = handle.get(key);
+                self.seen = found.map(|found| (key, found)).or(self.seen);
+                (key, format!("Find {}", found.map_or("Absent".to_string(), |found| format!("Found({})", found))))
+            }
+            (40..=69, _) => {
+                let there = handle.insert(key, value);
+                let told = match there {
+                    Ok(None) => "Inserted".to_string(),
+                    Ok(Some(there)) => format!("Present({})", there),
+                    Err(NoRoom) => "NoRoom".to_string(),
+                };
+                (key, format!("Insert({}) {}", value, told))
+            }
+            (70..=89, _) | (_, None) => {
+                let told = match handle.remove(key) {
+                    Ok(Some(gone)) => format!("Deleted({})", gone),
+                    Ok(None) => "Absent".to_string(),
+                    Err(NoRoom) => "NoRoom".to_string(),
+                };
+                (key, format!("Delete {}", told))
+            }
+            (_, Some((key, old))) => {
+                let told = match handle.compare_exchange(key, old, value) {
+                    Ok(()) => "Changed".to_string(),
+                    Err(ExchangeError::Differs(there)) => format!("Differs({})", there),
+                    Err(ExchangeError::Absent) => "Absent".to_string(),
+                    Err(ExchangeError::NoRoom) => "NoRoom".to_string(),
+                };
+                (key, format!("Change({}, {}) {}", old, value, told))
+            }
+        }
+    }
+
+    /// The rows of a few keys, by rising or falling keys: a search of each key that is passed.
+    fn list(&mut self, handle: &Handle, first: u64, last: u64, start: Instant, lines: &mut Vec<Line>) {
+        let begin = start.elapsed().as_nanos() as u64;
+        let rows: Vec<(u64, u64)> = if self.draw(2) == 0 {
+            handle.range(first..=last).collect()
+        } else {
+            handle.range(first..=last).rev().collect()
+        };
+        let end = start.elapsed().as_nanos() as u64;
+        for key in first..=last {
+            let row = rows.iter().find(|row| row.0 == key);
+            lines.push((
+                begin,
+                end,
+                key,
+                format!("Find {}", row.map_or("Absent".to_string(), |row| format!("Found({})", row.1))),
+            ));
+        }
+    }
+
+    fn work(&mut self, handle: &Handle, keys: std::ops::Range<u64>, calls: usize, start: Instant) -> Vec<Line> {
+        let mut lines = Vec::with_capacity(calls + SPAN as usize);
+        // What was seen in an earlier map is none of these keys.
+        self.seen = self.seen.filter(|seen| keys.contains(&seen.0));
+        while lines.len() < calls {
+            let key = keys.start + self.draw(keys.end - keys.start);
+            if self.draw(100) < 6 {
+                let last = (key + self.draw(SPAN)).min(keys.end - 1);
+                self.list(handle, key, last, start, &mut lines);
+                continue;
+            }
+            let begin = start.elapsed().as_nanos() as u64;
+            let (key, told) = self.call(handle, key);
+            lines.push((begin, start.elapsed().as_nanos() as u64, key, told));
+        }
+        lines
+    }
+}
+
+fn round(
+    map: &Map,
+    workers: &mut [Worker],
+    keys: &std::ops::Range<u64>,
+    calls: usize,
+    start: Instant,
+) -> Vec<Vec<Line>> {
+    std::thread::scope(|scope| {
+        let threads: Vec<_> = workers
+            .iter_mut()
+            .map(|worker| {
+                let handle = map.handle().expect("a handle for each thread");
+                let keys = keys.clone();
+                scope.spawn(move || worker.work(&handle, keys, calls, start))
+            })
+            .collect();
+        threads.into_iter().map(|thread| thread.join().expect("no thread panics")).collect()
+    })
+}
+
+fn main() -> Result<(), Box<dyn std::error::Error>> {
+    let words: Vec<u64> = std::env::args().skip(1).map(|word| word.parse()).collect::<Result<_, _>>()?;
+    let (seconds, pages, threads, keys, calls, seed) = match words[..] {
+        [seconds, pages, threads, keys, calls, seed] => (seconds, pages as u32, threads, keys, calls as usize, seed),
+        _ => return Err("usage: record SECONDS PAGES THREADS KEYS CALLS SEED".into()),
+    };
+    let (start, mut first, mut maps) = (Instant::now(), 0, 0);
+    let mut out = BufWriter::new(io::stdout().lock());
+    let mut workers: Vec<Worker> = (0..threads)
+        .map(|t| Worker {
+            drawn: (seed + 1).wrapping_mul(0x9E37_79B9_7F4A_7C15).wrapping_add(t * 7919),
+            stamp: t << 40,
+            seen: None,
+        })
+        .collect();
+    while maps == 0 || start.elapsed() < Duration::from_secs(seconds) {
+        let mut map = Map::new(pages, threads as usize)?;
+        for number in 0..ROUNDS {
+            for (thread, lines) in round(&map, &mut workers, &(first..first + keys), calls, start).iter().enumerate() {
+                lines.iter().try_for_each(|(begin, end, key, told)| {
+                    writeln!(out, "{} {} {} {} {}", thread, begin, end, key, told)
+                })?;
+            }
+            writeln!(out, "round")?;
+            if number + 1 < ROUNDS {
+                map = Map::from_image(&map.close_image()?, threads as usize)?;
+            }
+        }
+        first += keys;
+        maps += 1;
+    }
+    out.flush()?;
+    eprintln!("{} maps", maps);
+    Ok(())
+}

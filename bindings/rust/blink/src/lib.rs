@@ -1,0 +1,371 @@
+//! An ordered map from `u64` to `u64` that threads share, over the proved library `libblink`. This crate is tested and not
+//! proved.
+//!
+//! ```
+//! let map = blink::Map::new(1024, 4)?; // 1,024 pages, and 4 handles at once
+//! std::thread::scope(|scope| {
+//!     for thread in 0..4 {
+//!         let handle = map.handle().unwrap();
+//!         scope.spawn(move || (0..100).try_for_each(|n| handle.insert(n * 4 + thread, n).map(drop)).unwrap());
+//!     }
+//! });
+//! let handle = map.handle().unwrap();
+//! assert_eq!(handle.get(7), Some(1));
+//! assert_eq!(handle.range(10..13).rev().collect::<Vec<_>>(), [(12, 3), (11, 2), (10, 2)]);
+//! # Ok::<(), blink::OpenError>(())
+//! ```
+//!
+//! What the header asks of a caller is kept by types: a [`Handle`] owns its seat, may go to another thread, and is not shared by
+//! two (`Send`, not `Sync`), and no call of it calls back. So its calls take `&self`, and a range may be listed while the same
+//! handle changes rows.
+//!
+//! There is one order of all calls of one key, which keeps the order of calls that did not overlap. In the child of a `fork` of
+//! a program with threads no call may be made.
+#![deny(missing_docs)]
+#![deny(unsafe_op_in_unsafe_fn)]
+
+mod error;
+mod fall;
+mod range;
+
+pub use error::{CloseError, ExchangeError, NoRoom, OpenError};
+pub use range::Range;
+
+use blink_sys::*;
+use std::cell::UnsafeCell;
+use std::ffi::CStr;
+use std::fmt;
+use std::ops::{Bound, RangeBounds};
+use std::sync::{Arc, Mutex, MutexGuard, PoisonError};
+
+/// A seat that is closed when it is dropped.
+#[repr(transparent)]
+struct Seat(blink_seat);
+
+// SAFETY: a seat may go from one thread to another where what they do is ordered as by a lock, as it is wherever safe Rust moves a
+// value between threads.
+unsafe impl Send for Seat {}
+
+impl Drop for Seat {
+    fn drop(&mut self) {
+        // SAFETY: this is the only copy of the seat; one that is closed may be closed again.
+        unsafe { blink_close(&mut self.0) };
+    }
+}
+
+struct Shared {
+    free: Mutex<Vec<Seat>>,
+    pages: u32,
+    handles: usize,
+}
+
+impl Shared {
+    fn free(&self) -> MutexGuard<'_, Vec<Seat>> {
+        self.free.lock().unwrap_or_else(PoisonError::into_inner)
+    }
+}
+
+/// A map. Clones of it share its rows, and so do its handles, which may outlive it.
+#[derive(Clone)]
+pub struct Map {
+    shared: Arc<Shared>,
+}
+
+/// One thread's place at a map. It goes back to the map when it is dropped.
+pub struct Handle {
+    /// `None` only while it is dropped. The cell makes a handle one that is not `Sync`.
+    seat: UnsafeCell<Option<Seat>>,
+    shared: Arc<Shared>,
+}
+
+fn closed_seats(count: usize) -> Vec<blink_seat> {
+    (0..count).map(|_| blink_seat { at: std::ptr::null_mut() }).collect()
+}
+
+fn opened(code: i32, seats: Vec<blink_seat>, pages: u32) -> Result<Map, OpenError> {
+    if code != BLINK_OK {
+        return Err(OpenError::of(code));
+    }
+    let handles = seats.len();
+    let free = Mutex::new(seats.into_iter().rev().map(Seat).collect());
+    Ok(Map { shared: Arc::new(Shared { free, pages, handles }) })
+}
+
+/// How many pages the map of an image has, which the library does not tell.
+fn pages_of(image: &[u8]) -> u32 {
+    // SAFETY: the function takes any number.
+    let (none, one) = unsafe { (blink_image_length(0), blink_image_length(1)) };
+    ((image.len() as u64).saturating_sub(none) / (one - none)) as u32
+}
+
+/// The version of the library that is linked, as "0.1.0".
+pub fn library_version() -> &'static str {
+    // SAFETY: the library has a text that ends with a zero and is never freed.
+    unsafe { CStr::from_ptr(blink_version()) }.to_str().unwrap_or("")
+}
+
+impl Map {
+    /// A map without rows, of 4 to 2^28 pages (plan one for each six rows), with 1 to 64 handles.
+    ///
+    /// # Errors
+    ///
+    /// Where a number is out of range, or there is no memory.
+    pub fn new(pages: u32, handles: usize) -> Result<Map, OpenError> {
+        if !(1..=64).contains(&handles) {
+            return Err(OpenError::Handles);
+        }
+        let mut seats = closed_seats(handles);
+        // SAFETY: the pointer and the length are of one vector of closed seats.
+        let code = unsafe { blink_open(pages, seats.as_mut_ptr(), seats.len()) };
+        opened(code, seats, pages)
+    }
+
+    /// A map that begins with the rows of an image, as [`Map::close_image`] and `blink dump` make it.
+    ///
+    /// # Errors
+    ///
+    /// Where the bytes are no sound image, the handles not 1 to 64, or there is no memory.
+    pub fn from_image(image: &[u8], handles: usize) -> Result<Map, OpenError> {
+        if !(1..=64).contains(&handles) {
+            return Err(OpenError::Handles);
+        }
+        let mut seats = closed_seats(handles);
+        // SAFETY: as above, and the image is a slice.
+        let code = unsafe { blink_open_image(image.as_ptr(), image.len(), seats.as_mut_ptr(), seats.len()) };
+        opened(code, seats, pages_of(image))
+    }
+
+    /// A handle, if one is free.
+    pub fn handle(&self) -> Option<Handle> {
+        let seat = self.shared.free().pop()?;
+        Some(Handle { seat: UnsafeCell::new(Some(seat)), shared: self.shared.clone() })
+    }
+
+    /// How many pages the map has.
+    pub fn pages(&self) -> u32 {
+        self.shared.pages
+    }
+
+    /// Closes the map, if all handles are back: its image. Clones of the map have no handle any more then.
+    ///
+    /// # Errors
+    ///
+    /// Where a handle is out, the map was closed by a clone, or there is no memory; the error has the map, as it was.
+    pub fn close_image(self) -> Result<Vec<u8>, CloseError> {
+        let mut free = self.shared.free();
+        if free.len() != self.shared.handles {
+            drop(free);
+            return Err(CloseError::HandlesOut(self));
+        }
+        let mut seats: Vec<blink_seat> = free.iter().map(|seat| blink_seat { at: seat.0.at }).collect();
+        // SAFETY: the function takes any number.
+        let mut bytes = vec![0; unsafe { blink_image_length(self.shared.pages) } as usize];
+        let mut length = 0;
+        // SAFETY: the seats are all those of one map, the lock keeps others from them, and each pointer is of a vector or a
+        // variable that is there, with the length of the vector beside it.
+        let code =
+            unsafe { blink_close_image(seats.as_mut_ptr(), seats.len(), bytes.as_mut_ptr(), bytes.len(), &mut length) };
+        // What the call has left of the seats is theirs: closed, or as it was.
+        for (seat, left) in free.iter_mut().zip(seats) {
+            seat.0 = left;
+        }
+        if code != BLINK_OK {
+            drop(free);
+            return Err(CloseError::Refused(self, error::text(code)));
+        }
+        free.clear();
+        bytes.truncate(length as usize);
+        Ok(bytes)
+    }
+}
+
+impl fmt::Debug for Map {
+    fn fmt(&self, f: &mut fmt::Formatter<'_>) -> fmt::Result {
+        f.debug_struct("Map")
+            .field("pages", &self.shared.pages)
+            .field("handles", &self.shared.handles)
+            .finish_non_exhaustive()
+    }
+}
+
+impl Handle {
+    fn at(&self) -> *mut blink_seat {
+        // SAFETY: a handle is in one thread at a time and no call calls back, so nobody else has a reference into the cell.
+        match unsafe { &mut *self.seat.get() } {
+            Some(seat) => &mut seat.0,
+            None => unreachable!("a handle has a seat until it is dropped"),
+        }
+    }
+
+    /// The key's value.
+    pub fn get(&self, key: u64) -> Option<u64> {
+        let mut value = 0;
+        // SAFETY: here and below, the seat is this handle's alone, and each other pointer is of a local variable.
+        match unsafe { blink_find(self.at(), key, &mut value) } {
+            BLINK_OK => Some(value),
+            BLINK_ABSENT => None,
+            code => error::unexpected(code),
+        }
+    }
+
+    /// Whether the key is there.
+    pub fn contains_key(&self, key: u64) -> bool {
+        self.get(key).is_some()
+    }
+
+    /// The values of many keys, in their order; each is a search of its own.
+    pub fn get_many(&self, keys: &[u64]) -> Vec<Option<u64>> {
+        keys.iter().map(|&key| self.get(key)).collect()
+    }
+
+    /// Puts the value at the key where it has none: `None`, or the value that is there and stays.
+    ///
+    /// # Errors
+    ///
+    /// Where no page or frame was free; nothing has changed then, here and below.
+    pub fn insert(&self, key: u64, value: u64) -> Result<Option<u64>, NoRoom> {
+        let mut there = 0;
+        match unsafe { blink_insert(self.at(), key, value, &mut there) } {
+            BLINK_OK => Ok(None),
+            BLINK_PRESENT => Ok(Some(there)),
+            BLINK_NO_ROOM => Err(NoRoom),
+            code => error::unexpected(code),
+        }
+    }
+
+    /// Puts the value at the key, whatever is there: the value that was there.
+    ///
+    /// It is an insertion, or an insertion and a change, and goes round while others write the key in between. As a whole it
+    /// takes effect at one moment, that of its last call.
+    ///
+    /// # Errors
+    ///
+    /// Where no page or frame was free.
+    pub fn put(&self, key: u64, value: u64) -> Result<Option<u64>, NoRoom> {
+        while let Some(there) = self.insert(key, value)? {
+            let mut seen = there;
+            loop {
+                match self.compare_exchange(key, seen, value) {
+                    Ok(()) => return Ok(Some(seen)),
+                    Err(ExchangeError::Differs(other)) => seen = other,
+                    // It was taken away meanwhile, and is inserted anew.
+                    Err(ExchangeError::Absent) => break,
+                    Err(ExchangeError::NoRoom) => return Err(NoRoom),
+                }
+            }
+        }
+        Ok(None)
+    }
+
+    /// Takes the key away: the value that it had.
+    ///
+    /// # Errors
+    ///
+    /// Where no frame was free.
+    pub fn remove(&self, key: u64) -> Result<Option<u64>, NoRoom> {
+        let mut gone = 0;
+        match unsafe { blink_delete(self.at(), key, &mut gone) } {
+            BLINK_OK => Ok(Some(gone)),
+            BLINK_ABSENT => Ok(None),
+            BLINK_NO_ROOM => Err(NoRoom),
+            code => error::unexpected(code),
+        }
+    }
+
+    /// Puts the new value at a key that has the old one.
+    ///
+    /// # Errors
+    ///
+    /// Where the key has another value, is not there, or no frame was free.
+    pub fn compare_exchange(&self, key: u64, old: u64, new: u64) -> Result<(), ExchangeError> {
+        let mut there = 0;
+        match unsafe { blink_change(self.at(), key, old, new, &mut there) } {
+            BLINK_OK => Ok(()),
+            BLINK_ABSENT => Err(ExchangeError::Absent),
+            BLINK_PRESENT => Err(ExchangeError::Differs(there)),
+            BLINK_NO_ROOM => Err(ExchangeError::NoRoom),
+            code => error::unexpected(code),
+        }
+    }
+
+    /// Puts at a key that is there what the function makes of its value, by [`Handle::compare_exchange`]: the value before, or
+    /// `None` where the key is not there. The function is called again where others write in between.
+    ///
+    /// # Errors
+    ///
+    /// Where no frame was free.
+    pub fn update(&self, key: u64, mut make: impl FnMut(u64) -> u64) -> Result<Option<u64>, NoRoom> {
+        let mut seen = self.get(key);
+        while let Some(there) = seen {
+            match self.compare_exchange(key, there, make(there)) {
+                Ok(()) => break,
+                Err(ExchangeError::Differs(other)) => seen = Some(other),
+                Err(ExchangeError::Absent) => seen = None,
+                Err(ExchangeError::NoRoom) => return Err(NoRoom),
+            }
+        }
+        Ok(seen)
+    }
+
+    /// The rows of a range by rising keys, or by falling ones from its end. Each leaf is read at one moment; the whole is no
+    /// snapshot. From the end a row costs about twice what it costs from the front.
+    pub fn range(&self, range: impl RangeBounds<u64>) -> Range<'_> {
+        let low = match range.start_bound() {
+            Bound::Included(&key) => Some(key),
+            Bound::Excluded(&key) => key.checked_add(1),
+            Bound::Unbounded => Some(0),
+        };
+        let high = match range.end_bound() {
+            Bound::Included(&key) => Some(key),
+            Bound::Excluded(&key) => key.checked_sub(1),
+            Bound::Unbounded => Some(u64::MAX),
+        };
+        match (low, high) {
+            (Some(low), Some(high)) => Range::new(self, low, high),
+            _ => Range::new(self, 1, 0),
+        }
+    }
+
+    /// All rows, as [`Handle::range`].
+    pub fn iter(&self) -> Range<'_> {
+        self.range(..)
+    }
+
+    /// The row of the least key.
+    pub fn first(&self) -> Option<(u64, u64)> {
+        self.iter().next()
+    }
+
+    /// The row of the greatest key, which is searched in up to 64 leaves.
+    pub fn last(&self) -> Option<(u64, u64)> {
+        fall::last(self, u64::MAX).map(|row| (row.key, row.value))
+    }
+
+    /// Does so many pieces of upkeep at most: whether nothing is left to do. No program need call it.
+    pub fn upkeep(&self, most: u32) -> bool {
+        unsafe { blink_upkeep(self.at(), most) == BLINK_OK }
+    }
+}
+
+impl Drop for Handle {
+    fn drop(&mut self) {
+        if let Some(seat) = self.seat.get_mut().take() {
+            self.shared.free().push(seat);
+        }
+    }
+}
+
+impl fmt::Debug for Handle {
+    fn fmt(&self, f: &mut fmt::Formatter<'_>) -> fmt::Result {
+        f.debug_struct("Handle").field("pages", &self.shared.pages).finish_non_exhaustive()
+    }
+}
+
+impl<'a> IntoIterator for &'a Handle {
+    type Item = (u64, u64);
+    type IntoIter = Range<'a>;
+
+    fn into_iter(self) -> Range<'a> {
+        self.iter()
+    }
+}

@@ -1,0 +1,121 @@
+//! Rows of a range, from both ends.
+use crate::fall::Fall;
+use crate::{error, Handle};
+use blink_sys::*;
+use std::fmt;
+use std::iter::FusedIterator;
+
+/// The rows of a range of keys, by [`Handle::range`].
+pub struct Range<'a> {
+    handle: &'a Handle,
+    /// The rows that are left are of these keys.
+    low: u64,
+    high: u64,
+    is_done: bool,
+    front: Ahead,
+    /// The key from which the library lists further rows, if there may be any.
+    next: Option<u64>,
+    back: Ahead,
+    fall: Fall,
+}
+
+/// Rows that were read and not told yet.
+#[derive(Default)]
+struct Ahead {
+    rows: Vec<blink_row>,
+    at: usize,
+}
+
+impl Ahead {
+    fn take(&mut self) -> Option<blink_row> {
+        let row = self.rows.get(self.at).copied();
+        self.at += row.is_some() as usize;
+        row
+    }
+}
+
+impl<'a> Range<'a> {
+    pub(crate) fn new(handle: &'a Handle, low: u64, high: u64) -> Range<'a> {
+        let (front, back) = (Ahead::default(), Ahead::default());
+        Range { handle, low, high, is_done: low > high, front, next: Some(low), back, fall: Fall::from(high) }
+    }
+
+    /// Reads further rows upwards: few at first, since many ranges are left early.
+    fn read_up(&mut self, from: u64) {
+        let room = if self.front.rows.is_empty() { 32 } else { 128 };
+        let (mut count, mut next, mut more) = (0, 0, false);
+        self.front.rows.resize(room, blink_row::default());
+        // SAFETY: the seat is the handle's alone, and each other pointer is of a vector or a variable that is there.
+        let code = unsafe {
+            blink_scan(self.handle.at(), from, self.front.rows.as_mut_ptr(), room, &mut count, &mut next, &mut more)
+        };
+        if code != BLINK_OK {
+            error::unexpected(code);
+        }
+        self.front.rows.truncate(count);
+        self.front.at = 0;
+        self.next = Some(next).filter(|_| more);
+    }
+
+    fn told(&mut self, row: blink_row) -> Option<(u64, u64)> {
+        self.is_done = self.low == self.high;
+        Some((row.key, row.value))
+    }
+}
+
+impl Iterator for Range<'_> {
+    type Item = (u64, u64);
+
+    fn next(&mut self) -> Option<(u64, u64)> {
+        while !self.is_done {
+            match self.front.take() {
+                Some(row) if row.key <= self.high => {
+                    self.low = row.key;
+                    let told = self.told(row);
+                    self.low = self.low.saturating_add(1);
+                    return told;
+                }
+                Some(_) => self.is_done = true,
+                None => match self.next.filter(|next| *next <= self.high) {
+                    Some(next) => self.read_up(next.max(self.low)),
+                    None => self.is_done = true,
+                },
+            }
+        }
+        None
+    }
+}
+
+impl DoubleEndedIterator for Range<'_> {
+    fn next_back(&mut self) -> Option<(u64, u64)> {
+        while !self.is_done {
+            match self.back.take() {
+                Some(row) if row.key >= self.low => {
+                    self.high = row.key;
+                    let told = self.told(row);
+                    self.high = self.high.saturating_sub(1);
+                    return told;
+                }
+                Some(_) => self.is_done = true,
+                None => {
+                    self.fall.scan_down(self.handle, self.low, &mut self.back.rows);
+                    self.back.at = 0;
+                    self.is_done = self.back.rows.is_empty();
+                }
+            }
+        }
+        None
+    }
+}
+
+impl FusedIterator for Range<'_> {}
+
+impl fmt::Debug for Range<'_> {
+    fn fmt(&self, f: &mut fmt::Formatter<'_>) -> fmt::Result {
+        f.debug_struct("Range")
+            .field("low", &self.low)
+            .field("high", &self.high)
+            .field("is_done", &self.is_done)
+            .finish_non_exhaustive()
+    }
+}

@@ -1,0 +1,185 @@
+use blink::{CloseError, ExchangeError, Handle, Map, NoRoom, OpenError};
+use std::collections::BTreeMap;
+use std::ops::Bound;
+
+type Model = BTreeMap<u64, u64>;
+
+fn draw(x: &mut u64) -> u64 {
+    *x ^= *x << 13;
+    *x ^= *x >> 7;
+    *x ^= *x << 17;
+    *x
+}
+
+/// The rows of a range are those of the model, from both ends and from either by turns.
+fn same_range(handle: &Handle, model: &Model, from: u64, to: u64, x: &mut u64) {
+    let rows: Vec<(u64, u64)> = model.range(from..=to).map(|(k, v)| (*k, *v)).collect();
+    assert!(handle.range(from..=to).eq(rows.iter().copied()));
+    assert!(handle.range(from..=to).rev().eq(rows.iter().rev().copied()));
+    assert!(handle.range(from..to).eq(model.range(from..to).map(|(k, v)| (*k, *v))));
+    let (mut range, mut left) = (handle.range(from..=to), &rows[..]);
+    loop {
+        let told = if draw(x) % 2 == 0 { (range.next(), left.first()) } else { (range.next_back(), left.last()) };
+        assert_eq!(told.0.as_ref(), told.1);
+        left = match told {
+            (None, _) => break,
+            (Some(row), _) if left[0] == row => &left[1..],
+            _ => &left[..left.len() - 1],
+        };
+    }
+    assert_eq!((range.next(), range.next_back()), (None, None));
+}
+
+fn step(handle: &Handle, model: &mut Model, x: &mut u64) {
+    let (what, v) = (draw(x) % 9, draw(x));
+    let k = if draw(x) % 2 == 0 { draw(x) % 500 } else { draw(x) | 1 << 63 };
+    let old = model.get(&k).copied();
+    match what {
+        0 | 1 => {
+            assert_eq!(handle.insert(k, v), Ok(old));
+            model.entry(k).or_insert(v);
+        }
+        2 => assert_eq!(handle.put(k, v), Ok(model.insert(k, v))),
+        3 => assert_eq!(handle.remove(k), Ok(model.remove(&k))),
+        4 => assert_eq!((handle.get(k), handle.contains_key(k)), (old, old.is_some())),
+        5 => match old {
+            None => assert_eq!(handle.compare_exchange(k, v, v), Err(ExchangeError::Absent)),
+            Some(there) if v % 2 == 0 => {
+                assert_eq!(handle.compare_exchange(k, there, v), Ok(()));
+                model.insert(k, v);
+            }
+            Some(there) => {
+                assert_eq!(handle.compare_exchange(k, there.wrapping_add(1), v), Err(ExchangeError::Differs(there)))
+            }
+        },
+        6 => {
+            assert_eq!(handle.update(k, |v| v ^ 5), Ok(old));
+            model.entry(k).and_modify(|v| *v ^= 5);
+        }
+        7 => assert_eq!(handle.get_many(&[k, 3, k]), [old, model.get(&3).copied(), old]),
+        _ => {
+            let (from, to) = (k.saturating_sub(draw(x) % 100), k.saturating_add(draw(x) % 100));
+            same_range(handle, model, from, to, x);
+            assert_eq!(handle.last(), model.iter().next_back().map(|(k, v)| (*k, *v)));
+        }
+    }
+}
+
+#[test]
+fn like_a_btree_map() {
+    for seed in 1..6 {
+        let (map, mut model, mut x) = (Map::new(4096, 1).unwrap(), BTreeMap::new(), seed * 7919);
+        let handle = map.handle().unwrap();
+        assert!(map.handle().is_none());
+        (0..8000).for_each(|_| step(&handle, &mut model, &mut x));
+        same_range(&handle, &model, 0, u64::MAX, &mut x);
+        assert_eq!(handle.first(), model.iter().next().map(|(k, v)| (*k, *v)));
+        drop(handle);
+        let image = map.close_image().unwrap();
+        let again = Map::from_image(&image, 2).unwrap();
+        assert_eq!(again.pages(), 4096);
+        same_range(&again.handle().unwrap(), &model, 0, u64::MAX, &mut x);
+    }
+}
+
+#[test]
+fn edges() {
+    let map = Map::new(16, 2).unwrap();
+    let handle = map.handle().unwrap();
+    assert_eq!((handle.first(), handle.last(), handle.iter().next_back()), (None, None, None));
+    handle.insert(0, 1).unwrap();
+    handle.insert(u64::MAX, 2).unwrap();
+    assert_eq!(handle.range(..).collect::<Vec<_>>(), [(0, 1), (u64::MAX, 2)]);
+    assert_eq!(handle.range(..).rev().collect::<Vec<_>>(), [(u64::MAX, 2), (0, 1)]);
+    assert_eq!(handle.range(..u64::MAX).count(), 1);
+    assert_eq!(handle.range(..=u64::MAX).count(), 2);
+    assert_eq!((handle.range(5..5).count(), handle.range(0..0).count()), (0, 0));
+    assert_eq!(handle.range((Bound::Excluded(0), Bound::Excluded(u64::MAX))).rev().count(), 0);
+    assert_eq!(handle.range((Bound::Excluded(u64::MAX), Bound::Unbounded)).count(), 0);
+    assert!(handle.upkeep(10));
+    let refused = map.close_image().unwrap_err();
+    assert_eq!(refused.to_string(), "some handles of the map are out, or it is closed");
+    drop(handle);
+    let map = refused.into_map();
+    let other = map.clone();
+    assert_eq!(map.close_image().unwrap().len(), 32 + 256 * 16);
+    assert!(other.handle().is_none());
+    assert!(matches!(other.close_image(), Err(CloseError::HandlesOut(_))));
+}
+
+#[test]
+fn refusals() {
+    assert_eq!(Map::new(3, 1).err(), Some(OpenError::Pages));
+    assert_eq!(Map::new((1 << 28) + 1, 1).err(), Some(OpenError::Pages));
+    assert_eq!(Map::new(16, 0).err(), Some(OpenError::Handles));
+    assert_eq!(Map::new(16, 65).err(), Some(OpenError::Handles));
+    assert_eq!(Map::from_image(b"", 1).err(), Some(OpenError::Image));
+    assert_eq!(Map::from_image(b"", 65).err(), Some(OpenError::Handles));
+    assert_eq!(OpenError::Image.to_string(), "the bytes are no sound image");
+    let map = Map::new(8, 1).unwrap();
+    let handle = map.handle().unwrap();
+    let refused = (0..1000).find(|&k| handle.insert(k, k) == Err(NoRoom)).unwrap();
+    assert!(handle.iter().eq((0..refused).map(|k| (k, k))));
+    // Where all have gone there is room again.
+    for k in 0..refused {
+        assert_eq!(handle.remove(k), Ok(Some(k)));
+    }
+    assert_eq!(handle.iter().count(), 0);
+    assert_eq!(handle.insert(5, 5), Ok(None));
+}
+
+/// A counter by compare-and-set, and rows that come and go, by four threads; a fifth lists them, both ways, all the while.
+#[test]
+fn threads() {
+    let (map, times) = (Map::new(8192, 5).unwrap(), 5000);
+    map.handle().unwrap().insert(1 << 40, 0).unwrap();
+    std::thread::scope(|scope| {
+        for t in 0..4u64 {
+            let handle = map.handle().unwrap();
+            scope.spawn(move || {
+                for n in 0..times {
+                    assert!(handle.update(1 << 40, |v| v + 1).unwrap().is_some());
+                    assert_eq!(handle.insert(n * 4 + t, n), Ok(None));
+                    assert_eq!(handle.get(n * 4 + t), Some(n));
+                    if n >= 100 {
+                        assert_eq!(handle.remove((n - 100) * 4 + t), Ok(Some(n - 100)));
+                    }
+                }
+            });
+        }
+        let handle = map.handle().unwrap();
+        scope.spawn(move || (0..100).for_each(|_| lists(&handle)));
+    });
+    let handle = map.handle().unwrap();
+    assert_eq!(handle.get(1 << 40), Some(4 * times));
+    assert_eq!(handle.iter().count() as u64, 4 * 100 + 1);
+}
+
+fn lists(handle: &Handle) {
+    let mut last = None;
+    for (key, value) in handle {
+        assert!(last < Some(key) && (key == 1 << 40 || key / 4 == value));
+        last = Some(key);
+    }
+    assert_eq!(last, Some(1 << 40));
+    let mut last = u64::MAX;
+    for (key, value) in handle.iter().rev() {
+        assert!(key < last && (key == 1 << 40 || key / 4 == value));
+        last = key;
+    }
+}
+
+/// A handle may go to another thread in the middle of a program, and may outlive the map.
+#[test]
+fn handles_move() {
+    fn is_sent<T: Send>() {}
+    fn is_shared<T: Send + Sync>() {}
+    is_sent::<Handle>();
+    is_shared::<Map>();
+    let map = Map::new(64, 1).unwrap();
+    let handle = map.handle().unwrap();
+    handle.insert(1, 10).unwrap();
+    drop(map);
+    std::thread::spawn(move || assert_eq!(handle.get(1), Some(10))).join().unwrap();
+    assert!(!blink::library_version().is_empty());
+}
