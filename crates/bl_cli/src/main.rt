@@ -11,7 +11,7 @@ ghost use Rattle.bl_serve.specs.Origins.{HasPages};
 
 use bl_check::Quiet;
 use bl_cli_commands::{
-    CommandFault, Counting, DumpFault, Form, MakeFault, Piped, Usage, argument_line, check_file,
+    CommandFault, Counting, DumpFault, Form, MakeFault, Piped, ScriptFile, Usage, argument_line, check_file,
     draw_file, load_file, make_image, malformed_line, may_replace, noroom_line, print_file,
     reason_of, replace_file, replay_file, stats_line, used_pages,
 };
@@ -359,7 +359,7 @@ fn load(rt: &HostRuntime, loading: Loading, file: &str) -> ExitCode {
     if let Err(fault) = may_replace(rt, file, process) {
         return fail(rt, fault);
     }
-    let mut reader = Watched::new(rt.stdin());
+    let mut reader = Watched::new(ScriptFile::new(rt.stdin()));
     let made = make_image(rt.alloc(), &mut reader, loading.pages, loading.fill);
     let quiet = match made {
         Ok(quiet) => quiet,
