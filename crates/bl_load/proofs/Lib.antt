@@ -1,2 +1,3 @@
 pub mod Walked
 pub mod Falls
+pub mod Levels

@@ -6,6 +6,7 @@ use Rattle.bl_page.specs.declared.page.Leaf.{Leaf as LeafPage}
 use Rattle.bl_page.specs.declared.page.Page.{Page}
 use Rattle.bl_page.specs.declared.page.Page.TheVariants.{Anchor, Leaf, Inner, Dead}
 use Rattle.bl_check.specs.Rows.{AreRowsOf}
+use Rattle.bl_load.specs.Sizes.{size_for, top_for}
 use Rattle.bl_load.specs.declared.fault.LoadFault.{LoadFault}
 use Rattle.bl_load.specs.declared.fault.LoadFault.TheVariants as fault
 
@@ -39,17 +40,17 @@ abbrev pub StopsBuilding : LoadFault → Type 0
 StopsBuilding fault.Pages = ⊥
 StopsBuilding fault.Fill = ⊥
 StopsBuilding (fault.Order place) = ⊥
-StopsBuilding fault.Room = Unit {0}
-StopsBuilding fault.Levels = Unit {0}
+StopsBuilding fault.Room = ⊥
+StopsBuilding fault.Levels = ⊥
 StopsBuilding fault.Wrong = Unit {0}
 StopsBuilding fault.Memory = Unit {0}
 
--- Why there is no image of rows. That pages or levels are too few is not said here.
+-- Why there is no image of rows. Of what does not happen, and of want of memory, nothing is said.
 abbrev pub IsFaultOf : List (ℕ × ℕ) → ℕ → ℕ → LoadFault → Type 0
 IsFaultOf rows pages fill fault.Pages = (pages < 4) ⊎ (2 ^ 28 < pages)
 IsFaultOf rows pages fill fault.Fill = (fill < 1) ⊎ (14 < fill)
 IsFaultOf rows pages fill (fault.Order place) = FallsFirstAt rows place
-IsFaultOf rows pages fill fault.Room = Unit {0}
-IsFaultOf rows pages fill fault.Levels = Unit {0}
+IsFaultOf rows pages fill fault.Room = pages < size_for fill (length rows)
+IsFaultOf rows pages fill fault.Levels = 1 < top_for fill (length rows)
 IsFaultOf rows pages fill fault.Wrong = Unit {0}
 IsFaultOf rows pages fill fault.Memory = Unit {0}

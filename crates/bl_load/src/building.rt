@@ -49,7 +49,7 @@ impl Pages {
     {
         let number = self.pages.len();
         if number >= self.most as usize {
-            return Err(LoadFault::Room);
+            return Err(LoadFault::Wrong);
         }
         let Some(page) = page_of(place, pairs) else {
             return Err(LoadFault::Wrong);
@@ -117,7 +117,7 @@ impl Pages {
             put(&mut leftmost, first_of(&entries))?;
         }
         if entries.len() != 1 {
-            return Err(LoadFault::Levels);
+            return Err(LoadFault::Wrong);
         }
         let anchor = anchor_of(leftmost.as_slice());
         match self.pages.first_mut() {

@@ -17,10 +17,10 @@ pub enum LoadFault {
     /// The key of the row at this place, counted from 0, is not above the key before it; it is the first such row.
     #[error("the key of the row at place {0} is not above the one before it")]
     Order(usize),
-    /// So few pages have no room for the rows.
+    /// The tree of the rows has more pages than there are.
     #[error("the rows have no room in so few pages")]
     Room,
-    /// The rows would need more than 12 levels, as their pages are to be filled so little.
+    /// The tree of the rows would have more than 12 levels, as its pages are to be filled so little.
     #[error("the rows need more than 12 levels, where pages are filled so little")]
     Levels,
     /// What was built is not what was asked for. This does not happen: nothing is known that leads to it.

@@ -9,6 +9,7 @@ use crate::fault::LoadFault;
 use crate::filling::are_full;
 use crate::leaves::rows_of;
 use crate::order::first_fall;
+use crate::size::size_of;
 use bl_check::{Fault, Quiet, sound};
 use bl_image::Image;
 use bl_model::limits::{LEAST_PAGES, MOST_LARGE_PAGES, MOST_PAIRS};
@@ -78,6 +79,13 @@ pub fn image_of(
     }
     if let Some(place) = first_fall(rows) {
         return Err(LoadFault::Order(place));
+    }
+    let size = size_of(rows.len(), fill as usize);
+    if size.top > 1 {
+        return Err(LoadFault::Levels);
+    }
+    if size.pages > u128::from(pages) {
+        return Err(LoadFault::Room);
     }
     let image = build(alloc, rows, pages, fill as usize)?;
     confirmed(alloc, image, rows, fill as usize)

@@ -11,6 +11,7 @@ mod filling;
 mod image;
 mod leaves;
 mod order;
+mod size;
 mod spelling;
 
 pub use fault::LoadFault;

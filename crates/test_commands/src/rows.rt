@@ -4,7 +4,7 @@ use crate::checking::split;
 use crate::streams::{Full, Zeros};
 use bl_check::Quiet;
 use bl_cli_commands::{CommandFault, MakeFault, make_image, print_rows};
-use bl_load::LoadFault;
+use bl_load::{LoadFault, rows_of};
 use bl_model::Watched;
 use bl_row_lines::{RowsFault, write_rows};
 use std::alloc::Global;
@@ -45,7 +45,8 @@ fn rows_that_cannot_be_written(rt: HostRuntime) {
     });
     let ended = print_rows(alloc, &mut Watched::new(bytes.as_slice()), None, &mut full);
     assert!(rt; ended == Err(CommandFault::Write));
-    assert!(rt; full.into_inner().bytes.as_slice() == b"1 10\n2 ");
+    let Full { bytes, .. } = full.into_inner();
+    assert!(rt; bytes.as_slice() == b"1 10\n2 ");
 }
 
 /// The image of 8 pages that is made of a text, so full.
@@ -56,8 +57,10 @@ fn made(alloc: Global, text: &[u8], fill: u32) -> Result<Quiet, MakeFault> {
 /// The first words of a page, of which the others are zeros.
 fn page(first: &[u64]) -> [u64; 32] {
     let mut words = [0; 32];
-    for (word, value) in words.iter_mut().zip(first) {
-        *word = *value;
+    for (i, value) in first.iter().enumerate() {
+        if i < 32 {
+            words[i] = *value;
+        }
     }
     words
 }
@@ -70,14 +73,16 @@ fn an_image_of_three_rows(rt: HostRuntime) -> Result<(), Fail> {
         page(&[8589934594, 6, 0, 0, 6, 60, 9, 90]),
         page(&[8589934593, 0, 6, 1, 5, 50]),
         page(&[12884967426, 0, 0, 0, 0, 2, 6, 1]),
+        page(&[]),
     ];
     let quiet = made(rt.alloc(), b"5 50\n6 60\n9 90\n", 2).ok();
     assert!(rt; quiet.is_some());
     if let Some(quiet) = quiet {
         let words = quiet.image().to_words(rt.alloc())?;
         assert!(rt; words.len() == 8);
-        assert!(rt; words.as_slice().get(..4) == Some(wanted.as_slice()));
-        assert!(rt; words.as_slice().get(4) == Some(&page(&[])));
+        for (x, page) in wanted.iter().enumerate() {
+            assert!(rt; words.get(x) == Some(page));
+        }
     }
     Ok(())
 }
@@ -85,7 +90,7 @@ fn an_image_of_three_rows(rt: HostRuntime) -> Result<(), Fail> {
 /// The text of the rows of the image that is made of this text.
 fn again(alloc: Global, text: &[u8], fill: u32) -> Option<Vec<u8>> {
     let quiet = make_image(alloc, &mut Watched::new(text), 64, fill).ok()?;
-    let rows = bl_load::rows_of(alloc, &quiet).ok()?;
+    let rows = rows_of(alloc, &quiet).ok()?;
     let mut writer = Watched::new(Vec::new(alloc));
     write_rows(alloc, &mut writer, rows.as_slice()).ok()?;
     Some(writer.into_inner())
@@ -107,7 +112,10 @@ fn rows_come_back(rt: HostRuntime) {
     }
 }
 
-const BAD: [(&[u8], RowsFault); 13] = [
+/// A text, and the fault of its first bad line.
+type BadRows = (&'static [u8], RowsFault);
+
+const BAD: [BadRows; 13] = [
     (b"5 50\n5 51\n", RowsFault::NotAbove(2)),
     (b"5 50\n6 60\n4 40\n", RowsFault::NotAbove(3)),
     (b"5 50\n6\n", RowsFault::NoRow(2)),
