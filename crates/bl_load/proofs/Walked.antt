@@ -1,15 +1,15 @@
 -- The leaves of a sound image, along their chain.
-use Rattle.std.proofs.Common.{◌≡◌, ◌≢◌, ℕ, zero, suc, ◌+◌, ◌-◌, ◌^◌, ◌<◌, ◌≤◌, List, [], ◌++◌, length, true, false, Option, Some, None, refl, ap, sym, subst, ◌∙◌, append_assoc, arith}
-use Rattle.std.specs.Prelude.{IfSome, IsSomeAnd, IsTrue}
+use Rattle.std.proofs.Common.{◌≡◌, ◌≢◌, ℕ, ◌<◌, ◌≤◌, List, [], ◌++◌, length, true, Option, Some, refl, ap, sym, subst, ◌∙◌, append_assoc, arith}
+use Rattle.std.specs.Prelude.{IfSome, IsSomeAnd}
 use Rattle.std.proofs.lemmas.Bool.{false≢true}
 use Rattle.bl_page.specs.declared.page.Leaf.{Leaf as LeafPage}
 use Rattle.bl_page.specs.declared.page.Page.{Page}
-use Rattle.bl_page.specs.declared.page.Page.TheVariants.{Anchor, Leaf, Inner, Dead}
+use Rattle.bl_page.specs.declared.page.Page.TheVariants.{Anchor, Leaf, Inner}
 use Rattle.bl_page.specs.Pages.{page_at}
 use Rattle.bl_page.specs.Pairs.{end_of}
 use Rattle.bl_check.specs.declared.span.Span.{Span}
-use Rattle.bl_check.specs.Spans.{span_of, span_at, StandsAt, leftmost_of, levels, leftmost}
-use Rattle.bl_check.specs.Rules.{AreSound, HasNext, LinkFits, Reaches, OnChain, is_anchor}
+use Rattle.bl_check.specs.Spans.{span_of, span_at, leftmost_of, levels, leftmost}
+use Rattle.bl_check.specs.Rules.{AreSound, HasNext, LinkFits, Reaches, is_anchor}
 use Rattle.bl_check.specs.Rules.Rule.{OneAnchor, Leftmost, Links}
 use Rattle.bl_check.specs.Rules.Reaches.{Here}
 use Rattle.bl_check.specs.Rows.{RowsFrom, AreRowsOf}

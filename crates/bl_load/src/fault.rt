@@ -23,8 +23,8 @@ pub enum LoadFault {
     /// The tree of the rows would have more than 12 levels, as its pages are to be filled so little.
     #[error("the rows need more than 12 levels, where pages are filled so little")]
     Levels,
-    /// What was built is not what was asked for. This does not happen: nothing is known that leads to it.
-    #[error("the image that was built is not one of these rows")]
+    /// A page that was to be built would have broken a rule. This does not happen: nothing is known that leads to it.
+    #[error("a page of the tree would break a rule")]
     Wrong,
     /// Memory was refused.
     #[error("out of memory")]

@@ -6,13 +6,13 @@
 #![tactic(auto)]
 
 mod building;
+mod checks;
 mod fault;
-mod filling;
 mod image;
 mod leaves;
+mod making;
 mod order;
 mod size;
-mod spelling;
 
 pub use fault::LoadFault;
 pub use image::image_of;

@@ -46,7 +46,7 @@ fn rows_that_cannot_be_written(rt: HostRuntime) {
     let ended = print_rows(alloc, &mut Watched::new(bytes.as_slice()), None, &mut full);
     assert!(rt; ended == Err(CommandFault::Write));
     let Full { bytes, .. } = full.into_inner();
-    assert!(rt; bytes.as_slice() == b"1 10\n2 ");
+    assert!(rt; bytes.as_slice() == b"1 10\n2 ".as_slice());
 }
 
 /// The image of 8 pages that is made of a text, so full.

@@ -1,5 +1,5 @@
-use Rattle.std.proofs.Common.{◌≡◌, suc, ◌+◌, ◌-◌, ◌*◌, ◌^◌, ◌<◌, ◌≤◌, ap, sym, ◌∙◌, arith}
-use Rattle.bl_load.specs.Sizes.{pages_for, pages_above, pages_on_top}
+use Rattle.std.proofs.Common.{◌≡◌, suc, ◌+◌, ◌-◌, ◌<◌, ap, sym, ◌∙◌, arith}
+use Rattle.bl_load.specs.Sizes.{pages_above, pages_on_top}
 use Rattle.bl_load.proofs.Levels.{above_none, above_zero, above_more, top_none, top_zero, top_more}
 use Rattle.bl_load.proofs.size.above_of.Goals as goal
 
