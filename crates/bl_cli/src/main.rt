@@ -11,9 +11,9 @@ ghost use Rattle.bl_serve.specs.Origins.{HasPages};
 
 use bl_check::Quiet;
 use bl_cli_commands::{
-    CommandFault, Counting, DumpFault, Form, MakeFault, Piped, ScriptFile, Usage, argument_line, check_file,
-    draw_file, load_file, make_image, malformed_line, may_replace, noroom_line, print_file,
-    reason_of, replace_file, replay_file, stats_line, used_pages,
+    CommandFault, Counting, DumpFault, Form, MakeFault, Piped, ScriptFile, Usage, argument_line,
+    check_file, draw_file, load_file, make_image, malformed_line, may_replace, noroom_line,
+    print_file, reason_of, replace_file, replay_file, stats_line, used_pages,
 };
 use bl_cli_options::{Invocation, Loading, ServeOptions, Server, read_words};
 use bl_model::Watched;

@@ -19,7 +19,8 @@ fn printed(alloc: Global, bytes: &[u8]) -> (Result<(), CommandFault>, Vec<u8>) {
 }
 
 /// The rows of the tree that `split` gives.
-const ROWS: &[u8] = b"1 10\n2 20\n3 30\n4 40\n5 50\n6 60\n7 70\n8 80\n9 90\n10 100\n11 110\n12 120\n13 130\n14 140\n15 150\n";
+const ROWS: &[u8] =
+    b"1 10\n2 20\n3 30\n4 40\n5 50\n6 60\n7 70\n8 80\n9 90\n10 100\n11 110\n12 120\n13 130\n14 140\n15 150\n";
 
 #[test]
 fn rows_of_a_split_tree(rt: HostRuntime) {

@@ -41,11 +41,7 @@ fn answers<R: Wait>(rt: &R, alloc: Global) -> Option<[KeyReply; 3]> {
 #[test]
 fn a_map_is_loaded_with_rows(rt: HostRuntime) {
     let found = answers(&rt, rt.alloc());
-    let wanted = [
-        KeyReply::Found(297),
-        KeyReply::Absent,
-        KeyReply::Inserted,
-    ];
+    let wanted = [KeyReply::Found(297), KeyReply::Absent, KeyReply::Inserted];
     assert!(rt; found == Some(wanted));
 }
 
@@ -60,12 +56,36 @@ fn a_map_is_not_loaded(rt: HostRuntime) {
     let rising = [(11, 33), (12, 36), (99, 297)];
     let twice = [(11, 33), (12, 36), (12, 37)];
     let cases: [(&[(u64, u64)], (u32, u32, u32), MapLoadFault); 6] = [
-        (twice.as_slice(), (64, 14, 1), MapLoadFault::Rows(LoadFault::Order(2))),
-        (rising.as_slice(), (3, 14, 1), MapLoadFault::Rows(LoadFault::Pages)),
-        (rising.as_slice(), (64, 0, 1), MapLoadFault::Rows(LoadFault::Fill)),
-        (rising.as_slice(), (64, 15, 1), MapLoadFault::Rows(LoadFault::Fill)),
-        (rising.as_slice(), (4, 1, 1), MapLoadFault::Rows(LoadFault::Room)),
-        (rising.as_slice(), (64, 14, 0), MapLoadFault::Open(OpenFault::Passes)),
+        (
+            twice.as_slice(),
+            (64, 14, 1),
+            MapLoadFault::Rows(LoadFault::Order(2)),
+        ),
+        (
+            rising.as_slice(),
+            (3, 14, 1),
+            MapLoadFault::Rows(LoadFault::Pages),
+        ),
+        (
+            rising.as_slice(),
+            (64, 0, 1),
+            MapLoadFault::Rows(LoadFault::Fill),
+        ),
+        (
+            rising.as_slice(),
+            (64, 15, 1),
+            MapLoadFault::Rows(LoadFault::Fill),
+        ),
+        (
+            rising.as_slice(),
+            (4, 1, 1),
+            MapLoadFault::Rows(LoadFault::Room),
+        ),
+        (
+            rising.as_slice(),
+            (64, 14, 0),
+            MapLoadFault::Open(OpenFault::Passes),
+        ),
     ];
     for (rows, sizes, fault) in cases {
         assert!(rt; refusal(rt.alloc(), rows, sizes) == Some(fault));
