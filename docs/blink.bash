@@ -4,10 +4,10 @@ _blink() {
     local word=${COMP_WORDS[COMP_CWORD]} before=${COMP_WORDS[COMP_CWORD - 1]} command=${COMP_WORDS[1]:-} words=
     COMPREPLY=()
     if [ "$COMP_CWORD" -eq 1 ]; then
-        words='serve dump check draw replay help --help --version'
+        words='serve dump load rows check draw replay help --help --version'
     else
         case $before in
-            --pages | --workers | --compressors) return ;;
+            --pages | --large | --workers | --compressors | --fill) return ;;
             --image)
                 mapfile -t COMPREPLY < <(compgen -f -- "$word")
                 return
@@ -15,14 +15,15 @@ _blink() {
         esac
         case $command in
             serve | dump) words='--pages --workers --compressors --image --stats --help' ;;
+            load) words='--pages --large --fill --help' ;;
             draw) words='--svg --help' ;;
-            check | replay) words='--help' ;;
-            help) words='serve dump check draw replay help' ;;
+            rows | check | replay) words='--help' ;;
+            help) words='serve dump load rows check draw replay help' ;;
         esac
     fi
     mapfile -t COMPREPLY < <(compgen -W "$words" -- "$word")
     case $command in
-        dump | check | draw | replay)
+        dump | load | rows | check | draw | replay)
             local files
             mapfile -t files < <(compgen -f -- "$word")
             COMPREPLY+=("${files[@]}")

@@ -2,7 +2,7 @@
 //!
 //! Promised to whoever runs it: `serve` writes what is served for what it reads, over a new index or one with the rows of an
 //! image, and by as many workers and compressors as are wanted; `dump` does so too, and its image has the rows of the map after
-//! what was served; and what `bl_cli_commands` promises of `check` and `replay`. What is said on standard error is tested.
+//! what was served; and what `bl_cli_commands` promises of `check`, `rows`, `load` and `replay`. What is said on standard error is tested.
 #![tactic(auto)]
 
 ghost use Rattle.std.specs.Prelude.{◌≤◌, ◌^◌, IfOk};
@@ -11,11 +11,11 @@ ghost use Rattle.bl_serve.specs.Origins.{HasPages};
 
 use bl_check::Quiet;
 use bl_cli_commands::{
-    CommandFault, Counting, DumpFault, Form, Piped, Usage, argument_line, check_file, draw_file,
-    load_file, malformed_line, may_replace, noroom_line, reason_of, replace_file, replay_file,
-    stats_line, used_pages,
+    CommandFault, Counting, DumpFault, Form, MakeFault, Piped, ScriptFile, Usage, argument_line,
+    check_file, draw_file, load_file, make_image, malformed_line, may_replace, noroom_line,
+    print_file, reason_of, replace_file, replay_file, stats_line, used_pages,
 };
-use bl_cli_options::{Invocation, ServeOptions, Server, read_words};
+use bl_cli_options::{Invocation, Loading, ServeOptions, Server, read_words};
 use bl_model::Watched;
 use bl_serve::{Origin, ServeFault, Totals, dump_index, serve_index};
 use clap::Error;
@@ -52,6 +52,8 @@ fn carry_out<T: Threads + Wait + Sync>(
     match read_words(alloc, words.as_slice()) {
         Ok(Invocation::Serve(server)) => Ok(serve(rt, threads, server)),
         Ok(Invocation::Dump(server, file)) => dump(rt, threads, server, file.as_str()),
+        Ok(Invocation::Load(loading, file)) => Ok(load(rt, loading, file.as_str())),
+        Ok(Invocation::Rows(file)) => Ok(rows(rt, file.as_str())),
         Ok(Invocation::Check(file)) => Ok(check(rt, file.as_str())),
         Ok(Invocation::Draw(file, svg)) => Ok(draw(rt, file.as_str(), svg)),
         Ok(Invocation::Replay(file)) => Ok(replay(rt, file.as_str())),
@@ -112,6 +114,13 @@ fn draw(rt: &HostRuntime, file: &str, svg: bool) -> ExitCode {
     let mut writer = output(rt);
     let sound = draw_file(rt, file, form, &mut writer);
     end_of(rt, file, sound, writer)
+}
+
+/// Prints the rows of the image in the file.
+fn rows(rt: &HostRuntime, file: &str) -> ExitCode {
+    let mut writer = output(rt);
+    let printed = print_file(rt, file, &mut writer);
+    end_of(rt, file, printed.map(|()| true), writer)
 }
 
 /// Carries out the script in the file.
@@ -334,6 +343,32 @@ fn dump<T: Threads + Wait + Sync>(
     let usage = Some(used_pages(quiet.image()));
     let counts = counts_of(totals, usage, writer);
     Ok(keep(rt, &server, file, &quiet, &counts))
+}
+
+/// Ends with the fault of rows of which no image was made.
+fn fail_rows(rt: &HostRuntime, fault: MakeFault, loading: Loading) -> ExitCode {
+    let _ = eprintln!(rt; "{fault}");
+    say(rt, fault.advice(rt.alloc(), loading.pages, loading.fill));
+    ExitCode::from(fault.status())
+}
+
+/// Makes an image of the rows on standard input, and writes it to the file. Where the file cannot be replaced, that is said before
+/// anything is read.
+fn load(rt: &HostRuntime, loading: Loading, file: &str) -> ExitCode {
+    let process = process::id(rt.process());
+    if let Err(fault) = may_replace(rt, file, process) {
+        return fail(rt, fault);
+    }
+    let mut reader = Watched::new(ScriptFile::new(rt.stdin()));
+    let made = make_image(rt.alloc(), &mut reader, loading.pages, loading.fill);
+    let quiet = match made {
+        Ok(quiet) => quiet,
+        Err(fault) => return fail_rows(rt, fault, loading),
+    };
+    match replace_file(rt, file, process, quiet.image()) {
+        Ok(()) => ExitCode::SUCCESS,
+        Err(fault) => fail(rt, fault),
+    }
 }
 
 /// Ends as clap asks: with its text, or for want of memory. Where the text cannot be written, that is said, unless whoever was to read

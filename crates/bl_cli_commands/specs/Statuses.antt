@@ -9,6 +9,8 @@ use Rattle.bl_replay_script.specs.declared.reading.ScriptFault.{ScriptFault}
 use Rattle.bl_replay_script.specs.declared.reading.ScriptFault.TheVariants as script
 use Rattle.bl_replay.specs.declared.fault.ReplayFault.{ReplayFault}
 use Rattle.bl_replay.specs.declared.fault.ReplayFault.TheVariants as replaying
+use Rattle.bl_row_lines.specs.declared.writing.PrintFault.{PrintFault}
+use Rattle.bl_row_lines.specs.declared.writing.PrintFault.TheVariants as printing
 use Rattle.bl_cli_commands.specs.declared.dump.DumpFault.{DumpFault}
 use Rattle.bl_cli_commands.specs.declared.dump.DumpFault.TheVariants as dump
 use Rattle.bl_cli_commands.specs.declared.fault.CommandFault.{CommandFault}
@@ -49,6 +51,10 @@ fault_of_script script.Memory = command.Memory
 abbrev pub fault_of_replay : ReplayFault → CommandFault
 fault_of_replay replaying.Write = command.Write
 fault_of_replay replaying.Memory = command.Memory
+
+abbrev pub fault_of_print : PrintFault → CommandFault
+fault_of_print printing.Write = command.Write
+fault_of_print printing.Memory = command.Memory
 
 -- an error of the system is want of memory where it says so, and else a failed read
 abbrev pub IsFaultOf : Error → CommandFault → Type 0

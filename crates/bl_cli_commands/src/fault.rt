@@ -1,11 +1,12 @@
 //! Why a command ends early.
 
 ghost use Rattle.std.specs.Prelude.{◌≡◌};
-ghost use Rattle.bl_cli_commands.specs.Statuses.{status_of, fault_of, fault_of_script, fault_of_replay, IsFaultOf};
+ghost use Rattle.bl_cli_commands.specs.Statuses.{status_of, fault_of, fault_of_script, fault_of_replay, fault_of_print, IsFaultOf};
 ghost use Rattle.bl_cli_commands.specs.declared.fault.CommandFault.TheVariants.{Memory};
 
 use bl_replay::ReplayFault;
 use bl_replay_script::ScriptFault;
+use bl_row_lines::PrintFault;
 use bl_serve_lines::ServeFault;
 use std::alloc::AllocError;
 use std::io;
@@ -77,6 +78,17 @@ impl From<ReplayFault> for CommandFault {
         match fault {
             ReplayFault::Write => CommandFault::Write,
             ReplayFault::Memory => CommandFault::Memory,
+        }
+    }
+}
+
+impl From<PrintFault> for CommandFault {
+    ghost from_gives = { λ fault command. command ≡ fault_of_print fault };
+
+    fn from(fault: PrintFault) -> CommandFault {
+        match fault {
+            PrintFault::Write => CommandFault::Write,
+            PrintFault::Memory => CommandFault::Memory,
         }
     }
 }

@@ -1,11 +1,11 @@
-//! How much is read of a script that may have no end, as a device or a pipe. These limits are tested.
+//! How much is read of a script, or of rows, that may have no end, as a device or a pipe. These limits are tested.
 
 use bl_serve_lines::request::LINE_LIMIT;
 use memchr::memrchr;
 use std::io;
 use std::io::Read;
 
-/// Gives the bytes of a script up to where a line has become too long to be one: the script is bad then, whatever follows.
+/// Gives the bytes of a script, or of rows, up to where a line has become too long to be one: they are bad then, whatever follows.
 #[derive(Drop)]
 pub struct ScriptFile<R> {
     inner: R,

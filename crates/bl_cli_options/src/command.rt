@@ -2,10 +2,11 @@
 
 ghost use Rattle.std.specs.Prelude.{IfOk};
 ghost use Rattle.bl_serve_lines.specs.Options.{AreWithin};
-ghost use Rattle.bl_cli_options.specs.Limits.{IsWithinLimits};
+ghost use Rattle.bl_cli_options.specs.Limits.{IsImageOf, IsWithinLimits};
 
 use crate::texts::{
-    ABOUT_ALL, ABOUT_CHECK, ABOUT_DRAW, ABOUT_DUMP, ABOUT_REPLAY, ABOUT_SERVE, VERSION,
+    ABOUT_ALL, ABOUT_CHECK, ABOUT_DRAW, ABOUT_DUMP, ABOUT_LOAD, ABOUT_REPLAY, ABOUT_ROWS,
+    ABOUT_SERVE, VERSION,
 };
 use bl_serve_lines::ServeOptions;
 use clap::{Arg, ArgAction, ArgMatches, Command, Error, value_parser};
@@ -22,6 +23,15 @@ pub struct Server {
     pub stats: bool,
 }
 
+/// An image of rows that the command line asks for.
+#[derive(Clone, Copy, Debug, PartialEq, Eq)]
+pub struct Loading {
+    /// Its pages, 4 to 2^28.
+    pub pages: u32,
+    /// How many rows a leaf has, and how many children a page above, 1 to 14.
+    pub fill: u32,
+}
+
 /// What the command line asks for.
 #[derive(Debug, PartialEq, Eq, Drop)]
 pub enum Invocation {
@@ -29,6 +39,10 @@ pub enum Invocation {
     Serve(Server),
     /// `blink dump` to this file.
     Dump(Server, String),
+    /// `blink load` of rows into an image in this file.
+    Load(Loading, String),
+    /// `blink rows` of this file.
+    Rows(String),
     /// `blink check` of this file.
     Check(String),
     /// `blink draw` of this file, and whether as SVG.
@@ -180,6 +194,55 @@ fn server_of(alloc: Global, found: &ArgMatches) -> Result<Server, AllocError>
     })
 }
 
+/// How full pages are.
+fn fill_option<'a>(alloc: Global) -> Arg<'a> {
+    Arg::new(alloc, "fill")
+        .long("fill")
+        .value_name("N")
+        .help("Rows of a leaf and children of a page above, 1 to 14")
+        .value_parser(value_parser!(u32).range(1..=14))
+        .default_value("14")
+}
+
+/// The command line of `load`.
+fn load_command<'a>(alloc: Global) -> Result<Command<'a>, AllocError> {
+    let file = file_argument(
+        alloc,
+        "Where the image is to stand; what is there is replaced",
+    );
+    let large = large_option(alloc)?;
+    Command::new(alloc, "load")
+        .about("Makes an image of rows from standard input")
+        .after_help(ABOUT_LOAD)
+        .arg(file)?
+        .arg(pages_option(alloc))?
+        .arg(large)?
+        .arg(fill_option(alloc))
+}
+
+/// The image that clap has found. Its limits are kept here too.
+fn loading_of(found: &ArgMatches) -> Loading
+    ensures { IsImageOf result }
+{
+    let options = ServeOptions::of(found.get_one::<u32>("pages"), None, None);
+    let options = match found.get_one::<u32>("large") {
+        Some(pages) => options.having_large(pages),
+        None => options,
+    };
+    Loading {
+        pages: options.pages,
+        fill: found.get_one::<u32>("fill").unwrap_or(14).clamp(1, 14),
+    }
+}
+
+/// The command line of `rows`.
+fn rows_command<'a>(alloc: Global) -> Result<Command<'a>, AllocError> {
+    Command::new(alloc, "rows")
+        .about("Prints the rows of an image")
+        .after_help(ABOUT_ROWS)
+        .arg(file_argument(alloc, "The image whose rows are printed"))
+}
+
 /// The command line of `check`.
 fn check_command<'a>(alloc: Global) -> Result<Command<'a>, AllocError> {
     Command::new(alloc, "check")
@@ -217,10 +280,12 @@ fn with_command<'a>(
     blink.subcommand(command?)
 }
 
-/// The command line of `blink` with the commands that serve.
+/// The command line of `blink` with the commands that serve, and those for rows as text.
 fn with_servers<'a>(alloc: Global, blink: Command<'a>) -> Result<Command<'a>, AllocError> {
     let blink = with_command(blink, serve_command(alloc))?;
-    with_command(blink, dump_command(alloc))
+    let blink = with_command(blink, dump_command(alloc))?;
+    let blink = with_command(blink, load_command(alloc))?;
+    with_command(blink, rows_command(alloc))
 }
 
 /// The command line of `blink`.
@@ -256,6 +321,8 @@ fn invocation_of(alloc: Global, name: &str, found: &ArgMatches) -> Result<Invoca
     };
     match name {
         "dump" => Ok(Invocation::Dump(server_of(alloc, found)?, file)),
+        "load" => Ok(Invocation::Load(loading_of(found), file)),
+        "rows" => Ok(Invocation::Rows(file)),
         "check" => Ok(Invocation::Check(file)),
         "draw" => Ok(Invocation::Draw(file, found.get_flag("svg"))),
         "replay" => Ok(Invocation::Replay(file)),

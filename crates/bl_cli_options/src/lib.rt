@@ -8,4 +8,4 @@ mod command;
 mod texts;
 
 pub use bl_serve_lines::ServeOptions;
-pub use command::{Invocation, Server, read_words};
+pub use command::{Invocation, Loading, Server, read_words};

@@ -5,14 +5,14 @@ pub(crate) const VERSION: &str = "0.1.0, proved with rattle-kit-13f logic dac820
 
 /// Of all commands.
 pub(crate) const ABOUT_ALL: &str = "\
-The index is in memory, and a dump is all that is kept of it. There is no
+The index is in memory, and an image is all that is kept of it. There is no
 network: requests are lines on standard input.
 
 `blink help COMMAND` has the lines that a command reads, and examples.
 
 Exit status: 0 all is well; 1 an image breaks a rule; 2 the command line is
-refused; 3 reading or writing failed, or a script is bad; 4 out of memory; 5 the
-answer of a request was lost.";
+refused; 3 reading or writing failed, or a script or a row is bad; 4 out of
+memory; 5 the answer of a request was lost.";
 
 /// Of `serve`.
 pub(crate) const ABOUT_SERVE: &str = "\
@@ -78,6 +78,34 @@ Exit status: 0 all is well; 1 that image breaks a rule, which standard error
 names as `blink check` does; 3 reading or writing failed; 4 out of memory; 5 the
 answer of a request was lost. Where it is not 0, FILE is as it was, unless
 standard error says that its folder could not be synced.";
+
+/// Of `load`.
+pub(crate) const ABOUT_LOAD: &str = "\
+Reads rows, a line `K V` each, by rising keys, as `blink rows` prints them, and
+writes an image of them to FILE as `blink dump` does. Each leaf has as many rows
+as --fill says, and each page above as many children, but two at least; the
+leftmost page of a level has what is left. So 65536 pages hold 823,000 rows. An
+index has as many pages as its image: where rows are to be inserted, load fewer.
+
+Examples:
+  printf '5 50\\n6 60\\n' | blink load index.image
+  blink rows old.image | blink load new.image --pages 65536 --fill 10
+
+Exit status: 0 all is well; 2 the command line is refused; 3 reading or writing
+failed, a line is bad, which standard error names, or the rows have no room; 4
+out of memory. Where it is not 0, FILE is as it was, unless standard error says
+that its folder could not be synced.";
+
+/// Of `rows`.
+pub(crate) const ABOUT_ROWS: &str = "\
+Prints a line `K V` for each row of the image, by rising keys.
+
+Examples:
+  blink rows index.image | wc -l
+  blink rows index.image >index.rows
+
+Exit status: 0 all is well; 1 the image breaks a rule, which standard error
+names as `blink check` does; 3 reading or writing failed; 4 out of memory.";
 
 /// Of `check`.
 pub(crate) const ABOUT_CHECK: &str = "\

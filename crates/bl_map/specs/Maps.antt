@@ -1,5 +1,5 @@
 -- How a map is opened and closed: as its index is.
-use Rattle.std.specs.Prelude.{◌≡◌, ℕ, List}
+use Rattle.std.specs.Prelude.{◌≡◌, ℕ, List, length}
 use Rattle.bl_check.specs.declared.quiet.Quiet.{Quiet}
 use Rattle.bl_index.specs.Calls.{IsPassOf}
 use Rattle.bl_index.specs.Opened.{IsOpened as IsIndexOpened, IsLargeRefusal, IsReopened as IsIndexReopened, IsImageRefusal}
@@ -7,6 +7,9 @@ use Rattle.bl_index.specs.Closed.{AreOf, Closes, IsRefused}
 use Rattle.bl_index.specs.declared.config.CloseFault.{CloseFault}
 use Rattle.bl_index.specs.declared.config.OpenFault.{OpenFault}
 use Rattle.bl_index.specs.declared.index.Pass.{Pass}
+use Rattle.bl_load.specs.Loads.{Holds, IsFaultOf}
+use Rattle.bl_map.specs.declared.map.MapLoadFault.{MapLoadFault}
+use Rattle.bl_map.specs.declared.map.MapLoadFault.TheVariants as loading
 use Rattle.bl_map.specs.declared.handle.Handle.{Handle}
 use Rattle.bl_map.specs.declared.map.Map.{Map}
 use Rattle.bl_map.specs.Handles.{index_of, IsHandleOver}
@@ -29,6 +32,18 @@ IsReopened quiet among map seats = IsIndexReopened quiet.image.pages.items among
 
 abbrev pub IsImageFault : ℕ → OpenFault → Type 0
 IsImageFault among why = IsImageRefusal among why
+
+-- The map is opened from a sound image of so many pages that has exactly these rows, and is so full.
+pub record IsLoaded (rows : List (ℕ × ℕ)) (pages fill among : ℕ) (map : Map) (seats : List Pass) : Type 0 where
+  pub quiet : Quiet
+  pub held : Holds fill rows quiet.image.pages.items
+  pub count : length quiet.image.pages.items ≡ pages
+  pub opened : IsReopened quiet among map seats
+
+-- There is no such image, or the map was not opened from it.
+abbrev pub IsLoadFault : List (ℕ × ℕ) → ℕ → ℕ → ℕ → MapLoadFault → Type 0
+IsLoadFault rows pages fill among (loading.Rows why) = IsFaultOf rows pages fill why
+IsLoadFault rows pages fill among (loading.Open why) = IsImageFault among why
 
 abbrev pub IsClosed : Map → List Pass → Quiet → Type 0
 IsClosed map seats quiet = Closes map.index seats quiet.image.pages.items

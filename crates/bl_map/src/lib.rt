@@ -31,8 +31,9 @@ mod upkeep;
 mod waiting;
 
 pub use bl_index::{CloseFault, Hint, KeyReply, KeyWrite, Next, OpenFault, Pass as Seat, Reply};
+pub use bl_load::LoadFault;
 pub use handle::{Backlog, Handle};
-pub use map::Map;
+pub use map::{Map, MapLoadFault};
 pub use meeting::meet_all;
 pub use seating::{give_seats, handles_over};
 pub use upkeep::Followed;

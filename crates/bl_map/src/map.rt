@@ -1,17 +1,27 @@
 //! The map, which its threads share.
 
 ghost use Rattle.std.specs.Prelude.{◌≡◌, IfOk, IfErr};
-ghost use Rattle.bl_map.specs.Maps.{IsSeatOf, AreSeatsOf, IsNewHandle, IsOpened, IsOpenFault, IsReopened, IsImageFault, IsClosed, IsBack};
+ghost use Rattle.bl_map.specs.Maps.{IsSeatOf, AreSeatsOf, IsNewHandle, IsOpened, IsOpenFault, IsReopened, IsImageFault, IsLoaded, IsLoadFault, IsClosed, IsBack};
 
 use crate::handle::Handle;
 use bl_check::Quiet;
 use bl_index::{CloseFault, Config, Index, OpenFault, Pass};
+use bl_load::{LoadFault, image_of};
 use std::alloc::Global;
 
 /// A map that threads share.
 #[derive(Drop)]
 pub struct Map {
     pub(crate) index: Index,
+}
+
+/// Why no map was loaded.
+#[derive(Clone, Copy, Debug, PartialEq, Eq)]
+pub enum MapLoadFault {
+    /// There is no such image of the rows.
+    Rows(LoadFault),
+    /// The map was not opened from it.
+    Open(OpenFault),
 }
 
 impl Map {
@@ -42,6 +52,30 @@ impl Map {
     {
         let (index, seats) = Index::open_image(alloc, image, seats)?;
         Ok((Map { index }, seats))
+    }
+
+    /// A map of so many pages, 4 to 2^28, that begins with these rows, whose keys rise, and a seat for each of so many threads, 1 to
+    /// 64. Each leaf has `fill` of the rows, 1 to 14, and each page above as many children, but at least two; the leftmost page of a
+    /// level has what is left. No row is inserted on the way.
+    pub fn load(
+        alloc: Global,
+        rows: &[(u64, u64)],
+        pages: u32,
+        fill: u32,
+        seats: u32,
+    ) -> Result<(Map, Vec<Pass>), MapLoadFault>
+        ensures ok { IfOk result (λ t. IsLoaded rows.now pages fill seats t.0 t.1.items) }
+        ensures seats { IfOk result (λ t. AreSeatsOf t.0 t.1.items) }
+        ensures fault { IfErr result (IsLoadFault rows.now pages fill seats) }
+    {
+        let image = match image_of(alloc, rows, pages, fill) {
+            Ok(image) => image,
+            Err(fault) => return Err(MapLoadFault::Rows(fault)),
+        };
+        match Map::open_image(alloc, image, seats) {
+            Ok(opened) => Ok(opened),
+            Err((_, why)) => Err(MapLoadFault::Open(why)),
+        }
     }
 
     /// The handle by which a thread works from a seat of this map.

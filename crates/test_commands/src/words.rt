@@ -180,6 +180,59 @@ fn words_that_ask_for_a_picture(rt: HostRuntime) -> Result<(), Fail> {
     Ok(())
 }
 
+/// The pages and the fill of an image of rows that is asked for, to be in `index.image`.
+fn loading(invocation: &Invocation) -> Option<(u32, u32)> {
+    match invocation {
+        Invocation::Load(loading, file) if file.as_str() == "index.image" => {
+            Some((loading.pages, loading.fill))
+        }
+        _ => None,
+    }
+}
+
+/// The same of what a command line asks for.
+fn loads(alloc: Global, text: &str) -> Result<Option<(u32, u32)>, Fail> {
+    Ok(match invoked(alloc, text)? {
+        Some(invocation) => loading(&invocation),
+        None => None,
+    })
+}
+
+#[test]
+fn words_that_ask_for_an_image_of_rows(rt: HostRuntime) -> Result<(), Fail> {
+    for (text, wanted) in [
+        ("blink load index.image", Some((1024, 14))),
+        ("blink load index.image --fill 1 --pages 4", Some((4, 1))),
+        (
+            "blink load --large 268435456 --fill 7 index.image",
+            Some((268435456, 7)),
+        ),
+        ("blink load index.image --fill 0", None),
+        ("blink load index.image --fill 15", None),
+        ("blink load index.image --pages 65537", None),
+        ("blink load --fill 14", None),
+        ("blink rows index.image", None),
+    ] {
+        assert!(rt; loads(rt.alloc(), text)? == wanted, "{text}");
+    }
+    Ok(())
+}
+
+/// Whether the rows of `index.image` are asked for.
+fn asks_for_rows(alloc: Global, text: &str) -> Result<bool, Fail> {
+    Ok(match invoked(alloc, text)? {
+        Some(Invocation::Rows(file)) => file.as_str() == "index.image",
+        _ => false,
+    })
+}
+
+#[test]
+fn words_that_ask_for_rows(rt: HostRuntime) -> Result<(), Fail> {
+    assert!(rt; asks_for_rows(rt.alloc(), "blink rows index.image")?);
+    assert!(rt; !asks_for_rows(rt.alloc(), "blink rows")?);
+    Ok(())
+}
+
 const REFUSED: [&str; 19] = [
     "blink",
     "blink dump",

@@ -1,7 +1,7 @@
 //! A map is closed, and another one opened from its image.
 
 use crate::maps::calls::opened;
-use bl_map::{KeyReply, Map};
+use bl_map::{KeyReply, LoadFault, Map, MapLoadFault, OpenFault};
 use std::alloc::Global;
 use std::sync::Wait;
 
@@ -25,4 +25,69 @@ fn values<R: Wait>(rt: &R, alloc: Global) -> Option<(KeyReply, KeyReply)> {
 fn a_map_goes_on_from_its_image(rt: HostRuntime) {
     let found = values(&rt, rt.alloc());
     assert!(rt; found == Some((KeyReply::Found(33), KeyReply::Found(297))));
+}
+
+/// What a map that is loaded with three rows answers to a find of the last, to one of a key between them, and to an insertion of that.
+fn answers<R: Wait>(rt: &R, alloc: Global) -> Option<[KeyReply; 3]> {
+    let rows = [(11, 33), (12, 36), (99, 297)];
+    let (map, mut seats) = Map::load(alloc, &rows, 64, 2, 1).ok()?;
+    let seat = seats.pop()?;
+    let mut handle = map.handle(seat);
+    let last = handle.find(rt, 99);
+    let between = handle.find(rt, 13);
+    Some([last, between, handle.insert(rt, 13, 39)])
+}
+
+#[test]
+fn a_map_is_loaded_with_rows(rt: HostRuntime) {
+    let found = answers(&rt, rt.alloc());
+    let wanted = [KeyReply::Found(297), KeyReply::Absent, KeyReply::Inserted];
+    assert!(rt; found == Some(wanted));
+}
+
+/// Why no map is loaded with these rows, of so many pages, so full and with so many seats.
+fn refusal(alloc: Global, rows: &[(u64, u64)], sizes: (u32, u32, u32)) -> Option<MapLoadFault> {
+    let (pages, fill, seats) = sizes;
+    Map::load(alloc, rows, pages, fill, seats).err()
+}
+
+#[test]
+fn a_map_is_not_loaded(rt: HostRuntime) {
+    let rising = [(11, 33), (12, 36), (99, 297)];
+    let twice = [(11, 33), (12, 36), (12, 37)];
+    let cases: [(&[(u64, u64)], (u32, u32, u32), MapLoadFault); 6] = [
+        (
+            twice.as_slice(),
+            (64, 14, 1),
+            MapLoadFault::Rows(LoadFault::Order(2)),
+        ),
+        (
+            rising.as_slice(),
+            (3, 14, 1),
+            MapLoadFault::Rows(LoadFault::Pages),
+        ),
+        (
+            rising.as_slice(),
+            (64, 0, 1),
+            MapLoadFault::Rows(LoadFault::Fill),
+        ),
+        (
+            rising.as_slice(),
+            (64, 15, 1),
+            MapLoadFault::Rows(LoadFault::Fill),
+        ),
+        (
+            rising.as_slice(),
+            (4, 1, 1),
+            MapLoadFault::Rows(LoadFault::Room),
+        ),
+        (
+            rising.as_slice(),
+            (64, 14, 0),
+            MapLoadFault::Open(OpenFault::Passes),
+        ),
+    ];
+    for (rows, sizes, fault) in cases {
+        assert!(rt; refusal(rt.alloc(), rows, sizes) == Some(fault));
+    }
 }

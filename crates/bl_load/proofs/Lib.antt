@@ -1,0 +1,9 @@
+pub mod Walked
+pub mod Falls
+pub mod Levels
+pub mod Growing
+pub mod Forests
+pub mod Stepping
+pub mod Sounding
+pub mod Padding
+pub mod Places

@@ -1,0 +1,2 @@
+pub mod RowLines
+pub mod Steps
