@@ -220,10 +220,10 @@ fn words_that_ask_for_an_image_of_rows(rt: HostRuntime) -> Result<(), Fail> {
 
 /// Whether the rows of `index.image` are asked for.
 fn asks_for_rows(alloc: Global, text: &str) -> Result<bool, Fail> {
-    Ok(match invoked(alloc, text)? {
-        Some(Invocation::Rows(file)) => file.as_str() == "index.image",
-        _ => false,
-    })
+    let Some(Invocation::Rows(file)) = invoked(alloc, text)? else {
+        return Ok(false);
+    };
+    Ok(file.as_str() == "index.image")
 }
 
 #[test]
