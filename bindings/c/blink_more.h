@@ -52,7 +52,11 @@ static inline int32_t blink_more_find_many(blink_seat *seat, const uint64_t *key
     size_t at;
     *hits = 0;
     for (at = 0; at < count; at++) {
-        int32_t answer = blink_find(seat, keys[at], &values[at]);
+        int32_t answer;
+        /* The pages of eight keys are fetched side by side, where there are enough. */
+        if (at % 8 == 0 && count - at >= 4)
+            blink_fetch(seat, keys + at, count - at < 8 ? count - at : 8);
+        answer = blink_find(seat, keys[at], &values[at]);
         if (answer != BLINK_OK && answer != BLINK_ABSENT) return answer;
         if (found) found[at] = answer == BLINK_OK;
         *hits += answer == BLINK_OK;

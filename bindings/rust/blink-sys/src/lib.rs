@@ -84,6 +84,14 @@ extern "C" {
         length: *mut u64,
     ) -> i32;
     pub fn blink_find(seat: *mut blink_seat, key: u64, value: *mut u64) -> i32;
+    pub fn blink_find_many(
+        seat: *mut blink_seat,
+        keys: *const u64,
+        count: usize,
+        values: *mut u64,
+        found: *mut bool,
+    ) -> i32;
+    pub fn blink_fetch(seat: *mut blink_seat, keys: *const u64, count: usize) -> i32;
     pub fn blink_insert(seat: *mut blink_seat, key: u64, value: u64, there: *mut u64) -> i32;
     pub fn blink_delete(seat: *mut blink_seat, key: u64, gone: *mut u64) -> i32;
     pub fn blink_change(seat: *mut blink_seat, key: u64, old_value: u64, new_value: u64, there: *mut u64) -> i32;
