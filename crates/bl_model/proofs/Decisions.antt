@@ -3,7 +3,7 @@ use Rattle.std.proofs.Common.{◌≡◌, ◌≢◌, ℕ, Option, Some, None, tru
 use Rattle.std.specs.Prelude.{◌==◌}
 use Rattle.std.proofs.lemmas.Bool.{cases_eq}
 use Rattle.bl_model.specs.declared.deciding.KeyWrite.{KeyWrite}
-use Rattle.bl_model.specs.declared.deciding.KeyWrite.TheVariants.{Insert, Delete, Change}
+use Rattle.bl_model.specs.declared.deciding.KeyWrite.TheVariants.{Insert, Put, Delete, Change}
 use Rattle.bl_model.specs.declared.operation.Reply.TheVariants as reply
 use Rattle.bl_model.specs.Map.{Map, map_step, with_pair, without_key, SameMap}
 use Rattle.bl_model.specs.Writes.{MayHave, decided, IsDecided, effect_of, write_op}
@@ -42,6 +42,20 @@ is_decided (Insert value) (Some there) = record {
   told = refl;
   room = λ e. cc;
   refused = λ key m was change. absurd (change refl);
+}
+is_decided (Put value) None = record {
+  step = λ key m m' was here rest. record { answer = was; after = changed_one m m' key value here rest };
+  fits = refl;
+  told = refl;
+  room = λ e. cc;
+  refused = λ key m was change. tt;
+}
+is_decided (Put value) (Some there) = record {
+  step = λ key m m' was here rest. record { answer = was; after = changed_one m m' key value here rest };
+  fits = refl;
+  told = refl;
+  room = λ e. cc;
+  refused = λ key m was change. tt;
 }
 is_decided Delete None = record {
   step = λ key m m' was here rest. record { answer = was; after = kept_one m m' key None was here rest };
@@ -87,5 +101,6 @@ may_have write there = (is_decided write there).fits
 -- no room leaves the map
 pub refused_step : (key : ℕ) (write : KeyWrite) (m : Map) (k : ℕ) → m k ≡ map_step (write_op key write) reply.NoRoom m k
 refused_step key (Insert value) m k = refl
+refused_step key (Put value) m k = refl
 refused_step key Delete m k = refl
 refused_step key (Change old new) m k = refl

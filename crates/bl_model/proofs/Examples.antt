@@ -1,7 +1,7 @@
 -- Worked examples of the definitions.
 use Rattle.std.proofs.Common.{◌≡◌, ℕ, List, [], ◌∷◌, Some, None, refl, arith, ◌<◌, ◌≤◌, lit<, lit≤}
-use Rattle.bl_model.specs.declared.operation.Op.TheVariants.{Find, Insert, Part}
-use Rattle.bl_model.specs.declared.operation.Reply.TheVariants.{Absent, Inserted, Present, Rows}
+use Rattle.bl_model.specs.declared.operation.Op.TheVariants.{Find, Insert, Put, Part}
+use Rattle.bl_model.specs.declared.operation.Reply.TheVariants.{Absent, Inserted, Present, Replaced, NoRoom, Rows}
 use Rattle.bl_model.specs.declared.operation.Entry.{Entry}
 use Rattle.bl_model.specs.declared.operation.Next.TheVariants.{More}
 use Rattle.std.proofs.lemmas.Grind.{common_steps}
@@ -26,6 +26,26 @@ value_after = refl
 
 of_one_pass : entries_of_pass 1 example ≡ record { pass = 1; op = Insert 5 51; reply = Present 50 } ∷ []
 of_one_pass = refl
+
+-- a put replaces what is there and answers that; a second one enters a key that isn't there; for a third there is no room
+abbrev puts : List Entry
+puts = record { pass = 0; op = Put 5 51; reply = Replaced 50 } ∷ record { pass = 0; op = Put 6 60; reply = Inserted } ∷ record { pass = 1; op = Put 6 61; reply = NoRoom } ∷ []
+
+puts_are_legal : IsLegalFrom (final_map empty example) puts
+puts_are_legal = (refl, (refl, (tt, tt)))
+
+value_put : final_map (final_map empty example) puts 5 ≡ Some 51
+value_put = refl
+
+value_entered : final_map (final_map empty example) puts 6 ≡ Some 60
+value_entered = refl
+
+-- a put that loses the old value, and one that says that it entered what was there, are none
+put_that_forgets : MayAnswer (final_map empty example) (Put 5 51) (Replaced 51) → ⊥
+put_that_forgets e = let other = e in grind (arith, common_steps)
+
+put_that_hides : MayAnswer (final_map empty example) (Put 5 51) Inserted → ⊥
+put_that_hides e = cc
 
 -- four pairs
 abbrev four : List (ℕ × ℕ)

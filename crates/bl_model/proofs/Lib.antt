@@ -4,6 +4,7 @@ pub mod Examples
 mod Lookups
 mod Places
 pub mod Parts
+pub mod Falling
 pub mod Steps
 mod Written
 pub mod Beginnings

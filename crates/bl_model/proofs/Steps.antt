@@ -5,10 +5,10 @@ use Rattle.std.specs.List.{insert, remove}
 use Rattle.std.proofs.lemmas.Grind.{common_steps}
 use Rattle.std.proofs.lemmas.Bool.{cases_lt}
 use Rattle.std.proofs.lemmas.List.{get_or_default, length-drop, length-take-le, get_or-take, get_or-drop}
-use Rattle.bl_model.specs.declared.operation.Op.TheVariants.{Find, Insert, Delete, Change, Part}
+use Rattle.bl_model.specs.declared.operation.Op.TheVariants.{Find, Insert, Put, Delete, Change, Part}
 use Rattle.bl_model.specs.declared.operation.Next.TheVariants.{More, End}
 use Rattle.bl_model.specs.declared.operation.Reply.{Reply}
-use Rattle.bl_model.specs.declared.operation.Reply.TheVariants.{Found, Absent, Inserted, Present, Deleted, Changed, Differs, Rows, NoRoom}
+use Rattle.bl_model.specs.declared.operation.Reply.TheVariants.{Found, Absent, Inserted, Present, Replaced, Deleted, Changed, Differs, Rows, NoRoom}
 use Rattle.bl_model.specs.Map.{IsMapStep, IsPart}
 use Rattle.bl_model.specs.Plain.{BeginsPart, FillsPart}
 use Rattle.bl_model.specs.Rows.{map_of, key_at, HasRisingKeys, IsAt, IsGapFor}
@@ -33,6 +33,9 @@ module _ (rows : List (ℕ × ℕ)) (rising : HasRisingKeys rows) (k at : ℕ) (
   pub step_changed : (old new : ℕ) → row.1 ≡ old → (rows' : List (ℕ × ℕ)) → rows' ≡ set rows at (k, new) → IsMapStep (map_of rows) (Change k old new) Changed (map_of rows')
   step_changed old new same rows' is = record { answer = value_is ∙ ap (λ z. Some z) same; after = λ q. ap (λ r. map_of r q) is ∙ same_map-set rows rising k at is_at new q }
 
+  pub step_replaced : (v : ℕ) (rows' : List (ℕ × ℕ)) → rows' ≡ set rows at (k, v) → IsMapStep (map_of rows) (Put k v) (Replaced row.1) (map_of rows')
+  step_replaced v rows' is = record { answer = value_is; after = λ q. ap (λ r. map_of r q) is ∙ same_map-set rows rising k at is_at v q }
+
   pub step_differs : (old new : ℕ) → row.1 ≢ old → IsMapStep (map_of rows) (Change k old new) (Differs row.1) (map_of rows)
   step_differs old new other = record { answer = (value_is, other); after = same_map-refl (map_of rows) }
 
@@ -48,6 +51,9 @@ module _ (rows : List (ℕ × ℕ)) (k at : ℕ) (gap : IsGapFor rows k at) wher
 
   pub step_inserted : (v : ℕ) (new : List (ℕ × ℕ)) → new ≡ insert rows at (k, v) → IsMapStep (map_of rows) (Insert k v) Inserted (map_of new)
   step_inserted v new is = record { answer = map_of-gap rows k at gap; after = λ q. ap (λ r. map_of r q) is ∙ same_map-insert rows k at gap v q }
+
+  pub step_entered : (v : ℕ) (new : List (ℕ × ℕ)) → new ≡ insert rows at (k, v) → IsMapStep (map_of rows) (Put k v) Inserted (map_of new)
+  step_entered v new is = record { answer = map_of-gap rows k at gap; after = λ q. ap (λ r. map_of r q) is ∙ same_map-insert rows k at gap v q }
 
 module _ (rows : List (ℕ × ℕ)) (rising : HasRisingKeys rows) (from at : ℕ) (place : IsPlaceOf rows from at) where
   -- the key of the row where the next part begins
@@ -92,6 +98,7 @@ module _ (rows : List (ℕ × ℕ)) (rising : HasRisingKeys rows) (from at : ℕ
   step_part Absent h = absurd h
   step_part Inserted h = absurd h
   step_part (Present v) h = absurd h
+  step_part (Replaced v) h = absurd h
   step_part (Deleted v) h = absurd h
   step_part Changed h = absurd h
   step_part (Differs v) h = absurd h
@@ -107,6 +114,7 @@ module _ (rows : List (ℕ × ℕ)) (rising : HasRisingKeys rows) (from at : ℕ
   fills_part Absent h = tt
   fills_part Inserted h = tt
   fills_part (Present v) h = tt
+  fills_part (Replaced v) h = tt
   fills_part (Deleted v) h = tt
   fills_part Changed h = tt
   fills_part (Differs v) h = tt

@@ -10,7 +10,7 @@ abbrev pub rows_of : Reply → List (ℕ × ℕ)
 rows_of (Rows rows next) = rows.items
 rows_of reply = []
 
--- the key that a part ended before; none, where it went to the end of the map
+-- the key that a part ended before, and with which the next one begins; none, where it went to the end of the map
 abbrev pub next_key : Next → Option ℕ
 next_key (More key) = Some key
 next_key End = None

@@ -1,7 +1,7 @@
 -- What `PlainMap` answers beyond a map step.
 use Rattle.std.specs.Prelude.{◌≡◌, ℕ, ◌≤◌, ◌<◌, List, length, take, None, IsSome}
 use Rattle.bl_model.specs.declared.operation.Op.{Op}
-use Rattle.bl_model.specs.declared.operation.Op.TheVariants.{Insert}
+use Rattle.bl_model.specs.declared.operation.Op.TheVariants.{Insert, Put}
 use Rattle.bl_model.specs.declared.operation.Next.TheVariants.{More, End}
 use Rattle.bl_model.specs.declared.operation.Reply.{Reply}
 use Rattle.bl_model.specs.declared.operation.Reply.TheVariants.{Rows}
@@ -14,9 +14,10 @@ FillsPart m (Rows rows (More next)) = (length rows.items ≡ 14) × IsSome (m ne
 FillsPart m (Rows rows End) = length rows.items ≤ 14
 FillsPart m reply = Unit {0}
 
--- the operation makes the map larger: an insert of a key that isn't there
+-- the operation makes the map larger: an insert or a put of a key that isn't there
 abbrev pub NeedsRoom : Map → Op → Type 0
 NeedsRoom m (Insert key value) = m key ≡ None
+NeedsRoom m (Put key value) = m key ≡ None
 NeedsRoom m op = ⊥
 
 -- the first 14 rows, and the key of the fifteenth if there is one

@@ -4,9 +4,10 @@ use Rattle.bl_model.specs.declared.operation.Op.{Op}
 use Rattle.bl_model.specs.declared.operation.Op.TheVariants as op
 use Rattle.bl_model.specs.declared.operation.Reply.{Reply}
 use Rattle.bl_model.specs.declared.operation.Reply.TheVariants as reply
+use Rattle.bl_model.specs.declared.operation.KeyReply.TheVariants as key_reply
 use Rattle.bl_model.specs.declared.operation.KeyReply.TheVariants.{Absent, Inserted, Present, Deleted, Changed, Differs}
 use Rattle.bl_model.specs.declared.deciding.KeyWrite.{KeyWrite}
-use Rattle.bl_model.specs.declared.deciding.KeyWrite.TheVariants.{Insert, Delete, Change}
+use Rattle.bl_model.specs.declared.deciding.KeyWrite.TheVariants.{Insert, Put, Delete, Change}
 use Rattle.bl_model.specs.declared.deciding.Effect.{Effect}
 use Rattle.bl_model.specs.declared.deciding.Effect.TheVariants.{Keep, Enter, Remove, Replace}
 use Rattle.bl_model.specs.declared.deciding.Decided.{Decided}
@@ -16,6 +17,7 @@ use Rattle.bl_model.specs.Replies.{reply_of}
 -- the operation on the map
 abbrev pub write_op : ℕ → KeyWrite → Op
 write_op key (Insert value) = op.Insert key value
+write_op key (Put value) = op.Put key value
 write_op key Delete = op.Delete key
 write_op key (Change old new) = op.Change key old new
 
@@ -23,6 +25,7 @@ write_op key (Change old new) = op.Change key old new
 abbrev pub IsRead : Op → Type 0
 IsRead (op.Find key) = Unit {0}
 IsRead (op.Part from) = Unit {0}
+IsRead (op.PartDown from) = Unit {0}
 IsRead other = ⊥
 
 -- what the key has afterwards, where it had that
@@ -48,6 +51,7 @@ deed_of (Replace value) = Replaced
 -- what was done, by what is answered
 abbrev pub deed_told : Reply → Deed
 deed_told reply.Inserted = Entered
+deed_told (reply.Replaced value) = Replaced
 deed_told (reply.Deleted value) = Removed
 deed_told reply.Changed = Replaced
 deed_told other = Kept
@@ -63,6 +67,8 @@ MayHave (Replace value) there = IsSome there
 abbrev pub decided : KeyWrite → Option ℕ → Decided
 decided (Insert value) None = record { effect = Enter value; reply = Inserted }
 decided (Insert value) (Some there) = record { effect = Keep; reply = Present there }
+decided (Put value) None = record { effect = Enter value; reply = Inserted }
+decided (Put value) (Some there) = record { effect = Replace value; reply = key_reply.Replaced there }
 decided Delete None = record { effect = Keep; reply = Absent }
 decided Delete (Some there) = record { effect = Remove; reply = Deleted there }
 decided (Change old new) None = record { effect = Keep; reply = Absent }

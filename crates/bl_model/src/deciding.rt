@@ -10,6 +10,8 @@ use crate::operation::{KeyReply, Op};
 pub enum KeyWrite {
     /// Enters this value, where the key has none.
     Insert(u64),
+    /// Puts this value, in place of what there is.
+    Put(u64),
     /// Takes the key and its value away.
     Delete,
     /// Puts the second value in place of the first, where the key has that.
@@ -43,9 +45,10 @@ impl Op {
     {
         match *self {
             Op::Insert(key, value) => Some((key, KeyWrite::Insert(value))),
+            Op::Put(key, value) => Some((key, KeyWrite::Put(value))),
             Op::Delete(key) => Some((key, KeyWrite::Delete)),
             Op::Change(key, old, new) => Some((key, KeyWrite::Change(old, new))),
-            Op::Find(_) | Op::Part(_) => None,
+            Op::Find(_) | Op::Part(_) | Op::PartDown(_) => None,
         }
     }
 }
@@ -58,6 +61,8 @@ pub fn decide(write: KeyWrite, there: Option<u64>) -> Decided
     let (effect, reply) = match (write, there) {
         (KeyWrite::Insert(value), None) => (Effect::Enter(value), KeyReply::Inserted),
         (KeyWrite::Insert(_), Some(value)) => (Effect::Keep, KeyReply::Present(value)),
+        (KeyWrite::Put(value), None) => (Effect::Enter(value), KeyReply::Inserted),
+        (KeyWrite::Put(value), Some(old)) => (Effect::Replace(value), KeyReply::Replaced(old)),
         (KeyWrite::Delete, None) => (Effect::Keep, KeyReply::Absent),
         (KeyWrite::Delete, Some(value)) => (Effect::Remove, KeyReply::Deleted(value)),
         (KeyWrite::Change(_, _), None) => (Effect::Keep, KeyReply::Absent),

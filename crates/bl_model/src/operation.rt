@@ -10,12 +10,16 @@ pub enum Op {
     Find(u64),
     /// Puts a value at a key that has none; a value that is there stays.
     Insert(u64, u64),
+    /// Puts a value at a key, in place of what is there.
+    Put(u64, u64),
     /// Takes a key and its value away.
     Delete(u64),
     /// Puts the third number at a key in place of the second, where the key has that.
     Change(u64, u64, u64),
     /// Lists some of the pairs, from a key on.
     Part(u64),
+    /// Lists some of the pairs, from a key on downwards.
+    PartDown(u64),
 }
 
 /// What the map answers.
@@ -25,17 +29,20 @@ pub enum Reply {
     Found(u64),
     /// The key of a `Find`, a `Delete` or a `Change` isn't there.
     Absent,
-    /// The pair of an `Insert` is there now.
+    /// The pair of an `Insert` or a `Put`, whose key wasn't there, is there now.
     Inserted,
     /// The key of an `Insert` was there with this value, and still is.
     Present(u64),
+    /// The key of a `Put` had this value, and has the new one now.
+    Replaced(u64),
     /// The key of a `Delete` was there with this value, and isn't any more.
     Deleted(u64),
     /// The key of a `Change` had the old value, and has the new one now.
     Changed,
     /// The key of a `Change` was there with this value, which is not the old one, and still is.
     Differs(u64),
-    /// The pairs of a `Part` in rising order of their keys, and where the next part begins.
+    /// The pairs of a `Part` in rising order of their keys, or those of a `PartDown` in falling order, and where the next
+    /// part begins.
     Rows(ArrayVec<(u64, u64), MOST_PAIRS>, Next),
     /// There was no room for a change, and the map is as it was.
     NoRoom,
@@ -44,7 +51,8 @@ pub enum Reply {
 /// How far a part went.
 #[derive(Clone, Copy, Debug, PartialEq, Eq)]
 pub enum Next {
-    /// Up to this key, which is not among its rows. It is greater than the key that the part began with.
+    /// Up to this key, with which the next part begins, and which is not among its rows. It is greater than the key that
+    /// the part began with, or less, where it goes downwards.
     More(u64),
     /// To the end of the map.
     End,
@@ -58,10 +66,12 @@ pub enum KeyReply {
     Found(u64),
     /// The key of a search, a deletion or a change isn't there.
     Absent,
-    /// The pair of an insertion is there now.
+    /// The pair of an insertion or a put, whose key wasn't there, is there now.
     Inserted,
     /// The key of an insertion was there with this value, and still is.
     Present(u64),
+    /// The key of a put had this value, and has the new one now.
+    Replaced(u64),
     /// The key of a deletion was there with this value, and isn't any more.
     Deleted(u64),
     /// The key of a change had the old value, and has the new one now.
@@ -85,6 +95,7 @@ impl KeyReply {
             KeyReply::Absent => Reply::Absent,
             KeyReply::Inserted => Reply::Inserted,
             KeyReply::Present(value) => Reply::Present(value),
+            KeyReply::Replaced(value) => Reply::Replaced(value),
             KeyReply::Deleted(value) => Reply::Deleted(value),
             KeyReply::Changed => Reply::Changed,
             KeyReply::Differs(value) => Reply::Differs(value),

@@ -1,6 +1,6 @@
 //! A map in a sorted vector.
 
-ghost use Rattle.std.specs.Prelude.{◌≡◌, ◌≢◌, [], IfOk, IfErr, OnErr};
+ghost use Rattle.std.specs.Prelude.{◌≡◌, ◌≢◌, [], IfOk, IfErr, OnErr, reverse};
 ghost use Rattle.bl_model.specs.declared.operation.Op.TheVariants as op;
 ghost use Rattle.bl_model.specs.Map.{IsMapStep, SameMap, empty};
 ghost use Rattle.bl_model.specs.Plain.{BeginsPart, FillsPart, NeedsRoom};
@@ -43,6 +43,21 @@ fn part(rows: &[(u64, u64)]) -> Reply
     Reply::Rows(part, Next::End)
 }
 
+/// The rows of a part downwards that begins with the last of `rows`.
+fn part_down(rows: &[(u64, u64)]) -> Reply
+    ensures { BeginsPart (reverse rows.now) result }
+{
+    let mut part = ArrayVec::new();
+    for i in 0..rows.len() {
+        let row = rows[rows.len() - 1 - i];
+        if part.is_full() {
+            return Reply::Rows(part, Next::More(row.0));
+        }
+        part.push(row);
+    }
+    Reply::Rows(part, Next::End)
+}
+
 impl PlainMap {
     /// The map with no key. It takes no memory until the first insert.
     pub fn new(alloc: Global) -> PlainMap
@@ -54,8 +69,9 @@ impl PlainMap {
         }
     }
 
-    /// Answers the operation. Memory can fail only an insert of a key that isn't there, and then the map stays as it
-    /// was. `NoRoom` is never answered. A part has the first 14 rows from its key, and goes on at the fifteenth's key.
+    /// Answers the operation. Memory can fail only where a key that isn't there is entered, and then the map stays as it
+    /// was. `NoRoom` is never answered. A part has the first 14 rows from its key, upwards or downwards, and goes on at
+    /// the fifteenth's key.
     pub fn apply(&mut self, op: &Op) -> Result<Reply, AllocError>
         ensures step { IfOk result (λ reply. IsMapStep (map_of self.old) op.now reply (map_of self.new)) }
         ensures room { IfOk result (λ reply. reply ≢ Reply.NoRoom) }
@@ -78,6 +94,7 @@ impl PlainMap {
                     Ok(Reply::Inserted)
                 }
             },
+            Op::Put(key, value) => self.put(key, value),
             Op::Delete(key) => match self.search(key) {
                 Ok(place) => Ok(Reply::Deleted(self.rows.remove(place).1)),
                 Err(_) => Ok(Reply::Absent),
@@ -89,6 +106,34 @@ impl PlainMap {
                     Err(place) => place,
                 };
                 Ok(part(&self.rows[place..]))
+            }
+            Op::PartDown(from) => {
+                let count = match self.search(from) {
+                    Ok(place) => place + 1,
+                    Err(place) => place,
+                };
+                Ok(part_down(&self.rows[..count]))
+            }
+        }
+    }
+
+    /// Puts the value at the key, in place of what is there.
+    fn put(&mut self, key: u64, value: u64) -> Result<Reply, AllocError>
+        ensures step { IfOk result (λ reply. IsMapStep (map_of self.old) (op.Put key value) reply (map_of self.new)) }
+        ensures room { IfOk result (λ reply. reply ≢ Reply.NoRoom) }
+        ensures part { IfOk result (FillsPart (map_of self.old)) }
+        ensures memory { OnErr result (NeedsRoom (map_of self.old) (op.Put key value)) }
+        ensures err { OnErr result (self.new ≡ self.old) }
+    {
+        match self.search(key) {
+            Ok(place) => {
+                let there = self.rows[place].1;
+                self.rows[place] = (key, value);
+                Ok(Reply::Replaced(there))
+            }
+            Err(place) => {
+                self.rows.insert(place, (key, value))?;
+                Ok(Reply::Inserted)
             }
         }
     }

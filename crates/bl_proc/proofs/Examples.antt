@@ -18,7 +18,7 @@ use Rattle.bl_proc_base.specs.declared.approaching.Came.TheVariants as come
 use Rattle.bl_proc_base.specs.declared.editing.Outcome.TheVariants as outcome
 use Rattle.bl_proc_base.specs.declared.editing.Edit.TheVariants as edit
 use Rattle.bl_proc_base.specs.declared.editing.Edited.TheVariants as changed
-use Rattle.bl_model.specs.declared.deciding.KeyWrite.TheVariants.{Insert, Delete, Change}
+use Rattle.bl_model.specs.declared.deciding.KeyWrite.TheVariants.{Insert, Put, Delete, Change}
 use Rattle.bl_proc_writes.specs.declared.writing.WriteStage.TheVariants as write
 use Rattle.bl_proc_writes.specs.declared.writing.WriteReply.TheVariants.{Done}
 use Rattle.bl_proc_base.specs.declared.growing.Growth.TheVariants as growth
@@ -37,7 +37,8 @@ use Rattle.bl_proc_writes.specs.declared.paths.Path.{Path}
 use Rattle.bl_proc_writes.specs.declared.posting.Post.{Post}
 use Rattle.bl_proc_writes.specs.declared.writing.Write.{Write}
 use Rattle.bl_proc_writes.specs.declared.climbing.ClimbStage.TheVariants.{Writing, Posting}
-use Rattle.bl_proc_writes.specs.declared.climbing.Climbed.TheVariants.{Posted}
+use Rattle.bl_proc_writes.specs.declared.climbing.Climbed.TheVariants.{Posted, Unsplit}
+use Rattle.bl_proc_writes.specs.declared.climbing.Placing.TheVariants as place
 use Rattle.bl_proc_writes.specs.Paths.{Notes}
 use Rattle.bl_proc_writes.specs.Climbs.{climbed_answer, ClimbGoes}
 
@@ -125,6 +126,9 @@ put_refused = refl
 insert_is_there : WriteGoes 12 (Insert 5) (write.Coming (approach.Latched 2)) (seen.Words right_leaf) (write.Keeping 2 (Some 120))
 insert_is_there = (2, right_leaf, way_ends, (refl, refl, refl))
 
+it_is_replaced : write_answer (Put 5) (Done (Some 120) None) ≡ answer.Op (reply.Replaced 120) None
+it_is_replaced = refl
+
 it_was_present : write_answer (Insert 5) (Done (Some 120) None) ≡ answer.Op (reply.Present 120) None
 it_was_present = refl
 
@@ -191,8 +195,12 @@ goes_by_the_anchor : ClimbGoes no_path (Writing splitting) seen.Done (Posting po
 goes_by_the_anchor = (None, 1, 9, (outcome.SplitAt 9, refl, refl), (refl, refl, refl))
 
 -- what it answers: the last post has listed its key, or met no room
-climbed_it : climbed_answer 5 (Posted 1 9 (listed.Done None)) ≡ answer.InsertPost reply.Inserted (Some posted.Done) None
+climbed_it : climbed_answer (place.Insert 5) (Posted 1 9 (listed.Done None)) ≡ answer.InsertPost reply.Inserted (Some posted.Done) None
 climbed_it = refl
 
-met_no_room : climbed_answer 5 (Posted 1 9 listed.NoRoom) ≡ answer.InsertPost reply.Inserted (Some posted.NoRoom) (Some (hint.Post 1 9))
+-- a put that replaced what was there has split nothing
+replaced_it : climbed_answer (place.Put 5) (Unsplit (Done (Some 120) None)) ≡ answer.InsertPost (reply.Replaced 120) None None
+replaced_it = refl
+
+met_no_room : climbed_answer (place.Insert 5) (Posted 1 9 listed.NoRoom) ≡ answer.InsertPost reply.Inserted (Some posted.NoRoom) (Some (hint.Post 1 9))
 met_no_room = refl

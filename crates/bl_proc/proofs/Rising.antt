@@ -1,9 +1,10 @@
 -- Pairs that rise do so at each two places.
-use Rattle.std.proofs.Common.{ℕ, zero, suc, ◌≡◌, ◌+◌, ◌-◌, ◌<◌, ◌≤◌, List, [], ◌∷◌, length, get_or, drop, ap, ◌∙◌, subst, inl, inr, arith}
+use Rattle.std.proofs.Common.{ℕ, zero, suc, ◌≡◌, ◌+◌, ◌-◌, ◌<◌, ◌≤◌, List, [], ◌∷◌, ◌++◌, length, get_or, take, drop, reverse, sym, ap, ◌∙◌, subst, inl, inr, arith}
 use Rattle.std.proofs.lemmas.Bool.{cases_order, cases_lt}
-use Rattle.std.proofs.lemmas.List.{length-drop, get_or-drop}
+use Rattle.std.proofs.lemmas.List.{length-drop, get_or-drop, take_more, length-take-le, length-reverse, get_or-take, get_or-reverse}
 use Rattle.bl_model.specs.Map.{ListsPairs}
 use Rattle.bl_model.proofs.Parts.{IsPlaceOf, lists_window}
+use Rattle.bl_model.proofs.Falling.{IsCountTo}
 use Rattle.bl_model.specs.Rows.{map_of, key_at, HasRisingKeys}
 use Rattle.bl_page.specs.Pairs.{RisesFrom}
 
@@ -39,3 +40,24 @@ lists_from rows items from i rises place is =
     (λ j d lt. ap (λ xs. get_or xs j d) is ∙ get_or-drop i rows j d)
     (λ j lt. place.behind (i + j) (omega arith) (omega arith))
     (λ p lt takes. (elim (cases_lt p i) [ inl below ↦ absurd (let b = place.before p below in omega arith) | inr over ↦ over ], omega arith))
+
+-- The keys before the first key that is above another are up to it.
+pub first_above : (rows : List (ℕ × ℕ)) (from i : ℕ) → RisesFrom 0 rows → i < length rows → ((j : ℕ) → j < i → key_at rows j ≤ from) → from < key_at rows i → IsCountTo rows from i
+first_above rows from i rises lt below here = record {
+  in_range = omega arith;
+  before = below;
+  behind = λ j le within. elim (cases_order i j) [
+    | inl same ↦ subst (λ z. from < key_at rows z) same here
+    | inr order ↦ elim order [ inl less ↦ omega (arith, rising_keys 0 rows rises i j less within) | inr more ↦ absurd (omega arith) ]
+  ];
+}
+
+-- one row more, from the back
+pub taken_back : (rows now : List (ℕ × ℕ)) (n i : ℕ) (row : ℕ × ℕ) → i < n → n ≤ length rows → row ≡ get_or rows (n - 1 - i) (0, 0) → now ≡ take i (reverse (take n rows)) → now ++ row ∷ [] ≡ take (i + 1) (reverse (take n rows))
+taken_back rows now n i row lt within is grown =
+    let back : List (ℕ × ℕ) = reverse (take n rows) in
+    let size : length (take n rows) ≡ n = length-take-le n rows within in
+    let long : length back ≡ n = length-reverse (take n rows) ∙ size in
+    let place : length (take n rows) - 1 - i ≡ n - 1 - i = omega (arith, size) in
+    let here : get_or back i (0, 0) ≡ get_or rows (n - 1 - i) (0, 0) = get_or-reverse (take n rows) i (0, 0) (omega (arith, size)) ∙ (get_or-take n rows (length (take n rows) - 1 - i) (0, 0) (omega (arith, size)) ∙ ap (λ (q : ℕ). get_or rows q (0, 0)) place) in
+    ap (λ (z : List (ℕ × ℕ)). z ++ row ∷ []) grown ∙ (ap (λ (z : ℕ × ℕ). take i back ++ z ∷ []) (is ∙ sym here) ∙ sym (take_more back i (0, 0) (omega (arith, long, lt))))

@@ -10,6 +10,7 @@ use Rattle.bl_proc.specs.declared.searching.FindStage.TheVariants as find
 use Rattle.bl_proc_writes.specs.declared.writing.WriteStage.TheVariants as write_stage
 use Rattle.bl_proc_writes.specs.declared.posting.PostStage.TheVariants as post
 use Rattle.bl_proc.specs.declared.parts.PartStage.TheVariants as part
+use Rattle.bl_proc.specs.declared.parts.PartStart.{PartStart}
 use Rattle.bl_proc.specs.declared.reclaiming.ReclaimStage.TheVariants as reclaim
 use Rattle.bl_proc.specs.declared.lowering.LowerStage.TheVariants as lower
 use Rattle.bl_proc.specs.Searches.{find_next, find_needs, find_answer, FindTakes}
@@ -20,6 +21,7 @@ use Rattle.bl_proc_compress.specs.Compresses.{compress_next, compress_needs, com
 use Rattle.bl_proc.specs.Parts.{part_next, part_needs, part_answer, PartTakes}
 use Rattle.bl_proc.specs.Reclaims.{reclaim_next, reclaim_needs, reclaim_answer, ReclaimTakes}
 use Rattle.bl_proc.specs.Lowers.{lower_next, lower_needs, lower_answer, LowerTakes}
+use Rattle.bl_proc_writes.specs.declared.climbing.Placing.{Placing}
 use Rattle.bl_proc_writes.specs.Paths.{IsBlank}
 use Rattle.bl_proc_writes.specs.Climbs.{IsToBegin, climb_next, climb_needs, climb_answer, ClimbTakes}
 
@@ -79,7 +81,7 @@ abbrev pub IsPost : ℕ → ℕ → Proc → Type 0
 IsPost level key (Post p) = (p.level ≡ level) × (p.key ≡ key) × (p.stage ≡ post.New)
 IsPost level key p = ⊥
 
-abbrev pub IsPart : ℕ → Proc → Type 0
+abbrev pub IsPart : PartStart → Proc → Type 0
 IsPart from (Part p) = (p.from ≡ from) × (p.stage ≡ part.New)
 IsPart from p = ⊥
 
@@ -98,6 +100,6 @@ IsLower (Lower p) = p.stage ≡ lower.New
 IsLower p = ⊥
 
 -- It has noted no page.
-abbrev pub IsInsertPost : ℕ → ℕ → Proc → Type 0
-IsInsertPost key value (InsertPost p) = (p.key ≡ key) × (p.value ≡ value) × IsBlank p.path × IsToBegin p.stage
-IsInsertPost key value p = ⊥
+abbrev pub IsInsertPost : ℕ → Placing → Proc → Type 0
+IsInsertPost key placing (InsertPost p) = (p.key ≡ key) × (p.placing ≡ placing) × IsBlank p.path × IsToBegin p.stage
+IsInsertPost key placing p = ⊥

@@ -3,6 +3,8 @@
 ghost use Rattle.std.specs.Prelude.{◌≡◌, ◌<◌, ◌≤◌};
 ghost use Rattle.bl_model.specs.declared.deciding.KeyWrite.TheVariants as key_write;
 ghost use Rattle.bl_proc_base.specs.declared.acts.Action.TheVariants as act;
+ghost use Rattle.bl_proc.specs.Parts.{up, down};
+ghost use Rattle.bl_proc_writes.specs.declared.climbing.Placing.TheVariants as place;
 ghost use Rattle.bl_proc.specs.Processes.{next_of, needs_of, answer_of, Takes, IsFind, IsWrite, IsPost, IsPart, IsCompress, IsReclaim, IsLower, IsInsertPost};
 
 use crate::lowering::Lower;
@@ -12,18 +14,18 @@ use crate::searching::Find;
 use bl_model::KeyWrite;
 use bl_proc_base::{Action, Answer, Process, Seen};
 use bl_proc_compress::Compress;
-use bl_proc_writes::{InsertPost, Post, Write};
+use bl_proc_writes::{InsertPost, Placing, Post, Write};
 
 /// A process of any kind.
 #[derive(Drop)]
 pub enum Proc {
     /// Looks a key up.
     Find(Find),
-    /// Inserts, deletes or changes a key.
+    /// Inserts, puts, deletes or changes a key.
     Write(Write),
     /// Lists a child in its parent.
     Post(Post),
-    /// Lists pairs from a key on.
+    /// Lists pairs from a key on, upwards or downwards.
     Part(Part),
     /// Merges or evens out two children of a parent.
     Compress(Compress),
@@ -31,7 +33,7 @@ pub enum Proc {
     Reclaim(Reclaim),
     /// Takes the top level away.
     Lower(Lower),
-    /// Inserts a key, and posts what it splits.
+    /// Inserts or puts a key, and posts what it splits.
     InsertPost(InsertPost),
 }
 
@@ -63,10 +65,26 @@ impl Proc {
     /// A process that is to put the value at the key, where the key has none, and then to list in its parent each page
     /// that it splits, from the pages on that it has gone down by.
     pub fn insert_posting(key: u64, value: u64) -> Proc
-        ensures made { IsInsertPost key value result }
+        ensures made { IsInsertPost key (place.Insert value) result }
         ensures begins { next_of result ≡ act.Begin }
     {
-        Proc::InsertPost(InsertPost::new(key, value))
+        Proc::InsertPost(InsertPost::new(key, Placing::Insert(value)))
+    }
+
+    /// A process that is to put the value at the key, in place of what is there.
+    pub fn put(key: u64, value: u64) -> Proc
+        ensures made { IsWrite key (key_write.Put value) result }
+        ensures begins { next_of result ≡ act.Begin }
+    {
+        Proc::write(key, KeyWrite::Put(value))
+    }
+
+    /// The same, which then lists each page that it splits, as an insertion that posts does.
+    pub fn put_posting(key: u64, value: u64) -> Proc
+        ensures made { IsInsertPost key (place.Put value) result }
+        ensures begins { next_of result ≡ act.Begin }
+    {
+        Proc::InsertPost(InsertPost::new(key, Placing::Put(value)))
     }
 
     /// A process that is to take the key and its value away.
@@ -97,10 +115,18 @@ impl Proc {
 
     /// A process that is to list pairs from the key on.
     pub fn part(from: u64) -> Proc
-        ensures made { IsPart from result }
+        ensures made { IsPart (up from) result }
         ensures begins { next_of result ≡ act.Begin }
     {
         Proc::Part(Part::new(from))
+    }
+
+    /// A process that is to list pairs from the key on downwards.
+    pub fn part_down(from: u64) -> Proc
+        ensures made { IsPart (down from) result }
+        ensures begins { next_of result ≡ act.Begin }
+    {
+        Proc::Part(Part::downwards(from))
     }
 
     /// A process that is to merge or even out two children of the parent of that level that covers the key.

@@ -21,6 +21,6 @@ pub use bl_proc_compress::{Compress, CompressReply, CompressStage};
 pub use bl_proc_pages::{Step, row_in, step_in};
 pub use kinds::Proc;
 pub use lowering::{Lower, LowerStage};
-pub use parts::{Part, PartRows, PartStage, first_way};
+pub use parts::{Direction, Part, PartRows, PartStage, PartStart, first_way};
 pub use reclaiming::{Reclaim, ReclaimStage, Round};
 pub use searching::{Find, FindStage};

@@ -10,6 +10,7 @@ use Rattle.bl_core.proofs.After.{is_put_name}
 use Rattle.bl_proc.specs.declared.searching.FindStage.{FindStage}
 use Rattle.bl_proc.specs.declared.searching.FindStage.TheVariants as find
 use Rattle.bl_proc.specs.declared.parts.PartStage.{PartStage}
+use Rattle.bl_proc.specs.declared.parts.PartStart.{PartStart}
 use Rattle.bl_proc.specs.declared.parts.PartStage.TheVariants as part
 use Rattle.bl_proc.specs.declared.kinds.Proc.{Proc}
 use Rattle.bl_proc.specs.declared.kinds.Proc.TheVariants as proc
@@ -45,7 +46,7 @@ find_early size contents trail p k find.New e = tt
 find_early size contents trail p k (find.Near x) e = tt
 find_early size contents trail p k old e = absurd (cc e)
 
-part_early : (size : ℕ) (contents : ℕ → Page) (trail : Trail) (p : Name) (k : ℕ) (a : PartStage) → (know_part k a).stage ≡ Stage.Early → IsKept size contents trail p k (part_place a)
+part_early : (size : ℕ) (contents : ℕ → Page) (trail : Trail) (p : Name) (k : PartStart) (a : PartStage) → (know_part k a).stage ≡ Stage.Early → IsKept size contents trail p k.key (part_place a)
 part_early size contents trail p k part.New e = tt
 part_early size contents trail p k (part.Near x) e = tt
 part_early size contents trail p k old e = absurd (cc e)
@@ -97,7 +98,7 @@ part_within w p k (part.Over r) g is h = h.within
 
 within_of : (w : World Run) (p : Name) (a : Proc) → IsGood know w → Knows w p (sought a) (place_of a) → IsKept w.size w.now.contents w.trail p (sought a) (place_of a) → IsSearch a → IsWithinBound w.size p w.trail
 within_of w p (proc.Find a) g is h s = find_within w p a.key a.stage g is h
-within_of w p (proc.Part a) g is h s = part_within w p a.from a.stage g is h
+within_of w p (proc.Part a) g is h s = part_within w p a.from.key a.stage g is h
 within_of w p old g is h s = absurd s
 
 -- each search has been within its bound at every moment so far

@@ -21,6 +21,7 @@ use Rattle.bl_proc_base.specs.Descents.{descent_page, Descends}
 use Rattle.bl_proc.specs.declared.searching.FindStage.{FindStage}
 use Rattle.bl_proc.specs.declared.searching.FindStage.TheVariants as find
 use Rattle.bl_proc.specs.declared.parts.PartStage.{PartStage}
+use Rattle.bl_proc.specs.declared.parts.PartStart.{PartStart}
 use Rattle.bl_proc.specs.declared.parts.PartStage.TheVariants as part
 use Rattle.bl_proc.specs.declared.kinds.Proc.{Proc}
 use Rattle.bl_proc.specs.declared.kinds.Proc.TheVariants as proc
@@ -55,7 +56,7 @@ find_knows w p k (find.Descending d) is = (is.goes, is.sound)
 find_knows w p k (find.Ending v) is = tt
 find_knows w p k (find.Over v) is = tt
 
-part_knows : (w : World Run) (p : Name) (k : ℕ) (a : PartStage) → IsSure w p (know_part k a) → Knows w p k (part_place a)
+part_knows : (w : World Run) (p : Name) (k : PartStart) (a : PartStage) → IsSure w p (know_part k a) → Knows w p k.key (part_place a)
 part_knows w p k part.New is = (is.stage, is.sound)
 part_knows w p k (part.Near x) is = (is.stage, is.sound)
 part_knows w p k (part.Probing x) is = is.sound
@@ -114,7 +115,7 @@ find_moved s size k (find.Descending d) (seen.Words c) (find.Ending v) h observe
 find_moved s size k (find.Ending v) seen.Done (find.Over u) h observed = record { goes = tt; act = (_, refl); observed = tt }
 find_moved s size k old what new h observed = absurd h
 
-part_moved : (s : State Page) (size k : ℕ) (old : PartStage) (what : Seen) (new : PartStage) → PartGoes k old what new → IsObserved s size (part_next_in old) what → Moved s k (part_place old) what (event_of (part_end old) (part_next_in old) what) (part_place new)
+part_moved : (s : State Page) (size : ℕ) (k : PartStart) (old : PartStage) (what : Seen) (new : PartStage) → PartGoes k old what new → IsObserved s size (part_next_in old) what → Moved s k.key (part_place old) what (event_of (part_end old) (part_next_in old) what) (part_place new)
 part_moved s size k part.New seen.Done (part.Descending d) h observed = record { goes = h; act = refl; observed = tt }
 part_moved s size k (part.Near x) seen.Done (part.Probing y) h observed = record { goes = tt; act = refl; observed = tt }
 part_moved s size k (part.Probing x) (seen.Probed free) (part.Descending d) h observed = record { goes = h; act = refl; observed = observed }
@@ -125,7 +126,7 @@ part_moved s size k old what new h observed = absurd h
 
 moved : (s : State Page) (size : ℕ) (old : Proc) (what : Seen) (new : Proc) → Takes old what new → IsObserved s size (next_of old) what → (sought new ≡ sought old) × Moved s (sought old) (place_of old) what (event_of (end_of_proc old) (next_of old) what) (place_of new)
 moved s size (proc.Find a) what (proc.Find c) t observed = (t.0, find_moved s size a.key a.stage what c.stage t.1 observed)
-moved s size (proc.Part a) what (proc.Part c) t observed = (t.0, part_moved s size a.from a.stage what c.stage t.1 observed)
+moved s size (proc.Part a) what (proc.Part c) t observed = (ap (λ (z : PartStart). z.key) t.0, part_moved s size a.from a.stage what c.stage t.1 observed)
 moved s size (proc.Write a) what (proc.Write c) t observed = (refl, record { goes = tt; act = tt; observed = tt })
 moved s size (proc.Post a) what (proc.Post c) t observed = (refl, record { goes = tt; act = tt; observed = tt })
 moved s size (proc.Compress a) what (proc.Compress c) t observed = (refl, record { goes = tt; act = tt; observed = tt })

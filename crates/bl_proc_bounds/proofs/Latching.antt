@@ -52,7 +52,6 @@ use Rattle.bl_proc.specs.Parts.{part_next_in}
 use Rattle.bl_proc_writes.specs.Writes.{write_next_in}
 use Rattle.bl_proc_writes.specs.Posts.{post_next_in}
 use Rattle.bl_proc.specs.Processes.{next_of, Takes}
-use Rattle.bl_model.specs.declared.deciding.KeyWrite.TheVariants.{Insert}
 use Rattle.bl_proc_writes.specs.declared.paths.Path.{Path}
 use Rattle.bl_proc_writes.specs.declared.climbing.ClimbStage.{ClimbStage}
 use Rattle.bl_proc_writes.specs.declared.climbing.ClimbStage.TheVariants as climb
@@ -70,6 +69,8 @@ use Rattle.bl_claims.specs.Latches.{Keeps, LatchesNone, LatchesAlone, LatchesBel
 use Rattle.bl_claims.specs.Families.{HoldsFamily, LatchesBeside}
 use Rattle.bl_proc_bounds.specs.Latches.{IsTidy, AllOwned, AllTidy}
 use Rattle.bl_proc_bounds.proofs.Counts.{take_front}
+use Rattle.bl_proc_writes.specs.declared.climbing.Placing.{Placing}
+use Rattle.bl_proc_writes.specs.Placings.{write_of}
 
 -- A list goes on by one mark
 
@@ -174,11 +175,11 @@ post_alone carried level key got child (post.Staying y r) x e = absurd (cc e)
 post_alone carried level key got child (post.Ending r) x e = refl
 post_alone carried level key got child (post.Over r) x e = refl
 
-climb_alone : (key value : ℕ) (path : Path) (got : ℕ → Page) (child : ℕ) (a : ClimbStage) (x : ℕ) → climb_next_in a ≡ act.Latch x → (know_climb key value path got child a).holds ≡ []
-climb_alone key value path got child (climb.Writing v) x e = write_alone (path_goes path) key (Insert value) got v.stage x e
-climb_alone key value path got child (climb.Posting q) x e = post_alone (inserted key value path) q.level q.key got child q.stage x e
-climb_alone key value path got child (climb.Ending r) x e = refl
-climb_alone key value path got child (climb.Over r) x e = refl
+climb_alone : (key : ℕ) (placing : Placing) (path : Path) (got : ℕ → Page) (child : ℕ) (a : ClimbStage) (x : ℕ) → climb_next_in a ≡ act.Latch x → (know_climb key placing path got child a).holds ≡ []
+climb_alone key placing path got child (climb.Writing v) x e = write_alone (path_goes path) key (write_of placing) got v.stage x e
+climb_alone key placing path got child (climb.Posting q) x e = post_alone (inserted key placing path) q.level q.key got child q.stage x e
+climb_alone key placing path got child (climb.Ending r) x e = refl
+climb_alone key placing path got child (climb.Over r) x e = refl
 
 put_never : (sd : Side) (p : Puts) (x : ℕ) → put_of sd p ≢ act.Latch x
 put_never side.Left p x e = cc
@@ -242,7 +243,7 @@ module _ (w : World Run) (p : Name) (g : IsGood know w) (owned : AllOwned w) whe
       subst (λ (z : ℕ × ℕ). LatchesBeside z.0 z.1 (marks_of p w.trail ++ m ∷ [])) (λ i. (sym t.0 i, sym t.1 i)) old
   state_turn m got child time (proc.Reclaim a) (proc.Reclaim c) what is log t e h = tt
   state_turn m got child time (proc.Lower a) (proc.Lower c) what is log t e h = below_on (marks_of p w.trail) m h (λ x y f keeps. lower_below got a.stage x y (latch_next _ _ what x (sym e ∙ f)) (holds_kept (know_lower got a.stage) is y keeps))
-  state_turn m got child time (proc.InsertPost a) (proc.InsertPost c) what is log t e h = alone_turn m h (λ x f. ap (λ k. k.holds) is ∙ climb_alone a.key a.value a.path got child a.stage x (latch_next _ _ what x (sym e ∙ f)))
+  state_turn m got child time (proc.InsertPost a) (proc.InsertPost c) what is log t e h = alone_turn m h (λ x f. ap (λ k. k.holds) is ∙ climb_alone a.key a.placing a.path got child a.stage x (latch_next _ _ what x (sym e ∙ f)))
   state_turn m got child time old new what is log t e h = absurd t
 
   -- an act by which nothing is latched leaves any process as it may be

@@ -82,7 +82,7 @@ abbrev pub sought : Proc → ℕ
 sought (proc.Find p) = p.key
 sought (proc.Write p) = 0
 sought (proc.Post p) = 0
-sought (proc.Part p) = p.from
+sought (proc.Part p) = p.from.key
 sought (proc.Compress p) = 0
 sought (proc.Reclaim p) = 0
 sought (proc.Lower p) = 0

@@ -30,6 +30,7 @@ use Rattle.bl_proc_writes.specs.Stands.{Stands}
 use Rattle.bl_proc.specs.declared.searching.FindStage.{FindStage}
 use Rattle.bl_proc.specs.declared.searching.FindStage.TheVariants as find
 use Rattle.bl_proc.specs.declared.parts.PartStage.{PartStage}
+use Rattle.bl_proc.specs.declared.parts.PartStart.{PartStart}
 use Rattle.bl_proc.specs.declared.parts.PartStage.TheVariants as part
 use Rattle.bl_proc.specs.declared.lowering.LowerStage.{LowerStage}
 use Rattle.bl_proc.specs.declared.lowering.LowerStage.TheVariants as lower
@@ -99,11 +100,11 @@ module _ (w : World Run) (g : IsGood know w) (p : Name) where
   find_few key (find.Ending value) is = record { turns = 1; left = refl; few = omega arith }
   find_few key (find.Over value) is = record { turns = 0; left = refl; few = omega arith }
 
-  part_few : (from : ℕ) (a : PartStage) → know (w.proc p) ≡ know_part from a → Few (part_left w.size w.now.contents from a) most
+  part_few : (from : PartStart) (a : PartStage) → know (w.proc p) ≡ know_part from a → Few (part_left w.size w.now.contents from.key a) most
   part_few from part.New is = record { turns = most; left = refl; few = omega arith }
   part_few from (part.Near x) is = record { turns = most; left = refl; few = omega arith }
   part_few from (part.Probing x) is = record { turns = 8 * w.size + 39; left = omega arith; few = omega arith }
-  part_few from (part.Descending d) is = (let s = sure_of w g p (know_part from (part.Descending d)) is in let n = descent_near know w g from s.sound p d s.goes in let few = n.few in record { turns = 4 * n.gets + 1; left = record { gets = n.gets; ahead = n.ahead; count = omega arith }; few = omega (arith, few) })
+  part_few from (part.Descending d) is = (let s = sure_of w g p (know_part from (part.Descending d)) is in let n = descent_near know w g from.key s.sound p d s.goes in let few = n.few in record { turns = 4 * n.gets + 1; left = record { gets = n.gets; ahead = n.ahead; count = omega arith }; few = omega (arith, few) })
   part_few from (part.Ending r) is = record { turns = 1; left = refl; few = omega arith }
   part_few from (part.Over r) is = record { turns = 0; left = refl; few = omega arith }
 
@@ -180,9 +181,9 @@ module _ (w : World Run) (g : IsGood know w) (p : Name) where
     | inl plain ↦ (let n = post_few carried level key least low got child a h is in record { turns = n.turns; left = widen w.size w.now.contents level key a n.turns plain n.left; few = n.few })
   ]
 
-  climb_few : (a : InsertPost) (got : ℕ → Page) (child : ℕ) (stage : ClimbStage) → Stands a.key a.value a.path stage → IsClimbing stage → know (w.proc p) ≡ know_climb a.key a.value a.path got child stage → Few (climb_left w.size w.now.contents stage) most
+  climb_few : (a : InsertPost) (got : ℕ → Page) (child : ℕ) (stage : ClimbStage) → Stands a.key a.placing a.path stage → IsClimbing stage → know (w.proc p) ≡ know_climb a.key a.placing a.path got child stage → Few (climb_left w.size w.now.contents stage) most
   climb_few a got child (climb.Writing v) s h is = writing_few (path_goes a.path) v.key v.write got v.stage (is ∙ (λ i. know_write (path_goes a.path) (sym s.0 i) (sym s.1 i) got v.stage))
-  climb_few a got child (climb.Posting u) s h is = posting_few (inserted a.key a.value a.path) u.level u.key u.least u.most got child u.stage h is
+  climb_few a got child (climb.Posting u) s h is = posting_few (inserted a.key a.placing a.path) u.level u.key u.least u.most got child u.stage h is
   climb_few a got child (climb.Ending r) s h is = record { turns = 1; left = refl; few = omega arith }
   climb_few a got child (climb.Over r) s h is = record { turns = 0; left = refl; few = omega arith }
 

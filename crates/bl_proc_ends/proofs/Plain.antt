@@ -24,6 +24,7 @@ use Rattle.bl_proc_base.specs.Lowerings.{Lowers}
 use Rattle.bl_proc.specs.declared.searching.FindStage.{FindStage}
 use Rattle.bl_proc.specs.declared.searching.FindStage.TheVariants as find
 use Rattle.bl_proc.specs.declared.parts.PartStage.{PartStage}
+use Rattle.bl_proc.specs.declared.parts.PartStart.{PartStart}
 use Rattle.bl_proc.specs.declared.parts.PartStage.TheVariants as part
 use Rattle.bl_proc.specs.declared.lowering.LowerStage.{LowerStage}
 use Rattle.bl_proc.specs.Searches.{find_next_in}
@@ -114,12 +115,12 @@ module _ (w : World Run) (g : IsGood know w) (p : Name) where
   find_fewer {key} turns (FindFound d c value h) is observed l = fewer _ (seen.Words c) turns 1 refl (left_some w.now.contents key d turns l)
   find_fewer {key} turns (FindEnded value last e) is observed l = fewer _ seen.Done turns 0 refl (omega (arith, l))
 
-  pub part_fewer : {from : ℕ} {a b : PartStage} {what : Seen} (turns : ℕ) → PartCase from a what b → know (w.proc p) ≡ know_part from a → IsObserved w.now w.size (part_next_in a) what → part_left w.size w.now.contents from a turns → Fewer (part_left w.size w.now.contents from b) what turns
-  part_fewer {from} turns (PartBegan d e) is observed l = subst (λ v. Fewer (λ n. IsLeft w.now.contents from v 1 0 n) seen.Done turns) (sym e) (set_off from AtAnchor seen.Done turns (from_anchor from (sure_of (know_part from part.New) is).sound) (omega (arith, l)))
+  pub part_fewer : {from : PartStart} {a b : PartStage} {what : Seen} (turns : ℕ) → PartCase from a what b → know (w.proc p) ≡ know_part from a → IsObserved w.now w.size (part_next_in a) what → part_left w.size w.now.contents from.key a turns → Fewer (part_left w.size w.now.contents from.key b) what turns
+  part_fewer {from} turns (PartBegan d e) is observed l = subst (λ v. Fewer (λ n. IsLeft w.now.contents from.key v 1 0 n) seen.Done turns) (sym e) (set_off from.key AtAnchor seen.Done turns (from_anchor from.key (sure_of (know_part from part.New) is).sound) (omega (arith, l)))
   part_fewer {from} turns (PartBeganNear x y e) is observed l = fewer _ seen.Done turns (8 * w.size + 39) (omega arith) (omega (arith, l))
-  part_fewer {from} turns (PartLooked x free d e) is observed l = probed_off from x free d turns (sure_of (know_part from (part.Probing x)) is).sound observed e l
-  part_fewer {from} turns (PartWent d c e h) is observed l = search_on w.now.contents from d e c (seen.Words c) turns observed h l
-  part_fewer {from} turns (PartListed d c r h) is observed l = fewer _ (seen.Words c) turns 1 refl (left_some w.now.contents from d turns l)
+  part_fewer {from} turns (PartLooked x free d e) is observed l = probed_off from.key x free d turns (sure_of (know_part from (part.Probing x)) is).sound observed e l
+  part_fewer {from} turns (PartWent d c e h) is observed l = search_on w.now.contents from.key d e c (seen.Words c) turns observed h l
+  part_fewer {from} turns (PartListed d c r h) is observed l = fewer _ (seen.Words c) turns 1 refl (left_some w.now.contents from.key d turns l)
   part_fewer {from} turns (PartEnded r last e) is observed l = fewer _ seen.Done turns 0 refl (omega (arith, l))
 
   -- a writer begins its way

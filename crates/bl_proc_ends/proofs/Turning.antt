@@ -23,6 +23,7 @@ use Rattle.bl_proc_writes.specs.declared.climbing.InsertPost.{InsertPost}
 use Rattle.bl_proc_writes.specs.declared.climbing.ClimbStage.{ClimbStage}
 use Rattle.bl_proc_writes.specs.declared.climbing.ClimbStage.TheVariants as climb
 use Rattle.bl_proc_writes.specs.declared.paths.Path.{Path}
+use Rattle.bl_proc.specs.declared.parts.PartStart.{PartStart}
 use Rattle.bl_proc_writes.specs.Paths.{from_page, page_at}
 use Rattle.bl_proc_writes.specs.Climbs.{climb_next_in, PostsFrom, ClimbGoes}
 use Rattle.bl_proc_writes.specs.Stands.{Stands}
@@ -77,26 +78,26 @@ module _ (w w' : World Run) (g : IsGood know w) (g' : IsGood know w') (p : Name)
 
   module _ (old new : InsertPost) (got got' : ℕ → Page) (child child' : ℕ) where
     abbrev carried : Carried
-    carried = inserted old.key old.value old.path
+    carried = inserted old.key old.placing old.path
 
     -- what a write knows that is part of an insertion with posts
-    known_write : (v : Write) → know (w.proc p) ≡ know_climb old.key old.value old.path got child (climb.Writing v) → Stands old.key old.value old.path (climb.Writing v) → know (w.proc p) ≡ know_write (path_goes old.path) v.key v.write got v.stage
+    known_write : (v : Write) → know (w.proc p) ≡ know_climb old.key old.placing old.path got child (climb.Writing v) → Stands old.key old.placing old.path (climb.Writing v) → know (w.proc p) ≡ know_write (path_goes old.path) v.key v.write got v.stage
     known_write v is s = is ∙ (λ i. know_write (path_goes old.path) (sym s.0 i) (sym s.1 i) got v.stage)
 
-    by_stage : (a b : ClimbStage) (what : Seen) (turns : ℕ) → ClimbGoes new.path a what b → know (w.proc p) ≡ know_climb old.key old.value old.path got child a → know (w'.proc p) ≡ know_climb new.key new.value new.path got' child' b → Stands old.key old.value old.path a
+    by_stage : (a b : ClimbStage) (what : Seen) (turns : ℕ) → ClimbGoes new.path a what b → know (w.proc p) ≡ know_climb old.key old.placing old.path got child a → know (w'.proc p) ≡ know_climb new.key new.placing new.path got' child' b → Stands old.key old.placing old.path a
         → IsObserved w.now w.size (climb_next_in a) what → ((x : ℕ) (c : Page) → what ≡ seen.Done → climb_next_in a ≢ act.Put x c) → climb_left w.size w.now.contents a turns → Fewer (climb_left w.size w.now.contents b) what turns
     by_stage (climb.Writing v) (climb.Writing u) what turns t is is' s observed n l =
         subst (λ z. Fewer (writing_left w.size w.now.contents z u.stage) what turns) (sym t.0.0)
         (writing_fewer w g p (path_goes old.path) got turns (write_case v.key v.write v.stage what u.stage t.0.2) (known_write v is s) observed n l)
     by_stage (climb.Writing v) (climb.Posting q) what turns t is is' s observed n l =
-        begins (inserted new.key new.value new.path) new.path t.1 t.2 q got' child' what turns is' t.4 (let many = write_split w.size w.now.contents turns (write_case v.key v.write v.stage what _ t.3) l in omega (arith, many))
+        begins (inserted new.key new.placing new.path) new.path t.1 t.2 q got' child' what turns is' t.4 (let many = write_split w.size w.now.contents turns (write_case v.key v.write v.stage what _ t.3) l in omega (arith, many))
     by_stage (climb.Writing v) (climb.Ending last) what turns t is is' s observed n l =
         writing_fewer w g p (path_goes old.path) got turns (write_case v.key v.write v.stage what (write.Ending t.0) t.1) (known_write v is s) observed n l
     by_stage (climb.Posting u) (climb.Posting q) what turns t is is' s observed n l = elim t [
       | inl k ↦
           subst (λ (z : ℕ × ℕ). Fewer (posting_left w.size w.now.contents z.0 z.1 q.stage) what turns) (λ i. (sym k.0.0 i, sym k.0.1 i))
           (posting_fewer w g p carried u.level u.key u.least u.most got child u.stage q.stage what turns k.0.2 is observed n l)
-      | inr k ↦ begins (inserted new.key new.value new.path) new.path (u.level + 1) k.0 q got' child' what turns is' k.2 (let many = post_split w.size w.now.contents turns (post_case u.level u.key u.stage what _ k.1) l in omega (arith, many))
+      | inr k ↦ begins (inserted new.key new.placing new.path) new.path (u.level + 1) k.0 q got' child' what turns is' k.2 (let many = post_split w.size w.now.contents turns (post_case u.level u.key u.stage what _ k.1) l in omega (arith, many))
     ]
     by_stage (climb.Posting u) (climb.Ending last) what turns t is is' s observed n l = posting_fewer w g p carried u.level u.key u.least u.most got child u.stage (post.Ending t.0) what turns t.1 is observed n l
     by_stage (climb.Ending r) (climb.Over last) seen.Done turns t is is' s observed n l = fewer _ seen.Done turns 0 refl (omega (arith, l))
@@ -110,7 +111,7 @@ module _ (w w' : World Run) (g : IsGood know w) (g' : IsGood know w') (p : Name)
     pub by_kind : (old new : Proc) (what : Seen) (turns : ℕ) → Takes old what new → know (w.proc p) ≡ know_of got child time old → know (w'.proc p) ≡ know_of got' child' time' new → IsObserved w.now w.size (next_of old) what
         → ((x : ℕ) (c : Page) → what ≡ seen.Done → next_of old ≢ act.Put x c) → TurnsLeft w.size w.now.contents old turns → Fewer (TurnsLeft w.size w.now.contents new) what turns
     by_kind (proc.Find a) (proc.Find b) what turns t is is' observed n l = subst (λ z. Fewer (find_left w.size w.now.contents z b.stage) what turns) (sym t.0) (find_fewer w g p turns (find_case a.key a.stage what b.stage t.1) is observed l)
-    by_kind (proc.Part a) (proc.Part b) what turns t is is' observed n l = subst (λ z. Fewer (part_left w.size w.now.contents z b.stage) what turns) (sym t.0) (part_fewer w g p turns (part_case a.from a.stage what b.stage t.1) is observed l)
+    by_kind (proc.Part a) (proc.Part b) what turns t is is' observed n l = subst (λ (z : PartStart). Fewer (part_left w.size w.now.contents z.key b.stage) what turns) (sym t.0) (part_fewer w g p turns (part_case a.from a.stage what b.stage t.1) is observed l)
     by_kind (proc.Write a) (proc.Write b) what turns t is is' observed n l = subst (λ z. Fewer (write_left w.size w.now.contents z b.stage) what turns) (sym t.0) (write_fewer w g p [] got turns (write_case a.key a.write a.stage what b.stage t.2) is observed l)
     by_kind (proc.Post a) (proc.Post b) what turns t is is' observed n l = subst (λ (z : ℕ × ℕ). Fewer (post_left w.size w.now.contents z.0 z.1 b.stage) what turns) (λ i. (sym t.0 i, sym t.1 i)) (post_fewer w g p _ a.level a.key a.least a.most got child a.stage what b.stage turns t.2 is observed n l)
     by_kind (proc.Compress a) (proc.Compress b) what turns t is is' observed n l =

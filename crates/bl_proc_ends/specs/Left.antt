@@ -169,7 +169,7 @@ abbrev pub TurnsLeft : ℕ → (ℕ → Page) → Proc → ℕ → Type 0
 TurnsLeft size contents (proc.Find p) turns = find_left size contents p.key p.stage turns
 TurnsLeft size contents (proc.Write p) turns = write_left size contents p.key p.stage turns
 TurnsLeft size contents (proc.Post p) turns = post_left size contents p.level p.key p.stage turns
-TurnsLeft size contents (proc.Part p) turns = part_left size contents p.from p.stage turns
+TurnsLeft size contents (proc.Part p) turns = part_left size contents p.from.key p.stage turns
 TurnsLeft size contents (proc.Compress p) turns = (p.waits ≡ true) × compress_left size contents p.key p.stage turns
 TurnsLeft size contents (proc.Reclaim p) turns = ⊥
 TurnsLeft size contents (proc.Lower p) turns = lower_left size p.stage turns

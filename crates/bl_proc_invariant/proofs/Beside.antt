@@ -1,7 +1,6 @@
 -- The hint beside the reply of a process means what it says.
 use Rattle.std.proofs.Common.{◌≡◌, ℕ, [], Option, Some, None, sym, subst}
 use Rattle.bl_model.specs.declared.operation.Reply.{Reply}
-use Rattle.bl_model.specs.declared.operation.Reply.TheVariants as reply
 use Rattle.bl_claims.specs.Trails.{Trail}
 use Rattle.bl_claims.specs.Meanings.{writes_of}
 use Rattle.bl_proc_base.specs.declared.answers.Answer.{Answer}
@@ -12,7 +11,7 @@ use Rattle.bl_proc.specs.declared.searching.FindStage.TheVariants as find
 use Rattle.bl_proc.specs.declared.parts.PartStage.{PartStage}
 use Rattle.bl_proc.specs.declared.parts.PartStage.TheVariants as part
 use Rattle.bl_model.specs.declared.deciding.KeyWrite.{KeyWrite}
-use Rattle.bl_model.specs.Writes.{effect_of, deed_told, replied}
+use Rattle.bl_model.specs.Writes.{effect_of, replied}
 use Rattle.bl_model.proofs.Decisions.{is_decided}
 use Rattle.bl_proc_writes.specs.declared.writing.WriteReply.{WriteReply}
 use Rattle.bl_proc_writes.specs.declared.writing.WriteReply.TheVariants as written
@@ -24,9 +23,9 @@ use Rattle.bl_proc.specs.Searches.{find_answer_in}
 use Rattle.bl_proc.specs.Parts.{part_answer_in}
 use Rattle.bl_proc_writes.specs.Writes.{write_answer, write_answer_in}
 use Rattle.bl_proc.specs.Processes.{answer_of}
-use Rattle.bl_claims.specs.Hinted.{MeansWritten}
+use Rattle.bl_claims.specs.Hinted.{MeansWritten, WrittenSo}
 use Rattle.bl_proc_invariant.specs.Beside.{MeansBeside}
-use Rattle.bl_proc_invariant.specs.Logs.{reply_for, effect_log, written_log, write_log, proc_log}
+use Rattle.bl_proc_invariant.specs.Logs.{effect_log, written_log, write_log, proc_log}
 
 some_answer : (a b : Answer) → Some a ≡ Some b → a ≡ b
 some_answer a b e = cc
@@ -37,15 +36,9 @@ same_reply p q h i e = cc
 same_hint : (p q : Reply) (h i : Option Hint) → answer.Op p h ≡ answer.Op q i → h ≡ i
 same_hint p q h i e = cc
 
-as_told : (reply : Reply) (h : Option Hint) (marks : Trail) → MeansWritten (reply_for (deed_told reply)) h marks → MeansWritten reply h marks
-as_told reply.Inserted h marks wrote = wrote
-as_told (reply.Deleted value) h marks wrote = wrote
-as_told reply.Changed h marks wrote = wrote
-as_told other h marks wrote = wrote
-
 -- what was done with the leaf, and what is answered for it
 pub effect_means : (does : KeyWrite) (there : Option ℕ) (h : Option Hint) (marks : Trail) → effect_log (effect_of does there) h marks → MeansWritten (replied does there) h marks
-effect_means does there h marks log = as_told (replied does there) h marks (subst (λ d. MeansWritten (reply_for d) h marks) (sym (is_decided does there).told) log)
+effect_means does there h marks log = subst (λ d. WrittenSo d h marks) (sym (is_decided does there).told) log
 
 write_beside : (does : KeyWrite) (r : WriteReply) (reply : Reply) (h : Option Hint) (marks : Trail) → write_answer does r ≡ answer.Op reply h → written_log does r marks → MeansWritten reply h marks
 write_beside does (written.Done there hint) reply h marks e log =

@@ -2,7 +2,7 @@
 use Rattle.std.proofs.Common.{ℕ, ◌≡◌, ◌≢◌, ◌+◌, ◌++◌, zero, suc, List, [], ◌∷◌, Option, None, Some, Contains, ap, sym, ◌∙◌, refl, subst, append_assoc, append-nil}
 use Rattle.std.proofs.lemmas.List.Elements.{Contains-append_left}
 use Rattle.bl_model.specs.declared.operation.Reply.{Reply}
-use Rattle.bl_model.specs.declared.deciding.KeyWrite.TheVariants.{Insert}
+use Rattle.bl_model.specs.declared.deciding.Effect.TheVariants.{Enter}
 use Rattle.bl_model.specs.Writes.{effect_of}
 use Rattle.bl_page.specs.declared.page.Page.{Page}
 use Rattle.bl_page.specs.Machine.{Act}
@@ -41,6 +41,9 @@ use Rattle.bl_proc_invariant.specs.Logs.{approach_log, reply_log, post_log, effe
 use Rattle.bl_proc_invariant.proofs.Logging.{post_on, post_stays}
 use Rattle.bl_proc_invariant.proofs.Putting.{written_stays, write_on, write_stays}
 use Rattle.bl_proc_unique.proofs.KindCases.{WriteCase, PostCase, ClimbCase}
+use Rattle.bl_proc_writes.specs.declared.climbing.Placing.{Placing}
+use Rattle.bl_proc_writes.specs.declared.climbing.Placing.TheVariants as place
+use Rattle.bl_proc_writes.specs.Placings.{write_of}
 
 -- Where the leaf was split
 
@@ -59,11 +62,16 @@ one_post level separator (Some other) e = (let f : hint.Post level separator ≡
     separator_is : (level separator other : ℕ) → hint.Post level separator ≡ hint.Post 1 other → other ≡ separator
     separator_is level separator other f = cc
 
-has_split : (value : ℕ) (there : Option ℕ) (level separator : ℕ) (marks : Trail) → effect_log (effect_of (Insert value) there) (Some (hint.Post level separator)) marks → HasSplit level separator marks
-has_split value None level separator marks log =
+entered_split : (value level separator : ℕ) (marks : Trail) → effect_log (Enter value) (Some (hint.Post level separator)) marks → HasSplit level separator marks
+entered_split value level separator marks log =
     let one = one_post level separator log.0 log.2 in
     record { first = one.0; leaf = subst (λ z. WroteLeaf z marks) one.1 log.1 }
-has_split value (Some other) level separator marks log = absurd (let f = log.1 in cc)
+
+has_split : (placing : Placing) (there : Option ℕ) (level separator : ℕ) (marks : Trail) → effect_log (effect_of (write_of placing) there) (Some (hint.Post level separator)) marks → HasSplit level separator marks
+has_split (place.Insert value) None level separator marks log = entered_split value level separator marks log
+has_split (place.Insert value) (Some other) level separator marks log = absurd (let f = log.1 in cc)
+has_split (place.Put value) None level separator marks log = entered_split value level separator marks log
+has_split (place.Put value) (Some other) level separator marks log = absurd (let f = log.3 in cc)
 
 has_begin : {x : ℕ} {acts : List (Act Page Reply)} {marks : Trail} (h : WroteHeld marks x acts) → Contains marks h.first.0.0
 has_begin h = subst (λ z. Contains z h.first.0.0) (sym h.split) (Contains-append_left h.before (h.latch ∷ h.since) h.first.0.0 h.first.0.1)
@@ -79,8 +87,8 @@ from_log level x begin begun = by_page x
     by_page zero = raised
     by_page (suc x) = raised
 
-split_on : (value level separator : ℕ) (q : Post) (path : Path) (marks : Trail) → HasSplit level separator marks → (q.level ≡ level) × (q.key ≡ separator) × (q.stage ≡ post.Coming (from_page (page_at path level))) → IsPostingOn (post_log q.level q.key q.stage) q.level q.key marks
-split_on value level separator q path marks h t =
+split_on : (placing : Placing) (level separator : ℕ) (q : Post) (path : Path) (marks : Trail) → HasSplit level separator marks → (q.level ≡ level) × (q.key ≡ separator) × (q.stage ≡ post.Coming (from_page (page_at path level))) → IsPostingOn (post_log q.level q.key q.stage) q.level q.key marks
+split_on placing level separator q path marks h t =
     let held = h.leaf.3 in
     let begun = held.first.0.2 in
     rw (t.0, t.1, t.2) (record {
@@ -168,28 +176,28 @@ module _ (marks : Trail) (m : Mark) where
       posts = posts_stay h.posts;
     }
 
-    climbed_stays : (value : ℕ) (r : Climbed) → climbed_log value r marks → climbed_log value r more
-    climbed_stays value (climbed.Unsplit r) h = (written_stays marks m quiet (Insert value) r h.0, h.1)
-    climbed_stays value (climbed.Posted level key r) h = whole_stays h
+    climbed_stays : (placing : Placing) (r : Climbed) → climbed_log placing r marks → climbed_log placing r more
+    climbed_stays placing (climbed.Unsplit r) h = (written_stays marks m quiet (write_of placing) r h.0, h.1)
+    climbed_stays placing (climbed.Posted level key r) h = whole_stays h
 
-    pub climb_stays : ((x : ℕ) → m.event.act ≢ Act.Open x) → (value : ℕ) (a : ClimbStage) → climb_log value a marks → climb_log value a more
-    climb_stays shut value (climb.Writing w) h = write_stays marks m quiet (Insert value) w.stage h
-    climb_stays shut value (climb.Posting q) h = posting_on h (post_stays (h.begin ∷ h.rest) m q.level q.key q.least quiet shut q.stage h.does)
-    climb_stays shut value (climb.Ending r) h = climbed_stays value r h
-    climb_stays shut value (climb.Over r) h = climbed_stays value r h
+    pub climb_stays : ((x : ℕ) → m.event.act ≢ Act.Open x) → (placing : Placing) (a : ClimbStage) → climb_log placing a marks → climb_log placing a more
+    climb_stays shut placing (climb.Writing w) h = write_stays marks m quiet (write_of placing) w.stage h
+    climb_stays shut placing (climb.Posting q) h = posting_on h (post_stays (h.begin ∷ h.rest) m q.level q.key q.least quiet shut q.stage h.does)
+    climb_stays shut placing (climb.Ending r) h = climbed_stays placing r h
+    climb_stays shut placing (climb.Over r) h = climbed_stays placing r h
 
   -- any turn
-  write_within : (key value : ℕ) (path : Path) (v : Write) → Stands key value path (climb.Writing v) → {b : WriteStage} {what : Seen} → WriteCase v.key v.write v.stage what b → m.event.act ≡ event_of (write_end (Insert value) v.stage) (write_next_in v.stage) what → write_log (Insert value) v.stage marks → write_log (Insert value) b more
-  write_within key value path v stands {b} {what} h did log = write_on marks m (subst (λ d. WriteCase v.key d v.stage what b) stands.1 h) did log
+  write_within : (key : ℕ) (placing : Placing) (path : Path) (v : Write) → Stands key placing path (climb.Writing v) → {b : WriteStage} {what : Seen} → WriteCase v.key v.write v.stage what b → m.event.act ≡ event_of (write_end (write_of placing) v.stage) (write_next_in v.stage) what → write_log (write_of placing) v.stage marks → write_log (write_of placing) b more
+  write_within key placing path v stands {b} {what} h did log = write_on marks m (subst (λ d. WriteCase v.key d v.stage what b) stands.1 h) did log
 
   post_within : (q : Post) {b : PostStage} {what : Seen} → PostCase q.level q.key q.stage what b → m.event.act ≡ event_of None (climb_next_in (climb.Posting q)) what → ((x : ℕ) (c : Page) → m.event.act ≡ Get x → what ≡ seen.Words c → m.saw ≡ Some c) → (h : IsPostingOn (post_log q.level q.key q.stage) q.level q.key marks) → post_log q.level q.key b (h.begin ∷ (h.rest ++ m ∷ []))
   post_within q case did saw h = post_on (h.begin ∷ h.rest) m q.level q.key q.least case did saw h.does
 
-  pub climb_on : (key value : ℕ) (old new : Path) {a b : ClimbStage} {what : Seen} → ClimbCase new a what b → Stands key value old a → m.event.act ≡ event_of (climb_end value a) (climb_next_in a) what → ((x : ℕ) (c : Page) → m.event.act ≡ Get x → what ≡ seen.Words c → m.saw ≡ Some c) → climb_log value a marks → climb_log value b more
-  climb_on key value old new (ClimbCase.Wrote v what u h t) stands did saw log = write_within key value old v stands h did log
-  climb_on key value old new (ClimbCase.Split v what there level separator q h t) stands did saw log = split_on value level separator q new more (has_split value there level separator more (write_within key value old v stands h did log)) t
-  climb_on key value old new (ClimbCase.Unsplit v what r last h t) stands did saw log = rw t.1 (write_within key value old v stands h did log, t.0)
-  climb_on key value old new (ClimbCase.Posted q what u h t) stands did saw log = rw (t.0, t.1) (posting_on log (post_within q h did saw log))
-  climb_on key value old new (ClimbCase.Higher q what separator u h t) stands did saw log = higher_on separator u new log (post_within q h did saw log) t
-  climb_on key value old new (ClimbCase.Finished q what r last h t) stands did saw log = rw t.1 (last_on r log t.0 (post_within q h did saw log))
-  climb_on key value old new (ClimbCase.Ended r last t) stands did saw log = rw t (climbed_stays (ap writes_in did) value r log)
+  pub climb_on : (key : ℕ) (placing : Placing) (old new : Path) {a b : ClimbStage} {what : Seen} → ClimbCase new a what b → Stands key placing old a → m.event.act ≡ event_of (climb_end placing a) (climb_next_in a) what → ((x : ℕ) (c : Page) → m.event.act ≡ Get x → what ≡ seen.Words c → m.saw ≡ Some c) → climb_log placing a marks → climb_log placing b more
+  climb_on key placing old new (ClimbCase.Wrote v what u h t) stands did saw log = write_within key placing old v stands h did log
+  climb_on key placing old new (ClimbCase.Split v what there level separator q h t) stands did saw log = split_on placing level separator q new more (has_split placing there level separator more (write_within key placing old v stands h did log)) t
+  climb_on key placing old new (ClimbCase.Unsplit v what r last h t) stands did saw log = rw t.1 (write_within key placing old v stands h did log, t.0)
+  climb_on key placing old new (ClimbCase.Posted q what u h t) stands did saw log = rw (t.0, t.1) (posting_on log (post_within q h did saw log))
+  climb_on key placing old new (ClimbCase.Higher q what separator u h t) stands did saw log = higher_on separator u new log (post_within q h did saw log) t
+  climb_on key placing old new (ClimbCase.Finished q what r last h t) stands did saw log = rw t.1 (last_on r log t.0 (post_within q h did saw log))
+  climb_on key placing old new (ClimbCase.Ended r last t) stands did saw log = rw t (climbed_stays (ap writes_in did) placing r log)

@@ -240,7 +240,7 @@ module _ {P : Type 0} (know : P → Know) (w : World P) (g : IsGood know w) (p :
         goes = goes_still w next p aim.carried.goes (take_steady w next p y does free was status) is.goes;
         children = rw at (Each-map (IsRelied w p) (IsRelied next p) (aim.children full.at) (λ c r. aside_relied w next p y c aside r) is.children);
         passed = tt;
-        sound = (rw (at, known) due, rw (at, new) cut_here, below);
+        sound = (rw (at, known) due, rw (at, new) cut_here, (is.sound.4, below));
       })
 
   -- the upper part is put first, in the page that nobody names yet
@@ -367,7 +367,7 @@ module _ {P : Type 0} (know : P → Know) (w : World P) (g : IsGood know w) (p :
       })
 
   -- the old page is opened, and the change is over
-  pub over_turn : (x : ℕ) (o : Outcome) (S : Type 0) (s : State Page) → know (w.proc p) ≡ know_edit aim got (Opening x o) → know b ≡ record (carrying aim.carried) { said = aim.said o; sound = S } → ((aim.changes ≡ true) × IsBelow o → S) → Does w.now p (Act.Open x) s → Turned know w p (Act.Open x) s b
+  pub over_turn : (x : ℕ) (o : Outcome) (S : Type 0) (s : State Page) → know (w.proc p) ≡ know_edit aim got (Opening x o) → know b ≡ record (carrying aim.carried) { said = aim.said o; sound = S } → ((aim.changes ≡ true) × IsBelow aim o → S) → Does w.now p (Act.Open x) s → Turned know w p (Act.Open x) s b
   over_turn x o S s before then on does =
       let is : IsSure w p (know_edit aim got (Opening x o)) = rw before at (g.sure p) in
       opened know w g p b _ _ before then x s is.holds.0.owner does (inl is.holds.0.status) refl refl ((λ e. cc, λ e. cc), tt)
@@ -397,6 +397,6 @@ module _ {P : Type 0} (know : P → Know) (w : World P) (g : IsGood know w) (p :
   edit_turn (EditCase.OpenedNew x y separator d t) s before then observed does = open_new_turn x y separator s before (subst (λ e. know b ≡ know_edit aim got e) t then) does
 
   -- every turn that ends a change
-  pub finish_turn : {c : Edit} {o : Outcome} {what : Seen} → EditCase c what (Over o) → (S : Type 0) (s : State Page) → know (w.proc p) ≡ know_edit aim got c → know b ≡ record (carrying aim.carried) { said = aim.said o; sound = S } → ((aim.changes ≡ true) × IsBelow o → S) → Does w.now p (event_of None (edit_next c) what) s → Turned know w p (event_of None (edit_next c) what) s b
+  pub finish_turn : {c : Edit} {o : Outcome} {what : Seen} → EditCase c what (Over o) → (S : Type 0) (s : State Page) → know (w.proc p) ≡ know_edit aim got c → know b ≡ record (carrying aim.carried) { said = aim.said o; sound = S } → ((aim.changes ≡ true) × IsBelow aim o → S) → Does w.now p (event_of None (edit_next c) what) s → Turned know w p (event_of None (edit_next c) what) s b
   finish_turn (EditCase.Opened x u o t) S s before then on does =
-      over_turn x u S s before (subst (λ z. know b ≡ record (carrying aim.carried) { said = aim.said z; sound = S }) t then) (λ h. on (h.0, subst IsBelow (sym t) h.1)) does
+      over_turn x u S s before (subst (λ z. know b ≡ record (carrying aim.carried) { said = aim.said z; sound = S }) t then) (λ h. on (h.0, subst (IsBelow aim) (sym t) h.1)) does

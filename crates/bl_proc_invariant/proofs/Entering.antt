@@ -2,7 +2,7 @@
 use Rattle.std.proofs.Common.{ℕ, ◌≡◌, Option, Some, None, ap, sym, ◌∙◌, refl, subst, inl}
 use Rattle.bl_model.specs.declared.deciding.Effect.{Effect}
 use Rattle.bl_model.specs.declared.deciding.Effect.TheVariants.{Keep, Enter, Remove, Replace}
-use Rattle.bl_model.specs.Writes.{effected}
+use Rattle.bl_model.specs.Writes.{effected, MayHave}
 use Rattle.bl_page.specs.declared.page.Page.{Page}
 use Rattle.bl_page.specs.Machine.{Name, Act}
 use Rattle.bl_page.specs.Machine.Owner.{Held}
@@ -30,8 +30,8 @@ pub record Begun {P : Type 0} (w w' : World P) (p : Name) (aim : Aim) (x : ℕ) 
   pub due : IsDue aim c
   pub children : Each (λ k. (w'.now.owner k.parent ≡ Held p) × IsRelied w p k) (aim.children x)
 
-pub enters_learns : {P : Type 0} (w w' : World P) (p : Name) (a : Act Page _) (saw : Option Page) (aim : Aim) (x word : ℕ) (c : Page) (edit : Edit) → Begun w w' p aim x c → aim.word ≡ Some word → EntersPair x c aim.key word edit → Learns w w' (record { event = record { process = p; act = a }; saw = saw; said = None }) (know_edit aim (λ z. c) edit)
-enters_learns w w' p a saw aim x word c (Putting y page) h is e = record {
+pub enters_learns : {P : Type 0} (w w' : World P) (p : Name) (a : Act Page _) (saw : Option Page) (aim : Aim) (x word : ℕ) (c : Page) (edit : Edit) → Begun w w' p aim x c → aim.word ≡ Some word → aim.was ≡ None → EntersPair x c aim.key word edit → Learns w w' (record { event = record { process = p; act = a }; saw = saw; said = None }) (know_edit aim (λ z. c) edit)
+enters_learns w w' p a saw aim x word c (Putting y page) h is none e = record {
   stage = h.stage;
   said = HasSaid-silent w.trail (record { event = record { process = p; act = a }; saw = saw; said = None }) p aim.carried.said refl h.said;
   holds = ((ap w'.now.owner e.0 ∙ h.held, ap w.status e.0 ∙ h.live, tt, ap w.now.contents e.0 ∙ h.is), tt);
@@ -40,19 +40,19 @@ enters_learns w w' p a saw aim x word c (Putting y page) h is e = record {
   passed = tt;
   sound = (h.due, rw is (fits_row c page aim.key word 0 e.1 h.due.covers));
 }
-enters_learns w w' p a saw aim x word c (Taking full) h is e = record {
+enters_learns w w' p a saw aim x word c (Taking full) h is none e = record {
   stage = h.stage;
   said = HasSaid-silent w.trail (record { event = record { process = p; act = a }; saw = saw; said = None }) p aim.carried.said refl h.said;
   holds = ((ap w'.now.owner e.0 ∙ h.held, ap w.status e.0 ∙ h.live, tt, ap w.now.contents e.0 ∙ (h.is ∙ sym e.3)), tt);
   goes = h.goes;
   children = subst (λ z. Each (λ k. (w'.now.owner k.parent ≡ Held p) × IsRelied w p k) (aim.children z)) (sym e.0) h.children;
   passed = tt;
-  sound = (rw e.3 h.due, e.1, ap Some e.2 ∙ sym is, sym e.3);
+  sound = (rw e.3 h.due, e.1, ap Some e.2 ∙ sym is, sym e.3, none);
 }
-enters_learns w w' p a saw aim x word c (PuttingNew t) h is e = absurd e
-enters_learns w w' p a saw aim x word c (PuttingOld t) h is e = absurd e
-enters_learns w w' p a saw aim x word c (OpeningNew y z s) h is e = absurd e
-enters_learns w w' p a saw aim x word c (Opening y o) h is e = absurd e
+enters_learns w w' p a saw aim x word c (PuttingNew t) h is none e = absurd e
+enters_learns w w' p a saw aim x word c (PuttingOld t) h is none e = absurd e
+enters_learns w w' p a saw aim x word c (OpeningNew y z s) h is none e = absurd e
+enters_learns w w' p a saw aim x word c (Opening y o) h is none e = absurd e
 
 pub drops_learns : {P : Type 0} (w w' : World P) (p : Name) (a : Act Page _) (saw : Option Page) (aim : Aim) (x : ℕ) (c : Page) (edit : Edit) → Begun w w' p aim x c → aim.word ≡ None → DropsPair x c aim.key edit → Learns w w' (record { event = record { process = p; act = a }; saw = saw; said = None }) (know_edit aim (λ z. c) edit)
 drops_learns w w' p a saw aim x c (Putting y page) h is e = record {
@@ -87,11 +87,11 @@ gives_learns w w' p a saw aim x value c (OpeningNew y z s) h is e = absurd e
 gives_learns w w' p a saw aim x value c (Opening y o) h is e = absurd e
 
 -- the same by the effect of a write
-pub performs_learns : {P : Type 0} (w w' : World P) (p : Name) (a : Act Page _) (saw : Option Page) (aim : Aim) (effect : Effect) (x : ℕ) (c : Page) (edit : Edit) → Begun w w' p aim x c → aim.word ≡ effected effect aim.was → Performs effect x c aim.key edit → Learns w w' (record { event = record { process = p; act = a }; saw = saw; said = None }) (know_edit aim (λ z. c) edit)
-performs_learns w w' p a saw aim Keep x c edit h is e = absurd e
-performs_learns w w' p a saw aim (Enter value) x c edit h is e = enters_learns w w' p a saw aim x value c edit h is e
-performs_learns w w' p a saw aim Remove x c edit h is e = drops_learns w w' p a saw aim x c edit h is e
-performs_learns w w' p a saw aim (Replace value) x c edit h is e = gives_learns w w' p a saw aim x value c edit h is e
+pub performs_learns : {P : Type 0} (w w' : World P) (p : Name) (a : Act Page _) (saw : Option Page) (aim : Aim) (effect : Effect) (x : ℕ) (c : Page) (edit : Edit) → Begun w w' p aim x c → aim.word ≡ effected effect aim.was → MayHave effect aim.was → Performs effect x c aim.key edit → Learns w w' (record { event = record { process = p; act = a }; saw = saw; said = None }) (know_edit aim (λ z. c) edit)
+performs_learns w w' p a saw aim Keep x c edit h is may e = absurd e
+performs_learns w w' p a saw aim (Enter value) x c edit h is may e = enters_learns w w' p a saw aim x value c edit h is may e
+performs_learns w w' p a saw aim Remove x c edit h is may e = drops_learns w w' p a saw aim x c edit h is e
+performs_learns w w' p a saw aim (Replace value) x c edit h is may e = gives_learns w w' p a saw aim x value c edit h is e
 
 -- a change begins with the page that it holds, and with no other
 pub enters_places : (aim : Aim) (x word key : ℕ) (c : Page) (edit : Edit) → EntersPair x c key word edit → HoldsPage (know_edit aim (λ z. c) edit).holds x

@@ -34,7 +34,7 @@ module _ {P : Type 0} (know : P → Know) (w : World P) (g : IsGood know w) (p :
       let is : IsSure w p (know_find key (Probing x)) = rw before at (g.sure p) in
       let m : Mark = silent p (Looks (OfPage x)) in
       watched know w g p b _ _ before then (Looks (OfPage x)) None None s tt tt does tt refl (λ y h. h) (λ it e. cc) (λ k. refl)
-      (record { stage = is.stage; said = HasSaid-silent w.trail m p None refl is.said; holds = tt; goes = rw t (probed know w g p b key x free is.stage observed); children = tt; passed = tt; sound = is.sound })
+      (record { stage = is.stage; said = HasSaid-silent w.trail m p None refl is.said; holds = tt; goes = rw t (probed know w g p b x free is.stage observed); children = tt; passed = tt; sound = is.sound })
   find_turn (Descending d) (Descending e) (seen.Words c) s before then t observed does = descent_turn know w g p b key d c s before observed does e then t
   find_turn (Descending d) (Ending value) (seen.Words c) s before then t observed does =
       let look : value ≡ (nodes w.now (descent_page d)).look key = rw observed at t.1 in

@@ -18,6 +18,7 @@ use Rattle.bl_proc_base.specs.declared.growing.Growth.TheVariants as growth
 use Rattle.bl_proc.specs.declared.searching.FindStage.{FindStage}
 use Rattle.bl_proc.specs.declared.searching.FindStage.TheVariants as find
 use Rattle.bl_proc.specs.declared.parts.PartStage.{PartStage}
+use Rattle.bl_proc.specs.declared.parts.PartStart.{PartStart}
 use Rattle.bl_proc.specs.declared.parts.PartStage.TheVariants as part
 use Rattle.bl_proc_writes.specs.declared.writing.WriteStage.{WriteStage}
 use Rattle.bl_proc_writes.specs.declared.writing.WriteStage.TheVariants as write
@@ -28,7 +29,6 @@ use Rattle.bl_proc.specs.declared.lowering.LowerStage.{LowerStage}
 use Rattle.bl_proc.specs.declared.lowering.LowerStage.TheVariants as lower
 use Rattle.bl_proc_base.specs.declared.lowering.Lowering.{Lowering}
 use Rattle.bl_proc_base.specs.declared.lowering.Lowering.TheVariants as lowering
-use Rattle.bl_model.specs.declared.deciding.KeyWrite.TheVariants.{Insert}
 use Rattle.bl_proc_writes.specs.declared.paths.Path.{Path}
 use Rattle.bl_proc_writes.specs.declared.climbing.ClimbStage.{ClimbStage}
 use Rattle.bl_proc_writes.specs.declared.climbing.ClimbStage.TheVariants as climb
@@ -61,6 +61,8 @@ use Rattle.bl_proc.specs.Processes.{next_of}
 use Rattle.bl_proc_invariant.specs.Compressing.{know_squeeze}
 use Rattle.bl_proc_invariant.specs.Tables.{Carried, unsaid, alone, Aim, holds_live, know_descent, know_approach, know_edit}
 use Rattle.bl_proc_invariant.specs.Knowing.{know_growth, know_find, know_part, know_write, path_goes, inserted, know_climb, know_post, know_compress, know_reclaim, know_lower, know_of, Run, know}
+use Rattle.bl_proc_writes.specs.declared.climbing.Placing.{Placing}
+use Rattle.bl_proc_writes.specs.Placings.{write_of}
 
 -- page 0, or one that it may get
 abbrev pub IsGot : {P : Type 0} → World P → Name → Action → Type 0
@@ -106,11 +108,11 @@ module _ {P : Type 0} (w : World P) (p : Name) where
   find_got key (find.Ending v) is = tt
   find_got key (find.Over v) is = tt
 
-  part_got : (from : ℕ) (a : PartStage) → IsSure w p (know_part from a) → IsGot w p (part_next_in a)
+  part_got : (from : PartStart) (a : PartStage) → IsSure w p (know_part from a) → IsGot w p (part_next_in a)
   part_got from part.New is = tt
   part_got from (part.Near x) is = tt
   part_got from (part.Probing x) is = tt
-  part_got from (part.Descending d) is = descent_got from d is
+  part_got from (part.Descending d) is = descent_got from.key d is
   part_got from (part.Ending r) is = tt
   part_got from (part.Over r) is = tt
 
@@ -186,11 +188,11 @@ module _ {P : Type 0} (w : World P) (p : Name) where
   lower_gets got (lower.Ending r) is = tt
   lower_gets got (lower.Over r) is = tt
 
-  climb_got : (key value : ℕ) (path : Path) (got : ℕ → Page) (child : ℕ) (a : ClimbStage) → IsSure w p (know_climb key value path got child a) → IsGot w p (climb_next_in a)
-  climb_got key value path got child (climb.Writing v) is = write_got (path_goes path) key (Insert value) got v.stage is
-  climb_got key value path got child (climb.Posting q) is = post_got (inserted key value path) q.level q.key got child q.stage is
-  climb_got key value path got child (climb.Ending r) is = tt
-  climb_got key value path got child (climb.Over r) is = tt
+  climb_got : (key : ℕ) (placing : Placing) (path : Path) (got : ℕ → Page) (child : ℕ) (a : ClimbStage) → IsSure w p (know_climb key placing path got child a) → IsGot w p (climb_next_in a)
+  climb_got key placing path got child (climb.Writing v) is = write_got (path_goes path) key (write_of placing) got v.stage is
+  climb_got key placing path got child (climb.Posting q) is = post_got (inserted key placing path) q.level q.key got child q.stage is
+  climb_got key placing path got child (climb.Ending r) is = tt
+  climb_got key placing path got child (climb.Over r) is = tt
 
   of_got : (got : ℕ → Page) (child time : ℕ) (state : Proc) → IsSure w p (know_of got child time state) → IsGot w p (next_of state)
   of_got got child time (Find a) is = find_got a.key a.stage is
@@ -200,7 +202,7 @@ module _ {P : Type 0} (w : World P) (p : Name) where
   of_got got child time (Compress a) is = compress_got a.level a.key got a.stage is
   of_got got child time (Reclaim a) is = reclaim_got a.page time a.stage is
   of_got got child time (Lower a) is = lower_gets got a.stage is
-  of_got got child time (InsertPost a) is = climb_got a.key a.value a.path got child a.stage is
+  of_got got child time (InsertPost a) is = climb_got a.key a.placing a.path got child a.stage is
 
 pub got_next_is : (w : World Run) (p : Name) → IsGood know w → IsGot w p (next_of (w.proc p).state)
 got_next_is w p g = of_got w p (w.proc p).got (w.proc p).child (w.proc p).time (w.proc p).state (g.sure p)

@@ -30,7 +30,6 @@ use Rattle.bl_proc_base.specs.declared.lowering.Lowering.TheVariants.{Looking}
 use Rattle.bl_proc.specs.declared.kinds.Proc.{Proc}
 use Rattle.bl_proc.specs.declared.kinds.Proc.TheVariants.{Find, Write, Post, Part, Compress, Reclaim, Lower, InsertPost}
 use Rattle.bl_proc.specs.Processes.{next_of, Takes}
-use Rattle.bl_model.specs.declared.deciding.KeyWrite.TheVariants.{Insert}
 use Rattle.bl_proc_writes.specs.declared.paths.Path.{Path}
 use Rattle.bl_proc_writes.specs.declared.climbing.ClimbStage.{ClimbStage}
 use Rattle.bl_proc_writes.specs.declared.climbing.ClimbStage.TheVariants as climb
@@ -46,6 +45,8 @@ use Rattle.bl_proc_invariant.proofs.LoweringLogs.{lower_on, lower_stays}
 use Rattle.bl_proc_invariant.proofs.Looking.{looking_on, find_on, part_on}
 use Rattle.bl_proc_invariant.proofs.Putting.{write_on, write_stays}
 use Rattle.bl_proc_unique.proofs.KindCases.{find_case, part_case, write_case, post_case, compress_case, lower_case, climb_case}
+use Rattle.bl_proc_writes.specs.declared.climbing.Placing.{Placing}
+use Rattle.bl_proc_writes.specs.Placings.{write_of}
 
 -- a process that has not begun has nothing to tell
 early_post : (carried : Carried) → (level key : ℕ) (got : ℕ → Page) (child : ℕ) (a : PostStage) → (know_post carried level key got child a).stage ≡ Stage.Early → (marks : Trail) → post_log level key a marks
@@ -84,10 +85,10 @@ early_lower got lower.New e marks none = none
 early_lower got (lower.Sinking Looking) e marks none = absurd (let f = e in cc)
 early_lower got old e marks none = absurd (let f = e in cc)
 
-early_climb : (key value : ℕ) (path : Path) (got : ℕ → Page) (child : ℕ) (a : ClimbStage) → Stands key value path a → (know_climb key value path got child a).stage ≡ Stage.Early → (marks : Trail) → writes_of marks ≡ [] → climb_log value a marks
-early_climb key value path got child (climb.Writing v) stands e marks none = early_write (path_goes path) key (Insert value) got v.stage e marks none
-early_climb key value path got child (climb.Posting q) stands e marks none = absurd (not_early (inserted key value path) q.level q.key got child q.stage stands e)
-early_climb key value path got child old stands e marks none = absurd (let f = e in cc)
+early_climb : (key : ℕ) (placing : Placing) (path : Path) (got : ℕ → Page) (child : ℕ) (a : ClimbStage) → Stands key placing path a → (know_climb key placing path got child a).stage ≡ Stage.Early → (marks : Trail) → writes_of marks ≡ [] → climb_log placing a marks
+early_climb key placing path got child (climb.Writing v) stands e marks none = early_write (path_goes path) key (write_of placing) got v.stage e marks none
+early_climb key placing path got child (climb.Posting q) stands e marks none = absurd (not_early (inserted key placing path) q.level q.key got child q.stage stands e)
+early_climb key placing path got child old stands e marks none = absurd (let f = e in cc)
 
 early_state : (got : ℕ → Page) (child time : ℕ) (a : Proc) → (know_of got child time a).stage ≡ Stage.Early → (marks : Trail) → writes_of marks ≡ [] → proc_log a marks
 early_state got child time (Find a) e marks none = none
@@ -97,7 +98,7 @@ early_state got child time (Part a) e marks none = none
 early_state got child time (Compress a) e marks none = early_press a.level a.key got a.stage e marks none
 early_state got child time (Reclaim a) e marks none = tt
 early_state got child time (Lower a) e marks none = early_lower got a.stage e marks none
-early_state got child time (InsertPost a) e marks none = early_climb a.key a.value a.path got child a.stage a.stands e marks none
+early_state got child time (InsertPost a) e marks none = early_climb a.key a.placing a.path got child a.stage a.stands e marks none
 
 pub early_log : (b : Run) → (know b).stage ≡ Stage.Early → (marks : Trail) → writes_of marks ≡ [] → proc_log b.state marks
 early_log b e marks none = early_state b.got b.child b.time b.state e marks none
@@ -133,7 +134,7 @@ log_turn (Lower a) (Lower c) what marks m t did saw h = lower_on marks m (lower_
 log_turn (Find a) (Find c) what marks m t did saw h = find_on marks m (find_case a.key a.stage what c.stage t.1) did h
 log_turn (Part a) (Part c) what marks m t did saw h = part_on marks m (part_case a.from a.stage what c.stage t.1) did h
 log_turn (InsertPost a) (InsertPost c) what marks m t did saw h =
-    subst (λ v. climb_log v c.stage (marks ++ m ∷ [])) (sym t.1) (climb_on marks m a.key a.value a.path c.path (climb_case c.path a.stage what c.stage t.3) a.stands did saw h)
+    subst (λ v. climb_log v c.stage (marks ++ m ∷ [])) (sym t.1) (climb_on marks m a.key a.placing a.path c.path (climb_case c.path a.stage what c.stage t.3) a.stands did saw h)
 log_turn old new what marks m t did saw h = absurd t
 
 log_stays : {what : Missed} (old : Proc) (marks : Trail) (m : Mark) → m.event.act ≡ Miss what → proc_log old marks → proc_log old (marks ++ m ∷ [])
@@ -143,7 +144,7 @@ log_stays (Part a) marks m did h = looking_on marks m (ap writes_in did) h
 log_stays (Compress a) marks m did h = compress_stays marks m a.level a.key did a.stage h
 log_stays (Reclaim a) marks m did h = tt
 log_stays (Lower a) marks m did h = lower_stays marks m did a.stage h
-log_stays (InsertPost a) marks m did h = climb_stays marks m (ap writes_in did) (λ x o. (let e = sym did ∙ o in cc)) a.value a.stage h
+log_stays (InsertPost a) marks m did h = climb_stays marks m (ap writes_in did) (λ x o. (let e = sym did ∙ o in cc)) a.placing a.stage h
 log_stays (Post a) marks m did h = post_stays marks m a.level a.key a.least (ap writes_in did) (λ x o. (let e = sym did ∙ o in cc)) a.stage h
 
 -- the logs of all processes after a turn of p

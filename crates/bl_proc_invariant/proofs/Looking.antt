@@ -11,6 +11,7 @@ use Rattle.bl_core.proofs.Meant.{writes_of-push}
 use Rattle.bl_proc_base.specs.declared.acts.Seen.{Seen}
 use Rattle.bl_proc.specs.declared.searching.FindStage.{FindStage}
 use Rattle.bl_proc.specs.declared.parts.PartStage.{PartStage}
+use Rattle.bl_proc.specs.declared.parts.PartStart.{PartStart}
 use Rattle.bl_proc.specs.Searches.{find_next_in}
 use Rattle.bl_proc.specs.Parts.{part_next_in}
 use Rattle.bl_proc_invariant.specs.Turns.{event_of}
@@ -25,7 +26,7 @@ find_writes (FindCase.Went d c e t) = refl
 find_writes (FindCase.Found d c value t) = refl
 find_writes (FindCase.Ended value last t) = refl
 
-part_writes : {from : ℕ} {a b : PartStage} {what : Seen} → PartCase from a what b → writes_in (event_of (part_end a) (part_next_in a) what) ≡ []
+part_writes : {from : PartStart} {a b : PartStage} {what : Seen} → PartCase from a what b → writes_in (event_of (part_end a) (part_next_in a) what) ≡ []
 part_writes (PartCase.Began d t) = refl
 part_writes (PartCase.BeganNear x y t) = refl
 part_writes (PartCase.Looked x free d t) = refl
@@ -40,7 +41,7 @@ module _ (marks : Trail) (m : Mark) where
   pub find_on : {key : ℕ} {a b : FindStage} {what : Seen} → FindCase key a what b → m.event.act ≡ event_of (find_end a) (find_next_in a) what → writes_of marks ≡ [] → writes_of (marks ++ m ∷ []) ≡ []
   find_on t did h = looking_on (ap writes_in did ∙ find_writes t) h
 
-  pub part_on : {from : ℕ} {a b : PartStage} {what : Seen} → PartCase from a what b → m.event.act ≡ event_of (part_end a) (part_next_in a) what → writes_of marks ≡ [] → writes_of (marks ++ m ∷ []) ≡ []
+  pub part_on : {from : PartStart} {a b : PartStage} {what : Seen} → PartCase from a what b → m.event.act ≡ event_of (part_end a) (part_next_in a) what → writes_of marks ≡ [] → writes_of (marks ++ m ∷ []) ≡ []
   part_on t did h = looking_on (ap writes_in did ∙ part_writes t) h
 
 -- Who latches and writes nothing only looks.

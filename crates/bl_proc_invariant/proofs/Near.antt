@@ -24,6 +24,7 @@ use Rattle.bl_proc_base.specs.declared.growing.Growth.TheVariants as growth
 use Rattle.bl_proc.specs.declared.searching.FindStage.{FindStage}
 use Rattle.bl_proc.specs.declared.searching.FindStage.TheVariants as find
 use Rattle.bl_proc.specs.declared.parts.PartStage.{PartStage}
+use Rattle.bl_proc.specs.declared.parts.PartStart.{PartStart}
 use Rattle.bl_proc.specs.declared.parts.PartStage.TheVariants as part
 use Rattle.bl_proc_writes.specs.declared.writing.WriteStage.{WriteStage}
 use Rattle.bl_proc_writes.specs.declared.writing.WriteStage.TheVariants as write
@@ -34,7 +35,6 @@ use Rattle.bl_proc.specs.declared.lowering.LowerStage.{LowerStage}
 use Rattle.bl_proc.specs.declared.lowering.LowerStage.TheVariants as lower
 use Rattle.bl_proc_base.specs.declared.lowering.Lowering.{Lowering}
 use Rattle.bl_proc_base.specs.declared.lowering.Lowering.TheVariants as lowering
-use Rattle.bl_model.specs.declared.deciding.KeyWrite.TheVariants.{Insert}
 use Rattle.bl_proc_writes.specs.declared.paths.Path.{Path}
 use Rattle.bl_proc_writes.specs.declared.climbing.ClimbStage.{ClimbStage}
 use Rattle.bl_proc_writes.specs.declared.climbing.ClimbStage.TheVariants as climb
@@ -67,6 +67,8 @@ use Rattle.bl_proc_invariant.specs.Compressing.{know_squeeze}
 use Rattle.bl_proc_invariant.specs.Tables.{Carried, unsaid, alone, Aim, know_approach, know_edit}
 use Rattle.bl_proc_invariant.specs.Knowing.{know_growth, know_find, know_part, know_write, path_goes, inserted, know_climb, know_post, know_compress, know_reclaim, know_lower, know_of, Run, know}
 use Rattle.bl_proc_invariant.proofs.Descending.{descent_there}
+use Rattle.bl_proc_writes.specs.declared.climbing.Placing.{Placing}
+use Rattle.bl_proc_writes.specs.Placings.{write_of}
 
 abbrev pub IsNear : {P : Type 0} → World P → Name → Action → Type 0
 IsNear w p (act.Get x) = w.now.owner x ≢ Released
@@ -117,11 +119,11 @@ module _ {P : Type 0} (know : P → Know) (w : World P) (g : IsGood know w) (p :
   find_near key (find.Ending v) is = tt
   find_near key (find.Over v) is = tt
 
-  part_near : (from : ℕ) (a : PartStage) → IsSure w p (know_part from a) → IsNear w p (part_next_in a)
+  part_near : (from : PartStart) (a : PartStage) → IsSure w p (know_part from a) → IsNear w p (part_next_in a)
   part_near from part.New is = tt
   part_near from (part.Near x) is = tt
   part_near from (part.Probing x) is = tt
-  part_near from (part.Descending d) is = descent_there know w g p from d is
+  part_near from (part.Descending d) is = descent_there know w g p from.key d is
   part_near from (part.Ending r) is = tt
   part_near from (part.Over r) is = tt
 
@@ -199,11 +201,11 @@ module _ {P : Type 0} (know : P → Know) (w : World P) (g : IsGood know w) (p :
   lower_near got (lower.Ending r) is = tt
   lower_near got (lower.Over r) is = tt
 
-  climb_near : (key value : ℕ) (path : Path) (got : ℕ → Page) (child : ℕ) (a : ClimbStage) → IsSure w p (know_climb key value path got child a) → IsNear w p (climb_next_in a)
-  climb_near key value path got child (climb.Writing v) is = write_near (path_goes path) key (Insert value) got v.stage is
-  climb_near key value path got child (climb.Posting q) is = post_near (inserted key value path) q.level q.key got child q.stage is
-  climb_near key value path got child (climb.Ending r) is = tt
-  climb_near key value path got child (climb.Over r) is = tt
+  climb_near : (key : ℕ) (placing : Placing) (path : Path) (got : ℕ → Page) (child : ℕ) (a : ClimbStage) → IsSure w p (know_climb key placing path got child a) → IsNear w p (climb_next_in a)
+  climb_near key placing path got child (climb.Writing v) is = write_near (path_goes path) key (write_of placing) got v.stage is
+  climb_near key placing path got child (climb.Posting q) is = post_near (inserted key placing path) q.level q.key got child q.stage is
+  climb_near key placing path got child (climb.Ending r) is = tt
+  climb_near key placing path got child (climb.Over r) is = tt
 
   of_near : (got : ℕ → Page) (child time : ℕ) (state : Proc) → IsSure w p (know_of got child time state) → IsNear w p (next_of state)
   of_near got child time (Find a) is = find_near a.key a.stage is
@@ -213,7 +215,7 @@ module _ {P : Type 0} (know : P → Know) (w : World P) (g : IsGood know w) (p :
   of_near got child time (Compress a) is = compress_near a.level a.key got a.stage is
   of_near got child time (Reclaim a) is = reclaim_near a.page time a.stage is
   of_near got child time (Lower a) is = lower_near got a.stage is
-  of_near got child time (InsertPost a) is = climb_near a.key a.value a.path got child a.stage is
+  of_near got child time (InsertPost a) is = climb_near a.key a.placing a.path got child a.stage is
 
 pub near : (w : World Run) (p : Name) → IsGood know w → IsNear w p (next_of (w.proc p).state)
 near w p g = of_near know w g p (w.proc p).got (w.proc p).child (w.proc p).time (w.proc p).state (g.sure p)

@@ -12,6 +12,7 @@ use Rattle.bl_proc_base.specs.declared.growing.Growth.TheVariants as growth
 use Rattle.bl_proc.specs.declared.searching.FindStage.{FindStage}
 use Rattle.bl_proc.specs.declared.searching.FindStage.TheVariants as find
 use Rattle.bl_proc.specs.declared.parts.PartStage.{PartStage}
+use Rattle.bl_proc.specs.declared.parts.PartStart.{PartStart}
 use Rattle.bl_proc.specs.declared.parts.PartStage.TheVariants as part
 use Rattle.bl_proc_writes.specs.declared.writing.WriteStage.{WriteStage}
 use Rattle.bl_proc_writes.specs.declared.writing.WriteStage.TheVariants as write
@@ -22,7 +23,6 @@ use Rattle.bl_proc.specs.declared.lowering.LowerStage.{LowerStage}
 use Rattle.bl_proc.specs.declared.lowering.LowerStage.TheVariants as lower
 use Rattle.bl_proc_base.specs.declared.lowering.Lowering.{Lowering}
 use Rattle.bl_proc_base.specs.declared.lowering.Lowering.TheVariants as lowering
-use Rattle.bl_model.specs.declared.deciding.KeyWrite.TheVariants.{Insert}
 use Rattle.bl_proc_writes.specs.declared.paths.Path.{Path}
 use Rattle.bl_proc_writes.specs.declared.climbing.ClimbStage.{ClimbStage}
 use Rattle.bl_proc_writes.specs.declared.climbing.ClimbStage.TheVariants as climb
@@ -33,6 +33,8 @@ use Rattle.bl_proc.specs.declared.kinds.Proc.{Proc}
 use Rattle.bl_proc.specs.declared.kinds.Proc.TheVariants.{Find, Write, Post, Part, Compress, Reclaim, Lower, InsertPost}
 use Rattle.bl_proc_invariant.specs.Tables.{Carried, unsaid, alone, Aim, know_approach, know_edit}
 use Rattle.bl_proc_invariant.specs.Knowing.{know_growth, know_find, know_part, know_write, path_goes, inserted, know_climb, know_post, know_reclaim, know_lower, know_of}
+use Rattle.bl_proc_writes.specs.declared.climbing.Placing.{Placing}
+use Rattle.bl_proc_writes.specs.Placings.{write_of}
 
 -- it is not in the middle of a compression
 record IsPlain (k : Know) : Type 1 where
@@ -72,7 +74,7 @@ find_plain key (find.Descending d) = record { middle = refl }
 find_plain key (find.Ending v) = record { middle = refl }
 find_plain key (find.Over v) = record { middle = refl }
 
-part_plain : (from : ℕ) (a : PartStage) → IsPlain (know_part from a)
+part_plain : (from : PartStart) (a : PartStage) → IsPlain (know_part from a)
 part_plain from part.New = record { middle = refl }
 part_plain from (part.Near x) = record { middle = refl }
 part_plain from (part.Probing x) = record { middle = refl }
@@ -122,11 +124,11 @@ lower_plain got (lower.Sinking l) = lowering_plain got l
 lower_plain got (lower.Ending r) = record { middle = refl }
 lower_plain got (lower.Over r) = record { middle = refl }
 
-climb_plain : (key value : ℕ) (path : Path) (got : ℕ → Page) (child : ℕ) (a : ClimbStage) → IsPlain (know_climb key value path got child a)
-climb_plain key value path got child (climb.Writing v) = write_plain (path_goes path) key (Insert value) got v.stage
-climb_plain key value path got child (climb.Posting q) = post_plain (inserted key value path) q.level q.key got child q.stage
-climb_plain key value path got child (climb.Ending r) = record { middle = refl }
-climb_plain key value path got child (climb.Over r) = record { middle = refl }
+climb_plain : (key : ℕ) (placing : Placing) (path : Path) (got : ℕ → Page) (child : ℕ) (a : ClimbStage) → IsPlain (know_climb key placing path got child a)
+climb_plain key placing path got child (climb.Writing v) = write_plain (path_goes path) key (write_of placing) got v.stage
+climb_plain key placing path got child (climb.Posting q) = post_plain (inserted key placing path) q.level q.key got child q.stage
+climb_plain key placing path got child (climb.Ending r) = record { middle = refl }
+climb_plain key placing path got child (climb.Over r) = record { middle = refl }
 
 -- whoever is in the middle of a compression compresses
 pub of_middle : (got : ℕ → Page) (child time : ℕ) (state : Proc) → ((know_of got child time state).middle ≡ None) ⊎ ((p : Press) × (state ≡ Compress p))
@@ -137,4 +139,4 @@ of_middle got child time (Part p) = inl (part_plain p.from p.stage).middle
 of_middle got child time (Compress p) = inr (p, refl)
 of_middle got child time (Reclaim p) = inl (reclaim_plain time p.stage).middle
 of_middle got child time (Lower p) = inl (lower_plain got p.stage).middle
-of_middle got child time (InsertPost p) = inl (climb_plain p.key p.value p.path got child p.stage).middle
+of_middle got child time (InsertPost p) = inl (climb_plain p.key p.placing p.path got child p.stage).middle

@@ -27,7 +27,7 @@ use Rattle.bl_proc_pages.specs.Onwards.{Leads}
 use Rattle.bl_proc_base.specs.Edits.{EntersPair}
 use Rattle.bl_proc_writes.specs.Posts.{post_reply, post_next_in, PostArrives, PostWalks}
 use Rattle.bl_proc_invariant.specs.Turns.{event_of, IsObserved, Does, Turned}
-use Rattle.bl_proc_invariant.specs.Tables.{Carried, carrying, holds_live, goes_to, IsAim, IsDue, IsBelow, know_approach, know_edit}
+use Rattle.bl_proc_invariant.specs.Tables.{Aim, Carried, carrying, holds_live, goes_to, IsAim, IsDue, IsBelow, know_approach, know_edit}
 use Rattle.bl_proc_invariant.specs.Knowing.{post_aim, know_post, LeavesPost, post_got, post_child}
 use Rattle.bl_proc_invariant.proofs.Acts.{watched}
 use Rattle.bl_proc_invariant.proofs.Approaching.{walks_held, wider, to_right, got_goes, approach_turn, give_up_turn, kept_turn, stay_turn}
@@ -52,10 +52,10 @@ post_fine carried level key child above = record {
     same : (a c : ℕ) → Some a ≡ Some c → a ≡ c
     same a c f = cc
 
-post_leaves : (o : Outcome) → IsBelow o → LeavesPost (post_reply o)
-post_leaves outcome.Edited h = tt
-post_leaves (outcome.SplitAt separator) h = h
-post_leaves outcome.Refused h = tt
+post_leaves : (aim : Aim) (o : Outcome) → IsBelow aim o → LeavesPost (post_reply o)
+post_leaves aim outcome.Edited h = tt
+post_leaves aim (outcome.SplitAt separator) h = h.1
+post_leaves aim outcome.Refused h = tt
 
 module _ {P : Type 0} (know : P → Know) (w : World P) (g : IsGood know w) (p : Name) (b : P) (carried : Carried) (level key : ℕ) (least : 0 < level) (limit : level ≤ 12) where
   -- at the parent
@@ -145,7 +145,7 @@ module _ {P : Type 0} (know : P → Know) (w : World P) (g : IsGood know w) (p :
           is = held.page;
           due = due;
           children = ((does.changes.1 v.at ∙ held.owner, found), tt);
-        }) refl enters)
+        }) refl refl enters)
 
   -- Every turn of a post. Where it ends it answers nothing, so it has said nothing.
   pub post_turn : {a a' : PostStage} {what : Seen} → PostCase level key a what a' → ((r : PostReply) → a ≡ post.Ending r → carried.said ≡ None) → (got : ℕ → Page) (child : ℕ) (s : State Page) → know (w.proc p) ≡ know_post carried level key got child a → know b ≡ know_post carried level key (post_got got a what) (post_child child a) a' → IsObserved w.now w.size (post_next_in a) what → Does w.now p (event_of None (post_next_in a) what) s → Turned know w p (event_of None (post_next_in a) what) s b
@@ -166,6 +166,6 @@ module _ {P : Type 0} (know : P → Know) (w : World P) (g : IsGood know w) (p :
   post_turn (PostCase.Stale v c x t) ends got child s before then observed does = lost_turn v got child s before does (rw t.0 at then)
   post_turn (PostCase.Lost v c a t) ends got child s before then observed does = again_turn v got child s before does (rw t.0 at then)
   post_turn (PostCase.Edited c what d t) ends got child s before then observed does = edit_turn know w g p b (post_aim carried level key child) (post_fine carried level key child least) got (edit_case c what _ t) s before then observed does
-  post_turn (PostCase.Finished c what r (o, t, same)) ends got child s before then observed does = finish_turn know w g p b (post_aim carried level key child) (post_fine carried level key child least) got (edit_case c what _ t) (LeavesPost r) s before then (λ h. subst LeavesPost (sym same) (post_leaves o h.1)) does
+  post_turn (PostCase.Finished c what r (o, t, same)) ends got child s before then observed does = finish_turn know w g p b (post_aim carried level key child) (post_fine carried level key child least) got (edit_case c what _ t) (LeavesPost r) s before then (λ h. subst LeavesPost (sym same) (post_leaves (post_aim carried level key child) o h.1)) does
   post_turn (PostCase.Opened x r last t) ends got child s before then observed does = stay_turn know w g p b carried level key x (LeavesPost r) s before (rw t at then) does
   post_turn (PostCase.Ended r last t) ends got child s before then observed does = end_turn know w g p b None carried.goes (LeavesPost r) s (rw (ends r refl) at before) (rw (ends r refl) at then) does

@@ -42,7 +42,7 @@ state_turn w p got child time (Compress a) (Compress c) b what s g before then t
 state_turn w p got child time (Lower a) (Lower c) b what s g before then t observed shown does =
     lower_turn know w g p b (lower_case a.stage what c.stage t) got s before then observed does
 state_turn w p got child time (InsertPost a) (InsertPost c) b what s g before then t observed shown does =
-    climb_turn w g p a.key a.value a.path c.path got child time (climb_case c.path a.stage what c.stage t.3) a.stands t.2 s b before (subst (λ k. know b ≡ know_climb k a.value c.path (climb_got got a.stage what) (climb_child child a.stage) c.stage) t.0 (subst (λ v. know b ≡ know_climb c.key v c.path (climb_got got a.stage what) (climb_child child a.stage) c.stage) t.1 then)) observed does
+    climb_turn w g p a.key a.placing a.path c.path got child time (climb_case c.path a.stage what c.stage t.3) a.stands t.2 s b before (subst (λ k. know b ≡ know_climb k a.placing c.path (climb_got got a.stage what) (climb_child child a.stage) c.stage) t.0 (subst (λ v. know b ≡ know_climb c.key v c.path (climb_got got a.stage what) (climb_child child a.stage) c.stage) t.1 then)) observed does
 state_turn w p got child time old new b what s g before then t observed shown does = absurd t
 
 -- Process p, which is a, was told this of its next action, truly, and goes to that state: from a good world this leads to a

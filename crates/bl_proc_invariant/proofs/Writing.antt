@@ -6,7 +6,7 @@ use Rattle.bl_model.specs.declared.deciding.Effect.{Effect}
 use Rattle.bl_model.specs.declared.deciding.Effect.TheVariants.{Keep, Enter, Remove, Replace}
 use Rattle.bl_model.specs.Map.{Map}
 use Rattle.bl_model.specs.Writes.{effect_of, effected}
-use Rattle.bl_model.proofs.Decisions.{is_decided, refused_step}
+use Rattle.bl_model.proofs.Decisions.{is_decided, may_have, refused_step}
 use Rattle.bl_page.specs.declared.page.Page.{Page}
 use Rattle.bl_page.specs.Machine.{Name, State, Act}
 use Rattle.bl_page.specs.Machine.Act.{Get}
@@ -95,16 +95,16 @@ module _ {P : Type 0} (know : P → Know) (w : World P) (g : IsGood know w) (p :
         is = refl;
         due = record { level = l.2; covers = l.1; was = look; changes = performs_change effect x page key c performs };
         children = tt;
-      }) refl performs)
+      }) refl (may_have does noted.there) performs)
 
   -- only the hint of a split leaves a post
-  write_leaves : (noted : Noted) (o : Outcome) → (is_change (effect_of does noted.there) ≡ true) × IsBelow o → LeavesWrite does (write_reply noted o)
+  write_leaves : (noted : Noted) (o : Outcome) → (is_change (effect_of does noted.there) ≡ true) × IsBelow (write_aim goes key does noted) o → LeavesWrite does (write_reply noted o)
   write_leaves noted outcome.Edited h = thin_leaves noted.there noted.thin
     where
       thin_leaves : (there thin : Option ℕ) → LeavesWrite does (written.Done there (thin_hint 1 thin))
       thin_leaves there None = tt
       thin_leaves there (Some low) = tt
-  write_leaves noted (outcome.SplitAt separator) h = h
+  write_leaves noted (outcome.SplitAt separator) h = h.1
   write_leaves noted outcome.Refused h = tt
 
   stay_turn : (x : ℕ) (there : Option ℕ) (got : ℕ → Page) (s : State Page) → know (w.proc p) ≡ know_write goes key does got (write.Keeping x there) → know b ≡ know_write goes key does got (write.Ending (written.Done there None)) → Does w.now p (Act.Open x) s → Turned know w p (Act.Open x) s b

@@ -4,7 +4,6 @@ use Rattle.bl_model.specs.declared.operation.Op.TheVariants as op
 use Rattle.bl_model.specs.declared.operation.Reply.{Reply}
 use Rattle.bl_model.specs.declared.operation.Reply.TheVariants as reply
 use Rattle.bl_model.specs.declared.deciding.KeyWrite.{KeyWrite}
-use Rattle.bl_model.specs.declared.deciding.KeyWrite.TheVariants.{Insert}
 use Rattle.bl_model.specs.declared.deciding.Effect.{Effect}
 use Rattle.bl_model.specs.declared.deciding.Effect.TheVariants.{Keep, Enter, Remove, Replace}
 use Rattle.bl_model.specs.Writes.{write_op, effect_of, effected, replied}
@@ -28,7 +27,9 @@ use Rattle.bl_proc_writes.specs.declared.writing.WriteStage.{WriteStage}
 use Rattle.bl_proc_writes.specs.declared.writing.WriteStage.TheVariants as write
 use Rattle.bl_proc.specs.declared.parts.PartRows.{PartRows}
 use Rattle.bl_proc.specs.declared.parts.PartStage.{PartStage}
+use Rattle.bl_proc.specs.declared.parts.PartStart.{PartStart}
 use Rattle.bl_proc.specs.declared.parts.PartStage.TheVariants as part
+use Rattle.bl_proc.specs.Parts.{part_op}
 use Rattle.bl_proc_base.specs.declared.growing.Growth.{Growth}
 use Rattle.bl_proc_base.specs.declared.growing.Growth.TheVariants as growth
 use Rattle.bl_proc_writes.specs.declared.posting.PostReply.{PostReply}
@@ -45,6 +46,8 @@ use Rattle.bl_proc.specs.declared.lowering.LowerStage.TheVariants as lower
 use Rattle.bl_proc_writes.specs.declared.paths.Path.{Path}
 use Rattle.bl_proc_writes.specs.declared.climbing.Climbed.{Climbed}
 use Rattle.bl_proc_writes.specs.declared.climbing.Climbed.TheVariants as climbed
+use Rattle.bl_proc_writes.specs.declared.climbing.Placing.{Placing}
+use Rattle.bl_proc_writes.specs.Placings.{write_of}
 use Rattle.bl_proc_writes.specs.declared.climbing.ClimbStage.{ClimbStage}
 use Rattle.bl_proc_writes.specs.declared.climbing.ClimbStage.TheVariants as climb
 use Rattle.bl_proc.specs.declared.kinds.Proc.{Proc}
@@ -84,14 +87,14 @@ know_find key (find.Over value) = late (found key value)
 
 -- Parts
 
-abbrev pub listed : ℕ → PartRows → Option Said
-listed from r = Some (record { op = op.Part from; reply = reply.Rows r.rows r.next })
+abbrev pub listed : PartStart → PartRows → Option Said
+listed from r = Some (record { op = part_op from; reply = reply.Rows r.rows r.next })
 
-abbrev pub know_part : ℕ → PartStage → Know
-know_part from part.New = early from
-know_part from (part.Near x) = early from
-know_part from (part.Probing x) = record (idle Stage.Busy) { sound = from < unbounded }
-know_part from (part.Descending d) = know_descent from d
+abbrev pub know_part : PartStart → PartStage → Know
+know_part from part.New = early from.key
+know_part from (part.Near x) = early from.key
+know_part from (part.Probing x) = record (idle Stage.Busy) { sound = from.key < unbounded }
+know_part from (part.Descending d) = know_descent from.key d
 know_part from (part.Ending r) = ending (listed from r)
 know_part from (part.Over r) = late (listed from r)
 
@@ -123,9 +126,9 @@ write_aim goes key does noted = record {
   children = λ x. [];
 }
 
--- what is known of the post that a write leaves: the pair was changed, and the separator is a key of the tree
+-- what is known of the post that a write leaves: the pair has entered, and the separator is a key of the tree
 abbrev pub LeavesWrite : KeyWrite → WriteReply → Type 0
-LeavesWrite does (written.Done there (Some (hint.Post level separator))) = (is_change (effect_of does there) ≡ true) × (separator < unbounded)
+LeavesWrite does (written.Done there (Some (hint.Post level separator))) = (there ≡ None) × (separator < unbounded)
 LeavesWrite does r = Unit {0}
 
 abbrev pub know_write : List Goes → ℕ → KeyWrite → (ℕ → Page) → WriteStage → Know
@@ -202,7 +205,7 @@ know_post carried level key got child (post.Staying x r) = record (carrying carr
 know_post carried level key got child (post.Ending r) = record (ending carried.said) { goes = carried.goes; sound = LeavesPost r }
 know_post carried level key got child (post.Over r) = late carried.said
 
--- Insertions that post: all the time they may go to each page that they have noted, which is of the level for which it is noted.
+-- Writes that post: all the time they may go to each page that they have noted, which is of the level for which it is noted.
 
 -- the pages that are noted from that level on
 abbrev pub goes_above : ℕ → List ℕ → List Goes
@@ -213,26 +216,26 @@ goes_above level (suc x ∷ rest) = goes_to (suc x) level level ∷ goes_above (
 abbrev pub path_goes : Path → List Goes
 path_goes path = goes_above 1 path.pages
 
-abbrev pub climbed_reply : ℕ → Climbed → Reply
-climbed_reply value (climbed.Unsplit r) = written_reply (Insert value) r
-climbed_reply value (climbed.Posted level k r) = reply.Inserted
+abbrev pub climbed_reply : Placing → Climbed → Reply
+climbed_reply placing (climbed.Unsplit r) = written_reply (write_of placing) r
+climbed_reply placing (climbed.Posted level k r) = reply.Inserted
 
-abbrev pub climbed_said : ℕ → ℕ → Climbed → Option Said
-climbed_said key value r = Some (record { op = write_op key (Insert value); reply = climbed_reply value r })
+abbrev pub climbed_said : ℕ → Placing → Climbed → Option Said
+climbed_said key placing r = Some (record { op = write_op key (write_of placing); reply = climbed_reply placing r })
 
-abbrev pub LeavesClimb : ℕ → Climbed → Type 0
-LeavesClimb value (climbed.Unsplit r) = LeavesWrite (Insert value) r
-LeavesClimb value (climbed.Posted level k r) = LeavesPost r
+abbrev pub LeavesClimb : Placing → Climbed → Type 0
+LeavesClimb placing (climbed.Unsplit r) = LeavesWrite (write_of placing) r
+LeavesClimb placing (climbed.Posted level k r) = LeavesPost r
 
 -- when it posts it has said that its pair has entered
-abbrev pub inserted : ℕ → ℕ → Path → Carried
-inserted key value path = record { said = Some (record { op = write_op key (Insert value); reply = reply.Inserted }); goes = path_goes path }
+abbrev pub inserted : ℕ → Placing → Path → Carried
+inserted key placing path = record { said = Some (record { op = write_op key (write_of placing); reply = reply.Inserted }); goes = path_goes path }
 
-abbrev pub know_climb : ℕ → ℕ → Path → (ℕ → Page) → ℕ → ClimbStage → Know
-know_climb key value path got child (climb.Writing w) = know_write (path_goes path) key (Insert value) got w.stage
-know_climb key value path got child (climb.Posting p) = know_post (inserted key value path) p.level p.key got child p.stage
-know_climb key value path got child (climb.Ending r) = record (ending (climbed_said key value r)) { goes = path_goes path; sound = LeavesClimb value r }
-know_climb key value path got child (climb.Over r) = late (climbed_said key value r)
+abbrev pub know_climb : ℕ → Placing → Path → (ℕ → Page) → ℕ → ClimbStage → Know
+know_climb key placing path got child (climb.Writing w) = know_write (path_goes path) key (write_of placing) got w.stage
+know_climb key placing path got child (climb.Posting p) = know_post (inserted key placing path) p.level p.key got child p.stage
+know_climb key placing path got child (climb.Ending r) = record (ending (climbed_said key placing r)) { goes = path_goes path; sound = LeavesClimb placing r }
+know_climb key placing path got child (climb.Over r) = late (climbed_said key placing r)
 
 -- Compressions: they answer no operation of the map
 
@@ -287,7 +290,7 @@ know_of got child time (proc.Part p) = know_part p.from p.stage
 know_of got child time (proc.Compress p) = know_compress p.level p.key got p.stage
 know_of got child time (proc.Reclaim p) = know_reclaim time p.stage
 know_of got child time (proc.Lower p) = know_lower got p.stage
-know_of got child time (proc.InsertPost p) = know_climb p.key p.value p.path got child p.stage
+know_of got child time (proc.InsertPost p) = know_climb p.key p.placing p.path got child p.stage
 
 -- by its state alone
 abbrev pub know : Run → Know
@@ -318,11 +321,11 @@ write_end does (write.Editing noted c) = None
 write_end does (write.Ending r) = Some (written_reply does r)
 write_end does (write.Over r) = None
 
-abbrev pub climb_end : ℕ → ClimbStage → Option Reply
-climb_end value (climb.Writing w) = write_end (Insert value) w.stage
-climb_end value (climb.Posting p) = None
-climb_end value (climb.Ending r) = Some (climbed_reply value r)
-climb_end value (climb.Over r) = None
+abbrev pub climb_end : Placing → ClimbStage → Option Reply
+climb_end placing (climb.Writing w) = write_end (write_of placing) w.stage
+climb_end placing (climb.Posting p) = None
+climb_end placing (climb.Ending r) = Some (climbed_reply placing r)
+climb_end placing (climb.Over r) = None
 
 abbrev pub end_of_proc : Proc → Option Reply
 end_of_proc (proc.Find p) = find_end p.stage
@@ -332,7 +335,7 @@ end_of_proc (proc.Part p) = part_end p.stage
 end_of_proc (proc.Compress p) = None
 end_of_proc (proc.Reclaim p) = None
 end_of_proc (proc.Lower p) = None
-end_of_proc (proc.InsertPost p) = climb_end p.value p.stage
+end_of_proc (proc.InsertPost p) = climb_end p.placing p.stage
 
 -- what a process has got of the pages that it holds, after it was told this
 abbrev pub write_got : (ℕ → Page) → WriteStage → Seen → ℕ → Page

@@ -1,7 +1,6 @@
 -- What a process has done so far, in each of its states: enough to tell in the end what its answer and its hint mean.
 use Rattle.std.specs.Prelude.{◌≡◌, ◌≢◌, ◌⊎◌, ℕ, suc, Option, None, Some, ◌++◌, List, [], ◌∷◌, length, Contains}
 use Rattle.bl_model.specs.declared.operation.Reply.{Reply}
-use Rattle.bl_model.specs.declared.operation.Reply.TheVariants as tells
 use Rattle.bl_page.specs.declared.page.Page.{Page}
 use Rattle.bl_page.specs.declared.page.Page.TheVariants.{Inner}
 use Rattle.bl_page.specs.Machine.{Name, Act}
@@ -40,22 +39,22 @@ use Rattle.bl_proc_compress.specs.declared.squeezing.CompressStage.TheVariants a
 use Rattle.bl_claims.specs.Squeezed.{Since, AtParent, Once, HasMerged, HasEvened, HasEnough, HasUnposted, HasNoLevel, HasOneChild, LacksPlace}
 use Rattle.bl_proc_compress.specs.Compressions.{Decides, other}
 use Rattle.bl_model.specs.declared.deciding.KeyWrite.{KeyWrite}
-use Rattle.bl_model.specs.declared.deciding.KeyWrite.TheVariants.{Insert}
 use Rattle.bl_model.specs.declared.deciding.Effect.{Effect}
 use Rattle.bl_model.specs.declared.deciding.Effect.TheVariants.{Keep, Enter, Remove, Replace}
-use Rattle.bl_model.specs.Writes.{effect_of, Deed, deed_of}
-use Rattle.bl_model.specs.Writes.Deed.{Kept, Entered, Removed, Replaced}
+use Rattle.bl_model.specs.Writes.{effect_of, deed_of}
 use Rattle.bl_proc_writes.specs.declared.writing.Noted.{Noted}
 use Rattle.bl_proc_writes.specs.declared.writing.WriteReply.{WriteReply}
 use Rattle.bl_proc_writes.specs.declared.writing.WriteReply.TheVariants as written
 use Rattle.bl_proc_writes.specs.declared.writing.WriteStage.{WriteStage}
 use Rattle.bl_proc_writes.specs.declared.writing.WriteStage.TheVariants as write
 use Rattle.bl_proc_base.specs.Thin.{thin_low}
-use Rattle.bl_claims.specs.Hinted.{WroteLeaf, MeansWritten}
+use Rattle.bl_claims.specs.Hinted.{WroteLeaf, WrittenSo}
 use Rattle.bl_claims.specs.Lowered.{MeansLowered}
 use Rattle.bl_claims.specs.Climbed.{PostsUp, WroteAndPosted}
 use Rattle.bl_proc_invariant.specs.LoweringLog.{lowering_log}
 use Rattle.bl_proc_invariant.specs.Knowing.{Run}
+use Rattle.bl_proc_writes.specs.declared.climbing.Placing.{Placing}
+use Rattle.bl_proc_writes.specs.Placings.{write_of}
 use Rattle.bl_proc_writes.specs.declared.climbing.Climbed.{Climbed}
 use Rattle.bl_proc_writes.specs.declared.climbing.Climbed.TheVariants as climbed
 use Rattle.bl_proc_writes.specs.declared.climbing.ClimbStage.{ClimbStage}
@@ -191,15 +190,8 @@ abbrev pub MaySplit : Effect → Type 0
 MaySplit (Enter value) = Unit {0}
 MaySplit effect = ⊥
 
--- a reply that tells of the deed
-abbrev pub reply_for : Deed → Reply
-reply_for Kept = tells.Absent
-reply_for Entered = tells.Inserted
-reply_for Removed = tells.Deleted 0
-reply_for Replaced = tells.Changed
-
 abbrev pub effect_log : Effect → Option Hint → Trail → Type 0
-effect_log effect hint marks = MeansWritten (reply_for (deed_of effect)) hint marks
+effect_log effect = WrittenSo (deed_of effect)
 
 abbrev pub written_log : KeyWrite → WriteReply → Trail → Type 0
 written_log does (written.Done there hint) marks = effect_log (effect_of does there) hint marks
@@ -315,15 +307,15 @@ pub record IsPostingOn (Does : Trail → Type 0) (level key : ℕ) (marks : Trai
   pub does : Does (begin ∷ rest)
   pub whole : (a : Posted) (left : Option Hint) (more : Trail) → PostsUp begin a left level key more → WroteAndPosted a left (before ++ more)
 
-abbrev pub climbed_log : ℕ → Climbed → Trail → Type 0
-climbed_log value (climbed.Unsplit r) marks = written_log (Insert value) r marks × IsUnsplit r
-climbed_log value (climbed.Posted level key r) marks = WroteAndPosted (posted_as r) (left_hint level key (posted_as r)) marks
+abbrev pub climbed_log : Placing → Climbed → Trail → Type 0
+climbed_log placing (climbed.Unsplit r) marks = written_log (write_of placing) r marks × IsUnsplit r
+climbed_log placing (climbed.Posted level key r) marks = WroteAndPosted (posted_as r) (left_hint level key (posted_as r)) marks
 
-abbrev pub climb_log : ℕ → ClimbStage → Trail → Type 0
-climb_log value (climb.Writing w) marks = write_log (Insert value) w.stage marks
-climb_log value (climb.Posting p) marks = IsPostingOn (post_log p.level p.key p.stage) p.level p.key marks
-climb_log value (climb.Ending r) marks = climbed_log value r marks
-climb_log value (climb.Over r) marks = climbed_log value r marks
+abbrev pub climb_log : Placing → ClimbStage → Trail → Type 0
+climb_log placing (climb.Writing w) marks = write_log (write_of placing) w.stage marks
+climb_log placing (climb.Posting p) marks = IsPostingOn (post_log p.level p.key p.stage) p.level p.key marks
+climb_log placing (climb.Ending r) marks = climbed_log placing r marks
+climb_log placing (climb.Over r) marks = climbed_log placing r marks
 
 -- Searches and parts write nothing.
 abbrev pub proc_log : Proc → Trail → Type 0
@@ -334,7 +326,7 @@ proc_log (proc.Part p) marks = writes_of marks ≡ []
 proc_log (proc.Compress p) marks = compress_log p.level p.key p.stage marks
 proc_log (proc.Reclaim p) marks = Unit {0}
 proc_log (proc.Lower p) marks = lower_log p.stage marks
-proc_log (proc.InsertPost p) marks = climb_log p.value p.stage marks
+proc_log (proc.InsertPost p) marks = climb_log p.placing p.stage marks
 
 -- Each process has done what its state tells of.
 abbrev pub AllLogs : World Run → Type 0

@@ -103,11 +103,14 @@ pub record IsDue (aim : Aim) (c : Page) : Type 0 where
   pub was : (node_of c).look aim.key ≡ aim.was
   pub changes : aim.changes ≡ true
 
--- the separator of a page that was split is a key of the tree
-abbrev pub IsBelow : Outcome → Type 0
-IsBelow outcome.Edited = Unit {0}
-IsBelow (outcome.SplitAt separator) = separator < unbounded
-IsBelow outcome.Refused = Unit {0}
+-- only a key that was not listed splits a page, and the separator is a key of the tree
+abbrev pub SplitsAt : Aim → ℕ → Type 0
+SplitsAt aim separator = (aim.was ≡ None) × (separator < unbounded)
+
+abbrev pub IsBelow : Aim → Outcome → Type 0
+IsBelow aim outcome.Edited = Unit {0}
+IsBelow aim (outcome.SplitAt separator) = SplitsAt aim separator
+IsBelow aim outcome.Refused = Unit {0}
 
 -- got is what the process got of the page under its latch.
 abbrev pub know_edit : Aim → (ℕ → Page) → Edit → Know
@@ -121,13 +124,13 @@ know_edit aim got (Taking full) =
     record (carrying aim.carried) {
       holds = holds_known full.at full.page ∷ [];
       children = aim.children full.at;
-      sound = IsDue aim full.page × (full.key ≡ aim.key) × (Some full.word ≡ aim.word) × (got full.at ≡ full.page);
+      sound = IsDue aim full.page × (full.key ≡ aim.key) × (Some full.word ≡ aim.word) × (got full.at ≡ full.page) × (aim.was ≡ None);
     }
 know_edit aim got (PuttingNew p) =
     record (carrying aim.carried) {
       holds = holds_known p.at (got p.at) ∷ record { at = p.new; status = Fresh; sep = None; page = None } ∷ [];
       children = aim.children p.at;
-      sound = IsDue aim (got p.at) × IsCut p.new aim.key aim.word (node_of (got p.at)) (node_of p.left) (node_of p.right) × (p.separator < unbounded);
+      sound = IsDue aim (got p.at) × IsCut p.new aim.key aim.word (node_of (got p.at)) (node_of p.left) (node_of p.right) × SplitsAt aim p.separator;
     }
 know_edit aim got (PuttingOld p) =
     record (carrying aim.carried) {
@@ -138,12 +141,12 @@ know_edit aim got (PuttingOld p) =
         page = Some p.right;
       } ∷ [];
       children = aim.children p.at;
-      sound = IsDue aim (got p.at) × IsCut p.new aim.key aim.word (node_of (got p.at)) (node_of p.left) (node_of p.right) × (p.separator < unbounded);
+      sound = IsDue aim (got p.at) × IsCut p.new aim.key aim.word (node_of (got p.at)) (node_of p.left) (node_of p.right) × SplitsAt aim p.separator;
     }
 know_edit aim got (OpeningNew x new separator) =
     record (carrying aim.carried) {
       said = aim.said (outcome.SplitAt separator);
       holds = holds_live x ∷ holds_live new ∷ [];
-      sound = (x ≢ new) × (aim.changes ≡ true) × (separator < unbounded);
+      sound = (x ≢ new) × (aim.changes ≡ true) × SplitsAt aim separator;
     }
-know_edit aim got (Opening x o) = record (carrying aim.carried) { said = aim.said o; holds = holds_live x ∷ []; sound = (aim.changes ≡ true) × IsBelow o }
+know_edit aim got (Opening x o) = record (carrying aim.carried) { said = aim.said o; holds = holds_live x ∷ []; sound = (aim.changes ≡ true) × IsBelow aim o }

@@ -1,7 +1,6 @@
 -- Who latches a page while it holds none, and who holds none since it has answered.
 use Rattle.std.proofs.Common.{ℕ, ◌≡◌, ◌≢◌, ◌<◌, Some, List, [], arith, refl}
 use Rattle.bl_model.specs.declared.deciding.KeyWrite.{KeyWrite}
-use Rattle.bl_model.specs.declared.deciding.KeyWrite.TheVariants.{Insert}
 use Rattle.bl_page.specs.declared.page.Page.{Page}
 use Rattle.bl_core.specs.Worlds.{Goes}
 use Rattle.bl_proc_base.specs.declared.acts.Action.TheVariants as act
@@ -25,6 +24,7 @@ use Rattle.bl_proc_compress.specs.Compresses.{compress_answer_in}
 use Rattle.bl_proc.specs.declared.searching.FindStage.{FindStage}
 use Rattle.bl_proc.specs.declared.searching.FindStage.TheVariants as find
 use Rattle.bl_proc.specs.declared.parts.PartStage.{PartStage}
+use Rattle.bl_proc.specs.declared.parts.PartStart.{PartStart}
 use Rattle.bl_proc.specs.declared.parts.PartStage.TheVariants as part
 use Rattle.bl_proc_writes.specs.declared.writing.WriteStage.{WriteStage}
 use Rattle.bl_proc_writes.specs.declared.writing.WriteStage.TheVariants as write
@@ -51,6 +51,8 @@ use Rattle.bl_proc_invariant.specs.Tables.{Carried, unsaid, know_approach}
 use Rattle.bl_proc_invariant.specs.Lowering.{know_lowering}
 use Rattle.bl_proc_progress.specs.Holds.{approach_hold, edit_hold, growth_hold, lowering_hold, squeeze_hold, write_hold, post_hold, compress_hold, lower_hold, climb_hold, hold_of}
 use Rattle.bl_proc_invariant.specs.Knowing.{path_goes, inserted, know_find, know_part, know_growth, know_write, know_post, know_climb, know_compress, know_reclaim, know_lower, know_of}
+use Rattle.bl_proc_writes.specs.declared.climbing.Placing.{Placing}
+use Rattle.bl_proc_writes.specs.Placings.{write_of}
 
 -- What a process holds that is to latch a page
 
@@ -91,11 +93,11 @@ post_alone carried level key got child (post.Staying y r) x e = absurd (cc e)
 post_alone carried level key got child (post.Ending r) x e = refl
 post_alone carried level key got child (post.Over r) x e = refl
 
-pub climb_alone : (key value : ℕ) (path : Path) (got : ℕ → Page) (child : ℕ) (a : ClimbStage) (x : ℕ) → climb_next_in a ≡ act.Latch x → (know_climb key value path got child a).holds ≡ []
-climb_alone key value path got child (climb.Writing v) x e = write_alone (path_goes path) key (Insert value) got v.stage x e
-climb_alone key value path got child (climb.Posting q) x e = post_alone (inserted key value path) q.level q.key got child q.stage x e
-climb_alone key value path got child (climb.Ending r) x e = refl
-climb_alone key value path got child (climb.Over r) x e = refl
+pub climb_alone : (key : ℕ) (placing : Placing) (path : Path) (got : ℕ → Page) (child : ℕ) (a : ClimbStage) (x : ℕ) → climb_next_in a ≡ act.Latch x → (know_climb key placing path got child a).holds ≡ []
+climb_alone key placing path got child (climb.Writing v) x e = write_alone (path_goes path) key (write_of placing) got v.stage x e
+climb_alone key placing path got child (climb.Posting q) x e = post_alone (inserted key placing path) q.level q.key got child q.stage x e
+climb_alone key placing path got child (climb.Ending r) x e = refl
+climb_alone key placing path got child (climb.Over r) x e = refl
 
 pub coming_alone : (level key : ℕ) (a : Approach) (x : ℕ) → approach_next a ≡ act.Latch x → (know_approach (unsaid []) level key a).holds ≡ []
 coming_alone level key a x e = approach_alone (unsaid []) level key a x e
@@ -128,7 +130,7 @@ find_over : (key : ℕ) (a : FindStage) (answer : Answer) → find_answer_in a �
 find_over key (find.Over value) answer e = refl
 find_over key old answer e = absurd (cc e)
 
-part_over : (from : ℕ) (a : PartStage) (answer : Answer) → part_answer_in a ≡ Some answer → (know_part from a).holds ≡ []
+part_over : (from : PartStart) (a : PartStage) (answer : Answer) → part_answer_in a ≡ Some answer → (know_part from a).holds ≡ []
 part_over from (part.Over r) answer e = refl
 part_over from old answer e = absurd (cc e)
 
@@ -152,9 +154,9 @@ lower_over : (got : ℕ → Page) (a : LowerStage) (answer : Answer) → lower_a
 lower_over got (lower.Over r) answer e = refl
 lower_over got old answer e = absurd (cc e)
 
-climb_over : (key value : ℕ) (path : Path) (got : ℕ → Page) (child : ℕ) (a : ClimbStage) (answer : Answer) → climb_answer_in value a ≡ Some answer → (know_climb key value path got child a).holds ≡ []
-climb_over key value path got child (climb.Over r) answer e = refl
-climb_over key value path got child old answer e = absurd (cc e)
+climb_over : (key : ℕ) (placing : Placing) (path : Path) (got : ℕ → Page) (child : ℕ) (a : ClimbStage) (answer : Answer) → climb_answer_in placing a ≡ Some answer → (know_climb key placing path got child a).holds ≡ []
+climb_over key placing path got child (climb.Over r) answer e = refl
+climb_over key placing path got child old answer e = absurd (cc e)
 
 pub answered_holds : (got : ℕ → Page) (child time : ℕ) (old : Proc) (answer : Answer) → answer_of old ≡ Some answer → (know_of got child time old).holds ≡ []
 answered_holds got child time (proc.Find a) answer e = find_over a.key a.stage answer e
@@ -164,7 +166,7 @@ answered_holds got child time (proc.Part a) answer e = part_over a.from a.stage 
 answered_holds got child time (proc.Compress a) answer e = compress_over a.level a.key got a.stage answer e
 answered_holds got child time (proc.Reclaim a) answer e = reclaim_over time a.stage answer e
 answered_holds got child time (proc.Lower a) answer e = lower_over got a.stage answer e
-answered_holds got child time (proc.InsertPost a) answer e = climb_over a.key a.value a.path got child a.stage answer e
+answered_holds got child time (proc.InsertPost a) answer e = climb_over a.key a.placing a.path got child a.stage answer e
 
 -- What a process holds of whose turns none is left until it holds none: nothing
 
@@ -237,11 +239,11 @@ lower_none got (lower.Sinking l) e = lowering_none got l e
 lower_none got (lower.Ending r) e = refl
 lower_none got (lower.Over r) e = refl
 
-climb_none : (key value : ℕ) (path : Path) (got : ℕ → Page) (child : ℕ) (a : ClimbStage) → climb_hold a ≡ 0 → (know_climb key value path got child a).holds ≡ []
-climb_none key value path got child (climb.Writing w) e = write_none (path_goes path) key (Insert value) got w.stage e
-climb_none key value path got child (climb.Posting p) e = post_none (inserted key value path) p.level p.key got child p.stage e
-climb_none key value path got child (climb.Ending r) e = refl
-climb_none key value path got child (climb.Over r) e = refl
+climb_none : (key : ℕ) (placing : Placing) (path : Path) (got : ℕ → Page) (child : ℕ) (a : ClimbStage) → climb_hold a ≡ 0 → (know_climb key placing path got child a).holds ≡ []
+climb_none key placing path got child (climb.Writing w) e = write_none (path_goes path) key (write_of placing) got w.stage e
+climb_none key placing path got child (climb.Posting p) e = post_none (inserted key placing path) p.level p.key got child p.stage e
+climb_none key placing path got child (climb.Ending r) e = refl
+climb_none key placing path got child (climb.Over r) e = refl
 
 find_none : (key : ℕ) (a : FindStage) → (know_find key a).holds ≡ []
 find_none key find.New = refl
@@ -251,7 +253,7 @@ find_none key (find.Descending d) = refl
 find_none key (find.Ending value) = refl
 find_none key (find.Over value) = refl
 
-part_none : (from : ℕ) (a : PartStage) → (know_part from a).holds ≡ []
+part_none : (from : PartStart) (a : PartStage) → (know_part from a).holds ≡ []
 part_none from part.New = refl
 part_none from (part.Near x) = refl
 part_none from (part.Probing x) = refl
@@ -273,4 +275,4 @@ over_holds got child time (proc.Part a) e = part_none a.from a.stage
 over_holds got child time (proc.Compress a) e = compress_none a.level a.key got a.stage e
 over_holds got child time (proc.Reclaim a) e = reclaim_none time a.stage
 over_holds got child time (proc.Lower a) e = lower_none got a.stage e
-over_holds got child time (proc.InsertPost a) e = climb_none a.key a.value a.path got child a.stage e
+over_holds got child time (proc.InsertPost a) e = climb_none a.key a.placing a.path got child a.stage e

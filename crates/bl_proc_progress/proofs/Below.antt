@@ -162,7 +162,7 @@ module _ (w : World Run) (g : IsGood know w) (p : Name) where
     state_below got child time (proc.Reclaim a) x is e = absurd (reclaim_looks a.page a.stage x e)
     state_below got child time (proc.Write a) x is e = absurd (holds_none (know_of got child time (proc.Write a)) is (write_alone [] a.key a.write got a.stage x e))
     state_below got child time (proc.Post a) x is e = absurd (holds_none (know_of got child time (proc.Post a)) is (post_alone _ a.level a.key got child a.stage x e))
-    state_below got child time (proc.InsertPost a) x is e = absurd (holds_none (know_of got child time (proc.InsertPost a)) is (climb_alone a.key a.value a.path got child a.stage x e))
+    state_below got child time (proc.InsertPost a) x is e = absurd (holds_none (know_of got child time (proc.InsertPost a)) is (climb_alone a.key a.placing a.path got child a.stage x e))
     state_below got child time (proc.Compress a) x is e = compress_below a.level a.key got a.stage x is e
     state_below got child time (proc.Lower a) x is e = lower_below got a.stage x is e
 

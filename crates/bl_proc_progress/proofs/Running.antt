@@ -2,7 +2,6 @@
 use Rattle.std.proofs.Common.{ℕ, ◌≡◌, ◌<◌, Some, None, List, [], arith, refl, inl, inr, subst}
 use Rattle.std.proofs.lemmas.Bool.{cases_lt}
 use Rattle.bl_model.specs.declared.deciding.KeyWrite.{KeyWrite}
-use Rattle.bl_model.specs.declared.deciding.KeyWrite.TheVariants.{Insert}
 use Rattle.bl_page.specs.declared.page.Page.{Page}
 use Rattle.bl_page.specs.Machine.{Name, IsRunning}
 use Rattle.bl_page.specs.Machine.Owner.{Held}
@@ -37,6 +36,8 @@ use Rattle.bl_proc_invariant.specs.Lowering.{know_lowering}
 use Rattle.bl_proc_invariant.specs.Knowing.{Run, path_goes, inserted, know_growth, know_write, know_post, know_climb, know_compress, know_lower, know_of, know}
 use Rattle.bl_proc_progress.specs.Holds.{write_hold, post_hold, compress_hold, lower_hold, climb_hold, hold_of}
 use Rattle.bl_proc_progress.proofs.Nearing.{holds_none}
+use Rattle.bl_proc_writes.specs.declared.climbing.Placing.{Placing}
+use Rattle.bl_proc_writes.specs.Placings.{write_of}
 
 approach_busy : (carried : Carried) → (level key : ℕ) (a : Approach) → (know_approach carried level key a).stage ≡ Busy
 approach_busy carried level key way.Start = refl
@@ -121,11 +122,11 @@ lower_busy got (lower.Sinking l) some = lowering_busy got l
 lower_busy got (lower.Ending r) some = refl
 lower_busy got (lower.Over r) some = absurd (omega (arith, some))
 
-climb_busy : (key value : ℕ) (path : Path) (got : ℕ → Page) (child : ℕ) (a : ClimbStage) → 0 < climb_hold a → (know_climb key value path got child a).stage ≡ Busy
-climb_busy key value path got child (climb.Writing w) some = write_busy (path_goes path) key (Insert value) got w.stage some
-climb_busy key value path got child (climb.Posting p) some = post_busy (inserted key value path) p.level p.key got child p.stage some
-climb_busy key value path got child (climb.Ending r) some = refl
-climb_busy key value path got child (climb.Over r) some = absurd (omega (arith, some))
+climb_busy : (key : ℕ) (placing : Placing) (path : Path) (got : ℕ → Page) (child : ℕ) (a : ClimbStage) → 0 < climb_hold a → (know_climb key placing path got child a).stage ≡ Busy
+climb_busy key placing path got child (climb.Writing w) some = write_busy (path_goes path) key (write_of placing) got w.stage some
+climb_busy key placing path got child (climb.Posting p) some = post_busy (inserted key placing path) p.level p.key got child p.stage some
+climb_busy key placing path got child (climb.Ending r) some = refl
+climb_busy key placing path got child (climb.Over r) some = absurd (omega (arith, some))
 
 busy_of : (got : ℕ → Page) (child time : ℕ) (old : Proc) → 0 < hold_of old → (know_of got child time old).stage ≡ Busy
 busy_of got child time (proc.Find a) some = absurd (omega (arith, some))
@@ -135,7 +136,7 @@ busy_of got child time (proc.Write a) some = write_busy [] a.key a.write got a.s
 busy_of got child time (proc.Post a) some = post_busy _ a.level a.key got child a.stage some
 busy_of got child time (proc.Compress a) some = compress_busy a.level a.key got a.stage some
 busy_of got child time (proc.Lower a) some = lower_busy got a.stage some
-busy_of got child time (proc.InsertPost a) some = climb_busy a.key a.value a.path got child a.stage some
+busy_of got child time (proc.InsertPost a) some = climb_busy a.key a.placing a.path got child a.stage some
 
 pub holder_runs : (w : World Run) (p : Name) (x : ℕ) → IsGood know w → w.now.owner x ≡ Held p → IsRunning w.now p
 holder_runs w p x g held =

@@ -3,7 +3,6 @@ use Rattle.std.proofs.Common.{ℕ, ◌≡◌, ◌≢◌, ◌⊎◌, ◌+◌, ◌
 use Rattle.std.proofs.lemmas.Bool.{cases_eq}
 use Rattle.std.proofs.lemmas.List.{length-take-le, length-append}
 use Rattle.bl_model.specs.declared.deciding.KeyWrite.{KeyWrite}
-use Rattle.bl_model.specs.declared.deciding.KeyWrite.TheVariants.{Insert}
 use Rattle.bl_page.specs.declared.page.Page.{Page}
 use Rattle.bl_page.specs.declared.page.Page.TheVariants.{Anchor, Leaf, Inner, Dead}
 use Rattle.bl_page.specs.Machine.{Name}
@@ -45,6 +44,8 @@ use Rattle.bl_proc_writes.specs.declared.climbing.ClimbStage.TheVariants as clim
 use Rattle.bl_proc_writes.specs.Writes.{write_next_in}
 use Rattle.bl_proc_writes.specs.Posts.{post_next_in, PostGoes}
 use Rattle.bl_proc_writes.specs.Climbs.{climb_next_in, ClimbGoes}
+use Rattle.bl_proc_writes.specs.declared.climbing.Placing.{Placing}
+use Rattle.bl_proc_writes.specs.Placings.{write_of}
 use Rattle.bl_proc.specs.declared.searching.FindStage.{FindStage}
 use Rattle.bl_proc.specs.declared.searching.FindStage.TheVariants as find
 use Rattle.bl_proc.specs.declared.parts.PartStage.{PartStage}
@@ -66,6 +67,8 @@ use Rattle.bl_proc_invariant.specs.Compressing.{know_squeeze}
 use Rattle.bl_proc_invariant.specs.Knowing.{Run, path_goes, inserted, know_growth, know_write, know_post, know_compress, know_lower, know_climb, know_of, know}
 use Rattle.bl_proc_ends.specs.Budget.{lower_puts, puts_of, room_above, IsRaisingIn, IsRaisingUp, IsRaising, IsSinkingIn, IsSinking}
 use Rattle.bl_proc_ends.proofs.Spending.{spends}
+use Rattle.bl_proc_writes.specs.declared.climbing.Placing.{Placing}
+use Rattle.bl_proc_writes.specs.Placings.{write_of}
 
 anchor_levels : (c : Page) (leftmost : List ℕ) → IsAnchor leftmost c → (roots_of c).levels ≡ length leftmost
 anchor_levels (Anchor a) leftmost h = ap length h
@@ -161,11 +164,11 @@ module _ (w : World Run) (g : IsGood know w) (p : Name) where
   lower_off got (lower.Sinking l) x c is e = lowering_off got l x c is e
   lower_off got old x c is e = absurd (cc e)
 
-  climb_off : (key value : ℕ) (path : Path) (got : ℕ → Page) (child : ℕ) (a : ClimbStage) (x : ℕ) (c : Page) → IsSure w p (know_climb key value path got child a) → climb_next_in a ≡ act.Put x c → Elsewhere x c (IsRaisingUp a) ⊥
-  climb_off key value path got child (climb.Writing v) x c is e = inl (write_off (path_goes path) key (Insert value) got v.stage x c is e)
-  climb_off key value path got child (climb.Posting q) x c is e = post_off (inserted key value path) q.level q.key got child q.stage x c is e
-  climb_off key value path got child (climb.Ending r) x c is e = absurd (cc e)
-  climb_off key value path got child (climb.Over r) x c is e = absurd (cc e)
+  climb_off : (key : ℕ) (placing : Placing) (path : Path) (got : ℕ → Page) (child : ℕ) (a : ClimbStage) (x : ℕ) (c : Page) → IsSure w p (know_climb key placing path got child a) → climb_next_in a ≡ act.Put x c → Elsewhere x c (IsRaisingUp a) ⊥
+  climb_off key placing path got child (climb.Writing v) x c is e = inl (write_off (path_goes path) key (write_of placing) got v.stage x c is e)
+  climb_off key placing path got child (climb.Posting q) x c is e = post_off (inserted key placing path) q.level q.key got child q.stage x c is e
+  climb_off key placing path got child (climb.Ending r) x c is e = absurd (cc e)
+  climb_off key placing path got child (climb.Over r) x c is e = absurd (cc e)
 
   find_none : (a : FindStage) (x : ℕ) (c : Page) → find_next_in a ≡ act.Put x c → ⊥
   find_none find.New x c e = cc
@@ -197,7 +200,7 @@ module _ (w : World Run) (g : IsGood know w) (p : Name) where
   state_off got child time (proc.Post a) x c is e = post_off alone a.level a.key got child a.stage x c is e
   state_off got child time (proc.Compress a) x c is e = inl (compress_off a.level a.key got a.stage x c is e)
   state_off got child time (proc.Lower a) x c is e = lower_off got a.stage x c is e
-  state_off got child time (proc.InsertPost a) x c is e = climb_off a.key a.value a.path got child a.stage x c is e
+  state_off got child time (proc.InsertPost a) x c is e = climb_off a.key a.placing a.path got child a.stage x c is e
 
   pub anchor_puts : (x : ℕ) (c : Page) → next_of (w.proc p).state ≡ act.Put x c → Elsewhere x c (IsRaising (w.proc p).state) (IsSinking (w.proc p).state)
   anchor_puts x c e = (let r = w.proc p in state_off r.got r.child r.time r.state x c (g.sure p) e)

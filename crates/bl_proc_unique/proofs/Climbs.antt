@@ -29,6 +29,7 @@ use Rattle.bl_proc_writes.specs.declared.writing.WriteStage.TheVariants as write
 use Rattle.bl_proc_writes.specs.declared.writing.WriteReply.{WriteReply}
 use Rattle.bl_proc_writes.specs.declared.writing.WriteReply.TheVariants as written
 use Rattle.bl_proc_writes.specs.declared.climbing.InsertPost.{InsertPost}
+use Rattle.bl_proc_writes.specs.declared.climbing.Placing.{Placing}
 use Rattle.bl_proc_writes.specs.declared.climbing.ClimbStage.{ClimbStage}
 use Rattle.bl_proc_writes.specs.declared.climbing.ClimbStage.TheVariants.{Writing, Posting, Ending, Over}
 use Rattle.bl_proc_writes.specs.declared.climbing.Climbed.TheVariants.{Unsplit, Posted}
@@ -281,43 +282,43 @@ post_runs level (post.Staying x r) i = refl
 post_runs level (post.Ending r) i = refl
 post_runs level (post.Over r) i = absurd i
 
-climb_one : (key value : ℕ) (before path : Path) (a : ClimbStage) (what : Seen) → Stands key value before a → climb_answer_in value a ≡ None → Gives (climb_next_in a) (climb_needs_in a) what → One (ClimbGoes path a what)
-climb_one key value before path (Writing w) what h running given =
+climb_one : (key : ℕ) (placing : Placing) (before path : Path) (a : ClimbStage) (what : Seen) → Stands key placing before a → climb_answer_in placing a ≡ None → Gives (climb_next_in a) (climb_needs_in a) what → One (ClimbGoes path a what)
+climb_one key placing before path (Writing w) what h running given =
     let g = write_one w.key w.write w.stage what (write_runs w.write w.stage h.2) given in
     wrote_by path w what g.new g.goes g.only h.2
-climb_one key value before path (Posting p) what h running given =
+climb_one key placing before path (Posting p) what h running given =
     let g = post_one p.level p.key p.least p.stage what (post_runs p.level p.stage h) given in
     posted_by path p what g.new g.goes g.only (goes_on (post_case p.level p.key p.stage what g.new g.goes) h)
-climb_one key value before path (Ending r) seen.Done h running given = record { new = Over r; goes = refl; only = λ b t. over b t }
+climb_one key placing before path (Ending r) seen.Done h running given = record { new = Over r; goes = refl; only = λ b t. over b t }
   where
     over : (b : ClimbStage) → ClimbGoes path (Ending r) seen.Done b → b ≡ Over r
     over (Writing v) t = absurd t
     over (Posting p) t = absurd t
     over (Ending last) t = absurd t
     over (Over last) t = ap Over t
-climb_one key value before path (Over r) what h running given = (let z : Some _ ≡ None = running in cc)
-climb_one key value before path a what h running given = absurd given
+climb_one key placing before path (Over r) what h running given = (let z : Some _ ≡ None = running in cc)
+climb_one key placing before path a what h running given = absurd given
 
 climb_only : (old : InsertPost) (what : Seen) (n : One (ClimbNotes old.stage what old.path)) (g : One (ClimbGoes n.new old.stage what)) (other : Proc) → Takes (proc.InsertPost old) what other
-    → other ≡ proc.InsertPost (record { key = old.key; value = old.value; path = n.new; stage = g.new; stands = goes_stands old.key old.value old.path n.new old.stage what g.new old.stands g.goes })
+    → other ≡ proc.InsertPost (record { key = old.key; placing = old.placing; path = n.new; stage = g.new; stands = goes_stands old.key old.placing old.path n.new old.stage what g.new old.stands g.goes })
 climb_only old what n g (proc.InsertPost f) t =
     let along = n.only f.path t.2 in
     let to = g.only f.stage (subst (λ z. ClimbGoes z old.stage what f.stage) along t.3) in
     λ i. proc.InsertPost (record {
       key = t.0 i;
-      value = t.1 i;
+      placing = t.1 i;
       path = along i;
       stage = to i;
-      stands = is_prop→PathP (λ i. Stands (t.0 i) (t.1 i) (along i) (to i)) (λ i. Stands-prop (t.0 i) (t.1 i) (along i) (to i)) f.stands (goes_stands old.key old.value old.path n.new old.stage what g.new old.stands g.goes) i;
+      stands = is_prop→PathP (λ i. Stands (t.0 i) (t.1 i) (along i) (to i)) (λ i. Stands-prop (t.0 i) (t.1 i) (along i) (to i)) f.stands (goes_stands old.key old.placing old.path n.new old.stage what g.new old.stands g.goes) i;
     })
 climb_only old what n g new t = absurd t
 
-pub climb_goes : (old : InsertPost) (what : Seen) → climb_answer_in old.value old.stage ≡ None → Gives (climb_next_in old.stage) (climb_needs_in old.stage) what → GoesOn (proc.InsertPost old) what
+pub climb_goes : (old : InsertPost) (what : Seen) → climb_answer_in old.placing old.stage ≡ None → Gives (climb_next_in old.stage) (climb_needs_in old.stage) what → GoesOn (proc.InsertPost old) what
 climb_goes old what running given =
     let n = climb_note old.stage what old.path in
-    let g = climb_one old.key old.value old.path n.new old.stage what old.stands running given in
+    let g = climb_one old.key old.placing old.path n.new old.stage what old.stands running given in
     record {
-      new = proc.InsertPost (record { key = old.key; value = old.value; path = n.new; stage = g.new; stands = goes_stands old.key old.value old.path n.new old.stage what g.new old.stands g.goes });
+      new = proc.InsertPost (record { key = old.key; placing = old.placing; path = n.new; stage = g.new; stands = goes_stands old.key old.placing old.path n.new old.stage what g.new old.stands g.goes });
       takes = (refl, refl, n.goes, g.goes);
       only = climb_only old what n g;
     }

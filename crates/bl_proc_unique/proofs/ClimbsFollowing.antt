@@ -1,7 +1,6 @@
 -- What an insertion that posts wants, and what follows.
 use Rattle.std.proofs.Common.{ℕ, ◌≡◌, ◌≢◌, ◌+◌, Some, None, refl, sym, ap, subst}
 use Rattle.bl_model.specs.declared.deciding.KeyWrite.{KeyWrite}
-use Rattle.bl_model.specs.declared.deciding.KeyWrite.TheVariants.{Insert}
 use Rattle.bl_model.specs.declared.deciding.Effect.{Effect}
 use Rattle.bl_model.specs.declared.deciding.Effect.TheVariants.{Keep, Enter, Remove, Replace}
 use Rattle.bl_model.specs.Writes.{write_op, effect_of}
@@ -17,6 +16,8 @@ use Rattle.bl_proc_writes.specs.declared.writing.WriteStage.TheVariants as write
 use Rattle.bl_proc_writes.specs.declared.posting.PostStage.{PostStage}
 use Rattle.bl_proc_writes.specs.declared.posting.PostStage.TheVariants as post
 use Rattle.bl_proc_writes.specs.declared.climbing.InsertPost.{InsertPost}
+use Rattle.bl_proc_writes.specs.declared.climbing.Placing.{Placing}
+use Rattle.bl_proc_writes.specs.Placings.{write_of}
 use Rattle.bl_proc_writes.specs.declared.climbing.ClimbStage.{ClimbStage}
 use Rattle.bl_proc_writes.specs.declared.climbing.ClimbStage.TheVariants as climb
 use Rattle.bl_proc.specs.declared.kinds.Proc.TheVariants as proc
@@ -94,17 +95,17 @@ climb_begun {path = path} (ClimbCase.Higher p what separator q h t) e = not_begi
 climb_begun (ClimbCase.Finished p what r last h t) e = cc
 climb_begun (ClimbCase.Ended r last t) e = cc
 
-climb_running : {path : Path} {a b : ClimbStage} {what : Seen} (value : ℕ) → ClimbCase path a what b → climb_next_in a ≢ act.End → climb_answer_in value b ≡ None
-climb_running value (ClimbCase.Ended r last t) ne = absurd (ne refl)
-climb_running value other ne = refl
+climb_running : {path : Path} {a b : ClimbStage} {what : Seen} (placing : Placing) → ClimbCase path a what b → climb_next_in a ≢ act.End → climb_answer_in placing b ≡ None
+climb_running placing (ClimbCase.Ended r last t) ne = absurd (ne refl)
+climb_running placing other ne = refl
 
 pub climb_follows : (p q : InsertPost) (what : Seen) → Takes (proc.InsertPost p) what (proc.InsertPost q) → Follows (proc.InsertPost p) what (proc.InsertPost q)
 climb_follows p q what t = (let is = climb_case q.path p.stage what q.stage t.3 in record {
   frames = climb_leaves is;
   begun = climb_begun is;
-  op = λ i. Some (write_op (t.0 i) (Insert (t.1 i)));
+  op = λ i. Some (write_op (t.0 i) (write_of (t.1 i)));
   work = refl;
-  running = λ ne. climb_running q.value is ne;
+  running = λ ne. climb_running q.placing is ne;
 })
 
 -- it retires no page

@@ -70,6 +70,7 @@ use Rattle.bl_proc.specs.declared.searching.FindStage.{FindStage}
 use Rattle.bl_proc.specs.declared.searching.FindStage.TheVariants as find
 use Rattle.bl_proc.specs.declared.parts.PartRows.{PartRows}
 use Rattle.bl_proc.specs.declared.parts.PartStage.{PartStage}
+use Rattle.bl_proc.specs.declared.parts.PartStart.{PartStart}
 use Rattle.bl_proc.specs.declared.parts.PartStage.TheVariants as part
 use Rattle.bl_proc_pages.specs.Onwards.{Leads}
 use Rattle.bl_proc_base.specs.Descents.{Descends}
@@ -78,7 +79,7 @@ use Rattle.bl_proc_base.specs.Edits.{EntersPair, Changes}
 use Rattle.bl_proc_base.specs.Growths.{Grows}
 use Rattle.bl_proc_base.specs.Lowerings.{Lowers}
 use Rattle.bl_proc.specs.Searches.{FindGoes}
-use Rattle.bl_proc.specs.Parts.{IsPartOf, way_by, PartGoes}
+use Rattle.bl_proc.specs.Parts.{IsPartBy, way_by, PartGoes}
 use Rattle.bl_proc_writes.specs.Writes.{Performs, thin_by, write_reply, WriteArrives, WriteGoes}
 use Rattle.bl_proc_writes.specs.Posts.{post_reply, IsLost, PostLacks, PostArrives, PostComes, PostGoes}
 use Rattle.bl_proc_writes.specs.Paths.{noted, Notes}
@@ -128,15 +129,15 @@ find_case key (find.Ending value) seen.Done (find.Over last) t = Ended value las
 find_case key a what b t = absurd t
 
 -- on its way as a search is
-pub data PartCase (from : ℕ) : PartStage → Seen → PartStage → Type 0 where
+pub data PartCase (from : PartStart) : PartStage → Seen → PartStage → Type 0 where
   Began : (d : Descent) → d ≡ descent.AtAnchor → PartCase from part.New seen.Done (part.Descending d)
   BeganNear : (x y : ℕ) → y ≡ x → PartCase from (part.Near x) seen.Done (part.Probing y)
   Looked : (x : ℕ) (free : Bool) (d : Descent) → d ≡ way_by x free → PartCase from (part.Probing x) (seen.Probed free) (part.Descending d)
-  Went : (d : Descent) (c : Page) (e : Descent) → Descends from d c (descended.On e) → PartCase from (part.Descending d) (seen.Words c) (part.Descending e)
-  Listed : (d : Descent) (c : Page) (r : PartRows) → Descends from d c descended.Here × IsPartOf c from r → PartCase from (part.Descending d) (seen.Words c) (part.Ending r)
+  Went : (d : Descent) (c : Page) (e : Descent) → Descends from.key d c (descended.On e) → PartCase from (part.Descending d) (seen.Words c) (part.Descending e)
+  Listed : (d : Descent) (c : Page) (r : PartRows) → Descends from.key d c descended.Here × IsPartBy from c r → PartCase from (part.Descending d) (seen.Words c) (part.Ending r)
   Ended : (r last : PartRows) → last ≡ r → PartCase from (part.Ending r) seen.Done (part.Over last)
 
-pub part_case : (from : ℕ) (a : PartStage) (what : Seen) (b : PartStage) → PartGoes from a what b → PartCase from a what b
+pub part_case : (from : PartStart) (a : PartStage) (what : Seen) (b : PartStage) → PartGoes from a what b → PartCase from a what b
 part_case from part.New seen.Done (part.Descending d) t = Began d t
 part_case from (part.Near x) seen.Done (part.Probing y) t = BeganNear x y t
 part_case from (part.Probing x) (seen.Probed free) (part.Descending d) t = Looked x free d t

@@ -3,7 +3,8 @@ use Rattle.std.proofs.Common.{ℕ, ◌≡◌, ◌≢◌, Option, Some, None, ref
 use Rattle.bl_model.specs.declared.operation.Reply.{Reply}
 use Rattle.bl_model.specs.declared.operation.Reply.TheVariants as reply
 use Rattle.bl_model.specs.declared.deciding.KeyWrite.{KeyWrite}
-use Rattle.bl_model.specs.declared.deciding.KeyWrite.TheVariants.{Insert}
+use Rattle.bl_proc_writes.specs.declared.climbing.Placing.{Placing}
+use Rattle.bl_proc_writes.specs.Placings.{write_of}
 use Rattle.bl_model.specs.Writes.{replied}
 use Rattle.bl_model.proofs.Decisions.{is_decided}
 use Rattle.bl_proc_base.specs.declared.answers.Answer.{Answer}
@@ -128,17 +129,17 @@ never_unsplit : (q : Reply) → q ≢ reply.NoRoom → IsNoRoom (answer.InsertPo
 never_unsplit reply.NoRoom other r = other refl
 never_unsplit q other r = r
 
-climb_answers : (value : ℕ) (a : ClimbStage) (b : Answer) → climb_answer_in value a ≡ Some b → IsNoRoom b → ClimbRefused a
-climb_answers value (climb.Writing w) b e r = none_answer b e
-climb_answers value (climb.Posting p) b e r = none_answer b e
-climb_answers value (climb.Ending q) b e r = none_answer b e
-climb_answers value (climb.Over (climbed.Unsplit (written.Done there h))) b e r = absurd (never_unsplit (replied (Insert value) there) (is_decided (Insert value) there).room (no_room _ b e r))
-climb_answers value (climb.Over (climbed.Unsplit written.NoRoom)) b e r = tt
-climb_answers value (climb.Over (climbed.Posted level key (listed.Done s))) b e r = no_room _ b e r
-climb_answers value (climb.Over (climbed.Posted level key listed.Already)) b e r = no_room _ b e r
-climb_answers value (climb.Over (climbed.Posted level key listed.Stale)) b e r = no_room _ b e r
-climb_answers value (climb.Over (climbed.Posted level key listed.NoRoom)) b e r = tt
-climb_answers value (climb.Over (climbed.Posted level key listed.TooTall)) b e r = no_room _ b e r
+climb_answers : (placing : Placing) (a : ClimbStage) (b : Answer) → climb_answer_in placing a ≡ Some b → IsNoRoom b → ClimbRefused a
+climb_answers placing (climb.Writing w) b e r = none_answer b e
+climb_answers placing (climb.Posting p) b e r = none_answer b e
+climb_answers placing (climb.Ending q) b e r = none_answer b e
+climb_answers placing (climb.Over (climbed.Unsplit (written.Done there h))) b e r = absurd (never_unsplit (replied (write_of placing) there) (is_decided (write_of placing) there).room (no_room _ b e r))
+climb_answers placing (climb.Over (climbed.Unsplit written.NoRoom)) b e r = tt
+climb_answers placing (climb.Over (climbed.Posted level key (listed.Done s))) b e r = no_room _ b e r
+climb_answers placing (climb.Over (climbed.Posted level key listed.Already)) b e r = no_room _ b e r
+climb_answers placing (climb.Over (climbed.Posted level key listed.Stale)) b e r = no_room _ b e r
+climb_answers placing (climb.Over (climbed.Posted level key listed.NoRoom)) b e r = tt
+climb_answers placing (climb.Over (climbed.Posted level key listed.TooTall)) b e r = no_room _ b e r
 
 pub answers_refused : (p : Proc) (a : Answer) → answer_of p ≡ Some a → IsNoRoom a → IsRefused p
 answers_refused (proc.Find p) a e r = find_answers p.stage a e r
@@ -148,4 +149,4 @@ answers_refused (proc.Part p) a e r = part_answers p.stage a e r
 answers_refused (proc.Compress p) a e r = compress_answers p.stage a e r
 answers_refused (proc.Reclaim p) a e r = reclaim_answers p.stage a e r
 answers_refused (proc.Lower p) a e r = lower_answers p.stage a e r
-answers_refused (proc.InsertPost p) a e r = climb_answers p.value p.stage a e r
+answers_refused (proc.InsertPost p) a e r = climb_answers p.placing p.stage a e r

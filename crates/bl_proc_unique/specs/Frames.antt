@@ -2,7 +2,6 @@
 use Rattle.std.specs.Prelude.{◌≡◌, ◌≢◌, ◌≤◌, ℕ, suc, Option, Some, None}
 use Rattle.bl_model.specs.declared.operation.Op.{Op}
 use Rattle.bl_model.specs.declared.operation.Op.TheVariants as op
-use Rattle.bl_model.specs.declared.deciding.KeyWrite.TheVariants.{Insert}
 use Rattle.bl_model.specs.Writes.{write_op}
 use Rattle.bl_proc_base.specs.declared.acts.Action.{Action}
 use Rattle.bl_proc_base.specs.declared.acts.Action.TheVariants as act
@@ -28,6 +27,8 @@ use Rattle.bl_proc.specs.declared.lowering.LowerStage.{LowerStage}
 use Rattle.bl_proc.specs.declared.lowering.LowerStage.TheVariants as lower
 use Rattle.bl_proc.specs.declared.kinds.Proc.{Proc}
 use Rattle.bl_proc.specs.declared.kinds.Proc.TheVariants as proc
+use Rattle.bl_proc.specs.Parts.{part_op}
+use Rattle.bl_proc_writes.specs.Placings.{write_of}
 use Rattle.bl_proc.specs.Processes.{next_of, needs_of, answer_of}
 
 -- How many frames a process has reserved and not yet put.
@@ -129,11 +130,11 @@ abbrev pub op_of : Proc → Option Op
 op_of (proc.Find p) = Some (op.Find p.key)
 op_of (proc.Write p) = Some (write_op p.key p.write)
 op_of (proc.Post p) = None
-op_of (proc.Part p) = Some (op.Part p.from)
+op_of (proc.Part p) = Some (part_op p.from)
 op_of (proc.Compress p) = None
 op_of (proc.Reclaim p) = None
 op_of (proc.Lower p) = None
-op_of (proc.InsertPost p) = Some (write_op p.key (Insert p.value))
+op_of (proc.InsertPost p) = Some (write_op p.key (write_of p.placing))
 
 -- the level and the key of a post or a compression
 abbrev pub work_of : Proc → Option (ℕ × ℕ)

@@ -1,6 +1,5 @@
--- An insertion that posts what it splits, by its state: it is a write of its leaf, and then a post on each level that it climbs to.
+-- A write that posts what it splits, by its state: it is a write of its leaf, and then a post on each level that it climbs to.
 use Rattle.std.specs.Prelude.{◌≡◌, ℕ, ◌+◌, ◌⊎◌, Option, None, Some}
-use Rattle.bl_model.specs.declared.deciding.KeyWrite.TheVariants.{Insert}
 use Rattle.bl_model.specs.declared.operation.Reply.{Reply}
 use Rattle.bl_model.specs.declared.operation.Reply.TheVariants as reply
 use Rattle.bl_model.specs.Writes.{replied}
@@ -29,15 +28,17 @@ use Rattle.bl_proc_writes.specs.declared.climbing.ClimbStage.{ClimbStage}
 use Rattle.bl_proc_writes.specs.declared.climbing.ClimbStage.TheVariants.{Writing, Posting, Ending, Over}
 use Rattle.bl_proc_writes.specs.declared.climbing.Climbed.{Climbed}
 use Rattle.bl_proc_writes.specs.declared.climbing.Climbed.TheVariants.{Unsplit, Posted}
+use Rattle.bl_proc_writes.specs.declared.climbing.Placing.{Placing}
+use Rattle.bl_proc_writes.specs.Placings.{write_of}
 use Rattle.bl_proc_writes.specs.Paths.{page_at, from_page, Notes}
 use Rattle.bl_proc_writes.specs.Stands.{IsWriting, IsPosting}
 use Rattle.bl_proc_writes.specs.Writes.{write_next_of, write_needs_of, WriteGoes, WriteTakes}
 use Rattle.bl_proc_writes.specs.Posts.{post_next, post_needs, PostGoes, PostTakes}
 
--- what became of the insertion
-abbrev pub inserted_reply : ℕ → WriteReply → Reply
-inserted_reply value (written.Done there hint) = replied (Insert value) there
-inserted_reply value written.NoRoom = reply.NoRoom
+-- what became of the write
+abbrev pub placed_reply : Placing → WriteReply → Reply
+placed_reply placing (written.Done there hint) = replied (write_of placing) there
+placed_reply placing written.NoRoom = reply.NoRoom
 
 -- what became of a post
 abbrev pub posted_as : PostReply → PostedAs
@@ -55,10 +56,10 @@ left_hint level key posted.Stale = None
 left_hint level key posted.NoRoom = Some (hint.Post level key)
 left_hint level key posted.TooTall = None
 
--- Only an insertion that has entered its pair splits a page.
-abbrev pub climbed_answer : ℕ → Climbed → Answer
-climbed_answer value (Unsplit r) = answer.InsertPost (inserted_reply value r) None None
-climbed_answer value (Posted level key r) = answer.InsertPost reply.Inserted (Some (posted_as r)) (left_hint level key (posted_as r))
+-- Only a write that has entered its pair splits a page.
+abbrev pub climbed_answer : Placing → Climbed → Answer
+climbed_answer placing (Unsplit r) = answer.InsertPost (placed_reply placing r) None None
+climbed_answer placing (Posted level key r) = answer.InsertPost reply.Inserted (Some (posted_as r)) (left_hint level key (posted_as r))
 
 abbrev pub climb_next_in : ClimbStage → Action
 climb_next_in (Writing w) = write_next_of w
@@ -72,11 +73,11 @@ climb_needs_in (Posting p) = post_needs p
 climb_needs_in (Ending r) = None
 climb_needs_in (Over r) = None
 
-abbrev pub climb_answer_in : ℕ → ClimbStage → Option Answer
-climb_answer_in value (Writing w) = None
-climb_answer_in value (Posting p) = None
-climb_answer_in value (Ending r) = None
-climb_answer_in value (Over r) = Some (climbed_answer value r)
+abbrev pub climb_answer_in : Placing → ClimbStage → Option Answer
+climb_answer_in placing (Writing w) = None
+climb_answer_in placing (Posting p) = None
+climb_answer_in placing (Ending r) = None
+climb_answer_in placing (Over r) = Some (climbed_answer placing r)
 
 -- A write and a post note the pages from which their ways go down.
 abbrev pub WriteNotes : ℕ → WriteStage → Seen → Path → Path → Type 0
@@ -131,12 +132,12 @@ abbrev pub climb_needs : InsertPost → Option (ℕ × ℕ)
 climb_needs p = climb_needs_in p.stage
 
 abbrev pub climb_answer : InsertPost → Option Answer
-climb_answer p = climb_answer_in p.value p.stage
+climb_answer p = climb_answer_in p.placing p.stage
 
 -- What was seen is noted before it is taken.
 abbrev pub ClimbTakes : InsertPost → Seen → InsertPost → Type 0
 ClimbTakes old what new =
-    (new.key ≡ old.key) × (new.value ≡ old.value) × ClimbNotes old.stage what old.path new.path × ClimbGoes new.path old.stage what new.stage
+    (new.key ≡ old.key) × (new.placing ≡ old.placing) × ClimbNotes old.stage what old.path new.path × ClimbGoes new.path old.stage what new.stage
 
 -- it is to begin
 abbrev pub IsToBegin : ClimbStage → Type 0

@@ -1,10 +1,11 @@
--- Where an insertion that posts stands: its write is of its key, and neither its write nor its post is to end. (Where one is, the
--- insertion is further already.) No page is noted before it begins.
+-- Where a write that posts stands: its write is of its key, and neither its write nor its post is to end. (Where one is, it is
+-- further already.) No page is noted before it begins.
 use Rattle.std.specs.Prelude.{◌≡◌, ℕ}
 use Rattle.std.proofs.Props.{props}
-use Rattle.bl_model.specs.declared.deciding.KeyWrite.TheVariants.{Insert}
 use Rattle.bl_proc_writes.specs.declared.paths.Path.{Path}
 use Rattle.bl_proc_writes.specs.Paths.{IsBlank}
+use Rattle.bl_proc_writes.specs.Placings.{write_of}
+use Rattle.bl_proc_writes.specs.declared.climbing.Placing.{Placing}
 use Rattle.bl_proc_writes.specs.declared.posting.PostStage.{PostStage}
 use Rattle.bl_proc_writes.specs.declared.posting.PostStage.TheVariants as post
 use Rattle.bl_proc_writes.specs.declared.writing.Write.{Write}
@@ -46,11 +47,11 @@ BeginsBlank path (write.Editing noted c) = Unit {0}
 BeginsBlank path (write.Ending r) = Unit {0}
 BeginsBlank path (write.Over r) = Unit {0}
 
-abbrev pub Stands : ℕ → ℕ → Path → ClimbStage → Type 0
-Stands key value path (Writing w) = (w.key ≡ key) × (w.write ≡ Insert value) × IsWriting w.stage × BeginsBlank path w.stage
-Stands key value path (Posting p) = IsPosting p.stage
-Stands key value path (Ending r) = Unit {0}
-Stands key value path (Over r) = Unit {0}
+abbrev pub Stands : ℕ → Placing → Path → ClimbStage → Type 0
+Stands key placing path (Writing w) = (w.key ≡ key) × (w.write ≡ write_of placing) × IsWriting w.stage × BeginsBlank path w.stage
+Stands key placing path (Posting p) = IsPosting p.stage
+Stands key placing path (Ending r) = Unit {0}
+Stands key placing path (Over r) = Unit {0}
 
 is_writing-prop : (stage : WriteStage) → IsProp (IsWriting stage)
 is_writing-prop write.New = hlevel props
@@ -78,12 +79,12 @@ begins_blank-prop path (write.Editing noted c) = hlevel props
 begins_blank-prop path (write.Ending r) = hlevel props
 begins_blank-prop path (write.Over r) = hlevel props
 
-writes-prop : (key value : ℕ) (path : Path) (w : Write) → IsProp ((w.key ≡ key) × (w.write ≡ Insert value) × IsWriting w.stage × BeginsBlank path w.stage)
-writes-prop key value path w = hlevel (is_writing-prop w.stage, begins_blank-prop path w.stage, props)
+writes-prop : (key : ℕ) (placing : Placing) (path : Path) (w : Write) → IsProp ((w.key ≡ key) × (w.write ≡ write_of placing) × IsWriting w.stage × BeginsBlank path w.stage)
+writes-prop key placing path w = hlevel (is_writing-prop w.stage, begins_blank-prop path w.stage, props)
 
 -- such a fact has one proof at most
-pub Stands-prop : (key value : ℕ) (path : Path) (stage : ClimbStage) → IsProp (Stands key value path stage)
-Stands-prop key value path (Writing w) = writes-prop key value path w
-Stands-prop key value path (Posting p) = is_posting-prop p.stage
-Stands-prop key value path (Ending r) = hlevel props
-Stands-prop key value path (Over r) = hlevel props
+pub Stands-prop : (key : ℕ) (placing : Placing) (path : Path) (stage : ClimbStage) → IsProp (Stands key placing path stage)
+Stands-prop key placing path (Writing w) = writes-prop key placing path w
+Stands-prop key placing path (Posting p) = is_posting-prop p.stage
+Stands-prop key placing path (Ending r) = hlevel props
+Stands-prop key placing path (Over r) = hlevel props

@@ -1,24 +1,48 @@
-//! An insertion that posts what it splits.
+//! A write that posts what it splits: an insertion or a put.
 
+ghost use Rattle.std.specs.Prelude.{◌≡◌};
+ghost use Rattle.bl_proc_writes.specs.Placings.{write_of};
 ghost use Rattle.bl_proc_writes.specs.Stands.{Stands, Stands-prop};
 
 use crate::paths::Path;
 use crate::posting::{Post, PostReply};
 use crate::writing::{Write, WriteReply};
+use bl_model::KeyWrite;
 use bl_proc_base::Level;
 
-/// The insertion of one key, which remembers by which pages it has come down. What it splits it posts itself, level by
-/// level, each time from the page that it remembers there.
+/// A write that leaves its value at the key: only these split a leaf.
+#[derive(Clone, Copy, Debug, PartialEq, Eq)]
+pub enum Placing {
+    /// Where the key has no value.
+    Insert(u64),
+    /// In place of what is there.
+    Put(u64),
+}
+
+impl Placing {
+    /// The write of the key that it is.
+    pub fn write(self) -> KeyWrite
+        ensures { result ≡ write_of self }
+    {
+        match self {
+            Placing::Insert(value) => KeyWrite::Insert(value),
+            Placing::Put(value) => KeyWrite::Put(value),
+        }
+    }
+}
+
+/// The insertion or the put of one key, which remembers by which pages it has come down. What it splits it posts itself,
+/// level by level, each time from the page that it remembers there.
 #[derive(Drop)]
 pub struct InsertPost {
     pub key: u64,
-    pub value: u64,
+    pub placing: Placing,
     pub path: Path,
     pub stage: ClimbStage,
-    ghost stands: { Stands key value path stage } by { Stands-prop key value path stage },
+    ghost stands: { Stands key placing path stage } by { Stands-prop key placing path stage },
 }
 
-/// How far such an insertion has come.
+/// How far such a write has come.
 #[derive(Drop)]
 pub enum ClimbStage {
     /// It writes its leaf.
@@ -31,7 +55,7 @@ pub enum ClimbStage {
     Over(Climbed),
 }
 
-/// What became of such an insertion.
+/// What became of such a write.
 #[derive(Clone, Copy)]
 pub enum Climbed {
     /// Its leaf was not split: this became of the write.

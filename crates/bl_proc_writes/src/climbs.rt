@@ -1,4 +1,4 @@
-//! The steps of an insertion that posts what it splits.
+//! The steps of a write that posts what it splits.
 
 ghost use Rattle.std.specs.Prelude.{◌≡◌, ◌<◌, ◌≤◌, ℕ, Option, None, MatchOption};
 ghost use Rattle.bl_proc_base.specs.declared.acts.Seen.{Seen};
@@ -15,13 +15,13 @@ ghost use Rattle.bl_proc_writes.specs.Paths.{IsBlank};
 ghost use Rattle.bl_proc_writes.specs.Stands.{IsWriting, IsPosting, IsClimbing};
 ghost use Rattle.bl_proc_writes.specs.Writes.{write_next_of, write_needs_of, WriteGoes, WriteTakes};
 ghost use Rattle.bl_proc_writes.specs.Posts.{post_next, post_needs, PostGoes, PostTakes};
-ghost use Rattle.bl_proc_writes.specs.Climbs.{inserted_reply, posted_as, left_hint, climbed_answer, climb_next, climb_needs, climb_answer, climb_next_in, climb_needs_in, ClimbNotes, PostsFrom, IsUnsplit, ClimbGoes, ClimbTakes, IsToBegin};
+ghost use Rattle.bl_proc_writes.specs.Climbs.{placed_reply, posted_as, left_hint, climbed_answer, climb_next, climb_needs, climb_answer, climb_next_in, climb_needs_in, ClimbNotes, PostsFrom, IsUnsplit, ClimbGoes, ClimbTakes, IsToBegin};
 
-use crate::climbing::{ClimbStage, Climbed, InsertPost};
+use crate::climbing::{ClimbStage, Climbed, InsertPost, Placing};
 use crate::paths::Path;
 use crate::posting::{Post, PostReply, PostStage};
 use crate::writing::{Write, WriteReply, WriteStage, hint_to_post};
-use bl_model::{KeyWrite, Reply, decide};
+use bl_model::{Reply, decide};
 use bl_proc_base::{Action, Answer, Hint, Level, Posted, Process, Reader, Seen};
 use std::mem;
 
@@ -161,12 +161,12 @@ fn went(path: &Path, stage: ClimbStage, seen: Seen) -> ClimbStage
     }
 }
 
-/// The reply to the insertion, by what became of the write.
-fn reply_of(value: u64, reply: WriteReply) -> Reply
-    ensures { result ≡ inserted_reply value reply }
+/// The reply to it, by what became of the write.
+fn reply_of(placing: Placing, reply: WriteReply) -> Reply
+    ensures { result ≡ placed_reply placing reply }
 {
     match reply {
-        WriteReply::Done(there, _) => decide(KeyWrite::Insert(value), there).reply.reply(),
+        WriteReply::Done(there, _) => decide(placing.write(), there).reply.reply(),
         WriteReply::NoRoom => Reply::NoRoom,
     }
 }
@@ -194,12 +194,12 @@ fn left(level: Level, key: u64, posted: Posted) -> Option<Hint>
     }
 }
 
-/// The answer of an insertion that posts.
-fn answer_of(value: u64, end: Climbed) -> Answer
-    ensures { result ≡ climbed_answer value end }
+/// The answer of a write that posts.
+fn answer_of(placing: Placing, end: Climbed) -> Answer
+    ensures { result ≡ climbed_answer placing end }
 {
     match end {
-        Climbed::Unsplit(reply) => Answer::InsertPost(reply_of(value, reply), None, None),
+        Climbed::Unsplit(reply) => Answer::InsertPost(reply_of(placing, reply), None, None),
         Climbed::Posted { level, key, reply } => {
             let posted = told(reply);
             Answer::InsertPost(Reply::Inserted, Some(posted), left(level, key, posted))
@@ -208,18 +208,18 @@ fn answer_of(value: u64, end: Climbed) -> Answer
 }
 
 impl InsertPost {
-    /// An insertion that posts, and is to begin.
-    pub fn new(key: u64, value: u64) -> InsertPost
+    /// A write that posts, and is to begin.
+    pub fn new(key: u64, placing: Placing) -> InsertPost
         ensures key { result.key ≡ key }
-        ensures value { result.value ≡ value }
+        ensures placing { result.placing ≡ placing }
         ensures path { IsBlank result.path }
         ensures stage { IsToBegin result.stage }
     {
         InsertPost {
             key,
-            value,
+            placing,
             path: Path::new(),
-            stage: ClimbStage::Writing(Write::new(key, KeyWrite::Insert(value))),
+            stage: ClimbStage::Writing(Write::new(key, placing.write())),
         }
     }
 }
@@ -251,7 +251,7 @@ impl Process for InsertPost {
 
     fn answer(&self) -> Option<Answer> {
         match &self.stage {
-            ClimbStage::Over(end) => Some(answer_of(self.value, *end)),
+            ClimbStage::Over(end) => Some(answer_of(self.placing, *end)),
             _ => None,
         }
     }

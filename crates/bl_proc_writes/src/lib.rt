@@ -1,5 +1,5 @@
 //! Processes that write pairs, as state machines: the insertion, deletion or change of a key at its leaf, the post of a new page
-//! in its parent, and the insertion that posts its splits itself, by the path that it remembers.
+//! in its parent, and the insertion or put that posts its splits itself, by the path that it remembers.
 //!
 //! Promised to `bl_proc`, which has them beside the other kinds: what a process does next, and where it goes by what it sees,
 //! is exactly what `specs/` says of its state. A writer holds one latch at a time and waits for it while it holds none, as in
@@ -14,7 +14,7 @@ mod posts;
 mod walking;
 mod writing;
 
-pub use climbing::{ClimbStage, Climbed, InsertPost};
+pub use climbing::{ClimbStage, Climbed, InsertPost, Placing};
 pub use paths::Path;
 pub use posting::{Post, PostReply, PostStage};
 pub use walking::Walk;

@@ -129,7 +129,7 @@ module _ (v : View) (h : Has v) where
       → Replies h.world.trail (name_of (n + 1)) (op_of (proc.InsertPost p)) reply × MeansClimbed reply last left (marks_of (name_of (n + 1)) h.world.trail)
   climbed n p reply last left stood e =
       let r = h.world.proc (name_of (suc n)) in
-      let a = climb_answered p.key p.value p.path r.got r.child p.stage reply last left e in
+      let a = climb_answered p.key p.placing p.path r.got r.child p.stage reply last left e in
       let has : HasSaid h.world.trail (name_of (suc n)) (Some a.it) = subst (HasSaid h.world.trail (name_of (suc n))) a.is (sure_of n (proc.InsertPost p) stood).said in (
         rw (one_more n) (record { place = has.0; said = a.it; says = has.1; op = said_op r.got r.child r.time (proc.InsertPost p) a.it a.is; reply = a.reply_is }),
         subst (λ k. MeansClimbed reply last left (marks_of (name_of k) h.world.trail)) (sym (one_more n)) (climb_means h.world (name_of (suc n)) p reply last left h.logs (h.runs n (proc.InsertPost p) stood) e),

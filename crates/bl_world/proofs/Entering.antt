@@ -2,7 +2,6 @@
 use Rattle.std.proofs.Common.{ℕ, ◌≡◌, ◌≢◌, ◌⊎◌, ◌^◌, ◌-◌, ◌<◌, ◌++◌, zero, suc, slice_index, List, [], ◌∷◌, length, arith, ap, sym, ◌∙◌, refl, subst, inl, inr, append-nil}
 use Rattle.std.proofs.lemmas.Option.{slice_get_within}
 use Rattle.bl_model.specs.declared.deciding.KeyWrite.{KeyWrite}
-use Rattle.bl_model.specs.declared.deciding.KeyWrite.TheVariants.{Insert}
 use Rattle.bl_page.specs.declared.page.Page.{Page}
 use Rattle.bl_page.specs.Machine.{Name}
 use Rattle.bl_core.proofs.After.{put_name, is_put_name}
@@ -12,6 +11,7 @@ use Rattle.bl_proc_base.specs.declared.acts.Action.TheVariants as act
 use Rattle.bl_proc.specs.declared.searching.FindStage.{FindStage}
 use Rattle.bl_proc.specs.declared.searching.FindStage.TheVariants as find
 use Rattle.bl_proc.specs.declared.parts.PartStage.{PartStage}
+use Rattle.bl_proc.specs.declared.parts.PartStart.{PartStart}
 use Rattle.bl_proc.specs.declared.parts.PartStage.TheVariants as part
 use Rattle.bl_proc_writes.specs.declared.writing.WriteStage.{WriteStage}
 use Rattle.bl_proc_writes.specs.declared.writing.WriteStage.TheVariants as write
@@ -40,6 +40,8 @@ use Rattle.bl_proc.specs.Lowers.{lower_next_in}
 use Rattle.bl_proc_writes.specs.Paths.{IsBlank as IsUnnoted}
 use Rattle.bl_proc_writes.specs.Stands.{BeginsBlank, IsPosting, Stands}
 use Rattle.bl_proc_writes.specs.Climbs.{climb_next_in}
+use Rattle.bl_proc_writes.specs.declared.climbing.Placing.{Placing}
+use Rattle.bl_proc_writes.specs.Placings.{write_of}
 use Rattle.bl_proc_invariant.specs.Knowing.{Run, know_of, know_find, know_part, know_write, know_post, know_compress, know_reclaim, know_lower, goes_above, path_goes, know_climb}
 use Rattle.bl_proc_invariant.specs.Tables.{alone}
 use Rattle.bl_proc_invariant.proofs.Instead.{with_proc}
@@ -60,7 +62,7 @@ find_blank k (find.Near x) small e = record { stage = refl; said = refl; holds =
 find_blank k find.New small e = record { stage = refl; said = refl; holds = refl; goes = refl; children = refl; passed = refl; sound = small }
 find_blank k old small e = absurd cc
 
-part_blank : (k : ℕ) (a : PartStage) → k < 2 ^ 64 → part_next_in a ≡ act.Begin → IsBlank (know_part k a)
+part_blank : (k : PartStart) (a : PartStage) → k.key < 2 ^ 64 → part_next_in a ≡ act.Begin → IsBlank (know_part k a)
 part_blank k (part.Near x) small e = record { stage = refl; said = refl; holds = refl; goes = refl; children = refl; passed = refl; sound = small }
 part_blank k part.New small e = record { stage = refl; said = refl; holds = refl; goes = refl; children = refl; passed = refl; sound = small }
 part_blank k old small e = absurd cc
@@ -95,11 +97,11 @@ post_begun (post.Growing g) i e = growth_begins g e
 post_begun (post.Editing c) i e = edit_begins c e
 post_begun old i e = absurd cc
 
-climb_blank : (k value : ℕ) (path : Path) (got : ℕ → Page) (child : ℕ) (a : ClimbStage) → Stands k value path a → k < 2 ^ 64 → climb_next_in a ≡ act.Begin → IsBlank (know_climb k value path got child a)
-climb_blank k value path got child (climb.Writing w) h small e = write_blank (path_goes path) k (Insert value) got w.stage small e (λ new. no_goes path (subst (BeginsBlank path) new h.3))
-climb_blank k value path got child (climb.Posting p) h small e = post_begun p.stage h e
-climb_blank k value path got child (climb.Ending r) h small e = absurd cc
-climb_blank k value path got child (climb.Over r) h small e = absurd cc
+climb_blank : (k : ℕ) (placing : Placing) (path : Path) (got : ℕ → Page) (child : ℕ) (a : ClimbStage) → Stands k placing path a → k < 2 ^ 64 → climb_next_in a ≡ act.Begin → IsBlank (know_climb k placing path got child a)
+climb_blank k placing path got child (climb.Writing w) h small e = write_blank (path_goes path) k (write_of placing) got w.stage small e (λ new. no_goes path (subst (BeginsBlank path) new h.3))
+climb_blank k placing path got child (climb.Posting p) h small e = post_begun p.stage h e
+climb_blank k placing path got child (climb.Ending r) h small e = absurd cc
+climb_blank k placing path got child (climb.Over r) h small e = absurd cc
 
 compress_blank : (l k : ℕ) (got : ℕ → Page) (a : CompressStage) → k < 2 ^ 64 → compress_next_in a ≡ act.Begin → IsBlank (know_compress l k got a)
 compress_blank l k got compress.New small e = record { stage = refl; said = refl; holds = refl; goes = refl; children = refl; passed = refl; sound = small }
@@ -133,7 +135,7 @@ blank size got child time (proc.Part p) small (inl e) = part_blank p.from p.stag
 blank size got child time (proc.Compress p) small (inl e) = compress_blank p.level p.key got p.stage small e
 blank size got child time (proc.Reclaim p) small (inl e) = reclaim_begins p.page p.stage e
 blank size got child time (proc.Lower p) small (inl e) = lower_blank got p.stage e
-blank size got child time (proc.InsertPost p) small (inl e) = climb_blank p.key p.value p.path got child p.stage p.stands small e
+blank size got child time (proc.InsertPost p) small (inl e) = climb_blank p.key p.placing p.path got child p.stage p.stands small e
 blank size got child time (proc.Find p) small (inr r) = absurd r.2
 blank size got child time (proc.Write p) small (inr r) = absurd r.2
 blank size got child time (proc.Post p) small (inr r) = absurd r.2

@@ -3,7 +3,6 @@ use Rattle.std.proofs.Common.{ℕ, ◌≡◌, ◌⊎◌, Option, Some, None, Lis
 use Rattle.bl_model.specs.declared.operation.Op.TheVariants as op
 use Rattle.bl_model.specs.declared.operation.Reply.{Reply}
 use Rattle.bl_model.specs.declared.deciding.KeyWrite.{KeyWrite}
-use Rattle.bl_model.specs.declared.deciding.KeyWrite.TheVariants.{Insert}
 use Rattle.bl_model.specs.Writes.{write_op}
 use Rattle.bl_page.specs.declared.page.Page.{Page}
 use Rattle.bl_claims.specs.Trails.{Said}
@@ -22,6 +21,7 @@ use Rattle.bl_proc_base.specs.declared.answers.Posted.{Posted}
 use Rattle.bl_proc.specs.declared.searching.FindStage.{FindStage}
 use Rattle.bl_proc.specs.declared.searching.FindStage.TheVariants as find
 use Rattle.bl_proc.specs.declared.parts.PartStage.{PartStage}
+use Rattle.bl_proc.specs.declared.parts.PartStart.{PartStart}
 use Rattle.bl_proc.specs.declared.parts.PartStage.TheVariants as part
 use Rattle.bl_proc_writes.specs.declared.writing.WriteStage.{WriteStage}
 use Rattle.bl_proc_writes.specs.declared.writing.WriteStage.TheVariants as write
@@ -48,12 +48,14 @@ use Rattle.bl_proc.specs.declared.lowering.LowerStage.TheVariants as lower
 use Rattle.bl_proc.specs.declared.kinds.Proc.TheVariants as proc
 use Rattle.bl_proc.specs.Processes.{answer_of}
 use Rattle.bl_proc.specs.Searches.{find_answer_in}
-use Rattle.bl_proc.specs.Parts.{part_answer_in}
+use Rattle.bl_proc.specs.Parts.{part_op, part_answer_in}
 use Rattle.bl_proc_writes.specs.Writes.{write_answer_in}
 use Rattle.bl_proc_writes.specs.Posts.{post_answer_in}
 use Rattle.bl_proc_compress.specs.Compresses.{compress_answer_in}
 use Rattle.bl_proc.specs.Lowers.{lower_answer_in}
 use Rattle.bl_proc_writes.specs.Climbs.{climb_answer_in}
+use Rattle.bl_proc_writes.specs.declared.climbing.Placing.{Placing}
+use Rattle.bl_proc_writes.specs.Placings.{write_of}
 use Rattle.bl_proc.specs.Reclaims.{reclaim_answer_in}
 use Rattle.bl_proc_invariant.specs.Tables.{Carried, unsaid, alone, Aim, know_approach, know_edit}
 use Rattle.bl_proc_invariant.specs.Compressing.{know_squeeze}
@@ -117,13 +119,13 @@ find_op k (find.Descending d) s e = none_said s e
 find_op k (find.Ending v) s e = same_op _ s e
 find_op k (find.Over v) s e = same_op _ s e
 
-part_op : (k : ℕ) (a : PartStage) (s : Said) → (know_part k a).said ≡ Some s → Some (op.Part k) ≡ Some s.op
-part_op k part.New s e = none_said s e
-part_op k (part.Near x) s e = none_said s e
-part_op k (part.Probing x) s e = none_said s e
-part_op k (part.Descending d) s e = none_said s e
-part_op k (part.Ending r) s e = same_op _ s e
-part_op k (part.Over r) s e = same_op _ s e
+part_op_said : (k : PartStart) (a : PartStage) (s : Said) → (know_part k a).said ≡ Some s → Some (part_op k) ≡ Some s.op
+part_op_said k part.New s e = none_said s e
+part_op_said k (part.Near x) s e = none_said s e
+part_op_said k (part.Probing x) s e = none_said s e
+part_op_said k (part.Descending d) s e = none_said s e
+part_op_said k (part.Ending r) s e = same_op _ s e
+part_op_said k (part.Over r) s e = same_op _ s e
 
 write_says : (goes : List Goes) (k : ℕ) (does : KeyWrite) (got : ℕ → Page) (a : WriteStage) (s : Said) → (know_write goes k does got a).said ≡ Some s → Some (write_op k does) ≡ Some s.op
 write_says goes k does got write.New s e = none_said s e
@@ -144,11 +146,11 @@ post_keeps carried l k got child (post.Staying x r) s e = e
 post_keeps carried l k got child (post.Ending r) s e = e
 post_keeps carried l k got child (post.Over r) s e = e
 
-climb_says : (k value : ℕ) (path : Path) (got : ℕ → Page) (child : ℕ) (a : ClimbStage) (s : Said) → (know_climb k value path got child a).said ≡ Some s → Some (write_op k (Insert value)) ≡ Some s.op
-climb_says k value path got child (climb.Writing w) s e = write_says (path_goes path) k (Insert value) got w.stage s e
-climb_says k value path got child (climb.Posting p) s e = same_op _ s (post_keeps (inserted k value path) p.level p.key got child p.stage s e)
-climb_says k value path got child (climb.Ending r) s e = same_op _ s e
-climb_says k value path got child (climb.Over r) s e = same_op _ s e
+climb_says : (k : ℕ) (placing : Placing) (path : Path) (got : ℕ → Page) (child : ℕ) (a : ClimbStage) (s : Said) → (know_climb k placing path got child a).said ≡ Some s → Some (write_op k (write_of placing)) ≡ Some s.op
+climb_says k placing path got child (climb.Writing w) s e = write_says (path_goes path) k (write_of placing) got w.stage s e
+climb_says k placing path got child (climb.Posting p) s e = same_op _ s (post_keeps (inserted k placing path) p.level p.key got child p.stage s e)
+climb_says k placing path got child (climb.Ending r) s e = same_op _ s e
+climb_says k placing path got child (climb.Over r) s e = same_op _ s e
 
 compress_none : {X : Type 0} (l k : ℕ) (got : ℕ → Page) (a : CompressStage) (s : Said) → (know_compress l k got a).said ≡ Some s → X
 compress_none l k got compress.New s e = none_said s e
@@ -186,11 +188,11 @@ pub said_op : (got : ℕ → Page) (child time : ℕ) (p : Proc) (s : Said) → 
 said_op got child time (proc.Find p) s e = find_op p.key p.stage s e
 said_op got child time (proc.Write p) s e = write_says [] p.key p.write got p.stage s e
 said_op got child time (proc.Post p) s e = none_said s (post_keeps alone p.level p.key got child p.stage s e)
-said_op got child time (proc.Part p) s e = part_op p.from p.stage s e
+said_op got child time (proc.Part p) s e = part_op_said p.from p.stage s e
 said_op got child time (proc.Compress p) s e = compress_none p.level p.key got p.stage s e
 said_op got child time (proc.Reclaim p) s e = reclaim_none time p.stage s e
 said_op got child time (proc.Lower p) s e = lower_none got p.stage s e
-said_op got child time (proc.InsertPost p) s e = climb_says p.key p.value p.path got child p.stage s e
+said_op got child time (proc.InsertPost p) s e = climb_says p.key p.placing p.path got child p.stage s e
 
 -- What it answers
 
@@ -250,7 +252,7 @@ find_answered k (find.Ending v) reply hint e = none_answer _ e
 find_answered k (find.Over None) reply hint e = record { it = _; is = refl; reply_is = same_reply _ _ _ _ e }
 find_answered k (find.Over (Some v)) reply hint e = record { it = _; is = refl; reply_is = same_reply _ _ _ _ e }
 
-part_answered : (k : ℕ) (a : PartStage) (reply : Reply) (hint : Option Hint) → part_answer_in a ≡ Some (answer.Op reply hint) → HasAnswered (know_part k a).said reply
+part_answered : (k : PartStart) (a : PartStage) (reply : Reply) (hint : Option Hint) → part_answer_in a ≡ Some (answer.Op reply hint) → HasAnswered (know_part k a).said reply
 part_answered k part.New reply hint e = none_answer _ e
 part_answered k (part.Near x) reply hint e = none_answer _ e
 part_answered k (part.Probing x) reply hint e = none_answer _ e
@@ -306,20 +308,20 @@ lower_answered (lower.Sinking l) reply hint e = none_answer _ e
 lower_answered (lower.Ending r) reply hint e = none_answer _ e
 lower_answered (lower.Over what) reply hint e = absurd (let f : Some (answer.Lower what) ≡ Some (answer.Op reply hint) = e in cc)
 
-climb_not_op : {X : Type 0} (value : ℕ) (a : ClimbStage) (reply : Reply) (hint : Option Hint) → climb_answer_in value a ≡ Some (answer.Op reply hint) → X
-climb_not_op value (climb.Writing w) reply hint e = none_answer _ e
-climb_not_op value (climb.Posting p) reply hint e = none_answer _ e
-climb_not_op value (climb.Ending r) reply hint e = none_answer _ e
-climb_not_op value (climb.Over (climbed.Unsplit r)) reply hint e = no_climb _ _ _ _ _ e
-climb_not_op value (climb.Over (climbed.Posted level key r)) reply hint e = no_climb _ _ _ _ _ e
+climb_not_op : {X : Type 0} (placing : Placing) (a : ClimbStage) (reply : Reply) (hint : Option Hint) → climb_answer_in placing a ≡ Some (answer.Op reply hint) → X
+climb_not_op placing (climb.Writing w) reply hint e = none_answer _ e
+climb_not_op placing (climb.Posting p) reply hint e = none_answer _ e
+climb_not_op placing (climb.Ending r) reply hint e = none_answer _ e
+climb_not_op placing (climb.Over (climbed.Unsplit r)) reply hint e = no_climb _ _ _ _ _ e
+climb_not_op placing (climb.Over (climbed.Posted level key r)) reply hint e = no_climb _ _ _ _ _ e
 
-pub climb_answered : (k value : ℕ) (path : Path) (got : ℕ → Page) (child : ℕ) (a : ClimbStage) (reply : Reply) (last : Option Posted) (left : Option Hint) → climb_answer_in value a ≡ Some (answer.InsertPost reply last left) → HasAnswered (know_climb k value path got child a).said reply
-climb_answered k value path got child (climb.Writing w) reply last left e = none_answer _ e
-climb_answered k value path got child (climb.Posting p) reply last left e = none_answer _ e
-climb_answered k value path got child (climb.Ending r) reply last left e = none_answer _ e
-climb_answered k value path got child (climb.Over (climbed.Unsplit (Done there hint))) reply last left e = record { it = _; is = refl; reply_is = same_inserted _ _ _ _ _ _ e }
-climb_answered k value path got child (climb.Over (climbed.Unsplit NoRoom)) reply last left e = record { it = _; is = refl; reply_is = same_inserted _ _ _ _ _ _ e }
-climb_answered k value path got child (climb.Over (climbed.Posted level key r)) reply last left e = record { it = _; is = refl; reply_is = same_inserted _ _ _ _ _ _ e }
+pub climb_answered : (k : ℕ) (placing : Placing) (path : Path) (got : ℕ → Page) (child : ℕ) (a : ClimbStage) (reply : Reply) (last : Option Posted) (left : Option Hint) → climb_answer_in placing a ≡ Some (answer.InsertPost reply last left) → HasAnswered (know_climb k placing path got child a).said reply
+climb_answered k placing path got child (climb.Writing w) reply last left e = none_answer _ e
+climb_answered k placing path got child (climb.Posting p) reply last left e = none_answer _ e
+climb_answered k placing path got child (climb.Ending r) reply last left e = none_answer _ e
+climb_answered k placing path got child (climb.Over (climbed.Unsplit (Done there hint))) reply last left e = record { it = _; is = refl; reply_is = same_inserted _ _ _ _ _ _ e }
+climb_answered k placing path got child (climb.Over (climbed.Unsplit NoRoom)) reply last left e = record { it = _; is = refl; reply_is = same_inserted _ _ _ _ _ _ e }
+climb_answered k placing path got child (climb.Over (climbed.Posted level key r)) reply last left e = record { it = _; is = refl; reply_is = same_inserted _ _ _ _ _ _ e }
 
 pub answered_said : (got : ℕ → Page) (child time : ℕ) (p : Proc) (reply : Reply) (hint : Option Hint) → answer_of p ≡ Some (answer.Op reply hint) → HasAnswered (know_of got child time p).said reply
 answered_said got child time (proc.Find p) reply hint e = find_answered p.key p.stage reply hint e
@@ -329,7 +331,7 @@ answered_said got child time (proc.Part p) reply hint e = part_answered p.from p
 answered_said got child time (proc.Compress p) reply hint e = compress_answered p.stage reply hint e
 answered_said got child time (proc.Reclaim p) reply hint e = reclaim_answered p.stage reply hint e
 answered_said got child time (proc.Lower p) reply hint e = lower_answered p.stage reply hint e
-answered_said got child time (proc.InsertPost p) reply hint e = climb_not_op p.value p.stage reply hint e
+answered_said got child time (proc.InsertPost p) reply hint e = climb_not_op p.placing p.stage reply hint e
 
 -- It has ended
 
@@ -341,7 +343,7 @@ find_late k (find.Descending d) b e = none_answer _ e
 find_late k (find.Ending v) b e = none_answer _ e
 find_late k (find.Over v) b e = refl
 
-part_late : (k : ℕ) (a : PartStage) (b : Answer) → part_answer_in a ≡ Some b → (know_part k a).stage ≡ Stage.Late
+part_late : (k : PartStart) (a : PartStage) (b : Answer) → part_answer_in a ≡ Some b → (know_part k a).stage ≡ Stage.Late
 part_late k part.New b e = none_answer _ e
 part_late k (part.Near x) b e = none_answer _ e
 part_late k (part.Probing x) b e = none_answer _ e
@@ -381,11 +383,11 @@ lower_late got (lower.Sinking l) b e = none_answer _ e
 lower_late got (lower.Ending r) b e = none_answer _ e
 lower_late got (lower.Over r) b e = refl
 
-climb_late : (k value : ℕ) (path : Path) (got : ℕ → Page) (child : ℕ) (a : ClimbStage) (b : Answer) → climb_answer_in value a ≡ Some b → (know_climb k value path got child a).stage ≡ Stage.Late
-climb_late k value path got child (climb.Writing w) b e = none_answer _ e
-climb_late k value path got child (climb.Posting p) b e = none_answer _ e
-climb_late k value path got child (climb.Ending r) b e = none_answer _ e
-climb_late k value path got child (climb.Over r) b e = refl
+climb_late : (k : ℕ) (placing : Placing) (path : Path) (got : ℕ → Page) (child : ℕ) (a : ClimbStage) (b : Answer) → climb_answer_in placing a ≡ Some b → (know_climb k placing path got child a).stage ≡ Stage.Late
+climb_late k placing path got child (climb.Writing w) b e = none_answer _ e
+climb_late k placing path got child (climb.Posting p) b e = none_answer _ e
+climb_late k placing path got child (climb.Ending r) b e = none_answer _ e
+climb_late k placing path got child (climb.Over r) b e = refl
 
 pub answered_late : (got : ℕ → Page) (child time : ℕ) (p : Proc) (b : Answer) → HasEnd p → answer_of p ≡ Some b → (know_of got child time p).stage ≡ Stage.Late
 answered_late got child time (proc.Find p) b ends e = find_late p.key p.stage b e
@@ -395,4 +397,4 @@ answered_late got child time (proc.Part p) b ends e = part_late p.from p.stage b
 answered_late got child time (proc.Compress p) b ends e = compress_late p.level p.key got p.stage b e
 answered_late got child time (proc.Reclaim p) b ends e = absurd ends
 answered_late got child time (proc.Lower p) b ends e = lower_late got p.stage b e
-answered_late got child time (proc.InsertPost p) b ends e = climb_late p.key p.value p.path got child p.stage b e
+answered_late got child time (proc.InsertPost p) b ends e = climb_late p.key p.placing p.path got child p.stage b e

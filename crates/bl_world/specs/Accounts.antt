@@ -5,7 +5,6 @@ use Rattle.bl_model.specs.History.{IsLegalFrom, final_map}
 use Rattle.bl_model.specs.declared.operation.Op.{Op}
 use Rattle.bl_model.specs.declared.operation.Op.TheVariants as op
 use Rattle.bl_model.specs.declared.operation.Reply.{Reply}
-use Rattle.bl_model.specs.declared.deciding.KeyWrite.TheVariants.{Insert}
 use Rattle.bl_model.specs.Writes.{write_op}
 use Rattle.bl_page.specs.declared.page.Page.{Page}
 use Rattle.bl_page.specs.Machine.{Name, State}
@@ -20,6 +19,7 @@ use Rattle.bl_proc_base.specs.declared.answers.Answer.TheVariants as answer
 use Rattle.bl_proc_base.specs.declared.answers.Hint.{Hint}
 use Rattle.bl_proc_base.specs.declared.answers.Posted.{Posted}
 use Rattle.bl_proc_writes.specs.declared.posting.Post.{Post}
+use Rattle.bl_proc_writes.specs.Placings.{write_of}
 use Rattle.bl_proc_base.specs.declared.answers.Squeezed.{Squeezed}
 use Rattle.bl_proc_base.specs.declared.lowering.Lowered.{Lowered}
 use Rattle.bl_proc.specs.declared.lowering.Lower.{Lower}
@@ -32,6 +32,7 @@ use Rattle.bl_proc_base.specs.declared.answers.Reclaimed.{Reclaimed}
 use Rattle.bl_proc.specs.declared.reclaiming.Reclaim.{Reclaim}
 use Rattle.bl_proc.specs.declared.kinds.Proc.{Proc}
 use Rattle.bl_proc.specs.declared.kinds.Proc.TheVariants as proc
+use Rattle.bl_proc.specs.Parts.{part_op}
 use Rattle.bl_proc.specs.Processes.{answer_of}
 use Rattle.bl_claims.specs.Answers.{MeansPosted}
 use Rattle.bl_proc_invariant.specs.Beside.{MeansBeside}
@@ -63,11 +64,11 @@ abbrev pub op_of : Proc → Option Op
 op_of (proc.Find p) = Some (op.Find p.key)
 op_of (proc.Write p) = Some (write_op p.key p.write)
 op_of (proc.Post p) = None
-op_of (proc.Part p) = Some (op.Part p.from)
+op_of (proc.Part p) = Some (part_op p.from)
 op_of (proc.Compress p) = None
 op_of (proc.Reclaim p) = None
 op_of (proc.Lower p) = None
-op_of (proc.InsertPost p) = Some (write_op p.key (Insert p.value))
+op_of (proc.InsertPost p) = Some (write_op p.key (write_of p.placing))
 
 -- a process that releases a page has neither a begin nor an end
 abbrev pub HasEnd : Proc → Type 0

@@ -30,7 +30,7 @@ abbrev pub key_in : Proc → ℕ
 key_in (proc.Find p) = p.key
 key_in (proc.Write p) = p.key
 key_in (proc.Post p) = p.key
-key_in (proc.Part p) = p.from
+key_in (proc.Part p) = p.from.key
 key_in (proc.Compress p) = p.key
 key_in (proc.Reclaim p) = 0
 key_in (proc.Lower p) = 0

@@ -45,7 +45,7 @@ fn key_of(process: &Proc) -> u64
         Proc::Write(process) => process.key,
         Proc::InsertPost(process) => process.key,
         Proc::Post(process) => process.key,
-        Proc::Part(process) => process.from,
+        Proc::Part(process) => process.from.key,
         Proc::Compress(process) => process.key,
         Proc::Reclaim(_) | Proc::Lower(_) => 0,
     }

@@ -45,6 +45,7 @@ fn answers_are_printed_by_number(rt: HostRuntime) -> Result<(), Fail> {
         (Response::Replied(Reply::Inserted), "7 inserted\n"),
         (Response::Replied(Reply::Present(0)), "7 present 0\n"),
         (Response::Replied(Reply::Deleted(8)), "7 deleted 8\n"),
+        (Response::Replied(Reply::Replaced(50)), "7 replaced 50\n"),
         (Response::Replied(Reply::Changed), "7 changed\n"),
         (Response::Replied(Reply::Differs(60)), "7 differs 60\n"),
         (Response::Replied(Reply::NoRoom), "7 noroom\n"),

@@ -9,9 +9,11 @@ pub fn op_of(call: &str, numbers: &[u64]) -> Option<Op> {
     match (call, numbers) {
         ("find", [key]) => Some(Op::Find(*key)),
         ("insert", [key, value]) => Some(Op::Insert(*key, *value)),
+        ("put", [key, value]) => Some(Op::Put(*key, *value)),
         ("delete", [key]) => Some(Op::Delete(*key)),
         ("change", [key, old, new]) => Some(Op::Change(*key, *old, *new)),
         ("part", [from]) => Some(Op::Part(*from)),
+        ("partdown", [from]) => Some(Op::PartDown(*from)),
         _ => None,
     }
 }

@@ -115,7 +115,7 @@ impl Draws {
         }
     }
 
-    /// An insertion or a deletion, by the season. Most deletions are from one quarter of the rows, and many insertions into
+    /// An insertion, a put or a deletion, by the season. Most deletions are from one quarter of the rows, and many insertions into
     /// the one before or behind it.
     fn change(&mut self, tree: &Tree, size: &Size, started: usize) -> Job {
         let seasons = size.seasons(started);
@@ -127,10 +127,12 @@ impl Draws {
         let behind = if size.crowd & 1 == 0 { 1 } else { 3 };
         let key = self.key_of(tree, size.keys, quarter.wrapping_add(behind));
         let key = key.saturating_add(self.below(3));
-        if self.below(2) == 0 {
-            Job::InsertPost(key, started as u64)
-        } else {
-            Job::Insert(key, started as u64)
+        let value = started as u64;
+        match (self.below(2) == 0, started % 3 == 0) {
+            (true, false) => Job::InsertPost(key, value),
+            (false, false) => Job::Insert(key, value),
+            (true, true) => Job::PutPost(key, value),
+            (false, true) => Job::Put(key, value),
         }
     }
 
@@ -291,6 +293,9 @@ impl Lots {
     }
 
     fn part(&mut self, key: u64) -> Job {
+        if self.draws.below(2) == 0 {
+            return Job::PartDown(key);
+        }
         match self.page_in_mind() {
             Some(page) => Job::PartNear(key, page),
             None => Job::Part(key),

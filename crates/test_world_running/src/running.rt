@@ -16,6 +16,9 @@ pub enum Job {
     Insert(u64, u64),
     /// An insertion that posts what it splits.
     InsertPost(u64, u64),
+    Put(u64, u64),
+    /// A put that posts what it splits.
+    PutPost(u64, u64),
     Delete(u64),
     /// A change of that key from the one value to the other.
     Change(u64, u64, u64),
@@ -23,9 +26,18 @@ pub enum Job {
     Part(u64),
     /// A part from that key on that has a page in mind.
     PartNear(u64, u32),
+    /// A part from that key on downwards.
+    PartDown(u64),
     Compress(u32, u64),
     Reclaim(u32),
     Lower,
+}
+
+impl Job {
+    /// It posts what it splits.
+    pub fn is_posting(self) -> bool {
+        matches!(self, Job::InsertPost(_, _) | Job::PutPost(_, _))
+    }
 }
 
 /// A process that has not answered.
@@ -76,6 +88,9 @@ fn reply_in(job: Job, value: Option<u64>) -> Option<Reply> {
         (Job::Insert(_, _) | Job::InsertPost(_, _), Some(value)) => Some(Reply::Present(value)),
         (Job::Change(_, old, _), Some(value)) if value != old => Some(Reply::Differs(value)),
         // it puts the value that is there
+        (Job::Put(_, new) | Job::PutPost(_, new), Some(old)) if old == new => Some(Reply::Replaced(
+            old,
+        )),
         (Job::Change(_, old, new), Some(_)) if old == new => Some(Reply::Changed),
         _ => None,
     }
@@ -102,6 +117,16 @@ fn rights_of_part(tree: &Tree, from: u64, right: &mut Vec<Answer>) -> Result<(),
     Ok(())
 }
 
+/// The same of a part downwards.
+fn rights_of_part_down(tree: &Tree, from: u64, right: &mut Vec<Answer>) -> Result<(), Law> {
+    for live in tree.live.as_slice() {
+        if live.level == 0 && live.covers(from) {
+            add(right, Answer::Op(tree.part_down(from, live), None))?;
+        }
+    }
+    Ok(())
+}
+
 /// Adds what are right answers in this tree, of a process that changes nothing.
 fn rights_in(tree: &Tree, job: Job, right: &mut Vec<Answer>) -> Result<(), Law> {
     match job {
@@ -109,6 +134,8 @@ fn rights_in(tree: &Tree, job: Job, right: &mut Vec<Answer>) -> Result<(), Law> 
         | Job::FindNear(key, _)
         | Job::Insert(key, _)
         | Job::InsertPost(key, _)
+        | Job::Put(key, _)
+        | Job::PutPost(key, _)
         | Job::Delete(key)
         | Job::Change(key, _, _) => {
             match reply_in(job, tree.value_at(key)) {
@@ -117,6 +144,7 @@ fn rights_in(tree: &Tree, job: Job, right: &mut Vec<Answer>) -> Result<(), Law> 
             }
         }
         Job::Part(from) | Job::PartNear(from, _) => rights_of_part(tree, from, right),
+        Job::PartDown(from) => rights_of_part_down(tree, from, right),
         // it looks at owners, not at the tree
         Job::Reclaim(_) => Ok(()),
         Job::Compress(level, key) => rights_of(tree, level, key, right),
@@ -224,9 +252,9 @@ impl Running {
         Ok(())
     }
 
-    /// Of an insertion that has split a page, what is right of its post; else of its job.
+    /// Of a write that posts and has split a page, what is right of its post; else of its job.
     fn look_for_own(&mut self, tree: &Tree) -> Result<(), Law> {
-        if let Job::InsertPost(_, _) = self.job
+        if self.job.is_posting()
             && let Some((level, key)) = self.split
         {
             return match posted_in(tree, level, key) {

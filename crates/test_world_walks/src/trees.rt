@@ -476,6 +476,22 @@ impl Tree {
         Reply::Rows(part, next)
     }
 
+    /// What a part from that key on downwards may answer at that leaf.
+    pub fn part_down(&self, from: u64, leaf: &Live) -> Reply {
+        let mut part = ArrayVec::new();
+        for row in self.rows.as_slice().iter().rev() {
+            if row.0 <= from && leaf.covers(row.0) {
+                let _ = part.try_push(*row);
+            }
+        }
+        let next = if leaf.low == 0 {
+            Next::End
+        } else {
+            Next::More(leaf.low.wrapping_sub(1))
+        };
+        Reply::Rows(part, next)
+    }
+
     /// The pairs of a live page: the rows of a leaf, or the keys and numbers of children.
     pub fn pairs_of(&self, alloc: Global, live: &Live) -> Result<Vec<(u64, u64)>, Law> {
         let mut pairs = Vec::new(alloc);

@@ -20,6 +20,7 @@ pub struct Crew {
 pub fn change_of(running: &mut Running, act: Act, tree: &Tree) -> Result<Op, Law> {
     match running.job {
         Job::Insert(key, value) | Job::InsertPost(key, value) => Ok(Op::Insert(key, value)),
+        Job::Put(key, value) | Job::PutPost(key, value) => Ok(Op::Put(key, value)),
         Job::Delete(key) => {
             if let Act::Put(page) = act {
                 running.thin = tree.thin_low(page)?;
@@ -27,7 +28,7 @@ pub fn change_of(running: &mut Running, act: Act, tree: &Tree) -> Result<Op, Law
             Ok(Op::Delete(key))
         }
         Job::Change(key, old, new) => Ok(Op::Change(key, old, new)),
-        _ => Err("only insertions, deletions and changes change rows"),
+        _ => Err("only insertions, puts, deletions and changes change rows"),
     }
 }
 
@@ -64,9 +65,9 @@ pub fn puts_in_compression(
     Ok(())
 }
 
-/// An insertion that posts has listed what it split, where this tree lists it and the one before did not.
+/// A write that posts has listed what it split, where this tree lists it and the one before did not.
 pub fn lists_own(running: &mut Running, before: &Tree, tree: &Tree) {
-    if let Job::InsertPost(_, _) = running.job
+    if running.job.is_posting()
         && let Some((level, key)) = running.split
         && tree.lists(level, key)
         && !before.lists(level, key)

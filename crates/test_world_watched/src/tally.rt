@@ -12,6 +12,7 @@ struct Operations {
     found: u32,
     absent: u32,
     inserted: u32,
+    replaced: u32,
     present: u32,
     deleted: u32,
     parts: u32,
@@ -137,6 +138,7 @@ pub const NONE: Tally = Tally {
         found: 0,
         absent: 0,
         inserted: 0,
+        replaced: 0,
         present: 0,
         deleted: 0,
         parts: 0,
@@ -211,6 +213,7 @@ impl Operations {
             Reply::Absent => &mut self.absent,
             Reply::Inserted => &mut self.inserted,
             Reply::Present(_) => &mut self.present,
+            Reply::Replaced(_) => &mut self.replaced,
             Reply::Deleted(_) => &mut self.deleted,
             Reply::Rows(_, _) => &mut self.parts,
             Reply::NoRoom => &mut self.without_room,
@@ -224,6 +227,7 @@ impl Operations {
             .min(self.absent)
             .min(self.inserted)
             .min(self.present)
+            .min(self.replaced)
             .min(self.deleted)
             .min(self.parts)
             .min(self.without_room)
@@ -417,9 +421,9 @@ impl Tally {
         self.shapes(hint.level() == 1).hinted(is_split);
     }
 
-    /// An insertion that posts has split the named page from another one, of which it tells nobody.
+    /// A write that posts has split the named page from another one, of which it tells nobody.
     pub fn split_by(&mut self, running: &Running, named: Option<u32>) {
-        if let Job::InsertPost(_, _) = running.job
+        if running.job.is_posting()
             && let Some((level, _)) = running.split
             && named.is_some()
         {

@@ -107,12 +107,18 @@ impl Twins {
                 Proc::insert_posting(key, value),
                 Proc::insert_posting(key, value),
             ),
+            Job::Put(key, value) => self.begin(Proc::put(key, value), Proc::put(key, value)),
+            Job::PutPost(key, value) => self.begin(
+                Proc::put_posting(key, value),
+                Proc::put_posting(key, value),
+            ),
             Job::Delete(key) => self.begin(Proc::delete(key), Proc::delete(key)),
             Job::Change(key, old, new) => self.begin(
                 Proc::change(key, old, new),
                 Proc::change(key, old, new),
             ),
             Job::Part(from) => self.begin(Proc::part(from), Proc::part(from)),
+            Job::PartDown(from) => self.begin(Proc::part_down(from), Proc::part_down(from)),
             Job::PartNear(from, page) => self.begin(part_near(from, page), part_near(from, page)),
             Job::Post(level, key) => self.enter_post(level, key),
             Job::Compress(level, key) => self.enter_compression(level, key),

@@ -3,8 +3,9 @@ use Rattle.bl_model.specs.Rows.{HasRisingKeys}
 use Rattle.bl_model.proofs.Places.{map_of-gap, rising-insert}
 use Rattle.bl_model.proofs.Parts.{IsPlaceOf, place_at, place_gap}
 use Rattle.bl_model.proofs.Steps.{step_found, step_absent, step_present, step_inserted, step_deleted, step_gone, step_part, fills_part, begins_tail, OnErr_any}
+use Rattle.bl_model.proofs.Falling.{IsCountTo, count_at, count_gap, step_part_down, fills_part_down, begins_head}
 use Rattle.bl_model.proofs.plain.PlainMap.apply.Goals as goal
-use Rattle.bl_model.proofs.plain.PlainMap.apply.Goals.{in-Ok, in-Err, in-Ok-search-3, in-Err-search-3}
+use Rattle.bl_model.proofs.plain.PlainMap.apply.Goals.{in-Ok, in-Err, in-Ok-search-3, in-Err-search-3, in-Ok-search-4, in-Err-search-4}
 
 -- memory fails only where a row is added
 pub returns-in_err-insert-in-Err-search-clause-memory : goal.returns-in_err-insert-in-Err-search-clause-memory
@@ -49,3 +50,22 @@ returns-after-search-4-clause-part c =
       | in-Err-search-3 w ↦ rw w.place-is (place_gap _ _ _ w.in-Err-search-3.ensures.absent)
     ] in
     fills_part _ rows _ _ place _ (begins_tail _ _ _ _ (c.deref.ensures.value ∙ c.self-in-Part.view_is) c.part.ensures)
+
+-- and how many rows there are up to it
+pub returns-after-search-5-clause-step : goal.returns-after-search-5-clause-step
+returns-after-search-5-clause-step c =
+    let rows : HasRisingKeys c.args.self.now = subst HasRisingKeys c.self-in-PartDown.view_is c.self-in-PartDown.invariant in
+    let count : IsCountTo c.args.self.now c.in-PartDown.from c.match-search-5.count = elim c.match-search-5.branch [
+      | in-Ok-search-4 w ↦ rw w.count-is (count_at _ _ _ rows w.in-Ok-search-4.ensures.found)
+      | in-Err-search-4 w ↦ rw w.count-is (count_gap _ _ _ w.in-Err-search-4.ensures.absent)
+    ] in
+    rw c.in-PartDown.is (step_part_down _ rows _ _ count _ (begins_head _ _ _ _ (c.deref-in-PartDown.ensures.value ∙ c.self-in-PartDown.view_is) c.part_down.ensures))
+
+pub returns-after-search-5-clause-part : goal.returns-after-search-5-clause-part
+returns-after-search-5-clause-part c =
+    let rows : HasRisingKeys c.args.self.now = subst HasRisingKeys c.self-in-PartDown.view_is c.self-in-PartDown.invariant in
+    let count : IsCountTo c.args.self.now c.in-PartDown.from c.match-search-5.count = elim c.match-search-5.branch [
+      | in-Ok-search-4 w ↦ rw w.count-is (count_at _ _ _ rows w.in-Ok-search-4.ensures.found)
+      | in-Err-search-4 w ↦ rw w.count-is (count_gap _ _ _ w.in-Err-search-4.ensures.absent)
+    ] in
+    fills_part_down _ rows _ _ count _ (begins_head _ _ _ _ (c.deref-in-PartDown.ensures.value ∙ c.self-in-PartDown.view_is) c.part_down.ensures)
