@@ -16,6 +16,8 @@ use Rattle.bl_proc.specs.declared.kinds.Proc.{Proc}
 use Rattle.bl_proc.specs.declared.kinds.Proc.TheVariants as proc
 use Rattle.bl_proc.specs.declared.searching.FindStage.TheVariants as find
 use Rattle.bl_proc.specs.declared.parts.PartStage.TheVariants as part
+use Rattle.bl_proc.specs.Parts.{up, down}
+use Rattle.bl_proc_writes.specs.declared.climbing.Placing.TheVariants as place
 use Rattle.bl_proc.specs.Processes.{answer_of, IsFind, IsWrite, IsPost, IsPart, IsCompress, IsReclaim, IsLower, IsInsertPost}
 use Rattle.bl_world.specs.declared.turns.Event.{Event}
 use Rattle.bl_world.specs.declared.turns.Turn.{Turn}
@@ -78,13 +80,14 @@ IsFindNear key page p = ⊥
 
 -- a part that is to begin, and to look at that page then
 abbrev pub IsPartNear : ℕ → ℕ → Proc → Type 0
-IsPartNear from page (proc.Part p) = (p.from ≡ from) × (p.stage ≡ part.Near page)
+IsPartNear from page (proc.Part p) = (p.from ≡ up from) × (p.stage ≡ part.Near page)
 IsPartNear from page p = ⊥
 
 -- a process that is to read so
 abbrev pub Reads : Op → Proc → Type 0
 Reads (op.Find key) p = IsFind key p
-Reads (op.Part from) p = IsPart from p
+Reads (op.Part from) p = IsPart (up from) p
+Reads (op.PartDown from) p = IsPart (down from) p
 Reads o p = ⊥
 
 -- a process that is to carry that operation out: it reads, or writes one key
@@ -94,7 +97,8 @@ Carries o p = Reads o p ⊎ ((key : ℕ) × (does : KeyWrite) × (write_op key d
 -- a process that a script starts, which has done nothing yet
 abbrev pub IsStart : Start → Proc → Type 0
 IsStart (start.Operation o) p = Carries o p
-IsStart (start.InsertPost key value) p = IsInsertPost key value p
+IsStart (start.InsertPost key value) p = IsInsertPost key (place.Insert value) p
+IsStart (start.PutPost key value) p = IsInsertPost key (place.Put value) p
 IsStart (start.FindNear key page) p = IsFindNear key page p
 IsStart (start.PartNear from page) p = IsPartNear from page p
 IsStart (start.Post level key) p = IsPost level key p

@@ -32,6 +32,7 @@ fn reader_of(op: Op) -> Proc
     match op {
         Op::Find(key) => Proc::find(key),
         Op::Part(from) => Proc::part(from),
+        Op::PartDown(from) => Proc::part_down(from),
         _ => unreachable!(),
     }
 }
@@ -56,6 +57,7 @@ fn process_of(start: Start) -> Proc
     match start {
         Start::Operation(op) => process_for(op),
         Start::InsertPost { key, value } => Proc::insert_posting(key, value),
+        Start::PutPost { key, value } => Proc::put_posting(key, value),
         Start::Post { level, key } => Proc::post(level, key),
         Start::FindNear { key, page } => Proc::Find(Find::near(key, page)),
         Start::PartNear { from, page } => Proc::Part(Part::near(from, page)),

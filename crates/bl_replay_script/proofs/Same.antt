@@ -4,8 +4,8 @@ use Rattle.std.proofs.lemmas.List.{append_cancel_left}
 use Rattle.std.proofs.lemmas.Fmt.{digits_decimal}
 use Rattle.std.proofs.lemmas.Str.Parse.{not_in_digits}
 use Rattle.bl_serve_lines.proofs.Numbers.{own, at_middle}
-use Rattle.bl_model.specs.declared.operation.Op.TheVariants.{Find, Insert, Delete, Change, Part}
-use Rattle.bl_replay_script.specs.declared.command.Start.TheVariants.{Operation, FindNear, InsertPost, PartNear, Post, Compress, Reclaim, Lower}
+use Rattle.bl_model.specs.declared.operation.Op.TheVariants.{Find, Insert, Put, Delete, Change, Part, PartDown}
+use Rattle.bl_replay_script.specs.declared.command.Start.TheVariants.{Operation, FindNear, InsertPost, PutPost, PartNear, Post, Compress, Reclaim, Lower}
 use Rattle.bl_replay_script.specs.declared.command.Command.{Command}
 use Rattle.bl_replay_script.specs.declared.command.Command.TheVariants as command
 use Rattle.bl_replay_script.specs.declared.command.Kinds.{Kinds}
@@ -30,9 +30,12 @@ line_text kinds pages started count (command.Start (Operation (Find a))) h = pla
 line_text kinds pages started count (command.Start (FindNear a b)) h = plain_two (codes "findnear ") a b refl (omega arith) h.0 (small_page b pages count h.1)
 line_text kinds pages started count (command.Start (Operation (Insert a b))) h = plain_two (codes "insert ") a b refl (omega arith) h.0 h.1
 line_text kinds pages started count (command.Start (InsertPost a b)) h = plain_two (codes "insertpost ") a b refl (omega arith) h.0 h.1
+line_text kinds pages started count (command.Start (Operation (Put a b))) h = plain_two (codes "put ") a b refl (omega arith) h.0 h.1
+line_text kinds pages started count (command.Start (PutPost a b)) h = plain_two (codes "putpost ") a b refl (omega arith) h.0 h.1
 line_text kinds pages started count (command.Start (Operation (Delete a))) h = plain_one (codes "delete ") a refl (omega arith) h
 line_text kinds pages started count (command.Start (Operation (Change a b c))) h = plain_three (codes "change ") a b c refl (omega arith) h.0 h.1 h.2
 line_text kinds pages started count (command.Start (Operation (Part a))) h = plain_one (codes "part ") a refl (omega arith) h.1
+line_text kinds pages started count (command.Start (Operation (PartDown a))) h = plain_one (codes "partdown ") a refl (omega arith) h.1
 line_text kinds pages started count (command.Start (PartNear a b)) h = plain_two (codes "partnear ") a b refl (omega arith) h.1 (small_page b pages count h.2)
 line_text kinds pages started count (command.Start (Post a b)) h = plain_two (codes "post ") a b refl (omega arith) (small_level a h.0) h.1
 line_text kinds pages started count (command.Start (Compress a b)) h = plain_two (codes "compress ") a b refl (omega arith) (small_level a h.1) h.2
@@ -53,9 +56,12 @@ kind_of (command.Start (Operation (Find a))) = 6711662
 kind_of (command.Start (FindNear a b)) = 6711662
 kind_of (command.Start (Operation (Insert a b))) = 6909555
 kind_of (command.Start (InsertPost a b)) = 6909555
+kind_of (command.Start (Operation (Put a b))) = 7370100
+kind_of (command.Start (PutPost a b)) = 7370100
 kind_of (command.Start (Operation (Delete a))) = 6579564
 kind_of (command.Start (Operation (Change a b c))) = 6514785
 kind_of (command.Start (Operation (Part a))) = 7364978
+kind_of (command.Start (Operation (PartDown a))) = 7364978
 kind_of (command.Start (PartNear a b)) = 7364978
 kind_of (command.Start (Post a b)) = 7368563
 kind_of (command.Start (Compress a b)) = 6516589
@@ -72,9 +78,12 @@ kind_is (command.Start (Operation (Find a))) = refl
 kind_is (command.Start (FindNear a b)) = refl
 kind_is (command.Start (Operation (Insert a b))) = refl
 kind_is (command.Start (InsertPost a b)) = refl
+kind_is (command.Start (Operation (Put a b))) = refl
+kind_is (command.Start (PutPost a b)) = refl
 kind_is (command.Start (Operation (Delete a))) = refl
 kind_is (command.Start (Operation (Change a b c))) = refl
 kind_is (command.Start (Operation (Part a))) = refl
+kind_is (command.Start (Operation (PartDown a))) = refl
 kind_is (command.Start (PartNear a b)) = refl
 kind_is (command.Start (Post a b)) = refl
 kind_is (command.Start (Compress a b)) = refl
@@ -98,11 +107,20 @@ text_same kinds pages started count (command.Start (Operation (Insert a b))) (co
 text_same kinds pages started count (command.Start (Operation (Insert a b))) (command.Start (InsertPost c d)) h k e = absurd (let at : 32 ≡ 112 = ap (λ t. get_or t 6 0) e in omega arith)
 text_same kinds pages started count (command.Start (InsertPost a b)) (command.Start (Operation (Insert c d))) h k e = absurd (let at : 112 ≡ 32 = ap (λ t. get_or t 6 0) e in omega arith)
 text_same kinds pages started count (command.Start (InsertPost a b)) (command.Start (InsertPost c d)) h k e = let same = two_same a b c d h.0 h.1 k.0 k.1 (append_cancel_left (codes "insertpost ") (two a b) (two c d) e) in ap (λ z. (command.Start (InsertPost z b))) same.0 ∙ ap (λ z. (command.Start (InsertPost c z))) same.1
+text_same kinds pages started count (command.Start (Operation (Put a b))) (command.Start (Operation (Put c d))) h k e = let same = two_same a b c d h.0 h.1 k.0 k.1 (append_cancel_left (codes "put ") (two a b) (two c d) e) in ap (λ z. (command.Start (Operation (Put z b)))) same.0 ∙ ap (λ z. (command.Start (Operation (Put c z)))) same.1
+text_same kinds pages started count (command.Start (Operation (Put a b))) (command.Start (PutPost c d)) h k e = absurd (let at : 32 ≡ 112 = ap (λ t. get_or t 3 0) e in omega arith)
+text_same kinds pages started count (command.Start (PutPost a b)) (command.Start (Operation (Put c d))) h k e = absurd (let at : 112 ≡ 32 = ap (λ t. get_or t 3 0) e in omega arith)
+text_same kinds pages started count (command.Start (PutPost a b)) (command.Start (PutPost c d)) h k e = let same = two_same a b c d h.0 h.1 k.0 k.1 (append_cancel_left (codes "putpost ") (two a b) (two c d) e) in ap (λ z. (command.Start (PutPost z b))) same.0 ∙ ap (λ z. (command.Start (PutPost c z))) same.1
 text_same kinds pages started count (command.Start (Operation (Delete a))) (command.Start (Operation (Delete c))) h k e = ap (λ z. (command.Start (Operation (Delete z)))) (one_same a c h k (append_cancel_left (codes "delete ") (one a) (one c) e))
 text_same kinds pages started count (command.Start (Operation (Change a b c))) (command.Start (Operation (Change x y z))) h k e = let same = three_same a b c x y z h.0 h.1 h.2 k.0 k.1 k.2 (append_cancel_left (codes "change ") (three a b c) (three x y z) e) in ap (λ n. (command.Start (Operation (Change n b c)))) same.0 ∙ ap (λ n. (command.Start (Operation (Change x n c)))) same.1 ∙ ap (λ n. (command.Start (Operation (Change x y n)))) same.2
 text_same kinds pages started count (command.Start (Operation (Part a))) (command.Start (Operation (Part c))) h k e = ap (λ z. (command.Start (Operation (Part z)))) (one_same a c h.1 k.1 (append_cancel_left (codes "part ") (one a) (one c) e))
 text_same kinds pages started count (command.Start (Operation (Part a))) (command.Start (PartNear c d)) h k e = absurd (let at : 32 ≡ 110 = ap (λ t. get_or t 4 0) e in omega arith)
 text_same kinds pages started count (command.Start (PartNear a b)) (command.Start (Operation (Part c))) h k e = absurd (let at : 110 ≡ 32 = ap (λ t. get_or t 4 0) e in omega arith)
+text_same kinds pages started count (command.Start (Operation (Part a))) (command.Start (Operation (PartDown c))) h k e = absurd (let at : 32 ≡ 100 = ap (λ t. get_or t 4 0) e in omega arith)
+text_same kinds pages started count (command.Start (Operation (PartDown a))) (command.Start (Operation (Part c))) h k e = absurd (let at : 100 ≡ 32 = ap (λ t. get_or t 4 0) e in omega arith)
+text_same kinds pages started count (command.Start (Operation (PartDown a))) (command.Start (PartNear c d)) h k e = absurd (let at : 100 ≡ 110 = ap (λ t. get_or t 4 0) e in omega arith)
+text_same kinds pages started count (command.Start (PartNear a b)) (command.Start (Operation (PartDown c))) h k e = absurd (let at : 110 ≡ 100 = ap (λ t. get_or t 4 0) e in omega arith)
+text_same kinds pages started count (command.Start (Operation (PartDown a))) (command.Start (Operation (PartDown c))) h k e = ap (λ z. (command.Start (Operation (PartDown z)))) (one_same a c h.1 k.1 (append_cancel_left (codes "partdown ") (one a) (one c) e))
 text_same kinds pages started count (command.Start (PartNear a b)) (command.Start (PartNear c d)) h k e = let same = two_same a b c d h.1 (small_page b pages count h.2) k.1 (small_page d pages count k.2) (append_cancel_left (codes "partnear ") (two a b) (two c d) e) in ap (λ z. (command.Start (PartNear z b))) same.0 ∙ ap (λ z. (command.Start (PartNear c z))) same.1
 text_same kinds pages started count (command.Start (Post a b)) (command.Start (Post c d)) h k e = let same = two_same a b c d (small_level a h.0) h.1 (small_level c k.0) k.1 (append_cancel_left (codes "post ") (two a b) (two c d) e) in ap (λ z. (command.Start (Post z b))) same.0 ∙ ap (λ z. (command.Start (Post c z))) same.1
 text_same kinds pages started count (command.Start (Compress a b)) (command.Start (Compress c d)) h k e = let same = two_same a b c d (small_level a h.1) h.2 (small_level c k.1) k.2 (append_cancel_left (codes "compress ") (two a b) (two c d) e) in ap (λ z. (command.Start (Compress z b))) same.0 ∙ ap (λ z. (command.Start (Compress c z))) same.1
@@ -117,7 +135,9 @@ text_same kinds pages started count (command.Run a b) (command.Run c d) h k e = 
 text_same kinds pages started count (command.Settle a) (command.Settle c) h k e = ap (λ z. (command.Settle z)) (one_same a c h k (append_cancel_left (codes "settle ") (one a) (one c) e))
 text_same kinds pages started count c (command.Start (Operation (Find x))) h k e = absurd (other_kind c (command.Start (Operation (Find x))) e (λ i. omega (arith, i)))
 text_same kinds pages started count c (command.Start (Operation (Insert x y))) h k e = absurd (other_kind c (command.Start (Operation (Insert x y))) e (λ i. omega (arith, i)))
+text_same kinds pages started count c (command.Start (Operation (Put x y))) h k e = absurd (other_kind c (command.Start (Operation (Put x y))) e (λ i. omega (arith, i)))
 text_same kinds pages started count c (command.Start (Operation (Delete x))) h k e = absurd (other_kind c (command.Start (Operation (Delete x))) e (λ i. omega (arith, i)))
 text_same kinds pages started count c (command.Start (Operation (Change x y z))) h k e = absurd (other_kind c (command.Start (Operation (Change x y z))) e (λ i. omega (arith, i)))
 text_same kinds pages started count c (command.Start (Operation (Part x))) h k e = absurd (other_kind c (command.Start (Operation (Part x))) e (λ i. omega (arith, i)))
+text_same kinds pages started count c (command.Start (Operation (PartDown x))) h k e = absurd (other_kind c (command.Start (Operation (PartDown x))) e (λ i. omega (arith, i)))
 text_same kinds pages started count c d h k e = absurd (other_kind c d e (λ i. omega (arith, i)))

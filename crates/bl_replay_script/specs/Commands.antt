@@ -1,8 +1,9 @@
 -- The lines of a script: the text of each command, and where it is allowed.
 use Rattle.std.specs.Prelude.{ℕ, ◌+◌, ◌<◌, ◌≤◌, ◌^◌, List, [], ◌∷◌, ◌++◌, codes, decimal, IsTrue}
-use Rattle.bl_model.specs.declared.operation.Op.TheVariants.{Find, Insert, Delete, Change, Part}
+use Rattle.bl_model.specs.declared.operation.Op.{Op}
+use Rattle.bl_model.specs.declared.operation.Op.TheVariants.{Find, Insert, Put, Delete, Change, Part, PartDown}
 use Rattle.bl_replay_script.specs.declared.command.Start.{Start}
-use Rattle.bl_replay_script.specs.declared.command.Start.TheVariants.{Operation, FindNear, InsertPost, PartNear, Post, Compress, Reclaim, Lower}
+use Rattle.bl_replay_script.specs.declared.command.Start.TheVariants.{Operation, FindNear, InsertPost, PutPost, PartNear, Post, Compress, Reclaim, Lower}
 use Rattle.bl_replay_script.specs.declared.command.Command.{Command}
 use Rattle.bl_replay_script.specs.declared.command.Command.TheVariants as command
 use Rattle.bl_replay_script.specs.declared.command.Kinds.{Kinds}
@@ -17,15 +18,22 @@ two a b = decimal a ++ codes " " ++ decimal b
 abbrev pub three : ℕ → ℕ → ℕ → List ℕ
 three a b d = two a b ++ codes " " ++ decimal d
 
+-- the text of the line that starts an operation
+abbrev pub operation_text : Op → List ℕ
+operation_text (Find key) = codes "find " ++ one key
+operation_text (Insert key value) = codes "insert " ++ two key value
+operation_text (Put key value) = codes "put " ++ two key value
+operation_text (Delete key) = codes "delete " ++ one key
+operation_text (Change key old new) = codes "change " ++ three key old new
+operation_text (Part from) = codes "part " ++ one from
+operation_text (PartDown from) = codes "partdown " ++ one from
+
 -- the text of the line that starts a process
 abbrev pub start_text : Start → List ℕ
-start_text (Operation (Find key)) = codes "find " ++ one key
+start_text (Operation op) = operation_text op
 start_text (FindNear key page) = codes "findnear " ++ two key page
-start_text (Operation (Insert key value)) = codes "insert " ++ two key value
 start_text (InsertPost key value) = codes "insertpost " ++ two key value
-start_text (Operation (Delete key)) = codes "delete " ++ one key
-start_text (Operation (Change key old new)) = codes "change " ++ three key old new
-start_text (Operation (Part from)) = codes "part " ++ one from
+start_text (PutPost key value) = codes "putpost " ++ two key value
 start_text (PartNear from page) = codes "partnear " ++ two from page
 start_text (Post level key) = codes "post " ++ two level key
 start_text (Compress level key) = codes "compress " ++ two level key
@@ -59,15 +67,22 @@ IsPageCount pages = (4 ≤ pages) × (pages ≤ 65536)
 abbrev pub IsStarted : ℕ → ℕ → Type 0
 IsStarted started process = (1 ≤ process) × (process ≤ started) × Fits process
 
+-- The operation may be started: its kind is there.
+abbrev pub MayAsk : Kinds → Op → Type 0
+MayAsk kinds (Find key) = Fits key
+MayAsk kinds (Insert key value) = Fits key × Fits value
+MayAsk kinds (Put key value) = Fits key × Fits value
+MayAsk kinds (Delete key) = Fits key
+MayAsk kinds (Change key old new) = Fits key × Fits old × Fits new
+MayAsk kinds (Part from) = IsTrue kinds.part × Fits from
+MayAsk kinds (PartDown from) = IsTrue kinds.part × Fits from
+
 -- The process may be started: its kind is there, its level is one of 1 to 12, its page one of the script's.
 abbrev pub MayStart : Kinds → ℕ → Start → Type 0
-MayStart kinds pages (Operation (Find key)) = Fits key
+MayStart kinds pages (Operation op) = MayAsk kinds op
 MayStart kinds pages (FindNear key page) = Fits key × (page < pages)
-MayStart kinds pages (Operation (Insert key value)) = Fits key × Fits value
 MayStart kinds pages (InsertPost key value) = Fits key × Fits value
-MayStart kinds pages (Operation (Delete key)) = Fits key
-MayStart kinds pages (Operation (Change key old new)) = Fits key × Fits old × Fits new
-MayStart kinds pages (Operation (Part from)) = IsTrue kinds.part × Fits from
+MayStart kinds pages (PutPost key value) = Fits key × Fits value
 MayStart kinds pages (PartNear from page) = IsTrue kinds.part × Fits from × (page < pages)
 MayStart kinds pages (Post level key) = IsLevel level × Fits key
 MayStart kinds pages (Compress level key) = IsTrue kinds.compress × IsLevel level × Fits key

@@ -28,6 +28,13 @@ pub enum Start {
         /// Its value.
         value: u64,
     },
+    /// Puts a key, and posts what it splits.
+    PutPost {
+        /// The key.
+        key: u64,
+        /// Its value.
+        value: u64,
+    },
     /// Lists a child in its parent.
     Post {
         /// The level of the parent, 1 to 12.
@@ -77,7 +84,7 @@ pub struct Script {
 /// Which kinds of process a script may start, beside searches, insertions, deletions, changes and posts.
 #[derive(Clone, Copy, Debug, PartialEq, Eq)]
 pub struct Kinds {
-    /// `part` and `partnear` lines.
+    /// `part`, `partdown` and `partnear` lines.
     pub part: bool,
     /// `compress` lines.
     pub compress: bool,

@@ -1,9 +1,10 @@
 //! What a line of a script says.
 
 ghost use Rattle.std.specs.Prelude.{◌≡◌, ◌≢◌, ℕ, ◌<◌, ◌≤◌, ◌^◌, ◌++◌, ◌↔◌, codes, IsTrue, MatchOption};
+ghost use Rattle.bl_model.specs.declared.operation.Op.{Op as OpSpec};
 ghost use Rattle.bl_replay_script.specs.declared.command.Start.{Start as StartSpec};
 ghost use Rattle.bl_replay_script.specs.declared.command.Command.{Command as CommandSpec};
-ghost use Rattle.bl_replay_script.specs.Commands.{one, two, three, head_text, start_text, command_text, Fits, IsLevel, IsPageCount, IsStarted, MayStart, MayStand};
+ghost use Rattle.bl_replay_script.specs.Commands.{one, two, three, head_text, operation_text, start_text, command_text, Fits, IsLevel, IsPageCount, IsStarted, MayAsk, MayStart, MayStand};
 
 use crate::command::{Command, Kinds, Start};
 use bl_model::Op;
@@ -91,6 +92,19 @@ fn part_line(kinds: Kinds, line: &[u8]) -> Option<u64>
     }
 }
 
+/// The key of a `partdown` line, where such a process may be started.
+fn part_down_line(kinds: Kinds, line: &[u8]) -> Option<u64>
+    ensures { MatchOption result
+        ((a : ℕ) → IsTrue kinds.part → Fits a → line.now ≢ codes "partdown " ++ one a)
+        (λ a. IsTrue kinds.part × Fits a × (line.now ≡ codes "partdown " ++ one a)) }
+{
+    if kinds.part {
+        one_within(line, b"partdown ", 0, MOST)
+    } else {
+        None
+    }
+}
+
 /// The key and the page of a line with that word.
 fn near_line(line: &[u8], word: &[u8], pages: u32) -> Option<(u64, u32)>
     requires { 0 < pages }
@@ -165,6 +179,36 @@ fn is_lower_line(kinds: Kinds, line: &[u8]) -> bool
     kinds.lower && line == b"lower".as_slice()
 }
 
+/// The operation that the line starts.
+fn operation_of(kinds: Kinds, line: &[u8]) -> Option<Op>
+    ensures { MatchOption result
+        ((op : OpSpec) → MayAsk kinds op → line.now ≢ operation_text op)
+        (λ op. MayAsk kinds op × (line.now ≡ operation_text op)) }
+{
+    if let Some(key) = one_within(line, b"find ", 0, MOST) {
+        return Some(Op::Find(key));
+    }
+    if let Some((key, value)) = two_within(line, b"insert ", 0, MOST, MOST) {
+        return Some(Op::Insert(key, value));
+    }
+    if let Some((key, value)) = two_within(line, b"put ", 0, MOST, MOST) {
+        return Some(Op::Put(key, value));
+    }
+    if let Some(key) = one_within(line, b"delete ", 0, MOST) {
+        return Some(Op::Delete(key));
+    }
+    if let Some((key, old, new)) = three_behind(line, b"change ") {
+        return Some(Op::Change(key, old, new));
+    }
+    if let Some(from) = part_line(kinds, line) {
+        return Some(Op::Part(from));
+    }
+    let Some(from) = part_down_line(kinds, line) else {
+        return None;
+    };
+    Some(Op::PartDown(from))
+}
+
 /// The process that the line starts.
 fn start_of(kinds: Kinds, pages: u32, line: &[u8]) -> Option<Start>
     requires { 0 < pages }
@@ -172,26 +216,17 @@ fn start_of(kinds: Kinds, pages: u32, line: &[u8]) -> Option<Start>
         ((start : StartSpec) → MayStart kinds pages start → line.now ≢ start_text start)
         (λ start. MayStart kinds pages start × (line.now ≡ start_text start)) }
 {
-    if let Some(key) = one_within(line, b"find ", 0, MOST) {
-        return Some(Start::Operation(Op::Find(key)));
+    if let Some(op) = operation_of(kinds, line) {
+        return Some(Start::Operation(op));
     }
     if let Some((key, page)) = near_line(line, b"findnear ", pages) {
         return Some(Start::FindNear { key, page });
     }
-    if let Some((key, value)) = two_within(line, b"insert ", 0, MOST, MOST) {
-        return Some(Start::Operation(Op::Insert(key, value)));
-    }
     if let Some((key, value)) = two_within(line, b"insertpost ", 0, MOST, MOST) {
         return Some(Start::InsertPost { key, value });
     }
-    if let Some(key) = one_within(line, b"delete ", 0, MOST) {
-        return Some(Start::Operation(Op::Delete(key)));
-    }
-    if let Some((key, old, new)) = three_behind(line, b"change ") {
-        return Some(Start::Operation(Op::Change(key, old, new)));
-    }
-    if let Some(from) = part_line(kinds, line) {
-        return Some(Start::Operation(Op::Part(from)));
+    if let Some((key, value)) = two_within(line, b"putpost ", 0, MOST, MOST) {
+        return Some(Start::PutPost { key, value });
     }
     if let Some((from, page)) = part_near_line(kinds, pages, line) {
         return Some(Start::PartNear { from, page });
