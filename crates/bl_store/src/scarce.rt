@@ -11,19 +11,28 @@ use std::alloc::Allocator;
 /// How many frames a reservation asks for at most.
 const MOST: u32 = 3;
 
+/// So many frames a process may take from its begin to its end: an insertion takes one or two for its leaf, and as many for each level to
+/// which it posts. The layout has so many to spare for each hand beside those of pages.
+const FRAMES_A_HAND: u32 = 8;
+
 /// Pages are scarce where fewer are free than so many for each hand: one for a leaf, and one for each of two levels above it.
 const PAGES_A_HAND: u64 = 3;
 
+/// With so many frames to spare for each hand they are ample: the rings of all hands are full before frames are scarce. With fewer some find
+/// frames in their rings, and take them, which others have counted.
+const AMPLE: u32 = 1_024;
+
 impl<D, R: PageRule<D>, A: Allocator> Store<D, R, A> {
-    /// Whether a reservation may find too few frames now while some wait to be released: fewer are free than all hands together
-    /// may ask for at once, and some are retired. It looks at the frames that the hand would try first, and no further than it
-    /// has to. It is a hint of which nothing is promised: others reserve and release meanwhile.
+    /// Whether a process that begins now may find too few frames while some wait to be released: fewer are free than all hands together
+    /// may take before they look again, and some are retired. So whoever has looked finds what it takes, though it loses its processor
+    /// and others go on meanwhile. It looks at the frames that the hand would try first, and no further than it has to. It is a hint of
+    /// which nothing is promised: others reserve and release meanwhile.
     pub fn lacks_frames(&self, hand: &Hand<D>) -> bool {
         if self.has_ready(hand) {
             return false;
         }
         let total = self.layout.frames();
-        let wanted = MOST * self.layout.passes;
+        let wanted = FRAMES_A_HAND * self.layout.passes;
         let first = hand.frame.min(total);
         let (free, retired) = self.look_over(first, total, wanted);
         if free >= wanted {
@@ -35,11 +44,17 @@ impl<D, R: PageRule<D>, A: Allocator> Store<D, R, A> {
 
     /// Whether a reservation that begins now finds its frames, as far as is seen. It is a hint as well.
     ///
-    /// A hand that has released as many frames as a reservation asks for is taken at its word: to look whether others have taken them would
-    /// cost each change, and such a look is a hint at best.
+    /// Where frames are ample a hand that has released as many as a reservation asks for is taken at its word: to look whether others have
+    /// taken them would cost each change, and such a look is a hint at best.
     #[inline(always)]
     pub fn finds_frames(&self, hand: &Hand<D>) -> bool {
-        hand.ready >= MOST || self.sees_frames(hand)
+        (hand.ready >= MOST && self.is_ample()) || self.sees_frames(hand)
+    }
+
+    // Whether so many frames are to spare that those which a hand has released stand for all.
+    #[inline(always)]
+    fn is_ample(&self) -> bool {
+        self.layout.spare / AMPLE >= self.layout.passes
     }
 
     // Whether as many frames are free as a reservation asks for at most, from those that the hand would try first on.
@@ -50,10 +65,11 @@ impl<D, R: PageRule<D>, A: Allocator> Store<D, R, A> {
         free >= MOST || self.look_over(0, first, MOST - free).0 >= MOST - free
     }
 
-    // Whether the hand has released as many frames as a reservation asks for, and nobody has taken those that it would try first.
+    // Whether frames are ample, and the hand has released as many as a reservation asks for, of which nobody has taken those that it would
+    // try first.
     fn has_ready(&self, hand: &Hand<D>) -> bool {
         let ready = hand.ready.min(RING as u32);
-        if ready < MOST {
+        if ready < MOST || !self.is_ample() {
             return false;
         }
         for place in ready - MOST..ready {

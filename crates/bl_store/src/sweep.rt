@@ -173,7 +173,7 @@ impl<D, R: PageRule<D>, A: Allocator> Store<D, R, A> {
                 continue;
             }
             if state / 4 < oldest {
-                self.release_frame(hand, frame, state, oldest);
+                self.release_frame(hand, frame, state, oldest, RING as u32);
             } else {
                 hand.retired[kept as usize] = frame;
                 kept += 1;
@@ -182,8 +182,15 @@ impl<D, R: PageRule<D>, A: Allocator> Store<D, R, A> {
         hand.waiting = kept;
     }
 
-    // Releases a frame, where it is still in that state of retirement. The hand keeps it in sight, as far as it has room for it.
-    fn release_frame(&self, hand: &mut Hand<D>, frame: u32, state: u64, oldest: u64) -> bool
+    // Releases a frame, where it is still in that state of retirement. The hand keeps it in sight, where it has fewer than so many there.
+    fn release_frame(
+        &self,
+        hand: &mut Hand<D>,
+        frame: u32,
+        state: u64,
+        oldest: u64,
+        most: u32,
+    ) -> bool
         requires own { IsHandOf self.now hand.old }
         requires frame { frame < frame_count self.now.layout }
         requires state { (state % 4 ≡ 3) × (state / 4 < oldest) }
@@ -203,7 +210,7 @@ impl<D, R: PageRule<D>, A: Allocator> Store<D, R, A> {
         if found != state {
             return false;
         }
-        if hand.ready < RING as u32 {
+        if hand.ready < most.min(RING as u32) {
             hand.released[hand.ready as usize] = frame;
             hand.ready += 1;
         }
@@ -235,6 +242,16 @@ impl<D, R: PageRule<D>, A: Allocator> Store<D, R, A> {
             self.room.note_released(at);
             return true;
         }
-        self.release_frame(hand, at - self.layout.pages, state, oldest)
+        self.release_frame(hand, at - self.layout.pages, state, oldest, self.sight())
+    }
+
+    // How many frames a hand has in sight at most where it takes one there that another hand has retired, as those of a sweep mostly are.
+    // Another processor has their words at hand, which costs more than the way to a free frame, but in a large store.
+    fn sight(&self) -> u32 {
+        if self.layout.is_large() {
+            RING as u32
+        } else {
+            0
+        }
     }
 }

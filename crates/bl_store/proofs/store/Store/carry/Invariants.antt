@@ -1,4 +1,4 @@
-use Rattle.std.proofs.Common.{◌≡◌, ℕ, ◌+◌, ◌-◌, ◌*◌, ◌<◌, ◌≤◌, get_or}
+use Rattle.std.proofs.Common.{◌≡◌, ℕ, ◌+◌, ◌*◌, ◌<◌, ◌≤◌, get_or}
 use Rattle.bl_store.specs.Drafts.{draft_words, other_drafts, HasDraft}
 use Rattle.bl_store.specs.Hands.{IsQuiet, IsSameReading, read_words}
 use Rattle.bl_store.proofs.store.Store.carry.Given as goal

@@ -18,8 +18,8 @@ returns-then-found-state g c = let f = c.compare_exchange-found.ensures in recor
   no = λ _. f.2.3 c.if-found-state.true;
 }
 
-pub returns-then-hand : goal.returns-then-hand
-returns-then-hand g c = let f = c.compare_exchange-found.ensures in record {
+pub returns-then-hand-min : goal.returns-then-hand-min
+returns-then-hand-min g c = let f = c.compare_exchange-found.ensures in record {
   same = ((f.0, f.2.0.0.0, f.2.0.0.1), f.2.0.1, f.2.0.2, f.2.0.3, f.2.1);
   kept = (refl, refl);
   reads = f.2.4;
