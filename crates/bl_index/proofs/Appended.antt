@@ -11,6 +11,7 @@ use Rattle.bl_index_rule.specs.declared.known.PassState.{PassState}
 use Rattle.bl_index_rule.specs.Observed.{ends}
 use Rattle.bl_index.specs.declared.scanning.ScanFault.TheVariants.{Memory}
 use Rattle.bl_index_read.specs.LeafRows.{rows_between}
+use Rattle.bl_proc.specs.declared.parts.Direction.TheVariants.{Up}
 use Rattle.bl_index_read.specs.declared.sought.Sought.TheVariants as sought
 use Rattle.bl_index_read.specs.LeafWays.{HasLeaf}
 use Rattle.bl_index_read.specs.declared.leaf_rows.Behind.{Behind}
@@ -18,7 +19,7 @@ use Rattle.bl_index.specs.Scans.{AppendsPart, LeavesPart}
 use Rattle.bl_index_read.proofs.Answered.{part_finds}
 use Rattle.bl_index_read.proofs.Leaves.{TellsBehind, below_are}
 
-module _ (l : Layout) (pass from turns : ℕ) (old : PassState) (h : Seat (Unit {0}) (View PassState)) (e : PassState) (glance : Glance) (has : HasLeaf l pass sought.Rows from turns old h glance) (ended : ends (known h) 0 e) (to : Option ℕ) (before after : List (ℕ × ℕ)) where
+module _ (l : Layout) (pass from turns : ℕ) (old : PassState) (h : Seat (Unit {0}) (View PassState)) (e : PassState) (glance : Glance) (has : HasLeaf l pass (sought.Rows Up) from turns old h glance) (ended : ends (known h) 0 e) (to : Option ℕ) (before after : List (ℕ × ℕ)) where
   -- its rows below the end were appended
   pub part_appends : (behind : Behind) → TellsBehind to (read_words h) behind → after ≡ before ++ rows_between from to (pairs_of (read_words h)) → AppendsPart old.first l.pages pass turns from to behind before after old.trail e.trail
   part_appends behind tells grown = record {

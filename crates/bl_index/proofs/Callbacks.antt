@@ -15,6 +15,7 @@ use Rattle.bl_store.specs.declared.store.Hand.{Hand}
 use Rattle.bl_index_rule.specs.declared.known.PassState.{PassState}
 use Rattle.bl_index_rule.specs.Observed.{ends}
 use Rattle.bl_index_read.specs.LeafRows.{rows_between}
+use Rattle.bl_proc.specs.declared.parts.Direction.TheVariants.{Up}
 use Rattle.bl_index_read.specs.declared.sought.Sought.TheVariants as sought
 use Rattle.bl_index_read.specs.LeafWays.{HasLeaf}
 use Rattle.bl_index_read.specs.declared.leaf_rows.Behind.{Behind}
@@ -30,7 +31,7 @@ use Rattle.bl_index_read.proofs.Setting.{same_number}
 
 module _ {F : Type 0} (leads : F → ℕ × ℕ → F → Type 0) where
   -- its rows below the end were told
-  pub part_tells : (l : Layout) (pass from turns : ℕ) (old : PassState) (h : Seat (Unit {0}) (View PassState)) (e : PassState) (glance : Glance) → HasLeaf l pass sought.Rows from turns old h glance → ends (known h) 0 e
+  pub part_tells : (l : Layout) (pass from turns : ℕ) (old : PassState) (h : Seat (Unit {0}) (View PassState)) (e : PassState) (glance : Glance) → HasLeaf l pass (sought.Rows Up) from turns old h glance → ends (known h) 0 e
       → (to : Option ℕ) (behind : Behind) (p q : F) → TellsBehind to (read_words h) behind → FoldsTo leads p (rows_between from to (pairs_of (read_words h))) q → TellsPart leads old.first l.pages pass turns from to behind p q old.trail e.trail
   part_tells l pass from turns old h e glance has ended to behind p q tells told = record {
     reply = Rows has.leaf.ends.0.rows has.leaf.ends.0.next;

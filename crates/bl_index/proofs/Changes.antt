@@ -52,11 +52,12 @@ change_unhinted does old new (written.Done there h) said hint marks is e means =
     unhinted_reply old new there hint marks (subst (λ z. MeansWritten z hint marks) (sym (same_reply _ _ _ _ e) ∙ ap (λ z. replied z there) is) means)
 change_unhinted does old new written.NoRoom said hint marks is e means = sym (same_hint _ _ _ _ e)
 
--- an insertion has no other reply than Inserted with which anything is written
+-- what an insertion may reply tells of an entry, or of nothing
 inserted_means : (m : Map) (key value : ℕ) (said : Reply) (hint : Option Hint) (marks : Trail) → MayAnswer m (op.Insert key value) said → MeansWritten said hint marks → MeansInserted said hint marks
-inserted_means m key value (reply.Deleted there) hint marks may means = absurd may
-inserted_means m key value reply.Changed hint marks may means = absurd may
-inserted_means m key value other hint marks may means = means
+inserted_means m key value reply.Inserted hint marks may means = means
+inserted_means m key value (reply.Present there) hint marks may means = means
+inserted_means m key value reply.NoRoom hint marks may means = means
+inserted_means m key value other hint marks may means = absurd may
 
 pub inserts : (first : List (Option Page)) (pass key value : ℕ) (said : Reply) (next : Option Hint) (old new : Trail) → Writes first pass (op.Insert key value) said next old new → Inserts first pass key value said next old new
 inserts first pass key value said next old new w =

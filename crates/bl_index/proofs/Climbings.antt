@@ -1,6 +1,6 @@
--- What an insertion with its posts tells its caller.
+-- What a write with its posts tells its caller.
 use Rattle.std.proofs.Common.{ℕ, ◌≡◌, ◌+◌, Option, Some, List, ◌∙◌}
-use Rattle.bl_model.specs.declared.operation.Op.TheVariants as op
+use Rattle.bl_model.specs.Writes.{write_op}
 use Rattle.bl_model.specs.declared.operation.Reply.{Reply}
 use Rattle.bl_page.specs.declared.page.Page.{Page}
 use Rattle.bl_claims.specs.Trails.{Trail, marks_of}
@@ -15,18 +15,20 @@ use Rattle.bl_index_steps.specs.Answered.{InCall}
 use Rattle.bl_index_steps.proofs.Ends.{answered_by, in_call_by, climb_says}
 use Rattle.bl_index_write.specs.Climbing.{HasClimbed}
 use Rattle.bl_index.specs.Calls.{Climbs}
+use Rattle.bl_proc_writes.specs.declared.climbing.Placing.{Placing}
+use Rattle.bl_proc_writes.specs.Placings.{write_of}
 
-module _ (from : List (Option Page)) (pass : ℕ) (old e : PassState) (key value : ℕ) (said : Reply) (last : Option Posted) (left : Option Hint) (h : HasClimbed pass old e key value said last left) (begins : old.first ≡ from) where
-  pub climb_answered : Climbs from pass key value said last left old.trail e.trail
+module _ (from : List (Option Page)) (pass : ℕ) (old e : PassState) (key : ℕ) (placing : Placing) (said : Reply) (last : Option Posted) (left : Option Hint) (h : HasClimbed pass old e key placing said last left) (begins : old.first ≡ from) where
+  pub climb_answered : Climbs from pass (write_op key (write_of placing)) said last left old.trail e.trail
   climb_answered =
       let q = h.over in let d = h.done in
       record {
-        answers = answered_by from pass old e h.first (proc.InsertPost q) (op.Insert key value) said d begins (climb_says d.before q (op.Insert key value) said last left (d.op ∙ h.op_is) d.at_end d.takes h.answer);
-        means = stage_climbed q.value q.stage said last left (marks_of (name pass (old.number + 1)) e.trail) h.answer d.log;
+        answers = answered_by from pass old e h.first (proc.InsertPost q) (write_op key (write_of placing)) said d begins (climb_says d.before q (write_op key (write_of placing)) said last left (d.op ∙ h.op_is) d.at_end d.takes h.answer);
+        means = stage_climbed q.placing q.stage said last left (marks_of (name pass (old.number + 1)) e.trail) h.answer d.log;
         latches = d.tidy;
       }
 
   pub climb_in_call : (IsSo : Trail → Type 0) → IsSo (own_marks e) → InCall pass (Some said) old.trail e.trail IsSo
   climb_in_call IsSo so =
       let q = h.over in let d = h.done in
-      in_call_by from pass old e h.first (proc.InsertPost q) (op.Insert key value) said IsSo d begins (climb_says d.before q (op.Insert key value) said last left (d.op ∙ h.op_is) d.at_end d.takes h.answer) so
+      in_call_by from pass old e h.first (proc.InsertPost q) (write_op key (write_of placing)) said IsSo d begins (climb_says d.before q (write_op key (write_of placing)) said last left (d.op ∙ h.op_is) d.at_end d.takes h.answer) so

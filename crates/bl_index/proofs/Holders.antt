@@ -17,6 +17,7 @@ use Rattle.bl_model.specs.declared.deciding.KeyWrite.{KeyWrite}
 use Rattle.bl_proc_writes.specs.declared.writing.WriteStage.{WriteStage}
 use Rattle.bl_proc_writes.specs.declared.writing.WriteStage.TheVariants as write
 use Rattle.bl_proc.specs.declared.parts.PartStage.{PartStage}
+use Rattle.bl_proc.specs.declared.parts.PartStart.{PartStart}
 use Rattle.bl_proc.specs.declared.parts.PartStage.TheVariants as part
 use Rattle.bl_proc_writes.specs.declared.posting.PostStage.{PostStage}
 use Rattle.bl_proc_writes.specs.declared.posting.PostStage.TheVariants as post
@@ -26,7 +27,6 @@ use Rattle.bl_proc_base.specs.declared.lowering.Lowering.{Lowering}
 use Rattle.bl_proc_base.specs.declared.lowering.Lowering.TheVariants as lowering
 use Rattle.bl_proc.specs.declared.lowering.LowerStage.{LowerStage}
 use Rattle.bl_proc.specs.declared.lowering.LowerStage.TheVariants as lower
-use Rattle.bl_model.specs.declared.deciding.KeyWrite.TheVariants.{Insert}
 use Rattle.bl_proc_writes.specs.declared.paths.Path.{Path}
 use Rattle.bl_proc_writes.specs.declared.climbing.ClimbStage.{ClimbStage}
 use Rattle.bl_proc_writes.specs.declared.climbing.ClimbStage.TheVariants as climb
@@ -38,6 +38,8 @@ use Rattle.bl_proc_invariant.specs.Compressing.{know_squeeze}
 use Rattle.bl_proc_invariant.specs.Knowing.{Run, know, know_of, know_find, know_part, know_write, path_goes, inserted, know_climb, know_growth, know_post, know_compress, know_reclaim, know_lower}
 use Rattle.bl_proc_compress.specs.declared.compressing.Compression.{Compression}
 use Rattle.bl_proc_compress.specs.declared.compressing.Compression.TheVariants as compression
+use Rattle.bl_proc_writes.specs.declared.climbing.Placing.{Placing}
+use Rattle.bl_proc_writes.specs.Placings.{write_of}
 
 -- it runs, or holds nothing
 abbrev MayHold : Know → Type 0
@@ -90,7 +92,7 @@ find_holds key (find.Descending d) = inr refl
 find_holds key (find.Ending value) = inr refl
 find_holds key (find.Over value) = inr refl
 
-part_holds : (key : ℕ) (a : PartStage) → MayHold (know_part key a)
+part_holds : (key : PartStart) (a : PartStage) → MayHold (know_part key a)
 part_holds key part.New = inr refl
 part_holds key (part.Near x) = inr refl
 part_holds key (part.Probing x) = inr refl
@@ -148,11 +150,11 @@ lower_holds got (lower.Sinking l) = inl (lowering_holds got l)
 lower_holds got (lower.Ending r) = inr refl
 lower_holds got (lower.Over r) = inr refl
 
-climb_holds : (key value : ℕ) (path : Path) (got : ℕ → Page) (child : ℕ) (a : ClimbStage) → MayHold (know_climb key value path got child a)
-climb_holds key value path got child (climb.Writing w) = write_holds (path_goes path) key (Insert value) got w.stage
-climb_holds key value path got child (climb.Posting p) = post_holds (inserted key value path) p.level p.key got child p.stage
-climb_holds key value path got child (climb.Ending r) = inr refl
-climb_holds key value path got child (climb.Over r) = inr refl
+climb_holds : (key : ℕ) (placing : Placing) (path : Path) (got : ℕ → Page) (child : ℕ) (a : ClimbStage) → MayHold (know_climb key placing path got child a)
+climb_holds key placing path got child (climb.Writing w) = write_holds (path_goes path) key (write_of placing) got w.stage
+climb_holds key placing path got child (climb.Posting p) = post_holds (inserted key placing path) p.level p.key got child p.stage
+climb_holds key placing path got child (climb.Ending r) = inr refl
+climb_holds key placing path got child (climb.Over r) = inr refl
 
 proc_holds : (got : ℕ → Page) (child time : ℕ) (p : Proc) → MayHold (know_of got child time p)
 proc_holds got child time (proc.Find p) = find_holds p.key p.stage
@@ -162,7 +164,7 @@ proc_holds got child time (proc.Part p) = part_holds p.from p.stage
 proc_holds got child time (proc.Compress p) = compress_holds p.level p.key got p.stage
 proc_holds got child time (proc.Reclaim p) = reclaim_holds time p.stage
 proc_holds got child time (proc.Lower p) = lower_holds got p.stage
-proc_holds got child time (proc.InsertPost p) = climb_holds p.key p.value p.path got child p.stage
+proc_holds got child time (proc.InsertPost p) = climb_holds p.key p.placing p.path got child p.stage
 
 pub held_busy : (r : Run) (x : ℕ) (phase : Phase) → IsStage (know r).stage phase → HoldsPage (know r).holds x → (since : ℕ) × (phase ≡ Phase.Running since)
 held_busy r x phase stage holds = elim (proc_holds r.got r.child r.time r.state) [

@@ -21,6 +21,7 @@ use Rattle.bl_model.specs.Parts.{ended_at}
 use Rattle.bl_store.specs.Hands.{known, IsSameHand}
 use Rattle.bl_store.specs.declared.store.Hand.{Hand}
 use Rattle.bl_index_rule.specs.declared.known.PassState.{PassState}
+use Rattle.bl_proc.specs.declared.parts.Direction.TheVariants.{Up}
 use Rattle.bl_index_read.specs.declared.sought.Sought.TheVariants as sought
 use Rattle.bl_index_read.specs.LeafWays.{HasSetOff}
 use Rattle.bl_index_read.proofs.Setting.{same_number}
@@ -174,8 +175,8 @@ stops_there first pages pass it turns from at link to room fault listed before a
 -- ---- a scan of which a hand makes the parts
 
 -- a part that has set off by the number that the hand had, and has
-pub set_off_again : (tree : Tree) (old hand : Hand PassState) → IsSameHand old.seat hand.seat → (from : ℕ) (way : Descent) (mid : PassState) → HasSetOff tree hand old.number sought.Rows from way mid → HasSetOff tree hand hand.number sought.Rows from way mid
-set_off_again tree old hand same from way mid off = subst (λ (z : ℕ). HasSetOff tree hand z sought.Rows from way mid) (sym (same_number old hand same)) off
+pub set_off_again : (tree : Tree) (old hand : Hand PassState) → IsSameHand old.seat hand.seat → (from : ℕ) (way : Descent) (mid : PassState) → HasSetOff tree hand old.number (sought.Rows Up) from way mid → HasSetOff tree hand hand.number (sought.Rows Up) from way mid
+set_off_again tree old hand same from way mid off = subst (λ (z : ℕ). HasSetOff tree hand z (sought.Rows Up) from way mid) (sym (same_number old hand same)) off
 
 module _ (old hand : Hand PassState) (mid : PassState) (pages turns from at link : ℕ) (to : Option ℕ) (listed before after : List (ℕ × ℕ)) (new : Trail) (same : IsSameHand old.seat hand.seat) (first : mid.first ≡ (known old.seat).first)
     (so_far : IsSoFar (known old.seat).first pages old.number turns from to (Part at link) listed (known old.seat).trail mid.trail) where

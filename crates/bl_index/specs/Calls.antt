@@ -77,7 +77,7 @@ WriteLacks old key does new = InCall (number_of old) (Some reply.NoRoom) (trail 
 abbrev pub PostLacks : Pass → ℕ → ℕ → Pass → Type 0
 PostLacks old level key new = InCall (number_of old) None (trail old) (trail new) (λ marks. LacksForPost level key marks (WasRefused new.hand.seat))
 
--- An insertion that has entered its pair found none for a post of that key to that level.
+-- An insertion or a put that has entered its pair found none for a post of that key to that level.
 abbrev pub ClimbLacks : Pass → ℕ → ℕ → Pass → Type 0
 ClimbLacks old level key new = InCall (number_of old) (Some reply.Inserted) (trail old) (trail new)
     (λ marks. LacksForPost level key marks (WasRefused new.hand.seat))
@@ -104,7 +104,7 @@ pub record Sweeps (first : List (Option Page)) (pass answer : ℕ) (old new : Tr
   pub seen : IsLinearizable first old → IsLinearizable first new
   pub none : own pass new ≡ own pass old
 
--- An insertion, a deletion or a change is answered, and its process has written what its reply means with the hint beside it. It
+-- An insertion, a put, a deletion or a change is answered, and its process has written what its reply means with the hint beside it. It
 -- held no page when it latched one.
 pub record Writes (first : List (Option Page)) (pass : ℕ) (op : Op) (reply : Reply) (next : Option Hint) (old new : Trail) : Type 0 where
   pub answers : Answers first pass op reply old new
@@ -117,9 +117,10 @@ pub record Inserts (first : List (Option Page)) (pass key value : ℕ) (reply : 
   pub hint : MeansInserted reply next (marks_of (name pass answers.number) new)
   pub latches : LatchesAlone (marks_of (name pass answers.number) new)
 
--- An insertion with its posts is answered, and what its process has done is what its answer means. It held no page when it latched one.
-pub record Climbs (first : List (Option Page)) (pass key value : ℕ) (reply : Reply) (last : Option Posted) (left : Option Hint) (old new : Trail) : Type 0 where
-  pub answers : Answers first pass (op.Insert key value) reply old new
+-- An insertion or a put with its posts is answered, and what its process has done is what its answer means. It held no page when it
+-- latched one.
+pub record Climbs (first : List (Option Page)) (pass : ℕ) (op : Op) (reply : Reply) (last : Option Posted) (left : Option Hint) (old new : Trail) : Type 0 where
+  pub answers : Answers first pass op reply old new
   pub means : MeansClimbed reply last left (marks_of (name pass answers.number) new)
   pub latches : LatchesAlone (marks_of (name pass answers.number) new)
 

@@ -1,4 +1,4 @@
-//! Insertions, deletions and changes.
+//! Insertions, puts, deletions and changes.
 
 ghost use Rattle.std.specs.Prelude.{◌≡◌, ℕ, None};
 ghost use Rattle.bl_model.specs.declared.deciding.KeyWrite.TheVariants as key_write;
@@ -17,7 +17,7 @@ impl Index {
     ghost use Rattle.bl_store.specs.Hands.{WasRefused};
     ghost use Rattle.bl_index.specs.Calls.{first_of, IsPassOf, IsSamePass, number_of, trail, Writes, Inserts, InsertLacks, WriteLacks, StepsAlone};
 
-    /// Writes the key so: an insertion, a deletion or a change, each of which is also a call of its own, below. It answers what that
+    /// Writes the key so: an insertion, a put, a deletion or a change, each of which is also a call of its own, below. It answers what that
     /// call answers.
     pub fn write<R: Wait>(
         &self,
@@ -53,6 +53,25 @@ impl Index {
         ensures alone { StepsAlone (first_of self.now) self.now (op.Insert key value) (reply_of result.0) (trail pass.old) (trail pass.new) }
     {
         self.write(rt, pass, key, KeyWrite::Insert(value))
+    }
+
+    /// Puts the value at the key, in place of what is there, in one step: no other call sees the key without a value meanwhile. It
+    /// answers `Inserted`; `Replaced` with the value that the key had; or `NoRoom` where no page or frame was left, and nothing has
+    /// changed then. Where the key was not there and the leaf was split, there is a hint to post its upper part.
+    pub fn put<R: Wait>(
+        &self,
+        rt: &R,
+        pass: &mut Pass,
+        key: u64,
+        value: u64,
+    ) -> (KeyReply, Option<Hint>)
+        requires { IsPassOf self.now pass.old }
+        ensures same { IsSamePass pass.old pass.new }
+        ensures puts { Writes (first_of self.now) (number_of pass.old) (op.Put key value) (reply_of result.0) result.1 (trail pass.old) (trail pass.new) }
+        ensures no_room { result.0 ≡ replies.NoRoom → WriteLacks pass.old key (key_write.Put value) pass.new }
+        ensures alone { StepsAlone (first_of self.now) self.now (op.Put key value) (reply_of result.0) (trail pass.old) (trail pass.new) }
+    {
+        self.write(rt, pass, key, KeyWrite::Put(value))
     }
 
     /// Takes the key and its value away. It answers `Deleted` with the value that the key had; `Absent`; or `NoRoom` where no frame was

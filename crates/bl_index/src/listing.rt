@@ -4,7 +4,7 @@ ghost use Rattle.std.specs.Prelude.{IfOk, IfErr};
 ghost use Rattle.bl_model.specs.declared.operation.Op.TheVariants as op;
 
 use crate::index::{Index, Pass};
-use bl_index_read::{OutOfTurns, list_part};
+use bl_index_read::{OutOfTurns, list_part, list_part_down};
 use bl_model::Reply;
 
 impl Index {
@@ -42,5 +42,25 @@ impl Index {
         ensures alone { IfOk result (λ reply. StepsAlone (first_of self.now) self.now (op.Part from) reply (trail pass.old) (trail pass.new)) }
     {
         list_part(&self.tree, &mut pass.hand, from, near, turns)
+    }
+
+    /// The pairs of one leaf from a key on downwards, in falling order, and the key with which the next part downwards begins, where
+    /// there is one. With a page in mind it looks at that one first; any number will do. It gets at most so many pages, the anchor
+    /// included.
+    pub fn part_down(
+        &self,
+        pass: &mut Pass,
+        from: u64,
+        near: Option<u32>,
+        turns: u32,
+    ) -> Result<Reply, OutOfTurns>
+        requires { IsPassOf self.now pass.old }
+        ensures same { IsSamePass pass.old pass.new }
+        ensures found { IfOk result (λ reply. Finds (first_of self.now) (pages_of self.now) (number_of pass.old) turns (op.PartDown from) reply
+            (trail pass.old) (trail pass.new)) }
+        ensures runs_out { IfErr result (λ _. RunsOut (first_of self.now) (pages_of self.now) (number_of pass.old) turns (trail pass.old) (trail pass.new)) }
+        ensures alone { IfOk result (λ reply. StepsAlone (first_of self.now) self.now (op.PartDown from) reply (trail pass.old) (trail pass.new)) }
+    {
+        list_part_down(&self.tree, &mut pass.hand, from, near, turns)
     }
 }

@@ -7,6 +7,7 @@ ghost use Rattle.bl_store.specs.Owners.{IsHandOf};
 ghost use Rattle.bl_claims.specs.Seeing.{IsSeen};
 ghost use Rattle.bl_index_rule.specs.declared.known.PassState.{PassState as Knows};
 ghost use Rattle.bl_index_steps.specs.Runs.{Rests};
+ghost use Rattle.bl_proc.specs.declared.parts.Direction.TheVariants as direction;
 ghost use Rattle.bl_index_read.specs.declared.sought.Sought.TheVariants as sought;
 ghost use Rattle.bl_index_read.specs.LeafWays.{HasSetOff};
 ghost use Rattle.bl_index_read.specs.LeafRows.{is_below as below, IsBelow, IsOver};
@@ -20,6 +21,7 @@ use bl_index_read::{
 };
 use bl_index_rule::PassState;
 use bl_index_steps::{FrameView, Tree};
+use bl_proc::Direction;
 use bl_proc_base::Descent;
 use bl_store::Hand;
 use std::mem;
@@ -116,7 +118,7 @@ fn append_parts(
         (vec_capacity result.0 - vec_len result.0) result.1 rows.items result.0.items (known hand.old.seat).trail (known hand.new.seat).trail }
 {
     let mut rows = rows;
-    let mut way = set_off(tree, hand, Sought::Rows, from, None);
+    let mut way = set_off(tree, hand, Sought::Rows(Direction::Up), from, None);
     let mut behind = Behind::Part(from, 0);
     while let Behind::Part(at, _) = behind {
         let (more, part) = append_part(tree, hand, at, way, to, turns, rows);
@@ -143,15 +145,16 @@ fn append_part(
     turns: u32,
     rows: Vec<(u64, u64)>,
 ) -> (Vec<(u64, u64)>, Result<(Behind, Descent), ScanFault>)
-    requires off { (old : Knows) × (pass : ℕ) × HasSetOff tree.now hand.old pass sought.Rows from way old }
+    requires off { (old : Knows) × (pass : ℕ) × HasSetOff tree.now hand.old pass (sought.Rows direction.Up) from way old }
     requires below { IsBelow to from }
     ensures same { IsSameHand hand.old.seat hand.new.seat × IsSameStock hand.old.seat hand.new.seat }
-    ensures appends { (old : Knows) → HasSetOff tree.now hand.old hand.old.number sought.Rows from way old → GoesOrStops tree.now hand.new hand.old.number
+    ensures appends { (old : Knows) → HasSetOff tree.now hand.old hand.old.number (sought.Rows direction.Up) from way old → GoesOrStops tree.now hand.new hand.old.number
         (λ behind. AppendsPart old.first tree.now.store.layout.pages hand.old.number turns from to behind rows.items result.0.items)
         (λ fault. LeavesPart old.first tree.now.store.layout.pages hand.old.number turns from to
         (vec_capacity result.0 - vec_len result.0) fault rows.items result.0.items) old result.1 }
 {
-    let Some(glance) = descend_to_leaf(tree, hand, Sought::Rows, from, way, turns) else {
+    let Some(glance) = descend_to_leaf(tree, hand, Sought::Rows(Direction::Up), from, way, turns)
+    else {
         return (rows, Err(ScanFault::OutOfTurns(from)));
     };
     let shown = FrameView {

@@ -6,6 +6,7 @@ ghost use Rattle.bl_store.specs.Owners.{IsHandOf};
 ghost use Rattle.bl_claims.specs.Seeing.{IsSeen};
 ghost use Rattle.bl_index_rule.specs.declared.known.PassState.{PassState as Knows};
 ghost use Rattle.bl_index_steps.specs.Runs.{Rests};
+ghost use Rattle.bl_proc.specs.declared.parts.Direction.TheVariants as direction;
 ghost use Rattle.bl_index_read.specs.declared.sought.Sought.TheVariants as sought;
 ghost use Rattle.bl_index_read.specs.LeafWays.{HasSetOff};
 ghost use Rattle.bl_index_read.specs.LeafRows.{IsBelow};
@@ -19,6 +20,7 @@ use bl_index_read::{
 };
 use bl_index_rule::PassState;
 use bl_index_steps::{FrameView, Tree};
+use bl_proc::Direction;
 use bl_proc_base::Descent;
 use bl_store::Hand;
 
@@ -101,7 +103,7 @@ fn tell_parts<F: FnMut((u64, u64))>(
     ensures tells { TellsScan (λ p x q. F.step p x tt q) (known hand.old.seat).first tree.now.store.layout.pages hand.old.number turns from to
         result visit.old visit.new (known hand.old.seat).trail (known hand.new.seat).trail }
 {
-    let mut way = set_off(tree, hand, Sought::Rows, from, None);
+    let mut way = set_off(tree, hand, Sought::Rows(Direction::Up), from, None);
     let mut behind = Behind::Part(from, 0);
     while let Behind::Part(at, _) = behind {
         match tell_part(tree, hand, at, way, to, turns, visit) {
@@ -126,17 +128,18 @@ fn tell_part<F: FnMut((u64, u64))>(
     turns: u32,
     visit: &mut F,
 ) -> Result<(Behind, Descent), OutOfTurnsAt>
-    requires off { (old : Knows) × (pass : ℕ) × HasSetOff tree.now hand.old pass sought.Rows from way old }
+    requires off { (old : Knows) × (pass : ℕ) × HasSetOff tree.now hand.old pass (sought.Rows direction.Up) from way old }
     requires below { IsBelow to from }
     requires callable { F.IsAlwaysCallable visit.old }
     ensures same { IsSameHand hand.old.seat hand.new.seat × IsSameStock hand.old.seat hand.new.seat }
     ensures callable { F.IsAlwaysCallable visit.new }
-    ensures tells { (old : Knows) → HasSetOff tree.now hand.old hand.old.number sought.Rows from way old → GoesOrStops tree.now hand.new hand.old.number
+    ensures tells { (old : Knows) → HasSetOff tree.now hand.old hand.old.number (sought.Rows direction.Up) from way old → GoesOrStops tree.now hand.new hand.old.number
         (λ behind. TellsPart (λ p x q. F.step p x tt q) old.first tree.now.store.layout.pages hand.old.number turns from to behind
         visit.old visit.new)
         (λ out. TellsNothing old.first tree.now.store.layout.pages hand.old.number turns from out visit.old visit.new) old result }
 {
-    let Some(glance) = descend_to_leaf(tree, hand, Sought::Rows, from, way, turns) else {
+    let Some(glance) = descend_to_leaf(tree, hand, Sought::Rows(Direction::Up), from, way, turns)
+    else {
         return Err(OutOfTurnsAt { key: from });
     };
     let shown = FrameView {

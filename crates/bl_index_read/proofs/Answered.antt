@@ -12,9 +12,12 @@ use Rattle.bl_proc_base.specs.declared.acts.Seen.TheVariants as seen
 use Rattle.bl_proc_base.specs.declared.answers.Answer.{Answer}
 use Rattle.bl_proc_base.specs.declared.answers.Answer.TheVariants.{Op}
 use Rattle.bl_proc.specs.declared.kinds.Proc.{Proc}
+use Rattle.bl_proc.specs.declared.parts.Direction.{Direction}
+use Rattle.bl_proc.specs.declared.parts.Direction.TheVariants.{Up, Down}
 use Rattle.bl_proc.specs.declared.parts.PartRows.{PartRows}
 use Rattle.bl_proc.specs.declared.parts.PartStage.TheVariants as part
 use Rattle.bl_proc.specs.declared.searching.FindStage.TheVariants as find
+use Rattle.bl_proc.specs.Parts.{op_toward}
 use Rattle.bl_proc.specs.Processes.{answer_of, Takes}
 use Rattle.bl_proc.specs.Searches.{found_answer}
 use Rattle.bl_proc_bounds.specs.Latches.{IsTidy}
@@ -83,9 +86,9 @@ find_finds l pass key turns old h e glance has ended = finds l pass Value key tu
 
 -- ---- a part
 
-part_answered : (from : ℕ) (rows : PartRows) (state : Proc) → state ≡ listing from (part.Ending rows) → Answered state (op.Part from) (reply.Rows rows.rows rows.next)
-part_answered from rows state e = subst (λ (z : Proc). Answered z (op.Part from) (reply.Rows rows.rows rows.next)) (sym e) (record {
-  last = listing from (part.Over rows);
+part_answered : (direction : Direction) (from : ℕ) (rows : PartRows) (state : Proc) → state ≡ listing direction from (part.Ending rows) → Answered state (op_toward direction from) (reply.Rows rows.rows rows.next)
+part_answered direction from rows state e = subst (λ (z : Proc). Answered z (op_toward direction from) (reply.Rows rows.rows rows.next)) (sym e) (record {
+  last = listing direction from (part.Over rows);
   takes = (refl, refl);
   op = refl;
   answer = refl;
@@ -93,5 +96,8 @@ part_answered from rows state e = subst (λ (z : Proc). Answered z (op.Part from
   tidy = λ marks tidy. tidy;
 })
 
-pub part_finds : (l : Layout) (pass from turns : ℕ) (old : PassState) (h : Seat (Unit {0}) (View PassState)) (e : PassState) (glance : Glance) (has : HasLeaf l pass Rows from turns old h glance) → ends (known h) 0 e → Finds old.first l.pages pass turns (op.Part from) (reply.Rows has.leaf.ends.0.rows has.leaf.ends.0.next) old.trail e.trail
-part_finds l pass from turns old h e glance has ended = finds l pass Rows from turns old h e glance has ended (op.Part from) _ (part_answered from has.leaf.ends.0 _ has.leaf.ends.2)
+pub part_finds : (l : Layout) (pass from turns : ℕ) (old : PassState) (h : Seat (Unit {0}) (View PassState)) (e : PassState) (glance : Glance) (has : HasLeaf l pass (Rows Up) from turns old h glance) → ends (known h) 0 e → Finds old.first l.pages pass turns (op.Part from) (reply.Rows has.leaf.ends.0.rows has.leaf.ends.0.next) old.trail e.trail
+part_finds l pass from turns old h e glance has ended = finds l pass (Rows Up) from turns old h e glance has ended (op.Part from) _ (part_answered Up from has.leaf.ends.0 _ has.leaf.ends.2)
+
+pub part_down_finds : (l : Layout) (pass from turns : ℕ) (old : PassState) (h : Seat (Unit {0}) (View PassState)) (e : PassState) (glance : Glance) (has : HasLeaf l pass (Rows Down) from turns old h glance) → ends (known h) 0 e → Finds old.first l.pages pass turns (op.PartDown from) (reply.Rows has.leaf.ends.0.rows has.leaf.ends.0.next) old.trail e.trail
+part_down_finds l pass from turns old h e glance has ended = finds l pass (Rows Down) from turns old h e glance has ended (op.PartDown from) _ (part_answered Down from has.leaf.ends.0 _ has.leaf.ends.2)

@@ -8,3 +8,4 @@ pub mod Picked
 pub mod Portions
 pub mod Leaves
 pub mod Told
+pub mod Together

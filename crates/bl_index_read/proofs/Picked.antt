@@ -8,6 +8,7 @@ use Rattle.std.specs.List.Sorted.{IsPartitionPoint}
 use Rattle.bl_model.specs.Map.{ListsPairs}
 use Rattle.bl_model.specs.Rows.{map_of, key_at}
 use Rattle.bl_model.proofs.Parts.{IsPlaceOf}
+use Rattle.bl_model.proofs.Falling.{IsCountTo}
 use Rattle.bl_page.specs.declared.page.Page.{Page}
 use Rattle.bl_page.specs.Faults.{pairs_of, count_in, HasPairs}
 use Rattle.bl_page.proofs.Halving.{pairs-at, pairs-length}
@@ -156,6 +157,27 @@ module _ (words : List ℕ) (long : length words ≡ 32) (pairs : HasPairs words
     in_range = let n = count_is in omega arith;
     below = λ i low lt. absurd (omega arith);
     others = λ i low lt. lt_false (key_at (pairs_of words) i) end (none i low (let n = count_is in omega arith));
+  }
+
+  -- the rows up to a key
+  pub count_here : (from last : ℕ) → 0 < last → last ≤ count_in words → NoneBelow words (from + 1) last → get_or words (2 + 2 * last) 0 ≤ from → IsCountTo (pairs_of words) from last
+  count_here from last some within none here =
+      let n = count_is in
+      let top : key_at (pairs_of words) (last - 1) ≡ get_or words (2 + 2 * last) 0 = key_read (last - 1) (omega arith) ∙ ap (λ (z : ℕ). get_or words z 0) (let z : 4 + 2 * (last - 1) ≡ 2 + 2 * last = omega arith in z) in
+      record {
+        in_range = omega arith;
+        before = λ i lt. elim (cases_eq i (last - 1)) [
+          | inl same ↦ let e = ap (key_at (pairs_of words)) same in omega (arith, e, top, here)
+          | inr ne ↦ let r = rising_keys 0 (pairs_of words) pairs.rises i (last - 1) (omega (arith, lt, ne)) (omega arith) in omega (arith, r, top, here)
+        ];
+        behind = λ i low lt. omega (arith, none i low (omega (arith, lt, n)));
+      }
+
+  pub count_none : (from : ℕ) → NoneBelow words (from + 1) 0 → IsCountTo (pairs_of words) from 0
+  count_none from none = record {
+    in_range = omega arith;
+    before = λ i lt. absurd (omega arith);
+    behind = λ i low lt. omega (arith, none i (omega arith) (let n = count_is in omega (arith, n, lt)));
   }
 
   -- so many rows stand there

@@ -10,12 +10,13 @@ use Rattle.bl_proc_pages.specs.Onwards.{Leads}
 use Rattle.bl_proc_base.specs.declared.descent.Descent.{Descent}
 use Rattle.bl_proc.specs.declared.searching.FindStage.{FindStage}
 use Rattle.bl_proc.specs.declared.searching.FindStage.TheVariants as find
+use Rattle.bl_proc.specs.declared.parts.Direction.{Direction}
 use Rattle.bl_proc.specs.declared.parts.PartRows.{PartRows}
 use Rattle.bl_proc.specs.declared.parts.PartStage.{PartStage}
 use Rattle.bl_proc.specs.declared.parts.PartStage.TheVariants as part
 use Rattle.bl_proc.specs.declared.kinds.Proc.{Proc}
 use Rattle.bl_proc.specs.declared.kinds.Proc.TheVariants as proc
-use Rattle.bl_proc.specs.Parts.{IsPartOf}
+use Rattle.bl_proc.specs.Parts.{IsPartToward}
 use Rattle.bl_store.specs.declared.store.Glance.{Glance}
 use Rattle.bl_store.specs.declared.store.Hand.{Hand}
 use Rattle.bl_frames.specs.declared.view.View.{View}
@@ -34,30 +35,30 @@ use Rattle.bl_index_read.specs.Turns.{IsAtTurn, IsAtLast}
 abbrev pub searching : ℕ → FindStage → Proc
 searching key stage = proc.Find (record { key = key; stage = stage })
 
-abbrev pub listing : ℕ → PartStage → Proc
-listing from stage = proc.Part (record { from = from; stage = stage })
+abbrev pub listing : Direction → ℕ → PartStage → Proc
+listing direction from stage = proc.Part (record { from = record { key = from; direction = direction }; stage = stage })
 
 -- It is to begin, with a page in mind or with none.
 abbrev pub fresh : Sought → ℕ → Option ℕ → Proc
 fresh Value key None = searching key find.New
 fresh Value key (Some page) = searching key (find.Near page)
-fresh Rows from None = listing from part.New
-fresh Rows from (Some page) = listing from (part.Near page)
+fresh (Rows direction) from None = listing direction from part.New
+fresh (Rows direction) from (Some page) = listing direction from (part.Near page)
 
 -- It is to look whether that page is open.
 abbrev pub probing : Sought → ℕ → ℕ → Proc
 probing Value key page = searching key (find.Probing page)
-probing Rows from page = listing from (part.Probing page)
+probing (Rows direction) from page = listing direction from (part.Probing page)
 
 -- It has come so far on its way.
 abbrev pub going : Sought → ℕ → Descent → Proc
 going Value key way = searching key (find.Descending way)
-going Rows from way = listing from (part.Descending way)
+going (Rows direction) from way = listing direction from (part.Descending way)
 
 -- It is to end, with what that page lists, which is its leaf.
 abbrev pub EndsWith : Sought → ℕ → Page → Proc → Type 0
 EndsWith Value key leaf state = state ≡ searching key (find.Ending ((node_of leaf).look key))
-EndsWith Rows from leaf state = (rows : PartRows) × IsPartOf leaf from rows × (state ≡ listing from (part.Ending rows))
+EndsWith (Rows direction) from leaf state = (rows : PartRows) × IsPartToward direction leaf from rows × (state ≡ listing direction from (part.Ending rows))
 
 -- It has got its leaf, which has these words, and is to end with what that lists.
 pub record IsAtLeaf (sought : Sought) (key : ℕ) (words : List ℕ) (d : PassState) : Type 0 where

@@ -3,3 +3,4 @@ pub mod Turns
 pub mod LeafRows
 pub mod LeafWays
 pub mod Parts
+pub mod Together

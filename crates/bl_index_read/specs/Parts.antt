@@ -1,6 +1,7 @@
 -- Parts behind one another.
 use Rattle.std.specs.Prelude.{◌≡◌, ℕ}
 use Rattle.bl_proc_base.specs.declared.descent.Descent.{Descent}
+use Rattle.bl_proc.specs.declared.parts.Direction.TheVariants.{Up}
 use Rattle.bl_store.specs.Hands.{known}
 use Rattle.bl_store.specs.declared.store.Hand.{Hand}
 use Rattle.bl_index_rule.specs.declared.known.PassState.{PassState}
@@ -13,5 +14,5 @@ use Rattle.bl_index_read.specs.LeafWays.{HasSetOff}
 
 -- The part at a leaf has ended, and the pass knew that then: the next one has set off, or the pass rests.
 abbrev pub StandsBehind : Tree → Hand PassState → ℕ → Behind → Descent → PassState → Type 0
-StandsBehind tree hand pass (Part from link) way ended = HasSetOff tree hand pass Rows from way ended
+StandsBehind tree hand pass (Part from link) way ended = HasSetOff tree hand pass (Rows Up) from way ended
 StandsBehind tree hand pass Nothing way ended = Rests hand.seat × (known hand.seat ≡ ended)

@@ -1,10 +1,13 @@
-//! The rows of a leaf from a key on, by the leaf's words.
+//! The rows of a leaf from a key on, upwards or downwards, by the leaf's words.
 
-ghost use Rattle.std.specs.Prelude.{◌≡◌, ◌+◌, ◌-◌, ◌<◌, ◌≤◌, ◌++◌, Some, IsTrue, OnOk, OnErr, length, slice_index_or, take, drop, vec_len};
+ghost use Rattle.std.specs.Prelude.{◌≡◌, ◌+◌, ◌-◌, ◌<◌, ◌≤◌, ◌++◌, Some, IsTrue, OnOk, OnErr, length, slice_index_or, take, drop, reverse, vec_len};
 ghost use Rattle.std.specs.List.{FoldsTo};
 ghost use Rattle.std.specs.Vec.{vec_capacity};
 ghost use Rattle.bl_model.proofs.Parts.{IsPlaceOf};
+ghost use Rattle.bl_model.proofs.Falling.{IsCountTo};
+ghost use Rattle.bl_model.specs.Map.{ListsPairs};
 ghost use Rattle.bl_model.specs.Parts.{next_key};
+ghost use Rattle.bl_model.specs.Rows.{map_of};
 ghost use Rattle.bl_model.specs.declared.operation.Next.{Next};
 ghost use Rattle.bl_page.specs.declared.page.Page.{Page};
 ghost use Rattle.bl_page.specs.Faults.{HasPairs, count_in, pairs_of};
@@ -14,7 +17,7 @@ ghost use Rattle.bl_page.specs.Nodes.{node_of, IsTreePage};
 ghost use Rattle.bl_proc_pages.specs.declared.onwards.Step.TheVariants as onward;
 ghost use Rattle.bl_proc_pages.specs.Onwards.{Leads};
 ghost use Rattle.bl_proc_base.specs.Descents.{Descends};
-ghost use Rattle.bl_proc.specs.Parts.{GoesOnAt};
+ghost use Rattle.bl_proc.specs.Parts.{GoesOnAt, GoesOnBelow};
 ghost use Rattle.bl_index_read.specs.LeafRows.{IsBelow, GoesOnWithin, rows_from, EndsBefore, IsLastBelow};
 
 use arrayvec::ArrayVec;
@@ -373,6 +376,65 @@ pub(crate) fn next_in<W: Words>(source: &W, hand: &mut W::Hand) -> Next
     ensures next { (c : Page) → IsTreePage c → W.shown source.now hand.old ≡ words_of c → GoesOnAt (node_of c).shape.end result }
 {
     next_after(word(source, hand, 2))
+}
+
+/// How many of so many rows there are up to a key. It looks at them from the back, since a scan downwards mostly takes the whole leaf.
+#[inline(always)]
+fn count_to<W: Words>(source: &W, hand: &mut W::Hand, count: usize, from: u64) -> usize
+    requires sees { W.Sees source.now hand.old }
+    requires count { count ≡ count_in (W.shown source.now hand.old) }
+    requires pairs { HasPairs (W.shown source.now hand.old) }
+    ensures same { hand.new ≡ hand.old }
+    ensures most { result ≤ count }
+    ensures count { IsCountTo (pairs_of (W.shown source.now hand.old)) from result }
+{
+    for behind in 0..count {
+        let last = count - behind;
+        if word(source, hand, 2 + 2 * last) <= from {
+            return last;
+        }
+    }
+    0
+}
+
+/// The leaf's rows from a key on downwards, in falling order.
+#[inline(always)]
+pub(crate) fn rows_down_in<W: Words>(source: &W, hand: &mut W::Hand, from: u64) -> Pairs
+    requires sees { W.Sees source.now hand.old }
+    requires pairs { HasPairs (W.shown source.now hand.old) }
+    ensures same { hand.new ≡ hand.old }
+    ensures rows { ListsPairs (map_of (pairs_of (W.shown source.now hand.old))) (λ key. key ≤ from) (reverse result.items) }
+{
+    let count = (word(source, hand, 0) % LEVEL_UNIT) as usize;
+    let last = count_to(source, hand, count, from);
+    let mut rows = ArrayVec::new();
+    for done in 0..last {
+        let row = row_at(source, hand, last - 1 - done);
+        rows.push(row);
+    }
+    rows
+}
+
+/// Where the part under a leaf that begins with that key begins, downwards.
+#[inline(always)]
+fn next_below(low: u64) -> Next
+    ensures { GoesOnBelow low result }
+{
+    if low == 0 {
+        Next::End
+    } else {
+        Next::More(low - 1)
+    }
+}
+
+/// Where the part under a leaf begins, downwards.
+#[inline(always)]
+pub(crate) fn next_below_in<W: Words>(source: &W, hand: &mut W::Hand) -> Next
+    requires sees { W.Sees source.now hand.old }
+    ensures same { hand.new ≡ hand.old }
+    ensures next { (c : Page) → IsTreePage c → W.shown source.now hand.old ≡ words_of c → GoesOnBelow (node_of c).shape.low result }
+{
+    next_below(word(source, hand, 1))
 }
 
 /// The page to which the leaf links. Nothing is said of it.

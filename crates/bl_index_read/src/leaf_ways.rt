@@ -150,7 +150,7 @@ fn went<W: Words>(
 {
     match sought {
         Sought::Value => way.took_words(source, hand, key),
-        Sought::Rows => descended(way, source, hand, key),
+        Sought::Rows(_) => descended(way, source, hand, key),
     }
 }
 

@@ -10,7 +10,6 @@ use Rattle.bl_proc_base.specs.declared.growing.Growth.TheVariants as growth
 use Rattle.bl_proc_base.specs.Edits.{edit_next, edit_needs}
 use Rattle.bl_proc_base.specs.Growths.{growth_next, growth_needs}
 use Rattle.bl_model.specs.declared.deciding.KeyWrite.{KeyWrite}
-use Rattle.bl_model.specs.declared.deciding.KeyWrite.TheVariants.{Insert}
 use Rattle.bl_model.specs.Writes.{effect_of}
 use Rattle.bl_proc_writes.specs.declared.writing.WriteStage.{WriteStage}
 use Rattle.bl_proc_writes.specs.declared.writing.WriteStage.TheVariants as write
@@ -34,9 +33,11 @@ use Rattle.bl_proc_unique.proofs.KindCases.{ClimbCase, climb_case}
 use Rattle.bl_index_rule.specs.declared.known.PassState.{PassState}
 use Rattle.bl_index_rule.specs.Observed.{Goes}
 use Rattle.bl_index_steps.specs.Refused.{GotAnchor}
-use Rattle.bl_index_steps.specs.Held.{HasRoom, IsFull, own_marks, KeepsLatch, edit_held, growth_held, write_held, post_held, climb_held, proc_held, AsksForPage, AsksForWrite, AsksForPost, AsksWhen, AsksForClimb, AsksFor}
+use Rattle.bl_index_steps.specs.Held.{HasRoom, IsFull, own_marks, KeepsLatch, IsOfOne, edit_held, growth_held, write_held, post_held, climb_held, proc_held, AsksForPage, AsksForWrite, AsksForPost, AsksWhen, AsksForClimb, AsksFor}
 use Rattle.bl_index_steps.proofs.Held.{goes_keeps, keeps_held, keeps_anchor}
 use Rattle.bl_index_steps.proofs.Got.{if_enters}
+use Rattle.bl_proc_writes.specs.declared.climbing.Placing.{Placing}
+use Rattle.bl_proc_writes.specs.Placings.{write_of}
 
 same_ask : {a b : ℕ × ℕ} → Some a ≡ Some b → b ≡ a
 same_ask {a} {b} e = (let f : b ≡ a = cc in f)
@@ -63,8 +64,16 @@ growth_asks level (growth.OpeningTop x) ask marks e held = no_ask e
 growth_asks level growth.OpeningGrown ask marks e held = no_ask e
 growth_asks level growth.OpeningRefused ask marks e held = no_ask e
 
+edit_asked : (c : Edit) (ask : ℕ × ℕ) → edit_needs c ≡ Some ask → IsOfOne c → ask ≡ (0, 1)
+edit_asked (edit.Putting x page) ask e one = same_ask e
+edit_asked (edit.Taking full) ask e one = absurd one
+edit_asked (edit.PuttingNew p) ask e one = absurd one
+edit_asked (edit.PuttingOld p) ask e one = absurd one
+edit_asked (edit.OpeningNew x new separator) ask e one = absurd one
+edit_asked (edit.Opening x o) ask e one = no_ask e
+
 write_asks : (key : ℕ) (does : KeyWrite) (a : WriteStage) (ask : ℕ × ℕ) (marks : Trail) → write_needs_in a ≡ Some ask → write_held key does a marks → AsksForWrite key does ask marks
-write_asks key does (write.Editing noted c) ask marks e held = (noted.there, if_enters (effect_of does noted.there) (edit_asks 0 key c ask marks e) held)
+write_asks key does (write.Editing noted c) ask marks e held = (noted.there, if_enters (effect_of does noted.there) (edit_asks 0 key c ask marks e) (edit_asked c ask e) held)
 write_asks key does write.New ask marks e held = no_ask e
 write_asks key does (write.Coming a) ask marks e held = no_ask e
 write_asks key does (write.Keeping x there) ask marks e held = no_ask e
@@ -121,11 +130,11 @@ post_away (post.Staying y r) ask needs x e = cc
 post_away (post.Ending r) ask needs x e = cc
 post_away (post.Over r) ask needs x e = cc
 
-climb_asks : (key value : ℕ) (a : ClimbStage) (ask : ℕ × ℕ) (marks : Trail) → climb_needs_in a ≡ Some ask → climb_held a marks → AsksForClimb key value a ask marks
-climb_asks key value (climb.Writing w) ask marks e held = write_asks w.key w.write w.stage ask marks e held
-climb_asks key value (climb.Posting p) ask marks e held = post_asks p ask marks e held
-climb_asks key value (climb.Ending r) ask marks e held = no_ask e
-climb_asks key value (climb.Over r) ask marks e held = no_ask e
+climb_asks : (key : ℕ) (placing : Placing) (a : ClimbStage) (ask : ℕ × ℕ) (marks : Trail) → climb_needs_in a ≡ Some ask → climb_held a marks → AsksForClimb key placing a ask marks
+climb_asks key placing (climb.Writing w) ask marks e held = write_asks w.key w.write w.stage ask marks e held
+climb_asks key placing (climb.Posting p) ask marks e held = post_asks p ask marks e held
+climb_asks key placing (climb.Ending r) ask marks e held = no_ask e
+climb_asks key placing (climb.Over r) ask marks e held = no_ask e
 
 climb_away : (a : ClimbStage) (ask : ℕ × ℕ) → climb_needs_in a ≡ Some ask → (x : ℕ) → climb_next_in a ≢ act.Latch x
 climb_away (climb.Writing w) ask needs x e = write_away w.stage ask needs x e
@@ -141,7 +150,7 @@ page_keeps level key ask d e latch asks = elim asks [
 ]
 
 write_keeps : (key : ℕ) (does : KeyWrite) (ask : ℕ × ℕ) (d e : PassState) → KeepsLatch d e → AsksForWrite key does ask (own_marks d) → AsksForWrite key does ask (own_marks e)
-write_keeps key does ask d e latch asks = (asks.0, if_enters (effect_of does asks.0) (page_keeps 0 key ask d e latch) asks.1)
+write_keeps key does ask d e latch asks = (asks.0, if_enters (effect_of does asks.0) (page_keeps 0 key ask d e latch) (λ one. one) asks.1)
 
 post_keeps : (level key : ℕ) (ask : ℕ × ℕ) (d e : PassState) → KeepsLatch d e → AsksForPost level key ask (own_marks d) → AsksForPost level key ask (own_marks e)
 post_keeps level key ask d e latch asks = elim asks [
@@ -149,15 +158,15 @@ post_keeps level key ask d e latch asks = elim asks [
   | inr top ↦ inr (top.0, keeps_anchor level d e latch top.1)
 ]
 
-when_keeps : (key value : ℕ) (r : Climbed) (ask : ℕ × ℕ) (d e : PassState) → KeepsLatch d e → AsksWhen key value r ask (own_marks d) → AsksWhen key value r ask (own_marks e)
-when_keeps key value (climbed.Unsplit r) ask d e latch asks = write_keeps key (Insert value) ask d e latch asks
-when_keeps key value (climbed.Posted level separator r) ask d e latch asks = post_keeps level separator ask d e latch asks
+when_keeps : (key : ℕ) (placing : Placing) (r : Climbed) (ask : ℕ × ℕ) (d e : PassState) → KeepsLatch d e → AsksWhen key placing r ask (own_marks d) → AsksWhen key placing r ask (own_marks e)
+when_keeps key placing (climbed.Unsplit r) ask d e latch asks = write_keeps key (write_of placing) ask d e latch asks
+when_keeps key placing (climbed.Posted level separator r) ask d e latch asks = post_keeps level separator ask d e latch asks
 
-climb_keeps : (key value : ℕ) (a : ClimbStage) (ask : ℕ × ℕ) (d e : PassState) → KeepsLatch d e → AsksForClimb key value a ask (own_marks d) → AsksForClimb key value a ask (own_marks e)
-climb_keeps key value (climb.Writing w) ask d e latch asks = write_keeps w.key w.write ask d e latch asks
-climb_keeps key value (climb.Posting p) ask d e latch asks = post_keeps p.level p.key ask d e latch asks
-climb_keeps key value (climb.Ending r) ask d e latch asks = when_keeps key value r ask d e latch asks
-climb_keeps key value (climb.Over r) ask d e latch asks = when_keeps key value r ask d e latch asks
+climb_keeps : (key : ℕ) (placing : Placing) (a : ClimbStage) (ask : ℕ × ℕ) (d e : PassState) → KeepsLatch d e → AsksForClimb key placing a ask (own_marks d) → AsksForClimb key placing a ask (own_marks e)
+climb_keeps key placing (climb.Writing w) ask d e latch asks = write_keeps w.key w.write ask d e latch asks
+climb_keeps key placing (climb.Posting p) ask d e latch asks = post_keeps p.level p.key ask d e latch asks
+climb_keeps key placing (climb.Ending r) ask d e latch asks = when_keeps key placing r ask d e latch asks
+climb_keeps key placing (climb.Over r) ask d e latch asks = when_keeps key placing r ask d e latch asks
 
 pub asks_keep : (p : Proc) (ask : ℕ × ℕ) (d e : PassState) → KeepsLatch d e → AsksFor p ask (own_marks d) → AsksFor p ask (own_marks e)
 asks_keep (Find p) ask d e latch asks = tt
@@ -167,7 +176,7 @@ asks_keep (Part p) ask d e latch asks = tt
 asks_keep (Compress p) ask d e latch asks = tt
 asks_keep (Reclaim p) ask d e latch asks = tt
 asks_keep (Lower p) ask d e latch asks = tt
-asks_keep (InsertPost p) ask d e latch asks = climb_keeps p.key p.value p.stage ask d e latch asks
+asks_keep (InsertPost p) ask d e latch asks = climb_keeps p.key p.placing p.stage ask d e latch asks
 
 -- by the event at which it was refused
 pub asks_observed : (p : Proc) (ask : ℕ × ℕ) (d e : PassState) (what : Seen) → d.state ≡ p → needs_of p ≡ Some ask → proc_held p (own_marks d) → Goes what d e → AsksFor p ask (own_marks e)
@@ -178,24 +187,24 @@ asks_observed (Part p) ask d e what is needs held goes = tt
 asks_observed (Compress p) ask d e what is needs held goes = tt
 asks_observed (Reclaim p) ask d e what is needs held goes = tt
 asks_observed (Lower p) ask d e what is needs held goes = tt
-asks_observed (InsertPost p) ask d e what is needs held goes = asks_keep (InsertPost p) ask d e (goes_keeps what d e goes (λ x l. climb_away p.stage ask needs x (ap next_of (sym is) ∙ l))) (climb_asks p.key p.value p.stage ask (own_marks d) needs held)
+asks_observed (InsertPost p) ask d e what is needs held goes = asks_keep (InsertPost p) ask d e (goes_keeps what d e goes (λ x l. climb_away p.stage ask needs x (ap next_of (sym is) ∙ l))) (climb_asks p.key p.placing p.stage ask (own_marks d) needs held)
 
 -- An insertion that goes on without room does not post what it has split.
-climb_on : (key value : ℕ) (old path : Path) {a b : ClimbStage} {what : Seen} (ask : ℕ × ℕ) (marks : Trail) → ClimbCase path a what b → Stands key value old a → ClimbRefused b → AsksForClimb key value a ask marks → AsksForClimb key value b ask marks
-climb_on key value old path ask marks (ClimbCase.Wrote w what v h t) stands refused asks = subst (λ (z : ℕ × KeyWrite). AsksForWrite z.0 z.1 ask marks) (λ i. (sym t.0 i, sym t.1 i)) asks
-climb_on key value old path ask marks (ClimbCase.Split w what there level separator q h t) stands refused asks = absurd (subst PostRefused t.2 refused)
-climb_on key value old path ask marks (ClimbCase.Unsplit w what r last h t) stands refused asks =
-    subst (λ (z : Climbed). AsksWhen key value z ask marks) (sym t.1) (subst (λ (z : ℕ × KeyWrite). AsksForWrite z.0 z.1 ask marks) (λ i. (stands.0 i, stands.1 i)) asks)
-climb_on key value old path ask marks (ClimbCase.Posted p what q h t) stands refused asks = subst (λ (z : ℕ × ℕ). AsksForPost z.0 z.1 ask marks) (λ i. (sym t.0 i, sym t.1 i)) asks
-climb_on key value old path ask marks (ClimbCase.Higher p what separator q h t) stands refused asks = absurd (subst PostRefused t.2 refused)
-climb_on key value old path ask marks (ClimbCase.Finished p what r last h t) stands refused asks = subst (λ (z : Climbed). AsksWhen key value z ask marks) (sym t.1) asks
-climb_on key value old path ask marks (ClimbCase.Ended r last t) stands refused asks = subst (λ (z : Climbed). AsksWhen key value z ask marks) (sym t) asks
+climb_on : (key : ℕ) (placing : Placing) (old path : Path) {a b : ClimbStage} {what : Seen} (ask : ℕ × ℕ) (marks : Trail) → ClimbCase path a what b → Stands key placing old a → ClimbRefused b → AsksForClimb key placing a ask marks → AsksForClimb key placing b ask marks
+climb_on key placing old path ask marks (ClimbCase.Wrote w what v h t) stands refused asks = subst (λ (z : ℕ × KeyWrite). AsksForWrite z.0 z.1 ask marks) (λ i. (sym t.0 i, sym t.1 i)) asks
+climb_on key placing old path ask marks (ClimbCase.Split w what there level separator q h t) stands refused asks = absurd (subst PostRefused t.2 refused)
+climb_on key placing old path ask marks (ClimbCase.Unsplit w what r last h t) stands refused asks =
+    subst (λ (z : Climbed). AsksWhen key placing z ask marks) (sym t.1) (subst (λ (z : ℕ × KeyWrite). AsksForWrite z.0 z.1 ask marks) (λ i. (stands.0 i, stands.1 i)) asks)
+climb_on key placing old path ask marks (ClimbCase.Posted p what q h t) stands refused asks = subst (λ (z : ℕ × ℕ). AsksForPost z.0 z.1 ask marks) (λ i. (sym t.0 i, sym t.1 i)) asks
+climb_on key placing old path ask marks (ClimbCase.Higher p what separator q h t) stands refused asks = absurd (subst PostRefused t.2 refused)
+climb_on key placing old path ask marks (ClimbCase.Finished p what r last h t) stands refused asks = subst (λ (z : Climbed). AsksWhen key placing z ask marks) (sym t.1) asks
+climb_on key placing old path ask marks (ClimbCase.Ended r last t) stands refused asks = subst (λ (z : Climbed). AsksWhen key placing z ask marks) (sym t) asks
 
 -- the process goes on
 pub asks_on : (p : Proc) (what : Seen) (q : Proc) (ask : ℕ × ℕ) (marks : Trail) → Takes p what q → IsRefused q → AsksFor p ask marks → AsksFor q ask marks
 asks_on (Write p) what (Write q) ask marks t refused asks = subst (λ (z : ℕ × KeyWrite). AsksForWrite z.0 z.1 ask marks) (λ i. (sym t.0 i, sym t.1 i)) asks
 asks_on (InsertPost p) what (InsertPost q) ask marks t refused asks =
-    subst (λ (z : ℕ × ℕ). AsksForClimb z.0 z.1 q.stage ask marks) (λ i. (sym t.0 i, sym t.1 i)) (climb_on p.key p.value p.path q.path ask marks (climb_case q.path p.stage what q.stage t.3) p.stands refused asks)
+    subst (λ (z : ℕ × Placing). AsksForClimb z.0 z.1 q.stage ask marks) (λ i. (sym t.0 i, sym t.1 i)) (climb_on p.key p.placing p.path q.path ask marks (climb_case q.path p.stage what q.stage t.3) p.stands refused asks)
 asks_on (Post p) what (Post q) ask marks t refused asks = elim asks [
   | inl page ↦ inl (subst (λ (z : ℕ × ℕ). AsksForPage z.0 z.1 ask marks) (λ i. (sym t.0 i, sym t.1 i)) page)
   | inr top ↦ inr (top.0, subst (λ (k : ℕ). GotAnchor k marks) (sym t.0) top.1)

@@ -1,7 +1,6 @@
 -- What is said at the end of an operation.
 use Rattle.std.proofs.Common.{ℕ, ◌≡◌, ◌≢◌, ◌+◌, Option, Some, None, List, [], refl, sym, ap, ◌∙◌, subst}
 use Rattle.bl_model.specs.declared.deciding.KeyWrite.{KeyWrite}
-use Rattle.bl_model.specs.declared.deciding.KeyWrite.TheVariants.{Insert}
 use Rattle.bl_model.specs.declared.operation.Op.{Op as Operation}
 use Rattle.bl_model.specs.declared.operation.Op.TheVariants as op
 use Rattle.bl_model.specs.declared.operation.Reply.{Reply}
@@ -32,12 +31,13 @@ use Rattle.bl_proc.specs.declared.searching.FindStage.{FindStage}
 use Rattle.bl_proc.specs.declared.searching.FindStage.TheVariants as find
 use Rattle.bl_proc.specs.declared.parts.PartRows.{PartRows}
 use Rattle.bl_proc.specs.declared.parts.PartStage.{PartStage}
+use Rattle.bl_proc.specs.declared.parts.PartStart.{PartStart}
 use Rattle.bl_proc.specs.declared.parts.PartStage.TheVariants as part
 use Rattle.bl_proc.specs.declared.kinds.Proc.{Proc}
 use Rattle.bl_proc.specs.declared.kinds.Proc.TheVariants as proc
 use Rattle.bl_proc_writes.specs.Writes.{write_answer, write_next_in, write_answer_in, WriteGoes}
 use Rattle.bl_proc.specs.Searches.{found_answer, find_next_in, find_answer_in, FindGoes}
-use Rattle.bl_proc.specs.Parts.{part_next_in, part_answer_in, PartGoes}
+use Rattle.bl_proc.specs.Parts.{part_op, part_next_in, part_answer_in, PartGoes}
 use Rattle.bl_proc.specs.Processes.{next_of, answer_of, Takes}
 use Rattle.bl_proc_writes.specs.declared.posting.PostStage.{PostStage}
 use Rattle.bl_proc_writes.specs.declared.posting.PostStage.TheVariants as post
@@ -60,6 +60,9 @@ use Rattle.bl_index_steps.specs.Answered.{Answers, InCall}
 use Rattle.bl_index_steps.specs.Held.{own_marks}
 use Rattle.bl_index_steps.specs.Runs.{IsDone}
 use Rattle.bl_index_steps.proofs.Calls.{since_end, since_said, end_seen}
+use Rattle.bl_proc_writes.specs.declared.climbing.Placing.{Placing}
+use Rattle.bl_proc_writes.specs.declared.climbing.Placing.TheVariants as place
+use Rattle.bl_proc_writes.specs.Placings.{write_of}
 
 some_one : {a b : Answer} → Some a ≡ Some b → a ≡ b
 some_one e = cc
@@ -121,7 +124,7 @@ find_ends key (find.Ending v) (find.Over u) reply hint e t h =
 abbrev rows_of : PartRows → Reply
 rows_of r = Rows r.rows r.next
 
-part_ends : (from : ℕ) (a b : PartStage) (reply : Reply) (hint : Option Hint) → part_next_in a ≡ act.End → PartGoes from a seen.Done b → part_answer_in b ≡ Some (Op reply hint) → (part_end a ≡ Some reply) × ((know_part from a).said ≡ Some (record { op = op.Part from; reply = reply }))
+part_ends : (from : PartStart) (a b : PartStage) (reply : Reply) (hint : Option Hint) → part_next_in a ≡ act.End → PartGoes from a seen.Done b → part_answer_in b ≡ Some (Op reply hint) → (part_end a ≡ Some reply) × ((know_part from a).said ≡ Some (record { op = part_op from; reply = reply }))
 part_ends from part.New b reply hint e t h = cc
 part_ends from (part.Near x) b reply hint e t h = cc
 part_ends from (part.Probing x) b reply hint e t h = cc
@@ -135,15 +138,15 @@ part_ends from (part.Ending r) (part.Ending q) reply hint e t h = absurd t
 part_ends from (part.Ending r) (part.Over q) reply hint e t h =
     let some : Op (rows_of q) None ≡ Op reply hint = some_one h in
     let is : rows_of r ≡ reply = ap rows_of (sym t) ∙ same_reply _ _ _ _ some in
-    (ap (λ (z : Reply). Some z) is, ap (λ (z : Reply). Some (record { op = op.Part from; reply = z })) is)
+    (ap (λ (z : Reply). Some z) is, ap (λ (z : Reply). Some (record { op = part_op from; reply = z })) is)
 
 -- an insertion that posts has an answer of its own
-climb_ends : {X : Type 0} (value : ℕ) (a : ClimbStage) (reply : Reply) (hint : Option Hint) → climb_answer_in value a ≡ Some (Op reply hint) → X
-climb_ends value (climb.Writing w) reply hint h = absurd (let f = h in cc)
-climb_ends value (climb.Posting p) reply hint h = absurd (let f = h in cc)
-climb_ends value (climb.Ending r) reply hint h = absurd (let f = h in cc)
-climb_ends value (climb.Over (climbed.Unsplit r)) reply hint h = absurd (let f = h in cc)
-climb_ends value (climb.Over (climbed.Posted level key r)) reply hint h = absurd (let f = h in cc)
+climb_ends : {X : Type 0} (placing : Placing) (a : ClimbStage) (reply : Reply) (hint : Option Hint) → climb_answer_in placing a ≡ Some (Op reply hint) → X
+climb_ends placing (climb.Writing w) reply hint h = absurd (let f = h in cc)
+climb_ends placing (climb.Posting p) reply hint h = absurd (let f = h in cc)
+climb_ends placing (climb.Ending r) reply hint h = absurd (let f = h in cc)
+climb_ends placing (climb.Over (climbed.Unsplit r)) reply hint h = absurd (let f = h in cc)
+climb_ends placing (climb.Over (climbed.Posted level key r)) reply hint h = absurd (let f = h in cc)
 
 -- what a process that ended with this answer had said
 pub record Says (before : Proc) (o : Operation) (reply : Reply) : Type 0 where
@@ -165,12 +168,12 @@ end_says (proc.Write p) (proc.Write q) o reply hint i e t h =
     let answer = subst (λ z. write_answer_in z q.stage ≡ Some (Op reply hint)) t.1 h in
     let s = write_ends p.key p.write p.stage q.stage reply hint e t.2 answer in
     says_of (proc.Write p) o (write_op p.key p.write) reply s.0 (λ got child time. s.1 got) i
-end_says (proc.Part p) (proc.Part q) o reply hint i e t h = (let s = part_ends p.from p.stage q.stage reply hint e t.1 h in says_of (proc.Part p) o (op.Part p.from) reply s.0 (λ got child time. s.1) i)
+end_says (proc.Part p) (proc.Part q) o reply hint i e t h = (let s = part_ends p.from p.stage q.stage reply hint e t.1 h in says_of (proc.Part p) o (part_op p.from) reply s.0 (λ got child time. s.1) i)
 end_says (proc.Post p) last o reply hint i e t h = cc
 end_says (proc.Compress p) last o reply hint i e t h = cc
 end_says (proc.Reclaim p) last o reply hint i e t h = cc
 end_says (proc.Lower p) last o reply hint i e t h = cc
-end_says (proc.InsertPost p) (proc.InsertPost q) o reply hint i e t h = climb_ends q.value q.stage reply hint h
+end_says (proc.InsertPost p) (proc.InsertPost q) o reply hint i e t h = climb_ends q.placing q.stage reply hint h
 end_says before last o reply hint i e t h = absurd t
 
 -- what the index began with, as the pass knows when a process has ended
@@ -241,38 +244,44 @@ not_end_post (post.Over r) is e = is
 same_inserted : (a b : Reply) (last other : Option Posted) (left right : Option Hint) → InsertPost a last left ≡ InsertPost b other right → a ≡ b
 same_inserted a b last other left right e = cc
 
-climbed_reply_said : (value : ℕ) (r : Climbed) (reply : Reply) (last : Option Posted) (left : Option Hint) → climbed_answer value r ≡ InsertPost reply last left → climbed_reply value r ≡ reply
-climbed_reply_said value (climbed.Unsplit (written.Done there h)) reply last left e = same_inserted _ _ _ _ _ _ e
-climbed_reply_said value (climbed.Unsplit written.NoRoom) reply last left e = same_inserted _ _ _ _ _ _ e
-climbed_reply_said value (climbed.Posted level key r) reply last left e = same_inserted _ _ _ _ _ _ e
+climbed_reply_said : (placing : Placing) (r : Climbed) (reply : Reply) (last : Option Posted) (left : Option Hint) → climbed_answer placing r ≡ InsertPost reply last left → climbed_reply placing r ≡ reply
+climbed_reply_said placing (climbed.Unsplit (written.Done there h)) reply last left e = same_inserted _ _ _ _ _ _ e
+climbed_reply_said placing (climbed.Unsplit written.NoRoom) reply last left e = same_inserted _ _ _ _ _ _ e
+climbed_reply_said placing (climbed.Posted level key r) reply last left e = same_inserted _ _ _ _ _ _ e
 
-climbs_end : (key value : ℕ) (path after : Path) (a b : ClimbStage) (reply : Reply) (last : Option Posted) (left : Option Hint) → Stands key value path a → climb_next_in a ≡ act.End → ClimbGoes after a seen.Done b → climb_answer_in value b ≡ Some (InsertPost reply last left) → (climb_end value a ≡ Some reply) × ((got : ℕ → Page) (child : ℕ) → (know_climb key value path got child a).said ≡ Some (record { op = write_op key (Insert value); reply = reply }))
-climbs_end key value path after (climb.Writing w) b reply last left stands e t h = absurd (not_end_write w.stage stands.2 e)
-climbs_end key value path after (climb.Posting p) b reply last left stands e t h = absurd (not_end_post p.stage stands e)
-climbs_end key value path after (climb.Over r) b reply last left stands e t h = absurd t
-climbs_end key value path after (climb.Ending r) (climb.Over q) reply last left stands e t h =
-    let is : climbed_reply value r ≡ reply = ap (climbed_reply value) (sym t) ∙ climbed_reply_said value q reply last left (some_one h) in
-    (ap (λ (z : Reply). Some z) is, λ got child. ap (λ (z : Reply). Some (record { op = write_op key (Insert value); reply = z })) is)
-climbs_end key value path after (climb.Ending r) b reply last left stands e t h = absurd t
+climbs_end : (key : ℕ) (placing : Placing) (path after : Path) (a b : ClimbStage) (reply : Reply) (last : Option Posted) (left : Option Hint) → Stands key placing path a → climb_next_in a ≡ act.End → ClimbGoes after a seen.Done b → climb_answer_in placing b ≡ Some (InsertPost reply last left) → (climb_end placing a ≡ Some reply) × ((got : ℕ → Page) (child : ℕ) → (know_climb key placing path got child a).said ≡ Some (record { op = write_op key (write_of placing); reply = reply }))
+climbs_end key placing path after (climb.Writing w) b reply last left stands e t h = absurd (not_end_write w.stage stands.2 e)
+climbs_end key placing path after (climb.Posting p) b reply last left stands e t h = absurd (not_end_post p.stage stands e)
+climbs_end key placing path after (climb.Over r) b reply last left stands e t h = absurd t
+climbs_end key placing path after (climb.Ending r) (climb.Over q) reply last left stands e t h =
+    let is : climbed_reply placing r ≡ reply = ap (climbed_reply placing) (sym t) ∙ climbed_reply_said placing q reply last left (some_one h) in
+    (ap (λ (z : Reply). Some z) is, λ got child. ap (λ (z : Reply). Some (record { op = write_op key (write_of placing); reply = z })) is)
+climbs_end key placing path after (climb.Ending r) b reply last left stands e t h = absurd t
 
-pub climb_says : (before : Proc) (q : InsertPostIs) (o : Operation) (reply : Reply) (last : Option Posted) (left : Option Hint) → op_of before ≡ Some o → next_of before ≡ act.End → Takes before seen.Done (proc.InsertPost q) → climb_answer_in q.value q.stage ≡ Some (InsertPost reply last left) → Says before o reply
+pub climb_says : (before : Proc) (q : InsertPostIs) (o : Operation) (reply : Reply) (last : Option Posted) (left : Option Hint) → op_of before ≡ Some o → next_of before ≡ act.End → Takes before seen.Done (proc.InsertPost q) → climb_answer_in q.placing q.stage ≡ Some (InsertPost reply last left) → Says before o reply
 climb_says (proc.InsertPost p) q o reply last left i e t h =
     let answer = subst (λ z. climb_answer_in z q.stage ≡ Some (InsertPost reply last left)) t.1 h in
-    let s = climbs_end p.key p.value p.path q.path p.stage q.stage reply last left p.stands e t.3 answer in
-    says_of (proc.InsertPost p) o (write_op p.key (Insert p.value)) reply s.0 (λ got child time. s.1 got child) i
+    let s = climbs_end p.key p.placing p.path q.path p.stage q.stage reply last left p.stands e t.3 answer in
+    says_of (proc.InsertPost p) o (write_op p.key (write_of p.placing)) reply s.0 (λ got child time. s.1 got child) i
 climb_says before q o reply last left i e t h = absurd t
 
 -- it has ended, and is of that key and value
-pub climb_over : (before : Proc) (q : InsertPostIs) (key value : ℕ) → op_of before ≡ Some (op.Insert key value) → next_of before ≡ act.End → Takes before seen.Done (proc.InsertPost q) → (r : Climbed) × (q.stage ≡ climb.Over r) × (q.key ≡ key) × (q.value ≡ value)
-climb_over (proc.InsertPost p) q key value i e t = over p.stage q.stage p.stands e t.3
-  where
-    same : op.Insert p.key p.value ≡ op.Insert key value
-    same = op_one i
+same_placed : (k : ℕ) (a : Placing) (key : ℕ) (b : Placing) → write_op k (write_of a) ≡ write_op key (write_of b) → (k ≡ key) × (a ≡ b)
+same_placed k (place.Insert v) key (place.Insert w) e = (let f : op.Insert k v ≡ op.Insert key w = e in (cc, cc))
+same_placed k (place.Put v) key (place.Put w) e = (let f : op.Put k v ≡ op.Put key w = e in (cc, cc))
+same_placed k (place.Insert v) key (place.Put w) e = absurd (let f : op.Insert k v ≡ op.Put key w = e in cc)
+same_placed k (place.Put v) key (place.Insert w) e = absurd (let f : op.Put k v ≡ op.Insert key w = e in cc)
 
-    over : (a b : ClimbStage) → Stands p.key p.value p.path a → climb_next_in a ≡ act.End → ClimbGoes q.path a seen.Done b → (r : Climbed) × (b ≡ climb.Over r) × (q.key ≡ key) × (q.value ≡ value)
+pub climb_over : (before : Proc) (q : InsertPostIs) (key : ℕ) (placing : Placing) → op_of before ≡ Some (write_op key (write_of placing)) → next_of before ≡ act.End → Takes before seen.Done (proc.InsertPost q) → (r : Climbed) × (q.stage ≡ climb.Over r) × (q.key ≡ key) × (q.placing ≡ placing)
+climb_over (proc.InsertPost p) q key placing i e t = over p.stage q.stage p.stands e t.3
+  where
+    same : (p.key ≡ key) × (p.placing ≡ placing)
+    same = same_placed p.key p.placing key placing (op_one i)
+
+    over : (a b : ClimbStage) → Stands p.key p.placing p.path a → climb_next_in a ≡ act.End → ClimbGoes q.path a seen.Done b → (r : Climbed) × (b ≡ climb.Over r) × (q.key ≡ key) × (q.placing ≡ placing)
     over (climb.Writing w) b stands e g = absurd (not_end_write w.stage stands.2 e)
     over (climb.Posting c) b stands e g = absurd (not_end_post c.stage stands e)
     over (climb.Over r) b stands e g = absurd g
-    over (climb.Ending r) (climb.Over last) stands e g = (last, refl, t.0 ∙ (let f = same in cc), t.1 ∙ (let f = same in cc))
+    over (climb.Ending r) (climb.Over last) stands e g = (last, refl, t.0 ∙ same.0, t.1 ∙ same.1)
     over (climb.Ending r) b stands e g = absurd g
-climb_over before q key value i e t = absurd t
+climb_over before q key placing i e t = absurd t

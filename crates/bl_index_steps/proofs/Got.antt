@@ -18,7 +18,7 @@ use Rattle.bl_proc_base.specs.declared.growing.Growth.{Growth}
 use Rattle.bl_proc_base.specs.declared.growing.Growth.TheVariants as growth
 use Rattle.bl_proc_base.specs.declared.growing.Grew.TheVariants as grew
 use Rattle.bl_proc_base.specs.Approaches.{approach_next, Approaches}
-use Rattle.bl_proc_base.specs.Edits.{edit_next, EntersPair}
+use Rattle.bl_proc_base.specs.Edits.{edit_next, EntersPair, DropsPair, GivesValue}
 use Rattle.bl_proc_base.specs.Growths.{growth_next}
 use Rattle.bl_model.specs.declared.deciding.KeyWrite.{KeyWrite}
 use Rattle.bl_model.specs.declared.deciding.Effect.{Effect}
@@ -48,13 +48,31 @@ use Rattle.bl_proc_invariant.specs.Knowing.{write_end, climb_end, end_of_proc}
 use Rattle.bl_index_rule.proofs.Marks.{each_append}
 use Rattle.bl_proc_invariant.proofs.Logging.{latched_on}
 use Rattle.bl_index_steps.specs.Refused.{GotLatched, GotHeld, GotAnchor}
-use Rattle.bl_index_steps.specs.Held.{LatchedLast, GotAt, approach_held, edit_held, growth_held, IfEnters, write_held, post_held, climb_held, proc_held}
+use Rattle.bl_index_steps.specs.Held.{LatchedLast, GotAt, approach_held, edit_held, growth_held, IsOfOne, IfEnters, write_held, post_held, climb_held, proc_held}
+use Rattle.bl_proc_writes.specs.declared.climbing.Placing.{Placing}
 
-pub if_enters : (effect : Effect) {P Q : Type 0} → (P → Q) → IfEnters effect P → IfEnters effect Q
-if_enters Keep f p = absurd p
-if_enters (Enter value) f p = f p
-if_enters Remove f p = tt
-if_enters (Replace value) f p = tt
+pub if_enters : (effect : Effect) {P Q R S : Type 0} → (P → Q) → (R → S) → IfEnters effect P R → IfEnters effect Q S
+if_enters Keep f g p = absurd p
+if_enters (Enter value) f g p = f p
+if_enters Remove f g p = g p
+if_enters (Replace value) f g p = g p
+
+drops_one : (x : ℕ) (c : Page) (key : ℕ) (d : Edit) → DropsPair x c key d → IsOfOne d
+drops_one x c key (edit.Putting y page) t = tt
+drops_one x c key d t = absurd t
+
+gives_one : (x : ℕ) (c : Page) (key value : ℕ) (d : Edit) → GivesValue x c key value d → IsOfOne d
+gives_one x c key value (edit.Putting y page) t = tt
+gives_one x c key value d t = absurd t
+
+one_edited : {c : Edit} {what : Seen} {d : Edit} → EditCase c what (changed.On d) → IsOfOne c → IsOfOne d
+one_edited (EditCase.Put x page new e) one = subst IsOfOne (sym e) tt
+one_edited (EditCase.PutRefused x page new e) one = subst IsOfOne (sym e) tt
+one_edited (EditCase.Took full y p t) one = absurd one
+one_edited (EditCase.TakeRefused full new e) one = absurd one
+one_edited (EditCase.PutNew p new e) one = absurd one
+one_edited (EditCase.PutOld p new e) one = absurd one
+one_edited (EditCase.OpenedNew x y separator new e) one = absurd one
 
 -- a post that begins at a page has latched nothing
 from_held : (x : ℕ) (marks : Trail) → approach_held (from_page x) marks
@@ -132,11 +150,11 @@ module _ (marks : Trail) (m : Mark) where
   editing level key (EditCase.OpenedNew x y separator d t) = subst (λ (z : Edit). edit_held level key z more) (sym t) tt
 
   -- a write
-  changing : (key : ℕ) (effect : Effect) (x : ℕ) (c : Page) (d : Edit) → Performs effect x c key d → GotAt 0 key more x c → IfEnters effect (edit_held 0 key d more)
+  changing : (key : ℕ) (effect : Effect) (x : ℕ) (c : Page) (d : Edit) → Performs effect x c key d → GotAt 0 key more x c → IfEnters effect (edit_held 0 key d more) (IsOfOne d)
   changing key Keep x c d t h = absurd t
   changing key (Enter value) x c d t h = entering 0 key x value c d t h
-  changing key Remove x c d t h = tt
-  changing key (Replace value) x c d t h = tt
+  changing key Remove x c d t h = drops_one x c key d t
+  changing key (Replace value) x c d t h = gives_one x c key value d t
 
   writing : {key : ℕ} {does : KeyWrite} {old new : WriteStage} {what : Seen} → WriteCase key does old what new → m.event.act ≡ event_of (write_end does old) (write_next_in old) what → ((x : ℕ) (c : Page) → m.event.act ≡ Get x → what ≡ seen.Words c → m.saw ≡ Some c) → write_held key does old marks → write_held key does new more
   writing (WriteCase.Began a t) did saw h = subst (λ (z : Approach). approach_held z more) (sym t) tt
@@ -145,7 +163,7 @@ module _ (marks : Trail) (m : Mark) where
   writing {key = key} {does = does} (WriteCase.Changed x c noted d l t) did saw h = changing key (effect_of does noted.there) x c d t.1 (record { got = got_now x c did (saw x c did refl) h; level_is = l.2; covers = l.1 })
   writing (WriteCase.Opened x there last t) did saw h = tt
   writing {key = key} {does = does} (WriteCase.Edited noted c what same d t) did saw h =
-      subst (λ (z : Noted). IfEnters (effect_of does z.there) (edit_held 0 key d more)) (sym t.0) (if_enters (effect_of does noted.there) (λ e. editing 0 key (edit_case c what _ t.1)) h)
+      subst (λ (z : Noted). IfEnters (effect_of does z.there) (edit_held 0 key d more) (IsOfOne d)) (sym t.0) (if_enters (effect_of does noted.there) (λ e. editing 0 key (edit_case c what _ t.1)) (one_edited (edit_case c what _ t.1)) h)
   writing (WriteCase.Finished noted c what last t) did saw h = tt
   writing (WriteCase.Ended r last t) did saw h = tt
 
@@ -186,22 +204,22 @@ module _ (marks : Trail) (m : Mark) where
   posting (PostCase.Ended r last t) did saw h = tt
 
   -- an insertion that posts: its write, and then a post on each level
-  climbing : (key value : ℕ) (old path : Path) {a b : ClimbStage} {what : Seen} → ClimbCase path a what b → Stands key value old a → m.event.act ≡ event_of (climb_end value a) (climb_next_in a) what → ((x : ℕ) (c : Page) → m.event.act ≡ Get x → what ≡ seen.Words c → m.saw ≡ Some c) → climb_held a marks → climb_held b more
-  climbing key value old path {what = what} (ClimbCase.Wrote w _ v h t) stands did saw held =
+  climbing : (key : ℕ) (placing : Placing) (old path : Path) {a b : ClimbStage} {what : Seen} → ClimbCase path a what b → Stands key placing old a → m.event.act ≡ event_of (climb_end placing a) (climb_next_in a) what → ((x : ℕ) (c : Page) → m.event.act ≡ Get x → what ≡ seen.Words c → m.saw ≡ Some c) → climb_held a marks → climb_held b more
+  climbing key placing old path {what = what} (ClimbCase.Wrote w _ v h t) stands did saw held =
       let by = subst (λ (d : KeyWrite). m.event.act ≡ event_of (write_end d w.stage) (write_next_in w.stage) what) (sym stands.1) did in
       subst (λ (z : ℕ × KeyWrite). write_held z.0 z.1 v.stage more) (λ i. (sym t.0 i, sym t.1 i)) (writing h by saw held)
-  climbing key value old path (ClimbCase.Split w what there level separator q h t) stands did saw held = subst (λ (z : PostStage). post_held q.level q.key z more) (sym t.2) (from_held (page_at path level) more)
-  climbing key value old path (ClimbCase.Unsplit w what r last h t) stands did saw held = tt
-  climbing key value old path (ClimbCase.Posted p what q h t) stands did saw held = subst (λ (z : ℕ × ℕ). post_held z.0 z.1 q.stage more) (λ i. (sym t.0 i, sym t.1 i)) (posting h did saw held)
-  climbing key value old path (ClimbCase.Higher p what separator q h t) stands did saw held = subst (λ (z : PostStage). post_held q.level q.key z more) (sym t.2) (from_held (page_at path (p.level + 1)) more)
-  climbing key value old path (ClimbCase.Finished p what r last h t) stands did saw held = tt
-  climbing key value old path (ClimbCase.Ended r last t) stands did saw held = tt
+  climbing key placing old path (ClimbCase.Split w what there level separator q h t) stands did saw held = subst (λ (z : PostStage). post_held q.level q.key z more) (sym t.2) (from_held (page_at path level) more)
+  climbing key placing old path (ClimbCase.Unsplit w what r last h t) stands did saw held = tt
+  climbing key placing old path (ClimbCase.Posted p what q h t) stands did saw held = subst (λ (z : ℕ × ℕ). post_held z.0 z.1 q.stage more) (λ i. (sym t.0 i, sym t.1 i)) (posting h did saw held)
+  climbing key placing old path (ClimbCase.Higher p what separator q h t) stands did saw held = subst (λ (z : PostStage). post_held q.level q.key z more) (sym t.2) (from_held (page_at path (p.level + 1)) more)
+  climbing key placing old path (ClimbCase.Finished p what r last h t) stands did saw held = tt
+  climbing key placing old path (ClimbCase.Ended r last t) stands did saw held = tt
 
 -- A turn of a process of any kind.
 pub held_turn : (old new : Proc) (what : Seen) (marks : Trail) (m : Mark) → Takes old what new → m.event.act ≡ event_of (end_of_proc old) (next_of old) what → ((x : ℕ) (c : Page) → m.event.act ≡ Get x → what ≡ seen.Words c → m.saw ≡ Some c) → proc_held old marks → proc_held new (marks ++ m ∷ [])
 held_turn (Write a) (Write c) what marks m t did saw h = subst (λ (z : ℕ × KeyWrite). write_held z.0 z.1 c.stage (marks ++ m ∷ [])) (λ i. (sym t.0 i, sym t.1 i)) (writing marks m (write_case a.key a.write a.stage what c.stage t.2) did saw h)
 held_turn (Post a) (Post c) what marks m t did saw h = subst (λ (z : ℕ × ℕ). post_held z.0 z.1 c.stage (marks ++ m ∷ [])) (λ i. (sym t.0 i, sym t.1 i)) (posting marks m (post_case a.level a.key a.stage what c.stage t.2) did saw h)
-held_turn (InsertPost a) (InsertPost c) what marks m t did saw h = climbing marks m a.key a.value a.path c.path (climb_case c.path a.stage what c.stage t.3) a.stands did saw h
+held_turn (InsertPost a) (InsertPost c) what marks m t did saw h = climbing marks m a.key a.placing a.path c.path (climb_case c.path a.stage what c.stage t.3) a.stands did saw h
 held_turn old (Find c) what marks m t did saw h = tt
 held_turn old (Part c) what marks m t did saw h = tt
 held_turn old (Compress c) what marks m t did saw h = tt

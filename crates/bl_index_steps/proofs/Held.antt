@@ -26,7 +26,7 @@ use Rattle.bl_index_rule.specs.declared.known.PassState.{PassState}
 use Rattle.bl_index_rule.specs.Observed.{Notes, Begins, Goes, Finishes}
 use Rattle.bl_index_rule.proofs.Marks.{no_marks}
 use Rattle.bl_index_steps.specs.Refused.{GotHeld, GotAnchor}
-use Rattle.bl_index_steps.specs.Held.{own_marks, KeepsLatch, edit_held, IfEnters, proc_held}
+use Rattle.bl_index_steps.specs.Held.{own_marks, KeepsLatch, edit_held, IsOfOne, IfEnters, proc_held}
 use Rattle.bl_index_steps.proofs.Got.{held_still, anchor_still, held_turn, waiting_held}
 
 -- events of other passes
@@ -122,5 +122,5 @@ pub open_latches_not : (d : PassState) (x : ℕ) → next_of d.state ≡ act.Ope
 open_latches_not d x next y latches = (let f : act.Open x ≡ act.Latch y = sym next ∙ latches in cc)
 
 -- where a pair enters
-pub enters_held : (key : ℕ) (does : KeyWrite) (value : ℕ) (c : Edit) (marks : Trail) → effect_of does None ≡ Enter value → IfEnters (effect_of does None) (edit_held 0 key c marks) → edit_held 0 key c marks
-enters_held key does value c marks e held = subst (λ (z : Effect). IfEnters z (edit_held 0 key c marks)) e held
+pub enters_held : (key : ℕ) (does : KeyWrite) (value : ℕ) (c : Edit) (marks : Trail) → effect_of does None ≡ Enter value → IfEnters (effect_of does None) (edit_held 0 key c marks) (IsOfOne c) → edit_held 0 key c marks
+enters_held key does value c marks e held = subst (λ (z : Effect). IfEnters z (edit_held 0 key c marks) (IsOfOne c)) e held

@@ -36,11 +36,13 @@ use Rattle.bl_proc_writes.specs.Writes.{write_reply, post_hint}
 use Rattle.bl_proc_base.specs.Thin.{thin_hint}
 use Rattle.bl_proc_writes.specs.Posts.{post_reply}
 use Rattle.bl_index_steps.specs.Refused.{GotHeld, LacksForEffect}
-use Rattle.bl_index_steps.specs.Held.{HasRoom, IsFull, own_marks, KeepsLatch, IfEnters, edit_held, proc_held, AsksForPage, AsksForPost, AsksWhen, AsksForClimb, AsksFor}
+use Rattle.bl_index_steps.specs.Held.{HasRoom, IsFull, own_marks, KeepsLatch, IsOfOne, IfEnters, edit_held, proc_held, AsksForPage, AsksForWrite, AsksForPost, AsksWhen, AsksForClimb, AsksFor}
 use Rattle.bl_index_steps.specs.Rooms.{LacksPage, LacksWrite, LacksPost, LacksAsked, TellsRoom}
 use Rattle.bl_index_steps.specs.Runs.{Moves}
 use Rattle.bl_index_steps.proofs.Held.{goes_keeps, keeps_held}
 use Rattle.bl_index_steps.proofs.Asked.{asks_on, asks_keep, asks_observed}
+use Rattle.bl_proc_writes.specs.declared.climbing.Placing.{Placing}
+use Rattle.bl_proc_writes.specs.Placings.{write_of}
 
 abbrev H : Type 0
 H = Seat (Unit {0}) (View PassState)
@@ -116,13 +118,13 @@ lacks_on level key h h' same latch lacks = elim lacks [
 ]
 
 -- for a frame, where its leaf was to be put
-lacks_put : (effect : Effect) (key at : ℕ) (p : Page) (d : PassState) (h : H) → IfEnters effect (edit_held 0 key (edit.Putting at p) (own_marks d)) → KeepsLatch d (known h) → WasRefused h 0 1 → LacksForEffect effect key (own_marks (known h)) (WasRefused h)
+lacks_put : (effect : Effect) (key at : ℕ) (p : Page) (d : PassState) (h : H) → IfEnters effect (edit_held 0 key (edit.Putting at p) (own_marks d)) (IsOfOne (edit.Putting at p)) → KeepsLatch d (known h) → WasRefused h 0 1 → LacksForEffect effect key (own_marks (known h)) (WasRefused h)
 lacks_put Keep key at p d h held latch was = absurd held
 lacks_put (Enter value) key at p d h held latch was = inl (was, keeps_held 0 key HasRoom d (known h) latch held)
 lacks_put Remove key at p d h held latch was = was
 lacks_put (Replace value) key at p d h held latch was = was
 
-pub lacks_frame : (key : ℕ) (does : KeyWrite) (there : Option ℕ) (at : ℕ) (p : Page) (d : PassState) (h : H) → IfEnters (effect_of does there) (edit_held 0 key (edit.Putting at p) (own_marks d)) → KeepsLatch d (known h) → WasRefused h 0 1 → LacksWrite key does h
+pub lacks_frame : (key : ℕ) (does : KeyWrite) (there : Option ℕ) (at : ℕ) (p : Page) (d : PassState) (h : H) → IfEnters (effect_of does there) (edit_held 0 key (edit.Putting at p) (own_marks d)) (IsOfOne (edit.Putting at p)) → KeepsLatch d (known h) → WasRefused h 0 1 → LacksWrite key does h
 lacks_frame key does there at p d h held latch was = (there, lacks_put (effect_of does there) key at p d h held latch was)
 
 -- for a page and two frames, where it was to be split
@@ -145,18 +147,27 @@ lacks_post level key ask h was asks = elim asks [
 pub lacks_asked : (h : H) (p : Post) → LacksAsked h (proc.Post p) → LacksPost p.level p.key h
 lacks_asked h p lacks = lacks_post p.level p.key lacks.0 h lacks.2 lacks.3
 
--- an insertion with its posts, by what became of it
-abbrev pub LacksClimb : H → ℕ → Climbed → Type 0
-LacksClimb h key (climbed.Unsplit r) = LacksPage 0 key h
-LacksClimb h key (climbed.Posted level separator r) = LacksPost level separator h
+-- a write, by what it asked for
+lacks_effect : (e : Effect) (key : ℕ) (ask : ℕ × ℕ) (h : H) → WasRefused h ask.0 ask.1 → IfEnters e (AsksForPage 0 key ask (own_marks (known h))) (ask ≡ (0, 1)) → LacksForEffect e key (own_marks (known h)) (WasRefused h)
+lacks_effect Keep key ask h was asks = absurd asks
+lacks_effect (Enter value) key ask h was asks = lacks_page 0 key ask h was asks
+lacks_effect Remove key ask h was asks = subst (λ (z : ℕ × ℕ). WasRefused h z.0 z.1) asks was
+lacks_effect (Replace value) key ask h was asks = subst (λ (z : ℕ × ℕ). WasRefused h z.0 z.1) asks was
 
-lacks_when : (h : H) (key value : ℕ) (r : Climbed) (ask : ℕ × ℕ) → WasRefused h ask.0 ask.1 → AsksWhen key value r ask (own_marks (known h)) → LacksClimb h key r
-lacks_when h key value (climbed.Unsplit r) ask was (None, asks) = lacks_page 0 key ask h was asks
-lacks_when h key value (climbed.Unsplit r) ask was (Some there, asks) = absurd asks
-lacks_when h key value (climbed.Posted level separator r) ask was asks = lacks_post level separator ask h was asks
+pub lacks_write : (key : ℕ) (does : KeyWrite) (ask : ℕ × ℕ) (h : H) → WasRefused h ask.0 ask.1 → AsksForWrite key does ask (own_marks (known h)) → LacksWrite key does h
+lacks_write key does ask h was (there, asks) = (there, lacks_effect (effect_of does there) key ask h was asks)
 
-pub lacks_climb : (h : H) (p : InsertPost) (r : Climbed) → p.stage ≡ climb.Over r → LacksAsked h (proc.InsertPost p) → LacksClimb h p.key r
-lacks_climb h p r is lacks = lacks_when h p.key p.value r lacks.0 lacks.2 (subst (λ (z : ClimbStage). AsksForClimb p.key p.value z lacks.0 (own_marks (known h))) is lacks.3)
+-- a write with its posts, by what became of it
+abbrev pub LacksClimb : H → ℕ → Placing → Climbed → Type 0
+LacksClimb h key placing (climbed.Unsplit r) = LacksWrite key (write_of placing) h
+LacksClimb h key placing (climbed.Posted level separator r) = LacksPost level separator h
+
+lacks_when : (h : H) (key : ℕ) (placing : Placing) (r : Climbed) (ask : ℕ × ℕ) → WasRefused h ask.0 ask.1 → AsksWhen key placing r ask (own_marks (known h)) → LacksClimb h key placing r
+lacks_when h key placing (climbed.Unsplit r) ask was asks = lacks_write key (write_of placing) ask h was asks
+lacks_when h key placing (climbed.Posted level separator r) ask was asks = lacks_post level separator ask h was asks
+
+pub lacks_climb : (h : H) (p : InsertPost) (r : Climbed) → p.stage ≡ climb.Over r → LacksAsked h (proc.InsertPost p) → LacksClimb h p.key p.placing r
+lacks_climb h p r is lacks = lacks_when h p.key p.placing r lacks.0 lacks.2 (subst (λ (z : ClimbStage). AsksForClimb p.key p.placing z lacks.0 (own_marks (known h))) is lacks.3)
 
 pub lacks_two : (h : H) (p : Lower) → LacksAsked h (proc.Lower p) → WasRefused h 0 2
 lacks_two h p lacks = subst (λ (z : ℕ × ℕ). WasRefused h z.0 z.1) lacks.1 lacks.2

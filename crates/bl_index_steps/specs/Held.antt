@@ -15,7 +15,6 @@ use Rattle.bl_proc_base.specs.declared.editing.Edit.TheVariants as edit
 use Rattle.bl_proc_base.specs.declared.growing.Growth.{Growth}
 use Rattle.bl_proc_base.specs.declared.growing.Growth.TheVariants as growth
 use Rattle.bl_model.specs.declared.deciding.KeyWrite.{KeyWrite}
-use Rattle.bl_model.specs.declared.deciding.KeyWrite.TheVariants.{Insert}
 use Rattle.bl_model.specs.declared.deciding.Effect.{Effect}
 use Rattle.bl_model.specs.declared.deciding.Effect.TheVariants.{Keep, Enter, Remove, Replace}
 use Rattle.bl_model.specs.Writes.{effect_of}
@@ -32,6 +31,8 @@ use Rattle.bl_proc.specs.declared.kinds.Proc.TheVariants as proc
 use Rattle.bl_index_rule.specs.declared.known.PassState.{PassState}
 use Rattle.bl_rearrange.specs.Rearranged.{pairs_of}
 use Rattle.bl_index_steps.specs.Refused.{GotLatched, GotHeld, GotAnchor}
+use Rattle.bl_proc_writes.specs.declared.climbing.Placing.{Placing}
+use Rattle.bl_proc_writes.specs.Placings.{write_of}
 
 -- what the last process of the pass has done
 abbrev pub own_marks : PassState → Trail
@@ -86,19 +87,25 @@ growth_held level (growth.OpeningTop x) marks = Unit {0}
 growth_held level growth.OpeningGrown marks = Unit {0}
 growth_held level growth.OpeningRefused marks = Unit {0}
 
--- What is to be known where a pair enters its leaf: where it leaves or gets another value, the same is asked for whatever the leaf
--- had room for. A leaf that stays asks for nothing.
-abbrev pub IfEnters : Effect → Type 0 → Type 0
-IfEnters Keep P = ⊥
-IfEnters (Enter value) P = P
-IfEnters Remove P = Unit {0}
-IfEnters (Replace value) P = Unit {0}
+-- One page is put, and none is split.
+abbrev pub IsOfOne : Edit → Type 0
+IsOfOne (edit.Putting x page) = Unit {0}
+IsOfOne (edit.Opening x o) = Unit {0}
+IsOfOne c = ⊥
+
+-- What is to be known where a pair enters its leaf, and what where it leaves or gets another value: then the same is asked for
+-- whatever the leaf had room for. A leaf that stays asks for nothing.
+abbrev pub IfEnters : Effect → Type 0 → Type 0 → Type 0
+IfEnters Keep P Q = ⊥
+IfEnters (Enter value) P Q = P
+IfEnters Remove P Q = Q
+IfEnters (Replace value) P Q = Q
 
 abbrev pub write_held : ℕ → KeyWrite → WriteStage → Trail → Type 0
 write_held key does write.New marks = Unit {0}
 write_held key does (write.Coming a) marks = approach_held a marks
 write_held key does (write.Keeping x there) marks = Unit {0}
-write_held key does (write.Editing noted c) marks = IfEnters (effect_of does noted.there) (edit_held 0 key c marks)
+write_held key does (write.Editing noted c) marks = IfEnters (effect_of does noted.there) (edit_held 0 key c marks) (IsOfOne c)
 write_held key does (write.Ending r) marks = Unit {0}
 write_held key does (write.Over r) marks = Unit {0}
 
@@ -133,21 +140,21 @@ abbrev pub AsksForPage : ℕ → ℕ → ℕ × ℕ → Trail → Type 0
 AsksForPage level key ask marks = ((ask ≡ (0, 1)) × GotHeld level key marks HasRoom) ⊎ ((ask ≡ (1, 2)) × GotHeld level key marks IsFull)
 
 abbrev pub AsksForWrite : ℕ → KeyWrite → ℕ × ℕ → Trail → Type 0
-AsksForWrite key does ask marks = (there : Option ℕ) × IfEnters (effect_of does there) (AsksForPage 0 key ask marks)
+AsksForWrite key does ask marks = (there : Option ℕ) × IfEnters (effect_of does there) (AsksForPage 0 key ask marks) (ask ≡ (0, 1))
 
 abbrev pub AsksForPost : ℕ → ℕ → ℕ × ℕ → Trail → Type 0
 AsksForPost level key ask marks = AsksForPage level key ask marks ⊎ ((ask ≡ (1, 2)) × GotAnchor level marks)
 
--- of an insertion of that value with its posts, by what became of it
-abbrev pub AsksWhen : ℕ → ℕ → Climbed → ℕ × ℕ → Trail → Type 0
-AsksWhen key value (climbed.Unsplit r) ask marks = AsksForWrite key (Insert value) ask marks
-AsksWhen key value (climbed.Posted level separator r) ask marks = AsksForPost level separator ask marks
+-- of such a write with its posts, by what became of it
+abbrev pub AsksWhen : ℕ → Placing → Climbed → ℕ × ℕ → Trail → Type 0
+AsksWhen key placing (climbed.Unsplit r) ask marks = AsksForWrite key (write_of placing) ask marks
+AsksWhen key placing (climbed.Posted level separator r) ask marks = AsksForPost level separator ask marks
 
-abbrev pub AsksForClimb : ℕ → ℕ → ClimbStage → ℕ × ℕ → Trail → Type 0
-AsksForClimb key value (climb.Writing w) ask marks = AsksForWrite w.key w.write ask marks
-AsksForClimb key value (climb.Posting p) ask marks = AsksForPost p.level p.key ask marks
-AsksForClimb key value (climb.Ending r) ask marks = AsksWhen key value r ask marks
-AsksForClimb key value (climb.Over r) ask marks = AsksWhen key value r ask marks
+abbrev pub AsksForClimb : ℕ → Placing → ClimbStage → ℕ × ℕ → Trail → Type 0
+AsksForClimb key placing (climb.Writing w) ask marks = AsksForWrite w.key w.write ask marks
+AsksForClimb key placing (climb.Posting p) ask marks = AsksForPost p.level p.key ask marks
+AsksForClimb key placing (climb.Ending r) ask marks = AsksWhen key placing r ask marks
+AsksForClimb key placing (climb.Over r) ask marks = AsksWhen key placing r ask marks
 
 abbrev pub AsksFor : Proc → ℕ × ℕ → Trail → Type 0
 AsksFor (proc.Find p) ask marks = Unit {0}
@@ -157,4 +164,4 @@ AsksFor (proc.Part p) ask marks = Unit {0}
 AsksFor (proc.Compress p) ask marks = Unit {0}
 AsksFor (proc.Reclaim p) ask marks = Unit {0}
 AsksFor (proc.Lower p) ask marks = Unit {0}
-AsksFor (proc.InsertPost p) ask marks = AsksForClimb p.key p.value p.stage ask marks
+AsksFor (proc.InsertPost p) ask marks = AsksForClimb p.key p.placing p.stage ask marks

@@ -87,12 +87,13 @@ impl Tree {
     /// Whether a write may split a leaf while pages are scarce.
     pub fn may_lack_pages(&self, key: u64, write: KeyWrite) -> bool {
         match write {
-            KeyWrite::Insert(_) => self.store.lacks_pages() && self.may_split(key),
+            KeyWrite::Insert(_) | KeyWrite::Put(_) => self.store.lacks_pages()
+                && self.may_split(key),
             KeyWrite::Delete | KeyWrite::Change(..) => false,
         }
     }
 
-    // Whether an insertion of the key may split a leaf: the leaf that seems to cover it seems to be full, or none is found.
+    // Whether an insertion or a put of the key may split a leaf: the leaf that seems to cover it seems to be full, or none is found.
     fn may_split(&self, key: u64) -> bool {
         let mut page = 0;
         for _step in 0..STEPS {

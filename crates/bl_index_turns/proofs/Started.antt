@@ -34,5 +34,5 @@ goes_on_way tree hand hand' p key does a is same empty runs since = subst (λ (z
   old = known hand.seat;
   since = since_new hand hand' (known hand.seat) same since;
   yields = tt;
-  room = record { lacks = λ r. absurd r; none = λ r. r; one = tt };
+  room = record { lacks = λ r. absurd r; none = λ r. r };
 })

@@ -1,5 +1,5 @@
 -- A walk that is handed over.
-use Rattle.std.proofs.Common.{ℕ, List, ◌≡◌, None, Result, Ok, Err, refl, sym, ap, ◌∙◌, subst}
+use Rattle.std.proofs.Common.{ℕ, List, ◌≡◌, None, Result, Ok, Err, sym, ap, ◌∙◌, subst}
 use Rattle.std.proofs.Props.{props}
 use mathlib.Core.HLevel.{is_prop→PathP}
 use Rattle.bl_model.specs.Rows.{map_of}

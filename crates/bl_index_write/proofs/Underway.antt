@@ -1,5 +1,5 @@
 -- A post that has given up stands so, and can go on.
-use Rattle.std.proofs.Common.{ℕ, ◌≡◌, ◌≢◌, ◌<◌, ◌≤◌, Option, Some, None, Result, Ok, Err, IfOk, IfErr, inl, inr, refl, sym, ap, subst}
+use Rattle.std.proofs.Common.{ℕ, ◌≡◌, ◌≢◌, ◌<◌, ◌≤◌, Option, Some, Result, Ok, Err, IfOk, IfErr, inl, inr, refl, sym, ap, subst}
 use Rattle.std.proofs.Props.{props}
 use Rattle.bl_page.specs.declared.page.Page.{Page}
 use Rattle.bl_proc_base.specs.declared.acts.Action.{Action}

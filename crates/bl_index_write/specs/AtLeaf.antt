@@ -1,4 +1,4 @@
--- How a write, and an insertion that posts, stand and go on at their leaves, for the laws of `Writer` and `Target`.
+-- How a write, and one that posts, stand and go on at their leaves, for the laws of `Writer` and `Target`.
 use Rattle.bl_claims.specs.Trails.{Trail}
 use Rattle.bl_index_steps.specs.Held.{proc_held, write_held}
 use Rattle.bl_index_write.specs.Climbing.{climb_coming, climb_opened, climb_staged, climb_unborn}
@@ -6,7 +6,6 @@ use Rattle.bl_index_write.specs.Events.{writing}
 use Rattle.bl_index_ways.specs.Ways.{IsToHold}
 use Rattle.bl_index_ways.specs.Writers.{IsAtWork, IsWriter, left_by, left_reply}
 use Rattle.bl_model.specs.declared.deciding.KeyWrite.{KeyWrite}
-use Rattle.bl_model.specs.declared.deciding.KeyWrite.TheVariants.{Insert}
 use Rattle.bl_proc_writes.specs.Climbs.{IsUnsplit}
 use Rattle.bl_proc_writes.specs.Paths.{Notes, IsBlank as IsBlankPath}
 use Rattle.bl_proc.specs.Processes.{Takes, next_of}
@@ -31,6 +30,8 @@ use Rattle.bl_proc_base.specs.declared.acts.Seen.TheVariants as seen
 use Rattle.bl_proc_base.specs.declared.approaching.Approach.TheVariants as way
 use Rattle.bl_proc_base.specs.declared.editing.Edit.TheVariants as edit
 use Rattle.bl_proc_base.specs.declared.editing.Outcome.TheVariants as outcome
+use Rattle.bl_proc_writes.specs.declared.climbing.Placing.{Placing}
+use Rattle.bl_proc_writes.specs.Placings.{write_of}
 
 -- the reply by what was left is the reply by what became of the leaf
 pub reply_left : (noted : Noted) (o : Outcome) → left_reply (left_by noted o) ≡ write_reply noted o
@@ -70,14 +71,14 @@ thin_unsplit : (there low : Option ℕ) → IsUnsplit (written.Done there (thin_
 thin_unsplit there None = tt
 thin_unsplit there (Some low) = tt
 
-module _ (key value : ℕ) (path : Path) where
+module _ (key : ℕ) (placing : Placing) (path : Path) where
   abbrev staged : WriteStage → Proc
-  staged s = climb_staged key value path s
+  staged s = climb_staged key placing path s
 
   climb_courses : (s : WriteStage) (what : Seen) → IsAtWork s → Gives (write_next_in s) (write_needs_in s) what → GoesOn (staged s) what
-  climb_courses (write.Coming a) what at given = climb_goes (record { key = key; value = value; path = path; stage = climb.Writing (record { key = key; write = Insert value; stage = write.Coming a }); stands = (refl, refl, tt, tt) }) what refl given
-  climb_courses (write.Keeping x there) what at given = climb_goes (record { key = key; value = value; path = path; stage = climb.Writing (record { key = key; write = Insert value; stage = write.Keeping x there }); stands = (refl, refl, tt, tt) }) what refl given
-  climb_courses (write.Editing noted c) what at given = climb_goes (record { key = key; value = value; path = path; stage = climb.Writing (record { key = key; write = Insert value; stage = write.Editing noted c }); stands = (refl, refl, tt, tt) }) what refl given
+  climb_courses (write.Coming a) what at given = climb_goes (record { key = key; placing = placing; path = path; stage = climb.Writing (record { key = key; write = write_of placing; stage = write.Coming a }); stands = (refl, refl, tt, tt) }) what refl given
+  climb_courses (write.Keeping x there) what at given = climb_goes (record { key = key; placing = placing; path = path; stage = climb.Writing (record { key = key; write = write_of placing; stage = write.Keeping x there }); stands = (refl, refl, tt, tt) }) what refl given
+  climb_courses (write.Editing noted c) what at given = climb_goes (record { key = key; placing = placing; path = path; stage = climb.Writing (record { key = key; write = write_of placing; stage = write.Editing noted c }); stands = (refl, refl, tt, tt) }) what refl given
   climb_courses write.New what at given = absurd at
   climb_courses (write.Ending r) what at given = absurd at
   climb_courses (write.Over r) what at given = absurd at
@@ -90,7 +91,7 @@ module _ (key value : ℕ) (path : Path) where
   climb_acts (write.Ending r) at = absurd at
   climb_acts (write.Over r) at = absurd at
 
-  climb_on : (s t : WriteStage) (what : Seen) → IsAtWork s → IsAtWork t → WriteGoes key (Insert value) s what t → Takes (staged s) what (staged t)
+  climb_on : (s t : WriteStage) (what : Seen) → IsAtWork s → IsAtWork t → WriteGoes key (write_of placing) s what t → Takes (staged s) what (staged t)
   climb_on (write.Coming (way.Latched x)) (write.Coming b) what at after goes = (refl, refl, refl, ((refl, refl, goes), tt))
   climb_on (write.Coming (way.Latched x)) (write.Keeping y there) what at after goes = (refl, refl, refl, ((refl, refl, goes), tt))
   climb_on (write.Coming (way.Latched x)) (write.Editing noted c) what at after goes = (refl, refl, refl, ((refl, refl, goes), tt))
@@ -111,12 +112,12 @@ module _ (key value : ℕ) (path : Path) where
   climb_on s (write.Ending r) what at after goes = absurd after
   climb_on s (write.Over r) what at after goes = absurd after
 
-  climb_leaves : (noted : Noted) (x : ℕ) (o : Outcome) → Takes (staged (write.Editing noted (edit.Opening x o))) seen.Done (climb_opened key value path (left_by noted o))
+  climb_leaves : (noted : Noted) (x : ℕ) (o : Outcome) → Takes (staged (write.Editing noted (edit.Opening x o))) seen.Done (climb_opened key placing path (left_by noted o))
   climb_leaves noted x outcome.Edited = (refl, refl, refl, (written.Done noted.there (thin_hint 1 noted.thin), (outcome.Edited, refl, refl), thin_unsplit noted.there noted.thin, refl))
   climb_leaves noted x (outcome.SplitAt k) = (refl, refl, refl, (noted.there, 1, k, (outcome.SplitAt k, refl, refl), (refl, refl, refl)))
   climb_leaves noted x outcome.Refused = (refl, refl, refl, (written.NoRoom, (outcome.Refused, refl, refl), tt, refl))
 
-  climb_held : (s : WriteStage) (marks : Trail) → IsAtWork s → proc_held (staged s) marks → write_held key (Insert value) s marks
+  climb_held : (s : WriteStage) (marks : Trail) → IsAtWork s → proc_held (staged s) marks → write_held key (write_of placing) s marks
   climb_held (write.Coming a) marks at held = held
   climb_held (write.Keeping x there) marks at held = held
   climb_held (write.Editing noted c) marks at held = held
@@ -124,7 +125,7 @@ module _ (key value : ℕ) (path : Path) where
   climb_held (write.Ending r) marks at held = absurd at
   climb_held (write.Over r) marks at held = absurd at
 
-  pub writes_climbing : IsWriter key (Insert value) (climb_staged key value path) (climb_opened key value path)
+  pub writes_climbing : IsWriter key (write_of placing) (climb_staged key placing path) (climb_opened key placing path)
   writes_climbing = record {
     acts = climb_acts;
     courses = climb_courses;
@@ -134,8 +135,8 @@ module _ (key value : ℕ) (path : Path) where
     held = climb_held;
   }
 
-  pub unborn_goes : (none : IsBlankPath path) → GoesOn (climb_unborn key value path none) seen.Done
-  unborn_goes none = climb_goes (record { key = key; value = value; path = path; stage = climb.Writing (record { key = key; write = Insert value; stage = write.New }); stands = (refl, refl, tt, none) }) seen.Done refl tt
+  pub unborn_goes : (none : IsBlankPath path) → GoesOn (climb_unborn key placing path none) seen.Done
+  unborn_goes none = climb_goes (record { key = key; placing = placing; path = path; stage = climb.Writing (record { key = key; write = write_of placing; stage = write.New }); stands = (refl, refl, tt, none) }) seen.Done refl tt
 
-  pub unborn_starts : (none : IsBlankPath path) → Takes (climb_unborn key value path none) seen.Done (climb_coming key value path way.Start)
+  pub unborn_starts : (none : IsBlankPath path) → Takes (climb_unborn key placing path none) seen.Done (climb_coming key placing path way.Start)
   unborn_starts none = (refl, refl, refl, ((refl, refl, refl), tt))

@@ -24,6 +24,7 @@ use Rattle.bl_proc_unique.specs.Courses.{GoesOn}
 use Rattle.bl_index_write.specs.AtLeaf.{unnoted}
 use Rattle.bl_index_write.specs.Climbing.{climb_posting, climb_posted}
 use Rattle.bl_index_ways.specs.Posters.{IsAtParent, IsPoster, Opened, Staged}
+use Rattle.bl_proc_writes.specs.declared.climbing.Placing.{Placing}
 
 -- a post that has not ended has answered nothing
 unanswered : (level : ℕ) (s : PostStage) → IsPosting s → post_answer_in level s ≡ None
@@ -67,16 +68,16 @@ posts_unnoted level key (post.Ending r) what n at = absurd at
 posts_unnoted level key (post.Over r) what n at = absurd at
 
 -- It posts at its parent as a post does.
-module _ (key value level separator : ℕ) (least : 0 < level) (most : level ≤ 12) (path : Path) where
+module _ (key : ℕ) (placing : Placing) (level separator : ℕ) (least : 0 < level) (most : level ≤ 12) (path : Path) where
   abbrev here : Staged level
-  here = climb_posting key value level separator least most path
+  here = climb_posting key placing level separator least most path
 
   abbrev opened : Opened level
-  opened = climb_posted key value level separator path
+  opened = climb_posted key placing level separator path
 
   rising_courses : (s : PostStage) (b : IsBelowTop level s) (i : IsPosting s) (what : Seen) → Gives (post_next_in s) (post_needs_in s) what → GoesOn (here s b i) what
   rising_courses s b i what given =
-      climb_goes (record { key = key; value = value; path = path; stage = climb.Posting (record { level = level; key = separator; stage = s; least = least; most = most; below = b }); stands = i }) what refl given
+      climb_goes (record { key = key; placing = placing; path = path; stage = climb.Posting (record { level = level; key = separator; stage = s; least = least; most = most; below = b }); stands = i }) what refl given
 
   rising_stayed : (x : ℕ) (r : PostReply) (b : MayReply level r) → Takes (here (post.Staying x r) b tt) seen.Done (opened r b)
   rising_stayed x (reply.Done None) b = (refl, refl, refl, (reply.Done None, refl, tt, refl))
@@ -91,7 +92,7 @@ module _ (key value level separator : ℕ) (least : 0 < level) (most : level ≤
   rising_listed x (outcome.SplitAt next) b may = (refl, refl, refl, inr (next, (outcome.SplitAt next, refl, refl), (refl, refl, refl)))
   rising_listed x outcome.Refused b may = (refl, refl, refl, (reply.NoRoom, (outcome.Refused, refl, refl), tt, refl))
 
-  pub posts_rising : IsPoster level separator (climb_posting key value level separator least most path) (climb_posted key value level separator path)
+  pub posts_rising : IsPoster level separator (climb_posting key placing level separator least most path) (climb_posted key placing level separator path)
   posts_rising = record {
     least = least;
     most = most;

@@ -1,8 +1,7 @@
--- An insertion that posts, of which a pass has no value.
+-- A write that posts, of which a pass has no value.
 use Rattle.std.specs.Prelude.{◌≡◌, ℕ, ◌+◌, ◌<◌, ◌≤◌, Option, Some, refl}
 use Rattle.std.proofs.Common.{arith}
-use Rattle.bl_model.specs.declared.deciding.KeyWrite.TheVariants.{Insert}
-use Rattle.bl_model.specs.declared.operation.Op.TheVariants as op
+use Rattle.bl_model.specs.Writes.{write_op}
 use Rattle.bl_model.specs.declared.operation.Reply.{Reply}
 use Rattle.bl_model.specs.declared.operation.Reply.TheVariants as reply
 use Rattle.atomic_table.specs.declared.shared.Seat.{Seat}
@@ -13,7 +12,7 @@ use Rattle.bl_proc_base.specs.declared.answers.Posted.{Posted}
 use Rattle.bl_proc_base.specs.declared.approaching.Approach.{Approach}
 use Rattle.bl_proc_writes.specs.declared.climbing.InsertPost.{InsertPost}
 use Rattle.bl_proc_writes.specs.declared.climbing.ClimbStage.{ClimbStage}
-use Rattle.bl_proc_writes.specs.declared.climbing.ClimbStage.TheVariants.{Writing, Posting, Ending, Over}
+use Rattle.bl_proc_writes.specs.declared.climbing.ClimbStage.TheVariants.{Writing, Posting, Ending}
 use Rattle.bl_proc_writes.specs.declared.climbing.Climbed.TheVariants.{Unsplit, Posted as PostedTo}
 use Rattle.bl_proc.specs.declared.kinds.Proc.{Proc}
 use Rattle.bl_proc.specs.declared.kinds.Proc.TheVariants as proc
@@ -23,7 +22,6 @@ use Rattle.bl_proc_writes.specs.declared.posting.PostReply.{PostReply}
 use Rattle.bl_proc_writes.specs.declared.posting.PostReply.TheVariants as listed
 use Rattle.bl_proc_writes.specs.declared.posting.PostStage.{PostStage}
 use Rattle.bl_proc_writes.specs.declared.posting.PostStage.TheVariants as post
-use Rattle.bl_proc_writes.specs.declared.writing.WriteReply.TheVariants as written
 use Rattle.bl_proc_writes.specs.declared.writing.WriteStage.{WriteStage}
 use Rattle.bl_proc_writes.specs.declared.writing.WriteStage.TheVariants as write
 use Rattle.bl_proc_writes.specs.Climbs.{climb_answer_in}
@@ -34,41 +32,43 @@ use Rattle.bl_proc_unique.specs.Frames.{op_of}
 use Rattle.bl_frames.specs.declared.view.View.{View}
 use Rattle.bl_store.specs.Hands.{known, HasNoStock}
 use Rattle.bl_index_rule.specs.declared.known.PassState.{PassState}
-use Rattle.bl_index_steps.specs.Rooms.{LacksPage, LacksPost}
+use Rattle.bl_index_steps.specs.Rooms.{LacksWrite, LacksPost}
 use Rattle.bl_index_steps.specs.Runs.{IsDone, IsSince, Rests}
 use Rattle.bl_index_write.specs.declared.rising.Rising.{Rising}
 use Rattle.bl_index_ways.specs.declared.writers.Left.{Left}
 use Rattle.bl_index_ways.specs.declared.writers.Left.TheVariants.{Kept, Changed, Split, Refused}
 use Rattle.bl_index_ways.specs.Writers.{left_reply}
+use Rattle.bl_proc_writes.specs.declared.climbing.Placing.{Placing}
+use Rattle.bl_proc_writes.specs.Placings.{write_of}
 
--- an insertion of that pair that has noted these pages and come so far
-abbrev pub climbing : (key value : ℕ) (path : Path) (stage : ClimbStage) → Stands key value path stage → Proc
-climbing key value path stage stands = proc.InsertPost (record { key = key; value = value; path = path; stage = stage; stands = stands })
+-- a write of that pair that has noted these pages and come so far
+abbrev pub climbing : (key : ℕ) (placing : Placing) (path : Path) (stage : ClimbStage) → Stands key placing path stage → Proc
+climbing key placing path stage stands = proc.InsertPost (record { key = key; placing = placing; path = path; stage = stage; stands = stands })
 
 -- one that is to begin, and has noted none
-abbrev pub climb_unborn : (key value : ℕ) (path : Path) → IsBlank path → Proc
-climb_unborn key value path none =
-    climbing key value path (Writing (record { key = key; write = Insert value; stage = write.New })) (refl, refl, tt, none)
+abbrev pub climb_unborn : (key : ℕ) (placing : Placing) (path : Path) → IsBlank path → Proc
+climb_unborn key placing path none =
+    climbing key placing path (Writing (record { key = key; write = write_of placing; stage = write.New })) (refl, refl, tt, none)
 
 -- one that is on its way to its leaf
-abbrev pub climb_coming : ℕ → ℕ → Path → Approach → Proc
-climb_coming key value path a =
-    climbing key value path (Writing (record { key = key; write = Insert value; stage = write.Coming a })) (refl, refl, tt, tt)
+abbrev pub climb_coming : ℕ → Placing → Path → Approach → Proc
+climb_coming key placing path a =
+    climbing key placing path (Writing (record { key = key; write = write_of placing; stage = write.Coming a })) (refl, refl, tt, tt)
 
 -- one that is to end, and has not split its leaf
-abbrev pub climb_ending : ℕ → ℕ → Path → Left → Proc
-climb_ending key value path left = climbing key value path (Ending (Unsplit (left_reply left))) tt
+abbrev pub climb_ending : ℕ → Placing → Path → Left → Proc
+climb_ending key placing path left = climbing key placing path (Ending (Unsplit (left_reply left))) tt
 
 -- one that holds its leaf
-abbrev pub climb_staged : ℕ → ℕ → Path → WriteStage → Proc
-climb_staged key value path write.New = climb_ending key value path Refused
-climb_staged key value path (write.Coming a) = climb_coming key value path a
-climb_staged key value path (write.Keeping x there) =
-    climbing key value path (Writing (record { key = key; write = Insert value; stage = write.Keeping x there })) (refl, refl, tt, tt)
-climb_staged key value path (write.Editing noted c) =
-    climbing key value path (Writing (record { key = key; write = Insert value; stage = write.Editing noted c })) (refl, refl, tt, tt)
-climb_staged key value path (write.Ending r) = climb_ending key value path Refused
-climb_staged key value path (write.Over r) = climb_ending key value path Refused
+abbrev pub climb_staged : ℕ → Placing → Path → WriteStage → Proc
+climb_staged key placing path write.New = climb_ending key placing path Refused
+climb_staged key placing path (write.Coming a) = climb_coming key placing path a
+climb_staged key placing path (write.Keeping x there) =
+    climbing key placing path (Writing (record { key = key; write = write_of placing; stage = write.Keeping x there })) (refl, refl, tt, tt)
+climb_staged key placing path (write.Editing noted c) =
+    climbing key placing path (Writing (record { key = key; write = write_of placing; stage = write.Editing noted c })) (refl, refl, tt, tt)
+climb_staged key placing path (write.Ending r) = climb_ending key placing path Refused
+climb_staged key placing path (write.Over r) = climb_ending key placing path Refused
 
 -- the post of the upper half of its leaf, which begins at the page that is noted for level 1
 abbrev pub first_post : Path → ℕ → Post
@@ -82,16 +82,16 @@ first_post path separator = record {
 }
 
 -- one that has opened its leaf, by what it has left
-abbrev pub climb_opened : ℕ → ℕ → Path → Left → Proc
-climb_opened key value path (Kept there) = climb_ending key value path (Kept there)
-climb_opened key value path (Changed noted) = climb_ending key value path (Changed noted)
-climb_opened key value path (Split there separator) = climbing key value path (Posting (first_post path separator)) tt
-climb_opened key value path Refused = climb_ending key value path Refused
+abbrev pub climb_opened : ℕ → Placing → Path → Left → Proc
+climb_opened key placing path (Kept there) = climb_ending key placing path (Kept there)
+climb_opened key placing path (Changed noted) = climb_ending key placing path (Changed noted)
+climb_opened key placing path (Split there separator) = climbing key placing path (Posting (first_post path separator)) tt
+climb_opened key placing path Refused = climb_ending key placing path Refused
 
 -- one that posts to a level, of which the post has come so far
-abbrev pub climb_posting : (key value level separator : ℕ) → 0 < level → level ≤ 12 → Path → (s : PostStage) → IsBelowTop level s → IsPosting s → Proc
-climb_posting key value level separator least most path s b i =
-    climbing key value path (Posting (record { level = level; key = separator; stage = s; least = least; most = most; below = b })) i
+abbrev pub climb_posting : (key : ℕ) (placing : Placing) (level separator : ℕ) → 0 < level → level ≤ 12 → Path → (s : PostStage) → IsBelowTop level s → IsPosting s → Proc
+climb_posting key placing level separator least most path s b i =
+    climbing key placing path (Posting (record { level = level; key = separator; stage = s; least = least; most = most; below = b })) i
 
 -- the post of the upper half of such a parent, which begins at the page that is noted one level higher
 abbrev pub next_post : (level : ℕ) → Path → ℕ → level < 12 → Post
@@ -105,30 +105,30 @@ next_post level path next below = record {
 }
 
 -- One that has opened the parent to which it posted, by what the post replies: where the parent was split, its upper half is posted.
-abbrev pub climb_posted : (key value level separator : ℕ) → Path → (r : PostReply) → MayReply level r → Proc
-climb_posted key value level separator path (listed.Done (Some next)) may = climbing key value path (Posting (next_post level path next may)) tt
-climb_posted key value level separator path r may = climbing key value path (Ending (PostedTo level separator r)) tt
+abbrev pub climb_posted : (key : ℕ) (placing : Placing) (level separator : ℕ) → Path → (r : PostReply) → MayReply level r → Proc
+climb_posted key placing level separator path (listed.Done (Some next)) may = climbing key placing path (Posting (next_post level path next may)) tt
+climb_posted key placing level separator path r may = climbing key placing path (Ending (PostedTo level separator r)) tt
 
 abbrev pub rises : (j : Rising) → Path → (s : PostStage) → IsBelowTop j.level s → IsPosting s → Proc
-rises j path = climb_posting j.key j.value j.level j.separator j.least j.most path
+rises j path = climb_posting j.key j.placing j.level j.separator j.least j.most path
 
 abbrev pub rose : (j : Rising) → Path → (r : PostReply) → MayReply j.level r → Proc
-rose j path = climb_posted j.key j.value j.level j.separator path
+rose j path = climb_posted j.key j.placing j.level j.separator path
 
--- The insertion with its posts has ended, and has answered that.
-pub record HasClimbed (pass : ℕ) (old e : PassState) (key value : ℕ) (said : Reply) (last : Option Posted) (left : Option Hint) : Type 0 where
+-- The write with its posts has ended, and has answered that.
+pub record HasClimbed (pass : ℕ) (old e : PassState) (key : ℕ) (placing : Placing) (said : Reply) (last : Option Posted) (left : Option Hint) : Type 0 where
   pub first : Proc
-  pub op_is : op_of first ≡ Some (op.Insert key value)
+  pub op_is : op_of first ≡ Some (write_op key (write_of placing))
   pub over : InsertPost
   pub done : IsDone pass old e first (proc.InsertPost over)
-  pub answer : climb_answer_in over.value over.stage ≡ Some (answer.InsertPost said last left)
+  pub answer : climb_answer_in over.placing over.stage ≡ Some (answer.InsertPost said last left)
 
--- From there the insertion with its posts has gone on to its end, and has answered that.
-pub record IsClimbOver (key value : ℕ) (d : PassState) (h : Seat (Unit {0}) (View PassState)) (said : Reply) (last : Option Posted)
+-- From there the write with its posts has gone on to its end, and has answered that.
+pub record IsClimbOver (key : ℕ) (placing : Placing) (d : PassState) (h : Seat (Unit {0}) (View PassState)) (said : Reply) (last : Option Posted)
     (left : Option Hint) : Type 0 where
   pub rests : Rests h
   pub empty : HasNoStock h
-  pub is_climbed : (pass : ℕ) (old : PassState) → IsSince pass old d → HasClimbed pass old (known h) key value said last left
-  pub no_room : said ≡ reply.NoRoom → LacksPage 0 key h
+  pub is_climbed : (pass : ℕ) (old : PassState) → IsSince pass old d → HasClimbed pass old (known h) key placing said last left
+  pub no_room : said ≡ reply.NoRoom → LacksWrite key (write_of placing) h
   pub entered : (level separator : ℕ) → left ≡ Some (hint.Post level separator) → said ≡ reply.Inserted
   pub lacks : (level separator : ℕ) → left ≡ Some (hint.Post level separator) → LacksPost level separator h

@@ -1,8 +1,7 @@
-//! Insertions that post what they split: from the page that they have noted for each level on their way down, as Lehman and Yao's
+//! Insertions and puts that post what they split: from the page that they have noted for each level on their way down, as Lehman and Yao's
 //! inserter does.
 
 ghost use Rattle.std.specs.Prelude.{◌≡◌, ◌<◌, ◌≤◌, ℕ, Option, Some, None, MatchOption};
-ghost use Rattle.bl_model.specs.declared.deciding.KeyWrite.TheVariants.{Insert};
 ghost use Rattle.bl_model.specs.declared.operation.KeyReply.TheVariants as replies;
 ghost use Rattle.bl_model.specs.declared.operation.Reply.TheVariants as reply;
 ghost use Rattle.bl_model.specs.Replies.{reply_of};
@@ -14,10 +13,11 @@ ghost use Rattle.bl_proc_writes.specs.declared.posting.PostStage.TheVariants as 
 ghost use Rattle.bl_proc_writes.specs.Climbs.{IsLast, left_hint, posted_as};
 ghost use Rattle.bl_proc_writes.specs.Levels.{MayReply};
 ghost use Rattle.bl_proc_writes.specs.Paths.{IsBlank as IsBlankPath};
+ghost use Rattle.bl_proc_writes.specs.Placings.{write_of};
 ghost use Rattle.bl_store.specs.Hands.{known, read_words, IsIdle, IsSameHand, HasNoStock, ReadsFrom};
 ghost use Rattle.bl_store.specs.Owners.{IsHandOf};
 ghost use Rattle.bl_index_rule.specs.declared.known.PassState.{PassState as Knows};
-ghost use Rattle.bl_index_steps.specs.Rooms.{LacksPage, LacksPost};
+ghost use Rattle.bl_index_steps.specs.Rooms.{LacksWrite, LacksPost};
 ghost use Rattle.bl_index_steps.specs.Runs.{Runs, Rests, IsSince};
 ghost use Rattle.bl_index_ways.specs.declared.writers.Left.TheVariants as lefts;
 ghost use Rattle.bl_index_write.specs.Climbing.{climb_opened, rises, rose, HasClimbed, IsClimbOver};
@@ -36,30 +36,30 @@ use bl_model::{KeyReply, KeyWrite, Reply};
 use bl_proc::{Answer, Hint, Posted, Process, Reader};
 use bl_proc_base::{Approach, Level};
 use bl_proc_pages::Step;
-use bl_proc_writes::{ClimbStage, InsertPost, Path, Post, PostReply, PostStage};
+use bl_proc_writes::{ClimbStage, InsertPost, Path, Placing, Post, PostReply, PostStage};
 use bl_store::{Glance, Hand};
 use std::sync::Wait;
 
-/// The insertion of a pair that notes its way.
+/// The write of a pair that notes its way.
 #[derive(Clone, Copy)]
 pub(crate) struct Climbing {
     pub(crate) key: u64,
-    pub(crate) value: u64,
+    pub(crate) placing: Placing,
 }
 
 impl Target for Climbing {
     ghost use Rattle.std.specs.Prelude.{refl};
-    ghost use Rattle.bl_model.specs.declared.deciding.KeyWrite.TheVariants.{Insert};
     ghost use Rattle.bl_proc_writes.specs.declared.climbing.ClimbStage.TheVariants as stages;
     ghost use Rattle.bl_proc_writes.specs.declared.writing.WriteStage.TheVariants as write;
     ghost use Rattle.bl_proc_writes.specs.Paths.{NotesBy};
+    ghost use Rattle.bl_proc_writes.specs.Placings.{write_of};
     ghost use Rattle.bl_proc_unique.proofs.Climbs.{climb_goes};
     ghost use Rattle.bl_index_write.specs.Climbing.{climb_coming};
     ghost use Rattle.bl_index_write.specs.AtLeaf.{unnoted};
 
     type Path = Path;
 
-    ghost at = { λ j n a. climb_coming j.key j.value n a };
+    ghost at = { λ j n a. climb_coming j.key j.placing n a };
 
     ghost level_of = { λ j. 0 };
 
@@ -91,9 +91,9 @@ impl Target for Climbing {
     ghost courses = { λ j n a what g.
         climb_goes (record {
           key = j.key;
-          value = j.value;
+          placing = j.placing;
           path = n;
-          stage = stages.Writing (record { key = j.key; write = Insert j.value; stage = write.Coming a });
+          stage = stages.Writing (record { key = j.key; write = write_of j.placing; stage = write.Coming a });
           stands = (refl, refl, tt, tt);
         }) what refl g };
 
@@ -108,7 +108,7 @@ impl Target for Climbing {
 #[derive(Drop)]
 pub(crate) struct Unnoted {
     pub(crate) key: u64,
-    pub(crate) value: u64,
+    pub(crate) placing: Placing,
     pub(crate) path: Path,
     pub(crate) ghost blank: { IsBlankPath path },
 }
@@ -118,37 +118,37 @@ impl Unborn for Unnoted {
     ghost use Rattle.bl_index_write.specs.Climbing.{climb_unborn, climb_coming};
     ghost use Rattle.bl_index_write.specs.AtLeaf.{unborn_goes, unborn_starts};
 
-    ghost unborn = { λ j. climb_unborn j.key j.value j.path j.blank };
+    ghost unborn = { λ j. climb_unborn j.key j.placing j.path j.blank };
 
-    ghost begun = { λ j. climb_coming j.key j.value j.path approach.Start };
+    ghost begun = { λ j. climb_coming j.key j.placing j.path approach.Start };
 
     ghost begins = { λ j. refl };
 
-    ghost starts = { λ j. unborn_goes j.key j.value j.path j.blank };
+    ghost starts = { λ j. unborn_goes j.key j.placing j.path j.blank };
 
-    ghost started = { λ j. unborn_starts j.key j.value j.path j.blank };
+    ghost started = { λ j. unborn_starts j.key j.placing j.path j.blank };
 }
 
 /// The same, at its leaf.
 #[derive(Drop)]
 pub(crate) struct Climber {
     pub(crate) key: u64,
-    pub(crate) value: u64,
+    pub(crate) placing: Placing,
     pub(crate) path: Path,
 }
 
 impl Writer for Climber {
-    ghost use Rattle.bl_model.specs.declared.deciding.KeyWrite.TheVariants.{Insert};
+    ghost use Rattle.bl_proc_writes.specs.Placings.{write_of as placed};
     ghost use Rattle.bl_index_write.specs.Climbing.{climb_staged, climb_opened};
     ghost use Rattle.bl_index_write.specs.AtLeaf.{writes_climbing};
 
     ghost key_of = { λ w. w.key };
 
-    ghost write_of = { λ w. Insert w.value };
+    ghost write_of = { λ w. placed w.placing };
 
-    ghost staged = { λ w stage. climb_staged w.key w.value w.path stage };
+    ghost staged = { λ w stage. climb_staged w.key w.placing w.path stage };
 
-    ghost opened = { λ w left. climb_opened w.key w.value w.path left };
+    ghost opened = { λ w left. climb_opened w.key w.placing w.path left };
 
     #[inline(always)]
     fn key(&self) -> u64 {
@@ -157,13 +157,13 @@ impl Writer for Climber {
 
     #[inline(always)]
     fn write(&self) -> KeyWrite {
-        KeyWrite::Insert(self.value)
+        self.placing.write()
     }
 
-    ghost writes = { λ w. writes_climbing w.key w.value w.path };
+    ghost writes = { λ w. writes_climbing w.key w.placing w.path };
 }
 
-/// The reply of an insertion.
+/// The reply of an insertion or a put.
 fn inserted(reply: Reply) -> KeyReply
     requires { IsOfInsertion reply }
     ensures { reply_of result ≡ reply }
@@ -171,12 +171,13 @@ fn inserted(reply: Reply) -> KeyReply
     match reply {
         Reply::Inserted => KeyReply::Inserted,
         Reply::Present(value) => KeyReply::Present(value),
+        Reply::Replaced(value) => KeyReply::Replaced(value),
         Reply::NoRoom => KeyReply::NoRoom,
         _ => unreachable!(),
     }
 }
 
-/// What became of an insertion and of its last post, and the hint.
+/// What became of a write and of its last post, and the hint.
 fn climbed(answer: Option<Answer>) -> (KeyReply, Option<Posted>, Option<Hint>)
     requires { IsClimbAnswer answer }
     ensures { answer ≡ Some (answers.InsertPost (reply_of result.0) result.1 result.2) }
@@ -230,7 +231,7 @@ fn end_climb(
         × Runs tree.now hand.old (rose rising.now path.now reply may) }
     requires no_room { reply ≡ listed.NoRoom → LacksPost rising.now.level rising.now.separator hand.old.seat }
     ensures same { IsSameHand hand.old.seat hand.new.seat }
-    ensures over { IsClimbOver rising.now.key rising.now.value (known hand.old.seat) hand.new.seat (reply_of result.0) result.1 result.2 }
+    ensures over { IsClimbOver rising.now.key rising.now.placing (known hand.old.seat) hand.new.seat (reply_of result.0) result.1 result.2 }
 {
     let _ = path;
     tree.conclude(hand);
@@ -238,7 +239,7 @@ fn end_climb(
     (KeyReply::Inserted, posted, left)
 }
 
-/// The tree has no such level: it gets one more, or the insertion ends. This is rare, and goes by a process value.
+/// The tree has no such level: it gets one more, or the write ends. This is rare, and goes by a process value.
 #[inline(never)]
 fn climb_above<R: Wait>(
     tree: &Tree,
@@ -254,7 +255,7 @@ fn climb_above<R: Wait>(
     requires since { (pass : ℕ) × (old : Knows) × IsSince pass old (known hand.old.seat) }
     requires anchor { HasGotAnchor (rises rising.now path.now (post.Coming approach.Start) tt tt) (read_words hand.old.seat) (known hand.old.seat) }
     ensures same { IsSameHand hand.old.seat hand.new.seat }
-    ensures over { IsClimbOver rising.now.key rising.now.value (known hand.old.seat) hand.new.seat (reply_of result.0) result.1 result.2 }
+    ensures over { IsClimbOver rising.now.key rising.now.placing (known hand.old.seat) hand.new.seat (reply_of result.0) result.1 result.2 }
 {
     let shown = FrameView {
         store: &tree.store,
@@ -267,7 +268,7 @@ fn climb_above<R: Wait>(
     };
     let mut insertion = InsertPost {
         key: rising.key,
-        value: rising.value,
+        placing: rising.placing,
         path: Path { pages: path.pages },
         stage: ClimbStage::Posting(post),
     };
@@ -285,13 +286,13 @@ fn climb<R: Wait>(
     climber: Climber,
     separator: u64,
 ) -> (KeyReply, Option<Posted>, Option<Hint>)
-    requires runs { (there : Option ℕ) × Runs tree.now hand.old (climb_opened climber.key climber.value climber.path (lefts.Split there separator)) }
+    requires runs { (there : Option ℕ) × Runs tree.now hand.old (climb_opened climber.key climber.placing climber.path (lefts.Split there separator)) }
     requires empty { HasNoStock hand.old.seat }
     requires since { (pass : ℕ) × (old : Knows) × IsSince pass old (known hand.old.seat) }
     ensures same { IsSameHand hand.old.seat hand.new.seat }
-    ensures over { IsClimbOver climber.key climber.value (known hand.old.seat) hand.new.seat (reply_of result.0) result.1 result.2 }
+    ensures over { IsClimbOver climber.key climber.placing (known hand.old.seat) hand.new.seat (reply_of result.0) result.1 result.2 }
 {
-    let Climber { key, value, path } = climber;
+    let Climber { key, placing, path } = climber;
     let mut path = path;
     let mut level = 1;
     let mut separator = separator;
@@ -299,7 +300,7 @@ fn climb<R: Wait>(
     for _ in rt.forever() {
         let rising = Rising {
             key,
-            value,
+            placing,
             level,
             separator,
         };
@@ -330,41 +331,41 @@ fn climb<R: Wait>(
     unreachable!()
 }
 
-/// Carries an insertion with its posts out, from its begin to its end.
+/// Carries a write with its posts out, from its begin to its end.
 #[inline(always)]
-pub fn insert_key_posting<R: Wait>(
+pub fn write_key_posting<R: Wait>(
     tree: &Tree,
     rt: &R,
     hand: &mut Hand<PassState>,
     key: u64,
-    value: u64,
+    placing: Placing,
 ) -> (KeyReply, Option<Posted>, Option<Hint>)
     requires own { IsHandOf tree.now.store hand.old }
     requires idle { IsIdle hand.old.seat × HasNoStock hand.old.seat }
     ensures same { IsSameHand hand.old.seat hand.new.seat }
     ensures rests { Rests hand.new.seat }
     ensures empty { HasNoStock hand.new.seat }
-    ensures climbed { HasClimbed hand.old.number (known hand.old.seat) (known hand.new.seat) key value (reply_of result.0) result.1 result.2 }
-    ensures no_room { result.0 ≡ replies.NoRoom → LacksPage 0 key hand.new.seat }
+    ensures climbed { HasClimbed hand.old.number (known hand.old.seat) (known hand.new.seat) key placing (reply_of result.0) result.1 result.2 }
+    ensures no_room { result.0 ≡ replies.NoRoom → LacksWrite key (write_of placing) hand.new.seat }
     ensures entered { (level : ℕ) → (separator : ℕ) → result.2 ≡ Some (hints.Post level separator) → reply_of result.0 ≡ reply.Inserted }
     ensures left { (level : ℕ) → (separator : ℕ) → result.2 ≡ Some (hints.Post level separator) → LacksPost level separator hand.new.seat }
 {
     let unborn = Unnoted {
         key,
-        value,
+        placing,
         path: Path::new(),
     };
     begin_descent(tree, hand, &unborn);
     let mut path = unborn.path;
-    let (at, glance) = descend(tree, rt, hand, &Climbing { key, value }, &mut path);
-    let climber = Climber { key, value, path };
+    let (at, glance) = descend(tree, rt, hand, &Climbing { key, placing }, &mut path);
+    let climber = Climber { key, placing, path };
     tree.await_frames(hand);
     let left = write_there(tree, hand, at, &climber, glance);
     match left {
         Left::Split(_there, separator) => climb(tree, rt, hand, climber, separator),
         _ => {
             tree.conclude(hand);
-            let (reply, _) = answer_of(KeyWrite::Insert(value), left.reply());
+            let (reply, _) = answer_of(placing.write(), left.reply());
             (reply, None, None)
         }
     }

@@ -1,4 +1,4 @@
-//! Writers over the pages that threads share: writes of one key, insertions that post what they split, and posts. What they have in common
+//! Writers over the pages that threads share: writes of one key, those that post what they split, and posts. What they have in common
 //! is in `bl_index_ways`.
 //!
 //! Promised to the index: what each answers, with its hint, and that its process did what a process of its kind does. They go by their
@@ -13,6 +13,6 @@ mod rising;
 mod targets;
 mod writing;
 
-pub use climbing::insert_key_posting;
+pub use climbing::write_key_posting;
 pub use posting::{post_key, post_within};
 pub use writing::{begin_write, end_write, write_key, write_within};

@@ -1,16 +1,16 @@
-//! The posts of an insertion.
+//! The posts of a write.
 
 ghost use Rattle.std.specs.Prelude.{◌<◌, ◌≤◌};
 
 use bl_index_ways::{Poster, Target};
 use bl_proc_pages::Step;
-use bl_proc_writes::Path;
+use bl_proc_writes::{Path, Placing};
 
-/// The post of an insertion to a level.
+/// The post of a write to a level.
 #[derive(Clone, Copy)]
 pub(crate) struct Rising {
     pub(crate) key: u64,
-    pub(crate) value: u64,
+    pub(crate) placing: Placing,
     /// The level of the parent, 1 to 12.
     pub(crate) level: u32,
     /// The key that is to be listed there.
@@ -69,7 +69,7 @@ impl Target for Rising {
     ghost courses = { λ j n a what g.
         climb_goes (record {
           key = j.key;
-          value = j.value;
+          placing = j.placing;
           path = n;
           stage = stages.Posting (record {
             level = j.level;
@@ -120,6 +120,6 @@ impl<'a> Poster for Riser<'a> {
         self.rising.separator
     }
 
-    ghost posts = { λ p. posts_rising p.rising.now.key p.rising.now.value p.rising.now.level p.rising.now.separator p.rising.now.least p.rising.now.most
+    ghost posts = { λ p. posts_rising p.rising.now.key p.rising.now.placing p.rising.now.level p.rising.now.separator p.rising.now.least p.rising.now.most
         p.path.now };
 }

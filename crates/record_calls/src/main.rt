@@ -1,7 +1,7 @@
 //! Calls of a map, written down by the threads that make them, for `checks/linearizable`.
 //!
-//! In each round so many threads make so many calls each, on few keys: searches, insertions, deletions, changes, and short
-//! scans, which tell of each key that they pass. Then all threads are joined, and a line is printed for each call: the thread, the
+//! In each round so many threads make so many calls each, on few keys: searches, insertions, puts, deletions, changes, and
+//! short scans, which tell of each key that they pass. Then all threads are joined, and a line is printed for each call: the thread, the
 //! nanoseconds right before the call and right behind it, the key, what was asked, and what was answered; and behind them the line
 //! `round`. Behind every fourth round the map is closed and opened from its image; where there is no memory for that, once more. With
 //! `count` in place of `calls` only the number of calls is printed, which is the same whatever the threads do.
@@ -87,6 +87,7 @@ struct Round {
 enum Asked {
     Find,
     Insert(u64),
+    Put(u64),
     Delete,
     Change(u64, u64),
 }
@@ -144,6 +145,8 @@ fn value_after(asked: Asked, reply: KeyReply) -> Option<u64> {
             Some(value)
         }
         (Asked::Insert(value), KeyReply::Inserted) => Some(value),
+        (Asked::Put(value), KeyReply::Inserted) => Some(value),
+        (Asked::Put(value), KeyReply::Replaced(_)) => Some(value),
         (Asked::Change(_, new), KeyReply::Changed) => Some(new),
         _ => None,
     }
@@ -163,6 +166,7 @@ fn make<R: Wait + Clock>(
     let reply = match asked {
         Asked::Find => worker.handle.find(rt, key),
         Asked::Insert(value) => worker.handle.insert(rt, key, value),
+        Asked::Put(value) => worker.handle.put(rt, key, value),
         Asked::Delete => worker.handle.delete(rt, key),
         Asked::Change(old, new) => worker.handle.change(rt, key, old, new),
     };
@@ -214,7 +218,8 @@ fn list<R: Wait + Clock>(rt: &R, round: Round, worker: &mut Worker<'_>, first: u
 fn drawn_call(worker: &Worker<'_>, key: u64, value: u64) -> Option<(u64, Asked)> {
     match below(after(worker.drawn), 10) {
         0..=2 => Some((key, Asked::Find)),
-        3..=5 => Some((key, Asked::Insert(value))),
+        3..=4 => Some((key, Asked::Insert(value))),
+        5 => Some((key, Asked::Put(value))),
         6..=7 => Some((key, Asked::Delete)),
         8 => Some((worker.seen.0, Asked::Change(worker.seen.1, value))),
         _ => None,

@@ -35,6 +35,20 @@ fn a_search_begins_at_any_page(rt: HostRuntime) -> Result<(), Fail> {
     Ok(())
 }
 
+// Each of many keys is answered in its place, whatever page it has in mind, and one that runs out of turns stops those behind it.
+#[test]
+fn many_searches_go_one_behind_another(rt: HostRuntime) -> Result<(), Fail> {
+    let (index, mut pass, _second, _third) = opened(rt.alloc()).ok_or("no index")?;
+    assert!(rt; fill(&rt, &index, &mut pass));
+    let mut replies = [KeyReply::NoRoom; 3];
+    assert!(rt; index.find_many(&mut pass, &[12, 3, 16], &[2, 8, 2], 3, &mut replies) == 3);
+    assert!(rt; replies == [KeyReply::Found(120), KeyReply::Found(30), KeyReply::Absent]);
+    let mut replies = [KeyReply::NoRoom; 3];
+    assert!(rt; index.find_many(&mut pass, &[12, 3, 16], &[2, 2, 2], 3, &mut replies) == 1);
+    assert!(rt; replies == [KeyReply::Found(120), KeyReply::NoRoom, KeyReply::NoRoom]);
+    Ok(())
+}
+
 // A page that was merged away is not open any more, nor is it once it is released.
 #[test]
 fn a_search_does_not_begin_at_a_retired_page(rt: HostRuntime) -> Result<(), Fail> {

@@ -28,6 +28,8 @@ pub enum Call {
 pub enum PassCall {
     Insert(u64, u64),
     InsertPost(u64, u64),
+    Put(u64, u64),
+    PutPost(u64, u64),
     Delete(u64),
     Change(u64, u64, u64),
     Find(u64, u32),
@@ -99,6 +101,8 @@ fn map_call(words: &[&str]) -> Option<PassCall> {
         ["delete", key] => key.parse().ok().map(PassCall::Delete),
         ["insert", key, value] => insert_of(key, value),
         ["insertpost", key, value] => insert_post_of(key, value),
+        ["put", key, value] => put_of(key, value),
+        ["putpost", key, value] => put_post_of(key, value),
         [call, key, turns] => search_of(call, key, turns),
         ["change", key, old, new] => change_of(key, old, new),
         ["scan", from, end, turns] => scan_of(from, end, turns),
@@ -113,6 +117,14 @@ fn insert_post_of(key: &str, value: &str) -> Option<PassCall> {
 
 fn insert_of(key: &str, value: &str) -> Option<PassCall> {
     Some(PassCall::Insert(key.parse().ok()?, value.parse().ok()?))
+}
+
+fn put_of(key: &str, value: &str) -> Option<PassCall> {
+    Some(PassCall::Put(key.parse().ok()?, value.parse().ok()?))
+}
+
+fn put_post_of(key: &str, value: &str) -> Option<PassCall> {
+    Some(PassCall::PutPost(key.parse().ok()?, value.parse().ok()?))
 }
 
 fn change_of(key: &str, old: &str, new: &str) -> Option<PassCall> {

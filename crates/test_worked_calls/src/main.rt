@@ -8,8 +8,8 @@
 //! | Call | What it gets |
 //! |---|---|
 //! | `open PAGES PASSES` | a new index with so many passes, in place of the one before: `done`, or what is out of range |
-//! | `PASS insert KEY VALUE`, `PASS delete KEY` | the reply, and the hint beside it |
-//! | `PASS insertpost KEY VALUE` | the reply, what became of the last post, and the hint |
+//! | `PASS insert KEY VALUE`, `PASS put KEY VALUE`, `PASS delete KEY` | the reply, and the hint beside it |
+//! | `PASS insertpost KEY VALUE`, `PASS putpost KEY VALUE` | the reply, what became of the last post, and the hint |
 //! | `PASS change KEY OLD NEW` | the reply |
 //! | `PASS find KEY TURNS`, `PASS part FROM TURNS` | the reply, or `out of turns` |
 //! | `PASS near FROM PAGE TURNS` | the reply of a part that has that page in mind, or `out of turns`; and the page that it leaves for the next one |

@@ -41,6 +41,8 @@ fn answer<R: Wait>(
         PassCall::InsertPost(key, value) => {
             climbed(alloc, index.insert_posting(rt, pass, key, value))
         }
+        PassCall::Put(key, value) => changed(alloc, index.put(rt, pass, key, value)),
+        PassCall::PutPost(key, value) => climbed(alloc, index.put_posting(rt, pass, key, value)),
         PassCall::Delete(key) => changed(alloc, index.delete(rt, pass, key)),
         PassCall::Change(key, old, new) => replied(alloc, index.change(rt, pass, key, old, new)),
         PassCall::Find(key, turns) => found(alloc, index.find(pass, key, turns)),

@@ -5,6 +5,7 @@ use Rattle.bl_store.specs.declared.store.Hand.{Hand}
 use Rattle.bl_index_rule.specs.declared.known.PassState.{PassState}
 use Rattle.bl_index_rule.specs.Observed.{ends}
 use Rattle.bl_index_read.specs.declared.sought.Sought.{Sought}
+use Rattle.bl_proc.specs.declared.parts.Direction.TheVariants.{Up}
 use Rattle.bl_index_read.specs.declared.sought.Sought.TheVariants as sought
 use Rattle.bl_index_read.specs.LeafWays.{IsAtLeaf}
 use Rattle.bl_index_read.specs.Parts.{StandsBehind}
@@ -73,9 +74,9 @@ pub returns-in_default-clause-same : goal.returns-in_default-clause-same
 returns-in_default-clause-same c = c.descend_to_leaf.ensures.same
 
 pub go_behind-on-requires-clause-leaf : goal.go_behind-on-requires-clause-leaf
-go_behind-on-requires-clause-leaf c = subst (λ (h : Hand PassState). (at : ℕ) × (words : List ℕ) × IsAtLeaf sought.Rows at words (known h.seat)) (sym (c.append_rows-rows.ensures.same ∙ c.portion_in-portion.ensures.same))
+go_behind-on-requires-clause-leaf c = subst (λ (h : Hand PassState). (at : ℕ) × (words : List ℕ) × IsAtLeaf (sought.Rows Up) at words (known h.seat)) (sym (c.append_rows-rows.ensures.same ∙ c.portion_in-portion.ensures.same))
     (c.args.from, _, (c.in-Some.ensures.came c.requires.off.0 c.requires.off.1 c.requires.off.2).leaf)
 
 pub end_at_leaf-requires-clause-leaf : goal.end_at_leaf-requires-clause-leaf
 end_at_leaf-requires-clause-leaf c = subst (λ (h : Hand PassState). (kind : Sought) × (at : ℕ) × (words : List ℕ) × IsAtLeaf kind at words (known h.seat)) (sym (c.append_rows-rows.ensures.same ∙ c.portion_in-portion.ensures.same))
-    (sought.Rows, c.args.from, _, (c.in-Some.ensures.came c.requires.off.0 c.requires.off.1 c.requires.off.2).leaf)
+    (sought.Rows Up, c.args.from, _, (c.in-Some.ensures.came c.requires.off.0 c.requires.off.1 c.requires.off.2).leaf)

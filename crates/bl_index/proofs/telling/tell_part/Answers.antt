@@ -5,6 +5,7 @@ use Rattle.bl_store.specs.Hands.{known, read_words}
 use Rattle.bl_store.specs.declared.store.Hand.{Hand}
 use Rattle.bl_index_rule.specs.declared.known.PassState.{PassState}
 use Rattle.bl_index_rule.specs.Observed.{ends}
+use Rattle.bl_proc.specs.declared.parts.Direction.TheVariants.{Up}
 use Rattle.bl_index_read.specs.declared.sought.Sought.TheVariants as sought
 use Rattle.bl_index_read.specs.LeafWays.{IsAtLeaf}
 use Rattle.bl_index_read.specs.Parts.{StandsBehind}
@@ -57,5 +58,5 @@ pub returns-in_default-clause-same : goal.returns-in_default-clause-same
 returns-in_default-clause-same g c = c.descend_to_leaf.ensures.same
 
 pub go_behind-on-requires-clause-leaf : goal.go_behind-on-requires-clause-leaf
-go_behind-on-requires-clause-leaf g c = subst (λ (h : Hand PassState). (at : ℕ) × (words : List ℕ) × IsAtLeaf sought.Rows at words (known h.seat)) (sym (c.tell_rows.ensures.same ∙ c.portion_in-portion.ensures.same))
+go_behind-on-requires-clause-leaf g c = subst (λ (h : Hand PassState). (at : ℕ) × (words : List ℕ) × IsAtLeaf (sought.Rows Up) at words (known h.seat)) (sym (c.tell_rows.ensures.same ∙ c.portion_in-portion.ensures.same))
     (c.args.from, _, (c.in-Some.ensures.came c.requires.off.0 c.requires.off.1 c.requires.off.2).leaf)

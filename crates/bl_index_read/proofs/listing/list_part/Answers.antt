@@ -4,6 +4,7 @@ use Rattle.bl_store.specs.declared.store.Hand.{Hand}
 use Rattle.bl_index_rule.specs.declared.known.PassState.{PassState}
 use Rattle.bl_index_rule.specs.Observed.{ends}
 use Rattle.bl_index_read.specs.declared.sought.Sought.{Sought}
+use Rattle.bl_proc.specs.declared.parts.Direction.TheVariants.{Up}
 use Rattle.bl_index_read.specs.declared.sought.Sought.TheVariants as sought
 use Rattle.bl_index_read.specs.LeafWays.{IsAtLeaf}
 use Rattle.bl_index_read.proofs.Leaves.{GoesOnBehind, leaf_pairs, part_answers}
@@ -15,7 +16,7 @@ rows_in-rows-requires-clause-pairs c = leaf_pairs _ _ _ (c.in-Some.ensures.came 
 pub end_at_leaf-requires-clause-leaf : goal.end_at_leaf-requires-clause-leaf
 end_at_leaf-requires-clause-leaf c =
     let leaf = (c.in-Some.ensures.came _ _ c.set_off-way.ensures.set_off).leaf in
-    subst (λ (h : Hand PassState). (kind : Sought) × (from : ℕ) × (words : List ℕ) × IsAtLeaf kind from words (known h.seat)) (sym (c.link_in.ensures.same ∙ (c.next_in-next.ensures.same ∙ c.rows_in-rows.ensures.same))) (sought.Rows, c.args.from, _, leaf)
+    subst (λ (h : Hand PassState). (kind : Sought) × (from : ℕ) × (words : List ℕ) × IsAtLeaf kind from words (known h.seat)) (sym (c.link_in.ensures.same ∙ (c.next_in-next.ensures.same ∙ c.rows_in-rows.ensures.same))) (sought.Rows Up, c.args.from, _, leaf)
 
 pub returns-clause-answers : goal.returns-clause-answers
 returns-clause-answers c =

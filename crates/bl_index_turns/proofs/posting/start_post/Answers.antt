@@ -12,7 +12,7 @@ returns-in-Err-clause-stands c =
       old = known c.args.hand.now.seat;
       since = since_new c.args.hand.now c.post_within.new.hand (known c.args.hand.now.seat) c.post_within.ensures.same underway.1;
       yields = tt;
-      room = record { lacks = λ r. absurd (underway.0.free.0 r); none = underway.0.free.1; one = tt };
+      room = record { lacks = λ r. absurd (underway.0.free.0 r); none = underway.0.free.1 };
     }
 
 pub returns-in-Err-clause-underway : goal.returns-in-Err-clause-underway

@@ -1,11 +1,8 @@
-use Rattle.std.proofs.Common.{ℕ, sym, ap, subst, ◌∙◌}
+use Rattle.std.proofs.Common.{sym, ap, subst, ◌∙◌}
 use Rattle.bl_store.specs.Hands.{known}
 use Rattle.bl_store.specs.declared.store.Hand.{Hand}
-use Rattle.bl_proc_writes.specs.declared.posting.PostStage.TheVariants as post
-use Rattle.bl_proc_writes.specs.declared.walking.Walk.{Walk}
 use Rattle.bl_index_rule.specs.declared.known.PassState.{PassState}
-use Rattle.bl_index_steps.specs.Runs.{Runs}
-use Rattle.bl_index_ways.specs.Events.{IsWalking, IsWalkOf, LeavesParent, WalksStill}
+use Rattle.bl_index_ways.specs.Events.{IsWalking, LeavesParent, WalksStill}
 use Rattle.bl_index_ways.proofs.HandedOver.{walks_still}
 use Rattle.bl_index_ways.proofs.walks.post_there_within.Goals as goal
 

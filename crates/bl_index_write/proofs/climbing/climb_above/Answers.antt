@@ -1,5 +1,5 @@
 use Rattle.std.proofs.Common.{rules, ℕ, ◌≡◌, Some, inl, inr, sym, ap, subst, ◌∙◌}
-use Rattle.bl_model.specs.declared.operation.Op.TheVariants as op
+use Rattle.bl_model.specs.Writes.{write_op}
 use Rattle.bl_model.specs.declared.operation.Reply.TheVariants as reply
 use Rattle.bl_model.specs.Replies.{reply_of}
 use Rattle.bl_proc_base.specs.declared.acts.Seen.TheVariants as seen
@@ -9,12 +9,14 @@ use Rattle.bl_proc_base.specs.declared.answers.Posted.TheVariants as posted
 use Rattle.bl_proc_base.specs.declared.approaching.Approach.TheVariants as approach
 use Rattle.bl_proc.specs.declared.kinds.Proc.TheVariants as proc
 use Rattle.bl_proc_writes.specs.declared.posting.PostStage.TheVariants as post
+use Rattle.bl_proc_writes.specs.declared.climbing.Placing.{Placing}
+use Rattle.bl_proc_writes.specs.Placings.{write_of}
 use Rattle.bl_proc_writes.specs.Climbs.{climb_answer_in}
 use Rattle.bl_proc_unique.proofs.RefusedTurns.{takes_refused, takes_puts}
 use Rattle.bl_store.specs.Hands.{known, IsRunning}
 use Rattle.bl_store.specs.declared.store.Hand.{Hand}
 use Rattle.bl_index_rule.specs.declared.known.PassState.{PassState}
-use Rattle.bl_index_steps.specs.Rooms.{LacksPage}
+use Rattle.bl_index_steps.specs.Rooms.{LacksWrite}
 use Rattle.bl_index_steps.specs.Runs.{IsOn, IsSince}
 use Rattle.bl_index_steps.proofs.Rooms.{lacks_climb, words_not_refused}
 use Rattle.bl_index_steps.proofs.Standing.{on_as}
@@ -45,7 +47,7 @@ climbed-requires g c =
     let j = c.args.rising.now in let anchor = c.requires.anchor in let begun = c.requires.since in let q = c.carry_on-process.result in
     let takes = c.took_words.ensures.takes anchor.page anchor.is in
     let since = subst (λ (h : Hand PassState). IsSince begun.0 begun.1 (known h.seat)) (sym c.took_words.ensures.same) begun.2 in
-    has_answer q j.key j.value _ (ended _ _ _ _ q j.key j.value (c.carry_on-process.ensures.done begun.0 begun.1 since) (λ i. Some (op.Insert (takes.0 i) (takes.1 i)))) c.answer.ensures
+    has_answer q j.key j.placing _ (ended _ _ _ _ q j.key j.placing (c.carry_on-process.ensures.done begun.0 begun.1 since) (λ i. Some (write_op (takes.0 i) (write_of (takes.1 i))))) c.answer.ensures
 
 pub returns-clause-over : goal.returns-clause-over
 returns-clause-over g c =
@@ -54,9 +56,9 @@ returns-clause-over g c =
     let takes = c.took_words.ensures.takes anchor.page anchor.is in
     let same = sym c.took_words.ensures.same in
     let since = subst (λ (z : Hand PassState). IsSince begun.0 begun.1 (known z.seat)) same begun.2 in
-    let inserts : Some (op.Insert c.took_words.new.self.key c.took_words.new.self.value) ≡ Some (op.Insert j.key j.value) = λ i. Some (op.Insert (takes.0 i) (takes.1 i)) in
-    let is = ended _ _ _ _ q j.key j.value (out.done begun.0 begun.1 since) inserts in
-    let told : climb_answer_in q.value q.stage ≡ Some (Answered said last left) = sym c.answer.ensures ∙ c.climbed.ensures in
+    let inserts : Some (write_op c.took_words.new.self.key (write_of c.took_words.new.self.placing)) ≡ Some (write_op j.key (write_of j.placing)) = λ i. Some (write_op (takes.0 i) (write_of (takes.1 i))) in
+    let is = ended _ _ _ _ q j.key j.placing (out.done begun.0 begun.1 since) inserts in
+    let told : climb_answer_in q.placing q.stage ≡ Some (Answered said last left) = sym c.answer.ensures ∙ c.climbed.ensures in
     record {
       rests = out.rests;
       empty = out.empty;
@@ -68,12 +70,12 @@ returns-clause-over g c =
         answer = told;
       };
       no_room = λ none.
-          let answer : climb_answer_in q.value q.stage ≡ Some (Answered reply.NoRoom last left) = told ∙ ap (λ z. Some (Answered z last left)) none in
-          subst (λ (n : ℕ). LacksPage 0 n h) is.key_is (no_room_page h q.key q.value is.end last left (said_by q j.key j.value _ is answer) (lacks_climb h q is.end is.stage (out.no_room _ answer tt)));
+          let answer : climb_answer_in q.placing q.stage ≡ Some (Answered reply.NoRoom last left) = told ∙ ap (λ z. Some (Answered z last left)) none in
+          subst (λ (z : ℕ × Placing). LacksWrite z.0 (write_of z.1) h) (λ i. (is.key_is i, is.placing_is i)) (no_room_page h q.key q.placing is.end last left (said_by q j.key j.placing _ is answer) (lacks_climb h q is.end is.stage (out.no_room _ answer tt)));
       entered = λ level separator there.
-          (left_post h q.key q.value is.end said last level separator (said_by q j.key j.value _ is (told ∙ ap (λ z. Some (Answered said last z)) there))).said_is;
+          (left_post h q.key q.placing is.end said last level separator (said_by q j.key j.placing _ is (told ∙ ap (λ z. Some (Answered said last z)) there))).said_is;
       lacks = λ level separator there.
-          let is_left = left_post h q.key q.value is.end said last level separator (said_by q j.key j.value _ is (told ∙ ap (λ z. Some (Answered said last z)) there)) in
-          let answer : climb_answer_in q.value q.stage ≡ Some (Answered reply.Inserted (Some posted.NoRoom) (Some (hint.Post level separator))) = told ∙ (λ i. Some (Answered (is_left.said_is i) (is_left.last_is i) (there i))) in
+          let is_left = left_post h q.key q.placing is.end said last level separator (said_by q j.key j.placing _ is (told ∙ ap (λ z. Some (Answered said last z)) there)) in
+          let answer : climb_answer_in q.placing q.stage ≡ Some (Answered reply.Inserted (Some posted.NoRoom) (Some (hint.Post level separator))) = told ∙ (λ i. Some (Answered (is_left.said_is i) (is_left.last_is i) (there i))) in
           is_left.lacks (lacks_climb h q is.end is.stage (out.no_room _ answer tt));
     }
