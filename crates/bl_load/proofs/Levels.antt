@@ -1,9 +1,11 @@
 -- The levels above one.
-use Rattle.std.proofs.Common.{◌≡◌, ℕ, zero, suc, ◌+◌, ◌/◌, ◌<◌, ◌≤◌, refl, ap, ◌∙◌, arith}
-use Rattle.std.specs.Prelude.{nat_lt, if◌then◌else◌}
+use Rattle.std.proofs.Common.{◌≡◌, ℕ, zero, suc, ◌+◌, ◌-◌, ◌/◌, ◌<◌, ◌≤◌, refl, ap, sym, subst, ◌∙◌, arith}
+use Rattle.std.specs.Prelude.{max, nat_lt, if◌then◌else◌}
 use Rattle.std.proofs.lemmas.Nat.{div-add-mod', mul-le}
 use Rattle.std.proofs.lemmas.Bool.Decides.{nat_tests}
 use Rattle.bl_load.specs.Sizes.{pages_for, pages_above, pages_on_top}
+use Rattle.bl_load.specs.Trees.{fan_for, HasRoomAbove}
+use Rattle.bl_load.proofs.Stepping.{fan_above}
 
 when_lt : (a b x y : ℕ) → a < b → (if nat_lt a b then x else y) ≡ x
 when_lt a b x y lt = grind (arith, nat_tests)
@@ -45,3 +47,28 @@ top_suc levels fan count lt = when_lt 1 count _ count lt
 
 pub top_more : (left rest fan count : ℕ) → left ≡ suc rest → 1 < count → pages_on_top left fan count ≡ pages_on_top rest fan (pages_for fan count)
 top_more left rest fan count is lt = ap (λ n. pages_on_top n fan count) is ∙ top_suc rest fan count lt
+
+-- where a level has more than one page there is room for the one above it, and for those above that
+pub room_next : (fan left rest built most count : ℕ) → HasRoomAbove fan left built most count → left ≡ suc rest → 1 < count
+    → (built + pages_for fan count ≤ most) × HasRoomAbove fan rest (built + pages_for fan count) most (pages_for fan count)
+room_next fan left rest built most count h is some =
+    let more = above_more left rest fan count is some in
+    let top = top_more left rest fan count is some in
+    let room = h.room in
+    let one = h.one in
+    (omega (arith, more, room), record { room = omega (arith, more, room); one = omega (arith, top, one) })
+
+-- the same of a level above the leaves, below the twelfth
+pub level_room : (fill level built most count : ℕ) → HasRoomAbove (fan_for fill 1) (12 - level) built most count → 0 < level → level < 12 → 1 < count
+    → (built + pages_for (fan_for fill level) count ≤ most) × HasRoomAbove (fan_for fill 1) (12 - (level + 1)) (built + pages_for (fan_for fill level) count) most (pages_for (fan_for fill level) count)
+level_room fill level built most count h some lt more =
+    let next = room_next (max fill 2) (12 - level) (12 - (level + 1)) built most count h (omega arith) more in
+    subst (λ fan. (built + pages_for fan count ≤ most) × HasRoomAbove (max fill 2) (12 - (level + 1)) (built + pages_for fan count) most (pages_for fan count)) (sym (fan_above fill level some)) next
+
+-- where no level may stand above one, this has one page at most
+pub last_alone : (fill level built most count : ℕ) → HasRoomAbove (fan_for fill 1) (12 - level) built most count → 12 ≤ level → count ≤ 1
+last_alone fill level built most count h le =
+    let none : 12 - level ≡ 0 = omega arith in
+    let one = h.one in
+    let top = ap (λ n. pages_on_top n (fan_for fill 1) count) none ∙ top_zero (fan_for fill 1) count in
+    omega (arith, one, top)

@@ -7,3 +7,4 @@ pub mod Stepping
 pub mod Sounding
 pub mod Padding
 pub mod Places
+pub mod Ordering

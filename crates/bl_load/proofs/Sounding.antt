@@ -1,5 +1,5 @@
 -- All levels are built: with their anchor the pages are sound, as full as was asked, and have the rows.
-use Rattle.std.proofs.Common.{◌≡◌, ◌≢◌, ℕ, suc, ◌<◌, ◌≤◌, List, [], ◌∷◌, length, get_or, false, Option, Some, None, refl, ap, sym, subst, ◌∙◌, inl, inr, arith}
+use Rattle.std.proofs.Common.{◌≡◌, ◌≢◌, ℕ, suc, ◌-◌, ◌<◌, ◌≤◌, List, [], ◌∷◌, length, get_or, false, Option, Some, None, refl, ap, sym, subst, ◌∙◌, inl, inr, arith}
 use Rattle.std.specs.List.{AllByRecursion}
 use Rattle.std.specs.Prelude.{IfSome, IsTrue}
 use Rattle.std.proofs.lemmas.Bool.{cases_lt, cases_eq, false≢true}
@@ -13,10 +13,10 @@ use Rattle.bl_check.specs.Rules.{AreSound, LinkFits, OnChain, ChildrenFit, Reach
 use Rattle.bl_check.specs.Rules.Rule.{OneAnchor, Leftmost, Links, Chains, Children, NoneDead}
 use Rattle.bl_check.specs.Rows.{RowsFrom, AreRowsOf}
 use Rattle.bl_check.proofs.Reaching.{live_below}
-use Rattle.bl_load.specs.Loads.{IsFull}
-use Rattle.bl_load.specs.Trees.{Grown, IsNode, IsForest}
+use Rattle.bl_load.specs.Loads.{IsFull, HasOneTop}
+use Rattle.bl_load.specs.Trees.{Grown, IsNode, IsForest, IsUnlinked}
 use Rattle.bl_load.proofs.Forests.{none_reached}
-use Rattle.bl_load.proofs.Growing.{grown_stands, grown_fits, grown_reach, grown_children, grown_rows}
+use Rattle.bl_load.proofs.Growing.{some_and, grown_stands, grown_fits, grown_reach, grown_children, grown_rows}
 
 live_no_anchor : (page : Option Page) (s : Span) → span_of page ≡ Some s → is_anchor page ≡ false
 live_no_anchor None s e = refl
@@ -103,3 +103,12 @@ module _ (fill level : ℕ) (pages : List (Option Page)) (roots : List ℕ) (fin
 
   pub rows : (all : List (ℕ × ℕ)) → RowsFrom pages (get_or roots 0 0) all → AreRowsOf final all
   rows all r = subst (λ y. RowsFrom final y all) (sym (leftmost_is 0)) (grown_rows pages final kept (get_or roots 0 0) all r)
+
+  pub one_top : IsUnlinked pages (get_or roots (level - 1) 0) → HasOneTop final
+  one_top alone l is =
+      let here : l ≡ level - 1 = omega (arith, is, levels_are) in
+      let x = get_or roots (level - 1) 0 in
+      let stands = f.stand (level - 1) (omega (arith, is, levels_are)) in
+      let found = some_and (span_at pages x) (λ s. (s.level ≡ level - 1) × (s.low ≡ 0)) stands in
+      let same : leftmost final l ≡ x = leftmost_is l ∙ ap (λ k. get_or roots k 0) here in
+      subst (IsUnlinked final) (sym same) (subst (λ page. IfSome (span_of page) (λ s. s.right ≡ 0)) (sym (kept x found.0 found.1)) alone)

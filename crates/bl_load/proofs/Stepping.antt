@@ -19,7 +19,7 @@ use Rattle.bl_load.proofs.Forests.{Joins, page_new, span_new, forest_more, root_
 same_span : (s t : Span) → Some s ≡ Some t → s ≡ t
 same_span s t e = cc
 
-fan_above : (fill level : ℕ) → 0 < level → fan_for fill level ≡ max fill 2
+pub fan_above : (fill level : ℕ) → 0 < level → fan_for fill level ≡ max fill 2
 fan_above fill level some = grind (arith, nat_tests)
 
 page_full : (fill : ℕ) (page : Page) (s : Span) (pairs : List (ℕ × ℕ)) → IsPageAt s pairs page → (s.low ≡ 0) ⊎ (length pairs ≡ fan_for fill s.level) → IsFull fill (Some page)

@@ -1,14 +1,16 @@
 -- Trees that are built level by level. Private functions cite this, and no public clause does.
 use Rattle.std.specs.List.{AllByRecursion}
-use Rattle.std.specs.Prelude.{◌≡◌, ◌≢◌, ◌⊎◌, ℕ, ◌+◌, ◌-◌, ◌<◌, ◌≤◌, ◌==◌, max, if◌then◌else◌, List, [], ◌∷◌, ◌++◌, length, get_or, Option, Some, None}
+use Rattle.std.specs.Prelude.{◌≡◌, ◌≢◌, ◌⊎◌, ℕ, ◌+◌, ◌-◌, ◌<◌, ◌≤◌, ◌==◌, max, if◌then◌else◌, List, [], ◌∷◌, ◌++◌, length, get_or, Option, Some, None, IfSome}
 use Rattle.bl_page.specs.declared.page.Page.{Page}
 use Rattle.bl_page.specs.declared.page.Page.TheVariants.{Anchor, Leaf, Inner, Dead}
 use Rattle.bl_page.specs.Pages.{page_at}
+use Rattle.bl_page.specs.Pairs.{RisesFrom, BeginsWith, NameChildren}
 use Rattle.bl_check.specs.declared.span.Span.{Span}
 use Rattle.bl_check.specs.Spans.{span_of, span_at, StandsAt}
 use Rattle.bl_check.specs.Rules.{LinkFits, ChildrenFit, Reaches}
 use Rattle.bl_check.specs.Rows.{RowsFrom}
 use Rattle.bl_load.specs.Loads.{IsFull}
+use Rattle.bl_load.specs.Sizes.{pages_for, pages_above, pages_on_top}
 
 -- so many pairs a page has on a level
 abbrev pub fan_for : ℕ → ℕ → ℕ
@@ -25,6 +27,18 @@ Lists pairs (Dead d) = ⊥
 pub record IsPageAt (span : Span) (pairs : List (ℕ × ℕ)) (page : Page) : Type 0 where
   pub place : span_of (Some page) ≡ Some span
   pub lists : Lists pairs page
+
+-- each key is below that one
+abbrev pub AllBelow : ℕ → List (ℕ × ℕ) → Type 0
+AllBelow high pairs = AllByRecursion (λ pair. pair.0 < high) pairs
+
+-- a page at that place may list these pairs
+pub record MayList (span : Span) (pairs : List (ℕ × ℕ)) : Type 0 where
+  pub few : length pairs ≤ 14
+  pub bounds : span.high ≢ 0 → span.low < span.high
+  pub rising : RisesFrom span.low pairs
+  pub below : span.high ≢ 0 → AllBelow span.high pairs
+  pub children : 0 < span.level → BeginsWith span.low pairs × NameChildren pairs
 
 -- live pages that are there stay as they are
 abbrev pub Grown : List (Option Page) → List (Option Page) → Type 0
@@ -74,12 +88,17 @@ pub record IsBegun (fill level : ℕ) (before : List (Option Page)) (roots : Lis
   pub split : pairs ≡ rest ++ listed_now
   pub rows : level ≡ 0 → RowsOn pages right listed_now
 
+-- the page links to none
+abbrev pub IsUnlinked : List (Option Page) → ℕ → Type 0
+IsUnlinked pages x = IfSome (span_at pages x) (λ s. s.right ≡ 0)
+
 -- All levels were built of rows.
 pub record IsTree (fill : ℕ) (rows : List (ℕ × ℕ)) (pages : List (Option Page)) (roots : List ℕ) : Type 0 where
   pub levels : ℕ
   pub some : 0 < levels
   pub forest : IsForest fill pages roots levels 0
   pub rows_are : RowsFrom pages (get_or roots 0 0) rows
+  pub top : IsUnlinked pages (get_or roots (levels - 1) 0)
 
 -- so many pages: those that were there, and then such as are not in use
 pub record IsPadded (pages : List (Option Page)) (count : ℕ) (all : List (Option Page)) : Type 0 where
@@ -96,3 +115,21 @@ pub record IsLevel (fill level : ℕ) (before : List (Option Page)) (roots : Lis
   pub forest : IsForest fill pages after (level + 1) 0
   pub built : AreEntries pages level entries
   pub rows : level ≡ 0 → RowsFrom pages first pairs
+
+-- The pairs are in order for a level, and there are pages for it: of so many, so many are built.
+pub record IsReady (fan level built most : ℕ) (pairs : List (ℕ × ℕ)) : Type 0 where
+  pub rising : RisesFrom 0 pairs
+  pub begins : 0 < level → BeginsWith 0 pairs
+  pub room : built + pages_for fan (length pairs) ≤ most
+
+-- The entries of a level that was built are in order for the next one: there is one for each of its pages, and no page more was built.
+pub record IsCounted (fan before after : ℕ) (pairs entries : List (ℕ × ℕ)) : Type 0 where
+  pub rising : RisesFrom 0 entries
+  pub begins : BeginsWith 0 entries
+  pub count : length entries ≡ pages_for fan (length pairs)
+  pub size : after ≡ before + pages_for fan (length pairs)
+
+-- There are pages for so many levels above one, whose entries these are, and a page of the highest is alone.
+pub record HasRoomAbove (fan levels built most count : ℕ) : Type 0 where
+  pub room : built + pages_above levels fan count ≤ most
+  pub one : pages_on_top levels fan count ≤ 1

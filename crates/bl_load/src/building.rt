@@ -3,17 +3,18 @@
 //! A level is built from right to left, so that each link leads to a page that is there already. What is left for the leftmost page
 //! of a level may be less than the others have.
 
-ghost use Rattle.std.specs.Prelude.{◌≡◌, ◌<◌, ◌≤◌, ◌+◌, ◌++◌, ◌∷◌, ◌^◌, ℕ, List, [], None, Some, length, reverse, IfOk, IfErr, OnOk};
+ghost use Rattle.std.specs.Prelude.{◌≡◌, ◌<◌, ◌≤◌, ◌+◌, ◌++◌, ◌∷◌, ◌^◌, ℕ, List, [], None, Some, length, slice_index_or, reverse, IfOk, IfErr, OnOk};
 ghost use Rattle.std.specs.List.{AllByRecursion};
 ghost use Rattle.bl_page.specs.declared.page.Page.{Page};
 ghost use Rattle.bl_page.specs.Pages.{page_at};
 ghost use Rattle.bl_check.specs.Rules.{AreSound};
 ghost use Rattle.bl_check.specs.Rows.{AreRowsOf};
-ghost use Rattle.bl_load.specs.Loads.{StopsBuilding, IsFull, Holds};
+ghost use Rattle.bl_page.specs.Pairs.{AreChildren};
+ghost use Rattle.bl_load.specs.Loads.{IsFull, Holds, HasOneTop, IsLoadable};
 ghost use Rattle.bl_model.specs.Rows.{HasRisingKeys};
-ghost use Rattle.bl_load.specs.Trees.{fan_for, IsPageAt, IsForest, AreListed, IsLevel, IsTree, IsPadded};
+ghost use Rattle.bl_load.specs.Sizes.{pages_for, size_for, top_for};
+ghost use Rattle.bl_load.specs.Trees.{fan_for, MayList, IsPageAt, IsForest, AreListed, IsReady, IsLevel, IsCounted, HasRoomAbove, IsUnlinked, IsTree, IsPadded};
 
-use crate::fault::LoadFault;
 use crate::making::{Place, anchor_of, page_of};
 use arrayvec::ArrayVec;
 use bl_check::Quiet;
@@ -63,9 +64,10 @@ fn turned(alloc: Global, entries: &[(u64, u64)]) -> Result<Entries, AllocError>
 
 /// How many pairs a page of a level has.
 fn fan_of(level: u32, fill: usize) -> usize
-    requires { 0 < fill }
+    requires { (0 < fill) × (fill ≤ 14) }
     ensures same { result ≡ fan_for fill level }
     ensures some { 0 < result }
+    ensures few { result ≤ 14 }
 {
     if level == 0 { fill } else { fill.max(2) }
 }
@@ -89,22 +91,18 @@ impl Tree {
     }
 
     /// Puts a page behind the others, and gives its number.
-    fn add_page(&mut self, place: Place, pairs: &[(u64, u64)]) -> Result<u32, LoadFault>
-        requires { place.level < 12 }
+    fn add_page(&mut self, place: Place, pairs: &[(u64, u64)]) -> Result<u32, AllocError>
+        requires level { place.level < 12 }
+        requires room { length self.old.pages.items < self.old.most }
+        requires pairs { MayList (record { level = place.level; low = place.low; high = place.high; right = place.right }) pairs.now }
         ensures page { IfOk result (λ number. (number ≡ length self.old.pages.items) × ((page : Page)
             × IsPageAt (record { level = place.level; low = place.low; high = place.high; right = place.right }) pairs.now page
             × (self.new.pages.items ≡ self.old.pages.items ++ Some page ∷ []))) }
         ensures leftmost { self.new.leftmost.items ≡ self.old.leftmost.items }
         ensures most { self.new.most ≡ self.old.most }
-        ensures fault { IfErr result StopsBuilding }
     {
         let number = self.pages.len();
-        if number >= self.most as usize {
-            return Err(LoadFault::Wrong);
-        }
-        let Some(page) = page_of(place, pairs) else {
-            return Err(LoadFault::Wrong);
-        };
+        let page = page_of(place, pairs);
         put_page(&mut self.pages, Some(page))?;
         Ok(number as u32)
     }
@@ -116,15 +114,19 @@ impl Tree {
         level: u32,
         pairs: &[(u64, u64)],
         fill: usize,
-    ) -> Result<Entries, LoadFault>
-        requires fill { 0 < fill }
+    ) -> Result<Entries, AllocError>
+        requires fill { (0 < fill) × (fill ≤ 14) }
         requires level { level < 12 }
         requires forest { IsForest fill self.old.pages.items self.old.leftmost.items level 0 }
         requires listed { AreListed self.old.pages.items level pairs.now }
+        requires ready { IsReady (fan_for fill level) level (length self.old.pages.items) self.old.most pairs.now }
         ensures built { IfOk result (λ entries. IsLevel fill level self.old.pages.items self.old.leftmost.items pairs.now
             self.new.pages.items self.new.leftmost.items entries.items) }
+        ensures counted { IfOk result (λ entries. IsCounted (fan_for fill level) (length self.old.pages.items) (length self.new.pages.items)
+            pairs.now entries.items) }
+        ensures alone { IfOk result (λ entries. length entries.items ≡ 1
+            → IsUnlinked self.new.pages.items (slice_index_or self.new.leftmost.items level 0)) }
         ensures most { self.new.most ≡ self.old.most }
-        ensures fault { IfErr result StopsBuilding }
     {
         let fan = fan_of(level, fill);
         let mut entries = Vec::new(alloc);
@@ -134,9 +136,6 @@ impl Tree {
         'pages: while rest.len() > fan {
             let (front, back) = rest.split_at(rest.len() - fan);
             let low = back[0].0;
-            if low == 0 {
-                return Err(LoadFault::Wrong);
-            }
             let place = Place {
                 level,
                 low,
@@ -167,12 +166,14 @@ impl Tree {
         alloc: Global,
         rows: &[(u64, u64)],
         fill: usize,
-    ) -> Result<(), LoadFault>
-        requires fill { 0 < fill }
+    ) -> Result<(), AllocError>
+        requires fill { (0 < fill) × (fill ≤ 14) }
         requires forest { IsForest fill self.old.pages.items self.old.leftmost.items 0 0 }
+        requires ready { IsReady fill 0 (length self.old.pages.items) self.old.most rows.now }
+        requires above { HasRoomAbove (fan_for fill 1) 11 (length self.old.pages.items + pages_for fill (length rows.now)) self.old.most (pages_for fill (length rows.now)) }
         ensures tree { OnOk result (IsTree fill rows.now self.new.pages.items self.new.leftmost.items) }
+        ensures few { OnOk result (length self.new.pages.items ≤ self.old.most) }
         ensures most { self.new.most ≡ self.old.most }
-        ensures fault { IfErr result StopsBuilding }
     {
         let mut entries = self.add_level(alloc, 0, rows, fill)?;
         for level in 1..MOST_LEVELS as u32 {
@@ -181,11 +182,7 @@ impl Tree {
             }
             entries = self.add_level(alloc, level, entries.as_slice(), fill)?;
         }
-        if entries.len() == 1 {
-            Ok(())
-        } else {
-            Err(LoadFault::Wrong)
-        }
+        Ok(())
     }
 }
 
@@ -203,44 +200,37 @@ fn padded(pages: Vec<Option<Page>>, count: usize) -> Result<Vec<Option<Page>>, A
 
 impl Tree {
     /// The image of these pages under their anchor.
-    fn into_image(self) -> Result<Image, LoadFault>
+    fn into_image(self) -> Result<Image, AllocError>
+        requires some { (0 < length self.leftmost.items) × (0 < length self.pages.items) }
+        requires roots { AreChildren self.leftmost.items }
+        requires few { length self.pages.items ≤ self.most }
         ensures pages { IfOk result (λ image. length image.pages.items ≡ self.most) }
         ensures holds { (fill : ℕ) (rows : List (ℕ × ℕ)) → IsTree fill rows self.pages.items self.leftmost.items
             → IfOk result (λ image. AreSound image.pages.items × AllByRecursion (IsFull fill) image.pages.items
-            × AreRowsOf image.pages.items rows) }
-        ensures fault { IfErr result StopsBuilding }
+            × AreRowsOf image.pages.items rows × HasOneTop image.pages.items) }
     {
         let Tree {
             pages,
             leftmost,
             most,
         } = self;
-        let Some(anchor) = anchor_of(leftmost) else {
-            return Err(LoadFault::Wrong);
-        };
-        if pages.is_empty() || pages.len() > most as usize {
-            return Err(LoadFault::Wrong);
-        }
         let mut pages = pages;
-        pages[0] = Some(Page::Anchor(anchor));
+        pages[0] = Some(Page::Anchor(anchor_of(leftmost)));
         let all = padded(pages, most as usize)?;
         Ok(Image { pages: all })
     }
 }
 
-/// A sound image of so many pages that has exactly these rows, whose keys rise, and is so full.
+/// A sound image of so many pages that has exactly these rows, whose keys rise, and is so full. Their tree has room there.
 pub(crate) fn build(
     alloc: Global,
     rows: &[(u64, u64)],
     pages: u32,
     fill: usize,
-) -> Result<Quiet, LoadFault>
-    requires pages { (4 ≤ pages) × (pages ≤ 2 ^ 28) }
-    requires fill { 0 < fill }
-    requires rising { HasRisingKeys rows.now }
+) -> Result<Quiet, AllocError>
+    requires { IsLoadable rows.now pages fill }
     ensures holds { IfOk result (λ quiet. Holds fill rows.now quiet.image.pages.items) }
     ensures pages { IfOk result (λ quiet. length quiet.image.pages.items ≡ pages) }
-    ensures fault { IfErr result StopsBuilding }
 {
     let mut tree = Tree::new(alloc, pages)?;
     tree.add_levels(alloc, rows, fill)?;

@@ -23,10 +23,9 @@ pub enum LoadFault {
     /// The tree of the rows would have more than 12 levels, as its pages are to be filled so little.
     #[error("the rows need more than 12 levels, where pages are filled so little")]
     Levels,
-    /// A page that was to be built would have broken a rule. This does not happen: nothing is known that leads to it.
-    #[error("a page of the tree would break a rule")]
-    Wrong,
-    /// Memory was refused.
+    /// Memory was refused, where there is an image of the rows: none of the other faults is there. That memory was asked for is not
+    /// promised, since the clauses of std do not say it: those of `Vec::with_capacity` and `push` hold as well of calls that refuse
+    /// without asking.
     #[error("out of memory")]
     Memory,
 }

@@ -12,7 +12,8 @@ use bl_model::limits::{LEAST_PAGES, MOST_LARGE_PAGES, MOST_PAIRS};
 use std::alloc::Global;
 
 /// A sound image of so many pages, 4 to 2^28, that has exactly these rows, whose keys rise. Each leaf has `fill` of them, 1 to 14,
-/// and each page above as many children, but at least two; the leftmost page of a level has what is left.
+/// and each page above as many children, but at least two; the leftmost page of a level has what is left. The highest level has one
+/// page.
 pub fn image_of(
     alloc: Global,
     rows: &[(u64, u64)],
@@ -39,5 +40,5 @@ pub fn image_of(
     if size.pages > u128::from(pages) {
         return Err(LoadFault::Room);
     }
-    build(alloc, rows, pages, fill as usize)
+    Ok(build(alloc, rows, pages, fill as usize)?)
 }

@@ -6,7 +6,6 @@
 #![tactic(auto)]
 
 mod building;
-mod checks;
 mod fault;
 mod image;
 mod leaves;

@@ -1,15 +1,13 @@
 //! Pages by what they hold.
 
-ghost use Rattle.std.specs.Prelude.{◌≡◌, ◌<◌, IfSome};
+ghost use Rattle.std.specs.Prelude.{◌≡◌, ◌<◌, ◌^◌, length};
 ghost use Rattle.bl_page.specs.declared.page.Page.TheVariants as variant;
-ghost use Rattle.bl_load.specs.Trees.{IsPageAt};
+ghost use Rattle.bl_page.specs.Pairs.{AreChildren};
+ghost use Rattle.bl_load.specs.Trees.{AllBelow, MayList, IsPageAt};
 
-use crate::checks::{
-    are_numbers, begins_with, collected, keys_are_within, keys_rise, pairs_name_pages,
-};
 use arrayvec::ArrayVec;
-use bl_model::limits::{MOST_LEVELS, MOST_PAIRS};
-use bl_page::{Anchor, Inner, KIND_UNIT, Leaf, Page};
+use bl_model::limits::MOST_LEVELS;
+use bl_page::{Anchor, Inner, Leaf, Page, Pairs};
 
 /// What a live page says of its place.
 #[derive(Clone, Copy)]
@@ -24,74 +22,68 @@ pub(crate) struct Place {
     pub right: u32,
 }
 
-/// The leaf at that place with these rows, and None where there is no such leaf.
-fn leaf_of(place: Place, pairs: &[(u64, u64)]) -> Option<Leaf>
-    ensures { IfSome result (λ leaf. (leaf.low ≡ place.low) × (leaf.high ≡ place.high) × (leaf.right ≡ place.right) × (leaf.rows.items ≡ pairs.now)) }
+/// The pairs of a slice.
+fn collected(slice: &[(u64, u64)]) -> Pairs
+    requires { length slice.now < 15 }
+    ensures items { result.items ≡ slice.now }
+    ensures fit { AllBelow (2 ^ 64) result.items }
 {
-    if pairs.len() > MOST_PAIRS || (place.high != 0 && place.high <= place.low) {
-        return None;
+    let mut pairs = ArrayVec::new();
+    for (key, word) in slice {
+        pairs.push((*key, *word));
     }
-    if !keys_rise(pairs) || !keys_are_within(place.low, place.high, pairs) {
-        return None;
-    }
+    pairs
+}
+
+/// The leaf at that place with these rows.
+fn leaf_of(place: Place, pairs: &[(u64, u64)]) -> Leaf
+    requires { MayList (record { level = 0; low = place.low; high = place.high; right = place.right }) pairs.now }
+    ensures { (result.low ≡ place.low) × (result.high ≡ place.high) × (result.right ≡ place.right) × (result.rows.items ≡ pairs.now) }
+{
     let rows = collected(pairs);
-    Some(Leaf {
+    Leaf {
         low: place.low,
         high: place.high,
         right: place.right,
         rows,
-    })
+    }
 }
 
-/// The inner page at that place with these children, and None where there is no such page.
-fn inner_of(place: Place, pairs: &[(u64, u64)]) -> Option<Inner>
-    requires { (0 < place.level) × (place.level < 12) }
-    ensures { IfSome result (λ inner. (inner.level ≡ place.level) × (inner.low ≡ place.low) × (inner.high ≡ place.high)
-        × (inner.right ≡ place.right) × (inner.children.items ≡ pairs.now)) }
+/// The inner page at that place with these children.
+fn inner_of(place: Place, pairs: &[(u64, u64)]) -> Inner
+    requires level { (0 < place.level) × (place.level < 12) }
+    requires pairs { MayList (record { level = place.level; low = place.low; high = place.high; right = place.right }) pairs.now }
+    ensures { (result.level ≡ place.level) × (result.low ≡ place.low) × (result.high ≡ place.high)
+        × (result.right ≡ place.right) × (result.children.items ≡ pairs.now) }
 {
-    if pairs.len() > MOST_PAIRS || (place.high != 0 && place.high <= place.low) {
-        return None;
-    }
-    if !keys_rise(pairs) || !keys_are_within(place.low, place.high, pairs) {
-        return None;
-    }
-    if !begins_with(place.low, pairs) || !pairs_name_pages(pairs, KIND_UNIT) {
-        return None;
-    }
     let children = collected(pairs);
-    Some(Inner {
+    Inner {
         level: place.level,
         low: place.low,
         high: place.high,
         right: place.right,
         children,
-    })
+    }
 }
 
-/// The page at that place with these pairs, and None where there is no such page.
-pub(crate) fn page_of(place: Place, pairs: &[(u64, u64)]) -> Option<Page>
-    requires { place.level < 12 }
-    ensures { IfSome result (IsPageAt (record { level = place.level; low = place.low; high = place.high; right = place.right }) pairs.now) }
+/// The page at that place with these pairs.
+pub(crate) fn page_of(place: Place, pairs: &[(u64, u64)]) -> Page
+    requires level { place.level < 12 }
+    requires pairs { MayList (record { level = place.level; low = place.low; high = place.high; right = place.right }) pairs.now }
+    ensures { IsPageAt (record { level = place.level; low = place.low; high = place.high; right = place.right }) pairs.now result }
 {
     if place.level == 0 {
-        match leaf_of(place, pairs) {
-            Some(leaf) => Some(Page::Leaf(leaf)),
-            None => None,
-        }
+        Page::Leaf(leaf_of(place, pairs))
     } else {
-        match inner_of(place, pairs) {
-            Some(inner) => Some(Page::Inner(inner)),
-            None => None,
-        }
+        Page::Inner(inner_of(place, pairs))
     }
 }
 
-/// The anchor of these leftmost pages, from level 0 up, and None where there is none.
-pub(crate) fn anchor_of(leftmost: ArrayVec<u32, MOST_LEVELS>) -> Option<Anchor>
-    ensures { IfSome result (λ anchor. anchor.leftmost.items ≡ leftmost.items) }
+/// The anchor of these leftmost pages, from level 0 up.
+pub(crate) fn anchor_of(leftmost: ArrayVec<u32, MOST_LEVELS>) -> Anchor
+    requires some { 0 < length leftmost.items }
+    requires named { AreChildren leftmost.items }
+    ensures { result.leftmost.items ≡ leftmost.items }
 {
-    if leftmost.is_empty() || !are_numbers(leftmost.as_slice(), KIND_UNIT) {
-        return None;
-    }
-    Some(Anchor { leftmost })
+    Anchor { leftmost }
 }
