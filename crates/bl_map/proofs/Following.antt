@@ -83,9 +83,11 @@ upkeep_adds first pass old new (ThenFollowed {mid = mid} {hint = h} {result = re
 makes_works : (first : List (Option Page)) (pass : ℕ) (op : Op) (reply : Reply) (next : Option Hint) (old new : Trail) → Makes first pass op reply next old new → Works first pass op reply old new
 makes_works first pass (op.Find key) reply next old new m = call_works first pass pass (op.Find key) reply old new refl m.answers
 makes_works first pass (op.Insert key value) reply next old new m = call_works first pass pass (op.Insert key value) reply old new refl m.1.answers
+makes_works first pass (op.Put key value) reply next old new m = call_works first pass pass (op.Put key value) reply old new refl m.1.answers
 makes_works first pass (op.Delete key) reply next old new m = call_works first pass pass (op.Delete key) reply old new refl m.answers
 makes_works first pass (op.Change key before after) reply next old new m = call_works first pass pass (op.Change key before after) reply old new refl m.answers
 makes_works first pass (op.Part key) reply next old new m = call_works first pass pass (op.Part key) reply old new refl m.answers
+makes_works first pass (op.PartDown key) reply next old new m = call_works first pass pass (op.PartDown key) reply old new refl m.answers
 
 pub written_works : (first : List (Option Page)) (pass : ℕ) (op : Op) (reply : Reply) (next : Option Hint) (old new : Trail) → Written first pass op reply next old new → Works first pass op reply old new
 written_works first pass op reply next old new w = adds_works first pass op reply old w.mid new (upkeep_adds first pass old w.mid w.readies) (makes_works first pass op reply next w.mid new w.makes)

@@ -32,9 +32,11 @@ climbed_none (Some a) left marks m = absurd (not_inserted m.0)
 makes_none : (first : List (Option Page)) (pass : ℕ) (o : Op) (next : Option Hint) (old new : Trail) → Makes first pass o reply.NoRoom next old new → next ≡ None
 makes_none first pass (op.Find key) next old new m = m.hint.1
 makes_none first pass (op.Insert key value) next old new m = climbed_none m.0 next _ m.1.means
+makes_none first pass (op.Put key value) next old new m = climbed_none m.0 next _ m.1.means
 makes_none first pass (op.Delete key) next old new m = m.hint.1
 makes_none first pass (op.Change key before after) next old new m = m.hint.1
 makes_none first pass (op.Part from) next old new m = m.hint.1
+makes_none first pass (op.PartDown from) next old new m = m.hint.1
 
 written_none : (first : List (Option Page)) (pass : ℕ) (o : Op) (said : Reply) (next : Option Hint) (old new : Trail) → said ≡ reply.NoRoom
     → Written first pass o said next old new → Written first pass o said None old new

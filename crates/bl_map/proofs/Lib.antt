@@ -9,6 +9,10 @@ pub mod AllMet
 pub mod Same
 pub mod Scanning
 pub mod Looking
+pub mod TryByTry
+pub mod Imaged
 pub mod Seated
 pub mod Handed
 pub mod Told
+pub mod Groups
+pub mod Downwards

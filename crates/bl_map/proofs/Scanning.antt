@@ -83,7 +83,7 @@ scanned_of first pages pass turns from to upto rows old new s = record {
 
 -- ---- what happens behind it
 
-right_on : (first : List (Option Page)) (pass : ℕ) (old mid more new : List Entry) (rows : List (ℕ × ℕ)) (key : ℕ) → new ≡ mid ++ more → IsRight first pass old mid rows key → IsRight first pass old new rows key
+pub right_on : (first : List (Option Page)) (pass : ℕ) (old mid more new : List Entry) (rows : List (ℕ × ℕ)) (key : ℕ) → new ≡ mid ++ more → IsRight first pass old mid rows key → IsRight first pass old new rows key
 right_on first pass old mid more new rows key e r = record {
   before = r.before;
   part = r.part;

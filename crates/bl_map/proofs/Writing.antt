@@ -23,7 +23,7 @@ use Rattle.bl_map.specs.Works.{FoundNoRoom}
 use Rattle.bl_map.proofs.Following.{changes_works}
 use Rattle.bl_map.proofs.Listing.{entry, entries_more}
 
-on_from : (old mid new : Trail) → GoesOnFrom old mid → GoesOnFrom mid new → GoesOnFrom old new
+pub on_from : (old mid new : Trail) → GoesOnFrom old mid → GoesOnFrom mid new → GoesOnFrom old new
 on_from old mid new a b = (a.0 ++ b.0, b.1 ∙ (ap (λ (z : Trail). z ++ b.0) a.1 ∙ append_assoc old a.0 b.0))
 
 module _ {A : Type 0} (first : List (Option Page)) (pass : ℕ) (ask : A → ℕ × KeyWrite) where

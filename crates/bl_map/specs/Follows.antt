@@ -18,10 +18,11 @@ use Rattle.bl_map.specs.declared.upkeep.Followed.{Followed}
 use Rattle.bl_map.specs.declared.upkeep.Followed.TheVariants as followed
 use Rattle.bl_map.specs.Works.{Swept}
 
--- A call that writes a key was answered so, and has left this hint: an insertion has posted what it split, and its hint is the post that
--- met no room.
+-- A call that writes a key was answered so, and has left this hint: an insertion or a put has posted what it split, and its hint is the
+-- post that met no room.
 abbrev pub Makes : List (Option Page) → ℕ → Op → Reply → Option Hint → Trail → Trail → Type 0
-Makes first pass (op.Insert key value) reply next old new = (last : Option Posted) × Climbs first pass key value reply last next old new
+Makes first pass (op.Insert key value) reply next old new = (last : Option Posted) × Climbs first pass (op.Insert key value) reply last next old new
+Makes first pass (op.Put key value) reply next old new = (last : Option Posted) × Climbs first pass (op.Put key value) reply last next old new
 Makes first pass op reply next old new = Writes first pass op reply next old new
 
 -- What a compression answers that may have left a top level which is not needed: it has merged two children, or found one alone.

@@ -1,5 +1,5 @@
 -- What a call of a handle promises.
-use Rattle.std.specs.Prelude.{◌≡◌, ℕ, List, Option, length, map}
+use Rattle.std.specs.Prelude.{◌≡◌, ℕ, List, Option, Result, length, map}
 use Rattle.bl_model.specs.declared.deciding.KeyWrite.{KeyWrite}
 use Rattle.bl_model.specs.declared.operation.KeyReply.{KeyReply}
 use Rattle.bl_model.specs.declared.operation.Op.{Op}
@@ -11,13 +11,19 @@ use Rattle.bl_index.specs.Meetings.{Meet}
 use Rattle.bl_index.specs.declared.index.Index.{Index}
 use Rattle.bl_index.specs.declared.index.Pass.{Pass}
 use Rattle.bl_proc_base.specs.declared.answers.Hint.{Hint}
+use Rattle.bl_check.specs.declared.quiet.Quiet.{Quiet}
+use Rattle.bl_load.specs.declared.fault.LoadFault.{LoadFault}
 use Rattle.bl_map.specs.declared.handle.Handle.{Handle}
 use Rattle.bl_map.specs.declared.upkeep.Followed.{Followed}
 use Rattle.bl_map.specs.Works.{Works, Adds, Searched, Swept, FoundNoRoom}
 use Rattle.bl_map.specs.Finds.{FindsMany}
 use Rattle.bl_map.specs.Leasts.{FindsLeast, CountsRows}
+use Rattle.bl_map.specs.Falling.{FindsGreatest}
 use Rattle.bl_map.specs.Many.{WritesMany, StopsFull}
 use Rattle.bl_map.specs.Follows.{FollowsHint, WritesLeaving}
+use Rattle.bl_map.specs.Copies.{Copies}
+use Rattle.bl_map.specs.Updates.{Updates}
+use Rattle.bl_map.specs.declared.updating.Updated.{Updated}
 use Rattle.bl_map.specs.Waits.{hints_of, Changes, TriesAgain, Tidies, IsNone}
 
 -- the index that a handle works on: that of its map
@@ -68,9 +74,17 @@ HasFoundMany keys replies old new = FindsMany (first_map_of old) (pages_of_map o
 abbrev pub HasFoundLeast : ℕ → Option (ℕ × ℕ) → Handle → Handle → Type 0
 HasFoundLeast from answer old new = FindsLeast (first_map_of old) (pages_of_map old) (number_of_seat old) from answer (seen_by old) (seen_by new)
 
+-- It has looked for the greatest row up to a key.
+abbrev pub HasFoundGreatest : ℕ → Option (ℕ × ℕ) → Handle → Handle → Type 0
+HasFoundGreatest from answer old new = FindsGreatest (first_map_of old) (pages_of_map old) (number_of_seat old) from answer (seen_by old) (seen_by new)
+
 -- It has counted the rows from a key on up to an end, or to that of the map.
 abbrev pub HasCounted : ℕ → Option ℕ → ℕ → Handle → Handle → Type 0
 HasCounted from to answer old new = CountsRows (first_map_of old) (pages_of_map old) (number_of_seat old) from to answer (seen_by old) (seen_by new)
+
+-- It has scanned the whole map, and copied the rows that it met.
+abbrev pub HasCopied : ℕ → Result Quiet LoadFault → Handle → Handle → Type 0
+HasCopied fill result old new = Copies (first_map_of old) (pages_of_map old) (number_of_seat old) fill result (seen_by old) (seen_by new)
 
 -- It has written a key, and listed the pages that were split. What is left to do then is left.
 abbrev pub HasWritten : Op → Reply → Option Hint → Handle → Handle → Type 0
@@ -88,6 +102,11 @@ HasWrittenMany ask list replies old new =
 -- So many of them were answered, the last one by want of room.
 abbrev pub HasStoppedFull : {A : Type 0} → (A → ℕ × KeyWrite) → List A → List KeyReply → ℕ → Handle → Handle → Type 0
 HasStoppedFull ask list replies count old new = StopsFull ask list replies count old.pass new.pass
+
+-- It has looked a key up, and has changed its row by what the function gave for the value that the row had, or has not.
+abbrev pub HasUpdated : {F : Type 0} → (F → ℕ → ℕ → F → Type 0) → ℕ → Updated → F → F → Handle → Handle → Type 0
+HasUpdated gives key answer f g old new =
+    Updates gives (first_map_of old) (pages_of_map old) (number_of_seat old) key answer f g old.waiting new.waiting (seen_by old) (seen_by new)
 
 -- It has followed a hint.
 abbrev pub HasFollowed : Hint → Followed → Handle → Handle → Type 0

@@ -9,4 +9,7 @@ pub mod Meetings
 pub mod Seats
 pub mod Scans
 pub mod Leasts
+pub mod Updates
+pub mod Copies
 pub mod Maps
+pub mod Falling

@@ -18,9 +18,12 @@ use Rattle.bl_map.specs.Entries.{entries_of}
 use Rattle.bl_map.specs.Waits.{Changes}
 use Rattle.bl_map.specs.Works.{FoundNoRoom}
 
--- a row, as an insertion; a key, as a deletion
+-- a row, as an insertion, or to be put; a key, as a deletion
 abbrev pub insertion_of : ℕ × ℕ → ℕ × KeyWrite
 insertion_of row = (row.0, key_write.Insert row.1)
+
+abbrev pub put_of : ℕ × ℕ → ℕ × KeyWrite
+put_of row = (row.0, key_write.Put row.1)
 
 abbrev pub deletion_of : ℕ → ℕ × KeyWrite
 deletion_of key = (key, key_write.Delete)

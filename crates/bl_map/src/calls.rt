@@ -1,6 +1,6 @@
 //! Calls of a pass: each looks for room before it changes something, and is made again where it ran out of turns.
 
-ghost use Rattle.std.specs.Prelude.{◌≡◌, ◌-◌, length, vec_len};
+ghost use Rattle.std.specs.Prelude.{◌≡◌, ◌-◌, ◌<◌, ◌≤◌, length, vec_len};
 ghost use Rattle.std.specs.Vec.{vec_capacity};
 ghost use Rattle.bl_model.specs.declared.operation.Op.TheVariants as op;
 ghost use Rattle.bl_model.specs.declared.operation.KeyReply.TheVariants as replies;
@@ -45,8 +45,47 @@ pub(crate) fn find<R: Wait>(
     unreachable!()
 }
 
-/// The values of keys, one after another. The pages of some keys at a time are fetched side by side, so that the thread waits for all of
-/// them at once.
+/// The values of keys, one after another.
+fn find_each<R: Wait>(
+    rt: &R,
+    index: &Index,
+    pass: &mut Pass,
+    keys: &[u64],
+    replies: &mut [KeyReply],
+)
+    requires own { IsPassOf index.now pass.old }
+    requires room { length replies.old ≡ length keys.now }
+    ensures same { IsSamePass pass.old pass.new }
+    ensures found { FindsMany (first_of index.now) (pages_of index.now) (number_of pass.old) keys.now replies.new (trail pass.old) (trail pass.new) }
+{
+    for i in 0..keys.len() {
+        replies[i] = find(rt, index, pass, keys[i], None);
+    }
+}
+
+/// The same of keys whose pages are fetched side by side, so that the thread waits for all of them at once.
+fn find_abreast<R: Wait>(
+    rt: &R,
+    index: &Index,
+    pass: &mut Pass,
+    keys: &[u64],
+    replies: &mut [KeyReply],
+)
+    requires own { IsPassOf index.now pass.old }
+    requires some { (0 < length keys.now) × (length keys.now ≤ 8) }
+    requires room { length replies.old ≡ length keys.now }
+    ensures same { IsSamePass pass.old pass.new }
+    ensures found { FindsMany (first_of index.now) (pages_of index.now) (number_of pass.old) keys.now replies.new (trail pass.old) (trail pass.new) }
+{
+    let near = index.fetch(keys);
+    let found = index.find_many(pass, keys, &near, index.patience(), replies);
+    if found < keys.len() {
+        // One has lost its way: it takes the whole way then, and so do those behind it.
+        find_each(rt, index, pass, &keys[found..], &mut replies[found..]);
+    }
+}
+
+/// The values of keys, one after another, of which some at a time are looked up abreast.
 pub(crate) fn find_many<R: Wait>(
     rt: &R,
     index: &Index,
@@ -59,18 +98,14 @@ pub(crate) fn find_many<R: Wait>(
     ensures same { IsSamePass pass.old pass.new }
     ensures found { FindsMany (first_of index.now) (pages_of index.now) (number_of pass.old) keys.now replies.new (trail pass.old) (trail pass.new) }
 {
-    let fetches = keys.len() >= FETCHED;
-    let mut near = [0; ABREAST];
-    for i in 0..keys.len() {
-        if fetches && i % ABREAST == 0 {
-            near = index.fetch(&keys[i..]);
-        }
-        let page = if fetches {
-            Some(near[i % ABREAST])
-        } else {
-            None
-        };
-        replies[i] = find(rt, index, pass, keys[i], page);
+    if keys.len() < FETCHED {
+        find_each(rt, index, pass, keys, replies);
+        return;
+    }
+    for group in 0..keys.len().div_ceil(ABREAST) {
+        let from = group * ABREAST;
+        let to = keys.len().min(from + ABREAST);
+        find_abreast(rt, index, pass, &keys[from..to], &mut replies[from..to]);
     }
 }
 
@@ -98,6 +133,23 @@ pub(crate) fn part<R: Wait>(
     unreachable!()
 }
 
+/// The rows of one leaf from a key on downwards.
+pub(crate) fn part_down<R: Wait>(rt: &R, index: &Index, pass: &mut Pass, from: u64) -> Reply
+    requires { IsPassOf index.now pass.old }
+    ensures same { IsSamePass pass.old pass.new }
+    ensures works { Works (first_of index.now) (number_of pass.old) (op.PartDown from) result (trail pass.old) (trail pass.new) }
+    ensures searched { Searched (first_of index.now) (pages_of index.now) (number_of pass.old) (op.PartDown from) result
+        (trail pass.old) (trail pass.new) }
+{
+    let turns = index.patience();
+    for _ in rt.forever() {
+        if let Ok(reply) = index.part_down(pass, from, None, turns) {
+            return reply;
+        }
+    }
+    unreachable!()
+}
+
 /// Writes a key. The hint is what there is to do behind it: see [`crate::upkeep::follow`].
 pub(crate) fn write<R: Wait>(
     rt: &R,
@@ -116,6 +168,10 @@ pub(crate) fn write<R: Wait>(
         KeyWrite::Insert(value) => {
             let (reply, _posted, left) = index.insert_posting(rt, pass, key, value);
             (reply, left)
+        }
+        KeyWrite::Put(value) => {
+            let (put, _posted, post) = index.put_posting(rt, pass, key, value);
+            (put, post)
         }
         KeyWrite::Delete | KeyWrite::Change(..) => {
             let written = index.write(rt, pass, key, write);

@@ -1,6 +1,6 @@
 //! What a thread works with.
 
-ghost use Rattle.std.specs.Prelude.{◌≡◌, ◌<◌, ◌≤◌, ◌+◌, ◌-◌, ◌^◌, None, length, take, vec_len};
+ghost use Rattle.std.specs.Prelude.{◌≡◌, ℕ, ◌<◌, ◌≤◌, ◌+◌, ◌-◌, ◌^◌, None, length, take, vec_len};
 ghost use Rattle.std.specs.Vec.{vec_capacity};
 ghost use Rattle.bl_model.specs.declared.operation.Op.TheVariants as op;
 ghost use Rattle.bl_model.specs.declared.deciding.KeyWrite.TheVariants as key_write;
@@ -9,12 +9,17 @@ ghost use Rattle.bl_model.specs.Replies.{reply_of};
 ghost use Rattle.bl_model.specs.Writes.{write_op};
 ghost use Rattle.bl_index.specs.Calls.{IsPassOf, Sweeps};
 ghost use Rattle.bl_map.specs.Seats.{IsPassOf-prop};
+ghost use Rattle.bl_map.specs.declared.updating.Updated.TheVariants as updated;
 
+use crate::many::{Deletions, Insertions, Puts};
+use crate::updating::{self, Updated};
 use crate::upkeep::{self, Followed};
 use crate::waiting::Waiting;
-use crate::{calls, changes, counting, least, many, room, telling};
+use crate::{calls, changes, copying, counting, falling, least, many, room, telling};
+use bl_check::Quiet;
 use bl_index::{Hint, Index, KeyReply, KeyWrite, Pass, Reply};
-use std::alloc::AllocError;
+use bl_load::LoadFault;
+use std::alloc::{AllocError, Global};
 use std::sync::Wait;
 
 /// Upkeep that is not done.
@@ -36,12 +41,14 @@ pub struct Handle<'a> {
 }
 
 impl<'a> Handle<'a> {
-    ghost use Rattle.bl_map.specs.Handles.{IsSameHandle, HasCalled, HasSearched, HasFoundMany, HasChanged, HasWritten, HasFoundNoRoom, HasFoundLeast, HasCounted, HasKeptUp, HasFollowed, HasSwept, HasTriedAgain, HasTidied};
+    ghost use Rattle.bl_map.specs.Handles.{IsSameHandle, HasCalled, HasSearched, HasFoundMany, HasChanged, HasWritten, HasFoundNoRoom, HasFoundLeast, HasFoundGreatest, HasCounted, HasKeptUp, HasFollowed, HasSwept, HasTriedAgain, HasTidied};
     ghost use Rattle.bl_map.specs.Handles.{HasWrittenMany, HasStoppedFull};
-    ghost use Rattle.bl_map.specs.Many.{insertion_of, deletion_of};
+    ghost use Rattle.bl_map.specs.Many.{insertion_of, put_of, deletion_of};
+    ghost use Rattle.bl_map.specs.Handles.{HasUpdated, HasCopied};
     ghost use Rattle.bl_map.specs.Handles.{HaveMet, KeepsHints, AreOfOne, IsHandleOver, released_in};
     ghost use Rattle.bl_map.specs.Handles.{first_map_of, pages_of_map, number_of_seat, seat_of, seen_by, waiting_of, dropped_of};
     ghost use Rattle.bl_map.specs.Scans.{Scanned, Tells};
+    ghost use Rattle.bl_map.specs.Falling.{ScannedDown, TellsDown};
 
     /// The handle that works on an index from a seat of it. For a map see [`crate::Map::handle`].
     pub fn over(index: &'a Index, seat: Pass) -> Handle<'a>
@@ -93,6 +100,16 @@ impl<'a> Handle<'a> {
         calls::part(rt, self.index, &mut self.pass, from, near)
     }
 
+    /// The rows of one leaf from a key on downwards, in falling order, in a `Rows` that says where it ends.
+    pub fn part_down<R: Wait>(&mut self, rt: &R, from: u64) -> Reply
+        ensures same { IsSameHandle self.old self.new }
+        ensures called { HasCalled (op.PartDown from) result self.old self.new }
+        ensures searched { HasSearched (op.PartDown from) result self.old self.new }
+        ensures keeps { KeepsHints self.old self.new }
+    {
+        calls::part_down(rt, self.index, &mut self.pass, from)
+    }
+
     /// Writes a key: what each of the calls below does.
     pub fn write<R: Wait>(&mut self, rt: &R, key: u64, write: KeyWrite) -> KeyReply
         ensures same { IsSameHandle self.old self.new }
@@ -131,6 +148,16 @@ impl<'a> Handle<'a> {
         self.write(rt, key, KeyWrite::Insert(value))
     }
 
+    /// Puts the value at the key, in place of what is there: `Inserted`, or `Replaced` with the value that the key had, or `NoRoom`.
+    pub fn put<R: Wait>(&mut self, rt: &R, key: u64, value: u64) -> KeyReply
+        ensures same { IsSameHandle self.old self.new }
+        ensures called { HasCalled (op.Put key value) (reply_of result) self.old self.new }
+        ensures changed { HasChanged (op.Put key value) (reply_of result) self.old self.new }
+        ensures no_room { result ≡ replies.NoRoom → HasFoundNoRoom key (key_write.Put value) self.old self.new }
+    {
+        self.write(rt, key, KeyWrite::Put(value))
+    }
+
     /// Takes a key away: `Deleted` with its value, or `Absent`, or `NoRoom`.
     pub fn delete<R: Wait>(&mut self, rt: &R, key: u64) -> KeyReply
         ensures same { IsSameHandle self.old self.new }
@@ -151,6 +178,24 @@ impl<'a> Handle<'a> {
         self.write(rt, key, KeyWrite::Change(old, new))
     }
 
+    /// Puts in place of a key's value what a function gives for it: finds the value, and changes it as [`Handle::change`] does; where another
+    /// value is there by then, the function is called again, with that. So the row that is changed had the value for which the function
+    /// gave the new one. It should not wait for other threads: each change of the key by another one meanwhile calls it once more.
+    pub fn update<R: Wait, F: FnMut(u64) -> u64>(
+        &mut self,
+        rt: &R,
+        key: u64,
+        give: &mut F,
+    ) -> Updated
+        requires { F.IsAlwaysCallable give.old }
+        ensures same { IsSameHandle self.old self.new }
+        ensures updated { HasUpdated (λ f v w g. F.step f v w g) key result give.old give.new self.old self.new }
+        ensures no_room { result ≡ updated.NoRoom → (value : ℕ) × (next : ℕ) × HasFoundNoRoom key (key_write.Change value next) self.old self.new }
+    {
+        let index = self.index;
+        updating::update(rt, index, &mut self.pass, &mut self.waiting, key, give)
+    }
+
     /// Inserts rows one after another, each as [`Handle::insert`] does, up to the first that finds no room. The pages of some rows at a time
     /// are fetched from memory side by side. Says how many were answered: their replies stand first, and where not all rows were, the last of
     /// them is `NoRoom`.
@@ -167,7 +212,24 @@ impl<'a> Handle<'a> {
         ensures stops { result < length rows.now → HasStoppedFull insertion_of rows.now replies.new result self.old self.new }
     {
         let index = self.index;
-        many::write(rt, index, &mut self.pass, &mut self.waiting, rows, replies)
+        many::write::<_, _, Insertions>(rt, index, &mut self.pass, &mut self.waiting, rows, replies)
+    }
+
+    /// Puts rows one after another, each as [`Handle::put`] does: see [`Handle::insert_many`].
+    pub fn put_many<R: Wait>(
+        &mut self,
+        rt: &R,
+        rows: &[(u64, u64)],
+        replies: &mut [KeyReply],
+    ) -> usize
+        requires { length replies.old ≡ length rows.now }
+        ensures same { IsSameHandle self.old self.new }
+        ensures most { result ≤ length rows.now }
+        ensures written { HasWrittenMany put_of (take result rows.now) (take result replies.new) self.old self.new }
+        ensures stops { result < length rows.now → HasStoppedFull put_of rows.now replies.new result self.old self.new }
+    {
+        let index = self.index;
+        many::write::<_, _, Puts>(rt, index, &mut self.pass, &mut self.waiting, rows, replies)
     }
 
     /// Takes keys away one after another, each as [`Handle::delete`] does: see [`Handle::insert_many`].
@@ -179,7 +241,7 @@ impl<'a> Handle<'a> {
         ensures stops { result < length keys.now → HasStoppedFull deletion_of keys.now replies.new result self.old self.new }
     {
         let index = self.index;
-        many::write(rt, index, &mut self.pass, &mut self.waiting, keys, replies)
+        many::write::<_, _, Deletions>(rt, index, &mut self.pass, &mut self.waiting, keys, replies)
     }
 
     /// Appends the rows from a key on and below an end, if there is one, by rising keys. It is no snapshot: each key is answered as the
@@ -251,6 +313,80 @@ impl<'a> Handle<'a> {
         }
     }
 
+    /// Appends the rows from a key on downwards to another one, both included, by falling keys. It is no snapshot: each key is answered as the
+    /// map stood at some moment of the scan. Where memory is refused, the rows so far stay, and none above their end is left out. Where the
+    /// first key is below the last one, nothing is looked for.
+    pub fn scan_down<R: Wait>(
+        &mut self,
+        rt: &R,
+        from: u64,
+        low: u64,
+        rows: &mut Vec<(u64, u64)>,
+    ) -> Result<(), AllocError>
+        ensures same { IsSameHandle self.old self.new }
+        ensures scanned { low ≤ from → ScannedDown (first_map_of self.old) (pages_of_map self.old) (number_of_seat self.old) from low
+            (vec_capacity rows.new - vec_len rows.new) result rows.old.items rows.new.items (seen_by self.old) (seen_by self.new) }
+        ensures none { from < low → (rows.new.items ≡ rows.old.items) × (seen_by self.new ≡ seen_by self.old) }
+        ensures keeps { KeepsHints self.old self.new }
+    {
+        if from < low {
+            return Ok(());
+        }
+        falling::scan_down(rt, self.index, &mut self.pass, from, low, rows)
+    }
+
+    /// Tells a callback the rows from a key on downwards to another one, both included, by falling keys: the rows of [`Handle::scan_down`],
+    /// each once, and without a vector that holds them all. Where the first key is below the last one, nothing is looked for.
+    pub fn scan_down_with<R: Wait, F: FnMut((u64, u64))>(
+        &mut self,
+        rt: &R,
+        from: u64,
+        low: u64,
+        visit: &mut F,
+    )
+        requires { F.IsAlwaysCallable visit.old }
+        ensures same { IsSameHandle self.old self.new }
+        ensures tells { low ≤ from → TellsDown (λ p x q. F.step p x tt q) (first_map_of self.old) (pages_of_map self.old) (number_of_seat self.old) from low
+            visit.old visit.new (seen_by self.old) (seen_by self.new) }
+        ensures none { from < low → (visit.new ≡ visit.old) × (seen_by self.new ≡ seen_by self.old) }
+        ensures keeps { KeepsHints self.old self.new }
+    {
+        if low <= from {
+            falling::tell_down(rt, self.index, &mut self.pass, from, low, visit);
+        }
+    }
+
+    /// The row of the greatest key, if there is one. No key above it was in the map all the while: each was absent at some moment of the call.
+    pub fn last<R: Wait>(&mut self, rt: &R) -> Option<(u64, u64)>
+        ensures same { IsSameHandle self.old self.new }
+        ensures found { HasFoundGreatest (2 ^ 64 - 1) result self.old self.new }
+        ensures keeps { KeepsHints self.old self.new }
+    {
+        self.last_to(rt, u64::MAX)
+    }
+
+    /// The row of the greatest key that is not above this one, if there is one: see [`Handle::last`].
+    pub fn last_to<R: Wait>(&mut self, rt: &R, key: u64) -> Option<(u64, u64)>
+        ensures same { IsSameHandle self.old self.new }
+        ensures found { HasFoundGreatest key result self.old self.new }
+        ensures keeps { KeepsHints self.old self.new }
+    {
+        falling::greatest_to(rt, self.index, &mut self.pass, key)
+    }
+
+    /// The row of the greatest key below this one, if there is one: see [`Handle::last`]. Below 0 there is none, and nothing is looked for.
+    pub fn previous<R: Wait>(&mut self, rt: &R, key: u64) -> Option<(u64, u64)>
+        ensures same { IsSameHandle self.old self.new }
+        ensures found { 0 < key → HasFoundGreatest (key - 1) result self.old self.new }
+        ensures none { key ≡ 0 → (result ≡ None) × (seen_by self.new ≡ seen_by self.old) }
+        ensures keeps { KeepsHints self.old self.new }
+    {
+        match key.checked_sub(1) {
+            Some(from) => self.last_to(rt, from),
+            None => None,
+        }
+    }
+
     /// How many rows there are from a key on and below an end, if there is one: as many as [`Handle::scan`] lists, and no snapshot either.
     pub fn count<R: Wait>(&mut self, rt: &R, from: u64, to: Option<u64>) -> u64
         ensures same { IsSameHandle self.old self.new }
@@ -258,6 +394,18 @@ impl<'a> Handle<'a> {
         ensures keeps { KeepsHints self.old self.new }
     {
         counting::count(rt, self.index, &mut self.pass, from, to)
+    }
+
+    /// A copy of the map while other threads go on: a sound image with as many pages, whose leaves have `fill` rows each, 1 to 14. Its rows are
+    /// those of [`Handle::scan`], and no snapshot either: each key is answered as the map stood at some moment of the call. It takes memory for
+    /// the rows and for the image. `Room` says that the rows need more pages at this fill, which 14 makes least, and `Memory` that there was
+    /// none for the rows of a part, or for an image that the map has room for: see [`LoadFault`] for what is not promised then.
+    pub fn copy<R: Wait>(&mut self, rt: &R, alloc: Global, fill: u32) -> Result<Quiet, LoadFault>
+        ensures same { IsSameHandle self.old self.new }
+        ensures copied { HasCopied fill result self.old self.new }
+        ensures keeps { KeepsHints self.old self.new }
+    {
+        copying::copy(rt, alloc, self.index, &mut self.pass, fill)
     }
 
     /// Gives idle time to the map: tries again at most so many pieces of upkeep that had found no room, and gives back what was

@@ -7,8 +7,8 @@ ghost use Rattle.bl_map.specs.Leasts.{FindsLeast, IsFoundIn};
 use bl_index::{Index, Next, Pass, Reply};
 use std::sync::Wait;
 
-/// What a part tells one who looks for the least row.
-enum Found {
+/// What a part tells one who looks for its first row.
+pub(crate) enum Found {
     /// This is it.
     Row((u64, u64)),
     /// It has no row, and the next part begins with this key.
@@ -17,7 +17,7 @@ enum Found {
     Nothing,
 }
 
-fn found_in(reply: &Reply) -> Found
+pub(crate) fn found_in(reply: &Reply) -> Found
     ensures { IsFoundIn reply.now result }
 {
     let Reply::Rows(rows, next) = reply else {

@@ -18,7 +18,9 @@
 
 mod calls;
 mod changes;
+mod copying;
 mod counting;
+mod falling;
 mod handle;
 mod least;
 mod many;
@@ -27,6 +29,7 @@ mod meeting;
 mod room;
 mod seating;
 mod telling;
+mod updating;
 mod upkeep;
 mod waiting;
 
@@ -36,4 +39,5 @@ pub use handle::{Backlog, Handle};
 pub use map::{Map, MapLoadFault};
 pub use meeting::meet_all;
 pub use seating::{give_seats, handles_over};
+pub use updating::Updated;
 pub use upkeep::Followed;

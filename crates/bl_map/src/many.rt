@@ -12,61 +12,78 @@ use crate::waiting::Waiting;
 use bl_index::{ABREAST, Index, KeyReply, KeyWrite, Pass};
 use std::sync::Wait;
 
-/// What asks for a write of a key, as an element of a list.
-pub(crate) trait Asks: Copy {
+/// A way in which the elements of a list ask for writes of keys.
+pub(crate) trait Asks<E> {
     ghost use Rattle.std.specs.Prelude.{◌≡◌, ℕ};
     ghost use Rattle.bl_model.specs.declared.deciding.KeyWrite.{KeyWrite as Does};
 
-    ghost asked: { Self → ℕ × Does };
+    ghost asked: { E → ℕ × Does };
 
     /// The key, and what is to be done there.
-    fn ask(&self) -> (u64, KeyWrite)
-        ensures { result ≡ asked self.now };
+    fn ask(element: &E) -> (u64, KeyWrite)
+        ensures { result ≡ asked element.now };
 }
 
-/// A row is to be inserted.
-impl Asks for (u64, u64) {
+/// Rows are to be inserted.
+pub(crate) struct Insertions;
+
+impl Asks<(u64, u64)> for Insertions {
     ghost use Rattle.bl_map.specs.Many.{insertion_of};
 
     ghost asked = { insertion_of };
 
-    fn ask(&self) -> (u64, KeyWrite) {
-        (self.0, KeyWrite::Insert(self.1))
+    fn ask(element: &(u64, u64)) -> (u64, KeyWrite) {
+        (element.0, KeyWrite::Insert(element.1))
     }
 }
 
-/// A key is to be deleted.
-impl Asks for u64 {
+/// Rows are to be put, in place of what is at their keys.
+pub(crate) struct Puts;
+
+impl Asks<(u64, u64)> for Puts {
+    ghost use Rattle.bl_map.specs.Many.{put_of};
+
+    ghost asked = { put_of };
+
+    fn ask(element: &(u64, u64)) -> (u64, KeyWrite) {
+        (element.0, KeyWrite::Put(element.1))
+    }
+}
+
+/// Keys are to be deleted.
+pub(crate) struct Deletions;
+
+impl Asks<u64> for Deletions {
     ghost use Rattle.bl_map.specs.Many.{deletion_of};
 
     ghost asked = { deletion_of };
 
-    fn ask(&self) -> (u64, KeyWrite) {
-        (*self, KeyWrite::Delete)
+    fn ask(element: &u64) -> (u64, KeyWrite) {
+        (*element, KeyWrite::Delete)
     }
 }
 
 /// The pages that the first of these will read are fetched side by side, where there are enough of them.
-fn fetch<A: Asks>(index: &Index, list: &[A]) {
+fn fetch<E: Copy, A: Asks<E>>(index: &Index, list: &[E]) {
     if list.len() < FETCHED {
         return;
     }
     let mut keys = [0; ABREAST];
     let count = list.len().min(ABREAST);
     for i in 0..count {
-        keys[i] = list[i].ask().0;
+        keys[i] = A::ask(&list[i]).0;
     }
     let _pages = index.fetch(&keys[..count]);
 }
 
 /// Writes keys, one after another, up to the first that finds no room. The pages of some at a time are fetched side by side, so that the
 /// thread waits for all of them at once. Says how many were answered.
-pub(crate) fn write<R: Wait, A: Asks>(
+pub(crate) fn write<R: Wait, E: Copy, A: Asks<E>>(
     rt: &R,
     index: &Index,
     pass: &mut Pass,
     waiting: &mut Waiting,
-    list: &[A],
+    list: &[E],
     replies: &mut [KeyReply],
 ) -> usize
     requires own { IsPassOf index.now pass.old }
@@ -79,9 +96,9 @@ pub(crate) fn write<R: Wait, A: Asks>(
 {
     for i in 0..list.len() {
         if i % ABREAST == 0 {
-            fetch(index, &list[i..]);
+            fetch::<E, A>(index, &list[i..]);
         }
-        let (key, does) = list[i].ask();
+        let (key, does) = A::ask(&list[i]);
         let reply = changes::write(rt, index, pass, waiting, key, does);
         replies[i] = reply;
         if let KeyReply::NoRoom = reply {

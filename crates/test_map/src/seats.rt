@@ -21,14 +21,16 @@ fn opened(alloc: Global, pages: u32) -> Option<Seat> {
 }
 
 /// A seat alone is answered at once.
-fn replies(seat: &mut Seat) -> [Option<Reply>; 6] {
+fn replies(seat: &mut Seat) -> [Option<Reply>; 8] {
     [
         seat.write(5, KeyWrite::Insert(50)),
         seat.write(5, KeyWrite::Insert(60)),
         seat.write(5, KeyWrite::Change(50, 70)),
         seat.write(5, KeyWrite::Change(50, 80)),
+        seat.write(5, KeyWrite::Put(90)),
         seat.write(5, KeyWrite::Delete),
         seat.write(5, KeyWrite::Delete),
+        seat.write(6, KeyWrite::Put(60)),
     ]
 }
 
@@ -36,13 +38,15 @@ fn replies(seat: &mut Seat) -> [Option<Reply>; 6] {
 fn a_row_comes_and_goes(rt: HostRuntime) {
     let mut seat = opened(rt.alloc(), 64).expect(&rt, "it is opened");
     assert_eq!(rt; seat.find(5), Some(KeyReply::Absent));
-    let [one, two, three, four, five, six] = replies(&mut seat);
+    let [one, two, three, four, put, five, six, entered] = replies(&mut seat);
     assert!(rt; one == Some(Reply::Inserted));
     assert!(rt; two == Some(Reply::Present(50)));
     assert!(rt; three == Some(Reply::Changed));
     assert!(rt; four == Some(Reply::Differs(70)));
-    assert!(rt; five == Some(Reply::Deleted(70)));
+    assert!(rt; put == Some(Reply::Replaced(70)));
+    assert!(rt; five == Some(Reply::Deleted(90)));
     assert!(rt; six == Some(Reply::Absent));
+    assert!(rt; entered == Some(Reply::Inserted));
     assert_eq!(rt; seat.find(5), Some(KeyReply::Absent));
 }
 
@@ -114,6 +118,47 @@ fn a_part_has_the_rows_from_its_key_on(rt: HostRuntime) {
     };
     assert_eq!(rt; rows.as_slice(), [(3, 3), (4, 4)].as_slice());
     assert!(rt; next == Next::End);
+}
+
+#[test]
+fn a_part_downwards_has_the_rows_up_to_its_key(rt: HostRuntime) {
+    let mut seat = opened(rt.alloc(), 64).expect(&rt, "it is opened");
+    assert_eq!(rt; insert_many(&mut seat, 5), 5);
+    let Some(Reply::Rows(rows, next)) = seat.part_down(3) else {
+        panic!(rt; "it is answered");
+    };
+    assert_eq!(rt;
+        rows.as_slice(),
+        [(3, 3), (2, 2), (1, 1), (0, 0)].as_slice()
+    );
+    assert!(rt; next == Next::End);
+    // The anchor and one leaf are not free.
+    assert_eq!(rt; seat.free_pages(), 62);
+}
+
+/// How many rows the parts downwards have together, from a key on.
+fn count_rows_down(seat: &mut Seat, from: u64) -> u64 {
+    let mut count = 0u64;
+    let mut at = from;
+    for _part in 0..MANY {
+        let Some(Reply::Rows(rows, next)) = seat.part_down(at) else {
+            return 0;
+        };
+        count = count.saturating_add(rows.len() as u64);
+        match next {
+            Next::More(key) => at = key,
+            Next::End => return count,
+        }
+    }
+    0
+}
+
+#[test]
+fn parts_downwards_tell_all_rows(rt: HostRuntime) {
+    let mut seat = opened(rt.alloc(), 1_024).expect(&rt, "it is opened");
+    assert_eq!(rt; insert_many(&mut seat, MANY), MANY);
+    assert_eq!(rt; count_rows_down(&mut seat, u64::MAX), MANY);
+    assert_eq!(rt; count_rows_down(&mut seat, MANY / 2), MANY / 2 + 1);
 }
 
 #[test]

@@ -35,7 +35,7 @@ pub(crate) fn shared(alloc: Global, pages: u32) -> Option<(Map, Seat, Seat)>
     Some((map, one, two))
 }
 
-fn row_replies<R: Wait>(rt: &R, handle: &mut Handle<'_>) -> [KeyReply; 9] {
+fn row_replies<R: Wait>(rt: &R, handle: &mut Handle<'_>) -> [KeyReply; 11] {
     [
         handle.find(rt, 5),
         handle.insert(rt, 5, 50),
@@ -43,9 +43,11 @@ fn row_replies<R: Wait>(rt: &R, handle: &mut Handle<'_>) -> [KeyReply; 9] {
         handle.find(rt, 5),
         handle.change(rt, 5, 50, 70),
         handle.change(rt, 5, 50, 80),
+        handle.put(rt, 5, 90),
         handle.delete(rt, 5),
         handle.delete(rt, 5),
         handle.change(rt, 5, 70, 80),
+        handle.put(rt, 5, 60),
     ]
 }
 
@@ -61,9 +63,11 @@ fn a_row_comes_and_goes(rt: HostRuntime) -> Result<(), Fail> {
         KeyReply::Found(50),
         KeyReply::Changed,
         KeyReply::Differs(70),
-        KeyReply::Deleted(70),
+        KeyReply::Replaced(70),
+        KeyReply::Deleted(90),
         KeyReply::Absent,
         KeyReply::Absent,
+        KeyReply::Inserted,
     ];
     assert!(rt; replies == wanted);
     Ok(())

@@ -1,29 +1,36 @@
-use Rattle.std.proofs.Common.{rules, ℕ, ◌∙◌, List, sym, subst, arith}
-use Rattle.std.proofs.lemmas.List.{take_more, take_more_set, length-set, take_all}
+use Rattle.std.proofs.Common.{rules, ℕ, ◌≡◌, ◌++◌, ◌+◌, ◌-◌, ◌*◌, ◌≤◌, ◌∙◌, List, length, take, drop, refl, sym, ap, subst, arith}
+use Rattle.std.proofs.lemmas.List.{take_all}
 use Rattle.bl_model.specs.declared.operation.KeyReply.{KeyReply}
 use Rattle.bl_index.specs.Calls.{first_of, pages_of, number_of, trail}
 use Rattle.bl_map.specs.Finds.{FindsMany}
-use Rattle.bl_map.proofs.Finding.{finds_none, finds_one_more}
+use Rattle.bl_map.proofs.Finding.{finds_none, finds_then}
+use Rattle.bl_map.proofs.Groups.{part_long, part_on, part_anew, long_anew}
 use Rattle.bl_map.proofs.calls.find_many.Goals as goal
 
-pub loop-i-init : goal.loop-i-init
-loop-i-init g c = record { same = search rules; long = search rules; found = finds_none _ _ _ _ }
+pub loop-group-init : goal.loop-group-init
+loop-group-init g c = record { same = search rules; long = search rules; found = finds_none _ _ _ _ }
 
-pub loop-i-preserved : goal.loop-i-preserved
-loop-i-preserved g c =
-    let inv = c.loop-i.invariant in
-    let keys = take_more c.args.keys.now c.loop-i.i 0 (omega arith) in
-    let replies = take_more_set c.loop-i.replies c.loop-i.i c.find.result (omega (arith, inv.long)) in
+pub loop-group-preserved : goal.loop-group-preserved
+loop-group-preserved g c =
+    let inv = c.loop-group.invariant in
+    let from = c.loop-group.group * 8 in
+    let to = c.min-to.result in
+    let found = c.find_abreast.ensures.found in
+    let many : length c.find_abreast.new.replies ≡ to - from = found.each ∙ part_long c.args.keys.now from to (omega arith) (omega arith) in
+    let within : from + (to - from) ≤ length c.loop-group.replies = omega (arith, inv.long) in
+    let long = long_anew c.loop-group.replies c.find_abreast.new.replies from (to - from) within many in
+    let keys = part_on c.args.keys.now from to ((c.loop-group.group + 1) * 8) (omega arith) (omega arith) in
+    let replies = part_anew c.loop-group.replies c.find_abreast.new.replies _ from to ((c.loop-group.group + 1) * 8) (omega arith) (omega (arith, inv.long)) many long in
     record {
       same = search rules;
-      long = length-set c.loop-i.replies c.loop-i.i c.find.result ∙ inv.long;
-      found = subst (λ (z : List ℕ × List KeyReply). FindsMany (first_of c.args.index.now) (pages_of c.args.index.now) (number_of c.args.pass.now) z.0 z.1 (trail c.args.pass.now) (trail c.find.new.pass)) (λ i. (sym keys i, sym replies i))
-          (finds_one_more _ _ _ _ _ _ _ _ _ _ _ inv.same.2 inv.found c.find.ensures.works c.find.ensures.searched);
+      long = long ∙ inv.long;
+      found = subst (λ (z : List ℕ × List KeyReply). FindsMany (first_of c.args.index.now) (pages_of c.args.index.now) (number_of c.args.pass.now) z.0 z.1 (trail c.args.pass.now) (trail c.find_abreast.new.pass)) (λ i. (sym keys i, sym replies i))
+          (finds_then _ _ _ _ _ _ _ _ _ _ _ inv.same.2 inv.found found);
     }
 
 pub returns-clause-found : goal.returns-clause-found
 returns-clause-found g c =
-    let inv = c.loop-i.invariant in
-    let keys = take_all c.loop-i.i c.args.keys.now (omega arith) in
-    let replies = take_all c.loop-i.i c.loop-i.replies (omega (arith, inv.long)) in
-    subst (λ (z : List ℕ × List KeyReply). FindsMany (first_of c.args.index.now) (pages_of c.args.index.now) (number_of c.args.pass.now) z.0 z.1 (trail c.args.pass.now) (trail c.loop-i.pass)) (λ i. (keys i, replies i)) inv.found
+    let inv = c.loop-group.invariant in
+    let keys = take_all (c.loop-group.group * 8) c.args.keys.now (omega arith) in
+    let replies = take_all (c.loop-group.group * 8) c.loop-group.replies (omega (arith, inv.long)) in
+    subst (λ (z : List ℕ × List KeyReply). FindsMany (first_of c.args.index.now) (pages_of c.args.index.now) (number_of c.args.pass.now) z.0 z.1 (trail c.args.pass.now) (trail c.loop-group.pass)) (λ i. (keys i, replies i)) inv.found
