@@ -96,7 +96,7 @@ extern "C" {
 enum {
     BLINK_OK = 0,          /* done; where a value goes with it, it is written */
     BLINK_ABSENT = 1,      /* the key is not there */
-    BLINK_PRESENT = 2,     /* the key has a value, which it keeps, and which is written */
+    BLINK_PRESENT = 2,     /* the key was there, and its value then is written */
     BLINK_NO_ROOM = 3,     /* no free page or frame; nothing has changed */
     BLINK_AGAIN = 4,       /* no answer yet: let another thread run and call again */
     BLINK_BAD_PAGES = 5,   /* the number of pages is not 4 to 2^28 */
@@ -104,16 +104,19 @@ enum {
     BLINK_NO_MEMORY = 7,   /* malloc refused; nothing has changed */
     BLINK_BAD_IMAGE = 8,   /* the bytes are no sound image */
     BLINK_CLOSED = 9,      /* the seat is closed */
-    BLINK_FEW_ROWS = 10,   /* there is room for fewer than BLINK_LEAF_ROWS rows */
+    BLINK_FEW_ROWS = 10,   /* there is too little room for rows */
     BLINK_SEATS_OPEN = 11, /* a seat of the map is not among these, or was closed before,
                               or somebody else has a share, which no proof excludes */
     BLINK_FEW_BYTES = 12,  /* too few bytes of room for the image: nothing is closed */
     BLINK_OTHER_MAP = 13,  /* the seats are of two maps: nothing was done */
-    BLINK_SEATS_LOST = 14  /* all seats are closed, and there is no image. Cannot happen
+    BLINK_SEATS_LOST = 14, /* all seats are closed, and there is no image. Cannot happen
                               as long as only seats own the map, which is not proved */
+    BLINK_BAD_ROWS = 15,   /* the keys of the rows do not rise */
+    BLINK_BAD_FILL = 16    /* pages are to have less than 1 row or more than 14; or so few
+                              that the tree would have more than 12 levels */
 };
 
-/* The most rows of one leaf, and so the least room for rows that a call takes. */
+/* The most rows of one leaf: as much room as blink_rows ever needs. */
 #define BLINK_LEAF_ROWS 14
 
 /* One thread's place at a map: a pointer that this library owns, or null. */
@@ -132,10 +135,18 @@ typedef struct blink_row {
 /* How far a part of the rows goes. All zeros before the first part. */
 typedef struct blink_part {
     uint64_t count; /* how many rows were written */
-    uint64_t next;  /* the key from which the rows go on, if they do */
+    uint64_t next;  /* the key from which the rows go on, itself included, if they do */
     bool more;      /* whether they go on */
     uint32_t near;  /* opaque; pass it back unchanged (any value is safe) */
 } blink_part;
+
+/* How full a map is, and what one of its seats has left to do. */
+typedef struct blink_stats {
+    uint64_t pages;      /* how many pages the map has */
+    uint64_t free_pages; /* how many of them are free, about: others take and free some */
+    uint64_t waiting;    /* as blink_waiting */
+    uint64_t dropped;    /* as blink_dropped */
+} blink_stats;
 
 /* ---- Opening and closing. ---- */
 
@@ -184,6 +195,30 @@ uint64_t blink_image_length(uint32_t pages);
 BLINK_INLINE int32_t blink_close_image(blink_seat *seats, size_t count, uint8_t *bytes,
                                        size_t room, uint64_t *length);
 
+/* Writes the image of a map of so many pages with these rows, whose keys rise: `fill` of
+ * them, 1 to 14, in each leaf but the first. It is as blink_close_image's.
+ *   BLINK_OK          the first `*length` bytes are the image
+ *   BLINK_BAD_PAGES   `pages` is not 4 to 2^28
+ *   BLINK_BAD_ROWS    the keys do not rise
+ *   BLINK_BAD_FILL    `fill` is not 1 to 14, or too little for so many rows
+ *   BLINK_NO_ROOM     the rows need more pages
+ *   BLINK_FEW_BYTES   `room` is too small: `*length` says how many bytes are needed
+ *   BLINK_NO_MEMORY   malloc refused */
+int32_t blink_image_of(const blink_row *rows, size_t count, uint32_t pages, uint32_t fill,
+                       uint8_t *bytes, size_t room, uint64_t *length);
+
+/* Writes an image of the rows of the seat's map while others go on, with as many pages,
+ * by a scan into the array `rows`: each key as the map stood at one moment of it. It is
+ * no snapshot. `rows` has room for `most` of them, `bytes` for so many.
+ *   BLINK_OK          the first `*length` bytes are the image
+ *   BLINK_FEW_ROWS    the map has more rows than `most`
+ *   BLINK_BAD_FILL    as above, and so the following three
+ *   BLINK_NO_ROOM, BLINK_FEW_BYTES, BLINK_NO_MEMORY  nothing is written
+ *   BLINK_CLOSED      the seat is closed */
+BLINK_INLINE int32_t blink_save(blink_seat *seat, uint32_t fill, blink_row *rows,
+                                size_t most, uint8_t *bytes, size_t room,
+                                uint64_t *length);
+
 /* ---- Keys. ---- */
 
 /* Looks a key up.
@@ -215,6 +250,14 @@ int32_t blink_fetch(blink_seat *seat, const uint64_t *keys, size_t count);
 BLINK_INLINE int32_t blink_insert(blink_seat *seat, uint64_t key, uint64_t value,
                                   uint64_t *there);
 
+/* Puts the value at the key, in place of what is there, in one step.
+ *   BLINK_OK          the key had no value; `*old` is as it was
+ *   BLINK_PRESENT     the key had the value `*old`, and has the new one
+ *   BLINK_NO_ROOM     no page or frame was free; nothing has changed
+ *   BLINK_CLOSED      the seat is closed */
+BLINK_INLINE int32_t blink_put(blink_seat *seat, uint64_t key, uint64_t value,
+                               uint64_t *old);
+
 /* Takes the key away.
  *   BLINK_OK          it is gone, and `*gone` is the value that it had
  *   BLINK_ABSENT      it was not there
@@ -233,23 +276,56 @@ BLINK_INLINE int32_t blink_change(blink_seat *seat, uint64_t key, uint64_t old_v
 
 /* ---- Rows. ---- */
 
-/* Rows from a key on, by rising keys, as many leaves as surely fit into the array.
- * `*count` is how many there are, `*next` the key to go on from where `*more` is true.
- * Each leaf is answered as the map stood at one moment of the call; a scan is no
- * snapshot. Look at the answer before `*more`, which stays true with BLINK_CLOSED.
+/* Rows from a key on, by rising keys, as many as fit into the array. `*count` is how many
+ * there are, `*next` the key to go on from where `*more` is true: itself included, here
+ * and below. Each leaf is answered as the map stood at one moment of the call; a scan is
+ * no snapshot. Look at the answer before `*more`, which stays true with BLINK_CLOSED.
  *   BLINK_OK          the rows are written
- *   BLINK_FEW_ROWS    `room` is less than 14
+ *   BLINK_FEW_ROWS    `room` is 0
  *   BLINK_CLOSED      the seat is closed */
 BLINK_INLINE int32_t blink_scan(blink_seat *seat, uint64_t from, blink_row *rows,
                                 size_t room, size_t *count, uint64_t *next, bool *more);
 
-/* The rows of one leaf from a key on, 14 at most, and how far they go. A part may have no
- * row and still go on.
+/* The same up to the key `last`, itself included. What stands behind these rows in the
+ * array is not kept.
  *   BLINK_OK          the rows are written
- *   BLINK_FEW_ROWS    `room` is less than 14
+ *   BLINK_FEW_ROWS    `room` is 0
+ *   BLINK_CLOSED      the seat is closed */
+BLINK_INLINE int32_t blink_scan_to(blink_seat *seat, uint64_t from, uint64_t last,
+                                   blink_row *rows, size_t room, size_t *count,
+                                   uint64_t *next, bool *more);
+
+/* Rows from a key on downwards, by falling keys, else as blink_scan. Upwards a row costs
+ * less.
+ *   BLINK_OK          the rows are written
+ *   BLINK_FEW_ROWS    `room` is 0
+ *   BLINK_CLOSED      the seat is closed */
+BLINK_INLINE int32_t blink_scan_down(blink_seat *seat, uint64_t from, blink_row *rows,
+                                     size_t room, size_t *count, uint64_t *next,
+                                     bool *more);
+
+/* The same down to the key `last`, itself included.
+ *   BLINK_OK          the rows are written
+ *   BLINK_FEW_ROWS    `room` is 0
+ *   BLINK_CLOSED      the seat is closed */
+BLINK_INLINE int32_t blink_scan_down_to(blink_seat *seat, uint64_t from, uint64_t last,
+                                        blink_row *rows, size_t room, size_t *count,
+                                        uint64_t *next, bool *more);
+
+/* The rows of one leaf from a key on, 14 at most, and how far they go: where not all fit,
+ * up to the first that does not. A part may have no row and still go on.
+ *   BLINK_OK          the rows are written
+ *   BLINK_FEW_ROWS    `room` is 0
  *   BLINK_CLOSED      the seat is closed; `*part` is as it was */
 BLINK_INLINE int32_t blink_rows(blink_seat *seat, uint64_t from, blink_row *rows,
                                 size_t room, blink_part *part);
+
+/* The same downwards, by falling keys.
+ *   BLINK_OK          the rows are written
+ *   BLINK_FEW_ROWS    `room` is 0
+ *   BLINK_CLOSED      the seat is closed; `*part` is as it was */
+BLINK_INLINE int32_t blink_rows_down(blink_seat *seat, uint64_t from, blink_row *rows,
+                                     size_t room, blink_part *part);
 
 /* ---- Upkeep. ---- */
 
@@ -273,6 +349,13 @@ uint32_t blink_waiting(blink_seat *seat);
 /* How many pieces were dropped since the seat was opened, since 32 waited. That is no
  * error: it costs speed, never answers. A closed seat has 0. */
 uint64_t blink_dropped(blink_seat *seat);
+
+/* Says how full the map is, and what the seat has left to do. It is no call of the map,
+ * and changes nothing. But for the free pages, which are counted while others work, the
+ * numbers are exact.
+ *   BLINK_OK          `*stats` says so
+ *   BLINK_CLOSED      the seat is closed; `*stats` is as it was */
+int32_t blink_stat(blink_seat *seat, blink_stats *stats);
 
 /* ---- Two seats. ---- */
 
@@ -323,6 +406,11 @@ int32_t blink_try_find(blink_seat *seat, uint64_t key, uint64_t *value);
  *   BLINK_AGAIN       no answer yet: it may take effect later */
 int32_t blink_try_insert(blink_seat *seat, uint64_t key, uint64_t value, uint64_t *there);
 
+/* Puts a value in place of what is there, as blink_put.
+ *   BLINK_OK, BLINK_PRESENT, BLINK_NO_ROOM, BLINK_CLOSED  as there
+ *   BLINK_AGAIN       no answer yet: it may take effect later */
+int32_t blink_try_put(blink_seat *seat, uint64_t key, uint64_t value, uint64_t *old);
+
 /* Takes a key away, as blink_delete.
  *   BLINK_OK, BLINK_ABSENT, BLINK_NO_ROOM, BLINK_CLOSED  as there
  *   BLINK_AGAIN       no answer yet: it may take effect later */
@@ -339,6 +427,12 @@ int32_t blink_try_change(blink_seat *seat, uint64_t key, uint64_t old_value,
  *   BLINK_AGAIN       no answer yet: nothing is written */
 int32_t blink_try_rows(blink_seat *seat, uint64_t from, blink_row *rows, size_t room,
                        blink_part *part);
+
+/* The same downwards, as blink_rows_down.
+ *   BLINK_OK, BLINK_FEW_ROWS, BLINK_CLOSED  as there
+ *   BLINK_AGAIN       no answer yet: nothing is written */
+int32_t blink_try_rows_down(blink_seat *seat, uint64_t from, blink_row *rows, size_t room,
+                            blink_part *part);
 
 /* Upkeep, as blink_upkeep, which is this call behind the guard.
  *   BLINK_OK, BLINK_AGAIN, BLINK_CLOSED  as there */
@@ -458,6 +552,11 @@ BLINK_INLINE int32_t blink_insert(blink_seat *seat, uint64_t key, uint64_t value
     BLINK_RETURN_CALL_(seat, blink_try_insert, key, value, there)
 }
 
+BLINK_INLINE int32_t blink_put(blink_seat *seat, uint64_t key, uint64_t value,
+                               uint64_t *old) {
+    BLINK_RETURN_CALL_(seat, blink_try_put, key, value, old)
+}
+
 BLINK_INLINE int32_t blink_delete(blink_seat *seat, uint64_t key, uint64_t *gone) {
     BLINK_RETURN_CALL_(seat, blink_try_delete, key, gone)
 }
@@ -472,21 +571,78 @@ BLINK_INLINE int32_t blink_rows(blink_seat *seat, uint64_t from, blink_row *rows
     BLINK_RETURN_CALL_(seat, blink_try_rows, from, rows, room, part)
 }
 
-BLINK_INLINE int32_t blink_scan(blink_seat *seat, uint64_t from, blink_row *rows,
-                                size_t room, size_t *count, uint64_t *next, bool *more) {
+BLINK_INLINE int32_t blink_rows_down(blink_seat *seat, uint64_t from, blink_row *rows,
+                                     size_t room, blink_part *part) {
+    BLINK_RETURN_CALL_(seat, blink_try_rows_down, from, rows, room, part)
+}
+
+/* Whether a key lies behind the last one that is asked for. */
+static inline bool blink_is_behind_(bool down, uint64_t key, uint64_t last) {
+    return down ? key < last : key > last;
+}
+
+/* A scan, upwards or downwards, up to the key `last`. */
+static inline int32_t blink_list_(blink_seat *seat, bool down, uint64_t from,
+                                  uint64_t last, blink_row *rows, size_t room,
+                                  size_t *count, uint64_t *next, bool *more) {
     blink_part part = { 0, 0, true, 0 };
     *count = 0;
     *next = from;
     *more = true;
-    if (room < BLINK_LEAF_ROWS) return BLINK_FEW_ROWS;
-    while (*more && room - *count >= BLINK_LEAF_ROWS) {
-        int32_t answer = blink_rows(seat, *next, rows + *count, room - *count, &part);
+    if (room == 0) return BLINK_FEW_ROWS;
+    while (*more && *count < room) {
+        blink_row *rest = rows + *count;
+        int32_t answer = down ? blink_rows_down(seat, *next, rest, room - *count, &part)
+                              : blink_rows(seat, *next, rest, room - *count, &part);
         if (answer != BLINK_OK) return answer;
         *count += (size_t)part.count;
         *next = part.next;
-        *more = part.more;
+        *more = part.more && !blink_is_behind_(down, part.next, last);
+        while (*count > 0 && blink_is_behind_(down, rows[*count - 1].key, last)) --*count;
     }
     return BLINK_OK;
+}
+
+BLINK_INLINE int32_t blink_scan(blink_seat *seat, uint64_t from, blink_row *rows,
+                                size_t room, size_t *count, uint64_t *next, bool *more) {
+    return blink_list_(seat, false, from, UINT64_MAX, rows, room, count, next, more);
+}
+
+BLINK_INLINE int32_t blink_scan_to(blink_seat *seat, uint64_t from, uint64_t last,
+                                   blink_row *rows, size_t room, size_t *count,
+                                   uint64_t *next, bool *more) {
+    return blink_list_(seat, false, from, last, rows, room, count, next, more);
+}
+
+BLINK_INLINE int32_t blink_scan_down(blink_seat *seat, uint64_t from, blink_row *rows,
+                                     size_t room, size_t *count, uint64_t *next,
+                                     bool *more) {
+    return blink_list_(seat, true, from, 0, rows, room, count, next, more);
+}
+
+BLINK_INLINE int32_t blink_scan_down_to(blink_seat *seat, uint64_t from, uint64_t last,
+                                        blink_row *rows, size_t room, size_t *count,
+                                        uint64_t *next, bool *more) {
+    return blink_list_(seat, true, from, last, rows, room, count, next, more);
+}
+
+BLINK_INLINE int32_t blink_save(blink_seat *seat, uint32_t fill, blink_row *rows,
+                                size_t most, uint8_t *bytes, size_t room,
+                                uint64_t *length) {
+    blink_stats stats = { 0, 0, 0, 0 };
+    blink_row behind;
+    size_t count = 0, left = 0;
+    uint64_t next = 0;
+    bool more = true;
+    int32_t answer;
+    BLINK_CALL_(seat, blink_stat, answer, &stats);
+    if (answer == BLINK_OK && most > 0)
+        answer = blink_scan(seat, 0, rows, most, &count, &next, &more);
+    if (answer == BLINK_OK && more)
+        answer = blink_scan(seat, next, &behind, 1, &left, &next, &more);
+    if (answer != BLINK_OK) return answer;
+    if (left > 0) return BLINK_FEW_ROWS;
+    return blink_image_of(rows, count, (uint32_t)stats.pages, fill, bytes, room, length);
 }
 
 BLINK_INLINE int32_t blink_upkeep(blink_seat *seat, uint32_t most) {
@@ -560,7 +716,7 @@ BLINK_INLINE const char *blink_text(int32_t code) {
     switch (code) {
         case BLINK_OK: return "done";
         case BLINK_ABSENT: return "the key is not there";
-        case BLINK_PRESENT: return "the key is there with a value that it keeps";
+        case BLINK_PRESENT: return "the key was there with a value";
         case BLINK_NO_ROOM: return "no room";
         case BLINK_AGAIN: return "not answered yet";
         case BLINK_BAD_PAGES: return "the number of pages is not 4 to 2^28";
@@ -568,11 +724,13 @@ BLINK_INLINE const char *blink_text(int32_t code) {
         case BLINK_NO_MEMORY: return "there is no memory";
         case BLINK_BAD_IMAGE: return "the bytes are no sound image";
         case BLINK_CLOSED: return "the seat is closed";
-        case BLINK_FEW_ROWS: return "there is room for fewer than 14 rows";
+        case BLINK_FEW_ROWS: return "there is too little room for rows";
         case BLINK_SEATS_OPEN: return "a seat of the map is not among these";
         case BLINK_FEW_BYTES: return "there is room for fewer bytes than the image has";
         case BLINK_OTHER_MAP: return "the seats are of two maps";
         case BLINK_SEATS_LOST: return "the map is gone, without an image";
+        case BLINK_BAD_ROWS: return "the keys of the rows do not rise";
+        case BLINK_BAD_FILL: return "so many rows a page are not 1 to 14, or too few";
         default: return "no code of this library";
     }
 }

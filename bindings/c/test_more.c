@@ -50,13 +50,13 @@ static void model_delete(uint64_t key) {
 /* All rows from a key downwards are those of the array. */
 static void fall_along(blink_seat *seat, uint64_t from, size_t room) {
     blink_row rows[256];
-    blink_fall fall = { 0, 0, true, 0 };
-    size_t left = place_of(from), i;
+    size_t left = place_of(from), found, i;
+    uint64_t next = from;
+    bool more = true;
     if (left < count && model[left].key == from) left++;
-    fall.next = from;
-    while (fall.more) {
-        CHECK(blink_more_scan_down(seat, fall.next, rows, room, &fall) == BLINK_OK);
-        for (i = 0; i < fall.count; i++) {
+    while (more) {
+        CHECK(blink_scan_down(seat, next, rows, room, &found, &next, &more) == BLINK_OK);
+        for (i = 0; i < found; i++) {
             CHECK(left > 0);
             left--;
             CHECK(rows[i].key == model[left].key && rows[i].value == model[left].value);
@@ -111,7 +111,7 @@ static void beside_an_array(int kind) {
                 CHECK(found[i] == is_there && values[i] == (is_there ? model[at].value : 7));
             }
         } else if (step % 4 == 0) {
-            fall_along(&seat, key, 32 + draw() % 225);
+            fall_along(&seat, key, 1 + draw() % 256);
         }
     }
     fall_along(&seat, UINT64_MAX, 256);
@@ -120,27 +120,20 @@ static void beside_an_array(int kind) {
 
 static void edges(void) {
     blink_seat seat = BLINK_SEAT_INIT;
-    blink_row rows[32], row;
-    blink_fall fall = { 0, 0, true, 0 };
+    blink_row row;
     uint64_t old = 9;
     size_t hits = 0;
     CHECK(blink_open(16, &seat, 1) == BLINK_OK);
     CHECK(blink_more_last(&seat, UINT64_MAX, &row) == BLINK_ABSENT);
-    CHECK(blink_more_scan_down(&seat, UINT64_MAX, rows, 32, &fall) == BLINK_OK && fall.count == 0 && !fall.more);
-    CHECK(blink_more_scan_down(&seat, UINT64_MAX, rows, 31, &fall) == BLINK_FEW_ROWS);
     CHECK(blink_more_put(&seat, 0, 1, &old) == BLINK_OK && old == 9);
     CHECK(blink_more_put(&seat, 0, 2, &old) == BLINK_PRESENT && old == 1);
     CHECK(blink_more_put(&seat, UINT64_MAX, 3, &old) == BLINK_OK);
     CHECK(blink_more_last(&seat, UINT64_MAX, &row) == BLINK_OK && row.key == UINT64_MAX && row.value == 3);
     CHECK(blink_more_last(&seat, UINT64_MAX - 1, &row) == BLINK_OK && row.key == 0 && row.value == 2);
-    fall.width = 0;
-    CHECK(blink_more_scan_down(&seat, UINT64_MAX, rows, 32, &fall) == BLINK_OK && rows[0].key == UINT64_MAX);
     CHECK(blink_close(&seat) == BLINK_OK);
     CHECK(blink_more_put(&seat, 1, 1, &old) == BLINK_CLOSED);
     CHECK(blink_more_last(&seat, 1, &row) == BLINK_CLOSED);
     CHECK(blink_more_find_many(&seat, &old, 1, &old, NULL, &hits) == BLINK_CLOSED && hits == 0);
-    fall.width = 0;
-    CHECK(blink_more_scan_down(&seat, 1, rows, 32, &fall) == BLINK_CLOSED);
 }
 
 static blink_seat seats[THREADS];

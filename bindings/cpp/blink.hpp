@@ -182,16 +182,10 @@ public:
     // Writes the next row; false where there is none.
     bool next(Row &row) {
         while (at_ == count_) {
-            if (!more_ || next_ < low_ || next_ > high_) return false;
+            if (!more_) return false;
             read();
         }
-        const blink_row &found = rows_[at_];
-        if (found.key < low_ || found.key > high_) {
-            more_ = false;
-            count_ = at_;
-            return false;
-        }
-        at_++;
+        const blink_row &found = rows_[at_++];
         row = Row(found.key, found.value);
         return true;
     }
@@ -199,20 +193,14 @@ public:
 private:
     friend class Handle;
     Range(blink_seat *seat, Key low, Key high, bool is_falling)
-        : seat_(seat), low_(low), high_(high), next_(is_falling ? high : low),
+        : seat_(seat), next_(is_falling ? high : low), last_(is_falling ? low : high),
           more_(low <= high), is_falling_(is_falling) {}
 
     // Reads further rows. Few at first, since many ranges are left early.
     void read() {
-        int32_t code;
-        if (is_falling_) {
-            code = blink_more_scan_down(seat_, next_, rows_.data(), room_, &fall_);
-            count_ = fall_.count;
-            next_ = fall_.next;
-            more_ = fall_.more;
-        } else {
-            code = blink_scan(seat_, next_, rows_.data(), room_, &count_, &next_, &more_);
-        }
+        const auto scan = is_falling_ ? blink_scan_down_to : blink_scan_to;
+        const int32_t code =
+            scan(seat_, next_, last_, rows_.data(), room_, &count_, &next_, &more_);
         at_ = 0;
         if (code != BLINK_OK) {
             count_ = 0;
@@ -223,10 +211,9 @@ private:
     }
 
     blink_seat *seat_;
-    Key low_, high_, next_;
+    Key next_, last_;
     bool more_, is_falling_;
     size_t at_ = 0, count_ = 0, room_ = 32;
-    blink_fall fall_ = {};
     std::array<blink_row, 128> rows_{};
 };
 
@@ -272,12 +259,10 @@ public:
         return insert(key, value, std::nothrow).value();
     }
 
-    // Puts the value at the key, whatever is there: the value that was there. It is an
-    // insertion, or an insertion and a change, and goes round while others write the key
-    // in between; it takes effect at one moment, that of its last call.
+    // Puts the value at the key, whatever is there: the value that was there.
     Result<std::optional<Value>> put(Key key, Value value, std::nothrow_t) noexcept {
         Value old = 0;
-        const int32_t code = blink_more_put(&seat_, key, value, &old);
+        const int32_t code = blink_put(&seat_, key, value, &old);
         return some(code, BLINK_PRESENT, BLINK_OK, old);
     }
     std::optional<Value> put(Key key, Value value) {
@@ -346,11 +331,11 @@ public:
     // All rows, those from a key on, or those from a key on and below another one.
     Range range(Key from = 0) { return Range(&seat_, from, UINT64_MAX, false); }
     Range range(Key from, Key below) { return bounded(from, below, false); }
-    // The same rows by falling keys. A row costs about twice what it costs upwards.
+    // The same rows by falling keys.
     Range range_down(Key from = 0) { return Range(&seat_, from, UINT64_MAX, true); }
     Range range_down(Key from, Key below) { return bounded(from, below, true); }
 
-    // The first and the last row; the last one is searched in up to 64 leaves.
+    // The first and the last row.
     std::optional<Row> first() {
         Row row;
         return range().next(row) ? std::optional(row) : std::nullopt;

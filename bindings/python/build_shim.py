@@ -8,7 +8,7 @@ from cffi import FFI
 HERE = os.path.dirname(os.path.abspath(__file__))
 DECLARED = """
 typedef struct { uint64_t key; uint64_t value; } blink_row;
-typedef struct { size_t count; uint64_t next; bool more; uint64_t width; } blink_fall;
+typedef struct { uint64_t next, last; size_t count; bool more; } shim_range;
 typedef struct { uint32_t pages, count; ...; } shim_map;
 #define SHIM_UNSURE ...
 #define BLINK_OK ...
@@ -31,7 +31,7 @@ int32_t shim_put(shim_map *map, uint64_t key, uint64_t value, uint64_t *old);
 int32_t shim_delete(shim_map *map, uint64_t key, uint64_t *gone);
 int32_t shim_change(shim_map *map, uint64_t key, uint64_t old_value, uint64_t new_value, uint64_t *there);
 int32_t shim_last(shim_map *map, uint64_t most, blink_row *row);
-int32_t shim_rows(shim_map *map, bool is_falling, size_t most, uint64_t *keys, uint64_t *values, blink_fall *fall);
+int32_t shim_rows(shim_map *map, bool is_falling, size_t most, uint64_t *keys, uint64_t *values, shim_range *range);
 int32_t shim_get_many(shim_map *map, const uint64_t *keys, size_t count, uint64_t *values, uint8_t *found, size_t *hits);
 int32_t shim_put_many(shim_map *map, const uint64_t *keys, const uint64_t *values, size_t count, size_t *done);
 int64_t shim_length(const shim_map *map);

@@ -98,7 +98,6 @@ typedef struct Cursor {
     size_t at, count, most;
     uint64_t next, low, high; /* where further rows begin, and the bounds of those wanted */
     bool more, is_falling, is_over;
-    blink_fall fall;
 } Cursor;
 
 /* What stands in the lists of maps and connections, and which seats are taken. */
@@ -617,27 +616,19 @@ static int close_cursor(sqlite3_vtab_cursor *base) {
 static int fill(Cursor *c) {
     Table *t = table_of(c->base.pVtab);
     while (!c->is_over && c->at == c->count) {
-        int32_t answer;
-        if (!c->more || c->next < c->low || c->next > c->high) {
+        if (!c->more) {
             c->is_over = true;
             return SQLITE_OK;
         }
         blink_seat *seat = hold(t);
-        if (c->is_falling) {
-            answer = blink_more_scan_down(seat, c->next, c->rows, c->most, &c->fall);
-            c->count = c->fall.count;
-            c->next = c->fall.next;
-            c->more = c->fall.more;
-        } else {
-            answer = blink_scan(seat, c->next, c->rows, c->most, &c->count, &c->next, &c->more);
-        }
+        int32_t answer = c->is_falling ? blink_scan_down_to(seat, c->next, c->low, c->rows, c->most, &c->count, &c->next, &c->more)
+                                       : blink_scan_to(seat, c->next, c->high, c->rows, c->most, &c->count, &c->next, &c->more);
         let_go(t);
         c->at = 0;
         /* Few at first, since many queries want few rows. */
         c->most = ROWS_AT_ONCE;
         if (answer != BLINK_OK) return told(c->base.pVtab, answer);
     }
-    if (!c->is_over && (c->rows[c->at].key < c->low || c->rows[c->at].key > c->high)) c->is_over = true;
     return SQLITE_OK;
 }
 
@@ -693,7 +684,6 @@ static int filter_rows(sqlite3_vtab_cursor *base, int plan, const char *text, in
     if ((plan & EQUAL) && can_fit && low == high) return find_row(c, c->low);
     c->is_falling = (plan & FALLING) != 0;
     c->next = c->is_falling ? c->high : c->low;
-    c->fall = (blink_fall){ 0, 0, true, 0 };
     c->at = c->count = 0;
     c->most = FIRST_ROWS;
     c->more = true;

@@ -3,7 +3,7 @@ use Rattle.std.proofs.Common.{◌≡◌, ◌≢◌, ◌⊎◌, ◌+◌, ℕ, Boo
 use mir.Val.{to_z, of_z}
 use mir.Syntax.{w32}
 use Rattle.bl_model.specs.declared.operation.Reply.{Reply}
-use Rattle.bl_model.specs.declared.operation.Reply.TheVariants.{Found, Absent, Inserted, Present, Deleted, Changed, Differs, Rows, NoRoom}
+use Rattle.bl_model.specs.declared.operation.Reply.TheVariants.{Found, Absent, Inserted, Present, Replaced, Deleted, Changed, Differs, Rows, NoRoom}
 use Rattle.std.specs.Prelude.{ℤ, pos, MatchOption}
 use Rattle.bl_seats.specs.declared.seat.Seat.{Seat}
 use Rattle.bl_seats.specs.Calls.{IsSameSeat, HasGoneOn, HasNothingToDo, HasSwept, account_of, number_of, released_by}
@@ -53,6 +53,7 @@ code_kept (Found v) code w h = (again code (pos 0) h.0 refl, h.1)
 code_kept Absent code w h = again code (pos 1) h refl
 code_kept Inserted code w h = again code (pos 0) h refl
 code_kept (Present v) code w h = (again code (pos 2) h.0 refl, h.1)
+code_kept (Replaced v) code w h = (again code (pos 2) h.0 refl, h.1)
 code_kept (Deleted v) code w h = (again code (pos 0) h.0 refl, h.1)
 code_kept Changed code w h = again code (pos 0) h refl
 code_kept (Differs v) code w h = (again code (pos 2) h.0 refl, h.1)

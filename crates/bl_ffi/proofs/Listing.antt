@@ -58,12 +58,10 @@ same_there [] i d e lt = absurd (omega (arith, lt))
 same_there (x ∷ l) zero d e lt = refl
 same_there (x ∷ l) (suc i) d e lt = same_there l i d e (omega (arith, lt))
 
--- the page near the next part is no part of what is listed
-pub near_any : (reply : Reply) (old new : List Row) (part : Part) (near : ℕ) → IsListed reply old new part → IsListed reply old new (record { count = part.count; next = part.next; more = part.more; near = near })
-near_any (Rows pairs (More key)) old new part near h = h
-near_any (Rows pairs End) old new part near h = h
-near_any reply old new part near h = absurd h
+pub part_has_rows : (m : Map) (from : ℕ) (reply : Reply) → MayAnswer m (op.Part from) reply → IsRows reply
+part_has_rows m from (Rows pairs next) may = tt
+part_has_rows m from reply may = absurd may
 
-pub may_be_rows : (m : Map) (from : ℕ) (reply : Reply) → MayAnswer m (op.Part from) reply → IsRows reply
-may_be_rows m from (Rows pairs next) may = tt
-may_be_rows m from reply may = absurd may
+pub part_down_has_rows : (m : Map) (from : ℕ) (reply : Reply) → MayAnswer m (op.PartDown from) reply → IsRows reply
+part_down_has_rows m from (Rows pairs next) may = tt
+part_down_has_rows m from reply may = absurd may

@@ -1,14 +1,13 @@
 -- What a call tells C.
-use Rattle.std.specs.Prelude.{◌≡◌, ◌≢◌, ◌⊎◌, ℕ, ℤ, pos, true, false, Some, None, List, ◌++◌, map, drop, length, MatchOption}
+use Rattle.std.specs.Prelude.{◌≡◌, ◌≢◌, ◌⊎◌, ℕ, ℤ, pos, min, true, false, Some, None, List, [], ◌∷◌, ◌++◌, map, take, drop, length, MatchOption}
 use denote.RawPtr.{Ptr}
 use Rattle.bl_model.specs.declared.operation.Next.{Next}
 use Rattle.bl_model.specs.declared.operation.Next.TheVariants.{More, End}
 use Rattle.bl_ffi.specs.declared.calls.Row.{Row}
 use Rattle.bl_ffi.specs.declared.calls.Part.{Part}
 use Rattle.bl_model.specs.declared.operation.Op.{Op}
-use Rattle.bl_model.specs.declared.operation.Op.TheVariants as op
 use Rattle.bl_model.specs.declared.operation.Reply.{Reply}
-use Rattle.bl_model.specs.declared.operation.Reply.TheVariants.{Found, Absent, Inserted, Present, Deleted, Changed, Differs, Rows, NoRoom}
+use Rattle.bl_model.specs.declared.operation.Reply.TheVariants.{Found, Absent, Inserted, Present, Replaced, Deleted, Changed, Differs, Rows, NoRoom}
 use Rattle.bl_seats.specs.declared.seat.Seat.{Seat}
 use Rattle.bl_model.specs.declared.deciding.KeyWrite.{KeyWrite}
 use Rattle.bl_model.specs.Writes.{write_op}
@@ -19,7 +18,9 @@ use Rattle.bl_seats.specs.Calls.{IsSameSeat, HasToldLast, HasTold, HasGoneOn, Ha
 use Rattle.bl_seats.specs.Tended.{KeepsUpkeep, HasTended, HasPrepared, HasToWait, HasChanged, SweepsOnce}
 use Rattle.bl_seats.specs.Meetings.{HasSettled, HasNoAnswer}
 use Rattle.bl_seats.specs.Waits.{hints_of}
+use Rattle.bl_index.specs.Calls.{pages_of}
 use Rattle.bl_ffi.specs.declared.seat.SeatOfC.{SeatOfC}
+use Rattle.bl_ffi.specs.declared.stats.Stats.{Stats}
 
 -- the code of a reply, and the value that is written beside it
 abbrev pub IsCodeOf : Reply → ℤ → ℕ → Type 0
@@ -27,6 +28,7 @@ IsCodeOf (Found value) code written = (code ≡ pos 0) × (written ≡ value)
 IsCodeOf Absent code written = code ≡ pos 1
 IsCodeOf Inserted code written = code ≡ pos 0
 IsCodeOf (Present value) code written = (code ≡ pos 2) × (written ≡ value)
+IsCodeOf (Replaced value) code written = (code ≡ pos 2) × (written ≡ value)
 IsCodeOf (Deleted value) code written = (code ≡ pos 0) × (written ≡ value)
 IsCodeOf Changed code written = code ≡ pos 0
 IsCodeOf (Differs value) code written = (code ≡ pos 2) × (written ≡ value)
@@ -83,16 +85,27 @@ abbrev pub IsRows : Reply → Type 0
 IsRows (Rows pairs next) = Unit {0}
 IsRows other = ⊥
 
--- The rows of the reply are the first ones of the array, and the others are as they were. The part says how many there are, and how they go on.
+-- Where it goes on of which some rows are left: at the first of them, if there is one.
+abbrev pub next_behind : List (ℕ × ℕ) → Next → Next
+next_behind [] next = next
+next_behind (pair ∷ left) next = More pair.0
+
+-- how many rows of the reply are taken, where there is room for so many
+abbrev pub taken_of : List (ℕ × ℕ) → List Row → ℕ
+taken_of pairs room = min (length pairs) (length room)
+
+-- As many rows of the reply as fit are the first ones of the array, and the others are as they were. The part says how many there are, and how they
+-- go on: at the first one that did not fit, or where the reply does.
 abbrev pub IsListed : Reply → List Row → List Row → Part → Type 0
 IsListed (Rows pairs next) old new part =
-    (new ≡ map row_of pairs.items ++ drop (length pairs.items) old) × (part.count ≡ length pairs.items) × GoesOnAt next part
+    (new ≡ map row_of (take (taken_of pairs.items old) pairs.items) ++ drop (taken_of pairs.items old) old) × (part.count ≡ taken_of pairs.items old)
+    × GoesOnAt (next_behind (drop (taken_of pairs.items old) pairs.items) next) part
 IsListed other old new part = ⊥
 
 -- The same of a part of the rows, which are listed.
-abbrev pub Lists : ℕ → List Row → List Row → Part → ℤ → Seat → Seat → Type 0
-Lists from rows rows' part code old new = KeepsUpkeep old new
-    × (((code ≡ pos 4) × SearchesAgain old new) ⊎ ((code ≡ pos 0) × ((reply : Reply) × TellsFound (op.Part from) reply old new × IsListed reply rows rows' part)))
+abbrev pub Lists : Op → List Row → List Row → Part → ℤ → Seat → Seat → Type 0
+Lists op rows rows' part code old new = KeepsUpkeep old new
+    × (((code ≡ pos 4) × SearchesAgain old new) ⊎ ((code ≡ pos 0) × ((reply : Reply) × TellsFound op reply old new × IsListed reply rows rows' part)))
 
 -- It has told what was underway, if that has ended, and no more; it has done so many pieces of upkeep, or all that there are, and then it has
 -- swept; and the code says whether anything is left to do.
@@ -120,6 +133,16 @@ waiting_of seat = length (hints_of seat.upkeep)
 
 abbrev pub dropped_of : Seat → ℕ
 dropped_of seat = seat.upkeep.dropped
+
+-- What is said of a seat and its map by numbers. Of how many pages are free no clause says more.
+pub record AreStatsOf (s : Seat) (stats : Stats) : Type 0 where
+  pub pages : stats.pages ≡ pages_of (arc_value s.index)
+  pub waiting : stats.waiting ≡ waiting_of s
+  pub dropped : stats.dropped ≡ dropped_of s
+
+-- The seat is as it was, and a closed one leaves the numbers as they were.
+abbrev pub ShowsStats : SeatOfC → SeatOfC → Stats → Stats → ℤ → Type 0
+ShowsStats old new stats stats' code = MatchOption old.seat ((code ≡ pos 9) × (new.seat ≡ None) × (stats' ≡ stats)) (λ s. (code ≡ pos 0) × (new.seat ≡ Some s) × AreStatsOf s stats')
 
 -- The seat is as it was, and a closed one leaves the place as it was. Of what an open one shows no clause says more, since no clause of `Arc` says
 -- where its value lies.

@@ -1,15 +1,14 @@
 //! The calls.
 
-ghost use Rattle.std.specs.Prelude.{◌≡◌, ◌≢◌, ◌<◌, ◌≤◌, pos, length, MatchOption};
+ghost use Rattle.std.specs.Prelude.{◌≡◌, ◌≢◌, ◌<◌, ◌≤◌, pos, drop, length, MatchOption};
 ghost use Rattle.bl_model.specs.declared.operation.Op.TheVariants as op;
 ghost use Rattle.bl_model.specs.Replies.{reply_of};
 ghost use Rattle.bl_model.specs.declared.deciding.KeyWrite.TheVariants as key_write;
-ghost use Rattle.bl_ffi.specs.Told.{IsCodeOf, Finds, Tells, Closes, Calls, IsRows, IsListed, Lists, Tends, StaysAsItWas, Counts, waiting_of, dropped_of};
+ghost use Rattle.bl_ffi.specs.Told.{IsCodeOf, Finds, Tells, Closes, Calls, IsRows, IsListed, Lists, next_behind, Tends, StaysAsItWas, Counts, waiting_of, dropped_of};
 
 use crate::codes::{ABSENT, AGAIN, CLOSED, FEW_ROWS, NO_ROOM, OK, PRESENT};
 use crate::places::{put_back, taken};
 use crate::seat::SeatOfC;
-use bl_model::limits::MOST_PAIRS;
 use bl_seats::{KeyReply, KeyWrite, Next, Reply};
 use std::alloc::Global;
 
@@ -31,7 +30,7 @@ fn told(reply: Reply, value: &mut u64) -> i32
             *value = there;
             OK
         }
-        Reply::Present(there) | Reply::Differs(there) => {
+        Reply::Present(there) | Reply::Differs(there) | Reply::Replaced(there) => {
             *value = there;
             PRESENT
         }
@@ -51,7 +50,7 @@ fn found(reply: KeyReply, value: &mut u64) -> i32
             *value = there;
             OK
         }
-        KeyReply::Present(there) | KeyReply::Differs(there) => {
+        KeyReply::Present(there) | KeyReply::Differs(there) | KeyReply::Replaced(there) => {
             *value = there;
             PRESENT
         }
@@ -138,6 +137,20 @@ pub extern "C" fn blink_try_insert(
     write(alloc, seat, key, KeyWrite::Insert(value), there)
 }
 
+/// Puts the value at the key, in place of what is there.
+#[unsafe(no_mangle)]
+pub extern "C" fn blink_try_put(
+    alloc: Global,
+    seat: &mut SeatOfC,
+    key: u64,
+    value: u64,
+    old: &mut u64,
+) -> i32
+    ensures { Tells key (key_write.Put value) seat.old seat.new result old.new }
+{
+    write(alloc, seat, key, KeyWrite::Put(value), old)
+}
+
 /// Takes the key and its value away.
 #[unsafe(no_mangle)]
 pub extern "C" fn blink_try_delete(
@@ -180,30 +193,42 @@ pub struct Part {
     pub near: u32,
 }
 
-/// Writes the rows of a reply into the caller's array.
-fn listed(reply: &Reply, rows: &mut [Row], part: &mut Part)
-    requires room { 14 ≤ length rows.old }
-    requires told { IsRows reply.now }
+/// Where a reply goes on of which so many rows are taken: at the first one that is left, if there is one.
+fn next_behind(pairs: &[(u64, u64)], taken: usize, next: Next) -> Next
+    ensures { result ≡ next_behind (drop taken pairs.now) next }
+{
+    match pairs.get(taken) {
+        Some((key, _)) => Next::More(*key),
+        None => next,
+    }
+}
+
+/// Writes the rows of a reply into the caller's array, as many as it has room for. Where it has room for all, the way to the next part is
+/// short from that page.
+fn listed(reply: &Reply, near: u32, rows: &mut [Row], part: &mut Part)
+    requires { IsRows reply.now }
     ensures { IsListed reply.now rows.old rows.new part.new }
 {
     let Reply::Rows(pairs, next) = reply else {
         unreachable!()
     };
-    part.count = pairs.len() as u64;
-    for number in 0..pairs.len() {
+    let count = pairs.len().min(rows.len());
+    for number in 0..count {
         let (key, value) = pairs[number];
         rows[number] = Row { key, value };
     }
-    match next {
+    part.count = count as u64;
+    part.near = if count < pairs.len() { part.near } else { near };
+    match next_behind(pairs.as_slice(), count, *next) {
         Next::More(key) => {
-            part.next = *key;
+            part.next = key;
             part.more = true;
         }
         Next::End => part.more = false,
     }
 }
 
-/// The rows of one leaf from a key on, 14 at most, into the caller's array.
+/// The rows of one leaf from a key on, as many as there is room for, into the caller's array.
 #[unsafe(no_mangle)]
 pub extern "C" fn blink_try_rows(
     alloc: Global,
@@ -212,11 +237,11 @@ pub extern "C" fn blink_try_rows(
     rows: &mut [Row],
     part: &mut Part,
 ) -> i32
-    ensures few { length rows.old < 14 → (result ≡ pos 10) × (seat.new ≡ seat.old) × (rows.new ≡ rows.old) }
-    ensures told { 14 ≤ length rows.old → Calls seat.old seat.new result (Lists from rows.old rows.new part.new result) }
+    ensures few { length rows.old < 1 → (result ≡ pos 10) × (seat.new ≡ seat.old) × (rows.new ≡ rows.old) }
+    ensures told { 1 ≤ length rows.old → Calls seat.old seat.new result (Lists (op.Part from) rows.old rows.new part.new result) }
     ensures rest { result ≢ pos 0 → rows.new ≡ rows.old }
 {
-    if rows.len() < MOST_PAIRS {
+    if rows.is_empty() {
         return FEW_ROWS;
     }
     let Some(mut mine) = taken(alloc, seat) else {
@@ -231,8 +256,37 @@ pub extern "C" fn blink_try_rows(
     put_back(alloc, seat, mine);
     match answer {
         Some(reply) => {
-            listed(&reply, rows, part);
-            part.near = near.unwrap_or(0);
+            listed(&reply, near.unwrap_or(0), rows, part);
+            OK
+        }
+        None => AGAIN,
+    }
+}
+
+/// The rows of one leaf from a key on downwards, as many as there is room for, into the caller's array.
+#[unsafe(no_mangle)]
+pub extern "C" fn blink_try_rows_down(
+    alloc: Global,
+    seat: &mut SeatOfC,
+    from: u64,
+    rows: &mut [Row],
+    part: &mut Part,
+) -> i32
+    ensures few { length rows.old < 1 → (result ≡ pos 10) × (seat.new ≡ seat.old) × (rows.new ≡ rows.old) }
+    ensures told { 1 ≤ length rows.old → Calls seat.old seat.new result (Lists (op.PartDown from) rows.old rows.new part.new result) }
+    ensures rest { result ≢ pos 0 → rows.new ≡ rows.old }
+{
+    if rows.is_empty() {
+        return FEW_ROWS;
+    }
+    let Some(mut mine) = taken(alloc, seat) else {
+        return CLOSED;
+    };
+    let answer = mine.part_down(from);
+    put_back(alloc, seat, mine);
+    match answer {
+        Some(reply) => {
+            listed(&reply, 0, rows, part);
             OK
         }
         None => AGAIN,

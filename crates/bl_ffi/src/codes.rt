@@ -20,12 +20,15 @@ pub(crate) const NO_MEMORY: i32 = 7;
 pub(crate) const BAD_IMAGE: i32 = 8;
 /// The seat is closed.
 pub(crate) const CLOSED: i32 = 9;
-/// There is room for fewer than 14 rows.
+/// There is too little room for rows.
 pub(crate) const FEW_ROWS: i32 = 10;
-
 /// A seat of the map is not among them.
 pub(crate) const SEATS_OPEN: i32 = 11;
 /// There is room for fewer bytes than the image has.
 pub(crate) const FEW_BYTES: i32 = 12;
 /// A share of the map was taken while its seats gave theirs up.
 pub(crate) const SEATS_LOST: i32 = 14;
+/// The keys of the rows do not rise.
+pub(crate) const BAD_ROWS: i32 = 15;
+/// The pages are to be filled with less than 1 row or more than 14, or so little that the tree would have more than 12 levels.
+pub(crate) const BAD_FILL: i32 = 16;

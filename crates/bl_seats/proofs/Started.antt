@@ -34,6 +34,7 @@ no_room_said key_reply.Inserted e = absurd (let f = e in cc)
 no_room_said key_reply.Changed e = absurd (let f = e in cc)
 no_room_said (key_reply.Found v) e = absurd (let f = e in cc)
 no_room_said (key_reply.Present v) e = absurd (let f = e in cc)
+no_room_said (key_reply.Replaced v) e = absurd (let f = e in cc)
 no_room_said (key_reply.Deleted v) e = absurd (let f = e in cc)
 no_room_said (key_reply.Differs v) e = absurd (let f = e in cc)
 

@@ -1,7 +1,7 @@
 -- What a seat does for its upkeep, and why a change is to be made again.
 use Rattle.std.specs.Prelude.{◌≡◌, ◌≢◌, ◌⊎◌, ℕ, ◌+◌, ◌<◌, ◌≤◌, Option}
 use Rattle.bl_model.specs.declared.deciding.KeyWrite.{KeyWrite}
-use Rattle.bl_model.specs.declared.deciding.KeyWrite.TheVariants.{Insert}
+use Rattle.bl_model.specs.declared.deciding.KeyWrite.TheVariants.{Insert, Put}
 use Rattle.bl_model.specs.declared.operation.Reply.{Reply}
 use Rattle.bl_model.specs.Writes.{write_op}
 use Rattle.bl_proc_base.specs.declared.answers.Answer.{Answer}
@@ -95,18 +95,20 @@ pub record HasPrepared (old : Seat) (upkeep : Upkeep) : Type 0 where
   pub few : count ≤ 16
   pub pieces : ArePieces mid.upkeep upkeep
 
-abbrev pub IsInsertion : KeyWrite → Type 0
-IsInsertion (Insert value) = Unit {0}
-IsInsertion other = ⊥
+-- it may enter a pair
+abbrev pub MayEnter : KeyWrite → Type 0
+MayEnter (Insert value) = Unit {0}
+MayEnter (Put value) = Unit {0}
+MayEnter other = ⊥
 
--- A change found no room: upkeep was done, and then it has swept eight times for frames; or, before an insertion, it has swept and looked
+-- A change found no room: upkeep was done, and then it has swept eight times for frames; or, before an insertion or a put, it has swept and looked
 -- about for pages. It is refused so once more in a row, and 65,536 times at most.
 pub record HasFoundNoRoom (write : KeyWrite) (old new : Seat) : Type 0 where
   pub tended : Seat
   pub upkeep : HasTended 16 old tended
   pub rests : tended.stage ≡ stage.Rests
   pub looked : Seat
-  pub looks : Swept 8 tended looked ⊎ (IsInsertion write × Tends 0 tended looked)
+  pub looks : Swept 8 tended looked ⊎ (MayEnter write × Tends 0 tended looked)
   pub now : (new.hand ≡ looked.hand) × (new.stage ≡ looked.stage)
   pub counted : (lacked_in new.upkeep ≡ lacked_in old.upkeep + 1) × (lacked_in new.upkeep ≤ 65536)
 

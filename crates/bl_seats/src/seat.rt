@@ -5,7 +5,7 @@ ghost use Rattle.std.specs.Arc.{arc_value};
 ghost use Rattle.bl_seats.specs.Pieces.{are_pieces, reply_in};
 ghost use Rattle.bl_seats.specs.Seats.{IsSeated};
 
-use crate::walk::{Walk, is_insertion, is_looked_through, waits_for_pages};
+use crate::walk::{Walk, is_looked_through, may_enter, waits_for_pages};
 use crate::working::{
     begin_following, begin_lowering, find, go_on, meet, part, release, start_writing,
 };
@@ -14,7 +14,7 @@ use bl_index::{Index, KeyReply, KeyWrite, Reply};
 use bl_index_rule::PassState;
 use bl_index_steps::Tree;
 use bl_index_turns::{Stage, stands};
-use bl_proc::{Answer, Hint, Lowered, Posted, Squeezed};
+use bl_proc::{Answer, Direction, Hint, Lowered, Posted, Squeezed};
 use bl_store::Hand;
 use std::alloc::Global;
 use std::ptr;
@@ -179,6 +179,7 @@ impl Seat {
     ghost use Rattle.bl_index_turns.specs.declared.stages.Stage.TheVariants as stages;
     ghost use Rattle.bl_model.specs.Replies.{reply_of};
     ghost use Rattle.bl_model.specs.Writes.{write_op};
+    ghost use Rattle.bl_proc.specs.Parts.{op_toward};
     ghost use Rattle.bl_seats.specs.Seats.{HasAnswered, HasWritten};
     ghost use Rattle.bl_seats.specs.Accounts.{AddsEntry, HasGone, Starts};
     ghost use Rattle.std.specs.Prelude.{ℕ, Option};
@@ -188,7 +189,7 @@ impl Seat {
     ghost use Rattle.bl_seats.specs.Calls.{IsSameSeat, HasToldLast, HasTold, HasGoneOn, HasGoneOnOrBegun, HasSwept, HasNothingToDo, HasBegunPiece};
     ghost use Rattle.bl_seats.specs.Calls.{HasCarriedOn, HasDoneMost, count_underway};
     ghost use Rattle.bl_seats.specs.Calls.{IsAbout, number_of, account_of, released_by, begun_by};
-    ghost use Rattle.bl_seats.specs.Tended.{IsAsItWas, KeepsUpkeep, Swept, Tends, DoesNoPiece, HasTended, HasPrepared, IsInsertion, HasToWait, HasChanged, HasCome};
+    ghost use Rattle.bl_seats.specs.Tended.{IsAsItWas, KeepsUpkeep, Swept, Tends, DoesNoPiece, HasTended, HasPrepared, MayEnter, HasToWait, HasChanged, HasCome};
     ghost use Rattle.bl_seats.specs.Meetings.{AreOfOne, HaveMet, HasSettled, HasNoAnswer};
     ghost use Rattle.bl_index.specs.Calls.{pages_of};
 
@@ -211,7 +212,8 @@ impl Seat {
         let _pages = self.index.fetch(keys);
     }
 
-    /// The rows of one leaf from a key on, and where the next part begins. None: as for a search.
+    /// The rows of one leaf from a key on, and where the next part begins. With a page in mind it looks at that one first, and leaves there
+    /// the one from which the way to the next part is short. None: as for a search.
     pub fn part(&mut self, from: u64, near: &mut Option<u32>) -> Option<Reply>
         ensures same { IsSameSeat self.old self.new }
         ensures worked { HasCarriedOn self.old self.new }
@@ -220,8 +222,20 @@ impl Seat {
         ensures listed { IfSome result (λ reply. HasToldLast (op.Part from) reply self.new) }
         ensures told { MatchOption result (HasGoneOn self.old self.new) (λ reply. HasTold (op.Part from) reply self.old self.new) }
     {
-        self.settle();
-        part(&self.index, &mut self.hand, &self.stage, from, near)
+        self.list(Direction::Up, from, near)
+    }
+
+    /// The rows of one leaf from a key on downwards, that key included, in falling order, and the key with which the next part downwards
+    /// begins. None: as for a search.
+    pub fn part_down(&mut self, from: u64) -> Option<Reply>
+        ensures same { IsSameSeat self.old self.new }
+        ensures worked { HasCarriedOn self.old self.new }
+        ensures upkeep { KeepsUpkeep self.old self.new }
+        ensures missed { IfNone result (HasNoAnswer self.old self.new) }
+        ensures listed { IfSome result (λ reply. HasToldLast (op.PartDown from) reply self.new) }
+        ensures told { MatchOption result (HasGoneOn self.old self.new) (λ reply. HasTold (op.PartDown from) reply self.old self.new) }
+    {
+        self.list(Direction::Down, from, &mut None)
     }
 
     /// Writes a key. None: it is not answered yet, and is to be made again; its process may be underway. Where it is not made again, it
@@ -317,6 +331,11 @@ impl Seat {
         self.index.tree().pages
     }
 
+    /// How many of them are free, about: others take and release some meanwhile.
+    pub fn free_pages(&self) -> u64 {
+        self.index.tree().store.free_pages()
+    }
+
     /// A place in the memory of its index. Seats of one index have one place, and seats of two that are open have two: no clause says so.
     pub fn place(&self) -> *const u32 {
         ptr::from_ref(&self.index.tree().pages)
@@ -369,6 +388,26 @@ impl Seat {
             Stage::Writes(process, _) => process.write.key == key && process.write.write == write,
             _ => false,
         }
+    }
+
+    /// The rows of one leaf from a key on, in that direction. None: as for a search.
+    fn list(&mut self, direction: Direction, from: u64, near: &mut Option<u32>) -> Option<Reply>
+        ensures same { IsSameSeat self.old self.new }
+        ensures worked { HasCarriedOn self.old self.new }
+        ensures upkeep { KeepsUpkeep self.old self.new }
+        ensures missed { IfNone result (HasNoAnswer self.old self.new) }
+        ensures listed { IfSome result (λ reply. HasToldLast (op_toward direction from) reply self.new) }
+        ensures told { MatchOption result (HasGoneOn self.old self.new) (λ reply. HasTold (op_toward direction from) reply self.old self.new) }
+    {
+        self.settle();
+        part(
+            &self.index,
+            &mut self.hand,
+            &self.stage,
+            direction,
+            from,
+            near,
+        )
     }
 
     /// What is underway goes on. A seat at which nothing is underway is as it was.
@@ -506,7 +545,7 @@ impl Seat {
         ensures told { account_of self.new ≡ account_of self.old }
         ensures keeps { (self.new.stage ≡ self.old.stage) × (lacked_in self.new.upkeep ≡ lacked_in self.old.upkeep) }
         ensures looked { DoesNoPiece self.old self.new }
-        ensures none { result ≡ false → Swept 8 self.old self.new ⊎ (IsInsertion write × Tends 0 self.old self.new) }
+        ensures none { result ≡ false → Swept 8 self.old self.new ⊎ (MayEnter write × Tends 0 self.old self.new) }
     {
         if !self.has_frames() {
             return false;
@@ -535,16 +574,16 @@ impl Seat {
         self.index.tree().store.lacks_frames(&self.hand)
     }
 
-    /// Whether an insertion finds a page for a split, or may begin since none is to be found: a walk has looked at all pages. Else the hint
+    /// Whether an insertion or a put finds a page for a split, or may begin since none is to be found: a walk has looked at all pages. Else the hint
     /// of a thin page waits now, or what is retired is not released yet.
     fn has_pages(&mut self, key: u64, write: KeyWrite) -> bool
         ensures same { IsSameSeat self.old self.new }
         ensures told { account_of self.new ≡ account_of self.old }
         ensures keeps { (self.new.stage ≡ self.old.stage) × (lacked_in self.new.upkeep ≡ lacked_in self.old.upkeep) }
         ensures looked { DoesNoPiece self.old self.new }
-        ensures only { result ≡ false → IsInsertion write }
+        ensures only { result ≡ false → MayEnter write }
     {
-        if !is_insertion(write) {
+        if !may_enter(write) {
             return true;
         }
         if !self.index.tree().may_lack_pages(key, write) {

@@ -1,7 +1,7 @@
 //! A walk over all pages of an index, to find such as are half full at most. It stops at each, and goes on from there.
 
 ghost use Rattle.std.specs.Prelude.{◌≡◌, true};
-ghost use Rattle.bl_seats.specs.Tended.{IsInsertion};
+ghost use Rattle.bl_seats.specs.Tended.{MayEnter};
 
 use bl_index::{Hint, KeyWrite};
 use bl_index_rule::PassState;
@@ -77,11 +77,11 @@ impl Walk {
     }
 }
 
-/// Whether it inserts.
-pub(crate) fn is_insertion(write: KeyWrite) -> bool
-    ensures { result ≡ true → IsInsertion write }
+/// Whether it may enter a pair.
+pub(crate) fn may_enter(write: KeyWrite) -> bool
+    ensures { result ≡ true → MayEnter write }
 {
-    matches!(write, KeyWrite::Insert(_))
+    matches!(write, KeyWrite::Insert(_) | KeyWrite::Put(_))
 }
 
 /// Whether pages are scarce while some wait to be released.

@@ -8,17 +8,23 @@ ghost use Rattle.bl_model.specs.Writes.{write_op};
 ghost use Rattle.bl_seats.specs.Seats.{IsSeated, IsSameOne, HasAnswered, HasFound, HasReplied, HasReleased, HasNotFound, HasWorked, HasWritten, HasFollowed, HasPosted, begun_in};
 ghost use Rattle.bl_seats.specs.Accounts.{account, HasGone, AddsEntry, Starts};
 ghost use Rattle.bl_index_turns.specs.Stages.{IsWriteOf, IsFor, IsLowering};
-ghost use Rattle.bl_store.specs.Hands.{known};
+ghost use Rattle.bl_proc.specs.Parts.{op_toward};
+ghost use Rattle.bl_store.specs.Hands.{known, IsIdle, IsSameHand, IsSameStock};
+ghost use Rattle.bl_store.specs.Owners.{IsHandOf};
+ghost use Rattle.bl_claims.specs.Seeing.{IsSeen};
+ghost use Rattle.bl_index_steps.specs.Runs.{Rests};
+ghost use Rattle.bl_index_read.specs.Searching.{AnswersOrRunsOut};
 ghost use Rattle.bl_index.specs.Meetings.{Meet};
 ghost use Rattle.bl_index_turns.specs.declared.stages.Stage.TheVariants as stages;
 
 use bl_index::{Hint, Index, KeyReply, KeyWrite, Reply};
-use bl_index_read::{find_key, list_part};
+use bl_index_read::{OutOfTurns, find_key, list_part, list_part_down};
 use bl_index_rule::PassState;
+use bl_index_steps::Tree;
 use bl_index_turns::{
     Stage, advance, begin_hint, begin_lower, stands, start_post, start_write, sweep,
 };
-use bl_proc::{Answer, Posted};
+use bl_proc::{Answer, Direction, Posted};
 use bl_store::Hand;
 
 /// How many events a call takes at most for each process that it carries on.
@@ -50,11 +56,37 @@ pub(crate) fn find(
     }
 }
 
-/// The rows of one leaf from a key on. None: as for a search.
+/// Carries a part out in that direction, from its begin to its end: it is answered, or has got so many pages. With a page in mind it
+/// looks at that one first; upwards it leaves there the page to which its leaf links.
+fn list(
+    tree: &Tree,
+    hand: &mut Hand<PassState>,
+    direction: Direction,
+    from: u64,
+    near: &mut Option<u32>,
+    turns: u32,
+) -> Result<Reply, OutOfTurns>
+    requires own { IsHandOf tree.now.store hand.old }
+    requires idle { IsIdle hand.old.seat }
+    ensures same { IsSameHand hand.old.seat hand.new.seat × IsSameStock hand.old.seat hand.new.seat }
+    ensures rests { Rests hand.new.seat }
+    ensures first { (known hand.new.seat).first ≡ (known hand.old.seat).first }
+    ensures seen { IsSeen (known hand.new.seat).first (known hand.new.seat).trail }
+    ensures answers { AnswersOrRunsOut (known hand.old.seat).first tree.now.store.layout.pages hand.old.number turns (op_toward direction from) result
+        (known hand.old.seat).trail (known hand.new.seat).trail }
+{
+    match direction {
+        Direction::Up => list_part(tree, hand, from, near, turns),
+        Direction::Down => list_part_down(tree, hand, from, *near, turns),
+    }
+}
+
+/// The rows of one leaf from a key on, in that direction. None: as for a search.
 pub(crate) fn part(
     index: &Index,
     hand: &mut Hand<PassState>,
     stage: &Stage,
+    direction: Direction,
     from: u64,
     near: &mut Option<u32>,
 ) -> Option<Reply>
@@ -63,13 +95,13 @@ pub(crate) fn part(
     ensures stands { IsSeated index.now hand.new stage.now }
     ensures kept { stage.now ≢ stages.Rests → hand.new ≡ hand.old }
     ensures missed { IfNone result (HasNotFound index.now stage.now hand.old hand.new) }
-    ensures listed { IfSome result (λ reply. HasReplied hand.new (op.Part from) reply) }
+    ensures listed { IfSome result (λ reply. HasReplied hand.new (op_toward direction from) reply) }
     ensures told { MatchOption result (account hand.new stage.now ≡ account hand.old stage.now)
-        (λ reply. AddsEntry hand.old.number (op.Part from) reply (account hand.old stage.now) (account hand.new stage.now)) }
+        (λ reply. AddsEntry hand.old.number (op_toward direction from) reply (account hand.old stage.now) (account hand.new stage.now)) }
 {
     stands(index.tree(), hand, stage);
     match stage {
-        Stage::Rests => match list_part(index.tree(), hand, from, near, index.patience()) {
+        Stage::Rests => match list(index.tree(), hand, direction, from, near, index.patience()) {
             Ok(rows) => Some(rows),
             Err(_) => None,
         },

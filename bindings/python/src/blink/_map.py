@@ -8,7 +8,6 @@ import threading
 import warnings
 import weakref
 from array import array
-from bisect import bisect_left, bisect_right
 from collections.abc import ItemsView, Iterable, Iterator, KeysView, Mapping, MutableMapping, ValuesView
 from operator import index
 from typing import Any, NoReturn, TypeVar, overload
@@ -350,25 +349,18 @@ class Map(MutableMapping[int, int]):
         """The keys and values of a range, both bounds among it, in lists of some length."""
         if low > high:
             return
-        keys, values, fall = array("Q", bytes(4096)), array("Q", bytes(4096)), _new("blink_fall *")
+        keys, values, part = array("Q", bytes(4096)), array("Q", bytes(4096)), _new("shim_range *")
         into = ffi.from_buffer("uint64_t[]", keys), ffi.from_buffer("uint64_t[]", values)
-        fall.next, fall.more = high if is_falling else low, True
+        part.next, part.last = (high, low) if is_falling else (low, high)
+        part.more = True
         # Few at first, since many iterations are left early.
         most = 32
-        while fall.more and low <= fall.next <= high:
-            code = lib.shim_rows(self._at, is_falling, most, *into, fall)
+        while part.more:
+            code = lib.shim_rows(self._at, is_falling, most, *into, part)
             if code != _OK:
                 _refuse(code)
-            got, count = keys[: fall.count].tolist(), fall.count
-            if is_falling:
-                while count and got[count - 1] < low:
-                    count = len(got) - bisect_left(got[::-1], low)
-            elif count and got[-1] > high:
-                count = bisect_right(got, high)
-            if count:
-                yield got[:count], values[:count].tolist()
-            if count < len(got):
-                return
+            if part.count:
+                yield keys[: part.count].tolist(), values[: part.count].tolist()
             most = 512
 
     def _keys(self, low: int, high: int, is_falling: bool = False) -> Iterator[int]:
@@ -381,7 +373,7 @@ class Map(MutableMapping[int, int]):
         return self._keys(0, _MOST)
 
     def __reversed__(self) -> Iterator[int]:
-        """Keys downwards: a row costs about twice what it costs upwards."""
+        """Keys downwards."""
         return self._keys(0, _MOST, True)
 
     def irange(
@@ -407,7 +399,7 @@ class Map(MutableMapping[int, int]):
         return _Values(self)
 
     def peekitem(self, index: int = -1) -> tuple[int, int]:
-        """The row at a place of the order; -1 is the last one. The first is one call, the last a search of up to 64 leaves;
+        """The row at a place of the order; -1 is the last one. The first and the last are one call;
         others are counted to from the nearer end, since the map has no ranks. IndexError where there are fewer rows."""
         if index == -1:
             row = _new("blink_row *")

@@ -215,17 +215,23 @@ static int32_t shim_last(shim_map *map, uint64_t most, blink_row *row) {
     return answer;
 }
 
-/* Rows by rising or by falling keys from `fall->next` on, as keys and values apart: so many at most, 32 to 512. `fall` tells
- * how far they go, upwards too, and is all zeros but for `next` at first. */
+/* How far the rows of a range go: those that were written, and where further ones begin, if there may be any. */
+typedef struct shim_range {
+    uint64_t next, last;
+    size_t count;
+    bool more;
+} shim_range;
+
+/* Rows by rising or by falling keys, `range->next` to `range->last`, as keys and values apart: so many at most, 1 to 512. */
 static int32_t shim_rows(shim_map *map, bool is_falling, size_t most, uint64_t *keys, uint64_t *values,
-                         blink_fall *fall) {
+                         shim_range *range) {
     blink_row rows[512];
-    uint64_t from = fall->next;
+    uint64_t from = range->next;
     size_t at;
-    SHIM_CALL(map, answer = is_falling ? blink_more_scan_down(seat, from, rows, most, fall)
-                                       : blink_scan(seat, from, rows, most, &fall->count, &fall->next, &fall->more))
+    SHIM_CALL(map, answer = (is_falling ? blink_scan_down_to : blink_scan_to)(
+                       seat, from, range->last, rows, most, &range->count, &range->next, &range->more))
     if (answer != BLINK_OK) return answer;
-    for (at = 0; at < fall->count; at++) {
+    for (at = 0; at < range->count; at++) {
         keys[at] = rows[at].key;
         values[at] = rows[at].value;
     }

@@ -29,12 +29,26 @@ pub struct blink_row {
 pub struct blink_part {
     /// How many rows were written.
     pub count: u64,
-    /// The key from which the rows go on, if they do.
+    /// The key from which the rows go on, itself included, if they do.
     pub next: u64,
     /// Whether they go on.
     pub more: bool,
     /// Opaque; it is passed back unchanged.
     pub near: u32,
+}
+
+/// How full a map is, and what one of its seats has left to do.
+#[repr(C)]
+#[derive(Clone, Copy, Debug, Default)]
+pub struct blink_stats {
+    /// How many pages the map has.
+    pub pages: u64,
+    /// How many of them are free, about.
+    pub free_pages: u64,
+    /// How many pieces of upkeep of the seat wait.
+    pub waiting: u64,
+    /// How many were dropped.
+    pub dropped: u64,
 }
 
 /// Done.
@@ -57,7 +71,7 @@ pub const BLINK_NO_MEMORY: i32 = 7;
 pub const BLINK_BAD_IMAGE: i32 = 8;
 /// The seat is closed.
 pub const BLINK_CLOSED: i32 = 9;
-/// There is room for fewer than [`BLINK_LEAF_ROWS`] rows.
+/// There is too little room for rows.
 pub const BLINK_FEW_ROWS: i32 = 10;
 /// A seat of the map is not among these.
 pub const BLINK_SEATS_OPEN: i32 = 11;
@@ -67,7 +81,11 @@ pub const BLINK_FEW_BYTES: i32 = 12;
 pub const BLINK_OTHER_MAP: i32 = 13;
 /// All seats are closed, and there is no image.
 pub const BLINK_SEATS_LOST: i32 = 14;
-/// The most rows of one leaf, and so the least room for rows that a call takes.
+/// The keys of the rows do not rise.
+pub const BLINK_BAD_ROWS: i32 = 15;
+/// Pages are to have less than 1 row or more than 14; or so few that the tree would have more than 12 levels.
+pub const BLINK_BAD_FILL: i32 = 16;
+/// The most rows of one leaf.
 pub const BLINK_LEAF_ROWS: usize = 14;
 
 #[allow(missing_docs)] // The header has them.
@@ -83,6 +101,24 @@ extern "C" {
         room: usize,
         length: *mut u64,
     ) -> i32;
+    pub fn blink_image_of(
+        rows: *const blink_row,
+        count: usize,
+        pages: u32,
+        fill: u32,
+        bytes: *mut u8,
+        room: usize,
+        length: *mut u64,
+    ) -> i32;
+    pub fn blink_save(
+        seat: *mut blink_seat,
+        fill: u32,
+        rows: *mut blink_row,
+        most: usize,
+        bytes: *mut u8,
+        room: usize,
+        length: *mut u64,
+    ) -> i32;
     pub fn blink_find(seat: *mut blink_seat, key: u64, value: *mut u64) -> i32;
     pub fn blink_find_many(
         seat: *mut blink_seat,
@@ -93,11 +129,41 @@ extern "C" {
     ) -> i32;
     pub fn blink_fetch(seat: *mut blink_seat, keys: *const u64, count: usize) -> i32;
     pub fn blink_insert(seat: *mut blink_seat, key: u64, value: u64, there: *mut u64) -> i32;
+    pub fn blink_put(seat: *mut blink_seat, key: u64, value: u64, old: *mut u64) -> i32;
     pub fn blink_delete(seat: *mut blink_seat, key: u64, gone: *mut u64) -> i32;
     pub fn blink_change(seat: *mut blink_seat, key: u64, old_value: u64, new_value: u64, there: *mut u64) -> i32;
     pub fn blink_scan(
         seat: *mut blink_seat,
         from: u64,
+        rows: *mut blink_row,
+        room: usize,
+        count: *mut usize,
+        next: *mut u64,
+        more: *mut bool,
+    ) -> i32;
+    pub fn blink_scan_to(
+        seat: *mut blink_seat,
+        from: u64,
+        last: u64,
+        rows: *mut blink_row,
+        room: usize,
+        count: *mut usize,
+        next: *mut u64,
+        more: *mut bool,
+    ) -> i32;
+    pub fn blink_scan_down(
+        seat: *mut blink_seat,
+        from: u64,
+        rows: *mut blink_row,
+        room: usize,
+        count: *mut usize,
+        next: *mut u64,
+        more: *mut bool,
+    ) -> i32;
+    pub fn blink_scan_down_to(
+        seat: *mut blink_seat,
+        from: u64,
+        last: u64,
         rows: *mut blink_row,
         room: usize,
         count: *mut usize,
@@ -111,10 +177,18 @@ extern "C" {
         room: usize,
         part: *mut blink_part,
     ) -> i32;
+    pub fn blink_rows_down(
+        seat: *mut blink_seat,
+        from: u64,
+        rows: *mut blink_row,
+        room: usize,
+        part: *mut blink_part,
+    ) -> i32;
     pub fn blink_upkeep(seat: *mut blink_seat, most: u32) -> i32;
     pub fn blink_upkeep_all(seat: *mut blink_seat) -> i32;
     pub fn blink_waiting(seat: *mut blink_seat) -> u32;
     pub fn blink_dropped(seat: *mut blink_seat) -> u64;
+    pub fn blink_stat(seat: *mut blink_seat, stats: *mut blink_stats) -> i32;
     pub fn blink_meet(one: *mut blink_seat, two: *mut blink_seat) -> i32;
     pub fn blink_map(seat: *mut blink_seat, place: *mut *const u32) -> i32;
     pub fn blink_text(code: i32) -> *const c_char;
@@ -122,9 +196,17 @@ extern "C" {
     pub fn blink_try_close(seat: *mut blink_seat) -> i32;
     pub fn blink_try_find(seat: *mut blink_seat, key: u64, value: *mut u64) -> i32;
     pub fn blink_try_insert(seat: *mut blink_seat, key: u64, value: u64, there: *mut u64) -> i32;
+    pub fn blink_try_put(seat: *mut blink_seat, key: u64, value: u64, old: *mut u64) -> i32;
     pub fn blink_try_delete(seat: *mut blink_seat, key: u64, gone: *mut u64) -> i32;
     pub fn blink_try_change(seat: *mut blink_seat, key: u64, old_value: u64, new_value: u64, there: *mut u64) -> i32;
     pub fn blink_try_rows(
+        seat: *mut blink_seat,
+        from: u64,
+        rows: *mut blink_row,
+        room: usize,
+        part: *mut blink_part,
+    ) -> i32;
+    pub fn blink_try_rows_down(
         seat: *mut blink_seat,
         from: u64,
         rows: *mut blink_row,

@@ -25,7 +25,6 @@
 #![deny(unsafe_op_in_unsafe_fn)]
 
 mod error;
-mod fall;
 mod range;
 
 pub use error::{CloseError, ExchangeError, NoRoom, OpenError};
@@ -235,26 +234,17 @@ impl Handle {
 
     /// Puts the value at the key, whatever is there: the value that was there.
     ///
-    /// It is an insertion, or an insertion and a change, and goes round while others write the key in between. As a whole it
-    /// takes effect at one moment, that of its last call.
-    ///
     /// # Errors
     ///
     /// Where no page or frame was free.
     pub fn put(&self, key: u64, value: u64) -> Result<Option<u64>, NoRoom> {
-        while let Some(there) = self.insert(key, value)? {
-            let mut seen = there;
-            loop {
-                match self.compare_exchange(key, seen, value) {
-                    Ok(()) => return Ok(Some(seen)),
-                    Err(ExchangeError::Differs(other)) => seen = other,
-                    // It was taken away meanwhile, and is inserted anew.
-                    Err(ExchangeError::Absent) => break,
-                    Err(ExchangeError::NoRoom) => return Err(NoRoom),
-                }
-            }
+        let mut old = 0;
+        match unsafe { blink_put(self.at(), key, value, &mut old) } {
+            BLINK_OK => Ok(None),
+            BLINK_PRESENT => Ok(Some(old)),
+            BLINK_NO_ROOM => Err(NoRoom),
+            code => error::unexpected(code),
         }
-        Ok(None)
     }
 
     /// Takes the key away: the value that it had.
@@ -308,7 +298,7 @@ impl Handle {
     }
 
     /// The rows of a range by rising keys, or by falling ones from its end. Each leaf is read at one moment; the whole is no
-    /// snapshot. From the end a row costs about twice what it costs from the front.
+    /// snapshot.
     pub fn range(&self, range: impl RangeBounds<u64>) -> Range<'_> {
         let low = match range.start_bound() {
             Bound::Included(&key) => Some(key),
@@ -336,9 +326,9 @@ impl Handle {
         self.iter().next()
     }
 
-    /// The row of the greatest key, which is searched in up to 64 leaves.
+    /// The row of the greatest key.
     pub fn last(&self) -> Option<(u64, u64)> {
-        fall::last(self, u64::MAX).map(|row| (row.key, row.value))
+        self.iter().next_back()
     }
 
     /// Does so many pieces of upkeep at most: whether nothing is left to do. No program need call it.

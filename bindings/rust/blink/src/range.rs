@@ -1,5 +1,4 @@
 //! Rows of a range, from both ends.
-use crate::fall::Fall;
 use crate::{error, Handle};
 use blink_sys::*;
 use std::fmt;
@@ -13,20 +12,52 @@ pub struct Range<'a> {
     high: u64,
     is_done: bool,
     front: Ahead,
-    /// The key from which the library lists further rows, if there may be any.
-    next: Option<u64>,
     back: Ahead,
-    fall: Fall,
+}
+
+/// Which way rows are read.
+#[derive(Clone, Copy)]
+enum Way {
+    Up,
+    Down,
 }
 
 /// Rows that were read and not told yet.
-#[derive(Default)]
 struct Ahead {
+    way: Way,
     rows: Vec<blink_row>,
     at: usize,
+    /// The key from which the library lists further rows, if there may be any.
+    next: Option<u64>,
 }
 
 impl Ahead {
+    fn new(way: Way, next: u64) -> Ahead {
+        Ahead { way, rows: Vec::new(), at: 0, next: Some(next) }
+    }
+
+    /// Reads further rows up to the key `last`, itself included: few at first, since many ranges are left early. Whether there may be any.
+    fn read(&mut self, handle: &Handle, last: u64) -> bool {
+        let Some(from) = self.next else { return false };
+        let room = if self.rows.is_empty() { 32 } else { 128 };
+        let (mut count, mut next, mut more) = (0, 0, false);
+        self.rows.resize(room, blink_row::default());
+        let scan = match self.way {
+            Way::Up => blink_scan_to,
+            Way::Down => blink_scan_down_to,
+        };
+        // SAFETY: the seat is the handle's alone, and each other pointer is of a vector or a variable that is there.
+        let code =
+            unsafe { scan(handle.at(), from, last, self.rows.as_mut_ptr(), room, &mut count, &mut next, &mut more) };
+        if code != BLINK_OK {
+            error::unexpected(code);
+        }
+        self.rows.truncate(count);
+        self.at = 0;
+        self.next = Some(next).filter(|_| more);
+        true
+    }
+
     fn take(&mut self) -> Option<blink_row> {
         let row = self.rows.get(self.at).copied();
         self.at += row.is_some() as usize;
@@ -36,25 +67,8 @@ impl Ahead {
 
 impl<'a> Range<'a> {
     pub(crate) fn new(handle: &'a Handle, low: u64, high: u64) -> Range<'a> {
-        let (front, back) = (Ahead::default(), Ahead::default());
-        Range { handle, low, high, is_done: low > high, front, next: Some(low), back, fall: Fall::from(high) }
-    }
-
-    /// Reads further rows upwards: few at first, since many ranges are left early.
-    fn read_up(&mut self, from: u64) {
-        let room = if self.front.rows.is_empty() { 32 } else { 128 };
-        let (mut count, mut next, mut more) = (0, 0, false);
-        self.front.rows.resize(room, blink_row::default());
-        // SAFETY: the seat is the handle's alone, and each other pointer is of a vector or a variable that is there.
-        let code = unsafe {
-            blink_scan(self.handle.at(), from, self.front.rows.as_mut_ptr(), room, &mut count, &mut next, &mut more)
-        };
-        if code != BLINK_OK {
-            error::unexpected(code);
-        }
-        self.front.rows.truncate(count);
-        self.front.at = 0;
-        self.next = Some(next).filter(|_| more);
+        let (front, back) = (Ahead::new(Way::Up, low), Ahead::new(Way::Down, high));
+        Range { handle, low, high, is_done: low > high, front, back }
     }
 
     fn told(&mut self, row: blink_row) -> Option<(u64, u64)> {
@@ -76,10 +90,7 @@ impl Iterator for Range<'_> {
                     return told;
                 }
                 Some(_) => self.is_done = true,
-                None => match self.next.filter(|next| *next <= self.high) {
-                    Some(next) => self.read_up(next.max(self.low)),
-                    None => self.is_done = true,
-                },
+                None => self.is_done = !self.front.read(self.handle, self.high),
             }
         }
         None
@@ -97,11 +108,7 @@ impl DoubleEndedIterator for Range<'_> {
                     return told;
                 }
                 Some(_) => self.is_done = true,
-                None => {
-                    self.fall.scan_down(self.handle, self.low, &mut self.back.rows);
-                    self.back.at = 0;
-                    self.is_done = self.back.rows.is_empty();
-                }
+                None => self.is_done = !self.back.read(self.handle, self.low),
             }
         }
         None

@@ -9,9 +9,9 @@ loop-number-preserved c =
     let pairs = c.in-Rows.pairs.items in let i = c.loop-number.number in let inv = c.loop-number.invariant in let old = c.args.rows.now in
     let pair = get_or pairs i (0, 0) in
     let made = ap (λ (z : List (ℕ × ℕ)). row_of (get_or z i (0, 0))) c.deref.ensures.0 in
-    let value = c.len-number-end.ensures.value in let fits = c.len-number-end.ensures.fits in let room = c.requires.room in
-    let lt : i < length pairs = omega (arith, c.loop-number-test.true, value) in
-    let low : i < length old = omega (arith, c.loop-number-test.true, value, fits, room) in
+    let test = c.loop-number-test.true in let count = c.min-count.ensures in let value = c.len.ensures.value in
+    let lt : i < length pairs = omega (arith, test, count, value) in
+    let low : i < length old = omega (arith, test, count, value) in
     record {
       long = set_length c.loop-number.rows i _ ∙ inv.long;
       so_far = list_next pairs old c.loop-number.rows i pair _ lt low (same_there pairs i (0, 0) pair lt) made inv.so_far;

@@ -4,11 +4,11 @@ use Rattle.bl_seats.specs.Waits.{lacked_in}
 use Rattle.bl_seats.proofs.Tending.{seat_same, seat_still, tends_swept, found_from}
 use Rattle.bl_seats.proofs.seat.Seat.has_pages.Goals as goal
 
-pub returns-then-not-is_insertion-clause-same : goal.returns-then-not-is_insertion-clause-same
-returns-then-not-is_insertion-clause-same c = seat_same c.args.self.now
+pub returns-then-not-may_enter-clause-same : goal.returns-then-not-may_enter-clause-same
+returns-then-not-may_enter-clause-same c = seat_same c.args.self.now
 
-pub returns-then-not-is_insertion-clause-looked : goal.returns-then-not-is_insertion-clause-looked
-returns-then-not-is_insertion-clause-looked c = λ n from t. t
+pub returns-then-not-may_enter-clause-looked : goal.returns-then-not-may_enter-clause-looked
+returns-then-not-may_enter-clause-looked c = λ n from t. t
 
 pub returns-then-not-may_lack_pages-clause-same : goal.returns-then-not-may_lack_pages-clause-same
 returns-then-not-may_lack_pages-clause-same c = seat_same c.args.self.now
@@ -41,4 +41,4 @@ returns-clause-looked c =
     λ n from t. Tends.Looks (tends_swept t c.release_pages.ensures.swept.1) looks
 
 pub returns-clause-only : goal.returns-clause-only
-returns-clause-only c = λ _. c.is_insertion.ensures c.if-not-is_insertion.false
+returns-clause-only c = λ _. c.may_enter.ensures c.if-not-may_enter.false

@@ -1,6 +1,6 @@
 use Rattle.bl_seats.proofs.Gone.{no_answer, worked_still}
 use Rattle.bl_seats.proofs.Tending.{one_after}
-use Rattle.bl_seats.proofs.seat.Seat.part.Goals as goal
+use Rattle.bl_seats.proofs.seat.Seat.list.Goals as goal
 
 pub returns-clause-same : goal.returns-clause-same
 returns-clause-same c = (c.settle.ensures.same.0, one_after c.args.self.now.hand c.settle.new.self.hand c.part.new.hand c.settle.ensures.same.1 c.part.ensures.same)
