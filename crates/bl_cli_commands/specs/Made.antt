@@ -26,7 +26,7 @@ abbrev pub CannotMake : MakeFault → List ℕ → Type 0 → Type 0 → ℕ →
 CannotMake (Rows fault) bytes at_end reader_failed pages fill = IsRowsFault bytes at_end reader_failed fault
 CannotMake (Image fault) bytes at_end reader_failed pages fill = LacksImage (λ rows. IsImageFault rows pages fill fault) bytes at_end
 
--- 3 where reading failed, a line is bad, or the rows have no room; 4 where there was no memory; 5 for what does not happen
+-- 3 where reading failed, a line is bad, or the rows have no room; 4 where there was no memory
 abbrev pub status_of_rows : MakeFault → ℕ
 status_of_rows (Rows (rows.NoRow line)) = 3
 status_of_rows (Rows (rows.NotAbove line)) = 3
@@ -37,5 +37,4 @@ status_of_rows (Image load.Fill) = 3
 status_of_rows (Image (load.Order place)) = 3
 status_of_rows (Image load.Room) = 3
 status_of_rows (Image load.Levels) = 3
-status_of_rows (Image load.Wrong) = 5
 status_of_rows (Image load.Memory) = 4

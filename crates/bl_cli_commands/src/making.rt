@@ -29,7 +29,6 @@ impl MakeFault {
     {
         match self {
             MakeFault::Rows(RowsFault::Memory) | MakeFault::Image(LoadFault::Memory) => 4,
-            MakeFault::Image(LoadFault::Wrong) => 5,
             MakeFault::Rows(_) | MakeFault::Image(_) => 3,
         }
     }

@@ -1,7 +1,7 @@
 //! What `--version` says, and what stands behind the options in the help of each command. No line has more than 80 columns.
 
 /// The version of the program, and the toolchain that it is proved with.
-pub(crate) const VERSION: &str = "0.1.0, proved with rattle-kit-13f logic dac8208d650f15bf";
+pub(crate) const VERSION: &str = "0.1.0, proved with rattle-kit-13b logic dac8208d650f15bf";
 
 /// Of all commands.
 pub(crate) const ABOUT_ALL: &str = "\
@@ -20,11 +20,14 @@ Requests, a line each, in lower case with one space between words; numbers are 0
 to 18446744073709551615:
   find K            found V, or absent
   insert K V        inserted; or present V, with the value that stays; or noroom
+  put K V           inserted; or replaced V, with the value that went; or noroom
   delete K          deleted V, or absent; or noroom
   change K OLD NEW  changed; or differs V, where V is not OLD and stays; or
                     absent; or noroom
   scan LO HI        rows K=V K=V, the rows from key LO on and below key HI, by
                     rising keys
+  scandown LO HI    the same rows, by falling keys
+  scanfrom LO       rows K=V K=V, all rows from key LO on, by rising keys
   sync              synced: the end of a section
 Any other line is malformed; standard error says at the end how many were, and
 which was the first. Each reply begins with the number of its line.
@@ -144,9 +147,12 @@ memory.";
 /// Of `replay`.
 pub(crate) const ABOUT_REPLAY: &str = "\
 The lines of a script; the first is `pages N`:
-  find K, insert K V, delete K, change K OLD NEW, part K  each starts a process
+  find K, insert K V, put K V, delete K, change K OLD NEW, part K  each starts a
+                     process
   insertpost K V     so does this: an insertion that lists what it splits itself
+  putpost K V        and this: a put that does so
   findnear K X       and this: a search that looks first at page X
+  partdown K         and this: a part downwards, by falling keys
   partnear K X       and this: a part that does so
   post L K, compress L K, lower, reclaim X  and these, which keep up the tree
   turn P, turn P X   one turn of process P; a take tries page X

@@ -24,9 +24,10 @@ use Rattle.bl_serve.specs.Sections.{rests, syncs, end_text, CountsSection, Held}
 use Rattle.bl_serve.specs.Serving.{ServedBy}
 use Rattle.bl_page.specs.declared.page.Page.{Page}
 use Rattle.bl_claims.specs.Trails.{Trail, history_of}
-use Rattle.bl_claims.specs.Seeing.{first_map, IsLinearizable}
+use Rattle.bl_claims.specs.Seeing.{first_map, rows_in, IsLinearizable}
 use Rattle.bl_index.specs.Calls.{map_after}
 use Rattle.bl_serve_lines.proofs.Sections.{output_append, no_sync_inside, no_sync_any}
+use Rattle.bl_serve.proofs.Finite.{finite_rows, finite_history}
 use Rattle.bl_serve.proofs.Spelled.{lines_with, AreLines, are_lines, no_sync_lines, sync_lines, lawful}
 
 -- a section that was answered: its lines and its part of the history
@@ -254,7 +255,8 @@ pub stops_reading : (first : List (Option Page)) (old now : Trail) (before : Tot
 stops_reading first old now before input output unread left rest asked ReaderFailed WriterFailed p seen r no_sync none failed =
     let s = p.sections in
     let so_far = legal_so_far first old now (served.history_of s) seen p.more p.begins p.history in
-    let l = lawful (final_map (map_after first old) (served.history_of s)) asked r.texts r.each in
+    let finite = finite_history (map_after first old) (served.history_of s) (finite_history (first_map first) (history_of old) (finite_rows (rows_in first))) in
+    let l = lawful (final_map (map_after first old) (served.history_of s)) finite asked r.texts r.each in
     let are = are_lines asked r.texts l.answers r.each l.each in
     let lines : List Line = lines_with r.texts l.answers in
     let last : Section = record { lines = lines; history = flat_map entries l.answers } in

@@ -5,6 +5,7 @@ pub mod Chaining
 pub mod Shares
 pub mod Sections
 pub mod Together
+pub mod Finite
 pub mod Spelled
 pub mod Advance
 pub mod Holding

@@ -1,5 +1,5 @@
 -- Lines of the input, from their bytes and their answers.
-use Rattle.std.proofs.Common.{◌≡◌, ◌≢◌, ℕ, zero, suc, ◌+◌, ◌<◌, ◌≤◌, List, [], ◌∷◌, ◌++◌, length, map, refl, sym, ap, ◌∙◌, subst, arith, ⊎_elim, inl, inr}
+use Rattle.std.proofs.Common.{◌≡◌, ◌≢◌, ℕ, zero, suc, ◌+◌, ◌<◌, ◌≤◌, List, [], ◌∷◌, ◌++◌, length, map, reverse, refl, sym, ap, ◌∙◌, subst, arith, ⊎_elim, inl, inr}
 use Rattle.std.specs.Prelude.{◌↔◌, All, Contains, Option, Some, None, flat_map, slice_index_or, sum_by, count_by, is_none, IsSome}
 use Rattle.std.specs.List.{AllZip}
 use Rattle.std.proofs.lemmas.Bool.{cases_eq, cases_lt}
@@ -8,22 +8,23 @@ use Rattle.std.proofs.lemmas.List.Concat.{flat_map-cons}
 use Rattle.std.proofs.lemmas.List.Elements.{All-nil, All-cons, All-head, All-tail}
 use Rattle.bl_model.specs.declared.operation.Entry.{Entry}
 use Rattle.bl_model.specs.declared.operation.Op.{Op}
-use Rattle.bl_model.specs.declared.operation.Op.TheVariants.{Find, Insert, Delete, Change, Part}
+use Rattle.bl_model.specs.declared.operation.Op.TheVariants.{Find, Insert, Put, Delete, Change, Part, PartDown}
 use Rattle.bl_model.specs.declared.operation.Reply.{Reply}
-use Rattle.bl_model.specs.declared.operation.Next.TheVariants.{More}
+use Rattle.bl_model.specs.declared.operation.Next.TheVariants.{More, End}
 use Rattle.bl_model.specs.declared.operation.Reply.TheVariants.{Found, Absent, Present, Differs, Rows, NoRoom}
 use Rattle.bl_serve_lines.specs.declared.request.Request.{Request}
-use Rattle.bl_serve_lines.specs.declared.request.Request.TheVariants.{Ask, Scan, Sync}
-use Rattle.bl_model.specs.Map.{Map, MayAnswer, map_step}
+use Rattle.bl_serve_lines.specs.declared.request.Request.TheVariants.{Ask, Scan, ScanFrom, ScanDown, Sync}
+use Rattle.bl_model.specs.Map.{Map, MayAnswer, ListsPairs, map_step}
 use Rattle.bl_model.specs.History.{IsLegalFrom, final_map}
 use Rattle.bl_model.specs.Rows.{HasRisingKeys}
 use Rattle.bl_model.proofs.Histories.{legal_append}
-use Rattle.bl_serve_lines.specs.Lines.{Line, IsLine, AreParts, Fits, Answer, Replied, Scanned, Synced, Malformed, entries, answer_text, input_of, output_of}
+use Rattle.bl_serve_lines.specs.Lines.{Line, IsLine, AreParts, ArePartsDown, Fits, Answer, Replied, Scanned, ScannedDown, Synced, Malformed, key_below, entries, answer_text, input_of, output_of}
 use Rattle.bl_serve_lines.specs.Text.{Means, Spells, numbered}
 use Rattle.bl_serve_lines.specs.Served.{HasNoSync, malformed_of}
 use Rattle.bl_serve_worker.specs.Answering.{IsFor, answers_text}
-use Rattle.bl_serve_worker.specs.Answering.IsFor.{Replies, Scans, Syncs, Refuses}
+use Rattle.bl_serve_worker.specs.Answering.IsFor.{Replies, Scans, ScansFrom, ScansDown, Syncs, Refuses}
 use Rattle.bl_serve.specs.Reading.{IsReadAs, bytes_of, AsksNoSync, AsksSyncLast}
+use Rattle.bl_serve.proofs.Finite.{IsFinite, finite_step, finite_history}
 
 abbrev pub lines_with : List (List ℕ) → List Answer → List Line
 lines_with [] answers = []
@@ -33,24 +34,32 @@ lines_with (text ∷ texts) (answer ∷ answers) = record { bytes = text; answer
 fits_one : {asked : Option Request} {answer : Answer} → IsFor asked answer → (bytes : List ℕ) → Means bytes asked → Fits bytes answer
 fits_one (Replies entry) bytes m = m
 fits_one (Scans low high parts are) bytes m = (m, are)
+fits_one (ScansFrom low parts are) bytes m = (m, are)
+fits_one (ScansDown low high parts are) bytes m = (m, are)
 fits_one Syncs bytes m = m
 fits_one Refuses bytes m = m
 
 malformed_one : {asked : Option Request} {answer : Answer} → IsFor asked answer → malformed_of answer ≡ count_by is_none (asked ∷ [])
 malformed_one (Replies entry) = refl
 malformed_one (Scans low high parts are) = refl
+malformed_one (ScansFrom low parts are) = refl
+malformed_one (ScansDown low high parts are) = refl
 malformed_one Syncs = refl
 malformed_one Refuses = refl
 
 not_synced : {asked : Option Request} {answer : Answer} → IsFor asked answer → asked ≢ Some Sync → answer ≢ Synced
 not_synced (Replies entry) other e = let no : ⊥ = cc in no
 not_synced (Scans low high parts are) other e = let no : ⊥ = cc in no
+not_synced (ScansFrom low parts are) other e = let no : ⊥ = cc in no
+not_synced (ScansDown low high parts are) other e = let no : ⊥ = cc in no
 not_synced Syncs other e = other refl
 not_synced Refuses other e = let no : ⊥ = cc in no
 
 is_synced : {asked : Option Request} {answer : Answer} → IsFor asked answer → asked ≡ Some Sync → answer ≡ Synced
 is_synced (Replies entry) e = let no : ⊥ = cc in absurd no
 is_synced (Scans low high parts are) e = let no : ⊥ = cc in absurd no
+is_synced (ScansFrom low parts are) e = let no : ⊥ = cc in absurd no
+is_synced (ScansDown low high parts are) e = let no : ⊥ = cc in absurd no
 is_synced Syncs e = refl
 is_synced Refuses e = let no : ⊥ = cc in absurd no
 
@@ -127,6 +136,7 @@ some_reply m bytes (Insert key value) a = go (m key) refl
     go : (o : Option ℕ) → m key ≡ o → (r : Reply) × MayAnswer m (Insert key value) r
     go (Some v) is = (Present v, is)
     go None is = (NoRoom, is)
+some_reply m bytes (Put key value) a = (NoRoom, tt)
 some_reply m bytes (Delete key) a = go (m key) refl
   where
     go : (o : Option ℕ) → m key ≡ o → (r : Reply) × MayAnswer m (Delete key) r
@@ -141,6 +151,7 @@ some_reply m bytes (Change key old new) a = go (m key) refl
     ]
     go None is = (Absent, is)
 some_reply m bytes (Part from) a = absurd a
+some_reply m bytes (PartDown from) a = absurd a
 
 -- a row alone, if the map has the key
 abbrev one_row : ℕ → Option ℕ → List (ℕ × ℕ)
@@ -167,13 +178,49 @@ one_pair m at None is key value = (
 one_part : (m : Map) (at : ℕ) → MayAnswer m (Part at) (Rows (record { items = one_row at (m at) }) (More (suc at)))
 one_part m at = (omega arith, record { rising = one_rises at (m at); pairs = one_pair m at (m at) refl })
 
+-- none, where the map has no key from there on
+no_part : (m : Map) (at : ℕ) → ((key : ℕ) → at ≤ key → m key ≡ None) → MayAnswer m (Part at) (Rows (record { items = [] }) End)
+no_part m at none = record {
+  rising = λ i j low within. absurd (omega (arith, low, within));
+  pairs = λ key value. (
+    λ c. absurd (let within = c.1 in omega (arith, within)),
+    λ is. let gone = none key is.1 in let there = is.0 in let never : ⊥ = cc in absurd never,
+  );
+}
+
+-- the same downwards
+reversed_one : (at : ℕ) (there : Option ℕ) → reverse (one_row at there) ≡ one_row at there
+reversed_one at (Some value) = refl
+reversed_one at None = refl
+
+one_part_down : (m : Map) (at : ℕ) → MayAnswer m (PartDown (suc at)) (Rows (record { items = one_row (suc at) (m (suc at)) }) (More at))
+one_part_down m at = (
+  omega arith,
+  subst (ListsPairs m (λ key. (at < key) × (key ≤ suc at))) (sym (reversed_one (suc at) (m (suc at)))) (record {
+    rising = one_rises (suc at) (m (suc at));
+    pairs = λ key value. let both = one_pair m (suc at) (m (suc at)) refl key value in (
+      λ c. let is = both.0 c in (is.0, (let low = is.1.0 in omega arith, let high = is.1.1 in omega arith)),
+      λ is. both.1 (is.0, (let low = is.1.0 in omega arith, let high = is.1.1 in omega arith)),
+    );
+  }),
+)
+
+last_part_down : (m : Map) → MayAnswer m (PartDown 0) (Rows (record { items = one_row 0 (m 0) }) End)
+last_part_down m = subst (ListsPairs m (λ key. key ≤ 0)) (sym (reversed_one 0 (m 0))) (record {
+  rising = one_rises 0 (m 0);
+  pairs = λ key value. let both = one_pair m 0 (m 0) refl key value in (
+    λ c. let is = both.0 c in (is.0, let high = is.1.1 in omega arith),
+    λ is. both.1 (is.0, (omega arith, let high = is.1 in omega arith)),
+  );
+})
+
 -- parts of one key each
-pub record LawfulParts (m : Map) (low high : ℕ) : Type 0 where
+pub record LawfulParts (m : Map) (low : ℕ) (high : Option ℕ) : Type 0 where
   pub parts : List Entry
   pub are : AreParts (Some low) high parts
   pub legal : IsLegalFrom m parts
 
-some_parts : (m : Map) (n low high : ℕ) → high ≤ low + n → LawfulParts m low high
+some_parts : (m : Map) (n low high : ℕ) → high ≤ low + n → LawfulParts m low (Some high)
 some_parts m zero low high within = record { parts = []; are = omega (arith, within); legal = tt }
 some_parts m (suc n) low high within = ⊎_elim
     (λ (below : low < high). let r = some_parts m n (suc low) high (omega (arith, within)) in let reply : Reply = Rows (record { items = one_row low (m low) }) (More (suc low)) in record {
@@ -184,17 +231,62 @@ some_parts m (suc n) low high within = ⊎_elim
     (λ (over : high ≤ low). record { parts = []; are = over; legal = tt })
     (cases_lt low high)
 
+-- up to the end of the map, behind which a part has no row
+all_parts : (m : Map) (f : IsFinite m) (n low : ℕ) → f.0 ≤ low + n → LawfulParts m low None
+all_parts m f zero low within = record {
+  parts = record { pass = 0; op = Part low; reply = Rows (record { items = [] }) End } ∷ [];
+  are = (tt, refl, tt);
+  legal = (no_part m low (λ key least. f.1 key (omega (arith, within, least))), tt);
+}
+all_parts m f (suc n) low within = let r = all_parts m f n (suc low) (omega (arith, within)) in record {
+  parts = record { pass = 0; op = Part low; reply = Rows (record { items = one_row low (m low) }) (More (suc low)) } ∷ r.parts;
+  are = (tt, refl, r.are);
+  legal = (one_part m low, r.legal);
+}
+
+-- and downwards
+pub record LawfulPartsDown (m : Map) (from : Option ℕ) (low : ℕ) : Type 0 where
+  pub parts : List Entry
+  pub are : ArePartsDown from low parts
+  pub legal : IsLegalFrom m parts
+
+parts_down : (m : Map) (from low : ℕ) → LawfulPartsDown m (Some from) low
+parts_down m zero low = ⊎_elim
+    (λ (under : 0 < low). record { parts = []; are = under; legal = tt })
+    (λ (least : low ≤ 0). record {
+      parts = record { pass = 0; op = PartDown 0; reply = Rows (record { items = one_row 0 (m 0) }) End } ∷ [];
+      are = (least, refl, tt);
+      legal = (last_part_down m, tt);
+    })
+    (cases_lt 0 low)
+parts_down m (suc at) low = ⊎_elim
+    (λ (under : suc at < low). record { parts = []; are = under; legal = tt })
+    (λ (least : low ≤ suc at). let r = parts_down m at low in record {
+      parts = record { pass = 0; op = PartDown (suc at); reply = Rows (record { items = one_row (suc at) (m (suc at)) }) (More at) } ∷ r.parts;
+      are = (least, refl, r.are);
+      legal = (one_part_down m at, r.legal);
+    })
+    (cases_lt (suc at) low)
+
+some_parts_down : (m : Map) (from : Option ℕ) (low : ℕ) → LawfulPartsDown m from low
+some_parts_down m None low = record { parts = []; are = tt; legal = tt }
+some_parts_down m (Some from) low = parts_down m from low
+
 pub record Lawful (m : Map) (asked : List (Option Request)) : Type 0 where
   pub answers : List Answer
   pub each : AllZip IsFor asked answers
   pub legal : IsLegalFrom m (flat_map entries answers)
 
-pub lawful : (m : Map) (asked : List (Option Request)) (texts : List (List ℕ)) → AllZip IsReadAs asked texts → Lawful m asked
-lawful m [] texts h = record { answers = []; each = tt; legal = tt }
-lawful m (a ∷ asked) [] h = absurd h
-lawful m (None ∷ asked) (text ∷ texts) h = let r = lawful m asked texts h.1 in record { answers = Malformed ∷ r.answers; each = (Refuses, r.each); legal = r.legal }
-lawful m (Some Sync ∷ asked) (text ∷ texts) h = let r = lawful m asked texts h.1 in record { answers = Synced ∷ r.answers; each = (Syncs, r.each); legal = r.legal }
-lawful m (Some (Ask op) ∷ asked) (text ∷ texts) h = let one = some_reply m text op h.0.means in let e : Entry = record { pass = 0; op = op; reply = one.0 } in let r = lawful (map_step op one.0 m) asked texts h.1 in
-    record { answers = Replied e ∷ r.answers; each = (Replies e, r.each); legal = (one.1, r.legal) }
-lawful m (Some (Scan from to) ∷ asked) (text ∷ texts) h = let p = some_parts m to from to (omega arith) in let r = lawful (final_map m p.parts) asked texts h.1 in
-    record { answers = Scanned from to p.parts ∷ r.answers; each = (Scans from to p.parts p.are, r.each); legal = legal_append m p.parts (flat_map entries r.answers) p.legal r.legal }
+pub lawful : (m : Map) → IsFinite m → (asked : List (Option Request)) (texts : List (List ℕ)) → AllZip IsReadAs asked texts → Lawful m asked
+lawful m f [] texts h = record { answers = []; each = tt; legal = tt }
+lawful m f (a ∷ asked) [] h = absurd h
+lawful m f (None ∷ asked) (text ∷ texts) h = let r = lawful m f asked texts h.1 in record { answers = Malformed ∷ r.answers; each = (Refuses, r.each); legal = r.legal }
+lawful m f (Some Sync ∷ asked) (text ∷ texts) h = let r = lawful m f asked texts h.1 in record { answers = Synced ∷ r.answers; each = (Syncs, r.each); legal = r.legal }
+lawful m f (Some (Ask op) ∷ asked) (text ∷ texts) h = let one = some_reply m text op h.0.means in let e : Entry = record { pass = 0; op = op; reply = one.0 } in
+    let r = lawful (map_step op one.0 m) (finite_step op one.0 m f) asked texts h.1 in record { answers = Replied e ∷ r.answers; each = (Replies e, r.each); legal = (one.1, r.legal) }
+lawful m f (Some (Scan from to) ∷ asked) (text ∷ texts) h = let p = some_parts m to from to (omega arith) in let r = lawful (final_map m p.parts) (finite_history m p.parts f) asked texts h.1 in
+    record { answers = Scanned from (Some to) p.parts ∷ r.answers; each = (Scans from to p.parts p.are, r.each); legal = legal_append m p.parts (flat_map entries r.answers) p.legal r.legal }
+lawful m f (Some (ScanFrom from) ∷ asked) (text ∷ texts) h = let p = all_parts m f f.0 from (omega arith) in let r = lawful (final_map m p.parts) (finite_history m p.parts f) asked texts h.1 in
+    record { answers = Scanned from None p.parts ∷ r.answers; each = (ScansFrom from p.parts p.are, r.each); legal = legal_append m p.parts (flat_map entries r.answers) p.legal r.legal }
+lawful m f (Some (ScanDown from to) ∷ asked) (text ∷ texts) h = let p = some_parts_down m (key_below to) from in let r = lawful (final_map m p.parts) (finite_history m p.parts f) asked texts h.1 in
+    record { answers = ScannedDown from to p.parts ∷ r.answers; each = (ScansDown from to p.parts p.are, r.each); legal = legal_append m p.parts (flat_map entries r.answers) p.legal r.legal }

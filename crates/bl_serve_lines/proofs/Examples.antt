@@ -1,8 +1,8 @@
 -- Worked examples of the definitions.
-use Rattle.std.proofs.Common.{◌≡◌, List, [], ◌∷◌, codes, decimal, get_or, refl, ap, ◌∙◌, lit<, lit≤, Some, arith}
+use Rattle.std.proofs.Common.{◌≡◌, List, [], ◌∷◌, codes, decimal, get_or, refl, ap, ◌∙◌, lit<, lit≤, Some, None, arith}
 use Rattle.std.proofs.lemmas.Fmt.{decimal_digit}
 use Rattle.std.proofs.lemmas.List.Elements.{All-nil, All-cons}
-use Rattle.bl_model.specs.declared.operation.Op.TheVariants.{Find, Insert, Change, Part}
+use Rattle.bl_model.specs.declared.operation.Op.TheVariants.{Find, Insert, Change, Part, PartDown}
 use Rattle.bl_model.specs.declared.operation.Reply.TheVariants.{Found, Absent, Inserted, Changed, Differs, Rows}
 use Rattle.bl_model.specs.declared.operation.Next.TheVariants.{More, End}
 use Rattle.bl_model.specs.declared.operation.Entry.{Entry}
@@ -10,7 +10,7 @@ use Rattle.bl_model.specs.Map.{empty}
 use Rattle.bl_model.specs.History.{IsLegalFrom}
 use Rattle.bl_serve_lines.specs.declared.request.Request.TheVariants.{Ask, Scan, Sync}
 use Rattle.bl_serve_lines.specs.Text.{Spells}
-use Rattle.bl_serve_lines.specs.Lines.{Line, AreParts, Replied, Scanned, Synced, answer_text, input_of, output_of, rest_text, text_of}
+use Rattle.bl_serve_lines.specs.Lines.{Line, AreParts, ArePartsDown, Fits, Replied, Scanned, ScannedDown, Synced, key_below, answer_text, input_of, output_of, rest_text, text_of}
 use Rattle.bl_serve_lines.specs.Served.{Interleaves}
 use Rattle.bl_serve_lines.specs.Served.Interleaves.{Done, Takes}
 
@@ -104,16 +104,47 @@ first_part = record { pass = 0; op = Part 1; reply = Rows (record { items = (1, 
 abbrev second_part : Entry
 second_part = record { pass = 0; op = Part 3; reply = Rows (record { items = (3, 1) ∷ (4, 5) ∷ [] }) End }
 
-scan_parts : AreParts (Some 1) 4 (first_part ∷ second_part ∷ [])
+scan_parts : AreParts (Some 1) (Some 4) (first_part ∷ second_part ∷ [])
 scan_parts = (lit< tt, refl, (lit< tt, refl, tt))
 
 -- a scan from 5 up to 5 has none
-no_parts : AreParts (Some 5) 5 []
+no_parts : AreParts (Some 5) (Some 5) []
 no_parts = lit≤ tt
 
-none_written : answer_text (Scanned 5 5 []) ≡ codes "rows"
+none_written : answer_text (Scanned 5 (Some 5) []) ≡ codes "rows"
 none_written = refl
 
 -- a scan from 1 up to 4 in two parts, of which the second goes on past its end
-scan_written : answer_text (Scanned 1 4 (first_part ∷ second_part ∷ [])) ≡ codes "rows 1=2 2=3 3=1"
+scan_written : answer_text (Scanned 1 (Some 4) (first_part ∷ second_part ∷ [])) ≡ codes "rows 1=2 2=3 3=1"
 scan_written = simp (one, two, three)
+
+-- a scan from 1 on in the same parts lists all their rows
+scan_from_fits : Fits (codes "scanfrom 1") (Scanned 1 None (first_part ∷ second_part ∷ []))
+scan_from_fits = ((lit< tt, simp one), (tt, refl, (tt, refl, tt)))
+
+scan_from_written : answer_text (Scanned 1 None (first_part ∷ second_part ∷ [])) ≡ codes "rows 1=2 2=3 3=1 4=5"
+scan_from_written = simp (one, two, three, four, five)
+
+-- it has not ended where the map goes on
+first_part_alone : AreParts (Some 1) None (first_part ∷ []) → ⊥
+first_part_alone are = are.2
+
+abbrev high_part : Entry
+high_part = record { pass = 0; op = PartDown 3; reply = Rows (record { items = (3, 1) ∷ [] }) (More 2) }
+
+abbrev low_part : Entry
+low_part = record { pass = 0; op = PartDown 2; reply = Rows (record { items = (2, 3) ∷ (1, 2) ∷ [] }) End }
+
+-- a scan from below 4 down to 2 in two parts, of which the second goes on past its end
+scan_down_fits : Fits (codes "scandown 2 4") (ScannedDown 2 4 (high_part ∷ low_part ∷ []))
+scan_down_fits = ((lit< tt, lit< tt, simp (two, four)), (lit≤ tt, refl, (lit≤ tt, refl, tt)))
+
+scan_down_written : answer_text (ScannedDown 2 4 (high_part ∷ low_part ∷ [])) ≡ codes "rows 3=1 2=3"
+scan_down_written = simp (one, two, three)
+
+-- below 0 there is no key, and below 3 none from 3 on
+no_parts_down : ArePartsDown (key_below 0) 0 []
+no_parts_down = tt
+
+none_from_three : ArePartsDown (key_below 3) 3 []
+none_from_three = lit< tt

@@ -1,15 +1,17 @@
 -- Lines of the input, their answers, and the lines of the output.
-use Rattle.std.specs.Prelude.{◌≡◌, ◌≢◌, ℕ, suc, ◌+◌, ◌<◌, ◌≤◌, Option, Some, None, List, [], ◌∷◌, ◌++◌, All, length, flat_map, filter, nat_lt, codes}
-use Rattle.bl_model.specs.declared.operation.Op.TheVariants.{Part}
+use Rattle.std.specs.Prelude.{◌≡◌, ◌≢◌, ℕ, zero, suc, ◌+◌, ◌<◌, ◌≤◌, Bool, true, Option, Some, None, List, [], ◌∷◌, ◌++◌, All, length, flat_map, filter, nat_le, nat_lt, codes}
+use Rattle.bl_model.specs.declared.operation.Op.TheVariants.{Part, PartDown}
 use Rattle.bl_model.specs.Parts.{rows_of, ended_at}
 use Rattle.bl_model.specs.declared.operation.Entry.{Entry}
-use Rattle.bl_serve_lines.specs.declared.request.Request.TheVariants.{Ask, Scan, Sync}
+use Rattle.bl_serve_lines.specs.declared.request.Request.TheVariants.{Ask, Scan, ScanFrom, ScanDown, Sync}
 use Rattle.bl_serve_lines.specs.Text.{Spells, IsMalformed, reply_text, row_text, numbered}
 
--- what a line is answered: an operation's entry; a scan's bounds and its parts in order; that a section ended; that it spells no request
+-- what a line is answered: an operation's entry; a scan's first key, its end, if it has one, and its parts in order; the same bounds of a scan
+-- downwards, and its parts; that a section ended; that it spells no request
 pub data Answer : Type 0 where
   Replied : Entry → Answer
-  Scanned : ℕ → ℕ → List Entry → Answer
+  Scanned : ℕ → Option ℕ → List Entry → Answer
+  ScannedDown : ℕ → ℕ → List Entry → Answer
   Synced : Answer
   Malformed : Answer
 
@@ -22,18 +24,48 @@ pub record Line : Type 0 where
 abbrev pub HasNoLf : List ℕ → Type 0
 HasNoLf bytes = All (λ b. b ≢ 10) bytes
 
+-- the key is below the end of a scan, if it has one
+abbrev pub IsBelow : Option ℕ → ℕ → Type 0
+IsBelow None key = Unit {0}
+IsBelow (Some high) key = key < high
+
+-- the test of it
+abbrev pub is_below : Option ℕ → ℕ → Bool
+is_below None key = true
+is_below (Some high) key = nat_lt key high
+
 -- The parts of a scan up to its end: the first from that key on, each further one from where the last one ended, and each from below
 -- the scan's end. Behind the last one nothing is left: it went to the end of the map, or not less far than the scan.
-abbrev pub AreParts : Option ℕ → ℕ → List Entry → Type 0
+abbrev pub AreParts : Option ℕ → Option ℕ → List Entry → Type 0
 AreParts None high [] = Unit {0}
-AreParts (Some from) high [] = high ≤ from
+AreParts (Some from) None [] = ⊥
+AreParts (Some from) (Some high) [] = high ≤ from
 AreParts None high (e ∷ es) = ⊥
-AreParts (Some from) high (e ∷ es) = (from < high) × (e.op ≡ Part from) × AreParts (ended_at e.reply) high es
+AreParts (Some from) high (e ∷ es) = IsBelow high from × (e.op ≡ Part from) × AreParts (ended_at e.reply) high es
+
+-- The parts of a scan downwards to that least key: the first from that key on, each further one from where the last one ended, and none
+-- from below the least key. Behind the last one nothing is left: it went to the end of the map, or below the least key.
+abbrev pub ArePartsDown : Option ℕ → ℕ → List Entry → Type 0
+ArePartsDown None low [] = Unit {0}
+ArePartsDown (Some from) low [] = from < low
+ArePartsDown None low (e ∷ es) = ⊥
+ArePartsDown (Some from) low (e ∷ es) = (low ≤ from) × (e.op ≡ PartDown from) × ArePartsDown (ended_at e.reply) low es
+
+-- the greatest key below that one, if there is one
+abbrev pub key_below : ℕ → Option ℕ
+key_below zero = None
+key_below (suc key) = Some key
+
+-- A scan is asked for with these bounds: the second one is its end, if it has one.
+abbrev pub SpellsScan : List ℕ → ℕ → Option ℕ → Type 0
+SpellsScan bytes low None = Spells bytes (ScanFrom low)
+SpellsScan bytes low (Some high) = Spells bytes (Scan low high)
 
 -- The answer is of the line's kind.
 abbrev pub Fits : List ℕ → Answer → Type 0
 Fits bytes (Replied entry) = Spells bytes (Ask entry.op)
-Fits bytes (Scanned low high parts) = Spells bytes (Scan low high) × AreParts (Some low) high parts
+Fits bytes (Scanned low high parts) = SpellsScan bytes low high × AreParts (Some low) high parts
+Fits bytes (ScannedDown low high parts) = Spells bytes (ScanDown low high) × ArePartsDown (key_below high) low parts
 Fits bytes Synced = Spells bytes Sync
 Fits bytes Malformed = IsMalformed bytes
 
@@ -45,17 +77,27 @@ pub record IsLine (line : Line) : Type 0 where
 abbrev pub entries : Answer → List Entry
 entries (Replied entry) = entry ∷ []
 entries (Scanned low high parts) = parts
+entries (ScannedDown low high parts) = parts
 entries Synced = []
 entries Malformed = []
 
--- the rows that lie below a key
-abbrev pub rows_below : ℕ → List (ℕ × ℕ) → List (ℕ × ℕ)
-rows_below high rows = filter (λ row. nat_lt row.0 high) rows
+-- all rows of the parts
+abbrev pub rows_in : List Entry → List (ℕ × ℕ)
+rows_in parts = flat_map (λ entry. rows_of entry.reply) parts
 
--- what is printed behind a line's number; of a scan, the rows of its parts that lie below its end
+-- the rows that lie below the end of a scan
+abbrev pub rows_below : Option ℕ → List (ℕ × ℕ) → List (ℕ × ℕ)
+rows_below high rows = filter (λ row. is_below high row.0) rows
+
+-- the rows whose keys are not below that one
+abbrev pub rows_from : ℕ → List (ℕ × ℕ) → List (ℕ × ℕ)
+rows_from low rows = filter (λ row. nat_le low row.0) rows
+
+-- what is printed behind a line's number; of a scan, the rows of its parts that lie within its bounds
 abbrev pub answer_text : Answer → List ℕ
 answer_text (Replied entry) = reply_text entry.reply
-answer_text (Scanned low high parts) = codes "rows" ++ flat_map row_text (rows_below high (flat_map (λ entry. rows_of entry.reply) parts))
+answer_text (Scanned low high parts) = codes "rows" ++ flat_map row_text (rows_below high (rows_in parts))
+answer_text (ScannedDown low high parts) = codes "rows" ++ flat_map row_text (rows_from low (rows_in parts))
 answer_text Synced = codes "synced"
 answer_text Malformed = codes "malformed"
 

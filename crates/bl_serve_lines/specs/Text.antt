@@ -1,12 +1,12 @@
 -- The text of requests and of replies.
 use Rattle.std.specs.Prelude.{◌≡◌, ℕ, ◌<◌, ◌^◌, List, [], ◌∷◌, ◌++◌, flat_map, codes, decimal, None, Some, Option}
-use Rattle.bl_model.specs.declared.operation.Op.TheVariants.{Find, Insert, Delete, Change, Part}
+use Rattle.bl_model.specs.declared.operation.Op.TheVariants.{Find, Insert, Put, Delete, Change, Part, PartDown}
 use Rattle.bl_model.specs.declared.operation.Next.{Next}
 use Rattle.bl_model.specs.declared.operation.Next.TheVariants.{More, End}
 use Rattle.bl_model.specs.declared.operation.Reply.{Reply}
-use Rattle.bl_model.specs.declared.operation.Reply.TheVariants.{Found, Absent, Inserted, Present, Deleted, Changed, Differs, Rows, NoRoom}
+use Rattle.bl_model.specs.declared.operation.Reply.TheVariants.{Found, Absent, Inserted, Present, Replaced, Deleted, Changed, Differs, Rows, NoRoom}
 use Rattle.bl_serve_lines.specs.declared.request.Request.{Request}
-use Rattle.bl_serve_lines.specs.declared.request.Request.TheVariants.{Ask, Scan, Sync}
+use Rattle.bl_serve_lines.specs.declared.request.Request.TheVariants.{Ask, Scan, ScanFrom, ScanDown, Sync}
 use Rattle.bl_serve_lines.specs.declared.print.Response.{Response}
 use Rattle.bl_serve_lines.specs.declared.print.Response.TheVariants.{Replied, Synced, Malformed}
 
@@ -14,11 +14,15 @@ use Rattle.bl_serve_lines.specs.declared.print.Response.TheVariants.{Replied, Sy
 abbrev pub Spells : List ℕ → Request → Type 0
 Spells line (Ask (Find key)) = (key < 2 ^ 64) × (line ≡ codes "find " ++ decimal key)
 Spells line (Ask (Insert key value)) = (key < 2 ^ 64) × (value < 2 ^ 64) × (line ≡ codes "insert " ++ decimal key ++ codes " " ++ decimal value)
+Spells line (Ask (Put key value)) = (key < 2 ^ 64) × (value < 2 ^ 64) × (line ≡ codes "put " ++ decimal key ++ codes " " ++ decimal value)
 Spells line (Ask (Delete key)) = (key < 2 ^ 64) × (line ≡ codes "delete " ++ decimal key)
 Spells line (Ask (Change key old new)) =
     (key < 2 ^ 64) × (old < 2 ^ 64) × (new < 2 ^ 64) × (line ≡ codes "change " ++ decimal key ++ codes " " ++ decimal old ++ codes " " ++ decimal new)
 Spells line (Ask (Part from)) = ⊥
+Spells line (Ask (PartDown from)) = ⊥
 Spells line (Scan low high) = (low < 2 ^ 64) × (high < 2 ^ 64) × (line ≡ codes "scan " ++ decimal low ++ codes " " ++ decimal high)
+Spells line (ScanFrom low) = (low < 2 ^ 64) × (line ≡ codes "scanfrom " ++ decimal low)
+Spells line (ScanDown low high) = (low < 2 ^ 64) × (high < 2 ^ 64) × (line ≡ codes "scandown " ++ decimal low ++ codes " " ++ decimal high)
 Spells line Sync = line ≡ codes "sync"
 
 -- the line is a spelling of no request
@@ -45,6 +49,7 @@ reply_text (Found value) = codes "found " ++ decimal value
 reply_text Absent = codes "absent"
 reply_text Inserted = codes "inserted"
 reply_text (Present value) = codes "present " ++ decimal value
+reply_text (Replaced value) = codes "replaced " ++ decimal value
 reply_text (Deleted value) = codes "deleted " ++ decimal value
 reply_text Changed = codes "changed"
 reply_text (Differs value) = codes "differs " ++ decimal value

@@ -7,9 +7,8 @@ use Rattle.bl_model.specs.declared.operation.Entry.{Entry}
 use Rattle.bl_model.specs.declared.operation.Op.{Op}
 use Rattle.bl_model.specs.declared.operation.Reply.{Reply}
 use Rattle.bl_serve_lines.specs.declared.request.Request.{Request}
-use Rattle.bl_serve_lines.specs.declared.request.Request.TheVariants.{Ask, Scan, Sync}
-use Rattle.bl_serve_lines.specs.Lines.{Answer, Replied, Scanned, Synced, Malformed, rows_below, entries, answer_text}
-use Rattle.bl_model.specs.Parts.{rows_of}
+use Rattle.bl_serve_lines.specs.declared.request.Request.TheVariants.{Ask, Sync}
+use Rattle.bl_serve_lines.specs.Lines.{Answer, Replied, Synced, Malformed, entries, answer_text}
 use Rattle.bl_serve_lines.specs.Text.{numbered, reply_text, row_text}
 use Rattle.bl_page.specs.declared.page.Page.{Page}
 use Rattle.bl_claims.specs.Trails.{Trail, entries_at, history_of}
@@ -18,8 +17,8 @@ use Rattle.bl_map.specs.declared.handle.Handle.{Handle}
 use Rattle.bl_map.specs.Handles.{IsSameHandle, HasKeptUp, first_map_of, number_of_seat, seen_by}
 use Rattle.bl_map.specs.Works.{Works}
 use Rattle.bl_map.proofs.Same.{by_same, kept_as}
-use Rattle.bl_serve_worker.specs.Answering.IsFor.{Replies, Scans, Syncs, Refuses}
-use Rattle.bl_serve_worker.specs.Answering.{IsFor, answers_text, AnswersLine, AnswersLines, WritesRows}
+use Rattle.bl_serve_worker.specs.Answering.IsFor.{Replies, Syncs, Refuses}
+use Rattle.bl_serve_worker.specs.Answering.{IsFor, answers_text, AnswersLine, AnswersLines, ListsRows}
 
 pub zip_append : {A B : Type 0} (R : A → B → Type 0) (xs us : List A) (ys vs : List B) → AllZip R xs ys → AllZip R us vs → AllZip R (xs ++ us) (ys ++ vs)
 zip_append R [] us [] vs h k = k
@@ -76,16 +75,16 @@ pub asked_as : (first : List (Option Page)) (pass n : ℕ) (asked : Option Reque
     → AnswersLine first pass n asked before after old new
 asked_as first pass n asked request op reply before after old new is ask w written = subst (λ (z : Option Request). AnswersLine first pass n z before after old new) (sym (is ∙ ap Some ask)) (asked_line first pass n op reply before after old new w written)
 
-pub scanned_line : (first : List (Option Page)) (pass n low high : ℕ) (before head rows after : List ℕ) (old new : Trail) → head ≡ (before ++ decimal n) ++ codes " rows" → after ≡ rows ++ 10 ∷ [] → WritesRows first pass low high head rows old new
-    → AnswersLine first pass n (Some (Scan low high)) before after old new
-scanned_line first pass n low high before head rows after old new headed is w =
-    let listed : List ℕ = flat_map row_text (rows_below high (flat_map (λ entry. rows_of entry.reply) w.parts)) in record {
-      answer = Scanned low high w.parts;
-      is_for = Scans low high w.parts w.are_parts;
-      prints = is ∙ (ap (λ (z : List ℕ). z ++ 10 ∷ []) (w.prints ∙ ap (λ (z : List ℕ). z ++ listed) headed) ∙ line_of before (decimal n) listed);
-      begins = w.begins;
-      seen = w.seen;
-      mine = w.mine;
+pub scanned_line : (first : List (Option Page)) (pass n : ℕ) (asked : Request) (listed : List (ℕ × ℕ)) (before head rows after : List ℕ) (old new : Trail) → head ≡ (before ++ decimal n) ++ codes " rows" → after ≡ rows ++ 10 ∷ []
+    → ListsRows first pass asked listed old new → rows ≡ head ++ flat_map row_text listed → AnswersLine first pass n (Some asked) before after old new
+scanned_line first pass n asked listed before head rows after old new headed is l prints =
+    let text : List ℕ = flat_map row_text listed in record {
+      answer = l.answer;
+      is_for = l.is_for;
+      prints = is ∙ (ap (λ (z : List ℕ). z ++ 10 ∷ []) (prints ∙ ap (λ (z : List ℕ). z ++ text) headed) ∙ (line_of before (decimal n) text ∙ ap (λ (z : List ℕ). before ++ numbered n z) (sym l.lists)));
+      begins = l.begins;
+      seen = l.seen;
+      mine = l.mine;
     }
   where
     line_of : (xs ys zs : List ℕ) → (((xs ++ ys) ++ codes " rows") ++ zs) ++ 10 ∷ [] ≡ xs ++ (ys ++ codes " " ++ (codes "rows" ++ zs) ++ 10 ∷ [])

@@ -1,11 +1,10 @@
 -- What the lines that a pass answers add to what it has seen.
-use Rattle.std.specs.Prelude.{◌≡◌, ℕ, suc, ◌++◌, List, [], ◌∷◌, Option, Some, None, flat_map}
-use Rattle.std.specs.List.{AllZip}
+use Rattle.std.specs.Prelude.{◌≡◌, ℕ, suc, ◌++◌, List, [], ◌∷◌, Option, Some, None, flat_map, codes}
+use Rattle.std.specs.List.{AllZip, FoldsTo}
 use Rattle.bl_model.specs.declared.operation.Entry.{Entry}
 use Rattle.bl_serve_lines.specs.declared.request.Request.{Request}
-use Rattle.bl_serve_lines.specs.declared.request.Request.TheVariants.{Ask, Scan, Sync}
-use Rattle.bl_serve_lines.specs.Lines.{Answer, Replied, Scanned, Synced, Malformed, AreParts, rows_below, entries, answer_text}
-use Rattle.bl_model.specs.Parts.{rows_of}
+use Rattle.bl_serve_lines.specs.declared.request.Request.TheVariants.{Ask, Scan, ScanFrom, ScanDown, Sync}
+use Rattle.bl_serve_lines.specs.Lines.{Answer, Replied, Scanned, ScannedDown, Synced, Malformed, AreParts, ArePartsDown, key_below, entries, answer_text}
 use Rattle.bl_serve_lines.specs.Text.{numbered, row_text}
 use Rattle.bl_page.specs.declared.page.Page.{Page}
 use Rattle.bl_claims.specs.Trails.{Trail}
@@ -16,7 +15,9 @@ use Rattle.bl_map.specs.Handles.{first_map_of, number_of_seat, seen_by}
 -- the answer is one to what was asked
 pub data IsFor : Option Request → Answer → Type 0 where
   Replies : (entry : Entry) → IsFor (Some (Ask entry.op)) (Replied entry)
-  Scans : (low high : ℕ) (parts : List Entry) → AreParts (Some low) high parts → IsFor (Some (Scan low high)) (Scanned low high parts)
+  Scans : (low high : ℕ) (parts : List Entry) → AreParts (Some low) (Some high) parts → IsFor (Some (Scan low high)) (Scanned low (Some high) parts)
+  ScansFrom : (low : ℕ) (parts : List Entry) → AreParts (Some low) None parts → IsFor (Some (ScanFrom low)) (Scanned low None parts)
+  ScansDown : (low high : ℕ) (parts : List Entry) → ArePartsDown (key_below high) low parts → IsFor (Some (ScanDown low high)) (ScannedDown low high parts)
   Syncs : IsFor (Some Sync) Synced
   Refuses : IsFor None Malformed
 
@@ -25,14 +26,21 @@ abbrev pub answers_text : ℕ → List Answer → List ℕ
 answers_text n [] = []
 answers_text n (answer ∷ answers) = numbered n (answer_text answer) ++ answers_text (suc n) answers
 
--- A scan was answered by its parts, which are the new entries of the pass, and their rows that lie below its end were written.
-pub record WritesRows (first : List (Option Page)) (pass low high : ℕ) (before after : List ℕ) (old new : Trail) : Type 0 where
-  pub parts : List Entry
-  pub are_parts : AreParts (Some low) high parts
-  pub prints : after ≡ before ++ flat_map row_text (rows_below high (flat_map (λ entry. rows_of entry.reply) parts))
+-- the request is a scan
+abbrev pub IsScan : Request → Type 0
+IsScan (Scan low high) = Unit {0}
+IsScan (ScanFrom low) = Unit {0}
+IsScan (ScanDown low high) = Unit {0}
+IsScan other = ⊥
+
+-- A scan was answered, and its answer lists these rows: the new entries of the pass are those of the answer.
+pub record ListsRows (first : List (Option Page)) (pass : ℕ) (asked : Request) (rows : List (ℕ × ℕ)) (old new : Trail) : Type 0 where
+  pub answer : Answer
+  pub is_for : IsFor (Some asked) answer
+  pub lists : answer_text answer ≡ codes "rows" ++ flat_map row_text rows
   pub begins : GoesOnFrom old new
   pub seen : IsLinearizable first old → IsLinearizable first new
-  pub mine : own pass new ≡ own pass old ++ parts
+  pub mine : own pass new ≡ own pass old ++ entries answer
 
 -- The line of that number was answered, and its answer was written: the new entries of the pass are those of the answer.
 pub record AnswersLine (first : List (Option Page)) (pass number : ℕ) (asked : Option Request) (before after : List ℕ) (old new : Trail) : Type 0 where
@@ -52,9 +60,16 @@ pub record AnswersLines (first : List (Option Page)) (pass number : ℕ) (lines 
   pub seen : IsLinearizable first old → IsLinearizable first new
   pub mine : own pass new ≡ own pass old ++ flat_map entries answers
 
--- The handle has answered a scan, and its rows were written.
-abbrev pub HasWrittenRows : ℕ → ℕ → List ℕ → List ℕ → Handle → Handle → Type 0
-HasWrittenRows low high before after old new = WritesRows (first_map_of old) (number_of_seat old) low high before after (seen_by old) (seen_by new)
+-- The handle has answered a scan, and a callback was told its rows, each once, one after another. A call of it with a row leads from one
+-- state to another one.
+abbrev pub HasToldRows : {F : Type 0} → (F → ℕ × ℕ → F → Type 0) → Request → F → F → Handle → Handle → Type 0
+HasToldRows leads asked before after old new =
+    (rows : List (ℕ × ℕ)) × ListsRows (first_map_of old) (number_of_seat old) asked rows (seen_by old) (seen_by new) × FoldsTo leads before rows after
+
+-- It has answered a scan, and its rows were written.
+abbrev pub HasWrittenRows : Request → List ℕ → List ℕ → Handle → Handle → Type 0
+HasWrittenRows asked before after old new =
+    (rows : List (ℕ × ℕ)) × ListsRows (first_map_of old) (number_of_seat old) asked rows (seen_by old) (seen_by new) × (after ≡ before ++ flat_map row_text rows)
 
 -- It has answered the line of that number.
 abbrev pub HasAnswered : ℕ → Option Request → List ℕ → List ℕ → Handle → Handle → Type 0

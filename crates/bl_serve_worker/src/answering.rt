@@ -5,7 +5,7 @@ ghost use Rattle.bl_model.specs.declared.operation.Op.TheVariants as op;
 ghost use Rattle.bl_map.specs.Handles.{IsSameHandle, HasCalled, HasKeptUp};
 ghost use Rattle.bl_model.specs.Replies.{reply_of};
 ghost use Rattle.bl_model.specs.Writes.{write_op, IsRead};
-ghost use Rattle.bl_serve_worker.specs.Answering.{HasAnswered, HasAnsweredAll, HasWrittenRows};
+ghost use Rattle.bl_serve_worker.specs.Answering.{HasAnswered, HasAnsweredAll, HasToldRows, HasWrittenRows, IsScan};
 
 use crate::compressing::enqueue;
 use crate::gate::Gate;
@@ -54,17 +54,40 @@ fn write<R: Wait>(
     reply
 }
 
-/// Writes the rows of a scan, from a key on up to an end: each behind the others, as it is read. Where there is no room for one, none is
-/// written behind it.
+/// Tells a callback the rows of a scan. Below key 0 there is none.
+fn tell_rows<R: Wait, F: FnMut((u64, u64))>(
+    rt: &R,
+    handle: &mut Handle<'_>,
+    asked: Request,
+    visit: &mut F,
+)
+    requires scan { IsScan asked }
+    requires callable { F.IsAlwaysCallable visit.old }
+    ensures same { IsSameHandle handle.old handle.new }
+    ensures tells { HasToldRows (λ p x q. F.step p x tt q) asked visit.old visit.new handle.old handle.new }
+{
+    match asked {
+        Request::Scan(low, high) => handle.scan_with(rt, low, Some(high), visit),
+        Request::ScanFrom(low) => handle.scan_with(rt, low, None, visit),
+        Request::ScanDown(low, high) => {
+            if let Some(from) = high.checked_sub(1) {
+                handle.scan_down_with(rt, from, low, visit);
+            }
+        }
+        _ => unreachable!(),
+    }
+}
+
+/// Writes the rows of a scan: each behind the others, as it is read. Where there is no room for one, none is written behind it.
 fn write_rows<R: Wait>(
     rt: &R,
     handle: &mut Handle<'_>,
-    low: u64,
-    high: u64,
+    asked: Request,
     text: &mut Vec<u8>,
 ) -> Result<(), AllocError>
+    requires { IsScan asked }
     ensures same { IsSameHandle handle.old handle.new }
-    ensures writes { OnOk result (HasWrittenRows low high text.old.items text.new.items handle.old handle.new) }
+    ensures writes { OnOk result (HasWrittenRows asked text.old.items text.new.items handle.old handle.new) }
 {
     let mut written = Ok(());
     let mut visit = |row: (u64, u64)| {
@@ -72,7 +95,7 @@ fn write_rows<R: Wait>(
             written = push_row(text, &row);
         }
     };
-    handle.scan_with(rt, low, Some(high), &mut visit);
+    tell_rows(rt, handle, asked, &mut visit);
     written
 }
 
@@ -82,16 +105,16 @@ fn scan<R: Wait>(
     rt: &R,
     handle: &mut Handle<'_>,
     number: u64,
-    low: u64,
-    high: u64,
+    asked: Request,
     text: &mut Vec<u8>,
 ) -> Result<(), AllocError>
+    requires { IsScan asked }
     ensures same { IsSameHandle handle.old handle.new }
-    ensures answers { OnOk result (HasAnswered number (Some (Request.Scan low high)) text.old.items text.new.items handle.old handle.new) }
+    ensures answers { OnOk result (HasAnswered number (Some asked) text.old.items text.new.items handle.old handle.new) }
 {
     push_number(text, b"", number)?;
     text.extend_from_slice(b" rows")?;
-    write_rows(rt, handle, low, high, text)?;
+    write_rows(rt, handle, asked, text)?;
     text.push(b'\n')?;
     Ok(())
 }
@@ -109,6 +132,22 @@ fn list<R: Wait>(
     ensures answers { OnOk result (HasAnswered number (Some (Request.Ask (op.Part from))) text.old.items text.new.items handle.old handle.new) }
 {
     let reply = handle.part(rt, from, &mut None);
+    push_line(text, number, &Response::Replied(reply))
+}
+
+/// Answers a part downwards.
+#[inline(never)]
+fn list_down<R: Wait>(
+    rt: &R,
+    handle: &mut Handle<'_>,
+    number: u64,
+    from: u64,
+    text: &mut Vec<u8>,
+) -> Result<(), AllocError>
+    ensures same { IsSameHandle handle.old handle.new }
+    ensures answers { OnOk result (HasAnswered number (Some (Request.Ask (op.PartDown from))) text.old.items text.new.items handle.old handle.new) }
+{
+    let reply = handle.part_down(rt, from);
     push_line(text, number, &Response::Replied(reply))
 }
 
@@ -130,6 +169,7 @@ fn look<R: Wait>(
             push_key_line(text, number, reply)
         }
         Op::Part(from) => list(rt, handle, number, from, text),
+        Op::PartDown(from) => list_down(rt, handle, number, from, text),
         _ => unreachable!(),
     }
 }
@@ -175,14 +215,14 @@ fn answer<R: Wait, G: Gate>(
             gate.after(number);
             answered
         }
-        Some(Request::Scan(low, high)) => {
+        Some(Request::Sync) => push_word_line(text, number, b"synced"),
+        None => push_word_line(text, number, b"malformed"),
+        Some(asked) => {
             gate.before(number);
-            let answered = scan(rt, handle, number, low, high, text);
+            let answered = scan(rt, handle, number, asked, text);
             gate.after(number);
             answered
         }
-        Some(Request::Sync) => push_word_line(text, number, b"synced"),
-        None => push_word_line(text, number, b"malformed"),
     }
 }
 

@@ -109,6 +109,68 @@ fn scans_list_rows(rt: HostRuntime) -> Result<(), Fail> {
     Ok(())
 }
 
+// The same rows by falling keys, and those up to the greatest key.
+#[test]
+fn scans_list_rows_downwards_and_to_the_end(rt: HostRuntime) {
+    for (input, output) in [
+        (
+            b"scandown 5 5\nscandown 0 0\nscandown 7 0\nscandown 0 7\nscanfrom 0\n".as_slice(),
+            b"1 rows\n2 rows\n3 rows\n4 rows\n5 rows\n".as_slice(),
+        ),
+        (
+            b"insert 5 50\ninsert 6 60\nsync\nscandown 5 7\nscandown 5 6\nscandown 6 5\nscandown 0 18446744073709551615\nscanfrom 6\nscanfrom 7\n".as_slice(),
+            b"1 inserted\n2 inserted\n3 synced\n4 rows 6=60 5=50\n5 rows 5=50\n6 rows\n7 rows 6=60 5=50\n8 rows 6=60\n9 rows\n".as_slice(),
+        ),
+        // the greatest key lies below no end
+        (
+            b"insert 18446744073709551615 1\nsync\nscandown 0 18446744073709551615\nscanfrom 18446744073709551615\n".as_slice(),
+            b"1 inserted\n2 synced\n3 rows\n4 rows 18446744073709551615=1\n".as_slice(),
+        ),
+    ] {
+        assert_eq!(rt; both_answer(&rt, rt.alloc(), input, output), (true, true));
+    }
+}
+
+// Each lacks a number, or has one too many, or is spelled otherwise.
+#[test]
+fn scans_are_spelled_in_one_way(rt: HostRuntime) -> Result<(), Fail> {
+    for line in [
+        b"scandown 5".as_slice(),
+        b"scandown 5 6 7".as_slice(),
+        b"scandown  5 6".as_slice(),
+        b"scandown 05 6".as_slice(),
+        b"scandown 5 18446744073709551616".as_slice(),
+        b"scandown5 6".as_slice(),
+        b"scan down 5 6".as_slice(),
+        b"Scandown 5 6".as_slice(),
+        b"scanfrom".as_slice(),
+        b"scanfrom ".as_slice(),
+        b"scanfrom 5 6".as_slice(),
+        b"scanfrom 5 ".as_slice(),
+        b"scanfrom -1".as_slice(),
+    ] {
+        let mut input = Vec::from_slice(rt.alloc(), line)?;
+        input.push(b'\n')?;
+        assert_eq!(rt;
+            both_answer(&rt, rt.alloc(), input.as_slice(), b"1 malformed\n"),
+            (true, true)
+        );
+    }
+    Ok(())
+}
+
+// Key 15 parts the leaf at 9: these scans have two parts, of which the second goes on past its end.
+#[test]
+fn scans_list_parts_downwards_and_to_the_end(rt: HostRuntime) -> Result<(), Fail> {
+    let more = b"sync\nscandown 7 11\nscandown 1 3\nscandown 15 99\nscanfrom 8\n".as_slice();
+    let last =
+        b"\n16 synced\n17 rows 10=100 9=90 8=80 7=70\n18 rows 2=20 1=10\n19 rows 15=150\n20 rows 8=80 9=90 10=100 11=110 12=120 13=130 14=140 15=150\n".as_slice();
+    let input = inserts_before(rt.alloc(), 15, more)?;
+    let served = last_lines(&rt, rt.alloc(), 8, input.as_slice(), last, 2, 1);
+    assert!(rt; matches!(served, Some((true, Totals { malformed: 0, .. }))));
+    Ok(())
+}
+
 // A section's lines are answered before those of the next.
 #[test]
 fn sections_stand_in_order(rt: HostRuntime) {
