@@ -4,7 +4,7 @@
 //!                                 reply is `Unknown` of a call that was given up, whose end is when it was settled
 //!   linearizable plant FAULT      plants a fault once in 10,000 calls of a map under a lock, and says whether it is seen:
 //!                                 `none`, `stale` (a search of an old copy), `twice` (an insertion in two steps), `lost` (a
-//!                                 deletion that is answered and not done)
+//!                                 deletion that is answered and not done), `blind` (a put in two steps)
 //!
 //! A call looks at one key, so that calls are linearizable where those of each key are (Herlihy and Wing 1990). Those of one key
 //! are searched for an order that their times allow (Wing and Gong 1993), and no state is visited twice (Lowe 2017). Each thread
@@ -21,6 +21,7 @@ type Value = Option<u64>;
 enum Asked {
     Find,
     Insert(u64),
+    Put(u64),
     Delete,
     Change(u64, u64),
 }
@@ -31,6 +32,7 @@ enum Reply {
     Absent,
     Inserted,
     Present(u64),
+    Replaced(u64),
     Deleted(u64),
     Changed,
     Differs(u64),
@@ -57,6 +59,9 @@ fn step(had: Value, asked: Asked, reply: Reply) -> Option<Value> {
         (Asked::Insert(v), Reply::Inserted, None) => Some(Some(v)),
         (Asked::Insert(_), Reply::Present(v), Some(w)) if v == w => Some(had),
         (Asked::Insert(_), Reply::NoRoom, None) => Some(had),
+        (Asked::Put(v), Reply::Inserted, None) => Some(Some(v)),
+        (Asked::Put(v), Reply::Replaced(w), Some(old)) if w == old => Some(Some(v)),
+        (Asked::Put(_), Reply::NoRoom, _) => Some(had),
         (Asked::Delete, Reply::Absent, None) => Some(had),
         (Asked::Delete, Reply::Deleted(v), Some(w)) if v == w => Some(None),
         (Asked::Delete, Reply::NoRoom, Some(_)) => Some(had),
@@ -74,7 +79,7 @@ fn steps(had: Value, asked: Asked, reply: Reply) -> [Option<Value>; 2] {
         return [step(had, asked, reply), None];
     }
     let done = match (asked, had) {
-        (Asked::Insert(v), None) => Some(v),
+        (Asked::Insert(v), None) | (Asked::Put(v), _) => Some(v),
         (Asked::Delete, _) => None,
         (Asked::Change(old, new), Some(w)) if old == w => Some(new),
         _ => had,
@@ -173,6 +178,7 @@ fn asked(text: &str) -> Option<Asked> {
     match parts(text) {
         ("Find", _) => Some(Asked::Find),
         ("Insert", n) => Some(Asked::Insert(*n.first()?)),
+        ("Put", n) => Some(Asked::Put(*n.first()?)),
         ("Delete", _) => Some(Asked::Delete),
         ("Change", n) => Some(Asked::Change(*n.first()?, *n.get(1)?)),
         _ => None,
@@ -185,6 +191,7 @@ fn reply(text: &str) -> Option<Reply> {
         ("Absent", _) => Some(Reply::Absent),
         ("Inserted", _) => Some(Reply::Inserted),
         ("Present", n) => Some(Reply::Present(*n.first()?)),
+        ("Replaced", n) => Some(Reply::Replaced(*n.first()?)),
         ("Deleted", n) => Some(Reply::Deleted(*n.first()?)),
         ("Changed", _) => Some(Reply::Changed),
         ("Differs", n) => Some(Reply::Differs(*n.first()?)),
@@ -257,6 +264,15 @@ impl Planted {
                     Reply::Inserted
                 }
             },
+            Asked::Put(value) if is_due && self.fault == "blind" => {
+                // It tells what it saw before another one could write.
+                let there = map.get(&key).copied();
+                drop(map);
+                std::thread::yield_now();
+                self.map.lock().unwrap().insert(key, value);
+                there.map_or(Reply::Inserted, Reply::Replaced)
+            }
+            Asked::Put(value) => map.insert(key, value).map_or(Reply::Inserted, Reply::Replaced),
             Asked::Delete if is_due && self.fault == "lost" => map.get(&key).map_or(Reply::Absent, |value| Reply::Deleted(*value)),
             Asked::Delete => map.remove(&key).map_or(Reply::Absent, Reply::Deleted),
             Asked::Change(from, to) => match map.get(&key) {
@@ -290,8 +306,8 @@ fn plant(fault: &str, rounds: u64) -> (Checked, bool) {
                     state.1 += 1;
                     let (key, stamp) = ((state.0 >> 24) % 8, (thread as u64) << 40 | state.1);
                     // The call at which the fault is due is one that can have it.
-                    let kind = if state.1 % 10_000 == 9_999 { ["stale", "twice", "lost"].iter().position(|f| *f == planted.fault).unwrap_or(0) as u64 } else { (state.0 >> 40) % 4 };
-                    let asked = [Asked::Find, Asked::Insert(stamp), Asked::Delete, Asked::Change(stamp - 4, stamp)][kind as usize];
+                    let kind = if state.1 % 10_000 == 9_999 { ["stale", "twice", "lost", "blind"].iter().position(|f| *f == planted.fault).unwrap_or(0) as u64 } else { (state.0 >> 40) % 5 };
+                    let asked = [Asked::Find, Asked::Insert(stamp), Asked::Delete, Asked::Put(stamp), Asked::Change(stamp.saturating_sub(4), stamp)][kind as usize];
                     let begin = now();
                     let reply = planted.answer(key, asked, state.1, &mut state.2);
                     Call { thread, begin, end: now(), key, asked, reply }
@@ -309,7 +325,7 @@ fn plant(fault: &str, rounds: u64) -> (Checked, bool) {
 fn main() {
     let words: Vec<String> = std::env::args().skip(1).collect();
     if let [word, fault] = words.as_slice() {
-        assert!(word == "plant" && ["none", "stale", "twice", "lost"].contains(&fault.as_str()), "usage: linearizable [plant FAULT]");
+        assert!(word == "plant" && ["none", "stale", "twice", "lost", "blind"].contains(&fault.as_str()), "usage: linearizable [plant FAULT]");
         let (checked, seen) = plant(fault, if fault == "none" { 10 } else { 200 });
         let calls = checked.calls;
         println!("{fault}: {} within {calls} calls", if seen { "seen" } else { "not seen" });
@@ -355,6 +371,13 @@ mod tests {
     }
 
     #[test]
+    fn a_put_tells_what_it_replaced() {
+        assert!(fits(&[(Asked::Put(5), Reply::Inserted, 0, 1), (Asked::Put(6), Reply::Replaced(5), 2, 3), (Asked::Find, Reply::Found(6), 4, 5)]));
+        assert!(!fits(&[(Asked::Put(5), Reply::Inserted, 0, 10), (Asked::Put(6), Reply::Inserted, 0, 10)]));
+        assert!(!fits(&[(Asked::Put(5), Reply::Inserted, 0, 1), (Asked::Put(6), Reply::Replaced(5), 2, 9), (Asked::Put(7), Reply::Replaced(5), 2, 9)]));
+    }
+
+    #[test]
     fn of_two_changes_one_wins() {
         assert!(!fits(&[(Asked::Insert(5), Reply::Inserted, 0, 1), (Asked::Change(5, 6), Reply::Changed, 2, 9), (Asked::Change(5, 7), Reply::Changed, 2, 9)]));
     }
@@ -392,13 +415,15 @@ mod tests {
         for _ in 0..200_000 {
             let calls: Vec<_> = (0..4).map(|_| {
                 let (begin, value) = (draw(8), draw(2));
-                let (asked, reply) = match draw(8) {
+                let (asked, reply) = match draw(10) {
                     0 => (Asked::Find, Reply::Absent),
                     1 => (Asked::Find, Reply::Found(value)),
                     2 | 3 => (Asked::Insert(value), Reply::Inserted),
                     4 => (Asked::Insert(1 - value), Reply::Present(value)),
                     5 => (Asked::Delete, Reply::Deleted(value)),
                     6 => (Asked::Change(value, 1 - value), Reply::Changed),
+                    7 => (Asked::Put(value), Reply::Inserted),
+                    8 => (Asked::Put(1 - value), Reply::Replaced(value)),
                     _ => (Asked::Change(value, value), Reply::Differs(1 - value)),
                 };
                 (asked, reply, begin, begin + draw(5))

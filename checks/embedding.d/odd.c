@@ -33,8 +33,8 @@ static void versions(void) {
 /* No code is told as another one, and what is none is told so. */
 static void texts(void) {
     int32_t one, two;
-    HOLDS(!strcmp(blink_text(-1), blink_text(BLINK_SEATS_LOST + 1)));
-    for (one = -1; one <= BLINK_SEATS_LOST; one++) {
+    HOLDS(!strcmp(blink_text(-1), blink_text(BLINK_BAD_FILL + 1)));
+    for (one = -1; one <= BLINK_BAD_FILL; one++) {
         for (two = -1; two < one; two++) HOLDS(strcmp(blink_text(one), blink_text(two)) != 0);
     }
 }
@@ -73,12 +73,22 @@ static void opened_twice(void) {
 
 static void closed(void) {
     blink_part part = {0, 0, true, 0};
+    blink_stats stats = {1, 2, 3, 4};
     static uint8_t bytes[LENGTH];
+    size_t found = 9;
+    uint64_t next = 9;
+    bool more = false;
     WANT(blink_try_find(&seats[0], 1, &value), BLINK_CLOSED);
     WANT(blink_try_insert(&seats[0], 1, 1, &value), BLINK_CLOSED);
     WANT(blink_try_delete(&seats[0], 1, &value), BLINK_CLOSED);
     WANT(blink_try_change(&seats[0], 1, 1, 1, &value), BLINK_CLOSED);
+    WANT(blink_try_put(&seats[0], 1, 1, &value), BLINK_CLOSED);
     WANT(blink_try_rows(&seats[0], 0, rows, 64, &part), BLINK_CLOSED);
+    WANT(blink_try_rows_down(&seats[0], 9, rows, 64, &part), BLINK_CLOSED);
+    HOLDS(part.count == 0 && part.next == 0 && part.more);
+    WANT(blink_scan_to(&seats[0], 5, 4, rows, 64, &found, &next, &more), BLINK_CLOSED);
+    WANT(blink_scan_down(&seats[0], 5, rows, 64, &found, &next, &more), BLINK_CLOSED);
+    HOLDS(more && found == 0 && next == 5);
     WANT(blink_tend(&seats[0], 5), BLINK_CLOSED);
     WANT(blink_upkeep(&seats[0], 5), BLINK_CLOSED);
     WANT(blink_upkeep_all(&seats[0]), BLINK_CLOSED);
@@ -86,6 +96,9 @@ static void closed(void) {
     WANT(blink_try_meet(&seats[0], &seats[1]), BLINK_CLOSED);
     WANT(blink_close_image(seats, 1, bytes, sizeof bytes, &length), BLINK_CLOSED);
     HOLDS(blink_waiting(&seats[0]) == 0 && blink_dropped(&seats[0]) == 0);
+    WANT(blink_stat(&seats[0], &stats), BLINK_CLOSED);
+    HOLDS(stats.pages == 1 && stats.free_pages == 2 && stats.waiting == 3 && stats.dropped == 4);
+    WANT(blink_save(&seats[0], 14, rows, 64, bytes, sizeof bytes, &length), BLINK_CLOSED);
     WANT(blink_try_close(&seats[0]), BLINK_CLOSED);
     WANT(blink_close(&seats[0]), BLINK_CLOSED);
 }
@@ -102,37 +115,159 @@ static uint64_t filled(void) {
 }
 
 static void full(uint64_t count) {
+    blink_stats stats = {9, 9, 9, 9};
     WANT(blink_insert(&seats[0], 0, 9, &value), BLINK_PRESENT);
     HOLDS(value == 0);
     WANT(blink_change(&seats[0], 0, 0, 5, &value), BLINK_OK);
     WANT(blink_change(&seats[0], 0, 0, 5, &value), BLINK_PRESENT);
     HOLDS(value == 5);
     WANT(blink_change(&seats[0], count + 5, 0, 5, &value), BLINK_ABSENT);
+    WANT(blink_put(&seats[0], 0, 5, &value), BLINK_PRESENT);
+    HOLDS(value == 5);
+    WANT(blink_put(&seats[0], count + 5, 5, &value), BLINK_NO_ROOM);
     WANT(blink_delete(&seats[1], 0, &value), BLINK_OK);
     HOLDS(value == 5);
     WANT(blink_delete(&seats[1], 0, &value), BLINK_ABSENT);
     WANT(blink_upkeep(&seats[0], 64), BLINK_OK);
     WANT(blink_upkeep_all(&seats[0]), BLINK_OK);
     HOLDS(blink_waiting(&seats[0]) == 0);
+    WANT(blink_stat(&seats[0], &stats), BLINK_OK);
+    HOLDS(stats.pages == PAGES && stats.free_pages == 0 && stats.waiting == 0 && stats.dropped == blink_dropped(&seats[0]));
     WANT(blink_meet(&seats[0], &seats[0]), BLINK_OK);
     WANT(blink_meet(&seats[0], &seats[1]), BLINK_OK);
 }
 
+/* All rows from a key on, read by so much room at a time, are those of the keys up to the other one, each with itself. */
+static void scanned(bool down, uint64_t from, uint64_t last, size_t room) {
+    uint64_t next = from, key = from;
+    size_t found = 0, at;
+    bool more = true;
+    while (more) {
+        rows[room].key = 77;
+        WANT(down ? blink_scan_down_to(&seats[0], next, last, rows, room, &found, &next, &more)
+                  : blink_scan_to(&seats[0], next, last, rows, room, &found, &next, &more), BLINK_OK);
+        HOLDS(rows[room].key == 77 && (!more || found == room));
+        for (at = 0; at < found; at++) {
+            HOLDS(rows[at].key == key && rows[at].value == key);
+            key += down ? UINT64_MAX : 1;
+        }
+        HOLDS(!more || next == key);
+    }
+    HOLDS(key == (down ? last - 1 : last + 1));
+}
+
+/* The parts of so much room, which are those of the keys 1 to count - 1. */
+static void parted(bool down, uint64_t count, size_t room) {
+    blink_part part = {0, down ? UINT64_MAX : 0, true, 0};
+    uint64_t key = down ? count - 1 : 1, at;
+    while (part.more) {
+        WANT(down ? blink_rows_down(&seats[0], part.next, rows, room, &part) : blink_rows(&seats[0], part.next, rows, room, &part), BLINK_OK);
+        HOLDS(part.count <= room && part.count <= BLINK_LEAF_ROWS);
+        for (at = 0; at < part.count; at++) {
+            HOLDS(rows[at].key == key && rows[at].value == key);
+            key += down ? UINT64_MAX : 1;
+        }
+    }
+    HOLDS(key == (down ? 0 : count));
+}
+
 static void listed(uint64_t count) {
     blink_part part = {UINT64_MAX, UINT64_MAX, true, UINT32_MAX};
-    size_t found = 0;
+    size_t found = 0, room;
     uint64_t next = 0;
     bool more = true;
     WANT(blink_rows(&seats[0], 0, rows, 0, &part), BLINK_FEW_ROWS);
-    WANT(blink_rows(&seats[0], 0, rows, 13, &part), BLINK_FEW_ROWS);
-    WANT(blink_scan(&seats[0], 0, rows, 13, &found, &next, &more), BLINK_FEW_ROWS);
+    WANT(blink_rows_down(&seats[0], 0, rows, 0, &part), BLINK_FEW_ROWS);
+    WANT(blink_scan(&seats[0], 0, rows, 0, &found, &next, &more), BLINK_FEW_ROWS);
+    WANT(blink_scan_down(&seats[0], 0, rows, 0, &found, &next, &more), BLINK_FEW_ROWS);
     /* Any page will do as the one that is near. */
-    WANT(blink_rows(&seats[0], 0, rows, 14, &part), BLINK_OK);
-    HOLDS(part.count > 0 && rows[0].key == 1 && rows[0].value == 1);
+    WANT(blink_rows(&seats[0], 0, rows, 1, &part), BLINK_OK);
+    HOLDS(part.count == 1 && part.more && part.next == 2 && rows[0].key == 1 && rows[0].value == 1);
     WANT(blink_scan(&seats[0], 0, rows, 64, &found, &next, &more), BLINK_OK);
     HOLDS(found == count - 1 && !more && rows[found - 1].key == count - 1);
+    WANT(blink_scan_down(&seats[0], UINT64_MAX, rows, 64, &found, &next, &more), BLINK_OK);
+    HOLDS(found == count - 1 && !more && rows[0].key == count - 1 && rows[found - 1].key == 1);
+    for (room = 1; room <= BLINK_LEAF_ROWS + 1; room++) {
+        scanned(false, 1, count - 1, room);
+        scanned(true, count - 1, 1, room);
+        scanned(false, 3, 17, room);
+        scanned(true, 17, 3, room);
+        scanned(false, 5, 5, room);
+        scanned(true, 5, 5, room);
+        parted(false, count, room);
+        parted(true, count, room);
+    }
+}
+
+/* Nothing behind an end that is at the other side, nor beyond the last key; and the least and the greatest key are listed. */
+static void bounded(void) {
+    size_t found = 0;
+    uint64_t next = 0;
+    bool more = true;
     WANT(blink_scan(&seats[0], UINT64_MAX, rows, 64, &found, &next, &more), BLINK_OK);
     HOLDS(found == 0 && !more);
+    WANT(blink_scan_down(&seats[0], 0, rows, 64, &found, &next, &more), BLINK_OK);
+    HOLDS(found == 0 && !more);
+    WANT(blink_scan_to(&seats[0], 6, 5, rows, 64, &found, &next, &more), BLINK_OK);
+    HOLDS(found == 0 && !more);
+    WANT(blink_scan_down_to(&seats[0], 5, 6, rows, 64, &found, &next, &more), BLINK_OK);
+    HOLDS(found == 0 && !more);
+    WANT(blink_delete(&seats[0], 1, &value), BLINK_OK);
+    WANT(blink_delete(&seats[0], 2, &value), BLINK_OK);
+    WANT(blink_put(&seats[0], 0, 7, &value), BLINK_OK);
+    WANT(blink_put(&seats[0], UINT64_MAX, 8, &value), BLINK_OK);
+    WANT(blink_scan_to(&seats[0], UINT64_MAX, UINT64_MAX, rows, 1, &found, &next, &more), BLINK_OK);
+    HOLDS(found == 1 && !more && rows[0].key == UINT64_MAX && rows[0].value == 8);
+    WANT(blink_scan_down(&seats[0], UINT64_MAX, rows, 1, &found, &next, &more), BLINK_OK);
+    HOLDS(found == 1 && more && rows[0].key == UINT64_MAX && next < UINT64_MAX);
+    WANT(blink_scan_down_to(&seats[0], 0, 0, rows, 1, &found, &next, &more), BLINK_OK);
+    HOLDS(found == 1 && !more && rows[0].key == 0 && rows[0].value == 7);
+    WANT(blink_delete(&seats[0], 0, &value), BLINK_OK);
+    WANT(blink_delete(&seats[0], UINT64_MAX, &value), BLINK_OK);
+}
+
+/* Images of rows: each refusal, and one that opens with these rows. */
+static void saved(void) {
+    enum { MANY = 64, ROOM = 32 + 256 * MANY, SPREAD = 5000 };
+    static uint8_t bytes[ROOM + 1];
+    static blink_row many[SPREAD];
+    size_t found = 0, at;
+    uint64_t next = 0;
+    bool more = true;
+    for (at = 0; at < SPREAD; at++) many[at] = (blink_row){3 * at, at};
+    WANT(blink_image_of(many, 60, 3, 14, bytes, ROOM, &length), BLINK_BAD_PAGES);
+    WANT(blink_image_of(many, 60, MANY, 0, bytes, ROOM, &length), BLINK_BAD_FILL);
+    WANT(blink_image_of(many, 60, MANY, 15, bytes, ROOM, &length), BLINK_BAD_FILL);
+    WANT(blink_image_of(many, SPREAD, MANY, 1, bytes, ROOM, &length), BLINK_BAD_FILL);
+    WANT(blink_image_of(many, SPREAD, MANY, 14, bytes, ROOM, &length), BLINK_NO_ROOM);
+    length = 0;
+    WANT(blink_image_of(many, 60, MANY, 14, bytes, ROOM - 1, &length), BLINK_FEW_BYTES);
+    HOLDS(length == ROOM);
+    many[7].key = many[6].key;
+    WANT(blink_image_of(many, 60, MANY, 14, bytes, ROOM, &length), BLINK_BAD_ROWS);
+    many[7].key = 21;
+    HOLDS(bytes[0] == 0 && bytes[ROOM] == 0);
+    bytes[ROOM] = 99;
+    length = 0;
+    WANT(blink_image_of(many, 60, MANY, 10, bytes, ROOM + 1, &length), BLINK_OK);
+    HOLDS(length == ROOM && bytes[ROOM] == 99);
+    WANT(blink_open_image(bytes, ROOM, seats, 1), BLINK_OK);
+    WANT(blink_scan(&seats[0], 0, rows, 64, &found, &next, &more), BLINK_OK);
+    HOLDS(found == 60 && !more && rows[0].key == 0 && rows[59].key == 177 && rows[59].value == 59);
+    WANT(blink_delete(&seats[0], 0, &value), BLINK_OK);
+    WANT(blink_save(&seats[0], 14, rows, 58, bytes, ROOM, &length), BLINK_FEW_ROWS);
+    WANT(blink_save(&seats[0], 14, rows, 0, bytes, ROOM, &length), BLINK_FEW_ROWS);
+    WANT(blink_save(&seats[0], 0, rows, 59, bytes, ROOM, &length), BLINK_BAD_FILL);
+    WANT(blink_save(&seats[0], 14, rows, 59, bytes, ROOM - 1, &length), BLINK_FEW_BYTES);
+    WANT(blink_save(&seats[0], 14, rows, 59, bytes, ROOM, &length), BLINK_OK);
+    HOLDS(length == ROOM);
+    WANT(blink_close(&seats[0]), BLINK_OK);
+    WANT(blink_open_image(bytes, ROOM, seats, 1), BLINK_OK);
+    WANT(blink_scan_down(&seats[0], UINT64_MAX, rows, 64, &found, &next, &more), BLINK_OK);
+    HOLDS(found == 59 && !more && rows[0].key == 177 && rows[58].key == 3 && rows[58].value == 1);
+    for (at = 0; at < found; at++) WANT(blink_delete(&seats[0], rows[at].key, &value), BLINK_OK);
+    WANT(blink_save(&seats[0], 14, rows, 0, bytes, ROOM, &length), BLINK_OK);
+    WANT(blink_close(&seats[0]), BLINK_OK);
 }
 
 /* Closes that are refused, one that is not, and opens from what it has written. */
@@ -192,7 +327,9 @@ int main(void) {
     count = filled();
     full(count);
     listed(count);
+    bounded();
     images();
+    saved();
     closed_early();
     printf("%d answers, %d of them wrong\n", calls, faults);
     return faults > 0;

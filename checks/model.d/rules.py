@@ -135,8 +135,23 @@ def enter(at, page, key, value):
 
 def insert_there(key, value, noted=None):
     """An insertion between its begin and its end: the reply, and the separator of a split."""
+    return (yield from enter_there(key, value, noted, replaces=False))
+
+
+def put_there(key, value, noted=None):
+    """A put between its begin and its end: the same."""
+    return (yield from enter_there(key, value, noted, replaces=True))
+
+
+def enter_there(key, value, noted, replaces):
+    """Enters a pair where the key is not there. A value that is there gives way, or stays."""
     at, page = yield from whatever_the_anchor(approach(key, 0, noted=noted))
     there = page.listed(key)
+    if there is not None and replaces:
+        pairs = [(low, value if low == key else old) for low, old in page.pairs]
+        refused = (yield "put", at, page.having(pairs=pairs), True) == "refused"
+        yield "open", at
+        return "noroom" if refused else f"replaced {there}", None
     if there is not None:
         yield "open", at
         return f"present {there}", None
@@ -244,17 +259,44 @@ def part(key, near=None):
     return f"rows{rows}" + (f" more {page.high}" if page.high else " end")
 
 
-def insert(key, value):
+def part_down(key):
     yield ("begin",)
-    reply, separator = yield from insert_there(key, value)
+    page = yield from search(key, None)
+    yield ("end",)
+    rows = "".join(f" {low}={value}" for low, value in reversed(page.pairs) if low <= key)
+    return f"rows{rows}" + (f" more {page.low - 1}" if page.low else " end")
+
+
+def insert(key, value):
+    return (yield from leaving_the_post(insert_there(key, value)))
+
+
+def put(key, value):
+    return (yield from leaving_the_post(put_there(key, value)))
+
+
+def insertpost(key, value):
+    noted = {}
+    return (yield from posting(insert_there(key, value, noted), noted))
+
+
+def putpost(key, value):
+    noted = {}
+    return (yield from posting(put_there(key, value, noted), noted))
+
+
+def leaving_the_post(there):
+    """A write that enters a pair, and leaves the post of what it has split."""
+    yield ("begin",)
+    reply, separator = yield from there
     yield ("end",)
     return reply if separator is None else f"{reply} post 1 {separator}"
 
 
-def insertpost(key, value):
+def posting(there, noted):
+    """A write that enters a pair, and posts what it has split."""
     yield ("begin",)
-    noted = {}
-    reply, separator = yield from insert_there(key, value, noted)
+    reply, separator = yield from there
     if separator is None:
         yield ("end",)
         return reply
@@ -414,7 +456,8 @@ def reclaim(page):
     return "released" if (yield "release", page, retired) else "kept"
 
 
-KINDS = {it.__name__: it for it in (find, part, insert, insertpost, delete, change, post, compress, lower, reclaim)} | {"findnear": find, "partnear": part}
+KINDS = {it.__name__: it for it in (find, part, insert, insertpost, put, putpost, delete, change, post, compress, lower, reclaim)}
+KINDS |= {"findnear": find, "partnear": part, "partdown": part_down}
 
 
 class Process:
