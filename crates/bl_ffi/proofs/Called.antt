@@ -5,17 +5,17 @@ use mir.Syntax.{w32}
 use Rattle.bl_model.specs.declared.operation.Reply.{Reply}
 use Rattle.bl_model.specs.declared.operation.Reply.TheVariants.{Found, Absent, Inserted, Present, Replaced, Deleted, Changed, Differs, Rows, NoRoom}
 use Rattle.std.specs.Prelude.{ℤ, pos, MatchOption}
-use Rattle.bl_seats.specs.declared.seat.Seat.{Seat}
-use Rattle.bl_seats.specs.Calls.{IsSameSeat, HasGoneOn, HasNothingToDo, HasSwept, account_of, number_of, released_by}
-use Rattle.bl_seats.specs.Tended.{SweepsOnce}
-use Rattle.bl_seats.proofs.Tending.{seat_after}
-use Rattle.bl_seats.specs.Accounts.{GoesTo}
-use Rattle.bl_seats.specs.Waits.{IsIdle}
+use Rattle.bl_ffi_seats.specs.declared.seat.Seat.{Seat}
+use Rattle.bl_ffi_seats.specs.Calls.{IsSameSeat, HasGoneOn, HasNothingToDo, HasSwept, account_of, number_of, released_by}
+use Rattle.bl_ffi_seats.specs.Tended.{SweepsOnce}
+use Rattle.bl_ffi_seats.proofs.Tending.{seat_after}
+use Rattle.bl_ffi_seats.specs.Accounts.{GoesTo}
+use Rattle.bl_ffi_seats.specs.Waits.{IsIdle}
 use Rattle.bl_ffi.specs.declared.seat.SeatOfC.{SeatOfC}
 use Rattle.std.specs.Arc.{arc_value}
-use Rattle.bl_index_turns.specs.declared.stages.Stage.TheVariants as stage
-use Rattle.bl_index_turns.specs.Stages.{IsAtRest}
-use Rattle.bl_seats.specs.Meetings.{HasSettled}
+use Rattle.bl_index_resume.specs.declared.stages.Stage.TheVariants as stage
+use Rattle.bl_index_resume.specs.Stages.{IsAtRest}
+use Rattle.bl_ffi_seats.specs.Meetings.{HasSettled}
 use Rattle.bl_ffi.specs.Told.{IsCodeOf, Calls, Closes, Counts}
 
 pub called : (old new : SeatOfC) (code : ℤ) (Comes : Seat → Seat → Type 0) (s t : Seat) → old.seat ≡ Some s → new.seat ≡ Some t → IsSameSeat s t → Comes s t → Calls old new code Comes

@@ -1,8 +1,8 @@
 -- A map is opened for C.
 use Rattle.std.specs.Prelude.{◌≡◌, ◌⊎◌, ◌<◌, ◌^◌, ℕ, ℤ, pos, List, Option, length}
 use Rattle.bl_check.specs.Faults.{AreSoundImage}
-use Rattle.bl_seats.specs.declared.seat.Seat.{Seat}
-use Rattle.bl_seats.specs.Opened.{IsOpened, IsReopened}
+use Rattle.bl_ffi_seats.specs.declared.seat.Seat.{Seat}
+use Rattle.bl_ffi_seats.specs.Opened.{IsOpened, IsReopened}
 use Rattle.bl_ffi.specs.Places.{opened}
 
 -- Each place has its seat, and one that it had is closed; or there was no memory, and the places are as they were.

@@ -9,7 +9,7 @@ ghost use Rattle.bl_ffi.specs.Told.{IsCodeOf, Finds, Tells, Closes, Calls, IsRow
 use crate::codes::{ABSENT, AGAIN, CLOSED, FEW_ROWS, NO_ROOM, OK, PRESENT};
 use crate::places::{put_back, taken};
 use crate::seat::SeatOfC;
-use bl_seats::{KeyReply, KeyWrite, Next, Reply};
+use bl_ffi_seats::{KeyReply, KeyWrite, Next, Reply};
 use std::alloc::Global;
 
 /// A key and its value.

@@ -2,13 +2,13 @@
 use Rattle.std.proofs.Common.{ℕ, ◌≡◌, ◌⊎◌, None, Some, List, [], refl, inl, inr, subst}
 use Rattle.bl_page.specs.Machine.{Phase}
 use Rattle.bl_page.specs.declared.page.Page.{Page}
-use Rattle.bl_core.specs.Worlds.{Goes, Hold, Stage, Know, HoldsPage, IsStage}
-use Rattle.bl_proc_base.specs.declared.approaching.Approach.{Approach}
-use Rattle.bl_proc_base.specs.declared.approaching.Approach.TheVariants as approach
-use Rattle.bl_proc_base.specs.declared.editing.Edit.{Edit}
-use Rattle.bl_proc_base.specs.declared.editing.Edit.TheVariants as edit
-use Rattle.bl_proc_base.specs.declared.growing.Growth.{Growth}
-use Rattle.bl_proc_base.specs.declared.growing.Growth.TheVariants as growth
+use Rattle.bl_tree_worlds.specs.Worlds.{Goes, Hold, Stage, Know, HoldsPage, IsStage}
+use Rattle.bl_proc_steps.specs.declared.approaching.Approach.{Approach}
+use Rattle.bl_proc_steps.specs.declared.approaching.Approach.TheVariants as approach
+use Rattle.bl_proc_steps.specs.declared.editing.Edit.{Edit}
+use Rattle.bl_proc_steps.specs.declared.editing.Edit.TheVariants as edit
+use Rattle.bl_proc_steps.specs.declared.growing.Growth.{Growth}
+use Rattle.bl_proc_steps.specs.declared.growing.Growth.TheVariants as growth
 use Rattle.bl_proc_compress.specs.declared.squeezing.CompressStage.{CompressStage}
 use Rattle.bl_proc_compress.specs.declared.squeezing.CompressStage.TheVariants as compress
 use Rattle.bl_proc.specs.declared.searching.FindStage.{FindStage}
@@ -23,8 +23,8 @@ use Rattle.bl_proc_writes.specs.declared.posting.PostStage.{PostStage}
 use Rattle.bl_proc_writes.specs.declared.posting.PostStage.TheVariants as post
 use Rattle.bl_proc.specs.declared.reclaiming.ReclaimStage.{ReclaimStage}
 use Rattle.bl_proc.specs.declared.reclaiming.ReclaimStage.TheVariants as reclaim
-use Rattle.bl_proc_base.specs.declared.lowering.Lowering.{Lowering}
-use Rattle.bl_proc_base.specs.declared.lowering.Lowering.TheVariants as lowering
+use Rattle.bl_proc_steps.specs.declared.lowering.Lowering.{Lowering}
+use Rattle.bl_proc_steps.specs.declared.lowering.Lowering.TheVariants as lowering
 use Rattle.bl_proc.specs.declared.lowering.LowerStage.{LowerStage}
 use Rattle.bl_proc.specs.declared.lowering.LowerStage.TheVariants as lower
 use Rattle.bl_proc_writes.specs.declared.paths.Path.{Path}

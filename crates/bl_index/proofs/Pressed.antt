@@ -2,12 +2,12 @@
 use Rattle.std.proofs.Common.{ℕ, ◌≡◌, ◌≢◌, ◌+◌, Option, Some, None, List, refl, ap, ◌∙◌, subst}
 use Rattle.bl_page.specs.declared.page.Page.{Page}
 use Rattle.bl_claims.specs.Trails.{Trail, marks_of}
-use Rattle.bl_proc_base.specs.declared.acts.Action.{Action}
-use Rattle.bl_proc_base.specs.declared.acts.Action.TheVariants as act
-use Rattle.bl_proc_base.specs.declared.acts.Seen.TheVariants as seen
-use Rattle.bl_proc_base.specs.declared.answers.Hint.{Hint}
-use Rattle.bl_proc_base.specs.declared.answers.Squeezed.{Squeezed}
-use Rattle.bl_proc_base.specs.declared.answers.Answer.TheVariants as answer
+use Rattle.bl_proc_steps.specs.declared.acts.Action.{Action}
+use Rattle.bl_proc_steps.specs.declared.acts.Action.TheVariants as act
+use Rattle.bl_proc_steps.specs.declared.acts.Seen.TheVariants as seen
+use Rattle.bl_proc_steps.specs.declared.answers.Hint.{Hint}
+use Rattle.bl_proc_steps.specs.declared.answers.Squeezed.{Squeezed}
+use Rattle.bl_proc_steps.specs.declared.answers.Answer.TheVariants as answer
 use Rattle.bl_proc_compress.specs.declared.compressing.Compression.{Compression}
 use Rattle.bl_proc_compress.specs.declared.compressing.Compression.TheVariants.{LatchingLeft, LatchedLeft, LatchingRight, LatchedRight, PuttingFirst, PuttingParent, PuttingLast, Retiring, OpeningRight, OpeningLeft, OpeningParent}
 use Rattle.bl_proc_compress.specs.declared.squeezing.Compress.{Compress}
@@ -22,15 +22,15 @@ use Rattle.bl_claims.specs.Squeezed.{MeansSqueezed}
 use Rattle.bl_proc_invariant.specs.Knowing.{know_of, know_compress}
 use Rattle.bl_proc_invariant.proofs.Pressed.{stage_means}
 use Rattle.bl_claims.specs.Families.{LatchesBeside}
-use Rattle.bl_proc_unique.specs.Frames.{work_of}
-use Rattle.bl_proc_unique.specs.Retirements.{IsPutDone}
-use Rattle.bl_proc_unique.proofs.Retirements.{put_done}
+use Rattle.bl_proc_deterministic.specs.Frames.{work_of}
+use Rattle.bl_proc_deterministic.specs.Retirements.{IsPutDone}
+use Rattle.bl_proc_deterministic.proofs.Retirements.{put_done}
 use Rattle.bl_index_rule.specs.declared.known.PassState.{PassState}
 use Rattle.bl_claims.specs.Seeing.{name}
 use Rattle.bl_index.specs.Calls.{Compresses}
-use Rattle.bl_index_steps.specs.Runs.{IsDone}
-use Rattle.bl_index_steps.proofs.Quiet.{first_of, second_of, quiet_adds}
-use Rattle.bl_index_steps.proofs.Ends.{not_end_way}
+use Rattle.bl_index_events.specs.Runs.{IsDone}
+use Rattle.bl_index_events.proofs.Quiet.{first_of, second_of, quiet_adds}
+use Rattle.bl_index_events.proofs.Ends.{not_end_way}
 
 not_end_put : (a : Action) → IsPutDone a seen.Done → a ≢ act.End
 not_end_put a put e = subst (λ (z : Action). IsPutDone z seen.Done) e put

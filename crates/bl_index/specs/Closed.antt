@@ -7,7 +7,7 @@ use Rattle.bl_model.specs.Rows.{map_of}
 use Rattle.bl_page.specs.declared.page.Page.{Page}
 use Rattle.bl_check.specs.Rows.{AreRowsOf}
 use Rattle.bl_claims.specs.Trails.{Trail}
-use Rattle.bl_check_tree.specs.Begins.{AreLeft}
+use Rattle.bl_check_laws.specs.Begins.{AreLeft}
 use Rattle.bl_store.specs.declared.store.Hand.{Hand}
 use Rattle.bl_index_rule.specs.declared.known.PassState.{PassState}
 use Rattle.bl_claims.specs.Seeing.{IsSeen, AreWithin, own, GoesOnFrom}

@@ -5,13 +5,13 @@ ghost use Rattle.bl_store.specs.Hands.{known, IsIdle, HasNoStock, IsSameHand};
 ghost use Rattle.bl_store.specs.Owners.{IsHandOf};
 ghost use Rattle.bl_claims.specs.Seeing.{GoesOnFrom};
 ghost use Rattle.bl_index.specs.Meetings.{learned, heard};
-ghost use Rattle.bl_index_steps.specs.Runs.{Keeps};
+ghost use Rattle.bl_index_events.specs.Runs.{Keeps};
 
 use crate::index::{Index, Pass};
-use bl_frames::MeetPlay;
+use bl_index_events::Tree;
 use bl_index_rule::PassState;
-use bl_index_steps::Tree;
 use bl_store::Hand;
+use bl_store_rule::MeetPlay;
 use std::marker::{Brand, PhantomData};
 
 /// Which pass learns of which other, and how many passes there are.

@@ -4,11 +4,11 @@ ghost use Rattle.std.specs.Prelude.{◌≡◌, ℕ, ◌+◌, ◌≤◌, false};
 ghost use Rattle.bl_store.specs.Hands.{known};
 ghost use Rattle.bl_store.specs.Owners.{IsHandOf};
 ghost use Rattle.bl_index_rule.specs.Observed.{sweeps};
-ghost use Rattle.bl_index_steps.specs.Runs.{Keeps, IsWithin};
+ghost use Rattle.bl_index_events.specs.Runs.{Keeps, IsWithin};
 
 use crate::index::{Index, Pass};
+use bl_index_events::Tree;
 use bl_index_rule::{PassState, Sweeper, Swept};
-use bl_index_steps::Tree;
 use bl_store::Hand;
 use std::marker::Brand;
 

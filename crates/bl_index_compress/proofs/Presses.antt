@@ -3,15 +3,15 @@ use Rattle.std.proofs.Common.{ℕ, ◌≡◌, ◌≢◌, List, get_or, Option, S
 use Rattle.bl_layout.specs.declared.layout.Layout.{Layout}
 use Rattle.bl_page.specs.declared.page.Page.{Page}
 use Rattle.bl_page.specs.Words.{words_of}
-use Rattle.bl_proc_base.specs.declared.acts.Seen.{Seen}
-use Rattle.bl_proc_base.specs.declared.acts.Seen.TheVariants as seen
-use Rattle.bl_proc_base.specs.Given.{Gives}
-use Rattle.bl_proc_base.specs.declared.approaching.Approach.TheVariants.{Start}
-use Rattle.bl_proc_base.specs.declared.answers.Hint.{Hint}
-use Rattle.bl_proc_base.specs.declared.answers.Hint.TheVariants as hint
-use Rattle.bl_proc_base.specs.declared.answers.Answer.TheVariants as answer
-use Rattle.bl_proc_base.specs.declared.answers.Squeezed.{Squeezed}
-use Rattle.bl_proc_base.specs.declared.answers.Squeezed.TheVariants as squeezed
+use Rattle.bl_proc_steps.specs.declared.acts.Seen.{Seen}
+use Rattle.bl_proc_steps.specs.declared.acts.Seen.TheVariants as seen
+use Rattle.bl_proc_steps.specs.Given.{Gives}
+use Rattle.bl_proc_steps.specs.declared.approaching.Approach.TheVariants.{Start}
+use Rattle.bl_proc_steps.specs.declared.answers.Hint.{Hint}
+use Rattle.bl_proc_steps.specs.declared.answers.Hint.TheVariants as hint
+use Rattle.bl_proc_steps.specs.declared.answers.Answer.TheVariants as answer
+use Rattle.bl_proc_steps.specs.declared.answers.Squeezed.{Squeezed}
+use Rattle.bl_proc_steps.specs.declared.answers.Squeezed.TheVariants as squeezed
 use Rattle.bl_proc_compress.specs.declared.compressing.Compression.{Compression}
 use Rattle.bl_proc_compress.specs.declared.compressing.Compression.TheVariants.{LatchedLeft, LatchingRight, LatchedRight, OpeningLeft, OpeningParent, OpeningRight}
 use Rattle.bl_proc_compress.specs.declared.compressing.Compressed.TheVariants as step
@@ -28,17 +28,17 @@ use Rattle.bl_proc_compress.specs.Compressions.{compression_next, compression_ne
 use Rattle.bl_proc_compress.specs.Compresses.{compress_next_in, compress_needs_in, compress_answer_in, compressed_answer}
 use Rattle.bl_proc.specs.declared.kinds.Proc.{Proc}
 use Rattle.bl_proc.specs.Processes.{Takes}
-use Rattle.bl_proc_unique.specs.Courses.{GoesOn}
-use Rattle.bl_proc_unique.proofs.Compressions.{compress_goes}
+use Rattle.bl_proc_deterministic.specs.Courses.{GoesOn}
+use Rattle.bl_proc_deterministic.proofs.Compressions.{compress_goes}
 use Rattle.atomic_table.specs.declared.shared.Seat.{Seat}
-use Rattle.bl_frames.specs.declared.view.View.{View}
+use Rattle.bl_store_rule.specs.declared.view.View.{View}
 use Rattle.bl_store.specs.declared.store.Hand.{Hand}
 use Rattle.bl_store.specs.Hands.{known, IsSameHand}
 use Rattle.bl_index_rule.specs.declared.known.PassState.{PassState}
 use Rattle.bl_index_rule.specs.Observed.{Goes}
-use Rattle.bl_index_steps.specs.declared.tree.Tree.{Tree}
-use Rattle.bl_index_steps.specs.Runs.{EndsAs, IsOn, IsSameProcess, Runs}
-use Rattle.bl_index_steps.proofs.Standing.{course_at, goes_to, on_as, on_goes, same_all}
+use Rattle.bl_index_events.specs.declared.tree.Tree.{Tree}
+use Rattle.bl_index_events.specs.Runs.{EndsAs, IsOn, IsSameProcess, Runs}
+use Rattle.bl_index_events.proofs.Standing.{course_at, goes_to, on_as, on_goes, same_all}
 use Rattle.bl_index_compress.specs.declared.targets.Squeezing.{Squeezing}
 use Rattle.bl_index_compress.specs.declared.targets.Kin.{Kin}
 use Rattle.bl_index_compress.specs.Squeezes.{squeezing, pressing, Answers, HasBoth, HasLeft, IsCompressOver, IsDecided, IsKin, LeavesParent}

@@ -13,21 +13,21 @@ use Rattle.bl_page.specs.Nodes.{IsTreePage}
 use Rattle.bl_rearrange.specs.Rearranged.{IsNow, IsWithout}
 use Rattle.bl_rearrange.specs.Neighbours.{AreNeighbours, together, IsEvened}
 use Rattle.bl_rearrange.proofs.EnteredLemmas.{RisesFrom-dropped, map_of-dropped}
-use Rattle.bl_proc_base.specs.declared.acts.Action.{Action}
-use Rattle.bl_proc_base.specs.declared.acts.Action.TheVariants as act
-use Rattle.bl_proc_base.specs.declared.acts.Seen.TheVariants as seen
-use Rattle.bl_proc_base.specs.Given.{Gives}
-use Rattle.bl_proc_base.specs.declared.answers.Hint.{Hint}
-use Rattle.bl_proc_pages.specs.Respelled.{words_by}
+use Rattle.bl_proc_steps.specs.declared.acts.Action.{Action}
+use Rattle.bl_proc_steps.specs.declared.acts.Action.TheVariants as act
+use Rattle.bl_proc_steps.specs.declared.acts.Seen.TheVariants as seen
+use Rattle.bl_proc_steps.specs.Given.{Gives}
+use Rattle.bl_proc_steps.specs.declared.answers.Hint.{Hint}
+use Rattle.bl_proc_routes.specs.Respelled.{words_by}
 use Rattle.bl_proc_compress.specs.declared.compressing.Siblings.{Siblings}
 use Rattle.bl_proc_compress.specs.declared.compressing.Family.{Family}
 use Rattle.bl_proc_compress.specs.declared.compressing.Puts.{Puts}
 use Rattle.bl_proc_compress.specs.declared.compressing.Decision.TheVariants.{Merged, Evened as EvenedOut}
 use Rattle.bl_proc_compress.specs.declared.compressing.Compression.TheVariants.{Retiring, OpeningRight}
 use Rattle.bl_proc_compress.specs.Compressions.{put_of, other, merge_hint, Merges, Relists, MayEven, Evens, after_puts}
-use Rattle.bl_proc_unique.proofs.Neighbours.{merged_some, buried_some, evened_some}
-use Rattle.bl_proc_unique.proofs.Pages.{without_some}
-use Rattle.bl_proc_unique.proofs.Relistings.{relist_some}
+use Rattle.bl_proc_deterministic.proofs.Neighbours.{merged_some, buried_some, evened_some}
+use Rattle.bl_proc_deterministic.proofs.Pages.{without_some}
+use Rattle.bl_proc_deterministic.proofs.Relistings.{relist_some}
 use Rattle.bl_index_ways.proofs.Spreading.{spelled}
 use Rattle.bl_index_compress.specs.declared.targets.Squeezing.{Squeezing}
 use Rattle.bl_index_compress.specs.declared.targets.Kin.{Kin}

@@ -4,14 +4,14 @@ use Rattle.atomic_table.specs.declared.shared.Seat.{Seat}
 use Rattle.bl_page.specs.declared.page.Page.{Page}
 use Rattle.bl_page.specs.declared.page.Page.TheVariants.{Inner}
 use Rattle.bl_page.specs.Words.{words_of}
-use Rattle.bl_frames.specs.declared.view.View.{View}
+use Rattle.bl_store_rule.specs.declared.view.View.{View}
 use Rattle.bl_store.specs.declared.store.Hand.{Hand}
 use Rattle.bl_store.specs.Hands.{known, IsSameHand, HasNoStock, WasRefused}
-use Rattle.bl_proc_base.specs.declared.answers.Answer.TheVariants as answer
-use Rattle.bl_proc_base.specs.declared.answers.Hint.{Hint}
-use Rattle.bl_proc_base.specs.declared.answers.Squeezed.{Squeezed}
-use Rattle.bl_proc_base.specs.declared.answers.Squeezed.TheVariants as squeezed
-use Rattle.bl_proc_base.specs.declared.approaching.Approach.TheVariants.{Start}
+use Rattle.bl_proc_steps.specs.declared.answers.Answer.TheVariants as answer
+use Rattle.bl_proc_steps.specs.declared.answers.Hint.{Hint}
+use Rattle.bl_proc_steps.specs.declared.answers.Squeezed.{Squeezed}
+use Rattle.bl_proc_steps.specs.declared.answers.Squeezed.TheVariants as squeezed
+use Rattle.bl_proc_steps.specs.declared.approaching.Approach.TheVariants.{Start}
 use Rattle.bl_proc_compress.specs.declared.compressing.Compression.{Compression}
 use Rattle.bl_proc_compress.specs.declared.compressing.Family.{Family}
 use Rattle.bl_proc_compress.specs.declared.compressing.Puts.{Puts}
@@ -31,8 +31,8 @@ use Rattle.bl_proc.specs.declared.kinds.Proc.{Proc}
 use Rattle.bl_proc.specs.declared.kinds.Proc.TheVariants as proc
 use Rattle.bl_proc.specs.Processes.{answer_of}
 use Rattle.bl_index_rule.specs.declared.known.PassState.{PassState}
-use Rattle.bl_index_steps.specs.declared.tree.Tree.{Tree}
-use Rattle.bl_index_steps.specs.Runs.{IsDone, IsSince, IsSameProcess, Rests, Runs}
+use Rattle.bl_index_events.specs.declared.tree.Tree.{Tree}
+use Rattle.bl_index_events.specs.Runs.{IsDone, IsSince, IsSameProcess, Rests, Runs}
 use Rattle.bl_index_compress.specs.declared.targets.Squeezing.{Squeezing}
 use Rattle.bl_index_compress.specs.declared.targets.Kin.{Kin}
 

@@ -10,7 +10,7 @@ ghost use Rattle.bl_proc_compress.specs.declared.compressing.Family.{Family};
 ghost use Rattle.bl_proc_compress.specs.declared.compressing.Puts.{Puts as PutsIs};
 ghost use Rattle.bl_proc_compress.specs.Compressions.{MayEven, after_puts};
 ghost use Rattle.bl_store.specs.Hands.{known, IsSameHand, IsSameStage, HasNoStock, MayRetire, WasRefused};
-ghost use Rattle.bl_index_steps.specs.Runs.{Runs, IsOn, IsSameProcess};
+ghost use Rattle.bl_index_events.specs.Runs.{Runs, IsOn, IsSameProcess};
 ghost use Rattle.bl_index_compress.specs.declared.targets.Squeezing.{Squeezing as SqueezingIs};
 ghost use Rattle.bl_index_compress.specs.Squeezes.{pressing, Answers, ArePuts, HasBoth, IsDecided, IsKin, LeavesParent, on_side};
 
@@ -19,13 +19,13 @@ use crate::pages::{
     buried_words, evened_words, merge_hint_in, merged_words, neighbours_in, relisted_words,
 };
 use crate::targets::{Kin, Squeezing};
+use bl_index_events::Tree;
 use bl_index_rule::PassState;
-use bl_index_steps::Tree;
 use bl_model::limits::{ENOUGH_PAIRS, MOST_PAIRS};
 use bl_page::LEVEL_UNIT;
-use bl_proc_base::{Hint, Level, Squeezed};
 use bl_proc_compress::{Decision, Siblings};
-use bl_proc_pages::words_without;
+use bl_proc_routes::words_without;
+use bl_proc_steps::{Hint, Level, Squeezed};
 use bl_rearrange::Side;
 use bl_store::Hand;
 use std::sync::Wait;

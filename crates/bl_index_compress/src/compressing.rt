@@ -1,29 +1,29 @@
 //! Compressions, by the words of pages.
 
 ghost use Rattle.std.specs.Prelude.{◌≡◌, ◌<◌, ◌≤◌, ℕ, Some, IfNone, IfSome};
-ghost use Rattle.bl_proc_base.specs.declared.answers.Answer.TheVariants as answers;
-ghost use Rattle.bl_proc_base.specs.declared.answers.Squeezed.TheVariants as said;
-ghost use Rattle.bl_proc_base.specs.declared.approaching.Approach.TheVariants as approach;
+ghost use Rattle.bl_proc_steps.specs.declared.answers.Answer.TheVariants as answers;
+ghost use Rattle.bl_proc_steps.specs.declared.answers.Squeezed.TheVariants as said;
+ghost use Rattle.bl_proc_steps.specs.declared.approaching.Approach.TheVariants as approach;
 ghost use Rattle.bl_proc_compress.specs.declared.squeezing.CompressReply.{CompressReply};
 ghost use Rattle.bl_proc_compress.specs.declared.squeezing.CompressReply.TheVariants as replies;
 ghost use Rattle.bl_proc_compress.specs.declared.squeezing.CompressStage.TheVariants as stages;
 ghost use Rattle.bl_proc_compress.specs.Compresses.{compressed_answer};
 ghost use Rattle.bl_proc.specs.declared.kinds.Proc.{Proc};
-ghost use Rattle.bl_proc_unique.specs.Frames.{work_of};
+ghost use Rattle.bl_proc_deterministic.specs.Frames.{work_of};
 ghost use Rattle.bl_store.specs.Hands.{known, read_words, IsIdle, IsSameHand, HasNoStock, ReadsFrom, WasRefused};
 ghost use Rattle.bl_store.specs.Owners.{IsHandOf};
 ghost use Rattle.bl_index_rule.specs.declared.known.PassState.{PassState as Knows};
-ghost use Rattle.bl_index_steps.specs.Runs.{Runs, Rests, IsOn, IsSince, IsSameProcess};
+ghost use Rattle.bl_index_events.specs.Runs.{Runs, Rests, IsOn, IsSince, IsSameProcess};
 ghost use Rattle.bl_index_ways.specs.Events.{HasGotAnchor, HoldsNone};
 ghost use Rattle.bl_index_compress.specs.Squeezes.{squeezing, HasCompressed, IsCompressOver};
 
 use crate::families::compress_there;
 use crate::targets::Squeezing;
+use bl_index_events::{FrameView, Tree};
 use bl_index_rule::PassState;
-use bl_index_steps::{FrameView, Tree};
 use bl_index_ways::{Reached, begin_descent, reach};
-use bl_proc_base::{Approach, Hint, Squeezed};
-use bl_proc_pages::levels_in;
+use bl_proc_routes::levels_in;
+use bl_proc_steps::{Approach, Hint, Squeezed};
 use bl_store::{Glance, Hand};
 use std::sync::Wait;
 

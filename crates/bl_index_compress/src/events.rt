@@ -3,17 +3,17 @@
 ghost use Rattle.std.specs.Prelude.{◌≡◌, ◌<◌, ◌+◌, MatchOption, IfNone};
 ghost use Rattle.bl_page.specs.declared.page.Page.{Page};
 ghost use Rattle.bl_page.specs.Words.{words_of};
-ghost use Rattle.bl_proc_base.specs.declared.acts.Action.TheVariants as act;
-ghost use Rattle.bl_proc_base.specs.declared.acts.Seen.TheVariants as seen;
+ghost use Rattle.bl_proc_steps.specs.declared.acts.Action.TheVariants as act;
+ghost use Rattle.bl_proc_steps.specs.declared.acts.Seen.TheVariants as seen;
 ghost use Rattle.bl_proc.specs.declared.kinds.Proc.{Proc};
 ghost use Rattle.bl_proc.specs.Processes.{next_of, Takes};
-ghost use Rattle.bl_proc_unique.specs.Courses.{GoesOn};
+ghost use Rattle.bl_proc_deterministic.specs.Courses.{GoesOn};
 ghost use Rattle.bl_store.specs.Hands.{known, IsSameHand, IsSameStage, HasNoStock, IsStockOf, MayRetire, WasRefused};
 ghost use Rattle.bl_index_rule.specs.Observed.{Goes};
-ghost use Rattle.bl_index_steps.specs.Runs.{Runs, Keeps, IsOn, IsSameProcess};
+ghost use Rattle.bl_index_events.specs.Runs.{Runs, Keeps, IsOn, IsSameProcess};
 
+use bl_index_events::{FrameView, Tree};
 use bl_index_rule::{PassState, Put, Refused, Retired, Took};
-use bl_index_steps::{FrameView, Tree};
 use bl_page::words_from;
 use bl_store::{Hand, Stock};
 use crossbeam_utils::Backoff;

@@ -5,22 +5,22 @@ ghost use Rattle.bl_page.specs.declared.page.Inner.{Inner as InnerIs};
 ghost use Rattle.bl_page.specs.declared.page.Page.TheVariants.{Inner};
 ghost use Rattle.bl_page.specs.Pairs.{IsWithin};
 ghost use Rattle.bl_page.specs.Words.{words_of};
-ghost use Rattle.bl_proc_base.specs.declared.approaching.Approach.TheVariants.{Latched};
+ghost use Rattle.bl_proc_steps.specs.declared.approaching.Approach.TheVariants.{Latched};
 ghost use Rattle.bl_proc_compress.specs.declared.compressing.Family.{Family};
 ghost use Rattle.bl_proc_compress.specs.declared.squeezing.CompressStage.TheVariants.{Coming};
 ghost use Rattle.bl_proc_compress.specs.Compressions.{IsFamily, right_place};
 ghost use Rattle.bl_store.specs.Hands.{known, read_words, HasNoStock, ReadsFrom};
-ghost use Rattle.bl_index_steps.specs.Runs.{Runs};
+ghost use Rattle.bl_index_events.specs.Runs.{Runs};
 ghost use Rattle.bl_index_ways.specs.Events.{IsThere};
 ghost use Rattle.bl_index_compress.specs.Squeezes.{squeezing, LeavesParent};
 
 use crate::children::compress_two;
 use crate::targets::{Kin, Squeezing};
+use bl_index_events::{FrameView, Tree};
 use bl_index_rule::PassState;
-use bl_index_steps::{FrameView, Tree};
 use bl_page::{LEVEL_UNIT, place_in, words_from};
-use bl_proc_base::{Hint, Squeezed};
 use bl_proc_compress::Siblings;
+use bl_proc_steps::{Hint, Squeezed};
 use bl_store::{Glance, Hand};
 use std::sync::Wait;
 

@@ -14,8 +14,8 @@ ghost use Rattle.bl_index_compress.specs.Shares.{AreSharesOf, IsRelisted};
 
 use crate::shares::Shares;
 use bl_page::{KIND_UNIT, LEVEL_UNIT, is_within};
-use bl_proc_base::{Hint, Level, hint_of_thin, thin_in};
-use bl_proc_pages::{row_in, words_with, words_without};
+use bl_proc_routes::{row_in, words_with, words_without};
+use bl_proc_steps::{Hint, Level, hint_of_thin, thin_in};
 use bl_rearrange::Side;
 
 /// What the words of a page begin with.

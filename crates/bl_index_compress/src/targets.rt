@@ -4,7 +4,7 @@ ghost use Rattle.std.specs.Prelude.{◌<◌, ◌≤◌};
 
 use bl_index_ways::{Target, Unborn};
 use bl_proc_compress::Siblings;
-use bl_proc_pages::Step;
+use bl_proc_routes::Step;
 
 /// The compression of two children of a parent, by a key that it covers.
 #[derive(Clone, Copy)]
@@ -29,8 +29,8 @@ impl Target for Squeezing {
     ghost use Rattle.bl_page.specs.Nodes.{roots_of};
     ghost use Rattle.bl_proc.specs.declared.kinds.Proc.TheVariants as proc;
     ghost use Rattle.bl_proc_compress.specs.declared.squeezing.CompressStage.TheVariants as stages;
-    ghost use Rattle.bl_proc_base.specs.declared.approaching.Came.TheVariants as descend;
-    ghost use Rattle.bl_proc_unique.proofs.Compressions.{compress_goes};
+    ghost use Rattle.bl_proc_steps.specs.declared.approaching.Came.TheVariants as descend;
+    ghost use Rattle.bl_proc_deterministic.proofs.Compressions.{compress_goes};
     ghost use Rattle.bl_index_compress.specs.Ways.{nears};
 
     type Path = ();
@@ -75,9 +75,9 @@ impl Unborn for Squeezing {
     ghost use Rattle.std.specs.Prelude.{refl, true};
     ghost use Rattle.bl_proc.specs.declared.kinds.Proc.TheVariants as proc;
     ghost use Rattle.bl_proc_compress.specs.declared.squeezing.CompressStage.TheVariants as stages;
-    ghost use Rattle.bl_proc_base.specs.declared.acts.Seen.TheVariants as seen;
-    ghost use Rattle.bl_proc_base.specs.declared.approaching.Approach.TheVariants as approach;
-    ghost use Rattle.bl_proc_unique.proofs.Compressions.{compress_goes};
+    ghost use Rattle.bl_proc_steps.specs.declared.acts.Seen.TheVariants as seen;
+    ghost use Rattle.bl_proc_steps.specs.declared.approaching.Approach.TheVariants as approach;
+    ghost use Rattle.bl_proc_deterministic.proofs.Compressions.{compress_goes};
 
     ghost unborn = { λ j. proc.Compress (record { level = j.level; key = j.key; waits = true; stage = stages.New; least = j.least; most = j.most }) };
 

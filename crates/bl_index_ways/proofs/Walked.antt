@@ -7,18 +7,18 @@ use Rattle.bl_page.specs.Nodes.{node_of}
 use Rattle.bl_rearrange.specs.Entered.{entered}
 use Rattle.bl_rearrange.specs.Rearranged.{pairs_of}
 use Rattle.bl_rearrange.proofs.EnteredLemmas.{RisesFrom-entered, map_of-entered}
-use Rattle.bl_proc_base.specs.declared.acts.Seen.TheVariants as seen
-use Rattle.bl_proc_base.specs.declared.approaching.Approach.TheVariants as approach
-use Rattle.bl_proc_base.specs.declared.approaching.Came.TheVariants as descend
-use Rattle.bl_proc_base.specs.declared.editing.Edit.{Edit}
-use Rattle.bl_proc_base.specs.declared.editing.Edit.TheVariants as edit
-use Rattle.bl_proc_base.specs.declared.editing.Full.{Full}
-use Rattle.bl_proc_base.specs.declared.editing.Outcome.{Outcome}
-use Rattle.bl_proc_base.specs.declared.editing.Outcome.TheVariants as outcome
-use Rattle.bl_proc_pages.specs.declared.onwards.Step.{Step}
-use Rattle.bl_proc_pages.specs.declared.onwards.Step.TheVariants.{Right, Down, Here}
-use Rattle.bl_proc_pages.specs.Onwards.{Leads}
-use Rattle.bl_proc_pages.specs.Respelled.{words_by}
+use Rattle.bl_proc_steps.specs.declared.acts.Seen.TheVariants as seen
+use Rattle.bl_proc_steps.specs.declared.approaching.Approach.TheVariants as approach
+use Rattle.bl_proc_steps.specs.declared.approaching.Came.TheVariants as descend
+use Rattle.bl_proc_steps.specs.declared.editing.Edit.{Edit}
+use Rattle.bl_proc_steps.specs.declared.editing.Edit.TheVariants as edit
+use Rattle.bl_proc_steps.specs.declared.editing.Full.{Full}
+use Rattle.bl_proc_steps.specs.declared.editing.Outcome.{Outcome}
+use Rattle.bl_proc_steps.specs.declared.editing.Outcome.TheVariants as outcome
+use Rattle.bl_proc_routes.specs.declared.onwards.Step.{Step}
+use Rattle.bl_proc_routes.specs.declared.onwards.Step.TheVariants.{Right, Down, Here}
+use Rattle.bl_proc_routes.specs.Onwards.{Leads}
+use Rattle.bl_proc_routes.specs.Respelled.{words_by}
 use Rattle.bl_proc.specs.declared.kinds.Proc.{Proc}
 use Rattle.bl_proc_writes.specs.declared.posting.PostStage.{PostStage}
 use Rattle.bl_proc_writes.specs.declared.posting.PostStage.TheVariants as post
@@ -29,24 +29,24 @@ use Rattle.bl_proc_writes.specs.Levels.{IsBelowTop, IsBelowTop-prop, MayReply}
 use Rattle.bl_proc_writes.specs.Posts.{post_reply, IsLost, PostGoes, PostWalks}
 use Rattle.bl_proc.specs.Processes.{Takes}
 use Rattle.bl_proc_writes.proofs.Named.{listed-child}
-use Rattle.bl_proc_unique.proofs.Edits.{enter_one}
-use Rattle.bl_proc_unique.proofs.Onwards.{right_small}
-use Rattle.bl_proc_unique.proofs.Pages.{fits_some, rising}
+use Rattle.bl_proc_deterministic.proofs.Edits.{enter_one}
+use Rattle.bl_proc_deterministic.proofs.Onwards.{right_small}
+use Rattle.bl_proc_deterministic.proofs.Pages.{fits_some, rising}
 use Rattle.atomic_table.specs.declared.shared.Seat.{Seat}
 use Rattle.bl_store.specs.declared.store.Hand.{Hand}
-use Rattle.bl_frames.specs.declared.view.View.{View}
+use Rattle.bl_store_rule.specs.declared.view.View.{View}
 use Rattle.bl_store.specs.Hands.{known, IsSameHand, IsSameRefusal}
 use Rattle.bl_index_rule.specs.declared.known.PassState.{PassState}
 use Rattle.bl_proc_writes.specs.Stands.{IsPosting}
 use Rattle.bl_index_ways.specs.Events.{IsOpened, IsToEnter, IsWalking, LeavesParent}
 use Rattle.bl_index_ways.specs.Posters.{IsPoster, Opened, Staged}
-use Rattle.bl_index_steps.specs.Held.{KeepsLatch}
-use Rattle.bl_index_steps.specs.Rooms.{LacksPost}
-use Rattle.bl_index_steps.specs.Runs.{IsSameProcess, OpensTo, Runs}
-use Rattle.bl_index_steps.specs.declared.tree.Tree.{Tree}
-use Rattle.bl_index_steps.proofs.Held.{keeps_anchor}
-use Rattle.bl_index_steps.proofs.Rooms.{lacks_on, refused_on}
-use Rattle.bl_index_steps.proofs.Standing.{same_all}
+use Rattle.bl_index_events.specs.Held.{KeepsLatch}
+use Rattle.bl_index_events.specs.Rooms.{LacksPost}
+use Rattle.bl_index_events.specs.Runs.{IsSameProcess, OpensTo, Runs}
+use Rattle.bl_index_events.specs.declared.tree.Tree.{Tree}
+use Rattle.bl_index_events.proofs.Held.{keeps_anchor}
+use Rattle.bl_index_events.proofs.Rooms.{lacks_on, refused_on}
+use Rattle.bl_index_events.proofs.Standing.{same_all}
 use Rattle.bl_index_ways.proofs.Spreading.{spelled}
 
 -- a change by which a pair enters, by whether there is room

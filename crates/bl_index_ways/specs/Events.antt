@@ -10,19 +10,19 @@ use Rattle.bl_rearrange.specs.Rearranged.{pairs_of, MayHold}
 use Rattle.bl_page.specs.Words.{words_of}
 use Rattle.bl_layout.specs.declared.layout.Layout.{Layout}
 use Rattle.bl_model.specs.declared.deciding.KeyWrite.{KeyWrite}
-use Rattle.bl_frames.specs.declared.view.View.{View}
+use Rattle.bl_store_rule.specs.declared.view.View.{View}
 use Rattle.bl_store.specs.declared.store.Glance.{Glance}
 use Rattle.bl_store.specs.declared.store.Hand.{Hand}
 use Rattle.bl_store.specs.Hands.{known, read_words, IsSameHand, HasNoStock, ReadsFrom}
-use Rattle.bl_proc_base.specs.declared.acts.Seen.TheVariants as seen
-use Rattle.bl_proc_base.specs.declared.approaching.Approach.{Approach}
-use Rattle.bl_proc_base.specs.declared.approaching.Approach.TheVariants.{Start, At, Latching, Latched, Leaving}
-use Rattle.bl_proc_base.specs.declared.editing.Edit.{Edit}
-use Rattle.bl_proc_base.specs.declared.editing.Outcome.{Outcome}
-use Rattle.bl_proc_base.specs.declared.editing.Outcome.TheVariants as outcome
-use Rattle.bl_proc_pages.specs.declared.onwards.Step.TheVariants.{Here}
-use Rattle.bl_proc_base.specs.Edits.{EntersPair}
-use Rattle.bl_proc_pages.specs.Onwards.{Leads}
+use Rattle.bl_proc_steps.specs.declared.acts.Seen.TheVariants as seen
+use Rattle.bl_proc_steps.specs.declared.approaching.Approach.{Approach}
+use Rattle.bl_proc_steps.specs.declared.approaching.Approach.TheVariants.{Start, At, Latching, Latched, Leaving}
+use Rattle.bl_proc_steps.specs.declared.editing.Edit.{Edit}
+use Rattle.bl_proc_steps.specs.declared.editing.Outcome.{Outcome}
+use Rattle.bl_proc_steps.specs.declared.editing.Outcome.TheVariants as outcome
+use Rattle.bl_proc_routes.specs.declared.onwards.Step.TheVariants.{Here}
+use Rattle.bl_proc_steps.specs.Edits.{EntersPair}
+use Rattle.bl_proc_routes.specs.Onwards.{Leads}
 use Rattle.bl_proc_writes.specs.declared.writing.WriteStage.{WriteStage}
 use Rattle.bl_proc_writes.specs.declared.writing.WriteStage.TheVariants as write
 use Rattle.bl_proc_writes.specs.declared.posting.PostStage.TheVariants as post
@@ -37,7 +37,7 @@ use Rattle.bl_index_ways.specs.declared.coming.Arrived.{Arrived}
 use Rattle.bl_index_ways.specs.declared.coming.Arrived.TheVariants.{There, Away}
 use Rattle.bl_index_ways.specs.declared.writers.Left.{Left}
 use Rattle.bl_index_ways.specs.declared.writers.Left.TheVariants.{Refused}
-use Rattle.bl_index_steps.specs.declared.tree.Tree.{Tree}
+use Rattle.bl_index_events.specs.declared.tree.Tree.{Tree}
 use Rattle.bl_index_ways.specs.declared.parents.Walked.{Walked}
 use Rattle.bl_index_ways.specs.declared.parents.Walked.TheVariants.{On, Found, Stale, Lost}
 use Rattle.bl_index_ways.specs.declared.reaching.Neared.{Neared}
@@ -45,8 +45,8 @@ use Rattle.bl_index_ways.specs.declared.reaching.Neared.TheVariants as neared
 use Rattle.bl_index_ways.specs.declared.reaching.Reached.{Reached}
 use Rattle.bl_index_ways.specs.declared.reaching.Reached.TheVariants.{Parent, Again, NoLevel}
 use Rattle.bl_index_ways.specs.Posters.{Staged, Opened}
-use Rattle.bl_index_steps.specs.Runs.{IsOn, IsSameProcess, Runs}
-use Rattle.bl_index_steps.specs.Rooms.{LacksPost, LacksWrite}
+use Rattle.bl_index_events.specs.Runs.{IsOn, IsSameProcess, Runs}
+use Rattle.bl_index_events.specs.Rooms.{LacksPost, LacksWrite}
 
 -- a writer on its way that holds no page
 abbrev pub HoldsNone : Approach → Type 0

@@ -2,22 +2,22 @@
 
 ghost use Rattle.std.specs.Prelude.{◌≡◌, true, false};
 ghost use Rattle.bl_page.specs.declared.page.Page.{Page};
-ghost use Rattle.bl_proc_base.specs.declared.acts.Action.TheVariants as act;
-ghost use Rattle.bl_proc_base.specs.declared.approaching.Approach.TheVariants as approach;
+ghost use Rattle.bl_proc_steps.specs.declared.acts.Action.TheVariants as act;
+ghost use Rattle.bl_proc_steps.specs.declared.approaching.Approach.TheVariants as approach;
 ghost use Rattle.bl_store.specs.Hands.{known, read_words, IsIdle, IsRunning, IsSameHand, IsSameStock, ReadsFrom};
 ghost use Rattle.bl_store.specs.Owners.{IsHandOf};
-ghost use Rattle.bl_proc_base.specs.declared.acts.Seen.TheVariants as seen;
+ghost use Rattle.bl_proc_steps.specs.declared.acts.Seen.TheVariants as seen;
 ghost use Rattle.bl_proc.specs.Processes.{next_of};
-ghost use Rattle.bl_proc_unique.specs.Courses.{GoesOn};
+ghost use Rattle.bl_proc_deterministic.specs.Courses.{GoesOn};
 ghost use Rattle.bl_index_rule.specs.Observed.{Begins, IsUnborn};
-ghost use Rattle.bl_index_steps.specs.Runs.{Runs, Keeps, IsOn, IsSince, IsSameProcess};
+ghost use Rattle.bl_index_events.specs.Runs.{Runs, Keeps, IsOn, IsSince, IsSameProcess};
 ghost use Rattle.bl_index_ways.specs.Events.{HoldsNone, IsSought, IsThere, HasArrived, HasCome, HasComeWithin};
 
 use crate::targets::{Target, Unborn};
+use bl_index_events::{FrameView, Tree};
 use bl_index_rule::{Began, Launch, PassState};
-use bl_index_steps::{FrameView, Tree};
-use bl_proc_base::{Approach, approach_by};
-use bl_proc_pages::{Step, level_in, step_in};
+use bl_proc_routes::{Step, level_in, step_in};
+use bl_proc_steps::{Approach, approach_by};
 use bl_store::{Glance, Hand};
 use crossbeam_utils::Backoff;
 use std::marker::Brand;

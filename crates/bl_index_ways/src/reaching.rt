@@ -3,17 +3,17 @@
 ghost use Rattle.std.specs.Prelude.{◌≡◌, ◌<◌, IfOk, IfErr};
 ghost use Rattle.bl_page.specs.declared.page.Page.{Page};
 ghost use Rattle.bl_page.specs.Nodes.{roots_of};
-ghost use Rattle.bl_proc_base.specs.declared.approaching.Approach.TheVariants as approach;
+ghost use Rattle.bl_proc_steps.specs.declared.approaching.Approach.TheVariants as approach;
 ghost use Rattle.bl_store.specs.Hands.{known, read_words, ReadsFrom};
-ghost use Rattle.bl_index_steps.specs.Runs.{Runs, Keeps, IsSameProcess};
+ghost use Rattle.bl_index_events.specs.Runs.{Runs, Keeps, IsSameProcess};
 ghost use Rattle.bl_index_ways.specs.Events.{HasGotAnchor, HasNeared, HasReached, HoldsNone, reached_by};
 
 use crate::coming::{come_from, come_within};
 use crate::targets::Target;
+use bl_index_events::{FrameView, Tree};
 use bl_index_rule::PassState;
-use bl_index_steps::{FrameView, Tree};
-use bl_proc_base::Approach;
-use bl_proc_pages::levels_in;
+use bl_proc_routes::levels_in;
+use bl_proc_steps::Approach;
 use bl_store::{Glance, Hand};
 use std::sync::Wait;
 

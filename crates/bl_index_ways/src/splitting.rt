@@ -4,26 +4,26 @@
 ghost use Rattle.std.specs.Prelude.{◌≡◌, ◌≤◌, slice_index};
 ghost use Rattle.bl_page.specs.declared.page.Page.{Page};
 ghost use Rattle.bl_page.specs.Words.{words_of};
-ghost use Rattle.bl_proc_base.specs.declared.editing.Full.{Full};
-ghost use Rattle.bl_proc_base.specs.declared.editing.Edit.{Edit};
-ghost use Rattle.bl_proc_base.specs.declared.editing.Edit.TheVariants as edit;
+ghost use Rattle.bl_proc_steps.specs.declared.editing.Full.{Full};
+ghost use Rattle.bl_proc_steps.specs.declared.editing.Edit.{Edit};
+ghost use Rattle.bl_proc_steps.specs.declared.editing.Edit.TheVariants as edit;
 ghost use Rattle.bl_store.specs.Hands.{known, IsRunning, IsSameHand, IsSameStage, IsStockOf, HasNoStock, WasRefused};
 ghost use Rattle.bl_store.specs.Owners.{IsHandOf};
-ghost use Rattle.bl_index_steps.specs.Runs.{Runs, IsOn, IsSameProcess};
+ghost use Rattle.bl_index_events.specs.Runs.{Runs, IsOn, IsSameProcess};
 ghost use Rattle.bl_index_ways.specs.Events.{IsToEnter};
 ghost use Rattle.bl_index_ways.specs.Halves.{AreParts};
-ghost use Rattle.bl_proc_base.specs.declared.editing.Outcome.TheVariants as outcomes;
-ghost use Rattle.bl_index_steps.specs.Refused.{GotHeld};
-ghost use Rattle.bl_index_steps.specs.Held.{IsFull, own_marks};
-ghost use Rattle.bl_index_steps.specs.Rooms.{LacksPage};
+ghost use Rattle.bl_proc_steps.specs.declared.editing.Outcome.TheVariants as outcomes;
+ghost use Rattle.bl_index_events.specs.Refused.{GotHeld};
+ghost use Rattle.bl_index_events.specs.Held.{IsFull, own_marks};
+ghost use Rattle.bl_index_events.specs.Rooms.{LacksPage};
 
 use crate::editors::Editor;
 use crate::halves::{entries_with, laid_out};
+use bl_index_events::Tree;
 use bl_index_rule::PassState;
-use bl_index_steps::Tree;
 use bl_page::LEVEL_UNIT;
-use bl_proc_base::Outcome;
-use bl_proc_pages::words_with;
+use bl_proc_routes::words_with;
+use bl_proc_steps::Outcome;
 use bl_store::{Hand, Stock};
 
 /// The page that is split, and the new one, which was taken for its upper part.

@@ -4,20 +4,20 @@ use Rattle.bl_model.specs.Writes.{write_op}
 use Rattle.bl_model.specs.declared.operation.Reply.{Reply}
 use Rattle.bl_model.specs.declared.operation.Reply.TheVariants as reply
 use Rattle.bl_page.specs.Nodes.{unbounded}
-use Rattle.bl_core.specs.Blank.{IsBlank}
+use Rattle.bl_tree_worlds.specs.Blank.{IsBlank}
 use Rattle.atomic_table.specs.declared.shared.Seat.{Seat}
-use Rattle.bl_proc_base.specs.declared.acts.Seen.{Seen}
-use Rattle.bl_proc_base.specs.declared.acts.Seen.TheVariants as seen
-use Rattle.bl_proc_base.specs.declared.answers.Answer.{Answer}
-use Rattle.bl_proc_base.specs.declared.answers.Answer.TheVariants.{Op, Post as PostAnswer, InsertPost as Answered}
-use Rattle.bl_proc_base.specs.declared.answers.Hint.{Hint}
-use Rattle.bl_proc_base.specs.declared.answers.Hint.TheVariants as hint
-use Rattle.bl_proc_base.specs.declared.answers.Posted.{Posted}
-use Rattle.bl_proc_base.specs.declared.answers.Posted.TheVariants as posted
-use Rattle.bl_proc_base.specs.declared.approaching.Approach.{Approach}
-use Rattle.bl_proc_base.specs.declared.approaching.Approach.TheVariants as way
-use Rattle.bl_proc_base.specs.Approaches.{approach_next}
-use Rattle.bl_proc_base.specs.Given.{Gives}
+use Rattle.bl_proc_steps.specs.declared.acts.Seen.{Seen}
+use Rattle.bl_proc_steps.specs.declared.acts.Seen.TheVariants as seen
+use Rattle.bl_proc_steps.specs.declared.answers.Answer.{Answer}
+use Rattle.bl_proc_steps.specs.declared.answers.Answer.TheVariants.{Op, Post as PostAnswer, InsertPost as Answered}
+use Rattle.bl_proc_steps.specs.declared.answers.Hint.{Hint}
+use Rattle.bl_proc_steps.specs.declared.answers.Hint.TheVariants as hint
+use Rattle.bl_proc_steps.specs.declared.answers.Posted.{Posted}
+use Rattle.bl_proc_steps.specs.declared.answers.Posted.TheVariants as posted
+use Rattle.bl_proc_steps.specs.declared.approaching.Approach.{Approach}
+use Rattle.bl_proc_steps.specs.declared.approaching.Approach.TheVariants as way
+use Rattle.bl_proc_steps.specs.Approaches.{approach_next}
+use Rattle.bl_proc_steps.specs.Given.{Gives}
 use Rattle.bl_proc_writes.specs.declared.climbing.Climbed.{Climbed}
 use Rattle.bl_proc_writes.specs.declared.climbing.Climbed.TheVariants as climbed
 use Rattle.bl_proc_writes.specs.declared.climbing.ClimbStage.TheVariants as climb
@@ -39,18 +39,18 @@ use Rattle.bl_proc_writes.specs.Stands.{Stands, Stands-prop}
 use Rattle.bl_proc_writes.specs.Climbs.{posted_as, left_hint, climbed_answer, climb_answer_in, IsLast}
 use Rattle.bl_proc_writes.specs.Paths.{page_at, from_page, IsBlank as IsBlankPath}
 use Rattle.bl_proc_writes.specs.Writes.{write_answer}
-use Rattle.bl_proc_unique.specs.Courses.{GoesOn}
-use Rattle.bl_proc_unique.specs.Frames.{op_of}
-use Rattle.bl_proc_unique.proofs.Climbs.{climb_goes}
+use Rattle.bl_proc_deterministic.specs.Courses.{GoesOn}
+use Rattle.bl_proc_deterministic.specs.Frames.{op_of}
+use Rattle.bl_proc_deterministic.proofs.Climbs.{climb_goes}
 use Rattle.bl_proc_invariant.specs.Knowing.{know_of}
 use Rattle.bl_proc_invariant.proofs.Noting.{blank_goes}
-use Rattle.bl_frames.specs.declared.view.View.{View}
+use Rattle.bl_store_rule.specs.declared.view.View.{View}
 use Rattle.bl_index_rule.specs.declared.known.PassState.{PassState}
 use Rattle.bl_index_rule.specs.Observed.{IsUnborn}
-use Rattle.bl_index_steps.specs.Rooms.{LacksPost, LacksWrite}
-use Rattle.bl_index_steps.specs.Runs.{IsDone, IsSameProcess, EndsAs}
-use Rattle.bl_index_steps.proofs.Ends.{climb_over}
-use Rattle.bl_index_steps.proofs.Rooms.{LacksClimb}
+use Rattle.bl_index_events.specs.Rooms.{LacksPost, LacksWrite}
+use Rattle.bl_index_events.specs.Runs.{IsDone, IsSameProcess, EndsAs}
+use Rattle.bl_index_events.proofs.Ends.{climb_over}
+use Rattle.bl_index_events.proofs.Rooms.{LacksClimb}
 use Rattle.bl_index_ways.specs.declared.writers.Left.{Left}
 use Rattle.bl_index_ways.specs.declared.writers.Left.TheVariants as left
 use Rattle.bl_index_write.specs.declared.rising.Rising.{Rising}

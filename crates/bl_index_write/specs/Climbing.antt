@@ -5,11 +5,11 @@ use Rattle.bl_model.specs.Writes.{write_op}
 use Rattle.bl_model.specs.declared.operation.Reply.{Reply}
 use Rattle.bl_model.specs.declared.operation.Reply.TheVariants as reply
 use Rattle.atomic_table.specs.declared.shared.Seat.{Seat}
-use Rattle.bl_proc_base.specs.declared.answers.Answer.TheVariants as answer
-use Rattle.bl_proc_base.specs.declared.answers.Hint.{Hint}
-use Rattle.bl_proc_base.specs.declared.answers.Hint.TheVariants as hint
-use Rattle.bl_proc_base.specs.declared.answers.Posted.{Posted}
-use Rattle.bl_proc_base.specs.declared.approaching.Approach.{Approach}
+use Rattle.bl_proc_steps.specs.declared.answers.Answer.TheVariants as answer
+use Rattle.bl_proc_steps.specs.declared.answers.Hint.{Hint}
+use Rattle.bl_proc_steps.specs.declared.answers.Hint.TheVariants as hint
+use Rattle.bl_proc_steps.specs.declared.answers.Posted.{Posted}
+use Rattle.bl_proc_steps.specs.declared.approaching.Approach.{Approach}
 use Rattle.bl_proc_writes.specs.declared.climbing.InsertPost.{InsertPost}
 use Rattle.bl_proc_writes.specs.declared.climbing.ClimbStage.{ClimbStage}
 use Rattle.bl_proc_writes.specs.declared.climbing.ClimbStage.TheVariants.{Writing, Posting, Ending}
@@ -28,12 +28,12 @@ use Rattle.bl_proc_writes.specs.Climbs.{climb_answer_in}
 use Rattle.bl_proc_writes.specs.Levels.{IsBelowTop, MayReply}
 use Rattle.bl_proc_writes.specs.Paths.{page_at, from_page, IsBlank}
 use Rattle.bl_proc_writes.specs.Stands.{IsPosting, Stands}
-use Rattle.bl_proc_unique.specs.Frames.{op_of}
-use Rattle.bl_frames.specs.declared.view.View.{View}
+use Rattle.bl_proc_deterministic.specs.Frames.{op_of}
+use Rattle.bl_store_rule.specs.declared.view.View.{View}
 use Rattle.bl_store.specs.Hands.{known, HasNoStock}
 use Rattle.bl_index_rule.specs.declared.known.PassState.{PassState}
-use Rattle.bl_index_steps.specs.Rooms.{LacksWrite, LacksPost}
-use Rattle.bl_index_steps.specs.Runs.{IsDone, IsSince, Rests}
+use Rattle.bl_index_events.specs.Rooms.{LacksWrite, LacksPost}
+use Rattle.bl_index_events.specs.Runs.{IsDone, IsSince, Rests}
 use Rattle.bl_index_write.specs.declared.rising.Rising.{Rising}
 use Rattle.bl_index_ways.specs.declared.writers.Left.{Left}
 use Rattle.bl_index_ways.specs.declared.writers.Left.TheVariants.{Kept, Changed, Split, Refused}

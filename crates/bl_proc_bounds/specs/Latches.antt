@@ -4,7 +4,7 @@ use Rattle.bl_page.specs.Machine.{Name}
 use Rattle.bl_page.specs.Machine.Owner.{Held}
 use Rattle.bl_claims.specs.Trails.{Trail, marks_of}
 use Rattle.bl_claims.specs.Latches.{Keeps, LatchesNone, LatchesAlone, LatchesBelowAnchor}
-use Rattle.bl_core.specs.Worlds.{World}
+use Rattle.bl_tree_worlds.specs.Worlds.{World}
 use Rattle.bl_proc.specs.declared.kinds.Proc.{Proc}
 use Rattle.bl_proc.specs.declared.kinds.Proc.TheVariants as proc
 use Rattle.bl_claims.specs.Families.{LatchesBeside}

@@ -5,7 +5,7 @@ ghost use Rattle.bl_model.specs.Rows.{map_of};
 ghost use Rattle.bl_page.specs.Pairs.{IsWithin, IsWithin-prop, IsChild, IsChild-prop};
 
 use bl_page::{Inner, Page};
-use bl_proc_base::Hint;
+use bl_proc_steps::Hint;
 use bl_rearrange::Side;
 
 /// The numbers of a parent and of two neighbouring children.

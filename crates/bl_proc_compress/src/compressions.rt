@@ -6,14 +6,14 @@ ghost use Rattle.bl_page.specs.Pairs.{IsChild, IsWithin};
 ghost use Rattle.bl_rearrange.specs.Rearranged.{high_of, right_of};
 ghost use Rattle.bl_rearrange.specs.Neighbours.{AreNeighbours, together};
 ghost use Rattle.bl_proc_compress.specs.declared.compressing.Compression.TheVariants as compression;
-ghost use Rattle.bl_proc_base.specs.Given.{Gives};
+ghost use Rattle.bl_proc_steps.specs.Given.{Gives};
 ghost use Rattle.bl_proc_compress.specs.Compressions.{put_of, other, merge_hint, IsBuried, Merges, Relists, MayEven, Decides, Links, after_puts, missed_left, missed_right, compression_next, compression_needs, Compresses};
 
 use crate::compressing::{Compressed, Compression, Decision, Family, Puts, Siblings};
 use bl_model::limits::{ENOUGH_PAIRS, MOST_PAIRS};
 use bl_page::{Dead, Inner, Page, is_within};
-use bl_proc_base::{Action, Hint, Level, Seen, hint_of_thin, thin_low};
-use bl_proc_pages::{count_of, listed};
+use bl_proc_routes::{count_of, listed};
+use bl_proc_steps::{Action, Hint, Level, Seen, hint_of_thin, thin_low};
 use bl_rearrange::{Evened, Fitted, Side, evened, merged, with_pair, without};
 
 /// The page to the right, 0 for none.

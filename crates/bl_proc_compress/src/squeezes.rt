@@ -3,14 +3,14 @@
 ghost use Rattle.std.specs.Prelude.{◌≡◌, ◌<◌, ◌≤◌, None, Bool, true, false};
 ghost use Rattle.bl_page.specs.Pairs.{IsWithin};
 ghost use Rattle.bl_proc_compress.specs.declared.squeezing.CompressStage.TheVariants as compress_stage;
-ghost use Rattle.bl_proc_base.specs.Given.{Gives};
+ghost use Rattle.bl_proc_steps.specs.Given.{Gives};
 ghost use Rattle.bl_proc_compress.specs.Compresses.{compress_reply, compressed_answer, compress_next_in, compress_needs_in, compress_answer_in, CompressArrives, CompressGoes, compress_next, compress_needs, compress_answer, CompressTakes};
 
 use crate::compressing::{Compressed, Compression, Decision};
 use crate::families::siblings;
 use crate::squeezing::{Compress, CompressReply, CompressStage};
 use bl_page::Inner;
-use bl_proc_base::{Action, Answer, Approach, Came, Process, Reader, Seen, Squeezed};
+use bl_proc_steps::{Action, Answer, Approach, Came, Process, Reader, Seen, Squeezed};
 use std::mem;
 
 /// What a compression answers by what became of the children, if it does not begin again.

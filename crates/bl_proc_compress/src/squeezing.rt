@@ -3,7 +3,7 @@
 ghost use Rattle.std.specs.Prelude.{◌≡◌, ◌≤◌, ◌<◌};
 
 use crate::compressing::Compression;
-use bl_proc_base::{Approach, Hint};
+use bl_proc_steps::{Approach, Hint};
 
 /// The compression of the children of a parent of that level, by a key that the parent covers.
 #[derive(Drop)]

@@ -2,33 +2,33 @@
 use Rattle.std.proofs.Common.{ℕ, ◌≡◌, ◌≢◌, ◌⊎◌, ◌+◌, ◌-◌, ◌*◌, ◌<◌, ◌≤◌, Bool, Option, None, Some, arith, ap, sym, ◌∙◌, refl, inl, inr, subst}
 use Rattle.bl_model.specs.declared.deciding.KeyWrite.{KeyWrite}
 use Rattle.bl_page.specs.declared.page.Page.{Page}
-use Rattle.bl_proc_base.specs.declared.acts.Action.{Action}
-use Rattle.bl_proc_base.specs.declared.acts.Action.TheVariants as act
-use Rattle.bl_proc_base.specs.declared.acts.Seen.{Seen}
-use Rattle.bl_proc_base.specs.declared.acts.Seen.TheVariants as seen
-use Rattle.bl_proc_base.specs.declared.answers.Hint.TheVariants as hint
-use Rattle.bl_proc_base.specs.declared.approaching.Approach.{Approach}
-use Rattle.bl_proc_base.specs.declared.approaching.Approach.TheVariants as way
-use Rattle.bl_proc_base.specs.declared.editing.Edit.{Edit}
-use Rattle.bl_proc_base.specs.declared.editing.Edit.TheVariants as edit
-use Rattle.bl_proc_base.specs.declared.editing.Edited.TheVariants as changed
-use Rattle.bl_proc_base.specs.declared.editing.Outcome.{Outcome}
-use Rattle.bl_proc_base.specs.declared.editing.Outcome.TheVariants as outcome
-use Rattle.bl_proc_base.specs.declared.growing.Growth.{Growth}
-use Rattle.bl_proc_base.specs.declared.growing.Growth.TheVariants as growth
-use Rattle.bl_proc_base.specs.declared.growing.Grew.TheVariants as grew
-use Rattle.bl_proc_base.specs.declared.lowering.Lowering.{Lowering}
-use Rattle.bl_proc_base.specs.declared.lowering.Lowering.TheVariants as lowering
-use Rattle.bl_proc_base.specs.declared.lowering.Sank.TheVariants as sank
-use Rattle.bl_proc_base.specs.Approaches.{approach_next}
-use Rattle.bl_proc_base.specs.Edits.{edit_next, Changes}
-use Rattle.bl_proc_base.specs.Growths.{growth_next, Grows}
+use Rattle.bl_proc_steps.specs.declared.acts.Action.{Action}
+use Rattle.bl_proc_steps.specs.declared.acts.Action.TheVariants as act
+use Rattle.bl_proc_steps.specs.declared.acts.Seen.{Seen}
+use Rattle.bl_proc_steps.specs.declared.acts.Seen.TheVariants as seen
+use Rattle.bl_proc_steps.specs.declared.answers.Hint.TheVariants as hint
+use Rattle.bl_proc_steps.specs.declared.approaching.Approach.{Approach}
+use Rattle.bl_proc_steps.specs.declared.approaching.Approach.TheVariants as way
+use Rattle.bl_proc_steps.specs.declared.editing.Edit.{Edit}
+use Rattle.bl_proc_steps.specs.declared.editing.Edit.TheVariants as edit
+use Rattle.bl_proc_steps.specs.declared.editing.Edited.TheVariants as changed
+use Rattle.bl_proc_steps.specs.declared.editing.Outcome.{Outcome}
+use Rattle.bl_proc_steps.specs.declared.editing.Outcome.TheVariants as outcome
+use Rattle.bl_proc_steps.specs.declared.growing.Growth.{Growth}
+use Rattle.bl_proc_steps.specs.declared.growing.Growth.TheVariants as growth
+use Rattle.bl_proc_steps.specs.declared.growing.Grew.TheVariants as grew
+use Rattle.bl_proc_steps.specs.declared.lowering.Lowering.{Lowering}
+use Rattle.bl_proc_steps.specs.declared.lowering.Lowering.TheVariants as lowering
+use Rattle.bl_proc_steps.specs.declared.lowering.Sank.TheVariants as sank
+use Rattle.bl_proc_steps.specs.Approaches.{approach_next}
+use Rattle.bl_proc_steps.specs.Edits.{edit_next, Changes}
+use Rattle.bl_proc_steps.specs.Growths.{growth_next, Grows}
 use Rattle.bl_page.specs.declared.page.Page.TheVariants.{Inner as InnerPage}
 use Rattle.bl_proc_writes.specs.declared.posting.PostStage.{PostStage}
 use Rattle.bl_proc_writes.specs.declared.posting.PostStage.TheVariants as post
 use Rattle.bl_proc_writes.specs.Posts.{post_next_in}
-use Rattle.bl_proc_base.specs.Lowerings.{lowering_next, Lowers}
-use Rattle.bl_proc_base.specs.declared.lowering.Lowered.{Lowered}
+use Rattle.bl_proc_steps.specs.Lowerings.{lowering_next, Lowers}
+use Rattle.bl_proc_steps.specs.declared.lowering.Lowered.{Lowered}
 use Rattle.bl_proc_compress.specs.declared.compressing.Family.{Family}
 use Rattle.bl_proc_compress.specs.declared.compressing.Siblings.{Siblings}
 use Rattle.bl_proc_compress.specs.declared.compressing.Decision.{Decision}
@@ -64,17 +64,17 @@ use Rattle.bl_proc_ends.proofs.Climbs.{not_thin}
 use Rattle.bl_proc_writes.specs.declared.writing.WriteStage.{WriteStage}
 use Rattle.bl_proc_writes.specs.declared.writing.WriteStage.TheVariants as write
 use Rattle.bl_proc_writes.specs.Writes.{write_next_in}
-use Rattle.bl_proc_base.specs.declared.growing.Raising.{Raising}
-use Rattle.bl_proc_unique.proofs.WayCases.{EditCase, edit_case, GrowthCase, growth_case, SqueezeCase, squeeze_case}
-use Rattle.bl_proc_unique.proofs.WayCases.GrowthCase.{LatchedAnchor as GrowthLatchedAnchor, Missed as GrowthMissed, Rises as GrowthRises, Stands as GrowthStands, TookTop as GrowthTookTop, TopRefused as GrowthTopRefused, PutTop as GrowthPutTop, PutAnchor as GrowthPutAnchor, OpenedTop as GrowthOpenedTop, OpenedGrown as GrowthOpenedGrown, OpenedRefused as GrowthOpenedRefused}
-use Rattle.bl_proc_unique.proofs.WayCases.EditCase.{Put as EditPut, PutRefused as EditPutRefused, Took as EditTook, TakeRefused as EditTakeRefused, PutNew as EditPutNew, PutOld as EditPutOld, OpenedNew as EditOpenedNew, Opened as EditOpened}
-use Rattle.bl_proc_unique.proofs.KindCases.{WriteCase, write_case, PostCase, post_case, CompressCase, compress_case, LowerCase, lower_case, ClimbCase, climb_case}
-use Rattle.bl_proc_unique.proofs.WayCases.SqueezeCase.{LatchLeft as SqueezeLatchLeft, MissLeft as SqueezeMissLeft, LeaveLeft as SqueezeLeaveLeft, GotLeft as SqueezeGotLeft, LatchRight as SqueezeLatchRight, MissRight as SqueezeMissRight, LeaveRight as SqueezeLeaveRight, GotRight as SqueezeGotRight, PutFirst as SqueezePutFirst, FirstRefused as SqueezeFirstRefused, PutParent as SqueezePutParent, PutLast as SqueezePutLast, Retired as SqueezeRetired, OpenedRight as SqueezeOpenedRight, OpenedLeft as SqueezeOpenedLeft, OpenedParent as SqueezeOpenedParent}
-use Rattle.bl_proc_unique.proofs.KindCases.CompressCase.{Began as CompressBegan, NoLevel as CompressNoLevel, Came as CompressCame, Met as CompressMet, Single as CompressSingle, Squeezed as CompressSqueezed, Lost as CompressLost, Finished as CompressFinished, Opened as CompressOpened, Ended as CompressEnded}
-use Rattle.bl_proc_unique.proofs.KindCases.LowerCase.{Began as LowerBegan, Sank as LowerSank, Finished as LowerFinished, Ended as LowerEnded}
-use Rattle.bl_proc_unique.proofs.KindCases.ClimbCase.{Wrote as ClimbWrote, Split as ClimbSplit, Unsplit as ClimbUnsplit, Posted as ClimbPosted, Higher as ClimbHigher, Finished as ClimbFinished, Ended as ClimbEnded}
-use Rattle.bl_proc_unique.proofs.KindCases.PostCase.{Began as PostBegan, NoLevel as PostNoLevel, Tallest as PostTallest, ToGrow as PostToGrow, Came as PostCame, Listed as PostListed, ToWalk as PostToWalk, Grew as PostGrew, Grown as PostGrown, NoRoom as PostNoRoom, Walked as PostWalked, Entered as PostEntered, Stale as PostStale, Lost as PostLost, Edited as PostEdited, Finished as PostFinished, Opened as PostOpened, Ended as PostEnded}
-use Rattle.bl_proc_unique.proofs.KindCases.WriteCase.{Began as WriteBegan, Came as WriteCame, Kept as WriteKept, Changed as WriteChanged, Opened as WriteOpened, Edited as WriteEdited, Finished as WriteFinished, Ended as WriteEnded}
+use Rattle.bl_proc_steps.specs.declared.growing.Raising.{Raising}
+use Rattle.bl_proc_deterministic.proofs.WayCases.{EditCase, edit_case, GrowthCase, growth_case, SqueezeCase, squeeze_case}
+use Rattle.bl_proc_deterministic.proofs.WayCases.GrowthCase.{LatchedAnchor as GrowthLatchedAnchor, Missed as GrowthMissed, Rises as GrowthRises, Stands as GrowthStands, TookTop as GrowthTookTop, TopRefused as GrowthTopRefused, PutTop as GrowthPutTop, PutAnchor as GrowthPutAnchor, OpenedTop as GrowthOpenedTop, OpenedGrown as GrowthOpenedGrown, OpenedRefused as GrowthOpenedRefused}
+use Rattle.bl_proc_deterministic.proofs.WayCases.EditCase.{Put as EditPut, PutRefused as EditPutRefused, Took as EditTook, TakeRefused as EditTakeRefused, PutNew as EditPutNew, PutOld as EditPutOld, OpenedNew as EditOpenedNew, Opened as EditOpened}
+use Rattle.bl_proc_deterministic.proofs.KindCases.{WriteCase, write_case, PostCase, post_case, CompressCase, compress_case, LowerCase, lower_case, ClimbCase, climb_case}
+use Rattle.bl_proc_deterministic.proofs.WayCases.SqueezeCase.{LatchLeft as SqueezeLatchLeft, MissLeft as SqueezeMissLeft, LeaveLeft as SqueezeLeaveLeft, GotLeft as SqueezeGotLeft, LatchRight as SqueezeLatchRight, MissRight as SqueezeMissRight, LeaveRight as SqueezeLeaveRight, GotRight as SqueezeGotRight, PutFirst as SqueezePutFirst, FirstRefused as SqueezeFirstRefused, PutParent as SqueezePutParent, PutLast as SqueezePutLast, Retired as SqueezeRetired, OpenedRight as SqueezeOpenedRight, OpenedLeft as SqueezeOpenedLeft, OpenedParent as SqueezeOpenedParent}
+use Rattle.bl_proc_deterministic.proofs.KindCases.CompressCase.{Began as CompressBegan, NoLevel as CompressNoLevel, Came as CompressCame, Met as CompressMet, Single as CompressSingle, Squeezed as CompressSqueezed, Lost as CompressLost, Finished as CompressFinished, Opened as CompressOpened, Ended as CompressEnded}
+use Rattle.bl_proc_deterministic.proofs.KindCases.LowerCase.{Began as LowerBegan, Sank as LowerSank, Finished as LowerFinished, Ended as LowerEnded}
+use Rattle.bl_proc_deterministic.proofs.KindCases.ClimbCase.{Wrote as ClimbWrote, Split as ClimbSplit, Unsplit as ClimbUnsplit, Posted as ClimbPosted, Higher as ClimbHigher, Finished as ClimbFinished, Ended as ClimbEnded}
+use Rattle.bl_proc_deterministic.proofs.KindCases.PostCase.{Began as PostBegan, NoLevel as PostNoLevel, Tallest as PostTallest, ToGrow as PostToGrow, Came as PostCame, Listed as PostListed, ToWalk as PostToWalk, Grew as PostGrew, Grown as PostGrown, NoRoom as PostNoRoom, Walked as PostWalked, Entered as PostEntered, Stale as PostStale, Lost as PostLost, Edited as PostEdited, Finished as PostFinished, Opened as PostOpened, Ended as PostEnded}
+use Rattle.bl_proc_deterministic.proofs.KindCases.WriteCase.{Began as WriteBegan, Came as WriteCame, Kept as WriteKept, Changed as WriteChanged, Opened as WriteOpened, Edited as WriteEdited, Finished as WriteFinished, Ended as WriteEnded}
 use Rattle.bl_proc_ends.specs.Budget.{edit_puts, growth_puts, lowering_puts, decision_puts, squeeze_puts, write_puts, post_puts, compress_puts, lower_puts, climb_puts, puts_of, IsRaisingIn, IsRaisingUp, IsRaising}
 
 -- of two budgets, before and after a turn by which that was given

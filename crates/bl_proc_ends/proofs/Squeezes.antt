@@ -2,9 +2,9 @@
 use Rattle.std.proofs.Common.{ℕ, ◌≡◌, ◌≢◌, ◌⊎◌, ◌+◌, ◌<◌, true, None, arith, ap, sym, ◌∙◌, refl, inl, inr, subst}
 use Rattle.bl_page.specs.declared.page.Page.{Page}
 use Rattle.bl_page.specs.Machine.{Name}
-use Rattle.bl_core.specs.Worlds.{World, IsGood}
-use Rattle.bl_proc_base.specs.declared.acts.Seen.{Seen}
-use Rattle.bl_proc_base.specs.declared.acts.Seen.TheVariants as seen
+use Rattle.bl_tree_worlds.specs.Worlds.{World, IsGood}
+use Rattle.bl_proc_steps.specs.declared.acts.Seen.{Seen}
+use Rattle.bl_proc_steps.specs.declared.acts.Seen.TheVariants as seen
 use Rattle.bl_proc_compress.specs.declared.compressing.Family.{Family}
 use Rattle.bl_proc_compress.specs.declared.compressing.Siblings.{Siblings}
 use Rattle.bl_proc_compress.specs.declared.compressing.Decision.{Decision}
@@ -17,15 +17,15 @@ use Rattle.bl_proc_compress.specs.declared.squeezing.CompressStage.TheVariants a
 use Rattle.bl_proc_compress.specs.Compressions.{Links, Decides, after_puts, Compresses, compression_next}
 use Rattle.bl_proc_compress.specs.Compresses.{compress_reply, compress_next_in, CompressArrives, CompressComes, CompressGoes}
 use Rattle.bl_page.specs.declared.page.Inner.{Inner}
-use Rattle.bl_proc_base.specs.declared.acts.Action.TheVariants as act
-use Rattle.bl_proc_base.specs.declared.approaching.Approach.{Approach}
-use Rattle.bl_proc_base.specs.declared.approaching.Came.{Came}
-use Rattle.bl_proc_base.specs.declared.approaching.Came.TheVariants as come
-use Rattle.bl_proc_base.specs.Approaches.{approach_next, Comes}
-use Rattle.bl_proc_unique.proofs.WayCases.{SqueezeCase, squeeze_case}
-use Rattle.bl_proc_unique.proofs.WayCases.SqueezeCase.{OpenedParent as SqueezeOpenedParent}
-use Rattle.bl_proc_unique.proofs.KindCases.{CompressCase}
-use Rattle.bl_proc_unique.proofs.KindCases.CompressCase.{Began as CompressBegan, NoLevel as CompressNoLevel, Came as CompressCame, Met as CompressMet, Single as CompressSingle, Squeezed as CompressSqueezed, Lost as CompressLost, Finished as CompressFinished, Opened as CompressOpened, Ended as CompressEnded}
+use Rattle.bl_proc_steps.specs.declared.acts.Action.TheVariants as act
+use Rattle.bl_proc_steps.specs.declared.approaching.Approach.{Approach}
+use Rattle.bl_proc_steps.specs.declared.approaching.Came.{Came}
+use Rattle.bl_proc_steps.specs.declared.approaching.Came.TheVariants as come
+use Rattle.bl_proc_steps.specs.Approaches.{approach_next, Comes}
+use Rattle.bl_proc_deterministic.proofs.WayCases.{SqueezeCase, squeeze_case}
+use Rattle.bl_proc_deterministic.proofs.WayCases.SqueezeCase.{OpenedParent as SqueezeOpenedParent}
+use Rattle.bl_proc_deterministic.proofs.KindCases.{CompressCase}
+use Rattle.bl_proc_deterministic.proofs.KindCases.CompressCase.{Began as CompressBegan, NoLevel as CompressNoLevel, Came as CompressCame, Met as CompressMet, Single as CompressSingle, Squeezed as CompressSqueezed, Lost as CompressLost, Finished as CompressFinished, Opened as CompressOpened, Ended as CompressEnded}
 use Rattle.bl_proc_invariant.specs.Tables.{alone, know_approach}
 use Rattle.bl_proc_invariant.specs.Compressing.{know_squeeze}
 use Rattle.bl_proc_invariant.specs.Turns.{IsObserved}

@@ -3,15 +3,15 @@ use Rattle.std.proofs.Common.{ℕ, ◌≡◌, ◌≢◌, ◌+◌, ◌*◌, ◌<�
 use Rattle.bl_model.specs.declared.deciding.KeyWrite.{KeyWrite}
 use Rattle.bl_page.specs.declared.page.Page.{Page}
 use Rattle.bl_page.specs.Machine.{Name}
-use Rattle.bl_core.specs.Worlds.{World, IsGood}
-use Rattle.bl_proc_base.specs.declared.acts.Seen.{Seen}
-use Rattle.bl_proc_base.specs.declared.acts.Seen.TheVariants as seen
-use Rattle.bl_proc_base.specs.declared.acts.Action.TheVariants as act
-use Rattle.bl_proc_base.specs.declared.answers.Hint.TheVariants as hint
-use Rattle.bl_proc_base.specs.declared.approaching.Approach.{Approach}
-use Rattle.bl_proc_base.specs.declared.editing.Edited.TheVariants as changed
-use Rattle.bl_proc_base.specs.declared.editing.Outcome.TheVariants as outcome
-use Rattle.bl_proc_base.specs.Edits.{Changes}
+use Rattle.bl_tree_worlds.specs.Worlds.{World, IsGood}
+use Rattle.bl_proc_steps.specs.declared.acts.Seen.{Seen}
+use Rattle.bl_proc_steps.specs.declared.acts.Seen.TheVariants as seen
+use Rattle.bl_proc_steps.specs.declared.acts.Action.TheVariants as act
+use Rattle.bl_proc_steps.specs.declared.answers.Hint.TheVariants as hint
+use Rattle.bl_proc_steps.specs.declared.approaching.Approach.{Approach}
+use Rattle.bl_proc_steps.specs.declared.editing.Edited.TheVariants as changed
+use Rattle.bl_proc_steps.specs.declared.editing.Outcome.TheVariants as outcome
+use Rattle.bl_proc_steps.specs.Edits.{Changes}
 use Rattle.bl_proc_writes.specs.declared.writing.WriteReply.TheVariants as written
 use Rattle.bl_proc_writes.specs.declared.writing.WriteStage.{WriteStage}
 use Rattle.bl_proc_writes.specs.declared.writing.WriteStage.TheVariants as write
@@ -32,10 +32,10 @@ use Rattle.bl_proc_compress.specs.Compresses.{CompressGoes}
 use Rattle.bl_proc.specs.declared.kinds.Proc.{Proc}
 use Rattle.bl_proc.specs.declared.kinds.Proc.TheVariants as proc
 use Rattle.bl_proc.specs.Processes.{next_of, Takes}
-use Rattle.bl_proc_unique.proofs.WayCases.{edit_case}
-use Rattle.bl_proc_unique.proofs.KindCases.{find_case, part_case, WriteCase, write_case, PostCase, post_case, lower_case}
-use Rattle.bl_proc_unique.proofs.KindCases.WriteCase.{Finished as WriteFinished, Opened as WriteOpened}
-use Rattle.bl_proc_unique.proofs.KindCases.PostCase.{Finished as PostFinished, NoRoom as PostNoRoom, Opened as PostOpened}
+use Rattle.bl_proc_deterministic.proofs.WayCases.{edit_case}
+use Rattle.bl_proc_deterministic.proofs.KindCases.{find_case, part_case, WriteCase, write_case, PostCase, post_case, lower_case}
+use Rattle.bl_proc_deterministic.proofs.KindCases.WriteCase.{Finished as WriteFinished, Opened as WriteOpened}
+use Rattle.bl_proc_deterministic.proofs.KindCases.PostCase.{Finished as PostFinished, NoRoom as PostNoRoom, Opened as PostOpened}
 use Rattle.bl_proc_invariant.specs.Tables.{Carried, know_approach}
 use Rattle.bl_proc_invariant.specs.Turns.{IsObserved}
 use Rattle.bl_proc_invariant.specs.Knowing.{Run, path_goes, inserted, know_write, know_post, know_climb, know_of, know}

@@ -7,10 +7,10 @@ use Rattle.bl_page.specs.declared.page.Page.{Page}
 use Rattle.bl_page.specs.Machine.{Name, State}
 use Rattle.bl_page.specs.Nodes.{unbounded}
 use Rattle.bl_claims.specs.Trails.{HasSaid}
-use Rattle.bl_core.specs.Worlds.{World, IsSure, IsGood}
-use Rattle.bl_core.proofs.After.{is_put_name}
-use Rattle.bl_proc_base.specs.declared.acts.Seen.{Seen}
-use Rattle.bl_proc_base.specs.declared.answers.Hint.TheVariants as hint
+use Rattle.bl_tree_worlds.specs.Worlds.{World, IsSure, IsGood}
+use Rattle.bl_tree_worlds.proofs.After.{is_put_name}
+use Rattle.bl_proc_steps.specs.declared.acts.Seen.{Seen}
+use Rattle.bl_proc_steps.specs.declared.answers.Hint.TheVariants as hint
 use Rattle.bl_proc_writes.specs.declared.paths.Path.{Path}
 use Rattle.bl_proc_writes.specs.declared.posting.Post.{Post}
 use Rattle.bl_proc_writes.specs.declared.posting.PostReply.TheVariants as listed
@@ -34,7 +34,7 @@ use Rattle.bl_proc_invariant.proofs.Instead.{with_proc, turned_instead, then_ins
 use Rattle.bl_proc_invariant.proofs.Noting.{from_sure, from_holds, write_noted, post_noted}
 use Rattle.bl_proc_invariant.proofs.Writing.{write_turn}
 use Rattle.bl_proc_invariant.proofs.Posting.{post_turn}
-use Rattle.bl_proc_unique.proofs.KindCases.{WriteCase, PostCase, ClimbCase}
+use Rattle.bl_proc_deterministic.proofs.KindCases.{WriteCase, PostCase, ClimbCase}
 use Rattle.bl_proc_writes.specs.declared.climbing.Placing.{Placing}
 use Rattle.bl_proc_writes.specs.declared.climbing.Placing.TheVariants as place
 use Rattle.bl_proc_writes.specs.Placings.{write_of}

@@ -6,10 +6,10 @@ use Rattle.bl_page.specs.Machine.{Name, Owner, State, Act}
 use Rattle.bl_page.specs.Machine.Owner.{Held}
 use Rattle.bl_page.specs.Machine.Act.{Get, Latch, Miss}
 use Rattle.bl_page.specs.Nodes.{unbounded, node_of}
-use Rattle.bl_core.proofs.Pushes.{HasSaid-silent}
+use Rattle.bl_tree_worlds.proofs.Pushes.{HasSaid-silent}
 use Rattle.bl_claims.specs.Trails.{Mark}
-use Rattle.bl_core.specs.Worlds.{Stage, Know, World, nodes, IsSure, IsGood, silent}
-use Rattle.bl_core.proofs.Descents.{not_released, open_live}
+use Rattle.bl_tree_worlds.specs.Worlds.{Stage, Know, World, nodes, IsSure, IsGood, silent}
+use Rattle.bl_tree_worlds.proofs.Descents.{not_released, open_live}
 use Rattle.bl_proc_compress.specs.declared.compressing.Siblings.{Siblings}
 use Rattle.bl_proc_compress.specs.declared.compressing.Family.{Family}
 use Rattle.bl_proc_compress.specs.declared.compressing.Decision.{Decision}

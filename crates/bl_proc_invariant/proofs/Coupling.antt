@@ -5,15 +5,15 @@ use Rattle.bl_page.specs.Machine.{Name, State}
 use Rattle.bl_page.specs.Machine.Owner.{Held}
 use Rattle.bl_page.specs.Machine.Act.{Put, Retire}
 use Rattle.bl_page.specs.Nodes.{Covers, unbounded, node_of}
-use Rattle.bl_core_tree.specs.Trees.Status.{Fresh, Left, Right}
-use Rattle.bl_core_tree.specs.Moves.{IsAtTwo, IsJoin, IsLeftGain, IsRightGain}
+use Rattle.bl_tree.specs.Trees.Status.{Fresh, Left, Right}
+use Rattle.bl_tree.specs.Moves.{IsAtTwo, IsJoin, IsLeftGain, IsRightGain}
 use Rattle.bl_claims.specs.Trails.{Mark}
-use Rattle.bl_core.proofs.Pushes.{HasSaid-silent}
-use Rattle.bl_core.specs.Worlds.{Know, World, IsSure, IsGood, silent, put_mark}
-use Rattle.bl_core.proofs.After.{after, Extends-after, put_at, is_put_at}
-use Rattle.bl_core.proofs.Outside.{Retires-keeps}
-use Rattle.bl_core.specs.Compressions.{Couples}
-use Rattle.bl_core.proofs.Compressions.{PutsJoin-keeps, PutsLeftGain-keeps, PutsRightGain-keeps}
+use Rattle.bl_tree_worlds.proofs.Pushes.{HasSaid-silent}
+use Rattle.bl_tree_worlds.specs.Worlds.{Know, World, IsSure, IsGood, silent, put_mark}
+use Rattle.bl_tree_worlds.proofs.After.{after, Extends-after, put_at, is_put_at}
+use Rattle.bl_tree_worlds.proofs.Outside.{Retires-keeps}
+use Rattle.bl_tree_worlds.specs.Compressions.{Couples}
+use Rattle.bl_tree_worlds.proofs.Compressions.{PutsJoin-keeps, PutsLeftGain-keeps, PutsRightGain-keeps}
 use Rattle.bl_rearrange.specs.declared.sides.Side.TheVariants as side
 use Rattle.bl_proc_compress.specs.declared.compressing.Siblings.{Siblings}
 use Rattle.bl_proc_compress.specs.declared.compressing.Decision.{Decision}

@@ -6,15 +6,15 @@ use Rattle.bl_page.specs.Machine.{Name, State}
 use Rattle.bl_page.specs.Machine.Owner.{Held}
 use Rattle.bl_page.specs.Machine.Act.{Get}
 use Rattle.bl_page.specs.Nodes.{Covers, unbounded, node_of}
-use Rattle.bl_core_tree.specs.Trees.{IsLive, IsChild}
-use Rattle.bl_core_tree.specs.Trees.Status.{Live, Right}
-use Rattle.bl_core_tree.proofs.Statuses.{live_live}
+use Rattle.bl_tree.specs.Trees.{IsLive, IsChild}
+use Rattle.bl_tree.specs.Trees.Status.{Live, Right}
+use Rattle.bl_tree.proofs.Statuses.{live_live}
 use Rattle.bl_rearrange.specs.Neighbours.{AreNeighbours}
-use Rattle.bl_core.proofs.Pushes.{HasSaid-silent}
+use Rattle.bl_tree_worlds.proofs.Pushes.{HasSaid-silent}
 use Rattle.bl_claims.specs.Trails.{Mark}
-use Rattle.bl_core.specs.Worlds.{Know, World, nodes, tree_of, IsSure, IsGood}
-use Rattle.bl_core.proofs.Descents.{not_released}
-use Rattle.bl_core.proofs.Neighbours.{meets}
+use Rattle.bl_tree_worlds.specs.Worlds.{Know, World, nodes, tree_of, IsSure, IsGood}
+use Rattle.bl_tree_worlds.proofs.Descents.{not_released}
+use Rattle.bl_tree_worlds.proofs.Neighbours.{meets}
 use Rattle.bl_proc_compress.specs.declared.compressing.Siblings.{Siblings}
 use Rattle.bl_proc_compress.specs.declared.compressing.Family.{Family}
 use Rattle.bl_proc_compress.specs.declared.compressing.Puts.{Puts}

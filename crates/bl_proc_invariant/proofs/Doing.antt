@@ -16,12 +16,12 @@ use Rattle.bl_rearrange.specs.declared.sides.Side.{Side}
 use Rattle.bl_rearrange.specs.declared.sides.Side.TheVariants as side
 use Rattle.bl_claims.specs.Trails.{Mark, Trail}
 use Rattle.bl_claims.specs.Meanings.{writes_in, writes_of, Unwritten}
-use Rattle.bl_core.proofs.Meant.{writes_of-append, unwritten_since, unwritten_now, none_written, unwritten_on, got_on, got_last}
-use Rattle.bl_proc_base.specs.declared.acts.Seen.{Seen}
-use Rattle.bl_proc_base.specs.declared.acts.Seen.TheVariants as seen
-use Rattle.bl_proc_base.specs.declared.answers.Hint.{Hint}
-use Rattle.bl_proc_base.specs.declared.answers.Hint.TheVariants as post
-use Rattle.bl_proc_pages.specs.declared.onwards.Step.TheVariants.{Here}
+use Rattle.bl_tree_worlds.proofs.Meant.{writes_of-append, unwritten_since, unwritten_now, none_written, unwritten_on, got_on, got_last}
+use Rattle.bl_proc_steps.specs.declared.acts.Seen.{Seen}
+use Rattle.bl_proc_steps.specs.declared.acts.Seen.TheVariants as seen
+use Rattle.bl_proc_steps.specs.declared.answers.Hint.{Hint}
+use Rattle.bl_proc_steps.specs.declared.answers.Hint.TheVariants as post
+use Rattle.bl_proc_routes.specs.declared.onwards.Step.TheVariants.{Here}
 use Rattle.bl_proc_compress.specs.declared.compressing.Siblings.{Siblings}
 use Rattle.bl_proc_compress.specs.declared.compressing.Family.{Family}
 use Rattle.bl_proc_compress.specs.declared.compressing.Puts.{Puts}
@@ -30,7 +30,7 @@ use Rattle.bl_proc_compress.specs.declared.compressing.Decision.TheVariants as d
 use Rattle.bl_proc_compress.specs.declared.compressing.Compression.{Compression}
 use Rattle.bl_proc_compress.specs.declared.compressing.Compression.TheVariants.{LatchingLeft, LatchedLeft, LatchingRight, LatchedRight, PuttingFirst, PuttingParent, PuttingLast, Retiring, OpeningRight, OpeningLeft, OpeningParent}
 use Rattle.bl_proc_compress.specs.declared.compressing.Compressed.TheVariants as step
-use Rattle.bl_proc_pages.specs.Onwards.{Leads}
+use Rattle.bl_proc_routes.specs.Onwards.{Leads}
 use Rattle.bl_proc_compress.specs.Compressions.{put_of, other, after_puts, IsFew, Links, Decides, compression_next}
 use Rattle.bl_proc_compress.specs.declared.squeezing.CompressReply.{CompressReply}
 use Rattle.bl_proc_compress.specs.declared.squeezing.CompressReply.TheVariants as reply
@@ -43,8 +43,8 @@ use Rattle.bl_proc_invariant.specs.Logs.{to_right, AtFamily, AtLeft, AtBoth, put
 use Rattle.bl_proc_invariant.proofs.SideBySide.{beside}
 use Rattle.bl_proc_invariant.proofs.ByPages.{right_is, got_both, merge_of, evened_of, evening_of, has_merged, has_evened}
 use Rattle.bl_proc_invariant.proofs.Logging.{way_stays, way_goes}
-use Rattle.bl_proc_unique.proofs.WayCases.{SqueezeCase, squeeze_case}
-use Rattle.bl_proc_unique.proofs.KindCases.{CompressCase}
+use Rattle.bl_proc_deterministic.proofs.WayCases.{SqueezeCase, squeeze_case}
+use Rattle.bl_proc_deterministic.proofs.KindCases.{CompressCase}
 
 pub acts_of-push : (ms : Trail) (m : Mark) → acts_of (ms ++ m ∷ []) ≡ acts_of ms ++ acts_in m.event.act
 acts_of-push [] m = append-nil (acts_in m.event.act)

@@ -10,32 +10,32 @@ use Rattle.bl_rearrange.specs.declared.fitted.Fitted.TheVariants.{Split}
 use Rattle.bl_rearrange.specs.Rearranged.{IsFitted}
 use Rattle.bl_model.specs.Map.{Map}
 use Rattle.bl_page.specs.Nodes.{unbounded, node_of}
-use Rattle.bl_core_tree.specs.Trees.{Status, is_live, IsLive}
-use Rattle.bl_core_tree.specs.Trees.Status.{Free, Fresh, Live}
-use Rattle.bl_core_tree.specs.Moves.{IsMapRow, IsRow, IsCut}
-use Rattle.bl_core_tree.proofs.Statuses.{live_live, free_dead, fresh_dead}
+use Rattle.bl_tree.specs.Trees.{Status, is_live, IsLive}
+use Rattle.bl_tree.specs.Trees.Status.{Free, Fresh, Live}
+use Rattle.bl_tree.specs.Moves.{IsMapRow, IsRow, IsCut}
+use Rattle.bl_tree.proofs.Statuses.{live_live, free_dead, fresh_dead}
 use Rattle.bl_claims.specs.Trails.{Said, Mark, HasSaid}
-use Rattle.bl_core.proofs.Pushes.{HasSaid-silent, SaysAt-last}
-use Rattle.bl_core.specs.Worlds.{Hold, Child, Know, World, nodes, MapsTo, IsHeld, IsRelied, IsSure, IsBounded, IsGood, silent, put_mark}
-use Rattle.bl_core.proofs.Frames.{Each-map}
-use Rattle.bl_core.proofs.After.{after, Extends-after, put_at, is_put_at}
-use Rattle.bl_core.proofs.Moves.{PutsFresh-keeps, PutsRow-keeps, PutsSplit-keeps}
-use Rattle.bl_core.proofs.Fitted.{split_cut}
-use Rattle.bl_proc_base.specs.declared.acts.Seen.{Seen}
-use Rattle.bl_proc_base.specs.declared.editing.Edited.TheVariants.{On, Over}
-use Rattle.bl_proc_base.specs.Edits.{edit_next}
+use Rattle.bl_tree_worlds.proofs.Pushes.{HasSaid-silent, SaysAt-last}
+use Rattle.bl_tree_worlds.specs.Worlds.{Hold, Child, Know, World, nodes, MapsTo, IsHeld, IsRelied, IsSure, IsBounded, IsGood, silent, put_mark}
+use Rattle.bl_tree_worlds.proofs.Frames.{Each-map}
+use Rattle.bl_tree_worlds.proofs.After.{after, Extends-after, put_at, is_put_at}
+use Rattle.bl_tree_worlds.proofs.Moves.{PutsFresh-keeps, PutsRow-keeps, PutsSplit-keeps}
+use Rattle.bl_tree_worlds.proofs.Fitted.{split_cut}
+use Rattle.bl_proc_steps.specs.declared.acts.Seen.{Seen}
+use Rattle.bl_proc_steps.specs.declared.editing.Edited.TheVariants.{On, Over}
+use Rattle.bl_proc_steps.specs.Edits.{edit_next}
 use Rattle.bl_proc_invariant.specs.Turns.{event_of, IsObserved, Does, Turned}
-use Rattle.bl_proc_base.specs.declared.editing.Outcome.{Outcome}
-use Rattle.bl_proc_base.specs.declared.editing.Outcome.TheVariants as outcome
-use Rattle.bl_proc_base.specs.declared.editing.Full.{Full}
-use Rattle.bl_proc_base.specs.declared.editing.Splitting.{Splitting}
-use Rattle.bl_proc_base.specs.declared.editing.Edit.{Edit}
-use Rattle.bl_proc_base.specs.declared.editing.Edit.TheVariants.{Putting, Taking, PuttingNew, PuttingOld, OpeningNew, Opening}
+use Rattle.bl_proc_steps.specs.declared.editing.Outcome.{Outcome}
+use Rattle.bl_proc_steps.specs.declared.editing.Outcome.TheVariants as outcome
+use Rattle.bl_proc_steps.specs.declared.editing.Full.{Full}
+use Rattle.bl_proc_steps.specs.declared.editing.Splitting.{Splitting}
+use Rattle.bl_proc_steps.specs.declared.editing.Edit.{Edit}
+use Rattle.bl_proc_steps.specs.declared.editing.Edit.TheVariants.{Putting, Taking, PuttingNew, PuttingOld, OpeningNew, Opening}
 use Rattle.bl_proc_invariant.specs.Tables.{carrying, holds_known, Aim, IsAim, IsDue, IsBelow, know_edit}
 use Rattle.bl_proc_invariant.proofs.Acts.{of_held, not_gone, watched, opened, taken}
 use Rattle.bl_proc_invariant.proofs.Holdings.{cut_low}
 use Rattle.bl_proc_invariant.proofs.Going.{goes_still, put_steady, take_steady, was_put, was_fresh}
-use Rattle.bl_proc_unique.proofs.WayCases.{EditCase}
+use Rattle.bl_proc_deterministic.proofs.WayCases.{EditCase}
 
 -- one row of one level
 abbrev pub row_at : ℕ → ℕ → Option ℕ → (ℕ → Map) → ℕ → Map

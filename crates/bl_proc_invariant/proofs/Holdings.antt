@@ -12,11 +12,11 @@ use Rattle.bl_page.specs.Machine.Act.{Get, Latch, Miss}
 use Rattle.bl_rearrange.specs.declared.fitted.Fitted.TheVariants.{Split}
 use Rattle.bl_rearrange.specs.Rearranged.{IsFitted}
 use Rattle.bl_page.specs.Nodes.{Covers, node_of}
-use Rattle.bl_core_tree.specs.Moves.{IsRow, IsCut}
-use Rattle.bl_core_tree.proofs.SoundPages.{sound_node}
+use Rattle.bl_tree.specs.Moves.{IsRow, IsCut}
+use Rattle.bl_tree.proofs.SoundPages.{sound_node}
 use Rattle.bl_claims.specs.Trails.{Mark, Trail}
 use Rattle.bl_claims.specs.Meanings.{writes_in, writes_of, RaisesOnly, HasRaised, WritesBack, UnderLatch, ListTogether, MeansDone, MeansNoRoom}
-use Rattle.bl_core.proofs.Meant.{writes_of-append, writes_of-push, got_on, got_last}
+use Rattle.bl_tree_worlds.proofs.Meant.{writes_of-append, writes_of-push, got_on, got_last}
 use Rattle.bl_proc_invariant.specs.Logs.{Holding, HoldsParent, HoldsBoth, IsToPut}
 
 pub none_of : (mark : Mark) → Contains [] mark → ⊥

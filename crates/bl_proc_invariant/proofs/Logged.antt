@@ -8,15 +8,15 @@ use Rattle.bl_page.specs.Machine.{Name, State, Act}
 use Rattle.bl_page.specs.Machine.Act.{Get, Miss}
 use Rattle.bl_claims.specs.Trails.{Mark, Trail, Saw, marks_of}
 use Rattle.bl_claims.specs.Meanings.{writes_in, writes_of}
-use Rattle.bl_core.proofs.Pushes.{name_cases, marks_of-own, marks_of-other}
-use Rattle.bl_core.specs.Worlds.{Goes, Stage, World}
-use Rattle.bl_proc_base.specs.declared.acts.Action.{Action}
-use Rattle.bl_proc_base.specs.declared.acts.Action.TheVariants as act
-use Rattle.bl_proc_base.specs.declared.acts.Seen.{Seen}
-use Rattle.bl_proc_base.specs.declared.acts.Seen.TheVariants as seen
-use Rattle.bl_proc_base.specs.declared.approaching.Approach.TheVariants as way
-use Rattle.bl_proc_base.specs.declared.editing.Edit.TheVariants as edit
-use Rattle.bl_proc_base.specs.declared.growing.Growth.TheVariants as growth
+use Rattle.bl_tree_worlds.proofs.Pushes.{name_cases, marks_of-own, marks_of-other}
+use Rattle.bl_tree_worlds.specs.Worlds.{Goes, Stage, World}
+use Rattle.bl_proc_steps.specs.declared.acts.Action.{Action}
+use Rattle.bl_proc_steps.specs.declared.acts.Action.TheVariants as act
+use Rattle.bl_proc_steps.specs.declared.acts.Seen.{Seen}
+use Rattle.bl_proc_steps.specs.declared.acts.Seen.TheVariants as seen
+use Rattle.bl_proc_steps.specs.declared.approaching.Approach.TheVariants as way
+use Rattle.bl_proc_steps.specs.declared.editing.Edit.TheVariants as edit
+use Rattle.bl_proc_steps.specs.declared.growing.Growth.TheVariants as growth
 use Rattle.bl_proc_writes.specs.declared.writing.WriteStage.{WriteStage}
 use Rattle.bl_proc_writes.specs.declared.writing.WriteStage.TheVariants as write
 use Rattle.bl_proc_writes.specs.declared.posting.PostStage.{PostStage}
@@ -26,7 +26,7 @@ use Rattle.bl_proc_compress.specs.declared.squeezing.CompressStage.{CompressStag
 use Rattle.bl_proc_compress.specs.declared.squeezing.CompressStage.TheVariants as compress
 use Rattle.bl_proc.specs.declared.lowering.LowerStage.{LowerStage}
 use Rattle.bl_proc.specs.declared.lowering.LowerStage.TheVariants as lower
-use Rattle.bl_proc_base.specs.declared.lowering.Lowering.TheVariants.{Looking}
+use Rattle.bl_proc_steps.specs.declared.lowering.Lowering.TheVariants.{Looking}
 use Rattle.bl_proc.specs.declared.kinds.Proc.{Proc}
 use Rattle.bl_proc.specs.declared.kinds.Proc.TheVariants.{Find, Write, Post, Part, Compress, Reclaim, Lower, InsertPost}
 use Rattle.bl_proc.specs.Processes.{next_of, Takes}
@@ -44,7 +44,7 @@ use Rattle.bl_proc_invariant.proofs.Doing.{compress_on, compress_stays}
 use Rattle.bl_proc_invariant.proofs.LoweringLogs.{lower_on, lower_stays}
 use Rattle.bl_proc_invariant.proofs.Looking.{looking_on, find_on, part_on}
 use Rattle.bl_proc_invariant.proofs.Putting.{write_on, write_stays}
-use Rattle.bl_proc_unique.proofs.KindCases.{find_case, part_case, write_case, post_case, compress_case, lower_case, climb_case}
+use Rattle.bl_proc_deterministic.proofs.KindCases.{find_case, part_case, write_case, post_case, compress_case, lower_case, climb_case}
 use Rattle.bl_proc_writes.specs.declared.climbing.Placing.{Placing}
 use Rattle.bl_proc_writes.specs.Placings.{write_of}
 

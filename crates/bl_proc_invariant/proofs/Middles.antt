@@ -9,15 +9,15 @@ use Rattle.bl_page.specs.declared.machine.Missed.{Missed}
 use Rattle.bl_page.specs.Machine.{Name, Act}
 use Rattle.bl_page.specs.Machine.Phase.{Running}
 use Rattle.bl_page.specs.Machine.Act.{Begin, End, Get, Put, Take, Latch, Retire, Look, Release, Miss}
-use Rattle.bl_core_tree.specs.Trees.Status.{Right}
+use Rattle.bl_tree.specs.Trees.Status.{Right}
 use Rattle.bl_page.specs.Nodes.{node_of}
 use Rattle.bl_rearrange.specs.declared.sides.Side.{Side}
 use Rattle.bl_rearrange.specs.declared.sides.Side.TheVariants as side
 use Rattle.bl_claims.specs.Trails.{Mark, Trail, marks_of}
 use Rattle.bl_claims.specs.Moments.{Puts as PutsPage, IsMiddleBy, InMiddle, InEvening}
-use Rattle.bl_core.specs.Worlds.{Middle, World, nodes, HasMiddle, IsSure, IsGood}
-use Rattle.bl_core.specs.Observed.{TellsMiddles}
-use Rattle.bl_proc_base.specs.declared.approaching.Approach.TheVariants as way
+use Rattle.bl_tree_worlds.specs.Worlds.{Middle, World, nodes, HasMiddle, IsSure, IsGood}
+use Rattle.bl_tree_worlds.specs.Observed.{TellsMiddles}
+use Rattle.bl_proc_steps.specs.declared.approaching.Approach.TheVariants as way
 use Rattle.bl_proc_compress.specs.declared.compressing.Puts.{Puts}
 use Rattle.bl_proc_compress.specs.declared.compressing.Compression.TheVariants.{PuttingParent, PuttingLast}
 use Rattle.bl_proc_compress.specs.declared.squeezing.CompressStage.{CompressStage}

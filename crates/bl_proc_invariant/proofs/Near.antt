@@ -1,26 +1,26 @@
 -- What a process does next is possible: the pages that it gets are not released, and those that it puts, opens or retires are
 -- its own.
 use Rattle.std.proofs.Common.{ℕ, ◌≡◌, ◌≢◌, ◌-◌, None, Some, List, [], ap, sym, ◌∙◌, subst, arith}
-use Rattle.bl_core_tree.specs.Trees.{is_live, IsLive}
+use Rattle.bl_tree.specs.Trees.{is_live, IsLive}
 use Rattle.bl_page.specs.Nodes.{roots_of}
-use Rattle.bl_proc_pages.specs.Onwards.{top_of}
+use Rattle.bl_proc_routes.specs.Onwards.{top_of}
 use Rattle.std.proofs.lemmas.Bool.{false≢true}
 use Rattle.bl_model.specs.declared.deciding.KeyWrite.{KeyWrite}
 use Rattle.bl_page.specs.declared.page.Page.{Page}
 use Rattle.bl_page.specs.Machine.{Name}
 use Rattle.bl_page.specs.Machine.Owner.{Released, Held}
-use Rattle.bl_core_tree.specs.Trees.Status.{Free}
-use Rattle.bl_core.specs.Worlds.{Goes, Know, World, was_in, MayGet, IsSure, IsGood}
-use Rattle.bl_core.proofs.Steady.{free_not}
-use Rattle.bl_core.proofs.Descents.{not_released, anchor_not_released}
-use Rattle.bl_proc_base.specs.declared.acts.Action.{Action}
-use Rattle.bl_proc_base.specs.declared.acts.Action.TheVariants as act
-use Rattle.bl_proc_base.specs.declared.approaching.Approach.{Approach}
-use Rattle.bl_proc_base.specs.declared.approaching.Approach.TheVariants as way
-use Rattle.bl_proc_base.specs.declared.editing.Edit.{Edit}
-use Rattle.bl_proc_base.specs.declared.editing.Edit.TheVariants as edit
-use Rattle.bl_proc_base.specs.declared.growing.Growth.{Growth}
-use Rattle.bl_proc_base.specs.declared.growing.Growth.TheVariants as growth
+use Rattle.bl_tree.specs.Trees.Status.{Free}
+use Rattle.bl_tree_worlds.specs.Worlds.{Goes, Know, World, was_in, MayGet, IsSure, IsGood}
+use Rattle.bl_tree_worlds.proofs.Steady.{free_not}
+use Rattle.bl_tree_worlds.proofs.Descents.{not_released, anchor_not_released}
+use Rattle.bl_proc_steps.specs.declared.acts.Action.{Action}
+use Rattle.bl_proc_steps.specs.declared.acts.Action.TheVariants as act
+use Rattle.bl_proc_steps.specs.declared.approaching.Approach.{Approach}
+use Rattle.bl_proc_steps.specs.declared.approaching.Approach.TheVariants as way
+use Rattle.bl_proc_steps.specs.declared.editing.Edit.{Edit}
+use Rattle.bl_proc_steps.specs.declared.editing.Edit.TheVariants as edit
+use Rattle.bl_proc_steps.specs.declared.growing.Growth.{Growth}
+use Rattle.bl_proc_steps.specs.declared.growing.Growth.TheVariants as growth
 use Rattle.bl_proc.specs.declared.searching.FindStage.{FindStage}
 use Rattle.bl_proc.specs.declared.searching.FindStage.TheVariants as find
 use Rattle.bl_proc.specs.declared.parts.PartStage.{PartStage}
@@ -33,8 +33,8 @@ use Rattle.bl_proc_writes.specs.declared.posting.PostStage.TheVariants as post
 use Rattle.bl_proc.specs.declared.reclaiming.ReclaimStage.{ReclaimStage}
 use Rattle.bl_proc.specs.declared.lowering.LowerStage.{LowerStage}
 use Rattle.bl_proc.specs.declared.lowering.LowerStage.TheVariants as lower
-use Rattle.bl_proc_base.specs.declared.lowering.Lowering.{Lowering}
-use Rattle.bl_proc_base.specs.declared.lowering.Lowering.TheVariants as lowering
+use Rattle.bl_proc_steps.specs.declared.lowering.Lowering.{Lowering}
+use Rattle.bl_proc_steps.specs.declared.lowering.Lowering.TheVariants as lowering
 use Rattle.bl_proc_writes.specs.declared.paths.Path.{Path}
 use Rattle.bl_proc_writes.specs.declared.climbing.ClimbStage.{ClimbStage}
 use Rattle.bl_proc_writes.specs.declared.climbing.ClimbStage.TheVariants as climb
@@ -47,13 +47,13 @@ use Rattle.bl_proc_compress.specs.declared.squeezing.CompressStage.{CompressStag
 use Rattle.bl_proc_compress.specs.declared.squeezing.CompressStage.TheVariants as compress
 use Rattle.bl_proc.specs.declared.kinds.Proc.{Proc}
 use Rattle.bl_proc.specs.declared.kinds.Proc.TheVariants.{Find, Write, Post, Part, Compress, Reclaim, Lower, InsertPost}
-use Rattle.bl_proc_base.specs.Approaches.{approach_next}
-use Rattle.bl_proc_base.specs.Edits.{edit_next}
+use Rattle.bl_proc_steps.specs.Approaches.{approach_next}
+use Rattle.bl_proc_steps.specs.Edits.{edit_next}
 use Rattle.bl_proc_compress.specs.Compressions.{put_of, other, compression_next}
 use Rattle.bl_rearrange.specs.declared.sides.Side.{Side}
 use Rattle.bl_rearrange.specs.declared.sides.Side.TheVariants as side
 use Rattle.bl_proc_compress.specs.declared.compressing.Puts.{Puts}
-use Rattle.bl_proc_base.specs.Growths.{growth_next}
+use Rattle.bl_proc_steps.specs.Growths.{growth_next}
 use Rattle.bl_proc.specs.Searches.{find_next_in}
 use Rattle.bl_proc.specs.Parts.{part_next_in}
 use Rattle.bl_proc_writes.specs.Writes.{write_next_in}
@@ -61,7 +61,7 @@ use Rattle.bl_proc_writes.specs.Posts.{post_next_in}
 use Rattle.bl_proc_compress.specs.Compresses.{compress_next_in}
 use Rattle.bl_proc.specs.Reclaims.{reclaim_next_in}
 use Rattle.bl_proc.specs.Lowers.{lower_next_in}
-use Rattle.bl_proc_base.specs.Lowerings.{lowering_next}
+use Rattle.bl_proc_steps.specs.Lowerings.{lowering_next}
 use Rattle.bl_proc.specs.Processes.{next_of}
 use Rattle.bl_proc_invariant.specs.Compressing.{know_squeeze}
 use Rattle.bl_proc_invariant.specs.Tables.{Carried, unsaid, alone, Aim, know_approach, know_edit}

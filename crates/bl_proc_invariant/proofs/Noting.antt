@@ -6,11 +6,11 @@ use Rattle.bl_page.specs.Machine.{Name}
 use Rattle.bl_page.specs.Nodes.{unbounded, node_of}
 use Rattle.bl_claims.specs.Trails.{Said, HasSaid}
 use Rattle.bl_claims.specs.Walks.{Each}
-use Rattle.bl_core.specs.Worlds.{Stage, Know, World, IsStage, IsGoes, IsSure, IsGood}
-use Rattle.bl_proc_base.specs.declared.acts.Seen.{Seen}
-use Rattle.bl_proc_base.specs.declared.approaching.Approach.{Approach}
-use Rattle.bl_proc_base.specs.declared.approaching.Approach.TheVariants as way
-use Rattle.bl_proc_base.specs.Approaches.{approach_next}
+use Rattle.bl_tree_worlds.specs.Worlds.{Stage, Know, World, IsStage, IsGoes, IsSure, IsGood}
+use Rattle.bl_proc_steps.specs.declared.acts.Seen.{Seen}
+use Rattle.bl_proc_steps.specs.declared.approaching.Approach.{Approach}
+use Rattle.bl_proc_steps.specs.declared.approaching.Approach.TheVariants as way
+use Rattle.bl_proc_steps.specs.Approaches.{approach_next}
 use Rattle.bl_proc_writes.specs.declared.paths.Path.{Path}
 use Rattle.bl_proc_writes.specs.declared.posting.PostStage.{PostStage}
 use Rattle.bl_proc_writes.specs.declared.posting.PostStage.TheVariants as post
@@ -24,7 +24,7 @@ use Rattle.bl_proc_invariant.specs.Turns.{IsObserved}
 use Rattle.bl_proc_invariant.specs.Tables.{Carried, goes_to, know_approach}
 use Rattle.bl_proc_invariant.specs.Knowing.{goes_above, path_goes, know_write, know_post}
 use Rattle.bl_proc_invariant.proofs.Instead.{with_proc, instead_good}
-use Rattle.bl_proc_unique.proofs.KindCases.{NoteCase, note_case}
+use Rattle.bl_proc_deterministic.proofs.KindCases.{NoteCase, note_case}
 
 module _ {P : Type 0} (w : World P) (p : Name) where
   -- one of the pages that are noted

@@ -11,11 +11,11 @@ use Rattle.bl_page.specs.Pairs.{place}
 use Rattle.bl_page.proofs.Lookups.{place-le}
 use Rattle.bl_page.specs.Nodes.{unbounded, node_of, IsTreePage}
 use Rattle.bl_claims.specs.Trails.{Mark}
-use Rattle.bl_core.proofs.Pushes.{HasSaid-silent}
-use Rattle.bl_core.specs.Worlds.{Stage, Know, World, MayGet, IsGoes, IsSure, IsGood}
-use Rattle.bl_core.proofs.Descents.{goes_down, not_released}
-use Rattle.bl_proc_base.specs.declared.acts.Seen.{Seen}
-use Rattle.bl_proc_base.specs.declared.approaching.Approach.TheVariants as way
+use Rattle.bl_tree_worlds.proofs.Pushes.{HasSaid-silent}
+use Rattle.bl_tree_worlds.specs.Worlds.{Stage, Know, World, MayGet, IsGoes, IsSure, IsGood}
+use Rattle.bl_tree_worlds.proofs.Descents.{goes_down, not_released}
+use Rattle.bl_proc_steps.specs.declared.acts.Seen.{Seen}
+use Rattle.bl_proc_steps.specs.declared.approaching.Approach.TheVariants as way
 use Rattle.bl_proc_compress.specs.declared.compressing.Family.{Family}
 use Rattle.bl_proc_compress.specs.declared.compressing.Decision.{Decision}
 use Rattle.bl_proc_compress.specs.declared.compressing.Compression.{Compression}
@@ -34,8 +34,8 @@ use Rattle.bl_proc_invariant.proofs.Approaching.{approach_turn, give_up_turn, ke
 use Rattle.bl_proc_invariant.proofs.Compressing.{open_parent_turn}
 use Rattle.bl_proc_invariant.proofs.Squeezing.{compression_turn}
 use Rattle.bl_proc_invariant.proofs.Ends.{begin_turn, end_turn}
-use Rattle.bl_proc_unique.proofs.WayCases.{SqueezeCase, squeeze_case}
-use Rattle.bl_proc_unique.proofs.KindCases.{CompressCase}
+use Rattle.bl_proc_deterministic.proofs.WayCases.{SqueezeCase, squeeze_case}
+use Rattle.bl_proc_deterministic.proofs.KindCases.{CompressCase}
 
 -- the left child stands at a place of the parent
 left_within : (key : ℕ) (pairs : List (ℕ × ℕ)) → 2 ≤ length pairs → right_place key pairs - 1 < length pairs

@@ -4,15 +4,15 @@ use Rattle.bl_page.specs.declared.page.Page.{Page}
 use Rattle.bl_page.specs.Machine.{Name, Owner, State}
 use Rattle.bl_page.specs.Machine.Act.{Put}
 use Rattle.bl_model.specs.Map.{Map}
-use Rattle.bl_core_tree.specs.Trees.Status.{Fresh}
-use Rattle.bl_core_tree.specs.Moves.{IsRow, IsMapRow, IsRelisted}
+use Rattle.bl_tree.specs.Trees.Status.{Fresh}
+use Rattle.bl_tree.specs.Moves.{IsRow, IsMapRow, IsRelisted}
 use Rattle.bl_page.specs.Nodes.{node_of}
-use Rattle.bl_core.proofs.Pushes.{HasSaid-silent}
-use Rattle.bl_core.specs.Worlds.{Know, World, nodes, IsSure, IsGood, IsBounded, put_mark}
-use Rattle.bl_core.proofs.After.{after, Extends-after, put_at, is_put_at}
-use Rattle.bl_core.specs.Puts.{Owes}
-use Rattle.bl_core.proofs.Moves.{PutsRow-keeps}
-use Rattle.bl_core.proofs.Splittings.{PutsRelisted-keeps}
+use Rattle.bl_tree_worlds.proofs.Pushes.{HasSaid-silent}
+use Rattle.bl_tree_worlds.specs.Worlds.{Know, World, nodes, IsSure, IsGood, IsBounded, put_mark}
+use Rattle.bl_tree_worlds.proofs.After.{after, Extends-after, put_at, is_put_at}
+use Rattle.bl_tree_worlds.specs.Puts.{Owes}
+use Rattle.bl_tree_worlds.proofs.Moves.{PutsRow-keeps}
+use Rattle.bl_tree_worlds.proofs.Splittings.{PutsRelisted-keeps}
 use Rattle.bl_proc_compress.specs.declared.compressing.Puts.{Puts}
 use Rattle.bl_proc_compress.specs.declared.compressing.Compression.TheVariants.{PuttingParent, PuttingLast}
 use Rattle.bl_proc_invariant.specs.Turns.{Does, Turned}

@@ -5,14 +5,14 @@ use Rattle.bl_page.specs.declared.page.Page.TheVariants.{Dead}
 use Rattle.bl_page.specs.Machine.{Name, Owner, State}
 use Rattle.bl_page.specs.Machine.Act.{Put}
 use Rattle.bl_page.specs.Nodes.{Covers, node_of}
-use Rattle.bl_core_tree.specs.Trees.{Status}
-use Rattle.bl_core_tree.specs.Trees.Status.{Fresh, Live, Gone}
-use Rattle.bl_core_tree.specs.Moves.{IsAtTwo, IsRightLoss, IsLeftLoss}
-use Rattle.bl_core.proofs.Pushes.{HasSaid-silent}
-use Rattle.bl_core.specs.Worlds.{Know, World, nodes, IsHeld, IsSure, IsGood, HoldsPage, put_mark}
-use Rattle.bl_core.proofs.After.{after, Extends-after, put_at}
-use Rattle.bl_core.specs.Compressions.{Parts}
-use Rattle.bl_core.proofs.Splittings.{PutsRightLoss-keeps, PutsLeftLoss-keeps, PutsDead-keeps}
+use Rattle.bl_tree.specs.Trees.{Status}
+use Rattle.bl_tree.specs.Trees.Status.{Fresh, Live, Gone}
+use Rattle.bl_tree.specs.Moves.{IsAtTwo, IsRightLoss, IsLeftLoss}
+use Rattle.bl_tree_worlds.proofs.Pushes.{HasSaid-silent}
+use Rattle.bl_tree_worlds.specs.Worlds.{Know, World, nodes, IsHeld, IsSure, IsGood, HoldsPage, put_mark}
+use Rattle.bl_tree_worlds.proofs.After.{after, Extends-after, put_at}
+use Rattle.bl_tree_worlds.specs.Compressions.{Parts}
+use Rattle.bl_tree_worlds.proofs.Splittings.{PutsRightLoss-keeps, PutsLeftLoss-keeps, PutsDead-keeps}
 use Rattle.bl_proc_compress.specs.Compressions.{IsBuried}
 use Rattle.bl_proc_compress.specs.declared.compressing.Decision.{Decision}
 use Rattle.bl_proc_compress.specs.declared.compressing.Puts.{Puts}

@@ -9,10 +9,10 @@ use Rattle.bl_page.specs.Nodes.{node_of}
 use Rattle.bl_rearrange.specs.Neighbours.{AreNeighbours}
 use Rattle.bl_rearrange.specs.declared.sides.Side.{Side}
 use Rattle.bl_rearrange.specs.declared.sides.Side.TheVariants as side
-use Rattle.bl_core.proofs.Neighbours.{meets}
-use Rattle.bl_core.specs.Worlds.{Know, World, IsSure, IsGood}
-use Rattle.bl_proc_base.specs.declared.acts.Seen.{Seen}
-use Rattle.bl_proc_base.specs.declared.acts.Seen.TheVariants as seen
+use Rattle.bl_tree_worlds.proofs.Neighbours.{meets}
+use Rattle.bl_tree_worlds.specs.Worlds.{Know, World, IsSure, IsGood}
+use Rattle.bl_proc_steps.specs.declared.acts.Seen.{Seen}
+use Rattle.bl_proc_steps.specs.declared.acts.Seen.TheVariants as seen
 use Rattle.bl_proc_compress.specs.declared.compressing.Siblings.{Siblings}
 use Rattle.bl_proc_compress.specs.declared.compressing.Family.{Family}
 use Rattle.bl_proc_compress.specs.declared.compressing.Puts.{Puts}

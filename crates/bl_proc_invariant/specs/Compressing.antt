@@ -3,18 +3,18 @@ use Rattle.std.specs.Prelude.{◌≡◌, ◌≢◌, ◌⊎◌, ℕ, suc, ◌-◌
 use Rattle.bl_page.specs.declared.page.Page.{Page}
 use Rattle.bl_page.specs.declared.page.Page.TheVariants.{Inner}
 use Rattle.bl_page.specs.Nodes.{Covers, unbounded, node_of}
-use Rattle.bl_core_tree.specs.Trees.Status.{Live, Left, Right, Gone}
-use Rattle.bl_core_tree.specs.Moves.{IsRow, IsJoin, IsLeftGain, IsRightLoss, IsRightGain, IsLeftLoss, IsRelisted}
-use Rattle.bl_core.specs.Worlds.{Hold, Stage, Know}
+use Rattle.bl_tree.specs.Trees.Status.{Live, Left, Right, Gone}
+use Rattle.bl_tree.specs.Moves.{IsRow, IsJoin, IsLeftGain, IsRightLoss, IsRightGain, IsLeftLoss, IsRelisted}
+use Rattle.bl_tree_worlds.specs.Worlds.{Hold, Stage, Know}
 use Rattle.bl_rearrange.specs.Rearranged.{right_of}
 use Rattle.bl_rearrange.specs.declared.sides.Side.{Side}
 use Rattle.bl_rearrange.specs.declared.sides.Side.TheVariants as side
-use Rattle.bl_proc_base.specs.declared.acts.Seen.{Seen}
-use Rattle.bl_proc_base.specs.declared.acts.Seen.TheVariants.{Words}
+use Rattle.bl_proc_steps.specs.declared.acts.Seen.{Seen}
+use Rattle.bl_proc_steps.specs.declared.acts.Seen.TheVariants.{Words}
 use Rattle.bl_proc_compress.specs.declared.compressing.Siblings.{Siblings}
 use Rattle.bl_proc_compress.specs.declared.compressing.Family.{Family}
 use Rattle.bl_proc_compress.specs.declared.compressing.Puts.{Puts}
-use Rattle.bl_proc_base.specs.declared.answers.Hint.{Hint}
+use Rattle.bl_proc_steps.specs.declared.answers.Hint.{Hint}
 use Rattle.bl_proc_compress.specs.declared.compressing.Decision.TheVariants as decision
 use Rattle.bl_proc_compress.specs.declared.compressing.Compression.{Compression}
 use Rattle.bl_proc_compress.specs.declared.compressing.Compression.TheVariants.{LatchingLeft, LatchedLeft, LatchingRight, LatchedRight, PuttingFirst, PuttingParent, PuttingLast, Retiring, OpeningRight, OpeningLeft, OpeningParent}

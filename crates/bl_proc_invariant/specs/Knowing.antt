@@ -12,12 +12,12 @@ use Rattle.bl_page.specs.declared.page.Page.TheVariants.{Anchor, Inner}
 use Rattle.bl_page.specs.Machine.{Owner, State}
 use Rattle.bl_page.specs.Machine.Owner.{Released, Held, Retired}
 use Rattle.bl_page.specs.Nodes.{unbounded}
-use Rattle.bl_core_tree.specs.Trees.Status.{Fresh}
+use Rattle.bl_tree.specs.Trees.Status.{Fresh}
 use Rattle.bl_claims.specs.Trails.{Said}
-use Rattle.bl_core.specs.Worlds.{Goes, Passed, Stage, Know}
-use Rattle.bl_proc_base.specs.declared.acts.Seen.{Seen}
-use Rattle.bl_proc_base.specs.declared.acts.Seen.TheVariants as seen
-use Rattle.bl_proc_base.specs.declared.answers.Hint.TheVariants as hint
+use Rattle.bl_tree_worlds.specs.Worlds.{Goes, Passed, Stage, Know}
+use Rattle.bl_proc_steps.specs.declared.acts.Seen.{Seen}
+use Rattle.bl_proc_steps.specs.declared.acts.Seen.TheVariants as seen
+use Rattle.bl_proc_steps.specs.declared.answers.Hint.TheVariants as hint
 use Rattle.bl_proc.specs.declared.searching.FindStage.TheVariants as find
 use Rattle.bl_proc.specs.declared.searching.FindStage.{FindStage}
 use Rattle.bl_proc_writes.specs.declared.writing.Noted.{Noted}
@@ -30,8 +30,8 @@ use Rattle.bl_proc.specs.declared.parts.PartStage.{PartStage}
 use Rattle.bl_proc.specs.declared.parts.PartStart.{PartStart}
 use Rattle.bl_proc.specs.declared.parts.PartStage.TheVariants as part
 use Rattle.bl_proc.specs.Parts.{part_op}
-use Rattle.bl_proc_base.specs.declared.growing.Growth.{Growth}
-use Rattle.bl_proc_base.specs.declared.growing.Growth.TheVariants as growth
+use Rattle.bl_proc_steps.specs.declared.growing.Growth.{Growth}
+use Rattle.bl_proc_steps.specs.declared.growing.Growth.TheVariants as growth
 use Rattle.bl_proc_writes.specs.declared.posting.PostReply.{PostReply}
 use Rattle.bl_proc_writes.specs.declared.posting.PostReply.TheVariants as posted
 use Rattle.bl_proc_writes.specs.declared.posting.PostStage.{PostStage}
@@ -53,7 +53,7 @@ use Rattle.bl_proc_writes.specs.declared.climbing.ClimbStage.TheVariants as clim
 use Rattle.bl_proc.specs.declared.kinds.Proc.{Proc}
 use Rattle.bl_proc.specs.declared.kinds.Proc.TheVariants as proc
 use Rattle.bl_proc_writes.specs.Writes.{write_reply}
-use Rattle.bl_proc_base.specs.Growths.{Raises, IsAnchor}
+use Rattle.bl_proc_steps.specs.Growths.{Raises, IsAnchor}
 use Rattle.bl_proc_invariant.specs.Compressing.{know_squeeze, compression_got}
 use Rattle.bl_proc_invariant.specs.Lowering.{know_lowering, lowering_got}
 use Rattle.bl_proc_invariant.specs.Tables.{idle, Carried, unsaid, alone, carrying, holds_live, holds_known, anchor_known, goes_to, know_descent, know_approach, Aim, IsDue, know_edit}

@@ -6,17 +6,17 @@ use Rattle.bl_page.specs.declared.page.Page.TheVariants.{Anchor, Leaf, Inner, De
 use Rattle.bl_page.specs.Machine.{Name}
 use Rattle.bl_page.specs.Machine.Owner.{Held}
 use Rattle.bl_page.specs.Nodes.{unbounded, node_of, roots_of, IsTreePage}
-use Rattle.bl_core_tree.specs.Trees.{IsLive}
-use Rattle.bl_core_tree.proofs.Statuses.{live_live, not_anchor}
+use Rattle.bl_tree.specs.Trees.{IsLive}
+use Rattle.bl_tree.proofs.Statuses.{live_live, not_anchor}
 use Rattle.bl_rearrange.specs.Rearranged.{right_of}
-use Rattle.bl_core.specs.Worlds.{Know, World, nodes, HoldsPage, IsSure, IsGood}
-use Rattle.bl_core.proofs.WorldLaws.{tree_page}
-use Rattle.bl_proc_base.specs.declared.acts.Action.TheVariants as act
-use Rattle.bl_proc_base.specs.declared.lowering.Summit.{Summit}
-use Rattle.bl_proc_base.specs.declared.lowering.Lowering.{Lowering}
-use Rattle.bl_proc_base.specs.declared.lowering.Lowering.TheVariants.{LatchingAnchor, LatchingTop}
-use Rattle.bl_proc_base.specs.Lowerings.{lowering_next}
-use Rattle.bl_proc_pages.specs.Onwards.{top_of}
+use Rattle.bl_tree_worlds.specs.Worlds.{Know, World, nodes, HoldsPage, IsSure, IsGood}
+use Rattle.bl_tree_worlds.proofs.WorldLaws.{tree_page}
+use Rattle.bl_proc_steps.specs.declared.acts.Action.TheVariants as act
+use Rattle.bl_proc_steps.specs.declared.lowering.Summit.{Summit}
+use Rattle.bl_proc_steps.specs.declared.lowering.Lowering.{Lowering}
+use Rattle.bl_proc_steps.specs.declared.lowering.Lowering.TheVariants.{LatchingAnchor, LatchingTop}
+use Rattle.bl_proc_steps.specs.Lowerings.{lowering_next}
+use Rattle.bl_proc_routes.specs.Onwards.{top_of}
 use Rattle.bl_proc_compress.specs.declared.compressing.Family.{Family}
 use Rattle.bl_rearrange.specs.declared.sides.Side.{Side}
 use Rattle.bl_rearrange.specs.declared.sides.Side.TheVariants as side

@@ -2,19 +2,19 @@
 use Rattle.std.proofs.Common.{ℕ, zero, suc, ◌≡◌, ◌≢◌, ◌+◌, ◌<◌, ◌≤◌, Bool, arith, refl, inl, inr, sym, subst}
 use Rattle.bl_model.specs.declared.deciding.KeyWrite.{KeyWrite}
 use Rattle.bl_page.specs.declared.page.Page.{Page}
-use Rattle.bl_proc_base.specs.declared.acts.Seen.{Seen}
-use Rattle.bl_proc_base.specs.declared.acts.Seen.TheVariants as seen
-use Rattle.bl_proc_base.specs.declared.approaching.Approach.{Approach}
-use Rattle.bl_proc_base.specs.declared.approaching.Approached.TheVariants as came
-use Rattle.bl_proc_base.specs.declared.editing.Edit.{Edit}
-use Rattle.bl_proc_base.specs.declared.editing.Edit.TheVariants as edit
-use Rattle.bl_proc_base.specs.declared.editing.Edited.TheVariants as changed
-use Rattle.bl_proc_base.specs.declared.growing.Growth.{Growth}
-use Rattle.bl_proc_base.specs.declared.growing.Grew.TheVariants as grew
-use Rattle.bl_proc_base.specs.declared.lowering.Lowering.{Lowering}
-use Rattle.bl_proc_base.specs.declared.lowering.Lowering.TheVariants as lowering
-use Rattle.bl_proc_base.specs.declared.lowering.Sank.TheVariants as sank
-use Rattle.bl_proc_base.specs.Lowerings.{Lowers}
+use Rattle.bl_proc_steps.specs.declared.acts.Seen.{Seen}
+use Rattle.bl_proc_steps.specs.declared.acts.Seen.TheVariants as seen
+use Rattle.bl_proc_steps.specs.declared.approaching.Approach.{Approach}
+use Rattle.bl_proc_steps.specs.declared.approaching.Approached.TheVariants as came
+use Rattle.bl_proc_steps.specs.declared.editing.Edit.{Edit}
+use Rattle.bl_proc_steps.specs.declared.editing.Edit.TheVariants as edit
+use Rattle.bl_proc_steps.specs.declared.editing.Edited.TheVariants as changed
+use Rattle.bl_proc_steps.specs.declared.growing.Growth.{Growth}
+use Rattle.bl_proc_steps.specs.declared.growing.Grew.TheVariants as grew
+use Rattle.bl_proc_steps.specs.declared.lowering.Lowering.{Lowering}
+use Rattle.bl_proc_steps.specs.declared.lowering.Lowering.TheVariants as lowering
+use Rattle.bl_proc_steps.specs.declared.lowering.Sank.TheVariants as sank
+use Rattle.bl_proc_steps.specs.Lowerings.{Lowers}
 use Rattle.bl_proc_compress.specs.declared.compressing.Compression.{Compression}
 use Rattle.bl_proc_compress.specs.declared.compressing.Compression.TheVariants as squeeze
 use Rattle.bl_proc_compress.specs.declared.compressing.Compressed.TheVariants as step
@@ -34,20 +34,20 @@ use Rattle.bl_proc.specs.declared.lowering.LowerStage.{LowerStage}
 use Rattle.bl_proc.specs.declared.kinds.Proc.{Proc}
 use Rattle.bl_proc.specs.declared.kinds.Proc.TheVariants as proc
 use Rattle.bl_proc.specs.Processes.{Takes}
-use Rattle.bl_proc_unique.proofs.WayCases.{ApproachCase, approach_case, EditCase, edit_case, GrowthCase, growth_case, SqueezeCase, squeeze_case}
-use Rattle.bl_proc_unique.proofs.WayCases.ApproachCase.{Entered as ApproachEntered, LatchedPage as ApproachLatchedPage, MissedPage as ApproachMissedPage, OpenedFor as ApproachOpenedFor, OpenedLost as ApproachOpenedLost, Quitted as ApproachQuitted, Turned as ApproachTurned}
-use Rattle.bl_proc_unique.proofs.WayCases.EditCase.{OpenedNew as EditOpenedNew, Put as EditPut, PutNew as EditPutNew, PutOld as EditPutOld, PutRefused as EditPutRefused, TakeRefused as EditTakeRefused, Took as EditTook}
-use Rattle.bl_proc_unique.proofs.WayCases.GrowthCase.{LatchedAnchor as GrowthLatchedAnchor, Missed as GrowthMissed, OpenedTop as GrowthOpenedTop, PutAnchor as GrowthPutAnchor, PutTop as GrowthPutTop, Rises as GrowthRises, Stands as GrowthStands, TookTop as GrowthTookTop, TopRefused as GrowthTopRefused}
-use Rattle.bl_proc_unique.proofs.WayCases.SqueezeCase.{FirstRefused as SqueezeFirstRefused, GotLeft as SqueezeGotLeft, GotRight as SqueezeGotRight, LatchLeft as SqueezeLatchLeft, LatchRight as SqueezeLatchRight, LeaveLeft as SqueezeLeaveLeft, LeaveRight as SqueezeLeaveRight, MissLeft as SqueezeMissLeft, MissRight as SqueezeMissRight, OpenedLeft as SqueezeOpenedLeft, OpenedRight as SqueezeOpenedRight, PutFirst as SqueezePutFirst, PutLast as SqueezePutLast, PutParent as SqueezePutParent, Retired as SqueezeRetired}
-use Rattle.bl_proc_unique.proofs.KindCases.{WriteCase, write_case, PostCase, post_case, CompressCase, compress_case, LowerCase, lower_case, ClimbCase, climb_case}
-use Rattle.bl_proc_unique.proofs.KindCases.WriteCase.{Began as WriteBegan, Came as WriteCame, Changed as WriteChanged, Edited as WriteEdited, Ended as WriteEnded, Finished as WriteFinished, Kept as WriteKept, Opened as WriteOpened}
-use Rattle.bl_proc_unique.proofs.KindCases.PostCase.{Began as PostBegan, Came as PostCame, Edited as PostEdited, Ended as PostEnded, Entered as PostEntered, Finished as PostFinished, Grew as PostGrew, Grown as PostGrown, Listed as PostListed, Lost as PostLost, NoLevel as PostNoLevel, NoRoom as PostNoRoom, Opened as PostOpened, Stale as PostStale, Tallest as PostTallest, ToGrow as PostToGrow, ToWalk as PostToWalk, Walked as PostWalked}
-use Rattle.bl_proc_unique.proofs.KindCases.CompressCase.{Began as CompressBegan, Came as CompressCame, Ended as CompressEnded, Finished as CompressFinished, Lost as CompressLost, Met as CompressMet, NoLevel as CompressNoLevel, Opened as CompressOpened, Single as CompressSingle, Squeezed as CompressSqueezed}
-use Rattle.bl_proc_unique.proofs.KindCases.LowerCase.{Began as LowerBegan, Ended as LowerEnded, Finished as LowerFinished, Sank as LowerSank}
-use Rattle.bl_proc_unique.proofs.KindCases.ClimbCase.{Ended as ClimbEnded, Finished as ClimbFinished, Higher as ClimbHigher, Posted as ClimbPosted, Split as ClimbSplit, Unsplit as ClimbUnsplit, Wrote as ClimbWrote}
+use Rattle.bl_proc_deterministic.proofs.WayCases.{ApproachCase, approach_case, EditCase, edit_case, GrowthCase, growth_case, SqueezeCase, squeeze_case}
+use Rattle.bl_proc_deterministic.proofs.WayCases.ApproachCase.{Entered as ApproachEntered, LatchedPage as ApproachLatchedPage, MissedPage as ApproachMissedPage, OpenedFor as ApproachOpenedFor, OpenedLost as ApproachOpenedLost, Quitted as ApproachQuitted, Turned as ApproachTurned}
+use Rattle.bl_proc_deterministic.proofs.WayCases.EditCase.{OpenedNew as EditOpenedNew, Put as EditPut, PutNew as EditPutNew, PutOld as EditPutOld, PutRefused as EditPutRefused, TakeRefused as EditTakeRefused, Took as EditTook}
+use Rattle.bl_proc_deterministic.proofs.WayCases.GrowthCase.{LatchedAnchor as GrowthLatchedAnchor, Missed as GrowthMissed, OpenedTop as GrowthOpenedTop, PutAnchor as GrowthPutAnchor, PutTop as GrowthPutTop, Rises as GrowthRises, Stands as GrowthStands, TookTop as GrowthTookTop, TopRefused as GrowthTopRefused}
+use Rattle.bl_proc_deterministic.proofs.WayCases.SqueezeCase.{FirstRefused as SqueezeFirstRefused, GotLeft as SqueezeGotLeft, GotRight as SqueezeGotRight, LatchLeft as SqueezeLatchLeft, LatchRight as SqueezeLatchRight, LeaveLeft as SqueezeLeaveLeft, LeaveRight as SqueezeLeaveRight, MissLeft as SqueezeMissLeft, MissRight as SqueezeMissRight, OpenedLeft as SqueezeOpenedLeft, OpenedRight as SqueezeOpenedRight, PutFirst as SqueezePutFirst, PutLast as SqueezePutLast, PutParent as SqueezePutParent, Retired as SqueezeRetired}
+use Rattle.bl_proc_deterministic.proofs.KindCases.{WriteCase, write_case, PostCase, post_case, CompressCase, compress_case, LowerCase, lower_case, ClimbCase, climb_case}
+use Rattle.bl_proc_deterministic.proofs.KindCases.WriteCase.{Began as WriteBegan, Came as WriteCame, Changed as WriteChanged, Edited as WriteEdited, Ended as WriteEnded, Finished as WriteFinished, Kept as WriteKept, Opened as WriteOpened}
+use Rattle.bl_proc_deterministic.proofs.KindCases.PostCase.{Began as PostBegan, Came as PostCame, Edited as PostEdited, Ended as PostEnded, Entered as PostEntered, Finished as PostFinished, Grew as PostGrew, Grown as PostGrown, Listed as PostListed, Lost as PostLost, NoLevel as PostNoLevel, NoRoom as PostNoRoom, Opened as PostOpened, Stale as PostStale, Tallest as PostTallest, ToGrow as PostToGrow, ToWalk as PostToWalk, Walked as PostWalked}
+use Rattle.bl_proc_deterministic.proofs.KindCases.CompressCase.{Began as CompressBegan, Came as CompressCame, Ended as CompressEnded, Finished as CompressFinished, Lost as CompressLost, Met as CompressMet, NoLevel as CompressNoLevel, Opened as CompressOpened, Single as CompressSingle, Squeezed as CompressSqueezed}
+use Rattle.bl_proc_deterministic.proofs.KindCases.LowerCase.{Began as LowerBegan, Ended as LowerEnded, Finished as LowerFinished, Sank as LowerSank}
+use Rattle.bl_proc_deterministic.proofs.KindCases.ClimbCase.{Ended as ClimbEnded, Finished as ClimbFinished, Higher as ClimbHigher, Posted as ClimbPosted, Split as ClimbSplit, Unsplit as ClimbUnsplit, Wrote as ClimbWrote}
 use Rattle.bl_page.specs.Machine.{Name}
 use Rattle.bl_page.specs.Machine.Owner.{Held}
-use Rattle.bl_core.specs.Worlds.{World, HoldsPage, IsGood}
+use Rattle.bl_tree_worlds.specs.Worlds.{World, HoldsPage, IsGood}
 use Rattle.bl_proc_invariant.specs.Knowing.{Run, know}
 use Rattle.bl_proc_progress.proofs.Alone.{over_holds}
 use Rattle.bl_proc_progress.specs.Holds.{approach_hold, edit_hold, growth_hold, lowering_hold, squeeze_hold, write_hold, post_hold, compress_hold, lower_hold, climb_hold, hold_of, Nears}

@@ -10,13 +10,13 @@ use Rattle.bl_page.specs.Nodes.{Covers, unbounded, node_of, IsTreePage}
 use Rattle.bl_page.specs.Pairs.{end_of}
 use Rattle.bl_rearrange.specs.Neighbours.{AreNeighbours}
 use Rattle.bl_rearrange.specs.Rearranged.{pairs_of}
-use Rattle.bl_core_tree.specs.Trees.{IsLive, IsChild}
-use Rattle.bl_core_tree.specs.Trees.Status.{Live, Left, Right}
-use Rattle.bl_core_tree.proofs.Statuses.{live_live}
-use Rattle.bl_core.specs.Worlds.{Know, World, nodes, tree_of, IsSure, IsGood}
-use Rattle.bl_core.proofs.WorldLaws.{tree_page, all_sound}
-use Rattle.bl_core.proofs.Fitted.{end_is}
-use Rattle.bl_core.proofs.Neighbours.{shares}
+use Rattle.bl_tree.specs.Trees.{IsLive, IsChild}
+use Rattle.bl_tree.specs.Trees.Status.{Live, Left, Right}
+use Rattle.bl_tree.proofs.Statuses.{live_live}
+use Rattle.bl_tree_worlds.specs.Worlds.{Know, World, nodes, tree_of, IsSure, IsGood}
+use Rattle.bl_tree_worlds.proofs.WorldLaws.{tree_page, all_sound}
+use Rattle.bl_tree_worlds.proofs.Fitted.{end_is}
+use Rattle.bl_tree_worlds.proofs.Neighbours.{shares}
 use Rattle.bl_proc_compress.specs.declared.compressing.Family.{Family}
 use Rattle.bl_proc_compress.specs.declared.compressing.Decision.TheVariants.{Lost}
 use Rattle.bl_proc_compress.specs.declared.compressing.Siblings.{Siblings}

@@ -1,16 +1,16 @@
 -- How long a process holds pages, by its state: how many of its own turns are left until it holds none. Not counted are the missed
 -- latches of a child, and the gets of a post that walks to the child.
 use Rattle.std.specs.Prelude.{ℕ, ◌≡◌, ◌⊎◌, ◌<◌, ◌≤◌}
-use Rattle.bl_proc_base.specs.declared.acts.Seen.{Seen}
-use Rattle.bl_proc_base.specs.declared.acts.Seen.TheVariants as seen
-use Rattle.bl_proc_base.specs.declared.approaching.Approach.{Approach}
-use Rattle.bl_proc_base.specs.declared.approaching.Approach.TheVariants as way
-use Rattle.bl_proc_base.specs.declared.editing.Edit.{Edit}
-use Rattle.bl_proc_base.specs.declared.editing.Edit.TheVariants as edit
-use Rattle.bl_proc_base.specs.declared.growing.Growth.{Growth}
-use Rattle.bl_proc_base.specs.declared.growing.Growth.TheVariants as growth
-use Rattle.bl_proc_base.specs.declared.lowering.Lowering.{Lowering}
-use Rattle.bl_proc_base.specs.declared.lowering.Lowering.TheVariants as lowering
+use Rattle.bl_proc_steps.specs.declared.acts.Seen.{Seen}
+use Rattle.bl_proc_steps.specs.declared.acts.Seen.TheVariants as seen
+use Rattle.bl_proc_steps.specs.declared.approaching.Approach.{Approach}
+use Rattle.bl_proc_steps.specs.declared.approaching.Approach.TheVariants as way
+use Rattle.bl_proc_steps.specs.declared.editing.Edit.{Edit}
+use Rattle.bl_proc_steps.specs.declared.editing.Edit.TheVariants as edit
+use Rattle.bl_proc_steps.specs.declared.growing.Growth.{Growth}
+use Rattle.bl_proc_steps.specs.declared.growing.Growth.TheVariants as growth
+use Rattle.bl_proc_steps.specs.declared.lowering.Lowering.{Lowering}
+use Rattle.bl_proc_steps.specs.declared.lowering.Lowering.TheVariants as lowering
 use Rattle.bl_proc_compress.specs.declared.compressing.Compression.{Compression}
 use Rattle.bl_proc_compress.specs.declared.compressing.Compression.TheVariants as squeeze
 use Rattle.bl_proc_compress.specs.declared.squeezing.CompressStage.{CompressStage}

@@ -5,14 +5,14 @@ use Rattle.bl_model.specs.Rows.{map_of}
 use Rattle.bl_page.specs.declared.page.Page.{Page}
 use Rattle.bl_page.specs.Machine.{Name}
 use Rattle.bl_page.specs.Nodes.{node_of, roots_of}
-use Rattle.bl_core_tree.specs.Trees.{is_live, IsLive}
-use Rattle.bl_core_tree.specs.Trees.Status.{Gone, Anchored}
-use Rattle.bl_core_tree.proofs.Statuses.{live_live, gone_dead}
-use Rattle.bl_core.specs.Worlds.{Know, World, nodes, IsSure, IsGood}
-use Rattle.bl_core.proofs.WorldLaws.{all_sound}
-use Rattle.bl_proc_base.specs.declared.lowering.Summit.{Summit}
-use Rattle.bl_proc_base.specs.declared.lowering.Lowering.TheVariants as lowering
-use Rattle.bl_proc_pages.specs.Onwards.{top_of}
+use Rattle.bl_tree.specs.Trees.{is_live, IsLive}
+use Rattle.bl_tree.specs.Trees.Status.{Gone, Anchored}
+use Rattle.bl_tree.proofs.Statuses.{live_live, gone_dead}
+use Rattle.bl_tree_worlds.specs.Worlds.{Know, World, nodes, IsSure, IsGood}
+use Rattle.bl_tree_worlds.proofs.WorldLaws.{all_sound}
+use Rattle.bl_proc_steps.specs.declared.lowering.Summit.{Summit}
+use Rattle.bl_proc_steps.specs.declared.lowering.Lowering.TheVariants as lowering
+use Rattle.bl_proc_routes.specs.Onwards.{top_of}
 use Rattle.bl_proc_compress.specs.declared.compressing.Family.{Family}
 use Rattle.bl_proc_compress.specs.declared.compressing.Compression.TheVariants.{LatchingLeft, LatchingRight}
 use Rattle.bl_proc_compress.proofs.Places.{listed_at}

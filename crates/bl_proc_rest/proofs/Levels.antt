@@ -7,24 +7,24 @@ use Rattle.bl_page.specs.declared.page.Page.{Page}
 use Rattle.bl_page.specs.declared.page.Page.TheVariants.{Anchor, Leaf, Inner, Dead}
 use Rattle.bl_page.specs.Machine.{Name}
 use Rattle.bl_page.specs.Nodes.{roots_of}
-use Rattle.bl_core_tree.specs.Trees.{Status}
-use Rattle.bl_core_tree.specs.Trees.Status.{Fresh, Live, Left, Right, Uprooted, Anchored}
-use Rattle.bl_core.specs.Worlds.{Goes, World, IsSure, IsGood}
-use Rattle.bl_proc_base.specs.declared.acts.Action.TheVariants as act
-use Rattle.bl_proc_base.specs.declared.acts.Seen.{Seen}
-use Rattle.bl_proc_base.specs.declared.acts.Seen.TheVariants as seen
-use Rattle.bl_proc_base.specs.declared.approaching.Approach.{Approach}
-use Rattle.bl_proc_base.specs.declared.approaching.Approach.TheVariants as way
-use Rattle.bl_proc_base.specs.declared.editing.Edit.{Edit}
-use Rattle.bl_proc_base.specs.declared.editing.Edit.TheVariants as edit
-use Rattle.bl_proc_base.specs.declared.growing.Growth.{Growth}
-use Rattle.bl_proc_base.specs.declared.growing.Growth.TheVariants as growth
-use Rattle.bl_proc_base.specs.declared.lowering.Lowering.{Lowering}
-use Rattle.bl_proc_base.specs.declared.lowering.Lowering.TheVariants as lowering
-use Rattle.bl_proc_base.specs.Approaches.{approach_next}
-use Rattle.bl_proc_base.specs.Edits.{edit_next}
-use Rattle.bl_proc_base.specs.Growths.{IsAnchor, growth_next}
-use Rattle.bl_proc_base.specs.Lowerings.{lowering_next}
+use Rattle.bl_tree.specs.Trees.{Status}
+use Rattle.bl_tree.specs.Trees.Status.{Fresh, Live, Left, Right, Uprooted, Anchored}
+use Rattle.bl_tree_worlds.specs.Worlds.{Goes, World, IsSure, IsGood}
+use Rattle.bl_proc_steps.specs.declared.acts.Action.TheVariants as act
+use Rattle.bl_proc_steps.specs.declared.acts.Seen.{Seen}
+use Rattle.bl_proc_steps.specs.declared.acts.Seen.TheVariants as seen
+use Rattle.bl_proc_steps.specs.declared.approaching.Approach.{Approach}
+use Rattle.bl_proc_steps.specs.declared.approaching.Approach.TheVariants as way
+use Rattle.bl_proc_steps.specs.declared.editing.Edit.{Edit}
+use Rattle.bl_proc_steps.specs.declared.editing.Edit.TheVariants as edit
+use Rattle.bl_proc_steps.specs.declared.growing.Growth.{Growth}
+use Rattle.bl_proc_steps.specs.declared.growing.Growth.TheVariants as growth
+use Rattle.bl_proc_steps.specs.declared.lowering.Lowering.{Lowering}
+use Rattle.bl_proc_steps.specs.declared.lowering.Lowering.TheVariants as lowering
+use Rattle.bl_proc_steps.specs.Approaches.{approach_next}
+use Rattle.bl_proc_steps.specs.Edits.{edit_next}
+use Rattle.bl_proc_steps.specs.Growths.{IsAnchor, growth_next}
+use Rattle.bl_proc_steps.specs.Lowerings.{lowering_next}
 use Rattle.bl_rearrange.specs.declared.sides.Side.{Side}
 use Rattle.bl_rearrange.specs.declared.sides.Side.TheVariants as side
 use Rattle.bl_proc_compress.specs.declared.compressing.Puts.{Puts}

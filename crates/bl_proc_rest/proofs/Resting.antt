@@ -2,12 +2,12 @@
 use Rattle.std.proofs.Common.{ℕ, ◌≡◌, ◌≢◌, ◌⊎◌, ◌+◌, ◌*◌, ◌<◌, ◌≤◌, Bool, arith, sym, ◌∙◌, refl, subst, inl, inr}
 use Rattle.bl_page.specs.declared.page.Page.{Page}
 use Rattle.bl_page.specs.Machine.{Name}
-use Rattle.bl_core_tree.specs.Trees.Status.{Gone}
-use Rattle.bl_core.specs.Worlds.{World, IsGood}
+use Rattle.bl_tree.specs.Trees.Status.{Gone}
+use Rattle.bl_tree_worlds.specs.Worlds.{World, IsGood}
 use Rattle.bl_claims.specs.Trails.{marks_of}
-use Rattle.bl_proc_base.specs.declared.acts.Action.TheVariants as act
-use Rattle.bl_proc_base.specs.declared.acts.Seen.{Seen}
-use Rattle.bl_proc_base.specs.declared.acts.Seen.TheVariants as seen
+use Rattle.bl_proc_steps.specs.declared.acts.Action.TheVariants as act
+use Rattle.bl_proc_steps.specs.declared.acts.Seen.{Seen}
+use Rattle.bl_proc_steps.specs.declared.acts.Seen.TheVariants as seen
 use Rattle.bl_proc_compress.specs.declared.compressing.Compression.{Compression}
 use Rattle.bl_proc_compress.specs.declared.compressing.Compression.TheVariants as squeeze
 use Rattle.bl_proc_compress.specs.declared.compressing.Compressed.TheVariants as step
@@ -20,8 +20,8 @@ use Rattle.bl_proc.specs.declared.reclaiming.ReclaimStage.TheVariants as reclaim
 use Rattle.bl_proc.specs.declared.kinds.Proc.{Proc}
 use Rattle.bl_proc.specs.declared.kinds.Proc.TheVariants as proc
 use Rattle.bl_proc.specs.Processes.{next_of, Takes}
-use Rattle.bl_proc_unique.proofs.KindCases.{post_case, climb_case, ReclaimCase, reclaim_case}
-use Rattle.bl_proc_unique.proofs.KindCases.ReclaimCase.{First, NoneThere, NotRetired, Further, NoMore, Blocked, Done, Missed}
+use Rattle.bl_proc_deterministic.proofs.KindCases.{post_case, climb_case, ReclaimCase, reclaim_case}
+use Rattle.bl_proc_deterministic.proofs.KindCases.ReclaimCase.{First, NoneThere, NotRetired, Further, NoMore, Blocked, Done, Missed}
 use Rattle.bl_proc_invariant.specs.Turns.{IsObserved}
 use Rattle.bl_proc_invariant.specs.Logs.{AllLogs}
 use Rattle.bl_proc_invariant.specs.Knowing.{Run, know_of, know}

@@ -1,8 +1,8 @@
 -- A write that posts stands where it may after each turn.
 use Rattle.std.proofs.Common.{ℕ, sym, subst, ◌∙◌, inl, inr}
 use Rattle.bl_model.specs.declared.deciding.KeyWrite.{KeyWrite}
-use Rattle.bl_proc_base.specs.declared.acts.Seen.{Seen}
-use Rattle.bl_proc_base.specs.declared.acts.Seen.TheVariants as seen
+use Rattle.bl_proc_steps.specs.declared.acts.Seen.{Seen}
+use Rattle.bl_proc_steps.specs.declared.acts.Seen.TheVariants as seen
 use Rattle.bl_proc_writes.specs.declared.paths.Path.{Path}
 use Rattle.bl_proc_writes.specs.declared.writing.WriteStage.{WriteStage}
 use Rattle.bl_proc_writes.specs.declared.writing.WriteStage.TheVariants as write

@@ -8,7 +8,7 @@ use crate::paths::Path;
 use crate::posting::{Post, PostReply};
 use crate::writing::{Write, WriteReply};
 use bl_model::KeyWrite;
-use bl_proc_base::Level;
+use bl_proc_steps::Level;
 
 /// A write that leaves its value at the key: only these split a leaf.
 #[derive(Clone, Copy, Debug, PartialEq, Eq)]

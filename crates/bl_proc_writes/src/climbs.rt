@@ -1,9 +1,9 @@
 //! The steps of a write that posts what it splits.
 
 ghost use Rattle.std.specs.Prelude.{◌≡◌, ◌<◌, ◌≤◌, ℕ, Option, None, MatchOption};
-ghost use Rattle.bl_proc_base.specs.declared.acts.Seen.{Seen};
-ghost use Rattle.bl_proc_base.specs.declared.answers.Hint.TheVariants as hint;
-ghost use Rattle.bl_proc_base.specs.Given.{Gives};
+ghost use Rattle.bl_proc_steps.specs.declared.acts.Seen.{Seen};
+ghost use Rattle.bl_proc_steps.specs.declared.answers.Hint.TheVariants as hint;
+ghost use Rattle.bl_proc_steps.specs.Given.{Gives};
 ghost use Rattle.bl_proc_writes.specs.declared.writing.Write.{Write};
 ghost use Rattle.bl_proc_writes.specs.declared.writing.WriteStage.TheVariants as write_stage;
 ghost use Rattle.bl_proc_writes.specs.declared.writing.WriteReply.TheVariants as written;
@@ -22,7 +22,7 @@ use crate::paths::Path;
 use crate::posting::{Post, PostReply, PostStage};
 use crate::writing::{Write, WriteReply, WriteStage, hint_to_post};
 use bl_model::{Reply, decide};
-use bl_proc_base::{Action, Answer, Hint, Level, Posted, Process, Reader, Seen};
+use bl_proc_steps::{Action, Answer, Hint, Level, Posted, Process, Reader, Seen};
 use std::mem;
 
 /// Notes the page from which it goes down, if it does, by what it saw.

@@ -4,7 +4,7 @@ ghost use Rattle.std.specs.Prelude.{◌≡◌, ◌≤◌, ◌<◌};
 ghost use Rattle.bl_proc_writes.specs.Levels.{IsBelowTop, IsBelowTop-prop};
 
 use crate::walking::Walk;
-use bl_proc_base::{Approach, Edit, Growth};
+use bl_proc_steps::{Approach, Edit, Growth};
 
 /// The post of a key to a level: the page whose low the key is, one level lower, is to be listed.
 #[derive(Drop)]

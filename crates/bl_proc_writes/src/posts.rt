@@ -2,11 +2,11 @@
 
 ghost use Rattle.std.specs.Prelude.{◌≡◌, ◌<◌, ◌≤◌, ◌-◌, None};
 ghost use Rattle.bl_page.specs.Pairs.{IsWithin};
-ghost use Rattle.bl_proc_base.specs.declared.approaching.Approach.TheVariants as approach;
-ghost use Rattle.bl_proc_pages.specs.declared.onwards.Step.TheVariants as onward;
+ghost use Rattle.bl_proc_steps.specs.declared.approaching.Approach.TheVariants as approach;
+ghost use Rattle.bl_proc_routes.specs.declared.onwards.Step.TheVariants as onward;
 ghost use Rattle.bl_proc_writes.specs.declared.posting.PostStage.TheVariants as post_stage;
-ghost use Rattle.bl_proc_base.specs.Given.{Gives};
-ghost use Rattle.bl_proc_pages.specs.Onwards.{Leads};
+ghost use Rattle.bl_proc_steps.specs.Given.{Gives};
+ghost use Rattle.bl_proc_routes.specs.Onwards.{Leads};
 ghost use Rattle.bl_proc_writes.specs.Levels.{MayReply};
 ghost use Rattle.bl_proc_writes.specs.Posts.{post_reply, posted_answer, post_next_in, post_needs_in, post_answer_in, PostLacks, PostArrives, PostWalks, PostGoes, post_next, post_needs, post_answer, PostTakes};
 
@@ -14,11 +14,11 @@ use crate::posting::{Post, PostReply, PostStage};
 use crate::walking::Walk;
 use crate::writing::hint_to_post;
 use bl_page::{Inner, Page, Words, listed_with};
-use bl_proc_base::{
+use bl_proc_routes::{Step, low_of, way_from};
+use bl_proc_steps::{
     Action, Answer, Approach, Came, Edit, Edited, Grew, Growth, Level, Outcome, Posted, Process,
     Reader, Seen, entering, took_page,
 };
-use bl_proc_pages::{Step, low_of, way_from};
 use std::mem;
 
 /// What a post answers by what became of its parent.

@@ -4,18 +4,18 @@ use Rattle.atomic_table.specs.Seated.{TableId}
 use Rattle.atomic_table.specs.declared.shared.Seat.{Seat}
 use Rattle.bl_layout.specs.declared.layout.Layout.{Layout}
 use Rattle.bl_layout.specs.Words.{frame_count}
-use Rattle.bl_frames.specs.Frames.{owner_at, state_at, place_at}
-use Rattle.bl_frames.specs.Observed.{draft, KeepsRefusal}
+use Rattle.bl_store_rule.specs.Frames.{owner_at, state_at, place_at}
+use Rattle.bl_store_rule.specs.Observed.{draft, KeepsRefusal}
 use Rattle.bl_store.specs.declared.stock.Stock.{Stock}
 use Rattle.bl_store.specs.declared.stock.NoRoom.{NoRoom}
 use Rattle.bl_store.specs.declared.stock.NoRoom.TheVariants.{Pages, Frames, Clock}
 use Rattle.bl_store.specs.declared.store.Glance.{Glance}
-use Rattle.bl_frames.specs.declared.view.Draft.{Draft}
-use Rattle.bl_frames.specs.declared.view.Dropping.TheVariants.{Empty}
-use Rattle.bl_frames.specs.declared.view.Reading.{Reading}
-use Rattle.bl_frames.specs.declared.view.Reading.TheVariants.{Nowhere, At}
-use Rattle.bl_frames.specs.declared.view.View.{View}
-use Rattle.bl_frames.specs.declared.view.Stamp.TheVariants.{Out, In}
+use Rattle.bl_store_rule.specs.declared.view.Draft.{Draft}
+use Rattle.bl_store_rule.specs.declared.view.Dropping.TheVariants.{Empty}
+use Rattle.bl_store_rule.specs.declared.view.Reading.{Reading}
+use Rattle.bl_store_rule.specs.declared.view.Reading.TheVariants.{Nowhere, At}
+use Rattle.bl_store_rule.specs.declared.view.View.{View}
+use Rattle.bl_store_rule.specs.declared.view.Stamp.TheVariants.{Out, In}
 
 -- the number is in the list
 abbrev pub Has : List ℕ → ℕ → Type 0

@@ -1,15 +1,15 @@
 //! Latches, and the retirement of a page.
 ghost use Rattle.std.specs.Prelude.{◌≡◌, ℕ, ◌+◌, ◌<◌, ◌≤◌, ◌↔◌, List, [], IsTrue};
-ghost use Rattle.bl_frames.specs.Pages.{Owner, Open, Held, Latches, Misses, Probes, Opens, Retires};
+ghost use Rattle.bl_store_rule.specs.Pages.{Owner, Open, Held, Latches, Misses, Probes, Opens, Retires};
 ghost use Rattle.bl_store.specs.Hands.{known, IsOf, IsSameHand, IsSameStage, IsSameStock, IsSameRefusal, MayRetire};
-ghost use Rattle.bl_frames.specs.declared.view.Sealing.TheVariants.{Unsealed, Sealed};
-ghost use Rattle.bl_frames.specs.Frames.{IsLive};
+ghost use Rattle.bl_store_rule.specs.declared.view.Sealing.TheVariants.{Unsealed, Sealed};
+ghost use Rattle.bl_store_rule.specs.Frames.{IsLive};
 
 use crate::store::{Hand, Store};
 use atomic_table::Seat;
-use bl_frames::plays::{Aim, Open, Publish, Seal, Try};
-use bl_frames::{PagePlay, PageRule, TimePlay, View};
 use bl_layout::{held_by, retired_at};
+use bl_store_rule::plays::{Aim, Open, Publish, Seal, Try};
+use bl_store_rule::{PagePlay, PageRule, TimePlay, View};
 use std::alloc::Allocator;
 use std::marker::Brand;
 

@@ -2,19 +2,19 @@
 ghost use Rattle.std.specs.Prelude.{◌≡◌, ℕ, ◌+◌, ◌*◌, ◌-◌, ◌<◌, ◌≤◌, List, [], ◌∷◌, length, slice_index};
 ghost use Rattle.bl_layout.specs.Words.{frame_count};
 ghost use Rattle.bl_store.specs.Drafts.{draft_words, other_drafts, HasDraft, IsSpread};
-ghost use Rattle.bl_frames.specs.Frames.{place_at};
-ghost use Rattle.bl_frames.specs.Pages.{Held, Puts};
+ghost use Rattle.bl_store_rule.specs.Frames.{place_at};
+ghost use Rattle.bl_store_rule.specs.Pages.{Held, Puts};
 ghost use Rattle.bl_store.specs.Hands.{known, read_words, IsSameHand, IsSameReading, IsSameStage, IsQuiet, IsStockOf, HasRetired, ReadsFrom};
-ghost use Rattle.bl_frames.specs.Observed.{draft};
-ghost use Rattle.bl_frames.specs.declared.view.Draft.{Draft};
-ghost use Rattle.bl_frames.specs.declared.view.Dropping.TheVariants.{Dropped};
+ghost use Rattle.bl_store_rule.specs.Observed.{draft};
+ghost use Rattle.bl_store_rule.specs.declared.view.Draft.{Draft};
+ghost use Rattle.bl_store_rule.specs.declared.view.Dropping.TheVariants.{Dropped};
 
 use crate::stock::Stock;
 use crate::store::{Glance, Hand, RING, Store};
 use crate::sweep::LOOKS;
-use bl_frames::plays::{Confirm, Settle, Swap, Tick, Write};
-use bl_frames::{PagePlay, PageRule};
 use bl_layout::retired_at;
+use bl_store_rule::plays::{Confirm, Settle, Swap, Tick, Write};
+use bl_store_rule::{PagePlay, PageRule};
 use std::alloc::Allocator;
 
 /// How the words of a page are to change: they get another first one, and two words enter behind 4 + 2 * place of them.

@@ -1,17 +1,17 @@
 //! Reservations of frames and of a page.
 ghost use Rattle.std.specs.Prelude.{◌≡◌, ◌≢◌, ◌⊎◌, ℕ, ◌+◌, ◌*◌, ◌<◌, ◌≤◌, ◌↔◌, true, false, List, [], ◌∷◌, length, IfOk, IfErr, IfSome, IfNone, IsTrue, Some, None};
 ghost use Rattle.bl_layout.specs.Words.{frame_count};
-ghost use Rattle.bl_frames.specs.Pages.{Released, Takes, Refuses};
-ghost use Rattle.bl_frames.specs.Frames.{owner_at};
-ghost use Rattle.bl_frames.specs.Observed.{wanted};
+ghost use Rattle.bl_store_rule.specs.Pages.{Released, Takes, Refuses};
+ghost use Rattle.bl_store_rule.specs.Frames.{owner_at};
+ghost use Rattle.bl_store_rule.specs.Observed.{wanted};
 ghost use Rattle.bl_store.specs.Hands.{known, IsSameHand, IsSameReading, IsSameStage, IsSameStock, IsQuiet, HasNoStock, IsStockOf, MayRetire, SawTaken, IsTried, IsWhy, WasRefused};
 
 use crate::room::end_near;
 use crate::stock::{NoRoom, Stock};
 use crate::store::{Hand, RING, Store};
-use bl_frames::plays::{Allot, Ask, Note, Refuse, Reserve, Return, Take};
-use bl_frames::{PagePlay, PageRule, TimePlay};
 use bl_layout::held_by;
+use bl_store_rule::plays::{Allot, Ask, Note, Refuse, Reserve, Return, Take};
+use bl_store_rule::{PagePlay, PageRule, TimePlay};
 use std::alloc::Allocator;
 use std::marker::Brand;
 

@@ -1,13 +1,13 @@
 //! Sweeps: pages and frames that no process can read any more are released.
 ghost use Rattle.std.specs.Prelude.{◌≡◌, ◌⊎◌, ℕ, ◌+◌, ◌*◌, ◌/◌, ◌%◌, ◌^◌, ◌<◌, ◌≤◌, true, false, List, length};
 ghost use Rattle.bl_layout.specs.Words.{frame_count};
-ghost use Rattle.bl_frames.specs.Pages.{Releases, ReleasesMany};
+ghost use Rattle.bl_store_rule.specs.Pages.{Releases, ReleasesMany};
 ghost use Rattle.bl_store.specs.Hands.{known, IsSameHand, IsSameReading, IsSameStage, IsSameStock};
-ghost use Rattle.bl_frames.specs.declared.view.Sweep.TheVariants.{Over};
+ghost use Rattle.bl_store_rule.specs.declared.view.Sweep.TheVariants.{Over};
 
 use crate::store::{Hand, RING, Store};
-use bl_frames::plays::{Free, Horizon, Pass, Release};
-use bl_frames::{PageRule, SweepPlay};
+use bl_store_rule::plays::{Free, Horizon, Pass, Release};
+use bl_store_rule::{PageRule, SweepPlay};
 use std::alloc::Allocator;
 
 /// How many owner words a sweep looks at, or all where there are fewer.

@@ -4,10 +4,10 @@ use Rattle.std.proofs.lemmas.Option.{slice_get_within}
 use Rattle.bl_model.specs.declared.deciding.KeyWrite.{KeyWrite}
 use Rattle.bl_page.specs.declared.page.Page.{Page}
 use Rattle.bl_page.specs.Machine.{Name}
-use Rattle.bl_core.proofs.After.{put_name, is_put_name}
-use Rattle.bl_core.specs.Blank.{IsBlank}
-use Rattle.bl_core.specs.Worlds.{Goes}
-use Rattle.bl_proc_base.specs.declared.acts.Action.TheVariants as act
+use Rattle.bl_tree_worlds.proofs.After.{put_name, is_put_name}
+use Rattle.bl_tree_worlds.specs.Blank.{IsBlank}
+use Rattle.bl_tree_worlds.specs.Worlds.{Goes}
+use Rattle.bl_proc_steps.specs.declared.acts.Action.TheVariants as act
 use Rattle.bl_proc.specs.declared.searching.FindStage.{FindStage}
 use Rattle.bl_proc.specs.declared.searching.FindStage.TheVariants as find
 use Rattle.bl_proc.specs.declared.parts.PartStage.{PartStage}

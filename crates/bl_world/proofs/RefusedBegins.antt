@@ -1,6 +1,6 @@
 -- A process that is to begin does not go on without room.
 use Rattle.std.proofs.Common.{ℕ, ◌≡◌}
-use Rattle.bl_proc_base.specs.declared.acts.Action.TheVariants as act
+use Rattle.bl_proc_steps.specs.declared.acts.Action.TheVariants as act
 use Rattle.bl_proc_writes.specs.declared.writing.WriteStage.{WriteStage}
 use Rattle.bl_proc_writes.specs.declared.writing.WriteStage.TheVariants as write
 use Rattle.bl_proc_writes.specs.declared.posting.PostStage.{PostStage}
@@ -19,7 +19,7 @@ use Rattle.bl_proc.specs.Lowers.{lower_next_in}
 use Rattle.bl_proc_writes.specs.declared.climbing.ClimbStage.{ClimbStage}
 use Rattle.bl_proc_writes.specs.declared.climbing.ClimbStage.TheVariants as climb
 use Rattle.bl_proc_writes.specs.Climbs.{climb_next_in}
-use Rattle.bl_proc_unique.specs.Refusals.{WriteRefused, PostRefused, CompressRefused, LowerRefused, ClimbRefused, IsRefused}
+use Rattle.bl_proc_deterministic.specs.Refusals.{WriteRefused, PostRefused, CompressRefused, LowerRefused, ClimbRefused, IsRefused}
 use Rattle.bl_world.proofs.Begins.{edit_begins, growth_begins, squeeze_begins, lowering_begins}
 
 -- A process that is to begin was not refused.

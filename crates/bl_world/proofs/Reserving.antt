@@ -1,14 +1,14 @@
 -- A process reserves only for a take, or for a put.
 use Rattle.std.proofs.Common.{IsSome}
 use Rattle.std.proofs.lemmas.Bool.{false≢true}
-use Rattle.bl_proc_base.specs.declared.acts.Action.{Action}
-use Rattle.bl_proc_base.specs.declared.acts.Action.TheVariants as act
-use Rattle.bl_proc_base.specs.declared.editing.Edit.{Edit}
-use Rattle.bl_proc_base.specs.declared.editing.Edit.TheVariants as edit
-use Rattle.bl_proc_base.specs.declared.growing.Growth.{Growth}
-use Rattle.bl_proc_base.specs.declared.growing.Growth.TheVariants as growth
-use Rattle.bl_proc_base.specs.Edits.{edit_next, edit_needs}
-use Rattle.bl_proc_base.specs.Growths.{growth_next, growth_needs}
+use Rattle.bl_proc_steps.specs.declared.acts.Action.{Action}
+use Rattle.bl_proc_steps.specs.declared.acts.Action.TheVariants as act
+use Rattle.bl_proc_steps.specs.declared.editing.Edit.{Edit}
+use Rattle.bl_proc_steps.specs.declared.editing.Edit.TheVariants as edit
+use Rattle.bl_proc_steps.specs.declared.growing.Growth.{Growth}
+use Rattle.bl_proc_steps.specs.declared.growing.Growth.TheVariants as growth
+use Rattle.bl_proc_steps.specs.Edits.{edit_next, edit_needs}
+use Rattle.bl_proc_steps.specs.Growths.{growth_next, growth_needs}
 use Rattle.bl_proc_compress.specs.Compressions.{put_of, compression_next, compression_needs}
 use Rattle.bl_proc_writes.specs.declared.writing.WriteStage.{WriteStage}
 use Rattle.bl_proc_writes.specs.declared.writing.WriteStage.TheVariants as write
@@ -22,8 +22,8 @@ use Rattle.bl_proc_compress.specs.declared.compressing.Compression.TheVariants.{
 use Rattle.bl_proc_compress.specs.declared.squeezing.CompressStage.{CompressStage}
 use Rattle.bl_proc_compress.specs.declared.squeezing.CompressStage.TheVariants as compress
 use Rattle.bl_proc.specs.declared.kinds.Proc.{Proc}
-use Rattle.bl_proc_base.specs.declared.lowering.Lowering.{Lowering}
-use Rattle.bl_proc_base.specs.declared.lowering.Lowering.TheVariants as lowering
+use Rattle.bl_proc_steps.specs.declared.lowering.Lowering.{Lowering}
+use Rattle.bl_proc_steps.specs.declared.lowering.Lowering.TheVariants as lowering
 use Rattle.bl_proc.specs.declared.lowering.LowerStage.{LowerStage}
 use Rattle.bl_proc.specs.declared.lowering.LowerStage.TheVariants as lower
 use Rattle.bl_proc.specs.declared.kinds.Proc.TheVariants as proc
@@ -31,7 +31,7 @@ use Rattle.bl_proc.specs.Processes.{next_of, needs_of}
 use Rattle.bl_proc_writes.specs.Writes.{write_next_in, write_needs_in}
 use Rattle.bl_proc_writes.specs.Posts.{post_next_in, post_needs_in}
 use Rattle.bl_proc_compress.specs.Compresses.{compress_next_in, compress_needs_in}
-use Rattle.bl_proc_base.specs.Lowerings.{lowering_next, lowering_needs}
+use Rattle.bl_proc_steps.specs.Lowerings.{lowering_next, lowering_needs}
 use Rattle.bl_proc_writes.specs.declared.climbing.ClimbStage.{ClimbStage}
 use Rattle.bl_proc_writes.specs.declared.climbing.ClimbStage.TheVariants as climb
 use Rattle.bl_proc_writes.specs.Climbs.{climb_next_in, climb_needs_in}

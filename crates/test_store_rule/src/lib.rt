@@ -10,11 +10,11 @@ ghost use lib.ListN.{get_elem?};
 ghost use Rattle.bl_store.specs.Opening.{IsDealt};
 ghost use Rattle.bl_store.specs.Closing.{HasEach};
 ghost use Rattle.bl_store.specs.Hands.{known, IsOf, IsIdle, IsRunning, IsSameHand, IsSameStage, IsSameStock, HasNoStock, HasSeen, IsStockOf, MayRetire};
-ghost use Rattle.bl_frames.specs.Pages.{Pages};
+ghost use Rattle.bl_store_rule.specs.Pages.{Pages};
 ghost use Rattle.test_store_rule.specs.Holding.{AllSame, Fits, IsApart, IsFresh, holding, same_apart, same_at_time, saw, took, tried, lost, lost_at_time, same_after};
 
-use bl_frames::{MeetPlay, PagePlay, PageRule, SweepPlay, TimePlay};
 use bl_store::{Glance, Hand, NoRoom, Stock, Store};
+use bl_store_rule::{MeetPlay, PagePlay, PageRule, SweepPlay, TimePlay};
 use std::alloc::{AllocError, Global};
 
 /// What a hand knows: the page that it holds.

@@ -1,9 +1,9 @@
 use Rattle.std.proofs.Common.{rules, refl, ap, ◌∙◌}
-use Rattle.bl_proc_base.specs.declared.acts.Seen.TheVariants as seen
+use Rattle.bl_proc_steps.specs.declared.acts.Seen.TheVariants as seen
 use Rattle.bl_proc_compress.specs.declared.compressing.Compression.TheVariants.{OpeningLeft, OpeningParent}
 use Rattle.bl_proc.specs.Processes.{next_of}
-use Rattle.bl_index_steps.proofs.Rooms.{refused_on}
-use Rattle.bl_index_steps.proofs.Standing.{on_goes, on_itself, same_all, same_goes}
+use Rattle.bl_index_events.proofs.Rooms.{refused_on}
+use Rattle.bl_index_events.proofs.Standing.{on_goes, on_itself, same_all, same_goes}
 use Rattle.bl_index_compress.proofs.Presses.{opens_parent, press_course, press_on, refused_answer, same_hands}
 use Rattle.bl_index_compress.proofs.children.compress_two.Goals as goal
 

@@ -2,15 +2,15 @@ use Rattle.std.proofs.Common.{rules, ◌<◌, refl, sym, ap, ◌∙◌, inl, inr
 use Rattle.std.specs.Prelude.{◌⊎◌}
 use Rattle.std.proofs.lemmas.Bool.{false≢true}
 use Rattle.bl_rearrange.specs.Neighbours.{AreNeighbours, together}
-use Rattle.bl_proc_base.specs.declared.acts.Action.TheVariants as act
-use Rattle.bl_proc_base.specs.declared.acts.Seen.TheVariants as seen
-use Rattle.bl_proc_pages.proofs.Spellings.{pairs_counted}
+use Rattle.bl_proc_steps.specs.declared.acts.Action.TheVariants as act
+use Rattle.bl_proc_steps.specs.declared.acts.Seen.TheVariants as seen
+use Rattle.bl_proc_routes.proofs.Spellings.{pairs_counted}
 use Rattle.bl_proc_compress.specs.declared.compressing.Compression.TheVariants.{LatchedRight, OpeningRight}
 use Rattle.bl_proc_compress.specs.declared.compressing.Decision.TheVariants.{Enough, Lost}
 use Rattle.bl_proc_compress.specs.declared.compressing.Siblings.{Siblings}
 use Rattle.bl_proc_compress.specs.Compressions.{IsFew}
 use Rattle.bl_proc.specs.Processes.{next_of}
-use Rattle.bl_index_steps.proofs.Standing.{on_after, same_goes}
+use Rattle.bl_index_events.proofs.Standing.{on_after, same_goes}
 use Rattle.bl_index_compress.proofs.Presses.{decided_since, has_both, on_opening, press_course}
 use Rattle.bl_index_compress.proofs.Spelled.{neighbours_tree}
 use Rattle.bl_index_compress.proofs.children.decide.Goals as goal

@@ -4,7 +4,7 @@ use Rattle.bl_proc_compress.specs.declared.compressing.Compression.{Compression}
 use Rattle.bl_proc_compress.specs.declared.compressing.Decision.TheVariants.{Lost, Refused}
 use Rattle.bl_proc_compress.specs.declared.compressing.Siblings.{Siblings}
 use Rattle.bl_store.specs.Hands.{known}
-use Rattle.bl_index_steps.specs.Runs.{IsOn}
+use Rattle.bl_index_events.specs.Runs.{IsOn}
 use Rattle.bl_index_compress.specs.Squeezes.{pressing}
 use Rattle.bl_index_compress.specs.Shares.{IsRelisted}
 use Rattle.bl_index_compress.proofs.Presses.{decided_since, on_opening}

@@ -1,6 +1,6 @@
 use Rattle.std.proofs.Common.{rules, ℕ, ◌≡◌, refl, sym, ap, ◌∙◌, subst, inl, arith}
 use Rattle.bl_page.specs.declared.page.Page.TheVariants.{Inner}
-use Rattle.bl_proc_base.specs.declared.acts.Seen.TheVariants as seen
+use Rattle.bl_proc_steps.specs.declared.acts.Seen.TheVariants as seen
 use Rattle.bl_proc_compress.specs.declared.compressing.Compression.{Compression}
 use Rattle.bl_proc_compress.specs.declared.compressing.Compression.TheVariants.{PuttingFirst, Retiring, OpeningRight, OpeningLeft}
 use Rattle.bl_proc_compress.specs.declared.compressing.Decision.TheVariants.{Merged, Refused}
@@ -8,8 +8,8 @@ use Rattle.bl_proc_compress.specs.declared.compressing.Siblings.{Siblings}
 use Rattle.bl_proc_compress.specs.Compressions.{IsBuried, merge_hint}
 use Rattle.bl_proc.specs.Processes.{next_of}
 use Rattle.bl_store.specs.Hands.{known}
-use Rattle.bl_index_steps.specs.Runs.{IsOn}
-use Rattle.bl_index_steps.proofs.Standing.{on_itself, same_all, same_goes}
+use Rattle.bl_index_events.specs.Runs.{IsOn}
+use Rattle.bl_index_events.proofs.Standing.{on_itself, same_all, same_goes}
 use Rattle.bl_index_compress.specs.Squeezes.{pressing}
 use Rattle.bl_index_compress.proofs.Presses.{decided_since, press_course, press_on}
 use Rattle.bl_index_compress.proofs.Puts.{lists_key, merges_some, merge_puts, merge_next, merge_pages}

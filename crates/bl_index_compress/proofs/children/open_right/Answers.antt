@@ -1,9 +1,9 @@
 use Rattle.std.proofs.Common.{rules, refl, ap, ◌∙◌}
-use Rattle.bl_proc_base.specs.declared.acts.Seen.TheVariants as seen
+use Rattle.bl_proc_steps.specs.declared.acts.Seen.TheVariants as seen
 use Rattle.bl_proc_compress.specs.declared.compressing.Compression.TheVariants.{OpeningRight, OpeningLeft}
 use Rattle.bl_proc.specs.Processes.{next_of}
-use Rattle.bl_index_steps.proofs.Rooms.{refused_on}
-use Rattle.bl_index_steps.proofs.Standing.{on_itself, same_goes}
+use Rattle.bl_index_events.proofs.Rooms.{refused_on}
+use Rattle.bl_index_events.proofs.Standing.{on_itself, same_goes}
 use Rattle.bl_index_compress.proofs.Presses.{press_course, press_on}
 use Rattle.bl_index_compress.proofs.children.open_right.Goals as goal
 

@@ -1,6 +1,6 @@
 use Rattle.bl_proc_compress.specs.declared.squeezing.CompressStage.TheVariants as stages
 use Rattle.bl_store.specs.Hands.{known, IsSameHand, HasNoStock}
-use Rattle.bl_index_steps.specs.Runs.{Runs, IsSameProcess}
+use Rattle.bl_index_events.specs.Runs.{Runs, IsSameProcess}
 use Rattle.bl_index_ways.specs.Events.{HoldsNone}
 use Rattle.bl_index_compress.specs.Squeezes.{squeezing}
 use Rattle.bl_index_compress.proofs.compressing.compress_until.Given as goal

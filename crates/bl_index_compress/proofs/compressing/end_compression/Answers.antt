@@ -1,7 +1,7 @@
 use Rattle.std.proofs.Common.{true, Some, ap, ◌∙◌}
 use Rattle.bl_proc_compress.specs.declared.squeezing.CompressStage.TheVariants as stages
-use Rattle.bl_proc_unique.specs.Frames.{op_of, work_of}
-use Rattle.bl_index_steps.proofs.Rooms.{refused_on}
+use Rattle.bl_proc_deterministic.specs.Frames.{op_of, work_of}
+use Rattle.bl_index_events.proofs.Rooms.{refused_on}
 use Rattle.bl_index_compress.specs.Squeezes.{squeezing}
 use Rattle.bl_index_compress.proofs.Presses.{ends_compression}
 use Rattle.bl_index_compress.proofs.compressing.end_compression.Goals as goal

@@ -1,13 +1,13 @@
 use Rattle.std.proofs.Common.{rules, ◌<◌, ◌≤◌, refl, sym, ap, ◌∙◌, subst, arith}
 use Rattle.bl_page.specs.Nodes.{roots_of}
-use Rattle.bl_proc_base.specs.declared.approaching.Came.TheVariants as descend
+use Rattle.bl_proc_steps.specs.declared.approaching.Came.TheVariants as descend
 use Rattle.bl_proc_compress.specs.declared.squeezing.CompressReply.TheVariants as reply
 use Rattle.bl_proc_compress.specs.declared.squeezing.CompressStage.TheVariants as stages
 use Rattle.bl_store.specs.Hands.{known, read_words}
 use Rattle.bl_store.specs.declared.store.Hand.{Hand}
 use Rattle.bl_index_rule.specs.declared.known.PassState.{PassState}
-use Rattle.bl_index_steps.specs.Runs.{IsOn}
-use Rattle.bl_index_steps.proofs.Standing.{on_as}
+use Rattle.bl_index_events.specs.Runs.{IsOn}
+use Rattle.bl_index_events.proofs.Standing.{on_as}
 use Rattle.bl_index_compress.specs.Squeezes.{squeezing}
 use Rattle.bl_index_compress.proofs.Arrives.{from_anchor}
 use Rattle.bl_index_compress.proofs.compressing.way_from_anchor.Goals as goal

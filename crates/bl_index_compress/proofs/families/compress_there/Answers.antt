@@ -2,18 +2,18 @@ use Rattle.std.proofs.Common.{rules, ◌<◌, ◌≤◌, length, refl, sym, ap, 
 use Rattle.bl_page.specs.declared.page.Page.TheVariants.{Inner}
 use Rattle.bl_page.specs.declared.page.Inner.{Inner as InnerIs}
 use Rattle.bl_page.specs.Words.{words_of}
-use Rattle.bl_proc_base.specs.declared.acts.Seen.TheVariants as seen
-use Rattle.bl_proc_pages.proofs.Spellings.{pairs_counted}
+use Rattle.bl_proc_steps.specs.declared.acts.Seen.TheVariants as seen
+use Rattle.bl_proc_routes.proofs.Spellings.{pairs_counted}
 use Rattle.bl_proc_compress.specs.declared.compressing.Compression.TheVariants.{LatchingLeft}
 use Rattle.bl_proc_compress.specs.declared.squeezing.CompressReply.TheVariants as reply
 use Rattle.bl_proc_compress.specs.declared.squeezing.CompressStage.TheVariants as stages
 use Rattle.bl_proc.specs.Processes.{next_of}
-use Rattle.bl_proc_unique.proofs.Families.{family_some}
+use Rattle.bl_proc_deterministic.proofs.Families.{family_some}
 use Rattle.bl_store.specs.Hands.{known, IsSameHand}
 use Rattle.bl_store.specs.declared.store.Hand.{Hand}
 use Rattle.bl_index_rule.specs.declared.known.PassState.{PassState}
-use Rattle.bl_index_steps.specs.Runs.{IsOn, IsSameProcess}
-use Rattle.bl_index_steps.proofs.Standing.{on_as, on_goes, same_goes}
+use Rattle.bl_index_events.specs.Runs.{IsOn, IsSameProcess}
+use Rattle.bl_index_events.proofs.Standing.{on_as, on_goes, same_goes}
 use Rattle.bl_index_compress.specs.Squeezes.{squeezing}
 use Rattle.bl_index_compress.proofs.Arrives.{has_parent}
 use Rattle.bl_index_compress.proofs.Presses.{alone_has_room, same_hands, stage_course}

@@ -1,5 +1,5 @@
 use Rattle.bl_store.specs.Hands.{known, IsSameHand, IsSameStage, IsSameStock}
-use Rattle.bl_index_steps.specs.Runs.{IsOn, IsSameProcess}
+use Rattle.bl_index_events.specs.Runs.{IsOn, IsSameProcess}
 use Rattle.bl_index_ways.specs.Events.{HoldsNone}
 use Rattle.bl_index_ways.proofs.coming.come_from.Given as goal
 

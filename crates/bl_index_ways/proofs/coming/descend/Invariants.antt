@@ -1,6 +1,6 @@
-use Rattle.bl_proc_base.specs.declared.approaching.Approach.TheVariants as approach
+use Rattle.bl_proc_steps.specs.declared.approaching.Approach.TheVariants as approach
 use Rattle.bl_store.specs.Hands.{known, IsSameHand, IsSameStage, IsSameStock}
-use Rattle.bl_index_steps.specs.Runs.{IsOn, IsSameProcess}
+use Rattle.bl_index_events.specs.Runs.{IsOn, IsSameProcess}
 use Rattle.bl_index_ways.proofs.coming.descend.Given as goal
 
 abbrev pub invariant-loop : goal.invariant-loop

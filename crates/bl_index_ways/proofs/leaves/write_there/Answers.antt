@@ -3,11 +3,11 @@ use Rattle.bl_model.specs.declared.deciding.Decided.{Decided}
 use Rattle.bl_model.specs.Rows.{map_of}
 use Rattle.bl_model.specs.Writes.{effect_of}
 use Rattle.bl_page.specs.Faults.{HasPairs, pairs_of}
-use Rattle.bl_proc_pages.proofs.Spellings.{tree_pairs}
+use Rattle.bl_proc_routes.proofs.Spellings.{tree_pairs}
 use Rattle.bl_store.specs.Hands.{known, read_words, IsSameHand}
 use Rattle.bl_store.specs.declared.store.Hand.{Hand}
 use Rattle.bl_index_rule.specs.declared.known.PassState.{PassState}
-use Rattle.bl_index_steps.specs.Runs.{IsSameProcess}
+use Rattle.bl_index_events.specs.Runs.{IsSameProcess}
 use Rattle.bl_index_ways.specs.declared.writers.Left.TheVariants.{Kept, Refused}
 use Rattle.bl_index_ways.proofs.Written.{at_leaf, entering_none, stands_keeping, opens_kept}
 use Rattle.bl_index_ways.proofs.leaves.write_there.Goals as goal

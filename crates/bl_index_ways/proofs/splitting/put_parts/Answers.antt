@@ -1,13 +1,13 @@
 use Rattle.std.proofs.Common.{rules, ◌≡◌, ℕ, ◌-◌, List, refl, sym, ap, ◌∙◌, get_or, arith}
 use Rattle.bl_page.specs.Words.{layout}
 use Rattle.bl_index_ways.proofs.Splits.{upper_part}
-use Rattle.bl_proc_base.specs.declared.acts.Seen.TheVariants as seen
-use Rattle.bl_proc_base.specs.declared.editing.Splitting.{Splitting}
-use Rattle.bl_proc_base.specs.declared.editing.Edit.TheVariants as edit
-use Rattle.bl_proc_base.specs.declared.editing.Outcome.TheVariants as outcome
+use Rattle.bl_proc_steps.specs.declared.acts.Seen.TheVariants as seen
+use Rattle.bl_proc_steps.specs.declared.editing.Splitting.{Splitting}
+use Rattle.bl_proc_steps.specs.declared.editing.Edit.TheVariants as edit
+use Rattle.bl_proc_steps.specs.declared.editing.Outcome.TheVariants as outcome
 use Rattle.bl_proc.specs.Processes.{next_of}
 use Rattle.bl_store.specs.Hands.{drafts}
-use Rattle.bl_index_steps.proofs.Standing.{on_itself, on_goes, same_goes, same_all, course_at}
+use Rattle.bl_index_events.proofs.Standing.{on_itself, on_goes, same_goes, same_all, course_at}
 use Rattle.bl_index_ways.proofs.splitting.put_parts.Goals as goal
 
 pub put_reserved-requires-clause-runs : goal.put_reserved-requires-clause-runs

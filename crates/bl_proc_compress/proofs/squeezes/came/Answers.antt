@@ -1,7 +1,7 @@
 use Rattle.std.proofs.Common.{refl}
 use Rattle.bl_page.specs.declared.page.Page.TheVariants.{Inner}
-use Rattle.bl_proc_base.specs.declared.approaching.Came.TheVariants.{NoLevel, On, ToParent}
-use Rattle.bl_proc_base.proofs.Ways.{here_leads}
+use Rattle.bl_proc_steps.specs.declared.approaching.Came.TheVariants.{NoLevel, On, ToParent}
+use Rattle.bl_proc_steps.proofs.Ways.{here_leads}
 use Rattle.bl_proc_compress.proofs.squeezes.came.Goals as goal
 
 pub arrived-requires : goal.arrived-requires

@@ -1,5 +1,5 @@
 use Rattle.std.proofs.Common.{refl, sym, subst}
-use Rattle.bl_proc_pages.specs.declared.onwards.Step.TheVariants.{Right}
+use Rattle.bl_proc_routes.specs.declared.onwards.Step.TheVariants.{Right}
 use Rattle.bl_proc_writes.specs.Posts.{PostWalks}
 use Rattle.bl_proc_writes.proofs.posts.walk_on.Goals as goal
 

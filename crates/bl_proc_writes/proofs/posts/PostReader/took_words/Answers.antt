@@ -1,9 +1,9 @@
 use Rattle.std.proofs.Common.{refl, sym, ap, subst, ◌∙◌}
-use Rattle.bl_proc_base.specs.declared.acts.Seen.TheVariants as seen
-use Rattle.bl_proc_base.specs.declared.approaching.Approach.TheVariants.{At}
-use Rattle.bl_proc_base.specs.declared.approaching.Approached.TheVariants as came
-use Rattle.bl_proc_base.specs.declared.approaching.Came.TheVariants as come
-use Rattle.bl_proc_base.specs.Approaches.{Approaches}
+use Rattle.bl_proc_steps.specs.declared.acts.Seen.TheVariants as seen
+use Rattle.bl_proc_steps.specs.declared.approaching.Approach.TheVariants.{At}
+use Rattle.bl_proc_steps.specs.declared.approaching.Approached.TheVariants as came
+use Rattle.bl_proc_steps.specs.declared.approaching.Came.TheVariants as come
+use Rattle.bl_proc_steps.specs.Approaches.{Approaches}
 use Rattle.bl_proc_writes.specs.declared.posting.PostStage.TheVariants.{Coming}
 use Rattle.bl_proc_writes.specs.Posts.{PostGoes}
 use Rattle.bl_proc_writes.proofs.posts.PostReader.took_words.Goals as goal

@@ -1,6 +1,6 @@
 use Rattle.std.proofs.Common.{◌≡◌, ◌≤◌}
 use Rattle.bl_store.specs.Hands.{IsSameHand, IsSameReading, IsSameStage, IsSameStock, known}
-use Rattle.bl_frames.specs.declared.view.Sweep.TheVariants.{Over}
+use Rattle.bl_store_rule.specs.declared.view.Sweep.TheVariants.{Over}
 use Rattle.bl_store.proofs.store.Store.recycle.Given as goal
 
 abbrev pub invariant-loop-i : goal.invariant-loop-i

@@ -1,6 +1,6 @@
 use Rattle.std.proofs.Common.{◌≡◌, ℕ, ◌+◌, ◌≤◌, length}
 use Rattle.bl_store.specs.Hands.{IsSameHand, IsSameStage, IsSameStock, known}
-use Rattle.bl_frames.specs.declared.view.Sweep.TheVariants.{Over}
+use Rattle.bl_store_rule.specs.declared.view.Sweep.TheVariants.{Over}
 use Rattle.bl_store.proofs.store.Store.sweep.Given as goal
 
 abbrev pub invariant-loop-i : goal.invariant-loop-i

@@ -1,5 +1,5 @@
 use Rattle.std.proofs.Common.{◌≡◌, ℕ, ◌≤◌, ◌<◌}
-use Rattle.bl_frames.specs.Frames.{owner_at}
+use Rattle.bl_store_rule.specs.Frames.{owner_at}
 use Rattle.bl_store.specs.Hands.{IsSameHand, IsSameStage, IsSameStock, SawTaken, known}
 use Rattle.bl_store.proofs.store.Store.take_from.Given as goal
 
