@@ -8,7 +8,7 @@ use Rattle.bl_claims.specs.Meanings.{MeansDone}
 use Rattle.bl_proc_steps.specs.declared.answers.Hint.{Hint}
 use Rattle.bl_proc_steps.specs.declared.answers.Hint.TheVariants as hint
 use Rattle.bl_proc_steps.specs.declared.answers.Posted.{Posted}
-use Rattle.bl_proc_writes.specs.Climbs.{left_hint}
+use Rattle.bl_proc_writes.specs.InsertPosts.{left_hint}
 use Rattle.bl_claims.specs.Hinted.{MeansWritten}
 use Rattle.bl_claims.specs.Answers.{MeansPosted}
 

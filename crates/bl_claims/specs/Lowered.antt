@@ -12,7 +12,7 @@ use Rattle.bl_claims.specs.Trails.{Mark, Trail}
 use Rattle.bl_claims.specs.Meanings.{HasGot}
 use Rattle.bl_proc_steps.specs.declared.lowering.Lowered.{Lowered}
 use Rattle.bl_proc_steps.specs.declared.lowering.Lowered.TheVariants as lowered
-use Rattle.bl_proc_routes.specs.Onwards.{top_of}
+use Rattle.bl_proc_routes.specs.Routes.{top_of}
 use Rattle.bl_proc_steps.specs.Lowerings.{IsSole, IsFallen}
 use Rattle.bl_proc_steps.specs.Growths.{IsAnchor}
 use Rattle.bl_claims.specs.Squeezed.{Since, Once, HasNoLevel}

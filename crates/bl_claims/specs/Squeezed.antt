@@ -22,8 +22,8 @@ use Rattle.bl_proc_steps.specs.declared.answers.Hint.{Hint}
 use Rattle.bl_proc_steps.specs.declared.answers.Hint.TheVariants as post
 use Rattle.bl_proc_steps.specs.declared.answers.Squeezed.{Squeezed}
 use Rattle.bl_proc_steps.specs.declared.answers.Squeezed.TheVariants as squeezed
-use Rattle.bl_proc_compress.specs.declared.compressing.Siblings.{Siblings}
-use Rattle.bl_proc_compress.specs.declared.compressing.Family.{Family}
+use Rattle.bl_proc_compress.specs.declared.compression.Siblings.{Siblings}
+use Rattle.bl_proc_compress.specs.declared.compression.Family.{Family}
 
 -- what was done, in its order; what was missed is left out
 abbrev pub acts_in : Act Page Reply → List (Act Page Reply)

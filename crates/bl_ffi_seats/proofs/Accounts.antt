@@ -14,9 +14,9 @@ use Rattle.bl_proc_steps.specs.declared.answers.Answer.TheVariants as answers
 use Rattle.bl_proc_steps.specs.declared.answers.Hint.{Hint}
 use Rattle.bl_proc.specs.declared.kinds.Proc.{Proc}
 use Rattle.bl_proc.specs.declared.kinds.Proc.TheVariants as proc
-use Rattle.bl_proc_writes.specs.declared.posting.Post.{Post}
+use Rattle.bl_proc_writes.specs.declared.post.Post.{Post}
 use Rattle.bl_proc.specs.declared.lowering.Lower.{Lower}
-use Rattle.bl_proc_compress.specs.declared.squeezing.Compress.{Compress}
+use Rattle.bl_proc_compress.specs.declared.compress.Compress.{Compress}
 use Rattle.bl_proc_writes.specs.declared.writing.Write.{Write}
 use Rattle.bl_proc_writes.specs.declared.writing.WriteStage.{WriteStage}
 use Rattle.bl_proc_writes.specs.declared.writing.WriteStage.TheVariants as write

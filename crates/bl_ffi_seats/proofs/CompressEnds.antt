@@ -5,12 +5,12 @@ use Rattle.bl_proc_steps.specs.declared.acts.Action.TheVariants as act
 use Rattle.bl_proc_steps.specs.declared.acts.Seen.TheVariants as seen
 use Rattle.bl_proc_steps.specs.declared.answers.Answer.{Answer}
 use Rattle.bl_proc_steps.specs.declared.answers.Answer.TheVariants.{Op, Post, Compress as Compressed, Reclaim, Lower, InsertPost}
-use Rattle.bl_proc_compress.specs.declared.compressing.Compression.{Compression}
-use Rattle.bl_proc_compress.specs.declared.compressing.Compression.TheVariants.{LatchingLeft, LatchedLeft, LatchingRight, LatchedRight, PuttingFirst, PuttingParent, PuttingLast, Retiring, OpeningRight, OpeningLeft, OpeningParent}
-use Rattle.bl_proc_compress.specs.declared.squeezing.Compress.{Compress}
-use Rattle.bl_proc_compress.specs.declared.squeezing.CompressReply.TheVariants as reply
-use Rattle.bl_proc_compress.specs.declared.squeezing.CompressStage.{CompressStage}
-use Rattle.bl_proc_compress.specs.declared.squeezing.CompressStage.TheVariants as compress
+use Rattle.bl_proc_compress.specs.declared.compression.Compression.{Compression}
+use Rattle.bl_proc_compress.specs.declared.compression.Compression.TheVariants.{LatchingLeft, LatchedLeft, LatchingRight, LatchedRight, PuttingFirst, PuttingParent, PuttingLast, Retiring, OpeningRight, OpeningLeft, OpeningParent}
+use Rattle.bl_proc_compress.specs.declared.compress.Compress.{Compress}
+use Rattle.bl_proc_compress.specs.declared.compress.CompressReply.TheVariants as reply
+use Rattle.bl_proc_compress.specs.declared.compress.CompressStage.{CompressStage}
+use Rattle.bl_proc_compress.specs.declared.compress.CompressStage.TheVariants as compress
 use Rattle.bl_proc_compress.specs.Compressions.{put_of, other, compression_next}
 use Rattle.bl_proc_compress.specs.Compresses.{compress_next_in, compress_answer_in, compress_answer, CompressGoes}
 use Rattle.bl_proc.specs.declared.kinds.Proc.{Proc}

@@ -15,7 +15,7 @@ use Rattle.bl_index_events.specs.Answered.{InCall}
 use Rattle.bl_index_events.proofs.Ends.{answered_by, in_call_by, climb_says}
 use Rattle.bl_index_write.specs.Climbing.{HasClimbed}
 use Rattle.bl_index.specs.Calls.{Climbs}
-use Rattle.bl_proc_writes.specs.declared.climbing.Placing.{Placing}
+use Rattle.bl_proc_writes.specs.declared.insert_post.Placing.{Placing}
 use Rattle.bl_proc_writes.specs.Placings.{write_of}
 
 module _ (from : List (Option Page)) (pass : ℕ) (old e : PassState) (key : ℕ) (placing : Placing) (said : Reply) (last : Option Posted) (left : Option Hint) (h : HasClimbed pass old e key placing said last left) (begins : old.first ≡ from) where

@@ -6,12 +6,12 @@ use Rattle.bl_page.specs.declared.page.Inner.{Inner}
 use Rattle.bl_page.specs.Pairs.{IsWithin}
 use Rattle.bl_page.specs.Words.{words_of}
 use Rattle.bl_proc_steps.specs.declared.acts.Seen.TheVariants as seen
-use Rattle.bl_proc_steps.specs.declared.approaching.Approach.TheVariants.{Start, Latched}
-use Rattle.bl_proc_steps.specs.declared.approaching.Came.TheVariants as come
-use Rattle.bl_proc_routes.specs.declared.onwards.Step.TheVariants.{Here}
-use Rattle.bl_proc_routes.specs.Onwards.{Leads}
-use Rattle.bl_proc_compress.specs.declared.squeezing.CompressStage.{CompressStage}
-use Rattle.bl_proc_compress.specs.declared.squeezing.CompressStage.TheVariants.{Coming}
+use Rattle.bl_proc_steps.specs.declared.approach.Approach.TheVariants.{Start, Latched}
+use Rattle.bl_proc_steps.specs.declared.approach.Came.TheVariants as come
+use Rattle.bl_proc_routes.specs.declared.routes.Step.TheVariants.{Here}
+use Rattle.bl_proc_routes.specs.Routes.{Leads}
+use Rattle.bl_proc_compress.specs.declared.compress.CompressStage.{CompressStage}
+use Rattle.bl_proc_compress.specs.declared.compress.CompressStage.TheVariants.{Coming}
 use Rattle.bl_proc_compress.specs.Compresses.{CompressArrives, CompressGoes}
 use Rattle.bl_proc.specs.Processes.{Takes}
 use Rattle.bl_index_rule.specs.declared.known.PassState.{PassState}

@@ -18,12 +18,12 @@ use Rattle.bl_proc_steps.specs.declared.acts.Action.TheVariants as act
 use Rattle.bl_proc_steps.specs.declared.acts.Seen.TheVariants as seen
 use Rattle.bl_proc_steps.specs.Given.{Gives}
 use Rattle.bl_proc_steps.specs.declared.answers.Hint.{Hint}
-use Rattle.bl_proc_routes.specs.Respelled.{words_by}
-use Rattle.bl_proc_compress.specs.declared.compressing.Siblings.{Siblings}
-use Rattle.bl_proc_compress.specs.declared.compressing.Family.{Family}
-use Rattle.bl_proc_compress.specs.declared.compressing.Puts.{Puts}
-use Rattle.bl_proc_compress.specs.declared.compressing.Decision.TheVariants.{Merged, Evened as EvenedOut}
-use Rattle.bl_proc_compress.specs.declared.compressing.Compression.TheVariants.{Retiring, OpeningRight}
+use Rattle.bl_proc_routes.specs.WordEdits.{words_by}
+use Rattle.bl_proc_compress.specs.declared.compression.Siblings.{Siblings}
+use Rattle.bl_proc_compress.specs.declared.compression.Family.{Family}
+use Rattle.bl_proc_compress.specs.declared.compression.Puts.{Puts}
+use Rattle.bl_proc_compress.specs.declared.compression.Decision.TheVariants.{Merged, Evened as EvenedOut}
+use Rattle.bl_proc_compress.specs.declared.compression.Compression.TheVariants.{Retiring, OpeningRight}
 use Rattle.bl_proc_compress.specs.Compressions.{put_of, other, merge_hint, Merges, Relists, MayEven, Evens, after_puts}
 use Rattle.bl_proc_deterministic.proofs.Neighbours.{merged_some, buried_some, evened_some}
 use Rattle.bl_proc_deterministic.proofs.Pages.{without_some}

@@ -4,10 +4,10 @@ ghost use Rattle.std.specs.Prelude.{◌≡◌, ◌<◌, ◌≤◌, ◌⊎◌, �
 ghost use Rattle.bl_page.specs.declared.page.Page.{Page};
 ghost use Rattle.bl_page.specs.Words.{words_of};
 ghost use Rattle.bl_rearrange.specs.Neighbours.{AreNeighbours, together};
-ghost use Rattle.bl_proc_compress.specs.declared.compressing.Compression.TheVariants.{LatchingLeft, LatchedRight, PuttingFirst, OpeningRight};
-ghost use Rattle.bl_proc_compress.specs.declared.compressing.Decision.TheVariants as decisions;
-ghost use Rattle.bl_proc_compress.specs.declared.compressing.Family.{Family};
-ghost use Rattle.bl_proc_compress.specs.declared.compressing.Puts.{Puts as PutsIs};
+ghost use Rattle.bl_proc_compress.specs.declared.compression.Compression.TheVariants.{LatchingLeft, LatchedRight, PuttingFirst, OpeningRight};
+ghost use Rattle.bl_proc_compress.specs.declared.compression.Decision.TheVariants as decisions;
+ghost use Rattle.bl_proc_compress.specs.declared.compression.Family.{Family};
+ghost use Rattle.bl_proc_compress.specs.declared.compression.Puts.{Puts as PutsIs};
 ghost use Rattle.bl_proc_compress.specs.Compressions.{MayEven, after_puts};
 ghost use Rattle.bl_store.specs.Hands.{known, IsSameHand, IsSameStage, HasNoStock, MayRetire, WasRefused};
 ghost use Rattle.bl_index_events.specs.Runs.{Runs, IsOn, IsSameProcess};

@@ -3,10 +3,10 @@
 ghost use Rattle.std.specs.Prelude.{◌≡◌, ◌<◌, ◌≤◌, ℕ, Some, IfNone, IfSome};
 ghost use Rattle.bl_proc_steps.specs.declared.answers.Answer.TheVariants as answers;
 ghost use Rattle.bl_proc_steps.specs.declared.answers.Squeezed.TheVariants as said;
-ghost use Rattle.bl_proc_steps.specs.declared.approaching.Approach.TheVariants as approach;
-ghost use Rattle.bl_proc_compress.specs.declared.squeezing.CompressReply.{CompressReply};
-ghost use Rattle.bl_proc_compress.specs.declared.squeezing.CompressReply.TheVariants as replies;
-ghost use Rattle.bl_proc_compress.specs.declared.squeezing.CompressStage.TheVariants as stages;
+ghost use Rattle.bl_proc_steps.specs.declared.approach.Approach.TheVariants as approach;
+ghost use Rattle.bl_proc_compress.specs.declared.compress.CompressReply.{CompressReply};
+ghost use Rattle.bl_proc_compress.specs.declared.compress.CompressReply.TheVariants as replies;
+ghost use Rattle.bl_proc_compress.specs.declared.compress.CompressStage.TheVariants as stages;
 ghost use Rattle.bl_proc_compress.specs.Compresses.{compressed_answer};
 ghost use Rattle.bl_proc.specs.declared.kinds.Proc.{Proc};
 ghost use Rattle.bl_proc_deterministic.specs.Frames.{work_of};

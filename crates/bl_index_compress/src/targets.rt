@@ -28,8 +28,8 @@ impl Target for Squeezing {
     ghost use Rattle.std.specs.Prelude.{refl, true, ◌<◌};
     ghost use Rattle.bl_page.specs.Nodes.{roots_of};
     ghost use Rattle.bl_proc.specs.declared.kinds.Proc.TheVariants as proc;
-    ghost use Rattle.bl_proc_compress.specs.declared.squeezing.CompressStage.TheVariants as stages;
-    ghost use Rattle.bl_proc_steps.specs.declared.approaching.Came.TheVariants as descend;
+    ghost use Rattle.bl_proc_compress.specs.declared.compress.CompressStage.TheVariants as stages;
+    ghost use Rattle.bl_proc_steps.specs.declared.approach.Came.TheVariants as descend;
     ghost use Rattle.bl_proc_deterministic.proofs.Compressions.{compress_goes};
     ghost use Rattle.bl_index_compress.specs.Ways.{nears};
 
@@ -74,9 +74,9 @@ impl Target for Squeezing {
 impl Unborn for Squeezing {
     ghost use Rattle.std.specs.Prelude.{refl, true};
     ghost use Rattle.bl_proc.specs.declared.kinds.Proc.TheVariants as proc;
-    ghost use Rattle.bl_proc_compress.specs.declared.squeezing.CompressStage.TheVariants as stages;
+    ghost use Rattle.bl_proc_compress.specs.declared.compress.CompressStage.TheVariants as stages;
     ghost use Rattle.bl_proc_steps.specs.declared.acts.Seen.TheVariants as seen;
-    ghost use Rattle.bl_proc_steps.specs.declared.approaching.Approach.TheVariants as approach;
+    ghost use Rattle.bl_proc_steps.specs.declared.approach.Approach.TheVariants as approach;
     ghost use Rattle.bl_proc_deterministic.proofs.Compressions.{compress_goes};
 
     ghost unborn = { λ j. proc.Compress (record { level = j.level; key = j.key; waits = true; stage = stages.New; least = j.least; most = j.most }) };

@@ -13,13 +13,13 @@ use Rattle.bl_proc_steps.specs.declared.acts.Seen.TheVariants as seen
 use Rattle.bl_proc_steps.specs.declared.answers.Hint.{Hint}
 use Rattle.bl_proc_steps.specs.declared.answers.Answer.{Answer}
 use Rattle.bl_proc_steps.specs.declared.answers.Answer.TheVariants.{Op, InsertPost}
-use Rattle.bl_proc_steps.specs.declared.approaching.Approach.{Approach}
-use Rattle.bl_proc_steps.specs.declared.approaching.Approach.TheVariants as way
-use Rattle.bl_proc_steps.specs.declared.editing.Edit.{Edit}
-use Rattle.bl_proc_steps.specs.declared.editing.Edit.TheVariants as edit
+use Rattle.bl_proc_steps.specs.declared.approach.Approach.{Approach}
+use Rattle.bl_proc_steps.specs.declared.approach.Approach.TheVariants as way
+use Rattle.bl_proc_steps.specs.declared.edit.Edit.{Edit}
+use Rattle.bl_proc_steps.specs.declared.edit.Edit.TheVariants as edit
 use Rattle.bl_proc_steps.specs.declared.answers.Posted.{Posted}
-use Rattle.bl_proc_steps.specs.declared.growing.Growth.{Growth}
-use Rattle.bl_proc_steps.specs.declared.growing.Growth.TheVariants as growth
+use Rattle.bl_proc_steps.specs.declared.growth.Growth.{Growth}
+use Rattle.bl_proc_steps.specs.declared.growth.Growth.TheVariants as growth
 use Rattle.bl_proc_steps.specs.Growths.{growth_next}
 use Rattle.bl_proc_steps.specs.Approaches.{approach_next}
 use Rattle.bl_proc_steps.specs.Edits.{edit_next}
@@ -39,17 +39,17 @@ use Rattle.bl_proc_writes.specs.Writes.{write_answer, write_next_in, write_answe
 use Rattle.bl_proc.specs.Searches.{found_answer, find_next_in, find_answer_in, FindGoes}
 use Rattle.bl_proc.specs.Parts.{part_op, part_next_in, part_answer_in, PartGoes}
 use Rattle.bl_proc.specs.Processes.{next_of, answer_of, Takes}
-use Rattle.bl_proc_writes.specs.declared.posting.PostStage.{PostStage}
-use Rattle.bl_proc_writes.specs.declared.posting.PostStage.TheVariants as post
+use Rattle.bl_proc_writes.specs.declared.post.PostStage.{PostStage}
+use Rattle.bl_proc_writes.specs.declared.post.PostStage.TheVariants as post
 use Rattle.bl_proc_writes.specs.declared.paths.Path.{Path}
-use Rattle.bl_proc_writes.specs.declared.climbing.InsertPost.{InsertPost as InsertPostIs}
-use Rattle.bl_proc_writes.specs.declared.climbing.Climbed.{Climbed}
-use Rattle.bl_proc_writes.specs.declared.climbing.Climbed.TheVariants as climbed
-use Rattle.bl_proc_writes.specs.declared.climbing.ClimbStage.{ClimbStage}
-use Rattle.bl_proc_writes.specs.declared.climbing.ClimbStage.TheVariants as climb
+use Rattle.bl_proc_writes.specs.declared.insert_post.InsertPost.{InsertPost as InsertPostIs}
+use Rattle.bl_proc_writes.specs.declared.insert_post.Climbed.{Climbed}
+use Rattle.bl_proc_writes.specs.declared.insert_post.Climbed.TheVariants as climbed
+use Rattle.bl_proc_writes.specs.declared.insert_post.ClimbStage.{ClimbStage}
+use Rattle.bl_proc_writes.specs.declared.insert_post.ClimbStage.TheVariants as climb
 use Rattle.bl_proc_writes.specs.Posts.{post_next_in}
 use Rattle.bl_proc_writes.specs.Stands.{IsWriting, IsPosting, Stands}
-use Rattle.bl_proc_writes.specs.Climbs.{climb_next_in, climb_answer_in, climbed_answer, ClimbGoes}
+use Rattle.bl_proc_writes.specs.InsertPosts.{climb_next_in, climb_answer_in, climbed_answer, ClimbGoes}
 use Rattle.bl_proc_invariant.specs.Beside.{MeansBeside}
 use Rattle.bl_proc_invariant.proofs.Beside.{beside_means}
 use Rattle.bl_proc_invariant.specs.Knowing.{Run, know, know_of, written_reply, found_reply, climbed_reply, know_find, know_part, know_write, know_climb, climb_end, find_end, part_end, write_end, end_of_proc}
@@ -60,8 +60,8 @@ use Rattle.bl_index_events.specs.Answered.{Answers, InCall}
 use Rattle.bl_index_events.specs.Held.{own_marks}
 use Rattle.bl_index_events.specs.Runs.{IsDone}
 use Rattle.bl_index_events.proofs.Calls.{since_end, since_said, end_seen}
-use Rattle.bl_proc_writes.specs.declared.climbing.Placing.{Placing}
-use Rattle.bl_proc_writes.specs.declared.climbing.Placing.TheVariants as place
+use Rattle.bl_proc_writes.specs.declared.insert_post.Placing.{Placing}
+use Rattle.bl_proc_writes.specs.declared.insert_post.Placing.TheVariants as place
 use Rattle.bl_proc_writes.specs.Placings.{write_of}
 
 some_one : {a b : Answer} → Some a ≡ Some b → a ≡ b

@@ -1,6 +1,6 @@
 -- The way of a write to its leaf.
 use Rattle.std.specs.Prelude.{◌≡◌}
-use Rattle.bl_proc_steps.specs.declared.approaching.Approach.{Approach}
+use Rattle.bl_proc_steps.specs.declared.approach.Approach.{Approach}
 use Rattle.bl_proc_steps.specs.Approaches.{IsToLook}
 use Rattle.bl_proc_writes.specs.declared.writing.WriteStage.{WriteStage}
 use Rattle.bl_proc_writes.specs.declared.writing.WriteStage.TheVariants as write

@@ -13,7 +13,7 @@ use Rattle.bl_page.specs.Nodes.{IsTreePage}
 use Rattle.bl_rearrange.specs.Entered.{entered}
 use Rattle.bl_rearrange.specs.Rearranged.{pairs_of, KeepsFrame}
 use Rattle.bl_rearrange.proofs.EnteredLemmas.{length-entered}
-use Rattle.bl_proc_routes.specs.Respelled.{words_by}
+use Rattle.bl_proc_routes.specs.WordEdits.{words_by}
 use Rattle.bl_proc_routes.proofs.Shifts.{padded, length-entries, entered-below, entered-key, entered-word, entered-above}
 use Rattle.bl_proc_deterministic.proofs.Rows.{rows_one}
 use Rattle.bl_proc_deterministic.proofs.Pages.{rising}

@@ -8,22 +8,22 @@ use Rattle.bl_rearrange.specs.Entered.{entered}
 use Rattle.bl_rearrange.specs.Rearranged.{pairs_of}
 use Rattle.bl_rearrange.proofs.EnteredLemmas.{RisesFrom-entered, map_of-entered}
 use Rattle.bl_proc_steps.specs.declared.acts.Seen.TheVariants as seen
-use Rattle.bl_proc_steps.specs.declared.approaching.Approach.TheVariants as approach
-use Rattle.bl_proc_steps.specs.declared.approaching.Came.TheVariants as descend
-use Rattle.bl_proc_steps.specs.declared.editing.Edit.{Edit}
-use Rattle.bl_proc_steps.specs.declared.editing.Edit.TheVariants as edit
-use Rattle.bl_proc_steps.specs.declared.editing.Full.{Full}
-use Rattle.bl_proc_steps.specs.declared.editing.Outcome.{Outcome}
-use Rattle.bl_proc_steps.specs.declared.editing.Outcome.TheVariants as outcome
-use Rattle.bl_proc_routes.specs.declared.onwards.Step.{Step}
-use Rattle.bl_proc_routes.specs.declared.onwards.Step.TheVariants.{Right, Down, Here}
-use Rattle.bl_proc_routes.specs.Onwards.{Leads}
-use Rattle.bl_proc_routes.specs.Respelled.{words_by}
+use Rattle.bl_proc_steps.specs.declared.approach.Approach.TheVariants as approach
+use Rattle.bl_proc_steps.specs.declared.approach.Came.TheVariants as descend
+use Rattle.bl_proc_steps.specs.declared.edit.Edit.{Edit}
+use Rattle.bl_proc_steps.specs.declared.edit.Edit.TheVariants as edit
+use Rattle.bl_proc_steps.specs.declared.edit.Full.{Full}
+use Rattle.bl_proc_steps.specs.declared.edit.Outcome.{Outcome}
+use Rattle.bl_proc_steps.specs.declared.edit.Outcome.TheVariants as outcome
+use Rattle.bl_proc_routes.specs.declared.routes.Step.{Step}
+use Rattle.bl_proc_routes.specs.declared.routes.Step.TheVariants.{Right, Down, Here}
+use Rattle.bl_proc_routes.specs.Routes.{Leads}
+use Rattle.bl_proc_routes.specs.WordEdits.{words_by}
 use Rattle.bl_proc.specs.declared.kinds.Proc.{Proc}
-use Rattle.bl_proc_writes.specs.declared.posting.PostStage.{PostStage}
-use Rattle.bl_proc_writes.specs.declared.posting.PostStage.TheVariants as post
-use Rattle.bl_proc_writes.specs.declared.posting.PostReply.{PostReply}
-use Rattle.bl_proc_writes.specs.declared.posting.PostReply.TheVariants as reply
+use Rattle.bl_proc_writes.specs.declared.post.PostStage.{PostStage}
+use Rattle.bl_proc_writes.specs.declared.post.PostStage.TheVariants as post
+use Rattle.bl_proc_writes.specs.declared.post.PostReply.{PostReply}
+use Rattle.bl_proc_writes.specs.declared.post.PostReply.TheVariants as reply
 use Rattle.bl_proc_writes.specs.declared.walking.Walk.{Walk}
 use Rattle.bl_proc_writes.specs.Levels.{IsBelowTop, IsBelowTop-prop, MayReply}
 use Rattle.bl_proc_writes.specs.Posts.{post_reply, IsLost, PostGoes, PostWalks}

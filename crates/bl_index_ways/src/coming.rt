@@ -3,7 +3,7 @@
 ghost use Rattle.std.specs.Prelude.{◌≡◌, true, false};
 ghost use Rattle.bl_page.specs.declared.page.Page.{Page};
 ghost use Rattle.bl_proc_steps.specs.declared.acts.Action.TheVariants as act;
-ghost use Rattle.bl_proc_steps.specs.declared.approaching.Approach.TheVariants as approach;
+ghost use Rattle.bl_proc_steps.specs.declared.approach.Approach.TheVariants as approach;
 ghost use Rattle.bl_store.specs.Hands.{known, read_words, IsIdle, IsRunning, IsSameHand, IsSameStock, ReadsFrom};
 ghost use Rattle.bl_store.specs.Owners.{IsHandOf};
 ghost use Rattle.bl_proc_steps.specs.declared.acts.Seen.TheVariants as seen;

@@ -11,9 +11,9 @@ use crate::writers::Writer;
 pub(crate) trait Editor {
     ghost use Rattle.std.specs.Prelude.{◌≡◌, ℕ};
     ghost use Rattle.bl_proc_steps.specs.declared.acts.Seen.{Seen};
-    ghost use Rattle.bl_proc_steps.specs.declared.editing.Edit.{Edit};
-    ghost use Rattle.bl_proc_steps.specs.declared.editing.Edit.TheVariants as edit;
-    ghost use Rattle.bl_proc_steps.specs.declared.editing.Edited.TheVariants as changed;
+    ghost use Rattle.bl_proc_steps.specs.declared.edit.Edit.{Edit};
+    ghost use Rattle.bl_proc_steps.specs.declared.edit.Edit.TheVariants as edit;
+    ghost use Rattle.bl_proc_steps.specs.declared.edit.Edited.TheVariants as changed;
     ghost use Rattle.bl_proc_steps.specs.Edits.{edit_next, edit_needs, Changes};
     ghost use Rattle.bl_proc_steps.specs.Given.{Gives};
     ghost use Rattle.bl_proc.specs.declared.kinds.Proc.{Proc};
@@ -77,7 +77,7 @@ pub(crate) struct Listing<'a, P: Poster> {
 }
 
 impl<'a, P: Poster> Editor for Listing<'a, P> {
-    ghost use Rattle.bl_proc_writes.specs.declared.posting.PostStage.TheVariants as post;
+    ghost use Rattle.bl_proc_writes.specs.declared.post.PostStage.TheVariants as post;
 
     ghost editing = { λ j c. P.staged j.poster.now (post.Editing c) j.below tt };
 

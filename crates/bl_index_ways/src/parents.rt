@@ -4,18 +4,18 @@ ghost use Rattle.std.specs.Prelude.{◌≡◌, ◌≢◌, ◌<◌, ◌-◌, Some
 ghost use Rattle.bl_page.specs.declared.page.Page.{Page};
 ghost use Rattle.bl_page.specs.Words.{words_of};
 ghost use Rattle.bl_page.specs.Nodes.{node_of, IsTreePage};
-ghost use Rattle.bl_proc_steps.specs.declared.approaching.Approach.TheVariants as approach;
-ghost use Rattle.bl_proc_steps.specs.declared.editing.Edit.{Edit};
-ghost use Rattle.bl_proc_routes.specs.declared.onwards.Step.TheVariants as onward;
-ghost use Rattle.bl_proc_routes.specs.Onwards.{Leads};
-ghost use Rattle.bl_proc_writes.specs.declared.posting.PostStage.TheVariants as post;
+ghost use Rattle.bl_proc_steps.specs.declared.approach.Approach.TheVariants as approach;
+ghost use Rattle.bl_proc_steps.specs.declared.edit.Edit.{Edit};
+ghost use Rattle.bl_proc_routes.specs.declared.routes.Step.TheVariants as onward;
+ghost use Rattle.bl_proc_routes.specs.Routes.{Leads};
+ghost use Rattle.bl_proc_writes.specs.declared.post.PostStage.TheVariants as post;
 ghost use Rattle.bl_proc_writes.specs.Levels.{MayReply};
 ghost use Rattle.bl_proc_writes.specs.Posts.{post_reply};
 ghost use Rattle.bl_store.specs.Hands.{known, read_words, IsRunning, HasNoStock, ReadsFrom};
 ghost use Rattle.bl_store.specs.Owners.{IsHandOf};
 ghost use Rattle.bl_index_events.specs.Runs.{Runs, Keeps, IsOn, IsSameProcess};
 ghost use Rattle.bl_index_ways.specs.Events.{IsThere, IsToEnter, IsWalking, HasWalked, LeavesParent, WalksOn};
-ghost use Rattle.bl_proc_writes.specs.declared.posting.PostReply.TheVariants as replies;
+ghost use Rattle.bl_proc_writes.specs.declared.post.PostReply.TheVariants as replies;
 
 use crate::editors::Listing;
 use crate::posters::Poster;

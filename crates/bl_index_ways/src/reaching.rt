@@ -3,7 +3,7 @@
 ghost use Rattle.std.specs.Prelude.{◌≡◌, ◌<◌, IfOk, IfErr};
 ghost use Rattle.bl_page.specs.declared.page.Page.{Page};
 ghost use Rattle.bl_page.specs.Nodes.{roots_of};
-ghost use Rattle.bl_proc_steps.specs.declared.approaching.Approach.TheVariants as approach;
+ghost use Rattle.bl_proc_steps.specs.declared.approach.Approach.TheVariants as approach;
 ghost use Rattle.bl_store.specs.Hands.{known, read_words, ReadsFrom};
 ghost use Rattle.bl_index_events.specs.Runs.{Runs, Keeps, IsSameProcess};
 ghost use Rattle.bl_index_ways.specs.Events.{HasGotAnchor, HasNeared, HasReached, HoldsNone, reached_by};

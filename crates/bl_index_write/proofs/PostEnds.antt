@@ -3,17 +3,17 @@ use Rattle.std.proofs.Common.{ℕ, ◌≡◌, ◌≢◌, Option, Some, refl, sym
 use Rattle.bl_proc_steps.specs.declared.acts.Action.TheVariants as act
 use Rattle.bl_proc_steps.specs.declared.acts.Seen.TheVariants as seen
 use Rattle.bl_proc_steps.specs.declared.answers.Answer.{Answer}
-use Rattle.bl_proc_steps.specs.declared.growing.Growth.{Growth}
-use Rattle.bl_proc_steps.specs.declared.growing.Growth.TheVariants as growth
+use Rattle.bl_proc_steps.specs.declared.growth.Growth.{Growth}
+use Rattle.bl_proc_steps.specs.declared.growth.Growth.TheVariants as growth
 use Rattle.bl_proc_steps.specs.Growths.{growth_next}
-use Rattle.bl_proc_writes.specs.declared.posting.Post.{Post}
-use Rattle.bl_proc_writes.specs.declared.posting.PostReply.{PostReply}
-use Rattle.bl_proc_writes.specs.declared.posting.PostReply.TheVariants as reply
+use Rattle.bl_proc_writes.specs.declared.post.Post.{Post}
+use Rattle.bl_proc_writes.specs.declared.post.PostReply.{PostReply}
+use Rattle.bl_proc_writes.specs.declared.post.PostReply.TheVariants as reply
 use Rattle.bl_proc_writes.specs.Levels.{MayReply}
 use Rattle.bl_proc_deterministic.proofs.Posts.{post_goes}
 use Rattle.bl_index_write.specs.declared.targets.Posting.{Posting}
-use Rattle.bl_proc_writes.specs.declared.posting.PostStage.{PostStage}
-use Rattle.bl_proc_writes.specs.declared.posting.PostStage.TheVariants as post
+use Rattle.bl_proc_writes.specs.declared.post.PostStage.{PostStage}
+use Rattle.bl_proc_writes.specs.declared.post.PostStage.TheVariants as post
 use Rattle.bl_proc.specs.declared.kinds.Proc.{Proc}
 use Rattle.bl_proc.specs.declared.kinds.Proc.TheVariants as proc
 use Rattle.bl_proc_writes.specs.Posts.{post_next_in, post_answer_in, post_answer, PostGoes}

@@ -6,7 +6,7 @@ use Rattle.bl_index_write.specs.Events.{writing}
 use Rattle.bl_index_ways.specs.Ways.{IsToHold}
 use Rattle.bl_index_ways.specs.Writers.{IsAtWork, IsWriter, left_by, left_reply}
 use Rattle.bl_model.specs.declared.deciding.KeyWrite.{KeyWrite}
-use Rattle.bl_proc_writes.specs.Climbs.{IsUnsplit}
+use Rattle.bl_proc_writes.specs.InsertPosts.{IsUnsplit}
 use Rattle.bl_proc_writes.specs.Paths.{Notes, IsBlank as IsBlankPath}
 use Rattle.bl_proc.specs.Processes.{Takes, next_of}
 use Rattle.bl_proc_writes.specs.Writes.{WriteGoes, write_needs_in, write_next_in, write_reply}
@@ -17,20 +17,20 @@ use Rattle.bl_proc_writes.specs.declared.writing.WriteStage.{WriteStage}
 use Rattle.bl_proc_steps.specs.Given.{Gives}
 use Rattle.bl_proc_steps.specs.Thin.{thin_hint}
 use Rattle.bl_proc_steps.specs.declared.acts.Seen.{Seen}
-use Rattle.bl_proc_steps.specs.declared.approaching.Approach.{Approach}
-use Rattle.bl_proc_steps.specs.declared.editing.Outcome.{Outcome}
+use Rattle.bl_proc_steps.specs.declared.approach.Approach.{Approach}
+use Rattle.bl_proc_steps.specs.declared.edit.Outcome.{Outcome}
 use Rattle.bl_proc_deterministic.proofs.Climbs.{climb_goes}
 use Rattle.bl_proc_deterministic.proofs.Writings.{write_goes}
 use Rattle.bl_proc_deterministic.specs.Courses.{GoesOn}
 use Rattle.std.proofs.Common.{None, Option, Some, refl, ℕ, ◌≡◌}
-use Rattle.bl_proc_writes.specs.declared.climbing.ClimbStage.TheVariants as climb
+use Rattle.bl_proc_writes.specs.declared.insert_post.ClimbStage.TheVariants as climb
 use Rattle.bl_proc_writes.specs.declared.writing.WriteReply.TheVariants as written
 use Rattle.bl_proc_writes.specs.declared.writing.WriteStage.TheVariants as write
 use Rattle.bl_proc_steps.specs.declared.acts.Seen.TheVariants as seen
-use Rattle.bl_proc_steps.specs.declared.approaching.Approach.TheVariants as way
-use Rattle.bl_proc_steps.specs.declared.editing.Edit.TheVariants as edit
-use Rattle.bl_proc_steps.specs.declared.editing.Outcome.TheVariants as outcome
-use Rattle.bl_proc_writes.specs.declared.climbing.Placing.{Placing}
+use Rattle.bl_proc_steps.specs.declared.approach.Approach.TheVariants as way
+use Rattle.bl_proc_steps.specs.declared.edit.Edit.TheVariants as edit
+use Rattle.bl_proc_steps.specs.declared.edit.Outcome.TheVariants as outcome
+use Rattle.bl_proc_writes.specs.declared.insert_post.Placing.{Placing}
 use Rattle.bl_proc_writes.specs.Placings.{write_of}
 
 -- the reply by what was left is the reply by what became of the leaf

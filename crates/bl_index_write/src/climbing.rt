@@ -7,10 +7,10 @@ ghost use Rattle.bl_model.specs.declared.operation.Reply.TheVariants as reply;
 ghost use Rattle.bl_model.specs.Replies.{reply_of};
 ghost use Rattle.bl_proc_steps.specs.declared.answers.Answer.TheVariants as answers;
 ghost use Rattle.bl_proc_steps.specs.declared.answers.Hint.TheVariants as hints;
-ghost use Rattle.bl_proc_steps.specs.declared.approaching.Approach.TheVariants as approach;
-ghost use Rattle.bl_proc_writes.specs.declared.posting.PostReply.TheVariants as listed;
-ghost use Rattle.bl_proc_writes.specs.declared.posting.PostStage.TheVariants as post;
-ghost use Rattle.bl_proc_writes.specs.Climbs.{IsLast, left_hint, posted_as};
+ghost use Rattle.bl_proc_steps.specs.declared.approach.Approach.TheVariants as approach;
+ghost use Rattle.bl_proc_writes.specs.declared.post.PostReply.TheVariants as listed;
+ghost use Rattle.bl_proc_writes.specs.declared.post.PostStage.TheVariants as post;
+ghost use Rattle.bl_proc_writes.specs.InsertPosts.{IsLast, left_hint, posted_as};
 ghost use Rattle.bl_proc_writes.specs.Levels.{MayReply};
 ghost use Rattle.bl_proc_writes.specs.Paths.{IsBlank as IsBlankPath};
 ghost use Rattle.bl_proc_writes.specs.Placings.{write_of};
@@ -49,7 +49,7 @@ pub(crate) struct Climbing {
 
 impl Target for Climbing {
     ghost use Rattle.std.specs.Prelude.{refl};
-    ghost use Rattle.bl_proc_writes.specs.declared.climbing.ClimbStage.TheVariants as stages;
+    ghost use Rattle.bl_proc_writes.specs.declared.insert_post.ClimbStage.TheVariants as stages;
     ghost use Rattle.bl_proc_writes.specs.declared.writing.WriteStage.TheVariants as write;
     ghost use Rattle.bl_proc_writes.specs.Paths.{NotesBy};
     ghost use Rattle.bl_proc_writes.specs.Placings.{write_of};

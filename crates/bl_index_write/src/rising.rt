@@ -23,12 +23,12 @@ impl Target for Rising {
     ghost use Rattle.std.specs.Prelude.{refl, ◌<◌};
     ghost use Rattle.std.proofs.Common.{inl};
     ghost use Rattle.bl_page.specs.Nodes.{roots_of};
-    ghost use Rattle.bl_proc_writes.specs.declared.climbing.ClimbStage.TheVariants as stages;
-    ghost use Rattle.bl_proc_writes.specs.declared.posting.PostStage.TheVariants as post;
+    ghost use Rattle.bl_proc_writes.specs.declared.insert_post.ClimbStage.TheVariants as stages;
+    ghost use Rattle.bl_proc_writes.specs.declared.post.PostStage.TheVariants as post;
     ghost use Rattle.bl_proc_writes.specs.Paths.{NotesBy};
     ghost use Rattle.bl_proc_steps.specs.declared.acts.Seen.TheVariants as seen;
-    ghost use Rattle.bl_proc_steps.specs.declared.approaching.Approach.TheVariants as approach;
-    ghost use Rattle.bl_proc_steps.specs.declared.approaching.Came.TheVariants as descend;
+    ghost use Rattle.bl_proc_steps.specs.declared.approach.Approach.TheVariants as approach;
+    ghost use Rattle.bl_proc_steps.specs.declared.approach.Came.TheVariants as descend;
     ghost use Rattle.bl_proc_deterministic.proofs.Climbs.{climb_goes};
     ghost use Rattle.bl_index_write.specs.AtLeaf.{unnoted};
     ghost use Rattle.bl_index_write.specs.Climbing.{rises};

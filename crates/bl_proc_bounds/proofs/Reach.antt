@@ -16,10 +16,10 @@ use Rattle.bl_tree.proofs.WalksEnd.{After, Walked, walk_from, at_most}
 use Rattle.bl_tree_worlds.specs.Worlds.{Know, World, nodes, tree_of, was_in, MayGet, IsGoes, IsGood}
 use Rattle.bl_tree_worlds.proofs.Steady.{free_not, fresh_not, anchored_not}
 use Rattle.bl_tree_worlds.proofs.WorldLaws.{tree_page, all_sound}
-use Rattle.bl_proc_routes.specs.declared.onwards.Step.TheVariants as onward
+use Rattle.bl_proc_routes.specs.declared.routes.Step.TheVariants as onward
 use Rattle.bl_proc_steps.specs.declared.descent.Descent.{Descent}
 use Rattle.bl_proc_steps.specs.declared.descent.Descent.TheVariants.{AtAnchor, At}
-use Rattle.bl_proc_routes.specs.Onwards.{top_of, Leads}
+use Rattle.bl_proc_routes.specs.Routes.{top_of, Leads}
 use Rattle.bl_proc.specs.Parts.{way_by}
 use Rattle.bl_proc_invariant.specs.Tables.{descent_goes}
 use Rattle.bl_proc_bounds.specs.Paces.{IsAhead}

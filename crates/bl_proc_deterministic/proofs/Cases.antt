@@ -1,8 +1,8 @@
 -- What is told of two outcomes that are the same.
 use Rattle.std.proofs.Common.{ℕ, ◌≡◌, subst}
 use Rattle.bl_page.specs.declared.page.Page.{Page}
-use Rattle.bl_proc_steps.specs.declared.approaching.Approach.{Approach}
-use Rattle.bl_proc_steps.specs.declared.approaching.Approached.TheVariants as came
+use Rattle.bl_proc_steps.specs.declared.approach.Approach.{Approach}
+use Rattle.bl_proc_steps.specs.declared.approach.Approached.TheVariants as came
 use Rattle.bl_proc_deterministic.specs.One.{One}
 
 pub came_on : (a b : Approach) → came.On a ≡ came.On b → a ≡ b

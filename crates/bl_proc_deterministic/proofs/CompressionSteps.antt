@@ -8,14 +8,14 @@ use Rattle.bl_rearrange.specs.declared.sides.Side.TheVariants as side
 use Rattle.bl_proc_steps.specs.declared.acts.Seen.{Seen}
 use Rattle.bl_proc_steps.specs.declared.acts.Seen.TheVariants as seen
 use Rattle.bl_proc_steps.specs.Given.{Gives}
-use Rattle.bl_proc_compress.specs.declared.compressing.Family.{Family}
-use Rattle.bl_proc_compress.specs.declared.compressing.Puts.{Puts}
-use Rattle.bl_proc_compress.specs.declared.compressing.Decision.{Decision}
-use Rattle.bl_proc_compress.specs.declared.compressing.Decision.TheVariants.{Refused}
-use Rattle.bl_proc_compress.specs.declared.compressing.Compression.{Compression}
-use Rattle.bl_proc_compress.specs.declared.compressing.Compression.TheVariants.{LatchingLeft, LatchedLeft, LatchingRight, LatchedRight, PuttingFirst, PuttingParent, PuttingLast, Retiring, OpeningRight, OpeningLeft, OpeningParent}
-use Rattle.bl_proc_compress.specs.declared.compressing.Compressed.{Compressed}
-use Rattle.bl_proc_compress.specs.declared.compressing.Compressed.TheVariants.{On, Over}
+use Rattle.bl_proc_compress.specs.declared.compression.Family.{Family}
+use Rattle.bl_proc_compress.specs.declared.compression.Puts.{Puts}
+use Rattle.bl_proc_compress.specs.declared.compression.Decision.{Decision}
+use Rattle.bl_proc_compress.specs.declared.compression.Decision.TheVariants.{Refused}
+use Rattle.bl_proc_compress.specs.declared.compression.Compression.{Compression}
+use Rattle.bl_proc_compress.specs.declared.compression.Compression.TheVariants.{LatchingLeft, LatchedLeft, LatchingRight, LatchedRight, PuttingFirst, PuttingParent, PuttingLast, Retiring, OpeningRight, OpeningLeft, OpeningParent}
+use Rattle.bl_proc_compress.specs.declared.compression.Compressed.{Compressed}
+use Rattle.bl_proc_compress.specs.declared.compression.Compressed.TheVariants.{On, Over}
 use Rattle.bl_proc_compress.specs.Compressions.{put_of, other, after_puts, missed_left, missed_right, compression_next, compression_needs, Compresses}
 use Rattle.bl_proc_deterministic.specs.One.{One}
 use Rattle.bl_proc_deterministic.proofs.Decisions.{link_one, decide_one}

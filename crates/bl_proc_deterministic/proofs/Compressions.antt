@@ -8,24 +8,24 @@ use Rattle.bl_page.specs.declared.page.Inner.{Inner}
 use Rattle.bl_page.specs.Pairs.{IsWithin}
 use Rattle.bl_proc_steps.specs.declared.acts.Seen.{Seen}
 use Rattle.bl_proc_steps.specs.declared.acts.Seen.TheVariants as seen
-use Rattle.bl_proc_steps.specs.declared.approaching.Approach.{Approach}
-use Rattle.bl_proc_steps.specs.declared.approaching.Approach.TheVariants.{Start}
-use Rattle.bl_proc_steps.specs.declared.approaching.Came.{Came}
-use Rattle.bl_proc_steps.specs.declared.approaching.Came.TheVariants as come
+use Rattle.bl_proc_steps.specs.declared.approach.Approach.{Approach}
+use Rattle.bl_proc_steps.specs.declared.approach.Approach.TheVariants.{Start}
+use Rattle.bl_proc_steps.specs.declared.approach.Came.{Came}
+use Rattle.bl_proc_steps.specs.declared.approach.Came.TheVariants as come
 use Rattle.bl_proc_steps.specs.Given.{Gives}
 use Rattle.bl_proc_steps.specs.Approaches.{Comes}
 use Rattle.bl_proc_steps.proofs.Ways.{here_leads}
-use Rattle.bl_proc_compress.specs.declared.compressing.Family.{Family}
-use Rattle.bl_proc_compress.specs.declared.compressing.Decision.{Decision}
-use Rattle.bl_proc_compress.specs.declared.compressing.Compression.{Compression}
-use Rattle.bl_proc_compress.specs.declared.compressing.Compression.TheVariants.{LatchingLeft}
-use Rattle.bl_proc_compress.specs.declared.compressing.Compressed.{Compressed}
-use Rattle.bl_proc_compress.specs.declared.compressing.Compressed.TheVariants as step
-use Rattle.bl_proc_compress.specs.declared.squeezing.Compress.{Compress}
-use Rattle.bl_proc_compress.specs.declared.squeezing.CompressStage.{CompressStage}
-use Rattle.bl_proc_compress.specs.declared.squeezing.CompressStage.TheVariants.{New, Coming, Compressing, Staying, Ending, Over}
-use Rattle.bl_proc_compress.specs.declared.squeezing.CompressReply.{CompressReply}
-use Rattle.bl_proc_compress.specs.declared.squeezing.CompressReply.TheVariants as reply
+use Rattle.bl_proc_compress.specs.declared.compression.Family.{Family}
+use Rattle.bl_proc_compress.specs.declared.compression.Decision.{Decision}
+use Rattle.bl_proc_compress.specs.declared.compression.Compression.{Compression}
+use Rattle.bl_proc_compress.specs.declared.compression.Compression.TheVariants.{LatchingLeft}
+use Rattle.bl_proc_compress.specs.declared.compression.Compressed.{Compressed}
+use Rattle.bl_proc_compress.specs.declared.compression.Compressed.TheVariants as step
+use Rattle.bl_proc_compress.specs.declared.compress.Compress.{Compress}
+use Rattle.bl_proc_compress.specs.declared.compress.CompressStage.{CompressStage}
+use Rattle.bl_proc_compress.specs.declared.compress.CompressStage.TheVariants.{New, Coming, Compressing, Staying, Ending, Over}
+use Rattle.bl_proc_compress.specs.declared.compress.CompressReply.{CompressReply}
+use Rattle.bl_proc_compress.specs.declared.compress.CompressReply.TheVariants as reply
 use Rattle.bl_proc_compress.specs.Compressions.{AreSiblings, Compresses}
 use Rattle.bl_proc_compress.specs.Compresses.{compress_reply, compress_next_in, compress_needs_in, compress_answer_in, CompressArrives, CompressComes, CompressGoes}
 use Rattle.bl_proc.specs.declared.kinds.Proc.{Proc}

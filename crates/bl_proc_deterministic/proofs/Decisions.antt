@@ -9,13 +9,13 @@ use Rattle.bl_rearrange.specs.declared.sides.Evened.{Evened}
 use Rattle.bl_rearrange.specs.Neighbours.{AreNeighbours, together, IsEvened}
 use Rattle.bl_rearrange.specs.Rearranged.{pairs_of, high_of, right_of}
 use Rattle.bl_proc_steps.specs.declared.answers.Hint.TheVariants as hint
-use Rattle.bl_proc_compress.specs.declared.compressing.Siblings.{Siblings}
-use Rattle.bl_proc_compress.specs.declared.compressing.Family.{Family}
-use Rattle.bl_proc_compress.specs.declared.compressing.Puts.{Puts}
-use Rattle.bl_proc_compress.specs.declared.compressing.Decision.{Decision}
-use Rattle.bl_proc_compress.specs.declared.compressing.Decision.TheVariants.{Merged, Evened as EvenedOut, Enough, Unposted, Lost}
-use Rattle.bl_proc_compress.specs.declared.compressing.Compression.{Compression}
-use Rattle.bl_proc_compress.specs.declared.compressing.Compression.TheVariants.{LatchingRight, PuttingFirst, OpeningRight, OpeningLeft}
+use Rattle.bl_proc_compress.specs.declared.compression.Siblings.{Siblings}
+use Rattle.bl_proc_compress.specs.declared.compression.Family.{Family}
+use Rattle.bl_proc_compress.specs.declared.compression.Puts.{Puts}
+use Rattle.bl_proc_compress.specs.declared.compression.Decision.{Decision}
+use Rattle.bl_proc_compress.specs.declared.compression.Decision.TheVariants.{Merged, Evened as EvenedOut, Enough, Unposted, Lost}
+use Rattle.bl_proc_compress.specs.declared.compression.Compression.{Compression}
+use Rattle.bl_proc_compress.specs.declared.compression.Compression.TheVariants.{LatchingRight, PuttingFirst, OpeningRight, OpeningLeft}
 use Rattle.bl_proc_compress.specs.Compressions.{merge_hint, Merges, Relists, IsFew, MayEven, Evens, Decides, Links}
 use Rattle.bl_proc_deterministic.specs.One.{One}
 use Rattle.bl_proc_deterministic.proofs.Pages.{without_one, without_some}

@@ -14,12 +14,12 @@ use Rattle.bl_rearrange.specs.Rearranged.{pairs_of, MayHold, MayLose, IsFitted, 
 use Rattle.bl_proc_steps.specs.Props.{Covers-prop, MayHold-prop}
 use Rattle.bl_proc_steps.specs.declared.acts.Seen.{Seen}
 use Rattle.bl_proc_steps.specs.declared.acts.Seen.TheVariants as seen
-use Rattle.bl_proc_steps.specs.declared.editing.Full.{Full}
-use Rattle.bl_proc_steps.specs.declared.editing.Outcome.TheVariants as outcome
-use Rattle.bl_proc_steps.specs.declared.editing.Edit.{Edit}
-use Rattle.bl_proc_steps.specs.declared.editing.Edit.TheVariants.{Putting, Taking, PuttingNew, PuttingOld, OpeningNew, Opening}
-use Rattle.bl_proc_steps.specs.declared.editing.Edited.{Edited}
-use Rattle.bl_proc_steps.specs.declared.editing.Edited.TheVariants.{On, Over}
+use Rattle.bl_proc_steps.specs.declared.edit.Full.{Full}
+use Rattle.bl_proc_steps.specs.declared.edit.Outcome.TheVariants as outcome
+use Rattle.bl_proc_steps.specs.declared.edit.Edit.{Edit}
+use Rattle.bl_proc_steps.specs.declared.edit.Edit.TheVariants.{Putting, Taking, PuttingNew, PuttingOld, OpeningNew, Opening}
+use Rattle.bl_proc_steps.specs.declared.edit.Edited.{Edited}
+use Rattle.bl_proc_steps.specs.declared.edit.Edited.TheVariants.{On, Over}
 use Rattle.bl_proc_steps.specs.Given.{Gives}
 use Rattle.bl_proc_steps.specs.Edits.{edit_next, edit_needs, EntersPair, DropsPair, GivesValue, Changes}
 use Rattle.bl_proc_deterministic.specs.One.{One}

@@ -15,11 +15,11 @@ use Rattle.bl_page.proofs.Same.{anchor_same, inner_same}
 use Rattle.bl_page.specs.Nodes.{roots_of}
 use Rattle.bl_proc_steps.specs.declared.acts.Seen.{Seen}
 use Rattle.bl_proc_steps.specs.declared.acts.Seen.TheVariants as seen
-use Rattle.bl_proc_steps.specs.declared.growing.Rise.{Rise}
-use Rattle.bl_proc_steps.specs.declared.growing.Growth.{Growth}
-use Rattle.bl_proc_steps.specs.declared.growing.Growth.TheVariants.{Latching, Latched, Taking, PuttingTop, PuttingAnchor, OpeningTop, OpeningGrown, OpeningRefused}
-use Rattle.bl_proc_steps.specs.declared.growing.Grew.{Grew}
-use Rattle.bl_proc_steps.specs.declared.growing.Grew.TheVariants.{On, Grown, Refused}
+use Rattle.bl_proc_steps.specs.declared.growth.Rise.{Rise}
+use Rattle.bl_proc_steps.specs.declared.growth.Growth.{Growth}
+use Rattle.bl_proc_steps.specs.declared.growth.Growth.TheVariants.{Latching, Latched, Taking, PuttingTop, PuttingAnchor, OpeningTop, OpeningGrown, OpeningRefused}
+use Rattle.bl_proc_steps.specs.declared.growth.Grew.{Grew}
+use Rattle.bl_proc_steps.specs.declared.growth.Grew.TheVariants.{On, Grown, Refused}
 use Rattle.bl_proc_steps.specs.Given.{Gives}
 use Rattle.bl_proc_steps.specs.Growths.{growth_next, growth_needs, IsTop, IsAnchor, Raises, Grows}
 use Rattle.bl_proc_deterministic.specs.One.{One}

@@ -13,35 +13,35 @@ use Rattle.bl_proc_steps.specs.declared.acts.Seen.TheVariants as seen
 use Rattle.bl_proc_steps.specs.declared.answers.Hint.TheVariants as hint
 use Rattle.bl_proc_steps.specs.declared.answers.Reclaimed.{Reclaimed}
 use Rattle.bl_proc_steps.specs.declared.answers.Reclaimed.TheVariants as reclaimed
-use Rattle.bl_proc_routes.specs.declared.onwards.Step.{Step}
-use Rattle.bl_proc_routes.specs.declared.onwards.Step.TheVariants.{Again, Right, Down, Here}
+use Rattle.bl_proc_routes.specs.declared.routes.Step.{Step}
+use Rattle.bl_proc_routes.specs.declared.routes.Step.TheVariants.{Again, Right, Down, Here}
 use Rattle.bl_proc_steps.specs.declared.descent.Descent.{Descent}
 use Rattle.bl_proc_steps.specs.declared.descent.Descent.TheVariants as descent
 use Rattle.bl_proc_steps.specs.declared.descent.Descended.TheVariants as descended
-use Rattle.bl_proc_steps.specs.declared.approaching.Approach.{Approach}
-use Rattle.bl_proc_steps.specs.declared.approaching.Approach.TheVariants as way
-use Rattle.bl_proc_steps.specs.declared.approaching.Approached.TheVariants as came
-use Rattle.bl_proc_steps.specs.declared.approaching.Came.{Came as Became}
-use Rattle.bl_proc_steps.specs.declared.approaching.Came.TheVariants as come
-use Rattle.bl_proc_steps.specs.declared.editing.Outcome.{Outcome}
-use Rattle.bl_proc_steps.specs.declared.editing.Edit.{Edit}
-use Rattle.bl_proc_steps.specs.declared.editing.Edited.TheVariants as changed
-use Rattle.bl_proc_steps.specs.declared.growing.Growth.{Growth}
-use Rattle.bl_proc_steps.specs.declared.growing.Growth.TheVariants as growth
-use Rattle.bl_proc_steps.specs.declared.growing.Grew.TheVariants as grew
+use Rattle.bl_proc_steps.specs.declared.approach.Approach.{Approach}
+use Rattle.bl_proc_steps.specs.declared.approach.Approach.TheVariants as way
+use Rattle.bl_proc_steps.specs.declared.approach.Approached.TheVariants as came
+use Rattle.bl_proc_steps.specs.declared.approach.Came.{Came as Became}
+use Rattle.bl_proc_steps.specs.declared.approach.Came.TheVariants as come
+use Rattle.bl_proc_steps.specs.declared.edit.Outcome.{Outcome}
+use Rattle.bl_proc_steps.specs.declared.edit.Edit.{Edit}
+use Rattle.bl_proc_steps.specs.declared.edit.Edited.TheVariants as changed
+use Rattle.bl_proc_steps.specs.declared.growth.Growth.{Growth}
+use Rattle.bl_proc_steps.specs.declared.growth.Growth.TheVariants as growth
+use Rattle.bl_proc_steps.specs.declared.growth.Grew.TheVariants as grew
 use Rattle.bl_proc_steps.specs.declared.lowering.Lowered.{Lowered}
 use Rattle.bl_proc_steps.specs.declared.lowering.Lowering.{Lowering}
 use Rattle.bl_proc_steps.specs.declared.lowering.Lowering.TheVariants.{Looking}
 use Rattle.bl_proc_steps.specs.declared.lowering.Sank.TheVariants as sank
-use Rattle.bl_proc_compress.specs.declared.compressing.Family.{Family}
-use Rattle.bl_proc_compress.specs.declared.compressing.Decision.{Decision}
-use Rattle.bl_proc_compress.specs.declared.compressing.Compression.{Compression}
-use Rattle.bl_proc_compress.specs.declared.compressing.Compression.TheVariants.{LatchingLeft}
-use Rattle.bl_proc_compress.specs.declared.compressing.Compressed.TheVariants as step
-use Rattle.bl_proc_compress.specs.declared.squeezing.CompressStage.{CompressStage}
-use Rattle.bl_proc_compress.specs.declared.squeezing.CompressStage.TheVariants as compress
-use Rattle.bl_proc_compress.specs.declared.squeezing.CompressReply.{CompressReply}
-use Rattle.bl_proc_compress.specs.declared.squeezing.CompressReply.TheVariants as pressed
+use Rattle.bl_proc_compress.specs.declared.compression.Family.{Family}
+use Rattle.bl_proc_compress.specs.declared.compression.Decision.{Decision}
+use Rattle.bl_proc_compress.specs.declared.compression.Compression.{Compression}
+use Rattle.bl_proc_compress.specs.declared.compression.Compression.TheVariants.{LatchingLeft}
+use Rattle.bl_proc_compress.specs.declared.compression.Compressed.TheVariants as step
+use Rattle.bl_proc_compress.specs.declared.compress.CompressStage.{CompressStage}
+use Rattle.bl_proc_compress.specs.declared.compress.CompressStage.TheVariants as compress
+use Rattle.bl_proc_compress.specs.declared.compress.CompressReply.{CompressReply}
+use Rattle.bl_proc_compress.specs.declared.compress.CompressReply.TheVariants as pressed
 use Rattle.bl_proc_compress.specs.Compressions.{AreSiblings, Compresses}
 use Rattle.bl_proc_compress.specs.Compresses.{compress_reply, CompressArrives, CompressComes, CompressGoes}
 use Rattle.bl_proc_writes.specs.declared.writing.Noted.{Noted}
@@ -51,16 +51,16 @@ use Rattle.bl_proc_writes.specs.declared.writing.WriteStage.{WriteStage}
 use Rattle.bl_proc_writes.specs.declared.writing.WriteStage.TheVariants as write
 use Rattle.bl_proc_writes.specs.declared.writing.Write.{Write}
 use Rattle.bl_proc_writes.specs.declared.walking.Walk.{Walk}
-use Rattle.bl_proc_writes.specs.declared.posting.Post.{Post}
-use Rattle.bl_proc_writes.specs.declared.posting.PostStage.{PostStage}
-use Rattle.bl_proc_writes.specs.declared.posting.PostStage.TheVariants as post
-use Rattle.bl_proc_writes.specs.declared.posting.PostReply.{PostReply}
-use Rattle.bl_proc_writes.specs.declared.posting.PostReply.TheVariants as listed
+use Rattle.bl_proc_writes.specs.declared.post.Post.{Post}
+use Rattle.bl_proc_writes.specs.declared.post.PostStage.{PostStage}
+use Rattle.bl_proc_writes.specs.declared.post.PostStage.TheVariants as post
+use Rattle.bl_proc_writes.specs.declared.post.PostReply.{PostReply}
+use Rattle.bl_proc_writes.specs.declared.post.PostReply.TheVariants as listed
 use Rattle.bl_proc_writes.specs.declared.paths.Path.{Path}
-use Rattle.bl_proc_writes.specs.declared.climbing.Climbed.{Climbed}
-use Rattle.bl_proc_writes.specs.declared.climbing.Climbed.TheVariants as climbed
-use Rattle.bl_proc_writes.specs.declared.climbing.ClimbStage.{ClimbStage}
-use Rattle.bl_proc_writes.specs.declared.climbing.ClimbStage.TheVariants as climb
+use Rattle.bl_proc_writes.specs.declared.insert_post.Climbed.{Climbed}
+use Rattle.bl_proc_writes.specs.declared.insert_post.Climbed.TheVariants as climbed
+use Rattle.bl_proc_writes.specs.declared.insert_post.ClimbStage.{ClimbStage}
+use Rattle.bl_proc_writes.specs.declared.insert_post.ClimbStage.TheVariants as climb
 use Rattle.bl_proc.specs.declared.reclaiming.Round.{Round}
 use Rattle.bl_proc.specs.declared.reclaiming.ReclaimStage.{ReclaimStage}
 use Rattle.bl_proc.specs.declared.reclaiming.ReclaimStage.TheVariants as reclaim
@@ -72,7 +72,7 @@ use Rattle.bl_proc.specs.declared.parts.PartRows.{PartRows}
 use Rattle.bl_proc.specs.declared.parts.PartStage.{PartStage}
 use Rattle.bl_proc.specs.declared.parts.PartStart.{PartStart}
 use Rattle.bl_proc.specs.declared.parts.PartStage.TheVariants as part
-use Rattle.bl_proc_routes.specs.Onwards.{Leads}
+use Rattle.bl_proc_routes.specs.Routes.{Leads}
 use Rattle.bl_proc_steps.specs.Descents.{Descends}
 use Rattle.bl_proc_steps.specs.Approaches.{Approaches, Comes}
 use Rattle.bl_proc_steps.specs.Edits.{EntersPair, Changes}
@@ -84,7 +84,7 @@ use Rattle.bl_proc_writes.specs.Writes.{Performs, thin_by, write_reply, WriteArr
 use Rattle.bl_proc_writes.specs.Posts.{post_reply, IsLost, PostLacks, PostArrives, PostComes, PostGoes}
 use Rattle.bl_proc_writes.specs.Paths.{noted, Notes}
 use Rattle.bl_proc_writes.specs.Stands.{IsWriting, IsPosting}
-use Rattle.bl_proc_writes.specs.Climbs.{PostsFrom, IsUnsplit, IsLast, ClimbGoes}
+use Rattle.bl_proc_writes.specs.InsertPosts.{PostsFrom, IsUnsplit, IsLast, ClimbGoes}
 use Rattle.bl_proc.specs.Reclaims.{GoesPast, ReclaimGoes}
 use Rattle.bl_proc.specs.Lowers.{LowerGoes}
 use Rattle.bl_proc_deterministic.proofs.WayCases.{ApproachCase, approach_case}

@@ -7,8 +7,8 @@ use Rattle.bl_page.specs.Pages.{Covers}
 use Rattle.bl_model.specs.Rows.{map_of}
 use Rattle.bl_page.specs.Nodes.{node_of}
 use Rattle.bl_rearrange.specs.Rearranged.{pairs_of, MayHold, MayLose}
-use Rattle.bl_proc_routes.specs.declared.onwards.Step.TheVariants.{Here}
-use Rattle.bl_proc_routes.specs.Onwards.{Leads}
+use Rattle.bl_proc_routes.specs.declared.routes.Step.TheVariants.{Here}
+use Rattle.bl_proc_routes.specs.Routes.{Leads}
 
 pub leaf_covers : (c : Page) (key level : ℕ) → Leads c key level Here → Covers c key
 leaf_covers (Anchor a) key level h = absurd h.0

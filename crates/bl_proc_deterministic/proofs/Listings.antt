@@ -12,8 +12,8 @@ use Rattle.bl_page.specs.declared.page.Page.{Page}
 use Rattle.bl_page.specs.declared.page.Page.TheVariants.{Anchor, Leaf, Inner, Dead}
 use Rattle.bl_page.specs.Pairs.{RisesFrom, end_of}
 use Rattle.bl_page.specs.Nodes.{unbounded}
-use Rattle.bl_proc_routes.specs.declared.onwards.Step.TheVariants.{Here}
-use Rattle.bl_proc_routes.specs.Onwards.{Leads}
+use Rattle.bl_proc_routes.specs.declared.routes.Step.TheVariants.{Here}
+use Rattle.bl_proc_routes.specs.Routes.{Leads}
 use Rattle.bl_proc.specs.declared.parts.Direction.{Direction}
 use Rattle.bl_proc.specs.declared.parts.Direction.TheVariants.{Up, Down}
 use Rattle.bl_proc.specs.declared.parts.PartRows.{PartRows}

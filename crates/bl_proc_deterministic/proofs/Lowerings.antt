@@ -20,7 +20,7 @@ use Rattle.bl_proc_steps.specs.declared.lowering.Lowering.TheVariants.{Looking, 
 use Rattle.bl_proc_steps.specs.declared.lowering.Sank.{Sank}
 use Rattle.bl_proc_steps.specs.declared.lowering.Sank.TheVariants.{On, Over}
 use Rattle.bl_proc_steps.specs.Given.{Gives}
-use Rattle.bl_proc_routes.specs.Onwards.{top_of}
+use Rattle.bl_proc_routes.specs.Routes.{top_of}
 use Rattle.bl_proc_steps.specs.Lowerings.{lowering_next, lowering_needs, IsSole, IsFallen, Sinks, Lowers}
 use Rattle.bl_proc_steps.proofs.Tops.{length_take, AreChildren-take}
 use Rattle.bl_proc_deterministic.specs.One.{One}

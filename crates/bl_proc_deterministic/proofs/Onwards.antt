@@ -9,9 +9,9 @@ use Rattle.bl_page.proofs.Lookups.{child_before, child_at_place, place-some}
 use Rattle.bl_model.specs.Rows.{map_of}
 use Rattle.bl_model.specs.Map.{Map}
 use Rattle.bl_page.specs.Nodes.{Covers, node_of, IsTreePage, IsChildOf}
-use Rattle.bl_proc_routes.specs.declared.onwards.Step.{Step}
-use Rattle.bl_proc_routes.specs.declared.onwards.Step.TheVariants.{Again, Right, Down, Here}
-use Rattle.bl_proc_routes.specs.Onwards.{IsDead, Leads}
+use Rattle.bl_proc_routes.specs.declared.routes.Step.{Step}
+use Rattle.bl_proc_routes.specs.declared.routes.Step.TheVariants.{Again, Right, Down, Here}
+use Rattle.bl_proc_routes.specs.Routes.{IsDead, Leads}
 
 -- no page is dead and of the tree
 dead_tree : (c : Page) → IsDead c → IsTreePage c → ⊥

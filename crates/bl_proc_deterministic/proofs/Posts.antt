@@ -12,34 +12,34 @@ use Rattle.bl_page.specs.Pairs.{IsChild, IsWithin, IsWithin-prop, IsChild-prop}
 use Rattle.bl_page.specs.Nodes.{node_of, IsChildOf}
 use Rattle.bl_proc_steps.specs.declared.acts.Seen.{Seen}
 use Rattle.bl_proc_steps.specs.declared.acts.Seen.TheVariants as seen
-use Rattle.bl_proc_routes.specs.declared.onwards.Step.{Step}
-use Rattle.bl_proc_routes.specs.declared.onwards.Step.TheVariants.{Again, Right, Down, Here}
-use Rattle.bl_proc_steps.specs.declared.approaching.Approach.{Approach}
-use Rattle.bl_proc_steps.specs.declared.approaching.Approach.TheVariants.{Start, Leaving}
-use Rattle.bl_proc_steps.specs.declared.approaching.Came.{Came}
-use Rattle.bl_proc_steps.specs.declared.approaching.Came.TheVariants as come
-use Rattle.bl_proc_steps.specs.declared.growing.Growth.{Growth}
-use Rattle.bl_proc_steps.specs.declared.growing.Growth.TheVariants as growth
-use Rattle.bl_proc_steps.specs.declared.growing.Grew.{Grew}
-use Rattle.bl_proc_steps.specs.declared.growing.Grew.TheVariants as grew
-use Rattle.bl_proc_steps.specs.declared.editing.Edit.{Edit}
-use Rattle.bl_proc_steps.specs.declared.editing.Edited.{Edited}
-use Rattle.bl_proc_steps.specs.declared.editing.Edited.TheVariants as edit
+use Rattle.bl_proc_routes.specs.declared.routes.Step.{Step}
+use Rattle.bl_proc_routes.specs.declared.routes.Step.TheVariants.{Again, Right, Down, Here}
+use Rattle.bl_proc_steps.specs.declared.approach.Approach.{Approach}
+use Rattle.bl_proc_steps.specs.declared.approach.Approach.TheVariants.{Start, Leaving}
+use Rattle.bl_proc_steps.specs.declared.approach.Came.{Came}
+use Rattle.bl_proc_steps.specs.declared.approach.Came.TheVariants as come
+use Rattle.bl_proc_steps.specs.declared.growth.Growth.{Growth}
+use Rattle.bl_proc_steps.specs.declared.growth.Growth.TheVariants as growth
+use Rattle.bl_proc_steps.specs.declared.growth.Grew.{Grew}
+use Rattle.bl_proc_steps.specs.declared.growth.Grew.TheVariants as grew
+use Rattle.bl_proc_steps.specs.declared.edit.Edit.{Edit}
+use Rattle.bl_proc_steps.specs.declared.edit.Edited.{Edited}
+use Rattle.bl_proc_steps.specs.declared.edit.Edited.TheVariants as edit
 use Rattle.bl_proc_steps.specs.Given.{Gives}
-use Rattle.bl_proc_routes.specs.Onwards.{Leads}
+use Rattle.bl_proc_routes.specs.Routes.{Leads}
 use Rattle.bl_proc_steps.specs.Approaches.{Comes}
 use Rattle.bl_proc_steps.specs.Edits.{EntersPair, Changes}
 use Rattle.bl_proc_steps.specs.Growths.{Grows}
 use Rattle.bl_proc.specs.declared.kinds.Proc.{Proc}
 use Rattle.bl_proc.specs.declared.kinds.Proc.TheVariants as proc
 use Rattle.bl_proc_writes.specs.declared.walking.Walk.{Walk}
-use Rattle.bl_proc_writes.specs.declared.posting.Post.{Post}
+use Rattle.bl_proc_writes.specs.declared.post.Post.{Post}
 use Rattle.bl_proc_writes.specs.Levels.{IsBelowTop, IsBelowTop-prop}
 use Rattle.bl_proc_writes.proofs.Below.{goes_below}
-use Rattle.bl_proc_writes.specs.declared.posting.PostStage.{PostStage}
-use Rattle.bl_proc_writes.specs.declared.posting.PostStage.TheVariants.{New, Coming, Growing, Walking, Editing, Staying, Ending, Over}
-use Rattle.bl_proc_writes.specs.declared.posting.PostReply.{PostReply}
-use Rattle.bl_proc_writes.specs.declared.posting.PostReply.TheVariants as reply
+use Rattle.bl_proc_writes.specs.declared.post.PostStage.{PostStage}
+use Rattle.bl_proc_writes.specs.declared.post.PostStage.TheVariants.{New, Coming, Growing, Walking, Editing, Staying, Ending, Over}
+use Rattle.bl_proc_writes.specs.declared.post.PostReply.{PostReply}
+use Rattle.bl_proc_writes.specs.declared.post.PostReply.TheVariants as reply
 use Rattle.bl_proc_writes.specs.Posts.{post_reply, post_next_in, post_needs_in, post_answer_in, PostLacks, PostArrives, IsLost, PostWalks, PostComes, PostGoes}
 use Rattle.bl_proc.specs.Processes.{Takes}
 use Rattle.bl_proc_writes.proofs.Named.{listed-child}

@@ -3,18 +3,18 @@ use Rattle.std.proofs.Common.{ℕ, ◌≡◌, ◌⊎◌, refl, subst, inl, inr}
 use Rattle.bl_page.specs.declared.page.Page.TheVariants.{Inner}
 use Rattle.bl_proc_steps.specs.declared.acts.Seen.{Seen}
 use Rattle.bl_proc_steps.specs.declared.acts.Seen.TheVariants as seen
-use Rattle.bl_proc_steps.specs.declared.editing.Outcome.{Outcome}
-use Rattle.bl_proc_steps.specs.declared.editing.Outcome.TheVariants as outcome
+use Rattle.bl_proc_steps.specs.declared.edit.Outcome.{Outcome}
+use Rattle.bl_proc_steps.specs.declared.edit.Outcome.TheVariants as outcome
 use Rattle.bl_model.specs.declared.deciding.KeyWrite.{KeyWrite}
 use Rattle.bl_proc_writes.specs.declared.writing.Noted.{Noted}
 use Rattle.bl_proc_writes.specs.declared.writing.WriteStage.{WriteStage}
-use Rattle.bl_proc_writes.specs.declared.posting.PostStage.{PostStage}
+use Rattle.bl_proc_writes.specs.declared.post.PostStage.{PostStage}
 use Rattle.bl_proc_steps.specs.declared.lowering.Lowering.{Lowering}
 use Rattle.bl_proc_steps.specs.declared.lowering.Sank.{Sank}
 use Rattle.bl_proc_steps.specs.declared.lowering.Sank.TheVariants.{On, Over}
 use Rattle.bl_proc.specs.declared.lowering.LowerStage.{LowerStage}
 use Rattle.bl_proc_writes.specs.declared.paths.Path.{Path}
-use Rattle.bl_proc_writes.specs.declared.climbing.ClimbStage.{ClimbStage}
+use Rattle.bl_proc_writes.specs.declared.insert_post.ClimbStage.{ClimbStage}
 use Rattle.bl_proc.specs.declared.kinds.Proc.{Proc}
 use Rattle.bl_proc.specs.declared.kinds.Proc.TheVariants as proc
 use Rattle.bl_proc.specs.Processes.{Takes}

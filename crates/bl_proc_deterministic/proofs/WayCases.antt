@@ -9,37 +9,37 @@ use Rattle.bl_rearrange.specs.Rearranged.{IsFitted}
 use Rattle.bl_page.specs.Nodes.{roots_of}
 use Rattle.bl_proc_steps.specs.declared.acts.Seen.{Seen}
 use Rattle.bl_proc_steps.specs.declared.acts.Seen.TheVariants as seen
-use Rattle.bl_proc_routes.specs.declared.onwards.Step.{Step}
-use Rattle.bl_proc_routes.specs.declared.onwards.Step.TheVariants.{Here}
-use Rattle.bl_proc_steps.specs.declared.approaching.Approach.{Approach}
-use Rattle.bl_proc_steps.specs.declared.approaching.Approach.TheVariants as way
-use Rattle.bl_proc_steps.specs.declared.approaching.Approached.{Approached}
-use Rattle.bl_proc_steps.specs.declared.approaching.Approached.TheVariants as came
-use Rattle.bl_proc_steps.specs.declared.editing.Full.{Full}
-use Rattle.bl_proc_steps.specs.declared.editing.Splitting.{Splitting}
-use Rattle.bl_proc_steps.specs.declared.editing.Outcome.{Outcome}
-use Rattle.bl_proc_steps.specs.declared.editing.Outcome.TheVariants as outcome
-use Rattle.bl_proc_steps.specs.declared.editing.Edit.{Edit}
-use Rattle.bl_proc_steps.specs.declared.editing.Edit.TheVariants as edit
-use Rattle.bl_proc_steps.specs.declared.editing.Edited.{Edited}
-use Rattle.bl_proc_steps.specs.declared.editing.Edited.TheVariants as changed
-use Rattle.bl_proc_steps.specs.declared.growing.Rise.{Rise}
-use Rattle.bl_proc_steps.specs.declared.growing.Raising.{Raising}
-use Rattle.bl_proc_steps.specs.declared.growing.Growth.{Growth}
-use Rattle.bl_proc_steps.specs.declared.growing.Growth.TheVariants as growth
-use Rattle.bl_proc_steps.specs.declared.growing.Grew.{Grew}
-use Rattle.bl_proc_steps.specs.declared.growing.Grew.TheVariants as grew
-use Rattle.bl_proc_compress.specs.declared.compressing.Siblings.{Siblings}
-use Rattle.bl_proc_compress.specs.declared.compressing.Family.{Family}
-use Rattle.bl_proc_compress.specs.declared.compressing.Puts.{Puts}
-use Rattle.bl_proc_compress.specs.declared.compressing.Decision.{Decision}
-use Rattle.bl_proc_compress.specs.declared.compressing.Decision.TheVariants.{Refused, Lost}
-use Rattle.bl_proc_compress.specs.declared.compressing.Compression.{Compression}
-use Rattle.bl_proc_compress.specs.declared.compressing.Compression.TheVariants.{LatchingLeft, LatchedLeft, LatchingRight, LatchedRight, PuttingFirst, PuttingParent, PuttingLast, Retiring, OpeningRight, OpeningLeft, OpeningParent}
-use Rattle.bl_proc_compress.specs.declared.compressing.Compressed.{Compressed}
-use Rattle.bl_proc_compress.specs.declared.compressing.Compressed.TheVariants as step
+use Rattle.bl_proc_routes.specs.declared.routes.Step.{Step}
+use Rattle.bl_proc_routes.specs.declared.routes.Step.TheVariants.{Here}
+use Rattle.bl_proc_steps.specs.declared.approach.Approach.{Approach}
+use Rattle.bl_proc_steps.specs.declared.approach.Approach.TheVariants as way
+use Rattle.bl_proc_steps.specs.declared.approach.Approached.{Approached}
+use Rattle.bl_proc_steps.specs.declared.approach.Approached.TheVariants as came
+use Rattle.bl_proc_steps.specs.declared.edit.Full.{Full}
+use Rattle.bl_proc_steps.specs.declared.edit.Splitting.{Splitting}
+use Rattle.bl_proc_steps.specs.declared.edit.Outcome.{Outcome}
+use Rattle.bl_proc_steps.specs.declared.edit.Outcome.TheVariants as outcome
+use Rattle.bl_proc_steps.specs.declared.edit.Edit.{Edit}
+use Rattle.bl_proc_steps.specs.declared.edit.Edit.TheVariants as edit
+use Rattle.bl_proc_steps.specs.declared.edit.Edited.{Edited}
+use Rattle.bl_proc_steps.specs.declared.edit.Edited.TheVariants as changed
+use Rattle.bl_proc_steps.specs.declared.growth.Rise.{Rise}
+use Rattle.bl_proc_steps.specs.declared.growth.Raising.{Raising}
+use Rattle.bl_proc_steps.specs.declared.growth.Growth.{Growth}
+use Rattle.bl_proc_steps.specs.declared.growth.Growth.TheVariants as growth
+use Rattle.bl_proc_steps.specs.declared.growth.Grew.{Grew}
+use Rattle.bl_proc_steps.specs.declared.growth.Grew.TheVariants as grew
+use Rattle.bl_proc_compress.specs.declared.compression.Siblings.{Siblings}
+use Rattle.bl_proc_compress.specs.declared.compression.Family.{Family}
+use Rattle.bl_proc_compress.specs.declared.compression.Puts.{Puts}
+use Rattle.bl_proc_compress.specs.declared.compression.Decision.{Decision}
+use Rattle.bl_proc_compress.specs.declared.compression.Decision.TheVariants.{Refused, Lost}
+use Rattle.bl_proc_compress.specs.declared.compression.Compression.{Compression}
+use Rattle.bl_proc_compress.specs.declared.compression.Compression.TheVariants.{LatchingLeft, LatchedLeft, LatchingRight, LatchedRight, PuttingFirst, PuttingParent, PuttingLast, Retiring, OpeningRight, OpeningLeft, OpeningParent}
+use Rattle.bl_proc_compress.specs.declared.compression.Compressed.{Compressed}
+use Rattle.bl_proc_compress.specs.declared.compression.Compressed.TheVariants as step
 use Rattle.bl_proc_compress.specs.Compressions.{Links, Decides, after_puts, missed_left, missed_right, Compresses}
-use Rattle.bl_proc_routes.specs.Onwards.{Leads}
+use Rattle.bl_proc_routes.specs.Routes.{Leads}
 use Rattle.bl_proc_steps.specs.Approaches.{Enters, Turns, Quits, Approaches}
 use Rattle.bl_proc_steps.specs.Edits.{Changes}
 use Rattle.bl_proc_steps.specs.Growths.{Raises, Grows}

@@ -7,16 +7,16 @@ use Rattle.bl_page.specs.declared.page.Inner.{Inner}
 use Rattle.bl_page.specs.Nodes.{Roots, node_of, roots_of}
 use Rattle.bl_proc_steps.specs.declared.acts.Seen.{Seen}
 use Rattle.bl_proc_steps.specs.declared.acts.Seen.TheVariants as seen
-use Rattle.bl_proc_routes.specs.declared.onwards.Step.{Step}
-use Rattle.bl_proc_routes.specs.declared.onwards.Step.TheVariants.{Again, Right, Down, Here}
-use Rattle.bl_proc_steps.specs.declared.approaching.Approach.{Approach}
-use Rattle.bl_proc_steps.specs.declared.approaching.Approach.TheVariants.{Start, At, Latching, Latched, Leaving}
-use Rattle.bl_proc_steps.specs.declared.approaching.Approached.{Approached}
-use Rattle.bl_proc_steps.specs.declared.approaching.Approached.TheVariants as came
-use Rattle.bl_proc_steps.specs.declared.approaching.Came.{Came}
-use Rattle.bl_proc_steps.specs.declared.approaching.Came.TheVariants as come
+use Rattle.bl_proc_routes.specs.declared.routes.Step.{Step}
+use Rattle.bl_proc_routes.specs.declared.routes.Step.TheVariants.{Again, Right, Down, Here}
+use Rattle.bl_proc_steps.specs.declared.approach.Approach.{Approach}
+use Rattle.bl_proc_steps.specs.declared.approach.Approach.TheVariants.{Start, At, Latching, Latched, Leaving}
+use Rattle.bl_proc_steps.specs.declared.approach.Approached.{Approached}
+use Rattle.bl_proc_steps.specs.declared.approach.Approached.TheVariants as came
+use Rattle.bl_proc_steps.specs.declared.approach.Came.{Came}
+use Rattle.bl_proc_steps.specs.declared.approach.Came.TheVariants as come
 use Rattle.bl_proc_steps.specs.Given.{Gives}
-use Rattle.bl_proc_routes.specs.Onwards.{top_of, Leads}
+use Rattle.bl_proc_routes.specs.Routes.{top_of, Leads}
 use Rattle.bl_proc_steps.specs.Approaches.{approach_next, Enters, Turns, Quits, Approaches, HasLevel, CountsLevels, Comes}
 use Rattle.bl_proc_steps.proofs.Ways.{here_leads}
 use Rattle.bl_proc_deterministic.specs.One.{One}

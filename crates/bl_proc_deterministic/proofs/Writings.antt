@@ -10,16 +10,16 @@ use Rattle.bl_page.specs.declared.page.Page.{Page}
 use Rattle.bl_page.specs.Nodes.{node_of}
 use Rattle.bl_proc_steps.specs.declared.acts.Seen.{Seen}
 use Rattle.bl_proc_steps.specs.declared.acts.Seen.TheVariants as seen
-use Rattle.bl_proc_routes.specs.declared.onwards.Step.TheVariants.{Here}
-use Rattle.bl_proc_steps.specs.declared.approaching.Approach.{Approach}
-use Rattle.bl_proc_steps.specs.declared.approaching.Approach.TheVariants.{Start}
-use Rattle.bl_proc_steps.specs.declared.approaching.Approached.{Approached}
-use Rattle.bl_proc_steps.specs.declared.approaching.Approached.TheVariants as came
-use Rattle.bl_proc_steps.specs.declared.editing.Edit.{Edit}
-use Rattle.bl_proc_steps.specs.declared.editing.Edited.{Edited}
-use Rattle.bl_proc_steps.specs.declared.editing.Edited.TheVariants as edit
+use Rattle.bl_proc_routes.specs.declared.routes.Step.TheVariants.{Here}
+use Rattle.bl_proc_steps.specs.declared.approach.Approach.{Approach}
+use Rattle.bl_proc_steps.specs.declared.approach.Approach.TheVariants.{Start}
+use Rattle.bl_proc_steps.specs.declared.approach.Approached.{Approached}
+use Rattle.bl_proc_steps.specs.declared.approach.Approached.TheVariants as came
+use Rattle.bl_proc_steps.specs.declared.edit.Edit.{Edit}
+use Rattle.bl_proc_steps.specs.declared.edit.Edited.{Edited}
+use Rattle.bl_proc_steps.specs.declared.edit.Edited.TheVariants as edit
 use Rattle.bl_proc_steps.specs.Given.{Gives}
-use Rattle.bl_proc_routes.specs.Onwards.{Leads}
+use Rattle.bl_proc_routes.specs.Routes.{Leads}
 use Rattle.bl_proc_steps.specs.Approaches.{Approaches}
 use Rattle.bl_proc_steps.specs.Edits.{Changes}
 use Rattle.bl_proc.specs.declared.kinds.Proc.{Proc}

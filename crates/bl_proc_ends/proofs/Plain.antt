@@ -8,13 +8,13 @@ use Rattle.bl_tree_worlds.specs.Worlds.{Know, World, IsSure, IsGood}
 use Rattle.bl_proc_steps.specs.declared.acts.Action.TheVariants as act
 use Rattle.bl_proc_steps.specs.declared.acts.Seen.{Seen}
 use Rattle.bl_proc_steps.specs.declared.acts.Seen.TheVariants as seen
-use Rattle.bl_proc_steps.specs.declared.approaching.Approach.{Approach}
-use Rattle.bl_proc_steps.specs.declared.approaching.Approach.TheVariants as way
-use Rattle.bl_proc_steps.specs.declared.approaching.Approached.TheVariants as came
+use Rattle.bl_proc_steps.specs.declared.approach.Approach.{Approach}
+use Rattle.bl_proc_steps.specs.declared.approach.Approach.TheVariants as way
+use Rattle.bl_proc_steps.specs.declared.approach.Approached.TheVariants as came
 use Rattle.bl_proc_steps.specs.declared.descent.Descent.{Descent}
 use Rattle.bl_proc_steps.specs.declared.descent.Descent.TheVariants.{AtAnchor}
 use Rattle.bl_proc_steps.specs.declared.descent.Descended.TheVariants as descended
-use Rattle.bl_proc_steps.specs.declared.editing.Edited.TheVariants as changed
+use Rattle.bl_proc_steps.specs.declared.edit.Edited.TheVariants as changed
 use Rattle.bl_proc_steps.specs.declared.lowering.Lowering.{Lowering}
 use Rattle.bl_proc_steps.specs.declared.lowering.Lowering.TheVariants as lowering
 use Rattle.bl_proc_steps.specs.declared.lowering.Sank.TheVariants as sank

@@ -3,28 +3,28 @@
 use Rattle.std.specs.Prelude.{◌≡◌, ◌≢◌, ◌⊎◌, ℕ, ◌+◌, ◌*◌, ◌<◌, true}
 use Rattle.bl_page.specs.declared.page.Page.{Page}
 use Rattle.bl_page.specs.Nodes.{roots_of}
-use Rattle.bl_proc_steps.specs.declared.approaching.Approach.{Approach}
+use Rattle.bl_proc_steps.specs.declared.approach.Approach.{Approach}
 use Rattle.bl_proc_steps.specs.declared.descent.Descent.TheVariants.{AtAnchor, At}
-use Rattle.bl_proc_steps.specs.declared.editing.Edit.{Edit}
-use Rattle.bl_proc_steps.specs.declared.editing.Edit.TheVariants as edit
-use Rattle.bl_proc_steps.specs.declared.editing.Outcome.TheVariants as outcome
-use Rattle.bl_proc_steps.specs.declared.growing.Growth.{Growth}
-use Rattle.bl_proc_steps.specs.declared.growing.Growth.TheVariants as growth
+use Rattle.bl_proc_steps.specs.declared.edit.Edit.{Edit}
+use Rattle.bl_proc_steps.specs.declared.edit.Edit.TheVariants as edit
+use Rattle.bl_proc_steps.specs.declared.edit.Outcome.TheVariants as outcome
+use Rattle.bl_proc_steps.specs.declared.growth.Growth.{Growth}
+use Rattle.bl_proc_steps.specs.declared.growth.Growth.TheVariants as growth
 use Rattle.bl_proc_steps.specs.declared.lowering.Lowering.{Lowering}
 use Rattle.bl_proc_steps.specs.declared.lowering.Lowering.TheVariants as lowering
-use Rattle.bl_proc_compress.specs.declared.compressing.Compression.{Compression}
-use Rattle.bl_proc_compress.specs.declared.compressing.Compression.TheVariants as squeeze
-use Rattle.bl_proc_compress.specs.declared.compressing.Decision.TheVariants.{Lost}
-use Rattle.bl_proc_compress.specs.declared.squeezing.CompressStage.{CompressStage}
-use Rattle.bl_proc_compress.specs.declared.squeezing.CompressStage.TheVariants as compress
+use Rattle.bl_proc_compress.specs.declared.compression.Compression.{Compression}
+use Rattle.bl_proc_compress.specs.declared.compression.Compression.TheVariants as squeeze
+use Rattle.bl_proc_compress.specs.declared.compression.Decision.TheVariants.{Lost}
+use Rattle.bl_proc_compress.specs.declared.compress.CompressStage.{CompressStage}
+use Rattle.bl_proc_compress.specs.declared.compress.CompressStage.TheVariants as compress
 use Rattle.bl_proc_writes.specs.declared.writing.WriteStage.{WriteStage}
 use Rattle.bl_proc_writes.specs.declared.writing.WriteStage.TheVariants as write
-use Rattle.bl_proc_writes.specs.declared.posting.PostReply.{PostReply}
-use Rattle.bl_proc_writes.specs.declared.posting.PostReply.TheVariants as listed
-use Rattle.bl_proc_writes.specs.declared.posting.PostStage.{PostStage}
-use Rattle.bl_proc_writes.specs.declared.posting.PostStage.TheVariants as post
-use Rattle.bl_proc_writes.specs.declared.climbing.ClimbStage.{ClimbStage}
-use Rattle.bl_proc_writes.specs.declared.climbing.ClimbStage.TheVariants as climb
+use Rattle.bl_proc_writes.specs.declared.post.PostReply.{PostReply}
+use Rattle.bl_proc_writes.specs.declared.post.PostReply.TheVariants as listed
+use Rattle.bl_proc_writes.specs.declared.post.PostStage.{PostStage}
+use Rattle.bl_proc_writes.specs.declared.post.PostStage.TheVariants as post
+use Rattle.bl_proc_writes.specs.declared.insert_post.ClimbStage.{ClimbStage}
+use Rattle.bl_proc_writes.specs.declared.insert_post.ClimbStage.TheVariants as climb
 use Rattle.bl_proc.specs.declared.searching.FindStage.{FindStage}
 use Rattle.bl_proc.specs.declared.searching.FindStage.TheVariants as find
 use Rattle.bl_proc.specs.declared.parts.PartStage.{PartStage}

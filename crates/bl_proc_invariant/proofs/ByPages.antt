@@ -20,9 +20,9 @@ use Rattle.bl_claims.specs.Trails.{Trail}
 use Rattle.bl_proc_steps.specs.declared.answers.Hint.{Hint}
 use Rattle.bl_proc_steps.specs.declared.answers.Hint.TheVariants as hint
 use Rattle.bl_proc_steps.specs.Thin.{thin_low, thin_hint}
-use Rattle.bl_proc_compress.specs.declared.compressing.Siblings.{Siblings}
-use Rattle.bl_proc_compress.specs.declared.compressing.Family.{Family}
-use Rattle.bl_proc_compress.specs.declared.compressing.Puts.{Puts}
+use Rattle.bl_proc_compress.specs.declared.compression.Siblings.{Siblings}
+use Rattle.bl_proc_compress.specs.declared.compression.Family.{Family}
+use Rattle.bl_proc_compress.specs.declared.compression.Puts.{Puts}
 use Rattle.bl_proc_compress.specs.Compressions.{IsBuried, Merges, Evens, Relists, either_hint, merge_hint, other}
 use Rattle.bl_claims.specs.Squeezed.{Adjoin, GotBoth, evened_puts, NowLists, IsMergeOf, IsEveningOf, thin_or, HasMerged, HasEvened}
 use Rattle.bl_proc_invariant.specs.Logs.{to_right, AtBoth, put_act, IsToSqueeze, to_last}

@@ -22,15 +22,15 @@ use Rattle.bl_tree_worlds.proofs.After.{after, Extends-after, put_at, is_put_at}
 use Rattle.bl_tree_worlds.proofs.Moves.{PutsFresh-keeps, PutsRow-keeps, PutsSplit-keeps}
 use Rattle.bl_tree_worlds.proofs.Fitted.{split_cut}
 use Rattle.bl_proc_steps.specs.declared.acts.Seen.{Seen}
-use Rattle.bl_proc_steps.specs.declared.editing.Edited.TheVariants.{On, Over}
+use Rattle.bl_proc_steps.specs.declared.edit.Edited.TheVariants.{On, Over}
 use Rattle.bl_proc_steps.specs.Edits.{edit_next}
 use Rattle.bl_proc_invariant.specs.Turns.{event_of, IsObserved, Does, Turned}
-use Rattle.bl_proc_steps.specs.declared.editing.Outcome.{Outcome}
-use Rattle.bl_proc_steps.specs.declared.editing.Outcome.TheVariants as outcome
-use Rattle.bl_proc_steps.specs.declared.editing.Full.{Full}
-use Rattle.bl_proc_steps.specs.declared.editing.Splitting.{Splitting}
-use Rattle.bl_proc_steps.specs.declared.editing.Edit.{Edit}
-use Rattle.bl_proc_steps.specs.declared.editing.Edit.TheVariants.{Putting, Taking, PuttingNew, PuttingOld, OpeningNew, Opening}
+use Rattle.bl_proc_steps.specs.declared.edit.Outcome.{Outcome}
+use Rattle.bl_proc_steps.specs.declared.edit.Outcome.TheVariants as outcome
+use Rattle.bl_proc_steps.specs.declared.edit.Full.{Full}
+use Rattle.bl_proc_steps.specs.declared.edit.Splitting.{Splitting}
+use Rattle.bl_proc_steps.specs.declared.edit.Edit.{Edit}
+use Rattle.bl_proc_steps.specs.declared.edit.Edit.TheVariants.{Putting, Taking, PuttingNew, PuttingOld, OpeningNew, Opening}
 use Rattle.bl_proc_invariant.specs.Tables.{carrying, holds_known, Aim, IsAim, IsDue, IsBelow, know_edit}
 use Rattle.bl_proc_invariant.proofs.Acts.{of_held, not_gone, watched, opened, taken}
 use Rattle.bl_proc_invariant.proofs.Holdings.{cut_low}

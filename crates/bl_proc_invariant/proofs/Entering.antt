@@ -13,8 +13,8 @@ use Rattle.bl_tree_worlds.specs.Worlds.{Stage, World, IsStage, IsGoes, IsRelied,
 use Rattle.bl_claims.specs.Walks.{Each}
 use Rattle.bl_tree_worlds.proofs.Watches.{Learns}
 use Rattle.bl_tree_worlds.proofs.Fitted.{fits_row, without_row, value_row}
-use Rattle.bl_proc_steps.specs.declared.editing.Edit.{Edit}
-use Rattle.bl_proc_steps.specs.declared.editing.Edit.TheVariants.{Putting, Taking, PuttingNew, PuttingOld, OpeningNew, Opening}
+use Rattle.bl_proc_steps.specs.declared.edit.Edit.{Edit}
+use Rattle.bl_proc_steps.specs.declared.edit.Edit.TheVariants.{Putting, Taking, PuttingNew, PuttingOld, OpeningNew, Opening}
 use Rattle.bl_proc_steps.specs.Edits.{EntersPair, DropsPair, GivesValue}
 use Rattle.bl_proc_writes.specs.Writes.{Performs}
 use Rattle.bl_proc_invariant.specs.Tables.{Aim, IsDue, know_edit}

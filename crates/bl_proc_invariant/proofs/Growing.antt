@@ -19,14 +19,14 @@ use Rattle.bl_tree_worlds.proofs.Watches.{Learns}
 use Rattle.bl_tree_worlds.proofs.After.{after, Extends-after, put_at, is_put_at}
 use Rattle.bl_tree_worlds.proofs.Descents.{anchor_not_released}
 use Rattle.bl_tree_worlds.proofs.Moves.{PutsFresh-keeps, PutsTop-keeps}
-use Rattle.bl_proc_steps.specs.declared.growing.Rise.{Rise}
-use Rattle.bl_proc_steps.specs.declared.growing.Raising.{Raising}
-use Rattle.bl_proc_steps.specs.declared.growing.Growth.{Growth}
-use Rattle.bl_proc_steps.specs.declared.growing.Growth.TheVariants as growth
+use Rattle.bl_proc_steps.specs.declared.growth.Rise.{Rise}
+use Rattle.bl_proc_steps.specs.declared.growth.Raising.{Raising}
+use Rattle.bl_proc_steps.specs.declared.growth.Growth.{Growth}
+use Rattle.bl_proc_steps.specs.declared.growth.Growth.TheVariants as growth
 use Rattle.bl_proc_steps.specs.declared.acts.Seen.{Seen}
-use Rattle.bl_proc_steps.specs.declared.growing.Grew.TheVariants.{On, Grown, Refused}
-use Rattle.bl_proc_steps.specs.declared.approaching.Approach.TheVariants.{Start}
-use Rattle.bl_proc_writes.specs.declared.posting.PostStage.TheVariants.{Growing}
+use Rattle.bl_proc_steps.specs.declared.growth.Grew.TheVariants.{On, Grown, Refused}
+use Rattle.bl_proc_steps.specs.declared.approach.Approach.TheVariants.{Start}
+use Rattle.bl_proc_writes.specs.declared.post.PostStage.TheVariants.{Growing}
 use Rattle.bl_proc_steps.specs.Growths.{growth_next, IsTop, IsAnchor, Raises}
 use Rattle.bl_proc_invariant.specs.Turns.{event_of, IsObserved, Does, Turned}
 use Rattle.bl_proc_invariant.specs.Tables.{Carried, carrying, know_approach, anchor_known}

@@ -19,8 +19,8 @@ use Rattle.bl_tree_worlds.proofs.Pushes.{HasSaid-silent}
 use Rattle.bl_tree_worlds.proofs.Descents.{leaf_says, may_live}
 use Rattle.bl_proc_steps.specs.declared.acts.Seen.{Seen}
 use Rattle.bl_proc_steps.specs.declared.acts.Seen.TheVariants as seen
-use Rattle.bl_proc_routes.specs.declared.onwards.Step.TheVariants.{Here}
-use Rattle.bl_proc_routes.specs.Onwards.{Leads}
+use Rattle.bl_proc_routes.specs.declared.routes.Step.TheVariants.{Here}
+use Rattle.bl_proc_routes.specs.Routes.{Leads}
 use Rattle.bl_proc_steps.specs.Descents.{descent_page}
 use Rattle.bl_proc.specs.declared.parts.Direction.{Direction}
 use Rattle.bl_proc.specs.declared.parts.Direction.TheVariants.{Up, Down}

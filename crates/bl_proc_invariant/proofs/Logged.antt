@@ -14,16 +14,16 @@ use Rattle.bl_proc_steps.specs.declared.acts.Action.{Action}
 use Rattle.bl_proc_steps.specs.declared.acts.Action.TheVariants as act
 use Rattle.bl_proc_steps.specs.declared.acts.Seen.{Seen}
 use Rattle.bl_proc_steps.specs.declared.acts.Seen.TheVariants as seen
-use Rattle.bl_proc_steps.specs.declared.approaching.Approach.TheVariants as way
-use Rattle.bl_proc_steps.specs.declared.editing.Edit.TheVariants as edit
-use Rattle.bl_proc_steps.specs.declared.growing.Growth.TheVariants as growth
+use Rattle.bl_proc_steps.specs.declared.approach.Approach.TheVariants as way
+use Rattle.bl_proc_steps.specs.declared.edit.Edit.TheVariants as edit
+use Rattle.bl_proc_steps.specs.declared.growth.Growth.TheVariants as growth
 use Rattle.bl_proc_writes.specs.declared.writing.WriteStage.{WriteStage}
 use Rattle.bl_proc_writes.specs.declared.writing.WriteStage.TheVariants as write
-use Rattle.bl_proc_writes.specs.declared.posting.PostStage.{PostStage}
-use Rattle.bl_proc_writes.specs.declared.posting.PostStage.TheVariants as post
-use Rattle.bl_proc_compress.specs.declared.compressing.Compression.TheVariants.{LatchingLeft}
-use Rattle.bl_proc_compress.specs.declared.squeezing.CompressStage.{CompressStage}
-use Rattle.bl_proc_compress.specs.declared.squeezing.CompressStage.TheVariants as compress
+use Rattle.bl_proc_writes.specs.declared.post.PostStage.{PostStage}
+use Rattle.bl_proc_writes.specs.declared.post.PostStage.TheVariants as post
+use Rattle.bl_proc_compress.specs.declared.compression.Compression.TheVariants.{LatchingLeft}
+use Rattle.bl_proc_compress.specs.declared.compress.CompressStage.{CompressStage}
+use Rattle.bl_proc_compress.specs.declared.compress.CompressStage.TheVariants as compress
 use Rattle.bl_proc.specs.declared.lowering.LowerStage.{LowerStage}
 use Rattle.bl_proc.specs.declared.lowering.LowerStage.TheVariants as lower
 use Rattle.bl_proc_steps.specs.declared.lowering.Lowering.TheVariants.{Looking}
@@ -31,8 +31,8 @@ use Rattle.bl_proc.specs.declared.kinds.Proc.{Proc}
 use Rattle.bl_proc.specs.declared.kinds.Proc.TheVariants.{Find, Write, Post, Part, Compress, Reclaim, Lower, InsertPost}
 use Rattle.bl_proc.specs.Processes.{next_of, Takes}
 use Rattle.bl_proc_writes.specs.declared.paths.Path.{Path}
-use Rattle.bl_proc_writes.specs.declared.climbing.ClimbStage.{ClimbStage}
-use Rattle.bl_proc_writes.specs.declared.climbing.ClimbStage.TheVariants as climb
+use Rattle.bl_proc_writes.specs.declared.insert_post.ClimbStage.{ClimbStage}
+use Rattle.bl_proc_writes.specs.declared.insert_post.ClimbStage.TheVariants as climb
 use Rattle.bl_proc_writes.specs.Stands.{IsPosting, Stands}
 use Rattle.bl_proc_invariant.proofs.ClimbingLogs.{climb_on, climb_stays}
 use Rattle.bl_proc_invariant.specs.Turns.{event_of, IsObserved, Turned}
@@ -45,7 +45,7 @@ use Rattle.bl_proc_invariant.proofs.LoweringLogs.{lower_on, lower_stays}
 use Rattle.bl_proc_invariant.proofs.Looking.{looking_on, find_on, part_on}
 use Rattle.bl_proc_invariant.proofs.Putting.{write_on, write_stays}
 use Rattle.bl_proc_deterministic.proofs.KindCases.{find_case, part_case, write_case, post_case, compress_case, lower_case, climb_case}
-use Rattle.bl_proc_writes.specs.declared.climbing.Placing.{Placing}
+use Rattle.bl_proc_writes.specs.declared.insert_post.Placing.{Placing}
 use Rattle.bl_proc_writes.specs.Placings.{write_of}
 
 -- a process that has not begun has nothing to tell

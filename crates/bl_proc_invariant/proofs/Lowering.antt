@@ -25,7 +25,7 @@ use Rattle.bl_proc_steps.specs.declared.lowering.Sank.TheVariants.{On, Over}
 use Rattle.bl_proc_steps.specs.declared.lowering.Summit.{Summit}
 use Rattle.bl_proc_steps.specs.declared.lowering.Sinking.{Sinking}
 use Rattle.bl_proc_steps.specs.declared.lowering.Lowering.TheVariants as lowering
-use Rattle.bl_proc_routes.specs.Onwards.{top_of}
+use Rattle.bl_proc_routes.specs.Routes.{top_of}
 use Rattle.bl_proc_steps.specs.Lowerings.{lowering_next, IsSole, IsFallen, Sinks}
 use Rattle.bl_proc_steps.proofs.Tops.{length_take}
 use Rattle.bl_proc_invariant.specs.Turns.{event_of, IsObserved, Does, Turned}

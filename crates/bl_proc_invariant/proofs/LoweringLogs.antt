@@ -27,7 +27,7 @@ use Rattle.bl_proc.specs.declared.lowering.LowerStage.TheVariants as lower
 use Rattle.bl_proc.specs.declared.kinds.Proc.TheVariants as proc
 use Rattle.bl_proc.specs.Lowers.{lower_next_in, lower_answer_in}
 use Rattle.bl_proc_steps.specs.declared.lowering.Sank.TheVariants.{On, Over}
-use Rattle.bl_proc_routes.specs.Onwards.{top_of}
+use Rattle.bl_proc_routes.specs.Routes.{top_of}
 use Rattle.bl_proc_steps.specs.Lowerings.{lowering_next}
 use Rattle.bl_claims.specs.Squeezed.{acts_in}
 use Rattle.bl_claims.specs.Lowered.{AtTop, to_top, to_sunk, HasLowered, MeansLowered}

@@ -17,11 +17,11 @@ use Rattle.bl_claims.specs.Trails.{Mark, Trail, marks_of}
 use Rattle.bl_claims.specs.Moments.{Puts as PutsPage, IsMiddleBy, InMiddle, InEvening}
 use Rattle.bl_tree_worlds.specs.Worlds.{Middle, World, nodes, HasMiddle, IsSure, IsGood}
 use Rattle.bl_tree_worlds.specs.Observed.{TellsMiddles}
-use Rattle.bl_proc_steps.specs.declared.approaching.Approach.TheVariants as way
-use Rattle.bl_proc_compress.specs.declared.compressing.Puts.{Puts}
-use Rattle.bl_proc_compress.specs.declared.compressing.Compression.TheVariants.{PuttingParent, PuttingLast}
-use Rattle.bl_proc_compress.specs.declared.squeezing.CompressStage.{CompressStage}
-use Rattle.bl_proc_compress.specs.declared.squeezing.CompressStage.TheVariants as compress
+use Rattle.bl_proc_steps.specs.declared.approach.Approach.TheVariants as way
+use Rattle.bl_proc_compress.specs.declared.compression.Puts.{Puts}
+use Rattle.bl_proc_compress.specs.declared.compression.Compression.TheVariants.{PuttingParent, PuttingLast}
+use Rattle.bl_proc_compress.specs.declared.compress.CompressStage.{CompressStage}
+use Rattle.bl_proc_compress.specs.declared.compress.CompressStage.TheVariants as compress
 use Rattle.bl_proc_invariant.specs.Compressing.{AreThree, left_now, right_now}
 use Rattle.bl_claims.specs.Squeezed.{acts_in, acts_of, Since}
 use Rattle.bl_proc_invariant.specs.Logs.{put_act, IsToSqueeze, proc_log, compress_log}

@@ -14,16 +14,16 @@ use Rattle.bl_tree_worlds.specs.Worlds.{HoldsPage, Know, World, nodes, tree_of, 
 use Rattle.bl_tree_worlds.proofs.Descents.{goes_down, not_released, anchor_not_released}
 use Rattle.bl_tree_worlds.proofs.Children.{child_found}
 use Rattle.bl_proc_steps.specs.declared.acts.Seen.{Seen}
-use Rattle.bl_proc_routes.specs.declared.onwards.Step.TheVariants.{Here}
-use Rattle.bl_proc_steps.specs.declared.approaching.Approach.TheVariants as way
-use Rattle.bl_proc_steps.specs.declared.editing.Outcome.{Outcome}
-use Rattle.bl_proc_steps.specs.declared.editing.Outcome.TheVariants as outcome
-use Rattle.bl_proc_steps.specs.declared.editing.Edit.{Edit}
+use Rattle.bl_proc_routes.specs.declared.routes.Step.TheVariants.{Here}
+use Rattle.bl_proc_steps.specs.declared.approach.Approach.TheVariants as way
+use Rattle.bl_proc_steps.specs.declared.edit.Outcome.{Outcome}
+use Rattle.bl_proc_steps.specs.declared.edit.Outcome.TheVariants as outcome
+use Rattle.bl_proc_steps.specs.declared.edit.Edit.{Edit}
 use Rattle.bl_proc_writes.specs.declared.walking.Walk.{Walk}
-use Rattle.bl_proc_writes.specs.declared.posting.PostReply.{PostReply}
-use Rattle.bl_proc_writes.specs.declared.posting.PostStage.{PostStage}
-use Rattle.bl_proc_writes.specs.declared.posting.PostStage.TheVariants as post
-use Rattle.bl_proc_routes.specs.Onwards.{Leads}
+use Rattle.bl_proc_writes.specs.declared.post.PostReply.{PostReply}
+use Rattle.bl_proc_writes.specs.declared.post.PostStage.{PostStage}
+use Rattle.bl_proc_writes.specs.declared.post.PostStage.TheVariants as post
+use Rattle.bl_proc_routes.specs.Routes.{Leads}
 use Rattle.bl_proc_steps.specs.Edits.{EntersPair}
 use Rattle.bl_proc_writes.specs.Posts.{post_reply, post_next_in, PostArrives, PostWalks}
 use Rattle.bl_proc_invariant.specs.Turns.{event_of, IsObserved, Does, Turned}

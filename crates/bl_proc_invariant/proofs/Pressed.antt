@@ -7,11 +7,11 @@ use Rattle.bl_proc_steps.specs.declared.answers.Answer.{Answer}
 use Rattle.bl_proc_steps.specs.declared.answers.Answer.TheVariants as answer
 use Rattle.bl_proc_steps.specs.declared.answers.Hint.{Hint}
 use Rattle.bl_proc_steps.specs.declared.answers.Squeezed.{Squeezed}
-use Rattle.bl_proc_compress.specs.declared.squeezing.Compress.{Compress}
-use Rattle.bl_proc_compress.specs.declared.squeezing.CompressReply.{CompressReply}
-use Rattle.bl_proc_compress.specs.declared.squeezing.CompressReply.TheVariants as reply
-use Rattle.bl_proc_compress.specs.declared.squeezing.CompressStage.{CompressStage}
-use Rattle.bl_proc_compress.specs.declared.squeezing.CompressStage.TheVariants as compress
+use Rattle.bl_proc_compress.specs.declared.compress.Compress.{Compress}
+use Rattle.bl_proc_compress.specs.declared.compress.CompressReply.{CompressReply}
+use Rattle.bl_proc_compress.specs.declared.compress.CompressReply.TheVariants as reply
+use Rattle.bl_proc_compress.specs.declared.compress.CompressStage.{CompressStage}
+use Rattle.bl_proc_compress.specs.declared.compress.CompressStage.TheVariants as compress
 use Rattle.bl_proc.specs.declared.kinds.Proc.TheVariants as proc
 use Rattle.bl_proc_compress.specs.Compresses.{compressed_answer, compress_answer_in}
 use Rattle.bl_claims.specs.Squeezed.{MeansSqueezed}

@@ -15,15 +15,15 @@ use Rattle.bl_tree_worlds.proofs.Pushes.{HasSaid-silent}
 use Rattle.bl_tree_worlds.specs.Worlds.{Stage, Know, World, MayGet, IsGoes, IsSure, IsGood}
 use Rattle.bl_tree_worlds.proofs.Descents.{goes_down, not_released}
 use Rattle.bl_proc_steps.specs.declared.acts.Seen.{Seen}
-use Rattle.bl_proc_steps.specs.declared.approaching.Approach.TheVariants as way
-use Rattle.bl_proc_compress.specs.declared.compressing.Family.{Family}
-use Rattle.bl_proc_compress.specs.declared.compressing.Decision.{Decision}
-use Rattle.bl_proc_compress.specs.declared.compressing.Compression.{Compression}
-use Rattle.bl_proc_compress.specs.declared.compressing.Compression.TheVariants.{LatchingLeft}
-use Rattle.bl_proc_compress.specs.declared.compressing.Compressed.TheVariants as step
+use Rattle.bl_proc_steps.specs.declared.approach.Approach.TheVariants as way
+use Rattle.bl_proc_compress.specs.declared.compression.Family.{Family}
+use Rattle.bl_proc_compress.specs.declared.compression.Decision.{Decision}
+use Rattle.bl_proc_compress.specs.declared.compression.Compression.{Compression}
+use Rattle.bl_proc_compress.specs.declared.compression.Compression.TheVariants.{LatchingLeft}
+use Rattle.bl_proc_compress.specs.declared.compression.Compressed.TheVariants as step
 use Rattle.bl_proc_compress.specs.Compressions.{right_place, AreSiblings, compression_next}
 use Rattle.bl_proc_compress.proofs.Places.{listed_at}
-use Rattle.bl_proc_compress.specs.declared.squeezing.CompressStage.{CompressStage}
+use Rattle.bl_proc_compress.specs.declared.compress.CompressStage.{CompressStage}
 use Rattle.bl_proc_compress.specs.Compresses.{compress_next_in}
 use Rattle.bl_proc_invariant.specs.Turns.{event_of, IsObserved, Does, Turned}
 use Rattle.bl_proc_invariant.specs.Tables.{idle, alone, goes_to, know_approach}

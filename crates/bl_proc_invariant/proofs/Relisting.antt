@@ -13,8 +13,8 @@ use Rattle.bl_tree_worlds.proofs.After.{after, Extends-after, put_at, is_put_at}
 use Rattle.bl_tree_worlds.specs.Puts.{Owes}
 use Rattle.bl_tree_worlds.proofs.Moves.{PutsRow-keeps}
 use Rattle.bl_tree_worlds.proofs.Splittings.{PutsRelisted-keeps}
-use Rattle.bl_proc_compress.specs.declared.compressing.Puts.{Puts}
-use Rattle.bl_proc_compress.specs.declared.compressing.Compression.TheVariants.{PuttingParent, PuttingLast}
+use Rattle.bl_proc_compress.specs.declared.compression.Puts.{Puts}
+use Rattle.bl_proc_compress.specs.declared.compression.Compression.TheVariants.{PuttingParent, PuttingLast}
 use Rattle.bl_proc_invariant.specs.Turns.{Does, Turned}
 use Rattle.bl_proc_invariant.specs.Compressing.{right_now, AreThree, IsToPut, ToMerge, ToEvenLeft, ToEvenRight, know_compression}
 use Rattle.bl_proc_invariant.proofs.Acts.{of_held, not_gone}

@@ -14,9 +14,9 @@ use Rattle.bl_tree_worlds.proofs.After.{after, Extends-after, put_at}
 use Rattle.bl_tree_worlds.specs.Compressions.{Parts}
 use Rattle.bl_tree_worlds.proofs.Splittings.{PutsRightLoss-keeps, PutsLeftLoss-keeps, PutsDead-keeps}
 use Rattle.bl_proc_compress.specs.Compressions.{IsBuried}
-use Rattle.bl_proc_compress.specs.declared.compressing.Decision.{Decision}
-use Rattle.bl_proc_compress.specs.declared.compressing.Puts.{Puts}
-use Rattle.bl_proc_compress.specs.declared.compressing.Compression.TheVariants.{PuttingLast, Retiring, OpeningRight}
+use Rattle.bl_proc_compress.specs.declared.compression.Decision.{Decision}
+use Rattle.bl_proc_compress.specs.declared.compression.Puts.{Puts}
+use Rattle.bl_proc_compress.specs.declared.compression.Compression.TheVariants.{PuttingLast, Retiring, OpeningRight}
 use Rattle.bl_proc_invariant.specs.Turns.{Does, Turned}
 use Rattle.bl_proc_invariant.specs.Tables.{holds_live}
 use Rattle.bl_proc_invariant.specs.Compressing.{left_now, right_now, AreThree, IsToPut, ToMerge, ToEvenLeft, ToEvenRight, know_compression}

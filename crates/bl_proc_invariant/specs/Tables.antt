@@ -11,12 +11,12 @@ use Rattle.bl_tree_worlds.specs.Worlds.{Hold, Goes, Child, Stage, Know, World, I
 use Rattle.bl_claims.specs.Walks.{Each}
 use Rattle.bl_proc_steps.specs.declared.descent.Descent.{Descent}
 use Rattle.bl_proc_steps.specs.declared.descent.Descent.TheVariants as descent
-use Rattle.bl_proc_steps.specs.declared.approaching.Approach.{Approach}
-use Rattle.bl_proc_steps.specs.declared.approaching.Approach.TheVariants.{Start, At, Latching, Latched, Leaving}
-use Rattle.bl_proc_steps.specs.declared.editing.Outcome.{Outcome}
-use Rattle.bl_proc_steps.specs.declared.editing.Outcome.TheVariants as outcome
-use Rattle.bl_proc_steps.specs.declared.editing.Edit.{Edit}
-use Rattle.bl_proc_steps.specs.declared.editing.Edit.TheVariants.{Putting, Taking, PuttingNew, PuttingOld, OpeningNew, Opening}
+use Rattle.bl_proc_steps.specs.declared.approach.Approach.{Approach}
+use Rattle.bl_proc_steps.specs.declared.approach.Approach.TheVariants.{Start, At, Latching, Latched, Leaving}
+use Rattle.bl_proc_steps.specs.declared.edit.Outcome.{Outcome}
+use Rattle.bl_proc_steps.specs.declared.edit.Outcome.TheVariants as outcome
+use Rattle.bl_proc_steps.specs.declared.edit.Edit.{Edit}
+use Rattle.bl_proc_steps.specs.declared.edit.Edit.TheVariants.{Putting, Taking, PuttingNew, PuttingOld, OpeningNew, Opening}
 
 -- nothing but where it stands
 abbrev pub idle : Stage → Know

@@ -12,9 +12,9 @@ use Rattle.bl_tree_worlds.specs.Worlds.{Know, World, nodes, IsSure, IsGood}
 use Rattle.bl_tree_worlds.proofs.WorldLaws.{all_sound}
 use Rattle.bl_proc_steps.specs.declared.lowering.Summit.{Summit}
 use Rattle.bl_proc_steps.specs.declared.lowering.Lowering.TheVariants as lowering
-use Rattle.bl_proc_routes.specs.Onwards.{top_of}
-use Rattle.bl_proc_compress.specs.declared.compressing.Family.{Family}
-use Rattle.bl_proc_compress.specs.declared.compressing.Compression.TheVariants.{LatchingLeft, LatchingRight}
+use Rattle.bl_proc_routes.specs.Routes.{top_of}
+use Rattle.bl_proc_compress.specs.declared.compression.Family.{Family}
+use Rattle.bl_proc_compress.specs.declared.compression.Compression.TheVariants.{LatchingLeft, LatchingRight}
 use Rattle.bl_proc_compress.proofs.Places.{listed_at}
 use Rattle.bl_claims.specs.Squeezed.{AreBeside}
 use Rattle.bl_proc_invariant.specs.Compressing.{know_squeeze}

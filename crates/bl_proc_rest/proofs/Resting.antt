@@ -8,11 +8,11 @@ use Rattle.bl_claims.specs.Trails.{marks_of}
 use Rattle.bl_proc_steps.specs.declared.acts.Action.TheVariants as act
 use Rattle.bl_proc_steps.specs.declared.acts.Seen.{Seen}
 use Rattle.bl_proc_steps.specs.declared.acts.Seen.TheVariants as seen
-use Rattle.bl_proc_compress.specs.declared.compressing.Compression.{Compression}
-use Rattle.bl_proc_compress.specs.declared.compressing.Compression.TheVariants as squeeze
-use Rattle.bl_proc_compress.specs.declared.compressing.Compressed.TheVariants as step
-use Rattle.bl_proc_compress.specs.declared.squeezing.CompressStage.{CompressStage}
-use Rattle.bl_proc_compress.specs.declared.squeezing.CompressStage.TheVariants as compress
+use Rattle.bl_proc_compress.specs.declared.compression.Compression.{Compression}
+use Rattle.bl_proc_compress.specs.declared.compression.Compression.TheVariants as squeeze
+use Rattle.bl_proc_compress.specs.declared.compression.Compressed.TheVariants as step
+use Rattle.bl_proc_compress.specs.declared.compress.CompressStage.{CompressStage}
+use Rattle.bl_proc_compress.specs.declared.compress.CompressStage.TheVariants as compress
 use Rattle.bl_proc_compress.specs.Compressions.{Compresses}
 use Rattle.bl_proc_compress.specs.Compresses.{CompressGoes}
 use Rattle.bl_proc.specs.declared.reclaiming.ReclaimStage.{ReclaimStage}
@@ -27,10 +27,10 @@ use Rattle.bl_proc_invariant.specs.Logs.{AllLogs}
 use Rattle.bl_proc_invariant.specs.Knowing.{Run, know_of, know}
 use Rattle.bl_proc_progress.specs.Holds.{squeeze_hold, compress_hold}
 use Rattle.bl_proc_progress.proofs.Nearing.{after_hold}
-use Rattle.bl_proc_writes.specs.declared.posting.PostStage.{PostStage}
-use Rattle.bl_proc_writes.specs.declared.posting.PostStage.TheVariants as post
-use Rattle.bl_proc_writes.specs.declared.climbing.ClimbStage.{ClimbStage}
-use Rattle.bl_proc_writes.specs.declared.climbing.ClimbStage.TheVariants as climb
+use Rattle.bl_proc_writes.specs.declared.post.PostStage.{PostStage}
+use Rattle.bl_proc_writes.specs.declared.post.PostStage.TheVariants as post
+use Rattle.bl_proc_writes.specs.declared.insert_post.ClimbStage.{ClimbStage}
+use Rattle.bl_proc_writes.specs.declared.insert_post.ClimbStage.TheVariants as climb
 use Rattle.bl_proc_ends.specs.Left.{most_turns, IsFound, IsStaying, IsPressing, IsClimbing, IsMeant, post_left, compress_left, posting_left, climb_left, TurnsLeft}
 use Rattle.bl_proc_ends.proofs.Few.{by_kind as few_by_kind}
 use Rattle.bl_proc_ends.proofs.Turning.{by_kind as fewer_by_kind}

@@ -16,7 +16,7 @@ use Rattle.bl_page.specs.Nodes.{IsTreePage}
 use Rattle.bl_rearrange.specs.Entered.{entered, dropped, replaced}
 use Rattle.bl_rearrange.specs.Rearranged.{pairs_of}
 use Rattle.bl_rearrange.proofs.EnteredLemmas.{length-entered, length-dropped, length-dropped_le, length-replaced}
-use Rattle.bl_proc_routes.specs.Respelled.{words_by, IsShiftedUp, IsShiftedDown, HasValueAt}
+use Rattle.bl_proc_routes.specs.WordEdits.{words_by, IsShiftedUp, IsShiftedDown, HasValueAt}
 use Rattle.bl_proc_routes.proofs.Shifts.{padded, length-entries, entered-below, entered-key, entered-word, entered-above, dropped-below, dropped-above, replaced-there, replaced-other}
 
 long : (first low high right : ℕ) (es : List ℕ) → length es ≤ 28 → length (layout first low high right es) ≡ 32

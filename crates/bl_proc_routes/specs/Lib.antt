@@ -1,2 +1,2 @@
-pub mod Onwards
-pub mod Respelled
+pub mod Routes
+pub mod WordEdits

@@ -6,12 +6,12 @@
 //! concurrent operations on B-trees" (ACM TODS 6(4), 1981). Nothing is allocated.
 #![tactic(auto)]
 
-mod onwards;
-mod reading;
-mod respelled;
-mod spelled;
+mod page_reads;
+mod routes;
+mod word_edits;
+mod word_reads;
 
-pub use onwards::{Step, way_from};
-pub use reading::{count_of, level_of, levels_of, listed, low_of, top_page};
-pub use respelled::{words_with, words_with_value, words_without};
-pub use spelled::{level_in, levels_in, row_in, step_in, top_in};
+pub use page_reads::{count_of, level_of, levels_of, listed, low_of, top_page};
+pub use routes::{Step, way_from};
+pub use word_edits::{words_with, words_with_value, words_without};
+pub use word_reads::{level_in, levels_in, row_in, step_in, top_in};

@@ -1,11 +1,11 @@
 -- Where a descent ends.
 use Rattle.std.proofs.Common.{ℕ}
 use Rattle.bl_page.specs.declared.page.Page.{Page}
-use Rattle.bl_proc_routes.specs.declared.onwards.Step.TheVariants as onward
+use Rattle.bl_proc_routes.specs.declared.routes.Step.TheVariants as onward
 use Rattle.bl_proc_steps.specs.declared.descent.Descent.{Descent}
 use Rattle.bl_proc_steps.specs.declared.descent.Descent.TheVariants.{AtAnchor, At}
 use Rattle.bl_proc_steps.specs.declared.descent.Descended.TheVariants.{Here}
-use Rattle.bl_proc_routes.specs.Onwards.{Leads}
+use Rattle.bl_proc_routes.specs.Routes.{Leads}
 use Rattle.bl_proc_steps.specs.Descents.{Descends}
 
 -- its leaf covers the key

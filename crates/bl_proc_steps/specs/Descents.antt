@@ -4,12 +4,12 @@ use Rattle.bl_page.specs.declared.page.Page.{Page}
 use Rattle.bl_page.specs.Nodes.{roots_of}
 use Rattle.bl_proc_steps.specs.declared.acts.Action.{Action}
 use Rattle.bl_proc_steps.specs.declared.acts.Action.TheVariants as act
-use Rattle.bl_proc_routes.specs.declared.onwards.Step.TheVariants as onward
+use Rattle.bl_proc_routes.specs.declared.routes.Step.TheVariants as onward
 use Rattle.bl_proc_steps.specs.declared.descent.Descent.{Descent}
 use Rattle.bl_proc_steps.specs.declared.descent.Descent.TheVariants.{AtAnchor, At}
 use Rattle.bl_proc_steps.specs.declared.descent.Descended.{Descended}
 use Rattle.bl_proc_steps.specs.declared.descent.Descended.TheVariants.{On, Here}
-use Rattle.bl_proc_routes.specs.Onwards.{top_of, Leads}
+use Rattle.bl_proc_routes.specs.Routes.{top_of, Leads}
 
 -- the page that it is to get
 abbrev pub descent_page : Descent → ℕ

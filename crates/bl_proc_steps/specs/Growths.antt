@@ -7,10 +7,10 @@ use Rattle.bl_proc_steps.specs.declared.acts.Action.{Action}
 use Rattle.bl_proc_steps.specs.declared.acts.Action.TheVariants as act
 use Rattle.bl_proc_steps.specs.declared.acts.Seen.{Seen}
 use Rattle.bl_proc_steps.specs.declared.acts.Seen.TheVariants as seen
-use Rattle.bl_proc_steps.specs.declared.growing.Growth.{Growth}
-use Rattle.bl_proc_steps.specs.declared.growing.Growth.TheVariants.{Latching, Latched, Taking, PuttingTop, PuttingAnchor, OpeningTop, OpeningGrown, OpeningRefused}
-use Rattle.bl_proc_steps.specs.declared.growing.Grew.{Grew}
-use Rattle.bl_proc_steps.specs.declared.growing.Grew.TheVariants.{On, Grown, Refused}
+use Rattle.bl_proc_steps.specs.declared.growth.Growth.{Growth}
+use Rattle.bl_proc_steps.specs.declared.growth.Growth.TheVariants.{Latching, Latched, Taking, PuttingTop, PuttingAnchor, OpeningTop, OpeningGrown, OpeningRefused}
+use Rattle.bl_proc_steps.specs.declared.growth.Grew.{Grew}
+use Rattle.bl_proc_steps.specs.declared.growth.Grew.TheVariants.{On, Grown, Refused}
 
 abbrev pub growth_next : Growth → Action
 growth_next Latching = act.Latch 0

@@ -9,25 +9,25 @@
 
 mod acts;
 mod answers;
-mod approaching;
-mod descending;
+mod approach;
+mod approach_words;
 mod descent;
-mod editing;
-mod edits;
-mod growing;
-mod growths;
+mod edit;
+mod edit_steps;
+mod growth;
+mod growth_steps;
 mod lowering;
-mod lowerings;
+mod lowering_steps;
 mod machine;
 mod thin;
 
 pub use acts::{Action, Seen};
 pub use answers::{Answer, Hint, Level, Posted, Reclaimed, Squeezed};
-pub use approaching::{Approach, Approached, Came, approach_by};
+pub use approach::{Approach, Approached, Came, approach_by};
 pub use descent::{Descended, Descent};
-pub use editing::{Edit, Edited, Full, Outcome, Splitting};
-pub use edits::{dropping, entering, replacing};
-pub use growing::{Grew, Growth, Raising, Rise};
+pub use edit::{Edit, Edited, Full, Outcome, Splitting};
+pub use edit_steps::{dropping, entering, replacing};
+pub use growth::{Grew, Growth, Raising, Rise};
 pub use lowering::{Lowered, Lowering, Sank, Sinking, Summit};
 pub use machine::{Process, Reader, took_page};
 pub use thin::{hint_of_thin, thin_in, thin_low};

@@ -3,8 +3,8 @@ use Rattle.std.specs.Prelude.{ℕ}
 use Rattle.bl_model.specs.declared.deciding.KeyWrite.{KeyWrite}
 use Rattle.bl_page.specs.declared.page.Page.{Page}
 use Rattle.bl_proc_steps.specs.declared.acts.Seen.{Seen}
-use Rattle.bl_proc_steps.specs.declared.approaching.Approach.{Approach}
-use Rattle.bl_proc_steps.specs.declared.approaching.Approached.TheVariants as came
+use Rattle.bl_proc_steps.specs.declared.approach.Approach.{Approach}
+use Rattle.bl_proc_steps.specs.declared.approach.Approached.TheVariants as came
 use Rattle.bl_proc_writes.specs.declared.writing.WriteStage.{WriteStage}
 use Rattle.bl_proc_writes.specs.declared.writing.WriteStage.TheVariants.{New, Coming, Keeping, Editing, Ending, Over}
 use Rattle.bl_proc_steps.specs.Approaches.{Approaches}

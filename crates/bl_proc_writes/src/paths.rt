@@ -2,7 +2,7 @@
 
 ghost use Rattle.std.specs.Prelude.{◌≡◌, ◌<◌, ◌≤◌};
 ghost use Rattle.bl_proc_steps.specs.declared.acts.Seen.TheVariants as seen;
-ghost use Rattle.bl_proc_steps.specs.declared.approaching.Approach.TheVariants as approach;
+ghost use Rattle.bl_proc_steps.specs.declared.approach.Approach.TheVariants as approach;
 ghost use Rattle.bl_proc_writes.specs.Paths.{page_at, noted, from_page, IsBlank, Notes};
 
 use bl_page::Page;

@@ -1,10 +1,10 @@
 //! The write of one key: an insertion, a deletion or a change.
 
 ghost use Rattle.std.specs.Prelude.{◌≡◌, None, Some};
-ghost use Rattle.bl_proc_steps.specs.declared.editing.Edit.{Edit};
-ghost use Rattle.bl_proc_routes.specs.declared.onwards.Step.TheVariants as onward;
+ghost use Rattle.bl_proc_steps.specs.declared.edit.Edit.{Edit};
+ghost use Rattle.bl_proc_routes.specs.declared.routes.Step.TheVariants as onward;
 ghost use Rattle.bl_proc_steps.specs.Given.{Gives};
-ghost use Rattle.bl_proc_routes.specs.Onwards.{Leads};
+ghost use Rattle.bl_proc_routes.specs.Routes.{Leads};
 ghost use Rattle.bl_proc_writes.specs.declared.writing.Noted.{Noted};
 ghost use Rattle.bl_proc_writes.specs.declared.writing.WriteStage.TheVariants as write_stage;
 ghost use Rattle.bl_proc_writes.specs.Writes.{post_hint, thin_after, write_reply, write_answer, write_next_in, write_needs_in, WriteArrives, write_next_of, write_needs_of, write_answer_of, WriteTakes};

@@ -14,7 +14,7 @@ ghost use Rattle.bl_serve.specs.Serving.{AreMet, HoldsSection, IsInside};
 use crate::joining::join_outputs;
 use crate::meeting::meet_all;
 use crate::parsed_lines::ParsedLines;
-use crate::reading::{ReadAhead, read_on};
+use crate::section_reader::{ReadAhead, read_on};
 use crate::session::{Session, ThreadPlan};
 use bl_index::Index;
 use bl_map::Handle;

@@ -13,12 +13,12 @@ use Rattle.bl_proc_steps.specs.declared.answers.Answer.{Answer}
 use Rattle.bl_proc_steps.specs.declared.answers.Answer.TheVariants as answer
 use Rattle.bl_proc_steps.specs.declared.answers.Hint.{Hint}
 use Rattle.bl_proc_steps.specs.declared.answers.Posted.{Posted}
-use Rattle.bl_proc_writes.specs.declared.posting.Post.{Post}
+use Rattle.bl_proc_writes.specs.declared.post.Post.{Post}
 use Rattle.bl_proc_steps.specs.declared.answers.Squeezed.{Squeezed}
 use Rattle.bl_proc_steps.specs.declared.lowering.Lowered.{Lowered}
 use Rattle.bl_proc.specs.declared.lowering.Lower.{Lower}
-use Rattle.bl_proc_writes.specs.declared.climbing.InsertPost.{InsertPost}
-use Rattle.bl_proc_compress.specs.declared.squeezing.Compress.{Compress}
+use Rattle.bl_proc_writes.specs.declared.insert_post.InsertPost.{InsertPost}
+use Rattle.bl_proc_compress.specs.declared.compress.Compress.{Compress}
 use Rattle.bl_proc_steps.specs.declared.answers.Reclaimed.{Reclaimed}
 use Rattle.bl_proc.specs.declared.reclaiming.ReclaimStage.{ReclaimStage}
 use Rattle.bl_proc.specs.declared.reclaiming.ReclaimStage.TheVariants as reclaim

@@ -3,24 +3,24 @@ use Rattle.std.proofs.Common.{IsSome}
 use Rattle.std.proofs.lemmas.Bool.{false≢true}
 use Rattle.bl_proc_steps.specs.declared.acts.Action.{Action}
 use Rattle.bl_proc_steps.specs.declared.acts.Action.TheVariants as act
-use Rattle.bl_proc_steps.specs.declared.editing.Edit.{Edit}
-use Rattle.bl_proc_steps.specs.declared.editing.Edit.TheVariants as edit
-use Rattle.bl_proc_steps.specs.declared.growing.Growth.{Growth}
-use Rattle.bl_proc_steps.specs.declared.growing.Growth.TheVariants as growth
+use Rattle.bl_proc_steps.specs.declared.edit.Edit.{Edit}
+use Rattle.bl_proc_steps.specs.declared.edit.Edit.TheVariants as edit
+use Rattle.bl_proc_steps.specs.declared.growth.Growth.{Growth}
+use Rattle.bl_proc_steps.specs.declared.growth.Growth.TheVariants as growth
 use Rattle.bl_proc_steps.specs.Edits.{edit_next, edit_needs}
 use Rattle.bl_proc_steps.specs.Growths.{growth_next, growth_needs}
 use Rattle.bl_proc_compress.specs.Compressions.{put_of, compression_next, compression_needs}
 use Rattle.bl_proc_writes.specs.declared.writing.WriteStage.{WriteStage}
 use Rattle.bl_proc_writes.specs.declared.writing.WriteStage.TheVariants as write
-use Rattle.bl_proc_writes.specs.declared.posting.PostStage.{PostStage}
-use Rattle.bl_proc_writes.specs.declared.posting.PostStage.TheVariants as post
+use Rattle.bl_proc_writes.specs.declared.post.PostStage.{PostStage}
+use Rattle.bl_proc_writes.specs.declared.post.PostStage.TheVariants as post
 use Rattle.bl_rearrange.specs.declared.sides.Side.{Side}
 use Rattle.bl_rearrange.specs.declared.sides.Side.TheVariants as side
-use Rattle.bl_proc_compress.specs.declared.compressing.Puts.{Puts}
-use Rattle.bl_proc_compress.specs.declared.compressing.Compression.{Compression}
-use Rattle.bl_proc_compress.specs.declared.compressing.Compression.TheVariants.{PuttingFirst}
-use Rattle.bl_proc_compress.specs.declared.squeezing.CompressStage.{CompressStage}
-use Rattle.bl_proc_compress.specs.declared.squeezing.CompressStage.TheVariants as compress
+use Rattle.bl_proc_compress.specs.declared.compression.Puts.{Puts}
+use Rattle.bl_proc_compress.specs.declared.compression.Compression.{Compression}
+use Rattle.bl_proc_compress.specs.declared.compression.Compression.TheVariants.{PuttingFirst}
+use Rattle.bl_proc_compress.specs.declared.compress.CompressStage.{CompressStage}
+use Rattle.bl_proc_compress.specs.declared.compress.CompressStage.TheVariants as compress
 use Rattle.bl_proc.specs.declared.kinds.Proc.{Proc}
 use Rattle.bl_proc_steps.specs.declared.lowering.Lowering.{Lowering}
 use Rattle.bl_proc_steps.specs.declared.lowering.Lowering.TheVariants as lowering
@@ -32,9 +32,9 @@ use Rattle.bl_proc_writes.specs.Writes.{write_next_in, write_needs_in}
 use Rattle.bl_proc_writes.specs.Posts.{post_next_in, post_needs_in}
 use Rattle.bl_proc_compress.specs.Compresses.{compress_next_in, compress_needs_in}
 use Rattle.bl_proc_steps.specs.Lowerings.{lowering_next, lowering_needs}
-use Rattle.bl_proc_writes.specs.declared.climbing.ClimbStage.{ClimbStage}
-use Rattle.bl_proc_writes.specs.declared.climbing.ClimbStage.TheVariants as climb
-use Rattle.bl_proc_writes.specs.Climbs.{climb_next_in, climb_needs_in}
+use Rattle.bl_proc_writes.specs.declared.insert_post.ClimbStage.{ClimbStage}
+use Rattle.bl_proc_writes.specs.declared.insert_post.ClimbStage.TheVariants as climb
+use Rattle.bl_proc_writes.specs.InsertPosts.{climb_next_in, climb_needs_in}
 use Rattle.bl_proc.specs.Lowers.{lower_next_in, lower_needs_in}
 
 abbrev pub Reserves : Action → Type 0

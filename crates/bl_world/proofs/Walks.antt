@@ -13,9 +13,9 @@ use Rattle.bl_tree_worlds.proofs.WorldLaws.{live_status}
 use Rattle.bl_tree.specs.Trees.{is_live}
 use Rattle.bl_tree.proofs.Statuses.{free_dead}
 use Rattle.std.proofs.lemmas.Bool.{false≢true}
-use Rattle.bl_proc_routes.specs.declared.onwards.Step.{Step}
-use Rattle.bl_proc_routes.specs.declared.onwards.Step.TheVariants as onward
-use Rattle.bl_proc_routes.specs.Onwards.{top_of, Leads}
+use Rattle.bl_proc_routes.specs.declared.routes.Step.{Step}
+use Rattle.bl_proc_routes.specs.declared.routes.Step.TheVariants as onward
+use Rattle.bl_proc_routes.specs.Routes.{top_of, Leads}
 use Rattle.bl_proc_deterministic.proofs.Onwards.{leads_one}
 use Rattle.bl_proc_invariant.specs.Knowing.{know}
 use Rattle.bl_proc_invariant.proofs.Starting.{run_laws}

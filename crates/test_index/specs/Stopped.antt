@@ -1,7 +1,7 @@
 -- A deletion that is stopped.
 use Rattle.std.specs.Prelude.{ℕ}
 use Rattle.bl_model.specs.declared.deciding.KeyWrite.TheVariants.{Delete}
-use Rattle.bl_proc_steps.specs.declared.approaching.Approach.TheVariants.{Latched}
+use Rattle.bl_proc_steps.specs.declared.approach.Approach.TheVariants.{Latched}
 use Rattle.bl_proc_writes.specs.declared.writing.WriteStage.TheVariants.{Coming}
 use Rattle.bl_store.specs.declared.store.Glance.{Glance}
 use Rattle.bl_store.specs.declared.store.Hand.{Hand}

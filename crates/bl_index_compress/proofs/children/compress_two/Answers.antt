@@ -1,6 +1,6 @@
 use Rattle.std.proofs.Common.{rules, refl, ap, ◌∙◌}
 use Rattle.bl_proc_steps.specs.declared.acts.Seen.TheVariants as seen
-use Rattle.bl_proc_compress.specs.declared.compressing.Compression.TheVariants.{OpeningLeft, OpeningParent}
+use Rattle.bl_proc_compress.specs.declared.compression.Compression.TheVariants.{OpeningLeft, OpeningParent}
 use Rattle.bl_proc.specs.Processes.{next_of}
 use Rattle.bl_index_events.proofs.Rooms.{refused_on}
 use Rattle.bl_index_events.proofs.Standing.{on_goes, on_itself, same_all, same_goes}

@@ -1,10 +1,10 @@
 use Rattle.std.proofs.Common.{rules, ℕ, ◌≡◌, refl, sym, ap, ◌∙◌, subst, inl, arith}
 use Rattle.bl_page.specs.declared.page.Page.TheVariants.{Inner}
 use Rattle.bl_proc_steps.specs.declared.acts.Seen.TheVariants as seen
-use Rattle.bl_proc_compress.specs.declared.compressing.Compression.{Compression}
-use Rattle.bl_proc_compress.specs.declared.compressing.Compression.TheVariants.{PuttingFirst, Retiring, OpeningRight, OpeningLeft}
-use Rattle.bl_proc_compress.specs.declared.compressing.Decision.TheVariants.{Merged, Refused}
-use Rattle.bl_proc_compress.specs.declared.compressing.Siblings.{Siblings}
+use Rattle.bl_proc_compress.specs.declared.compression.Compression.{Compression}
+use Rattle.bl_proc_compress.specs.declared.compression.Compression.TheVariants.{PuttingFirst, Retiring, OpeningRight, OpeningLeft}
+use Rattle.bl_proc_compress.specs.declared.compression.Decision.TheVariants.{Merged, Refused}
+use Rattle.bl_proc_compress.specs.declared.compression.Siblings.{Siblings}
 use Rattle.bl_proc_compress.specs.Compressions.{IsBuried, merge_hint}
 use Rattle.bl_proc.specs.Processes.{next_of}
 use Rattle.bl_store.specs.Hands.{known}

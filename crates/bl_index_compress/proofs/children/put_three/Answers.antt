@@ -1,12 +1,12 @@
 use Rattle.std.proofs.Common.{rules, ◌≡◌, Some, None, refl, ap, ◌∙◌, arith}
 use Rattle.bl_proc_steps.specs.declared.acts.Seen.TheVariants as seen
-use Rattle.bl_proc_compress.specs.declared.compressing.Compression.TheVariants.{PuttingFirst, PuttingParent, PuttingLast, OpeningRight}
-use Rattle.bl_proc_compress.specs.declared.compressing.Decision.TheVariants.{Refused}
+use Rattle.bl_proc_compress.specs.declared.compression.Compression.TheVariants.{PuttingFirst, PuttingParent, PuttingLast, OpeningRight}
+use Rattle.bl_proc_compress.specs.declared.compression.Decision.TheVariants.{Refused}
 use Rattle.bl_proc_compress.specs.Compressions.{after_puts}
 use Rattle.bl_proc.specs.Processes.{next_of}
 use Rattle.bl_store.specs.Hands.{drafts}
 use Rattle.bl_proc_steps.specs.declared.acts.Action.TheVariants as act
-use Rattle.bl_proc_compress.specs.declared.compressing.Siblings.{Siblings}
+use Rattle.bl_proc_compress.specs.declared.compression.Siblings.{Siblings}
 use Rattle.bl_proc_compress.specs.Compressions.{other}
 use Rattle.bl_index_events.proofs.Standing.{on_as, on_itself, same_all, same_goes}
 use Rattle.bl_index_compress.proofs.Presses.{press_course, press_on}

@@ -1,5 +1,5 @@
 use Rattle.std.proofs.Common.{rules, ◌≡◌, refl, sym, ap, subst, ◌∙◌}
-use Rattle.bl_proc_compress.specs.declared.squeezing.CompressReply.TheVariants as reply
+use Rattle.bl_proc_compress.specs.declared.compress.CompressReply.TheVariants as reply
 use Rattle.bl_store.specs.Hands.{known, IsRunning}
 use Rattle.bl_store.specs.declared.store.Hand.{Hand}
 use Rattle.bl_index_rule.specs.declared.known.PassState.{PassState}

@@ -1,4 +1,4 @@
-use Rattle.bl_proc_compress.specs.declared.squeezing.CompressStage.TheVariants as stages
+use Rattle.bl_proc_compress.specs.declared.compress.CompressStage.TheVariants as stages
 use Rattle.bl_store.specs.Hands.{known, IsSameHand, HasNoStock}
 use Rattle.bl_index_events.specs.Runs.{Runs, IsSameProcess}
 use Rattle.bl_index_ways.specs.Events.{HoldsNone}

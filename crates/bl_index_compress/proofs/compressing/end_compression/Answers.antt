@@ -1,5 +1,5 @@
 use Rattle.std.proofs.Common.{true, Some, ap, ◌∙◌}
-use Rattle.bl_proc_compress.specs.declared.squeezing.CompressStage.TheVariants as stages
+use Rattle.bl_proc_compress.specs.declared.compress.CompressStage.TheVariants as stages
 use Rattle.bl_proc_deterministic.specs.Frames.{op_of, work_of}
 use Rattle.bl_index_events.proofs.Rooms.{refused_on}
 use Rattle.bl_index_compress.specs.Squeezes.{squeezing}

@@ -4,9 +4,9 @@ use Rattle.bl_page.specs.declared.page.Inner.{Inner as InnerIs}
 use Rattle.bl_page.specs.Words.{words_of}
 use Rattle.bl_proc_steps.specs.declared.acts.Seen.TheVariants as seen
 use Rattle.bl_proc_routes.proofs.Spellings.{pairs_counted}
-use Rattle.bl_proc_compress.specs.declared.compressing.Compression.TheVariants.{LatchingLeft}
-use Rattle.bl_proc_compress.specs.declared.squeezing.CompressReply.TheVariants as reply
-use Rattle.bl_proc_compress.specs.declared.squeezing.CompressStage.TheVariants as stages
+use Rattle.bl_proc_compress.specs.declared.compression.Compression.TheVariants.{LatchingLeft}
+use Rattle.bl_proc_compress.specs.declared.compress.CompressReply.TheVariants as reply
+use Rattle.bl_proc_compress.specs.declared.compress.CompressStage.TheVariants as stages
 use Rattle.bl_proc.specs.Processes.{next_of}
 use Rattle.bl_proc_deterministic.proofs.Families.{family_some}
 use Rattle.bl_store.specs.Hands.{known, IsSameHand}

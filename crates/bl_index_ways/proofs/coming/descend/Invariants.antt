@@ -1,4 +1,4 @@
-use Rattle.bl_proc_steps.specs.declared.approaching.Approach.TheVariants as approach
+use Rattle.bl_proc_steps.specs.declared.approach.Approach.TheVariants as approach
 use Rattle.bl_store.specs.Hands.{known, IsSameHand, IsSameStage, IsSameStock}
 use Rattle.bl_index_events.specs.Runs.{IsOn, IsSameProcess}
 use Rattle.bl_index_ways.proofs.coming.descend.Given as goal

@@ -1,8 +1,8 @@
 use Rattle.std.proofs.Common.{ℕ, Some, None, refl, sym, subst}
 use Rattle.bl_proc_steps.specs.declared.acts.Seen.TheVariants as seen
-use Rattle.bl_proc_steps.specs.declared.approaching.Approach.TheVariants as approach
-use Rattle.bl_proc_routes.specs.declared.onwards.Step.TheVariants.{Again, Right, Down, Here}
-use Rattle.bl_proc_routes.specs.Onwards.{Leads}
+use Rattle.bl_proc_steps.specs.declared.approach.Approach.TheVariants as approach
+use Rattle.bl_proc_routes.specs.declared.routes.Step.TheVariants.{Again, Right, Down, Here}
+use Rattle.bl_proc_routes.specs.Routes.{Leads}
 use Rattle.bl_proc.specs.declared.kinds.Proc.{Proc}
 use Rattle.bl_proc.specs.Processes.{Takes}
 use Rattle.bl_store.specs.Hands.{known}

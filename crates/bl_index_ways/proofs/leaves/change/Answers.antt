@@ -3,8 +3,8 @@ use Rattle.std.specs.Prelude.{IsSome}
 use Rattle.bl_model.specs.Rows.{map_of}
 use Rattle.bl_rearrange.specs.Entered.{replaced}
 use Rattle.bl_rearrange.specs.Rearranged.{pairs_of}
-use Rattle.bl_proc_routes.specs.Respelled.{words_by}
-use Rattle.bl_proc_steps.specs.declared.editing.Edit.TheVariants as edit
+use Rattle.bl_proc_routes.specs.WordEdits.{words_by}
+use Rattle.bl_proc_steps.specs.declared.edit.Edit.TheVariants as edit
 use Rattle.bl_proc_writes.specs.declared.writing.WriteStage.TheVariants as write
 use Rattle.bl_store.specs.Hands.{known}
 use Rattle.bl_store.specs.declared.store.Hand.{Hand}

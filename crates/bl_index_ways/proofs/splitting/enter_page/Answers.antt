@@ -1,9 +1,9 @@
 use Rattle.std.proofs.Common.{rules, ◌<◌, ◌≤◌, length, inl, inr, refl, sym, ap, subst, ◌∙◌, arith}
 use Rattle.bl_rearrange.specs.Rearranged.{pairs_of}
 use Rattle.bl_proc_steps.specs.declared.acts.Seen.TheVariants as seen
-use Rattle.bl_proc_steps.specs.declared.editing.Edit.{Edit}
-use Rattle.bl_proc_steps.specs.declared.editing.Edit.TheVariants as edit
-use Rattle.bl_proc_steps.specs.declared.editing.Outcome.TheVariants as outcome
+use Rattle.bl_proc_steps.specs.declared.edit.Edit.{Edit}
+use Rattle.bl_proc_steps.specs.declared.edit.Edit.TheVariants as edit
+use Rattle.bl_proc_steps.specs.declared.edit.Outcome.TheVariants as outcome
 use Rattle.bl_proc_routes.proofs.Spellings.{pairs_counted}
 use Rattle.bl_proc.specs.Processes.{next_of}
 use Rattle.bl_store.specs.Hands.{known}

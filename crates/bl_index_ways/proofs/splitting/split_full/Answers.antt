@@ -3,12 +3,12 @@ use Rattle.bl_index_events.proofs.Held.{goes_keeps, keeps_held, take_latches_not
 use Rattle.bl_index_events.specs.Held.{IsFull, own_marks}
 use Rattle.std.proofs.Common.{rules, refl, sym, ap, ◌∙◌, get_or}
 use Rattle.bl_proc_steps.specs.declared.acts.Seen.TheVariants as seen
-use Rattle.bl_proc_steps.specs.declared.editing.Edit.TheVariants as edit
-use Rattle.bl_proc_steps.specs.declared.editing.Outcome.TheVariants as outcome
+use Rattle.bl_proc_steps.specs.declared.edit.Edit.TheVariants as edit
+use Rattle.bl_proc_steps.specs.declared.edit.Outcome.TheVariants as outcome
 use Rattle.bl_proc.specs.Processes.{next_of}
 use Rattle.bl_index_events.proofs.Standing.{on_itself, on_held, on_goes, same_goes, same_all, course_at}
 use Rattle.bl_index_ways.proofs.Splits.{split_by, full_tree, full_head}
-use Rattle.bl_proc_steps.specs.declared.editing.Splitting.{Splitting}
+use Rattle.bl_proc_steps.specs.declared.edit.Splitting.{Splitting}
 use Rattle.bl_index_ways.proofs.splitting.split_full.Goals as goal
 
 pub take_page-requires-clause-runs : goal.take_page-requires-clause-runs

@@ -1,5 +1,5 @@
 use Rattle.std.proofs.Common.{Some, ap, ◌∙◌}
-use Rattle.bl_proc_writes.specs.declared.posting.PostStage.TheVariants as post
+use Rattle.bl_proc_writes.specs.declared.post.PostStage.TheVariants as post
 use Rattle.bl_proc_deterministic.specs.Frames.{op_of, work_of}
 use Rattle.bl_index_events.proofs.Standing.{on_itself}
 use Rattle.bl_index_write.specs.Events.{posting}
