@@ -6,7 +6,7 @@ use Rattle.bl_model.specs.declared.operation.Reply.{Reply}
 use Rattle.bl_model.specs.declared.operation.Reply.TheVariants.{Found, Absent, Inserted, Present, Replaced, Deleted, Changed, Differs, Rows, NoRoom}
 use Rattle.std.specs.Prelude.{ℤ, pos, MatchOption}
 use Rattle.bl_ffi_seats.specs.declared.seat.Seat.{Seat}
-use Rattle.bl_ffi_seats.specs.Calls.{IsSameSeat, HasGoneOn, HasNothingToDo, HasSwept, account_of, number_of, released_by}
+use Rattle.bl_ffi_seats.specs.Calls.{IsSameSeat, HasGoneOn, HasNothingToDo, HasSwept, account_of, seat_number, released_by}
 use Rattle.bl_ffi_seats.specs.Tended.{SweepsOnce}
 use Rattle.bl_ffi_seats.proofs.Tending.{seat_after}
 use Rattle.bl_ffi_seats.specs.Accounts.{GoesTo}
@@ -79,7 +79,7 @@ tended s u v t answer is same gone kept told keeps swept count =
     let st : t.stage ≡ u.stage = keeps.0 ∙ ap (λ (z : Seat). z.stage) is in
     let up : t.upkeep ≡ u.upkeep = keeps.1 ∙ ap (λ (z : Seat). z.upkeep) is in record {
       same = seat_after s u t same k;
-      gone = subst (GoesTo (number_of s) (account_of s)) (sym a) gone;
+      gone = subst (GoesTo (seat_number s) (account_of s)) (sym a) gone;
       idle = λ n. (st ∙ n.0, subst IsIdle (sym up) n.1);
       was_idle = λ n. (sym st ∙ n.0, subst IsIdle up n.1);
       swept = record { answer = answer; same = k; swept = subst (λ (z : Seat). HasSwept answer z t) is swept; count = subst (λ (z : Seat). released_by t ≡ released_by z + answer) is count; keeps = (st, up) };

@@ -68,8 +68,8 @@ abbrev pub Finds : Op → SeatOfC → SeatOfC → ℤ → ℕ → Type 0
 Finds op old new code written = Calls old new code (λ s t. KeepsUpkeep s t × Replies SearchesAgain (TellsFound op) code written s t)
 
 -- a write
-abbrev pub Tells : ℕ → KeyWrite → SeatOfC → SeatOfC → ℤ → ℕ → Type 0
-Tells key write old new code written = Calls old new code (Replies (WritesAgain key write) (TellsWritten key write) code written)
+abbrev pub TellsCode : ℕ → KeyWrite → SeatOfC → SeatOfC → ℤ → ℕ → Type 0
+TellsCode key write old new code written = Calls old new code (Replies (WritesAgain key write) (TellsWritten key write) code written)
 
 -- a key and its value, as C has them
 abbrev pub row_of : ℕ × ℕ → Row

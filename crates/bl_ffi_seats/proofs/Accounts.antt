@@ -34,7 +34,7 @@ use Rattle.bl_index_write.proofs.PostEnds.{post_has_answer}
 use Rattle.bl_index.specs.Calls.{Writes}
 use Rattle.bl_index.specs.Within.{IsLowerAnswer}
 use Rattle.bl_index.proofs.Posts.{post_answered}
-use Rattle.bl_index.proofs.Pressed.{compress_answered}
+use Rattle.bl_index.proofs.CompressEnds.{compress_answered}
 use Rattle.bl_ffi_seats.proofs.CompressEnds.{IsCompressAnswer, compress_has_answer}
 use Rattle.bl_index.proofs.Lowerings.{lower_has_answer, lower_answered}
 use Rattle.bl_index_resume.specs.declared.stages.Stage.{Stage}

@@ -21,7 +21,7 @@ use Rattle.bl_index_events.specs.declared.tree.Tree.{Tree}
 use Rattle.bl_index_resume.specs.declared.stages.Stage.TheVariants as stage
 use Rattle.bl_ffi_seats.specs.declared.seat.Seat.{Seat}
 use Rattle.bl_ffi_seats.specs.declared.closing.Prepared.{Prepared}
-use Rattle.bl_ffi_seats.specs.Calls.{number_of}
+use Rattle.bl_ffi_seats.specs.Calls.{seat_number}
 use Rattle.bl_ffi_seats.specs.Meetings.{AreOfOne, HasSettled, HasRested}
 use Rattle.bl_ffi_seats.specs.Closed.{values, hand_of, AreAtOne, AreAll, HasSeat, IsAt, AllRest, HaveSettled, IsOneUnderway, LacksOne, IsFor, AreComplete}
 
@@ -58,17 +58,17 @@ first_there (x ∷ l) b is = ap some (ap (or_value x) (sym is))
 
 -- ---- who has a number
 
-pub none_more : (boxes : List Boxed) (i number : ℕ) (b : Boxed) → get_elem? boxes i ≡ some b → number_of b.value ≢ number → ((k : ℕ) (p : Boxed) → k < i → get_elem? boxes k ≡ some p → number_of p.value ≢ number)
-    → (k : ℕ) (p : Boxed) → k < i + 1 → get_elem? boxes k ≡ some p → number_of p.value ≢ number
+pub none_more : (boxes : List Boxed) (i number : ℕ) (b : Boxed) → get_elem? boxes i ≡ some b → seat_number b.value ≢ number → ((k : ℕ) (p : Boxed) → k < i → get_elem? boxes k ≡ some p → seat_number p.value ≢ number)
+    → (k : ℕ) (p : Boxed) → k < i + 1 → get_elem? boxes k ≡ some p → seat_number p.value ≢ number
 none_more boxes i number b at other none k p lt at_k = elim (cases_eq k i) [
-  | inl same ↦ subst (λ (z : Boxed). number_of z.value ≢ number) (one_there boxes i b p at (subst (λ (z : ℕ). get_elem? boxes z ≡ some p) same at_k)) other
+  | inl same ↦ subst (λ (z : Boxed). seat_number z.value ≢ number) (one_there boxes i b p at (subst (λ (z : ℕ). get_elem? boxes z ≡ some p) same at_k)) other
   | inr ne ↦ none k p (omega (arith, lt, ne)) at_k
 ]
 
-pub not_there : (boxes : List Boxed) (i number : ℕ) → length boxes ≤ i → ((k : ℕ) (p : Boxed) → k < i → get_elem? boxes k ≡ some p → number_of p.value ≢ number) → ¬ HasSeat (values boxes) number
+pub not_there : (boxes : List Boxed) (i number : ℕ) → length boxes ≤ i → ((k : ℕ) (p : Boxed) → k < i → get_elem? boxes k ≡ some p → seat_number p.value ≢ number) → ¬ HasSeat (values boxes) number
 not_there boxes i number past none (k, seat, at, numbered) =
     let b = map_back (λ (z : Boxed). z.value) boxes k seat at in
-    none k b.0 (let low = at_below boxes k b.0 b.1 in omega (arith, low, past)) b.1 (ap number_of b.2 ∙ numbered)
+    none k b.0 (let low = at_below boxes k b.0 b.1 in omega (arith, low, past)) b.1 (ap seat_number b.2 ∙ numbered)
 
 pub all_more : (seats : List Seat) (i : ℕ) → HasSeat seats i → ((n : ℕ) → n < i → HasSeat seats n) → (n : ℕ) → n < i + 1 → HasSeat seats n
 all_more seats i has old n lt = elim (cases_eq n i) [
@@ -203,10 +203,10 @@ still_at index (x ∷ old) (y ∷ now) h at = all_cons (IsAt index) y now (ap ar
 pub still_all : (index : Index) (old now : List Seat) → HaveSettled old now → AreAll index old → AreAll index now
 still_all index old now h all n lt = let has = all n lt in still old now h has.0 has.1 has.2 has.3
   where
-    still : (old now : List Seat) → HaveSettled old now → (k : ℕ) (seat : Seat) → get_elem? old k ≡ some seat → number_of seat ≡ n → HasSeat now n
+    still : (old now : List Seat) → HaveSettled old now → (k : ℕ) (seat : Seat) → get_elem? old k ≡ some seat → seat_number seat ≡ n → HasSeat now n
     still [] now h k seat at is = absurd (some-ne-none seat (sym at))
     still (x ∷ old) [] h k seat at is = absurd h
-    still (x ∷ old) (y ∷ now) h zero seat at is = (0, y, refl, h.0.same.1.0 ∙ (ap number_of (some-injective x seat at) ∙ is))
+    still (x ∷ old) (y ∷ now) h zero seat at is = (0, y, refl, h.0.same.1.0 ∙ (ap seat_number (some-injective x seat at) ∙ is))
     still (x ∷ old) (y ∷ now) h (suc k) seat at is = let next = still old now h.1 k seat at is in (suc next.0, next.1, next.2, next.3)
 
 -- ---- the hands of the seats

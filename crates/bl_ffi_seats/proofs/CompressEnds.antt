@@ -69,7 +69,7 @@ answers_at_end level key waits (compress.Ending r) (compress.Over (reply.Unposte
 answers_at_end level key waits (compress.Ending r) (compress.Over reply.NoRoom) e t = tt
 
 -- a compression that ends at its next action, and is then q
-record IsPressing (before : Proc) (q : Compress) (level key : ℕ) : Type 0 where
+record IsCompressing (before : Proc) (q : Compress) (level key : ℕ) : Type 0 where
   pub old : Compress
   pub before_is : before ≡ proc.Compress old
   pub level_is : q.level ≡ level
@@ -77,11 +77,11 @@ record IsPressing (before : Proc) (q : Compress) (level key : ℕ) : Type 0 wher
   pub at_end : compress_next_in old.stage ≡ act.End
   pub goes : CompressGoes old.level old.key old.waits old.stage seen.Done q.stage
 
-pressing : (before : Proc) (q : Compress) (level key : ℕ) → work_of before ≡ Some (level, key) → next_of before ≡ act.End → Takes before seen.Done (proc.Compress q) → IsPressing before q level key
-pressing (proc.Compress p) q level key is e t = record { old = p; before_is = refl; level_is = t.0 ∙ first_of is; key_is = t.1 ∙ second_of is; at_end = e; goes = t.3 }
-pressing other q level key is e t = absurd t
+is_compressing : (before : Proc) (q : Compress) (level key : ℕ) → work_of before ≡ Some (level, key) → next_of before ≡ act.End → Takes before seen.Done (proc.Compress q) → IsCompressing before q level key
+is_compressing (proc.Compress p) q level key is e t = record { old = p; before_is = refl; level_is = t.0 ∙ first_of is; key_is = t.1 ∙ second_of is; at_end = e; goes = t.3 }
+is_compressing other q level key is e t = absurd t
 
 pub compress_has_answer : (pass : ℕ) (old e : PassState) (first : Proc) (q : Compress) (level key : ℕ) → IsDone pass old e first (proc.Compress q) → work_of first ≡ Some (level, key) → (what : Option Answer) → what ≡ compress_answer q → IsCompressAnswer what
 compress_has_answer pass old e first q level key d is what a =
-    let p = pressing d.before q level key (d.work ∙ is) d.at_end d.takes in
+    let p = is_compressing d.before q level key (d.work ∙ is) d.at_end d.takes in
     subst IsCompressAnswer (sym a) (answers_at_end p.old.level p.old.key p.old.waits p.old.stage q.stage p.at_end p.goes)

@@ -12,14 +12,14 @@ use Rattle.bl_index_resume.specs.declared.stages.Stage.{Stage}
 use Rattle.bl_index_resume.specs.declared.stages.Stage.TheVariants as stage
 use Rattle.bl_index_resume.specs.Stages.{IsWriteOf, op_in}
 use Rattle.bl_ffi_seats.specs.declared.seat.Seat.{Seat}
-use Rattle.bl_ffi_seats.specs.Accounts.{Account, HasGone, GoesTo, Ends, AddsEntry, Tells, Begins}
+use Rattle.bl_ffi_seats.specs.Accounts.{Account, HasGone, GoesTo, Ends, AddsEntry, TellsReply, Begins}
 use Rattle.bl_store.specs.declared.store.Hand.{Hand}
 use Rattle.bl_index_rule.specs.declared.known.PassState.{PassState}
 use Rattle.bl_index.specs.declared.index.Index.{Index}
 use Rattle.std.specs.Prelude.{IfNone}
 use Rattle.bl_ffi_seats.specs.Seats.{HasNotFound, HasWorked, HasAnswered, HasWritten}
 use Rattle.std.specs.Arc.{arc_value}
-use Rattle.bl_ffi_seats.specs.Calls.{HasBegun, account_of, number_of}
+use Rattle.bl_ffi_seats.specs.Calls.{HasBegun, account_of, seat_number}
 use Rattle.bl_ffi_seats.specs.Meetings.{HasSettled}
 
 pub stays : (pass : ℕ) (old : Account) → GoesTo pass old old
@@ -68,7 +68,7 @@ ends_op n op mid new reply hint is gone =
     let told : new.told ≡ mid.told ++ record { pass = n; op = op; reply = reply } ∷ [] = subst (λ (z : Option Op). Ends n z (answers.Op reply hint) mid.told new.told) is gone.1 in
     λ i. record { underway = gone.0 i; told = told i }
 
-pub write_told : (n : ℕ) (op : Op) (old mid new : Account) (reply : Reply) (hint : Option Hint) → mid.underway ≡ Some op → (mid ≡ old) ⊎ Begins n op old mid → HasGone n mid (Some (answers.Op reply hint)) new → Tells n op reply old new
+pub write_told : (n : ℕ) (op : Op) (old mid new : Account) (reply : Reply) (hint : Option Hint) → mid.underway ≡ Some op → (mid ≡ old) ⊎ Begins n op old mid → HasGone n mid (Some (answers.Op reply hint)) new → TellsReply n op reply old new
 write_told n op old mid new reply hint is (inl same) gone = record {
   mid = mid;
   goes = same_goes n old mid same;
@@ -83,7 +83,7 @@ write_told n op old mid new reply hint is (inr b) gone = record {
 }
 
 -- what two seats have told, by the seats
-pub as_accounts : (old mid : Seat) (op : Op) → (mid ≡ old) ⊎ HasBegun op old mid → (account_of mid ≡ account_of old) ⊎ Begins (number_of old) op (account_of old) (account_of mid)
+pub as_accounts : (old mid : Seat) (op : Op) → (mid ≡ old) ⊎ HasBegun op old mid → (account_of mid ≡ account_of old) ⊎ Begins (seat_number old) op (account_of old) (account_of mid)
 as_accounts old mid op (inl is) = inl (ap account_of is)
 as_accounts old mid op (inr began) = inr began
 

@@ -56,7 +56,7 @@ abbrev pub IsFreeFor : Op → Option Op → Type 0
 IsFreeFor op underway = (underway ≡ None) ⊎ (underway ≡ Some op)
 
 -- It has told what was underway, if that has ended, and then this reply to this operation, and no more.
-pub record Tells (pass : ℕ) (op : Op) (reply : Reply) (old new : Account) : Type 0 where
+pub record TellsReply (pass : ℕ) (op : Op) (reply : Reply) (old new : Account) : Type 0 where
   pub mid : Account
   pub goes : GoesTo pass old mid
   pub free : IsFreeFor op mid.underway

@@ -14,12 +14,12 @@ use Rattle.bl_index_resume.specs.Stages.{IsWriteOf, IsFor, IsLowering}
 use Rattle.bl_ffi_seats.specs.declared.seat.Seat.{Seat}
 use Rattle.bl_ffi_seats.specs.declared.seat.Upkeep.{Upkeep}
 use Rattle.bl_ffi_seats.specs.Seats.{IsSameOne, HasReplied, HasFollowed, HasReleased, HasWorked, begun_in}
-use Rattle.bl_ffi_seats.specs.Accounts.{Account, account, GoesTo, Tells, Begins}
+use Rattle.bl_ffi_seats.specs.Accounts.{Account, account, GoesTo, TellsReply, Begins}
 use Rattle.bl_ffi_seats.specs.Waits.{hints_of, IsIdle, IsLeft, IsTaken, lacked_in}
 
 -- the number of its pass, which its entries have
-abbrev pub number_of : Seat → ℕ
-number_of seat = seat.hand.number
+abbrev pub seat_number : Seat → ℕ
+seat_number seat = seat.hand.number
 
 -- what the index began with
 abbrev pub first_of_seat : Seat → List (Option Page)
@@ -51,15 +51,15 @@ IsAbout key write seat = IsWriteOf key write seat.stage
 
 -- It has told what was underway, if that has ended, and no more.
 abbrev pub HasGoneOn : Seat → Seat → Type 0
-HasGoneOn old new = GoesTo (number_of old) (account_of old) (account_of new)
+HasGoneOn old new = GoesTo (seat_number old) (account_of old) (account_of new)
 
 -- And then this reply.
 abbrev pub HasTold : Op → Reply → Seat → Seat → Type 0
-HasTold op reply old new = Tells (number_of old) op reply (account_of old) (account_of new)
+HasTold op reply old new = TellsReply (seat_number old) op reply (account_of old) (account_of new)
 
 -- Or it has begun the operation then.
 abbrev pub HasBegun : Op → Seat → Seat → Type 0
-HasBegun op old new = Begins (number_of old) op (account_of old) (account_of new)
+HasBegun op old new = Begins (seat_number old) op (account_of old) (account_of new)
 
 abbrev pub HasGoneOnOrBegun : Op → Seat → Seat → Type 0
 HasGoneOnOrBegun op old new = HasGoneOn old new ⊎ HasBegun op old new

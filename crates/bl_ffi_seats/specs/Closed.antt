@@ -10,13 +10,13 @@ use Rattle.bl_store.specs.declared.store.Hand.{Hand}
 use Rattle.bl_index_rule.specs.declared.known.PassState.{PassState}
 use Rattle.bl_index.specs.declared.index.Index.{Index}
 use Rattle.bl_index.specs.Calls.{pages_of, passes_of}
-use Rattle.bl_index.specs.Closed.{HasRoom, ClosesHands}
+use Rattle.bl_index.specs.Closed.{HasCapacity, ClosesHands}
 use Rattle.bl_index_resume.specs.declared.stages.Stage.TheVariants as stage
 use Rattle.bl_ffi_seats.specs.declared.seat.Seat.{Seat}
 use Rattle.bl_ffi_seats.specs.declared.closing.Prepared.{Prepared}
 use Rattle.bl_ffi_seats.specs.declared.closing.CloseFault.{CloseFault}
 use Rattle.bl_ffi_seats.specs.declared.closing.CloseFault.TheVariants as fault
-use Rattle.bl_ffi_seats.specs.Calls.{number_of}
+use Rattle.bl_ffi_seats.specs.Calls.{seat_number}
 use Rattle.bl_ffi_seats.specs.Meetings.{AreOfOne, HasSettled, HasRested}
 
 -- the seats in boxes
@@ -35,7 +35,7 @@ IsAt index seat = arc_value seat.index ≡ index
 
 -- one of the seats has that number
 abbrev pub HasSeat : List Seat → ℕ → Type 0
-HasSeat seats n = (k : ℕ) × (seat : Seat) × (get_elem? seats k ≡ some seat) × (number_of seat ≡ n)
+HasSeat seats n = (k : ℕ) × (seat : Seat) × (get_elem? seats k ≡ some seat) × (seat_number seat ≡ n)
 
 -- each seat of the index is among them
 abbrev pub AreAll : Index → List Seat → Type 0
@@ -93,4 +93,4 @@ pub record IsFor (seats : List Seat) (prepared : Prepared) : Type 0 where
   pub all : AreAll (arc_value prepared.index) seats
   pub empty : prepared.hands.items ≡ []
   pub fits : length seats ≤ vec_capacity prepared.hands
-  pub room : HasRoom (pages_of (arc_value prepared.index)) prepared.room
+  pub room : HasCapacity (pages_of (arc_value prepared.index)) prepared.room

@@ -6,7 +6,7 @@ use Rattle.bl_index_resume.specs.declared.stages.Stage.TheVariants as stage
 use Rattle.bl_ffi_seats.specs.declared.seat.Seat.{Seat}
 use Rattle.bl_ffi_seats.specs.Seats.{HasNotFound}
 use Rattle.bl_ffi_seats.specs.Tended.{KeepsUpkeep}
-use Rattle.bl_ffi_seats.specs.Calls.{number_of, first_of_seat, seen_by, IsSameSeat, HasGoneOn, HasCarriedOn}
+use Rattle.bl_ffi_seats.specs.Calls.{seat_number, first_of_seat, seen_by, IsSameSeat, HasGoneOn, HasCarriedOn}
 
 -- both are at one index
 abbrev pub AreOfOne : Seat → Seat → Type 0
@@ -38,4 +38,4 @@ pub record HaveMet (one two one' two' : Seat) : Type 0 where
   pub mid_two : Seat
   pub rested : HasRested one mid_one × HasRested two mid_two
   pub rest : RestsAs mid_one one' × RestsAs mid_two two'
-  pub meet : Meet (first_of_seat one) (number_of one) (number_of two) (seen_by mid_one) (seen_by mid_two) (seen_by one') (seen_by two')
+  pub meet : Meet (first_of_seat one) (seat_number one) (seat_number two) (seen_by mid_one) (seen_by mid_two) (seen_by one') (seen_by two')

@@ -7,7 +7,7 @@ use Rattle.bl_image.specs.Images.{IsImage}
 use Rattle.bl_check.specs.Faults.{AreSoundImage}
 use Rattle.bl_index.specs.declared.index.Index.{Index}
 use Rattle.bl_index.specs.declared.index.Pass.{Pass}
-use Rattle.bl_index.specs.Opened.{IsOpened as IsIndexOpened, IsReopened as IsIndexReopened}
+use Rattle.bl_index.specs.Opened.{IsIndexOpened, IsReopened as IsIndexReopened}
 use Rattle.bl_ffi_seats.specs.declared.seat.Seat.{Seat}
 use Rattle.bl_ffi_seats.specs.declared.opening.ImageFault.{ImageFault}
 use Rattle.bl_ffi_seats.specs.declared.opening.ImageFault.TheVariants as fault
@@ -25,7 +25,7 @@ abbrev pub AreSeatsOf : Index → List Pass → List Seat → Type 0
 AreSeatsOf index passes seats = AllZip (IsNewSeat index) passes seats
 
 -- An index was just opened, of so many pages, without rows, with so many passes; and there is a seat for each of its passes.
-pub record IsOpened (pages among : ℕ) (seats : List Seat) : Type 0 where
+pub record AreSeatsOpened (pages among : ℕ) (seats : List Seat) : Type 0 where
   pub index : Index
   pub passes : List Pass
   pub opened : IsIndexOpened (record { pages = pages; passes = among }) index passes

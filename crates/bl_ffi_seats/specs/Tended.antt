@@ -16,12 +16,12 @@ use Rattle.bl_ffi_seats.specs.declared.seat.Upkeep.{Upkeep}
 use Rattle.bl_ffi_seats.specs.Seats.{HasWritten}
 use Rattle.bl_ffi_seats.specs.Accounts.{HasGone}
 use Rattle.bl_ffi_seats.specs.Waits.{ArePieces, IsKept, IsFound, IsLeft, lacked_in}
-use Rattle.bl_ffi_seats.specs.Calls.{IsSameSeat, IsAbout, HasGoneOn, HasTold, HasBegun, HasCarriedOn, HasNothingToDo, HasBegunPiece, HasSwept, number_of, account_of, released_by, begun_by}
+use Rattle.bl_ffi_seats.specs.Calls.{IsSameSeat, IsAbout, HasGoneOn, HasTold, HasBegun, HasCarriedOn, HasNothingToDo, HasBegunPiece, HasSwept, seat_number, account_of, released_by, begun_by}
 
 -- What was underway has gone on. What it leaves, if it has ended with that answer, waits behind what waited.
 pub record GoesOn (answer : Option Answer) (old new : Seat) : Type 0 where
   pub same : IsSameSeat old new
-  pub told : HasGone (number_of old) (account_of old) answer (account_of new)
+  pub told : HasGone (seat_number old) (account_of old) answer (account_of new)
   pub worked : HasCarriedOn old new
   pub left : IsLeft answer old.upkeep new.upkeep
 

@@ -4,7 +4,7 @@ ghost use Rattle.std.specs.Prelude.{All, IfOk, IfErr};
 ghost use Rattle.std.specs.Arc.{arc_value};
 ghost use Rattle.bl_index.specs.Calls.{IsPassOf};
 ghost use Rattle.bl_index.specs.Opened.{IsLargeRefusal};
-ghost use Rattle.bl_ffi_seats.specs.Opened.{AreSeatsOf, IsOpened, IsReopened, IsImageFault, IsNewSeat};
+ghost use Rattle.bl_ffi_seats.specs.Opened.{AreSeatsOf, AreSeatsOpened, IsReopened, IsImageFault, IsNewSeat};
 
 use crate::seat::{Seat, Upkeep};
 use bl_check::{Fault, load};
@@ -27,7 +27,7 @@ pub enum ImageFault {
 /// An index of so many pages, 4 to 2^28, without rows, and so many seats at it, 1 to 64. It fails with `Pages` or `Passes` where a
 /// number is another, the pages first, and with `Memory` where there was none.
 pub fn open(alloc: Global, pages: u32, seats: u32) -> Result<Vec<Seat>, OpenFault>
-    ensures ok { IfOk result (λ v. IsOpened pages seats v.items) }
+    ensures ok { IfOk result (λ v. AreSeatsOpened pages seats v.items) }
     ensures fault { IfErr result (IsLargeRefusal (record { pages = pages; passes = seats })) }
 {
     let config = Config {

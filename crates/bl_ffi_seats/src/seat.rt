@@ -24,10 +24,10 @@ use std::sync::Arc;
 const PIECES: u32 = 16;
 
 /// How often a change looks for free frames at most, or for free pages, before it is to be made again.
-const LOOKS: u32 = 8;
+const SWEEPS_FOR_ROOM: u32 = 8;
 
 /// How often in a row it is to be made again at most for want of them, before it begins all the same.
-const PATIENCE: u32 = 65_536;
+const TRIES_WITHOUT_ROOM: u32 = 65_536;
 
 /// One thread's place at an index.
 #[derive(Drop)]
@@ -143,7 +143,7 @@ impl Upkeep {
         ensures pieces { ArePieces self.old self.new }
         ensures again { result ≡ false → (lacked_in self.new ≡ lacked_in self.old + 1) × (lacked_in self.new ≤ 65536) }
     {
-        if self.lacked < PATIENCE {
+        if self.lacked < TRIES_WITHOUT_ROOM {
             self.lacked += 1;
             return false;
         }
@@ -188,7 +188,7 @@ impl Seat {
     ghost use Rattle.bl_ffi_seats.specs.Waits.{hints_of, lacked_in, IsKept, IsFound, IsLeft};
     ghost use Rattle.bl_ffi_seats.specs.Calls.{IsSameSeat, HasToldLast, HasTold, HasGoneOn, HasGoneOnOrBegun, HasSwept, HasNothingToDo, HasBegunPiece};
     ghost use Rattle.bl_ffi_seats.specs.Calls.{HasCarriedOn, HasDoneMost, count_underway};
-    ghost use Rattle.bl_ffi_seats.specs.Calls.{IsAbout, number_of, account_of, released_by, begun_by};
+    ghost use Rattle.bl_ffi_seats.specs.Calls.{IsAbout, seat_number, account_of, released_by, begun_by};
     ghost use Rattle.bl_ffi_seats.specs.Tended.{IsAsItWas, KeepsUpkeep, Swept, Tends, DoesNoPiece, HasTended, HasPrepared, MayEnter, HasToWait, HasChanged, HasCome};
     ghost use Rattle.bl_ffi_seats.specs.Meetings.{AreOfOne, HaveMet, HasSettled, HasNoAnswer};
     ghost use Rattle.bl_index.specs.Calls.{pages_of};
@@ -428,7 +428,7 @@ impl Seat {
     fn go_on(&mut self) -> Option<Answer>
         ensures same { IsSameSeat self.old self.new }
         ensures answers { HasAnswered self.new.hand self.old.stage result }
-        ensures gone { HasGone (number_of self.old) (account_of self.old) result (account_of self.new) }
+        ensures gone { HasGone (seat_number self.old) (account_of self.old) result (account_of self.new) }
         ensures rests { IfSome result (λ _. self.new.stage ≡ stages.Rests) }
         ensures worked { HasCarriedOn self.old self.new }
         ensures still { IfNone result ((self.old.stage ≡ stages.Rests) ⊎ (self.new.stage ≢ stages.Rests)) }
@@ -526,7 +526,7 @@ impl Seat {
         ensures underway { IfNone result (IsAbout key write self.new × Starts (write_op key write) (account_of self.old) (account_of self.new)
             × (self.new.upkeep ≡ self.old.upkeep)) }
         ensures answered { IfSome result (λ reply. ((hint : Option HintIs) × HasWritten self.new.hand key write reply hint × IsKept hint self.old.upkeep self.new.upkeep)
-            × AddsEntry (number_of self.old) (write_op key write) reply (account_of self.old) (account_of self.new)) }
+            × AddsEntry (seat_number self.old) (write_op key write) reply (account_of self.old) (account_of self.new)) }
     {
         match start_writing(&self.index, &mut self.hand, &mut self.stage, key, write) {
             Some((reply, hint)) => {
@@ -560,7 +560,7 @@ impl Seat {
         ensures keeps { (self.new.stage ≡ self.old.stage) × (self.new.upkeep ≡ self.old.upkeep) }
         ensures swept { (n : ℕ) × Swept n self.old self.new × (result ≡ false → n ≡ 8) }
     {
-        for _look in 0..LOOKS {
+        for _look in 0..SWEEPS_FOR_ROOM {
             if !self.lacks_frames() {
                 return true;
             }
@@ -605,7 +605,7 @@ impl Seat {
         ensures keeps { (self.new.stage ≡ self.old.stage) × (self.new.upkeep ≡ self.old.upkeep) }
         ensures swept { (n : ℕ) × Swept n self.old self.new }
     {
-        for _sweep in 0..LOOKS {
+        for _sweep in 0..SWEEPS_FOR_ROOM {
             if !waits_for_pages(self.index.tree()) {
                 return;
             }

@@ -34,7 +34,7 @@ use Rattle.bl_proc_invariant.specs.Lowering.{know_lowering}
 use Rattle.bl_proc.specs.declared.kinds.Proc.{Proc}
 use Rattle.bl_proc.specs.declared.kinds.Proc.TheVariants as proc
 use Rattle.bl_proc_invariant.specs.Tables.{Carried, unsaid, alone, Aim, know_approach, know_edit}
-use Rattle.bl_proc_invariant.specs.Compressing.{know_squeeze}
+use Rattle.bl_proc_invariant.specs.Compressing.{know_compression}
 use Rattle.bl_proc_invariant.specs.Knowing.{Run, know, know_of, know_find, know_part, know_write, path_goes, inserted, know_climb, know_growth, know_post, know_compress, know_reclaim, know_lower}
 use Rattle.bl_proc_compress.specs.declared.compression.Compression.{Compression}
 use Rattle.bl_proc_compress.specs.declared.compression.Compression.TheVariants as compression
@@ -71,18 +71,18 @@ growth_holds carried level key got (growth.OpeningTop x) = refl
 growth_holds carried level key got growth.OpeningGrown = refl
 growth_holds carried level key got growth.OpeningRefused = refl
 
-squeeze_holds : (level key : ℕ) (got : ℕ → Page) (c : Compression) → (know_squeeze level key got c).stage ≡ Stage.Busy
-squeeze_holds level key got (compression.LatchingLeft f) = refl
-squeeze_holds level key got (compression.LatchedLeft f) = refl
-squeeze_holds level key got (compression.LatchingRight f c) = refl
-squeeze_holds level key got (compression.LatchedRight f c) = refl
-squeeze_holds level key got (compression.PuttingFirst p) = refl
-squeeze_holds level key got (compression.PuttingParent p) = refl
-squeeze_holds level key got (compression.PuttingLast p) = refl
-squeeze_holds level key got (compression.Retiring t decision) = refl
-squeeze_holds level key got (compression.OpeningRight t decision) = refl
-squeeze_holds level key got (compression.OpeningLeft t decision) = refl
-squeeze_holds level key got (compression.OpeningParent x decision) = refl
+compression_holds : (level key : ℕ) (got : ℕ → Page) (c : Compression) → (know_compression level key got c).stage ≡ Stage.Busy
+compression_holds level key got (compression.LatchingLeft f) = refl
+compression_holds level key got (compression.LatchedLeft f) = refl
+compression_holds level key got (compression.LatchingRight f c) = refl
+compression_holds level key got (compression.LatchedRight f c) = refl
+compression_holds level key got (compression.PuttingFirst p) = refl
+compression_holds level key got (compression.PuttingParent p) = refl
+compression_holds level key got (compression.PuttingLast p) = refl
+compression_holds level key got (compression.Retiring t decision) = refl
+compression_holds level key got (compression.OpeningRight t decision) = refl
+compression_holds level key got (compression.OpeningLeft t decision) = refl
+compression_holds level key got (compression.OpeningParent x decision) = refl
 
 find_holds : (key : ℕ) (a : FindStage) → MayHold (know_find key a)
 find_holds key find.New = inr refl
@@ -121,7 +121,7 @@ post_holds carried level key got child (post.Over r) = inr refl
 compress_holds : (level key : ℕ) (got : ℕ → Page) (a : CompressStage) → MayHold (know_compress level key got a)
 compress_holds level key got compress.New = inr refl
 compress_holds level key got (compress.Coming a) = inl (approach_holds alone level key a)
-compress_holds level key got (compress.Compressing c) = inl (squeeze_holds level key got c)
+compress_holds level key got (compress.Compressing c) = inl (compression_holds level key got c)
 compress_holds level key got (compress.Staying x) = inl refl
 compress_holds level key got (compress.Ending r) = inr refl
 compress_holds level key got (compress.Over r) = inr refl

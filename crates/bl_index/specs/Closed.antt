@@ -82,8 +82,8 @@ pub record ClosesHands (index : Index) (hands : List (Hand PassState)) (pages : 
   pub are_rows : AreRowsOf pages rows
   pub map : SameMap (map_after first whole) (map_of rows)
 
--- empty vectors with room for so many pages
-pub record HasRoom (pages : ℕ) (room : CloseRoom) : Type 0 where
+-- empty vectors with capacity for so many pages
+pub record HasCapacity (pages : ℕ) (room : CloseRoom) : Type 0 where
   pub words_empty : room.words.items ≡ []
   pub words_fit : pages ≤ vec_capacity room.words
   pub pages_empty : room.pages.items ≡ []

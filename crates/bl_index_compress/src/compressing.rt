@@ -15,10 +15,10 @@ ghost use Rattle.bl_store.specs.Owners.{IsHandOf};
 ghost use Rattle.bl_index_rule.specs.declared.known.PassState.{PassState as Knows};
 ghost use Rattle.bl_index_events.specs.Runs.{Runs, Rests, IsOn, IsSince, IsSameProcess};
 ghost use Rattle.bl_index_ways.specs.Events.{HasGotAnchor, HoldsNone};
-ghost use Rattle.bl_index_compress.specs.Squeezes.{squeezing, HasCompressed, IsCompressOver};
+ghost use Rattle.bl_index_compress.specs.CompressStands.{compress_of, HasCompressed, IsCompressOver};
 
 use crate::families::compress_there;
-use crate::targets::Squeezing;
+use crate::targets::CompressTarget;
 use bl_index_events::{FrameView, Tree};
 use bl_index_rule::PassState;
 use bl_index_ways::{Reached, begin_descent, reach};
@@ -31,15 +31,15 @@ use std::sync::Wait;
 fn way_from_anchor(
     tree: &Tree,
     hand: &mut Hand<PassState>,
-    target: Squeezing,
+    target: CompressTarget,
     glance: Glance,
 ) -> Option<Approach>
     requires runs { Runs tree.now hand.old (known hand.old.seat).state }
     requires reads { ReadsFrom hand.old.seat glance }
-    requires anchor { HasGotAnchor (squeezing target (stages.Coming approach.Start)) (read_words hand.old.seat) (known hand.old.seat) }
+    requires anchor { HasGotAnchor (compress_of target (stages.Coming approach.Start)) (read_words hand.old.seat) (known hand.old.seat) }
     ensures same { hand.new ≡ hand.old }
-    ensures on { IfSome result (λ a. HoldsNone a × IsOn tree.now.store.layout (known hand.new.seat) (squeezing target (stages.Coming a))) }
-    ensures none { IfNone result (IsOn tree.now.store.layout (known hand.new.seat) (squeezing target (stages.Ending replies.Alone))) }
+    ensures on { IfSome result (λ a. HoldsNone a × IsOn tree.now.store.layout (known hand.new.seat) (compress_of target (stages.Coming a))) }
+    ensures none { IfNone result (IsOn tree.now.store.layout (known hand.new.seat) (compress_of target (stages.Ending replies.Alone))) }
 {
     let shown = FrameView {
         store: &tree.store,
@@ -55,12 +55,12 @@ fn way_from_anchor(
 fn end_compression(
     tree: &Tree,
     hand: &mut Hand<PassState>,
-    target: Squeezing,
+    target: CompressTarget,
     answer: (Squeezed, Option<Hint>),
 ) -> (Squeezed, Option<Hint>)
     requires empty { HasNoStock hand.old.seat }
     requires process { (r : CompressReply) × (compressed_answer r ≡ answers.Compress answer.0 answer.1)
-        × Runs tree.now hand.old (squeezing target (stages.Ending r)) }
+        × Runs tree.now hand.old (compress_of target (stages.Ending r)) }
     requires no_room { answer.0 ≡ said.NoRoom → WasRefused hand.old.seat 0 3 }
     ensures same { IsSameHand hand.old.seat hand.new.seat }
     ensures over { IsCompressOver target (known hand.old.seat) hand.new.seat result.0 result.1 }
@@ -75,9 +75,9 @@ fn compress_until<R: Wait>(
     tree: &Tree,
     rt: &R,
     hand: &mut Hand<PassState>,
-    target: Squeezing,
+    target: CompressTarget,
 ) -> (Squeezed, Option<Hint>)
-    requires runs { Runs tree.now hand.old (squeezing target (stages.Coming approach.Start)) }
+    requires runs { Runs tree.now hand.old (compress_of target (stages.Coming approach.Start)) }
     requires empty { HasNoStock hand.old.seat }
     ensures same { IsSameHand hand.old.seat hand.new.seat }
     ensures over { IsCompressOver target (known hand.old.seat) hand.new.seat result.0 result.1 }
@@ -120,7 +120,7 @@ pub fn compress_children<R: Wait>(
         × HasCompressed hand.old.number (known hand.old.seat) (known hand.new.seat) first result.0 result.1 }
     ensures no_room { result.0 ≡ said.NoRoom → WasRefused hand.new.seat 0 3 }
 {
-    let target = Squeezing { level, key };
+    let target = CompressTarget { level, key };
     begin_descent(tree, hand, &target);
     compress_until(tree, rt, hand, target)
 }

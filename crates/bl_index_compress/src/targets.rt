@@ -8,7 +8,7 @@ use bl_proc_routes::Step;
 
 /// The compression of two children of a parent, by a key that it covers.
 #[derive(Clone, Copy)]
-pub(crate) struct Squeezing {
+pub(crate) struct CompressTarget {
     /// The level of the parent, 1 to 12.
     pub(crate) level: u32,
     pub(crate) key: u64,
@@ -24,7 +24,7 @@ pub(crate) struct Kin {
     pub(crate) key: u64,
 }
 
-impl Target for Squeezing {
+impl Target for CompressTarget {
     ghost use Rattle.std.specs.Prelude.{refl, true, ◌<◌};
     ghost use Rattle.bl_page.specs.Nodes.{roots_of};
     ghost use Rattle.bl_proc.specs.declared.kinds.Proc.TheVariants as proc;
@@ -71,7 +71,7 @@ impl Target for Squeezing {
     ghost goes = { λ j n a b what hold t. (refl, refl, refl, nears j.level j.key true a b what hold t) };
 }
 
-impl Unborn for Squeezing {
+impl Unborn for CompressTarget {
     ghost use Rattle.std.specs.Prelude.{refl, true};
     ghost use Rattle.bl_proc.specs.declared.kinds.Proc.TheVariants as proc;
     ghost use Rattle.bl_proc_compress.specs.declared.compress.CompressStage.TheVariants as stages;

@@ -4,7 +4,7 @@ use Rattle.atomic_table.specs.declared.shared.Seat.{Seat}
 use Rattle.bl_layout.specs.declared.layout.Layout.{Layout}
 use Rattle.bl_store_rule.specs.declared.view.View.{View}
 use Rattle.bl_store.specs.declared.stock.Stock.{Stock}
-use Rattle.bl_store.specs.Hands.{HasNoStock, IsIdle, IsRunning, IsSameHand, IsSameStage, IsSameStock, IsStockOf, MayRetire, IsSameRefusal, known}
+use Rattle.bl_store.specs.Hands.{HasNoStock, IsIdle, IsRunning, IsSameHand, IsSameStamp, IsSameStock, IsStockOf, MayRetire, IsSameRefusal, known}
 use Rattle.bl_proc_steps.specs.declared.acts.Action.TheVariants as act
 use Rattle.bl_proc_steps.specs.declared.acts.Seen.TheVariants as seen
 use Rattle.bl_proc_invariant.specs.Knowing.{end_of_proc}
@@ -44,8 +44,8 @@ pub record Runs (tree : Tree) (hand : Hand PassState) (process : Proc) : Type 0 
   pub on : IsOn tree.store.layout (known hand.seat) process
 
 -- It is the same hand, which goes on with its process or stays outside one, and has the same stock.
-abbrev pub Keeps : Seat (Unit {0}) (View PassState) → Seat (Unit {0}) (View PassState) → Type 0
-Keeps h h' = IsSameHand h h' × IsSameStage h h' × IsSameStock h h'
+abbrev pub KeepsHand : Seat (Unit {0}) (View PassState) → Seat (Unit {0}) (View PassState) → Type 0
+KeepsHand h h' = IsSameHand h h' × IsSameStamp h h' × IsSameStock h h'
 
 -- The pass, of that number, knew old when the process began that it runs, and has done nothing else since.
 pub record IsSince (pass : ℕ) (old d : PassState) : Type 0 where

@@ -11,11 +11,11 @@ ghost use Rattle.bl_proc.specs.Processes.{next_of};
 ghost use Rattle.bl_proc_deterministic.specs.Courses.{GoesOn};
 ghost use Rattle.bl_proc_deterministic.specs.Frames.{op_of, work_of};
 ghost use Rattle.bl_store.specs.Drafts.{IsSpread};
-ghost use Rattle.bl_store.specs.Hands.{known, read_words, IsSameHand, IsSameStage, IsSameStock, HasNoStock, IsStockOf, ReadsFrom, WasRefused, IsSameRefusal};
+ghost use Rattle.bl_store.specs.Hands.{known, read_words, IsSameHand, IsSameStamp, IsSameStock, HasNoStock, IsStockOf, ReadsFrom, WasRefused, IsSameRefusal};
 ghost use Rattle.bl_index_rule.specs.declared.known.PassState.{PassState as Knows};
 ghost use Rattle.bl_index_rule.specs.Observed.{Goes};
 ghost use Rattle.bl_index_events.specs.Held.{KeepsLatch};
-ghost use Rattle.bl_index_events.specs.Runs.{Runs, Keeps, Rests, IsSince, IsDone, EndsAs};
+ghost use Rattle.bl_index_events.specs.Runs.{Runs, KeepsHand, Rests, IsSince, IsDone, EndsAs};
 
 use crate::tree::Tree;
 use bl_index_rule::{Ended, Got, Opened, PassState, Probed, Put, Refused, Took, Tried};
@@ -32,7 +32,7 @@ impl Tree {
         requires runs { Runs self.now hand.old (known hand.old.seat).state }
         requires next { next_of (known hand.old.seat).state ≡ act.Get page }
         requires course { (c : Page) → GoesOn (known hand.old.seat).state (seen.Words c) }
-        ensures same { Keeps hand.old.seat hand.new.seat }
+        ensures same { KeepsHand hand.old.seat hand.new.seat }
         ensures reads { ReadsFrom hand.new.seat result }
         ensures goes { (c : Page) × (read_words hand.new.seat ≡ words_of c) × Goes (seen.Words c) (known hand.old.seat) (known hand.new.seat) }
     {
@@ -48,7 +48,7 @@ impl Tree {
         requires runs { Runs self.now hand.old (known hand.old.seat).state }
         requires next { next_of (known hand.old.seat).state ≡ act.Latch page }
         requires course { GoesOn (known hand.old.seat).state seen.Done × GoesOn (known hand.old.seat).state seen.Missed }
-        ensures same { Keeps hand.old.seat hand.new.seat }
+        ensures same { KeepsHand hand.old.seat hand.new.seat }
         ensures done { result ≡ true → Goes seen.Done (known hand.old.seat) (known hand.new.seat) }
         ensures missed { result ≡ false → Goes seen.Missed (known hand.old.seat) (known hand.new.seat) }
     {
@@ -62,7 +62,7 @@ impl Tree {
         requires page { page < self.now.store.layout.pages }
         requires next { next_of (known hand.old.seat).state ≡ act.Probe page }
         requires course { (free : Bool) → GoesOn (known hand.old.seat).state (seen.Probed free) }
-        ensures same { Keeps hand.old.seat hand.new.seat }
+        ensures same { KeepsHand hand.old.seat hand.new.seat }
         ensures goes { Goes (seen.Probed result) (known hand.old.seat) (known hand.new.seat) }
     {
         self.store.probe::<Probed>(hand, page)
@@ -74,7 +74,7 @@ impl Tree {
         requires runs { Runs self.now hand.old (known hand.old.seat).state }
         requires next { next_of (known hand.old.seat).state ≡ act.Open page }
         requires course { GoesOn (known hand.old.seat).state seen.Done }
-        ensures same { Keeps hand.old.seat hand.new.seat }
+        ensures same { KeepsHand hand.old.seat hand.new.seat }
         ensures goes { Goes seen.Done (known hand.old.seat) (known hand.new.seat) }
         ensures refusal { IsSameRefusal hand.old.seat hand.new.seat }
     {
@@ -109,7 +109,7 @@ impl Tree {
         requires next { (c : Page) × (next_of (known hand.old.seat).state ≡ act.Put page c) × (words.now ≡ words_of c) }
         requires course { GoesOn (known hand.old.seat).state seen.Done × GoesOn (known hand.old.seat).state seen.Refused }
         requires empty { HasNoStock hand.old.seat }
-        ensures same { IsSameHand hand.old.seat hand.new.seat × IsSameStage hand.old.seat hand.new.seat }
+        ensures same { IsSameHand hand.old.seat hand.new.seat × IsSameStamp hand.old.seat hand.new.seat }
         ensures empty { HasNoStock hand.new.seat }
         ensures done { result ≡ true → Goes seen.Done (known hand.old.seat) (known hand.new.seat) }
         ensures refused { result ≡ false → Goes seen.Refused (known hand.old.seat) (known hand.new.seat) }
@@ -140,7 +140,7 @@ impl Tree {
         requires next { (c : Page) × (next_of (known hand.old.seat).state ≡ act.Put page c) × IsSpread edit (read_words hand.old.seat) (words_of c) }
         requires course { GoesOn (known hand.old.seat).state seen.Done × GoesOn (known hand.old.seat).state seen.Refused }
         requires empty { HasNoStock hand.old.seat }
-        ensures same { IsSameHand hand.old.seat hand.new.seat × IsSameStage hand.old.seat hand.new.seat }
+        ensures same { IsSameHand hand.old.seat hand.new.seat × IsSameStamp hand.old.seat hand.new.seat }
         ensures empty { HasNoStock hand.new.seat }
         ensures done { result ≡ true → Goes seen.Done (known hand.old.seat) (known hand.new.seat) }
         ensures refused { result ≡ false → Goes seen.Refused (known hand.old.seat) (known hand.new.seat) }
@@ -163,7 +163,7 @@ impl Tree {
         requires next { next_of (known hand.old.seat).state ≡ act.Take }
         requires course { ((y : ℕ) → IsChild y → GoesOn (known hand.old.seat).state (seen.Took y)) × GoesOn (known hand.old.seat).state seen.Refused }
         requires empty { HasNoStock hand.old.seat }
-        ensures same { IsSameHand hand.old.seat hand.new.seat × IsSameStage hand.old.seat hand.new.seat }
+        ensures same { IsSameHand hand.old.seat hand.new.seat × IsSameStamp hand.old.seat hand.new.seat }
         ensures took { MatchOption result (HasNoStock hand.new.seat × Goes seen.Refused (known hand.old.seat) (known hand.new.seat)) (λ t. IsChild t.0
             × IsStockOf hand.new.seat t.1 × (t.1.count ≡ 2) × Goes (seen.Took t.0) (known hand.old.seat) (known hand.new.seat)) }
         ensures asked { IfNone result (WasRefused hand.new.seat 1 2) }
@@ -189,7 +189,7 @@ impl Tree {
         requires next { (c : Page) × (next_of (known hand.old.seat).state ≡ act.Put page c) × (words.now ≡ words_of c) }
         requires course { GoesOn (known hand.old.seat).state seen.Done }
         requires stock { IsStockOf hand.old.seat stock.old × (0 < stock.old.count) }
-        ensures same { IsSameHand hand.old.seat hand.new.seat × IsSameStage hand.old.seat hand.new.seat }
+        ensures same { IsSameHand hand.old.seat hand.new.seat × IsSameStamp hand.old.seat hand.new.seat }
         ensures stock { IsStockOf hand.new.seat stock.new × (stock.new.count + 1 ≡ stock.old.count) }
         ensures goes { Goes seen.Done (known hand.old.seat) (known hand.new.seat) }
     {

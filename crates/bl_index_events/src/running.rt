@@ -16,7 +16,7 @@ ghost use Rattle.bl_claims.specs.Seeing.{name};
 ghost use Rattle.bl_store.specs.Hands.{known, IsIdle, IsRunning, IsSameHand, IsSameStock, IsSameRefusal};
 ghost use Rattle.bl_store.specs.Owners.{IsHandOf};
 ghost use Rattle.bl_index_rule.specs.Observed.{Begins, Steps, Finishes, IsUnborn, MayGiveUp};
-ghost use Rattle.bl_index_events.specs.Runs.{Runs, Keeps, IsSince, IsWithin, Moves};
+ghost use Rattle.bl_index_events.specs.Runs.{Runs, KeepsHand, IsSince, IsWithin, Moves};
 
 use crate::frame_view::FrameView;
 use crate::kinds::Kind;
@@ -66,7 +66,7 @@ impl Tree {
     pub fn read<P: Kind>(&self, hand: &mut Hand<PassState>, process: &mut P, page: u32)
         requires runs { Runs self.now hand.old (P.proc_of process.old) }
         requires next { (P.answer_of process.old ≡ None) × (P.next_of process.old ≡ act.Get page) }
-        ensures same { Keeps hand.old.seat hand.new.seat }
+        ensures same { KeepsHand hand.old.seat hand.new.seat }
         ensures runs { Runs self.now hand.new (P.proc_of process.new) }
         ensures got { Steps (Get page) (known hand.old.seat) (known hand.new.seat) }
         ensures moves { Moves (known hand.old.seat) (known hand.new.seat) }

@@ -4,7 +4,7 @@ ghost use Rattle.std.specs.Prelude.{◌≡◌, ◌≢◌, ◌+◌, ◌<◌, ◌�
 ghost use Rattle.bl_proc_steps.specs.declared.acts.Action.TheVariants as act;
 ghost use Rattle.bl_proc_steps.specs.declared.acts.Seen.{Seen as SeenIs};
 ghost use Rattle.bl_proc_steps.specs.declared.acts.Seen.TheVariants as seen;
-ghost use Rattle.bl_store.specs.Hands.{known, IsSameHand, IsSameStage, IsSameStock, HasNoStock, IsStockOf, MayRetire};
+ghost use Rattle.bl_store.specs.Hands.{known, IsSameHand, IsSameStamp, IsSameStock, HasNoStock, IsStockOf, MayRetire};
 ghost use Rattle.bl_index_events.specs.Runs.{Runs, Moves, HasReserved, IsAfter};
 ghost use Rattle.bl_index_events.specs.Rooms.{TellsRoom};
 
@@ -36,7 +36,7 @@ impl Tree {
     )
         requires runs { Runs self.now hand.old (P.proc_of process.old) }
         requires next { (P.answer_of process.old ≡ None) × (P.next_of process.old ≡ act.Latch page) }
-        ensures same { IsSameHand hand.old.seat hand.new.seat × IsSameStage hand.old.seat hand.new.seat }
+        ensures same { IsSameHand hand.old.seat hand.new.seat × IsSameStamp hand.old.seat hand.new.seat }
         ensures runs { Runs self.now hand.new (P.proc_of process.new) }
         ensures moves { Moves (known hand.old.seat) (known hand.new.seat) }
         ensures takes { (what : SeenIs) × P.Takes process.old what process.new × TellsRoom hand.old.seat hand.new.seat (P.proc_of process.old) what }
@@ -56,7 +56,7 @@ impl Tree {
     fn open_page<P: Kind>(&self, hand: &mut Hand<PassState>, process: &mut P, page: u32)
         requires runs { Runs self.now hand.old (P.proc_of process.old) }
         requires next { (P.answer_of process.old ≡ None) × (P.next_of process.old ≡ act.Open page) }
-        ensures same { IsSameHand hand.old.seat hand.new.seat × IsSameStage hand.old.seat hand.new.seat }
+        ensures same { IsSameHand hand.old.seat hand.new.seat × IsSameStamp hand.old.seat hand.new.seat }
         ensures runs { Runs self.now hand.new (P.proc_of process.new) }
         ensures moves { Moves (known hand.old.seat) (known hand.new.seat) }
         ensures takes { (what : SeenIs) × P.Takes process.old what process.new × TellsRoom hand.old.seat hand.new.seat (P.proc_of process.old) what }
@@ -73,7 +73,7 @@ impl Tree {
         requires next { (P.answer_of process.old ≡ None) × (P.next_of process.old ≡ act.Retire page) }
         requires leave { MayRetire hand.old.seat }
         requires empty { HasNoStock hand.old.seat }
-        ensures same { IsSameHand hand.old.seat hand.new.seat × IsSameStage hand.old.seat hand.new.seat }
+        ensures same { IsSameHand hand.old.seat hand.new.seat × IsSameStamp hand.old.seat hand.new.seat }
         ensures runs { Runs self.now hand.new (P.proc_of process.new) }
         ensures moves { Moves (known hand.old.seat) (known hand.new.seat) }
         ensures takes { (what : SeenIs) × P.Takes process.old what process.new × TellsRoom hand.old.seat hand.new.seat (P.proc_of process.old) what }
@@ -95,7 +95,7 @@ impl Tree {
         requires runs { Runs self.now hand.old (P.proc_of process.old) }
         requires next { (P.answer_of process.old ≡ None) × (P.next_of process.old ≡ act.Put page contents.now) }
         requires stock { IsStockOf hand.old.seat stock × (0 < stock.count) × MayRetire hand.old.seat }
-        ensures same { IsSameHand hand.old.seat hand.new.seat × IsSameStage hand.old.seat hand.new.seat }
+        ensures same { IsSameHand hand.old.seat hand.new.seat × IsSameStamp hand.old.seat hand.new.seat }
         ensures runs { Runs self.now hand.new (P.proc_of process.new) }
         ensures moves { Moves (known hand.old.seat) (known hand.new.seat) }
         ensures takes { P.Takes process.old seen.Done process.new }
@@ -121,7 +121,7 @@ impl Tree {
         requires next { (P.answer_of process.old ≡ None) × (P.next_of process.old ≡ act.Put page contents.now) }
         requires needs { (P.needs_of process.old ≡ Some (0, frames)) × (0 < frames) × (frames ≤ 3) }
         requires empty { HasNoStock hand.old.seat }
-        ensures same { IsSameHand hand.old.seat hand.new.seat × IsSameStage hand.old.seat hand.new.seat }
+        ensures same { IsSameHand hand.old.seat hand.new.seat × IsSameStamp hand.old.seat hand.new.seat }
         ensures runs { Runs self.now hand.new (P.proc_of process.new) }
         ensures moves { Moves (known hand.old.seat) (known hand.new.seat) }
         ensures takes { (what : SeenIs) × P.Takes process.old what process.new × TellsRoom hand.old.seat hand.new.seat (P.proc_of process.old) what }
@@ -143,7 +143,7 @@ impl Tree {
         requires next { (P.answer_of process.old ≡ None) × (P.next_of process.old ≡ act.Take) }
         requires needs { P.needs_of process.old ≡ Some (1, 2) }
         requires empty { HasNoStock hand.old.seat }
-        ensures same { IsSameHand hand.old.seat hand.new.seat × IsSameStage hand.old.seat hand.new.seat }
+        ensures same { IsSameHand hand.old.seat hand.new.seat × IsSameStamp hand.old.seat hand.new.seat }
         ensures runs { Runs self.now hand.new (P.proc_of process.new) }
         ensures moves { Moves (known hand.old.seat) (known hand.new.seat) }
         ensures takes { (what : SeenIs) × P.Takes process.old what process.new × TellsRoom hand.old.seat hand.new.seat (P.proc_of process.old) what }
@@ -177,7 +177,7 @@ impl Tree {
         requires runs { Runs self.now hand.old (P.proc_of process.old) }
         requires next { (P.answer_of process.old ≡ None) × (P.next_of process.old ≡ act.Put page contents.now) }
         requires stock { HasReserved hand.old.seat held (P.proc_of process.old) }
-        ensures same { IsSameHand hand.old.seat hand.new.seat × IsSameStage hand.old.seat hand.new.seat }
+        ensures same { IsSameHand hand.old.seat hand.new.seat × IsSameStamp hand.old.seat hand.new.seat }
         ensures runs { Runs self.now hand.new (P.proc_of process.new) }
         ensures moves { Moves (known hand.old.seat) (known hand.new.seat) }
         ensures takes { (what : SeenIs) × P.Takes process.old what process.new × TellsRoom hand.old.seat hand.new.seat (P.proc_of process.old) what }
@@ -203,7 +203,7 @@ impl Tree {
         requires runs { Runs self.now hand.old (P.proc_of process.old) }
         requires going { (P.answer_of process.old ≡ None) × (P.next_of process.old ≢ act.Begin) }
         requires stock { HasReserved hand.old.seat held (P.proc_of process.old) }
-        ensures same { IsSameHand hand.old.seat hand.new.seat × IsSameStage hand.old.seat hand.new.seat }
+        ensures same { IsSameHand hand.old.seat hand.new.seat × IsSameStamp hand.old.seat hand.new.seat }
         ensures after { IsAfter self.now.store.layout hand.old.seat hand.new.seat (P.proc_of process.old) (P.proc_of process.new) result }
     {
         match process.next() {

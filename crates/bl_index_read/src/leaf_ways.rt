@@ -15,7 +15,7 @@ ghost use Rattle.bl_store.specs.Hands.{known, IsIdle, IsRunning, IsSameHand, IsS
 ghost use Rattle.bl_store.specs.Owners.{IsHandOf};
 ghost use Rattle.bl_index_rule.specs.declared.known.PassState.{PassState as Knows};
 ghost use Rattle.bl_index_rule.specs.Observed.{Begins, Steps, ends, IsUnborn};
-ghost use Rattle.bl_index_events.specs.Runs.{Runs, Keeps, IsSince, IsWithin};
+ghost use Rattle.bl_index_events.specs.Runs.{Runs, KeepsHand, IsSince, IsWithin};
 ghost use Rattle.bl_index_read.specs.Turns.{IsAtTurn};
 ghost use Rattle.bl_index_read.specs.declared.sought.Sought.{Sought as Seeks};
 ghost use Rattle.bl_index_read.specs.LeafWays.{fresh, probing, going, IsAtLeaf, HasReached, HasLeaf, HasGivenUp, HasSetOff};
@@ -96,7 +96,7 @@ fn begin_near(tree: &Tree, hand: &mut Hand<PassState>, sought: Sought, key: u64,
 fn probe(tree: &Tree, hand: &mut Hand<PassState>, sought: Sought, key: u64, page: u32) -> Descent
     requires runs { Runs tree.now hand.old (probing sought key page) }
     requires page { page < tree.now.store.layout.pages }
-    ensures same { Keeps hand.old.seat hand.new.seat }
+    ensures same { KeepsHand hand.old.seat hand.new.seat }
     ensures runs { Runs tree.now hand.new (going sought key result) }
     ensures looked { Steps (Look (OfPage page)) (known hand.old.seat) (known hand.new.seat) }
 {
@@ -158,7 +158,7 @@ fn went<W: Words>(
 #[inline(always)]
 fn go_on(tree: &Tree, hand: &mut Hand<PassState>, sought: Sought, key: u64, way: Descent) -> Reached
     requires runs { Runs tree.now hand.old (going sought key way) }
-    ensures same { Keeps hand.old.seat hand.new.seat }
+    ensures same { KeepsHand hand.old.seat hand.new.seat }
     ensures reached { HasReached sought key tree.now.store.layout hand.new.seat result }
     ensures got { Steps (Get (descent_page way)) (known hand.old.seat) (known hand.new.seat) }
 {

@@ -63,23 +63,23 @@ left_in_write (write.Editing noted c) = left_in_edit c
 left_in_write (write.Ending r) = 0
 left_in_write (write.Over r) = 0
 
-abbrev left_in_squeeze : Compression → ℕ
-left_in_squeeze (LatchingLeft f) = 10
-left_in_squeeze (LatchedLeft f) = 9
-left_in_squeeze (LatchingRight f c) = 8
-left_in_squeeze (LatchedRight f c) = 7
-left_in_squeeze (PuttingFirst p) = 6
-left_in_squeeze (PuttingParent p) = 5
-left_in_squeeze (PuttingLast p) = 4
-left_in_squeeze (Retiring at ended) = 3
-left_in_squeeze (OpeningRight at ended) = 3
-left_in_squeeze (OpeningLeft at ended) = 2
-left_in_squeeze (OpeningParent x ended) = 1
+abbrev left_in_compression : Compression → ℕ
+left_in_compression (LatchingLeft f) = 10
+left_in_compression (LatchedLeft f) = 9
+left_in_compression (LatchingRight f c) = 8
+left_in_compression (LatchedRight f c) = 7
+left_in_compression (PuttingFirst p) = 6
+left_in_compression (PuttingParent p) = 5
+left_in_compression (PuttingLast p) = 4
+left_in_compression (Retiring at ended) = 3
+left_in_compression (OpeningRight at ended) = 3
+left_in_compression (OpeningLeft at ended) = 2
+left_in_compression (OpeningParent x ended) = 1
 
 abbrev left_in_compress : CompressStage → ℕ
 left_in_compress compress.New = 0
 left_in_compress (compress.Coming a) = left_on_way a
-left_in_compress (compress.Compressing c) = left_in_squeeze c
+left_in_compress (compress.Compressing c) = left_in_compression c
 left_in_compress (compress.Staying x) = 1
 left_in_compress (compress.Ending r) = 0
 left_in_compress (compress.Over r) = 0
@@ -105,18 +105,18 @@ edit_few (edit.PuttingOld p) = omega arith
 edit_few (edit.OpeningNew x new separator) = omega arith
 edit_few (edit.Opening x o) = omega arith
 
-squeeze_few : (c : Compression) → left_in_squeeze c < 12
-squeeze_few (LatchingLeft f) = omega arith
-squeeze_few (LatchedLeft f) = omega arith
-squeeze_few (LatchingRight f c) = omega arith
-squeeze_few (LatchedRight f c) = omega arith
-squeeze_few (PuttingFirst p) = omega arith
-squeeze_few (PuttingParent p) = omega arith
-squeeze_few (PuttingLast p) = omega arith
-squeeze_few (Retiring at ended) = omega arith
-squeeze_few (OpeningRight at ended) = omega arith
-squeeze_few (OpeningLeft at ended) = omega arith
-squeeze_few (OpeningParent x ended) = omega arith
+compression_few : (c : Compression) → left_in_compression c < 12
+compression_few (LatchingLeft f) = omega arith
+compression_few (LatchedLeft f) = omega arith
+compression_few (LatchingRight f c) = omega arith
+compression_few (LatchedRight f c) = omega arith
+compression_few (PuttingFirst p) = omega arith
+compression_few (PuttingParent p) = omega arith
+compression_few (PuttingLast p) = omega arith
+compression_few (Retiring at ended) = omega arith
+compression_few (OpeningRight at ended) = omega arith
+compression_few (OpeningLeft at ended) = omega arith
+compression_few (OpeningParent x ended) = omega arith
 
 write_few : (s : WriteStage) → left_in_write s < 12
 write_few write.New = omega arith
@@ -129,7 +129,7 @@ write_few (write.Over r) = omega arith
 compress_few : (s : CompressStage) → left_in_compress s < 12
 compress_few compress.New = omega arith
 compress_few (compress.Coming a) = way_few a
-compress_few (compress.Compressing c) = squeeze_few c
+compress_few (compress.Compressing c) = compression_few c
 compress_few (compress.Staying x) = omega arith
 compress_few (compress.Ending r) = omega arith
 compress_few (compress.Over r) = omega arith
@@ -174,17 +174,17 @@ write_nears (WriteCase.Edited noted c what same d t) e = inr (edit_nears (edit_c
 write_nears (WriteCase.Finished noted c what r t) e = inl refl
 write_nears (WriteCase.Ended r last t) e = held e
 
-links_near : (f : Family) (c : Page) (d : Compression) → Links f c d → left_in_squeeze d < 9
+links_near : (f : Family) (c : Page) (d : Compression) → Links f c d → left_in_compression d < 9
 links_near f c (LatchingRight g page) t = omega arith
 links_near f c (OpeningLeft at ended) t = omega arith
 links_near f c d t = absurd t
 
-decides_near : (f : Family) (c d : Page) (e : Compression) → Decides f c d e → left_in_squeeze e < 7
+decides_near : (f : Family) (c d : Page) (e : Compression) → Decides f c d e → left_in_compression e < 7
 decides_near f c d (PuttingFirst p) t = omega arith
 decides_near f c d (OpeningRight at ended) t = omega arith
 decides_near f c d e t = absurd t
 
-after_near : (at : Siblings) (ended : Decision) → left_in_squeeze (after_puts at ended) < 4
+after_near : (at : Siblings) (ended : Decision) → left_in_compression (after_puts at ended) < 4
 after_near at (decision.Merged h) = omega arith
 after_near at decision.Evened = omega arith
 after_near at decision.Enough = omega arith
@@ -192,22 +192,22 @@ after_near at (decision.Unposted h) = omega arith
 after_near at decision.Refused = omega arith
 after_near at decision.Lost = omega arith
 
-squeeze_nears : (c : Compression) (what : Seen) (d : Compression) → Compresses false c what (step.On d) → left_in_squeeze d < left_in_squeeze c
-squeeze_nears (LatchingLeft f) seen.Done d t = subst (λ z. left_in_squeeze z < 10) (sym t) (omega arith)
-squeeze_nears (LatchingLeft f) seen.Missed d t = subst (λ z. left_in_squeeze z < 10) (sym t) (omega arith)
-squeeze_nears (LatchedLeft f) (seen.Words c) d t = links_near f c d t
-squeeze_nears (LatchingRight f c) seen.Done d t = subst (λ z. left_in_squeeze z < 8) (sym t) (omega arith)
-squeeze_nears (LatchingRight f c) seen.Missed d t = subst (λ z. left_in_squeeze z < 8) (sym t) (omega arith)
-squeeze_nears (LatchedRight f c) (seen.Words e) d t = decides_near f c e d t
-squeeze_nears (PuttingFirst p) seen.Done d t = subst (λ z. left_in_squeeze z < 6) (sym t) (omega arith)
-squeeze_nears (PuttingFirst p) seen.Refused d t = subst (λ z. left_in_squeeze z < 6) (sym t) (omega arith)
-squeeze_nears (PuttingParent p) seen.Done d t = subst (λ z. left_in_squeeze z < 5) (sym t) (omega arith)
-squeeze_nears (PuttingLast p) seen.Done d t = subst (λ z. left_in_squeeze z < 4) (sym t) (after_near p.at p.decision)
-squeeze_nears (Retiring at ended) seen.Done d t = subst (λ z. left_in_squeeze z < 3) (sym t) (omega arith)
-squeeze_nears (OpeningRight at ended) seen.Done d t = subst (λ z. left_in_squeeze z < 3) (sym t) (omega arith)
-squeeze_nears (OpeningLeft at ended) seen.Done d t = subst (λ z. left_in_squeeze z < 2) (sym t) (omega arith)
-squeeze_nears (OpeningParent x ended) seen.Done d t = absurd t
-squeeze_nears c what d t = absurd t
+compression_nears : (c : Compression) (what : Seen) (d : Compression) → Compresses false c what (step.On d) → left_in_compression d < left_in_compression c
+compression_nears (LatchingLeft f) seen.Done d t = subst (λ z. left_in_compression z < 10) (sym t) (omega arith)
+compression_nears (LatchingLeft f) seen.Missed d t = subst (λ z. left_in_compression z < 10) (sym t) (omega arith)
+compression_nears (LatchedLeft f) (seen.Words c) d t = links_near f c d t
+compression_nears (LatchingRight f c) seen.Done d t = subst (λ z. left_in_compression z < 8) (sym t) (omega arith)
+compression_nears (LatchingRight f c) seen.Missed d t = subst (λ z. left_in_compression z < 8) (sym t) (omega arith)
+compression_nears (LatchedRight f c) (seen.Words e) d t = decides_near f c e d t
+compression_nears (PuttingFirst p) seen.Done d t = subst (λ z. left_in_compression z < 6) (sym t) (omega arith)
+compression_nears (PuttingFirst p) seen.Refused d t = subst (λ z. left_in_compression z < 6) (sym t) (omega arith)
+compression_nears (PuttingParent p) seen.Done d t = subst (λ z. left_in_compression z < 5) (sym t) (omega arith)
+compression_nears (PuttingLast p) seen.Done d t = subst (λ z. left_in_compression z < 4) (sym t) (after_near p.at p.decision)
+compression_nears (Retiring at ended) seen.Done d t = subst (λ z. left_in_compression z < 3) (sym t) (omega arith)
+compression_nears (OpeningRight at ended) seen.Done d t = subst (λ z. left_in_compression z < 3) (sym t) (omega arith)
+compression_nears (OpeningLeft at ended) seen.Done d t = subst (λ z. left_in_compression z < 2) (sym t) (omega arith)
+compression_nears (OpeningParent x ended) seen.Done d t = absurd t
+compression_nears c what d t = absurd t
 
 compress_nears : {level key : ℕ} {a b : CompressStage} {what : Seen} → CompressCase level key false a what b → none_in_compress a ≡ false → Nears (none_in_compress b) (left_in_compress a) (left_in_compress b)
 compress_nears (CompressCase.Began a t) e = held e
@@ -215,7 +215,7 @@ compress_nears (CompressCase.NoLevel c t) e = held e
 compress_nears (CompressCase.Came a what b t) e = way_nears (approach_case _ _ a what _ t) e
 compress_nears (CompressCase.Met x parent f l t) e = inr (omega arith)
 compress_nears (CompressCase.Single x parent y l t) e = inr (omega arith)
-compress_nears (CompressCase.Squeezed c what d t) e = inr (squeeze_nears c what d t)
+compress_nears (CompressCase.WentOn c what d t) e = inr (compression_nears c what d t)
 compress_nears (CompressCase.Lost c what a t) e = inl (ap none_on_way t.3)
 compress_nears (CompressCase.Finished c what r t) e = inl refl
 compress_nears (CompressCase.Opened x r t) e = inl refl

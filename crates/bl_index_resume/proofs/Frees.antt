@@ -28,7 +28,7 @@ use Rattle.bl_proc_writes.specs.declared.post.PostStage.TheVariants as post
 use Rattle.bl_proc_writes.specs.declared.writing.Write.{Write}
 use Rattle.bl_proc_writes.specs.declared.writing.WriteStage.{WriteStage}
 use Rattle.bl_proc_writes.specs.declared.writing.WriteStage.TheVariants as write
-use Rattle.bl_proc_invariant.specs.Compressing.{know_squeeze}
+use Rattle.bl_proc_invariant.specs.Compressing.{know_compression}
 use Rattle.bl_proc_invariant.specs.Knowing.{know_growth, write_aim, know_write, post_aim, know_post, know_compress, know_lower}
 use Rattle.bl_proc_invariant.specs.Lowering.{know_lowering}
 use Rattle.bl_proc_invariant.specs.Tables.{Aim, Carried, alone, unsaid, know_approach, know_edit}
@@ -142,18 +142,18 @@ edit_some aim got (edit.PuttingOld p) e = some e
 edit_some aim got (edit.OpeningNew x new separator) e = some e
 edit_some aim got (edit.Opening x o) e = some e
 
-squeeze_some : (level key : ℕ) (got : ℕ → Page) (c : Compression) → (know_squeeze level key got c).holds ≡ [] → ⊥
-squeeze_some level key got (step.LatchingLeft f) e = some e
-squeeze_some level key got (step.LatchedLeft f) e = some e
-squeeze_some level key got (step.LatchingRight f c) e = some e
-squeeze_some level key got (step.LatchedRight f c) e = some e
-squeeze_some level key got (step.PuttingFirst p) e = some e
-squeeze_some level key got (step.PuttingParent p) e = some e
-squeeze_some level key got (step.PuttingLast p) e = some e
-squeeze_some level key got (step.Retiring at z) e = some e
-squeeze_some level key got (step.OpeningRight at z) e = some e
-squeeze_some level key got (step.OpeningLeft at z) e = some e
-squeeze_some level key got (step.OpeningParent x z) e = some e
+compression_some : (level key : ℕ) (got : ℕ → Page) (c : Compression) → (know_compression level key got c).holds ≡ [] → ⊥
+compression_some level key got (step.LatchingLeft f) e = some e
+compression_some level key got (step.LatchedLeft f) e = some e
+compression_some level key got (step.LatchingRight f c) e = some e
+compression_some level key got (step.LatchedRight f c) e = some e
+compression_some level key got (step.PuttingFirst p) e = some e
+compression_some level key got (step.PuttingParent p) e = some e
+compression_some level key got (step.PuttingLast p) e = some e
+compression_some level key got (step.Retiring at z) e = some e
+compression_some level key got (step.OpeningRight at z) e = some e
+compression_some level key got (step.OpeningLeft at z) e = some e
+compression_some level key got (step.OpeningParent x z) e = some e
 
 write_free : (goes : List Goes) (key : ℕ) (does : KeyWrite) (got : ℕ → Page) (s : WriteStage) → (know_write goes key does got s).holds ≡ [] → none_in_write s ≡ true
 write_free goes key does got write.New e = refl
@@ -176,7 +176,7 @@ post_free level key got child (post.Over r) e = refl
 compress_free : (level key : ℕ) (got : ℕ → Page) (s : CompressStage) → (know_compress level key got s).holds ≡ [] → none_in_compress s ≡ true
 compress_free level key got compress.New e = refl
 compress_free level key got (compress.Coming a) e = way_free alone level key a e
-compress_free level key got (compress.Compressing c) e = absurd (squeeze_some level key got c e)
+compress_free level key got (compress.Compressing c) e = absurd (compression_some level key got c e)
 compress_free level key got (compress.Staying x) e = absurd (some e)
 compress_free level key got (compress.Ending r) e = refl
 compress_free level key got (compress.Over r) e = refl

@@ -3,7 +3,7 @@
 ghost use Rattle.std.specs.Prelude.{◌≡◌, ℕ, ◌+◌, ◌≤◌};
 ghost use Rattle.bl_store.specs.Hands.{known, IsSameHand};
 ghost use Rattle.bl_index_rule.specs.Observed.{sweeps};
-ghost use Rattle.bl_index_events.specs.Runs.{Keeps, IsWithin};
+ghost use Rattle.bl_index_events.specs.Runs.{KeepsHand, IsWithin};
 ghost use Rattle.bl_index_resume.specs.Stages.{IsAtRest};
 
 use bl_index_events::Tree;
@@ -27,7 +27,7 @@ pub fn sweep(tree: &Tree, hand: &mut Hand<PassState>) -> u32
 fn release<J: Sweeper>(tree: &Tree, hand: &mut Hand<PassState>) -> u32
     requires rests { IsAtRest tree.now hand.old }
     requires names { (hand.old.number ≡ J.pass) × ((known hand.old.seat).number + 1 ≡ J.number) × (tree.now.store.layout.passes ≡ J.passes) }
-    ensures same { Keeps hand.old.seat hand.new.seat }
+    ensures same { KeepsHand hand.old.seat hand.new.seat }
     ensures observed { (pages : ℕ) × (pages ≤ result) × sweeps J.pass J.number J.passes (known hand.old.seat) pages (known hand.new.seat) }
     ensures within { IsWithin hand.new.seat }
     ensures count { hand.new.seat.me.0.releases ≡ hand.old.seat.me.0.releases + result }

@@ -38,7 +38,7 @@ use Rattle.bl_store_rule.specs.declared.view.View.{View}
 use Rattle.bl_store.specs.Hands.{known, IsSameHand, IsSameRefusal}
 use Rattle.bl_index_rule.specs.declared.known.PassState.{PassState}
 use Rattle.bl_proc_writes.specs.Stands.{IsPosting}
-use Rattle.bl_index_ways.specs.Events.{IsOpened, IsToEnter, IsWalking, LeavesParent}
+use Rattle.bl_index_ways.specs.Events.{HasOpenedParent, IsToEnter, IsWalking, LeavesParent}
 use Rattle.bl_index_ways.specs.Posters.{IsPoster, Opened, Staged}
 use Rattle.bl_index_events.specs.Held.{KeepsLatch}
 use Rattle.bl_index_events.specs.Rooms.{LacksPost}
@@ -196,8 +196,8 @@ some_same e = cc
 -- what it runs then
 pub leaves_opened : (tree : Tree) (h : H) (hand : Hand PassState) (level key : ℕ) (staged : Staged level) (opened : Opened level) (replies : Option PostReply) (r : PostReply) → LeavesParent tree h hand level key staged opened replies → replies ≡ Some r → (may : MayReply level r) × Runs tree hand (opened r may)
 leaves_opened tree h hand level key staged opened replies r left e =
-    let is = subst (λ (z : Option PostReply). IsOpened level staged opened z left.state) e left.is in
+    let is = subst (λ (z : Option PostReply). HasOpenedParent level staged opened z left.state) e left.is in
     (is.0, subst (λ (z : Proc). Runs tree hand z) is.1 left.runs)
 
 pub leaves_again : (tree : Tree) (h : H) (hand : Hand PassState) (level key : ℕ) (staged : Staged level) (opened : Opened level) (replies : Option PostReply) → LeavesParent tree h hand level key staged opened replies → replies ≡ None → Runs tree hand (staged (post.Coming approach.Start) tt tt)
-leaves_again tree h hand level key staged opened replies left e = subst (λ (z : Proc). Runs tree hand z) (subst (λ (z : Option PostReply). IsOpened level staged opened z left.state) e left.is) left.runs
+leaves_again tree h hand level key staged opened replies left e = subst (λ (z : Proc). Runs tree hand z) (subst (λ (z : Option PostReply). HasOpenedParent level staged opened z left.state) e left.is) left.runs

@@ -185,9 +185,9 @@ reached_by (Some t) = Parent t.0 t.1
 reached_by None = Again
 
 -- It has opened its parent, and replies that; or its way begins again.
-abbrev pub IsOpened : (level : ℕ) → Staged level → Opened level → Option PostReply → Proc → Type 0
-IsOpened level staged opened (Some r) state = (may : MayReply level r) × (state ≡ opened r may)
-IsOpened level staged opened None state = state ≡ staged (post.Coming Start) tt tt
+abbrev pub HasOpenedParent : (level : ℕ) → Staged level → Opened level → Option PostReply → Proc → Type 0
+HasOpenedParent level staged opened (Some r) state = (may : MayReply level r) × (state ≡ opened r may)
+HasOpenedParent level staged opened None state = state ≡ staged (post.Coming Start) tt tt
 
 -- From where it held its parent it has gone on: it has opened that, with this reply or none.
 pub record LeavesParent (tree : Tree) (h : Seat (Unit {0}) (View PassState)) (hand : Hand PassState) (level key : ℕ) (staged : Staged level)
@@ -196,6 +196,6 @@ pub record LeavesParent (tree : Tree) (h : Seat (Unit {0}) (View PassState)) (ha
   pub empty : HasNoStock hand.seat
   pub state : Proc
   pub runs : Runs tree hand state
-  pub is : IsOpened level staged opened replies state
+  pub is : HasOpenedParent level staged opened replies state
   pub since : IsSameProcess (known h) (known hand.seat)
   pub no_room : replies ≡ Some reply.NoRoom → LacksPost level key hand.seat

@@ -115,7 +115,7 @@ fn remove<W: Writer>(
 
 /// The key, which the leaf that it holds lists, gets the value there.
 #[inline(always)]
-fn change<W: Writer>(
+fn replace_value<W: Writer>(
     tree: &Tree,
     hand: &mut Hand<PassState>,
     at: u32,
@@ -230,7 +230,7 @@ pub fn write_there<W: Writer>(
     match decide(writer.write(), there).effect {
         Effect::Keep => open_leaf(tree, hand, at, writer, Left::Kept(there)),
         Effect::Remove => remove(tree, hand, at, writer, there, glance),
-        Effect::Replace(value) => change(tree, hand, at, writer, there, value, glance),
+        Effect::Replace(value) => replace_value(tree, hand, at, writer, there, value, glance),
         Effect::Enter(value) => {
             if count < 14 {
                 let spread = Spread {

@@ -13,7 +13,7 @@ ghost use Rattle.bl_proc_writes.specs.Levels.{MayReply};
 ghost use Rattle.bl_proc_writes.specs.Posts.{post_reply};
 ghost use Rattle.bl_store.specs.Hands.{known, read_words, IsRunning, HasNoStock, ReadsFrom};
 ghost use Rattle.bl_store.specs.Owners.{IsHandOf};
-ghost use Rattle.bl_index_events.specs.Runs.{Runs, Keeps, IsOn, IsSameProcess};
+ghost use Rattle.bl_index_events.specs.Runs.{Runs, KeepsHand, IsOn, IsSameProcess};
 ghost use Rattle.bl_index_ways.specs.Events.{IsThere, IsToEnter, IsWalking, HasWalked, LeavesParent, WalksOn};
 ghost use Rattle.bl_proc_writes.specs.declared.post.PostReply.TheVariants as replies;
 
@@ -126,7 +126,7 @@ fn walk_on<P: Poster>(
 ) -> Walked
     requires runs { Runs tree.now hand.old (known hand.old.seat).state }
     requires walking { IsWalking (P.level_of poster.now) (P.key_of poster.now) (P.staged poster.now) at parent.now child (known hand.old.seat).state }
-    ensures same { Keeps hand.old.seat hand.new.seat }
+    ensures same { KeepsHand hand.old.seat hand.new.seat }
     ensures walked { HasWalked (P.level_of poster.now) (P.key_of poster.now) (P.staged poster.now) tree.now.store.layout at parent.now child
         (known hand.new.seat) result }
     ensures since { IsSameProcess (known hand.old.seat) (known hand.new.seat) }

@@ -10,7 +10,7 @@ use Rattle.bl_proc_steps.specs.declared.answers.Hint.TheVariants as hint
 use Rattle.bl_proc_steps.specs.declared.answers.Posted.{Posted}
 use Rattle.bl_proc_steps.specs.declared.answers.Posted.TheVariants as posting
 use Rattle.bl_proc_steps.specs.declared.answers.Squeezed.{Squeezed}
-use Rattle.bl_proc_steps.specs.declared.answers.Squeezed.TheVariants as squeezing
+use Rattle.bl_proc_steps.specs.declared.answers.Squeezed.TheVariants as squeezed
 use Rattle.bl_index.specs.Calls.{Posts, Compresses, LowersTree, Sweeps}
 use Rattle.bl_map.specs.declared.upkeep.Followed.{Followed}
 use Rattle.bl_map.specs.declared.upkeep.Followed.TheVariants.{Done, NoRoom}
@@ -18,7 +18,7 @@ use Rattle.bl_map.specs.declared.waiting.Waiting.{Waiting}
 use Rattle.bl_proc_steps.specs.declared.lowering.Lowered.{Lowered}
 use Rattle.bl_map.specs.Works.{Works, Adds, Swept, Never, Again}
 use Rattle.bl_map.specs.Follows.{Makes, Written, TriesPost, TriesCompression, Tries, TriesHint, may_fall, has_fallen, Lowers, FollowsHint, FollowsOnce, AreDone, StopsAt, FollowsHints, FollowsSplit, WritesLeaving, KeptUp, NothingDone, ThenSwept, ThenFollowed}
-use Rattle.bl_map.specs.Waits.{Changes, TriesOldest, AreTried, TriesAgain, Tidies}
+use Rattle.bl_map.specs.Waits.{WritesKey, TriesOldest, AreTried, TriesAgain, Tidies}
 use Rattle.bl_map.proofs.Adding.{nothing, then_adds, call_adds, call_works, adds_works, works_on, swept_adds, swept_as, sweep_adds}
 
 -- ---- what they add
@@ -96,7 +96,7 @@ pub leaving_works : (first : List (Option Page)) (pass : ℕ) (op : Op) (reply :
 leaving_works first pass op reply left old new w =
     works_on first pass op reply old w.mid new (written_works first pass op reply w.hint old w.mid w.written) (split_adds first pass w.hint left w.mid new w.follows)
 
-pub changes_works : (first : List (Option Page)) (pass : ℕ) (op : Op) (reply : Reply) (before after : Waiting) (old new : Trail) → Changes first pass op reply before after old new → Works first pass op reply old new
+pub changes_works : (first : List (Option Page)) (pass : ℕ) (op : Op) (reply : Reply) (before after : Waiting) (old new : Trail) → WritesKey first pass op reply before after old new → Works first pass op reply old new
 changes_works first pass op reply before after old new c =
     let written = written_works first pass op reply c.hint old c.behind c.written in
     works_on first pass op reply old c.mid new
@@ -124,15 +124,15 @@ post_refused first pass level key answer next old new is p =
     let none : next ≡ None = p'.means.1 in
     subst (λ (z : Option Hint). Posts first pass level key posting.NoRoom z old new) none p'
 
-pub compressed : (first : List (Option Page)) (pass level key : ℕ) (answer : Squeezed) (next : Option Hint) (falls : Bool) (old new : Trail) → answer ≢ squeezing.NoRoom → falls ≡ may_fall answer → Compresses first pass level key answer next old new
+pub compressed : (first : List (Option Page)) (pass level key : ℕ) (answer : Squeezed) (next : Option Hint) (falls : Bool) (old new : Trail) → answer ≢ squeezed.NoRoom → falls ≡ may_fall answer → Compresses first pass level key answer next old new
     → TriesCompression first pass level key (Done next, falls) old new
 compressed first pass level key answer next falls old new some is p = (answer, some, is, p)
 
-pub compression_refused : (first : List (Option Page)) (pass level key : ℕ) (answer : Squeezed) (next : Option Hint) (old new : Trail) → answer ≡ squeezing.NoRoom → Compresses first pass level key answer next old new → TriesCompression first pass level key (NoRoom, false) old new
+pub compression_refused : (first : List (Option Page)) (pass level key : ℕ) (answer : Squeezed) (next : Option Hint) (old new : Trail) → answer ≡ squeezed.NoRoom → Compresses first pass level key answer next old new → TriesCompression first pass level key (NoRoom, false) old new
 compression_refused first pass level key answer next old new is p =
-    let p' : Compresses first pass level key squeezing.NoRoom next old new = subst (λ (z : Squeezed). Compresses first pass level key z next old new) is p in
+    let p' : Compresses first pass level key squeezed.NoRoom next old new = subst (λ (z : Squeezed). Compresses first pass level key z next old new) is p in
     let none : next ≡ None = p'.means.1 in
-    (refl, subst (λ (z : Option Hint). Compresses first pass level key squeezing.NoRoom z old new) none p')
+    (refl, subst (λ (z : Option Hint). Compresses first pass level key squeezed.NoRoom z old new) none p')
 
 -- ---- by which pass
 

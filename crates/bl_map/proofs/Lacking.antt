@@ -14,7 +14,7 @@ use Rattle.bl_index.specs.declared.index.Pass.{Pass}
 use Rattle.bl_proc_steps.specs.declared.answers.Hint.{Hint}
 use Rattle.bl_proc_steps.specs.declared.answers.Posted.{Posted}
 use Rattle.bl_map.specs.Follows.{Makes, Written, FollowsHints, WritesLeaving}
-use Rattle.bl_map.specs.Waits.{Changes}
+use Rattle.bl_map.specs.Waits.{WritesKey}
 use Rattle.bl_map.specs.Works.{Swept}
 use Rattle.bl_map.specs.declared.waiting.Waiting.{Waiting}
 
@@ -48,7 +48,7 @@ nothing_to_follow : (first : List (Option Page)) (pass : ℕ) (old : Trail) → 
 nothing_to_follow first pass old = record { hints = []; mid = old; are_done = (refl, refl); stops = refl }
 
 pub refused_changes : (first : List (Option Page)) (pass : ℕ) (o : Op) (said : Reply) (next : Option Hint) (waiting : Waiting) (old new : Trail) → said ≡ reply.NoRoom
-    → Written first pass o said next old new → Changes first pass o said waiting waiting old new
+    → Written first pass o said next old new → WritesKey first pass o said waiting waiting old new
 refused_changes first pass o said next waiting old new is w = record {
   hint = None;
   left = None;

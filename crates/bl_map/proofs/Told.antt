@@ -15,7 +15,7 @@ use Rattle.bl_index.specs.declared.telling.OutOfTurnsAt.{OutOfTurnsAt}
 use Rattle.bl_index.specs.Scans.{TellsScan}
 use Rattle.bl_index_read.proofs.Told.{folds_append}
 use Rattle.bl_map.specs.Falling.{IsOverDown, rows_from, rows_to, TellsDown}
-use Rattle.bl_map.specs.Scans.{Tells}
+use Rattle.bl_map.specs.Scans.{TellsRows}
 use Rattle.bl_map.specs.Works.{Works, Searched}
 use Rattle.bl_map.proofs.Downwards.{HasSearchedDown, IsUnder, searched_down_none, searched_down_more}
 use Rattle.bl_map.proofs.Scanning.{HasSearched, searched_none, by_call, ran_out}
@@ -39,7 +39,7 @@ module _ {F : Type 0} (leads : F → ℕ × ℕ → F → Type 0) (first : List 
       record { rows = s.rows ++ t.rows; low = on.0; told = folds_append leads p s.rows q t.rows r s.told t.told; so_far = on.1 }
 
   -- or has told all
-  pub told_all : TellsScan leads first pages it turns at to (Ok tt) q r mid new → Tells leads first pages pass from to p r old new
+  pub told_all : TellsScan leads first pages it turns at to (Ok tt) q r mid new → TellsRows leads first pages pass from to p r old new
   told_all t =
       let e = t.ended in
       let all = (by_call first pages pass it turns from at to 0 s.rows t.rows [] s.rows (s.rows ++ t.rows) old mid new same is_turns s.so_far s.low refl refl e.upto new e.scans).0 in

@@ -18,7 +18,7 @@ use Rattle.bl_map.specs.declared.updating.Updated.{Updated}
 use Rattle.bl_map.specs.declared.updating.Updated.TheVariants.{Changed, Absent, NoRoom}
 use Rattle.bl_map.specs.declared.waiting.Waiting.{Waiting}
 use Rattle.bl_map.specs.Updates.{Tried, Ended, Updates, ends_as}
-use Rattle.bl_map.specs.Waits.{Changes}
+use Rattle.bl_map.specs.Waits.{WritesKey}
 use Rattle.bl_map.specs.Works.{Works, Searched}
 use Rattle.bl_map.proofs.Following.{changes_works}
 use Rattle.bl_map.proofs.Writing.{on_from}
@@ -72,9 +72,9 @@ module _ {F : Type 0} (gives : F → ℕ → ℕ → F → Type 0) (first : List
 
   module _ (it value next : ℕ) (said : KeyReply) (f g h : F) (before mid after : Waiting) (old between new : Trail) (same : it ≡ pass)
       (t : HasTried gives first pages pass key value f g before mid old between) (one : gives g value next h)
-      (c : Changes first it (op.Change key value next) (reply_of said) mid after between new) where
-    mine : Changes first pass (op.Change key value next) (reply_of said) mid after between new
-    mine = subst (λ (z : ℕ). Changes first z (op.Change key value next) (reply_of said) mid after between new) same c
+      (c : WritesKey first it (op.Change key value next) (reply_of said) mid after between new) where
+    mine : WritesKey first pass (op.Change key value next) (reply_of said) mid after between new
+    mine = subst (λ (z : ℕ). WritesKey first z (op.Change key value next) (reply_of said) mid after between new) same c
 
     works : Works first pass (op.Change key value next) (reply_of said) between new
     works = changes_works first pass (op.Change key value next) (reply_of said) mid after between new mine
@@ -83,7 +83,7 @@ module _ {F : Type 0} (gives : F → ℕ → ℕ → F → Type 0) (first : List
     differed other is = record {
       begins = on_from old between new t.begins works.begins;
       seen = works.seen;
-      tried = Tried.Differed t.tried one (subst (λ (z : KeyReply). Changes first pass (op.Change key value next) (reply_of z) mid after between new) is mine);
+      tried = Tried.Differed t.tried one (subst (λ (z : KeyReply). WritesKey first pass (op.Change key value next) (reply_of z) mid after between new) is mine);
     }
 
     settled : (answer : Updated) → ends_as value next (reply_of said) answer → Updates gives first pages pass key answer f h before after old new

@@ -17,8 +17,8 @@ use Rattle.bl_index.specs.Calls.{number_of, trail}
 use Rattle.bl_index.specs.declared.index.Pass.{Pass}
 use Rattle.bl_map.specs.declared.waiting.Waiting.{Waiting}
 use Rattle.bl_map.specs.Entries.{entries_of}
-use Rattle.bl_map.specs.Many.{op_at, ChangesMany, WritesMany, StopsFull}
-use Rattle.bl_map.specs.Waits.{Changes}
+use Rattle.bl_map.specs.Many.{op_at, WritesKeys, WritesMany, StopsFull}
+use Rattle.bl_map.specs.Waits.{WritesKey}
 use Rattle.bl_map.specs.Works.{FoundNoRoom}
 use Rattle.bl_map.proofs.Following.{changes_works}
 use Rattle.bl_map.proofs.Listing.{entry, entries_more}
@@ -29,13 +29,13 @@ on_from old mid new a b = (a.0 ++ b.0, b.1 ∙ (ap (λ (z : Trail). z ++ b.0) a.
 module _ {A : Type 0} (first : List (Option Page)) (pass : ℕ) (ask : A → ℕ × KeyWrite) where
   pub writes_none : (waiting : Waiting) (old : Trail) → WritesMany first pass ask [] [] waiting waiting old old
   unfolding entries_of
-  writes_none waiting old = record { each = refl; begins = ([], sym (append-nil old)); seen = λ s. s; mine = sym (append-nil _); changes = ChangesMany.NoneChanged }
+  writes_none waiting old = record { each = refl; begins = ([], sym (append-nil old)); seen = λ s. s; mine = sym (append-nil _); changes = WritesKeys.NoneWritten }
 
   pub writes_one_more : (it : ℕ) (list : List A) (replies : List KeyReply) (a : A) (said : KeyReply) (before mid after : Waiting) (old between new : Trail) → it ≡ pass
-      → WritesMany first pass ask list replies before mid old between → Changes first it (op_at (ask a)) (reply_of said) mid after between new
+      → WritesMany first pass ask list replies before mid old between → WritesKey first it (op_at (ask a)) (reply_of said) mid after between new
       → WritesMany first pass ask (list ++ a ∷ []) (replies ++ said ∷ []) before after old new
   writes_one_more it list replies a said before mid after old between new same m one =
-      let c = subst (λ (z : ℕ). Changes first z (op_at (ask a)) (reply_of said) mid after between new) same one in
+      let c = subst (λ (z : ℕ). WritesKey first z (op_at (ask a)) (reply_of said) mid after between new) same one in
       let w = changes_works first pass (op_at (ask a)) (reply_of said) mid after between new c in
       let more = entries_more pass (λ (b : A). op_at (ask b)) list replies a said m.each in
       record {
@@ -45,16 +45,16 @@ module _ {A : Type 0} (first : List (Option Page)) (pass : ℕ) (ask : A → ℕ
         mine = w.once ∙ (ap (λ (z : List Entry). z ++ entry pass (λ (b : A). op_at (ask b)) a said ∷ []) m.mine
             ∙ (append_assoc _ (entries_of pass (λ (b : A). op_at (ask b)) list replies) (entry pass (λ (b : A). op_at (ask b)) a said ∷ [])
             ∙ ap (λ (z : List Entry). own pass old ++ z) (sym more)));
-        changes = ChangesMany.OneChanged a said m.changes c;
+        changes = WritesKeys.OneWritten a said m.changes c;
       }
 
   -- the same of so many that stand first
   pub writes_on : (it i : ℕ) (list : List A) (replies : List KeyReply) (a : A) (asked : ℕ × KeyWrite) (said : KeyReply) (before mid after : Waiting) (old between new : Trail)
       → it ≡ pass → asked ≡ ask a → a ≡ get_or list i a → i < length list → length replies ≡ length list
-      → WritesMany first pass ask (take i list) (take i replies) before mid old between → Changes first it (op_at asked) (reply_of said) mid after between new
+      → WritesMany first pass ask (take i list) (take i replies) before mid old between → WritesKey first it (op_at asked) (reply_of said) mid after between new
       → WritesMany first pass ask (take (i + 1) list) (take (i + 1) (set replies i said)) before after old new
   writes_on it i list replies a asked said before mid after old between new same is here below long m one =
-      let one' = subst (λ (z : ℕ × KeyWrite). Changes first it (op_at z) (reply_of said) mid after between new) is one in
+      let one' = subst (λ (z : ℕ × KeyWrite). WritesKey first it (op_at z) (reply_of said) mid after between new) is one in
       let more : take (i + 1) list ≡ take i list ++ a ∷ [] = take_more list i a below ∙ ap (λ (z : A). take i list ++ z ∷ []) (sym here) in
       let told : take (i + 1) (set replies i said) ≡ take i replies ++ said ∷ [] = take_more_set replies i said (omega (arith, below, long)) in
       subst (λ (z : List A × List KeyReply). WritesMany first pass ask z.0 z.1 before after old new) (λ j. (sym more j, sym told j))

@@ -24,7 +24,7 @@ use Rattle.bl_map.specs.Follows.{FollowsHint, WritesLeaving}
 use Rattle.bl_map.specs.Copies.{Copies}
 use Rattle.bl_map.specs.Updates.{Updates}
 use Rattle.bl_map.specs.declared.updating.Updated.{Updated}
-use Rattle.bl_map.specs.Waits.{hints_of, Changes, TriesAgain, Tidies, IsNone}
+use Rattle.bl_map.specs.Waits.{hints_of, WritesKey, TriesAgain, Tidies, IsNone}
 
 -- the index that a handle works on: that of its map
 abbrev pub index_of : Handle → Index
@@ -146,7 +146,7 @@ KeepsHints old new = new.waiting ≡ old.waiting
 
 -- A key was written, and what that left to do is done or kept.
 abbrev pub HasChanged : Op → Reply → Handle → Handle → Type 0
-HasChanged op reply old new = Changes (first_map_of old) (number_of_seat old) op reply old.waiting new.waiting (seen_by old) (seen_by new)
+HasChanged op reply old new = WritesKey (first_map_of old) (number_of_seat old) op reply old.waiting new.waiting (seen_by old) (seen_by new)
 
 -- Hints that wait were tried, so many at most, and what is left of them is kept.
 abbrev pub HasTriedAgain : ℕ → Handle → Handle → Type 0

@@ -15,7 +15,7 @@ use Rattle.bl_claims.specs.Seeing.{IsLinearizable, own, GoesOnFrom}
 use Rattle.bl_index.specs.declared.index.Pass.{Pass}
 use Rattle.bl_map.specs.declared.waiting.Waiting.{Waiting}
 use Rattle.bl_map.specs.Entries.{entries_of}
-use Rattle.bl_map.specs.Waits.{Changes}
+use Rattle.bl_map.specs.Waits.{WritesKey}
 use Rattle.bl_map.specs.Works.{FoundNoRoom}
 
 -- a row, as an insertion, or to be put; a key, as a deletion
@@ -33,12 +33,12 @@ abbrev pub op_at : ℕ × KeyWrite → Op
 op_at at = write_op at.0 at.1
 
 -- The writes that these ask for were made, one after another, each with its reply, and what each left to do was done or kept before the next.
-pub data ChangesMany {A : Type 0} (first : List (Option Page)) (pass : ℕ) (ask : A → ℕ × KeyWrite)
+pub data WritesKeys {A : Type 0} (first : List (Option Page)) (pass : ℕ) (ask : A → ℕ × KeyWrite)
     : List A → List KeyReply → Waiting → Waiting → Trail → Trail → Type 0 where
-  NoneChanged : {waiting : Waiting} {old : Trail} → ChangesMany first pass ask [] [] waiting waiting old old
-  OneChanged : {list : List A} {replies : List KeyReply} {before mid after : Waiting} {old between new : Trail} (a : A) (said : KeyReply)
-      → ChangesMany first pass ask list replies before mid old between → Changes first pass (op_at (ask a)) (reply_of said) mid after between new
-      → ChangesMany first pass ask (list ++ a ∷ []) (replies ++ said ∷ []) before after old new
+  NoneWritten : {waiting : Waiting} {old : Trail} → WritesKeys first pass ask [] [] waiting waiting old old
+  OneWritten : {list : List A} {replies : List KeyReply} {before mid after : Waiting} {old between new : Trail} (a : A) (said : KeyReply)
+      → WritesKeys first pass ask list replies before mid old between → WritesKey first pass (op_at (ask a)) (reply_of said) mid after between new
+      → WritesKeys first pass ask (list ++ a ∷ []) (replies ++ said ∷ []) before after old new
 
 -- The same, and these are the new entries of the pass, in that order.
 pub record WritesMany {A : Type 0} (first : List (Option Page)) (pass : ℕ) (ask : A → ℕ × KeyWrite) (list : List A) (replies : List KeyReply)
@@ -47,7 +47,7 @@ pub record WritesMany {A : Type 0} (first : List (Option Page)) (pass : ℕ) (as
   pub begins : GoesOnFrom old new
   pub seen : IsLinearizable first old → IsLinearizable first new
   pub mine : own pass new ≡ own pass old ++ entries_of pass (λ a. op_at (ask a)) list replies
-  pub changes : ChangesMany first pass ask list replies before after old new
+  pub changes : WritesKeys first pass ask list replies before after old new
 
 -- So many were answered, and the last of them found no room, which is the last that the pass has done.
 pub record StopsFull {A : Type 0} (ask : A → ℕ × KeyWrite) (list : List A) (replies : List KeyReply) (count : ℕ) (old new : Pass) : Type 0 where

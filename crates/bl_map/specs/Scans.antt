@@ -40,7 +40,7 @@ pub record Scanned {E : Type 0} (first : List (Option Page)) (pages pass from : 
 
 -- A callback was told the rows of a scan that came to its end or to that of the map: each once, one after another, and no other row.
 -- A call of it with a row leads from one state to another one. Beside that the scan has done nothing but search for its parts.
-pub record Tells {F : Type 0} (leads : F → ℕ × ℕ → F → Type 0) (first : List (Option Page)) (pages pass from : ℕ) (to : Option ℕ)
+pub record TellsRows {F : Type 0} (leads : F → ℕ × ℕ → F → Type 0) (first : List (Option Page)) (pages pass from : ℕ) (to : Option ℕ)
     (before after : F) (old new : Trail) : Type 0 where
   pub rows : List (ℕ × ℕ)
   pub upto : Option ℕ

@@ -9,7 +9,7 @@ use Rattle.bl_claims.specs.Seeing.{IsLinearizable, GoesOnFrom}
 use Rattle.bl_map.specs.declared.updating.Updated.{Updated}
 use Rattle.bl_map.specs.declared.updating.Updated.TheVariants.{Changed, Absent, NoRoom}
 use Rattle.bl_map.specs.declared.waiting.Waiting.{Waiting}
-use Rattle.bl_map.specs.Waits.{Changes}
+use Rattle.bl_map.specs.Waits.{WritesKey}
 use Rattle.bl_map.specs.Works.{Searched}
 
 -- The pass has looked the key up. Each value that it saw there it gave to the function, which leads from one state to another one, and tried
@@ -20,7 +20,7 @@ pub data Tried {F : Type 0} (gives : F → ℕ → ℕ → F → Type 0) (first 
       → Tried gives first pages pass key value f f waiting waiting old new
   Differed : {value next other : ℕ} {f g h : F} {before mid after : Waiting} {old between new : Trail}
       → Tried gives first pages pass key value f g before mid old between → gives g value next h
-      → Changes first pass (op.Change key value next) (reply.Differs other) mid after between new
+      → WritesKey first pass (op.Change key value next) (reply.Differs other) mid after between new
       → Tried gives first pages pass key other f h before after old new
 
 -- what the last change answers, by what the whole call does
@@ -37,7 +37,7 @@ pub data Ended {F : Type 0} (gives : F → ℕ → ℕ → F → Type 0) (first 
       → Ended gives first pages pass key Absent f f waiting waiting old new
   Settled : {value next : ℕ} {said : Reply} {answer : Updated} {f g h : F} {before mid after : Waiting} {old between new : Trail}
       → Tried gives first pages pass key value f g before mid old between → gives g value next h
-      → Changes first pass (op.Change key value next) said mid after between new → ends_as value next said answer
+      → WritesKey first pass (op.Change key value next) said mid after between new → ends_as value next said answer
       → Ended gives first pages pass key answer f h before after old new
 
 -- The same, and what the pass has seen then goes on from what it had seen, and is linearizable.

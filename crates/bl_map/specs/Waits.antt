@@ -37,7 +37,7 @@ IsTaken oldest old new =
     ⊎ ((hints_of old ≡ oldest ∷ hints_of new) × (new.dropped ≡ old.dropped))
 
 -- A key was written. The hint that this has left was followed, with those that following it gave, and what is left of them is kept.
-pub record Changes (first : List (Option Page)) (pass : ℕ) (op : Op) (reply : Reply) (before after : Waiting) (old new : Trail) : Type 0 where
+pub record WritesKey (first : List (Option Page)) (pass : ℕ) (op : Op) (reply : Reply) (before after : Waiting) (old new : Trail) : Type 0 where
   pub hint : Option Hint
   pub left : Option Hint
   pub behind : Trail

@@ -17,7 +17,6 @@
 #![tactic(auto)]
 
 mod calls;
-mod changes;
 mod copying;
 mod counting;
 mod falling;
@@ -32,6 +31,7 @@ mod telling;
 mod updating;
 mod upkeep;
 mod waiting;
+mod writes;
 
 pub use bl_index::{CloseFault, Hint, KeyReply, KeyWrite, Next, OpenFault, Pass as Seat, Reply};
 pub use bl_load::LoadFault;

@@ -7,8 +7,8 @@ ghost use Rattle.bl_index.specs.Calls.{first_of, IsPassOf, IsSamePass, number_of
 ghost use Rattle.bl_map.specs.Many.{WritesMany, StopsFull};
 
 use crate::calls::FETCHED;
-use crate::changes;
 use crate::waiting::Waiting;
+use crate::writes;
 use bl_index::{ABREAST, Index, KeyReply, KeyWrite, Pass};
 use std::sync::Wait;
 
@@ -99,7 +99,7 @@ pub(crate) fn write<R: Wait, E: Copy, A: Asks<E>>(
             fetch::<E, A>(index, &list[i..]);
         }
         let (key, does) = A::ask(&list[i]);
-        let reply = changes::write(rt, index, pass, waiting, key, does);
+        let reply = writes::write(rt, index, pass, waiting, key, does);
         replies[i] = reply;
         if let KeyReply::NoRoom = reply {
             return i + 1;

@@ -5,9 +5,9 @@ ghost use Rattle.bl_index.specs.Calls.{first_of, IsPassOf, IsSamePass, number_of
 ghost use Rattle.bl_map.specs.Follows.{KeptUp};
 ghost use Rattle.bl_map.specs.Waits.{Tidies};
 
-use crate::changes::try_again;
 use crate::upkeep::{Followed, LEVELS, Want, follow_hint, wait_for};
 use crate::waiting::Waiting;
+use crate::writes::try_again;
 use bl_index::{Hint, Index, KeyWrite, Pass};
 use std::sync::Wait;
 

@@ -1,7 +1,7 @@
 //! Scans that tell a callback each row.
 
 ghost use Rattle.bl_index.specs.Calls.{first_of, pages_of, IsPassOf, IsSamePass, number_of, trail};
-ghost use Rattle.bl_map.specs.Scans.{Tells};
+ghost use Rattle.bl_map.specs.Scans.{TellsRows};
 
 use bl_index::{Index, Pass};
 use std::sync::Wait;
@@ -18,7 +18,7 @@ pub(crate) fn tell<R: Wait, F: FnMut((u64, u64))>(
     requires own { IsPassOf index.now pass.old }
     requires callable { F.IsAlwaysCallable visit.old }
     ensures same { IsSamePass pass.old pass.new }
-    ensures tells { Tells (λ p x q. F.step p x tt q) (first_of index.now) (pages_of index.now) (number_of pass.old) from to visit.old visit.new
+    ensures tells { TellsRows (λ p x q. F.step p x tt q) (first_of index.now) (pages_of index.now) (number_of pass.old) from to visit.old visit.new
         (trail pass.old) (trail pass.new) }
 {
     let turns = index.patience();

@@ -8,7 +8,7 @@ ghost use Rattle.bl_map.specs.Works.{FoundNoRoom};
 ghost use Rattle.bl_map.specs.declared.updating.Updated.TheVariants as updated;
 
 use crate::waiting::Waiting;
-use crate::{calls, changes};
+use crate::{calls, writes};
 use bl_index::{Index, KeyReply, KeyWrite, Pass};
 use std::sync::Wait;
 
@@ -55,7 +55,7 @@ pub(crate) fn update<R: Wait, F: FnMut(u64) -> u64>(
     let mut value = found;
     for _ in rt.forever() {
         let next = given_for(value, give);
-        match changes::write(rt, index, pass, waiting, key, KeyWrite::Change(value, next)) {
+        match writes::write(rt, index, pass, waiting, key, KeyWrite::Change(value, next)) {
             KeyReply::Changed => return Updated::Changed(value, next),
             KeyReply::Differs(other) => value = other,
             KeyReply::NoRoom => return Updated::NoRoom,

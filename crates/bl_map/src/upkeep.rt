@@ -16,7 +16,7 @@ pub(crate) const LEVELS: u32 = 12;
 /// How often a pass looks at most for what it lacks, before a change, a post or a compression. With 1,024 pages so many looks take a tenth of a
 /// second, by estimate, and longer with more: longer than a thread waits for a processor that it has lost within a process, even where
 /// there are ten threads for each.
-const LOOKS: u32 = 32_768;
+const WAITS_FOR_ROOM: u32 = 32_768;
 
 /// What became of a hint that was followed.
 #[derive(Clone, Copy, Debug, PartialEq, Eq)]
@@ -56,7 +56,7 @@ pub(crate) fn wait_for(index: &Index, pass: &mut Pass, want: Want)
     ensures adds { Adds (first_of index.now) (number_of pass.old) (trail pass.old) (trail pass.new) }
     ensures swept { Swept (first_of index.now) (number_of pass.old) (trail pass.old) (trail pass.new) }
 {
-    for _ in 0..LOOKS {
+    for _ in 0..WAITS_FOR_ROOM {
         if !lacks(index, pass, want) {
             return;
         }

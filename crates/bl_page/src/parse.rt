@@ -3,7 +3,7 @@
 ghost use Rattle.std.specs.Prelude.{◌≡◌, ℕ, ◌+◌, ◌<◌, ◌≤◌, ◌^◌, ◌↔◌, length, drop, take, IsTrue, IfOk, IfErr, IfSome, MatchOption, Ok, slice_index};
 ghost use Rattle.bl_page.specs.Pairs.{RisesFrom, AllWithin, BeginsWith, NameChildren, NameNumbers, AreChildren, AreNumbers};
 ghost use Rattle.bl_page.specs.Words.{words_of, IsBelow};
-ghost use Rattle.bl_page.specs.Faults.{Kind, IsFault, IsOf, BoundsFit, count_in, level_in, pairs_in};
+ghost use Rattle.bl_page.specs.Faults.{Kind, IsWordFault, IsOf, BoundsFit, count_in, level_in, pairs_in};
 ghost use Rattle.bl_page.specs.declared.page.Page.TheVariants as page;
 ghost use Rattle.bl_page.specs.declared.page.Page.{Page};
 
@@ -128,7 +128,7 @@ fn anchor_in(words: &[u64; 32], most: u64) -> Result<Anchor, WordFault>
     requires most { most ≤ 2 ^ 32 }
     ensures ok { IfOk result (λ anchor. words.now ≡ words_of (page.Anchor anchor)) }
     ensures below { IfOk result (λ anchor. IsBelow most (page.Anchor anchor)) }
-    ensures fault { IfErr result (λ fault. IsFault most fault words.now) }
+    ensures fault { IfErr result (λ fault. IsWordFault most fault words.now) }
 {
     if level_at(words) != 0 {
         return Err(WordFault::Level);
@@ -154,7 +154,7 @@ fn leaf_in(words: &[u64; 32], most: u64) -> Result<Leaf, WordFault>
     requires most { most ≤ 2 ^ 32 }
     ensures ok { IfOk result (λ leaf. words.now ≡ words_of (page.Leaf leaf)) }
     ensures below { IfOk result (λ leaf. IsBelow most (page.Leaf leaf)) }
-    ensures fault { IfErr result (λ fault. IsFault most fault words.now) }
+    ensures fault { IfErr result (λ fault. IsWordFault most fault words.now) }
 {
     if level_at(words) != 0 {
         return Err(WordFault::Level);
@@ -201,7 +201,7 @@ fn inner_in(words: &[u64; 32], most: u64) -> Result<Inner, WordFault>
     requires most { most ≤ 2 ^ 32 }
     ensures ok { IfOk result (λ inner. words.now ≡ words_of (page.Inner inner)) }
     ensures below { IfOk result (λ inner. IsBelow most (page.Inner inner)) }
-    ensures fault { IfErr result (λ fault. IsFault most fault words.now) }
+    ensures fault { IfErr result (λ fault. IsWordFault most fault words.now) }
 {
     let level = level_at(words);
     if level == 0 || level > 11 {
@@ -238,7 +238,7 @@ fn dead_in(words: &[u64; 32], most: u64) -> Result<Dead, WordFault>
     requires most { most ≤ 2 ^ 32 }
     ensures ok { IfOk result (λ dead. words.now ≡ words_of (page.Dead dead)) }
     ensures below { IfOk result (λ dead. IsBelow most (page.Dead dead)) }
-    ensures fault { IfErr result (λ fault. IsFault most fault words.now) }
+    ensures fault { IfErr result (λ fault. IsWordFault most fault words.now) }
 {
     let level = level_at(words);
     if level > 11 {
@@ -265,7 +265,7 @@ fn page_in(words: &[u64; 32], most: u64) -> Result<Page, WordFault>
     requires { most ≤ 2 ^ 32 }
     ensures ok { IfOk result (λ page. words.now ≡ words_of page) }
     ensures below { IfOk result (λ page. IsBelow most page) }
-    ensures fault { IfErr result (λ fault. IsFault most fault words.now) }
+    ensures fault { IfErr result (λ fault. IsWordFault most fault words.now) }
 {
     match words[0] / KIND_UNIT {
         1 => Ok(Page::Anchor(anchor_in(words, most)?)),
@@ -286,7 +286,7 @@ pub fn from_words_below(words: &[u64; 32], most: u64) -> Result<Page, WordFault>
     // What is spelled so is read.
     ensures only { (page : Page) → IsBelow most page → words.now ≡ words_of page → result ≡ Ok page }
     // Which fault it is.
-    ensures fault { IfErr result (λ fault. IsFault most fault words.now) }
+    ensures fault { IfErr result (λ fault. IsWordFault most fault words.now) }
 {
     page_in(words, most)
 }
@@ -299,7 +299,7 @@ pub fn from_words(words: &[u64; 32]) -> Result<Page, WordFault>
     // What is spelled so is read.
     ensures only { (page : Page) → IsBelow (2 ^ 16) page → words.now ≡ words_of page → result ≡ Ok page }
     // Which fault it is.
-    ensures fault { IfErr result (λ fault. IsFault (2 ^ 16) fault words.now) }
+    ensures fault { IfErr result (λ fault. IsWordFault (2 ^ 16) fault words.now) }
 {
     from_words_below(words, LEVEL_UNIT)
 }
@@ -311,7 +311,7 @@ pub fn from_wide_words(words: &[u64; 32]) -> Result<Page, WordFault>
     // What is spelled so is read.
     ensures only { (page : Page) → words.now ≡ words_of page → result ≡ Ok page }
     // Which fault it is.
-    ensures fault { IfErr result (λ fault. IsFault (2 ^ 32) fault words.now) }
+    ensures fault { IfErr result (λ fault. IsWordFault (2 ^ 32) fault words.now) }
 {
     from_words_below(words, KIND_UNIT)
 }

@@ -52,7 +52,7 @@ fn came(level: u32, key: u64, approach: Approach, seen: Seen) -> CompressStage
 }
 
 /// On with the children.
-fn squeezed(
+fn on_with_children(
     level: u32,
     key: u64,
     waits: bool,
@@ -80,7 +80,13 @@ fn went(level: u32, key: u64, waits: bool, stage: CompressStage, seen: Seen) -> 
     match stage {
         CompressStage::New => CompressStage::Coming(Approach::Start),
         CompressStage::Coming(approach) => came(level, key, approach, seen),
-        CompressStage::Compressing(compression) => squeezed(level, key, waits, compression, seen),
+        CompressStage::Compressing(compression) => on_with_children(
+            level,
+            key,
+            waits,
+            compression,
+            seen,
+        ),
         CompressStage::Staying(_) => CompressStage::Ending(CompressReply::Alone),
         CompressStage::Ending(reply) => CompressStage::Over(reply),
         CompressStage::Over(_) => unreachable!(),

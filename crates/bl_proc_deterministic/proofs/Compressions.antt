@@ -84,7 +84,7 @@ step_goes level key waits c what (step.On d) t = t
 step_goes level key waits c what (step.Over decision) t = over_goes level key waits c what decision (compress_reply decision) refl t
 
 step_only : {level key : ℕ} {waits : Bool} {c : Compression} {what : Seen} {b : CompressStage} (n : Compressed) → ((o : Compressed) → Compresses waits c what o → o ≡ n) → CompressCase level key waits (Compressing c) what b → b ≡ after_step n
-step_only n is (CompressCase.Squeezed c what d t) = ap after_step (is (step.On d) t)
+step_only n is (CompressCase.WentOn c what d t) = ap after_step (is (step.On d) t)
 step_only n is (CompressCase.Lost c what a t) = ap Coming t.3 ∙ (ap after_decision (sym t.2) ∙ ap after_step (is (step.Over t.0) t.1))
 step_only n is (CompressCase.Finished c what r t) = ap after_decision (sym t.2) ∙ ap after_step (is (step.Over t.0) t.1)
 

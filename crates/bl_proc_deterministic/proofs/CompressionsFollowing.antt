@@ -23,7 +23,7 @@ use Rattle.bl_proc.specs.declared.kinds.Proc.TheVariants as proc
 use Rattle.bl_proc.specs.Processes.{Takes}
 use Rattle.bl_proc_deterministic.specs.Frames.{compression_frames, compress_frames, Wants, Leaves, Follows}
 use Rattle.bl_proc_deterministic.proofs.Following.{approach_wants, approach_leaves, not_begin_way}
-use Rattle.bl_proc_deterministic.proofs.WayCases.{SqueezeCase, squeeze_case}
+use Rattle.bl_proc_deterministic.proofs.WayCases.{CompressionCase, compression_case}
 use Rattle.bl_proc_deterministic.proofs.KindCases.{CompressCase, compress_case}
 
 -- the put of a child, whichever it is
@@ -96,25 +96,25 @@ after_frames at decision.Refused = refl
 after_frames at decision.Lost = refl
 
 -- a compression of two children that goes on, and one that is over
-compression_leaves : {c e : Compression} {what : Seen} → SqueezeCase c what (compressed.On e) → Leaves (compression_next c) (compression_needs c) what (compression_frames c) (compression_frames e)
-compression_leaves (SqueezeCase.GotLeft f c e t) = links_frames f c e t
-compression_leaves (SqueezeCase.GotRight f c d e t) = decides_frames f c d e t
-compression_leaves (SqueezeCase.PutFirst p e t) = first_leaves p.gains p (compression_frames e) (ap compression_frames t)
-compression_leaves (SqueezeCase.FirstRefused p e t) = first_refused p.gains p (compression_frames e) (ap compression_frames t)
-compression_leaves (SqueezeCase.PutParent p e t) = sym (ap (λ (n : Compression). suc (compression_frames n)) t)
-compression_leaves (SqueezeCase.PutLast p e t) = last_leaves (other p.gains) p (compression_frames e) (ap compression_frames t ∙ after_frames p.at p.decision)
-compression_leaves (SqueezeCase.LatchLeft f e t) = ap compression_frames t
-compression_leaves (SqueezeCase.MissLeft f e t) = ap compression_frames t
-compression_leaves (SqueezeCase.LeaveLeft f e t) = ap compression_frames t
-compression_leaves (SqueezeCase.LatchRight f c e t) = ap compression_frames t
-compression_leaves (SqueezeCase.MissRight f c e t) = ap compression_frames t
-compression_leaves (SqueezeCase.LeaveRight f c e t) = ap compression_frames t
-compression_leaves (SqueezeCase.Retired at z e t) = ap compression_frames t
-compression_leaves (SqueezeCase.OpenedRight at z e t) = ap compression_frames t
-compression_leaves (SqueezeCase.OpenedLeft at z e t) = ap compression_frames t
+compression_leaves : {c e : Compression} {what : Seen} → CompressionCase c what (compressed.On e) → Leaves (compression_next c) (compression_needs c) what (compression_frames c) (compression_frames e)
+compression_leaves (CompressionCase.GotLeft f c e t) = links_frames f c e t
+compression_leaves (CompressionCase.GotRight f c d e t) = decides_frames f c d e t
+compression_leaves (CompressionCase.PutFirst p e t) = first_leaves p.gains p (compression_frames e) (ap compression_frames t)
+compression_leaves (CompressionCase.FirstRefused p e t) = first_refused p.gains p (compression_frames e) (ap compression_frames t)
+compression_leaves (CompressionCase.PutParent p e t) = sym (ap (λ (n : Compression). suc (compression_frames n)) t)
+compression_leaves (CompressionCase.PutLast p e t) = last_leaves (other p.gains) p (compression_frames e) (ap compression_frames t ∙ after_frames p.at p.decision)
+compression_leaves (CompressionCase.LatchLeft f e t) = ap compression_frames t
+compression_leaves (CompressionCase.MissLeft f e t) = ap compression_frames t
+compression_leaves (CompressionCase.LeaveLeft f e t) = ap compression_frames t
+compression_leaves (CompressionCase.LatchRight f c e t) = ap compression_frames t
+compression_leaves (CompressionCase.MissRight f c e t) = ap compression_frames t
+compression_leaves (CompressionCase.LeaveRight f c e t) = ap compression_frames t
+compression_leaves (CompressionCase.Retired at z e t) = ap compression_frames t
+compression_leaves (CompressionCase.OpenedRight at z e t) = ap compression_frames t
+compression_leaves (CompressionCase.OpenedLeft at z e t) = ap compression_frames t
 
-compression_over : {c : Compression} {became : Decision} {what : Seen} → SqueezeCase c what (compressed.Over became) → Leaves (compression_next c) (compression_needs c) what (compression_frames c) 0
-compression_over (SqueezeCase.OpenedParent x decision _ t) = refl
+compression_over : {c : Compression} {became : Decision} {what : Seen} → CompressionCase c what (compressed.Over became) → Leaves (compression_next c) (compression_needs c) what (compression_frames c) 0
+compression_over (CompressionCase.OpenedParent x decision _ t) = refl
 
 not_begin_step : (c : Compression) → compression_next c ≢ act.Begin
 not_begin_step (step.LatchingLeft f) e = cc
@@ -131,15 +131,15 @@ not_begin_step (step.OpeningParent x z) e = cc
 
 compress_leaves : {level key : ℕ} {waits : Bool} {a b : CompressStage} {what : Seen} → CompressCase level key waits a what b → Leaves (compress_next_in a) (compress_needs_in a) what (compress_frames a) (compress_frames b)
 compress_leaves (CompressCase.Came a what b t) = approach_leaves a what
-compress_leaves (CompressCase.Squeezed c what d t) = compression_leaves (squeeze_case _ c what _ t)
-compress_leaves (CompressCase.Lost c what a t) = compression_over (squeeze_case _ c what _ t.1)
-compress_leaves (CompressCase.Finished c what r t) = compression_over (squeeze_case _ c what _ t.1)
+compress_leaves (CompressCase.WentOn c what d t) = compression_leaves (compression_case _ c what _ t)
+compress_leaves (CompressCase.Lost c what a t) = compression_over (compression_case _ c what _ t.1)
+compress_leaves (CompressCase.Finished c what r t) = compression_over (compression_case _ c what _ t.1)
 compress_leaves other = refl
 
 compress_begun : {level key : ℕ} {waits : Bool} {a b : CompressStage} {what : Seen} → CompressCase level key waits a what b → compress_next_in b ≢ act.Begin
 compress_begun (CompressCase.Began a t) = not_begin_way a
 compress_begun (CompressCase.Came a what b t) = not_begin_way b
-compress_begun (CompressCase.Squeezed c what d t) = not_begin_step d
+compress_begun (CompressCase.WentOn c what d t) = not_begin_step d
 compress_begun (CompressCase.Lost c what a t) = not_begin_way a
 compress_begun other = λ z. cc
 

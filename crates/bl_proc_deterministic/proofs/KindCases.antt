@@ -41,7 +41,7 @@ use Rattle.bl_proc_compress.specs.declared.compression.Compressed.TheVariants as
 use Rattle.bl_proc_compress.specs.declared.compress.CompressStage.{CompressStage}
 use Rattle.bl_proc_compress.specs.declared.compress.CompressStage.TheVariants as compress
 use Rattle.bl_proc_compress.specs.declared.compress.CompressReply.{CompressReply}
-use Rattle.bl_proc_compress.specs.declared.compress.CompressReply.TheVariants as pressed
+use Rattle.bl_proc_compress.specs.declared.compress.CompressReply.TheVariants as compressed
 use Rattle.bl_proc_compress.specs.Compressions.{AreSiblings, Compresses}
 use Rattle.bl_proc_compress.specs.Compresses.{compress_reply, CompressArrives, CompressComes, CompressGoes}
 use Rattle.bl_proc_writes.specs.declared.writing.Noted.{Noted}
@@ -226,14 +226,14 @@ post_case level key a what b t = absurd t
 -- At the parent there are two children, or one.
 pub data CompressCase (level key : ℕ) (waits : Bool) : CompressStage → Seen → CompressStage → Type 0 where
   Began : (a : Approach) → a ≡ way.Start → CompressCase level key waits compress.New seen.Done (compress.Coming a)
-  NoLevel : (c : Page) → (roots_of c).levels ≤ level → CompressCase level key waits (compress.Coming way.Start) (seen.Words c) (compress.Ending pressed.Alone)
+  NoLevel : (c : Page) → (roots_of c).levels ≤ level → CompressCase level key waits (compress.Coming way.Start) (seen.Words c) (compress.Ending compressed.Alone)
   Came : (a : Approach) (what : Seen) (b : Approach) → Approaches level key a what (came.On b) → CompressCase level key waits (compress.Coming a) what (compress.Coming b)
   Met : (x : ℕ) (parent : Inner) (f : Family) → Leads (InnerPage parent) key level Here → AreSiblings x key parent (Some f) → CompressCase level key waits (compress.Coming (way.Latched x)) (seen.Words (InnerPage parent)) (compress.Compressing (LatchingLeft f))
   Single : (x : ℕ) (parent : Inner) (y : ℕ) → Leads (InnerPage parent) key level Here → (y ≡ x) × AreSiblings x key parent None → CompressCase level key waits (compress.Coming (way.Latched x)) (seen.Words (InnerPage parent)) (compress.Staying y)
-  Squeezed : (c : Compression) (what : Seen) (d : Compression) → Compresses waits c what (step.On d) → CompressCase level key waits (compress.Compressing c) what (compress.Compressing d)
+  WentOn : (c : Compression) (what : Seen) (d : Compression) → Compresses waits c what (step.On d) → CompressCase level key waits (compress.Compressing c) what (compress.Compressing d)
   Lost : (c : Compression) (what : Seen) (a : Approach) → (last : Decision) × Compresses waits c what (step.Over last) × (compress_reply last ≡ None) × (a ≡ way.Start) → CompressCase level key waits (compress.Compressing c) what (compress.Coming a)
   Finished : (c : Compression) (what : Seen) (r : CompressReply) → (last : Decision) × Compresses waits c what (step.Over last) × (compress_reply last ≡ Some r) → CompressCase level key waits (compress.Compressing c) what (compress.Ending r)
-  Opened : (x : ℕ) (r : CompressReply) → r ≡ pressed.Alone → CompressCase level key waits (compress.Staying x) seen.Done (compress.Ending r)
+  Opened : (x : ℕ) (r : CompressReply) → r ≡ compressed.Alone → CompressCase level key waits (compress.Staying x) seen.Done (compress.Ending r)
   Ended : (r last : CompressReply) → last ≡ r → CompressCase level key waits (compress.Ending r) seen.Done (compress.Over last)
 
 compress_arrives : (level key x : ℕ) (waits : Bool) (parent : Inner) (b : CompressStage) → Leads (InnerPage parent) key level Here → CompressArrives key x parent b → CompressCase level key waits (compress.Coming (way.Latched x)) (seen.Words (InnerPage parent)) b
@@ -248,7 +248,7 @@ compress_case level key waits (compress.Coming a) what b (m, h, t) =
     (λ c few e. subst (CompressCase level key waits (compress.Coming way.Start) (seen.Words c)) (sym e) (NoLevel c few))
     (λ d u e. subst (CompressCase level key waits (compress.Coming a) what) (sym e) (Came a what d u))
     (λ x parent l u. compress_arrives level key x waits parent b l u)
-compress_case level key waits (compress.Compressing c) what (compress.Compressing d) t = Squeezed c what d t
+compress_case level key waits (compress.Compressing c) what (compress.Compressing d) t = WentOn c what d t
 compress_case level key waits (compress.Compressing c) what (compress.Coming a) t = Lost c what a t
 compress_case level key waits (compress.Compressing c) what (compress.Ending r) t = Finished c what r t
 compress_case level key waits (compress.Staying x) seen.Done (compress.Ending r) t = Opened x r t

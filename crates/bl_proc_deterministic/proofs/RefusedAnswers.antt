@@ -20,7 +20,7 @@ use Rattle.bl_proc_writes.specs.declared.writing.WriteStage.TheVariants as write
 use Rattle.bl_proc_writes.specs.declared.post.PostStage.{PostStage}
 use Rattle.bl_proc_writes.specs.declared.post.PostStage.TheVariants as post
 use Rattle.bl_proc_writes.specs.declared.post.PostReply.TheVariants as listed
-use Rattle.bl_proc_compress.specs.declared.compress.CompressReply.TheVariants as pressed
+use Rattle.bl_proc_compress.specs.declared.compress.CompressReply.TheVariants as compressed
 use Rattle.bl_proc_compress.specs.declared.compress.CompressStage.{CompressStage}
 use Rattle.bl_proc_compress.specs.declared.compress.CompressStage.TheVariants as compress
 use Rattle.bl_proc.specs.declared.reclaiming.ReclaimStage.{ReclaimStage}
@@ -103,12 +103,12 @@ compress_answers (compress.Coming a) b e r = none_answer b e
 compress_answers (compress.Compressing c) b e r = none_answer b e
 compress_answers (compress.Staying x) b e r = none_answer b e
 compress_answers (compress.Ending s) b e r = none_answer b e
-compress_answers (compress.Over (pressed.Merged h)) b e r = no_room _ b e r
-compress_answers (compress.Over pressed.Evened) b e r = no_room _ b e r
-compress_answers (compress.Over pressed.Enough) b e r = no_room _ b e r
-compress_answers (compress.Over pressed.Alone) b e r = no_room _ b e r
-compress_answers (compress.Over (pressed.Unposted h)) b e r = no_room _ b e r
-compress_answers (compress.Over pressed.NoRoom) b e r = tt
+compress_answers (compress.Over (compressed.Merged h)) b e r = no_room _ b e r
+compress_answers (compress.Over compressed.Evened) b e r = no_room _ b e r
+compress_answers (compress.Over compressed.Enough) b e r = no_room _ b e r
+compress_answers (compress.Over compressed.Alone) b e r = no_room _ b e r
+compress_answers (compress.Over (compressed.Unposted h)) b e r = no_room _ b e r
+compress_answers (compress.Over compressed.NoRoom) b e r = tt
 
 reclaim_answers : (a : ReclaimStage) (b : Answer) → reclaim_answer_in a ≡ Some b → IsNoRoom b → ⊥
 reclaim_answers reclaim.Seeing b e r = none_answer b e

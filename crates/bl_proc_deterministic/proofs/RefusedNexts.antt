@@ -33,7 +33,7 @@ use Rattle.bl_proc.specs.declared.kinds.Proc.TheVariants as proc
 use Rattle.bl_proc_writes.specs.Writes.{write_next_in, write_needs_in}
 use Rattle.bl_proc_writes.specs.Posts.{post_next_in, post_needs_in}
 use Rattle.bl_proc.specs.Processes.{next_of, needs_of, Takes}
-use Rattle.bl_proc_deterministic.specs.Refusals.{EditRefused, GrowthRefused, WriteRefused, PostRefused, SqueezeRefused, CompressRefused, LoweringRefused, LowerRefused, ClimbRefused, IsRefused, SqueezePuts, CompressPuts, PutsRefused, MayAsk}
+use Rattle.bl_proc_deterministic.specs.Refusals.{EditRefused, GrowthRefused, WriteRefused, PostRefused, CompressionRefused, CompressRefused, LoweringRefused, LowerRefused, ClimbRefused, IsRefused, CompressionPuts, CompressPuts, PutsRefused, MayAsk}
 
 -- it opens a page, or ends
 abbrev pub OpensOrEnds : Action → Type 0
@@ -61,18 +61,18 @@ post_opens (post.Ending a) r = inr refl
 post_opens (post.Over a) r = inr refl
 post_opens old r = absurd r
 
-squeeze_opens : (c : Compression) → SqueezeRefused c → (SqueezePuts c → ⊥) → OpensOrEnds (compression_next c)
-squeeze_opens (PuttingFirst u) r not = absurd (not r)
-squeeze_opens (PuttingParent u) r not = absurd (not r)
-squeeze_opens (PuttingLast u) r not = absurd (not r)
-squeeze_opens (Retiring at end) r not = absurd (not r)
-squeeze_opens (OpeningRight at end) r not = inl (_, refl)
-squeeze_opens (OpeningLeft at end) r not = inl (_, refl)
-squeeze_opens (OpeningParent x end) r not = inl (_, refl)
-squeeze_opens old r not = absurd r
+compression_opens : (c : Compression) → CompressionRefused c → (CompressionPuts c → ⊥) → OpensOrEnds (compression_next c)
+compression_opens (PuttingFirst u) r not = absurd (not r)
+compression_opens (PuttingParent u) r not = absurd (not r)
+compression_opens (PuttingLast u) r not = absurd (not r)
+compression_opens (Retiring at end) r not = absurd (not r)
+compression_opens (OpeningRight at end) r not = inl (_, refl)
+compression_opens (OpeningLeft at end) r not = inl (_, refl)
+compression_opens (OpeningParent x end) r not = inl (_, refl)
+compression_opens old r not = absurd r
 
 compress_opens : (s : CompressStage) → CompressRefused s → (CompressPuts s → ⊥) → OpensOrEnds (compress_next_in s)
-compress_opens (compress.Compressing c) r not = squeeze_opens c r not
+compress_opens (compress.Compressing c) r not = compression_opens c r not
 compress_opens (compress.Ending a) r not = inr refl
 compress_opens (compress.Over a) r not = inr refl
 compress_opens old r not = absurd r
@@ -146,23 +146,23 @@ post_asks (post.Staying x a) b e = none_asks b e
 post_asks (post.Ending a) b e = none_asks b e
 post_asks (post.Over a) b e = none_asks b e
 
-squeeze_asks : (c : Compression) (b : ℕ × ℕ) → compression_needs c ≡ Some b → b ≡ (0, 3)
-squeeze_asks (LatchingLeft f) b e = none_asks b e
-squeeze_asks (LatchedLeft f) b e = none_asks b e
-squeeze_asks (LatchingRight f page) b e = none_asks b e
-squeeze_asks (LatchedRight f page) b e = none_asks b e
-squeeze_asks (PuttingFirst u) b e = some_ask _ b e
-squeeze_asks (PuttingParent u) b e = none_asks b e
-squeeze_asks (PuttingLast u) b e = none_asks b e
-squeeze_asks (Retiring at end) b e = none_asks b e
-squeeze_asks (OpeningRight at end) b e = none_asks b e
-squeeze_asks (OpeningLeft at end) b e = none_asks b e
-squeeze_asks (OpeningParent x end) b e = none_asks b e
+compression_asks : (c : Compression) (b : ℕ × ℕ) → compression_needs c ≡ Some b → b ≡ (0, 3)
+compression_asks (LatchingLeft f) b e = none_asks b e
+compression_asks (LatchedLeft f) b e = none_asks b e
+compression_asks (LatchingRight f page) b e = none_asks b e
+compression_asks (LatchedRight f page) b e = none_asks b e
+compression_asks (PuttingFirst u) b e = some_ask _ b e
+compression_asks (PuttingParent u) b e = none_asks b e
+compression_asks (PuttingLast u) b e = none_asks b e
+compression_asks (Retiring at end) b e = none_asks b e
+compression_asks (OpeningRight at end) b e = none_asks b e
+compression_asks (OpeningLeft at end) b e = none_asks b e
+compression_asks (OpeningParent x end) b e = none_asks b e
 
 compress_asks : (s : CompressStage) (b : ℕ × ℕ) → compress_needs_in s ≡ Some b → b ≡ (0, 3)
 compress_asks compress.New b e = none_asks b e
 compress_asks (compress.Coming a) b e = none_asks b e
-compress_asks (compress.Compressing c) b e = squeeze_asks c b e
+compress_asks (compress.Compressing c) b e = compression_asks c b e
 compress_asks (compress.Staying x) b e = none_asks b e
 compress_asks (compress.Ending a) b e = none_asks b e
 compress_asks (compress.Over a) b e = none_asks b e

@@ -35,7 +35,7 @@ use Rattle.bl_proc.specs.declared.kinds.Proc.TheVariants as proc
 use Rattle.bl_proc_writes.specs.Posts.{post_next_in}
 use Rattle.bl_proc.specs.Processes.{next_of, Takes}
 use Rattle.bl_proc_deterministic.specs.Retirements.{IsPutDone, RetiresAfter}
-use Rattle.bl_proc_deterministic.proofs.WayCases.{SqueezeCase, squeeze_case}
+use Rattle.bl_proc_deterministic.proofs.WayCases.{CompressionCase, compression_case}
 use Rattle.bl_proc_deterministic.proofs.KindCases.{CompressCase, compress_case}
 
 module _ (old : Action) (what : Seen) where
@@ -91,22 +91,22 @@ put_done side.Left p = tt
 put_done side.Right p = tt
 
 -- a compression that goes on to the retirement
-to_retiring : {c : Compression} {what : Seen} {d : Compression} {at : Siblings} {decision : Decision} → SqueezeCase c what (On d) → d ≡ Retiring at decision → IsPutDone (compression_next c) what
-to_retiring (SqueezeCase.PutLast p d t) e = put_done (other p.gains) p
-to_retiring (SqueezeCase.GotLeft f c d t) e = absurd (subst (Links f c) e t)
-to_retiring (SqueezeCase.GotRight f c g d t) e = absurd (subst (Decides f c g) e t)
-to_retiring (SqueezeCase.LatchLeft f d t) e = cc
-to_retiring (SqueezeCase.MissLeft f d t) e = cc
-to_retiring (SqueezeCase.LeaveLeft f d t) e = cc
-to_retiring (SqueezeCase.LatchRight f c d t) e = cc
-to_retiring (SqueezeCase.MissRight f c d t) e = cc
-to_retiring (SqueezeCase.LeaveRight f c d t) e = cc
-to_retiring (SqueezeCase.PutFirst p d t) e = cc
-to_retiring (SqueezeCase.FirstRefused p d t) e = cc
-to_retiring (SqueezeCase.PutParent p d t) e = cc
-to_retiring (SqueezeCase.Retired u f d t) e = cc
-to_retiring (SqueezeCase.OpenedRight u f d t) e = cc
-to_retiring (SqueezeCase.OpenedLeft u f d t) e = cc
+to_retiring : {c : Compression} {what : Seen} {d : Compression} {at : Siblings} {decision : Decision} → CompressionCase c what (On d) → d ≡ Retiring at decision → IsPutDone (compression_next c) what
+to_retiring (CompressionCase.PutLast p d t) e = put_done (other p.gains) p
+to_retiring (CompressionCase.GotLeft f c d t) e = absurd (subst (Links f c) e t)
+to_retiring (CompressionCase.GotRight f c g d t) e = absurd (subst (Decides f c g) e t)
+to_retiring (CompressionCase.LatchLeft f d t) e = cc
+to_retiring (CompressionCase.MissLeft f d t) e = cc
+to_retiring (CompressionCase.LeaveLeft f d t) e = cc
+to_retiring (CompressionCase.LatchRight f c d t) e = cc
+to_retiring (CompressionCase.MissRight f c d t) e = cc
+to_retiring (CompressionCase.LeaveRight f c d t) e = cc
+to_retiring (CompressionCase.PutFirst p d t) e = cc
+to_retiring (CompressionCase.FirstRefused p d t) e = cc
+to_retiring (CompressionCase.PutParent p d t) e = cc
+to_retiring (CompressionCase.Retired u f d t) e = cc
+to_retiring (CompressionCase.OpenedRight u f d t) e = cc
+to_retiring (CompressionCase.OpenedLeft u f d t) e = cc
 
 -- and a process that may come to it from there alone
 after_unless : (old : Action) (what : Seen) (d : Compression) → ((at : Siblings) (decision : Decision) → d ≡ Retiring at decision → IsPutDone old what) → RetiresAfter old what (compression_next d)
@@ -125,7 +125,7 @@ after_unless old what (OpeningParent x decision) done = tt
 stage_after : {level key : ℕ} {waits : Bool} {a b : CompressStage} {what : Seen} → CompressCase level key waits a what b → RetiresAfter (compress_next_in a) what (compress_next_in b)
 stage_after (CompressCase.Began w t) = approach_none act.Begin seen.Done w
 stage_after (CompressCase.Came a what b t) = approach_none (approach_next a) what b
-stage_after (CompressCase.Squeezed c what d t) = after_unless (compression_next c) what d (λ at decision e. to_retiring (squeeze_case _ c what _ t) e)
+stage_after (CompressCase.WentOn c what d t) = after_unless (compression_next c) what d (λ at decision e. to_retiring (compression_case _ c what _ t) e)
 stage_after (CompressCase.Lost c what a t) = approach_none (compression_next c) what a
 stage_after other = tt
 

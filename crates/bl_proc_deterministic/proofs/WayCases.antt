@@ -117,45 +117,45 @@ growth_case level growth.OpeningRefused seen.Done grew.Refused t = OpenedRefused
 growth_case level g what new t = absurd t
 
 -- The compression of two children of a page that is held.
-pub data SqueezeCase : Compression → Seen → Compressed → Type 0 where
-  LatchLeft : (f : Family) (new : Compression) → new ≡ LatchedLeft f → SqueezeCase (LatchingLeft f) seen.Done (step.On new)
-  MissLeft : (f : Family) (new : Compression) → new ≡ LatchingLeft f → SqueezeCase (LatchingLeft f) seen.Missed (step.On new)
-  LeaveLeft : (f : Family) (new : Compression) → new ≡ OpeningParent f.at.parent Lost → SqueezeCase (LatchingLeft f) seen.Missed (step.On new)
-  GotLeft : (f : Family) (c : Page) (new : Compression) → Links f c new → SqueezeCase (LatchedLeft f) (seen.Words c) (step.On new)
-  LatchRight : (f : Family) (c : Page) (new : Compression) → new ≡ LatchedRight f c → SqueezeCase (LatchingRight f c) seen.Done (step.On new)
-  MissRight : (f : Family) (c : Page) (new : Compression) → new ≡ LatchingRight f c → SqueezeCase (LatchingRight f c) seen.Missed (step.On new)
-  LeaveRight : (f : Family) (c : Page) (new : Compression) → new ≡ OpeningLeft f.at Lost → SqueezeCase (LatchingRight f c) seen.Missed (step.On new)
-  GotRight : (f : Family) (c d : Page) (new : Compression) → Decides f c d new → SqueezeCase (LatchedRight f c) (seen.Words d) (step.On new)
-  PutFirst : (p : Puts) (new : Compression) → new ≡ PuttingParent p → SqueezeCase (PuttingFirst p) seen.Done (step.On new)
-  FirstRefused : (p : Puts) (new : Compression) → new ≡ OpeningRight p.at Refused → SqueezeCase (PuttingFirst p) seen.Refused (step.On new)
-  PutParent : (p : Puts) (new : Compression) → new ≡ PuttingLast p → SqueezeCase (PuttingParent p) seen.Done (step.On new)
-  PutLast : (p : Puts) (new : Compression) → new ≡ after_puts p.at p.decision → SqueezeCase (PuttingLast p) seen.Done (step.On new)
-  Retired : (at : Siblings) (decision : Decision) (new : Compression) → new ≡ OpeningLeft at decision → SqueezeCase (Retiring at decision) seen.Done (step.On new)
-  OpenedRight : (at : Siblings) (decision : Decision) (new : Compression) → new ≡ OpeningLeft at decision → SqueezeCase (OpeningRight at decision) seen.Done (step.On new)
-  OpenedLeft : (at : Siblings) (decision : Decision) (new : Compression) → new ≡ OpeningParent at.parent decision → SqueezeCase (OpeningLeft at decision) seen.Done (step.On new)
-  OpenedParent : (x : ℕ) (decision last : Decision) → last ≡ decision → SqueezeCase (OpeningParent x decision) seen.Done (step.Over last)
+pub data CompressionCase : Compression → Seen → Compressed → Type 0 where
+  LatchLeft : (f : Family) (new : Compression) → new ≡ LatchedLeft f → CompressionCase (LatchingLeft f) seen.Done (step.On new)
+  MissLeft : (f : Family) (new : Compression) → new ≡ LatchingLeft f → CompressionCase (LatchingLeft f) seen.Missed (step.On new)
+  LeaveLeft : (f : Family) (new : Compression) → new ≡ OpeningParent f.at.parent Lost → CompressionCase (LatchingLeft f) seen.Missed (step.On new)
+  GotLeft : (f : Family) (c : Page) (new : Compression) → Links f c new → CompressionCase (LatchedLeft f) (seen.Words c) (step.On new)
+  LatchRight : (f : Family) (c : Page) (new : Compression) → new ≡ LatchedRight f c → CompressionCase (LatchingRight f c) seen.Done (step.On new)
+  MissRight : (f : Family) (c : Page) (new : Compression) → new ≡ LatchingRight f c → CompressionCase (LatchingRight f c) seen.Missed (step.On new)
+  LeaveRight : (f : Family) (c : Page) (new : Compression) → new ≡ OpeningLeft f.at Lost → CompressionCase (LatchingRight f c) seen.Missed (step.On new)
+  GotRight : (f : Family) (c d : Page) (new : Compression) → Decides f c d new → CompressionCase (LatchedRight f c) (seen.Words d) (step.On new)
+  PutFirst : (p : Puts) (new : Compression) → new ≡ PuttingParent p → CompressionCase (PuttingFirst p) seen.Done (step.On new)
+  FirstRefused : (p : Puts) (new : Compression) → new ≡ OpeningRight p.at Refused → CompressionCase (PuttingFirst p) seen.Refused (step.On new)
+  PutParent : (p : Puts) (new : Compression) → new ≡ PuttingLast p → CompressionCase (PuttingParent p) seen.Done (step.On new)
+  PutLast : (p : Puts) (new : Compression) → new ≡ after_puts p.at p.decision → CompressionCase (PuttingLast p) seen.Done (step.On new)
+  Retired : (at : Siblings) (decision : Decision) (new : Compression) → new ≡ OpeningLeft at decision → CompressionCase (Retiring at decision) seen.Done (step.On new)
+  OpenedRight : (at : Siblings) (decision : Decision) (new : Compression) → new ≡ OpeningLeft at decision → CompressionCase (OpeningRight at decision) seen.Done (step.On new)
+  OpenedLeft : (at : Siblings) (decision : Decision) (new : Compression) → new ≡ OpeningParent at.parent decision → CompressionCase (OpeningLeft at decision) seen.Done (step.On new)
+  OpenedParent : (x : ℕ) (decision last : Decision) → last ≡ decision → CompressionCase (OpeningParent x decision) seen.Done (step.Over last)
 
-missed_left_case : (waits : Bool) (f : Family) (new : Compression) → new ≡ missed_left waits f → SqueezeCase (LatchingLeft f) seen.Missed (step.On new)
+missed_left_case : (waits : Bool) (f : Family) (new : Compression) → new ≡ missed_left waits f → CompressionCase (LatchingLeft f) seen.Missed (step.On new)
 missed_left_case true f new t = MissLeft f new t
 missed_left_case false f new t = LeaveLeft f new t
 
-missed_right_case : (waits : Bool) (f : Family) (c : Page) (new : Compression) → new ≡ missed_right waits f c → SqueezeCase (LatchingRight f c) seen.Missed (step.On new)
+missed_right_case : (waits : Bool) (f : Family) (c : Page) (new : Compression) → new ≡ missed_right waits f c → CompressionCase (LatchingRight f c) seen.Missed (step.On new)
 missed_right_case true f c new t = MissRight f c new t
 missed_right_case false f c new t = LeaveRight f c new t
 
-pub squeeze_case : (waits : Bool) (c : Compression) (what : Seen) (new : Compressed) → Compresses waits c what new → SqueezeCase c what new
-squeeze_case waits (LatchingLeft f) seen.Done (step.On new) t = LatchLeft f new t
-squeeze_case waits (LatchingLeft f) seen.Missed (step.On new) t = missed_left_case waits f new t
-squeeze_case waits (LatchedLeft f) (seen.Words c) (step.On new) t = GotLeft f c new t
-squeeze_case waits (LatchingRight f c) seen.Done (step.On new) t = LatchRight f c new t
-squeeze_case waits (LatchingRight f c) seen.Missed (step.On new) t = missed_right_case waits f c new t
-squeeze_case waits (LatchedRight f c) (seen.Words d) (step.On new) t = GotRight f c d new t
-squeeze_case waits (PuttingFirst p) seen.Done (step.On new) t = PutFirst p new t
-squeeze_case waits (PuttingFirst p) seen.Refused (step.On new) t = FirstRefused p new t
-squeeze_case waits (PuttingParent p) seen.Done (step.On new) t = PutParent p new t
-squeeze_case waits (PuttingLast p) seen.Done (step.On new) t = PutLast p new t
-squeeze_case waits (Retiring at decision) seen.Done (step.On new) t = Retired at decision new t
-squeeze_case waits (OpeningRight at decision) seen.Done (step.On new) t = OpenedRight at decision new t
-squeeze_case waits (OpeningLeft at decision) seen.Done (step.On new) t = OpenedLeft at decision new t
-squeeze_case waits (OpeningParent x decision) seen.Done (step.Over last) t = OpenedParent x decision last t
-squeeze_case waits c what new t = absurd t
+pub compression_case : (waits : Bool) (c : Compression) (what : Seen) (new : Compressed) → Compresses waits c what new → CompressionCase c what new
+compression_case waits (LatchingLeft f) seen.Done (step.On new) t = LatchLeft f new t
+compression_case waits (LatchingLeft f) seen.Missed (step.On new) t = missed_left_case waits f new t
+compression_case waits (LatchedLeft f) (seen.Words c) (step.On new) t = GotLeft f c new t
+compression_case waits (LatchingRight f c) seen.Done (step.On new) t = LatchRight f c new t
+compression_case waits (LatchingRight f c) seen.Missed (step.On new) t = missed_right_case waits f c new t
+compression_case waits (LatchedRight f c) (seen.Words d) (step.On new) t = GotRight f c d new t
+compression_case waits (PuttingFirst p) seen.Done (step.On new) t = PutFirst p new t
+compression_case waits (PuttingFirst p) seen.Refused (step.On new) t = FirstRefused p new t
+compression_case waits (PuttingParent p) seen.Done (step.On new) t = PutParent p new t
+compression_case waits (PuttingLast p) seen.Done (step.On new) t = PutLast p new t
+compression_case waits (Retiring at decision) seen.Done (step.On new) t = Retired at decision new t
+compression_case waits (OpeningRight at decision) seen.Done (step.On new) t = OpenedRight at decision new t
+compression_case waits (OpeningLeft at decision) seen.Done (step.On new) t = OpenedLeft at decision new t
+compression_case waits (OpeningParent x decision) seen.Done (step.Over last) t = OpenedParent x decision last t
+compression_case waits c what new t = absurd t

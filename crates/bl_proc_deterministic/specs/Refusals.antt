@@ -20,7 +20,7 @@ use Rattle.bl_proc_compress.specs.declared.compression.Decision.TheVariants as d
 use Rattle.bl_proc_compress.specs.declared.compression.Compression.{Compression}
 use Rattle.bl_proc_compress.specs.declared.compression.Compression.TheVariants.{LatchingLeft, LatchedLeft, LatchingRight, LatchedRight, PuttingFirst, PuttingParent, PuttingLast, Retiring, OpeningRight, OpeningLeft, OpeningParent}
 use Rattle.bl_proc_compress.specs.declared.compress.CompressReply.{CompressReply}
-use Rattle.bl_proc_compress.specs.declared.compress.CompressReply.TheVariants as pressed
+use Rattle.bl_proc_compress.specs.declared.compress.CompressReply.TheVariants as compressed
 use Rattle.bl_proc_compress.specs.declared.compress.CompressStage.{CompressStage}
 use Rattle.bl_proc_compress.specs.declared.compress.CompressStage.TheVariants as compress
 use Rattle.bl_proc_writes.specs.declared.writing.WriteReply.{WriteReply}
@@ -59,34 +59,34 @@ DecisionRefused (decision.Unposted hint) = ⊥
 DecisionRefused decision.Refused = Unit {0}
 DecisionRefused decision.Lost = ⊥
 
-abbrev pub SqueezeRefused : Compression → Type 0
-SqueezeRefused (LatchingLeft f) = ⊥
-SqueezeRefused (LatchedLeft f) = ⊥
-SqueezeRefused (LatchingRight f page) = ⊥
-SqueezeRefused (LatchedRight f page) = ⊥
-SqueezeRefused (PuttingFirst u) = DecisionRefused u.decision
-SqueezeRefused (PuttingParent u) = DecisionRefused u.decision
-SqueezeRefused (PuttingLast u) = DecisionRefused u.decision
-SqueezeRefused (Retiring at end) = DecisionRefused end
-SqueezeRefused (OpeningRight at end) = DecisionRefused end
-SqueezeRefused (OpeningLeft at end) = DecisionRefused end
-SqueezeRefused (OpeningParent x end) = DecisionRefused end
+abbrev pub CompressionRefused : Compression → Type 0
+CompressionRefused (LatchingLeft f) = ⊥
+CompressionRefused (LatchedLeft f) = ⊥
+CompressionRefused (LatchingRight f page) = ⊥
+CompressionRefused (LatchedRight f page) = ⊥
+CompressionRefused (PuttingFirst u) = DecisionRefused u.decision
+CompressionRefused (PuttingParent u) = DecisionRefused u.decision
+CompressionRefused (PuttingLast u) = DecisionRefused u.decision
+CompressionRefused (Retiring at end) = DecisionRefused end
+CompressionRefused (OpeningRight at end) = DecisionRefused end
+CompressionRefused (OpeningLeft at end) = DecisionRefused end
+CompressionRefused (OpeningParent x end) = DecisionRefused end
 
-abbrev pub PressNoRoom : CompressReply → Type 0
-PressNoRoom (pressed.Merged hint) = ⊥
-PressNoRoom pressed.Evened = ⊥
-PressNoRoom pressed.Enough = ⊥
-PressNoRoom pressed.Alone = ⊥
-PressNoRoom (pressed.Unposted hint) = ⊥
-PressNoRoom pressed.NoRoom = Unit {0}
+abbrev pub CompressNoRoom : CompressReply → Type 0
+CompressNoRoom (compressed.Merged hint) = ⊥
+CompressNoRoom compressed.Evened = ⊥
+CompressNoRoom compressed.Enough = ⊥
+CompressNoRoom compressed.Alone = ⊥
+CompressNoRoom (compressed.Unposted hint) = ⊥
+CompressNoRoom compressed.NoRoom = Unit {0}
 
 abbrev pub CompressRefused : CompressStage → Type 0
 CompressRefused compress.New = ⊥
 CompressRefused (compress.Coming a) = ⊥
-CompressRefused (compress.Compressing c) = SqueezeRefused c
+CompressRefused (compress.Compressing c) = CompressionRefused c
 CompressRefused (compress.Staying x) = ⊥
-CompressRefused (compress.Ending r) = PressNoRoom r
-CompressRefused (compress.Over r) = PressNoRoom r
+CompressRefused (compress.Ending r) = CompressNoRoom r
+CompressRefused (compress.Over r) = CompressNoRoom r
 
 abbrev pub OutcomeRefused : Outcome → Type 0
 OutcomeRefused outcome.Edited = ⊥
@@ -184,23 +184,23 @@ IsRefused (proc.Lower p) = LowerRefused p.stage
 IsRefused (proc.InsertPost p) = ClimbRefused p.stage
 
 -- It is to put what was decided with such a fate, or to retire a page after it. None is ever decided.
-abbrev pub SqueezePuts : Compression → Type 0
-SqueezePuts (LatchingLeft f) = ⊥
-SqueezePuts (LatchedLeft f) = ⊥
-SqueezePuts (LatchingRight f page) = ⊥
-SqueezePuts (LatchedRight f page) = ⊥
-SqueezePuts (PuttingFirst u) = DecisionRefused u.decision
-SqueezePuts (PuttingParent u) = DecisionRefused u.decision
-SqueezePuts (PuttingLast u) = DecisionRefused u.decision
-SqueezePuts (Retiring at end) = DecisionRefused end
-SqueezePuts (OpeningRight at end) = ⊥
-SqueezePuts (OpeningLeft at end) = ⊥
-SqueezePuts (OpeningParent x end) = ⊥
+abbrev pub CompressionPuts : Compression → Type 0
+CompressionPuts (LatchingLeft f) = ⊥
+CompressionPuts (LatchedLeft f) = ⊥
+CompressionPuts (LatchingRight f page) = ⊥
+CompressionPuts (LatchedRight f page) = ⊥
+CompressionPuts (PuttingFirst u) = DecisionRefused u.decision
+CompressionPuts (PuttingParent u) = DecisionRefused u.decision
+CompressionPuts (PuttingLast u) = DecisionRefused u.decision
+CompressionPuts (Retiring at end) = DecisionRefused end
+CompressionPuts (OpeningRight at end) = ⊥
+CompressionPuts (OpeningLeft at end) = ⊥
+CompressionPuts (OpeningParent x end) = ⊥
 
 abbrev pub CompressPuts : CompressStage → Type 0
 CompressPuts compress.New = ⊥
 CompressPuts (compress.Coming a) = ⊥
-CompressPuts (compress.Compressing c) = SqueezePuts c
+CompressPuts (compress.Compressing c) = CompressionPuts c
 CompressPuts (compress.Staying x) = ⊥
 CompressPuts (compress.Ending r) = ⊥
 CompressPuts (compress.Over r) = ⊥

@@ -17,7 +17,7 @@ use Rattle.bl_proc_deterministic.proofs.KindCases.ClimbCase.{Wrote as ClimbWrote
 use Rattle.bl_proc_invariant.specs.Turns.{IsObserved}
 use Rattle.bl_proc_invariant.specs.Knowing.{Run, know_of, know}
 use Rattle.bl_proc_ends.specs.Left.{IsStaying, IsClimbing, IsMeant}
-use Rattle.bl_proc_ends.proofs.Squeezes.{compress_found}
+use Rattle.bl_proc_ends.proofs.CompressionEnds.{compress_found}
 
 pub post_kept : {level key : ℕ} {a b : PostStage} {what : Seen} → PostCase level key a what b → IsStaying b
 post_kept (PostBegan a e) = tt

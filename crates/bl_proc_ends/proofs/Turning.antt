@@ -43,7 +43,7 @@ use Rattle.bl_proc_progress.specs.Ways.{WayLeft}
 use Rattle.bl_proc_progress.proofs.Shortening.{short}
 use Rattle.bl_proc_ends.specs.Left.{IsStay, IsOnWay, find_left, part_left, write_left, post_left, compress_left, writing_left, posting_left, climb_left, TurnsLeft}
 use Rattle.bl_proc_ends.proofs.Plain.{Fewer, fewer, find_fewer, part_fewer, write_fewer, lower_fewer}
-use Rattle.bl_proc_ends.proofs.Squeezes.{compress_fewer}
+use Rattle.bl_proc_ends.proofs.CompressionEnds.{compress_fewer}
 use Rattle.bl_proc_ends.proofs.Posts.{post_fewer}
 use Rattle.bl_proc_ends.proofs.Climbs.{splits, post_splits, split_over, writing_fewer, posting_fewer}
 

@@ -20,7 +20,7 @@ use Rattle.bl_proc_compress.specs.declared.compression.Decision.{Decision}
 use Rattle.bl_proc_compress.specs.declared.compression.Puts.{Puts}
 use Rattle.bl_proc_compress.specs.declared.compression.Compression.TheVariants.{PuttingFirst, PuttingParent, Retiring, OpeningLeft}
 use Rattle.bl_proc_invariant.specs.Turns.{Does, Turned}
-use Rattle.bl_proc_invariant.specs.Compressing.{left_now, right_now, AreThree, IsToPut, ToEvenRight, know_compression}
+use Rattle.bl_proc_invariant.specs.Compressing.{left_now, right_now, AreThree, IsToPut, ToEvenRight, know_compression_by}
 use Rattle.bl_proc_invariant.proofs.Acts.{of_held, not_gone}
 
 -- two places are changed, one after the other
@@ -30,8 +30,8 @@ is_put_two x y a b f n =
     let second = is_put_at y b (put_at x a f) in
     record { at = second.others x n ∙ first.at; at_two = second.at; others = λ z i j. second.others z j ∙ first.others z i }
 
-module _ {P : Type 0} (know : P → Know) (w : World P) (g : IsGood know w) (p : Name) (b : P) (level key : ℕ) (got : ℕ → Page) (at new : ℕ) (u : Puts) (before : know (w.proc p) ≡ know_compression level key got at new (PuttingFirst u)) (then : know b ≡ know_compression level key got at new (PuttingParent u)) where
-  sure : IsSure w p (know_compression level key got at new (PuttingFirst u))
+module _ {P : Type 0} (know : P → Know) (w : World P) (g : IsGood know w) (p : Name) (b : P) (level key : ℕ) (got : ℕ → Page) (at new : ℕ) (u : Puts) (before : know (w.proc p) ≡ know_compression_by level key got at new (PuttingFirst u)) (then : know b ≡ know_compression_by level key got at new (PuttingParent u)) where
+  sure : IsSure w p (know_compression_by level key got at new (PuttingFirst u))
   sure = rw before at (g.sure p)
 
   three : AreThree u.at
@@ -161,9 +161,9 @@ module _ {P : Type 0} (know : P → Know) (w : World P) (g : IsGood know w) (p :
     }
 
 -- the dead page is retired, and the other two are still held
-pub retire_turn : {P : Type 0} (know : P → Know) (w : World P) (g : IsGood know w) (p : Name) (b : P) (level key : ℕ) (got : ℕ → Page) (at new : ℕ) (t : Siblings) (decision : Decision) (s : State Page) → know (w.proc p) ≡ know_compression level key got at new (Retiring t decision) → know b ≡ know_compression level key got at new (OpeningLeft t decision) → Does w.now p (Retire t.right) s → Turned know w p (Retire t.right) s b
+pub retire_turn : {P : Type 0} (know : P → Know) (w : World P) (g : IsGood know w) (p : Name) (b : P) (level key : ℕ) (got : ℕ → Page) (at new : ℕ) (t : Siblings) (decision : Decision) (s : State Page) → know (w.proc p) ≡ know_compression_by level key got at new (Retiring t decision) → know b ≡ know_compression_by level key got at new (OpeningLeft t decision) → Does w.now p (Retire t.right) s → Turned know w p (Retire t.right) s b
 retire_turn know w g p b level key got at new t decision s before then does =
-    let is : IsSure w p (know_compression level key got at new (Retiring t decision)) = rw before at (g.sure p) in
+    let is : IsSure w p (know_compression_by level key got at new (Retiring t decision)) = rw before at (g.sure p) in
     let m : Mark = silent p (Retire t.right) in
     let three : AreThree t = is.sound.1 in
     let owns = does.changes.3 in

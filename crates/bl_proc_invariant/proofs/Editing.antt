@@ -206,7 +206,7 @@ module _ {P : Type 0} (know : P → Know) (w : World P) (g : IsGood know w) (p :
         sound = (due.changes, tt);
       })
 
-  -- a page is taken for the upper part
+  -- a page is taken for the upper half
   pub take_turn : (full : Full) (y : ℕ) (t : Splitting) (s : State Page) → know (w.proc p) ≡ know_edit aim got (Taking full) → know b ≡ know_edit aim got (PuttingNew t) → w.now.owner y ≡ Released → y < w.size → (t.at ≡ full.at) → (t.new ≡ y) → IsFitted full.page full.key full.word y (Split t.left t.right t.separator) → Does w.now p (Take y) s → Turned know w p (Take y) s b
   take_turn full y t s before then free within at new fitted does =
       let is : IsSure w p (know_edit aim got (Taking full)) = rw before at (g.sure p) in
@@ -243,7 +243,7 @@ module _ {P : Type 0} (know : P → Know) (w : World P) (g : IsGood know w) (p :
         sound = (rw (at, known) due, rw (at, new) cut_here, (is.sound.4, below));
       })
 
-  -- the upper part is put first, in the page that nobody names yet
+  -- the upper half is put first, in the page that nobody names yet
   pub fresh_turn : (t : Splitting) (s : State Page) → know (w.proc p) ≡ know_edit aim got (PuttingNew t) → know b ≡ know_edit aim got (PuttingOld t) → Does w.now p (Put t.new t.right) s → Turned know w p (Put t.new t.right) s b
   fresh_turn t s before then does =
       let is : IsSure w p (know_edit aim got (PuttingNew t)) = rw before at (g.sure p) in
@@ -292,7 +292,7 @@ module _ {P : Type 0} (know : P → Know) (w : World P) (g : IsGood know w) (p :
         }) g;
       }
 
-  -- then the lower part in the old page, which names the new one
+  -- then the lower half in the old page, which names the new one
   pub split_turn : (t : Splitting) (s : State Page) → know (w.proc p) ≡ know_edit aim got (PuttingOld t) → know b ≡ know_edit aim got (OpeningNew t.at t.new t.separator) → Does w.now p (Put t.at t.left) s → Turned know w p (Put t.at t.left) s b
   split_turn t s before then does =
       let is : IsSure w p (know_edit aim got (PuttingOld t)) = rw before at (g.sure p) in

@@ -58,7 +58,7 @@ use Rattle.bl_proc.specs.Reclaims.{reclaim_next_in}
 use Rattle.bl_proc.specs.Lowers.{lower_next_in}
 use Rattle.bl_proc_steps.specs.Lowerings.{lowering_next}
 use Rattle.bl_proc.specs.Processes.{next_of}
-use Rattle.bl_proc_invariant.specs.Compressing.{know_squeeze}
+use Rattle.bl_proc_invariant.specs.Compressing.{know_compression}
 use Rattle.bl_proc_invariant.specs.Tables.{Carried, unsaid, alone, Aim, holds_live, know_descent, know_approach, know_edit}
 use Rattle.bl_proc_invariant.specs.Knowing.{know_growth, know_find, know_part, know_write, path_goes, inserted, know_climb, know_post, know_compress, know_reclaim, know_lower, know_of, Run, know}
 use Rattle.bl_proc_writes.specs.declared.insert_post.Placing.{Placing}
@@ -138,23 +138,23 @@ module _ {P : Type 0} (w : World P) (p : Name) where
   put_got u side.Left = tt
   put_got u side.Right = tt
 
-  squeeze_got : (level key : ℕ) (got : ℕ → Page) (c : Compression) → IsSure w p (know_squeeze level key got c) → IsGot w p (compression_next c)
-  squeeze_got level key got (LatchingLeft f) is = tt
-  squeeze_got level key got (LatchedLeft f) is = inr is.goes.0.may
-  squeeze_got level key got (LatchingRight f c) is = tt
-  squeeze_got level key got (LatchedRight f c) is = inr is.goes.0.may
-  squeeze_got level key got (PuttingFirst u) is = put_got u u.gains
-  squeeze_got level key got (PuttingParent u) is = tt
-  squeeze_got level key got (PuttingLast u) is = put_got u (other u.gains)
-  squeeze_got level key got (Retiring t f) is = tt
-  squeeze_got level key got (OpeningRight t f) is = tt
-  squeeze_got level key got (OpeningLeft t f) is = tt
-  squeeze_got level key got (OpeningParent x f) is = tt
+  compression_gets : (level key : ℕ) (got : ℕ → Page) (c : Compression) → IsSure w p (know_compression level key got c) → IsGot w p (compression_next c)
+  compression_gets level key got (LatchingLeft f) is = tt
+  compression_gets level key got (LatchedLeft f) is = inr is.goes.0.may
+  compression_gets level key got (LatchingRight f c) is = tt
+  compression_gets level key got (LatchedRight f c) is = inr is.goes.0.may
+  compression_gets level key got (PuttingFirst u) is = put_got u u.gains
+  compression_gets level key got (PuttingParent u) is = tt
+  compression_gets level key got (PuttingLast u) is = put_got u (other u.gains)
+  compression_gets level key got (Retiring t f) is = tt
+  compression_gets level key got (OpeningRight t f) is = tt
+  compression_gets level key got (OpeningLeft t f) is = tt
+  compression_gets level key got (OpeningParent x f) is = tt
 
   compress_got : (level key : ℕ) (got : ℕ → Page) (a : CompressStage) → IsSure w p (know_compress level key got a) → IsGot w p (compress_next_in a)
   compress_got level key got compress.New is = tt
   compress_got level key got (compress.Coming a) is = approach_got alone level key a is
-  compress_got level key got (compress.Compressing c) is = squeeze_got level key got c is
+  compress_got level key got (compress.Compressing c) is = compression_gets level key got c is
   compress_got level key got (compress.Staying x) is = tt
   compress_got level key got (compress.Ending r) is = tt
   compress_got level key got (compress.Over r) is = tt

@@ -57,12 +57,12 @@ early_post carried level key got child (post.Growing growth.Latching) e marks = 
 early_post carried level key got child (post.Editing (edit.Putting x page)) e marks = absurd (let f = e in cc)
 early_post carried level key got child old e marks = absurd (let f = e in cc)
 
-early_press : (level key : ℕ) (got : ℕ → Page) (a : CompressStage) → (know_compress level key got a).stage ≡ Stage.Early → (marks : Trail) → writes_of marks ≡ [] → compress_log level key a marks
-early_press level key got compress.New e marks none = none
-early_press level key got (compress.Coming way.Start) e marks none = absurd (let f = e in cc)
-early_press level key got (compress.Coming (way.Leaving x None)) e marks none = absurd (let f = e in cc)
-early_press level key got (compress.Compressing (LatchingLeft h)) e marks none = absurd (let f = e in cc)
-early_press level key got old e marks none = absurd (let f = e in cc)
+early_compress : (level key : ℕ) (got : ℕ → Page) (a : CompressStage) → (know_compress level key got a).stage ≡ Stage.Early → (marks : Trail) → writes_of marks ≡ [] → compress_log level key a marks
+early_compress level key got compress.New e marks none = none
+early_compress level key got (compress.Coming way.Start) e marks none = absurd (let f = e in cc)
+early_compress level key got (compress.Coming (way.Leaving x None)) e marks none = absurd (let f = e in cc)
+early_compress level key got (compress.Compressing (LatchingLeft h)) e marks none = absurd (let f = e in cc)
+early_compress level key got old e marks none = absurd (let f = e in cc)
 
 -- a post within an insertion has begun
 not_early : (carried : Carried) → (level key : ℕ) (got : ℕ → Page) (child : ℕ) (a : PostStage) → IsPosting a → (know_post carried level key got child a).stage ≡ Stage.Early → ⊥
@@ -95,7 +95,7 @@ early_state got child time (Find a) e marks none = none
 early_state got child time (Write a) e marks none = early_write [] a.key a.write got a.stage e marks none
 early_state got child time (Post a) e marks none = early_post alone a.level a.key got child a.stage e marks
 early_state got child time (Part a) e marks none = none
-early_state got child time (Compress a) e marks none = early_press a.level a.key got a.stage e marks none
+early_state got child time (Compress a) e marks none = early_compress a.level a.key got a.stage e marks none
 early_state got child time (Reclaim a) e marks none = tt
 early_state got child time (Lower a) e marks none = early_lower got a.stage e marks none
 early_state got child time (InsertPost a) e marks none = early_climb a.key a.placing a.path got child a.stage a.stands e marks none

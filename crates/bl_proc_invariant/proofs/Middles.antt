@@ -24,7 +24,7 @@ use Rattle.bl_proc_compress.specs.declared.compress.CompressStage.{CompressStage
 use Rattle.bl_proc_compress.specs.declared.compress.CompressStage.TheVariants as compress
 use Rattle.bl_proc_invariant.specs.Compressing.{AreThree, left_now, right_now}
 use Rattle.bl_claims.specs.Squeezed.{acts_in, acts_of, Since}
-use Rattle.bl_proc_invariant.specs.Logs.{put_act, IsToSqueeze, proc_log, compress_log}
+use Rattle.bl_proc_invariant.specs.Logs.{put_act, IsToCompress, proc_log, compress_log}
 use Rattle.bl_proc_invariant.specs.Knowing.{Run, know_of, know_compress, know}
 use Rattle.bl_proc_invariant.proofs.Plain.{of_middle}
 
@@ -188,7 +188,7 @@ module _ (w : World Run) (g : IsGood know w) (logs : KeepsLogs w) (x y : ℕ) (a
   whole = record { parent = m.parent; left = x; right = y }
 
   -- the list of what was done ends so
-  same_since : (level key : ℕ) (u : Puts) (tail : List (Act Page Reply)) {marks : Trail} (s : IsToSqueeze level key marks u (Get u.at.parent ∷ Latch u.at.left ∷ Get u.at.left ∷ Latch u.at.right ∷ Get u.at.right ∷ put_act u.gains u ∷ tail)) → Since marks s.family.at.parent (Get u.at.parent ∷ Latch u.at.left ∷ Get u.at.left ∷ Latch u.at.right ∷ Get u.at.right ∷ put_act u.gains u ∷ tail)
+  same_since : (level key : ℕ) (u : Puts) (tail : List (Act Page Reply)) {marks : Trail} (s : IsToCompress level key marks u (Get u.at.parent ∷ Latch u.at.left ∷ Get u.at.left ∷ Latch u.at.right ∷ Get u.at.right ∷ put_act u.gains u ∷ tail)) → Since marks s.family.at.parent (Get u.at.parent ∷ Latch u.at.left ∷ Get u.at.left ∷ Latch u.at.right ∷ Get u.at.right ∷ put_act u.gains u ∷ tail)
   same_since level key u tail s = s.both.left.family.since
 
   by_stage : (level key : ℕ) (got : ℕ → Page) (stage : CompressStage) → (know_compress level key got stage).middle ≡ Some whole → ((since : ℕ) → w.now.phase m.by ≡ Running since → compress_log level key stage (marks_of m.by w.trail)) → IsSure w m.by (know_compress level key got stage) → InMiddle w.now w.trail x y × (((nodes w.now y).shape.low ≡ w.sep y) ⊎ InEvening w.now w.trail y)

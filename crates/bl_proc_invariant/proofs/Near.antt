@@ -63,7 +63,7 @@ use Rattle.bl_proc.specs.Reclaims.{reclaim_next_in}
 use Rattle.bl_proc.specs.Lowers.{lower_next_in}
 use Rattle.bl_proc_steps.specs.Lowerings.{lowering_next}
 use Rattle.bl_proc.specs.Processes.{next_of}
-use Rattle.bl_proc_invariant.specs.Compressing.{know_squeeze}
+use Rattle.bl_proc_invariant.specs.Compressing.{know_compression}
 use Rattle.bl_proc_invariant.specs.Tables.{Carried, unsaid, alone, Aim, know_approach, know_edit}
 use Rattle.bl_proc_invariant.specs.Knowing.{know_growth, know_find, know_part, know_write, path_goes, inserted, know_climb, know_post, know_compress, know_reclaim, know_lower, know_of, Run, know}
 use Rattle.bl_proc_invariant.proofs.Descending.{descent_there}
@@ -149,23 +149,23 @@ module _ {P : Type 0} (know : P → Know) (w : World P) (g : IsGood know w) (p :
   put_near u side.Left left right = left
   put_near u side.Right left right = right
 
-  squeeze_near : (level key : ℕ) (got : ℕ → Page) (c : Compression) → IsSure w p (know_squeeze level key got c) → IsNear w p (compression_next c)
-  squeeze_near level key got (LatchingLeft f) is = not_free f.at.left is.goes.0.may
-  squeeze_near level key got (LatchedLeft f) is = not_released know w g p f.at.left is.goes.0.may
-  squeeze_near level key got (LatchingRight f c) is = not_free f.at.right is.goes.0.may
-  squeeze_near level key got (LatchedRight f c) is = not_released know w g p f.at.right is.goes.0.may
-  squeeze_near level key got (PuttingFirst u) is = put_near u u.gains is.holds.1.0.owner is.holds.1.1.0.owner
-  squeeze_near level key got (PuttingParent u) is = is.holds.0.owner
-  squeeze_near level key got (PuttingLast u) is = put_near u (other u.gains) is.holds.1.0.owner is.holds.1.1.0.owner
-  squeeze_near level key got (Retiring t f) is = is.holds.1.1.0.owner
-  squeeze_near level key got (OpeningRight t f) is = is.holds.1.1.0.owner
-  squeeze_near level key got (OpeningLeft t f) is = is.holds.1.0.owner
-  squeeze_near level key got (OpeningParent x f) is = is.holds.0.owner
+  compression_near : (level key : ℕ) (got : ℕ → Page) (c : Compression) → IsSure w p (know_compression level key got c) → IsNear w p (compression_next c)
+  compression_near level key got (LatchingLeft f) is = not_free f.at.left is.goes.0.may
+  compression_near level key got (LatchedLeft f) is = not_released know w g p f.at.left is.goes.0.may
+  compression_near level key got (LatchingRight f c) is = not_free f.at.right is.goes.0.may
+  compression_near level key got (LatchedRight f c) is = not_released know w g p f.at.right is.goes.0.may
+  compression_near level key got (PuttingFirst u) is = put_near u u.gains is.holds.1.0.owner is.holds.1.1.0.owner
+  compression_near level key got (PuttingParent u) is = is.holds.0.owner
+  compression_near level key got (PuttingLast u) is = put_near u (other u.gains) is.holds.1.0.owner is.holds.1.1.0.owner
+  compression_near level key got (Retiring t f) is = is.holds.1.1.0.owner
+  compression_near level key got (OpeningRight t f) is = is.holds.1.1.0.owner
+  compression_near level key got (OpeningLeft t f) is = is.holds.1.0.owner
+  compression_near level key got (OpeningParent x f) is = is.holds.0.owner
 
   compress_near : (level key : ℕ) (got : ℕ → Page) (a : CompressStage) → IsSure w p (know_compress level key got a) → IsNear w p (compress_next_in a)
   compress_near level key got compress.New is = tt
   compress_near level key got (compress.Coming a) is = approach_near alone level key a is
-  compress_near level key got (compress.Compressing c) is = squeeze_near level key got c is
+  compress_near level key got (compress.Compressing c) is = compression_near level key got c is
   compress_near level key got (compress.Staying x) is = is.holds.0.owner
   compress_near level key got (compress.Ending r) is = tt
   compress_near level key got (compress.Over r) is = tt

@@ -28,7 +28,7 @@ use Rattle.bl_proc_writes.specs.declared.insert_post.ClimbStage.{ClimbStage}
 use Rattle.bl_proc_writes.specs.declared.insert_post.ClimbStage.TheVariants as climb
 use Rattle.bl_proc_invariant.specs.Lowering.{know_lowering}
 use Rattle.bl_proc.specs.declared.reclaiming.ReclaimStage.TheVariants as reclaim
-use Rattle.bl_proc_compress.specs.declared.compress.Compress.{Compress as Press}
+use Rattle.bl_proc_compress.specs.declared.compress.Compress.{Compress as CompressIs}
 use Rattle.bl_proc.specs.declared.kinds.Proc.{Proc}
 use Rattle.bl_proc.specs.declared.kinds.Proc.TheVariants.{Find, Write, Post, Part, Compress, Reclaim, Lower, InsertPost}
 use Rattle.bl_proc_invariant.specs.Tables.{Carried, unsaid, alone, Aim, know_approach, know_edit}
@@ -131,7 +131,7 @@ climb_plain key placing path got child (climb.Ending r) = record { middle = refl
 climb_plain key placing path got child (climb.Over r) = record { middle = refl }
 
 -- whoever is in the middle of a compression compresses
-pub of_middle : (got : ℕ → Page) (child time : ℕ) (state : Proc) → ((know_of got child time state).middle ≡ None) ⊎ ((p : Press) × (state ≡ Compress p))
+pub of_middle : (got : ℕ → Page) (child time : ℕ) (state : Proc) → ((know_of got child time state).middle ≡ None) ⊎ ((p : CompressIs) × (state ≡ Compress p))
 of_middle got child time (Find p) = inl (find_plain p.key p.stage).middle
 of_middle got child time (Write p) = inl (write_plain [] p.key p.write got p.stage).middle
 of_middle got child time (Post p) = inl (post_plain alone p.level p.key got child p.stage).middle

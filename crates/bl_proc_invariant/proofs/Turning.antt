@@ -20,7 +20,7 @@ use Rattle.bl_proc_invariant.proofs.Finding.{find_turn}
 use Rattle.bl_proc_invariant.proofs.Listing.{part_turn}
 use Rattle.bl_proc_invariant.proofs.Writing.{write_turn}
 use Rattle.bl_proc_invariant.proofs.Posting.{post_turn}
-use Rattle.bl_proc_invariant.proofs.Pressing.{compress_turn}
+use Rattle.bl_proc_invariant.proofs.CompressTurn.{compress_turn}
 use Rattle.bl_proc_invariant.proofs.Reclaiming.{reclaim_turn}
 use Rattle.bl_proc_invariant.proofs.Lowering.{lower_turn}
 use Rattle.bl_proc_invariant.proofs.Climbing.{climb_turn}

@@ -54,7 +54,7 @@ use Rattle.bl_proc.specs.declared.kinds.Proc.{Proc}
 use Rattle.bl_proc.specs.declared.kinds.Proc.TheVariants as proc
 use Rattle.bl_proc_writes.specs.Writes.{write_reply}
 use Rattle.bl_proc_steps.specs.Growths.{Raises, IsAnchor}
-use Rattle.bl_proc_invariant.specs.Compressing.{know_squeeze, compression_got}
+use Rattle.bl_proc_invariant.specs.Compressing.{know_compression, compression_got}
 use Rattle.bl_proc_invariant.specs.Lowering.{know_lowering, lowering_got}
 use Rattle.bl_proc_invariant.specs.Tables.{idle, Carried, unsaid, alone, carrying, holds_live, holds_known, anchor_known, goes_to, know_descent, know_approach, Aim, IsDue, know_edit}
 
@@ -242,7 +242,7 @@ know_climb key placing path got child (climb.Over r) = late (climbed_said key pl
 abbrev pub know_compress : ℕ → ℕ → (ℕ → Page) → CompressStage → Know
 know_compress level key got compress.New = early key
 know_compress level key got (compress.Coming a) = know_approach alone level key a
-know_compress level key got (compress.Compressing c) = know_squeeze level key got c
+know_compress level key got (compress.Compressing c) = know_compression level key got c
 know_compress level key got (compress.Staying x) = record (idle Stage.Busy) { holds = holds_live x ∷ [] }
 know_compress level key got (compress.Ending r) = ending None
 know_compress level key got (compress.Over r) = late None

@@ -17,7 +17,7 @@ use Rattle.bl_proc_steps.specs.Growths.{growth_next}
 use Rattle.bl_proc_steps.specs.declared.lowering.Lowering.{Lowering}
 use Rattle.bl_proc_steps.specs.declared.lowering.Lowering.TheVariants as lowering
 use Rattle.bl_proc_compress.specs.declared.compression.Compression.{Compression}
-use Rattle.bl_proc_compress.specs.declared.compression.Compression.TheVariants as squeeze
+use Rattle.bl_proc_compress.specs.declared.compression.Compression.TheVariants as compression
 use Rattle.bl_proc_compress.specs.declared.compress.CompressStage.{CompressStage}
 use Rattle.bl_proc_compress.specs.declared.compress.CompressStage.TheVariants as compress
 use Rattle.bl_proc_compress.specs.Compresses.{compress_answer_in}
@@ -49,7 +49,7 @@ use Rattle.bl_proc_writes.specs.declared.insert_post.ClimbStage.TheVariants as c
 use Rattle.bl_proc_writes.specs.InsertPosts.{climb_next_in, climb_answer_in}
 use Rattle.bl_proc_invariant.specs.Tables.{Carried, unsaid, know_approach}
 use Rattle.bl_proc_invariant.specs.Lowering.{know_lowering}
-use Rattle.bl_proc_progress.specs.Holds.{approach_hold, edit_hold, growth_hold, lowering_hold, squeeze_hold, write_hold, post_hold, compress_hold, lower_hold, climb_hold, hold_of}
+use Rattle.bl_proc_progress.specs.Holds.{approach_hold, edit_hold, growth_hold, lowering_hold, compression_hold, write_hold, post_hold, compress_hold, lower_hold, climb_hold, hold_of}
 use Rattle.bl_proc_invariant.specs.Knowing.{path_goes, inserted, know_find, know_part, know_growth, know_write, know_post, know_climb, know_compress, know_reclaim, know_lower, know_of}
 use Rattle.bl_proc_writes.specs.declared.insert_post.Placing.{Placing}
 use Rattle.bl_proc_writes.specs.Placings.{write_of}
@@ -207,23 +207,23 @@ post_none carried level key got child (post.Staying x r) e = absurd (omega (arit
 post_none carried level key got child (post.Ending r) e = refl
 post_none carried level key got child (post.Over r) e = refl
 
-squeeze_none : (c : Compression) → squeeze_hold c ≡ 0 → ⊥
-squeeze_none (squeeze.LatchingLeft f) e = omega (arith, e)
-squeeze_none (squeeze.LatchedLeft f) e = omega (arith, e)
-squeeze_none (squeeze.LatchingRight f c) e = omega (arith, e)
-squeeze_none (squeeze.LatchedRight f c) e = omega (arith, e)
-squeeze_none (squeeze.PuttingFirst p) e = omega (arith, e)
-squeeze_none (squeeze.PuttingParent p) e = omega (arith, e)
-squeeze_none (squeeze.PuttingLast p) e = omega (arith, e)
-squeeze_none (squeeze.Retiring at decision) e = omega (arith, e)
-squeeze_none (squeeze.OpeningRight at decision) e = omega (arith, e)
-squeeze_none (squeeze.OpeningLeft at decision) e = omega (arith, e)
-squeeze_none (squeeze.OpeningParent x decision) e = omega (arith, e)
+compression_none : (c : Compression) → compression_hold c ≡ 0 → ⊥
+compression_none (compression.LatchingLeft f) e = omega (arith, e)
+compression_none (compression.LatchedLeft f) e = omega (arith, e)
+compression_none (compression.LatchingRight f c) e = omega (arith, e)
+compression_none (compression.LatchedRight f c) e = omega (arith, e)
+compression_none (compression.PuttingFirst p) e = omega (arith, e)
+compression_none (compression.PuttingParent p) e = omega (arith, e)
+compression_none (compression.PuttingLast p) e = omega (arith, e)
+compression_none (compression.Retiring at decision) e = omega (arith, e)
+compression_none (compression.OpeningRight at decision) e = omega (arith, e)
+compression_none (compression.OpeningLeft at decision) e = omega (arith, e)
+compression_none (compression.OpeningParent x decision) e = omega (arith, e)
 
 compress_none : (level key : ℕ) (got : ℕ → Page) (a : CompressStage) → compress_hold a ≡ 0 → (know_compress level key got a).holds ≡ []
 compress_none level key got compress.New e = refl
 compress_none level key got (compress.Coming a) e = approach_none (unsaid []) level key 11 a (omega arith) e
-compress_none level key got (compress.Compressing c) e = absurd (squeeze_none c e)
+compress_none level key got (compress.Compressing c) e = absurd (compression_none c e)
 compress_none level key got (compress.Staying x) e = absurd (omega (arith, e))
 compress_none level key got (compress.Ending r) e = refl
 compress_none level key got (compress.Over r) e = refl

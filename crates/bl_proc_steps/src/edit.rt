@@ -29,13 +29,13 @@ pub struct Full {
 pub struct Splitting {
     /// The page's number.
     pub at: u32,
-    /// The number of the page that was taken for the upper part.
+    /// The number of the page that was taken for the upper half.
     pub new: u32,
-    /// The lower part, which links to the new page.
+    /// The lower half, which links to the new page.
     pub left: Page,
-    /// The upper part.
+    /// The upper half.
     pub right: Page,
-    /// The low of the upper part.
+    /// The low of the upper half.
     pub separator: u64,
 }
 
@@ -58,9 +58,9 @@ pub enum Edit {
     Putting(u32, Page),
     /// It is to take a page, for which two frames are reserved.
     Taking(Full),
-    /// It is to put the upper part.
+    /// It is to put the upper half.
     PuttingNew(Splitting),
-    /// It is to put the lower part.
+    /// It is to put the lower half.
     PuttingOld(Splitting),
     /// It is to open the new page.
     OpeningNew {

@@ -73,8 +73,8 @@ module _ {D : Type 0} where
   IsSameHand h h' = (h'.table_id ≡ h.table_id) × (h'.me.0.layout ≡ h.me.0.layout) × (h'.me.0.number ≡ h.me.0.number)
 
   -- it goes on with its process, or stays outside one
-  abbrev pub IsSameStage : Seat (Unit {0}) (View D) → Seat (Unit {0}) (View D) → Type 0
-  IsSameStage h h' = h'.me.0.stamp ≡ h.me.0.stamp
+  abbrev pub IsSameStamp : Seat (Unit {0}) (View D) → Seat (Unit {0}) (View D) → Type 0
+  IsSameStamp h h' = h'.me.0.stamp ≡ h.me.0.stamp
 
   -- the same frames are reserved, with leave for as many puts and retirements
   abbrev pub IsSameStock : Seat (Unit {0}) (View D) → Seat (Unit {0}) (View D) → Type 0

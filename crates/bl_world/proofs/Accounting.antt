@@ -35,7 +35,7 @@ use Rattle.bl_proc_invariant.proofs.Answered.{post_means}
 use Rattle.bl_proc_invariant.proofs.Beside.{beside_means}
 use Rattle.bl_proc_invariant.specs.Beside.{MeansBeside}
 use Rattle.bl_proc_invariant.specs.Logs.{proc_log}
-use Rattle.bl_proc_invariant.proofs.Pressed.{compress_means}
+use Rattle.bl_proc_invariant.proofs.CompressAnswers.{compress_means}
 use Rattle.bl_proc_invariant.proofs.LoweringLogs.{lower_means}
 use Rattle.bl_proc_invariant.proofs.ClimbingAnswers.{climb_means}
 use Rattle.bl_proc_invariant.proofs.Starting.{run_laws}

@@ -49,10 +49,10 @@ put_begins : {X : Type 0} (sd : Side) (u : Puts) → put_of sd u ≡ act.Begin �
 put_begins side.Left u e = absurd cc
 put_begins side.Right u e = absurd cc
 
-pub squeeze_begins : {X : Type 0} (c : Compression) → compression_next c ≡ act.Begin → X
-squeeze_begins (PuttingFirst u) e = put_begins u.gains u e
-squeeze_begins (PuttingLast u) e = put_begins (other u.gains) u e
-squeeze_begins old e = absurd cc
+pub compression_begins : {X : Type 0} (c : Compression) → compression_next c ≡ act.Begin → X
+compression_begins (PuttingFirst u) e = put_begins u.gains u e
+compression_begins (PuttingLast u) e = put_begins (other u.gains) u e
+compression_begins old e = absurd cc
 
 pub lowering_begins : {X : Type 0} (l : Lowering) → lowering_next l ≡ act.Begin → X
 lowering_begins lowering.Looking e = absurd cc

@@ -52,7 +52,7 @@ use Rattle.bl_world.specs.declared.owners.Owner.{Owner}
 use Rattle.bl_world.specs.Views.{name_of}
 use Rattle.bl_world.specs.Worlds.{key_in, IsUnknown, IsReclaiming, HasWorld}
 use Rattle.bl_world.proofs.Stands.{Grows, name_differs}
-use Rattle.bl_world.proofs.Begins.{approach_begins, edit_begins, growth_begins, squeeze_begins, lowering_begins}
+use Rattle.bl_world.proofs.Begins.{approach_begins, edit_begins, growth_begins, compression_begins, lowering_begins}
 use Rattle.bl_world.proofs.Places.{push_cases, push_length}
 
 -- A process that is to begin has done nothing.
@@ -106,7 +106,7 @@ climb_blank k placing path got child (climb.Over r) h small e = absurd cc
 compress_blank : (l k : ℕ) (got : ℕ → Page) (a : CompressStage) → k < 2 ^ 64 → compress_next_in a ≡ act.Begin → IsBlank (know_compress l k got a)
 compress_blank l k got compress.New small e = record { stage = refl; said = refl; holds = refl; goes = refl; children = refl; passed = refl; sound = small }
 compress_blank l k got (compress.Coming a) small e = approach_begins a e
-compress_blank l k got (compress.Compressing c) small e = squeeze_begins c e
+compress_blank l k got (compress.Compressing c) small e = compression_begins c e
 compress_blank l k got old small e = absurd cc
 
 lower_blank : (got : ℕ → Page) (a : LowerStage) → lower_next_in a ≡ act.Begin → IsBlank (know_lower got a)

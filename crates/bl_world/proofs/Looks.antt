@@ -94,18 +94,18 @@ put_tree : (sd : Side) (u : Puts) → IsOfTree (put_of sd u)
 put_tree side.Left u = tt
 put_tree side.Right u = tt
 
-squeeze_tree : (a : Compression) → IsOfTree (compression_next a)
-squeeze_tree (LatchingLeft f) = tt
-squeeze_tree (LatchedLeft f) = tt
-squeeze_tree (LatchingRight f page) = tt
-squeeze_tree (LatchedRight f page) = tt
-squeeze_tree (PuttingFirst u) = put_tree u.gains u
-squeeze_tree (PuttingParent u) = tt
-squeeze_tree (PuttingLast u) = put_tree (other u.gains) u
-squeeze_tree (Retiring at end) = tt
-squeeze_tree (OpeningRight at end) = tt
-squeeze_tree (OpeningLeft at end) = tt
-squeeze_tree (OpeningParent x end) = tt
+compression_tree : (a : Compression) → IsOfTree (compression_next a)
+compression_tree (LatchingLeft f) = tt
+compression_tree (LatchedLeft f) = tt
+compression_tree (LatchingRight f page) = tt
+compression_tree (LatchedRight f page) = tt
+compression_tree (PuttingFirst u) = put_tree u.gains u
+compression_tree (PuttingParent u) = tt
+compression_tree (PuttingLast u) = put_tree (other u.gains) u
+compression_tree (Retiring at end) = tt
+compression_tree (OpeningRight at end) = tt
+compression_tree (OpeningLeft at end) = tt
+compression_tree (OpeningParent x end) = tt
 
 find_tree : (a : FindStage) → IsOfTree (find_next_in a)
 find_tree find.New = tt
@@ -144,7 +144,7 @@ post_tree (post.Over r) = tt
 compress_tree : (a : CompressStage) → IsOfTree (compress_next_in a)
 compress_tree compress.New = tt
 compress_tree (compress.Coming a) = approach_tree a
-compress_tree (compress.Compressing c) = squeeze_tree c
+compress_tree (compress.Compressing c) = compression_tree c
 compress_tree (compress.Staying x) = tt
 compress_tree (compress.Ending r) = tt
 compress_tree (compress.Over r) = tt

@@ -17,7 +17,7 @@ use Rattle.bl_rearrange.specs.declared.sides.Side.{Side}
 use Rattle.bl_rearrange.specs.declared.sides.Side.TheVariants as side
 use Rattle.bl_proc_compress.specs.declared.compression.Puts.{Puts}
 use Rattle.bl_proc_compress.specs.declared.compression.Compression.{Compression}
-use Rattle.bl_proc_compress.specs.declared.compression.Compression.TheVariants as squeeze
+use Rattle.bl_proc_compress.specs.declared.compression.Compression.TheVariants as compression
 use Rattle.bl_proc_compress.specs.declared.compress.CompressStage.{CompressStage}
 use Rattle.bl_proc_compress.specs.declared.compress.CompressStage.TheVariants as compress
 use Rattle.bl_proc_compress.specs.Compressions.{put_of, other, compression_next}
@@ -66,10 +66,10 @@ put_takes : (sd : Side) (u : Puts) → put_of sd u ≡ act.Take → ⊥
 put_takes side.Left u e = cc
 put_takes side.Right u e = cc
 
-squeeze_takes : (c : Compression) → compression_next c ≡ act.Take → ⊥
-squeeze_takes (squeeze.PuttingFirst u) e = put_takes u.gains u e
-squeeze_takes (squeeze.PuttingLast u) e = put_takes (other u.gains) u e
-squeeze_takes old e = absurd (cc e)
+compression_takes : (c : Compression) → compression_next c ≡ act.Take → ⊥
+compression_takes (compression.PuttingFirst u) e = put_takes u.gains u e
+compression_takes (compression.PuttingLast u) e = put_takes (other u.gains) u e
+compression_takes old e = absurd (cc e)
 
 lowering_takes : (l : Lowering) → lowering_next l ≡ act.Take → ⊥
 lowering_takes lowering.Looking e = cc
@@ -95,7 +95,7 @@ post_takes (post.Coming a) e = absurd (approach_takes a e)
 post_takes old e = absurd (cc e)
 
 compress_takes : (a : CompressStage) → compress_next_in a ≡ act.Take → ⊥
-compress_takes (compress.Compressing c) e = squeeze_takes c e
+compress_takes (compress.Compressing c) e = compression_takes c e
 compress_takes (compress.Coming a) e = approach_takes a e
 compress_takes old e = absurd (cc e)
 

@@ -20,7 +20,7 @@ use Rattle.bl_proc_writes.specs.declared.insert_post.ClimbStage.{ClimbStage}
 use Rattle.bl_proc_writes.specs.declared.insert_post.ClimbStage.TheVariants as climb
 use Rattle.bl_proc_writes.specs.InsertPosts.{climb_next_in}
 use Rattle.bl_proc_deterministic.specs.Refusals.{WriteRefused, PostRefused, CompressRefused, LowerRefused, ClimbRefused, IsRefused}
-use Rattle.bl_world.proofs.Begins.{edit_begins, growth_begins, squeeze_begins, lowering_begins}
+use Rattle.bl_world.proofs.Begins.{edit_begins, growth_begins, compression_begins, lowering_begins}
 
 -- A process that is to begin was not refused.
 
@@ -45,7 +45,7 @@ post_free (post.Over x) e r = cc
 compress_free : (a : CompressStage) → compress_next_in a ≡ act.Begin → CompressRefused a → ⊥
 compress_free compress.New e r = r
 compress_free (compress.Coming a) e r = r
-compress_free (compress.Compressing c) e r = squeeze_begins c e
+compress_free (compress.Compressing c) e r = compression_begins c e
 compress_free (compress.Staying x) e r = r
 compress_free (compress.Ending s) e r = cc
 compress_free (compress.Over s) e r = cc

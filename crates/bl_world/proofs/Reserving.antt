@@ -69,9 +69,9 @@ put_reserves : (sd : Side) (u : Puts) → Reserves (put_of sd u)
 put_reserves side.Left u = tt
 put_reserves side.Right u = tt
 
-squeeze_reserves : (c : Compression) → IsSome (compression_needs c) → Reserves (compression_next c)
-squeeze_reserves (PuttingFirst u) h = put_reserves u.gains u
-squeeze_reserves old h = absurd (false≢true h)
+compression_reserves : (c : Compression) → IsSome (compression_needs c) → Reserves (compression_next c)
+compression_reserves (PuttingFirst u) h = put_reserves u.gains u
+compression_reserves old h = absurd (false≢true h)
 
 write_reserves : (a : WriteStage) → IsSome (write_needs_in a) → Reserves (write_next_in a)
 write_reserves (write.Editing noted c) h = edit_reserves c h
@@ -83,7 +83,7 @@ post_reserves (post.Editing c) h = edit_reserves c h
 post_reserves old h = absurd (false≢true h)
 
 compress_reserves : (a : CompressStage) → IsSome (compress_needs_in a) → Reserves (compress_next_in a)
-compress_reserves (compress.Compressing c) h = squeeze_reserves c h
+compress_reserves (compress.Compressing c) h = compression_reserves c h
 compress_reserves old h = absurd (false≢true h)
 
 lowering_reserves : (l : Lowering) → IsSome (lowering_needs l) → Reserves (lowering_next l)

@@ -3,7 +3,7 @@ use Rattle.std.specs.Arc.{arc_value}
 use mathlib.Core.Option.{some}
 use lib.ListN.{get_elem?}
 use Rattle.bl_index.specs.Calls.{pages_of, passes_of}
-use Rattle.bl_index.specs.Closed.{HasRoom}
+use Rattle.bl_index.specs.Closed.{HasCapacity}
 use Rattle.bl_index.specs.declared.index.Index.{Index}
 use Rattle.bl_ffi_seats.specs.Closed.{values, IsAt}
 use Rattle.bl_ffi_seats.specs.declared.seat.Seat.{Seat}
@@ -31,7 +31,7 @@ returns-in-Ok-try_clone-clause-ok c =
       all = λ n lt. c.if-not-has_all.ensures.yes refl n (let low : n < passes_of index = subst (λ (z : Index). n < passes_of z) share lt in omega (arith, low, count));
       empty = c.in-Ok-with_capacity.ensures.items;
       fits = (let cap = c.in-Ok-with_capacity.ensures.capacity in let long = map_length (λ (z : Boxed). z.value) seats in omega (arith, cap, long));
-      room = subst (λ (z : Index). HasRoom (pages_of z) c.in-Ok.room) (room ∙ sym share) c.in-Ok.ensures;
+      room = subst (λ (z : Index). HasCapacity (pages_of z) c.in-Ok.room) (room ∙ sym share) c.in-Ok.ensures;
     }
 
 pub returns-then-strong_count-seats-clause-fault : goal.returns-then-strong_count-seats-clause-fault

@@ -11,7 +11,7 @@ use Rattle.bl_proc_compress.specs.declared.compression.Siblings.{Siblings}
 use Rattle.bl_proc_compress.specs.Compressions.{IsFew}
 use Rattle.bl_proc.specs.Processes.{next_of}
 use Rattle.bl_index_events.proofs.Standing.{on_after, same_goes}
-use Rattle.bl_index_compress.proofs.Presses.{decided_since, has_both, on_opening, press_course}
+use Rattle.bl_index_compress.proofs.CompressionCourses.{decided_since, has_both, on_opening, compression_course}
 use Rattle.bl_index_compress.proofs.Spelled.{neighbours_tree}
 use Rattle.bl_index_compress.proofs.children.decide.Goals as goal
 
@@ -19,7 +19,7 @@ pub words_at-right-requires-clause-next : goal.words_at-right-requires-clause-ne
 words_at-right-requires-clause-next c = let t = c.requires.process in ap next_of t.4 ∙ ap (λ (z : Siblings). act.Get z.right) t.2.at
 
 pub words_at-right-requires-clause-course : goal.words_at-right-requires-clause-course
-words_at-right-requires-clause-course c = λ page. let t = c.requires.process in press_course c.args.target (LatchedRight t.0 t.1) (seen.Words page) _ t.4 tt
+words_at-right-requires-clause-course c = λ page. let t = c.requires.process in compression_course c.args.target (LatchedRight t.0 t.1) (seen.Words page) _ t.4 tt
 
 pub open_right-requires-clause-runs : goal.open_right-requires-clause-runs
 open_right-requires-clause-runs c = record {

@@ -14,9 +14,9 @@ use Rattle.bl_store.specs.declared.store.Hand.{Hand}
 use Rattle.bl_index_rule.specs.declared.known.PassState.{PassState}
 use Rattle.bl_index_events.specs.Runs.{IsOn, IsSameProcess}
 use Rattle.bl_index_events.proofs.Standing.{on_as, on_goes, same_goes}
-use Rattle.bl_index_compress.specs.Squeezes.{squeezing}
+use Rattle.bl_index_compress.specs.CompressStands.{compress_of}
 use Rattle.bl_index_compress.proofs.Arrives.{has_parent}
-use Rattle.bl_index_compress.proofs.Presses.{alone_has_room, same_hands, stage_course}
+use Rattle.bl_index_compress.proofs.CompressionCourses.{alone_has_room, same_hands, stage_course}
 use Rattle.bl_index_compress.proofs.families.compress_there.Goals as goal
 
 pub reopen-requires-clause-next : goal.reopen-requires-clause-next
@@ -41,12 +41,12 @@ returns-then-parent-lt2 g c =
     let one : length p.parent.children.items < 2 = (let few = c.if-parent-lt2.true in omega (arith, count, few)) in
     let l = c.args.tree.now.store.layout in
     let before = on_as l (known c.args.hand.now.seat) _ c.requires.runs.on (p.stands (stages.Staying c.args.at) (refl, one)) in
-    let on = subst (λ (h : Hand PassState). IsOn l (known h.seat) (squeezing j (stages.Staying c.args.at))) (sym still) before in
+    let on = subst (λ (h : Hand PassState). IsOn l (known h.seat) (compress_of j (stages.Staying c.args.at))) (sym still) before in
     let same = subst (λ (h : Hand PassState). IsSameHand c.args.hand.now.seat h.seat) (sym still) (refl, refl, refl) in
     record {
       same = same_hands c.args.hand.now.seat c.words_from-parent.new.hand.seat c.reopen.new.hand.seat same c.reopen.ensures.same.0;
       empty = c.reopen.ensures.same.2.0 ∙ (ap (λ (h : Hand PassState). h.seat.me.0.stock) still ∙ c.requires.empty);
-      state = squeezing j (stages.Ending reply.Alone);
+      state = compress_of j (stages.Ending reply.Alone);
       runs = record { own = search rules; running = search rules; on = on_goes l seen.Done _ _ _ _ on c.reopen.ensures.goes (refl, refl, refl, refl) };
       left = (reply.Alone, refl, refl);
       since = subst (λ (h : Hand PassState). IsSameProcess (known h.seat) (known c.reopen.new.hand.seat)) still (same_goes _ _ _ c.reopen.ensures.goes);

@@ -3,13 +3,13 @@ use Rattle.std.proofs.lemmas.Bool.{false≢true}
 use Rattle.bl_index_resume.specs.declared.stages.Stage.TheVariants as stage
 use Rattle.bl_ffi_seats.specs.Tended.{LooksAbout, TakesUp, GoesOn, Tends}
 use Rattle.bl_ffi_seats.proofs.Tending.{seat_same, seat_after, seat_still, carried_on, left_row, looks_still}
-use Rattle.bl_ffi_seats.specs.Calls.{number_of, account_of}
+use Rattle.bl_ffi_seats.specs.Calls.{seat_number, account_of}
 use Rattle.bl_ffi_seats.specs.Accounts.{account, HasGone}
 use Rattle.bl_ffi_seats.proofs.Gone.{stays, goes_on, goes_same}
 use Rattle.bl_ffi_seats.proofs.seat.Seat.tend.Goals as goal
 
 pub loop-piece-init : goal.loop-piece-init
-loop-piece-init c = let old = c.args.self.now in record { same = seat_same old; told = stays (number_of old) (account_of old); rests = inr (refl, refl); done = search rules; tends = Tends.Starts; row = refl }
+loop-piece-init c = let old = c.args.self.now in record { same = seat_same old; told = stays (seat_number old) (account_of old); rests = inr (refl, refl); done = search rules; tends = Tends.Starts; row = refl }
 
 pub loop-piece-preserved : goal.loop-piece-preserved
 loop-piece-preserved c =
@@ -22,8 +22,8 @@ loop-piece-preserved c =
     record {
       same = seat_after c.args.self.now c.look_about.new.self c.go_on.new.self (seat_still c.args.self.now c.loop-piece.self c.look_about.new.self inv.same e.same.0 e.same.1)
           (seat_after c.look_about.new.self c.takes_up.new.self c.go_on.new.self t.same g.same);
-      told = goes_on (number_of old) (account_of old) (account_of c.takes_up.new.self) (account_of c.go_on.new.self) c.go_on.result
-          (goes_same (number_of old) (account_of old) (account_of c.loop-piece.self) (account_of c.takes_up.new.self) inv.told (t.told ∙ (λ i. account (e.same.1 i) (e.same.2 i))))
+      told = goes_on (seat_number old) (account_of old) (account_of c.takes_up.new.self) (account_of c.go_on.new.self) c.go_on.result
+          (goes_same (seat_number old) (account_of old) (account_of c.loop-piece.self) (account_of c.takes_up.new.self) inv.told (t.told ∙ (λ i. account (e.same.1 i) (e.same.2 i))))
           (subst (λ (z : ℕ). HasGone z (account_of c.takes_up.new.self) c.go_on.result (account_of c.go_on.new.self)) before.1.0 g.gone);
       rests = search rules;
       done = search rules;

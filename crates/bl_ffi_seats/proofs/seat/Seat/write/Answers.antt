@@ -9,7 +9,7 @@ use Rattle.bl_ffi_seats.specs.Pieces.{reply_in}
 use Rattle.bl_ffi_seats.specs.Seats.{HasAnswered}
 use Rattle.bl_ffi_seats.specs.Waits.{IsLeft}
 use Rattle.bl_ffi_seats.specs.Accounts.{HasGone}
-use Rattle.bl_ffi_seats.specs.Calls.{HasTold, HasGoneOnOrBegun, account_of, number_of}
+use Rattle.bl_ffi_seats.specs.Calls.{HasTold, HasGoneOnOrBegun, account_of, seat_number}
 use Rattle.bl_ffi_seats.specs.Tended.{HasToWait, HasPrepared, HasChanged}
 use Rattle.bl_ffi_seats.proofs.Tending.{seat_after, waits_still, prepared_left, is_op}
 use Rattle.bl_ffi_seats.proofs.Gone.{about_op, written_of, as_accounts, write_told}
@@ -25,20 +25,20 @@ pub returns-in-Some-clause-told : goal.returns-in-Some-clause-told
 returns-in-Some-clause-told c =
     let old = c.args.self.now in let mid = c.comes_to.new.self in let new = c.go_on.new.self in let op = write_op c.args.key c.args.write in
     let came = c.in-Underway.ensures.came in let about = about_op c.args.key c.args.write mid.stage came.0 in
-    let ends = subst (λ (z : Option Answer). HasGone (number_of mid) (account_of mid) z (account_of new)) c.in-Some.is c.go_on.ensures.gone in
-    let so = is_op (number_of mid) op (op_in mid.stage) c.in-Some.answer (account_of mid).told (account_of new).told about ends.1 in
+    let ends = subst (λ (z : Option Answer). HasGone (seat_number mid) (account_of mid) z (account_of new)) c.in-Some.is c.go_on.ensures.gone in
+    let so = is_op (seat_number mid) op (op_in mid.stage) c.in-Some.answer (account_of mid).told (account_of new).told about ends.1 in
     let whole : c.go_on.result ≡ Some (answers.Op so.0 so.1) = c.in-Some.is ∙ ap (λ (z : Answer). Some z) so.2 in
     let said : c.reply_in.result ≡ Some so.0 = c.reply_in.ensures ∙ ap reply_in so.2 in
     let gone = subst (λ (z : ℕ × Option Answer). HasGone z.0 (account_of mid) z.1 (account_of new)) (λ i. (c.comes_to.ensures.same.1.0 i, whole i)) c.go_on.ensures.gone in
     subst (λ (z : Option Reply). MatchOption z (HasGoneOnOrBegun op old new) (λ reply. HasTold op reply old new)) (sym said)
-    (write_told (number_of old) op (account_of old) (account_of mid) (account_of new) so.0 so.1 about (as_accounts old mid op came.1) gone)
+    (write_told (seat_number old) op (account_of old) (account_of mid) (account_of new) so.0 so.1 about (as_accounts old mid op came.1) gone)
 
 pub returns-in-Some-clause-changed : goal.returns-in-Some-clause-changed
 returns-in-Some-clause-changed c =
     let old = c.args.self.now in let mid = c.comes_to.new.self in let new = c.go_on.new.self in let op = write_op c.args.key c.args.write in
     let came = c.in-Underway.ensures.came in let about = about_op c.args.key c.args.write mid.stage came.0 in
-    let ends = subst (λ (z : Option Answer). HasGone (number_of mid) (account_of mid) z (account_of new)) c.in-Some.is c.go_on.ensures.gone in
-    let so = is_op (number_of mid) op (op_in mid.stage) c.in-Some.answer (account_of mid).told (account_of new).told about ends.1 in
+    let ends = subst (λ (z : Option Answer). HasGone (seat_number mid) (account_of mid) z (account_of new)) c.in-Some.is c.go_on.ensures.gone in
+    let so = is_op (seat_number mid) op (op_in mid.stage) c.in-Some.answer (account_of mid).told (account_of new).told about ends.1 in
     let whole : c.go_on.result ≡ Some (answers.Op so.0 so.1) = c.in-Some.is ∙ ap (λ (z : Answer). Some z) so.2 in
     let said : c.reply_in.result ≡ Some so.0 = c.reply_in.ensures ∙ ap reply_in so.2 in
     let left : IsLeft (Some (answers.Op so.0 so.1)) mid.upkeep new.upkeep = subst (λ (z : Option Answer). IsLeft z mid.upkeep new.upkeep) whole c.go_on.ensures.left in
@@ -55,8 +55,8 @@ pub returns-in-Some-clause-waits : goal.returns-in-Some-clause-waits
 returns-in-Some-clause-waits c =
     let old = c.args.self.now in let mid = c.comes_to.new.self in let new = c.go_on.new.self in let op = write_op c.args.key c.args.write in
     let about = about_op c.args.key c.args.write mid.stage c.in-Underway.ensures.came.0 in
-    let ends = subst (λ (z : Option Answer). HasGone (number_of mid) (account_of mid) z (account_of new)) c.in-Some.is c.go_on.ensures.gone in
-    let so = is_op (number_of mid) op (op_in mid.stage) c.in-Some.answer (account_of mid).told (account_of new).told about ends.1 in
+    let ends = subst (λ (z : Option Answer). HasGone (seat_number mid) (account_of mid) z (account_of new)) c.in-Some.is c.go_on.ensures.gone in
+    let so = is_op (seat_number mid) op (op_in mid.stage) c.in-Some.answer (account_of mid).told (account_of new).told about ends.1 in
     let said : c.reply_in.result ≡ Some so.0 = c.reply_in.ensures ∙ ap reply_in so.2 in
     subst (λ (z : Option Reply). IfNone z (HasToWait c.args.write old new × HasPrepared old new.upkeep)) (sym said) tt
 

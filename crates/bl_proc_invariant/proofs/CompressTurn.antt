@@ -27,14 +27,14 @@ use Rattle.bl_proc_compress.specs.declared.compress.CompressStage.{CompressStage
 use Rattle.bl_proc_compress.specs.Compresses.{compress_next_in}
 use Rattle.bl_proc_invariant.specs.Turns.{event_of, IsObserved, Does, Turned}
 use Rattle.bl_proc_invariant.specs.Tables.{idle, alone, goes_to, know_approach}
-use Rattle.bl_proc_invariant.specs.Compressing.{know_squeeze}
+use Rattle.bl_proc_invariant.specs.Compressing.{know_compression}
 use Rattle.bl_proc_invariant.specs.Knowing.{know_compress, compress_got}
 use Rattle.bl_proc_invariant.proofs.Acts.{watched}
 use Rattle.bl_proc_invariant.proofs.Approaching.{approach_turn, give_up_turn, kept_turn, stay_turn}
 use Rattle.bl_proc_invariant.proofs.Compressing.{open_parent_turn}
-use Rattle.bl_proc_invariant.proofs.Squeezing.{compression_turn}
+use Rattle.bl_proc_invariant.proofs.CompressionTurn.{compression_turn}
 use Rattle.bl_proc_invariant.proofs.Ends.{begin_turn, end_turn}
-use Rattle.bl_proc_deterministic.proofs.WayCases.{SqueezeCase, squeeze_case}
+use Rattle.bl_proc_deterministic.proofs.WayCases.{CompressionCase, compression_case}
 use Rattle.bl_proc_deterministic.proofs.KindCases.{CompressCase}
 
 -- the left child stands at a place of the parent
@@ -50,7 +50,7 @@ module _ {P : Type 0} (know : P → Know) (w : World P) (g : IsGood know w) (p :
       goes_down know w g p x (level - 1) k c may (subst IsTreePage (sym page) tt) (ap (λ v. (node_of v).shape.level) page ∙ (at ∙ (let e : level ≡ suc (level - 1) = omega (arith, least) in e)))
       (record { key = k; listed = ap (λ v. (node_of v).look k) page ∙ listed; reached = omega arith; greatest = λ j other e le. le })
 
-  family_turn : (x : ℕ) (parent : Inner) (f : Family) (got : ℕ → Page) (s : State Page) → know (w.proc p) ≡ know_approach alone level key (way.Latched x) → know b ≡ know_squeeze level key got (LatchingLeft f) → w.now.contents x ≡ InnerPage parent → parent.level ≡ level → AreSiblings x key parent (Some f) → Does w.now p (Get x) s → Turned know w p (Get x) s b
+  family_turn : (x : ℕ) (parent : Inner) (f : Family) (got : ℕ → Page) (s : State Page) → know (w.proc p) ≡ know_approach alone level key (way.Latched x) → know b ≡ know_compression level key got (LatchingLeft f) → w.now.contents x ≡ InnerPage parent → parent.level ≡ level → AreSiblings x key parent (Some f) → Does w.now p (Get x) s → Turned know w p (Get x) s b
   family_turn x parent f got s before then page at_level siblings does =
       let two = siblings.0 in
       let family = siblings.1 in
@@ -75,8 +75,8 @@ module _ {P : Type 0} (know : P → Know) (w : World P) (g : IsGood know w) (p :
       })
 
   -- the compression is over
-  over_turn : {c : Compression} {what : Seen} {decision : Decision} → SqueezeCase c what (step.Over decision) → (S : Type 0) (got : ℕ → Page) (s : State Page) → know (w.proc p) ≡ know_squeeze level key got c → know b ≡ record (idle Stage.Busy) { sound = S } → (key < unbounded → S) → Does w.now p (event_of None (compression_next c) what) s → Turned know w p (event_of None (compression_next c) what) s b
-  over_turn (SqueezeCase.OpenedParent x f _ t) S got s before then on does = open_parent_turn know w g p b level key got 0 0 x f S s before then on does
+  over_turn : {c : Compression} {what : Seen} {decision : Decision} → CompressionCase c what (step.Over decision) → (S : Type 0) (got : ℕ → Page) (s : State Page) → know (w.proc p) ≡ know_compression level key got c → know b ≡ record (idle Stage.Busy) { sound = S } → (key < unbounded → S) → Does w.now p (event_of None (compression_next c) what) s → Turned know w p (event_of None (compression_next c) what) s b
+  over_turn (CompressionCase.OpenedParent x f _ t) S got s before then on does = open_parent_turn know w g p b level key got 0 0 x f S s before then on does
 
   pub compress_turn : {waits : Bool} {a a' : CompressStage} {what : Seen} → CompressCase level key waits a what a' → (got : ℕ → Page) (s : State Page) → know (w.proc p) ≡ know_compress level key got a → know b ≡ know_compress level key (compress_got got a what) a' → IsObserved w.now w.size (compress_next_in a) what → Does w.now p (event_of None (compress_next_in a) what) s → Turned know w p (event_of None (compress_next_in a) what) s b
   compress_turn (CompressCase.Began a t) got s before then observed does = begin_turn know w g p b alone key s before (rw t at then) does
@@ -84,8 +84,8 @@ module _ {P : Type 0} (know : P → Know) (w : World P) (g : IsGood know w) (p :
   compress_turn (CompressCase.Came a what a' t) got s before then observed does = approach_turn know w g p b alone level key a a' what s limit before then t observed does
   compress_turn (CompressCase.Met x parent f l t) got s before then observed does = family_turn x parent f got s before then (sym observed) l.2 t does
   compress_turn (CompressCase.Single x parent y l t) got s before then observed does = kept_turn know w g p b alone level key x s before (rw t.0 at then) does
-  compress_turn (CompressCase.Squeezed c what d t) got s before then observed does = compression_turn know w g p b level key least got _ c d what s before then t observed does
-  compress_turn (CompressCase.Lost c what a (decision, t, none, start)) got s before then observed does = over_turn (squeeze_case _ c what _ t) (key < unbounded) got s before (rw start at then) (λ e. e) does
-  compress_turn (CompressCase.Finished c what r (decision, t, some)) got s before then observed does = over_turn (squeeze_case _ c what _ t) (Unit {0}) got s before then (λ e. tt) does
+  compress_turn (CompressCase.WentOn c what d t) got s before then observed does = compression_turn know w g p b level key least got _ c d what s before then t observed does
+  compress_turn (CompressCase.Lost c what a (decision, t, none, start)) got s before then observed does = over_turn (compression_case _ c what _ t) (key < unbounded) got s before (rw start at then) (λ e. e) does
+  compress_turn (CompressCase.Finished c what r (decision, t, some)) got s before then observed does = over_turn (compression_case _ c what _ t) (Unit {0}) got s before then (λ e. tt) does
   compress_turn (CompressCase.Opened x r t) got s before then observed does = stay_turn know w g p b alone level key x (Unit {0}) s before then does
   compress_turn (CompressCase.Ended r last t) got s before then observed does = end_turn know w g p b None [] (Unit {0}) s before then does

@@ -1,4 +1,4 @@
-use Rattle.bl_map.proofs.changes.try_oldest.Goals as goal
+use Rattle.bl_map.proofs.writes.try_oldest.Goals as goal
 
 pub returns-clause-tries : goal.returns-clause-tries
 returns-clause-tries g c = record {

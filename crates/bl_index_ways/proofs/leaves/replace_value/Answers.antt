@@ -12,7 +12,7 @@ use Rattle.bl_index_rule.specs.declared.known.PassState.{PassState}
 use Rattle.bl_index_events.specs.Runs.{IsOn}
 use Rattle.bl_index_events.proofs.Standing.{on_as}
 use Rattle.bl_index_ways.proofs.Written.{stands_replacing, unthinned}
-use Rattle.bl_index_ways.proofs.leaves.change.Goals as goal
+use Rattle.bl_index_ways.proofs.leaves.replace_value.Goals as goal
 
 pub words_with_value-requires-clause-page : goal.words_with_value-requires-clause-page
 words_with_value-requires-clause-page g c =

@@ -4,7 +4,7 @@ use Rattle.bl_model.specs.Replies.{reply_of}
 use Rattle.bl_map.proofs.Adding.{swept_as}
 use Rattle.bl_map.proofs.Following.{follows_as}
 use Rattle.bl_map.proofs.Lacking.{refused_changes}
-use Rattle.bl_map.proofs.changes.write.Goals as goal
+use Rattle.bl_map.proofs.writes.write.Goals as goal
 
 pub returns-in-NoRoom-clause-changes : goal.returns-in-NoRoom-clause-changes
 returns-in-NoRoom-clause-changes g c = refused_changes _ _ _ _ _ _ _ _ (ap reply_of c.in-NoRoom.is) c.write-reply.ensures.written

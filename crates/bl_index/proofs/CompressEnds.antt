@@ -20,7 +20,7 @@ use Rattle.bl_proc.specs.declared.kinds.Proc.TheVariants as proc
 use Rattle.bl_proc.specs.Processes.{next_of, Takes}
 use Rattle.bl_claims.specs.Squeezed.{MeansSqueezed}
 use Rattle.bl_proc_invariant.specs.Knowing.{know_of, know_compress}
-use Rattle.bl_proc_invariant.proofs.Pressed.{stage_means}
+use Rattle.bl_proc_invariant.proofs.CompressAnswers.{stage_means}
 use Rattle.bl_claims.specs.Families.{LatchesBeside}
 use Rattle.bl_proc_deterministic.specs.Frames.{work_of}
 use Rattle.bl_proc_deterministic.specs.Retirements.{IsPutDone}
@@ -57,7 +57,7 @@ silent_at_end level key got (compress.Ending r) e = refl
 silent_at_end level key got (compress.Over r) e = refl
 
 -- a compression that ends at its next action, and is then q
-record IsPressing (before : Proc) (q : Compress) (level key : ℕ) : Type 0 where
+record IsCompressing (before : Proc) (q : Compress) (level key : ℕ) : Type 0 where
   pub old : Compress
   pub before_is : before ≡ proc.Compress old
   pub level_is : q.level ≡ level
@@ -65,13 +65,13 @@ record IsPressing (before : Proc) (q : Compress) (level key : ℕ) : Type 0 wher
   pub at_end : compress_next_in old.stage ≡ act.End
   pub goes : CompressGoes old.level old.key old.waits old.stage seen.Done q.stage
 
-pressing : (before : Proc) (q : Compress) (level key : ℕ) → work_of before ≡ Some (level, key) → next_of before ≡ act.End → Takes before seen.Done (proc.Compress q) → IsPressing before q level key
-pressing (proc.Compress p) q level key is e t = record { old = p; before_is = refl; level_is = t.0 ∙ first_of is; key_is = t.1 ∙ second_of is; at_end = e; goes = t.3 }
-pressing other q level key is e t = absurd t
+is_compressing : (before : Proc) (q : Compress) (level key : ℕ) → work_of before ≡ Some (level, key) → next_of before ≡ act.End → Takes before seen.Done (proc.Compress q) → IsCompressing before q level key
+is_compressing (proc.Compress p) q level key is e t = record { old = p; before_is = refl; level_is = t.0 ∙ first_of is; key_is = t.1 ∙ second_of is; at_end = e; goes = t.3 }
+is_compressing other q level key is e t = absurd t
 
 pub compress_answered : (from : List (Option Page)) (pass : ℕ) (old e : PassState) (first : Proc) (q : Compress) (level key : ℕ) (what : Squeezed) (next : Option Hint) → IsDone pass old e first (proc.Compress q) → old.first ≡ from → work_of first ≡ Some (level, key) → compress_answer q ≡ Some (answer.Compress what next) → Compresses from pass level key what next old.trail e.trail
 compress_answered from pass old e first q level key what next d begins is a =
-    let p = pressing d.before q level key (d.work ∙ is) d.at_end d.takes in
+    let p = is_compressing d.before q level key (d.work ∙ is) d.at_end d.takes in
     let marks : Trail = marks_of (name pass (old.number + 1)) e.trail in
     record {
       adds = quiet_adds from pass old e first (proc.Compress q) (proc.Compress p.old) d begins p.before_is refl (λ r h. ap (λ (z : Proc). (know_of r.got r.child r.time z).said) h ∙ silent_at_end p.old.level p.old.key r.got p.old.stage p.at_end);

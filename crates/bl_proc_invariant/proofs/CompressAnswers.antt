@@ -15,7 +15,7 @@ use Rattle.bl_proc_compress.specs.declared.compress.CompressStage.TheVariants as
 use Rattle.bl_proc.specs.declared.kinds.Proc.TheVariants as proc
 use Rattle.bl_proc_compress.specs.Compresses.{compressed_answer, compress_answer_in}
 use Rattle.bl_claims.specs.Squeezed.{MeansSqueezed}
-use Rattle.bl_proc_invariant.specs.Logs.{pressed_log, compress_log, proc_log, AllLogs}
+use Rattle.bl_proc_invariant.specs.Logs.{compress_reply_log, compress_log, proc_log, AllLogs}
 use Rattle.bl_proc_invariant.specs.Knowing.{Run}
 
 same_squeezed : (p q : Squeezed) (h i : Option Hint) → answer.Compress p h ≡ answer.Compress q i → p ≡ q
@@ -28,7 +28,7 @@ same_hint p q h i e = cc
 to_answer : (level key : ℕ) (p q : Squeezed) (h i : Option Hint) (marks : Trail) → answer.Compress p h ≡ answer.Compress q i → MeansSqueezed level key p h marks → MeansSqueezed level key q i marks
 to_answer level key p q h i marks e is = subst (λ z. MeansSqueezed level key q z marks) (same_hint p q h i e) (subst (λ z. MeansSqueezed level key z h marks) (same_squeezed p q h i e) is)
 
-reply_means : (level key : ℕ) (r : CompressReply) (q : Squeezed) (h : Option Hint) (marks : Trail) → compressed_answer r ≡ answer.Compress q h → pressed_log level key r marks → MeansSqueezed level key q h marks
+reply_means : (level key : ℕ) (r : CompressReply) (q : Squeezed) (h : Option Hint) (marks : Trail) → compressed_answer r ≡ answer.Compress q h → compress_reply_log level key r marks → MeansSqueezed level key q h marks
 reply_means level key (reply.Merged hint) q h marks e log = to_answer level key _ q _ h marks e log
 reply_means level key reply.Evened q h marks e log = to_answer level key _ q _ h marks e (log, refl)
 reply_means level key reply.Enough q h marks e log = to_answer level key _ q _ h marks e (log, refl)

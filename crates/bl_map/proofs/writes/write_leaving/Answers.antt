@@ -3,7 +3,7 @@ use Rattle.bl_index.specs.Calls.{trail}
 use Rattle.bl_model.specs.Replies.{reply_of}
 use Rattle.bl_map.proofs.Following.{split_as}
 use Rattle.bl_map.proofs.Lacking.{refused_leaves}
-use Rattle.bl_map.proofs.changes.write_leaving.Goals as goal
+use Rattle.bl_map.proofs.writes.write_leaving.Goals as goal
 
 pub returns-in-NoRoom-clause-leaves : goal.returns-in-NoRoom-clause-leaves
 returns-in-NoRoom-clause-leaves g c = refused_leaves _ _ _ _ _ _ _ (ap reply_of c.in-NoRoom.is) c.write-reply.ensures.written

@@ -1,6 +1,6 @@
 use Rattle.bl_index.specs.Calls.{first_of, IsSamePass, number_of, trail}
 use Rattle.bl_map.specs.Waits.{AreTried}
-use Rattle.bl_map.proofs.changes.try_some.Given as goal
+use Rattle.bl_map.proofs.writes.try_some.Given as goal
 
 abbrev pub invariant-loop-hint : goal.invariant-loop-hint
 invariant-loop-hint g l = record {

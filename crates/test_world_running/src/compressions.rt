@@ -164,7 +164,7 @@ fn begins_with_first_key(alloc: Global, tree: &Tree, right: &Live) -> Result<(),
 
 /// A compression from its first put on, and what stood there before.
 #[derive(Drop)]
-pub struct Squeeze {
+pub struct Compression {
     family: Family,
     left: Live,
     right: Live,
@@ -183,9 +183,9 @@ pub enum Way {
     ToTheRight,
 }
 
-impl Squeeze {
+impl Compression {
     /// The compression of the children of the page of that level that covers the key, which is the parent if it is that page.
-    fn at_parent(alloc: Global, tree: &Tree, parent: &Live, key: u64) -> Result<Squeeze, Law> {
+    fn at_parent(alloc: Global, tree: &Tree, parent: &Live, key: u64) -> Result<Compression, Law> {
         let family = siblings(tree, parent.page, key)?;
         let family = found!(family, "who compresses has two children");
         let (left, right) = children_of(tree, &family)?;
@@ -193,7 +193,7 @@ impl Squeeze {
             left.right == right.page,
             "the left child leads to the right one"
         );
-        let mut squeeze = Squeeze {
+        let mut compression = Compression {
             family,
             left,
             right,
@@ -201,8 +201,8 @@ impl Squeeze {
             listed: Vec::new(alloc),
             puts: 0,
         };
-        squeeze.meet_pairs(tree, parent)?;
-        Ok(squeeze)
+        compression.meet_pairs(tree, parent)?;
+        Ok(compression)
     }
 
     /// Adds the pairs that stand there.
@@ -213,10 +213,10 @@ impl Squeeze {
     }
 
     /// What a compression does in this tree, before its first put.
-    pub fn new(alloc: Global, tree: &Tree, level: u32, key: u64) -> Result<Squeeze, Law> {
+    pub fn new(alloc: Global, tree: &Tree, level: u32, key: u64) -> Result<Compression, Law> {
         for live in tree.live.as_slice() {
             if live.level == level as usize && live.covers(key) {
-                return Squeeze::at_parent(alloc, tree, live, key);
+                return Compression::at_parent(alloc, tree, live, key);
             }
         }
         Err("who compresses has a parent")

@@ -1,4 +1,4 @@
-//! Changes, each with what is due behind it.
+//! Writes of a key, each with what is due behind it.
 
 ghost use Rattle.std.specs.Prelude.{◌≡◌};
 ghost use Rattle.bl_model.specs.declared.operation.KeyReply.TheVariants as replies;
@@ -7,7 +7,7 @@ ghost use Rattle.bl_model.specs.Replies.{reply_of};
 ghost use Rattle.bl_model.specs.Writes.{write_op};
 ghost use Rattle.bl_map.specs.Works.{FoundNoRoom};
 ghost use Rattle.bl_map.specs.Follows.{WritesLeaving};
-ghost use Rattle.bl_map.specs.Waits.{Changes, TriesOldest, TriesAgain, HasTried};
+ghost use Rattle.bl_map.specs.Waits.{WritesKey, TriesOldest, TriesAgain, HasTried};
 
 use crate::calls;
 use crate::upkeep::{follow, follow_split, sweep_if_due};
@@ -26,7 +26,7 @@ pub(crate) fn write<R: Wait>(
 ) -> KeyReply
     requires { IsPassOf index.now pass.old }
     ensures same { IsSamePass pass.old pass.new }
-    ensures changes { Changes (first_of index.now) (number_of pass.old) (write_op key write) (reply_of result) waiting.old waiting.new
+    ensures changes { WritesKey (first_of index.now) (number_of pass.old) (write_op key write) (reply_of result) waiting.old waiting.new
         (trail pass.old) (trail pass.new) }
     ensures no_room { result ≡ replies.NoRoom → FoundNoRoom key write pass.old pass.new }
 {

@@ -33,22 +33,22 @@ use Rattle.bl_proc.specs.Processes.{answer_of}
 use Rattle.bl_index_rule.specs.declared.known.PassState.{PassState}
 use Rattle.bl_index_events.specs.declared.tree.Tree.{Tree}
 use Rattle.bl_index_events.specs.Runs.{IsDone, IsSince, IsSameProcess, Rests, Runs}
-use Rattle.bl_index_compress.specs.declared.targets.Squeezing.{Squeezing}
+use Rattle.bl_index_compress.specs.declared.targets.CompressTarget.{CompressTarget}
 use Rattle.bl_index_compress.specs.declared.targets.Kin.{Kin}
 
 abbrev H : Type 0
 H = Seat (Unit {0}) (View PassState)
 
 -- a compression that has come so far, and waits for its children
-abbrev pub squeezing : Squeezing → CompressStage → Proc
-squeezing j stage = proc.Compress (record { level = j.level; key = j.key; waits = true; stage = stage; least = j.least; most = j.most })
+abbrev pub compress_of : CompressTarget → CompressStage → Proc
+compress_of j stage = proc.Compress (record { level = j.level; key = j.key; waits = true; stage = stage; least = j.least; most = j.most })
 
 -- one that holds its parent
-abbrev pub pressing : Squeezing → Compression → Proc
-pressing j c = squeezing j (Compressing c)
+abbrev pub compression_of : CompressTarget → Compression → Proc
+compression_of j c = compress_of j (Compressing c)
 
 -- These are the two children that it compresses, of a parent with these words, which is of its level.
-pub record IsKin (j : Squeezing) (kin : Kin) (words : List ℕ) (f : Family) : Type 0 where
+pub record IsKin (j : CompressTarget) (kin : Kin) (words : List ℕ) (f : Family) : Type 0 where
   pub at : f.at ≡ kin.at
   pub key : f.key ≡ kin.key
   pub parent : words ≡ words_of (Inner f.parent)
@@ -68,27 +68,27 @@ on_side side.Left left right = left
 on_side side.Right left right = right
 
 -- It holds its parent and both children, has got them with these words, and goes on as that decides.
-pub record HasBoth (j : Squeezing) (kin : Kin) (parent left right : List ℕ) (d : PassState) : Type 0 where
+pub record HasBoth (j : CompressTarget) (kin : Kin) (parent left right : List ℕ) (d : PassState) : Type 0 where
   pub family : Family
   pub lower : Page
   pub upper : Page
   pub are : IsKin j kin parent family
   pub left_is : left ≡ words_of lower
   pub right_is : right ≡ words_of upper
-  pub decides : (n : Compression) → Decides family lower upper n → d.state ≡ pressing j n
+  pub decides : (n : Compression) → Decides family lower upper n → d.state ≡ compression_of j n
 
 -- From where it held its parent and its children it has gone on to where it is to open the left one, by that decision.
-pub record IsDecided (tree : Tree) (h : H) (hand : Hand PassState) (j : Squeezing) (kin : Kin) (decision : Decision) : Type 0 where
+pub record IsDecided (tree : Tree) (h : H) (hand : Hand PassState) (j : CompressTarget) (kin : Kin) (decision : Decision) : Type 0 where
   pub same : IsSameHand h hand.seat
   pub empty : HasNoStock hand.seat
-  pub runs : Runs tree hand (pressing j (OpeningLeft kin.at decision))
+  pub runs : Runs tree hand (compression_of j (OpeningLeft kin.at decision))
   pub since : IsSameProcess (known h) (known hand.seat)
   pub no_room : decision ≡ Refused → WasRefused hand.seat 0 3
 
 -- It has opened its parent, and is to end with that answer; or it begins again.
-abbrev pub HasLeft : Squeezing → Option (Squeezed × Option Hint) → Proc → Type 0
-HasLeft j (Some t) state = (r : CompressReply) × (compressed_answer r ≡ answer.Compress t.0 t.1) × (state ≡ squeezing j (Ending r))
-HasLeft j None state = state ≡ squeezing j (Coming Start)
+abbrev pub HasLeft : CompressTarget → Option (Squeezed × Option Hint) → Proc → Type 0
+HasLeft j (Some t) state = (r : CompressReply) × (compressed_answer r ≡ answer.Compress t.0 t.1) × (state ≡ compress_of j (Ending r))
+HasLeft j None state = state ≡ compress_of j (Coming Start)
 
 -- the answer by what became of the children
 abbrev pub Answers : Decision → Option (Squeezed × Option Hint) → Type 0
@@ -96,7 +96,7 @@ Answers decision (Some t) = (r : CompressReply) × (compress_reply decision ≡ 
 Answers decision None = compress_reply decision ≡ None
 
 -- From where it held its parent it has gone on: it has opened that, with this answer or none.
-pub record LeavesParent (tree : Tree) (h : H) (hand : Hand PassState) (j : Squeezing) (said : Option (Squeezed × Option Hint)) : Type 0 where
+pub record LeavesParent (tree : Tree) (h : H) (hand : Hand PassState) (j : CompressTarget) (said : Option (Squeezed × Option Hint)) : Type 0 where
   pub same : IsSameHand h hand.seat
   pub empty : HasNoStock hand.seat
   pub state : Proc
@@ -112,8 +112,8 @@ pub record HasCompressed (pass : ℕ) (old e : PassState) (first : Proc) (what :
   pub answer : answer_of (proc.Compress last) ≡ Some (answer.Compress what hint)
 
 -- It has ended, and has answered that.
-pub record IsCompressOver (j : Squeezing) (d : PassState) (h : H) (what : Squeezed) (hint : Option Hint) : Type 0 where
+pub record IsCompressOver (j : CompressTarget) (d : PassState) (h : H) (what : Squeezed) (hint : Option Hint) : Type 0 where
   pub rests : Rests h
   pub empty : HasNoStock h
   pub no_room : what ≡ squeezed.NoRoom → WasRefused h 0 3
-  pub is_compressed : (pass : ℕ) (old : PassState) → IsSince pass old d → HasCompressed pass old (known h) (squeezing j New) what hint
+  pub is_compressed : (pass : ℕ) (old : PassState) → IsSince pass old d → HasCompressed pass old (known h) (compress_of j New) what hint

@@ -7,14 +7,14 @@ use Rattle.bl_proc_compress.specs.declared.compression.Compression.TheVariants.{
 use Rattle.bl_proc_compress.specs.declared.compression.Siblings.{Siblings}
 use Rattle.bl_proc.specs.Processes.{next_of}
 use Rattle.bl_index_events.proofs.Standing.{on_itself, same_all, same_goes}
-use Rattle.bl_index_compress.proofs.Presses.{decided_since, latches, links_left, links_right, misses, press_course, same_hands}
-use Rattle.bl_index_compress.proofs.children.squeeze.Goals as goal
+use Rattle.bl_index_compress.proofs.CompressionCourses.{decided_since, latches, links_left, links_right, misses, compression_course, same_hands}
+use Rattle.bl_index_compress.proofs.children.latch_and_compress.Goals as goal
 
 pub latch-requires-clause-next : goal.latch-requires-clause-next
 latch-requires-clause-next g c = let t = c.requires.process in ap next_of t.2 ∙ ap (λ (z : Siblings). act.Latch z.left) t.1.at
 
 pub latch-requires-clause-course : goal.latch-requires-clause-course
-latch-requires-clause-course g c = let t = c.requires.process in (press_course c.args.target (LatchingLeft t.0) seen.Done _ t.2 tt, press_course c.args.target (LatchingLeft t.0) seen.Missed _ t.2 tt)
+latch-requires-clause-course g c = let t = c.requires.process in (compression_course c.args.target (LatchingLeft t.0) seen.Done _ t.2 tt, compression_course c.args.target (LatchingLeft t.0) seen.Missed _ t.2 tt)
 
 pub latch-requires-clause-stays : goal.latch-requires-clause-stays
 latch-requires-clause-stays g c = let t = c.requires.process in misses c.args.target (LatchingLeft t.0) _ t.2 refl
@@ -34,7 +34,7 @@ words_at-left-requires-clause-next g c =
 pub words_at-left-requires-clause-course : goal.words_at-left-requires-clause-course
 words_at-left-requires-clause-course g c = λ page.
     let t = c.requires.process in let on = c.latch.ensures.latched _ (latches c.args.target (LatchingLeft t.0) (LatchedLeft t.0) _ t.2 refl) in
-    press_course c.args.target (LatchedLeft t.0) (seen.Words page) _ on.state tt
+    compression_course c.args.target (LatchedLeft t.0) (seen.Words page) _ on.state tt
 
 pub returns-then-left-kin : goal.returns-then-left-kin
 returns-then-left-kin g c =
@@ -69,7 +69,7 @@ latch-requires-2-clause-course g c =
     let t = c.requires.process in let got = c.words_at-left.ensures.goes in
     let on = c.latch.ensures.latched _ (latches c.args.target (LatchingLeft t.0) (LatchedLeft t.0) _ t.2 refl) in
     let two = links_right c.args.tree.now.store.layout c.args.target c.args.kin c.args.parent.now c.words_at-left.result t.0 got.0 _ _ t.1 got.1 on got.2 c.if-left-kin.false in
-    (press_course c.args.target (LatchingRight t.0 got.0) seen.Done _ two.state tt, press_course c.args.target (LatchingRight t.0 got.0) seen.Missed _ two.state tt)
+    (compression_course c.args.target (LatchingRight t.0 got.0) seen.Done _ two.state tt, compression_course c.args.target (LatchingRight t.0 got.0) seen.Missed _ two.state tt)
 
 pub latch-requires-2-clause-stays : goal.latch-requires-2-clause-stays
 latch-requires-2-clause-stays g c =

@@ -8,7 +8,7 @@ use Rattle.bl_proc_steps.specs.declared.edit.Outcome.TheVariants as outcome
 use Rattle.bl_proc.specs.Processes.{next_of}
 use Rattle.bl_store.specs.Hands.{drafts}
 use Rattle.bl_index_events.proofs.Standing.{on_itself, on_goes, same_goes, same_all, course_at}
-use Rattle.bl_index_ways.proofs.splitting.put_parts.Goals as goal
+use Rattle.bl_index_ways.proofs.splitting.put_halves.Goals as goal
 
 pub put_reserved-requires-clause-runs : goal.put_reserved-requires-clause-runs
 put_reserved-requires-clause-runs g c = record {

@@ -1,7 +1,7 @@
 use Rattle.bl_index.specs.Calls.{trail}
 use Rattle.bl_map.proofs.Adding.{swept_more}
 use Rattle.bl_map.specs.Works.{Never}
-use Rattle.bl_map.proofs.changes.try_again.Goals as goal
+use Rattle.bl_map.proofs.writes.try_again.Goals as goal
 
 pub returns-clause-tries : goal.returns-clause-tries
 returns-clause-tries g c = record {

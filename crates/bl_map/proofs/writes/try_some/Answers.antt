@@ -1,6 +1,6 @@
 use Rattle.std.proofs.Common.{rules, refl, inl, inr, arith}
 use Rattle.bl_map.proofs.Following.{tried_more, none_there}
-use Rattle.bl_map.proofs.changes.try_some.Goals as goal
+use Rattle.bl_map.proofs.writes.try_some.Goals as goal
 
 pub loop-hint-init : goal.loop-hint-init
 loop-hint-init g c = record { same = search rules; are_tried = (refl, refl) }
