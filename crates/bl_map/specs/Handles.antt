@@ -14,17 +14,17 @@ use Rattle.bl_proc_steps.specs.declared.answers.Hint.{Hint}
 use Rattle.bl_check.specs.declared.quiet.Quiet.{Quiet}
 use Rattle.bl_load.specs.declared.fault.LoadFault.{LoadFault}
 use Rattle.bl_map.specs.declared.handle.Handle.{Handle}
-use Rattle.bl_map.specs.declared.upkeep.Followed.{Followed}
-use Rattle.bl_map.specs.Works.{Works, Adds, Searched, Swept, FoundNoRoom}
-use Rattle.bl_map.specs.Finds.{FindsMany}
-use Rattle.bl_map.specs.Leasts.{FindsLeast, CountsRows}
-use Rattle.bl_map.specs.Falling.{FindsGreatest}
-use Rattle.bl_map.specs.Many.{WritesMany, StopsFull}
-use Rattle.bl_map.specs.Follows.{FollowsHint, WritesLeaving}
-use Rattle.bl_map.specs.Copies.{Copies}
-use Rattle.bl_map.specs.Updates.{Updates}
-use Rattle.bl_map.specs.declared.updating.Updated.{Updated}
-use Rattle.bl_map.specs.Waits.{hints_of, WritesKey, TriesAgain, Tidies, IsNone}
+use Rattle.bl_map_calls.specs.declared.upkeep.Followed.{Followed}
+use Rattle.bl_map_calls.specs.Works.{Works, Adds, Searched, Swept, FoundNoRoom}
+use Rattle.bl_map_calls.specs.Finds.{FindsMany}
+use Rattle.bl_map_calls.specs.Leasts.{FindsLeast, CountsRows}
+use Rattle.bl_map_calls.specs.Falling.{FindsGreatest}
+use Rattle.bl_map_calls.specs.Many.{WritesMany, StopsFull}
+use Rattle.bl_map_calls.specs.Follows.{FollowsHint, WritesLeaving}
+use Rattle.bl_map_calls.specs.Copies.{Copies}
+use Rattle.bl_map_calls.specs.Updates.{Updates}
+use Rattle.bl_map_calls.specs.declared.updating.Updated.{Updated}
+use Rattle.bl_map_calls.specs.Waits.{hints_of, WritesKey, TriesAgain, Tidies, IsNone}
 
 -- the index that a handle works on: that of its map
 abbrev pub index_of : Handle → Index

@@ -9,16 +9,16 @@ ghost use Rattle.bl_model.specs.Replies.{reply_of};
 ghost use Rattle.bl_model.specs.Writes.{write_op};
 ghost use Rattle.bl_index.specs.Calls.{IsPassOf, Sweeps};
 ghost use Rattle.bl_map.specs.Seats.{IsPassOf-prop};
-ghost use Rattle.bl_map.specs.declared.updating.Updated.TheVariants as updated;
+ghost use Rattle.bl_map_calls.specs.declared.updating.Updated.TheVariants as updated;
 
-use crate::many::{Deletions, Insertions, Puts};
-use crate::updating::{self, Updated};
-use crate::upkeep::{self, Followed};
-use crate::waiting::Waiting;
-use crate::{calls, copying, counting, falling, least, many, room, telling, writes};
 use bl_check::Quiet;
 use bl_index::{Hint, Index, KeyReply, KeyWrite, Pass, Reply};
 use bl_load::LoadFault;
+use bl_map_calls::many::{Deletions, Insertions, Puts};
+use bl_map_calls::updating::{self, Updated};
+use bl_map_calls::upkeep::{self, Followed};
+use bl_map_calls::waiting::Waiting;
+use bl_map_calls::{calls, copying, counting, falling, least, many, room, telling, writes};
 use std::alloc::{AllocError, Global};
 use std::sync::Wait;
 
@@ -43,12 +43,12 @@ pub struct Handle<'a> {
 impl<'a> Handle<'a> {
     ghost use Rattle.bl_map.specs.Handles.{IsSameHandle, HasCalled, HasSearched, HasFoundMany, HasChanged, HasWritten, HasFoundNoRoom, HasFoundLeast, HasFoundGreatest, HasCounted, HasKeptUp, HasFollowed, HasSwept, HasTriedAgain, HasTidied};
     ghost use Rattle.bl_map.specs.Handles.{HasWrittenMany, HasStoppedFull};
-    ghost use Rattle.bl_map.specs.Many.{insertion_of, put_of, deletion_of};
+    ghost use Rattle.bl_map_calls.specs.Many.{insertion_of, put_of, deletion_of};
     ghost use Rattle.bl_map.specs.Handles.{HasUpdated, HasCopied};
     ghost use Rattle.bl_map.specs.Handles.{HaveMet, KeepsHints, AreOfOne, IsHandleOver, released_in};
     ghost use Rattle.bl_map.specs.Handles.{first_map_of, pages_of_map, number_of_seat, seat_of, seen_by, waiting_of, dropped_of};
-    ghost use Rattle.bl_map.specs.Scans.{Scanned, TellsRows};
-    ghost use Rattle.bl_map.specs.Falling.{ScannedDown, TellsDown};
+    ghost use Rattle.bl_map_calls.specs.Scans.{Scanned, TellsRows};
+    ghost use Rattle.bl_map_calls.specs.Falling.{ScannedDown, TellsDown};
 
     /// The handle that works on an index from a seat of it. For a map see [`crate::Map::handle`].
     pub fn over(index: &'a Index, seat: Pass) -> Handle<'a>

@@ -14,7 +14,7 @@ use Rattle.bl_serve_worker.specs.declared.chunk.BatchOutput.{BatchOutput}
 use Rattle.bl_serve_worker.specs.declared.chunk.Slot.{Slot}
 use Rattle.bl_map.specs.declared.handle.Handle.{Handle}
 use Rattle.bl_map.specs.Handles.{IsSameHandle, HasKeptUp, first_map_of, number_of_seat, seen_by}
-use Rattle.bl_map.specs.Works.{Adds}
+use Rattle.bl_map_calls.specs.Works.{Adds}
 use Rattle.bl_map.proofs.AllMet.{same_again}
 use Rattle.bl_map.proofs.Same.{by_same, kept_as}
 use Rattle.bl_serve_worker.specs.Answering.{answers_text, AnswersLines}

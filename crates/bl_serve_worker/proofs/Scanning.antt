@@ -16,10 +16,10 @@ use Rattle.bl_page.specs.declared.page.Page.{Page}
 use Rattle.bl_claims.specs.Trails.{Trail}
 use Rattle.bl_claims.specs.Seeing.{IsLinearizable, own}
 use Rattle.bl_index.specs.Scans.{AreParts as ArePartsUpTo, rows_below as rows_of_part}
-use Rattle.bl_map.specs.Falling.{ArePartsDown as ArePartsDownTo, IsOverDown, TellsDown}
+use Rattle.bl_map_calls.specs.Falling.{ArePartsDown as ArePartsDownTo, IsOverDown, TellsDown}
 use Rattle.bl_map.specs.declared.handle.Handle.{Handle}
 use Rattle.bl_map.specs.Handles.{first_map_of, number_of_seat, seen_by}
-use Rattle.bl_map.specs.Scans.{TellsRows}
+use Rattle.bl_map_calls.specs.Scans.{TellsRows}
 use Rattle.bl_serve_worker.specs.Answering.{ListsRows, HasWrittenRows}
 use Rattle.bl_serve_worker.specs.Answering.IsFor.{Scans, ScansFrom, ScansDown}
 
