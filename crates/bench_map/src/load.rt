@@ -1,14 +1,12 @@
-//! A load on a map that may be a large one, for `bench/large`: so many threads insert so many rows, search for them one by one and many at
-//! a time, list them, and then mix searches, insertions and deletions, of which each call is timed. With GROUP it
+//! A load on a map that may be a large one, for `bench/large` and `bench/groups`: so many threads insert so many rows, search for them one by
+//! one and many at a time, list them, and then mix searches, insertions and deletions, of which each call is timed. With GROUP it
 //! only inserts that many rows at a time and looks up as many. It prints for each part how many calls were made, how many
 //! of them were answered as they should be, the microseconds of all together, and last the nanoseconds of the longest call of the mix.
-#![tactic(auto)]
 
-ghost use Rattle.std.specs.Prelude.{◌≡◌, All, IfSome};
-ghost use Rattle.bl_map.specs.Maps.{AreSeatsOf, IsHandleOf};
+ghost use Rattle.std.specs.Prelude.{◌≡◌};
 
-use bl_map::{Handle, KeyReply, Map, Seat};
-use std::alloc::Global;
+use crate::handles_of;
+use bl_map::{Handle, KeyReply, Map};
 use std::sync::Wait;
 use std::sync::atomic::{AtomicU64, Ordering};
 use std::thread;
@@ -291,23 +289,10 @@ fn run<R: Threads + Wait + Clock + Sync>(
     (done.load(Ordering::SeqCst), longest.load(Ordering::SeqCst))
 }
 
-/// A handle for each seat.
-fn handles_of<'a>(alloc: Global, map: &'a Map, seats: Vec<Seat>) -> Option<Vec<Handle<'a>>>
-    requires { AreSeatsOf map.now seats.items }
-    ensures { IfSome result (λ handles. All (IsHandleOf map.now) handles.items) }
-{
-    let mut seats = seats;
-    let mut handles = Vec::new(alloc);
-    while let Some(seat) = seats.pop() {
-        handles.push(map.handle(seat)).ok()?;
-    }
-    Some(handles)
-}
-
-fn main(rt: HostRuntime) -> anyhow::Result<()> {
-    let words: Vec<String> = std::env::args(&rt)?.collect(rt.alloc())?;
-    let Some(load) = Load::read(words.as_slice()) else {
-        eprintln!(&rt; "usage: bench_large PAGES ROWS THREADS CALLS rising|random [GROUP]")?;
+/// Does the load that these words name.
+pub fn run_load(rt: HostRuntime, words: &[String]) -> anyhow::Result<()> {
+    let Some(load) = Load::read(words) else {
+        eprintln!(&rt; "usage: bench_map PAGES ROWS THREADS CALLS rising|random [GROUP]")?;
         return Ok(());
     };
     let start = Instant::now(&rt)?;

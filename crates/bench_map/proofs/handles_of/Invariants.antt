@@ -1,6 +1,6 @@
 use Rattle.std.proofs.Common.{All, length}
 use Rattle.bl_map.specs.Maps.{IsHandleOf, AreSeatsOf}
-use Rattle.bench_large.proofs.handles_of.Given as goal
+use Rattle.bench_map.proofs.handles_of.Given as goal
 
 abbrev pub invariant-loop-seat : goal.invariant-loop-seat
 invariant-loop-seat l = record {

@@ -1,11 +1,11 @@
 //! A window of rows that moves over a map of 1,024 pages, for `bench/room`: rows with rising keys are inserted by one handle, and each is
 //! deleted by another once so many live. It prints how many rows were inserted so far, how many pages are in use then, and how many
 //! insertions were refused; and last, when all rows are deleted and the map is put in order, how many pages are in use.
-#![tactic(auto)]
 
-ghost use Rattle.std.specs.Prelude.{All, IfSome};
-ghost use Rattle.bl_map.specs.Maps.{AreSeatsOf, IsHandleOf};
+ghost use Rattle.std.specs.Prelude.{IfSome};
+ghost use Rattle.bl_map.specs.Maps.{AreSeatsOf};
 
+use crate::handles_of;
 use bl_map::{Handle, KeyReply, Map, Seat};
 use std::alloc::Global;
 use std::sync::Wait;
@@ -23,7 +23,7 @@ struct Load {
 
 impl Load {
     fn read(words: &[String]) -> Option<Load> {
-        let [_, rows, living, step] = words else {
+        let [_, _, rows, living, step] = words else {
             return None;
         };
         Some(Load {
@@ -39,19 +39,6 @@ fn opened(alloc: Global) -> Option<(Map, Vec<Seat>)>
     ensures { IfSome result (λ t. AreSeatsOf t.0 t.1.items) }
 {
     Map::open(alloc, PAGES, 2).ok()
-}
-
-/// A handle for each seat.
-fn handles_of<'a>(alloc: Global, map: &'a Map, seats: Vec<Seat>) -> Option<Vec<Handle<'a>>>
-    requires { AreSeatsOf map.now seats.items }
-    ensures { IfSome result (λ handles. All (IsHandleOf map.now) handles.items) }
-{
-    let mut seats = seats;
-    let mut handles = Vec::new(alloc);
-    while let Some(seat) = seats.pop() {
-        handles.push(map.handle(seat)).ok()?;
-    }
-    Some(handles)
 }
 
 /// Inserts the rows from one on and below another, and deletes for each the one that came so many before. Says how many were refused.
@@ -88,10 +75,10 @@ fn used(handle: &Handle<'_>) -> u64 {
     u64::from(PAGES).saturating_sub(handle.free_pages())
 }
 
-fn main(rt: HostRuntime) -> anyhow::Result<()> {
-    let words: Vec<String> = std::env::args(&rt)?.collect(rt.alloc())?;
-    let Some(load) = Load::read(words.as_slice()) else {
-        eprintln!(&rt; "usage: bench_room ROWS LIVING STEP")?;
+/// Moves the window that these words name.
+pub fn move_window(rt: HostRuntime, words: &[String]) -> anyhow::Result<()> {
+    let Some(load) = Load::read(words) else {
+        eprintln!(&rt; "usage: bench_map room ROWS LIVING STEP")?;
         return Ok(());
     };
     let Some((map, seats)) = opened(rt.alloc()) else {

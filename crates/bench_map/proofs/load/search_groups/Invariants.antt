@@ -1,5 +1,5 @@
 use Rattle.std.proofs.Common.{◌≡◌}
-use Rattle.bench_large.proofs.search_groups.Given as goal
+use Rattle.bench_map.proofs.load.search_groups.Given as goal
 
 abbrev pub invariant-loop-key : goal.invariant-loop-key
 invariant-loop-key g l = l.handle.index ≡ l.fn.handle.index
