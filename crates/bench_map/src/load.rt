@@ -7,6 +7,8 @@ ghost use Rattle.std.specs.Prelude.{◌≡◌};
 
 use crate::handles_of;
 use bl_map::{Handle, KeyReply, Map};
+use std::alloc::Global;
+use std::io::{Eprint, Print};
 use std::sync::Wait;
 use std::sync::atomic::{AtomicU64, Ordering};
 use std::thread;
@@ -290,24 +292,28 @@ fn run<R: Threads + Wait + Clock + Sync>(
 }
 
 /// Does the load that these words name.
-pub fn run_load(rt: HostRuntime, words: &[String]) -> anyhow::Result<()> {
+pub fn run_load<R: Print + Eprint + Threads + Wait + Clock + Sync>(
+    rt: &R,
+    alloc: Global,
+    words: &[String],
+) -> anyhow::Result<()> {
     let Some(load) = Load::read(words) else {
-        eprintln!(&rt; "usage: bench_map PAGES ROWS THREADS CALLS rising|random [GROUP]")?;
+        eprintln!(rt; "usage: bench_map PAGES ROWS THREADS CALLS rising|random [GROUP]")?;
         return Ok(());
     };
-    let start = Instant::now(&rt)?;
-    let Ok((map, seats)) = Map::open(rt.alloc(), load.pages, load.threads) else {
-        eprintln!(&rt; "the map was not opened")?;
+    let start = Instant::now(rt)?;
+    let Ok((map, seats)) = Map::open(alloc, load.pages, load.threads) else {
+        eprintln!(rt; "the map was not opened")?;
         return Ok(());
     };
-    println!(&rt;
+    println!(rt;
         "open {} {} {} 0",
         load.pages,
         load.pages,
-        start.elapsed(&rt)?.as_micros()
+        start.elapsed(rt)?.as_micros()
     )?;
-    let Some(mut handles) = handles_of(rt.alloc(), &map, seats) else {
-        eprintln!(&rt; "out of memory")?;
+    let Some(mut handles) = handles_of(alloc, &map, seats) else {
+        eprintln!(rt; "out of memory")?;
         return Ok(());
     };
     let handles = handles.as_mut_slice();
@@ -322,10 +328,10 @@ pub fn run_load(rt: HostRuntime, words: &[String]) -> anyhow::Result<()> {
         if load.grouped && matches!(part, Part::Scans) {
             break;
         }
-        let start = Instant::now(&rt)?;
-        let (done, longest) = run(&rt, handles, load, part);
-        let micros = start.elapsed(&rt)?.as_micros();
-        println!(&rt; "{name} {calls} {done} {micros} {longest}")?;
+        let start = Instant::now(rt)?;
+        let (done, longest) = run(rt, handles, load, part);
+        let micros = start.elapsed(rt)?.as_micros();
+        println!(rt; "{name} {calls} {done} {micros} {longest}")?;
     }
     Ok(())
 }

@@ -12,7 +12,11 @@ use bl_map::{Handle, Map, Seat};
 use std::alloc::Global;
 
 /// A handle for each seat.
-pub(crate) fn handles_of<'a>(alloc: Global, map: &'a Map, seats: Vec<Seat>) -> Option<Vec<Handle<'a>>>
+pub(crate) fn handles_of<'a>(
+    alloc: Global,
+    map: &'a Map,
+    seats: Vec<Seat>,
+) -> Option<Vec<Handle<'a>>>
     requires { AreSeatsOf map.now seats.items }
     ensures { IfSome result (λ handles. All (IsHandleOf map.now) handles.items) }
 {
@@ -28,7 +32,7 @@ fn main(rt: HostRuntime) -> anyhow::Result<()> {
     let words: Vec<String> = std::env::args(&rt)?.collect(rt.alloc())?;
     let words = words.as_slice();
     match words {
-        [_, first, ..] if first.as_str() == "room" => room::move_window(rt, words),
-        _ => load::run_load(rt, words),
+        [_, first, ..] if first.as_str() == "room" => room::move_window(&rt, rt.alloc(), words),
+        _ => load::run_load(&rt, rt.alloc(), words),
     }
 }

@@ -8,6 +8,7 @@ ghost use Rattle.bl_map.specs.Maps.{AreSeatsOf};
 use crate::handles_of;
 use bl_map::{Handle, KeyReply, Map, Seat};
 use std::alloc::Global;
+use std::io::{Eprint, Print};
 use std::sync::Wait;
 
 /// How many pages the map has.
@@ -76,17 +77,21 @@ fn used(handle: &Handle<'_>) -> u64 {
 }
 
 /// Moves the window that these words name.
-pub fn move_window(rt: HostRuntime, words: &[String]) -> anyhow::Result<()> {
+pub fn move_window<R: Print + Eprint + Wait>(
+    rt: &R,
+    alloc: Global,
+    words: &[String],
+) -> anyhow::Result<()> {
     let Some(load) = Load::read(words) else {
-        eprintln!(&rt; "usage: bench_map room ROWS LIVING STEP")?;
+        eprintln!(rt; "usage: bench_map room ROWS LIVING STEP")?;
         return Ok(());
     };
-    let Some((map, seats)) = opened(rt.alloc()) else {
-        eprintln!(&rt; "out of memory")?;
+    let Some((map, seats)) = opened(alloc) else {
+        eprintln!(rt; "out of memory")?;
         return Ok(());
     };
-    let Some(mut handles) = handles_of(rt.alloc(), &map, seats) else {
-        eprintln!(&rt; "out of memory")?;
+    let Some(mut handles) = handles_of(alloc, &map, seats) else {
+        eprintln!(rt; "out of memory")?;
         return Ok(());
     };
     let Some(mut two) = handles.pop() else {
@@ -99,13 +104,13 @@ pub fn move_window(rt: HostRuntime, words: &[String]) -> anyhow::Result<()> {
     let mut done = 0u64;
     for _step in 0..steps {
         let to = done.saturating_add(load.step);
-        let refused = move_on(&rt, &mut one, &mut two, done, to, load.living);
+        let refused = move_on(rt, &mut one, &mut two, done, to, load.living);
         let pages = used(&one);
-        println!(&rt; "{to} {pages} {refused}")?;
+        println!(rt; "{to} {pages} {refused}")?;
         done = to;
     }
-    empty(&rt, &mut two, done.saturating_sub(load.living), done);
+    empty(rt, &mut two, done.saturating_sub(load.living), done);
     let pages = used(&two);
-    println!(&rt; "empty {pages}")?;
+    println!(rt; "empty {pages}")?;
     Ok(())
 }

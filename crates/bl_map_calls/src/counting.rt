@@ -41,13 +41,7 @@ fn end_of(reply: &Reply) -> Option<u64>
 }
 
 /// Counts the rows from a key on and below an end, if there is one, part by part. Where a part ran out of turns it is made again.
-pub fn count<R: Wait>(
-    rt: &R,
-    index: &Index,
-    pass: &mut Pass,
-    from: u64,
-    to: Option<u64>,
-) -> u64
+pub fn count<R: Wait>(rt: &R, index: &Index, pass: &mut Pass, from: u64, to: Option<u64>) -> u64
     requires { IsPassOf index.now pass.old }
     ensures same { IsSamePass pass.old pass.new }
     ensures counted { CountsRows (first_of index.now) (pages_of index.now) (number_of pass.old) from to result (trail pass.old) (trail pass.new) }

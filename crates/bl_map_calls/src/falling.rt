@@ -145,12 +145,7 @@ pub fn tell_down<R: Wait, F: FnMut((u64, u64))>(
 }
 
 /// Looks for the greatest row up to a key, part by part.
-pub fn greatest_to<R: Wait>(
-    rt: &R,
-    index: &Index,
-    pass: &mut Pass,
-    from: u64,
-) -> Option<(u64, u64)>
+pub fn greatest_to<R: Wait>(rt: &R, index: &Index, pass: &mut Pass, from: u64) -> Option<(u64, u64)>
     requires { IsPassOf index.now pass.old }
     ensures same { IsSamePass pass.old pass.new }
     ensures found { FindsGreatest (first_of index.now) (pages_of index.now) (number_of pass.old) from result (trail pass.old) (trail pass.new) }

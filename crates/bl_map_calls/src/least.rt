@@ -33,12 +33,7 @@ pub(crate) fn found_in(reply: &Reply) -> Found
 }
 
 /// Looks for it part by part. Where a part ran out of turns it is made again.
-pub fn least_from<R: Wait>(
-    rt: &R,
-    index: &Index,
-    pass: &mut Pass,
-    from: u64,
-) -> Option<(u64, u64)>
+pub fn least_from<R: Wait>(rt: &R, index: &Index, pass: &mut Pass, from: u64) -> Option<(u64, u64)>
     requires { IsPassOf index.now pass.old }
     ensures same { IsSamePass pass.old pass.new }
     ensures found { FindsLeast (first_of index.now) (pages_of index.now) (number_of pass.old) from result (trail pass.old) (trail pass.new) }

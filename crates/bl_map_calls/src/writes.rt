@@ -89,13 +89,7 @@ fn try_some<R: Wait>(rt: &R, index: &Index, pass: &mut Pass, waiting: &mut Waiti
 }
 
 /// The same, and gives back what was swapped out.
-pub fn try_again<R: Wait>(
-    rt: &R,
-    index: &Index,
-    pass: &mut Pass,
-    waiting: &mut Waiting,
-    most: u32,
-)
+pub fn try_again<R: Wait>(rt: &R, index: &Index, pass: &mut Pass, waiting: &mut Waiting, most: u32)
     requires { IsPassOf index.now pass.old }
     ensures same { IsSamePass pass.old pass.new }
     ensures tries { TriesAgain (first_of index.now) (number_of pass.old) most waiting.old waiting.new (trail pass.old) (trail pass.new) }
