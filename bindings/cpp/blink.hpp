@@ -27,7 +27,6 @@
 #include <new>
 #include <optional>
 #include <stdexcept>
-#include <type_traits>
 #include <utility>
 #include <vector>
 
@@ -299,13 +298,11 @@ public:
     template <class Function>
     Result<std::optional<Value>> update(Key key, Function &&make, std::nothrow_t) {
         Value old = 0, now = 0;
-        const int32_t code = blink_update(
-            &seat_, key,
-            [](uint64_t value, void *asked) -> uint64_t {
-                return (*static_cast<std::remove_reference_t<Function> *>(asked))(value);
-            },
-            const_cast<void *>(static_cast<const void *>(std::addressof(make))), &old,
-            &now);
+        auto call = [&make](Value value) -> Value { return make(value); };
+        const auto made = [](uint64_t value, void *asked) -> uint64_t {
+            return (*static_cast<decltype(call) *>(asked))(value);
+        };
+        const int32_t code = blink_update(&seat_, key, made, &call, &old, &now);
         return some(code, BLINK_OK, BLINK_ABSENT, old);
     }
     template <class Function> std::optional<Value> update(Key key, Function &&make) {

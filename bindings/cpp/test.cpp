@@ -163,6 +163,8 @@ static void threads(uint64_t times) {
     CHECK(refused_close(map) == BLINK_SEATS_OPEN);
 }
 
+static uint64_t one_more(uint64_t value) { return value + 1; }
+
 static void edges() {
     blink::Map map(16, 1);
     {
@@ -182,6 +184,7 @@ static void edges() {
         CHECK(handle.update(5, [](uint64_t) -> uint64_t { return 8; }, std::nothrow).value() == 7 && handle.find(5) == 8);
         const auto three = [](uint64_t) -> uint64_t { return 3; };
         CHECK(handle.update(5, three) == 8 && handle.update(6, three) == std::nullopt);
+        CHECK(handle.update(5, one_more) == 3 && handle.find(5) == 4 && handle.update(5, three) == 4);
         // What the function throws ends the call, and nothing has changed.
         try {
             handle.update(5, [](uint64_t) -> uint64_t { throw std::out_of_range("no"); });

@@ -15,7 +15,7 @@ from blink import BadImage, Closed, Map, NoRoom
 
 try:
     from test import mapping_tests
-except ImportError:  # Debian has them in libpython3-testsuite
+except ImportError:  # Debian has them in libpython3.11-testsuite
     mapping_tests = None
 try:
     import numpy
