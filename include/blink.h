@@ -96,7 +96,7 @@ extern "C" {
 enum {
     BLINK_OK = 0,          /* done; where a value goes with it, it is written */
     BLINK_ABSENT = 1,      /* the key is not there */
-    BLINK_PRESENT = 2,     /* the key was there, and its value then is written */
+    BLINK_PRESENT = 2,     /* the key was there; which value is written stands there */
     BLINK_NO_ROOM = 3,     /* no free page or frame; nothing has changed */
     BLINK_AGAIN = 4,       /* no answer yet: let another thread run and call again */
     BLINK_BAD_PAGES = 5,   /* the number of pages is not 4 to 2^28 */
@@ -364,7 +364,8 @@ BLINK_INLINE int32_t blink_first(blink_seat *seat, blink_row *row);
  *   BLINK_CLOSED      the seat is closed */
 BLINK_INLINE int32_t blink_last(blink_seat *seat, blink_row *row);
 
-/* The row of the least key above this one, which need not be there itself.
+/* The row of the least key above this one, which need not be there itself. For many rows
+ * blink_scan costs less.
  *   BLINK_OK          `*row` is that row
  *   BLINK_ABSENT      there is none
  *   BLINK_CLOSED      the seat is closed */

@@ -58,7 +58,7 @@ pub struct blink_stats {
 pub const BLINK_OK: i32 = 0;
 /// The key is not there.
 pub const BLINK_ABSENT: i32 = 1;
-/// The key has a value, which it keeps.
+/// The key was there.
 pub const BLINK_PRESENT: i32 = 2;
 /// No free page or frame; nothing has changed.
 pub const BLINK_NO_ROOM: i32 = 3;
