@@ -14,7 +14,7 @@ _blink() {
                 ;;
         esac
         case $command in
-            serve | dump) words='--pages --workers --compressors --image --stats --help' ;;
+            serve | dump) words='--pages --large --workers --compressors --image --interactive --stats --help' ;;
             load) words='--pages --large --fill --help' ;;
             draw) words='--svg --help' ;;
             rows | check | replay) words='--help' ;;

@@ -7,7 +7,7 @@
 
 ghost use Rattle.std.specs.Prelude.{◌≤◌, ◌^◌, IfOk};
 ghost use Rattle.bl_serve_lines.specs.Options.{AreWithin};
-ghost use Rattle.bl_serve.specs.Origins.{HasPages};
+ghost use Rattle.bl_serve.specs.Origins.{HasPages, MayServe};
 
 use bl_check::Quiet;
 use bl_cli_commands::{
@@ -15,9 +15,9 @@ use bl_cli_commands::{
     check_file, draw_file, load_file, make_image, malformed_line, may_replace, noroom_line,
     print_file, reason_of, replace_file, replay_file, stats_line, used_pages,
 };
-use bl_cli_options::{Invocation, Loading, ServeOptions, Server, read_words};
+use bl_cli_options::{Invocation, Loading, Server, read_words};
 use bl_model::Watched;
-use bl_serve::{Origin, ServeFault, Totals, dump_index, serve_index};
+use bl_serve::{Origin, ServeFault, ServePlan, Totals, dump_by_plan, serve_by_plan};
 use clap::Error;
 use clap::error::ErrorKind;
 use std::alloc::AllocError;
@@ -204,29 +204,31 @@ fn say_counts(rt: &HostRuntime, server: &Server, counts: &Counts) {
     }
 }
 
+/// How a server works that the command line asks for.
+fn plan_of(server: &Server) -> ServePlan
+    requires { AreWithin server.now.options }
+    ensures { MayServe result }
+{
+    ServePlan {
+        workers: server.options.workers,
+        compressors: server.options.compressors,
+        sections: server.sections,
+    }
+}
+
 /// Serves standard input over an index that begins so, and closes it.
 fn serve_and_close<T: Threads + Wait + Sync>(
     rt: &HostRuntime,
     threads: &T,
     origin: Origin,
-    options: ServeOptions,
+    plan: ServePlan,
     writer: &mut Replies<'_>,
 ) -> Result<(Totals, Result<Quiet, AllocError>), ServeFault>
     requires pages { HasPages origin }
-    requires options { AreWithin options }
+    requires passes { MayServe plan }
 {
     let mut reader = Watched::new(rt.stdin());
-    let (workers, compressors) = (options.workers, options.compressors);
-    let alloc = rt.alloc();
-    dump_index(
-        threads,
-        alloc,
-        origin,
-        workers,
-        compressors,
-        &mut reader,
-        writer,
-    )
+    dump_by_plan(threads, rt.alloc(), origin, plan, &mut reader, writer)
 }
 
 /// The same, and leaves the index open.
@@ -234,24 +236,14 @@ fn serve_alone<T: Threads + Wait + Sync>(
     rt: &HostRuntime,
     threads: &T,
     origin: Origin,
-    options: ServeOptions,
+    plan: ServePlan,
     writer: &mut Replies<'_>,
 ) -> Result<Totals, ServeFault>
     requires pages { HasPages origin }
-    requires options { AreWithin options }
+    requires passes { MayServe plan }
 {
     let mut reader = Watched::new(rt.stdin());
-    let (workers, compressors) = (options.workers, options.compressors);
-    let alloc = rt.alloc();
-    serve_index(
-        threads,
-        alloc,
-        origin,
-        workers,
-        compressors,
-        &mut reader,
-        writer,
-    )
+    serve_by_plan(threads, rt.alloc(), origin, plan, &mut reader, writer)
 }
 
 /// Serves standard input over an index that begins so. With `--stats` the index is closed at the end, so that its pages can be
@@ -260,20 +252,20 @@ fn serve_from<T: Threads + Wait + Sync>(
     rt: &HostRuntime,
     threads: &T,
     origin: Origin,
-    options: ServeOptions,
+    plan: ServePlan,
     stats: bool,
 ) -> Result<Counts, ExitCode>
     requires pages { HasPages origin }
-    requires options { AreWithin options }
+    requires passes { MayServe plan }
 {
     let mut writer = replies(rt);
     let served = if stats {
-        serve_and_close(rt, threads, origin, options, &mut writer).map(|(totals, closed)| (
+        serve_and_close(rt, threads, origin, plan, &mut writer).map(|(totals, closed)| (
             totals,
             closed.ok().map(|quiet| used_pages(quiet.image())),
         ))
     } else {
-        serve_alone(rt, threads, origin, options, &mut writer).map(|totals| (totals, None))
+        serve_alone(rt, threads, origin, plan, &mut writer).map(|totals| (totals, None))
     };
     match served {
         Ok((totals, usage)) => Ok(counts_of(totals, usage, writer)),
@@ -289,7 +281,7 @@ fn serve<T: Threads + Wait + Sync>(rt: &HostRuntime, threads: &T, server: Server
         Ok(origin) => origin,
         Err(code) => return code,
     };
-    match serve_from(rt, threads, origin, server.options, server.stats) {
+    match serve_from(rt, threads, origin, plan_of(&server), server.stats) {
         Ok(counts) => {
             say_counts(rt, &server, &counts);
             ExitCode::SUCCESS
@@ -335,7 +327,8 @@ fn dump<T: Threads + Wait + Sync>(
         Err(code) => return Ok(code),
     };
     let mut writer = replies(rt);
-    let (totals, closed) = match serve_and_close(rt, threads, origin, server.options, &mut writer) {
+    let plan = plan_of(&server);
+    let (totals, closed) = match serve_and_close(rt, threads, origin, plan, &mut writer) {
         Ok(served) => served,
         Err(fault) => return Ok(end_serving(rt, fault, writer)),
     };

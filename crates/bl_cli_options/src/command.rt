@@ -8,7 +8,7 @@ use crate::texts::{
     ABOUT_ALL, ABOUT_CHECK, ABOUT_DRAW, ABOUT_DUMP, ABOUT_LOAD, ABOUT_REPLAY, ABOUT_ROWS,
     ABOUT_SERVE, VERSION,
 };
-use bl_serve_lines::ServeOptions;
+use bl_serve_lines::{Sectioning, ServeOptions};
 use clap::{Arg, ArgAction, ArgMatches, Command, Error, value_parser};
 use std::alloc::{AllocError, Global};
 
@@ -19,6 +19,8 @@ pub struct Server {
     pub options: ServeOptions,
     /// The file of the image that it begins with; without one it begins without rows.
     pub image: Option<String>,
+    /// Which lines end a section.
+    pub sections: Sectioning,
     /// Whether it says at its end what it has counted.
     pub stats: bool,
 }
@@ -103,6 +105,14 @@ fn image_option<'a>(alloc: Global) -> Result<Arg<'a>, AllocError> {
         .conflicts_with("large")
 }
 
+/// Whether each line is a section.
+fn interactive_option<'a>(alloc: Global) -> Arg<'a> {
+    Arg::new(alloc, "interactive")
+        .long("interactive")
+        .action(ArgAction::SetTrue)
+        .help("Answer each line before the next one is read")
+}
+
 /// Whether the server says at its end what it has counted.
 fn stats_option<'a>(alloc: Global) -> Arg<'a> {
     Arg::new(alloc, "stats")
@@ -136,7 +146,9 @@ fn with_compressors_and_image<'a>(
 fn with_options<'a>(alloc: Global, command: Command<'a>) -> Result<Command<'a>, AllocError> {
     let command = with_pages_and_workers(alloc, command)?;
     let command = with_compressors_and_image(alloc, command)?;
-    command.arg(stats_option(alloc))
+    command
+        .arg(interactive_option(alloc))?
+        .arg(stats_option(alloc))
 }
 
 /// The file that a command is about.
@@ -168,6 +180,15 @@ fn dump_command<'a>(alloc: Global) -> Result<Command<'a>, AllocError> {
     with_options(alloc, command)
 }
 
+/// Which lines end a section, as clap has found.
+fn sections_of(found: &ArgMatches) -> Sectioning {
+    if found.get_flag("interactive") {
+        Sectioning::EachLine
+    } else {
+        Sectioning::BySync
+    }
+}
+
 /// The server that clap has found. It has refused a value outside the limits; they are kept here too, since its answer is
 /// not known to the proof.
 fn server_of(alloc: Global, found: &ArgMatches) -> Result<Server, AllocError>
@@ -190,6 +211,7 @@ fn server_of(alloc: Global, found: &ArgMatches) -> Result<Server, AllocError>
     Ok(Server {
         options,
         image,
+        sections: sections_of(found),
         stats,
     })
 }

@@ -7,5 +7,5 @@
 mod command;
 mod texts;
 
-pub use bl_serve_lines::ServeOptions;
+pub use bl_serve_lines::{Sectioning, ServeOptions};
 pub use command::{Invocation, Loading, Server, read_words};

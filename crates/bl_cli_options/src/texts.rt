@@ -33,7 +33,10 @@ Any other line is malformed; standard error says at the end how many were, and
 which was the first. Each reply begins with the number of its line.
 Replies are written at each sync and at the end of the input. All requests
 before a sync are carried out before those after it; those between two syncs in
-any order, and by one worker in theirs.
+any order, and by one worker in theirs. With --interactive each line is answered
+before the next one is read, and no sync is needed: for a program that writes a
+line and waits for its reply. At a terminal serve and dump do so by themselves,
+with a prompt, which has the words help and quit.
 
 Sizes. The number of pages is fixed at the start, and a page has room for 14
 rows. Rows in an empty index before the first noroom, by the order of the keys,

@@ -5,6 +5,7 @@ use lib.ListN.{get_elem?}
 use Rattle.bl_model.specs.Map.{Map}
 use Rattle.bl_model.specs.Rows.{map_of}
 use Rattle.bl_check.specs.declared.quiet.Quiet.{Quiet}
+use Rattle.bl_serve_lines.specs.declared.serving.Sectioning.{Sectioning}
 use Rattle.bl_serve_lines.specs.declared.serving.Totals.{Totals}
 use Rattle.bl_serve_lines.specs.declared.serving.ServeFault.{ServeFault}
 use Rattle.bl_serve_lines.specs.Served.{Served, Stops}
@@ -73,13 +74,13 @@ image_begins quiet among index passes r = let image = quiet.image.pages.items in
 
 -- ---- they serve from those rows
 
-module _ (origin : Origin) (among : ℕ) (index : Index) (olds : List Pass) (b : IsBegunFrom origin among index olds) where
+module _ (how : Sectioning) (origin : Origin) (among : ℕ) (index : Index) (olds : List Pass) (b : IsBegunFrom origin among index olds) where
   -- the map after what they have seen is that of the rows
   pub rows_seen : map_after (first_of index) (seen_by olds) ≡ map_of b.rows
   rows_seen = ap (map_after (first_of index)) b.unseen ∙ b.map
 
-  pub served_from : (news : List Pass) (totals : Totals) (input output : List ℕ) → Serves index olds news totals input output → ServedFrom origin totals input output
-  served_from news totals input output s = record { rows = b.rows; are_rows = b.are_rows; served = subst (λ (m : Map). Served m input output totals) rows_seen s.served.served }
+  pub served_from : (news : List Pass) (totals : Totals) (input output : List ℕ) → Serves how index olds news totals input output → ServedFrom how origin totals input output
+  served_from news totals input output s = record { rows = b.rows; are_rows = b.are_rows; served = subst (λ (m : Map). Served how m input output totals) rows_seen s.served.served }
 
-  pub stops_from : (input output : List ℕ) (fault : ServeFault) (reader_failed writer_failed : Type 0) → Stops (map_after (first_of index) (seen_by olds)) input output fault reader_failed writer_failed → StopsFrom origin input output fault reader_failed writer_failed
-  stops_from input output fault reader_failed writer_failed s = Stopped b.rows b.are_rows (subst (λ (m : Map). Stops m input output fault reader_failed writer_failed) rows_seen s)
+  pub stops_from : (input output : List ℕ) (fault : ServeFault) (reader_failed writer_failed : Type 0) → Stops how (map_after (first_of index) (seen_by olds)) input output fault reader_failed writer_failed → StopsFrom how origin input output fault reader_failed writer_failed
+  stops_from input output fault reader_failed writer_failed s = Stopped b.rows b.are_rows (subst (λ (m : Map). Stops how m input output fault reader_failed writer_failed) rows_seen s)

@@ -1,13 +1,13 @@
 -- A section that is read and answered in chunks: two chunks that follow each other are one.
 use Rattle.std.proofs.Common.{◌≡◌, ◌≢◌, ℕ, suc, ◌+◌, ◌≤◌, ◌<◌, ◌^◌, ◌-◌, List, [], ◌∷◌, ◌++◌, length, map, refl, sym, ap, ◌∙◌, subst, append_assoc, append-nil, arith, length-append, inl, inr}
-use Rattle.std.specs.Prelude.{All, Option, Some, Result, Ok, Err, is_none, cond, min}
+use Rattle.std.specs.Prelude.{All, Option, Result, Ok, Err, is_none, cond, min}
 use Rattle.std.proofs.lemmas.List.{map-append}
 use Rattle.std.proofs.lemmas.List.Concat.{flat_map-append}
 use Rattle.std.proofs.lemmas.List.Sums.{sum_by-append}
 use Rattle.std.proofs.lemmas.List.Elements.{All-nil, All-head, All-tail, All-append}
 use Rattle.bl_model.specs.declared.operation.Entry.{Entry}
 use Rattle.bl_serve_lines.specs.declared.request.Request.{Request}
-use Rattle.bl_serve_lines.specs.declared.request.Request.TheVariants.{Sync}
+use Rattle.bl_serve_lines.specs.declared.serving.Sectioning.{Sectioning}
 use Rattle.bl_serve_lines.specs.declared.serving.ServeFault.{ServeFault}
 use Rattle.bl_serve_lines.specs.declared.serving.ServeFault.TheVariants.{Read, Write, Memory, Lost}
 use Rattle.bl_serve_lines.specs.declared.serving.Totals.{Totals}
@@ -18,10 +18,10 @@ use Rattle.bl_claims.specs.Trails.{Trail, history_of}
 use Rattle.bl_index.specs.declared.index.Index.{Index}
 use Rattle.bl_index.specs.declared.index.Pass.{Pass}
 use Rattle.bl_serve.specs.declared.section_reader.SectionEnd.{SectionEnd}
-use Rattle.bl_serve.specs.declared.section_reader.SectionEnd.TheVariants.{Synced, Rest, Finished}
+use Rattle.bl_serve.specs.declared.section_reader.SectionEnd.TheVariants.{ByLine, Rest, Finished}
 use Rattle.bl_serve_worker.specs.Answering.{IsFor, answers_text}
-use Rattle.bl_serve.specs.Reading.{IsReadAs, bytes_of, AsksNoSync, AsksSyncLast, ReadsLines, EndsReading}
-use Rattle.bl_serve.specs.Sections.{Held, CountsSection, end_text, rests}
+use Rattle.bl_serve.specs.Reading.{IsReadAs, bytes_of, AsksEnd, AskNoEnd, AskEndLast, ReadsLines, EndsReading}
+use Rattle.bl_serve.specs.Sections.{Held, CountsSection, end_text, is_sync, rests}
 use Rattle.bl_serve.specs.Serving.{AreTogether, FailsSection, ServesSection, IsInside, seen_by}
 use Rattle.bl_serve_worker.proofs.Lines.{history_append, zip_append, zip_length, text_append}
 use Rattle.bl_serve.proofs.Holding.{first_seen}
@@ -50,35 +50,37 @@ reads_then unread mid left xs ys rest r s = record {
       ∙ ap (λ (z : List ℕ). (z ++ rest) ++ left) (sym (flat_map-append (λ (t : List ℕ). t ++ 10 ∷ []) r.texts s.texts))))));
 }
 
-no_sync_then : (xs ys : List (Option Request)) → AsksNoSync xs → AsksNoSync ys → AsksNoSync (xs ++ ys)
-no_sync_then xs ys a b = All-append (λ z. z ≢ Some Sync) xs ys a b
+no_end_then : (how : Sectioning) (xs ys : List (Option Request)) → AskNoEnd how xs → AskNoEnd how ys → AskNoEnd how (xs ++ ys)
+no_end_then how xs ys a b = All-append (λ z. ¬ AsksEnd how z) xs ys a b
 
-sync_last_then : (xs ys : List (Option Request)) → AsksNoSync xs → AsksSyncLast ys → AsksSyncLast (xs ++ ys)
-sync_last_then xs ys a b = record {
+end_last_then : (how : Sectioning) (xs ys : List (Option Request)) → AskNoEnd how xs → AskEndLast how ys → AskEndLast how (xs ++ ys)
+end_last_then how xs ys a b = record {
   front = xs ++ b.front;
-  ends = ap (λ (z : List (Option Request)). xs ++ z) b.ends ∙ sym (append_assoc xs b.front (Some Sync ∷ []));
-  no_sync = no_sync_then xs b.front a b.no_sync;
+  last = b.last;
+  ends = ap (λ (z : List (Option Request)). xs ++ z) b.ends ∙ sym (append_assoc xs b.front (b.last ∷ []));
+  is_end = b.is_end;
+  no_end = no_end_then how xs b.front a b.no_end;
 }
 
--- lines without a sync, and how the reading of those behind them ended
-pub ends_then : (ended : Result SectionEnd ServeFault) (most few : ℕ) (unread mid left : List ℕ) (xs ys : List (Option Request)) (rest : List ℕ) (AtEnd Failed : Type 0) → ReadsLines unread mid xs [] → AsksNoSync xs → length xs + few ≤ most → (ended ≡ Ok Finished → few ≤ length ys → most ≤ length xs + length ys)
-    → EndsReading ended few ys rest mid left AtEnd Failed → EndsReading ended most (xs ++ ys) rest unread left AtEnd Failed
-ends_then (Ok Synced) most few unread mid left xs ys rest AtEnd Failed r none within full e = let long = length-append xs ys in let b = e.1 in
-    (reads_then unread mid left xs ys rest r e.0, omega (arith, long, within, b), e.2, sync_last_then xs ys none e.3)
-ends_then (Ok Rest) most few unread mid left xs ys rest AtEnd Failed r none within full e = let long = length-append xs ys in let b = e.1 in
-    (reads_then unread mid left xs ys rest r e.0, omega (arith, long, within, b), e.2, no_sync_then xs ys none e.3, e.4)
-ends_then (Ok Finished) most few unread mid left xs ys rest AtEnd Failed r none within full e = let long = length-append xs ys in let b = e.1 in
-    (reads_then unread mid left xs ys rest r e.0, omega (arith, long, within, b), e.2, no_sync_then xs ys none e.3, elim e.4 [ inl here ↦ inl here | inr many ↦ inr (let c = full refl many in omega (arith, long, c)) ])
-ends_then (Err Read) most few unread mid left xs ys rest AtEnd Failed r none within full e = (reads_then unread mid left xs ys rest r e.0, no_sync_then xs ys none e.1, e.2, e.3)
-ends_then (Err Write) most few unread mid left xs ys rest AtEnd Failed r none within full e = absurd e
-ends_then (Err Memory) most few unread mid left xs ys rest AtEnd Failed r none within full e = tt
-ends_then (Err (Lost number)) most few unread mid left xs ys rest AtEnd Failed r none within full e = absurd e
+-- lines that end no section, and how the reading of those behind them ended
+pub ends_then : (how : Sectioning) (ended : Result SectionEnd ServeFault) (most few : ℕ) (unread mid left : List ℕ) (xs ys : List (Option Request)) (rest : List ℕ) (AtEnd Failed : Type 0) → ReadsLines unread mid xs [] → AskNoEnd how xs → length xs + few ≤ most → (ended ≡ Ok Finished → few ≤ length ys → most ≤ length xs + length ys)
+    → EndsReading how ended few ys rest mid left AtEnd Failed → EndsReading how ended most (xs ++ ys) rest unread left AtEnd Failed
+ends_then how (Ok ByLine) most few unread mid left xs ys rest AtEnd Failed r none within full e = let long = length-append xs ys in let b = e.1 in
+    (reads_then unread mid left xs ys rest r e.0, omega (arith, long, within, b), e.2, end_last_then how xs ys none e.3)
+ends_then how (Ok Rest) most few unread mid left xs ys rest AtEnd Failed r none within full e = let long = length-append xs ys in let b = e.1 in
+    (reads_then unread mid left xs ys rest r e.0, omega (arith, long, within, b), e.2, no_end_then how xs ys none e.3, e.4)
+ends_then how (Ok Finished) most few unread mid left xs ys rest AtEnd Failed r none within full e = let long = length-append xs ys in let b = e.1 in
+    (reads_then unread mid left xs ys rest r e.0, omega (arith, long, within, b), e.2, no_end_then how xs ys none e.3, elim e.4 [ inl here ↦ inl here | inr many ↦ inr (let c = full refl many in omega (arith, long, c)) ])
+ends_then how (Err Read) most few unread mid left xs ys rest AtEnd Failed r none within full e = (reads_then unread mid left xs ys rest r e.0, no_end_then how xs ys none e.1, e.2, e.3)
+ends_then how (Err Write) most few unread mid left xs ys rest AtEnd Failed r none within full e = absurd e
+ends_then how (Err Memory) most few unread mid left xs ys rest AtEnd Failed r none within full e = tt
+ends_then how (Err (Lost number)) most few unread mid left xs ys rest AtEnd Failed r none within full e = absurd e
 
 -- that reading failed does not matter where it did not
-pub any_failed : (end : SectionEnd) (most : ℕ) (asked : List (Option Request)) (rest unread left : List ℕ) (AtEnd Failed Failed' : Type 0) → EndsReading (Ok end) most asked rest unread left AtEnd Failed → EndsReading (Ok end) most asked rest unread left AtEnd Failed'
-any_failed Synced most asked rest unread left AtEnd Failed Failed' e = e
-any_failed Rest most asked rest unread left AtEnd Failed Failed' e = e
-any_failed Finished most asked rest unread left AtEnd Failed Failed' e = e
+pub any_failed : (how : Sectioning) (end : SectionEnd) (most : ℕ) (asked : List (Option Request)) (rest unread left : List ℕ) (AtEnd Failed Failed' : Type 0) → EndsReading how (Ok end) most asked rest unread left AtEnd Failed → EndsReading how (Ok end) most asked rest unread left AtEnd Failed'
+any_failed how ByLine most asked rest unread left AtEnd Failed Failed' e = e
+any_failed how Rest most asked rest unread left AtEnd Failed Failed' e = e
+any_failed how Finished most asked rest unread left AtEnd Failed Failed' e = e
 
 -- ---- answering
 
@@ -137,7 +139,7 @@ pub counts_then : (old mid new : Totals) (xs ys : List (Option Request)) (end : 
 counts_then old mid new xs ys end a b = record {
   requests = (let long = length-append xs ys in let c = a.requests in let d = b.requests in omega (arith, long, c, d));
   malformed = (let many = sum_by-append (λ (x : Option Request). cond (is_none x) 1 0) xs ys in let c = a.malformed in let d = b.malformed in omega (arith, many, c, d));
-  sections = (let c = a.sections in let d = b.sections in omega (arith, c, d));
+  sections = (let many = sum_by-append (λ (x : Option Request). cond (is_sync x) 1 0) xs ys in let c = a.sections in let d = b.sections in omega (arith, many, c, d));
 }
 
 -- it was not answered
@@ -150,33 +152,33 @@ inside_then done now xs ys (Lost number) at i = let long = length-append xs ys i
 -- ---- from chunk to chunk
 
 -- lines of a section were read and answered, and it goes on
-pub record HasServed (index : Index) (olds passes : List Pass) (start now : Totals) (unread mid : List ℕ) (asked : List (Option Request)) (text : List ℕ) : Type 0 where
+pub record HasServed (how : Sectioning) (index : Index) (olds passes : List Pass) (start now : Totals) (unread mid : List ℕ) (asked : List (Option Request)) (text : List ℕ) : Type 0 where
   pub front : ReadsLines unread mid asked []
-  pub no_sync : AsksNoSync asked
+  pub no_end : AskNoEnd how asked
   pub counts : CountsSection start now asked Finished
   pub serves : ServesSection index start.requests asked Finished text olds passes
   pub some : 0 < length passes
   pub room : now.requests < 2 ^ 64
 
-pub served_nothing : (index : Index) (passes : List Pass) (totals : Totals) (unread : List ℕ) (text : List ℕ) → text ≡ [] → AreTogether index (seen_by passes) passes → 0 < length passes → totals.requests < 2 ^ 64 → HasServed index passes passes totals totals unread unread [] text
-served_nothing index passes totals unread text none t some room = subst (HasServed index passes passes totals totals unread unread []) (sym none) (record {
+pub served_nothing : (how : Sectioning) (index : Index) (passes : List Pass) (totals : Totals) (unread : List ℕ) (text : List ℕ) → text ≡ [] → AreTogether index (seen_by passes) passes → 0 < length passes → totals.requests < 2 ^ 64 → HasServed how index passes passes totals totals unread unread [] text
+served_nothing how index passes totals unread text none t some room = subst (HasServed how index passes passes totals totals unread unread []) (sym none) (record {
   front = record { texts = []; each = tt; cut = All-nil (λ b. b ≢ 10); read = refl };
-  no_sync = asks_none;
+  no_end = asks_none how;
   counts = counts_nothing totals;
   serves = serves_nothing index totals.requests passes t;
   some = some;
   room = room;
 })
 
-module _ (index : Index) (olds passes : List Pass) (start now : Totals) (unread mid : List ℕ) (asked : List (Option Request)) (text : List ℕ) (h : HasServed index olds passes start now unread mid asked text) where
+module _ (how : Sectioning) (index : Index) (olds passes : List Pass) (start now : Totals) (unread mid : List ℕ) (asked : List (Option Request)) (text : List ℕ) (h : HasServed how index olds passes start now unread mid asked text) where
   now_is : now.requests ≡ start.requests + length asked
   now_is = let a = h.counts.requests in omega (arith, a)
 
   -- the section's last lines
-  pub ends_section : (ended : Result SectionEnd ServeFault) (few : ℕ) (lines : List (Option Request)) (rest left : List ℕ) (AtEnd Failed : Type 0) → (ended ≡ Ok Finished → length lines < few) → EndsReading ended (min few (2 ^ 64 - 1 - now.requests)) lines rest mid left AtEnd Failed
-      → EndsReading ended (2 ^ 64 - 1 - start.requests) (asked ++ lines) rest unread left AtEnd Failed
+  pub ends_section : (ended : Result SectionEnd ServeFault) (few : ℕ) (lines : List (Option Request)) (rest left : List ℕ) (AtEnd Failed : Type 0) → (ended ≡ Ok Finished → length lines < few) → EndsReading how ended (min few (2 ^ 64 - 1 - now.requests)) lines rest mid left AtEnd Failed
+      → EndsReading how ended (2 ^ 64 - 1 - start.requests) (asked ++ lines) rest unread left AtEnd Failed
   ends_section ended few lines rest left AtEnd Failed last e = let a = now_is in let b = h.room in
-      ends_then ended (2 ^ 64 - 1 - start.requests) (min few (2 ^ 64 - 1 - now.requests)) unread mid left asked lines rest AtEnd Failed h.front h.no_sync (omega (arith, a, b)) (λ is full. let c = last is in omega (arith, a, b, c, full)) e
+      ends_then how ended (2 ^ 64 - 1 - start.requests) (min few (2 ^ 64 - 1 - now.requests)) unread mid left asked lines rest AtEnd Failed h.front h.no_end (omega (arith, a, b)) (λ is full. let c = last is in omega (arith, a, b, c, full)) e
 
   pub counts_all : (new : Totals) (lines : List (Option Request)) (end : SectionEnd) → CountsSection now new lines end → CountsSection start new (asked ++ lines) end
   counts_all new lines end c = counts_then start now new asked lines end h.counts c
@@ -185,21 +187,21 @@ module _ (index : Index) (olds passes : List Pass) (start now : Totals) (unread 
   serves_all lines end text' news s = serves_then index start.requests now.requests asked lines end text text' olds passes news now_is h.some h.serves s
 
   -- its next lines could not be answered, while more was read
-  pub fails_answering : (fault : ServeFault) (end : SectionEnd) (few most : ℕ) (lines : List (Option Request)) (rest left more : List ℕ) (AtEnd Failed AtEnd' Failed' : Type 0) → EndsReading (Ok end) few lines rest mid left AtEnd Failed → IsInside now.requests (length lines) fault
-      → FailsSection fault start.requests most (asked ++ lines) rest (unread ++ more) (left ++ more) AtEnd' Failed'
+  pub fails_answering : (fault : ServeFault) (end : SectionEnd) (few most : ℕ) (lines : List (Option Request)) (rest left more : List ℕ) (AtEnd Failed AtEnd' Failed' : Type 0) → EndsReading how (Ok end) few lines rest mid left AtEnd Failed → IsInside now.requests (length lines) fault
+      → FailsSection how fault start.requests most (asked ++ lines) rest (unread ++ more) (left ++ more) AtEnd' Failed'
   fails_answering fault end few most lines rest left more AtEnd Failed AtEnd' Failed' e inside = inr (
-    reads_ahead unread left more (asked ++ lines) rest (reads_then unread mid left asked lines rest h.front (reads_of end few lines rest mid left AtEnd Failed e)),
+    reads_ahead unread left more (asked ++ lines) rest (reads_then unread mid left asked lines rest h.front (reads_of how end few lines rest mid left AtEnd Failed e)),
     inside_then start.requests now.requests asked lines fault now_is inside,
   )
 
   -- they were answered, while more was read, and it goes on
-  pub goes_on : (new : Totals) (end : SectionEnd) (few : ℕ) (lines : List (Option Request)) (rest left more text' : List ℕ) (news : List Pass) (AtEnd Failed : Type 0) → end ≡ Finished → EndsReading (Ok end) few lines rest mid left AtEnd Failed → few ≤ 2 ^ 64 - 1 - now.requests
-      → CountsSection now new lines end → ServesSection index now.requests lines end text' passes news → HasServed index olds news start new (unread ++ more) (left ++ more) (asked ++ lines) (text ++ text')
+  pub goes_on : (new : Totals) (end : SectionEnd) (few : ℕ) (lines : List (Option Request)) (rest left more text' : List ℕ) (news : List Pass) (AtEnd Failed : Type 0) → end ≡ Finished → EndsReading how (Ok end) few lines rest mid left AtEnd Failed → few ≤ 2 ^ 64 - 1 - now.requests
+      → CountsSection now new lines end → ServesSection index now.requests lines end text' passes news → HasServed how index olds news start new (unread ++ more) (left ++ more) (asked ++ lines) (text ++ text')
   goes_on new end few lines rest left more text' news AtEnd Failed is e' low c' s' =
-      let e = subst (λ (z : SectionEnd). EndsReading (Ok z) few lines rest mid left AtEnd Failed) is e' in let c = subst (CountsSection now new lines) is c' in
+      let e = subst (λ (z : SectionEnd). EndsReading how (Ok z) few lines rest mid left AtEnd Failed) is e' in let c = subst (CountsSection now new lines) is c' in
       let s = subst (λ (z : SectionEnd). ServesSection index now.requests lines z text' passes news) is s' in record {
         front = reads_ahead unread left more (asked ++ lines) [] (reads_then unread mid left asked lines [] h.front (subst (ReadsLines mid left lines) e.2 e.0));
-        no_sync = no_sync_then asked lines h.no_sync e.3;
+        no_end = no_end_then how asked lines h.no_end e.3;
         counts = counts_all new lines Finished c;
         serves = serves_all lines Finished text' news s;
         some = (let a = h.serves.holds.together.count in let b = s.holds.together.count in let d = h.some in omega (arith, a, b, d));
@@ -207,7 +209,7 @@ module _ (index : Index) (olds passes : List Pass) (start now : Totals) (unread 
       }
 
 pub finished_by : (end : SectionEnd) → ◌≡◌ {A = Result SectionEnd ServeFault} (Ok end) (Ok Finished) → end ≡ Finished
-finished_by Synced is = absurd (let no : ⊥ = cc in no)
+finished_by ByLine is = absurd (let no : ⊥ = cc in no)
 finished_by Rest is = absurd (let no : ⊥ = cc in no)
 finished_by Finished is = refl
 

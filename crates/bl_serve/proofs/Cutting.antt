@@ -1,25 +1,25 @@
 -- How far a section was read.
 use Rattle.std.proofs.Common.{◌≡◌, ◌≢◌, ℕ, zero, suc, ◌+◌, List, [], ◌∷◌, ◌++◌, length, drop, refl, sym, ap, ◌∙◌, subst, append_assoc, append-nil, arith}
-use Rattle.std.specs.Prelude.{Option, Some}
+use Rattle.std.specs.Prelude.{Option}
 use Rattle.std.proofs.lemmas.List.{flat_map_more}
 use Rattle.std.proofs.lemmas.List.Elements.{All-nil, All-push}
 use Rattle.bl_serve_lines.specs.declared.request.Request.{Request}
-use Rattle.bl_serve_lines.specs.declared.request.Request.TheVariants.{Sync}
+use Rattle.bl_serve_lines.specs.declared.serving.Sectioning.{Sectioning}
 use Rattle.bl_serve_lines.specs.Lines.{HasNoLf}
-use Rattle.bl_serve.specs.Reading.{IsReadAs, bytes_of, AsksNoSync, AsksSyncLast, ReadsLines}
+use Rattle.bl_serve.specs.Reading.{IsReadAs, bytes_of, AsksEnd, AskNoEnd, AskEndLast, ReadsLines}
 use Rattle.bl_serve_worker.proofs.Lines.{zip_append}
 
 no_lf : HasNoLf []
 no_lf = All-nil (λ b. b ≢ 10)
 
-pub asks_none : AsksNoSync []
-asks_none = All-nil (λ a. a ≢ Some Sync)
+pub asks_none : (how : Sectioning) → AskNoEnd how []
+asks_none how = All-nil (λ a. ¬ AsksEnd how a)
 
-pub asks_more : (asked : List (Option Request)) (a : Option Request) → AsksNoSync asked → a ≢ Some Sync → AsksNoSync (asked ++ a ∷ [])
-asks_more asked a h other = All-push (λ z. z ≢ Some Sync) asked a h other
+pub asks_more : (how : Sectioning) (asked : List (Option Request)) (a : Option Request) → AskNoEnd how asked → ¬ AsksEnd how a → AskNoEnd how (asked ++ a ∷ [])
+asks_more how asked a h other = All-push (λ z. ¬ AsksEnd how z) asked a h other
 
-pub asks_sync : (asked new : List (Option Request)) (a : Option Request) → AsksNoSync asked → new ≡ asked ++ a ∷ [] → a ≡ Some Sync → AsksSyncLast new
-asks_sync asked new a h is sync = record { front = asked; ends = is ∙ ap (λ z. asked ++ z ∷ []) sync; no_sync = h }
+pub asks_end : (how : Sectioning) (asked new : List (Option Request)) (a : Option Request) → AskNoEnd how asked → new ≡ asked ++ a ∷ [] → AsksEnd how a → AskEndLast how new
+asks_end how asked new a h is end = record { front = asked; last = a; ends = is; is_end = end; no_end = h }
 
 pub reads_none : (source : List ℕ) (lines : List (Option Request)) → lines ≡ [] → ReadsLines (source ++ []) source lines []
 reads_none source lines is = subst (λ z. ReadsLines (source ++ []) source z []) (sym is) (record { texts = []; each = tt; cut = no_lf; read = append-nil source })

@@ -17,7 +17,7 @@ use Rattle.bl_serve.specs.Chunks.{Taken, IsTaken, IsChunk}
 use Rattle.bl_map.specs.Meetings.{Comes}
 use Rattle.bl_serve.specs.Meetings.{AllMeet}
 use Rattle.bl_serve.specs.declared.section_reader.SectionEnd.{SectionEnd}
-use Rattle.bl_serve.specs.declared.section_reader.SectionEnd.TheVariants.{Synced, Rest, Finished}
+use Rattle.bl_serve.specs.declared.section_reader.SectionEnd.TheVariants.{ByLine, Rest, Finished}
 use Rattle.bl_serve_lines.specs.Text.{numbered}
 use Rattle.bl_serve.specs.Sections.{end_text}
 use Rattle.bl_serve.specs.Serving.{AreFrom, AreTogether, HoldsSection, ServesSection, seen_by}
@@ -98,9 +98,9 @@ holds index done lines text olds news met some t r m =
 
 -- ---- how the section ended
 
--- it ended by a sync, or with the input
+-- it ended by its last line, or with the input
 pub plain_section : (index : Index) (done : ℕ) (lines : List (Option Request)) (end : SectionEnd) (text : List ℕ) (olds news : List Pass) → end ≢ Rest → HoldsSection index done lines text olds news → ServesSection index done lines end text olds news
-plain_section index done lines Synced text olds news other h = record { answers = text; holds = h; ends = sym (append-nil text) }
+plain_section index done lines ByLine text olds news other h = record { answers = text; holds = h; ends = sym (append-nil text) }
 plain_section index done lines Rest text olds news other h = absurd (other refl)
 plain_section index done lines Finished text olds news other h = record { answers = text; holds = h; ends = sym (append-nil text) }
 

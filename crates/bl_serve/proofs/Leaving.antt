@@ -13,6 +13,7 @@ use Rattle.bl_model.specs.History.{final_map, entries_of_pass}
 use Rattle.bl_model.proofs.Histories.{entries_of_pass-append, entries_of_pass-own}
 use Rattle.bl_page.specs.declared.page.Page.{Page}
 use Rattle.bl_check.specs.declared.quiet.Quiet.{Quiet}
+use Rattle.bl_serve_lines.specs.declared.serving.Sectioning.{Sectioning}
 use Rattle.bl_serve_lines.specs.declared.serving.Totals.{Totals}
 use Rattle.bl_serve_lines.specs.Served.{Served, whole_history}
 use Rattle.bl_claims.specs.Trails.{Trail, history_of}
@@ -83,11 +84,11 @@ abbrev pub Leaves : Map → List Entry → ℕ → Result Quiet AllocError → T
 Leaves map history many closed = IfOk closed (λ quiet. HoldMapAfter map history many quiet.image.pages.items)
 
 -- new passes have served, and then they were closed
-pub served_image : (origin : Origin) (among : ℕ) (index : Index) (olds : List Pass) (now : Trail) (totals : Totals) (closed : Result Quiet AllocError) (input output : List ℕ)
-    → IsBegunFrom origin among index olds → ServedBy (first_of index) (seen_by olds) now input output totals → Leaves (first_map (first_of index)) (history_of now) (pages_of index) closed → DumpedFrom origin totals closed input output
-served_image origin among index olds now totals closed input output b s left =
-    let t : ServedBy (first_of index) [] now input output totals = subst (λ (z : Trail). ServedBy (first_of index) z now input output totals) b.unseen s in
-    let is = subst (λ (m : Map). (served : Served m input output totals) × (history_of t.more ≡ whole_history served)) b.map (t.served, t.history) in record {
+pub served_image : (how : Sectioning) (origin : Origin) (among : ℕ) (index : Index) (olds : List Pass) (now : Trail) (totals : Totals) (closed : Result Quiet AllocError) (input output : List ℕ)
+    → IsBegunFrom origin among index olds → ServedBy how (first_of index) (seen_by olds) now input output totals → Leaves (first_map (first_of index)) (history_of now) (pages_of index) closed → DumpedFrom how origin totals closed input output
+served_image how origin among index olds now totals closed input output b s left =
+    let t : ServedBy how (first_of index) [] now input output totals = subst (λ (z : Trail). ServedBy how (first_of index) z now input output totals) b.unseen s in
+    let is = subst (λ (m : Map). (served : Served how m input output totals) × (history_of t.more ≡ whole_history served)) b.map (t.served, t.history) in record {
       from = record { rows = b.rows; are_rows = b.are_rows; served = is.0 };
       holds = subst (λ (z : Map × List Entry × ℕ). Leaves z.0 z.1 z.2 closed) (λ i. (b.map i, (ap history_of t.begins ∙ is.1) i, b.pages i)) left;
     }

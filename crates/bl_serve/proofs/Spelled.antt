@@ -1,6 +1,6 @@
 -- Lines of the input, from their bytes and their answers.
 use Rattle.std.proofs.Common.{◌≡◌, ◌≢◌, ℕ, zero, suc, ◌+◌, ◌<◌, ◌≤◌, List, [], ◌∷◌, ◌++◌, length, map, reverse, refl, sym, ap, ◌∙◌, subst, arith, ⊎_elim, inl, inr}
-use Rattle.std.specs.Prelude.{◌↔◌, All, Contains, Option, Some, None, flat_map, slice_index_or, sum_by, count_by, is_none, IsSome}
+use Rattle.std.specs.Prelude.{◌↔◌, All, Bool, Contains, Option, Some, None, flat_map, slice_index_or, sum_by, count_by, is_none, IsSome}
 use Rattle.std.specs.List.{AllZip}
 use Rattle.std.proofs.lemmas.Bool.{cases_eq, cases_lt}
 use Rattle.std.proofs.lemmas.Grind.{common_steps}
@@ -20,10 +20,13 @@ use Rattle.bl_model.specs.Rows.{HasRisingKeys}
 use Rattle.bl_model.proofs.Histories.{legal_append}
 use Rattle.bl_serve_lines.specs.Lines.{Line, IsLine, AreParts, ArePartsDown, Fits, Answer, Replied, Scanned, ScannedDown, Synced, Malformed, key_below, entries, answer_text, input_of, output_of}
 use Rattle.bl_serve_lines.specs.Text.{Means, Spells, numbered}
-use Rattle.bl_serve_lines.specs.Served.{HasNoSync, malformed_of}
+use Rattle.bl_serve_lines.specs.declared.serving.Sectioning.{Sectioning}
+use Rattle.bl_serve_lines.specs.declared.serving.Sectioning.TheVariants.{BySync, EachLine}
+use Rattle.bl_serve_lines.specs.Served.{Ends, HasNoEnd, malformed_of, syncs_of}
 use Rattle.bl_serve_worker.specs.Answering.{IsFor, answers_text}
 use Rattle.bl_serve_worker.specs.Answering.IsFor.{Replies, Scans, ScansFrom, ScansDown, Syncs, Refuses}
-use Rattle.bl_serve.specs.Reading.{IsReadAs, bytes_of, AsksNoSync, AsksSyncLast}
+use Rattle.bl_serve.specs.Reading.{IsReadAs, bytes_of, AsksEnd, AskNoEnd, AskEndLast}
+use Rattle.bl_serve.specs.Sections.{is_sync}
 use Rattle.bl_serve.proofs.Finite.{IsFinite, finite_step, finite_history}
 
 abbrev pub lines_with : List (List ℕ) → List Answer → List Line
@@ -63,8 +66,25 @@ is_synced (ScansDown low high parts are) e = let no : ⊥ = cc in absurd no
 is_synced Syncs e = refl
 is_synced Refuses e = let no : ⊥ = cc in absurd no
 
-count_cons : (a : Option Request) (l : List (Option Request)) → count_by is_none (a ∷ l) ≡ count_by is_none (a ∷ []) + count_by is_none l
-count_cons a l = grind (arith, common_steps)
+-- a line ends a section as its request does
+answers_no_end : (how : Sectioning) {asked : Option Request} {answer : Answer} → IsFor asked answer → ¬ AsksEnd how asked → ¬ Ends how answer
+answers_no_end BySync f other = not_synced f other
+answers_no_end EachLine f other = other
+
+answers_end : (how : Sectioning) {asked : Option Request} {answer : Answer} → IsFor asked answer → AsksEnd how asked → Ends how answer
+answers_end BySync f is = is_synced f is
+answers_end EachLine f is = tt
+
+synced_one : {asked : Option Request} {answer : Answer} → IsFor asked answer → syncs_of answer ≡ count_by is_sync (asked ∷ [])
+synced_one (Replies entry) = refl
+synced_one (Scans low high parts are) = refl
+synced_one (ScansFrom low parts are) = refl
+synced_one (ScansDown low high parts are) = refl
+synced_one Syncs = refl
+synced_one Refuses = refl
+
+count_cons : (test : Option Request → Bool) (a : Option Request) (l : List (Option Request)) → count_by test (a ∷ l) ≡ count_by test (a ∷ []) + count_by test l
+count_cons test a l = grind (arith, common_steps)
 
 -- what is known of the lines that were read and answered
 pub record AreLines (asked : List (Option Request)) (texts : List (List ℕ)) (answers : List Answer) : Type 0 where
@@ -74,9 +94,10 @@ pub record AreLines (asked : List (Option Request)) (texts : List (List ℕ)) (a
   pub output : (n : ℕ) → answers_text n answers ≡ output_of n (lines_with texts answers)
   pub long : length (lines_with texts answers) ≡ length asked
   pub malformed : sum_by (λ line. malformed_of line.answer) (lines_with texts answers) ≡ count_by is_none asked
+  pub syncs : sum_by (λ line. syncs_of line.answer) (lines_with texts answers) ≡ count_by is_sync asked
 
 pub are_lines : (asked : List (Option Request)) (texts : List (List ℕ)) (answers : List Answer) → AllZip IsReadAs asked texts → AllZip IsFor asked answers → AreLines asked texts answers
-are_lines [] [] [] h k = record { good = All-nil IsLine; entries_are = refl; input = refl; output = λ n. refl; long = refl; malformed = refl }
+are_lines [] [] [] h k = record { good = All-nil IsLine; entries_are = refl; input = refl; output = λ n. refl; long = refl; malformed = refl; syncs = refl }
 are_lines [] [] (answer ∷ answers) h k = absurd k
 are_lines [] (text ∷ texts) answers h k = absurd h
 are_lines (a ∷ asked) [] answers h k = absurd h
@@ -87,41 +108,46 @@ are_lines (a ∷ asked) (text ∷ texts) (answer ∷ answers) h k = let r = are_
   input = flat_map-cons (λ (l : Line). l.bytes ++ 10 ∷ []) line (lines_with texts answers) ∙ (ap (λ (z : List ℕ). (text ++ 10 ∷ []) ++ z) r.input ∙ sym (flat_map-cons (λ (t : List ℕ). t ++ 10 ∷ []) text texts));
   output = λ n. ap (λ (z : List ℕ). numbered n (answer_text answer) ++ z) (r.output (suc n));
   long = ap suc r.long;
-  malformed = let one = malformed_one k.0 in let more = r.malformed in let c = count_cons a asked in let f : Line → ℕ = λ x. malformed_of x.answer in
+  malformed = let one = malformed_one k.0 in let more = r.malformed in let c = count_cons is_none a asked in let f : Line → ℕ = λ x. malformed_of x.answer in
+      let s : sum_by f (line ∷ lines_with texts answers) ≡ f line + sum_by f (lines_with texts answers) = grind (arith, common_steps) in omega (arith, one, more, c, s);
+  syncs = let one = synced_one k.0 in let more = r.syncs in let c = count_cons is_sync a asked in let f : Line → ℕ = λ x. syncs_of x.answer in
       let s : sum_by f (line ∷ lines_with texts answers) ≡ f line + sum_by f (lines_with texts answers) = grind (arith, common_steps) in omega (arith, one, more, c, s);
 }
 
-pub no_sync_lines : (asked : List (Option Request)) (texts : List (List ℕ)) (answers : List Answer) → AllZip IsReadAs asked texts → AllZip IsFor asked answers → AsksNoSync asked → HasNoSync (lines_with texts answers)
-no_sync_lines [] [] answers h k no_sync = All-nil (λ line. line.answer ≢ Synced)
-no_sync_lines [] (text ∷ texts) answers h k no_sync = absurd h
-no_sync_lines (a ∷ asked) [] answers h k no_sync = absurd h
-no_sync_lines (a ∷ asked) (text ∷ texts) [] h k no_sync = absurd k
-no_sync_lines (a ∷ asked) (text ∷ texts) (answer ∷ answers) h k no_sync = All-cons (λ line. line.answer ≢ Synced) (record { bytes = text; answer = answer }) (lines_with texts answers)
-    (not_synced k.0 (All-head (λ (z : Option Request). z ≢ Some Sync) a asked no_sync)) (no_sync_lines asked texts answers h.1 k.1 (All-tail (λ (z : Option Request). z ≢ Some Sync) a asked no_sync))
+pub no_end_lines : (how : Sectioning) (asked : List (Option Request)) (texts : List (List ℕ)) (answers : List Answer) → AllZip IsReadAs asked texts → AllZip IsFor asked answers → AskNoEnd how asked → HasNoEnd how (lines_with texts answers)
+no_end_lines how [] [] answers h k no_end = All-nil (λ line. ¬ Ends how line.answer)
+no_end_lines how [] (text ∷ texts) answers h k no_end = absurd h
+no_end_lines how (a ∷ asked) [] answers h k no_end = absurd h
+no_end_lines how (a ∷ asked) (text ∷ texts) [] h k no_end = absurd k
+no_end_lines how (a ∷ asked) (text ∷ texts) (answer ∷ answers) h k no_end = All-cons (λ line. ¬ Ends how line.answer) (record { bytes = text; answer = answer }) (lines_with texts answers)
+    (answers_no_end how k.0 (All-head (λ (z : Option Request). ¬ AsksEnd how z) a asked no_end)) (no_end_lines how asked texts answers h.1 k.1 (All-tail (λ (z : Option Request). ¬ AsksEnd how z) a asked no_end))
 
--- the last line is a sync, and its bytes are these
-pub record EndInSync (lines : List Line) : Type 0 where
+-- the last line ends a section, and no other does
+pub record EndsLast (how : Sectioning) (lines : List Line) : Type 0 where
   pub front : List Line
-  pub sync : List ℕ
-  pub ends : lines ≡ front ++ record { bytes = sync; answer = Synced } ∷ []
-  pub no_sync : HasNoSync front
+  pub end : Line
+  pub ends : lines ≡ front ++ end ∷ []
+  pub is_end : Ends how end.answer
+  pub no_end : HasNoEnd how front
 
-end_in_sync : (front : List (Option Request)) (texts : List (List ℕ)) (answers : List Answer) → AllZip IsReadAs (front ++ Some Sync ∷ []) texts → AllZip IsFor (front ++ Some Sync ∷ []) answers → AsksNoSync front → EndInSync (lines_with texts answers)
-end_in_sync [] [] answers h k no_sync = absurd h
-end_in_sync [] (text ∷ texts) [] h k no_sync = absurd k
-end_in_sync [] (text ∷ []) (answer ∷ answers) h k no_sync = record { front = []; sync = text; ends = ap (λ (z : Answer). record { bytes = text; answer = z } ∷ []) (is_synced k.0 refl); no_sync = All-nil (λ line. line.answer ≢ Synced) }
-end_in_sync [] (text ∷ next ∷ texts) (answer ∷ answers) h k no_sync = absurd h.1
-end_in_sync (a ∷ front) [] answers h k no_sync = absurd h
-end_in_sync (a ∷ front) (text ∷ texts) [] h k no_sync = absurd k
-end_in_sync (a ∷ front) (text ∷ texts) (answer ∷ answers) h k no_sync = let r = end_in_sync front texts answers h.1 k.1 (All-tail (λ (z : Option Request). z ≢ Some Sync) a front no_sync) in let line : Line = record { bytes = text; answer = answer } in record {
+ends_last : (how : Sectioning) (front : List (Option Request)) (last : Option Request) (texts : List (List ℕ)) (answers : List Answer) → AllZip IsReadAs (front ++ last ∷ []) texts → AllZip IsFor (front ++ last ∷ []) answers → AskNoEnd how front → AsksEnd how last
+    → EndsLast how (lines_with texts answers)
+ends_last how [] last [] answers h k no_end is = absurd h
+ends_last how [] last (text ∷ texts) [] h k no_end is = absurd k
+ends_last how [] last (text ∷ []) (answer ∷ answers) h k no_end is = record { front = []; end = record { bytes = text; answer = answer }; ends = refl; is_end = answers_end how k.0 is; no_end = All-nil (λ line. ¬ Ends how line.answer) }
+ends_last how [] last (text ∷ next ∷ texts) (answer ∷ answers) h k no_end is = absurd h.1
+ends_last how (a ∷ front) last [] answers h k no_end is = absurd h
+ends_last how (a ∷ front) last (text ∷ texts) [] h k no_end is = absurd k
+ends_last how (a ∷ front) last (text ∷ texts) (answer ∷ answers) h k no_end is = let r = ends_last how front last texts answers h.1 k.1 (All-tail (λ (z : Option Request). ¬ AsksEnd how z) a front no_end) is in let line : Line = record { bytes = text; answer = answer } in record {
   front = line ∷ r.front;
-  sync = r.sync;
+  end = r.end;
   ends = ap (λ (z : List Line). line ∷ z) r.ends;
-  no_sync = All-cons (λ line. line.answer ≢ Synced) line r.front (not_synced k.0 (All-head (λ (z : Option Request). z ≢ Some Sync) a front no_sync)) r.no_sync;
+  is_end = r.is_end;
+  no_end = All-cons (λ line. ¬ Ends how line.answer) line r.front (answers_no_end how k.0 (All-head (λ (z : Option Request). ¬ AsksEnd how z) a front no_end)) r.no_end;
 }
 
-pub sync_lines : (asked : List (Option Request)) (texts : List (List ℕ)) (answers : List Answer) → AllZip IsReadAs asked texts → AllZip IsFor asked answers → AsksSyncLast asked → EndInSync (lines_with texts answers)
-sync_lines asked texts answers h k s = end_in_sync s.front texts answers (subst (λ (z : List (Option Request)). AllZip IsReadAs z texts) s.ends h) (subst (λ (z : List (Option Request)). AllZip IsFor z answers) s.ends k) s.no_sync
+pub end_lines : (how : Sectioning) (asked : List (Option Request)) (texts : List (List ℕ)) (answers : List Answer) → AllZip IsReadAs asked texts → AllZip IsFor asked answers → AskEndLast how asked → EndsLast how (lines_with texts answers)
+end_lines how asked texts answers h k s = ends_last how s.front s.last texts answers (subst (λ (z : List (Option Request)). AllZip IsReadAs z texts) s.ends h) (subst (λ (z : List (Option Request)). AllZip IsFor z answers) s.ends k) s.no_end s.is_end
 
 -- ---- answers that are lawful: lines that nobody answered have them too
 

@@ -7,6 +7,7 @@ use Rattle.bl_model.specs.declared.operation.Entry.{Entry}
 use Rattle.bl_page.specs.declared.page.Page.{Page}
 use Rattle.bl_check.specs.Rows.{AreRowsOf}
 use Rattle.bl_check.specs.declared.quiet.Quiet.{Quiet}
+use Rattle.bl_serve_lines.specs.declared.serving.Sectioning.{Sectioning}
 use Rattle.bl_serve_lines.specs.declared.serving.Totals.{Totals}
 use Rattle.bl_serve_lines.specs.Served.{whole_history}
 use Rattle.bl_serve.specs.declared.origin.Origin.{Origin}
@@ -20,6 +21,6 @@ pub record HoldMapAfter (map : Map) (history : List Entry) (many : ℕ) (pages :
   pub same : SameMap (final_map map history) (map_of rows)
 
 -- The input was served from there on, and the image, if there was memory for it, holds the map after that.
-pub record DumpedFrom {E : Type 0} (origin : Origin) (totals : Totals) (image : Result Quiet E) (input output : List ℕ) : Type 0 where
-  pub from : ServedFrom origin totals input output
+pub record DumpedFrom {E : Type 0} (how : Sectioning) (origin : Origin) (totals : Totals) (image : Result Quiet E) (input output : List ℕ) : Type 0 where
+  pub from : ServedFrom how origin totals input output
   pub holds : IfOk image (λ quiet. HoldMapAfter (map_of from.rows) (whole_history from.served) (size_of origin) quiet.image.pages.items)

@@ -1,11 +1,13 @@
 -- What a server begins with, and serving from there on.
-use Rattle.std.specs.Prelude.{◌≡◌, ◌≤◌, ◌^◌, ℕ, List, [], length}
+use Rattle.std.specs.Prelude.{◌≡◌, ◌≤◌, ◌+◌, ◌^◌, ℕ, List, [], length}
 use Rattle.bl_model.specs.Rows.{map_of}
 use Rattle.bl_check.specs.Rows.{AreRowsOf}
+use Rattle.bl_serve_lines.specs.declared.serving.Sectioning.{Sectioning}
 use Rattle.bl_serve_lines.specs.declared.serving.Totals.{Totals}
 use Rattle.bl_serve_lines.specs.declared.serving.ServeFault.{ServeFault}
 use Rattle.bl_serve_lines.specs.declared.serving.ServeFault.TheVariants.{Memory}
 use Rattle.bl_serve_lines.specs.Served.{Served, Stops}
+use Rattle.bl_serve.specs.declared.session.ServePlan.{ServePlan}
 use Rattle.bl_serve.specs.declared.origin.Origin.{Origin}
 use Rattle.bl_serve.specs.declared.origin.Origin.TheVariants.{Empty, Image}
 
@@ -13,6 +15,10 @@ use Rattle.bl_serve.specs.declared.origin.Origin.TheVariants.{Empty, Image}
 abbrev pub HasPages : Origin → Type 0
 HasPages (Empty pages) = (4 ≤ pages) × (pages ≤ 2 ^ 28)
 HasPages (Image quiet) = Unit {0}
+
+-- it has a worker, and 64 threads at most
+abbrev pub MayServe : ServePlan → Type 0
+MayServe plan = (1 ≤ plan.workers) × (plan.workers + plan.compressors ≤ 64)
 
 -- how many pages the index has
 abbrev pub size_of : Origin → ℕ
@@ -25,14 +31,14 @@ HasRows (Empty pages) rows = rows ≡ []
 HasRows (Image quiet) rows = AreRowsOf quiet.image.pages.items rows
 
 -- The input is served from the map of those rows on.
-pub record ServedFrom (origin : Origin) (totals : Totals) (input output : List ℕ) : Type 0 where
+pub record ServedFrom (how : Sectioning) (origin : Origin) (totals : Totals) (input output : List ℕ) : Type 0 where
   pub rows : List (ℕ × ℕ)
   pub are_rows : HasRows origin rows
-  pub served : Served (map_of rows) input output totals
+  pub served : Served how (map_of rows) input output totals
 
 -- Serving stopped: there was no memory for the index, and nothing was read or written; or it stopped as it served from the map
 -- of those rows on.
-pub data StopsFrom (origin : Origin) (input output : List ℕ) (fault : ServeFault) (reader_failed writer_failed : Type 0) : Type 0 where
-  Unopened : input ≡ [] → output ≡ [] → fault ≡ Memory → StopsFrom origin input output fault reader_failed writer_failed
-  Stopped : (rows : List (ℕ × ℕ)) → HasRows origin rows → Stops (map_of rows) input output fault reader_failed writer_failed
-      → StopsFrom origin input output fault reader_failed writer_failed
+pub data StopsFrom (how : Sectioning) (origin : Origin) (input output : List ℕ) (fault : ServeFault) (reader_failed writer_failed : Type 0) : Type 0 where
+  Unopened : input ≡ [] → output ≡ [] → fault ≡ Memory → StopsFrom how origin input output fault reader_failed writer_failed
+  Stopped : (rows : List (ℕ × ℕ)) → HasRows origin rows → Stops how (map_of rows) input output fault reader_failed writer_failed
+      → StopsFrom how origin input output fault reader_failed writer_failed

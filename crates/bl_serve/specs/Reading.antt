@@ -1,16 +1,18 @@
 -- The lines of a section, as they are read.
-use Rattle.std.specs.Prelude.{◌≡◌, ◌≢◌, ℕ, ◌<◌, ◌≤◌, ◌⊎◌, List, [], ◌∷◌, ◌++◌, All, Option, Some, Result, Ok, Err, flat_map, length}
+use Rattle.std.specs.Prelude.{◌≡◌, ℕ, ◌<◌, ◌≤◌, ◌⊎◌, List, [], ◌∷◌, ◌++◌, All, Option, Some, Result, Ok, Err, flat_map, length}
 use Rattle.std.specs.List.{AllZip}
 use Rattle.std.specs.Io.KnownBytes.{Consumes, IsAtEnd}
 use Rattle.bl_serve_lines.specs.declared.request.Request.{Request}
 use Rattle.bl_serve_lines.specs.declared.request.Request.TheVariants.{Sync}
+use Rattle.bl_serve_lines.specs.declared.serving.Sectioning.{Sectioning}
+use Rattle.bl_serve_lines.specs.declared.serving.Sectioning.TheVariants.{BySync, EachLine}
 use Rattle.bl_serve_lines.specs.declared.serving.ServeFault.{ServeFault}
 use Rattle.bl_serve_lines.specs.declared.serving.ServeFault.TheVariants.{Read, Write, Memory, Lost}
 use Rattle.bl_serve.specs.declared.section_reader.Reading.{Reading}
 use Rattle.bl_serve.specs.declared.section_reader.Reading.TheVariants as reading
 use Rattle.bl_serve.specs.declared.section_reader.ReadAhead.{ReadAhead}
 use Rattle.bl_serve.specs.declared.section_reader.SectionEnd.{SectionEnd}
-use Rattle.bl_serve.specs.declared.section_reader.SectionEnd.TheVariants.{Synced, Rest, Finished}
+use Rattle.bl_serve.specs.declared.section_reader.SectionEnd.TheVariants.{ByLine, Rest, Finished}
 use Rattle.bl_serve_lines.specs.Text.{Means}
 use Rattle.bl_serve_lines.specs.Lines.{HasNoLf}
 use Rattle.bl_serve_lines.specs.Streams.{EndsRead}
@@ -24,15 +26,22 @@ pub record IsReadAs (asked : Option Request) (bytes : List ℕ) : Type 0 where
 abbrev pub bytes_of : List (List ℕ) → List ℕ
 bytes_of texts = flat_map (λ bytes. bytes ++ 10 ∷ []) texts
 
--- no line is a sync
-abbrev pub AsksNoSync : List (Option Request) → Type 0
-AsksNoSync asked = All (λ a. a ≢ Some Sync) asked
+-- a line that asks for this ends a section
+abbrev pub AsksEnd : Sectioning → Option Request → Type 0
+AsksEnd BySync asked = asked ≡ Some Sync
+AsksEnd EachLine asked = Unit {0}
 
--- the last line, and no other, is a sync
-pub record AsksSyncLast (asked : List (Option Request)) : Type 0 where
+-- none of the lines does
+abbrev pub AskNoEnd : Sectioning → List (Option Request) → Type 0
+AskNoEnd how asked = All (λ a. ¬ AsksEnd how a) asked
+
+-- the last line does, and no other
+pub record AskEndLast (how : Sectioning) (asked : List (Option Request)) : Type 0 where
   pub front : List (Option Request)
-  pub ends : asked ≡ front ++ Some Sync ∷ []
-  pub no_sync : AsksNoSync front
+  pub last : Option Request
+  pub ends : asked ≡ front ++ last ∷ []
+  pub is_end : AsksEnd how last
+  pub no_end : AskNoEnd how front
 
 -- what reading of the next line gave
 abbrev pub ReadsLine : {E : Type 0} → List ℕ → List ℕ → Result Reading E → List ℕ → Type 0 → Type 0 → Type 0
@@ -49,21 +58,21 @@ pub record ReadsLines (unread left : List ℕ) (asked : List (Option Request)) (
   pub read : unread ≡ bytes_of texts ++ rest ++ left
 
 -- how reading of a section ended, which takes at most so many lines
-abbrev pub EndsReading : Result SectionEnd ServeFault → ℕ → List (Option Request) → List ℕ → List ℕ → List ℕ → Type 0 → Type 0 → Type 0
-EndsReading (Ok Synced) most asked rest unread left at_end failed = ReadsLines unread left asked rest × (length asked ≤ most) × (rest ≡ []) × AsksSyncLast asked
-EndsReading (Ok Rest) most asked rest unread left at_end failed =
-    ReadsLines unread left asked rest × (length asked < most) × (0 < length rest) × AsksNoSync asked × EndsRead rest left at_end
-EndsReading (Ok Finished) most asked rest unread left at_end failed =
-    ReadsLines unread left asked rest × (length asked ≤ most) × (rest ≡ []) × AsksNoSync asked × (((left ≡ []) × at_end) ⊎ (most ≤ length asked))
-EndsReading (Err Read) most asked rest unread left at_end failed = ReadsLines unread left asked rest × AsksNoSync asked × (left ≡ []) × failed
-EndsReading (Err Write) most asked rest unread left at_end failed = ⊥
-EndsReading (Err Memory) most asked rest unread left at_end failed = Unit {0}
-EndsReading (Err (Lost number)) most asked rest unread left at_end failed = ⊥
+abbrev pub EndsReading : Sectioning → Result SectionEnd ServeFault → ℕ → List (Option Request) → List ℕ → List ℕ → List ℕ → Type 0 → Type 0 → Type 0
+EndsReading how (Ok ByLine) most asked rest unread left at_end failed = ReadsLines unread left asked rest × (length asked ≤ most) × (rest ≡ []) × AskEndLast how asked
+EndsReading how (Ok Rest) most asked rest unread left at_end failed =
+    ReadsLines unread left asked rest × (length asked < most) × (0 < length rest) × AskNoEnd how asked × EndsRead rest left at_end
+EndsReading how (Ok Finished) most asked rest unread left at_end failed =
+    ReadsLines unread left asked rest × (length asked ≤ most) × (rest ≡ []) × AskNoEnd how asked × (((left ≡ []) × at_end) ⊎ (most ≤ length asked))
+EndsReading how (Err Read) most asked rest unread left at_end failed = ReadsLines unread left asked rest × AskNoEnd how asked × (left ≡ []) × failed
+EndsReading how (Err Write) most asked rest unread left at_end failed = ⊥
+EndsReading how (Err Memory) most asked rest unread left at_end failed = Unit {0}
+EndsReading how (Err (Lost number)) most asked rest unread left at_end failed = ⊥
 
 -- At most so many lines were read on as are wanted; where none are, nothing was read.
-pub record ReadsOn (old new : ReadAhead) (before after : Option (List ℕ)) (failed : Type 0) : Type 0 where
+pub record ReadsOn (how : Sectioning) (old new : ReadAhead) (before after : Option (List ℕ)) (failed : Type 0) : Type 0 where
   pub rest : List ℕ
   pub more : List ℕ
   pub consumed : Consumes before after more
-  pub reads : EndsReading new.end old.most new.lines rest (old.source ++ more) new.source (IsAtEnd after) failed
+  pub reads : EndsReading how new.end old.most new.lines rest (old.source ++ more) new.source (IsAtEnd after) failed
   pub idle : old.most ≡ 0 → (after ≡ before) × (new.source ≡ old.source)

@@ -2,6 +2,7 @@
 use Rattle.std.specs.Prelude.{◌≡◌, ℕ, suc, ◌+◌, ◌<◌, ◌≤◌, ◌⊎◌, List, [], ◌∷◌, ◌++◌, Option, Result, Err, IfOk, IfErr, length}
 use Rattle.std.specs.Io.KnownBytes.{Appends, Consumes, IsAtEnd}
 use Rattle.bl_serve_lines.specs.declared.request.Request.{Request}
+use Rattle.bl_serve_lines.specs.declared.serving.Sectioning.{Sectioning}
 use Rattle.bl_serve_lines.specs.declared.serving.Totals.{Totals}
 use Rattle.bl_serve_lines.specs.declared.serving.ServeFault.{ServeFault}
 use Rattle.bl_serve_lines.specs.declared.serving.ServeFault.TheVariants.{Read, Write, Memory, Lost}
@@ -59,22 +60,22 @@ IsInside done count Memory = Unit {0}
 IsInside done count (Lost number) = (done < number) × (number ≤ done + count)
 
 -- how a section behind so many lines ends by a fault: it could not be read, or lines that were read could not be answered
-abbrev pub FailsSection : ServeFault → ℕ → ℕ → List (Option Request) → List ℕ → List ℕ → List ℕ → Type 0 → Type 0 → Type 0
-FailsSection fault done most asked rest unread left at_end failed =
-    EndsReading (Err fault) most asked rest unread left at_end failed ⊎ (ReadsLines unread left asked rest × IsInside done (length asked) fault)
+abbrev pub FailsSection : Sectioning → ServeFault → ℕ → ℕ → List (Option Request) → List ℕ → List ℕ → List ℕ → Type 0 → Type 0 → Type 0
+FailsSection how fault done most asked rest unread left at_end failed =
+    EndsReading how (Err fault) most asked rest unread left at_end failed ⊎ (ReadsLines unread left asked rest × IsInside done (length asked) fault)
 
 -- The input is served from the map after old on, and the trail now is old with the entries of what was served, in the order of
 -- its history, and with no others.
-pub record ServedBy (first : List (Option Page)) (old now : Trail) (input output : List ℕ) (totals : Totals) : Type 0 where
-  pub served : Served (map_after first old) input output totals
+pub record ServedBy (how : Sectioning) (first : List (Option Page)) (old now : Trail) (input output : List ℕ) (totals : Totals) : Type 0 where
+  pub served : Served how (map_after first old) input output totals
   pub more : Trail
   pub begins : now ≡ old ++ more
   pub history : history_of more ≡ whole_history served
 
 -- The passes have served: all have seen one trail, which is what they had seen with the entries of what was served.
-pub record Serves (index : Index) (olds news : List Pass) (totals : Totals) (input output : List ℕ) : Type 0 where
+pub record Serves (how : Sectioning) (index : Index) (olds news : List Pass) (totals : Totals) (input output : List ℕ) : Type 0 where
   pub now : Trail
-  pub served : ServedBy (first_of index) (seen_by olds) now input output totals
+  pub served : ServedBy how (first_of index) (seen_by olds) now input output totals
   pub together : AreTogether index now news
 
 -- Serving has ended. The input was read, and more ahead of it; the output was written. Without a fault the input was served, up to

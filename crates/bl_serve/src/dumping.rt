@@ -5,16 +5,17 @@ ghost use Rattle.bl_claims.specs.Trails.{history_of};
 ghost use Rattle.bl_claims.specs.Seeing.{first_map};
 ghost use Rattle.bl_index.specs.Calls.{first_of, pages_of};
 ghost use Rattle.bl_serve.specs.Dumps.{DumpedFrom, HoldMapAfter};
-ghost use Rattle.bl_serve.specs.Origins.{HasPages, StopsFrom};
+ghost use Rattle.bl_serve.specs.Origins.{HasPages, MayServe, StopsFrom};
 ghost use Rattle.bl_serve.specs.Serving.{AreTogether, EndsServing, seen_by};
 
 use crate::origin::Origin;
 use crate::serving::serve_with;
+use crate::session::ServePlan;
 use crate::starting::{open_index, plan_of};
 use bl_check::Quiet;
 use bl_index::{CloseFault, Index, Pass};
 use bl_model::Watched;
-use bl_serve_lines::{ServeFault, Totals};
+use bl_serve_lines::{Sectioning, ServeFault, Totals};
 use bl_serve_worker::OpenGate;
 use std::alloc::{AllocError, Global};
 use std::io::{Read, Write};
@@ -50,14 +51,38 @@ pub fn dump_index<T: Threads + Wait + Sync, R: Read, W: Write>(
 ) -> Result<(Totals, Result<Quiet, AllocError>), ServeFault>
     requires pages { HasPages origin }
     requires passes { (1 ≤ workers) × (workers + compressors ≤ 64) }
-    ensures serves { EndsServing (λ t. DumpedFrom origin t.0 t.1) (StopsFrom origin)
+    ensures serves { EndsServing (λ t. DumpedFrom Sectioning.BySync origin t.0 t.1) (StopsFrom Sectioning.BySync origin)
         (R.remaining reader.old.inner) (R.remaining reader.new.inner) (reader.new.failed ≡ true)
         (W.contents writer.old.inner) (W.contents writer.new.inner) (writer.new.failed ≡ true) result }
     ensures flushed { OnOk result (writer.new.pending ≡ false) }
 {
-    let plan = plan_of(workers);
-    let (index, passes) = open_index(alloc, origin, workers + compressors)?;
-    match serve_with(rt, &index, passes, reader, writer, &OpenGate, plan) {
+    let plan = ServePlan {
+        workers,
+        compressors,
+        sections: Sectioning::BySync,
+    };
+    dump_by_plan(rt, alloc, origin, plan, reader, writer)
+}
+
+/// The same by a plan, as `serve_by_plan` serves.
+pub fn dump_by_plan<T: Threads + Wait + Sync, R: Read, W: Write>(
+    rt: &T,
+    alloc: Global,
+    origin: Origin,
+    plan: ServePlan,
+    reader: &mut Watched<R>,
+    writer: &mut Watched<W>,
+) -> Result<(Totals, Result<Quiet, AllocError>), ServeFault>
+    requires pages { HasPages origin }
+    requires passes { MayServe plan }
+    ensures serves { EndsServing (λ t. DumpedFrom plan.sections origin t.0 t.1) (StopsFrom plan.sections origin)
+        (R.remaining reader.old.inner) (R.remaining reader.new.inner) (reader.new.failed ≡ true)
+        (W.contents writer.old.inner) (W.contents writer.new.inner) (writer.new.failed ≡ true) result }
+    ensures flushed { OnOk result (writer.new.pending ≡ false) }
+{
+    let threads = plan_of(plan);
+    let (index, passes) = open_index(alloc, origin, plan.workers + plan.compressors)?;
+    match serve_with(rt, &index, passes, reader, writer, &OpenGate, threads) {
         Ok((totals, passes)) => Ok((totals, shut(alloc, index, passes))),
         Err(fault) => Err(fault),
     }

@@ -1,6 +1,7 @@
 //! What the lines of a chunk ask for, counted as they are read.
 
 ghost use Rattle.std.specs.Prelude.{◌≡◌, List, [], ◌∷◌, ◌++◌, Option, length, is_none, count_by, OnOk};
+ghost use Rattle.bl_serve.specs.Sections.{is_sync};
 
 use bl_model::Op;
 use bl_serve_lines::request::Request;
@@ -13,21 +14,24 @@ use std::marker::Model;
 pub struct ParsedLines {
     requests: Vec<Option<Request>>,
     malformed: usize,
+    syncs: usize,
     operations: usize,
     deletions: usize,
 }
 
-// A clause sees what the lines ask for. Of the counts it sees how many lines are malformed: what the others say decides only how many
-// threads there are.
+// A clause sees what the lines ask for. Of the counts it sees how many lines are malformed, and how many are a sync: what the others
+// say decides only how many threads there are.
 impl Model for ParsedLines {
     ghost use Rattle.std.specs.Prelude.{◌≡◌, List, Option, is_none, count_by};
     ghost use Rattle.bl_serve_lines.specs.declared.request.Request.{Request};
+    ghost use Rattle.bl_serve.specs.Sections.{is_sync};
 
     ghost Value = { List (Option Request) };
 
     ghost view = { λ lines. lines.requests.items };
 
-    ghost invariant = { λ lines. lines.malformed ≡ count_by is_none lines.requests.items };
+    ghost invariant = { λ lines. (lines.malformed ≡ count_by is_none lines.requests.items)
+        × (lines.syncs ≡ count_by is_sync lines.requests.items) };
 }
 
 impl ParsedLines {
@@ -38,6 +42,7 @@ impl ParsedLines {
         ParsedLines {
             requests: Vec::new(alloc),
             malformed: 0,
+            syncs: 0,
             operations: 0,
             deletions: 0,
         }
@@ -50,7 +55,7 @@ impl ParsedLines {
         self.requests.push(request)?;
         match request {
             None => self.malformed += 1,
-            Some(Request::Sync) => {}
+            Some(Request::Sync) => self.syncs += 1,
             Some(Request::Ask(Op::Delete(_))) => {
                 self.operations = self.operations.saturating_add(1);
                 self.deletions = self.deletions.saturating_add(1);
@@ -66,6 +71,7 @@ impl ParsedLines {
     {
         self.requests.clear();
         self.malformed = 0;
+        self.syncs = 0;
         self.operations = 0;
         self.deletions = 0;
     }
@@ -87,6 +93,13 @@ impl ParsedLines {
         ensures { result ≡ count_by is_none self.now }
     {
         self.malformed
+    }
+
+    /// How many of them are a sync.
+    pub fn syncs(&self) -> usize
+        ensures { result ≡ count_by is_sync self.now }
+    {
+        self.syncs
     }
 
     /// How many ask for something that a worker does.

@@ -2,22 +2,22 @@
 
 ghost use Rattle.std.specs.Prelude.{◌≡◌, ℕ, ◌+◌, ◌≤◌, List, [], ◌∷◌, ◌++◌, ◌↔◌, IsTrue, true, IfOk, OnOk};
 ghost use Rattle.std.specs.Io.KnownBytes.{Consumes, IsAtEnd};
-ghost use Rattle.bl_serve.specs.Reading.{EndsReading, ReadsLine, ReadsOn};
+ghost use Rattle.bl_serve.specs.Reading.{AsksEnd, EndsReading, ReadsLine, ReadsOn};
 
 use crate::parsed_lines::ParsedLines;
 use arrayvec::ArrayVec;
 use bl_model::{Failed, Watched};
-use bl_serve_lines::ServeFault;
 use bl_serve_lines::request::{Request, parse};
 use bl_serve_lines::source::{Cut, KEPT, Source};
+use bl_serve_lines::{Sectioning, ServeFault};
 use std::alloc::{AllocError, Global};
 use std::io::Read;
 
 /// How a section ended.
 #[derive(Clone, Copy, Debug, PartialEq, Eq)]
 pub enum SectionEnd {
-    /// By a sync.
-    Synced,
+    /// By the line that ends it.
+    ByLine,
     /// With bytes after the last LF.
     Rest,
     /// With the input.
@@ -75,24 +75,29 @@ fn read_line<R: Read>(
     }
 }
 
-/// Whether the line ends a section.
-fn is_sync(request: Option<Request>) -> bool
-    ensures { IsTrue result ↔ (request ≡ Some Request.Sync) }
+/// Whether a line that asks for this ends a section.
+fn ends_section(sections: Sectioning, asked: Option<Request>) -> bool
+    ensures { IsTrue result ↔ AsksEnd sections asked }
 {
-    matches!(request, Some(Request::Sync))
+    match sections {
+        Sectioning::BySync => matches!(asked, Some(Request::Sync)),
+        Sectioning::EachLine => true,
+    }
 }
 
-/// Reads the lines of a section, at most so many. Bytes after the last LF are one of them, but are not kept.
+/// Reads the lines of a section, at most so many. Bytes after the last LF are one of them, but are not kept. Behind the line that
+/// ends it nothing is read.
 pub fn read_section<R: Read>(
     source: &mut Source,
     reader: &mut Watched<R>,
     lines: &mut ParsedLines,
+    sections: Sectioning,
     most: u64,
 ) -> Result<SectionEnd, ServeFault>
     requires { lines.old ≡ [] }
     ensures { (rest : List ℕ) × (more : List ℕ)
         × Consumes (R.remaining reader.old.inner) (R.remaining reader.new.inner) more
-        × EndsReading result most lines.new rest (source.old ++ more) source.new
+        × EndsReading sections result most lines.new rest (source.old ++ more) source.new
         (IsAtEnd (R.remaining reader.new.inner)) (reader.new.failed ≡ true) }
 {
     let mut line = ArrayVec::new();
@@ -100,9 +105,9 @@ pub fn read_section<R: Read>(
         match read_line(source, reader, &mut line) {
             Ok(Reading::Line(request)) => {
                 lines.push(request)?;
-                let ended = is_sync(request);
+                let ended = ends_section(sections, request);
                 if ended {
-                    return Ok(SectionEnd::Synced);
+                    return Ok(SectionEnd::ByLine);
                 }
             }
             Ok(Reading::Rest) => return Ok(SectionEnd::Rest),
@@ -129,12 +134,13 @@ impl ReadAhead {
 }
 
 /// Reads the next lines of a section, as many as are wanted; where none are, nothing is read.
-pub fn read_on<R: Read>(reader: &mut Watched<R>, ahead: &mut ReadAhead)
-    ensures { ReadsOn ahead.old ahead.new (R.remaining reader.old.inner) (R.remaining reader.new.inner) (reader.new.failed ≡ true) }
+pub fn read_on<R: Read>(reader: &mut Watched<R>, ahead: &mut ReadAhead, sections: Sectioning)
+    ensures { ReadsOn sections ahead.old ahead.new (R.remaining reader.old.inner) (R.remaining reader.new.inner) (reader.new.failed ≡ true) }
 {
     ahead.lines.clear();
     ahead.end = Ok(SectionEnd::Finished);
     if ahead.most > 0 {
-        ahead.end = read_section(&mut ahead.source, reader, &mut ahead.lines, ahead.most);
+        let (source, lines) = (&mut ahead.source, &mut ahead.lines);
+        ahead.end = read_section(source, reader, lines, sections, ahead.most);
     }
 }

@@ -6,7 +6,7 @@ ghost use Rattle.bl_serve_lines.specs.Served.{Stops};
 ghost use Rattle.bl_index.specs.Calls.{first_of, map_after};
 ghost use Rattle.bl_map.specs.Handles.{seats_of};
 ghost use Rattle.bl_serve.specs.Reading.{EndsReading, ReadsOn};
-ghost use Rattle.bl_serve.specs.Sections.{CountsSection, rests, syncs};
+ghost use Rattle.bl_serve.specs.Sections.{CountsSection, rests};
 ghost use Rattle.bl_serve.specs.Serving.{AreMet, AreTogether, EndsServing, FailsSection, IsInside, Serves, ServesSection, seen_by};
 
 use crate::chunks::{new_slots, run_chunk};
@@ -19,7 +19,7 @@ use bl_map::{Handle, give_seats, handles_over};
 use bl_model::{Watched, write_out};
 use bl_serve_lines::print::{Response, push_line};
 use bl_serve_lines::request::Request;
-use bl_serve_lines::{ServeFault, Totals};
+use bl_serve_lines::{Sectioning, ServeFault, Totals};
 use bl_serve_worker::{Gate, Service};
 use std::alloc::{AllocError, Global};
 use std::io::{Read, Write};
@@ -31,18 +31,18 @@ use std::thread::Threads;
 fn count(totals: &mut Totals, lines: &ParsedLines, end: SectionEnd)
     requires requests { totals.old.requests + length lines.now + rests end < 2 ^ 64 }
     requires malformed { totals.old.malformed ≤ totals.old.requests }
-    requires sections { totals.old.sections + syncs end < 2 ^ 64 }
+    requires sections { totals.old.sections ≤ totals.old.requests }
     ensures { CountsSection totals.old totals.new lines.now end }
 {
     totals.requests += lines.len() as u64;
     totals.malformed += lines.malformed() as u64;
+    totals.sections += lines.syncs() as u64;
     match end {
-        SectionEnd::Synced => totals.sections += 1,
         SectionEnd::Rest => {
             totals.requests += 1;
             totals.malformed += 1;
         }
-        SectionEnd::Finished => {}
+        SectionEnd::ByLine | SectionEnd::Finished => {}
     }
 }
 
@@ -73,7 +73,7 @@ fn goes_on(end: SectionEnd, count: usize, chunk: u64) -> bool
 
 /// Whether the input ends with lines that were read together, with that end, behind which the section is open or not.
 fn is_last(open: bool, end: SectionEnd) -> bool {
-    !open && end != SectionEnd::Synced
+    !open && end != SectionEnd::ByLine
 }
 
 /// Answers lines that were read together, counts them, and reads on meanwhile. Bytes after the last LF are a malformed line. The output
@@ -89,12 +89,11 @@ fn serve_chunk<'a, T: Threads + Wait + Sync, R: Read, G: Gate + Sync>(
 ) -> Result<Session<'a>, ServeFault>
     requires met { AreMet service.now.index.now session.handles.items }
     requires requests { session.totals.requests + length lines.now + rests end < 2 ^ 64 }
-    requires sections { session.totals.sections + syncs end < 2 ^ 64 }
     ensures counts { IfOk result (λ back. CountsSection session.entry.totals back.totals lines.now end) }
     ensures serves { IfOk result (λ back. (more : List ℕ) × (back.text.items ≡ session.entry.text.items ++ more)
         × ServesSection service.now.index.now session.entry.totals.requests lines.now end more
         (seats_of session.entry.handles.items) (seats_of back.handles.items)) }
-    ensures reads { OnOk result (ReadsOn ahead.old ahead.new (R.remaining reader.old.inner) (R.remaining reader.new.inner) (reader.new.failed ≡ true)) }
+    ensures reads { OnOk result (ReadsOn service.now.sections ahead.old ahead.new (R.remaining reader.old.inner) (R.remaining reader.new.inner) (reader.new.failed ≡ true)) }
     ensures consumes { (more : List ℕ) × Consumes (R.remaining reader.old.inner) (R.remaining reader.new.inner) more }
     ensures fault { IfErr result (IsInside session.entry.totals.requests (length lines.now)) }
 {
@@ -131,23 +130,22 @@ fn serve_section<'a, T: Threads + Wait + Sync, R: Read, G: Gate + Sync>(
 ) -> Result<(Session<'a>, SectionEnd), ServeFault>
     requires met { AreMet service.now.index.now session.handles.items }
     requires requests { session.totals.requests < 2 ^ 64 }
-    requires sections { session.totals.sections + 1 < 2 ^ 64 }
     ensures { (requests : List (Option Request)) × (rest : List ℕ) × (more : List ℕ)
         × Consumes (R.remaining reader.old.inner) (R.remaining reader.new.inner) more
         × MatchResult result
-        (λ t. EndsReading (Ok t.1) (2 ^ 64 - 1 - session.entry.totals.requests) requests rest (ahead.old.source ++ more) ahead.new.source
+        (λ t. EndsReading service.now.sections (Ok t.1) (2 ^ 64 - 1 - session.entry.totals.requests) requests rest (ahead.old.source ++ more) ahead.new.source
         (IsAtEnd (R.remaining reader.new.inner)) (reader.new.failed ≡ true)
         × CountsSection session.entry.totals t.0.totals requests t.1
         × ServesSection service.now.index.now session.entry.totals.requests requests t.1 t.0.text.items
         (seats_of session.entry.handles.items) (seats_of t.0.handles.items))
-        (λ fault. (left : List ℕ) × FailsSection fault session.entry.totals.requests (2 ^ 64 - 1 - session.entry.totals.requests) requests rest
+        (λ fault. (left : List ℕ) × FailsSection service.now.sections fault session.entry.totals.requests (2 ^ 64 - 1 - session.entry.totals.requests) requests rest
         (ahead.old.source ++ more) left (IsAtEnd (R.remaining reader.new.inner)) (reader.new.failed ≡ true)) }
 {
     let mut session = emptied(session);
     let mut chunk = FIRST_CHUNK;
     let first = session.totals.requests;
     ahead.most = most_behind(first, chunk);
-    read_on(reader, ahead);
+    read_on(reader, ahead, service.sections);
     for _ in rt.forever() {
         let end = ahead.end?;
         mem::swap(lines, &mut ahead.lines);
@@ -179,8 +177,8 @@ fn serve_sections<'a, T: Threads + Wait + Sync, R: Read, W: Write, G: Gate + Syn
 ) -> Result<Session<'a>, ServeFault>
     requires met { AreMet service.now.index.now session.handles.items }
     requires first { (session.totals.requests ≡ 0) × (session.totals.malformed ≡ 0) × (session.totals.sections ≡ 0) }
-    ensures serves { EndsServing (λ s. Serves service.now.index.now (seats_of session.entry.handles.items) (seats_of s.handles.items) s.totals)
-        (Stops (map_after (first_of service.now.index.now) (seen_by (seats_of session.entry.handles.items))))
+    ensures serves { EndsServing (λ s. Serves service.now.sections service.now.index.now (seats_of session.entry.handles.items) (seats_of s.handles.items) s.totals)
+        (Stops service.now.sections (map_after (first_of service.now.index.now) (seen_by (seats_of session.entry.handles.items))))
         (R.remaining reader.old.inner) (R.remaining reader.new.inner) (reader.new.failed ≡ true)
         (W.contents writer.old.inner) (W.contents writer.new.inner) (writer.new.failed ≡ true) result }
     ensures flushed { OnOk result (writer.new.pending ≡ false) }
@@ -195,7 +193,7 @@ fn serve_sections<'a, T: Threads + Wait + Sync, R: Read, W: Write, G: Gate + Syn
             Ok(()) => {}
             Err(_) => return Err(ServeFault::Write),
         }
-        if end != SectionEnd::Synced {
+        if end != SectionEnd::ByLine {
             return Ok(session);
         }
     }
@@ -252,17 +250,21 @@ pub fn serve<T: Threads + Wait + Sync, R: Read, W: Write, G: Gate + Sync>(
 ) -> Result<(Totals, Vec<Pass>), ServeFault>
     requires together { AreTogether index.now (seen_by passes.items) passes.items }
     requires workers { (1 ≤ workers) × (workers ≤ vec_len passes) }
-    ensures serves { EndsServing (λ t. Serves index.now passes.items t.1.items t.0) (Stops (map_after (first_of index.now) (seen_by passes.items)))
+    ensures serves { EndsServing (λ t. Serves Sectioning.BySync index.now passes.items t.1.items t.0) (Stops Sectioning.BySync (map_after (first_of index.now) (seen_by passes.items)))
         (R.remaining reader.old.inner) (R.remaining reader.new.inner) (reader.new.failed ≡ true)
         (W.contents writer.old.inner) (W.contents writer.new.inner) (writer.new.failed ≡ true) result }
     ensures flushed { OnOk result (writer.new.pending ≡ false) }
 {
     // A gate may hold the first of two requests until the second one has been carried out.
-    let plan = ThreadPlan { workers, alone: 2 };
+    let plan = ThreadPlan {
+        workers,
+        alone: 2,
+        sections: Sectioning::BySync,
+    };
     serve_with(rt, index, passes, reader, writer, gate, plan)
 }
 
-/// The same by a plan, which may have fewer threads for few requests.
+/// The same by a plan, which may have fewer threads for few requests, and other sections.
 pub fn serve_with<T: Threads + Wait + Sync, R: Read, W: Write, G: Gate + Sync>(
     rt: &T,
     index: &Index,
@@ -274,7 +276,7 @@ pub fn serve_with<T: Threads + Wait + Sync, R: Read, W: Write, G: Gate + Sync>(
 ) -> Result<(Totals, Vec<Pass>), ServeFault>
     requires together { AreTogether index.now (seen_by passes.items) passes.items }
     requires some { 0 < vec_len passes }
-    ensures serves { EndsServing (λ t. Serves index.now passes.items t.1.items t.0) (Stops (map_after (first_of index.now) (seen_by passes.items)))
+    ensures serves { EndsServing (λ t. Serves plan.sections index.now passes.items t.1.items t.0) (Stops plan.sections (map_after (first_of index.now) (seen_by passes.items)))
         (R.remaining reader.old.inner) (R.remaining reader.new.inner) (reader.new.failed ≡ true)
         (W.contents writer.old.inner) (W.contents writer.new.inner) (writer.new.failed ≡ true) result }
     ensures flushed { OnOk result (writer.new.pending ≡ false) }
@@ -287,6 +289,7 @@ pub fn serve_with<T: Threads + Wait + Sync, R: Read, W: Write, G: Gate + Sync>(
         index,
         hints: &hints,
         gate,
+        sections: plan.sections,
         alloc,
     };
     let fresh = begun(alloc, plan, handles)?;

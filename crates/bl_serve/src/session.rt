@@ -3,8 +3,19 @@
 ghost use Rattle.std.specs.Prelude.{◌≡◌, ◌<◌, ◌≤◌, vec_len};
 
 use bl_map::Handle;
-use bl_serve_lines::Totals;
+use bl_serve_lines::{Sectioning, Totals};
 use bl_serve_worker::Slot;
+
+/// How a server is to work.
+#[derive(Clone, Copy, Debug, PartialEq, Eq)]
+pub struct ServePlan {
+    /// So many threads answer lines, at least 1.
+    pub workers: u32,
+    /// So many others follow hints.
+    pub compressors: u32,
+    /// Which lines end a section.
+    pub sections: Sectioning,
+}
 
 /// How lines are shared among threads.
 #[derive(Clone, Copy, Debug, PartialEq, Eq)]
@@ -13,6 +24,8 @@ pub struct ThreadPlan {
     pub workers: usize,
     /// Fewer requests than this are answered by one thread: another one would cost more time than it spares.
     pub alone: usize,
+    /// Which lines end a section.
+    pub sections: Sectioning,
 }
 
 /// The handles of a server, each with its slot, what was counted, and the output of the section that is open.
@@ -26,4 +39,5 @@ pub struct Session<'a> {
     pub ghost some: { 0 < vec_len handles },
     pub ghost paired: { vec_len slots ≡ vec_len handles },
     pub ghost counted: { totals.malformed ≤ totals.requests },
+    pub ghost synced: { totals.sections ≤ totals.requests },
 }

@@ -3,16 +3,16 @@
 ghost use Rattle.std.specs.Prelude.{◌≡◌, ◌+◌, ◌^◌, ◌≤◌, ℕ, List, [], ◌++◌, true, IfOk, MatchResult, false, OnOk};
 ghost use Rattle.bl_index.specs.Opened.{IsBegun, IsReopened};
 ghost use Rattle.bl_serve.specs.Begun.{IsBegunFrom};
-ghost use Rattle.bl_serve.specs.Origins.{HasPages, ServedFrom, StopsFrom};
+ghost use Rattle.bl_serve.specs.Origins.{HasPages, MayServe, ServedFrom, StopsFrom};
 ghost use Rattle.bl_serve.specs.Serving.{EndsServing};
 
 use crate::origin::Origin;
 use crate::serving::serve_with;
-use crate::session::ThreadPlan;
+use crate::session::{ServePlan, ThreadPlan};
 use bl_check::Quiet;
 use bl_index::{Config, Index, OpenFault, Pass};
 use bl_model::Watched;
-use bl_serve_lines::{ServeFault, Totals};
+use bl_serve_lines::{Sectioning, ServeFault, Totals};
 use bl_serve_worker::OpenGate;
 use std::alloc::{AllocError, Global};
 use std::io::{Read, Write};
@@ -64,18 +64,21 @@ pub fn open_index(
     }
 }
 
-/// So many workers, none of whom a gate holds.
-pub fn plan_of(workers: u32) -> ThreadPlan {
+/// The workers and the sections of that plan, where no gate holds a worker.
+pub fn plan_of(plan: ServePlan) -> ThreadPlan
+    ensures { result.sections ≡ plan.sections }
+{
     ThreadPlan {
-        workers: workers as usize,
+        workers: plan.workers as usize,
         alone: ALONE,
+        sections: plan.sections,
     }
 }
 
 /// Serves the request lines of the reader over an index of its own, which begins without rows or with those of a sound image,
 /// by so many workers (at least 1) and compressors, 64 of both at most. What was written is served for what was read, from the
 /// map of those rows on; after a fault the output of the finished sections is written, and no other but a beginning of the open
-/// section's after a failed write.
+/// section's after a failed write. A `sync` ends a section.
 pub fn serve_index<T: Threads + Wait + Sync, R: Read, W: Write>(
     rt: &T,
     alloc: Global,
@@ -87,14 +90,39 @@ pub fn serve_index<T: Threads + Wait + Sync, R: Read, W: Write>(
 ) -> Result<Totals, ServeFault>
     requires pages { HasPages origin }
     requires passes { (1 ≤ workers) × (workers + compressors ≤ 64) }
-    ensures serves { EndsServing (ServedFrom origin) (StopsFrom origin)
+    ensures serves { EndsServing (ServedFrom Sectioning.BySync origin) (StopsFrom Sectioning.BySync origin)
         (R.remaining reader.old.inner) (R.remaining reader.new.inner) (reader.new.failed ≡ true)
         (W.contents writer.old.inner) (W.contents writer.new.inner) (writer.new.failed ≡ true) result }
     ensures flushed { OnOk result (writer.new.pending ≡ false) }
 {
-    let plan = plan_of(workers);
-    let (index, passes) = open_index(alloc, origin, workers + compressors)?;
-    match serve_with(rt, &index, passes, reader, writer, &OpenGate, plan) {
+    let plan = ServePlan {
+        workers,
+        compressors,
+        sections: Sectioning::BySync,
+    };
+    serve_by_plan(rt, alloc, origin, plan, reader, writer)
+}
+
+/// The same by a plan. Where each line is a section, its reply is written and flushed before the next line is read, and the history
+/// is in the order of the lines.
+pub fn serve_by_plan<T: Threads + Wait + Sync, R: Read, W: Write>(
+    rt: &T,
+    alloc: Global,
+    origin: Origin,
+    plan: ServePlan,
+    reader: &mut Watched<R>,
+    writer: &mut Watched<W>,
+) -> Result<Totals, ServeFault>
+    requires pages { HasPages origin }
+    requires passes { MayServe plan }
+    ensures serves { EndsServing (ServedFrom plan.sections origin) (StopsFrom plan.sections origin)
+        (R.remaining reader.old.inner) (R.remaining reader.new.inner) (reader.new.failed ≡ true)
+        (W.contents writer.old.inner) (W.contents writer.new.inner) (writer.new.failed ≡ true) result }
+    ensures flushed { OnOk result (writer.new.pending ≡ false) }
+{
+    let threads = plan_of(plan);
+    let (index, passes) = open_index(alloc, origin, plan.workers + plan.compressors)?;
+    match serve_with(rt, &index, passes, reader, writer, &OpenGate, threads) {
         Ok((totals, _)) => Ok(totals),
         Err(fault) => Err(fault),
     }

@@ -4,3 +4,4 @@ pub mod Examples
 pub mod Known
 mod Cuts
 pub mod Sections
+mod LineOrder

@@ -1,10 +1,11 @@
--- Outputs that follow each other, lines without a sync, and a server that stops at once.
-use Rattle.std.proofs.Common.{◌≡◌, ◌≢◌, ℕ, suc, ◌+◌, List, [], ◌∷◌, ◌++◌, length, take, ap, sym, ◌∙◌, subst, append_assoc, length-append, arith}
+-- Outputs that follow each other, and lines that end no section.
+use Rattle.std.proofs.Common.{◌≡◌, ℕ, suc, ◌+◌, List, [], ◌∷◌, ◌++◌, length, take, ap, sym, ◌∙◌, subst, append_assoc, length-append, arith}
 use Rattle.std.proofs.Math.Seq.{take-append_seam}
 use Rattle.std.proofs.lemmas.List.Elements.{All-take}
 use Rattle.bl_serve_lines.specs.Text.{numbered}
-use Rattle.bl_serve_lines.specs.Lines.{Line, Synced, answer_text, output_of}
-use Rattle.bl_serve_lines.specs.Served.{HasNoSync, HasNoSyncInside}
+use Rattle.bl_serve_lines.specs.declared.serving.Sectioning.{Sectioning}
+use Rattle.bl_serve_lines.specs.Lines.{Line, answer_text, output_of}
+use Rattle.bl_serve_lines.specs.Served.{Ends, HasNoEnd, HasNoEndInside}
 
 pub output_append : (n : ℕ) (xs ys : List Line) → output_of n (xs ++ ys) ≡ output_of n xs ++ output_of (n + length xs) ys
 output_append n [] ys = ap (λ k. output_of k ys) (let e : n ≡ n + 0 = omega arith in e)
@@ -18,8 +19,8 @@ front_is xs ys x y e =
     let same : length ys ≡ length xs = omega (arith, long) in
     sym (take-append_seam ys (y ∷ [])) ∙ ap (take (length ys)) (sym e) ∙ ap (λ n. take n (xs ++ x ∷ [])) same ∙ take-append_seam xs (x ∷ [])
 
-pub no_sync_inside : (lines : List Line) (line : Line) → HasNoSync lines → HasNoSyncInside (lines ++ line ∷ [])
-no_sync_inside lines line h front end e = subst HasNoSync (sym (front_is lines front line end e)) h
+pub no_end_inside : (how : Sectioning) (lines : List Line) (line : Line) → HasNoEnd how lines → HasNoEndInside how (lines ++ line ∷ [])
+no_end_inside how lines line h front end e = subst (HasNoEnd how) (sym (front_is lines front line end e)) h
 
-pub no_sync_any : (lines : List Line) → HasNoSync lines → HasNoSyncInside lines
-no_sync_any lines h front end e = subst HasNoSync (take-append_seam front (end ∷ [])) (All-take (λ x. x.answer ≢ Synced) (length front) (front ++ end ∷ []) (subst HasNoSync e h))
+pub no_end_any : (how : Sectioning) (lines : List Line) → HasNoEnd how lines → HasNoEndInside how lines
+no_end_any how lines h front end e = subst (HasNoEnd how) (take-append_seam front (end ∷ [])) (All-take (λ x. ¬ Ends how x.answer) (length front) (front ++ end ∷ []) (subst (HasNoEnd how) e h))

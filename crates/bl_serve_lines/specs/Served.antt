@@ -1,8 +1,10 @@
 -- What is written for what is read.
-use Rattle.std.specs.Prelude.{◌≡◌, ◌≢◌, ◌==◌, ℕ, ◌+◌, ◌<◌, ◌≤◌, suc, List, [], ◌∷◌, ◌++◌, All, flat_map, map, length, sum_by, count_by}
+use Rattle.std.specs.Prelude.{◌≡◌, ◌==◌, ℕ, ◌+◌, ◌<◌, ◌≤◌, suc, List, [], ◌∷◌, ◌++◌, All, flat_map, map, length, sum_by, count_by}
 use Rattle.bl_model.specs.declared.operation.Entry.{Entry}
 use Rattle.bl_model.specs.Map.{Map}
 use Rattle.bl_model.specs.History.{IsLegalFrom}
+use Rattle.bl_serve_lines.specs.declared.serving.Sectioning.{Sectioning}
+use Rattle.bl_serve_lines.specs.declared.serving.Sectioning.TheVariants.{BySync, EachLine}
 use Rattle.bl_serve_lines.specs.declared.serving.ServeFault.{ServeFault}
 use Rattle.bl_serve_lines.specs.declared.serving.ServeFault.TheVariants.{Read, Write, Memory, Lost}
 use Rattle.bl_serve_lines.specs.declared.serving.Totals.{Totals}
@@ -23,20 +25,26 @@ pub record IsSection (section : Section) : Type 0 where
   pub lines : All IsLine section.lines
   pub history : Interleaves (map (λ line. entries line.answer) section.lines) section.history
 
--- no line is a sync
-abbrev pub HasNoSync : List Line → Type 0
-HasNoSync lines = All (λ line. line.answer ≢ Synced) lines
+-- a line with that answer ends a section
+abbrev pub Ends : Sectioning → Answer → Type 0
+Ends BySync answer = answer ≡ Synced
+Ends EachLine answer = Unit {0}
 
--- no line before the last one is a sync
-abbrev pub HasNoSyncInside : List Line → Type 0
-HasNoSyncInside lines = (front : List Line) (end : Line) → lines ≡ front ++ end ∷ [] → HasNoSync front
+-- none of the lines ends a section
+abbrev pub HasNoEnd : Sectioning → List Line → Type 0
+HasNoEnd how lines = All (λ line. ¬ Ends how line.answer) lines
 
--- a section that has ended: its last line, and no other, is a sync
-pub record IsFinished (section : Section) : Type 0 where
+-- none of the lines before the last one does
+abbrev pub HasNoEndInside : Sectioning → List Line → Type 0
+HasNoEndInside how lines = (front : List Line) (end : Line) → lines ≡ front ++ end ∷ [] → HasNoEnd how front
+
+-- a section that has ended: its last line, and no other, ends one
+pub record IsFinished (how : Sectioning) (section : Section) : Type 0 where
   pub front : List Line
-  pub sync : List ℕ
-  pub ends : section.lines ≡ front ++ record { bytes = sync; answer = Synced } ∷ []
-  pub no_sync : HasNoSync front
+  pub end : Line
+  pub lines : section.lines ≡ front ++ end ∷ []
+  pub last : Ends how end.answer
+  pub no_end : HasNoEnd how front
   pub whole : IsSection section
 
 abbrev pub lines_of : List Section → List Line
@@ -50,6 +58,11 @@ abbrev pub malformed_of : Answer → ℕ
 malformed_of Malformed = 1
 malformed_of answer = 0
 
+-- one for a sync
+abbrev pub syncs_of : Answer → ℕ
+syncs_of Synced = 1
+syncs_of answer = 0
+
 -- one where there are bytes after the last LF
 abbrev pub one_if_any : List ℕ → ℕ
 one_if_any [] = 0
@@ -58,20 +71,20 @@ one_if_any (b ∷ bytes) = 1
 -- From the map at the start: the input is finished sections, an open one and bytes after the last LF; the history is
 -- legal, with all entries of a section before those of the next; the output is one line for each line of the input, by
 -- number; the totals count lines, those that are malformed, and syncs.
-pub record Served (start : Map) (input output : List ℕ) (totals : Totals) : Type 0 where
+pub record Served (how : Sectioning) (start : Map) (input output : List ℕ) (totals : Totals) : Type 0 where
   pub sections : List Section
   pub last : Section
   pub rest : List ℕ
-  pub each : All IsFinished sections
+  pub each : All (IsFinished how) sections
   pub whole : IsSection last
-  pub no_sync : HasNoSync last.lines
+  pub no_end : HasNoEnd how last.lines
   pub cut : HasNoLf rest
   pub legal : IsLegalFrom start (history_of sections ++ last.history)
   pub read : input ≡ input_of (lines_of sections ++ last.lines) ++ rest
   pub written : output ≡ text_of 1 (lines_of sections ++ last.lines) rest
   pub requests : totals.requests ≡ length (lines_of sections ++ last.lines) + one_if_any rest
   pub malformed : totals.malformed ≡ sum_by (λ line. malformed_of line.answer) (lines_of sections ++ last.lines) + one_if_any rest
-  pub finished : totals.sections ≡ length sections
+  pub syncs : totals.sections ≡ sum_by (λ line. syncs_of line.answer) (lines_of sections ++ last.lines)
 
 -- how many lines of these bytes have their LF
 abbrev pub whole_lines : List ℕ → ℕ
@@ -79,33 +92,33 @@ whole_lines bytes = count_by (λ b. b == 10) bytes
 
 -- what a fault leaves of the lines behind so many in finished sections: how much of their output may be out, what was read
 -- ahead of them, and which lines they are. A line that was lost is one of those that were read ahead.
-abbrev pub Leaves : ServeFault → ℕ → List ℕ → List ℕ → List Line → Type 0
-Leaves Read done begun ahead lines = (begun ≡ []) × (ahead ≡ []) × HasNoSync lines
-Leaves Write done begun ahead lines = Unit {0}
-Leaves Memory done begun ahead lines = begun ≡ []
-Leaves (Lost number) done begun ahead lines = (begun ≡ []) × (done < number) × (number ≤ done + whole_lines ahead)
+abbrev pub Leaves : Sectioning → ServeFault → ℕ → List ℕ → List ℕ → List Line → Type 0
+Leaves how Read done begun ahead lines = (begun ≡ []) × (ahead ≡ []) × HasNoEnd how lines
+Leaves how Write done begun ahead lines = Unit {0}
+Leaves how Memory done begun ahead lines = begun ≡ []
+Leaves how (Lost number) done begun ahead lines = (begun ≡ []) × (done < number) × (number ≤ done + whole_lines ahead)
 
 -- The server stopped by the fault: the output is one line for each line of the finished sections, by number, and no
 -- others but, after a failed write, a beginning of the output of the lines behind them. ahead was read and not cut.
-pub record Stopped (start : Map) (input output : List ℕ) (fault : ServeFault) : Type 0 where
+pub record Stopped (how : Sectioning) (start : Map) (input output : List ℕ) (fault : ServeFault) : Type 0 where
   pub sections : List Section
   pub last : Section
   pub rest : List ℕ
   pub ahead : List ℕ
   pub begun : List ℕ
   pub unwritten : List ℕ
-  pub each : All IsFinished sections
+  pub each : All (IsFinished how) sections
   pub whole : IsSection last
-  pub open_lines : HasNoSyncInside last.lines
+  pub open_lines : HasNoEndInside how last.lines
   pub cut : HasNoLf rest
   pub legal : IsLegalFrom start (history_of sections ++ last.history)
   pub read : input ≡ input_of (lines_of sections ++ last.lines) ++ rest ++ ahead
   pub open_output : text_of (suc (length (lines_of sections))) last.lines rest ≡ begun ++ unwritten
   pub written : output ≡ output_of 1 (lines_of sections) ++ begun
-  pub leaves : Leaves fault (length (lines_of sections)) begun ahead last.lines
+  pub leaves : Leaves how fault (length (lines_of sections)) begun ahead last.lines
 
 -- the entries of a served input, in the order of its history
-abbrev pub whole_history : {start : Map} {input output : List ℕ} {totals : Totals} → Served start input output totals → List Entry
+abbrev pub whole_history : {how : Sectioning} {start : Map} {input output : List ℕ} {totals : Totals} → Served how start input output totals → List Entry
 whole_history served = history_of served.sections ++ served.last.history
 
 -- a read fault comes only from a reader that has failed, and a write fault from such a writer
@@ -116,5 +129,5 @@ ComesFrom Memory reader_failed writer_failed = Unit {0}
 ComesFrom (Lost number) reader_failed writer_failed = Unit {0}
 
 -- The server stopped by the fault, as far as its input and its output go, and with its reason.
-abbrev pub Stops : Map → List ℕ → List ℕ → ServeFault → Type 0 → Type 0 → Type 0
-Stops start input output fault reader_failed writer_failed = Stopped start input output fault × ComesFrom fault reader_failed writer_failed
+abbrev pub Stops : Sectioning → Map → List ℕ → List ℕ → ServeFault → Type 0 → Type 0 → Type 0
+Stops how start input output fault reader_failed writer_failed = Stopped how start input output fault × ComesFrom fault reader_failed writer_failed

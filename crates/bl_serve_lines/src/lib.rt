@@ -14,4 +14,4 @@ pub mod serving;
 pub mod source;
 
 pub use options::ServeOptions;
-pub use serving::{ServeFault, Totals};
+pub use serving::{Sectioning, ServeFault, Totals};

@@ -1,10 +1,19 @@
-//! What a server counts, and why it stops.
+//! Which lines a server answers together, what it counts, and why it stops.
 
 ghost use Rattle.std.specs.Prelude.{◌≡◌};
 ghost use Rattle.bl_serve_lines.specs.declared.serving.ServeFault.TheVariants.{Memory};
 
 use std::alloc::AllocError;
 use thiserror::Error;
+
+/// Which lines end a section.
+#[derive(Clone, Copy, Debug, PartialEq, Eq)]
+pub enum Sectioning {
+    /// A `sync`.
+    BySync,
+    /// Each line: it is a section of its own.
+    EachLine,
+}
 
 /// What was served.
 #[derive(Clone, Copy, Debug, PartialEq, Eq)]
@@ -13,7 +22,7 @@ pub struct Totals {
     pub requests: u64,
     /// Lines that spell no request.
     pub malformed: u64,
-    /// Lines that end a section.
+    /// Lines that are a `sync`.
     pub sections: u64,
 }
 

@@ -2,6 +2,7 @@
 
 use bl_hints::Hints;
 use bl_index::Index;
+use bl_serve_lines::Sectioning;
 use std::alloc::Global;
 
 /// What all threads of a server share for its whole life.
@@ -13,5 +14,7 @@ pub struct Service<'a, G> {
     pub hints: &'a Hints,
     /// Each request goes through it.
     pub gate: &'a G,
+    /// Whoever reads lines ends a section behind these.
+    pub sections: Sectioning,
     pub alloc: Global,
 }

@@ -1,7 +1,7 @@
 //! The words of the command line, and the words on standard error.
 
 use bl_cli_commands::{CommandFault, DumpFault};
-use bl_cli_options::{Invocation, ServeOptions, Server, read_words};
+use bl_cli_options::{Invocation, Sectioning, ServeOptions, Server, read_words};
 use bl_serve_lines::ServeFault;
 use std::alloc::Global;
 use std::test::Fail;
@@ -49,6 +49,40 @@ fn words_that_ask_for_counts(rt: HostRuntime) -> Result<(), Fail> {
         ("blink check --stats index.image", None),
     ] {
         assert!(rt; says_counts(rt.alloc(), text)? == wanted, "{text}");
+    }
+    Ok(())
+}
+
+/// Which lines end a section of a server that is asked for.
+fn sections(invocation: &Invocation) -> Option<Sectioning> {
+    match invocation {
+        Invocation::Serve(server) => Some(server.sections),
+        Invocation::Dump(server, _) => Some(server.sections),
+        _ => None,
+    }
+}
+
+/// The same of what a command line asks for.
+fn ends_sections(alloc: Global, text: &str) -> Result<Option<Sectioning>, Fail> {
+    Ok(match invoked(alloc, text)? {
+        Some(invocation) => sections(&invocation),
+        None => None,
+    })
+}
+
+#[test]
+fn words_that_ask_for_a_reply_at_once(rt: HostRuntime) -> Result<(), Fail> {
+    for (text, wanted) in [
+        ("blink serve", Some(Sectioning::BySync)),
+        ("blink serve --interactive", Some(Sectioning::EachLine)),
+        (
+            "blink dump index.image --interactive",
+            Some(Sectioning::EachLine),
+        ),
+        ("blink rows --interactive index.image", None),
+        ("blink serve --interactive yes", None),
+    ] {
+        assert!(rt; ends_sections(rt.alloc(), text)? == wanted, "{text}");
     }
     Ok(())
 }

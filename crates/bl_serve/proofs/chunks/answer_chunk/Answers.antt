@@ -37,7 +37,7 @@ pub invariant_of-result : goal.invariant_of-result
 invariant_of-result g c =
     let t = turns_long _ _ _ _ _ c.in_ok-work_abreast.ensures.turns in
     let a = c.args.session.some in let b = c.args.session.paired in let d = c.args.session.handles.ok in let e = c.work_abreast.new.handles.ok in
-    record { some = omega (arith, t, a, b, d, e); paired = omega (arith, t, a, b, d, e); counted = c.args.session.counted }
+    record { some = omega (arith, t, a, b, d, e); paired = omega (arith, t, a, b, d, e); counted = c.args.session.counted; synced = c.args.session.synced }
 
 -- what was read stays read, however the chunk ends
 pub returns-clause-consumes : goal.returns-clause-consumes

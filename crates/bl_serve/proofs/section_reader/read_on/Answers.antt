@@ -1,6 +1,6 @@
 use Rattle.std.proofs.Common.{[], refl, ap, sym, subst, length, arith, inr}
 use Rattle.bl_serve_lines.proofs.Known.{consumes_start}
-use Rattle.bl_serve.specs.Reading.{AsksNoSync}
+use Rattle.bl_serve.specs.Reading.{AskNoEnd}
 use Rattle.bl_serve.proofs.Cutting.{asks_none, reads_none}
 use Rattle.bl_serve.proofs.section_reader.read_on.Goals as goal
 
@@ -10,6 +10,6 @@ returns-else-ahead-gt0 g c = let none = c.clear.ensures in let empty = ap length
   rest = [];
   more = [];
   consumed = consumes_start _;
-  reads = (reads_none c.args.ahead.now.source c.clear.new.self none, omega (arith, empty), refl, subst AsksNoSync (sym none) asks_none, inr (let few = c.if-ahead-gt0.false in omega (arith, empty, few)));
+  reads = (reads_none c.args.ahead.now.source c.clear.new.self none, omega (arith, empty), refl, subst (AskNoEnd c.args.sections) (sym none) (asks_none c.args.sections), inr (let few = c.if-ahead-gt0.false in omega (arith, empty, few)));
   idle = λ _. (refl, refl);
 }

@@ -24,10 +24,10 @@ loop-init g c = let r = c.read_on.ensures in record {
   more = r.more;
   mid = c.args.ahead.now.source ++ r.more;
   consumed = r.consumed;
-  served = subst (λ (z : List Pass × Totals). HasServed c.args.service.now.index.now (seats_of c.args.session.handles.items) z.0 c.args.session.totals z.1 (c.args.ahead.now.source ++ r.more) (c.args.ahead.now.source ++ r.more) [] c.emptied-session.result.text.items)
+  served = subst (λ (z : List Pass × Totals). HasServed c.args.service.now.sections c.args.service.now.index.now (seats_of c.args.session.handles.items) z.0 c.args.session.totals z.1 (c.args.ahead.now.source ++ r.more) (c.args.ahead.now.source ++ r.more) [] c.emptied-session.result.text.items)
       (λ i. (sym (ap seats_of c.emptied-session.ensures.handles) i, sym c.emptied-session.ensures.totals i))
-      (served_nothing c.args.service.now.index.now (seats_of c.args.session.handles.items) c.args.session.totals (c.args.ahead.now.source ++ r.more) c.emptied-session.result.text.items c.emptied-session.ensures.text c.requires.met (let a = c.args.session.some in let d = c.args.session.handles.ok in let e = seats_long c.args.session.handles.items in omega (arith, a, d, e)) c.requires.requests);
-  reads = subst (λ (n : ℕ). EndsReading c.read_on.new.ahead.end n c.read_on.new.ahead.lines r.rest (c.args.ahead.now.source ++ r.more) c.read_on.new.ahead.source (IsAtEnd (g.R.Read.remaining c.read_on.new.reader.inner)) (c.read_on.new.reader.failed ≡ true)) c.most_behind-ahead.ensures r.reads;
+      (served_nothing c.args.service.now.sections c.args.service.now.index.now (seats_of c.args.session.handles.items) c.args.session.totals (c.args.ahead.now.source ++ r.more) c.emptied-session.result.text.items c.emptied-session.ensures.text c.requires.met (let a = c.args.session.some in let d = c.args.session.handles.ok in let e = seats_long c.args.session.handles.items in omega (arith, a, d, e)) c.requires.requests);
+  reads = subst (λ (n : ℕ). EndsReading c.args.service.now.sections c.read_on.new.ahead.end n c.read_on.new.ahead.lines r.rest (c.args.ahead.now.source ++ r.more) c.read_on.new.ahead.source (IsAtEnd (g.R.Read.remaining c.read_on.new.reader.inner)) (c.read_on.new.reader.failed ≡ true)) c.most_behind-ahead.ensures r.reads;
 }
 
 -- the section could not be read whole
@@ -41,7 +41,7 @@ returns-in_err-end g c = let i = c.loop.invariant in let p = err_from_is_err_and
       i.consumed,
       (
         c.loop.ahead.source,
-        inl (ends_section c.args.service.now.index.now (seats_of c.args.session.handles.items) (seats_of c.loop.session.handles.items) c.args.session.totals c.loop.session.totals (c.args.ahead.now.source ++ i.more) i.mid i.asked c.loop.session.text.items i.served (Err c.in_err-end.field-0.0) c.loop.chunk c.loop.ahead.lines i.rest c.loop.ahead.source
+        inl (ends_section c.args.service.now.sections c.args.service.now.index.now (seats_of c.args.session.handles.items) (seats_of c.loop.session.handles.items) c.args.session.totals c.loop.session.totals (c.args.ahead.now.source ++ i.more) i.mid i.asked c.loop.session.text.items i.served (Err c.in_err-end.field-0.0) c.loop.chunk c.loop.ahead.lines i.rest c.loop.ahead.source
             (IsAtEnd (g.R.Read.remaining c.loop.reader.inner)) (c.loop.reader.failed ≡ true) (λ is. absurd (let no : ⊥ = cc in no)) (rw was at i.reads)),
       ),
     )
@@ -54,8 +54,8 @@ pub returns-in_err-back : goal.returns-in_err-back
 returns-in_err-back g c = let i = c.loop.invariant in let p = err_from_is_err_and c.from_residual-in_err-back.result c.from_residual-in_err-back.ensures.1 in let m = c.in_err-back.ensures.consumes in
     let was : c.loop.ahead.end ≡ Ok c.in_ok-end.end = search rules in
     let lines : c.loop.ahead.lines ≡ c.swap.new.x = search rules in
-    let e : EndsReading (Ok c.in_ok-end.end) (min c.loop.chunk (18446744073709551615 - c.loop.session.totals.requests)) c.swap.new.x i.rest i.mid c.loop.ahead.source (IsAtEnd (g.R.Read.remaining c.loop.reader.inner)) (c.loop.reader.failed ≡ true)
-    = subst (λ (z : List (Option Request)). EndsReading (Ok c.in_ok-end.end) (min c.loop.chunk (18446744073709551615 - c.loop.session.totals.requests)) z i.rest i.mid c.loop.ahead.source (IsAtEnd (g.R.Read.remaining c.loop.reader.inner)) (c.loop.reader.failed ≡ true)) lines (rw was at i.reads) in
+    let e : EndsReading c.args.service.now.sections (Ok c.in_ok-end.end) (min c.loop.chunk (18446744073709551615 - c.loop.session.totals.requests)) c.swap.new.x i.rest i.mid c.loop.ahead.source (IsAtEnd (g.R.Read.remaining c.loop.reader.inner)) (c.loop.reader.failed ≡ true)
+    = subst (λ (z : List (Option Request)). EndsReading c.args.service.now.sections (Ok c.in_ok-end.end) (min c.loop.chunk (18446744073709551615 - c.loop.session.totals.requests)) z i.rest i.mid c.loop.ahead.source (IsAtEnd (g.R.Read.remaining c.loop.reader.inner)) (c.loop.reader.failed ≡ true)) lines (rw was at i.reads) in
     rw (p.1, p.2) (
       i.asked ++ c.swap.new.x,
       i.rest,
@@ -63,9 +63,9 @@ returns-in_err-back g c = let i = c.loop.invariant in let p = err_from_is_err_an
       consumes_more _ _ _ _ _ i.consumed m.1,
       (
         c.loop.ahead.source ++ m.0,
-        subst (λ (z : List ℕ). FailsSection c.in_err-back.field-0.0 c.args.session.totals.requests (18446744073709551615 - c.args.session.totals.requests) (i.asked ++ c.swap.new.x) i.rest z (c.loop.ahead.source ++ m.0) (IsAtEnd (g.R.Read.remaining c.serve_chunk.new.reader.inner)) (c.serve_chunk.new.reader.failed ≡ true))
+        subst (λ (z : List ℕ). FailsSection c.args.service.now.sections c.in_err-back.field-0.0 c.args.session.totals.requests (18446744073709551615 - c.args.session.totals.requests) (i.asked ++ c.swap.new.x) i.rest z (c.loop.ahead.source ++ m.0) (IsAtEnd (g.R.Read.remaining c.serve_chunk.new.reader.inner)) (c.serve_chunk.new.reader.failed ≡ true))
             (append_assoc c.args.ahead.now.source i.more m.0)
-            (fails_answering c.args.service.now.index.now (seats_of c.args.session.handles.items) (seats_of c.loop.session.handles.items) c.args.session.totals c.loop.session.totals (c.args.ahead.now.source ++ i.more) i.mid i.asked c.loop.session.text.items i.served c.in_err-back.field-0.0 c.in_ok-end.end (min c.loop.chunk (18446744073709551615 - c.loop.session.totals.requests)) (18446744073709551615 - c.args.session.totals.requests) c.swap.new.x i.rest c.loop.ahead.source m.0
+            (fails_answering c.args.service.now.sections c.args.service.now.index.now (seats_of c.args.session.handles.items) (seats_of c.loop.session.handles.items) c.args.session.totals c.loop.session.totals (c.args.ahead.now.source ++ i.more) i.mid i.asked c.loop.session.text.items i.served c.in_err-back.field-0.0 c.in_ok-end.end (min c.loop.chunk (18446744073709551615 - c.loop.session.totals.requests)) (18446744073709551615 - c.args.session.totals.requests) c.swap.new.x i.rest c.loop.ahead.source m.0
             (IsAtEnd (g.R.Read.remaining c.loop.reader.inner)) (c.loop.reader.failed ≡ true) (IsAtEnd (g.R.Read.remaining c.serve_chunk.new.reader.inner)) (c.serve_chunk.new.reader.failed ≡ true) e c.in_err-back.ensures.fault),
       ),
     )
@@ -75,8 +75,8 @@ pub returns-then-not-open : goal.returns-then-not-open
 returns-then-not-open g c = let i = c.loop.invariant in let r = c.in_ok-back.ensures.reads in
     let was : c.loop.ahead.end ≡ Ok c.in_ok-end.end = search rules in
     let lines : c.loop.ahead.lines ≡ c.swap.new.x = search rules in
-    let e : EndsReading (Ok c.in_ok-end.end) (min c.loop.chunk (18446744073709551615 - c.loop.session.totals.requests)) c.swap.new.x i.rest i.mid c.loop.ahead.source (IsAtEnd (g.R.Read.remaining c.loop.reader.inner)) (c.loop.reader.failed ≡ true)
-    = subst (λ (z : List (Option Request)). EndsReading (Ok c.in_ok-end.end) (min c.loop.chunk (18446744073709551615 - c.loop.session.totals.requests)) z i.rest i.mid c.loop.ahead.source (IsAtEnd (g.R.Read.remaining c.loop.reader.inner)) (c.loop.reader.failed ≡ true)) lines (rw was at i.reads) in
+    let e : EndsReading c.args.service.now.sections (Ok c.in_ok-end.end) (min c.loop.chunk (18446744073709551615 - c.loop.session.totals.requests)) c.swap.new.x i.rest i.mid c.loop.ahead.source (IsAtEnd (g.R.Read.remaining c.loop.reader.inner)) (c.loop.reader.failed ≡ true)
+    = subst (λ (z : List (Option Request)). EndsReading c.args.service.now.sections (Ok c.in_ok-end.end) (min c.loop.chunk (18446744073709551615 - c.loop.session.totals.requests)) z i.rest i.mid c.loop.ahead.source (IsAtEnd (g.R.Read.remaining c.loop.reader.inner)) (c.loop.reader.failed ≡ true)) lines (rw was at i.reads) in
     let none : c.if-open.ahead ≡ 0 = elim c.if-open.branch [ then-open w ↦ search rules | else-open w ↦ w.ahead-is ] in
     let last : Ok c.in_ok-end.end ≡ Ok section_end.Finished → length c.swap.new.x < c.loop.chunk = λ is. elim (cases_lt (length c.swap.new.x) c.loop.chunk) [
       | inl low ↦ low
@@ -84,18 +84,18 @@ returns-then-not-open g c = let i = c.loop.invariant in let r = c.in_ok-back.ens
     ] in
     let idle = r.idle none in
     let grown : c.in_ok-back.back.text.items ≡ c.loop.session.text.items ++ c.in_ok-back.ensures.serves.0 = c.in_ok-back.ensures.serves.1 in
-    let all = ends_section c.args.service.now.index.now (seats_of c.args.session.handles.items) (seats_of c.loop.session.handles.items) c.args.session.totals c.loop.session.totals (c.args.ahead.now.source ++ i.more) i.mid i.asked c.loop.session.text.items i.served (Ok c.in_ok-end.end) c.loop.chunk c.swap.new.x i.rest c.loop.ahead.source
+    let all = ends_section c.args.service.now.sections c.args.service.now.index.now (seats_of c.args.session.handles.items) (seats_of c.loop.session.handles.items) c.args.session.totals c.loop.session.totals (c.args.ahead.now.source ++ i.more) i.mid i.asked c.loop.session.text.items i.served (Ok c.in_ok-end.end) c.loop.chunk c.swap.new.x i.rest c.loop.ahead.source
     (IsAtEnd (g.R.Read.remaining c.loop.reader.inner)) (c.loop.reader.failed ≡ true) last e in (
       i.asked ++ c.swap.new.x,
       i.rest,
       i.more,
       subst (λ z. Consumes (g.R.Read.remaining c.args.reader.now.inner) z i.more) (sym idle.0) i.consumed,
       (
-        any_failed c.in_ok-end.end (18446744073709551615 - c.args.session.totals.requests) (i.asked ++ c.swap.new.x) i.rest (c.args.ahead.now.source ++ i.more) c.serve_chunk.new.ahead.source (IsAtEnd (g.R.Read.remaining c.serve_chunk.new.reader.inner)) (c.loop.reader.failed ≡ true) (c.serve_chunk.new.reader.failed ≡ true)
-            (subst (λ (z : List ℕ). EndsReading (Ok c.in_ok-end.end) (18446744073709551615 - c.args.session.totals.requests) (i.asked ++ c.swap.new.x) i.rest (c.args.ahead.now.source ++ i.more) z (IsAtEnd (g.R.Read.remaining c.serve_chunk.new.reader.inner)) (c.loop.reader.failed ≡ true)) (sym idle.1)
-            (subst (λ (z : Option (List ℕ)). EndsReading (Ok c.in_ok-end.end) (18446744073709551615 - c.args.session.totals.requests) (i.asked ++ c.swap.new.x) i.rest (c.args.ahead.now.source ++ i.more) c.loop.ahead.source (IsAtEnd z) (c.loop.reader.failed ≡ true)) (sym idle.0) all)),
-        counts_all c.args.service.now.index.now (seats_of c.args.session.handles.items) (seats_of c.loop.session.handles.items) c.args.session.totals c.loop.session.totals (c.args.ahead.now.source ++ i.more) i.mid i.asked c.loop.session.text.items i.served c.in_ok-back.back.totals c.swap.new.x c.in_ok-end.end c.in_ok-back.ensures.counts,
-        subst (λ (z : List ℕ). ServesSection c.args.service.now.index.now c.args.session.totals.requests (i.asked ++ c.swap.new.x) c.in_ok-end.end z (seats_of c.args.session.handles.items) (seats_of c.in_ok-back.back.handles.items)) (sym grown) (serves_all c.args.service.now.index.now (seats_of c.args.session.handles.items) (seats_of c.loop.session.handles.items) c.args.session.totals c.loop.session.totals (c.args.ahead.now.source ++ i.more) i.mid i.asked c.loop.session.text.items i.served c.swap.new.x c.in_ok-end.end c.in_ok-back.ensures.serves.0 (seats_of c.in_ok-back.back.handles.items) c.in_ok-back.ensures.serves.2),
+        any_failed c.args.service.now.sections c.in_ok-end.end (18446744073709551615 - c.args.session.totals.requests) (i.asked ++ c.swap.new.x) i.rest (c.args.ahead.now.source ++ i.more) c.serve_chunk.new.ahead.source (IsAtEnd (g.R.Read.remaining c.serve_chunk.new.reader.inner)) (c.loop.reader.failed ≡ true) (c.serve_chunk.new.reader.failed ≡ true)
+            (subst (λ (z : List ℕ). EndsReading c.args.service.now.sections (Ok c.in_ok-end.end) (18446744073709551615 - c.args.session.totals.requests) (i.asked ++ c.swap.new.x) i.rest (c.args.ahead.now.source ++ i.more) z (IsAtEnd (g.R.Read.remaining c.serve_chunk.new.reader.inner)) (c.loop.reader.failed ≡ true)) (sym idle.1)
+            (subst (λ (z : Option (List ℕ)). EndsReading c.args.service.now.sections (Ok c.in_ok-end.end) (18446744073709551615 - c.args.session.totals.requests) (i.asked ++ c.swap.new.x) i.rest (c.args.ahead.now.source ++ i.more) c.loop.ahead.source (IsAtEnd z) (c.loop.reader.failed ≡ true)) (sym idle.0) all)),
+        counts_all c.args.service.now.sections c.args.service.now.index.now (seats_of c.args.session.handles.items) (seats_of c.loop.session.handles.items) c.args.session.totals c.loop.session.totals (c.args.ahead.now.source ++ i.more) i.mid i.asked c.loop.session.text.items i.served c.in_ok-back.back.totals c.swap.new.x c.in_ok-end.end c.in_ok-back.ensures.counts,
+        subst (λ (z : List ℕ). ServesSection c.args.service.now.index.now c.args.session.totals.requests (i.asked ++ c.swap.new.x) c.in_ok-end.end z (seats_of c.args.session.handles.items) (seats_of c.in_ok-back.back.handles.items)) (sym grown) (serves_all c.args.service.now.sections c.args.service.now.index.now (seats_of c.args.session.handles.items) (seats_of c.loop.session.handles.items) c.args.session.totals c.loop.session.totals (c.args.ahead.now.source ++ i.more) i.mid i.asked c.loop.session.text.items i.served c.swap.new.x c.in_ok-end.end c.in_ok-back.ensures.serves.0 (seats_of c.in_ok-back.back.handles.items) c.in_ok-back.ensures.serves.2),
       ),
     )
 
@@ -104,8 +104,8 @@ pub loop-preserved : goal.loop-preserved
 loop-preserved g c = let i = c.loop.invariant in let r = c.in_ok-back.ensures.reads in
     let was : c.loop.ahead.end ≡ Ok c.in_ok-end.end = search rules in
     let lines : c.loop.ahead.lines ≡ c.swap.new.x = search rules in
-    let e : EndsReading (Ok c.in_ok-end.end) (min c.loop.chunk (18446744073709551615 - c.loop.session.totals.requests)) c.swap.new.x i.rest i.mid c.loop.ahead.source (IsAtEnd (g.R.Read.remaining c.loop.reader.inner)) (c.loop.reader.failed ≡ true)
-    = subst (λ (z : List (Option Request)). EndsReading (Ok c.in_ok-end.end) (min c.loop.chunk (18446744073709551615 - c.loop.session.totals.requests)) z i.rest i.mid c.loop.ahead.source (IsAtEnd (g.R.Read.remaining c.loop.reader.inner)) (c.loop.reader.failed ≡ true)) lines (rw was at i.reads) in
+    let e : EndsReading c.args.service.now.sections (Ok c.in_ok-end.end) (min c.loop.chunk (18446744073709551615 - c.loop.session.totals.requests)) c.swap.new.x i.rest i.mid c.loop.ahead.source (IsAtEnd (g.R.Read.remaining c.loop.reader.inner)) (c.loop.reader.failed ≡ true)
+    = subst (λ (z : List (Option Request)). EndsReading c.args.service.now.sections (Ok c.in_ok-end.end) (min c.loop.chunk (18446744073709551615 - c.loop.session.totals.requests)) z i.rest i.mid c.loop.ahead.source (IsAtEnd (g.R.Read.remaining c.loop.reader.inner)) (c.loop.reader.failed ≡ true)) lines (rw was at i.reads) in
     let is : c.in_ok-end.end ≡ section_end.Finished = (c.goes_on-open.ensures.0 (search rules)).0 in
     let few : c.if-open.ahead ≡ min c.chunk_behind-chunk.result (18446744073709551615 - c.in_ok-back.back.totals.requests) = elim c.if-open.branch [
       | then-open w ↦ w.ahead-is ∙ (w.most_behind-ahead-then-open.ensures ∙ (let a = c.in_ok-back.ensures.counts.requests in let b = finished_none c.in_ok-end.end is in let long : w.len-then-open.result ≡ length c.swap.new.x = search rules in ap (λ (n : ℕ). min c.chunk_behind-chunk.result (18446744073709551615 - n)) (let same : c.loop.session.totals.requests + w.len-then-open.result ≡ c.in_ok-back.back.totals.requests = omega (arith, a, b, long) in same)))
@@ -117,9 +117,9 @@ loop-preserved g c = let i = c.loop.invariant in let r = c.in_ok-back.ensures.re
       more = i.more ++ r.more;
       mid = c.loop.ahead.source ++ r.more;
       consumed = consumes_more _ _ _ _ _ i.consumed r.consumed;
-      served = subst (λ (z : List ℕ × List ℕ). HasServed c.args.service.now.index.now (seats_of c.args.session.handles.items) (seats_of c.in_ok-back.back.handles.items) c.args.session.totals c.in_ok-back.back.totals z.0 (c.loop.ahead.source ++ r.more) (i.asked ++ c.swap.new.x) z.1)
+      served = subst (λ (z : List ℕ × List ℕ). HasServed c.args.service.now.sections c.args.service.now.index.now (seats_of c.args.session.handles.items) (seats_of c.in_ok-back.back.handles.items) c.args.session.totals c.in_ok-back.back.totals z.0 (c.loop.ahead.source ++ r.more) (i.asked ++ c.swap.new.x) z.1)
           (λ j. (append_assoc c.args.ahead.now.source i.more r.more j, sym grown j))
-          (goes_on c.args.service.now.index.now (seats_of c.args.session.handles.items) (seats_of c.loop.session.handles.items) c.args.session.totals c.loop.session.totals (c.args.ahead.now.source ++ i.more) i.mid i.asked c.loop.session.text.items i.served c.in_ok-back.back.totals c.in_ok-end.end (min c.loop.chunk (18446744073709551615 - c.loop.session.totals.requests)) c.swap.new.x i.rest c.loop.ahead.source r.more c.in_ok-back.ensures.serves.0 (seats_of c.in_ok-back.back.handles.items) (IsAtEnd (g.R.Read.remaining c.loop.reader.inner)) (c.loop.reader.failed ≡ true) is e (omega arith)
+          (goes_on c.args.service.now.sections c.args.service.now.index.now (seats_of c.args.session.handles.items) (seats_of c.loop.session.handles.items) c.args.session.totals c.loop.session.totals (c.args.ahead.now.source ++ i.more) i.mid i.asked c.loop.session.text.items i.served c.in_ok-back.back.totals c.in_ok-end.end (min c.loop.chunk (18446744073709551615 - c.loop.session.totals.requests)) c.swap.new.x i.rest c.loop.ahead.source r.more c.in_ok-back.ensures.serves.0 (seats_of c.in_ok-back.back.handles.items) (IsAtEnd (g.R.Read.remaining c.loop.reader.inner)) (c.loop.reader.failed ≡ true) is e (omega arith)
           c.in_ok-back.ensures.counts c.in_ok-back.ensures.serves.2);
-      reads = subst (λ (n : ℕ). EndsReading c.serve_chunk.new.ahead.end n c.serve_chunk.new.ahead.lines r.rest (c.loop.ahead.source ++ r.more) c.serve_chunk.new.ahead.source (IsAtEnd (g.R.Read.remaining c.serve_chunk.new.reader.inner)) (c.serve_chunk.new.reader.failed ≡ true)) few r.reads;
+      reads = subst (λ (n : ℕ). EndsReading c.args.service.now.sections c.serve_chunk.new.ahead.end n c.serve_chunk.new.ahead.lines r.rest (c.loop.ahead.source ++ r.more) c.serve_chunk.new.ahead.source (IsAtEnd (g.R.Read.remaining c.serve_chunk.new.reader.inner)) (c.serve_chunk.new.reader.failed ≡ true)) few r.reads;
     }

@@ -15,6 +15,6 @@ invariant-loop g l = record {
   more : List ℕ;
   mid : List ℕ;
   consumed : Consumes (g.R.Read.remaining l.fn.reader.inner) (g.R.Read.remaining l.reader.inner) more;
-  served : HasServed l.service.index.now (seats_of l.fn.session.handles.items) (seats_of l.session.handles.items) l.fn.session.totals l.session.totals (l.fn.ahead.source ++ more) mid asked l.session.text.items;
-  reads : EndsReading l.ahead.end (min l.chunk (2 ^ 64 - 1 - l.session.totals.requests)) l.ahead.lines rest mid l.ahead.source (IsAtEnd (g.R.Read.remaining l.reader.inner)) (l.reader.failed ≡ true);
+  served : HasServed l.service.sections l.service.index.now (seats_of l.fn.session.handles.items) (seats_of l.session.handles.items) l.fn.session.totals l.session.totals (l.fn.ahead.source ++ more) mid asked l.session.text.items;
+  reads : EndsReading l.service.sections l.ahead.end (min l.chunk (2 ^ 64 - 1 - l.session.totals.requests)) l.ahead.lines rest mid l.ahead.source (IsAtEnd (g.R.Read.remaining l.reader.inner)) (l.reader.failed ≡ true);
 }

@@ -9,14 +9,14 @@ use Rattle.bl_serve.specs.declared.section_reader.SectionEnd.TheVariants as sect
 use Rattle.bl_serve.specs.Serving.{seen_by}
 use Rattle.bl_serve.proofs.Advance.{no_progress, stops_inside}
 use Rattle.bl_serve.proofs.Holding.{together_by_first}
-use Rattle.bl_serve.proofs.Faults.{room, stops_at_section, now_seen, together_now, some_now, stops_at_write, goes_on_at_sync, serves_at_end, serves_no_more}
+use Rattle.bl_serve.proofs.Faults.{room, stops_at_section, now_seen, together_now, some_now, stops_at_write, goes_on_behind_end, serves_at_end, serves_no_more}
 use Rattle.bl_serve.proofs.Together.{seats_long}
 use Rattle.bl_serve.proofs.serving.serve_sections.Goals as goal
 
 -- no memory at the start
 pub returns-in_err-ahead-clause-serves : goal.returns-in_err-ahead-clause-serves
 returns-in_err-ahead-clause-serves g c = let p = err_from_is_err_and c.from_residual.result c.from_residual.ensures.1 in
-    rw (p.1, p.2) (record { input = []; ahead = []; output = []; consumed = consumes_start _; wrote = appends_start _; ok = tt; fault = stops_inside (first_of c.args.service.now.index.now) (seen_by (seats_of c.args.session.handles.items)) (seen_by (seats_of c.args.session.handles.items)) _ [] [] [] Memory (c.args.reader.now.failed ≡ true) (c.args.writer.now.failed ≡ true) (no_progress (seen_by (seats_of c.args.session.handles.items)) c.args.session.totals c.requires.first) c.requires.met.may_be refl tt })
+    rw (p.1, p.2) (record { input = []; ahead = []; output = []; consumed = consumes_start _; wrote = appends_start _; ok = tt; fault = stops_inside c.args.service.now.sections (first_of c.args.service.now.index.now) (seen_by (seats_of c.args.session.handles.items)) (seen_by (seats_of c.args.session.handles.items)) _ [] [] [] Memory (c.args.reader.now.failed ≡ true) (c.args.writer.now.failed ≡ true) (no_progress c.args.service.now.sections (seen_by (seats_of c.args.session.handles.items)) c.args.session.totals c.requires.first) c.requires.met.may_be refl tt })
 
 pub loop-section-init : goal.loop-section-init
 loop-section-init g c = record {
@@ -25,11 +25,10 @@ loop-section-init g c = record {
   seen = seen_by (seats_of c.args.session.handles.items);
   consumed = subst (λ t. Consumes (g.R.Read.remaining c.args.reader.now.inner) (g.R.Read.remaining c.args.reader.now.inner) t) (sym c.in_ok-ahead.ensures.0) (consumes_start _);
   wrote = appends_start _;
-  progress = no_progress _ _ c.requires.first;
+  progress = no_progress c.args.service.now.sections _ _ c.requires.first;
   together = c.requires.met;
   some = (let a = c.args.session.some in let d = c.args.session.handles.ok in let e = seats_long c.args.session.handles.items in omega (arith, a, d, e));
   room = (let a = c.requires.first.0 in omega (arith, a));
-  sections = (let a = c.requires.first.2 in omega (arith, a));
   number = omega arith;
   flushed = λ some. absurd (let no : ⊥ = omega (arith, some) in no);
 }
@@ -44,7 +43,7 @@ returns-in_err-back-clause-serves g c = let i = c.loop-section.invariant in let 
       consumed = consumes_next _ _ _ i.input c.loop-section.ahead.source e.2 _ i.consumed e.3 refl;
       wrote = i.wrote;
       ok = tt;
-      fault = stops_at_section (first_of c.args.service.now.index.now) c.in_err-back.field-0.0 (seen_by (seats_of c.args.session.handles.items)) i.seen c.loop-section.session.totals i.input i.output (c.loop-section.ahead.source ++ e.2) e.4.0 e.1 e.0 (18446744073709551615 - c.loop-section.session.totals.requests)
+      fault = stops_at_section c.args.service.now.sections (first_of c.args.service.now.index.now) c.in_err-back.field-0.0 (seen_by (seats_of c.args.session.handles.items)) i.seen c.loop-section.session.totals i.input i.output (c.loop-section.ahead.source ++ e.2) e.4.0 e.1 e.0 (18446744073709551615 - c.loop-section.session.totals.requests)
           (IsAtEnd (g.R.Read.remaining c.serve_section.new.reader.inner)) (c.serve_section.new.reader.failed ≡ true) (c.loop-section.writer.failed ≡ true) i.progress i.together.may_be e.4.1;
     })
 
@@ -61,39 +60,38 @@ returns-in-Err-clause-serves g c = let i = c.loop-section.invariant in let e = c
       consumed = consumes_next _ _ _ i.input c.loop-section.ahead.source e.2 _ i.consumed e.3 refl;
       wrote = appends_more _ _ _ _ _ i.wrote w.3;
       ok = tt;
-      fault = stops_at_write c.args.service.now.index.now i.seen c.loop-section.session.totals e.0 c.in_ok-back.end c.in_ok-back.back.text.items (seats_of c.loop-section.session.handles.items) (seats_of c.in_ok-back.back.handles.items) i.together i.some s (seen_by (seats_of c.args.session.handles.items)) i.input i.output (c.loop-section.ahead.source ++ e.2) c.serve_section.new.ahead.source e.1 w.0 w.1 (18446744073709551615 - c.loop-section.session.totals.requests)
+      fault = stops_at_write c.args.service.now.sections c.args.service.now.index.now i.seen c.loop-section.session.totals e.0 c.in_ok-back.end c.in_ok-back.back.text.items (seats_of c.loop-section.session.handles.items) (seats_of c.in_ok-back.back.handles.items) i.together i.some s (seen_by (seats_of c.args.session.handles.items)) i.input i.output (c.loop-section.ahead.source ++ e.2) c.serve_section.new.ahead.source e.1 w.0 w.1 (18446744073709551615 - c.loop-section.session.totals.requests)
           (IsAtEnd (g.R.Read.remaining c.serve_section.new.reader.inner)) (c.serve_section.new.reader.failed ≡ true) (c.write_out.new.writer.failed ≡ true) i.progress ends (sym c.as_slice.ensures.value ∙ w.2) c.in-Err.ensures.failed;
     }
 
 pub returns-then-ne-clause-serves : goal.returns-then-ne-clause-serves
 returns-then-ne-clause-serves g c = let i = c.loop-section.invariant in let e = c.in_ok-back.ensures in let ends = e.4.0 in let counts = e.4.1 in let s = e.4.2 in
-    let other : c.in_ok-back.end ≢ section_end.Synced = search rules in
-    let v = serves_at_end c.args.service.now.index.now i.seen c.loop-section.session.totals e.0 c.in_ok-back.end c.in_ok-back.back.text.items (seats_of c.loop-section.session.handles.items) (seats_of c.in_ok-back.back.handles.items) i.together i.some s (seen_by (seats_of c.args.session.handles.items)) c.in_ok-back.back.totals i.input i.output (c.loop-section.ahead.source ++ e.2) c.serve_section.new.ahead.source e.1
+    let other : c.in_ok-back.end ≢ section_end.ByLine = search rules in
+    let v = serves_at_end c.args.service.now.sections c.args.service.now.index.now i.seen c.loop-section.session.totals e.0 c.in_ok-back.end c.in_ok-back.back.text.items (seats_of c.loop-section.session.handles.items) (seats_of c.in_ok-back.back.handles.items) i.together i.some s (seen_by (seats_of c.args.session.handles.items)) c.in_ok-back.back.totals i.input i.output (c.loop-section.ahead.source ++ e.2) c.serve_section.new.ahead.source e.1
     (IsAtEnd (g.R.Read.remaining c.serve_section.new.reader.inner)) (c.serve_section.new.reader.failed ≡ true) other i.progress ends i.room counts in record {
       input = i.input ++ v.consumed;
       ahead = c.serve_section.new.ahead.source;
       output = i.output ++ c.in_ok-back.back.text.items;
       consumed = consumes_rest _ _ _ i.input _ _ v.consumed _ i.consumed e.3 v.read;
       wrote = appends_text _ _ _ _ _ _ i.wrote c.in-Ok.ensures.ok c.as_slice.ensures.value;
-      ok = (record { now = now_seen c.args.service.now.index.now i.seen c.loop-section.session.totals e.0 c.in_ok-back.end c.in_ok-back.back.text.items (seats_of c.loop-section.session.handles.items) (seats_of c.in_ok-back.back.handles.items) i.together i.some s; served = v.served; together = together_now c.args.service.now.index.now i.seen c.loop-section.session.totals e.0 c.in_ok-back.end c.in_ok-back.back.text.items (seats_of c.loop-section.session.handles.items) (seats_of c.in_ok-back.back.handles.items) i.together i.some s }, v.ends);
+      ok = (record { now = now_seen c.args.service.now.sections c.args.service.now.index.now i.seen c.loop-section.session.totals e.0 c.in_ok-back.end c.in_ok-back.back.text.items (seats_of c.loop-section.session.handles.items) (seats_of c.in_ok-back.back.handles.items) i.together i.some s; served = v.served; together = together_now c.args.service.now.sections c.args.service.now.index.now i.seen c.loop-section.session.totals e.0 c.in_ok-back.end c.in_ok-back.back.text.items (seats_of c.loop-section.session.handles.items) (seats_of c.in_ok-back.back.handles.items) i.together i.some s }, v.ends);
       fault = tt;
     }
 
 pub loop-section-preserved : goal.loop-section-preserved
 loop-section-preserved g c = let i = c.loop-section.invariant in let e = c.in_ok-back.ensures in let ends = e.4.0 in let counts = e.4.1 in let s = e.4.2 in
-    let is : c.in_ok-back.end ≡ section_end.Synced = search rules in
-    let v = goes_on_at_sync c.args.service.now.index.now i.seen c.loop-section.session.totals e.0 c.in_ok-back.end c.in_ok-back.back.text.items (seats_of c.loop-section.session.handles.items) (seats_of c.in_ok-back.back.handles.items) i.together i.some s (seen_by (seats_of c.args.session.handles.items)) c.in_ok-back.back.totals i.input i.output (c.loop-section.ahead.source ++ e.2) c.serve_section.new.ahead.source e.1 (18446744073709551615 - c.loop-section.session.totals.requests)
+    let is : c.in_ok-back.end ≡ section_end.ByLine = search rules in
+    let v = goes_on_behind_end c.args.service.now.sections c.args.service.now.index.now i.seen c.loop-section.session.totals e.0 c.in_ok-back.end c.in_ok-back.back.text.items (seats_of c.loop-section.session.handles.items) (seats_of c.in_ok-back.back.handles.items) i.together i.some s (seen_by (seats_of c.args.session.handles.items)) c.in_ok-back.back.totals i.input i.output (c.loop-section.ahead.source ++ e.2) c.serve_section.new.ahead.source e.1 (18446744073709551615 - c.loop-section.session.totals.requests)
     (IsAtEnd (g.R.Read.remaining c.serve_section.new.reader.inner)) (c.serve_section.new.reader.failed ≡ true) is i.progress ends counts in record {
       input = i.input ++ v.consumed;
       output = i.output ++ c.in_ok-back.back.text.items;
-      seen = now_seen c.args.service.now.index.now i.seen c.loop-section.session.totals e.0 c.in_ok-back.end c.in_ok-back.back.text.items (seats_of c.loop-section.session.handles.items) (seats_of c.in_ok-back.back.handles.items) i.together i.some s;
+      seen = now_seen c.args.service.now.sections c.args.service.now.index.now i.seen c.loop-section.session.totals e.0 c.in_ok-back.end c.in_ok-back.back.text.items (seats_of c.loop-section.session.handles.items) (seats_of c.in_ok-back.back.handles.items) i.together i.some s;
       consumed = consumes_rest _ _ _ i.input _ _ v.consumed _ i.consumed e.3 v.read;
       wrote = appends_text _ _ _ _ _ _ i.wrote c.in-Ok.ensures.ok c.as_slice.ensures.value;
       progress = v.progress;
-      together = together_now c.args.service.now.index.now i.seen c.loop-section.session.totals e.0 c.in_ok-back.end c.in_ok-back.back.text.items (seats_of c.loop-section.session.handles.items) (seats_of c.in_ok-back.back.handles.items) i.together i.some s;
-      some = some_now c.args.service.now.index.now i.seen c.loop-section.session.totals e.0 c.in_ok-back.end c.in_ok-back.back.text.items (seats_of c.loop-section.session.handles.items) (seats_of c.in_ok-back.back.handles.items) i.together i.some s;
-      room = (let a = counts.requests in let b = room c.in_ok-back.end c.loop-section.session.totals e.0 e.1 (c.loop-section.ahead.source ++ e.2) c.serve_section.new.ahead.source (IsAtEnd (g.R.Read.remaining c.serve_section.new.reader.inner)) (c.serve_section.new.reader.failed ≡ true) ends i.room in omega (arith, a, b));
-      sections = (let a = v.sections in let b = i.sections in omega (arith, a, b));
+      together = together_now c.args.service.now.sections c.args.service.now.index.now i.seen c.loop-section.session.totals e.0 c.in_ok-back.end c.in_ok-back.back.text.items (seats_of c.loop-section.session.handles.items) (seats_of c.in_ok-back.back.handles.items) i.together i.some s;
+      some = some_now c.args.service.now.sections c.args.service.now.index.now i.seen c.loop-section.session.totals e.0 c.in_ok-back.end c.in_ok-back.back.text.items (seats_of c.loop-section.session.handles.items) (seats_of c.in_ok-back.back.handles.items) i.together i.some s;
+      room = (let a = counts.requests in let b = room c.args.service.now.sections c.in_ok-back.end c.loop-section.session.totals e.0 e.1 (c.loop-section.ahead.source ++ e.2) c.serve_section.new.ahead.source (IsAtEnd (g.R.Read.remaining c.serve_section.new.reader.inner)) (c.serve_section.new.reader.failed ≡ true) ends i.room in omega (arith, a, b));
       number = (let a = v.requests in let b = i.number in omega (arith, a, b));
       flushed = λ some. c.in-Ok.ensures.flushed;
     }
@@ -101,7 +99,7 @@ loop-section-preserved g c = let i = c.loop-section.invariant in let e = c.in_ok
 -- as many sections as there are numbers
 pub returns-clause-serves : goal.returns-clause-serves
 returns-clause-serves g c = let i = c.loop-section.invariant in
-    let v = serves_no_more (first_of c.args.service.now.index.now) (seen_by (seats_of c.args.session.handles.items)) i.seen c.loop-section.session.totals i.input i.output c.loop-section.ahead.source (IsAtEnd (g.R.Read.remaining c.loop-section.reader.inner)) i.progress i.together.may_be (let a = i.number in let b = c.loop-section-test.false in omega (arith, a, b)) in record {
+    let v = serves_no_more c.args.service.now.sections (first_of c.args.service.now.index.now) (seen_by (seats_of c.args.session.handles.items)) i.seen c.loop-section.session.totals i.input i.output c.loop-section.ahead.source (IsAtEnd (g.R.Read.remaining c.loop-section.reader.inner)) i.progress i.together.may_be (let a = i.number in let b = c.loop-section-test.false in omega (arith, a, b)) in record {
       input = i.input ++ v.consumed;
       ahead = c.loop-section.ahead.source;
       output = i.output ++ [];

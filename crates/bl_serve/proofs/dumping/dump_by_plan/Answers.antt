@@ -8,7 +8,7 @@ use Rattle.bl_serve.specs.Origins.{Unopened}
 use Rattle.bl_serve.proofs.Beginning.{stops_from}
 use Rattle.bl_serve.proofs.Holding.{first_seen, together_by_first}
 use Rattle.bl_serve.proofs.Leaving.{Leaves, served_image}
-use Rattle.bl_serve.proofs.dumping.dump_index.Goals as goal
+use Rattle.bl_serve.proofs.dumping.dump_by_plan.Goals as goal
 
 -- no memory for the index
 pub returns-in_err-index-clause-serves : goal.returns-in_err-index-clause-serves
@@ -17,14 +17,14 @@ returns-in_err-index-clause-serves g c = let p = err_from_is_err_and c.from_resi
 
 pub shut-requires-clause-some : goal.shut-requires-clause-some
 shut-requires-clause-some g c =
-    let h = c.serve_with.ensures.serves in
+    let h = rw c.plan_of-threads.ensures at c.serve_with.ensures.serves in
     let s = rw c.in-Ok.is at h.ok in
     let now = s.0.together.count in let before = c.in_ok-index.ensures.together.count in let many = c.in_ok-index.ensures.many in let least = c.requires.passes.0 in
     let b = c.in-Ok.passes.ok in omega (arith, now, before, many, least, b)
 
 pub shut-requires-clause-together : goal.shut-requires-clause-together
 shut-requires-clause-together g c =
-    let h = c.serve_with.ensures.serves in
+    let h = rw c.plan_of-threads.ensures at c.serve_with.ensures.serves in
     let s = rw c.in-Ok.is at h.ok in
     let any : 0 < length c.in-Ok.passes.items = (let now = s.0.together.count in let before = c.in_ok-index.ensures.together.count in let many = c.in_ok-index.ensures.many in let least = c.requires.passes.0 in
     omega (arith, now, before, many, least)) in
@@ -32,7 +32,7 @@ shut-requires-clause-together g c =
 
 pub returns-in-Ok-clause-serves : goal.returns-in-Ok-clause-serves
 returns-in-Ok-clause-serves g c =
-    let h = c.serve_with.ensures.serves in
+    let h = rw c.plan_of-threads.ensures at c.serve_with.ensures.serves in
     let s = rw c.in-Ok.is at h.ok in
     let any : 0 < length c.in-Ok.passes.items = (let now = s.0.together.count in let before = c.in_ok-index.ensures.together.count in let many = c.in_ok-index.ensures.many in let least = c.requires.passes.0 in
     omega (arith, now, before, many, least)) in
@@ -45,13 +45,13 @@ returns-in-Ok-clause-serves g c =
       output = h.output;
       consumed = h.consumed;
       wrote = h.wrote;
-      ok = (served_image c.args.origin _ c.in_ok-index.index c.in_ok-index.passes.items s.0.now c.in-Ok.totals c.shut.result h.input h.output c.in_ok-index.ensures s.0.served left, s.1);
+      ok = (served_image c.args.plan.sections c.args.origin _ c.in_ok-index.index c.in_ok-index.passes.items s.0.now c.in-Ok.totals c.shut.result h.input h.output c.in_ok-index.ensures s.0.served left, s.1);
       fault = tt;
     }
 
 pub returns-in-Err-clause-serves : goal.returns-in-Err-clause-serves
 returns-in-Err-clause-serves g c =
-    let h = c.serve_with.ensures.serves in
+    let h = rw c.plan_of-threads.ensures at c.serve_with.ensures.serves in
     let s = rw c.in-Err.is at h.fault in
     record {
       input = h.input;
@@ -60,5 +60,5 @@ returns-in-Err-clause-serves g c =
       consumed = h.consumed;
       wrote = h.wrote;
       ok = tt;
-      fault = stops_from c.args.origin _ c.in_ok-index.index c.in_ok-index.passes.items c.in_ok-index.ensures (h.input ++ h.ahead) h.output c.in-Err.fault (c.serve_with.new.reader.failed ≡ true) (c.serve_with.new.writer.failed ≡ true) s;
+      fault = stops_from c.args.plan.sections c.args.origin _ c.in_ok-index.index c.in_ok-index.passes.items c.in_ok-index.ensures (h.input ++ h.ahead) h.output c.in-Err.fault (c.serve_with.new.reader.failed ≡ true) (c.serve_with.new.writer.failed ≡ true) s;
     }

@@ -3,7 +3,7 @@ use Rattle.std.proofs.lemmas.Result.{err_from_is_err_and}
 use Rattle.bl_serve_lines.proofs.Known.{consumes_start, appends_start}
 use Rattle.bl_serve.specs.Origins.{Unopened}
 use Rattle.bl_serve.proofs.Beginning.{served_from, stops_from}
-use Rattle.bl_serve.proofs.starting.serve_index.Goals as goal
+use Rattle.bl_serve.proofs.starting.serve_by_plan.Goals as goal
 
 -- no memory for the index
 pub returns-in_err-index-clause-serves : goal.returns-in_err-index-clause-serves
@@ -12,20 +12,20 @@ returns-in_err-index-clause-serves g c = let p = err_from_is_err_and c.from_resi
 
 pub returns-in-Ok-clause-serves : goal.returns-in-Ok-clause-serves
 returns-in-Ok-clause-serves g c =
-    let h = c.serve_with.ensures.serves in
+    let h = rw c.plan_of-threads.ensures at c.serve_with.ensures.serves in
     let s = rw c.in-Ok.is at h.ok in record {
       input = h.input;
       ahead = h.ahead;
       output = h.output;
       consumed = h.consumed;
       wrote = h.wrote;
-      ok = (served_from c.args.origin _ c.in_ok-index.index c.in_ok-index.passes.items c.in_ok-index.ensures c.in-Ok.field-0-1.items c.in-Ok.totals h.input h.output s.0, s.1);
+      ok = (served_from c.args.plan.sections c.args.origin _ c.in_ok-index.index c.in_ok-index.passes.items c.in_ok-index.ensures c.in-Ok.field-0-1.items c.in-Ok.totals h.input h.output s.0, s.1);
       fault = tt;
     }
 
 pub returns-clause-serves : goal.returns-clause-serves
 returns-clause-serves g c =
-    let h = c.serve_with.ensures.serves in
+    let h = rw c.plan_of-threads.ensures at c.serve_with.ensures.serves in
     let s = rw c.in-Err.is at h.fault in record {
       input = h.input;
       ahead = h.ahead;
@@ -33,5 +33,5 @@ returns-clause-serves g c =
       consumed = h.consumed;
       wrote = h.wrote;
       ok = tt;
-      fault = stops_from c.args.origin _ c.in_ok-index.index c.in_ok-index.passes.items c.in_ok-index.ensures (h.input ++ h.ahead) h.output c.in-Err.fault (c.serve_with.new.reader.failed ≡ true) (c.serve_with.new.writer.failed ≡ true) s;
+      fault = stops_from c.args.plan.sections c.args.origin _ c.in_ok-index.index c.in_ok-index.passes.items c.in_ok-index.ensures (h.input ++ h.ahead) h.output c.in-Err.fault (c.serve_with.new.reader.failed ≡ true) (c.serve_with.new.writer.failed ≡ true) s;
     }
