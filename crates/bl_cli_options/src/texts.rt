@@ -1,7 +1,7 @@
 //! What `--version` says, and what stands behind the options in the help of each command. No line has more than 80 columns.
 
 /// The version of the program, and the toolchain that it is proved with.
-pub(crate) const VERSION: &str = "0.1.0, proved with rattle-kit-13b logic dac8208d650f15bf";
+pub(crate) const VERSION: &str = "0.1.0, proved with rattle-kit-13f logic dac8208d650f15bf";
 
 /// Of all commands.
 pub(crate) const ABOUT_ALL: &str = "\
