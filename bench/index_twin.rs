@@ -1,5 +1,5 @@
 //! The load of `bench_index` on a plain Rust `RwLock<BTreeMap>`, for comparison. `index_twin ROWS THREADS FINDS MIXED SCANS`
-//! prints what `bench_index` prints. `index_twin large ROWS THREADS CALLS rising|random` does the load of `bench_large`, and prints what that
+//! prints what `bench_index` prints. `index_twin large ROWS THREADS CALLS rising|random` does the load of `bench_map`, and prints what that
 //! prints of rows, finds and scans.
 
 use std::collections::BTreeMap;
@@ -124,7 +124,7 @@ fn scattered(number: u64) -> u64 {
     third ^ (third >> 31)
 }
 
-/// The load of `bench_large`.
+/// The load of `bench_map`.
 struct Large {
     rows: u64,
     threads: u64,

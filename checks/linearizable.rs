@@ -99,13 +99,16 @@ fn ends(threads: &[Vec<Call>], firsts: &[Value]) -> Vec<Value> {
     while let Some((placed, had)) = open.pop() {
         let next = |thread: usize| threads[thread].get(placed[thread] as usize);
         // One that began behind the end of another one that is left cannot be next.
-        let Some(least) = (0..threads.len()).filter_map(|t| next(t).map(|call| call.end)).min() else {
-            last.insert(had);
-            continue;
+        let least = match (0..threads.len()).filter_map(|t| next(t).map(|call| call.end)).min() {
+            Some(least) => least,
+            None => {
+                last.insert(had);
+                continue;
+            }
         };
         for thread in 0..threads.len() {
-            let Some(call) = next(thread).filter(|call| call.begin <= least) else { continue };
-            for has in steps(had, call.asked, call.reply).into_iter().flatten() {
+            let call = next(thread).filter(|call| call.begin <= least);
+            for has in call.into_iter().flat_map(|call| steps(had, call.asked, call.reply)).flatten() {
                 let mut more = placed.clone();
                 more[thread] += 1;
                 if seen.insert((more.clone(), has)) {
@@ -205,8 +208,17 @@ fn call(line: &str) -> Option<Call> {
     // `Change(1, 2)` is the one word with a space in it.
     let line = line.replace(", ", ",");
     let words: Vec<&str> = line.split(' ').collect();
-    let [thread, begin, end, key, question, answer] = words.as_slice() else { return None };
-    Some(Call { thread: thread.parse().ok()?, begin: begin.parse().ok()?, end: end.parse().ok()?, key: key.parse().ok()?, asked: asked(question)?, reply: reply(answer)? })
+    match words.as_slice() {
+        [thread, begin, end, key, question, answer] => Some(Call {
+            thread: thread.parse().ok()?,
+            begin: begin.parse().ok()?,
+            end: end.parse().ok()?,
+            key: key.parse().ok()?,
+            asked: asked(question)?,
+            reply: reply(answer)?,
+        }),
+        _ => None,
+    }
 }
 
 fn read() -> Result<Checked, String> {
@@ -399,11 +411,12 @@ mod tests {
                 if placed.contains(&i) || (0..calls.len()).any(|j| j != i && !placed.contains(&j) && calls[j].3 < calls[i].2) {
                     return false;
                 }
-                let Some(has) = step(had, calls[i].0, calls[i].1) else { return false };
-                placed.push(i);
-                let fits = any_order(calls, placed, has);
-                placed.pop();
-                fits
+                step(had, calls[i].0, calls[i].1).map_or(false, |has| {
+                    placed.push(i);
+                    let fits = any_order(calls, placed, has);
+                    placed.pop();
+                    fits
+                })
             })
         }
         let mut drawn = 1;

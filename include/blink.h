@@ -96,7 +96,7 @@ extern "C" {
 enum {
     BLINK_OK = 0,          /* done; where a value goes with it, it is written */
     BLINK_ABSENT = 1,      /* the key is not there */
-    BLINK_PRESENT = 2,     /* the key was there, and its value then is written */
+    BLINK_PRESENT = 2,     /* the key was there; which value is written stands there */
     BLINK_NO_ROOM = 3,     /* no free page or frame; nothing has changed */
     BLINK_AGAIN = 4,       /* no answer yet: let another thread run and call again */
     BLINK_BAD_PAGES = 5,   /* the number of pages is not 4 to 2^28 */
@@ -131,6 +131,9 @@ typedef struct blink_row {
     uint64_t key;
     uint64_t value;
 } blink_row;
+
+/* Makes the new value for blink_update of the old one, with the context of the caller. */
+typedef uint64_t (*blink_update_fn)(uint64_t value, void *context);
 
 /* How far a part of the rows goes. All zeros before the first part. */
 typedef struct blink_part {
@@ -274,6 +277,27 @@ BLINK_INLINE int32_t blink_delete(blink_seat *seat, uint64_t key, uint64_t *gone
 BLINK_INLINE int32_t blink_change(blink_seat *seat, uint64_t key, uint64_t old_value,
                                   uint64_t new_value, uint64_t *there);
 
+/* Puts at a key that is there what the function makes of its value: a search, and then
+ * changes, each to what the function gives for the value seen last, until one is done. So
+ * the function may be called several times, but only the last time counts. The call as a
+ * whole takes effect at one moment, that of its last change.
+ *   BLINK_OK          the key had the value `*old`, and has `*now`
+ *   BLINK_ABSENT      the key is not there; both are as they were, here and below
+ *   BLINK_NO_ROOM     no frame was free; nothing has changed
+ *   BLINK_CLOSED      the seat is closed */
+BLINK_INLINE int32_t blink_update(blink_seat *seat, uint64_t key, blink_update_fn make,
+                                  void *context, uint64_t *old, uint64_t *now);
+
+/* Adds to the key's value, modulo 2^64, so that UINT64_MAX takes 1 away. A key that is
+ * absent counts as 0, as with INCR of Redis, and is inserted. The call as a whole takes
+ * effect at one moment, that of its last change or insertion.
+ *   BLINK_OK          the key had no value, and has `*now`, which is `delta`
+ *   BLINK_PRESENT     the key had a value, and has the sum, `*now`
+ *   BLINK_NO_ROOM     no page or frame was free; nothing has changed
+ *   BLINK_CLOSED      the seat is closed */
+BLINK_INLINE int32_t blink_add(blink_seat *seat, uint64_t key, uint64_t delta,
+                               uint64_t *now);
+
 /* ---- Rows. ---- */
 
 /* Rows from a key on, by rising keys, as many as fit into the array. `*count` is how many
@@ -326,6 +350,39 @@ BLINK_INLINE int32_t blink_rows(blink_seat *seat, uint64_t from, blink_row *rows
  *   BLINK_CLOSED      the seat is closed; `*part` is as it was */
 BLINK_INLINE int32_t blink_rows_down(blink_seat *seat, uint64_t from, blink_row *rows,
                                      size_t room, blink_part *part);
+
+/* The row of the least key. This, and each of the four calls below, reads as a scan does:
+ * each leaf on the way as the map stood at one moment of the call.
+ *   BLINK_OK          `*row` is that row
+ *   BLINK_ABSENT      there is none; `*row` is as it was, here and below
+ *   BLINK_CLOSED      the seat is closed */
+BLINK_INLINE int32_t blink_first(blink_seat *seat, blink_row *row);
+
+/* The row of the greatest key.
+ *   BLINK_OK          `*row` is that row
+ *   BLINK_ABSENT      there is none
+ *   BLINK_CLOSED      the seat is closed */
+BLINK_INLINE int32_t blink_last(blink_seat *seat, blink_row *row);
+
+/* The row of the least key above this one, which need not be there itself. For many rows
+ * blink_scan costs less.
+ *   BLINK_OK          `*row` is that row
+ *   BLINK_ABSENT      there is none
+ *   BLINK_CLOSED      the seat is closed */
+BLINK_INLINE int32_t blink_next(blink_seat *seat, uint64_t key, blink_row *row);
+
+/* The row of the greatest key below this one.
+ *   BLINK_OK          `*row` is that row
+ *   BLINK_ABSENT      there is none
+ *   BLINK_CLOSED      the seat is closed */
+BLINK_INLINE int32_t blink_previous(blink_seat *seat, uint64_t key, blink_row *row);
+
+/* How many rows there are from a key up to the key `last`, both included: for all, 0 and
+ * UINT64_MAX. It goes along the rows, and is exact where nobody writes meanwhile.
+ *   BLINK_OK          `*count` says so
+ *   BLINK_CLOSED      the seat is closed; `*count` is as it was */
+BLINK_INLINE int32_t blink_count(blink_seat *seat, uint64_t from, uint64_t last,
+                                 uint64_t *count);
 
 /* ---- Upkeep. ---- */
 
@@ -566,6 +623,41 @@ BLINK_INLINE int32_t blink_change(blink_seat *seat, uint64_t key, uint64_t old_v
     BLINK_RETURN_CALL_(seat, blink_try_change, key, old_value, new_value, there)
 }
 
+BLINK_INLINE int32_t blink_update(blink_seat *seat, uint64_t key, blink_update_fn make,
+                                  void *context, uint64_t *old, uint64_t *now) {
+    uint64_t value = 0;
+    int32_t answer = blink_find(seat, key, &value);
+    if (answer != BLINK_OK) return answer;
+    for (;;) {
+        const uint64_t before = value, made = make(value, context);
+        answer = blink_change(seat, key, before, made, &value);
+        if (answer == BLINK_OK) {
+            *old = before;
+            *now = made;
+            return BLINK_OK;
+        }
+        if (answer != BLINK_PRESENT) return answer;
+    }
+}
+
+BLINK_INLINE int32_t blink_add(blink_seat *seat, uint64_t key, uint64_t delta,
+                               uint64_t *now) {
+    uint64_t value = 0;
+    int32_t answer = blink_find(seat, key, &value);
+    if (answer == BLINK_CLOSED) return answer;
+    for (;;) {
+        const bool is_there = answer != BLINK_ABSENT;
+        const uint64_t sum = is_there ? value + delta : delta;
+        answer = is_there ? blink_change(seat, key, value, sum, &value)
+                          : blink_insert(seat, key, sum, &value);
+        if (answer == BLINK_OK) {
+            *now = sum;
+            return is_there ? BLINK_PRESENT : BLINK_OK;
+        }
+        if (answer == BLINK_NO_ROOM || answer == BLINK_CLOSED) return answer;
+    }
+}
+
 BLINK_INLINE int32_t blink_rows(blink_seat *seat, uint64_t from, blink_row *rows,
                                 size_t room, blink_part *part) {
     BLINK_RETURN_CALL_(seat, blink_try_rows, from, rows, room, part)
@@ -624,6 +716,53 @@ BLINK_INLINE int32_t blink_scan_down_to(blink_seat *seat, uint64_t from, uint64_
                                         blink_row *rows, size_t room, size_t *count,
                                         uint64_t *next, bool *more) {
     return blink_list_(seat, true, from, last, rows, room, count, next, more);
+}
+
+/* The first row from a key on, upwards or downwards, if there is any such key at all. */
+static inline int32_t blink_nearest_(blink_seat *seat, bool down, bool any, uint64_t from,
+                                     blink_row *row) {
+    blink_row found = { 0, 0 };
+    size_t count = 0;
+    uint64_t next = 0;
+    bool more = false;
+    int32_t answer = blink_list_(seat, down, from, down ? 0 : UINT64_MAX, &found, 1,
+                                 &count, &next, &more);
+    if (answer != BLINK_OK) return answer;
+    if (count == 0 || !any) return BLINK_ABSENT;
+    *row = found;
+    return BLINK_OK;
+}
+
+BLINK_INLINE int32_t blink_first(blink_seat *seat, blink_row *row) {
+    return blink_nearest_(seat, false, true, 0, row);
+}
+
+BLINK_INLINE int32_t blink_last(blink_seat *seat, blink_row *row) {
+    return blink_nearest_(seat, true, true, UINT64_MAX, row);
+}
+
+BLINK_INLINE int32_t blink_next(blink_seat *seat, uint64_t key, blink_row *row) {
+    return blink_nearest_(seat, false, key < UINT64_MAX, key + 1, row);
+}
+
+BLINK_INLINE int32_t blink_previous(blink_seat *seat, uint64_t key, blink_row *row) {
+    return blink_nearest_(seat, true, key > 0, key - 1, row);
+}
+
+BLINK_INLINE int32_t blink_count(blink_seat *seat, uint64_t from, uint64_t last,
+                                 uint64_t *count) {
+    blink_row rows[BLINK_LEAF_ROWS];
+    blink_part part = { 0, 0, true, 0 };
+    uint64_t counted = 0;
+    part.next = from;
+    do {
+        int32_t answer = blink_rows(seat, part.next, rows, BLINK_LEAF_ROWS, &part);
+        if (answer != BLINK_OK) return answer;
+        while (part.count > 0 && rows[part.count - 1].key > last) part.count--;
+        counted += part.count;
+    } while (part.more && part.next <= last);
+    *count = counted;
+    return BLINK_OK;
 }
 
 BLINK_INLINE int32_t blink_save(blink_seat *seat, uint32_t fill, blink_row *rows,

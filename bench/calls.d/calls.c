@@ -1,5 +1,5 @@
 /* What a call costs from C: calls ROWS ROUNDS. A line for each operation: its name, and the nanoseconds of one, by the round that took least. */
-#include "blink_more.h"
+#include "blink.h"
 
 #include <stdio.h>
 #include <stdlib.h>
@@ -31,39 +31,37 @@ static void note(int kind, double begin) {
     if (best[kind] == 0 || each < best[kind]) best[kind] = each;
 }
 
-static void many(uint64_t *keys, uint64_t *values, uint8_t *found) {
-    size_t hits = 0;
+static void many(uint64_t *keys, uint64_t *values, bool *found) {
+    uint64_t hits = 0;
     double begin;
     for (uint64_t n = 0; n < rows; n++) keys[n] = key_of(n * 7919 % rows);
     begin = now();
-    need(blink_more_find_many(&seat, keys, rows, values, found, &hits) == BLINK_OK && hits == rows);
+    need(blink_find_many(&seat, keys, rows, values, found) == BLINK_OK);
     note(MANY, begin);
+    for (uint64_t n = 0; n < rows; n++) hits += found[n];
+    need(hits == rows);
 }
 
-static void lists(void) {
+static void lists(bool is_falling) {
     static blink_row buffer[512];
-    blink_fall fall = { 0, UINT64_MAX, true, 0 };
-    uint64_t from = 0, seen = 0;
+    uint64_t from = is_falling ? UINT64_MAX : 0, seen = 0;
     size_t count = 0;
     bool more = true;
     double begin = now();
-    for (; more; seen += count) need(blink_scan(&seat, from, buffer, 512, &count, &from, &more) == BLINK_OK);
-    note(UP, begin);
-    need(seen == rows);
-    begin = now();
-    for (seen = 0; fall.more; seen += fall.count) need(blink_more_scan_down(&seat, fall.next, buffer, 512, &fall) == BLINK_OK);
-    note(DOWN, begin);
+    for (; more; seen += count)
+        need((is_falling ? blink_scan_down : blink_scan)(&seat, from, buffer, 512, &count, &from, &more) == BLINK_OK);
+    note(is_falling ? DOWN : UP, begin);
     need(seen == rows);
 }
 
 int main(int count, char **words) {
     uint64_t *keys, *values, value = 0;
-    uint8_t *found;
+    bool *found;
     if (count < 3) return 2;
     rows = strtoull(words[1], NULL, 10);
     keys = malloc(rows * 8);
     values = malloc(rows * 8);
-    found = malloc(rows);
+    found = malloc(rows * sizeof *found);
     need(keys && values && found);
     for (long round = atol(words[2]); round > 0; round--) {
         double begin;
@@ -75,10 +73,11 @@ int main(int count, char **words) {
         for (uint64_t n = 0; n < rows; n++) need(blink_find(&seat, key_of(n * 7919 % rows), &value) == BLINK_OK);
         note(FIND, begin);
         begin = now();
-        for (uint64_t n = 0; n < rows; n++) need(blink_more_put(&seat, key_of(n * 7919 % rows), n, &value) == BLINK_PRESENT);
+        for (uint64_t n = 0; n < rows; n++) need(blink_put(&seat, key_of(n * 7919 % rows), n, &value) == BLINK_PRESENT);
         note(PUT, begin);
         many(keys, values, found);
-        lists();
+        lists(false);
+        lists(true);
         need(blink_close(&seat) == BLINK_OK);
     }
     for (int kind = 0; kind < KINDS; kind++) printf("%s\t%.0f\n", names[kind], best[kind]);

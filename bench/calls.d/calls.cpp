@@ -31,8 +31,9 @@ static void round(uint64_t rows) {
     timed("find", rows, [&] { return all([&](uint64_t n) { return handle.find(key_of(n * 7919 % rows)).has_value(); }); });
     timed("put", rows, [&] { return all([&](uint64_t n) { return handle.put(key_of(n * 7919 % rows), n).has_value(); }); });
     std::vector<uint64_t> keys(rows), values(rows);
+    const std::unique_ptr<bool[]> found(new bool[rows]);
     for (uint64_t n = 0; n < rows; n++) keys[n] = key_of(n * 7919 % rows);
-    timed("find_many", rows, [&] { return *handle.get_many(keys.data(), rows, values.data(), nullptr, std::nothrow) == rows; });
+    timed("find_many", rows, [&] { return *handle.get_many(keys.data(), rows, values.data(), found.get(), std::nothrow) == rows; });
     const auto listed = [&](blink::Range range) {
         uint64_t seen = 0;
         for (auto row : range) seen += row.second != UINT64_MAX;

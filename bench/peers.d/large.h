@@ -1,4 +1,4 @@
-// The load of `bench_large` on another map: PEER large ROWS THREADS CALLS rising|random prints what `bench_large` prints of rows, finds and scans:
+// The load of `bench_map` on another map: PEER large ROWS THREADS CALLS rising|random prints what `bench_map` prints of rows, finds and scans:
 // part, calls, how many were answered as they should be, and the microseconds of all together. The keys are the same.
 #pragma once
 #include <algorithm>

@@ -1,4 +1,4 @@
-// blink.hpp: the map for C++17, over blink.h and blink_more.h.
+// blink.hpp: the map for C++17, over blink.h.
 //
 //     blink::Map map(4096, 8);                             // pages, and handles at once
 //     blink::Handle handle = map.handle();                 // one for each thread
@@ -15,8 +15,8 @@
 // outlive them. In the child of a fork of a program with threads no call may be made.
 #pragma once
 #include "blink.h"
-#include "blink_more.h"
 
+#include <algorithm>
 #include <array>
 #include <cstddef>
 #include <cstdint>
@@ -292,36 +292,46 @@ public:
         return compare_exchange(key, expected, desired, std::nothrow).value();
     }
 
-    // Puts at a key that is there what the function makes of its value, by
-    // compare_exchange; the function is called again where others write in between. The
-    // value before, if the key is there.
+    // Puts at a key that is there what the function makes of its value: the value before,
+    // if the key is there. The function is called again where others write in between.
+    // What it throws ends the call, and nothing has changed.
+    template <class Function>
+    Result<std::optional<Value>> update(Key key, Function &&make, std::nothrow_t) {
+        Value old = 0, now = 0;
+        auto call = [&make](Value value) -> Value { return make(value); };
+        const auto made = [](uint64_t value, void *asked) -> uint64_t {
+            return (*static_cast<decltype(call) *>(asked))(value);
+        };
+        const int32_t code = blink_update(&seat_, key, made, &call, &old, &now);
+        return some(code, BLINK_OK, BLINK_ABSENT, old);
+    }
     template <class Function> std::optional<Value> update(Key key, Function &&make) {
-        std::optional<Value> there = find(key);
-        while (there) {
-            switch (compare_exchange(key, *there, make(std::as_const(*there)))) {
-                case Exchanged::done: return there;
-                case Exchanged::absent: return std::nullopt;
-                case Exchanged::differs: break;
-            }
-        }
-        return std::nullopt;
+        return update(key, make, std::nothrow).value();
     }
 
-    // Looks so many keys up. A value is written at the place of each key that is there,
-    // and 1 in `found`, if that is not null, else 0; other places of `values` stay as
-    // they are. How many keys are there.
-    Result<size_t> get_many(const Key *keys, size_t count, Value *values, uint8_t *found,
+    // Adds to the key's value, modulo 2^64: the sum. A key that is absent counts as 0,
+    // and is inserted.
+    Result<Value> add(Key key, Value delta, std::nothrow_t) noexcept {
+        Value now = 0;
+        const int32_t code = blink_add(&seat_, key, delta, &now);
+        if (code == BLINK_OK || code == BLINK_PRESENT) return now;
+        return Result<Value>::refused(code);
+    }
+    Value add(Key key, Value delta = 1) { return add(key, delta, std::nothrow).value(); }
+
+    // Looks so many keys up, one after another: whether each is there, and its value
+    // then, else 0. How many are there.
+    Result<size_t> get_many(const Key *keys, size_t count, Value *values, bool *found,
                             std::nothrow_t) noexcept {
-        size_t hits = 0;
-        const int32_t code =
-            blink_more_find_many(&seat_, keys, count, values, found, &hits);
-        return code == BLINK_OK ? Result<size_t>(hits) : Result<size_t>::refused(code);
+        const int32_t code = blink_find_many(&seat_, keys, count, values, found);
+        if (code != BLINK_OK) return Result<size_t>::refused(code);
+        return static_cast<size_t>(std::count(found, found + count, true));
     }
     std::vector<std::optional<Value>> get_many(const std::vector<Key> &keys) {
         std::vector<Value> values(keys.size());
-        std::vector<uint8_t> found(keys.size());
+        const std::unique_ptr<bool[]> found(new bool[keys.size()]);
         std::vector<std::optional<Value>> answers(keys.size());
-        get_many(keys.data(), keys.size(), values.data(), found.data(), std::nothrow)
+        get_many(keys.data(), keys.size(), values.data(), found.get(), std::nothrow)
             .value();
         for (size_t at = 0; at < keys.size(); at++)
             if (found[at]) answers[at] = values[at];
@@ -335,17 +345,29 @@ public:
     Range range_down(Key from = 0) { return Range(&seat_, from, UINT64_MAX, true); }
     Range range_down(Key from, Key below) { return bounded(from, below, true); }
 
-    // The first and the last row.
+    // The first and the last row, and those of the next greater and the next smaller key.
     std::optional<Row> first() {
-        Row row;
-        return range().next(row) ? std::optional(row) : std::nullopt;
+        blink_row row{};
+        return row_of(blink_first(&seat_, &row), row);
     }
     std::optional<Row> last() {
-        blink_row row;
-        const int32_t code = blink_more_last(&seat_, UINT64_MAX, &row);
-        if (code == BLINK_OK) return Row(row.key, row.value);
-        if (code != BLINK_ABSENT) detail::refuse(code);
-        return std::nullopt;
+        blink_row row{};
+        return row_of(blink_last(&seat_, &row), row);
+    }
+    std::optional<Row> next(Key key) {
+        blink_row row{};
+        return row_of(blink_next(&seat_, key, &row), row);
+    }
+    std::optional<Row> previous(Key key) {
+        blink_row row{};
+        return row_of(blink_previous(&seat_, key, &row), row);
+    }
+
+    // How many rows there are, from a key on, or from a key on and below another one. It
+    // goes along them.
+    uint64_t count(Key from = 0) { return counted(from, UINT64_MAX); }
+    uint64_t count(Key from, Key below) {
+        return from < below ? counted(from, below - 1) : 0;
     }
 
     // Does so many pieces of upkeep at most: whether nothing is left to do. No program
@@ -365,6 +387,18 @@ private:
     Range bounded(Key from, Key below, bool is_falling) {
         if (below == 0) return Range(&seat_, 1, 0, is_falling);
         return Range(&seat_, from, below - 1, is_falling);
+    }
+    uint64_t counted(Key from, Key last) {
+        uint64_t rows = 0;
+        const int32_t code = blink_count(&seat_, from, last, &rows);
+        if (code != BLINK_OK) detail::refuse(code);
+        return rows;
+    }
+    // A row where the code says that there is one.
+    static std::optional<Row> row_of(int32_t code, const blink_row &row) {
+        if (code == BLINK_OK) return Row(row.key, row.value);
+        if (code != BLINK_ABSENT) detail::refuse(code);
+        return std::nullopt;
     }
     // A value where the code says that there is one, nothing where it says that there is
     // none.
@@ -394,10 +428,9 @@ public:
         Map map(made(handles));
         auto &seats = *map.seats_;
         opened(blink_open_image(image.data(), image.size(), seats.free.data(), handles));
-        // The library does not tell how many pages a map has.
-        const uint64_t page = blink_image_length(1) - blink_image_length(0);
-        const uint64_t rest = image.size() - blink_image_length(0);
-        seats.pages = static_cast<uint32_t>(rest / page);
+        blink_stats stats{};
+        opened(blink_stat(seats.free.data(), &stats));
+        seats.pages = static_cast<uint32_t>(stats.pages);
         return map;
     }
 

@@ -62,10 +62,29 @@ static void write(blink::Handle &handle, Model &model, uint64_t key, uint64_t va
         CHECK(done == (!there ? blink::Exchanged::absent : fits ? blink::Exchanged::done : blink::Exchanged::differs));
         CHECK(!there || fits || expected == *there);
         if (fits) model[key] = value ^ 1;
-    } else {
+    } else if (what == 4) {
         CHECK(handle.update(key, [](uint64_t old) { return old * 3; }) == there);
         if (there) model[key] = *there * 3;
+    } else {
+        CHECK(handle.add(key, value) == there.value_or(0) + value);
+        model[key] += value;
     }
+}
+
+// The row that an iterator of the model stands at, if it stands at one.
+static std::optional<blink::Row> row_at(const Model &model, Model::const_iterator at) {
+    return at == model.end() ? std::nullopt : std::optional<blink::Row>(*at);
+}
+
+// The rows beside a key, and how many there are.
+static void looks_about(blink::Handle &handle, const Model &model, uint64_t key) {
+    const auto from = model.lower_bound(key), below = model.lower_bound(key + 50);
+    CHECK(handle.next(key) == row_at(model, model.upper_bound(key)));
+    CHECK(handle.previous(key) == (from == model.begin() ? std::nullopt : row_at(model, std::prev(from))));
+    CHECK(handle.first() == row_at(model, model.begin()));
+    CHECK(handle.last() == (model.empty() ? std::nullopt : row_at(model, std::prev(model.end()))));
+    CHECK(handle.count() == model.size() && handle.count(key) == uint64_t(std::distance(from, model.end())));
+    CHECK(handle.count(key, key + 50) == (key < key + 50 ? uint64_t(std::distance(from, below)) : 0));
 }
 
 static void beside_a_map(unsigned seed, int steps) {
@@ -76,10 +95,11 @@ static void beside_a_map(unsigned seed, int steps) {
         auto handle = map.handle();
         CHECK(!map.try_handle());
         for (int step = 0; step < steps; step++) {
-            const uint64_t key = draw() % 2 ? draw() % 500 : draw(), value = draw(), what = draw() % 8;
-            if (what < 5) write(handle, model, key, value, what);
-            else if (what == 5) CHECK(handle.find(key) == in(model, key) && handle.contains(key) == in(model, key).has_value());
-            else if (what == 6) CHECK(handle.get_many({key, 5, 7}) == std::vector({in(model, key), in(model, 5), in(model, 7)}));
+            const uint64_t key = draw() % 2 ? draw() % 500 : draw(), value = draw(), what = draw() % 10;
+            if (what < 6) write(handle, model, key, value, what);
+            else if (what == 6) looks_about(handle, model, key);
+            else if (what == 7) CHECK(handle.find(key) == in(model, key) && handle.contains(key) == in(model, key).has_value());
+            else if (what == 8) CHECK(handle.get_many({key, 5, 7}) == std::vector({in(model, key), in(model, 5), in(model, 7)}));
             else if (step % 8 == 0) same_range(handle, model, key, key + draw() % 100);
         }
         same_range(handle, model, 0, top);
@@ -96,6 +116,7 @@ static void counts(blink::Handle handle, uint64_t thread, uint64_t times) {
     const uint64_t counter = uint64_t(1) << 40;
     for (uint64_t n = 0; n < times; n++) {
         CHECK(handle.update(counter, [](uint64_t old) { return old + 1; }));
+        CHECK(handle.add(counter) > n);
         CHECK(handle.insert(n * 4 + thread, n).is_new);
         CHECK(handle.find(n * 4 + thread) == n);
         if (n >= 100) CHECK(handle.erase((n - 100) * 4 + thread) == n - 100);
@@ -137,16 +158,18 @@ static void threads(uint64_t times) {
     all.emplace_back(lists, map.handle());
     for (auto &thread : all) thread.join();
     auto handle = map.handle();
-    CHECK(handle.find(uint64_t(1) << 40) == 4 * times);
+    CHECK(handle.find(uint64_t(1) << 40) == 2 * 4 * times);
     CHECK(std::distance(handle.range().begin(), blink::Range::iterator()) == 4 * 100 + 1);
     CHECK(refused_close(map) == BLINK_SEATS_OPEN);
 }
+
+static uint64_t one_more(uint64_t value) { return value + 1; }
 
 static void edges() {
     blink::Map map(16, 1);
     {
         auto handle = map.handle();
-        CHECK(!handle.first() && !handle.last());
+        CHECK(!handle.first() && !handle.last() && !handle.next(0) && !handle.previous(top) && handle.count() == 0);
         handle.insert(0, 1);
         handle.insert(top, 2);
         CHECK(handle.first() == blink::Row(0, 1) && handle.last() == blink::Row(top, 2));
@@ -156,6 +179,19 @@ static void edges() {
         auto range = handle.range_down(1);
         auto at = range.begin();
         CHECK(at->first == top && (*at++).second == 2 && at == range.end());
+        CHECK(!handle.next(top) && !handle.previous(0) && handle.count(top) == 1 && handle.count(0, 0) == 0 && handle.count(1, top) == 0);
+        CHECK(handle.add(0, top) == 0 && handle.add(0) == 1 && handle.add(5, 7) == 7);
+        CHECK(handle.update(5, [](uint64_t) -> uint64_t { return 8; }, std::nothrow).value() == 7 && handle.find(5) == 8);
+        const auto three = [](uint64_t) -> uint64_t { return 3; };
+        CHECK(handle.update(5, three) == 8 && handle.update(6, three) == std::nullopt);
+        CHECK(handle.update(5, one_more) == 3 && handle.find(5) == 4 && handle.update(5, three) == 4);
+        // What the function throws ends the call, and nothing has changed.
+        try {
+            handle.update(5, [](uint64_t) -> uint64_t { throw std::out_of_range("no"); });
+            CHECK(false);
+        } catch (const std::out_of_range &) {
+        }
+        CHECK(handle.find(5) == 3 && handle.erase(5) == 3);
         CHECK(handle.upkeep(10));
         CHECK(refused_close(map) == BLINK_SEATS_OPEN);
     }
@@ -188,6 +224,7 @@ static void refusals() {
     }
     const auto refused = other.insert(key, key, std::nothrow);
     CHECK(!refused && refused.code() == BLINK_NO_ROOM && refused.what() == std::string("no room"));
+    CHECK(other.add(key, 1, std::nothrow).code() == BLINK_NO_ROOM && !other.find(key));
     CHECK(other.insert(0, 9, std::nothrow)->value == 0 && (*other.find(3, std::nothrow)) == 3);
     CHECK(key >= 14 && key < 200 && std::distance(other.range().begin(), {}) == std::ptrdiff_t(key));
     one = map.handle();

@@ -30,9 +30,10 @@ int32_t shim_set(shim_map *map, uint64_t key, uint64_t value);
 int32_t shim_put(shim_map *map, uint64_t key, uint64_t value, uint64_t *old);
 int32_t shim_delete(shim_map *map, uint64_t key, uint64_t *gone);
 int32_t shim_change(shim_map *map, uint64_t key, uint64_t old_value, uint64_t new_value, uint64_t *there);
-int32_t shim_last(shim_map *map, uint64_t most, blink_row *row);
+int32_t shim_add(shim_map *map, uint64_t key, uint64_t delta, uint64_t *now);
+int32_t shim_end(shim_map *map, bool is_last, blink_row *row);
 int32_t shim_rows(shim_map *map, bool is_falling, size_t most, uint64_t *keys, uint64_t *values, shim_range *range);
-int32_t shim_get_many(shim_map *map, const uint64_t *keys, size_t count, uint64_t *values, uint8_t *found, size_t *hits);
+int32_t shim_get_many(shim_map *map, const uint64_t *keys, size_t count, uint64_t *values, uint8_t *found);
 int32_t shim_put_many(shim_map *map, const uint64_t *keys, const uint64_t *values, size_t count, size_t *done);
 int64_t shim_length(const shim_map *map);
 uint64_t blink_image_length(uint32_t pages);
@@ -51,8 +52,7 @@ def places():
     archive = os.path.join(library, "libblink.a")
     if not os.path.exists(archive):
         raise SystemExit(f"blink: there is no {archive}: run ./install --library PREFIX and set BLINK_PREFIX to that PREFIX")
-    # In the repository blink_more.h stands beside this folder; ./install puts it beside blink.h.
-    return [include, os.path.join(HERE, "..", "c")], archive
+    return [include], archive
 
 
 def asked(variable):

@@ -1,7 +1,8 @@
 /* Writes down calls of maps through blink.h, as `record_calls` does for the library in Rattle, for the checker of checks/linearizable:
  * record SECONDS PAGES THREADS KEYS CALLS SEED OFTEN. One map after the other is opened, for so many seconds, and one at least. In each of the
- * three rounds of a map so many threads make so many calls each, on few keys: searches, insertions, deletions, changes, and scans of some
- * keys side by side, which tell of each key that they pass. One in OFTEN answers BLINK_AGAIN lets a thread give its call up and make
+ * three rounds of a map so many threads make so many calls each, on few keys: searches, insertions, puts, deletions, changes, and scans of
+ * some keys side by side, which tell of each key that they pass; and blink_add and blink_update, of which what they have done is written
+ * down, an insertion or a change. One in OFTEN answers BLINK_AGAIN lets a thread give its call up and make
  * another one, which settles the first; with 0 nothing is given up. Behind a round the map is closed to its image, and opened anew from that; but in the third one
  * each thread other than the first gives a write up half-way and goes, and its seat is closed by itself, or by the main thread. The
  * next map has other keys. A line is printed for each call: the thread, the nanoseconds right before the call and right behind it,
@@ -16,7 +17,7 @@
 #include <time.h>
 
 enum { MOST = 64, SPAN = 24, ROUNDS = 3, UNKNOWN = -1 };
-enum asked { FIND, INSERT, DELETE, CHANGE };
+enum asked { FIND, INSERT, PUT, DELETE, CHANGE };
 
 typedef struct call {
     uint64_t begin, end, key, old_value, new_value, value;
@@ -89,6 +90,7 @@ static int32_t try_call(worker *me, call *it) {
     switch (it->asked) {
         case FIND: return blink_try_find(me->seat, it->key, &it->value);
         case INSERT: return blink_try_insert(me->seat, it->key, it->new_value, &it->value);
+        case PUT: return blink_try_put(me->seat, it->key, it->new_value, &it->value);
         case DELETE: return blink_try_delete(me->seat, it->key, &it->value);
         default: return blink_try_change(me->seat, it->key, it->old_value, it->new_value, &it->value);
     }
@@ -121,10 +123,29 @@ static void make(worker *me, call *it) {
     }
     it->end = now();
     settle(me);
-    if (it->answer == BLINK_PRESENT || (it->asked == FIND && it->answer == BLINK_OK)) {
+    if ((it->answer == BLINK_PRESENT && it->asked != PUT) || (it->asked == FIND && it->answer == BLINK_OK)) {
         me->key = it->key;
         me->value = it->value;
     }
+}
+
+/* The new value of an update: another one each time. */
+static uint64_t stamped(uint64_t value, void *context) {
+    (void)value;
+    return ++((worker *)context)->stamp;
+}
+
+/* Adds to a key, or makes a new value of the old one: calls of several calls, of which none is given up. */
+static void make_of_several(worker *me, call *it, bool is_adding) {
+    uint64_t old = 0, now_there = 0, begin = now();
+    it->answer = is_adding ? blink_add(me->seat, it->key, it->new_value, &now_there) : blink_update(me->seat, it->key, stamped, me, &old, &now_there);
+    it->begin = begin;
+    it->end = now();
+    settle(me);
+    it->asked = is_adding && it->answer == BLINK_OK ? INSERT : it->answer == BLINK_NO_ROOM ? PUT : CHANGE;
+    it->old_value = is_adding ? now_there - it->new_value : old;
+    it->new_value = now_there;
+    if (it->answer == BLINK_PRESENT) it->answer = BLINK_OK;
 }
 
 static void *work(void *place) {
@@ -137,7 +158,11 @@ static void *work(void *place) {
             continue;
         }
         call *it = &me->calls[me->count++];
-        *it = (call){0, 0, key, 0, ++me->stamp, 0, drawn < 40 ? FIND : drawn < 70 ? INSERT : drawn < 95 ? DELETE : CHANGE, 0};
+        *it = (call){0, 0, key, 0, ++me->stamp, 0, drawn < 40 ? FIND : drawn < 60 ? INSERT : drawn < 68 ? PUT : drawn < 89 ? DELETE : CHANGE, 0};
+        if (drawn >= 94) {
+            make_of_several(me, it, drawn >= 97);
+            continue;
+        }
         if (it->asked == CHANGE && me->key >= first_key) {
             it->key = me->key;
             it->old_value = me->value;
@@ -184,16 +209,17 @@ static void run_round(void) {
 }
 
 static void print(int thread, const call *it) {
-    static const char *const done[] = {"Found", "Inserted", "Deleted", "Changed"};
+    static const char *const done[] = {"Found", "Inserted", "Inserted", "Deleted", "Changed"};
     printf("%d %" PRIu64 " %" PRIu64 " %" PRIu64 " ", it->answer == UNKNOWN ? MOST + thread : thread, it->begin, it->end, it->key);
     if (it->asked == FIND) printf("Find ");
     if (it->asked == INSERT) printf("Insert(%" PRIu64 ") ", it->new_value);
+    if (it->asked == PUT) printf("Put(%" PRIu64 ") ", it->new_value);
     if (it->asked == DELETE) printf("Delete ");
     if (it->asked == CHANGE) printf("Change(%" PRIu64 ", %" PRIu64 ") ", it->old_value, it->new_value);
     if (it->answer == UNKNOWN) printf("Unknown\n");
     else if (it->answer == BLINK_ABSENT) printf("Absent\n");
     else if (it->answer == BLINK_NO_ROOM) printf("NoRoom\n");
-    else if (it->answer == BLINK_PRESENT) printf("%s(%" PRIu64 ")\n", it->asked == INSERT ? "Present" : "Differs", it->value);
+    else if (it->answer == BLINK_PRESENT) printf("%s(%" PRIu64 ")\n", it->asked == INSERT ? "Present" : it->asked == PUT ? "Replaced" : "Differs", it->value);
     else if (it->answer != BLINK_OK) fail("a call", it->answer);
     else if (it->asked == FIND || it->asked == DELETE) printf("%s(%" PRIu64 ")\n", done[it->asked], it->value);
     else printf("%s\n", done[it->asked]);

@@ -27,7 +27,6 @@
 #include <sqlite3ext.h>
 SQLITE_EXTENSION_INIT1
 #include "blink.h"
-#include "blink_more.h"
 
 #include <errno.h>
 #include <pthread.h>
@@ -50,7 +49,7 @@ typedef struct Map {
     blink_seat seat[MOST_SEATS];
     pthread_mutex_t lock[MOST_SEATS];
     struct Table *table[MOST_SEATS];
-    int64_t rows;  /* about how many there are, for the planner: the library does not tell it */
+    int64_t rows;  /* about how many there are, for the planner: the library would go along them */
     uint8_t *kept; /* an image that could neither be written nor opened again, or null */
     uint64_t kept_length;
 } Map;
@@ -188,30 +187,23 @@ static char *write_file(const char *name, const uint8_t *bytes, size_t length) {
 
 /* Counts the rows of a map that was just opened, while nobody else has it. */
 static void count_rows(Map *map) {
-    blink_row rows[ROWS_AT_ONCE];
-    uint64_t from = 0;
-    size_t count = 0;
-    bool more = true;
-    map->rows = 0;
-    while (more && blink_scan(&map->seat[0], from, rows, ROWS_AT_ONCE, &count, &from, &more) == BLINK_OK)
-        map->rows += (int64_t)count;
-}
-
-/* How many pages the map has whose image has so many bytes, which the library does not tell. */
-static uint32_t pages_of(size_t length) {
-    return (uint32_t)((length - blink_image_length(0)) / (blink_image_length(1) - blink_image_length(0)));
+    uint64_t rows = 0;
+    blink_count(&map->seat[0], 0, UINT64_MAX, &rows);
+    map->rows = (int64_t)rows;
 }
 
 /* Takes the rows of an image in place of the map's. With any other answer than BLINK_OK nothing has changed. */
 static int32_t take_image(Map *map, const uint8_t *bytes, size_t length) {
     blink_seat fresh[MOST_SEATS] = { BLINK_SEAT_INIT };
+    blink_stats stats = { 0, 0, 0, 0 };
     int32_t answer = blink_open_image(bytes, length, fresh, map->seats);
     if (answer != BLINK_OK) return answer;
     for (size_t i = 0; i < map->seats; i++) {
         blink_close(&map->seat[i]);
         map->seat[i] = fresh[i];
     }
-    map->pages = pages_of(length);
+    blink_stat(&map->seat[0], &stats);
+    map->pages = (uint32_t)stats.pages;
     free(map->kept);
     map->kept = NULL;
     count_rows(map);
@@ -272,7 +264,7 @@ static int32_t write_back(Map *map, blink_seat *seat, const Undo *undo) {
         if (answer == BLINK_OK) __atomic_sub_fetch(&map->rows, 1, __ATOMIC_RELAXED);
         return answer == BLINK_ABSENT ? BLINK_OK : answer;
     }
-    answer = blink_more_put(seat, undo->key, undo->value, &old);
+    answer = blink_put(seat, undo->key, undo->value, &old);
     if (answer == BLINK_OK) __atomic_add_fetch(&map->rows, 1, __ATOMIC_RELAXED);
     return answer == BLINK_PRESENT ? BLINK_OK : answer;
 }
@@ -768,7 +760,7 @@ static int put_row(sqlite3_vtab *base, uint64_t key, uint64_t value, bool is_rep
     Table *t = table_of(base);
     uint64_t old = 0;
     blink_seat *seat = hold(t);
-    int32_t answer = is_replacing ? blink_more_put(seat, key, value, &old) : blink_insert(seat, key, value, &old);
+    int32_t answer = is_replacing ? blink_put(seat, key, value, &old) : blink_insert(seat, key, value, &old);
     bool had = is_replacing && answer == BLINK_PRESENT;
     if (had) answer = BLINK_OK;
     if (answer == BLINK_OK) note(t, key, had, old);
@@ -800,7 +792,7 @@ static int read_integer(sqlite3_vtab *base, sqlite3_value *value, sqlite3_int64 
 static int next_key(sqlite3_vtab *base, sqlite3_int64 *k) {
     Table *t = table_of(base);
     blink_row last;
-    int32_t answer = blink_more_last(hold(t), UINT64_MAX, &last);
+    int32_t answer = blink_last(hold(t), &last);
     let_go(t);
     *k = 1;
     if (answer == BLINK_ABSENT) return SQLITE_OK;

@@ -15,7 +15,7 @@ from blink import BadImage, Closed, Map, NoRoom
 
 try:
     from test import mapping_tests
-except ImportError:  # Debian has them in libpython3-testsuite
+except ImportError:  # Debian has them in libpython3.11-testsuite
     mapping_tests = None
 try:
     import numpy
@@ -106,7 +106,7 @@ class Rows(unittest.TestCase):
 
     def step(self, r, m, d):
         k = r.choice([r.randrange(300), r.randrange(300), r.randrange(2**64)])
-        v, what = r.randrange(2**64), r.randrange(11)
+        v, what = r.randrange(2**64), r.randrange(13)
         if what < 2:
             m[k] = d[k] = v
         elif what == 2:
@@ -131,12 +131,37 @@ class Rows(unittest.TestCase):
         elif what == 9:
             self.assertEqual(m.insert(k, v), d.get(k))
             d.setdefault(k, v)
+        elif what == 10:
+            delta = r.choice([v, -1, 1, 2**64])
+            d[k] = (d.get(k, 0) + delta) % 2**64
+            self.assertEqual(m.add(k, delta), d[k])
+        elif what == 11 and k in d:
+            d[k] = d[k] // 2
+            self.assertEqual(m.update_value(k, lambda value: value // 2), d[k])
+        elif what == 11:
+            with self.assertRaises(KeyError):
+                m.update_value(k, lambda value: value)
         elif d and r.random() < 0.1:
             self.assertEqual((m.peekitem(0)[0], m.peekitem()[0]), (min(d), max(d)))
             at = r.randrange(-len(d), len(d))
             self.assertEqual(m.peekitem(at)[0], sorted(d)[at])
             if r.random() < 0.5:
                 self.assertEqual(m.popitem(at), (k := sorted(d)[at], d.pop(k)))
+
+    def test_add(self):
+        m = Map({5: 50}, pages=16)
+        self.assertEqual((m.add(5), m.add(5, 9), m.add(6), m.add(6, -2), m.add(7, 0), len(m)), (51, 60, 1, TOP, 0, 3))
+        self.assertEqual(m.update_value(5, lambda value: m[6] - value), TOP - 60)
+        for refused, error in (
+            (lambda: m.add(-1), OverflowError),
+            (lambda: m.add("a"), TypeError),
+            (lambda: m.add(5, 1.5), TypeError),
+            (lambda: m.update_value(8, lambda value: value), KeyError),
+            (lambda: m.update_value(6, lambda value: value + 1), OverflowError),
+            (lambda: m.update_value(6, lambda value: None), TypeError),
+        ):
+            self.assertRaises(error, refused)
+        self.assertEqual((m[5], m[6]), (TOP - 60, TOP))
 
     def test_room(self):
         m = Map(pages=8)
@@ -146,6 +171,9 @@ class Rows(unittest.TestCase):
         n = len(m)
         self.assertEqual(list(m), list(range(n)))
         self.assertGreaterEqual(n, 14)
+        with self.assertRaisesRegex(NoRoom, "no room"):
+            m.add(n)
+        self.assertEqual((len(m), m.add(n - 1)), (n, n))
         with self.assertRaisesRegex(NoRoom, f"no room; {n} pairs were put") as raised:
             Map(pages=8).put_many(array.array("Q", range(1000)), array.array("Q", range(1000)))
         self.assertIsInstance(raised.exception, (MemoryError, blink.Error))
@@ -165,7 +193,7 @@ class Rows(unittest.TestCase):
             self.assertFalse(m.closed)
         m.close()
         self.assertTrue(m.closed)
-        for call in (lambda: m[1], lambda: m.get(1), lambda: m.__setitem__(1, 1), lambda: m.pop(1), lambda: list(m), m.peekitem, lambda: m.insert(1, 1), lambda: m.change(1, 1, 1), lambda: list(reversed(m)), m.image, lambda: m.get_many(array.array("Q", [1]))):
+        for call in (lambda: m[1], lambda: m.get(1), lambda: m.__setitem__(1, 1), lambda: m.pop(1), lambda: list(m), m.peekitem, lambda: m.insert(1, 1), lambda: m.change(1, 1, 1), lambda: m.add(1), lambda: m.update_value(1, abs), lambda: m.peekitem(0), lambda: list(reversed(m)), m.image, lambda: m.get_many(array.array("Q", [1]))):
             with self.assertRaisesRegex(Closed, "the map is closed"):
                 call()
         self.assertEqual(repr(m), "<Map, closed>")
@@ -312,6 +340,9 @@ class Threads(unittest.TestCase):
             for i in range(times):
                 while not m.change(i % 5, old := m[i % 5], old + 1):
                     pass
+                m.add(i % 5)
+                m.update_value(i % 5, lambda value: value + 1)
+                m.add(5 + i % 2, 10)
 
         def load(t):
             first = 10**6 * (t + 1)
@@ -320,8 +351,8 @@ class Threads(unittest.TestCase):
             assert list(m.irange(first, first + 999, reverse=True)) == list(range(first + 999, first - 1, -1))
 
         self.together(*[count] * threads, *[lambda t=t: load(t) for t in range(threads)])
-        self.assertEqual(sum(m[k] for k in range(5)), threads * times)
-        self.assertEqual(len(m), 5 + 1000 * threads)
+        self.assertEqual((sum(m[k] for k in range(5)), m[5] + m[6]), (3 * threads * times, 10 * threads * times))
+        self.assertEqual(len(m), 5 + 2 + 1000 * threads)
 
     def test_saves_beside_calls(self):
         """What was put before an image is in it, and what is put meanwhile is not lost."""

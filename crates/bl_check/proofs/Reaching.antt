@@ -6,7 +6,7 @@ use Rattle.std.proofs.lemmas.Bool.{cases_lt, cases_eq}
 use Rattle.bl_page.specs.declared.page.Page.{Page}
 use Rattle.bl_check.specs.declared.span.Span.{Span}
 use Rattle.bl_check.specs.Spans.{span_of, span_at, StandsAt, levels, leftmost}
-use Rattle.bl_check.specs.Rules.{HasNext, LinkFits, Reaches, OnChain, Rule, Keeps, AllKeep}
+use Rattle.bl_check.specs.Rules.{HasNext, LinkFits, Reaches, OnChain, Rule, KeepsRule, AllKeep}
 use Rattle.bl_check.specs.Rules.Reaches.{Here, Next}
 use Rattle.bl_check.specs.Walks.{FitsAt, IsMarked, MetBelow, Stops, LeastWrong, MarksChains, IsLesser}
 
@@ -190,7 +190,7 @@ pub chain_level : (pages : List (Option Page)) (level y : ℕ) → StandsAt page
     → (s : Span) → span_at pages y ≡ Some s → s.level ≡ level
 chain_level pages level y stands r = level_along pages (leftmost pages level) y level (λ t at. (subst (λ o. IsSomeAnd o (λ v. (v.level ≡ level) × (v.low ≡ 0))) at stands).0) r
 
-pub on_its_chain : (pages : List (Option Page)) (y : ℕ) → AllKeep Rule.Leftmost pages → 0 < length pages → MetBelow pages (levels pages) y → Keeps Rule.Chains pages y
+pub on_its_chain : (pages : List (Option Page)) (y : ℕ) → AllKeep Rule.Leftmost pages → 0 < length pages → MetBelow pages (levels pages) y → KeepsRule Rule.Chains pages y
 on_its_chain pages y leftmost_fit some (level, lt, r) = at_span (span_at pages y) refl
   where
     at_span : (o : Option Span) → span_at pages y ≡ o → IfSome o (λ s. OnChain pages s.level y)
@@ -204,6 +204,6 @@ on_its_chain pages y leftmost_fit some (level, lt, r) = at_span (span_at pages y
 pub span_here : (pages : List (Option Page)) (x : ℕ) (page : Option Page) (o : Option Span) → x < length pages → page ≡ get_or pages x page → o ≡ span_of page → o ≡ span_at pages x
 span_here pages x page o lt is h = h ∙ ap span_of (is ∙ get_or_default pages x page None lt)
 
-pub none_kept : (pages : List (Option Page)) (x : ℕ) (o : Option Span) → o ≡ span_at pages x → is_some o ≡ false → Keeps Rule.Chains pages x
+pub none_kept : (pages : List (Option Page)) (x : ℕ) (o : Option Span) → o ≡ span_at pages x → is_some o ≡ false → KeepsRule Rule.Chains pages x
 none_kept pages x None is none = subst (λ o. IfSome o (λ s. OnChain pages s.level x)) is tt
 none_kept pages x (Some s) is none = absurd cc

@@ -7,9 +7,9 @@ use Rattle.bl_image.specs.declared.fault.ImageFault.TheVariants as image
 use Rattle.bl_image.proofs.Chunks.{image_same, read_fault}
 use Rattle.bl_check.specs.declared.fault.Fault.{Fault}
 use Rattle.bl_check.specs.declared.fault.Fault.TheVariants as fault
-use Rattle.bl_check.specs.Rules.{Rule, number_of, Keeps, AllKeep, IsFirst}
+use Rattle.bl_check.specs.Rules.{Rule, rule_number, KeepsRule, AllKeep, IsFirst}
 use Rattle.bl_check.specs.Rules.Rule.{OneAnchor, Leftmost, Links, Chains, Children, NoneDead}
-use Rattle.bl_check.specs.Faults.{KeptBefore, IsPageFault, Breaks, IsFault, AreSoundImage}
+use Rattle.bl_check.specs.Faults.{KeptBefore, IsPageFault, Breaks, IsCheckFault, AreSoundImage}
 use Rattle.bl_check.specs.Faults.Breaks.{Head, Words, Pages}
 use Rattle.bl_check.proofs.Within.{sound_within}
 
@@ -57,7 +57,7 @@ before_8 pages a b c d e Children lt = e
 before_8 pages a b c d e NoneDead lt = absurd (omega arith)
 
 -- what a search for a page that breaks the rule found
-pub refused : (pages : List (Option Page)) (rule : Rule) (number : ℕ) (found : Option ℕ) (f : Fault) → number ≡ number_of rule → KeptBefore number pages → IsFirst rule pages found
+pub refused : (pages : List (Option Page)) (rule : Rule) (number : ℕ) (found : Option ℕ) (f : Fault) → number ≡ rule_number rule → KeptBefore number pages → IsFirst rule pages found
     → (x : ℕ) × (found ≡ Some x) × (f ≡ fault.Rule number x) → IsPageFault f pages
 refused pages rule number found f named before h (x, is, given) = subst (λ g. IsPageFault g pages) (sym given)
     (record { rule = rule; named = named; least = subst (IsFirst rule pages) is h; earlier = before })
@@ -72,7 +72,7 @@ at_last (Err f) pages found before h k = refused pages NoneDead 8 found f refl b
 
 -- a sound image has no fault but want of memory
 
-pub in_bytes : (f : Fault) (pages : List (Option Page)) (bytes : List ℕ) → IsImage pages bytes → AreWithin pages → IsPageFault f pages → IsFault f bytes
+pub in_bytes : (f : Fault) (pages : List (Option Page)) (bytes : List ℕ) → IsImage pages bytes → AreWithin pages → IsPageFault f pages → IsCheckFault f bytes
 in_bytes (fault.Rule number x) pages bytes whole within broken = Pages pages whole within broken
 in_bytes fault.Memory pages bytes whole within broken = tt
 
@@ -81,13 +81,13 @@ not_broken number x bytes (pages, whole, sound) (Head one zero h) = let e = read
 not_broken number x bytes (pages, whole, sound) (Words two h) = let e = read_fault (image.Page x) pages bytes h whole (sound_within pages whole.count sound) in absurd cc
 not_broken number x bytes (pages, whole, sound) (Pages others other within broken) =
     let same = image_same others pages bytes other whole in
-    broken.least.1 (subst (λ p. Keeps broken.rule p x) (sym same) (sound broken.rule x (subst (λ p. x < length p) same broken.least.0)))
+    broken.least.1 (subst (λ p. KeepsRule broken.rule p x) (sym same) (sound broken.rule x (subst (λ p. x < length p) same broken.least.0)))
 
-pub sound_bytes : (f : Fault) (bytes : List ℕ) → AreSoundImage bytes → IsFault f bytes → f ≡ fault.Memory
+pub sound_bytes : (f : Fault) (bytes : List ℕ) → AreSoundImage bytes → IsCheckFault f bytes → f ≡ fault.Memory
 sound_bytes (fault.Rule number x) bytes sound broken = absurd (not_broken number x bytes sound broken)
 sound_bytes fault.Memory bytes sound broken = refl
 
 -- where the fault is returned
 
-pub memory_at : {T : Type 0} (r : Result T Fault) (e f : Fault) (bytes : List ℕ) → r ≡ Err e → e ≡ f → IsFault f bytes → AreSoundImage bytes → IfErr r (λ g. g ≡ fault.Memory)
+pub memory_at : {T : Type 0} (r : Result T Fault) (e f : Fault) (bytes : List ℕ) → r ≡ Err e → e ≡ f → IsCheckFault f bytes → AreSoundImage bytes → IfErr r (λ g. g ≡ fault.Memory)
 memory_at r e f bytes is same h sound = subst (λ r. IfErr r (λ g. g ≡ fault.Memory)) (sym (is ∙ ap Err same)) (sound_bytes f bytes sound h)

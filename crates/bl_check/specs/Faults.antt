@@ -5,16 +5,16 @@ use Rattle.bl_image.specs.Images.{IsImage, AreWithin, IsFault as IsImageFault}
 use Rattle.bl_image.specs.declared.fault.ImageFault.TheVariants as image
 use Rattle.bl_check.specs.declared.fault.Fault.{Fault}
 use Rattle.bl_check.specs.declared.fault.Fault.TheVariants as fault
-use Rattle.bl_check.specs.Rules.{Rule, number_of, AllKeep, AreSound, IsFirst}
+use Rattle.bl_check.specs.Rules.{Rule, rule_number, AllKeep, AreSound, IsFirst}
 
 -- all pages keep the rules with lesser numbers
 abbrev pub KeptBefore : ℕ → List (Option Page) → Type 0
-KeptBefore number pages = (rule : Rule) → number_of rule < number → AllKeep rule pages
+KeptBefore number pages = (rule : Rule) → rule_number rule < number → AllKeep rule pages
 
 -- The least rule that a page breaks has that number, and the least page that breaks it is x.
 pub record IsBroken (pages : List (Option Page)) (number x : ℕ) : Type 0 where
   pub rule : Rule
-  pub named : number ≡ number_of rule
+  pub named : number ≡ rule_number rule
   pub least : IsFirst rule pages (Some x)
   pub earlier : KeptBefore number pages
 
@@ -31,9 +31,9 @@ pub data Breaks (bytes : List ℕ) (number x : ℕ) : Type 0 where
   Pages : (pages : List (Option Page)) → IsImage pages bytes → AreWithin pages → IsBroken pages number x → Breaks bytes number x
 
 -- What is wrong with these bytes. Memory says nothing of them.
-abbrev pub IsFault : Fault → List ℕ → Type 0
-IsFault (fault.Rule number x) bytes = Breaks bytes number x
-IsFault fault.Memory bytes = Unit {0}
+abbrev pub IsCheckFault : Fault → List ℕ → Type 0
+IsCheckFault (fault.Rule number x) bytes = Breaks bytes number x
+IsCheckFault fault.Memory bytes = Unit {0}
 
 -- The bytes are the image of sound pages.
 abbrev pub AreSoundImage : List ℕ → Type 0

@@ -61,25 +61,25 @@ pub data Rule : Type 0 where
   -- no page is dead
   NoneDead : Rule
 
-abbrev pub number_of : Rule → ℕ
-number_of OneAnchor = 3
-number_of Leftmost = 4
-number_of Links = 5
-number_of Chains = 6
-number_of Children = 7
-number_of NoneDead = 8
+abbrev pub rule_number : Rule → ℕ
+rule_number OneAnchor = 3
+rule_number Leftmost = 4
+rule_number Links = 5
+rule_number Chains = 6
+rule_number Children = 7
+rule_number NoneDead = 8
 
 -- Page x keeps the rule.
-abbrev pub Keeps : Rule → List (Option Page) → ℕ → Type 0
-Keeps OneAnchor pages x = IsTrue (is_anchor (page_at pages x)) ↔ (x ≡ 0)
-Keeps Leftmost pages x = x ≡ 0 → (level : ℕ) → level < levels pages → StandsAt pages (leftmost pages level) level 0
-Keeps Links pages x = (level : ℕ) → OnChain pages level x → IfSome (span_at pages x) (λ s. LinkFits pages s)
-Keeps Chains pages x = IfSome (span_at pages x) (λ s. OnChain pages s.level x)
-Keeps Children pages x = ChildrenFit pages (page_at pages x)
-Keeps NoneDead pages x = is_dead (page_at pages x) ≡ false
+abbrev pub KeepsRule : Rule → List (Option Page) → ℕ → Type 0
+KeepsRule OneAnchor pages x = IsTrue (is_anchor (page_at pages x)) ↔ (x ≡ 0)
+KeepsRule Leftmost pages x = x ≡ 0 → (level : ℕ) → level < levels pages → StandsAt pages (leftmost pages level) level 0
+KeepsRule Links pages x = (level : ℕ) → OnChain pages level x → IfSome (span_at pages x) (λ s. LinkFits pages s)
+KeepsRule Chains pages x = IfSome (span_at pages x) (λ s. OnChain pages s.level x)
+KeepsRule Children pages x = ChildrenFit pages (page_at pages x)
+KeepsRule NoneDead pages x = is_dead (page_at pages x) ≡ false
 
 abbrev pub AllKeep : Rule → List (Option Page) → Type 0
-AllKeep rule pages = (x : ℕ) → x < length pages → Keeps rule pages x
+AllKeep rule pages = (x : ℕ) → x < length pages → KeepsRule rule pages x
 
 -- all pages keep all rules
 abbrev pub AreSound : List (Option Page) → Type 0
@@ -88,7 +88,7 @@ AreSound pages = (rule : Rule) → AllKeep rule pages
 -- the least page that breaks the rule, or None where each keeps it
 abbrev pub IsFirst : Rule → List (Option Page) → Option ℕ → Type 0
 IsFirst rule pages None = AllKeep rule pages
-IsFirst rule pages (Some x) = (x < length pages) × ¬ Keeps rule pages x × ((y : ℕ) → y < x → Keeps rule pages y)
+IsFirst rule pages (Some x) = (x < length pages) × ¬ KeepsRule rule pages x × ((y : ℕ) → y < x → KeepsRule rule pages y)
 
 -- a chain does not come round: where the link of x fits, x is not reached again from the page it links to
 abbrev pub NeverRound : List (Option Page) → Type 0

@@ -5,7 +5,7 @@ ghost use Rattle.bl_page.specs.declared.page.Page.{Page};
 ghost use Rattle.bl_image.specs.Images.{IsImage, AreWithin, IsFault as IsImageFault};
 ghost use Rattle.bl_check.specs.declared.fault.Fault.TheVariants as fault;
 ghost use Rattle.bl_check.specs.Rules.{AreSound};
-ghost use Rattle.bl_check.specs.Faults.{IsPageFault, IsFault, AreSoundImage};
+ghost use Rattle.bl_check.specs.Faults.{IsPageFault, IsCheckFault, AreSoundImage};
 ghost use Rattle.bl_check.specs.Reports.{IsReport};
 
 use crate::anchor::{wrong_anchor, wrong_leftmost};
@@ -59,7 +59,7 @@ fn keep_rules(alloc: Global, pages: &[Option<Page>]) -> Result<(), Fault>
 fn image_in(alloc: Global, bytes: &[u8]) -> Result<Image, Fault>
     ensures ok { IfOk result (λ image. IsImage image.pages.items bytes.now) }
     ensures within { IfOk result (λ image. AreWithin image.pages.items) }
-    ensures fault { IfErr result (λ fault. IsFault fault bytes.now) }
+    ensures fault { IfErr result (λ fault. IsCheckFault fault bytes.now) }
 {
     match read(alloc, bytes) {
         Ok(image) => Ok(image),
@@ -75,7 +75,7 @@ pub fn load(alloc: Global, bytes: &[u8]) -> Result<Quiet, Fault>
     // The bytes are this image, which is sound by its type.
     ensures ok { IfOk result (λ quiet. IsImage quiet.image.pages.items bytes.now) }
     // Which rule is broken, at which page.
-    ensures fault { IfErr result (λ fault. IsFault fault bytes.now) }
+    ensures fault { IfErr result (λ fault. IsCheckFault fault bytes.now) }
     // A sound image has no fault.
     ensures only { AreSoundImage bytes.now → IfErr result (λ given. given ≡ fault.Memory) }
 {
@@ -92,7 +92,7 @@ pub fn check(alloc: Global, bytes: &[u8]) -> Result<Report, Fault>
     ensures ok { IfOk result (λ report. (pages : List (Option Page))
         × IsImage pages bytes.now × AreSound pages × IsReport report pages) }
     // Which rule is broken, at which page.
-    ensures fault { IfErr result (λ fault. IsFault fault bytes.now) }
+    ensures fault { IfErr result (λ fault. IsCheckFault fault bytes.now) }
     // A sound image has no fault.
     ensures only { AreSoundImage bytes.now → IfErr result (λ given. given ≡ fault.Memory) }
 {

@@ -5,8 +5,8 @@ use Rattle.bl_page.specs.declared.page.Page.{Page}
 use Rattle.bl_page.specs.Machine.{Act}
 use Rattle.bl_page.specs.Machine.Act.{Latch}
 use Rattle.bl_claims.specs.Trails.{Mark, Trail}
-use Rattle.bl_claims.specs.Latches.{Keeps}
-use Rattle.bl_proc_compress.specs.declared.compressing.Family.{Family}
+use Rattle.bl_claims.specs.Latches.{KeepsPage}
+use Rattle.bl_proc_compress.specs.declared.compression.Family.{Family}
 use Rattle.bl_claims.specs.Squeezed.{AtParent}
 
 -- It holds no page but the parent of that level, which covers the key, and of two children of it that stand side by side at the
@@ -15,10 +15,10 @@ pub record HoldsFamily (level key : ℕ) (marks : Trail) : Type 0 where
   pub family : Family
   pub acts : List (Act Page Reply)
   pub at : AtParent level key marks family.at.parent family.parent (Some family) acts
-  pub no_more : (y : ℕ) → Keeps marks y → (y ≡ family.at.parent) ⊎ (y ≡ family.at.left)
+  pub no_more : (y : ℕ) → KeepsPage marks y → (y ≡ family.at.parent) ⊎ (y ≡ family.at.left)
 
 -- It holds no more than that when it latches a page.
 abbrev pub LatchesBeside : ℕ → ℕ → Trail → Type 0
 LatchesBeside level key marks =
     (i : ℕ) (m : Mark) (x : ℕ) → slice_get marks i ≡ Some m → m.event.act ≡ Latch x
-    → ((y : ℕ) → Keeps (take i marks) y → ⊥) ⊎ HoldsFamily level key (take i marks)
+    → ((y : ℕ) → KeepsPage (take i marks) y → ⊥) ⊎ HoldsFamily level key (take i marks)

@@ -15,16 +15,16 @@ holds_after y held (Retire x) = if x == y then false else held
 holds_after y held act = held
 
 -- It has latched or taken the page, and has neither opened nor retired it since.
-abbrev pub Keeps : Trail → ℕ → Type 0
-Keeps marks y = fold (λ (held : Bool) (m : Mark). holds_after y held m.event.act) false marks ≡ true
+abbrev pub KeepsPage : Trail → ℕ → Type 0
+KeepsPage marks y = fold (λ (held : Bool) (m : Mark). holds_after y held m.event.act) false marks ≡ true
 
 -- It holds no page when it latches one.
 abbrev pub LatchesAlone : Trail → Type 0
-LatchesAlone marks = (i : ℕ) (m : Mark) (x y : ℕ) → slice_get marks i ≡ Some m → m.event.act ≡ Latch x → Keeps (take i marks) y → ⊥
+LatchesAlone marks = (i : ℕ) (m : Mark) (x y : ℕ) → slice_get marks i ≡ Some m → m.event.act ≡ Latch x → KeepsPage (take i marks) y → ⊥
 
 -- It holds no page but the anchor when it latches one.
 abbrev pub LatchesBelowAnchor : Trail → Type 0
-LatchesBelowAnchor marks = (i : ℕ) (m : Mark) (x y : ℕ) → slice_get marks i ≡ Some m → m.event.act ≡ Latch x → Keeps (take i marks) y → y ≡ 0
+LatchesBelowAnchor marks = (i : ℕ) (m : Mark) (x y : ℕ) → slice_get marks i ≡ Some m → m.event.act ≡ Latch x → KeepsPage (take i marks) y → y ≡ 0
 
 -- It latches no page.
 abbrev pub LatchesNone : Trail → Type 0

@@ -6,9 +6,9 @@
 #![tactic(auto)]
 
 mod chart;
+mod image_pages;
 mod node;
 mod page_text;
-mod reading;
 mod rules;
 mod sheet;
 mod svg;

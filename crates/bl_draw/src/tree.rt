@@ -1,7 +1,7 @@
 //! The levels of a tree.
 
+use crate::image_pages::found_in;
 use crate::node::{Node, leftmost_in, nodes_of};
-use crate::reading::found_in;
 use bl_page::Page;
 use std::alloc::{AllocError, Global};
 

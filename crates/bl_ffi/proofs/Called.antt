@@ -5,17 +5,17 @@ use mir.Syntax.{w32}
 use Rattle.bl_model.specs.declared.operation.Reply.{Reply}
 use Rattle.bl_model.specs.declared.operation.Reply.TheVariants.{Found, Absent, Inserted, Present, Replaced, Deleted, Changed, Differs, Rows, NoRoom}
 use Rattle.std.specs.Prelude.{ℤ, pos, MatchOption}
-use Rattle.bl_seats.specs.declared.seat.Seat.{Seat}
-use Rattle.bl_seats.specs.Calls.{IsSameSeat, HasGoneOn, HasNothingToDo, HasSwept, account_of, number_of, released_by}
-use Rattle.bl_seats.specs.Tended.{SweepsOnce}
-use Rattle.bl_seats.proofs.Tending.{seat_after}
-use Rattle.bl_seats.specs.Accounts.{GoesTo}
-use Rattle.bl_seats.specs.Waits.{IsIdle}
+use Rattle.bl_ffi_seats.specs.declared.seat.Seat.{Seat}
+use Rattle.bl_ffi_seats.specs.Calls.{IsSameSeat, HasGoneOn, HasNothingToDo, HasSwept, account_of, seat_number, released_by}
+use Rattle.bl_ffi_seats.specs.Tended.{SweepsOnce}
+use Rattle.bl_ffi_seats.proofs.Tending.{seat_after}
+use Rattle.bl_ffi_seats.specs.Accounts.{GoesTo}
+use Rattle.bl_ffi_seats.specs.Waits.{IsIdle}
 use Rattle.bl_ffi.specs.declared.seat.SeatOfC.{SeatOfC}
 use Rattle.std.specs.Arc.{arc_value}
-use Rattle.bl_index_turns.specs.declared.stages.Stage.TheVariants as stage
-use Rattle.bl_index_turns.specs.Stages.{IsAtRest}
-use Rattle.bl_seats.specs.Meetings.{HasSettled}
+use Rattle.bl_index_resume.specs.declared.stages.Stage.TheVariants as stage
+use Rattle.bl_index_resume.specs.Stages.{IsAtRest}
+use Rattle.bl_ffi_seats.specs.Meetings.{HasSettled}
 use Rattle.bl_ffi.specs.Told.{IsCodeOf, Calls, Closes, Counts}
 
 pub called : (old new : SeatOfC) (code : ℤ) (Comes : Seat → Seat → Type 0) (s t : Seat) → old.seat ≡ Some s → new.seat ≡ Some t → IsSameSeat s t → Comes s t → Calls old new code Comes
@@ -79,7 +79,7 @@ tended s u v t answer is same gone kept told keeps swept count =
     let st : t.stage ≡ u.stage = keeps.0 ∙ ap (λ (z : Seat). z.stage) is in
     let up : t.upkeep ≡ u.upkeep = keeps.1 ∙ ap (λ (z : Seat). z.upkeep) is in record {
       same = seat_after s u t same k;
-      gone = subst (GoesTo (number_of s) (account_of s)) (sym a) gone;
+      gone = subst (GoesTo (seat_number s) (account_of s)) (sym a) gone;
       idle = λ n. (st ∙ n.0, subst IsIdle (sym up) n.1);
       was_idle = λ n. (sym st ∙ n.0, subst IsIdle up n.1);
       swept = record { answer = answer; same = k; swept = subst (λ (z : Seat). HasSwept answer z t) is swept; count = subst (λ (z : Seat). released_by t ≡ released_by z + answer) is count; keeps = (st, up) };

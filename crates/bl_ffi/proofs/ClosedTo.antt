@@ -10,12 +10,12 @@ use Rattle.bl_page.specs.declared.page.Page.{Page}
 use Rattle.bl_image.specs.Images.{IsImage}
 use Rattle.bl_index.specs.Calls.{pages_of}
 use Rattle.bl_index.specs.declared.index.Index.{Index}
-use Rattle.bl_seats.specs.declared.closing.CloseFault.{CloseFault}
-use Rattle.bl_seats.specs.declared.closing.CloseFault.TheVariants as fault
-use Rattle.bl_seats.specs.declared.seat.Seat.{Seat}
-use Rattle.bl_seats.specs.Meetings.{HasSettled}
-use Rattle.bl_seats.specs.Closed.{values, AreAtOne, HaveClosed, IsNotClosed}
-use Rattle.bl_seats.proofs.Closings.{Boxed, at_one, value_at, first_there}
+use Rattle.bl_ffi_seats.specs.declared.closing.CloseFault.{CloseFault}
+use Rattle.bl_ffi_seats.specs.declared.closing.CloseFault.TheVariants as fault
+use Rattle.bl_ffi_seats.specs.declared.seat.Seat.{Seat}
+use Rattle.bl_ffi_seats.specs.Meetings.{HasSettled}
+use Rattle.bl_ffi_seats.specs.Closed.{values, AreAtOne, HaveClosed, IsNotClosed}
+use Rattle.bl_ffi_seats.proofs.Closings.{Boxed, at_one, value_at, first_there}
 use Rattle.bl_ffi.specs.Places.{closed}
 use Rattle.bl_ffi.specs.Together.{IsCodeOfFault, IsTooLong, IsClosedTo, ClosesSeats}
 

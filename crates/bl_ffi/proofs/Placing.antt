@@ -5,14 +5,14 @@ use mathlib.Core.Option.{some, some-injective, some-ne-none}
 use lib.ListN.{get_elem?}
 use Rattle.bl_index.specs.declared.index.Index.{Index}
 use Rattle.bl_index.specs.declared.index.Pass.{Pass}
-use Rattle.bl_seats.specs.Opened.{AreSeatsOf}
-use Rattle.bl_seats.specs.declared.seat.Seat.{Seat}
+use Rattle.bl_ffi_seats.specs.Opened.{AreSeatsOf}
+use Rattle.bl_ffi_seats.specs.declared.seat.Seat.{Seat}
 use Rattle.bl_page.specs.declared.page.Page.{Page}
 use Rattle.bl_index.specs.Calls.{pages_of}
 use Rattle.bl_index.proofs.Gathered.{all_of}
-use Rattle.bl_seats.specs.Meetings.{AreOfOne, HasRested}
-use Rattle.bl_seats.specs.Closed.{values, AreAtOne, HaveClosed, AreShut}
-use Rattle.bl_seats.proofs.Closings.{Boxed, map_at, map_length}
+use Rattle.bl_ffi_seats.specs.Meetings.{AreOfOne, HasRested}
+use Rattle.bl_ffi_seats.specs.Closed.{values, AreAtOne, HaveClosed, AreShut}
+use Rattle.bl_ffi_seats.proofs.Closings.{Boxed, map_at, map_length}
 use Rattle.bl_ffi.specs.declared.seat.SeatOfC.{SeatOfC}
 use Rattle.std.specs.Arc.{arc_value}
 use Rattle.std.specs.List.{AllZip}

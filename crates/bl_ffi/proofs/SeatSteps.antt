@@ -22,8 +22,8 @@ use denote.Struct.Owning.{shape}
 use Rattle.std.specs.Prelude.{Option, None, Some}
 use Rattle.bl_ffi.specs.Owned.{owned, heap_token}
 use Rattle.bl_ffi.specs.contracts.seat.SeatOfC as held
-use Rattle.bl_seats.specs.contracts.seat.Seat as seat
-use Rattle.bl_seats.specs.declared.seat.Seat.{Seat}
+use Rattle.bl_ffi_seats.specs.contracts.seat.Seat as seat
+use Rattle.bl_ffi_seats.specs.declared.seat.Seat.{Seat}
 
 abbrev pub word : Val → Val
 word v = vstruct (vcons v vnil)

@@ -1,8 +1,8 @@
 -- A map is opened for C.
 use Rattle.std.specs.Prelude.{◌≡◌, ◌⊎◌, ◌<◌, ◌^◌, ℕ, ℤ, pos, List, Option, length}
 use Rattle.bl_check.specs.Faults.{AreSoundImage}
-use Rattle.bl_seats.specs.declared.seat.Seat.{Seat}
-use Rattle.bl_seats.specs.Opened.{IsOpened, IsReopened}
+use Rattle.bl_ffi_seats.specs.declared.seat.Seat.{Seat}
+use Rattle.bl_ffi_seats.specs.Opened.{AreSeatsOpened, IsReopened}
 use Rattle.bl_ffi.specs.Places.{opened}
 
 -- Each place has its seat, and one that it had is closed; or there was no memory, and the places are as they were.
@@ -20,7 +20,7 @@ IsNotOpened pages count code = ((code ≡ pos 5) × ((pages < 4) ⊎ (2 ^ 28 < p
 -- The places have the seats of one new map without rows; or none was opened, and they are as they were.
 abbrev pub Opens : ℕ → List (Option Seat) → List (Option Seat) → ℤ → Type 0
 Opens pages old new code =
-    ((code ≡ pos 0) × ((seats : List Seat) × IsOpened pages (length old) seats × (new ≡ opened seats)))
+    ((code ≡ pos 0) × ((seats : List Seat) × AreSeatsOpened pages (length old) seats × (new ≡ opened seats)))
     ⊎ (IsNotOpened pages (length old) code × (new ≡ old))
 
 -- Why none was opened from bytes: they are no sound image; the seats are not within their limits; or there was no memory.

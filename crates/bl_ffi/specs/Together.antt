@@ -6,14 +6,14 @@ use lib.ListN.{get_elem?}
 use Rattle.bl_page.specs.declared.page.Page.{Page}
 use Rattle.bl_image.specs.Images.{IsImage}
 use Rattle.bl_index.specs.Calls.{pages_of}
-use Rattle.bl_index_turns.specs.declared.stages.Stage.TheVariants as stage
-use Rattle.bl_seats.specs.declared.closing.CloseFault.{CloseFault}
-use Rattle.bl_seats.specs.declared.closing.CloseFault.TheVariants as fault
-use Rattle.bl_seats.specs.declared.seat.Seat.{Seat}
-use Rattle.bl_seats.specs.Calls.{IsSameSeat, HasGoneOn, HasCarriedOn}
-use Rattle.bl_seats.specs.Tended.{KeepsUpkeep}
-use Rattle.bl_seats.specs.Meetings.{AreOfOne, HaveMet}
-use Rattle.bl_seats.specs.Closed.{HaveClosed, IsNotClosed}
+use Rattle.bl_index_resume.specs.declared.stages.Stage.TheVariants as stage
+use Rattle.bl_ffi_seats.specs.declared.closing.CloseFault.{CloseFault}
+use Rattle.bl_ffi_seats.specs.declared.closing.CloseFault.TheVariants as fault
+use Rattle.bl_ffi_seats.specs.declared.seat.Seat.{Seat}
+use Rattle.bl_ffi_seats.specs.Calls.{IsSameSeat, HasGoneOn, HasCarriedOn}
+use Rattle.bl_ffi_seats.specs.Tended.{KeepsUpkeep}
+use Rattle.bl_ffi_seats.specs.Meetings.{AreOfOne, HaveMet}
+use Rattle.bl_ffi_seats.specs.Closed.{HaveClosed, IsNotClosed}
 use Rattle.bl_ffi.specs.Places.{opened, closed, placed}
 
 -- two places that are open are of one map

@@ -8,16 +8,16 @@ use Rattle.bl_ffi.specs.declared.calls.Part.{Part}
 use Rattle.bl_model.specs.declared.operation.Op.{Op}
 use Rattle.bl_model.specs.declared.operation.Reply.{Reply}
 use Rattle.bl_model.specs.declared.operation.Reply.TheVariants.{Found, Absent, Inserted, Present, Replaced, Deleted, Changed, Differs, Rows, NoRoom}
-use Rattle.bl_seats.specs.declared.seat.Seat.{Seat}
+use Rattle.bl_ffi_seats.specs.declared.seat.Seat.{Seat}
 use Rattle.bl_model.specs.declared.deciding.KeyWrite.{KeyWrite}
 use Rattle.bl_model.specs.Writes.{write_op}
 use Rattle.std.specs.Arc.{arc_value}
-use Rattle.bl_index_turns.specs.declared.stages.Stage.TheVariants as stage
-use Rattle.bl_index_turns.specs.Stages.{IsAtRest}
-use Rattle.bl_seats.specs.Calls.{IsSameSeat, HasToldLast, HasTold, HasGoneOn, HasGoneOnOrBegun, HasNothingToDo, HasCarriedOn, HasDoneMost}
-use Rattle.bl_seats.specs.Tended.{KeepsUpkeep, HasTended, HasPrepared, HasToWait, HasChanged, SweepsOnce}
-use Rattle.bl_seats.specs.Meetings.{HasSettled, HasNoAnswer}
-use Rattle.bl_seats.specs.Waits.{hints_of}
+use Rattle.bl_index_resume.specs.declared.stages.Stage.TheVariants as stage
+use Rattle.bl_index_resume.specs.Stages.{IsAtRest}
+use Rattle.bl_ffi_seats.specs.Calls.{IsSameSeat, HasToldLast, HasTold, HasGoneOn, HasGoneOnOrBegun, HasNothingToDo, HasCarriedOn, HasDoneMost}
+use Rattle.bl_ffi_seats.specs.Tended.{KeepsUpkeep, HasTended, HasPrepared, HasToWait, HasChanged, SweepsOnce}
+use Rattle.bl_ffi_seats.specs.Meetings.{HasSettled, HasNoAnswer}
+use Rattle.bl_ffi_seats.specs.Waits.{hints_of}
 use Rattle.bl_index.specs.Calls.{pages_of}
 use Rattle.bl_ffi.specs.declared.seat.SeatOfC.{SeatOfC}
 use Rattle.bl_ffi.specs.declared.stats.Stats.{Stats}
@@ -68,8 +68,8 @@ abbrev pub Finds : Op → SeatOfC → SeatOfC → ℤ → ℕ → Type 0
 Finds op old new code written = Calls old new code (λ s t. KeepsUpkeep s t × Replies SearchesAgain (TellsFound op) code written s t)
 
 -- a write
-abbrev pub Tells : ℕ → KeyWrite → SeatOfC → SeatOfC → ℤ → ℕ → Type 0
-Tells key write old new code written = Calls old new code (Replies (WritesAgain key write) (TellsWritten key write) code written)
+abbrev pub TellsCode : ℕ → KeyWrite → SeatOfC → SeatOfC → ℤ → ℕ → Type 0
+TellsCode key write old new code written = Calls old new code (Replies (WritesAgain key write) (TellsWritten key write) code written)
 
 -- a key and its value, as C has them
 abbrev pub row_of : ℕ × ℕ → Row

@@ -4,12 +4,12 @@ ghost use Rattle.std.specs.Prelude.{◌≡◌, ◌≢◌, ◌<◌, ◌≤◌, po
 ghost use Rattle.bl_model.specs.declared.operation.Op.TheVariants as op;
 ghost use Rattle.bl_model.specs.Replies.{reply_of};
 ghost use Rattle.bl_model.specs.declared.deciding.KeyWrite.TheVariants as key_write;
-ghost use Rattle.bl_ffi.specs.Told.{IsCodeOf, Finds, Tells, Closes, Calls, IsRows, IsListed, Lists, next_behind, Tends, StaysAsItWas, Counts, waiting_of, dropped_of};
+ghost use Rattle.bl_ffi.specs.Told.{IsCodeOf, Finds, TellsCode, Closes, Calls, IsRows, IsListed, Lists, next_behind, Tends, StaysAsItWas, Counts, waiting_of, dropped_of};
 
 use crate::codes::{ABSENT, AGAIN, CLOSED, FEW_ROWS, NO_ROOM, OK, PRESENT};
 use crate::places::{put_back, taken};
 use crate::seat::SeatOfC;
-use bl_seats::{KeyReply, KeyWrite, Next, Reply};
+use bl_ffi_seats::{KeyReply, KeyWrite, Next, Reply};
 use std::alloc::Global;
 
 /// A key and its value.
@@ -110,7 +110,7 @@ pub extern "C" fn blink_fetch(alloc: Global, seat: &mut SeatOfC, keys: &[u64]) -
 
 /// Writes a key, and puts the value beside the reply.
 fn write(alloc: Global, seat: &mut SeatOfC, key: u64, write: KeyWrite, value: &mut u64) -> i32
-    ensures { Tells key write seat.old seat.new result value.new }
+    ensures { TellsCode key write seat.old seat.new result value.new }
 {
     let Some(mut mine) = taken(alloc, seat) else {
         return CLOSED;
@@ -132,7 +132,7 @@ pub extern "C" fn blink_try_insert(
     value: u64,
     there: &mut u64,
 ) -> i32
-    ensures { Tells key (key_write.Insert value) seat.old seat.new result there.new }
+    ensures { TellsCode key (key_write.Insert value) seat.old seat.new result there.new }
 {
     write(alloc, seat, key, KeyWrite::Insert(value), there)
 }
@@ -146,7 +146,7 @@ pub extern "C" fn blink_try_put(
     value: u64,
     old: &mut u64,
 ) -> i32
-    ensures { Tells key (key_write.Put value) seat.old seat.new result old.new }
+    ensures { TellsCode key (key_write.Put value) seat.old seat.new result old.new }
 {
     write(alloc, seat, key, KeyWrite::Put(value), old)
 }
@@ -159,7 +159,7 @@ pub extern "C" fn blink_try_delete(
     key: u64,
     gone: &mut u64,
 ) -> i32
-    ensures { Tells key key_write.Delete seat.old seat.new result gone.new }
+    ensures { TellsCode key key_write.Delete seat.old seat.new result gone.new }
 {
     write(alloc, seat, key, KeyWrite::Delete, gone)
 }
@@ -174,7 +174,7 @@ pub extern "C" fn blink_try_change(
     new: u64,
     there: &mut u64,
 ) -> i32
-    ensures { Tells key (key_write.Change old new) seat.old seat.new result there.new }
+    ensures { TellsCode key (key_write.Change old new) seat.old seat.new result there.new }
 {
     write(alloc, seat, key, KeyWrite::Change(old, new), there)
 }

@@ -1,14 +1,14 @@
 //! A map is opened.
 
 ghost use Rattle.std.specs.Prelude.{◌≡◌, length, IfOk};
-ghost use Rattle.bl_seats.specs.Closed.{values};
+ghost use Rattle.bl_ffi_seats.specs.Closed.{values};
 ghost use Rattle.bl_ffi.specs.Opened.{Opens, OpensImage, AreHandedOut};
 ghost use Rattle.bl_ffi.specs.Places.{seats_in};
 
 use crate::codes::{BAD_IMAGE, BAD_PAGES, BAD_SEATS, NO_MEMORY, OK};
 use crate::places::{close_all, put_all};
 use crate::seat::SeatOfC;
-use bl_seats::{ImageFault, OpenFault, Seat, open, open_image};
+use bl_ffi_seats::{ImageFault, OpenFault, Seat, open, open_image};
 use std::alloc::{AllocError, Global};
 
 /// Boxes for the seats, before any is handed out.

@@ -1,12 +1,12 @@
 //! Places of C: a seat's box is taken out of one for the time of a call, and put back.
 
 ghost use Rattle.std.specs.Prelude.{◌≡◌, ◌++◌, ◌≤◌, [], None, Some, MatchOption, drop, length, vec_capacity};
-ghost use Rattle.bl_seats.specs.Closed.{values};
+ghost use Rattle.bl_ffi_seats.specs.Closed.{values};
 ghost use Rattle.bl_ffi.specs.Places.{seats_in, opened, closed, AreTaken};
 
 use crate::loose::Loose;
 use crate::seat::SeatOfC;
-use bl_seats::Seat;
+use bl_ffi_seats::Seat;
 use std::alloc::Global;
 use std::mem;
 

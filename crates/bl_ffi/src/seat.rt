@@ -3,12 +3,12 @@
 ghost use Rattle.std.specs.Prelude.{◌≡◌, Option, None, Some};
 ghost use Rattle.std.specs.Option.{MatchOption};
 ghost use Rattle.std.specs.Coded.{coded_option};
-ghost use Rattle.bl_seats.specs.declared.seat.Seat.{Seat};
-ghost use Rattle.bl_seats.specs.contracts.seat.Seat.{the_row as seat_row};
+ghost use Rattle.bl_ffi_seats.specs.declared.seat.Seat.{Seat};
+ghost use Rattle.bl_ffi_seats.specs.contracts.seat.Seat.{the_row as seat_row};
 ghost use Rattle.bl_ffi.specs.Owned.{owned};
 
 use crate::loose::Loose;
-use bl_seats::Seat;
+use bl_ffi_seats::Seat;
 use std::alloc::Global;
 use std::marker::Model;
 use std::ptr;

@@ -1,7 +1,7 @@
 //! Calls of several seats of one map.
 
 ghost use Rattle.std.specs.Prelude.{◌≡◌, ◌+◌, ◌*◌, length};
-ghost use Rattle.bl_seats.specs.Closed.{values, AreAtOne};
+ghost use Rattle.bl_ffi_seats.specs.Closed.{values, AreAtOne};
 ghost use Rattle.bl_ffi.specs.Told.{Shows};
 ghost use Rattle.bl_ffi.specs.Places.{seats_in, closed};
 ghost use Rattle.bl_ffi.specs.Together.{AreOfOneMap, AreAtOneMap, Meets, ClosesSeats, ClosesImage, IsCodeOfFault};
@@ -9,8 +9,8 @@ ghost use Rattle.bl_ffi.specs.Together.{AreOfOneMap, AreAtOneMap, Meets, ClosesS
 use crate::codes::{AGAIN, CLOSED, FEW_BYTES, NO_MEMORY, OK, SEATS_LOST, SEATS_OPEN};
 use crate::places::{put_all, put_back, take_all, taken};
 use crate::seat::SeatOfC;
+use bl_ffi_seats::{CloseFault, Seat, close};
 use bl_image::image_length;
-use bl_seats::{CloseFault, Seat, close};
 use std::alloc::Global;
 
 /// The seats meet.

@@ -20,10 +20,10 @@ use Rattle.bl_index_read.specs.Searching.{found_of, AnswersOrRunsOut}
 use Rattle.bl_index_read.specs.declared.finding.OutOfTurns.{OutOfTurns}
 use Rattle.bl_model.specs.declared.operation.KeyReply.{KeyReply}
 use Rattle.bl_index.specs.Calls.{passes_of, first_of, number_of, trail, IsPassOf, StepsAlone, map_after}
-use Rattle.bl_index_steps.specs.Answered.{Answers}
-use Rattle.bl_index_steps.specs.Runs.{IsWithin}
+use Rattle.bl_index_events.specs.Answered.{Answers}
+use Rattle.bl_index_events.specs.Runs.{IsWithin}
 use Rattle.atomic_table.specs.declared.shared.Seat.{Seat}
-use Rattle.bl_frames.specs.declared.view.View.{View}
+use Rattle.bl_store_rule.specs.declared.view.View.{View}
 use Rattle.bl_store.specs.Hands.{known, IsSameHand}
 use Rattle.bl_index_rule.specs.declared.known.PassState.{PassState}
 

@@ -16,19 +16,19 @@ use Rattle.bl_image.specs.Images.{IsCount, IsSpelled, page_words, image_bytes}
 use Rattle.bl_image.proofs.Chunks.{no_kind, pages_words-same}
 use Rattle.bl_check.specs.Rules.{AreSound}
 use Rattle.bl_page.specs.Pages.{page_at}
-use Rattle.bl_core_tree.proofs.Statuses.{live_live}
+use Rattle.bl_tree.proofs.Statuses.{live_live}
 use Rattle.bl_page.specs.Nodes.{IsTreePage}
 use Rattle.bl_claims.specs.Trails.{history_of}
 use Rattle.bl_claims.specs.States.{HasMoments}
-use Rattle.bl_core.specs.Worlds.{World}
-use Rattle.bl_core.proofs.WorldLaws.{tree_page}
-use Rattle.bl_check_tree.specs.Begins.{IsLeft, AreLeft}
-use Rattle.bl_check_tree.proofs.Beginnings.{AllFit}
-use Rattle.bl_check_tree.proofs.Opened.{one_list}
-use Rattle.bl_check_tree.proofs.Resting.{rests_sound, rests_map}
+use Rattle.bl_tree_worlds.specs.Worlds.{World}
+use Rattle.bl_tree_worlds.proofs.WorldLaws.{tree_page}
+use Rattle.bl_check_laws.specs.Begins.{IsLeft, AreLeft}
+use Rattle.bl_check_laws.proofs.Beginnings.{AllFit}
+use Rattle.bl_check_laws.proofs.Opened.{one_list}
+use Rattle.bl_check_laws.proofs.Resting.{rests_sound, rests_map}
 use Rattle.bl_proc_invariant.specs.Knowing.{Run}
 use Rattle.bl_layout.specs.declared.layout.Layout.{Layout}
-use Rattle.bl_frames.specs.Pages.{Owner, Released, Open, Held, Retired, Stage as Stands_at, Idle, Running, Stands, IsPage}
+use Rattle.bl_store_rule.specs.Pages.{Owner, Released, Open, Held, Retired, Stage as Stands_at, Idle, Running, Stands, IsPage}
 use Rattle.bl_store.specs.Closing.{HasEach, left_of, IsClosed}
 use Rattle.bl_store.specs.Hands.{known}
 use Rattle.bl_store.specs.declared.store.Hand.{Hand}

@@ -9,7 +9,7 @@ use Rattle.bl_page.specs.Faults.{pairs_of}
 use Rattle.bl_page.specs.declared.page.Page.{Page}
 use Rattle.bl_claims.specs.Trails.{Trail}
 use Rattle.bl_store.specs.declared.store.Glance.{Glance}
-use Rattle.bl_frames.specs.declared.view.View.{View}
+use Rattle.bl_store_rule.specs.declared.view.View.{View}
 use Rattle.bl_store.specs.Hands.{known, read_words, IsSameHand}
 use Rattle.bl_store.specs.declared.store.Hand.{Hand}
 use Rattle.bl_index_rule.specs.declared.known.PassState.{PassState}

@@ -14,8 +14,8 @@ use Rattle.bl_model.specs.Map.{Map, MayAnswer}
 use Rattle.bl_model.specs.History.{final_map}
 use Rattle.bl_claims.specs.Trails.{Trail, history_of}
 use Rattle.bl_claims.specs.Seeing.{first_map}
-use Rattle.bl_proc_base.specs.declared.answers.Answer.TheVariants.{Op}
-use Rattle.bl_proc_base.specs.declared.answers.Hint.{Hint}
+use Rattle.bl_proc_steps.specs.declared.answers.Answer.TheVariants.{Op}
+use Rattle.bl_proc_steps.specs.declared.answers.Hint.{Hint}
 use Rattle.bl_proc_writes.specs.declared.writing.WriteReply.{WriteReply}
 use Rattle.bl_proc_writes.specs.declared.writing.WriteReply.TheVariants as written
 use Rattle.bl_proc_writes.specs.Writes.{write_answer}
@@ -23,10 +23,10 @@ use Rattle.bl_claims.specs.Hinted.{MeansInserted, MeansWritten}
 use Rattle.bl_store.specs.Hands.{known, WasRefused}
 use Rattle.bl_store.specs.declared.store.Hand.{Hand}
 use Rattle.bl_index_rule.specs.declared.known.PassState.{PassState}
-use Rattle.bl_index_steps.specs.Answered.{InCall}
-use Rattle.bl_index_steps.specs.Refused.{LacksForPage, LacksForEffect, LacksForWrite}
-use Rattle.bl_index_steps.specs.Rooms.{LacksWrite}
-use Rattle.bl_index_steps.proofs.Ends.{op_in_call}
+use Rattle.bl_index_events.specs.Answered.{InCall}
+use Rattle.bl_index_events.specs.Refused.{LacksForPage, LacksForEffect, LacksForWrite}
+use Rattle.bl_index_events.specs.Rooms.{LacksWrite}
+use Rattle.bl_index_events.proofs.Ends.{op_in_call}
 use Rattle.bl_index_write.specs.Events.{HasWritten}
 use Rattle.bl_index.specs.declared.index.Pass.{Pass}
 use Rattle.bl_index.specs.Calls.{number_of, trail, Writes, Inserts, InsertLacks, WriteLacks}

@@ -5,17 +5,17 @@ use Rattle.bl_model.specs.declared.operation.Reply.{Reply}
 use Rattle.bl_page.specs.declared.page.Page.{Page}
 use Rattle.bl_claims.specs.Trails.{Trail, marks_of}
 use Rattle.bl_claims.specs.Seeing.{name}
-use Rattle.bl_proc_base.specs.declared.answers.Hint.{Hint}
-use Rattle.bl_proc_base.specs.declared.answers.Posted.{Posted}
+use Rattle.bl_proc_steps.specs.declared.answers.Hint.{Hint}
+use Rattle.bl_proc_steps.specs.declared.answers.Posted.{Posted}
 use Rattle.bl_proc.specs.declared.kinds.Proc.TheVariants as proc
 use Rattle.bl_proc_invariant.proofs.ClimbingAnswers.{stage_climbed}
 use Rattle.bl_index_rule.specs.declared.known.PassState.{PassState}
-use Rattle.bl_index_steps.specs.Held.{own_marks}
-use Rattle.bl_index_steps.specs.Answered.{InCall}
-use Rattle.bl_index_steps.proofs.Ends.{answered_by, in_call_by, climb_says}
+use Rattle.bl_index_events.specs.Held.{own_marks}
+use Rattle.bl_index_events.specs.Answered.{InCall}
+use Rattle.bl_index_events.proofs.Ends.{answered_by, in_call_by, climb_says}
 use Rattle.bl_index_write.specs.Climbing.{HasClimbed}
 use Rattle.bl_index.specs.Calls.{Climbs}
-use Rattle.bl_proc_writes.specs.declared.climbing.Placing.{Placing}
+use Rattle.bl_proc_writes.specs.declared.insert_post.Placing.{Placing}
 use Rattle.bl_proc_writes.specs.Placings.{write_of}
 
 module _ (from : List (Option Page)) (pass : ℕ) (old e : PassState) (key : ℕ) (placing : Placing) (said : Reply) (last : Option Posted) (left : Option Hint) (h : HasClimbed pass old e key placing said last left) (begins : old.first ≡ from) where

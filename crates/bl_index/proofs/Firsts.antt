@@ -10,8 +10,8 @@ use Rattle.bl_page.specs.declared.page.Page.{Page}
 use Rattle.bl_page.specs.declared.page.Page.TheVariants.{Anchor, Leaf, Inner, Dead}
 use Rattle.bl_page.specs.Words.{words_of}
 use Rattle.bl_store.specs.Opening.{first_pages, padded, IsDealt}
-use Rattle.bl_frames.specs.declared.view.View.{View}
-use Rattle.bl_frames.specs.Frames.{share}
+use Rattle.bl_store_rule.specs.declared.view.View.{View}
+use Rattle.bl_store_rule.specs.Frames.{share}
 use Rattle.bl_index_rule.specs.Simulation.{beginner, newcomer, Simulates}
 use Rattle.bl_index_rule.proofs.Bounds.{first_anchor}
 use Rattle.bl_index_rule.proofs.Starts.{first_leaf, starts}

@@ -2,15 +2,15 @@
 use Rattle.std.proofs.Common.{ℕ, ◌≡◌, ◌⊎◌, None, Some, List, [], refl, inl, inr, subst}
 use Rattle.bl_page.specs.Machine.{Phase}
 use Rattle.bl_page.specs.declared.page.Page.{Page}
-use Rattle.bl_core.specs.Worlds.{Goes, Hold, Stage, Know, HoldsPage, IsStage}
-use Rattle.bl_proc_base.specs.declared.approaching.Approach.{Approach}
-use Rattle.bl_proc_base.specs.declared.approaching.Approach.TheVariants as approach
-use Rattle.bl_proc_base.specs.declared.editing.Edit.{Edit}
-use Rattle.bl_proc_base.specs.declared.editing.Edit.TheVariants as edit
-use Rattle.bl_proc_base.specs.declared.growing.Growth.{Growth}
-use Rattle.bl_proc_base.specs.declared.growing.Growth.TheVariants as growth
-use Rattle.bl_proc_compress.specs.declared.squeezing.CompressStage.{CompressStage}
-use Rattle.bl_proc_compress.specs.declared.squeezing.CompressStage.TheVariants as compress
+use Rattle.bl_tree_worlds.specs.Worlds.{Goes, Hold, Stage, Know, HoldsPage, IsStage}
+use Rattle.bl_proc_steps.specs.declared.approach.Approach.{Approach}
+use Rattle.bl_proc_steps.specs.declared.approach.Approach.TheVariants as approach
+use Rattle.bl_proc_steps.specs.declared.edit.Edit.{Edit}
+use Rattle.bl_proc_steps.specs.declared.edit.Edit.TheVariants as edit
+use Rattle.bl_proc_steps.specs.declared.growth.Growth.{Growth}
+use Rattle.bl_proc_steps.specs.declared.growth.Growth.TheVariants as growth
+use Rattle.bl_proc_compress.specs.declared.compress.CompressStage.{CompressStage}
+use Rattle.bl_proc_compress.specs.declared.compress.CompressStage.TheVariants as compress
 use Rattle.bl_proc.specs.declared.searching.FindStage.{FindStage}
 use Rattle.bl_proc.specs.declared.searching.FindStage.TheVariants as find
 use Rattle.bl_model.specs.declared.deciding.KeyWrite.{KeyWrite}
@@ -19,26 +19,26 @@ use Rattle.bl_proc_writes.specs.declared.writing.WriteStage.TheVariants as write
 use Rattle.bl_proc.specs.declared.parts.PartStage.{PartStage}
 use Rattle.bl_proc.specs.declared.parts.PartStart.{PartStart}
 use Rattle.bl_proc.specs.declared.parts.PartStage.TheVariants as part
-use Rattle.bl_proc_writes.specs.declared.posting.PostStage.{PostStage}
-use Rattle.bl_proc_writes.specs.declared.posting.PostStage.TheVariants as post
+use Rattle.bl_proc_writes.specs.declared.post.PostStage.{PostStage}
+use Rattle.bl_proc_writes.specs.declared.post.PostStage.TheVariants as post
 use Rattle.bl_proc.specs.declared.reclaiming.ReclaimStage.{ReclaimStage}
 use Rattle.bl_proc.specs.declared.reclaiming.ReclaimStage.TheVariants as reclaim
-use Rattle.bl_proc_base.specs.declared.lowering.Lowering.{Lowering}
-use Rattle.bl_proc_base.specs.declared.lowering.Lowering.TheVariants as lowering
+use Rattle.bl_proc_steps.specs.declared.lowering.Lowering.{Lowering}
+use Rattle.bl_proc_steps.specs.declared.lowering.Lowering.TheVariants as lowering
 use Rattle.bl_proc.specs.declared.lowering.LowerStage.{LowerStage}
 use Rattle.bl_proc.specs.declared.lowering.LowerStage.TheVariants as lower
 use Rattle.bl_proc_writes.specs.declared.paths.Path.{Path}
-use Rattle.bl_proc_writes.specs.declared.climbing.ClimbStage.{ClimbStage}
-use Rattle.bl_proc_writes.specs.declared.climbing.ClimbStage.TheVariants as climb
+use Rattle.bl_proc_writes.specs.declared.insert_post.ClimbStage.{ClimbStage}
+use Rattle.bl_proc_writes.specs.declared.insert_post.ClimbStage.TheVariants as climb
 use Rattle.bl_proc_invariant.specs.Lowering.{know_lowering}
 use Rattle.bl_proc.specs.declared.kinds.Proc.{Proc}
 use Rattle.bl_proc.specs.declared.kinds.Proc.TheVariants as proc
 use Rattle.bl_proc_invariant.specs.Tables.{Carried, unsaid, alone, Aim, know_approach, know_edit}
-use Rattle.bl_proc_invariant.specs.Compressing.{know_squeeze}
+use Rattle.bl_proc_invariant.specs.Compressing.{know_compression}
 use Rattle.bl_proc_invariant.specs.Knowing.{Run, know, know_of, know_find, know_part, know_write, path_goes, inserted, know_climb, know_growth, know_post, know_compress, know_reclaim, know_lower}
-use Rattle.bl_proc_compress.specs.declared.compressing.Compression.{Compression}
-use Rattle.bl_proc_compress.specs.declared.compressing.Compression.TheVariants as compression
-use Rattle.bl_proc_writes.specs.declared.climbing.Placing.{Placing}
+use Rattle.bl_proc_compress.specs.declared.compression.Compression.{Compression}
+use Rattle.bl_proc_compress.specs.declared.compression.Compression.TheVariants as compression
+use Rattle.bl_proc_writes.specs.declared.insert_post.Placing.{Placing}
 use Rattle.bl_proc_writes.specs.Placings.{write_of}
 
 -- it runs, or holds nothing
@@ -71,18 +71,18 @@ growth_holds carried level key got (growth.OpeningTop x) = refl
 growth_holds carried level key got growth.OpeningGrown = refl
 growth_holds carried level key got growth.OpeningRefused = refl
 
-squeeze_holds : (level key : ℕ) (got : ℕ → Page) (c : Compression) → (know_squeeze level key got c).stage ≡ Stage.Busy
-squeeze_holds level key got (compression.LatchingLeft f) = refl
-squeeze_holds level key got (compression.LatchedLeft f) = refl
-squeeze_holds level key got (compression.LatchingRight f c) = refl
-squeeze_holds level key got (compression.LatchedRight f c) = refl
-squeeze_holds level key got (compression.PuttingFirst p) = refl
-squeeze_holds level key got (compression.PuttingParent p) = refl
-squeeze_holds level key got (compression.PuttingLast p) = refl
-squeeze_holds level key got (compression.Retiring t decision) = refl
-squeeze_holds level key got (compression.OpeningRight t decision) = refl
-squeeze_holds level key got (compression.OpeningLeft t decision) = refl
-squeeze_holds level key got (compression.OpeningParent x decision) = refl
+compression_holds : (level key : ℕ) (got : ℕ → Page) (c : Compression) → (know_compression level key got c).stage ≡ Stage.Busy
+compression_holds level key got (compression.LatchingLeft f) = refl
+compression_holds level key got (compression.LatchedLeft f) = refl
+compression_holds level key got (compression.LatchingRight f c) = refl
+compression_holds level key got (compression.LatchedRight f c) = refl
+compression_holds level key got (compression.PuttingFirst p) = refl
+compression_holds level key got (compression.PuttingParent p) = refl
+compression_holds level key got (compression.PuttingLast p) = refl
+compression_holds level key got (compression.Retiring t decision) = refl
+compression_holds level key got (compression.OpeningRight t decision) = refl
+compression_holds level key got (compression.OpeningLeft t decision) = refl
+compression_holds level key got (compression.OpeningParent x decision) = refl
 
 find_holds : (key : ℕ) (a : FindStage) → MayHold (know_find key a)
 find_holds key find.New = inr refl
@@ -121,7 +121,7 @@ post_holds carried level key got child (post.Over r) = inr refl
 compress_holds : (level key : ℕ) (got : ℕ → Page) (a : CompressStage) → MayHold (know_compress level key got a)
 compress_holds level key got compress.New = inr refl
 compress_holds level key got (compress.Coming a) = inl (approach_holds alone level key a)
-compress_holds level key got (compress.Compressing c) = inl (squeeze_holds level key got c)
+compress_holds level key got (compress.Compressing c) = inl (compression_holds level key got c)
 compress_holds level key got (compress.Staying x) = inl refl
 compress_holds level key got (compress.Ending r) = inr refl
 compress_holds level key got (compress.Over r) = inr refl

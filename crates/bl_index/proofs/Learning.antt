@@ -9,13 +9,13 @@ use Rattle.atomic_table.proofs.Lists.{at_set, set_else}
 use Rattle.bl_page.specs.declared.page.Page.{Page}
 use Rattle.bl_page.specs.Machine.{Name}
 use Rattle.bl_claims.specs.Trails.{Mark, Trail, marks_of}
-use Rattle.bl_core.specs.Worlds.{World}
+use Rattle.bl_tree_worlds.specs.Worlds.{World}
 use Rattle.bl_claims.specs.Walks.{Each}
-use Rattle.bl_core.proofs.Frames.{Each-map}
-use Rattle.bl_core.proofs.Pushes.{marks_of-other}
+use Rattle.bl_tree_worlds.proofs.Frames.{Each-map}
+use Rattle.bl_tree_worlds.proofs.Pushes.{marks_of-other}
 use Rattle.bl_proc_invariant.specs.Knowing.{Run}
 use Rattle.bl_layout.specs.declared.layout.Layout.{Layout}
-use Rattle.bl_frames.specs.Pages.{Stage, Idle, Running, Pages, Stands, observed, Meets}
+use Rattle.bl_store_rule.specs.Pages.{Stage, Idle, Running, Pages, Stands, observed, Meets}
 use Rattle.bl_index_rule.specs.declared.known.PassState.{PassState}
 use Rattle.bl_claims.specs.Seeing.{IsSeen, AreWithin, AreElse, own, GoesOnFrom, name}
 use Rattle.bl_index_rule.specs.Simulation.{AreUpTo, IsAtStage, IsHand, IsRun, Simulates}

@@ -6,7 +6,7 @@ pub mod Alone
 pub mod Released
 pub mod Changes
 pub mod Posts
-pub mod Pressed
+pub mod CompressEnds
 pub mod Lowerings
 pub mod Climbings
 pub mod Learning

@@ -3,14 +3,14 @@ use Rattle.std.proofs.Common.{ℕ, ◌≡◌, ◌≢◌, ◌+◌, Option, Some, 
 use Rattle.bl_page.specs.declared.page.Page.{Page}
 use Rattle.bl_claims.specs.Seeing.{name}
 use Rattle.bl_claims.specs.Trails.{Trail, marks_of}
-use Rattle.bl_proc_base.specs.declared.acts.Action.TheVariants as act
-use Rattle.bl_proc_base.specs.declared.acts.Seen.TheVariants as seen
-use Rattle.bl_proc_base.specs.declared.answers.Answer.{Answer}
-use Rattle.bl_proc_base.specs.declared.answers.Answer.TheVariants as answer
-use Rattle.bl_proc_base.specs.declared.lowering.Lowered.{Lowered}
-use Rattle.bl_proc_base.specs.declared.lowering.Lowering.{Lowering}
-use Rattle.bl_proc_base.specs.declared.lowering.Lowering.TheVariants as lowering
-use Rattle.bl_proc_base.specs.Lowerings.{lowering_next}
+use Rattle.bl_proc_steps.specs.declared.acts.Action.TheVariants as act
+use Rattle.bl_proc_steps.specs.declared.acts.Seen.TheVariants as seen
+use Rattle.bl_proc_steps.specs.declared.answers.Answer.{Answer}
+use Rattle.bl_proc_steps.specs.declared.answers.Answer.TheVariants as answer
+use Rattle.bl_proc_steps.specs.declared.lowering.Lowered.{Lowered}
+use Rattle.bl_proc_steps.specs.declared.lowering.Lowering.{Lowering}
+use Rattle.bl_proc_steps.specs.declared.lowering.Lowering.TheVariants as lowering
+use Rattle.bl_proc_steps.specs.Lowerings.{lowering_next}
 use Rattle.bl_proc.specs.declared.lowering.Lower.{Lower}
 use Rattle.bl_proc.specs.declared.lowering.LowerStage.{LowerStage}
 use Rattle.bl_proc.specs.declared.lowering.LowerStage.TheVariants as lower
@@ -22,9 +22,9 @@ use Rattle.bl_proc_invariant.specs.Knowing.{know_of, know_lower}
 use Rattle.bl_proc_invariant.proofs.LoweringLogs.{stage_means}
 use Rattle.bl_index_rule.specs.declared.known.PassState.{PassState}
 use Rattle.bl_index.specs.Calls.{LowersTree}
-use Rattle.bl_index_steps.specs.Runs.{IsDone}
+use Rattle.bl_index_events.specs.Runs.{IsDone}
 use Rattle.bl_index.specs.Within.{IsLowerAnswer}
-use Rattle.bl_index_steps.proofs.Quiet.{quiet_adds}
+use Rattle.bl_index_events.proofs.Quiet.{quiet_adds}
 
 not_end_lowering : (l : Lowering) → lowering_next l ≢ act.End
 not_end_lowering lowering.Looking e = cc

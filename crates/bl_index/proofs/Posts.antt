@@ -2,13 +2,13 @@
 use Rattle.std.proofs.Common.{ℕ, ◌≡◌, ◌+◌, Option, Some, None, List, refl, ap, ◌∙◌, subst}
 use Rattle.bl_page.specs.declared.page.Page.{Page}
 use Rattle.bl_claims.specs.Trails.{Trail, marks_of}
-use Rattle.bl_proc_base.specs.declared.acts.Action.TheVariants as act
-use Rattle.bl_proc_base.specs.declared.answers.Hint.{Hint}
-use Rattle.bl_proc_base.specs.declared.answers.Posted.{Posted}
-use Rattle.bl_proc_base.specs.declared.answers.Answer.TheVariants as answer
-use Rattle.bl_proc_writes.specs.declared.posting.Post.{Post}
-use Rattle.bl_proc_writes.specs.declared.posting.PostStage.{PostStage}
-use Rattle.bl_proc_writes.specs.declared.posting.PostStage.TheVariants as post
+use Rattle.bl_proc_steps.specs.declared.acts.Action.TheVariants as act
+use Rattle.bl_proc_steps.specs.declared.answers.Hint.{Hint}
+use Rattle.bl_proc_steps.specs.declared.answers.Posted.{Posted}
+use Rattle.bl_proc_steps.specs.declared.answers.Answer.TheVariants as answer
+use Rattle.bl_proc_writes.specs.declared.post.Post.{Post}
+use Rattle.bl_proc_writes.specs.declared.post.PostStage.{PostStage}
+use Rattle.bl_proc_writes.specs.declared.post.PostStage.TheVariants as post
 use Rattle.bl_proc.specs.declared.kinds.Proc.{Proc}
 use Rattle.bl_proc.specs.declared.kinds.Proc.TheVariants as proc
 use Rattle.bl_proc_writes.specs.Posts.{post_next_in, post_answer}
@@ -16,15 +16,15 @@ use Rattle.bl_claims.specs.Answers.{MeansPosted}
 use Rattle.bl_proc_invariant.specs.Tables.{alone}
 use Rattle.bl_proc_invariant.specs.Knowing.{know_of, know_post}
 use Rattle.bl_proc_invariant.proofs.Answered.{stage_means}
-use Rattle.bl_proc_unique.specs.Frames.{work_of}
+use Rattle.bl_proc_deterministic.specs.Frames.{work_of}
 use Rattle.bl_index_rule.specs.declared.known.PassState.{PassState}
 use Rattle.bl_claims.specs.Seeing.{name}
 use Rattle.bl_index.specs.Calls.{Posts}
-use Rattle.bl_index_steps.specs.Answered.{InCall}
-use Rattle.bl_index_steps.specs.Held.{own_marks}
-use Rattle.bl_index_steps.specs.Runs.{IsDone}
-use Rattle.bl_index_steps.proofs.Quiet.{quiet_adds}
-use Rattle.bl_index_steps.proofs.Ends.{not_end_way, not_end, own_done}
+use Rattle.bl_index_events.specs.Answered.{InCall}
+use Rattle.bl_index_events.specs.Held.{own_marks}
+use Rattle.bl_index_events.specs.Runs.{IsDone}
+use Rattle.bl_index_events.proofs.Quiet.{quiet_adds}
+use Rattle.bl_index_events.proofs.Ends.{not_end_way, not_end, own_done}
 use Rattle.bl_index_write.proofs.PostEnds.{not_end_growth, is_posting as posting}
 
 silent_at_end : (level key : ℕ) (got : ℕ → Page) (child : ℕ) (a : PostStage) → post_next_in a ≡ act.End → (know_post alone level key got child a).said ≡ None

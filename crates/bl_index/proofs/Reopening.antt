@@ -3,8 +3,8 @@ use Rattle.std.proofs.Common.{◌≡◌, ℕ, List, length, refl, subst}
 use Rattle.bl_image.specs.Images.{IsImage, image_bytes}
 use Rattle.bl_image.specs.declared.image.Image.{Image}
 use Rattle.bl_check.specs.Rules.{AreSound}
-use Rattle.bl_check_tree.proofs.Beginnings.{AllFit}
-use Rattle.bl_check_tree.proofs.Opened.{one_list}
+use Rattle.bl_check_laws.proofs.Beginnings.{AllFit}
+use Rattle.bl_check_laws.proofs.Opened.{one_list}
 use Rattle.bl_index_rule.proofs.Reopened.{rows_map}
 use Rattle.bl_index.specs.declared.index.Index.{Index}
 use Rattle.bl_index.specs.declared.index.Pass.{Pass}

@@ -19,16 +19,16 @@ use Rattle.bl_index.specs.declared.index.Index.{Index}
 use Rattle.bl_index.specs.declared.index.Pass.{Pass}
 use Rattle.bl_index.specs.Calls.{IsPassOf, IsSamePass}
 use Rattle.bl_index_read.specs.Searching.{Finds, RunsOut, AnswersOrRunsOut, found_of}
-use Rattle.bl_index.specs.Opened.{IsBegun, IsOpened}
+use Rattle.bl_index.specs.Opened.{IsBegun, IsIndexOpened}
 
 -- the last pass of an index, and all but the last one
 pub last_begun : (image : List (Option Page)) (size among : ℕ) (index : Index) (passes rest : List Pass) (pass : Pass) → IsBegun image size among index passes → passes ≡ rest ++ pass ∷ [] → IsPassOf index pass
 last_begun image size among index passes rest pass o e = (o.each (length rest) pass (ap (λ (z : List Pass). get_elem? z (length rest)) e ∙ at_last rest pass (length rest) refl)).0
 
-pub last_pass : (config : Config) (index : Index) (passes rest : List Pass) (pass : Pass) → IsOpened config index passes → passes ≡ rest ++ pass ∷ [] → IsPassOf index pass
+pub last_pass : (config : Config) (index : Index) (passes rest : List Pass) (pass : Pass) → IsIndexOpened config index passes → passes ≡ rest ++ pass ∷ [] → IsPassOf index pass
 last_pass config index passes rest pass o e = last_begun [] config.pages config.passes index passes rest pass o e
 
-pub next_pass : (config : Config) (index : Index) (passes more rest : List Pass) (one two : Pass) → IsOpened config index passes → passes ≡ more ++ two ∷ [] → more ≡ rest ++ one ∷ [] → IsPassOf index one
+pub next_pass : (config : Config) (index : Index) (passes more rest : List Pass) (one two : Pass) → IsIndexOpened config index passes → passes ≡ more ++ two ∷ [] → more ≡ rest ++ one ∷ [] → IsPassOf index one
 next_pass config index passes more rest one two o e f = (o.each (length rest) one (ap (λ (z : List Pass). get_elem? z (length rest)) e ∙ at_longer more (two ∷ []) (length rest) one (ap (λ (z : List Pass). get_elem? z (length rest)) f ∙ at_last rest one (length rest) refl))).0
 
 pub same_of : (index : Index) (old new : Pass) → IsSamePass old new → IsPassOf index old → IsPassOf index new
@@ -62,11 +62,11 @@ there (x ∷ xs) zero d h = refl
 there (x ∷ xs) (suc i) d h = there xs i d (omega arith)
 
 -- all passes of an index, and all but the last one
-pub all_passes : (config : Config) (index : Index) (passes : List Pass) → IsOpened config index passes → All (IsPassOf index) passes
+pub all_passes : (config : Config) (index : Index) (passes : List Pass) → IsIndexOpened config index passes → All (IsPassOf index) passes
 all_passes config index passes o = λ k d lt. (o.each k (get_or passes k d) (there passes k d lt)).0
 
 pub front_begun : (image : List (Option Page)) (size among : ℕ) (index : Index) (passes rest : List Pass) (pass : Pass) → IsBegun image size among index passes → passes ≡ rest ++ pass ∷ [] → All (IsPassOf index) rest
 front_begun image size among index passes rest pass o e = λ k d lt. (o.each k (get_or rest k d) (ap (λ (z : List Pass). get_elem? z k) e ∙ at_longer rest (pass ∷ []) k (get_or rest k d) (there rest k d lt))).0
 
-pub front_passes : (config : Config) (index : Index) (passes rest : List Pass) (pass : Pass) → IsOpened config index passes → passes ≡ rest ++ pass ∷ [] → All (IsPassOf index) rest
+pub front_passes : (config : Config) (index : Index) (passes rest : List Pass) (pass : Pass) → IsIndexOpened config index passes → passes ≡ rest ++ pass ∷ [] → All (IsPassOf index) rest
 front_passes config index passes rest pass o e = front_begun [] config.pages config.passes index passes rest pass o e

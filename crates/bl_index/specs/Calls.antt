@@ -12,10 +12,10 @@ use Rattle.bl_claims.specs.Trails.{Mark, Trail, history_of, marks_of}
 use Rattle.bl_claims.specs.Walks.{Each}
 use Rattle.bl_claims.specs.Latches.{LatchesAlone, LatchesBelowAnchor}
 use Rattle.bl_claims.specs.Families.{LatchesBeside}
-use Rattle.bl_proc_base.specs.declared.answers.Hint.{Hint}
-use Rattle.bl_proc_base.specs.declared.answers.Posted.{Posted}
-use Rattle.bl_proc_base.specs.declared.answers.Squeezed.{Squeezed}
-use Rattle.bl_proc_base.specs.declared.lowering.Lowered.{Lowered}
+use Rattle.bl_proc_steps.specs.declared.answers.Hint.{Hint}
+use Rattle.bl_proc_steps.specs.declared.answers.Posted.{Posted}
+use Rattle.bl_proc_steps.specs.declared.answers.Squeezed.{Squeezed}
+use Rattle.bl_proc_steps.specs.declared.lowering.Lowered.{Lowered}
 use Rattle.bl_claims.specs.Answers.{MeansPosted}
 use Rattle.bl_claims.specs.Hinted.{MeansInserted, MeansWritten}
 use Rattle.bl_claims.specs.Climbed.{MeansClimbed}
@@ -25,10 +25,10 @@ use Rattle.bl_layout.specs.Words.{frame_count}
 use Rattle.bl_store.specs.Hands.{known, WasRefused}
 use Rattle.bl_claims.specs.Seeing.{first_map, IsLinearizable, own, name}
 use Rattle.bl_index_rule.specs.Observed.{IsRelease}
-use Rattle.bl_index_steps.specs.Refused.{LacksForPage, LacksForWrite, LacksForPost}
+use Rattle.bl_index_events.specs.Refused.{LacksForPage, LacksForWrite, LacksForPost}
 use Rattle.bl_index.specs.declared.index.Index.{Index}
 use Rattle.bl_index.specs.declared.index.Pass.{Pass}
-use Rattle.bl_index_steps.specs.Answered.{Answers, Adds, InCall}
+use Rattle.bl_index_events.specs.Answered.{Answers, Adds, InCall}
 
 abbrev pub pages_of : Index → ℕ
 pages_of index = index.store.layout.pages

@@ -7,7 +7,7 @@ use Rattle.bl_model.specs.Rows.{map_of}
 use Rattle.bl_page.specs.declared.page.Page.{Page}
 use Rattle.bl_check.specs.Rows.{AreRowsOf}
 use Rattle.bl_claims.specs.Trails.{Trail}
-use Rattle.bl_check_tree.specs.Begins.{AreLeft}
+use Rattle.bl_check_laws.specs.Begins.{AreLeft}
 use Rattle.bl_store.specs.declared.store.Hand.{Hand}
 use Rattle.bl_index_rule.specs.declared.known.PassState.{PassState}
 use Rattle.bl_claims.specs.Seeing.{IsSeen, AreWithin, own, GoesOnFrom}
@@ -82,8 +82,8 @@ pub record ClosesHands (index : Index) (hands : List (Hand PassState)) (pages : 
   pub are_rows : AreRowsOf pages rows
   pub map : SameMap (map_after first whole) (map_of rows)
 
--- empty vectors with room for so many pages
-pub record HasRoom (pages : ℕ) (room : CloseRoom) : Type 0 where
+-- empty vectors with capacity for so many pages
+pub record HasCapacity (pages : ℕ) (room : CloseRoom) : Type 0 where
   pub words_empty : room.words.items ≡ []
   pub words_fit : pages ≤ vec_capacity room.words
   pub pages_empty : room.pages.items ≡ []

@@ -5,7 +5,7 @@ use Rattle.bl_claims.specs.Trails.{Trail, marks_of}
 use Rattle.bl_store.specs.declared.store.Hand.{Hand}
 use Rattle.bl_store.specs.Hands.{known, IsIdle, HasNoStock, IsSameHand}
 use Rattle.bl_index_rule.specs.declared.known.PassState.{PassState}
-use Rattle.bl_index_steps.specs.Runs.{IsWithin}
+use Rattle.bl_index_events.specs.Runs.{IsWithin}
 use Rattle.bl_claims.specs.Seeing.{IsSeen, AreWithin, own, GoesOnFrom, name}
 
 -- no process of the pass has done anything since

@@ -9,7 +9,7 @@ use Rattle.bl_model.specs.Rows.{map_of}
 use Rattle.bl_page.specs.declared.page.Page.{Page}
 use Rattle.bl_page.specs.declared.page.Page.TheVariants.{Anchor, Leaf, Inner, Dead}
 use Rattle.bl_page.specs.Words.{words_of}
-use Rattle.bl_frames.specs.Frames.{share}
+use Rattle.bl_store_rule.specs.Frames.{share}
 use Rattle.bl_store.specs.declared.store.Hand.{Hand}
 use Rattle.bl_index_rule.specs.declared.known.PassState.{PassState}
 use Rattle.bl_check.specs.Rows.{AreRowsOf}
@@ -53,8 +53,8 @@ pub record IsBegun (image : List (Option Page)) (size among : ℕ) (index : Inde
   pub seen : IsSeen (first_of index) []
 
 -- The same of an index that is opened empty.
-abbrev pub IsOpened : Config → Index → List Pass → Type 0
-IsOpened config index passes = IsBegun [] config.pages config.passes index passes
+abbrev pub IsIndexOpened : Config → Index → List Pass → Type 0
+IsIndexOpened config index passes = IsBegun [] config.pages config.passes index passes
 
 -- The same of an index that is opened from an image: it begins with the image's pages, and with the map of the image's rows.
 pub record IsReopened (image : List (Option Page)) (among : ℕ) (index : Index) (passes : List Pass) : Type 0 where

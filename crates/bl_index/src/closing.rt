@@ -3,7 +3,7 @@
 ghost use Rattle.std.specs.Prelude.{◌≡◌, ℕ, ◌<◌, ◌≤◌, true, false, [], length, vec_capacity, All, IfOk, IfErr};
 ghost use Rattle.bl_store.specs.Closing.{HasEach};
 ghost use Rattle.bl_index.specs.Calls.{pages_of, passes_of};
-ghost use Rattle.bl_index.specs.Closed.{HasPass, HasRoom, AreHandsOf};
+ghost use Rattle.bl_index.specs.Closed.{HasPass, HasCapacity, AreHandsOf};
 
 use crate::config::CloseFault;
 use crate::index::{Index, Pass};
@@ -23,7 +23,7 @@ pub struct CloseRoom {
 
 impl CloseRoom {
     fn of(alloc: Global, pages: usize) -> Result<CloseRoom, AllocError>
-        ensures { IfOk result (HasRoom pages) }
+        ensures { IfOk result (HasCapacity pages) }
     {
         Ok(CloseRoom {
             words: Vec::with_capacity(alloc, pages)?,
@@ -97,7 +97,7 @@ impl Index {
 
     /// The memory that a close of this index fills, for one who gives nothing away before he has it.
     pub fn close_room(&self, alloc: Global) -> Result<CloseRoom, AllocError>
-        ensures { IfOk result (HasRoom (pages_of self.now)) }
+        ensures { IfOk result (HasCapacity (pages_of self.now)) }
     {
         CloseRoom::of(alloc, self.tree.pages as usize)
     }
@@ -106,7 +106,7 @@ impl Index {
     pub fn close_hands(self, hands: Vec<Hand<PassState>>, room: CloseRoom) -> Quiet
         requires own { All (IsIdleOf self) hands.items }
         requires all { HasEach (passes_of self) hands.items }
-        requires room { HasRoom (pages_of self) room }
+        requires room { HasCapacity (pages_of self) room }
         ensures { ClosesHands self hands.items result.image.pages.items }
     {
         let CloseRoom { words, pages } = room;

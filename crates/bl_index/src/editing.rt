@@ -38,7 +38,7 @@ impl Index {
 
     /// Puts the value at the key, where the key has none. It answers `Inserted`; `Present` with the value that the key has, which stays;
     /// or `NoRoom` where no page or frame was left, and nothing has changed then. Where the leaf was split, there is a hint to post its
-    /// upper part.
+    /// upper half.
     pub fn insert<R: Wait>(
         &self,
         rt: &R,
@@ -57,7 +57,7 @@ impl Index {
 
     /// Puts the value at the key, in place of what is there, in one step: no other call sees the key without a value meanwhile. It
     /// answers `Inserted`; `Replaced` with the value that the key had; or `NoRoom` where no page or frame was left, and nothing has
-    /// changed then. Where the key was not there and the leaf was split, there is a hint to post its upper part.
+    /// changed then. Where the key was not there and the leaf was split, there is a hint to post its upper half.
     pub fn put<R: Wait>(
         &self,
         rt: &R,

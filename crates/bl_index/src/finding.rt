@@ -5,8 +5,8 @@ ghost use Rattle.bl_model.specs.declared.operation.Op.TheVariants as op;
 ghost use Rattle.bl_model.specs.Replies.{reply_of};
 
 use crate::index::{Index, Pass};
+use bl_index_events::ABREAST;
 use bl_index_read::{OutOfTurns, find_key, find_keys};
-use bl_index_steps::ABREAST;
 use bl_model::KeyReply;
 
 impl Index {

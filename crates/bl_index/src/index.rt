@@ -3,10 +3,10 @@
 ghost use Rattle.std.specs.Prelude.{◌≡◌, false};
 ghost use Rattle.bl_store.specs.Hands.{known, IsIdle, HasNoStock};
 ghost use Rattle.bl_claims.specs.Seeing.{IsSeen};
-ghost use Rattle.bl_index_steps.specs.Runs.{IsWithin};
+ghost use Rattle.bl_index_events.specs.Runs.{IsWithin};
 
+use bl_index_events::Tree;
 use bl_index_rule::PassState;
-use bl_index_steps::Tree;
 use bl_store::Hand;
 use std::marker::Model;
 
@@ -18,8 +18,8 @@ pub struct Index {
 
 // A clause sees the tree.
 impl Model for Index {
-    ghost use Rattle.bl_index_steps.specs.declared.tree.Tree.{Tree};
-    ghost use Rattle.bl_index_steps.specs.contracts.tree.Tree.{the_row};
+    ghost use Rattle.bl_index_events.specs.declared.tree.Tree.{Tree};
+    ghost use Rattle.bl_index_events.specs.contracts.tree.Tree.{the_row};
 
     ghost Value = { Tree };
 

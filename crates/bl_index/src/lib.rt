@@ -26,8 +26,8 @@ mod scanning;
 mod sweeping;
 mod telling;
 
+pub use bl_index_events::ABREAST;
 pub use bl_index_read::OutOfTurns;
-pub use bl_index_steps::ABREAST;
 pub use bl_model::{KeyReply, KeyWrite, Next, Reply};
 pub use bl_proc::{Hint, Level, Lowered, Posted, Squeezed};
 pub use closing::CloseRoom;

@@ -5,13 +5,13 @@ ghost use Rattle.bl_store.specs.Hands.{known, IsIdle, HasNoStock, IsSameHand};
 ghost use Rattle.bl_store.specs.Owners.{IsHandOf};
 ghost use Rattle.bl_claims.specs.Seeing.{GoesOnFrom};
 ghost use Rattle.bl_index.specs.Meetings.{learned, heard};
-ghost use Rattle.bl_index_steps.specs.Runs.{Keeps};
+ghost use Rattle.bl_index_events.specs.Runs.{KeepsHand};
 
 use crate::index::{Index, Pass};
-use bl_frames::MeetPlay;
+use bl_index_events::Tree;
 use bl_index_rule::PassState;
-use bl_index_steps::Tree;
 use bl_store::Hand;
+use bl_store_rule::MeetPlay;
 use std::marker::{Brand, PhantomData};
 
 /// Which pass learns of which other, and how many passes there are.
@@ -102,7 +102,7 @@ fn learn_by<J: Meeting>(tree: &Tree, hand: &mut Hand<PassState>, other: &mut Han
     requires own { IsHandOf tree.now.store hand.old × IsHandOf tree.now.store other.old }
     requires idle { IsIdle other.old.seat × HasNoStock other.old.seat }
     requires names { (hand.old.number ≡ J.pass) × (other.old.number ≡ J.other) × (tree.now.store.layout.passes ≡ J.passes) }
-    ensures same { Keeps hand.old.seat hand.new.seat }
+    ensures same { KeepsHand hand.old.seat hand.new.seat }
     ensures other { IsSameHand other.old.seat other.new.seat × IsIdle other.new.seat × HasNoStock other.new.seat
         × (known other.new.seat ≡ known other.old.seat) }
     ensures observed { learned J.pass J.other J.passes (known hand.old.seat) (known other.old.seat) (known hand.new.seat) }
@@ -115,7 +115,7 @@ fn tell_by<J: Meeting>(tree: &Tree, hand: &mut Hand<PassState>, other: &mut Hand
     requires idle { IsIdle other.old.seat × HasNoStock other.old.seat }
     requires names { hand.old.number ≡ J.pass }
     requires begins { GoesOnFrom (known hand.old.seat).trail (known other.old.seat).trail }
-    ensures same { Keeps hand.old.seat hand.new.seat }
+    ensures same { KeepsHand hand.old.seat hand.new.seat }
     ensures other { IsSameHand other.old.seat other.new.seat × IsIdle other.new.seat × HasNoStock other.new.seat
         × (known other.new.seat ≡ known other.old.seat) }
     ensures observed { heard J.pass (known hand.old.seat) (known other.old.seat) (known hand.new.seat) }

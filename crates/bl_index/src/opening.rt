@@ -4,14 +4,14 @@ ghost use Rattle.std.specs.Prelude.{◌≡◌, ◌≤◌, ◌^◌, [], length, I
 ghost use Rattle.bl_store.specs.Opening.{first_pages as store_pages, padded};
 ghost use Rattle.bl_claims.specs.Seeing.{IsSeen};
 ghost use Rattle.bl_index_rule.specs.Simulation.{beginner as unborn_pass, Simulates};
-ghost use Rattle.bl_index.specs.Opened.{IsRefusal, IsLargeRefusal, IsRefusalOf, IsFirstAnchor, IsFirstLeaf, IsFirst, AreFirst, AreNew, ArePasses, IsBegun, IsOpened, IsReopened, IsImageRefusal};
+ghost use Rattle.bl_index.specs.Opened.{IsRefusal, IsLargeRefusal, IsRefusalOf, IsFirstAnchor, IsFirstLeaf, IsFirst, AreFirst, AreNew, ArePasses, IsBegun, IsIndexOpened, IsReopened, IsImageRefusal};
 
 use crate::config::{Config, OpenFault};
 use crate::index::{Index, Pass};
 use arrayvec::ArrayVec;
 use bl_check::Quiet;
+use bl_index_events::Tree;
 use bl_index_rule::{FirstPages, GhostTrail, PassState, Passes};
-use bl_index_steps::Tree;
 use bl_layout::Layout;
 use bl_model::limits::{LEAST_PAGES, MOST_LARGE_PAGES, MOST_PAGES};
 use bl_page::{Anchor, Leaf, Page};
@@ -118,7 +118,7 @@ fn passes_of(
 impl Index {
     /// An index without rows, and its passes, in the order of their numbers.
     pub fn open(alloc: Global, config: Config) -> Result<(Index, Vec<Pass>), OpenFault>
-        ensures ok { IfOk result (λ t. IsOpened config t.0 t.1.items) }
+        ensures ok { IfOk result (λ t. IsIndexOpened config t.0 t.1.items) }
         ensures fault { IfErr result (IsRefusal config) }
     {
         Self::open_within(alloc, config, MOST_PAGES)
@@ -126,7 +126,7 @@ impl Index {
 
     /// The same of up to 2^28 pages.
     pub fn open_large(alloc: Global, config: Config) -> Result<(Index, Vec<Pass>), OpenFault>
-        ensures ok { IfOk result (λ t. IsOpened config t.0 t.1.items) }
+        ensures ok { IfOk result (λ t. IsIndexOpened config t.0 t.1.items) }
         ensures fault { IfErr result (IsLargeRefusal config) }
     {
         Self::open_within(alloc, config, MOST_LARGE_PAGES)
@@ -138,7 +138,7 @@ impl Index {
         most: u32,
     ) -> Result<(Index, Vec<Pass>), OpenFault>
         requires { most ≤ 2 ^ 28 }
-        ensures ok { IfOk result (λ t. IsOpened config t.0 t.1.items) }
+        ensures ok { IfOk result (λ t. IsIndexOpened config t.0 t.1.items) }
         ensures fault { IfErr result (IsRefusalOf most config) }
     {
         if config.pages < LEAST_PAGES || config.pages > most {
@@ -156,7 +156,7 @@ impl Index {
     fn made(alloc: Global, config: Config) -> Result<(Index, Vec<Pass>), AllocError>
         requires pages { (4 ≤ config.pages) × (config.pages ≤ 2 ^ 28) }
         requires passes { (1 ≤ config.passes) × (config.passes ≤ 64) }
-        ensures { IfOk result (λ t. IsOpened config t.0 t.1.items) }
+        ensures { IfOk result (λ t. IsIndexOpened config t.0 t.1.items) }
     {
         let words = first_pages(alloc, PAGES_AT_FIRST)?;
         let image = no_pages(alloc);

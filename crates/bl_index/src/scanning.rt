@@ -6,7 +6,7 @@ ghost use Rattle.bl_store.specs.Hands.{known, IsIdle, IsSameHand, IsSameStock};
 ghost use Rattle.bl_store.specs.Owners.{IsHandOf};
 ghost use Rattle.bl_claims.specs.Seeing.{IsSeen};
 ghost use Rattle.bl_index_rule.specs.declared.known.PassState.{PassState as Knows};
-ghost use Rattle.bl_index_steps.specs.Runs.{Rests};
+ghost use Rattle.bl_index_events.specs.Runs.{Rests};
 ghost use Rattle.bl_proc.specs.declared.parts.Direction.TheVariants as direction;
 ghost use Rattle.bl_index_read.specs.declared.sought.Sought.TheVariants as sought;
 ghost use Rattle.bl_index_read.specs.LeafWays.{HasSetOff};
@@ -15,14 +15,14 @@ ghost use Rattle.bl_index.specs.Scans.{AppendsPart, LeavesPart, MayScan};
 ghost use Rattle.bl_index.specs.Within.{GoesOrStops};
 
 use crate::index::{Index, Pass};
+use bl_index_events::{FrameView, Tree};
 use bl_index_read::{
     Behind, Sought, append_rows, descend_to_leaf, end_at_leaf, fetch_behind, go_behind, portion_in,
     set_off,
 };
 use bl_index_rule::PassState;
-use bl_index_steps::{FrameView, Tree};
 use bl_proc::Direction;
-use bl_proc_base::Descent;
+use bl_proc_steps::Descent;
 use bl_store::Hand;
 use std::mem;
 

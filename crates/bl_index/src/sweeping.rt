@@ -4,11 +4,11 @@ ghost use Rattle.std.specs.Prelude.{◌≡◌, ℕ, ◌+◌, ◌≤◌, false};
 ghost use Rattle.bl_store.specs.Hands.{known};
 ghost use Rattle.bl_store.specs.Owners.{IsHandOf};
 ghost use Rattle.bl_index_rule.specs.Observed.{sweeps};
-ghost use Rattle.bl_index_steps.specs.Runs.{Keeps, IsWithin};
+ghost use Rattle.bl_index_events.specs.Runs.{KeepsHand, IsWithin};
 
 use crate::index::{Index, Pass};
+use bl_index_events::Tree;
 use bl_index_rule::{PassState, Sweeper, Swept};
-use bl_index_steps::Tree;
 use bl_store::Hand;
 use std::marker::Brand;
 
@@ -40,7 +40,7 @@ fn release<J: Sweeper>(tree: &Tree, hand: &mut Hand<PassState>) -> u32
     requires rests { (known hand.old.seat).runs ≡ false }
     requires names { (hand.old.number ≡ J.pass) × ((known hand.old.seat).number + 1 ≡ J.number) × (tree.now.store.layout.passes ≡ J.passes) }
     requires within { IsWithin hand.old.seat }
-    ensures same { Keeps hand.old.seat hand.new.seat }
+    ensures same { KeepsHand hand.old.seat hand.new.seat }
     ensures observed { (pages : ℕ) × (pages ≤ result) × sweeps J.pass J.number J.passes (known hand.old.seat) pages (known hand.new.seat) }
     ensures within { IsWithin hand.new.seat }
     ensures count { hand.new.seat.me.0.releases ≡ hand.old.seat.me.0.releases + result }

@@ -5,7 +5,7 @@ ghost use Rattle.bl_store.specs.Hands.{known, IsIdle, IsSameHand, IsSameStock};
 ghost use Rattle.bl_store.specs.Owners.{IsHandOf};
 ghost use Rattle.bl_claims.specs.Seeing.{IsSeen};
 ghost use Rattle.bl_index_rule.specs.declared.known.PassState.{PassState as Knows};
-ghost use Rattle.bl_index_steps.specs.Runs.{Rests};
+ghost use Rattle.bl_index_events.specs.Runs.{Rests};
 ghost use Rattle.bl_proc.specs.declared.parts.Direction.TheVariants as direction;
 ghost use Rattle.bl_index_read.specs.declared.sought.Sought.TheVariants as sought;
 ghost use Rattle.bl_index_read.specs.LeafWays.{HasSetOff};
@@ -15,13 +15,13 @@ ghost use Rattle.bl_index.specs.Within.{GoesOrStops};
 
 use crate::index::{Index, Pass};
 use crate::scanning::is_below;
+use bl_index_events::{FrameView, Tree};
 use bl_index_read::{
     Behind, Sought, descend_to_leaf, fetch_behind, go_behind, portion_in, set_off, tell_rows,
 };
 use bl_index_rule::PassState;
-use bl_index_steps::{FrameView, Tree};
 use bl_proc::Direction;
-use bl_proc_base::Descent;
+use bl_proc_steps::Descent;
 use bl_store::Hand;
 
 /// A part of a scan got as many pages as it was allowed, and has answered nothing.

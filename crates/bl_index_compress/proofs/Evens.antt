@@ -8,9 +8,9 @@ use Rattle.bl_rearrange.specs.declared.sides.Side.TheVariants as side
 use Rattle.bl_rearrange.specs.declared.sides.Evened.{Evened}
 use Rattle.bl_rearrange.specs.Rearranged.{pairs_of, IsNow}
 use Rattle.bl_rearrange.specs.Neighbours.{AreNeighbours, together, Gains, IsEvened}
-use Rattle.bl_proc_pages.proofs.Spellings.{pairs_counted}
-use Rattle.bl_proc_unique.proofs.Pages.{begins}
-use Rattle.bl_proc_unique.proofs.Rows.{front_one, back_one}
+use Rattle.bl_proc_routes.proofs.Spellings.{pairs_counted}
+use Rattle.bl_proc_deterministic.proofs.Pages.{begins}
+use Rattle.bl_proc_deterministic.proofs.Rows.{front_one, back_one}
 use Rattle.bl_index_compress.specs.Shares.{AreSharesOf}
 use Rattle.bl_index_compress.proofs.Parted.{dropped}
 use Rattle.bl_index_compress.proofs.Spelled.{neighbours_tree, reads, spelled_now}

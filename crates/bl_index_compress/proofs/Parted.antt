@@ -7,7 +7,7 @@ use Rattle.bl_page.specs.declared.page.Page.TheVariants.{Anchor, Leaf, Inner, De
 use Rattle.bl_page.specs.Words.{entries_of, words_of}
 use Rattle.bl_page.specs.Nodes.{IsTreePage}
 use Rattle.bl_rearrange.specs.Rearranged.{pairs_of}
-use Rattle.bl_proc_pages.proofs.Shifts.{padded, length-entries}
+use Rattle.bl_proc_routes.proofs.Shifts.{padded, length-entries}
 
 -- an entry of a page, in its words
 entry_in : (pairs : List (ℕ × ℕ)) (first low high right n k : ℕ) → get_or (first ∷ low ∷ high ∷ right ∷ entries_of pairs ++ replicate n 0) (4 + k) 0 ≡ get_or (entries_of pairs) k 0

@@ -13,27 +13,27 @@ use Rattle.bl_page.specs.Nodes.{IsTreePage}
 use Rattle.bl_rearrange.specs.Rearranged.{IsNow, IsWithout}
 use Rattle.bl_rearrange.specs.Neighbours.{AreNeighbours, together, IsEvened}
 use Rattle.bl_rearrange.proofs.EnteredLemmas.{RisesFrom-dropped, map_of-dropped}
-use Rattle.bl_proc_base.specs.declared.acts.Action.{Action}
-use Rattle.bl_proc_base.specs.declared.acts.Action.TheVariants as act
-use Rattle.bl_proc_base.specs.declared.acts.Seen.TheVariants as seen
-use Rattle.bl_proc_base.specs.Given.{Gives}
-use Rattle.bl_proc_base.specs.declared.answers.Hint.{Hint}
-use Rattle.bl_proc_pages.specs.Respelled.{words_by}
-use Rattle.bl_proc_compress.specs.declared.compressing.Siblings.{Siblings}
-use Rattle.bl_proc_compress.specs.declared.compressing.Family.{Family}
-use Rattle.bl_proc_compress.specs.declared.compressing.Puts.{Puts}
-use Rattle.bl_proc_compress.specs.declared.compressing.Decision.TheVariants.{Merged, Evened as EvenedOut}
-use Rattle.bl_proc_compress.specs.declared.compressing.Compression.TheVariants.{Retiring, OpeningRight}
+use Rattle.bl_proc_steps.specs.declared.acts.Action.{Action}
+use Rattle.bl_proc_steps.specs.declared.acts.Action.TheVariants as act
+use Rattle.bl_proc_steps.specs.declared.acts.Seen.TheVariants as seen
+use Rattle.bl_proc_steps.specs.Given.{Gives}
+use Rattle.bl_proc_steps.specs.declared.answers.Hint.{Hint}
+use Rattle.bl_proc_routes.specs.WordEdits.{words_by}
+use Rattle.bl_proc_compress.specs.declared.compression.Siblings.{Siblings}
+use Rattle.bl_proc_compress.specs.declared.compression.Family.{Family}
+use Rattle.bl_proc_compress.specs.declared.compression.Puts.{Puts}
+use Rattle.bl_proc_compress.specs.declared.compression.Decision.TheVariants.{Merged, Evened as EvenedOut}
+use Rattle.bl_proc_compress.specs.declared.compression.Compression.TheVariants.{Retiring, OpeningRight}
 use Rattle.bl_proc_compress.specs.Compressions.{put_of, other, merge_hint, Merges, Relists, MayEven, Evens, after_puts}
-use Rattle.bl_proc_unique.proofs.Neighbours.{merged_some, buried_some, evened_some}
-use Rattle.bl_proc_unique.proofs.Pages.{without_some}
-use Rattle.bl_proc_unique.proofs.Relistings.{relist_some}
+use Rattle.bl_proc_deterministic.proofs.Neighbours.{merged_some, buried_some, evened_some}
+use Rattle.bl_proc_deterministic.proofs.Pages.{without_some}
+use Rattle.bl_proc_deterministic.proofs.Relistings.{relist_some}
 use Rattle.bl_index_ways.proofs.Spreading.{spelled}
-use Rattle.bl_index_compress.specs.declared.targets.Squeezing.{Squeezing}
+use Rattle.bl_index_compress.specs.declared.targets.CompressTarget.{CompressTarget}
 use Rattle.bl_index_compress.specs.declared.targets.Kin.{Kin}
 use Rattle.bl_index_compress.specs.declared.shares.Shares.{Shares}
 use Rattle.bl_index_compress.specs.Shares.{AreSharesOf, IsRelisted}
-use Rattle.bl_index_compress.specs.Squeezes.{on_side, ArePuts, IsKin}
+use Rattle.bl_index_compress.specs.CompressStands.{on_side, ArePuts, IsKin}
 
 -- the act puts that page, with these words
 abbrev pub IsPutOf : Action → ℕ → List ℕ → Type 0
@@ -89,7 +89,7 @@ module _ (f : Family) (c d : Page) (n : AreNeighbours c d) (fit : together c d �
       )
 
 -- by the words that are put
-pub merge_puts : (j : Squeezing) (kin : Kin) (words : List ℕ) (f : Family) (c d : Page) (p : Puts) → IsKin j kin words f → Merges f c d p → (left parent right : List ℕ) → left ≡ words_of p.left → parent ≡ words_by (InnerPage f.parent) (dropped kin.key f.parent.children.items) → right ≡ words_of p.right → ArePuts p kin.at side.Left left parent right
+pub merge_puts : (j : CompressTarget) (kin : Kin) (words : List ℕ) (f : Family) (c d : Page) (p : Puts) → IsKin j kin words f → Merges f c d p → (left parent right : List ℕ) → left ≡ words_of p.left → parent ≡ words_by (InnerPage f.parent) (dropped kin.key f.parent.children.items) → right ≡ words_of p.right → ArePuts p kin.at side.Left left parent right
 merge_puts j kin words f c d p k m left parent right u v w = record {
   at_is = m.at ∙ k.at;
   gains_is = m.gains;
@@ -115,7 +115,7 @@ pub merge_pages : (f : Family) (c d : Page) (p : Puts) → Merges f c d p → Is
 merge_pages f c d p m = (now_tree _ _ _ (InnerPage f.parent) p.parent m.parent.frame, now_tree _ _ _ c p.left m.left.1)
 
 -- where a merge is that has put all three
-pub merge_next : (f : Family) (c d : Page) (p : Puts) (j : Squeezing) (kin : Kin) (words : List ℕ) (hint : Option Hint) → IsKin j kin words f → Merges f c d p → hint ≡ merge_hint f.parent.level p.parent p.left → after_puts p.at p.decision ≡ Retiring kin.at (Merged hint)
+pub merge_next : (f : Family) (c d : Page) (p : Puts) (j : CompressTarget) (kin : Kin) (words : List ℕ) (hint : Option Hint) → IsKin j kin words f → Merges f c d p → hint ≡ merge_hint f.parent.level p.parent p.left → after_puts p.at p.decision ≡ Retiring kin.at (Merged hint)
 merge_next f c d p j kin words hint k m e = ap (after_puts p.at) (m.decision ∙ ap Merged (sym e)) ∙ ap (λ (z : Siblings). Retiring z (Merged hint)) (m.at ∙ k.at)
 
 -- An evening, by what its parent can do.
@@ -156,7 +156,7 @@ module _ (f : Family) (c d : Page) (may : MayEven c d) where
   pub unlisted : (words : List ℕ) → IsRelisted relisting.0 words false → Relists f.parent f.key evening.0.separator f.at.right None
   unlisted words is = lost_by relisting.0 words relisting.1 is
 
-pub even_puts : (j : Squeezing) (kin : Kin) (parent : List ℕ) (f : Family) (c d : Page) (e : Evened) (words : List ℕ) (h : HasEvens f c d e words) → IsKin j kin parent f → (s : Shares) → AreSharesOf e s → ArePuts h.puts kin.at s.gains s.left words s.right
+pub even_puts : (j : CompressTarget) (kin : Kin) (parent : List ℕ) (f : Family) (c d : Page) (e : Evened) (words : List ℕ) (h : HasEvens f c d e words) → IsKin j kin parent f → (s : Shares) → AreSharesOf e s → ArePuts h.puts kin.at s.gains s.left words s.right
 even_puts j kin parent f c d e words h k s a = record {
   at_is = h.at ∙ k.at;
   gains_is = h.gains ∙ sym a.gains;
@@ -165,5 +165,5 @@ even_puts j kin parent f c d e words h k s a = record {
   right_is = a.right ∙ ap words_of (sym h.right);
 }
 
-pub even_next : (f : Family) (c d : Page) (e : Evened) (words : List ℕ) (h : HasEvens f c d e words) (j : Squeezing) (kin : Kin) (parent : List ℕ) → IsKin j kin parent f → after_puts h.puts.at h.puts.decision ≡ OpeningRight kin.at EvenedOut
+pub even_next : (f : Family) (c d : Page) (e : Evened) (words : List ℕ) (h : HasEvens f c d e words) (j : CompressTarget) (kin : Kin) (parent : List ℕ) → IsKin j kin parent f → after_puts h.puts.at h.puts.decision ≡ OpeningRight kin.at EvenedOut
 even_next f c d e words h j kin parent k = ap (after_puts h.puts.at) h.decision ∙ ap (λ (z : Siblings). OpeningRight z EvenedOut) (h.at ∙ k.at)

@@ -1,3 +1,3 @@
 pub mod Shares
-pub mod Squeezes
+pub mod CompressStands
 pub mod Ways

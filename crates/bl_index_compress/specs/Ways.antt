@@ -1,12 +1,12 @@
 -- A compression goes on as any writer on its way to a page that it is to hold.
 use Rattle.std.specs.Prelude.{ℕ, refl, Bool}
-use Rattle.bl_proc_base.specs.declared.acts.Seen.{Seen}
-use Rattle.bl_proc_base.specs.declared.approaching.Approach.{Approach}
-use Rattle.bl_proc_base.specs.declared.approaching.Approach.TheVariants.{Start, At, Latching, Latched, Leaving}
-use Rattle.bl_proc_base.specs.declared.approaching.Approached.TheVariants as came
-use Rattle.bl_proc_base.specs.declared.approaching.Came.TheVariants as descend
-use Rattle.bl_proc_base.specs.Approaches.{Approaches}
-use Rattle.bl_proc_compress.specs.declared.squeezing.CompressStage.TheVariants as stages
+use Rattle.bl_proc_steps.specs.declared.acts.Seen.{Seen}
+use Rattle.bl_proc_steps.specs.declared.approach.Approach.{Approach}
+use Rattle.bl_proc_steps.specs.declared.approach.Approach.TheVariants.{Start, At, Latching, Latched, Leaving}
+use Rattle.bl_proc_steps.specs.declared.approach.Approached.TheVariants as came
+use Rattle.bl_proc_steps.specs.declared.approach.Came.TheVariants as descend
+use Rattle.bl_proc_steps.specs.Approaches.{Approaches}
+use Rattle.bl_proc_compress.specs.declared.compress.CompressStage.TheVariants as stages
 use Rattle.bl_proc_compress.specs.Compresses.{CompressGoes}
 use Rattle.bl_index_ways.specs.Ways.{IsToHold}
 

@@ -4,28 +4,28 @@ ghost use Rattle.std.specs.Prelude.{◌≡◌, ◌<◌, ◌≤◌, ◌⊎◌, �
 ghost use Rattle.bl_page.specs.declared.page.Page.{Page};
 ghost use Rattle.bl_page.specs.Words.{words_of};
 ghost use Rattle.bl_rearrange.specs.Neighbours.{AreNeighbours, together};
-ghost use Rattle.bl_proc_compress.specs.declared.compressing.Compression.TheVariants.{LatchingLeft, LatchedRight, PuttingFirst, OpeningRight};
-ghost use Rattle.bl_proc_compress.specs.declared.compressing.Decision.TheVariants as decisions;
-ghost use Rattle.bl_proc_compress.specs.declared.compressing.Family.{Family};
-ghost use Rattle.bl_proc_compress.specs.declared.compressing.Puts.{Puts as PutsIs};
+ghost use Rattle.bl_proc_compress.specs.declared.compression.Compression.TheVariants.{LatchingLeft, LatchedRight, PuttingFirst, OpeningRight};
+ghost use Rattle.bl_proc_compress.specs.declared.compression.Decision.TheVariants as decisions;
+ghost use Rattle.bl_proc_compress.specs.declared.compression.Family.{Family};
+ghost use Rattle.bl_proc_compress.specs.declared.compression.Puts.{Puts as PutsIs};
 ghost use Rattle.bl_proc_compress.specs.Compressions.{MayEven, after_puts};
-ghost use Rattle.bl_store.specs.Hands.{known, IsSameHand, IsSameStage, HasNoStock, MayRetire, WasRefused};
-ghost use Rattle.bl_index_steps.specs.Runs.{Runs, IsOn, IsSameProcess};
-ghost use Rattle.bl_index_compress.specs.declared.targets.Squeezing.{Squeezing as SqueezingIs};
-ghost use Rattle.bl_index_compress.specs.Squeezes.{pressing, Answers, ArePuts, HasBoth, IsDecided, IsKin, LeavesParent, on_side};
+ghost use Rattle.bl_store.specs.Hands.{known, IsSameHand, IsSameStamp, HasNoStock, MayRetire, WasRefused};
+ghost use Rattle.bl_index_events.specs.Runs.{Runs, IsOn, IsSameProcess};
+ghost use Rattle.bl_index_compress.specs.declared.targets.CompressTarget.{CompressTarget as CompressTargetIs};
+ghost use Rattle.bl_index_compress.specs.CompressStands.{compression_of, Answers, ArePuts, HasBoth, IsDecided, IsKin, LeavesParent, on_side};
 
 use crate::events::{latch, put_first, put_next, retire, words_at};
 use crate::pages::{
     buried_words, evened_words, merge_hint_in, merged_words, neighbours_in, relisted_words,
 };
-use crate::targets::{Kin, Squeezing};
+use crate::targets::{CompressTarget, Kin};
+use bl_index_events::Tree;
 use bl_index_rule::PassState;
-use bl_index_steps::Tree;
 use bl_model::limits::{ENOUGH_PAIRS, MOST_PAIRS};
 use bl_page::LEVEL_UNIT;
-use bl_proc_base::{Hint, Level, Squeezed};
 use bl_proc_compress::{Decision, Siblings};
-use bl_proc_pages::words_without;
+use bl_proc_routes::words_without;
+use bl_proc_steps::{Hint, Level, Squeezed};
 use bl_rearrange::Side;
 use bl_store::Hand;
 use std::sync::Wait;
@@ -76,15 +76,15 @@ fn put_three(
 ) -> bool
     requires runs { Runs tree.now hand.old (known hand.old.seat).state }
     requires empty { HasNoStock hand.old.seat }
-    requires process { (j : SqueezingIs) × (p : PutsIs) × ArePuts p at gains left.now parent.now right.now
-        × ((known hand.old.seat).state ≡ pressing j (PuttingFirst p)) }
-    ensures same { IsSameHand hand.old.seat hand.new.seat × IsSameStage hand.old.seat hand.new.seat }
+    requires process { (j : CompressTargetIs) × (p : PutsIs) × ArePuts p at gains left.now parent.now right.now
+        × ((known hand.old.seat).state ≡ compression_of j (PuttingFirst p)) }
+    ensures same { IsSameHand hand.old.seat hand.new.seat × IsSameStamp hand.old.seat hand.new.seat }
     ensures empty { HasNoStock hand.new.seat }
     ensures leave { result ≡ true → MayRetire hand.new.seat }
-    ensures done { result ≡ true → (j : SqueezingIs) (p : PutsIs) → (known hand.old.seat).state ≡ pressing j (PuttingFirst p)
-        → IsOn tree.now.store.layout (known hand.new.seat) (pressing j (after_puts p.at p.decision)) }
-    ensures refused { result ≡ false → (j : SqueezingIs) (p : PutsIs) → (known hand.old.seat).state ≡ pressing j (PuttingFirst p)
-        → IsOn tree.now.store.layout (known hand.new.seat) (pressing j (OpeningRight p.at decisions.Refused)) }
+    ensures done { result ≡ true → (j : CompressTargetIs) (p : PutsIs) → (known hand.old.seat).state ≡ compression_of j (PuttingFirst p)
+        → IsOn tree.now.store.layout (known hand.new.seat) (compression_of j (after_puts p.at p.decision)) }
+    ensures refused { result ≡ false → (j : CompressTargetIs) (p : PutsIs) → (known hand.old.seat).state ≡ compression_of j (PuttingFirst p)
+        → IsOn tree.now.store.layout (known hand.new.seat) (compression_of j (OpeningRight p.at decisions.Refused)) }
     ensures asked { result ≡ false → WasRefused hand.new.seat 0 3 }
     ensures since { IsSameProcess (known hand.old.seat) (known hand.new.seat) }
 {
@@ -111,11 +111,11 @@ fn put_three(
 fn open_right(
     tree: &Tree,
     hand: &mut Hand<PassState>,
-    target: Squeezing,
+    target: CompressTarget,
     kin: Kin,
     decision: Decision,
 ) -> Decision
-    requires runs { Runs tree.now hand.old (pressing target (OpeningRight kin.at decision)) }
+    requires runs { Runs tree.now hand.old (compression_of target (OpeningRight kin.at decision)) }
     requires empty { HasNoStock hand.old.seat }
     requires no_room { decision ≡ decisions.Refused → WasRefused hand.old.seat 0 3 }
     ensures { IsDecided tree.now hand.old.seat hand.new target kin result }
@@ -130,7 +130,7 @@ fn open_right(
 fn merge(
     tree: &Tree,
     hand: &mut Hand<PassState>,
-    target: Squeezing,
+    target: CompressTarget,
     kin: Kin,
     parent: &[u64; 32],
     left: &[u64; 32],
@@ -159,7 +159,7 @@ fn merge(
 fn even(
     tree: &Tree,
     hand: &mut Hand<PassState>,
-    target: Squeezing,
+    target: CompressTarget,
     kin: Kin,
     parent: &[u64; 32],
     left: &[u64; 32],
@@ -201,7 +201,7 @@ fn is_either_few(left: usize, right: usize) -> bool
 fn decide(
     tree: &Tree,
     hand: &mut Hand<PassState>,
-    target: Squeezing,
+    target: CompressTarget,
     kin: Kin,
     parent: &[u64; 32],
     left: &[u64; 32],
@@ -209,7 +209,7 @@ fn decide(
     requires runs { Runs tree.now hand.old (known hand.old.seat).state }
     requires empty { HasNoStock hand.old.seat }
     requires process { (f : Family) × (c : Page) × IsKin target kin parent.now f × (left.now ≡ words_of c)
-        × ((known hand.old.seat).state ≡ pressing target (LatchedRight f c)) }
+        × ((known hand.old.seat).state ≡ compression_of target (LatchedRight f c)) }
     ensures { IsDecided tree.now hand.old.seat hand.new target kin result }
 {
     let right = words_at(tree, hand, kin.at.right);
@@ -228,17 +228,17 @@ fn decide(
 }
 
 /// It latches the left child, and then the right one, if the left one links to it.
-fn squeeze<R: Wait>(
+fn latch_and_compress<R: Wait>(
     tree: &Tree,
     rt: &R,
     hand: &mut Hand<PassState>,
-    target: Squeezing,
+    target: CompressTarget,
     kin: Kin,
     parent: &[u64; 32],
 ) -> Decision
     requires runs { Runs tree.now hand.old (known hand.old.seat).state }
     requires empty { HasNoStock hand.old.seat }
-    requires process { (f : Family) × IsKin target kin parent.now f × ((known hand.old.seat).state ≡ pressing target (LatchingLeft f)) }
+    requires process { (f : Family) × IsKin target kin parent.now f × ((known hand.old.seat).state ≡ compression_of target (LatchingLeft f)) }
     ensures { IsDecided tree.now hand.old.seat hand.new target kin result }
 {
     latch(tree, rt, hand, kin.at.left);
@@ -259,16 +259,16 @@ pub(crate) fn compress_two<R: Wait>(
     tree: &Tree,
     rt: &R,
     hand: &mut Hand<PassState>,
-    target: Squeezing,
+    target: CompressTarget,
     kin: Kin,
     parent: &[u64; 32],
 ) -> Option<(Squeezed, Option<Hint>)>
     requires runs { Runs tree.now hand.old (known hand.old.seat).state }
     requires empty { HasNoStock hand.old.seat }
-    requires process { (f : Family) × IsKin target kin parent.now f × ((known hand.old.seat).state ≡ pressing target (LatchingLeft f)) }
+    requires process { (f : Family) × IsKin target kin parent.now f × ((known hand.old.seat).state ≡ compression_of target (LatchingLeft f)) }
     ensures { LeavesParent tree.now hand.old.seat hand.new target result }
 {
-    let decision = squeeze(tree, rt, hand, target, kin, parent);
+    let decision = latch_and_compress(tree, rt, hand, target, kin, parent);
     tree.reopen(hand, kin.at.left);
     tree.reopen(hand, kin.at.parent);
     answer_of(decision)

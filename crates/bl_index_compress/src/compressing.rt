@@ -1,29 +1,29 @@
 //! Compressions, by the words of pages.
 
 ghost use Rattle.std.specs.Prelude.{◌≡◌, ◌<◌, ◌≤◌, ℕ, Some, IfNone, IfSome};
-ghost use Rattle.bl_proc_base.specs.declared.answers.Answer.TheVariants as answers;
-ghost use Rattle.bl_proc_base.specs.declared.answers.Squeezed.TheVariants as said;
-ghost use Rattle.bl_proc_base.specs.declared.approaching.Approach.TheVariants as approach;
-ghost use Rattle.bl_proc_compress.specs.declared.squeezing.CompressReply.{CompressReply};
-ghost use Rattle.bl_proc_compress.specs.declared.squeezing.CompressReply.TheVariants as replies;
-ghost use Rattle.bl_proc_compress.specs.declared.squeezing.CompressStage.TheVariants as stages;
+ghost use Rattle.bl_proc_steps.specs.declared.answers.Answer.TheVariants as answers;
+ghost use Rattle.bl_proc_steps.specs.declared.answers.Squeezed.TheVariants as said;
+ghost use Rattle.bl_proc_steps.specs.declared.approach.Approach.TheVariants as approach;
+ghost use Rattle.bl_proc_compress.specs.declared.compress.CompressReply.{CompressReply};
+ghost use Rattle.bl_proc_compress.specs.declared.compress.CompressReply.TheVariants as replies;
+ghost use Rattle.bl_proc_compress.specs.declared.compress.CompressStage.TheVariants as stages;
 ghost use Rattle.bl_proc_compress.specs.Compresses.{compressed_answer};
 ghost use Rattle.bl_proc.specs.declared.kinds.Proc.{Proc};
-ghost use Rattle.bl_proc_unique.specs.Frames.{work_of};
+ghost use Rattle.bl_proc_deterministic.specs.Frames.{work_of};
 ghost use Rattle.bl_store.specs.Hands.{known, read_words, IsIdle, IsSameHand, HasNoStock, ReadsFrom, WasRefused};
 ghost use Rattle.bl_store.specs.Owners.{IsHandOf};
 ghost use Rattle.bl_index_rule.specs.declared.known.PassState.{PassState as Knows};
-ghost use Rattle.bl_index_steps.specs.Runs.{Runs, Rests, IsOn, IsSince, IsSameProcess};
+ghost use Rattle.bl_index_events.specs.Runs.{Runs, Rests, IsOn, IsSince, IsSameProcess};
 ghost use Rattle.bl_index_ways.specs.Events.{HasGotAnchor, HoldsNone};
-ghost use Rattle.bl_index_compress.specs.Squeezes.{squeezing, HasCompressed, IsCompressOver};
+ghost use Rattle.bl_index_compress.specs.CompressStands.{compress_of, HasCompressed, IsCompressOver};
 
 use crate::families::compress_there;
-use crate::targets::Squeezing;
+use crate::targets::CompressTarget;
+use bl_index_events::{FrameView, Tree};
 use bl_index_rule::PassState;
-use bl_index_steps::{FrameView, Tree};
 use bl_index_ways::{Reached, begin_descent, reach};
-use bl_proc_base::{Approach, Hint, Squeezed};
-use bl_proc_pages::levels_in;
+use bl_proc_routes::levels_in;
+use bl_proc_steps::{Approach, Hint, Squeezed};
 use bl_store::{Glance, Hand};
 use std::sync::Wait;
 
@@ -31,15 +31,15 @@ use std::sync::Wait;
 fn way_from_anchor(
     tree: &Tree,
     hand: &mut Hand<PassState>,
-    target: Squeezing,
+    target: CompressTarget,
     glance: Glance,
 ) -> Option<Approach>
     requires runs { Runs tree.now hand.old (known hand.old.seat).state }
     requires reads { ReadsFrom hand.old.seat glance }
-    requires anchor { HasGotAnchor (squeezing target (stages.Coming approach.Start)) (read_words hand.old.seat) (known hand.old.seat) }
+    requires anchor { HasGotAnchor (compress_of target (stages.Coming approach.Start)) (read_words hand.old.seat) (known hand.old.seat) }
     ensures same { hand.new ≡ hand.old }
-    ensures on { IfSome result (λ a. HoldsNone a × IsOn tree.now.store.layout (known hand.new.seat) (squeezing target (stages.Coming a))) }
-    ensures none { IfNone result (IsOn tree.now.store.layout (known hand.new.seat) (squeezing target (stages.Ending replies.Alone))) }
+    ensures on { IfSome result (λ a. HoldsNone a × IsOn tree.now.store.layout (known hand.new.seat) (compress_of target (stages.Coming a))) }
+    ensures none { IfNone result (IsOn tree.now.store.layout (known hand.new.seat) (compress_of target (stages.Ending replies.Alone))) }
 {
     let shown = FrameView {
         store: &tree.store,
@@ -55,12 +55,12 @@ fn way_from_anchor(
 fn end_compression(
     tree: &Tree,
     hand: &mut Hand<PassState>,
-    target: Squeezing,
+    target: CompressTarget,
     answer: (Squeezed, Option<Hint>),
 ) -> (Squeezed, Option<Hint>)
     requires empty { HasNoStock hand.old.seat }
     requires process { (r : CompressReply) × (compressed_answer r ≡ answers.Compress answer.0 answer.1)
-        × Runs tree.now hand.old (squeezing target (stages.Ending r)) }
+        × Runs tree.now hand.old (compress_of target (stages.Ending r)) }
     requires no_room { answer.0 ≡ said.NoRoom → WasRefused hand.old.seat 0 3 }
     ensures same { IsSameHand hand.old.seat hand.new.seat }
     ensures over { IsCompressOver target (known hand.old.seat) hand.new.seat result.0 result.1 }
@@ -75,9 +75,9 @@ fn compress_until<R: Wait>(
     tree: &Tree,
     rt: &R,
     hand: &mut Hand<PassState>,
-    target: Squeezing,
+    target: CompressTarget,
 ) -> (Squeezed, Option<Hint>)
-    requires runs { Runs tree.now hand.old (squeezing target (stages.Coming approach.Start)) }
+    requires runs { Runs tree.now hand.old (compress_of target (stages.Coming approach.Start)) }
     requires empty { HasNoStock hand.old.seat }
     ensures same { IsSameHand hand.old.seat hand.new.seat }
     ensures over { IsCompressOver target (known hand.old.seat) hand.new.seat result.0 result.1 }
@@ -120,7 +120,7 @@ pub fn compress_children<R: Wait>(
         × HasCompressed hand.old.number (known hand.old.seat) (known hand.new.seat) first result.0 result.1 }
     ensures no_room { result.0 ≡ said.NoRoom → WasRefused hand.new.seat 0 3 }
 {
-    let target = Squeezing { level, key };
+    let target = CompressTarget { level, key };
     begin_descent(tree, hand, &target);
     compress_until(tree, rt, hand, target)
 }

@@ -3,17 +3,17 @@
 ghost use Rattle.std.specs.Prelude.{◌≡◌, ◌<◌, ◌+◌, MatchOption, IfNone};
 ghost use Rattle.bl_page.specs.declared.page.Page.{Page};
 ghost use Rattle.bl_page.specs.Words.{words_of};
-ghost use Rattle.bl_proc_base.specs.declared.acts.Action.TheVariants as act;
-ghost use Rattle.bl_proc_base.specs.declared.acts.Seen.TheVariants as seen;
+ghost use Rattle.bl_proc_steps.specs.declared.acts.Action.TheVariants as act;
+ghost use Rattle.bl_proc_steps.specs.declared.acts.Seen.TheVariants as seen;
 ghost use Rattle.bl_proc.specs.declared.kinds.Proc.{Proc};
 ghost use Rattle.bl_proc.specs.Processes.{next_of, Takes};
-ghost use Rattle.bl_proc_unique.specs.Courses.{GoesOn};
-ghost use Rattle.bl_store.specs.Hands.{known, IsSameHand, IsSameStage, HasNoStock, IsStockOf, MayRetire, WasRefused};
+ghost use Rattle.bl_proc_deterministic.specs.Courses.{GoesOn};
+ghost use Rattle.bl_store.specs.Hands.{known, IsSameHand, IsSameStamp, HasNoStock, IsStockOf, MayRetire, WasRefused};
 ghost use Rattle.bl_index_rule.specs.Observed.{Goes};
-ghost use Rattle.bl_index_steps.specs.Runs.{Runs, Keeps, IsOn, IsSameProcess};
+ghost use Rattle.bl_index_events.specs.Runs.{Runs, KeepsHand, IsOn, IsSameProcess};
 
+use bl_index_events::{FrameView, Tree};
 use bl_index_rule::{PassState, Put, Refused, Retired, Took};
-use bl_index_steps::{FrameView, Tree};
 use bl_page::words_from;
 use bl_store::{Hand, Stock};
 use crossbeam_utils::Backoff;
@@ -25,7 +25,7 @@ pub(crate) fn latch<R: Wait>(tree: &Tree, rt: &R, hand: &mut Hand<PassState>, pa
     requires next { next_of (known hand.old.seat).state ≡ act.Latch page }
     requires course { GoesOn (known hand.old.seat).state seen.Done × GoesOn (known hand.old.seat).state seen.Missed }
     requires stays { Takes (known hand.old.seat).state seen.Missed (known hand.old.seat).state }
-    ensures same { Keeps hand.old.seat hand.new.seat }
+    ensures same { KeepsHand hand.old.seat hand.new.seat }
     ensures latched { (next : Proc) → Takes (known hand.old.seat).state seen.Done next → IsOn tree.now.store.layout (known hand.new.seat) next }
     ensures since { IsSameProcess (known hand.old.seat) (known hand.new.seat) }
 {
@@ -44,7 +44,7 @@ pub(crate) fn words_at(tree: &Tree, hand: &mut Hand<PassState>, page: u32) -> [u
     requires runs { Runs tree.now hand.old (known hand.old.seat).state }
     requires next { next_of (known hand.old.seat).state ≡ act.Get page }
     requires course { (c : Page) → GoesOn (known hand.old.seat).state (seen.Words c) }
-    ensures same { Keeps hand.old.seat hand.new.seat }
+    ensures same { KeepsHand hand.old.seat hand.new.seat }
     ensures goes { (c : Page) × (result ≡ words_of c) × Goes (seen.Words c) (known hand.old.seat) (known hand.new.seat) }
 {
     let glance = tree.look(hand, page);
@@ -66,7 +66,7 @@ pub(crate) fn put_first(
     requires next { (c : Page) × (next_of (known hand.old.seat).state ≡ act.Put page c) × (words.now ≡ words_of c) }
     requires course { GoesOn (known hand.old.seat).state seen.Done × GoesOn (known hand.old.seat).state seen.Refused }
     requires empty { HasNoStock hand.old.seat }
-    ensures same { IsSameHand hand.old.seat hand.new.seat × IsSameStage hand.old.seat hand.new.seat }
+    ensures same { IsSameHand hand.old.seat hand.new.seat × IsSameStamp hand.old.seat hand.new.seat }
     ensures done { MatchOption result (HasNoStock hand.new.seat × Goes seen.Refused (known hand.old.seat) (known hand.new.seat)) (λ s.
         IsStockOf hand.new.seat s × (s.count ≡ 2) × MayRetire hand.new.seat × Goes seen.Done (known hand.old.seat) (known hand.new.seat)) }
     ensures asked { IfNone result (WasRefused hand.new.seat 0 3) }
@@ -94,7 +94,7 @@ pub(crate) fn put_next(
     requires next { (c : Page) × (next_of (known hand.old.seat).state ≡ act.Put page c) × (words.now ≡ words_of c) }
     requires course { GoesOn (known hand.old.seat).state seen.Done }
     requires stock { IsStockOf hand.old.seat stock.old × (0 < stock.old.count) × MayRetire hand.old.seat }
-    ensures same { IsSameHand hand.old.seat hand.new.seat × IsSameStage hand.old.seat hand.new.seat }
+    ensures same { IsSameHand hand.old.seat hand.new.seat × IsSameStamp hand.old.seat hand.new.seat }
     ensures stock { IsStockOf hand.new.seat stock.new × (stock.new.count + 1 ≡ stock.old.count) × MayRetire hand.new.seat }
     ensures goes { Goes seen.Done (known hand.old.seat) (known hand.new.seat) }
 {
@@ -108,7 +108,7 @@ pub(crate) fn retire(tree: &Tree, hand: &mut Hand<PassState>, page: u32)
     requires course { GoesOn (known hand.old.seat).state seen.Done }
     requires leave { MayRetire hand.old.seat }
     requires empty { HasNoStock hand.old.seat }
-    ensures same { IsSameHand hand.old.seat hand.new.seat × IsSameStage hand.old.seat hand.new.seat }
+    ensures same { IsSameHand hand.old.seat hand.new.seat × IsSameStamp hand.old.seat hand.new.seat }
     ensures empty { HasNoStock hand.new.seat }
     ensures goes { Goes seen.Done (known hand.old.seat) (known hand.new.seat) }
 {

@@ -5,22 +5,22 @@ ghost use Rattle.bl_page.specs.declared.page.Inner.{Inner as InnerIs};
 ghost use Rattle.bl_page.specs.declared.page.Page.TheVariants.{Inner};
 ghost use Rattle.bl_page.specs.Pairs.{IsWithin};
 ghost use Rattle.bl_page.specs.Words.{words_of};
-ghost use Rattle.bl_proc_base.specs.declared.approaching.Approach.TheVariants.{Latched};
-ghost use Rattle.bl_proc_compress.specs.declared.compressing.Family.{Family};
-ghost use Rattle.bl_proc_compress.specs.declared.squeezing.CompressStage.TheVariants.{Coming};
+ghost use Rattle.bl_proc_steps.specs.declared.approach.Approach.TheVariants.{Latched};
+ghost use Rattle.bl_proc_compress.specs.declared.compression.Family.{Family};
+ghost use Rattle.bl_proc_compress.specs.declared.compress.CompressStage.TheVariants.{Coming};
 ghost use Rattle.bl_proc_compress.specs.Compressions.{IsFamily, right_place};
 ghost use Rattle.bl_store.specs.Hands.{known, read_words, HasNoStock, ReadsFrom};
-ghost use Rattle.bl_index_steps.specs.Runs.{Runs};
+ghost use Rattle.bl_index_events.specs.Runs.{Runs};
 ghost use Rattle.bl_index_ways.specs.Events.{IsThere};
-ghost use Rattle.bl_index_compress.specs.Squeezes.{squeezing, LeavesParent};
+ghost use Rattle.bl_index_compress.specs.CompressStands.{compress_of, LeavesParent};
 
 use crate::children::compress_two;
-use crate::targets::{Kin, Squeezing};
+use crate::targets::{CompressTarget, Kin};
+use bl_index_events::{FrameView, Tree};
 use bl_index_rule::PassState;
-use bl_index_steps::{FrameView, Tree};
 use bl_page::{LEVEL_UNIT, place_in, words_from};
-use bl_proc_base::{Hint, Squeezed};
 use bl_proc_compress::Siblings;
+use bl_proc_steps::{Hint, Squeezed};
 use bl_store::{Glance, Hand};
 use std::sync::Wait;
 
@@ -58,14 +58,14 @@ pub(crate) fn compress_there<R: Wait>(
     tree: &Tree,
     rt: &R,
     hand: &mut Hand<PassState>,
-    target: Squeezing,
+    target: CompressTarget,
     at: u32,
     glance: Glance,
 ) -> Option<(Squeezed, Option<Hint>)>
     requires runs { Runs tree.now hand.old (known hand.old.seat).state }
     requires empty { HasNoStock hand.old.seat }
     requires reads { ReadsFrom hand.old.seat glance }
-    requires there { IsThere target.level target.key (squeezing target (Coming (Latched at))) (read_words hand.old.seat) (known hand.old.seat) }
+    requires there { IsThere target.level target.key (compress_of target (Coming (Latched at))) (read_words hand.old.seat) (known hand.old.seat) }
     ensures { LeavesParent tree.now hand.old.seat hand.new target result }
 {
     let shown = FrameView {

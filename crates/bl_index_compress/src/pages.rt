@@ -8,14 +8,14 @@ ghost use Rattle.bl_page.specs.Nodes.{IsTreePage};
 ghost use Rattle.bl_rearrange.specs.declared.sides.Evened.{Evened};
 ghost use Rattle.bl_rearrange.specs.Rearranged.{pairs_of};
 ghost use Rattle.bl_rearrange.specs.Neighbours.{AreNeighbours, together, IsMerged, IsEvened};
-ghost use Rattle.bl_proc_compress.specs.declared.compressing.Family.{Family};
+ghost use Rattle.bl_proc_compress.specs.declared.compression.Family.{Family};
 ghost use Rattle.bl_proc_compress.specs.Compressions.{IsBuried, merge_hint, Relists};
 ghost use Rattle.bl_index_compress.specs.Shares.{AreSharesOf, IsRelisted};
 
 use crate::shares::Shares;
 use bl_page::{KIND_UNIT, LEVEL_UNIT, is_within};
-use bl_proc_base::{Hint, Level, hint_of_thin, thin_in};
-use bl_proc_pages::{row_in, words_with, words_without};
+use bl_proc_routes::{row_in, words_with, words_without};
+use bl_proc_steps::{Hint, Level, hint_of_thin, thin_in};
 use bl_rearrange::Side;
 
 /// What the words of a page begin with.

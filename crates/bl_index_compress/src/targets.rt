@@ -4,11 +4,11 @@ ghost use Rattle.std.specs.Prelude.{◌<◌, ◌≤◌};
 
 use bl_index_ways::{Target, Unborn};
 use bl_proc_compress::Siblings;
-use bl_proc_pages::Step;
+use bl_proc_routes::Step;
 
 /// The compression of two children of a parent, by a key that it covers.
 #[derive(Clone, Copy)]
-pub(crate) struct Squeezing {
+pub(crate) struct CompressTarget {
     /// The level of the parent, 1 to 12.
     pub(crate) level: u32,
     pub(crate) key: u64,
@@ -24,13 +24,13 @@ pub(crate) struct Kin {
     pub(crate) key: u64,
 }
 
-impl Target for Squeezing {
+impl Target for CompressTarget {
     ghost use Rattle.std.specs.Prelude.{refl, true, ◌<◌};
     ghost use Rattle.bl_page.specs.Nodes.{roots_of};
     ghost use Rattle.bl_proc.specs.declared.kinds.Proc.TheVariants as proc;
-    ghost use Rattle.bl_proc_compress.specs.declared.squeezing.CompressStage.TheVariants as stages;
-    ghost use Rattle.bl_proc_base.specs.declared.approaching.Came.TheVariants as descend;
-    ghost use Rattle.bl_proc_unique.proofs.Compressions.{compress_goes};
+    ghost use Rattle.bl_proc_compress.specs.declared.compress.CompressStage.TheVariants as stages;
+    ghost use Rattle.bl_proc_steps.specs.declared.approach.Came.TheVariants as descend;
+    ghost use Rattle.bl_proc_deterministic.proofs.Compressions.{compress_goes};
     ghost use Rattle.bl_index_compress.specs.Ways.{nears};
 
     type Path = ();
@@ -71,13 +71,13 @@ impl Target for Squeezing {
     ghost goes = { λ j n a b what hold t. (refl, refl, refl, nears j.level j.key true a b what hold t) };
 }
 
-impl Unborn for Squeezing {
+impl Unborn for CompressTarget {
     ghost use Rattle.std.specs.Prelude.{refl, true};
     ghost use Rattle.bl_proc.specs.declared.kinds.Proc.TheVariants as proc;
-    ghost use Rattle.bl_proc_compress.specs.declared.squeezing.CompressStage.TheVariants as stages;
-    ghost use Rattle.bl_proc_base.specs.declared.acts.Seen.TheVariants as seen;
-    ghost use Rattle.bl_proc_base.specs.declared.approaching.Approach.TheVariants as approach;
-    ghost use Rattle.bl_proc_unique.proofs.Compressions.{compress_goes};
+    ghost use Rattle.bl_proc_compress.specs.declared.compress.CompressStage.TheVariants as stages;
+    ghost use Rattle.bl_proc_steps.specs.declared.acts.Seen.TheVariants as seen;
+    ghost use Rattle.bl_proc_steps.specs.declared.approach.Approach.TheVariants as approach;
+    ghost use Rattle.bl_proc_deterministic.proofs.Compressions.{compress_goes};
 
     ghost unborn = { λ j. proc.Compress (record { level = j.level; key = j.key; waits = true; stage = stages.New; least = j.least; most = j.most }) };
 

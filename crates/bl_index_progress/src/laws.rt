@@ -3,7 +3,7 @@
 ghost use Rattle.std.specs.Prelude.{◌≡◌, ℕ};
 ghost use Rattle.bl_page.specs.Machine.{Name};
 ghost use Rattle.bl_page.specs.Machine.Owner.{Held};
-ghost use Rattle.bl_frames.specs.Pages.{Pages};
+ghost use Rattle.bl_store_rule.specs.Pages.{Pages};
 ghost use Rattle.bl_index_rule.specs.declared.known.PassState.{PassState};
 ghost use Rattle.bl_index_rule.specs.Simulation.{IsRun, Simulates};
 ghost use Rattle.bl_proc_progress.specs.Waits.{Ends};

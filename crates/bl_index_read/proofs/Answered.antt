@@ -8,9 +8,9 @@ use Rattle.bl_model.specs.declared.operation.Reply.{Reply}
 use Rattle.bl_model.specs.declared.operation.Reply.TheVariants as reply
 use Rattle.bl_page.specs.declared.page.Page.{Page}
 use Rattle.bl_page.specs.Nodes.{node_of}
-use Rattle.bl_proc_base.specs.declared.acts.Seen.TheVariants as seen
-use Rattle.bl_proc_base.specs.declared.answers.Answer.{Answer}
-use Rattle.bl_proc_base.specs.declared.answers.Answer.TheVariants.{Op}
+use Rattle.bl_proc_steps.specs.declared.acts.Seen.TheVariants as seen
+use Rattle.bl_proc_steps.specs.declared.answers.Answer.{Answer}
+use Rattle.bl_proc_steps.specs.declared.answers.Answer.TheVariants.{Op}
 use Rattle.bl_proc.specs.declared.kinds.Proc.{Proc}
 use Rattle.bl_proc.specs.declared.parts.Direction.{Direction}
 use Rattle.bl_proc.specs.declared.parts.Direction.TheVariants.{Up, Down}
@@ -24,18 +24,18 @@ use Rattle.bl_proc_bounds.specs.Latches.{IsTidy}
 use Rattle.bl_proc_invariant.specs.Knowing.{found_reply}
 use Rattle.bl_proc_invariant.specs.Logs.{proc_log}
 use Rattle.bl_proc_invariant.proofs.Looking.{only_looks}
-use Rattle.bl_proc_unique.specs.Frames.{op_of}
+use Rattle.bl_proc_deterministic.specs.Frames.{op_of}
 use Rattle.bl_claims.specs.Latches.{LatchesNone}
 use Rattle.bl_claims.specs.Meanings.{writes_of}
 use Rattle.bl_claims.specs.Trails.{Trail}
 use Rattle.bl_store.specs.declared.store.Glance.{Glance}
-use Rattle.bl_frames.specs.declared.view.View.{View}
+use Rattle.bl_store_rule.specs.declared.view.View.{View}
 use Rattle.bl_store.specs.Hands.{known}
 use Rattle.bl_index_rule.specs.declared.known.PassState.{PassState}
 use Rattle.bl_index_rule.specs.Observed.{ends}
-use Rattle.bl_index_steps.specs.Runs.{IsDone}
-use Rattle.bl_index_steps.proofs.Ends.{op_answered}
-use Rattle.bl_index_steps.proofs.Standing.{is_over}
+use Rattle.bl_index_events.specs.Runs.{IsDone}
+use Rattle.bl_index_events.proofs.Ends.{op_answered}
+use Rattle.bl_index_events.proofs.Standing.{is_over}
 use Rattle.bl_index_read.specs.declared.sought.Sought.{Sought}
 use Rattle.bl_index_read.specs.declared.sought.Sought.TheVariants.{Value, Rows}
 use Rattle.bl_index_read.specs.LeafWays.{searching, listing, EndsWith, HasLeaf}

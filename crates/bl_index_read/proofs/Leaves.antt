@@ -13,13 +13,13 @@ use Rattle.bl_page.specs.declared.page.Page.{Page}
 use Rattle.bl_page.specs.Faults.{HasPairs, pairs_of}
 use Rattle.bl_page.specs.Words.{words_of}
 use Rattle.bl_page.specs.Nodes.{IsTreePage, node_of}
-use Rattle.bl_proc_pages.proofs.Spellings.{tree_pairs, tree_lists}
+use Rattle.bl_proc_routes.proofs.Spellings.{tree_pairs, tree_lists}
 use Rattle.bl_proc.specs.declared.parts.Direction.TheVariants.{Up, Down}
 use Rattle.bl_proc.specs.declared.parts.PartRows.{PartRows}
 use Rattle.bl_proc.specs.Parts.{GoesOnAt, GoesOnBelow}
-use Rattle.bl_proc_unique.proofs.Listings.{part_one, part_down_one}
+use Rattle.bl_proc_deterministic.proofs.Listings.{part_one, part_down_one}
 use Rattle.bl_store.specs.declared.store.Glance.{Glance}
-use Rattle.bl_frames.specs.declared.view.View.{View}
+use Rattle.bl_store_rule.specs.declared.view.View.{View}
 use Rattle.bl_store.specs.Hands.{known, read_words}
 use Rattle.bl_index_rule.specs.declared.known.PassState.{PassState}
 use Rattle.bl_index_rule.specs.Observed.{ends}

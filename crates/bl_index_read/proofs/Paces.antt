@@ -6,9 +6,9 @@ use Rattle.bl_page.specs.declared.page.Page.{Page}
 use Rattle.bl_page.specs.Machine.{Name, Looked, Act}
 use Rattle.bl_page.specs.Machine.Act.{Begin, End, Get, Look}
 use Rattle.bl_claims.specs.Trails.{Mark, Trail, DoesAt}
-use Rattle.bl_core.proofs.Pushes.{DoesAt-last}
+use Rattle.bl_tree_worlds.proofs.Pushes.{DoesAt-last}
 use Rattle.bl_claims.specs.Walks.{Each}
-use Rattle.bl_core.proofs.Frames.{Each-map}
+use Rattle.bl_tree_worlds.proofs.Frames.{Each-map}
 use Rattle.bl_proc.specs.declared.kinds.Proc.{Proc}
 use Rattle.bl_claims.specs.Bounds.{gets_in, gets_by, gets_of, IsWithinBound, IsBelowBound}
 use Rattle.bl_proc_bounds.specs.Searches.{IsSearch, IsUnderWay}
@@ -19,7 +19,7 @@ use Rattle.bl_claims.specs.Seeing.{AreElse, name}
 use Rattle.bl_index_rule.specs.Observed.{Notes, Steps, Begins, Finishes}
 use Rattle.bl_index_rule.proofs.Marks.{each_append}
 use Rattle.bl_index_read.specs.Turns.{IsAtTurn, IsAtLast}
-use Rattle.bl_index_steps.proofs.Calls.{does_on}
+use Rattle.bl_index_events.proofs.Calls.{does_on}
 
 -- a process that did none of these events has not begun there
 not_there : (p : Name) (ms : Trail) → Each (λ (m : Mark). m.event.process ≢ p) ms → (i : ℕ) (m : Mark) → slice_get ms i ≡ Some m → m.event.process ≡ p → ⊥

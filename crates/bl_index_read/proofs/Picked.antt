@@ -15,11 +15,11 @@ use Rattle.bl_page.proofs.Halving.{pairs-at, pairs-length}
 use Rattle.bl_page.specs.Pairs.{RisesFrom}
 use Rattle.bl_page.specs.Words.{words_of}
 use Rattle.bl_page.specs.Nodes.{IsTreePage, node_of}
-use Rattle.bl_proc_pages.proofs.Spellings.{tree_pairs, tree_lists}
+use Rattle.bl_proc_routes.proofs.Spellings.{tree_pairs, tree_lists}
 use Rattle.bl_proc.specs.declared.parts.PartRows.{PartRows}
 use Rattle.bl_proc.specs.Parts.{IsPartOf}
 use Rattle.bl_proc.proofs.Rising.{first_from, lists_from, rising_keys}
-use Rattle.bl_proc_unique.proofs.Listings.{lists_one}
+use Rattle.bl_proc_deterministic.proofs.Listings.{lists_one}
 use Rattle.bl_index_read.specs.LeafRows.{is_below, rows_from, rows_between, EndsBefore}
 use Rattle.bl_index_read.proofs.Ranges.{first_rows, none_fails, filter_keeps, filter_has, rising_filter}
 

@@ -10,7 +10,7 @@ use Rattle.bl_page.specs.Pairs.{AllWithin, end_of}
 use Rattle.bl_page.specs.Words.{words_of}
 use Rattle.bl_page.proofs.FaultLemmas.{fits}
 use Rattle.bl_page.specs.Nodes.{IsTreePage}
-use Rattle.bl_proc_pages.proofs.Spellings.{tree_pairs}
+use Rattle.bl_proc_routes.proofs.Spellings.{tree_pairs}
 use Rattle.bl_index_read.specs.LeafRows.{IsBelow, EndsBefore, IsLastBelow}
 use Rattle.bl_index_read.proofs.Picked.{count_is}
 use Rattle.bl_index_read.proofs.Ranges.{below_true}

@@ -7,26 +7,26 @@ use Rattle.bl_page.specs.declared.page.Page.{Page}
 use Rattle.bl_page.specs.Words.{words_of}
 use Rattle.bl_page.specs.Machine.Act.{Look}
 use Rattle.bl_page.specs.Machine.Looked.{Page as OfPage}
-use Rattle.bl_proc_base.specs.declared.acts.Seen.TheVariants as seen
-use Rattle.bl_proc_base.specs.declared.descent.Descent.{Descent}
-use Rattle.bl_proc_base.specs.declared.descent.Descent.TheVariants.{AtAnchor}
-use Rattle.bl_proc_base.specs.declared.descent.Descended.{Descended}
-use Rattle.bl_proc_base.specs.declared.descent.Descended.TheVariants.{On, Here}
-use Rattle.bl_proc_base.specs.Descents.{Descends}
-use Rattle.bl_proc_base.proofs.Descents.{here_leads}
+use Rattle.bl_proc_steps.specs.declared.acts.Seen.TheVariants as seen
+use Rattle.bl_proc_steps.specs.declared.descent.Descent.{Descent}
+use Rattle.bl_proc_steps.specs.declared.descent.Descent.TheVariants.{AtAnchor}
+use Rattle.bl_proc_steps.specs.declared.descent.Descended.{Descended}
+use Rattle.bl_proc_steps.specs.declared.descent.Descended.TheVariants.{On, Here}
+use Rattle.bl_proc_steps.specs.Descents.{Descends}
+use Rattle.bl_proc_steps.proofs.Descents.{here_leads}
 use Rattle.bl_proc.specs.declared.kinds.Proc.{Proc}
 use Rattle.bl_proc.specs.Processes.{Takes}
 use Rattle.bl_store.specs.declared.store.Glance.{Glance}
 use Rattle.bl_store.specs.declared.store.Hand.{Hand}
-use Rattle.bl_frames.specs.declared.view.View.{View}
+use Rattle.bl_store_rule.specs.declared.view.View.{View}
 use Rattle.bl_store.specs.Hands.{known, read_words, IsSameHand, ReadsFrom}
 use Rattle.bl_index_rule.specs.declared.known.PassState.{PassState}
 use Rattle.bl_index_rule.specs.Observed.{Begins, Steps, Goes}
-use Rattle.bl_index_steps.specs.declared.tree.Tree.{Tree}
-use Rattle.bl_index_steps.specs.Runs.{IsOn, IsSince, Runs}
-use Rattle.bl_index_steps.proofs.Calls.{since_begin, since_step}
-use Rattle.bl_index_steps.proofs.Held.{begins_held}
-use Rattle.bl_index_steps.proofs.Standing.{on_goes, on_after}
+use Rattle.bl_index_events.specs.declared.tree.Tree.{Tree}
+use Rattle.bl_index_events.specs.Runs.{IsOn, IsSince, Runs}
+use Rattle.bl_index_events.proofs.Calls.{since_begin, since_step}
+use Rattle.bl_index_events.proofs.Held.{begins_held}
+use Rattle.bl_index_events.proofs.Standing.{on_goes, on_after}
 use Rattle.bl_index_read.specs.declared.leaf_ways.Reached.{Reached}
 use Rattle.bl_index_read.specs.declared.leaf_ways.Reached.TheVariants as reached
 use Rattle.bl_index_read.specs.declared.sought.Sought.{Sought}

@@ -1,16 +1,16 @@
 -- What is known of a process that gives up.
 use Rattle.std.proofs.Common.{ℕ, ◌≡◌, ◌+◌, Option, None, List, [], sym, ◌∙◌, subst, append-nil}
 use Rattle.bl_page.specs.declared.page.Page.{Page}
-use Rattle.bl_core.specs.Worlds.{Know, Stage}
+use Rattle.bl_tree_worlds.specs.Worlds.{Know, Stage}
 use Rattle.bl_proc.specs.declared.kinds.Proc.{Proc}
 use Rattle.bl_proc_invariant.specs.Knowing.{Run, know_of}
 use Rattle.bl_proc_bounds.specs.Searches.{IsSearch}
 use Rattle.bl_index_rule.specs.declared.known.PassState.{PassState}
 use Rattle.bl_claims.specs.Seeing.{own}
 use Rattle.bl_index_rule.specs.Observed.{Finishes, MayGiveUp}
-use Rattle.bl_index_steps.specs.Answered.{Adds}
-use Rattle.bl_index_steps.specs.Runs.{IsSince}
-use Rattle.bl_index_steps.proofs.Calls.{since_end, since_said, end_seen}
+use Rattle.bl_index_events.specs.Answered.{Adds}
+use Rattle.bl_index_events.specs.Runs.{IsSince}
+use Rattle.bl_index_events.proofs.Calls.{since_end, since_said, end_seen}
 
 -- it runs, has said nothing, and holds nothing
 pub record IsSilent (k : Know) : Type 0 where

@@ -6,11 +6,11 @@ use Rattle.bl_model.specs.declared.operation.KeyReply.{KeyReply}
 use Rattle.bl_model.specs.Replies.{reply_of}
 use Rattle.bl_page.specs.declared.page.Page.{Page}
 use Rattle.bl_claims.specs.Trails.{Trail}
-use Rattle.bl_proc_base.specs.declared.descent.Descent.{Descent}
+use Rattle.bl_proc_steps.specs.declared.descent.Descent.{Descent}
 use Rattle.bl_store.specs.Hands.{IsSameHand}
 use Rattle.bl_store.specs.declared.store.Hand.{Hand}
 use Rattle.bl_index_rule.specs.declared.known.PassState.{PassState}
-use Rattle.bl_index_steps.specs.declared.tree.Tree.{Tree}
+use Rattle.bl_index_events.specs.declared.tree.Tree.{Tree}
 use Rattle.bl_index_read.specs.declared.sought.Sought.TheVariants.{Value}
 use Rattle.bl_index_read.specs.LeafWays.{HasSetOff}
 use Rattle.bl_index_read.specs.Searching.{Finds}

@@ -4,14 +4,14 @@ use Rattle.bl_page.specs.declared.page.Page.{Page}
 use Rattle.bl_page.specs.Machine.Act.{Look}
 use Rattle.bl_page.specs.Machine.Looked.{Page as OfPage}
 use Rattle.bl_page.specs.Nodes.{node_of}
-use Rattle.bl_proc_base.specs.declared.acts.Action.TheVariants as act
-use Rattle.bl_proc_base.specs.declared.acts.Seen.TheVariants as seen
-use Rattle.bl_proc_base.specs.declared.descent.Descent.{Descent}
-use Rattle.bl_proc_base.specs.declared.descent.Descent.TheVariants.{AtAnchor}
-use Rattle.bl_proc_base.specs.declared.descent.Descended.TheVariants.{On, Here}
-use Rattle.bl_proc_base.specs.Descents.{descent_page, Descends}
-use Rattle.bl_proc_base.proofs.Descents.{here_leads}
-use Rattle.bl_core.specs.Blank.{IsBlank}
+use Rattle.bl_proc_steps.specs.declared.acts.Action.TheVariants as act
+use Rattle.bl_proc_steps.specs.declared.acts.Seen.TheVariants as seen
+use Rattle.bl_proc_steps.specs.declared.descent.Descent.{Descent}
+use Rattle.bl_proc_steps.specs.declared.descent.Descent.TheVariants.{AtAnchor}
+use Rattle.bl_proc_steps.specs.declared.descent.Descended.TheVariants.{On, Here}
+use Rattle.bl_proc_steps.specs.Descents.{descent_page, Descends}
+use Rattle.bl_proc_steps.proofs.Descents.{here_leads}
+use Rattle.bl_tree_worlds.specs.Blank.{IsBlank}
 use Rattle.bl_proc.specs.declared.kinds.Proc.{Proc}
 use Rattle.bl_proc.specs.declared.parts.PartStage.TheVariants as part
 use Rattle.bl_proc.specs.declared.searching.FindStage.TheVariants as find
@@ -20,10 +20,10 @@ use Rattle.bl_proc.specs.Processes.{next_of, Takes}
 use Rattle.bl_proc_bounds.specs.Searches.{IsSearch, IsUnderWay}
 use Rattle.bl_proc_invariant.specs.Knowing.{know_of, end_of_proc}
 use Rattle.bl_proc_invariant.specs.Turns.{event_of}
-use Rattle.bl_proc_unique.specs.Courses.{GoesOn}
-use Rattle.bl_proc_unique.proofs.Searches.{find_goes}
-use Rattle.bl_proc_unique.proofs.Parts.{part_goes}
-use Rattle.bl_proc_unique.proofs.Listings.{toward_some}
+use Rattle.bl_proc_deterministic.specs.Courses.{GoesOn}
+use Rattle.bl_proc_deterministic.proofs.Searches.{find_goes}
+use Rattle.bl_proc_deterministic.proofs.Parts.{part_goes}
+use Rattle.bl_proc_deterministic.proofs.Listings.{toward_some}
 use Rattle.bl_index_rule.specs.declared.known.PassState.{PassState}
 use Rattle.bl_index_rule.specs.Observed.{Steps, Goes, MayGiveUp, IsUnborn}
 use Rattle.bl_index_read.specs.declared.sought.Sought.{Sought}

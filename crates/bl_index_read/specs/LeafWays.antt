@@ -5,9 +5,9 @@ use Rattle.bl_layout.specs.declared.layout.Layout.{Layout}
 use Rattle.bl_page.specs.declared.page.Page.{Page}
 use Rattle.bl_page.specs.Nodes.{node_of}
 use Rattle.bl_page.specs.Words.{words_of}
-use Rattle.bl_proc_pages.specs.declared.onwards.Step.TheVariants.{Here}
-use Rattle.bl_proc_pages.specs.Onwards.{Leads}
-use Rattle.bl_proc_base.specs.declared.descent.Descent.{Descent}
+use Rattle.bl_proc_routes.specs.declared.routes.Step.TheVariants.{Here}
+use Rattle.bl_proc_routes.specs.Routes.{Leads}
+use Rattle.bl_proc_steps.specs.declared.descent.Descent.{Descent}
 use Rattle.bl_proc.specs.declared.searching.FindStage.{FindStage}
 use Rattle.bl_proc.specs.declared.searching.FindStage.TheVariants as find
 use Rattle.bl_proc.specs.declared.parts.Direction.{Direction}
@@ -19,12 +19,12 @@ use Rattle.bl_proc.specs.declared.kinds.Proc.TheVariants as proc
 use Rattle.bl_proc.specs.Parts.{IsPartToward}
 use Rattle.bl_store.specs.declared.store.Glance.{Glance}
 use Rattle.bl_store.specs.declared.store.Hand.{Hand}
-use Rattle.bl_frames.specs.declared.view.View.{View}
+use Rattle.bl_store_rule.specs.declared.view.View.{View}
 use Rattle.bl_store.specs.Hands.{known, read_words, IsIdle, IsRunning, ReadsFrom}
 use Rattle.bl_index_rule.specs.declared.known.PassState.{PassState}
 use Rattle.bl_claims.specs.Seeing.{IsSeen}
-use Rattle.bl_index_steps.specs.declared.tree.Tree.{Tree}
-use Rattle.bl_index_steps.specs.Runs.{IsOn, IsSince, IsWithin, Runs}
+use Rattle.bl_index_events.specs.declared.tree.Tree.{Tree}
+use Rattle.bl_index_events.specs.Runs.{IsOn, IsSince, IsWithin, Runs}
 use Rattle.bl_index_read.specs.declared.leaf_ways.Reached.{Reached}
 use Rattle.bl_index_read.specs.declared.leaf_ways.Reached.TheVariants as reached
 use Rattle.bl_index_read.specs.declared.sought.Sought.{Sought}

@@ -7,7 +7,7 @@ use Rattle.bl_claims.specs.Trails.{Trail, marks_of}
 use Rattle.bl_claims.specs.Bounds.{gets_of, puts_near, most_gets, IsWithinBound}
 use Rattle.bl_claims.specs.Latches.{OnlyLooks}
 use Rattle.bl_claims.specs.Seeing.{name}
-use Rattle.bl_index_steps.specs.Answered.{Answers, Adds}
+use Rattle.bl_index_events.specs.Answered.{Answers, Adds}
 use Rattle.bl_index_read.specs.declared.finding.OutOfTurns.{OutOfTurns}
 use Rattle.bl_model.specs.declared.operation.KeyReply.{KeyReply}
 use Rattle.bl_model.specs.Replies.{reply_of}

@@ -6,12 +6,12 @@ use Rattle.bl_model.specs.Replies.{reply_of}
 use Rattle.bl_page.specs.declared.page.Page.{Page}
 use Rattle.bl_claims.specs.Trails.{Trail}
 use Rattle.bl_claims.specs.Seeing.{IsSeen}
-use Rattle.bl_proc_base.specs.declared.descent.Descent.{Descent}
+use Rattle.bl_proc_steps.specs.declared.descent.Descent.{Descent}
 use Rattle.bl_store.specs.Hands.{known}
 use Rattle.bl_store.specs.declared.store.Hand.{Hand}
 use Rattle.bl_index_rule.specs.declared.known.PassState.{PassState}
-use Rattle.bl_index_steps.specs.declared.tree.Tree.{Tree}
-use Rattle.bl_index_steps.specs.Runs.{Rests}
+use Rattle.bl_index_events.specs.declared.tree.Tree.{Tree}
+use Rattle.bl_index_events.specs.Runs.{Rests}
 use Rattle.bl_index_read.specs.declared.finding.OutOfTurns.{OutOfTurns}
 use Rattle.bl_index_read.specs.declared.sought.Sought.TheVariants.{Value}
 use Rattle.bl_index_read.specs.LeafWays.{HasSetOff}

@@ -7,7 +7,7 @@ ghost use Rattle.bl_store.specs.Hands.{known, IsIdle, IsSameHand, IsSameStock};
 ghost use Rattle.bl_store.specs.Owners.{IsHandOf};
 ghost use Rattle.bl_claims.specs.Seeing.{IsSeen};
 ghost use Rattle.bl_index_rule.specs.declared.known.PassState.{PassState as Knows};
-ghost use Rattle.bl_index_steps.specs.Runs.{Rests};
+ghost use Rattle.bl_index_events.specs.Runs.{Rests};
 ghost use Rattle.bl_model.specs.Replies.{reply_of};
 ghost use Rattle.bl_index_read.specs.Searching.{AnswersOrRunsOut, found_of};
 ghost use Rattle.bl_index_read.specs.declared.sought.Sought.TheVariants as sought;
@@ -16,11 +16,11 @@ ghost use Rattle.bl_index_read.specs.Together.{GoesToNext, FindsUpTo};
 
 use crate::leaf_ways::{descend_to_leaf, end_at_leaf, set_off, set_off_behind};
 use crate::sought::Sought;
+use bl_index_events::{FrameView, Tree};
 use bl_index_rule::PassState;
-use bl_index_steps::{FrameView, Tree};
 use bl_model::KeyReply;
-use bl_proc_base::Descent;
-use bl_proc_pages::row_in;
+use bl_proc_routes::row_in;
+use bl_proc_steps::Descent;
 use bl_store::Hand;
 
 /// A search or a part has got as many pages as it was allowed, and has answered nothing.

@@ -14,16 +14,16 @@ ghost use Rattle.bl_page.specs.Faults.{HasPairs, count_in, pairs_of};
 ghost use Rattle.bl_page.specs.Pairs.{end_of};
 ghost use Rattle.bl_page.specs.Words.{words_of};
 ghost use Rattle.bl_page.specs.Nodes.{node_of, IsTreePage};
-ghost use Rattle.bl_proc_pages.specs.declared.onwards.Step.TheVariants as onward;
-ghost use Rattle.bl_proc_pages.specs.Onwards.{Leads};
-ghost use Rattle.bl_proc_base.specs.Descents.{Descends};
+ghost use Rattle.bl_proc_routes.specs.declared.routes.Step.TheVariants as onward;
+ghost use Rattle.bl_proc_routes.specs.Routes.{Leads};
+ghost use Rattle.bl_proc_steps.specs.Descents.{Descends};
 ghost use Rattle.bl_proc.specs.Parts.{GoesOnAt, GoesOnBelow};
 ghost use Rattle.bl_index_read.specs.LeafRows.{IsBelow, GoesOnWithin, rows_from, EndsBefore, IsLastBelow};
 
 use arrayvec::ArrayVec;
 use bl_model::Next;
 use bl_page::{KIND_UNIT, LEVEL_UNIT, Pairs, Words, word};
-use bl_proc_base::{Descended, Descent};
+use bl_proc_steps::{Descended, Descent};
 use std::alloc::AllocError;
 
 /// The head of each leaf has so many units of levels: its kind, which is 2, and level 0.

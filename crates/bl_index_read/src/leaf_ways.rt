@@ -5,28 +5,28 @@ ghost use Rattle.bl_page.specs.declared.page.Page.{Page};
 ghost use Rattle.bl_page.specs.Words.{words_of};
 ghost use Rattle.bl_page.specs.Machine.Act.{Get, Look};
 ghost use Rattle.bl_page.specs.Machine.Looked.{Page as OfPage};
-ghost use Rattle.bl_proc_base.specs.declared.acts.Action.TheVariants as act;
-ghost use Rattle.bl_proc_base.specs.declared.acts.Seen.TheVariants as seen;
-ghost use Rattle.bl_proc_base.specs.declared.descent.Descent.TheVariants as descent;
-ghost use Rattle.bl_proc_base.specs.Descents.{descent_page, Descends};
+ghost use Rattle.bl_proc_steps.specs.declared.acts.Action.TheVariants as act;
+ghost use Rattle.bl_proc_steps.specs.declared.acts.Seen.TheVariants as seen;
+ghost use Rattle.bl_proc_steps.specs.declared.descent.Descent.TheVariants as descent;
+ghost use Rattle.bl_proc_steps.specs.Descents.{descent_page, Descends};
 ghost use Rattle.bl_proc.specs.Processes.{next_of};
-ghost use Rattle.bl_proc_unique.specs.Courses.{GoesOn};
+ghost use Rattle.bl_proc_deterministic.specs.Courses.{GoesOn};
 ghost use Rattle.bl_store.specs.Hands.{known, IsIdle, IsRunning, IsSameHand, IsSameStock, ReadsFrom};
 ghost use Rattle.bl_store.specs.Owners.{IsHandOf};
 ghost use Rattle.bl_index_rule.specs.declared.known.PassState.{PassState as Knows};
 ghost use Rattle.bl_index_rule.specs.Observed.{Begins, Steps, ends, IsUnborn};
-ghost use Rattle.bl_index_steps.specs.Runs.{Runs, Keeps, IsSince, IsWithin};
+ghost use Rattle.bl_index_events.specs.Runs.{Runs, KeepsHand, IsSince, IsWithin};
 ghost use Rattle.bl_index_read.specs.Turns.{IsAtTurn};
 ghost use Rattle.bl_index_read.specs.declared.sought.Sought.{Sought as Seeks};
 ghost use Rattle.bl_index_read.specs.LeafWays.{fresh, probing, going, IsAtLeaf, HasReached, HasLeaf, HasGivenUp, HasSetOff};
 
 use crate::leaf_rows::descended;
 use crate::sought::Sought;
+use bl_index_events::{FrameView, Tree};
 use bl_index_rule::{Began, Ended, Launch, PassState};
-use bl_index_steps::{FrameView, Tree};
 use bl_page::Words;
 use bl_proc::first_way;
-use bl_proc_base::{Descended, Descent};
+use bl_proc_steps::{Descended, Descent};
 use bl_store::{Glance, Hand};
 use std::marker::Brand;
 
@@ -96,7 +96,7 @@ fn begin_near(tree: &Tree, hand: &mut Hand<PassState>, sought: Sought, key: u64,
 fn probe(tree: &Tree, hand: &mut Hand<PassState>, sought: Sought, key: u64, page: u32) -> Descent
     requires runs { Runs tree.now hand.old (probing sought key page) }
     requires page { page < tree.now.store.layout.pages }
-    ensures same { Keeps hand.old.seat hand.new.seat }
+    ensures same { KeepsHand hand.old.seat hand.new.seat }
     ensures runs { Runs tree.now hand.new (going sought key result) }
     ensures looked { Steps (Look (OfPage page)) (known hand.old.seat) (known hand.new.seat) }
 {
@@ -158,7 +158,7 @@ fn went<W: Words>(
 #[inline(always)]
 fn go_on(tree: &Tree, hand: &mut Hand<PassState>, sought: Sought, key: u64, way: Descent) -> Reached
     requires runs { Runs tree.now hand.old (going sought key way) }
-    ensures same { Keeps hand.old.seat hand.new.seat }
+    ensures same { KeepsHand hand.old.seat hand.new.seat }
     ensures reached { HasReached sought key tree.now.store.layout hand.new.seat result }
     ensures got { Steps (Get (descent_page way)) (known hand.old.seat) (known hand.new.seat) }
 {

@@ -8,7 +8,7 @@ ghost use Rattle.bl_store.specs.Owners.{IsHandOf};
 ghost use Rattle.bl_claims.specs.Seeing.{IsSeen};
 ghost use Rattle.bl_index_rule.specs.declared.known.PassState.{PassState as Knows};
 ghost use Rattle.bl_index_rule.specs.Observed.{ends};
-ghost use Rattle.bl_index_steps.specs.Runs.{Runs, Rests};
+ghost use Rattle.bl_index_events.specs.Runs.{Runs, Rests};
 ghost use Rattle.bl_index_read.specs.Searching.{AnswersOrRunsOut};
 ghost use Rattle.bl_index_read.specs.declared.sought.Sought.TheVariants as sought;
 ghost use Rattle.bl_index_read.specs.LeafWays.{IsAtLeaf};
@@ -18,11 +18,11 @@ use crate::finding::OutOfTurns;
 use crate::leaf_rows::{Behind, link_in, next_below_in, next_in, rows_down_in, rows_in};
 use crate::leaf_ways::{descend_to_leaf, end_at_leaf, set_off, set_off_behind};
 use crate::sought::Sought;
+use bl_index_events::{FrameView, Tree};
 use bl_index_rule::PassState;
-use bl_index_steps::{FrameView, Tree};
 use bl_model::Reply;
 use bl_proc::Direction;
-use bl_proc_base::Descent;
+use bl_proc_steps::Descent;
 use bl_store::Hand;
 
 /// Carries a part out, from its begin to its end: it is answered, or has got so many pages. With a page in mind it looks at that one

@@ -11,7 +11,7 @@ use Rattle.bl_page.specs.Machine.{Name, State, Act}
 use Rattle.bl_page.specs.Machine as machine
 use Rattle.bl_claims.specs.Trails.{Trail, entries_at, marks_of}
 use Rattle.bl_claims.specs.States.{HasMoments}
-use Rattle.bl_core.proofs.States.{moments_on}
+use Rattle.bl_tree_worlds.proofs.States.{moments_on}
 use Rattle.bl_proc.specs.Processes.{next_of}
 use Rattle.bl_proc_invariant.specs.Logs.{proc_log}
 use Rattle.bl_proc_invariant.specs.Turns.{Turned}
@@ -23,7 +23,7 @@ use Rattle.bl_proc_bounds.specs.Searches.{IsSearch, IsUnderWay}
 use Rattle.bl_proc_bounds.specs.Latches.{IsTidy}
 use Rattle.bl_proc_bounds.specs.Paces.{AllKept}
 use Rattle.bl_proc_bounds.proofs.Bounded.{search_within, search_below}
-use Rattle.bl_frames.specs.Pages.{Owner, Stage, Running, Pages, Stands}
+use Rattle.bl_store_rule.specs.Pages.{Owner, Stage, Running, Pages, Stands}
 use Rattle.bl_index_rule.specs.declared.known.PassState.{PassState}
 use Rattle.bl_claims.specs.Seeing.{first_map, BeginsFrom, IsSeen, AreWithin, own, name}
 use Rattle.bl_index_rule.specs.Simulation.{Shows, owner_in, IsAtStage, IsHand, IsRun, Simulates}

@@ -10,14 +10,14 @@ use Rattle.bl_page.specs.declared.page.Page.TheVariants.{Anchor}
 use Rattle.bl_page.specs.Machine.{Name, State, Act}
 use Rattle.bl_page.specs.Machine as machine
 use Rattle.bl_claims.specs.Trails.{Said, Mark, Trail, entries_at, marks_of, IsMarked}
-use Rattle.bl_core.proofs.Pushes.{name_cases, marks_of-own, SaysAt-last, DoesAt-last}
-use Rattle.bl_core.specs.Worlds.{World}
+use Rattle.bl_tree_worlds.proofs.Pushes.{name_cases, marks_of-own, SaysAt-last, DoesAt-last}
+use Rattle.bl_tree_worlds.specs.Worlds.{World}
 use Rattle.bl_claims.specs.Walks.{Each}
-use Rattle.bl_core.proofs.Frames.{Each-map}
-use Rattle.bl_core.proofs.After.{put_name, is_put_name}
-use Rattle.bl_core.specs.Blank.{IsBlank}
-use Rattle.bl_proc_base.specs.declared.acts.Action.TheVariants as act
-use Rattle.bl_proc_base.specs.declared.acts.Seen.TheVariants as seen
+use Rattle.bl_tree_worlds.proofs.Frames.{Each-map}
+use Rattle.bl_tree_worlds.proofs.After.{put_name, is_put_name}
+use Rattle.bl_tree_worlds.specs.Blank.{IsBlank}
+use Rattle.bl_proc_steps.specs.declared.acts.Action.TheVariants as act
+use Rattle.bl_proc_steps.specs.declared.acts.Seen.TheVariants as seen
 use Rattle.bl_proc.specs.declared.kinds.Proc.{Proc}
 use Rattle.bl_proc.specs.declared.kinds.Proc.TheVariants as proc
 use Rattle.bl_proc.specs.Processes.{next_of}
@@ -37,9 +37,9 @@ use Rattle.bl_proc_bounds.specs.Paces.{AllKept}
 use Rattle.bl_proc_bounds.proofs.Turns.{state_kept}
 use Rattle.bl_proc_bounds.proofs.Latching.{none_up}
 use Rattle.bl_proc_bounds.proofs.Kept.{left_kept, enter_kept}
-use Rattle.bl_proc_unique.specs.Courses.{GoesOn}
+use Rattle.bl_proc_deterministic.specs.Courses.{GoesOn}
 use Rattle.bl_layout.specs.declared.layout.Layout.{Layout}
-use Rattle.bl_frames.specs.Pages.{Held, Stage, Idle, Running, Pages, Stands, IsOrderly, HoldsNone, observed, Begins as BeginsIn, Ends}
+use Rattle.bl_store_rule.specs.Pages.{Held, Stage, Idle, Running, Pages, Stands, IsOrderly, HoldsNone, observed, Begins as BeginsIn, Ends}
 use Rattle.bl_index_rule.specs.declared.known.PassState.{PassState}
 use Rattle.bl_claims.specs.Seeing.{own, name}
 use Rattle.bl_index_rule.specs.Simulation.{owner_in, IsAtStage, IsHand, Simulates}

@@ -3,17 +3,17 @@ use Rattle.std.proofs.Common.{◌≡◌, ◌≢◌, refl, sym, ap, ◌∙◌, su
 use Rattle.bl_page.specs.declared.page.Page.{Page}
 use Rattle.bl_page.specs.Machine.{Name, State}
 use Rattle.bl_claims.specs.Trails.{Mark, marks_of}
-use Rattle.bl_core.proofs.Pushes.{marks_of-own, marks_of-other}
-use Rattle.bl_core.specs.Worlds.{World}
-use Rattle.bl_proc_base.specs.declared.acts.Action.{Action}
-use Rattle.bl_proc_base.specs.declared.acts.Seen.{Seen}
+use Rattle.bl_tree_worlds.proofs.Pushes.{marks_of-own, marks_of-other}
+use Rattle.bl_tree_worlds.specs.Worlds.{World}
+use Rattle.bl_proc_steps.specs.declared.acts.Action.{Action}
+use Rattle.bl_proc_steps.specs.declared.acts.Seen.{Seen}
 use Rattle.bl_proc.specs.declared.kinds.Proc.{Proc}
 use Rattle.bl_proc.specs.Processes.{next_of}
 use Rattle.bl_proc_invariant.specs.Logs.{proc_log}
 use Rattle.bl_proc_invariant.specs.Turns.{event_of, IsObserved, Turned}
 use Rattle.bl_proc_invariant.specs.Knowing.{Run, know, end_of_proc}
 use Rattle.bl_proc_invariant.proofs.Logged.{saw_words, log_turn}
-use Rattle.bl_proc_unique.specs.Courses.{GoesOn}
+use Rattle.bl_proc_deterministic.specs.Courses.{GoesOn}
 
 -- by its own turn
 pub log_after : (w : World Run) (p : Name) (old : Proc) (what : Seen) (c : GoesOn old what) (a : Action) (s : State Page) (b : Run) (t : Turned know w p (event_of (end_of_proc old) a what) s b)

@@ -7,7 +7,7 @@ use Rattle.bl_model.specs.History.{entries_of_pass}
 use Rattle.bl_model.proofs.Histories.{entries_of_pass-append}
 use Rattle.bl_page.specs.Machine.{Name}
 use Rattle.bl_claims.specs.Trails.{Said, Mark, Trail, entries_at, history_of, SaysAt, IsMarked, HasSaid}
-use Rattle.bl_core.proofs.Pushes.{history_of-push, SaysAt-push, SaysAt-last, SaysAt-cases}
+use Rattle.bl_tree_worlds.proofs.Pushes.{history_of-push, SaysAt-push, SaysAt-last, SaysAt-cases}
 use Rattle.bl_claims.specs.Seeing.{own}
 
 pub own-push : (pass : ℕ) (trail : Trail) (m : Mark) → own pass (trail ++ m ∷ []) ≡ own pass trail ++ entries_of_pass pass (entries_at m.event.process m.said)

@@ -5,13 +5,13 @@ use Rattle.bl_page.specs.declared.page.Page.{Page}
 use Rattle.bl_page.specs.Machine.{Name, State, Act, Changes}
 use Rattle.bl_page.specs.Machine as machine
 use Rattle.bl_claims.specs.Trails.{marks_of}
-use Rattle.bl_core.proofs.Pushes.{name_cases}
+use Rattle.bl_tree_worlds.proofs.Pushes.{name_cases}
 use Rattle.bl_proc.specs.declared.kinds.Proc.{Proc}
 use Rattle.bl_proc_invariant.specs.Logs.{proc_log}
 use Rattle.bl_proc_invariant.specs.Turns.{Turned}
 use Rattle.bl_proc_invariant.specs.Knowing.{Run, know}
 use Rattle.bl_proc_invariant.proofs.Middles.{KeepsLogs}
-use Rattle.bl_frames.specs.Pages.{Running, Pages}
+use Rattle.bl_store_rule.specs.Pages.{Running, Pages}
 use Rattle.bl_index_rule.specs.declared.known.PassState.{PassState}
 use Rattle.bl_claims.specs.Seeing.{name}
 use Rattle.bl_index_rule.specs.Simulation.{Simulates}

@@ -2,9 +2,9 @@
 use Rattle.std.proofs.Common.{ℕ, ◌≡◌, ◌≢◌, ◌+◌, ◌≤◌, ◌++◌, Bool, if◌then◌else◌, true, false, List, [], ◌∷◌, length, refl, ap, ◌∙◌, arith}
 use Rattle.bl_page.specs.Machine.{Name}
 use Rattle.bl_claims.specs.Trails.{Mark, Trail, same_name, marks_of}
-use Rattle.bl_core.proofs.Pushes.{not_same}
+use Rattle.bl_tree_worlds.proofs.Pushes.{not_same}
 use Rattle.bl_claims.specs.Walks.{Each}
-use Rattle.bl_core.proofs.Frames.{Each-map}
+use Rattle.bl_tree_worlds.proofs.Frames.{Each-map}
 use Rattle.bl_claims.specs.Seeing.{AreElse}
 use Rattle.bl_index_rule.specs.Simulation.{AreUpTo}
 

@@ -11,20 +11,20 @@ use Rattle.bl_page.specs.Pairs.{IsChild}
 use Rattle.bl_page.specs.Machine.{Name, State, Act}
 use Rattle.bl_page.specs.Machine.Looked.{Page as OfPage}
 use Rattle.bl_page.specs.Machine as machine
-use Rattle.bl_core.specs.Worlds.{MayGet}
-use Rattle.bl_core.proofs.After.{put_at, is_put_at}
-use Rattle.bl_core.proofs.Descents.{anchor_not_released}
-use Rattle.bl_proc_base.specs.declared.acts.Action.{Action}
-use Rattle.bl_proc_base.specs.declared.acts.Action.TheVariants as act
-use Rattle.bl_proc_base.specs.declared.acts.Seen.{Seen}
-use Rattle.bl_proc_base.specs.declared.acts.Seen.TheVariants as seen
+use Rattle.bl_tree_worlds.specs.Worlds.{MayGet}
+use Rattle.bl_tree_worlds.proofs.After.{put_at, is_put_at}
+use Rattle.bl_tree_worlds.proofs.Descents.{anchor_not_released}
+use Rattle.bl_proc_steps.specs.declared.acts.Action.{Action}
+use Rattle.bl_proc_steps.specs.declared.acts.Action.TheVariants as act
+use Rattle.bl_proc_steps.specs.declared.acts.Seen.{Seen}
+use Rattle.bl_proc_steps.specs.declared.acts.Seen.TheVariants as seen
 use Rattle.bl_proc.specs.Processes.{next_of}
 use Rattle.bl_proc_invariant.specs.Turns.{event_of, IsObserved, IsShown, Does}
 use Rattle.bl_proc_invariant.specs.Knowing.{know, end_of_proc}
 use Rattle.bl_proc_invariant.proofs.Gets.{IsGot, got_next_is}
-use Rattle.bl_proc_unique.specs.Courses.{GoesOn}
+use Rattle.bl_proc_deterministic.specs.Courses.{GoesOn}
 use Rattle.bl_layout.specs.declared.layout.Layout.{Layout}
-use Rattle.bl_frames.specs.Pages.{Owner, Released, Open, Held, Retired, Stage, Running, Pages, Stands, later, observed, owned, written, Gets, Puts, Takes, Latches, Misses, Probes, Opens, Retires, Refuses}
+use Rattle.bl_store_rule.specs.Pages.{Owner, Released, Open, Held, Retired, Stage, Running, Pages, Stands, later, observed, owned, written, Gets, Puts, Takes, Latches, Misses, Probes, Opens, Retires, Refuses}
 use Rattle.bl_index_rule.specs.declared.known.PassState.{PassState}
 use Rattle.bl_claims.specs.Seeing.{name}
 use Rattle.bl_index_rule.specs.Simulation.{Shows, owner_in, Simulates}

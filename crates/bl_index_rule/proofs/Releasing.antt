@@ -8,10 +8,10 @@ use Rattle.bl_page.specs.declared.page.Page.{Page}
 use Rattle.bl_page.specs.Machine.{Name, State, Act, AllBeganAfter as AllBeganAfterIn}
 use Rattle.bl_page.specs.Machine as machine
 use Rattle.bl_claims.specs.Trails.{Said, Mark, Trail, entries_at}
-use Rattle.bl_core.proofs.Pushes.{marks_of-own}
-use Rattle.bl_core.specs.Worlds.{HoldsPage}
-use Rattle.bl_core.proofs.Frames.{Each-map}
-use Rattle.bl_core.proofs.After.{put_at, is_put_at}
+use Rattle.bl_tree_worlds.proofs.Pushes.{marks_of-own}
+use Rattle.bl_tree_worlds.specs.Worlds.{HoldsPage}
+use Rattle.bl_tree_worlds.proofs.Frames.{Each-map}
+use Rattle.bl_tree_worlds.proofs.After.{put_at, is_put_at}
 use Rattle.bl_proc_invariant.specs.Turns.{Does, Turned}
 use Rattle.bl_proc_invariant.specs.Knowing.{know}
 use Rattle.bl_proc_invariant.proofs.Releasing.{release}
@@ -19,7 +19,7 @@ use Rattle.bl_proc_invariant.proofs.Middles.{KeepsLogs}
 use Rattle.bl_proc_bounds.specs.Paces.{AllKept}
 use Rattle.bl_proc_bounds.proofs.Kept.{idle_kept}
 use Rattle.bl_layout.specs.declared.layout.Layout.{Layout}
-use Rattle.bl_frames.specs.Pages.{Owner, Released, Held, Retired, Stage, Idle, Running, Pages, Stands, IsPage, AllBeganAfter, observed, owned, Releases, ReleasesMany as SweepsIn}
+use Rattle.bl_store_rule.specs.Pages.{Owner, Released, Held, Retired, Stage, Idle, Running, Pages, Stands, IsPage, AllBeganAfter, observed, owned, Releases, ReleasesMany as SweepsIn}
 use Rattle.bl_index_rule.specs.declared.known.PassState.{PassState}
 use Rattle.bl_claims.specs.Seeing.{own, name}
 use Rattle.bl_index_rule.specs.Simulation.{owner_in, Simulates}

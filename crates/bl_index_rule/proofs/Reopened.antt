@@ -15,21 +15,21 @@ use Rattle.bl_check.specs.Rules.{AreSound, is_anchor}
 use Rattle.bl_check.specs.Rows.{AreRowsOf}
 use Rattle.bl_page.specs.Pages.{page_at}
 use Rattle.bl_page.specs.Nodes.{node_of, roots_of}
-use Rattle.bl_core_tree.specs.Starts.{start_map}
-use Rattle.bl_core_tree.proofs.SoundStarts.{bool_cases}
+use Rattle.bl_tree.specs.Starts.{start_map}
+use Rattle.bl_tree.proofs.SoundStarts.{bool_cases}
 use Rattle.bl_claims.specs.States.{HasMoments}
-use Rattle.bl_core.proofs.States.{moments_first}
-use Rattle.bl_core.specs.Worlds.{World, IsGood}
-use Rattle.bl_core.proofs.Starts.{sound_world, sound_good}
+use Rattle.bl_tree_worlds.proofs.States.{moments_first}
+use Rattle.bl_tree_worlds.specs.Worlds.{World, IsGood}
+use Rattle.bl_tree_worlds.proofs.Starts.{sound_world, sound_good}
 use Rattle.bl_claims.specs.Opening.{node_in, roots_in, IsStored, IsOpened}
-use Rattle.bl_check_tree.specs.Begins.{live_in}
-use Rattle.bl_check_tree.proofs.Beginnings.{begins}
-use Rattle.bl_check_tree.proofs.FirstMaps.{leaves_say}
-use Rattle.bl_check_tree.proofs.Opened.{anchor_at, opened_sound, opened_begins}
+use Rattle.bl_check_laws.specs.Begins.{live_in}
+use Rattle.bl_check_laws.proofs.Beginnings.{begins}
+use Rattle.bl_check_laws.proofs.FirstMaps.{leaves_say}
+use Rattle.bl_check_laws.proofs.Opened.{anchor_at, opened_sound, opened_begins}
 use Rattle.bl_proc_invariant.specs.Knowing.{Run, know}
 use Rattle.bl_proc_invariant.proofs.Middles.{KeepsLogs}
 use Rattle.bl_proc_bounds.proofs.Kept.{first_kept}
-use Rattle.bl_frames.specs.Pages.{Owner, Stage, Idle}
+use Rattle.bl_store_rule.specs.Pages.{Owner, Stage, Idle}
 use Rattle.bl_store.specs.Opening.{is_blank, first_owner, first_pages}
 use Rattle.bl_index_rule.specs.declared.known.PassState.{PassState}
 use Rattle.bl_claims.specs.Seeing.{first_map, BeginsFrom, IsSeen, name}

@@ -7,8 +7,8 @@ use lib.ListN.{get_elem?}
 use Rattle.atomic_table.proofs.Lists.{set_else}
 use Rattle.bl_page.specs.Machine.{Name, Phase}
 use Rattle.bl_page.specs.Machine as machine
-use Rattle.bl_core.proofs.Pushes.{name_cases}
-use Rattle.bl_frames.specs.Pages.{Stage, Running}
+use Rattle.bl_tree_worlds.proofs.Pushes.{name_cases}
+use Rattle.bl_store_rule.specs.Pages.{Stage, Running}
 use Rattle.bl_index_rule.specs.declared.known.PassState.{PassState}
 use Rattle.bl_claims.specs.Seeing.{name}
 use Rattle.bl_index_rule.specs.Simulation.{IsRun}

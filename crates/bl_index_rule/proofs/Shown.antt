@@ -11,10 +11,10 @@ use Rattle.bl_page.specs.Words.{words_of}
 use Rattle.bl_page.specs.Machine.{Name}
 use Rattle.bl_page.specs.Machine as machine
 use Rattle.bl_page.specs.Nodes.{node_of}
-use Rattle.bl_core.specs.Worlds.{World, MayGet, IsGood}
-use Rattle.bl_core.proofs.Descents.{is_dead_page}
+use Rattle.bl_tree_worlds.specs.Worlds.{World, MayGet, IsGood}
+use Rattle.bl_tree_worlds.proofs.Descents.{is_dead_page}
 use Rattle.bl_proc_invariant.specs.Knowing.{Run, know}
-use Rattle.bl_frames.specs.Pages.{Owner, Released, Open, Held, Retired, Stage}
+use Rattle.bl_store_rule.specs.Pages.{Owner, Released, Open, Held, Retired, Stage}
 use Rattle.bl_index_rule.specs.declared.known.PassState.{PassState}
 use Rattle.bl_claims.specs.Seeing.{name}
 use Rattle.bl_index_rule.specs.Simulation.{IsAnchor, Shows, number_in, owner_in}

@@ -6,11 +6,11 @@ use Rattle.bl_page.specs.declared.page.Page.{Page}
 use Rattle.bl_page.specs.Machine.{Name, State, Act}
 use Rattle.bl_page.specs.Machine as machine
 use Rattle.bl_claims.specs.Trails.{Mark, Trail, entries_at, IsMarked, HasSaid}
-use Rattle.bl_core.specs.Worlds.{World, IsGood}
-use Rattle.bl_core.specs.Blank.{IsBlank}
+use Rattle.bl_tree_worlds.specs.Worlds.{World, IsGood}
+use Rattle.bl_tree_worlds.specs.Blank.{IsBlank}
 use Rattle.bl_proc_invariant.specs.Turns.{Turned}
 use Rattle.bl_proc_invariant.specs.Knowing.{Run, know}
-use Rattle.bl_frames.specs.Pages.{Stage, Idle, Running}
+use Rattle.bl_store_rule.specs.Pages.{Stage, Idle, Running}
 use Rattle.bl_index_rule.specs.declared.known.PassState.{PassState}
 use Rattle.bl_claims.specs.Seeing.{own, name}
 use Rattle.bl_index_rule.specs.Simulation.{IsAtStage, AreUpTo, IsHand}

@@ -9,15 +9,15 @@ use Rattle.bl_page.specs.Words.{words_of}
 use Rattle.bl_page.specs.Machine.{Name, State}
 use Rattle.bl_page.specs.Machine as machine
 use Rattle.bl_claims.specs.States.{HasMoments}
-use Rattle.bl_core.proofs.States.{moments_first}
-use Rattle.bl_core.specs.Worlds.{World, IsGood}
-use Rattle.bl_core.specs.Blank.{IsBlank}
+use Rattle.bl_tree_worlds.proofs.States.{moments_first}
+use Rattle.bl_tree_worlds.specs.Worlds.{World, IsGood}
+use Rattle.bl_tree_worlds.specs.Blank.{IsBlank}
 use Rattle.bl_claims.specs.Opening.{Opening}
-use Rattle.bl_core.proofs.Starts.{opening_world, opening_good}
+use Rattle.bl_tree_worlds.proofs.Starts.{opening_world, opening_good}
 use Rattle.bl_proc_invariant.specs.Knowing.{Run, know}
 use Rattle.bl_proc_invariant.proofs.Middles.{KeepsLogs}
 use Rattle.bl_proc_bounds.proofs.Kept.{first_kept}
-use Rattle.bl_frames.specs.Pages.{Stage, Idle}
+use Rattle.bl_store_rule.specs.Pages.{Stage, Idle}
 use Rattle.bl_store.specs.Opening.{first_owner, first_pages}
 use Rattle.bl_index_rule.specs.declared.known.PassState.{PassState}
 use Rattle.bl_claims.specs.Seeing.{IsSeen, name}

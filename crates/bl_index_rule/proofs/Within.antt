@@ -2,7 +2,7 @@
 use Rattle.std.proofs.Common.{ℕ, ◌<◌, ◌++◌, [], ◌∷◌, sym, subst, inl, inr}
 use Rattle.std.proofs.lemmas.List.Elements.{Contains-append_cases}
 use Rattle.bl_claims.specs.Trails.{Mark, Trail}
-use Rattle.bl_core.proofs.Freshness.{only, no_member}
+use Rattle.bl_tree_worlds.proofs.Freshness.{only, no_member}
 use Rattle.bl_claims.specs.Seeing.{AreWithin}
 
 pub none_within : (passes : ℕ) → AreWithin passes []

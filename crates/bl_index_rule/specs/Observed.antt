@@ -5,10 +5,10 @@ use Rattle.bl_page.specs.declared.page.Page.{Page}
 use Rattle.bl_page.specs.Words.{words_of}
 use Rattle.bl_page.specs.Machine.{Name, Act}
 use Rattle.bl_claims.specs.Trails.{Mark, Trail, entries_at, marks_of}
-use Rattle.bl_proc_base.specs.declared.acts.Action.{Action}
-use Rattle.bl_proc_base.specs.declared.acts.Action.TheVariants as action
-use Rattle.bl_proc_base.specs.declared.acts.Seen.{Seen}
-use Rattle.bl_proc_base.specs.declared.acts.Seen.TheVariants as seen
+use Rattle.bl_proc_steps.specs.declared.acts.Action.{Action}
+use Rattle.bl_proc_steps.specs.declared.acts.Action.TheVariants as action
+use Rattle.bl_proc_steps.specs.declared.acts.Seen.{Seen}
+use Rattle.bl_proc_steps.specs.declared.acts.Seen.TheVariants as seen
 use Rattle.bl_proc.specs.declared.kinds.Proc.{Proc}
 use Rattle.bl_proc.specs.Processes.{next_of}
 use Rattle.bl_proc_invariant.specs.Logs.{proc_log}
@@ -18,11 +18,11 @@ use Rattle.bl_claims.specs.Bounds.{IsWithinBound, IsBelowBound}
 use Rattle.bl_proc_bounds.specs.Searches.{IsSearch, IsUnderWay}
 use Rattle.bl_claims.specs.Latches.{OnlyLooks}
 use Rattle.bl_proc_bounds.specs.Latches.{IsTidy}
-use Rattle.bl_core.specs.Worlds.{Stage}
+use Rattle.bl_tree_worlds.specs.Worlds.{Stage}
 use Rattle.bl_claims.specs.Walks.{Each}
-use Rattle.bl_core.specs.Blank.{IsBlank}
-use Rattle.bl_proc_unique.specs.Courses.{GoesOn}
-use Rattle.bl_frames.specs.Pages.{Owner, Open}
+use Rattle.bl_tree_worlds.specs.Blank.{IsBlank}
+use Rattle.bl_proc_deterministic.specs.Courses.{GoesOn}
+use Rattle.bl_store_rule.specs.Pages.{Owner, Open}
 use Rattle.bl_index_rule.specs.declared.known.PassState.{PassState}
 use Rattle.bl_claims.specs.Seeing.{IsSeen, AreWithin, AreElse, own, name}
 use Rattle.bl_index_rule.specs.Simulation.{AreUpTo}

@@ -9,16 +9,16 @@ use Rattle.bl_page.specs.Machine.{Name}
 use Rattle.bl_page.specs.Machine as machine
 use Rattle.bl_claims.specs.Trails.{Mark, Trail, entries_at, marks_of}
 use Rattle.bl_claims.specs.States.{HasMoments}
-use Rattle.bl_core.specs.Worlds.{World, IsGood}
+use Rattle.bl_tree_worlds.specs.Worlds.{World, IsGood}
 use Rattle.bl_claims.specs.Walks.{Each}
-use Rattle.bl_core.specs.Blank.{IsBlank}
+use Rattle.bl_tree_worlds.specs.Blank.{IsBlank}
 use Rattle.bl_proc.specs.declared.kinds.Proc.{Proc}
 use Rattle.bl_proc.specs.declared.kinds.Proc.TheVariants.{Find}
 use Rattle.bl_proc.specs.declared.searching.FindStage.TheVariants as find
 use Rattle.bl_proc_invariant.specs.Knowing.{Run, know}
 use Rattle.bl_proc_invariant.specs.Logs.{proc_log}
 use Rattle.bl_proc_bounds.specs.Paces.{AllKept}
-use Rattle.bl_frames.specs.Pages.{Owner, Released, Open, Held, Retired, Stage, Idle, Running, Pages, Stands}
+use Rattle.bl_store_rule.specs.Pages.{Owner, Released, Open, Held, Retired, Stage, Idle, Running, Pages, Stands}
 use Rattle.bl_index_rule.specs.declared.known.PassState.{PassState}
 use Rattle.bl_claims.specs.Seeing.{name, first_map, BeginsFrom, own, AreWithin, AreElse}
 

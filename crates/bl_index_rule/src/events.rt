@@ -4,7 +4,7 @@ ghost use Rattle.std.specs.Prelude.{ℕ};
 ghost use Rattle.bl_index_rule.specs.Observed.{begins, ends, gives_up, gets, puts, takes, tries, probes, opens, retires, refuses, sweeps};
 
 use crate::known::PassState;
-use bl_frames::{PagePlay, SweepPlay, TimePlay};
+use bl_store_rule::{PagePlay, SweepPlay, TimePlay};
 use std::marker::{Brand, PhantomData};
 
 /// Which pass begins a process, in a store of how many pages and passes, and which process.

@@ -1,7 +1,7 @@
 //! The rule of threads.
 
 use crate::known::PassState;
-use bl_frames::PageRule;
+use bl_store_rule::PageRule;
 
 /// One good world stands behind the pages, and each hand's pass knows a beginning of what has happened in it.
 pub struct Passes;

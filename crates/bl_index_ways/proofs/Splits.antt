@@ -17,13 +17,13 @@ use Rattle.bl_rearrange.specs.declared.fitted.Fitted.TheVariants.{Split}
 use Rattle.bl_rearrange.specs.Rearranged.{pairs_of, MayHold, IsFitted}
 use Rattle.bl_rearrange.proofs.EnteredLemmas.{length-entered}
 use Rattle.bl_rearrange.proofs.Parts.{halves_are}
-use Rattle.bl_proc_base.specs.declared.acts.Seen.TheVariants as seen
-use Rattle.bl_proc_base.specs.declared.editing.Full.{Full}
-use Rattle.bl_proc_base.specs.declared.editing.Edit.TheVariants as edit
-use Rattle.bl_proc_base.specs.declared.editing.Edited.TheVariants as changed
-use Rattle.bl_proc_base.specs.Edits.{Changes}
-use Rattle.bl_proc_pages.proofs.Shifts.{padded, length-entries, entered-below, entered-key, entered-word, entered-above}
-use Rattle.bl_index_ways.specs.Halves.{AreSpread, AreParts}
+use Rattle.bl_proc_steps.specs.declared.acts.Seen.TheVariants as seen
+use Rattle.bl_proc_steps.specs.declared.edit.Full.{Full}
+use Rattle.bl_proc_steps.specs.declared.edit.Edit.TheVariants as edit
+use Rattle.bl_proc_steps.specs.declared.edit.Edited.TheVariants as changed
+use Rattle.bl_proc_steps.specs.Edits.{Changes}
+use Rattle.bl_proc_routes.proofs.Shifts.{padded, length-entries, entered-below, entered-key, entered-word, entered-above}
+use Rattle.bl_index_ways.specs.Halves.{AreSpread, AreHalvesOf}
 
 -- a page without entries
 zeros : (n m : ℕ) → get_or (replicate {A = ℕ} n 0) m 0 ≡ 0
@@ -89,9 +89,9 @@ record HasParts (c : Page) (key word new : ℕ) (words entries : List ℕ) : Typ
   left : Page
   right : Page
   is : IsFitted c key word new (Split left right (get_or entries 16 0))
-  parts : AreParts new words entries left right
+  parts : AreHalvesOf new words entries left right
 
--- the pairs of full ones with one more, in two parts
+-- the pairs of full ones with one more, in two halves
 module _ (low high key word : ℕ) (old : List (ℕ × ℕ)) (rises : RisesFrom 0 old) (in_all : AllWithin low high old) (in_it : IsWithin low high key) (absent : map_of old key ≡ None) (full : 14 ≤ length old) (few : length old ≤ 14) where
   abbrev all : List (ℕ × ℕ)
   all = entered key word old
@@ -164,7 +164,7 @@ parts (Dead d) key word new words entries in_it absent may child full w e = absu
 
 -- the full page that the process holds is split so
 pub split_by : (f : Full) (at key word new : ℕ) (words entries : List ℕ) → f.at ≡ at → f.key ≡ key → f.word ≡ word → IsChild new → words ≡ words_of f.page → entries ≡ entries_of (entered key word (pairs_of f.page))
-    → (left : Page) × (right : Page) × AreParts new words entries left right × Changes (edit.Taking f) (seen.Took new) (changed.On (edit.PuttingNew (record { at = at; new = new; left = left; right = right; separator = get_or entries 16 0 })))
+    → (left : Page) × (right : Page) × AreHalvesOf new words entries left right × Changes (edit.Taking f) (seen.Took new) (changed.On (edit.PuttingNew (record { at = at; new = new; left = left; right = right; separator = get_or entries 16 0 })))
 split_by f at key word new words entries here same_key same_word child w e =
     let all : entries ≡ entries_of (entered f.key f.word (pairs_of f.page)) = e ∙ (λ i. entries_of (entered (sym same_key i) (sym same_word i) (pairs_of f.page))) in
     let s = parts f.page f.key f.word new words entries f.covers f.absent f.fits child f.full w all in

@@ -13,10 +13,10 @@ use Rattle.bl_page.specs.Nodes.{IsTreePage}
 use Rattle.bl_rearrange.specs.Entered.{entered}
 use Rattle.bl_rearrange.specs.Rearranged.{pairs_of, KeepsFrame}
 use Rattle.bl_rearrange.proofs.EnteredLemmas.{length-entered}
-use Rattle.bl_proc_pages.specs.Respelled.{words_by}
-use Rattle.bl_proc_pages.proofs.Shifts.{padded, length-entries, entered-below, entered-key, entered-word, entered-above}
-use Rattle.bl_proc_unique.proofs.Rows.{rows_one}
-use Rattle.bl_proc_unique.proofs.Pages.{rising}
+use Rattle.bl_proc_routes.specs.WordEdits.{words_by}
+use Rattle.bl_proc_routes.proofs.Shifts.{padded, length-entries, entered-below, entered-key, entered-word, entered-above}
+use Rattle.bl_proc_deterministic.proofs.Rows.{rows_one}
+use Rattle.bl_proc_deterministic.proofs.Pages.{rising}
 use Rattle.bl_store.specs.Drafts.{IsSpread}
 
 -- the words of a layout with a pair more

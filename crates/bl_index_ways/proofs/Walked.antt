@@ -7,46 +7,46 @@ use Rattle.bl_page.specs.Nodes.{node_of}
 use Rattle.bl_rearrange.specs.Entered.{entered}
 use Rattle.bl_rearrange.specs.Rearranged.{pairs_of}
 use Rattle.bl_rearrange.proofs.EnteredLemmas.{RisesFrom-entered, map_of-entered}
-use Rattle.bl_proc_base.specs.declared.acts.Seen.TheVariants as seen
-use Rattle.bl_proc_base.specs.declared.approaching.Approach.TheVariants as approach
-use Rattle.bl_proc_base.specs.declared.approaching.Came.TheVariants as descend
-use Rattle.bl_proc_base.specs.declared.editing.Edit.{Edit}
-use Rattle.bl_proc_base.specs.declared.editing.Edit.TheVariants as edit
-use Rattle.bl_proc_base.specs.declared.editing.Full.{Full}
-use Rattle.bl_proc_base.specs.declared.editing.Outcome.{Outcome}
-use Rattle.bl_proc_base.specs.declared.editing.Outcome.TheVariants as outcome
-use Rattle.bl_proc_pages.specs.declared.onwards.Step.{Step}
-use Rattle.bl_proc_pages.specs.declared.onwards.Step.TheVariants.{Right, Down, Here}
-use Rattle.bl_proc_pages.specs.Onwards.{Leads}
-use Rattle.bl_proc_pages.specs.Respelled.{words_by}
+use Rattle.bl_proc_steps.specs.declared.acts.Seen.TheVariants as seen
+use Rattle.bl_proc_steps.specs.declared.approach.Approach.TheVariants as approach
+use Rattle.bl_proc_steps.specs.declared.approach.Came.TheVariants as descend
+use Rattle.bl_proc_steps.specs.declared.edit.Edit.{Edit}
+use Rattle.bl_proc_steps.specs.declared.edit.Edit.TheVariants as edit
+use Rattle.bl_proc_steps.specs.declared.edit.Full.{Full}
+use Rattle.bl_proc_steps.specs.declared.edit.Outcome.{Outcome}
+use Rattle.bl_proc_steps.specs.declared.edit.Outcome.TheVariants as outcome
+use Rattle.bl_proc_routes.specs.declared.routes.Step.{Step}
+use Rattle.bl_proc_routes.specs.declared.routes.Step.TheVariants.{Right, Down, Here}
+use Rattle.bl_proc_routes.specs.Routes.{Leads}
+use Rattle.bl_proc_routes.specs.WordEdits.{words_by}
 use Rattle.bl_proc.specs.declared.kinds.Proc.{Proc}
-use Rattle.bl_proc_writes.specs.declared.posting.PostStage.{PostStage}
-use Rattle.bl_proc_writes.specs.declared.posting.PostStage.TheVariants as post
-use Rattle.bl_proc_writes.specs.declared.posting.PostReply.{PostReply}
-use Rattle.bl_proc_writes.specs.declared.posting.PostReply.TheVariants as reply
+use Rattle.bl_proc_writes.specs.declared.post.PostStage.{PostStage}
+use Rattle.bl_proc_writes.specs.declared.post.PostStage.TheVariants as post
+use Rattle.bl_proc_writes.specs.declared.post.PostReply.{PostReply}
+use Rattle.bl_proc_writes.specs.declared.post.PostReply.TheVariants as reply
 use Rattle.bl_proc_writes.specs.declared.walking.Walk.{Walk}
 use Rattle.bl_proc_writes.specs.Levels.{IsBelowTop, IsBelowTop-prop, MayReply}
 use Rattle.bl_proc_writes.specs.Posts.{post_reply, IsLost, PostGoes, PostWalks}
 use Rattle.bl_proc.specs.Processes.{Takes}
 use Rattle.bl_proc_writes.proofs.Named.{listed-child}
-use Rattle.bl_proc_unique.proofs.Edits.{enter_one}
-use Rattle.bl_proc_unique.proofs.Onwards.{right_small}
-use Rattle.bl_proc_unique.proofs.Pages.{fits_some, rising}
+use Rattle.bl_proc_deterministic.proofs.Edits.{enter_one}
+use Rattle.bl_proc_deterministic.proofs.Onwards.{right_small}
+use Rattle.bl_proc_deterministic.proofs.Pages.{fits_some, rising}
 use Rattle.atomic_table.specs.declared.shared.Seat.{Seat}
 use Rattle.bl_store.specs.declared.store.Hand.{Hand}
-use Rattle.bl_frames.specs.declared.view.View.{View}
+use Rattle.bl_store_rule.specs.declared.view.View.{View}
 use Rattle.bl_store.specs.Hands.{known, IsSameHand, IsSameRefusal}
 use Rattle.bl_index_rule.specs.declared.known.PassState.{PassState}
 use Rattle.bl_proc_writes.specs.Stands.{IsPosting}
-use Rattle.bl_index_ways.specs.Events.{IsOpened, IsToEnter, IsWalking, LeavesParent}
+use Rattle.bl_index_ways.specs.Events.{HasOpenedParent, IsToEnter, IsWalking, LeavesParent}
 use Rattle.bl_index_ways.specs.Posters.{IsPoster, Opened, Staged}
-use Rattle.bl_index_steps.specs.Held.{KeepsLatch}
-use Rattle.bl_index_steps.specs.Rooms.{LacksPost}
-use Rattle.bl_index_steps.specs.Runs.{IsSameProcess, OpensTo, Runs}
-use Rattle.bl_index_steps.specs.declared.tree.Tree.{Tree}
-use Rattle.bl_index_steps.proofs.Held.{keeps_anchor}
-use Rattle.bl_index_steps.proofs.Rooms.{lacks_on, refused_on}
-use Rattle.bl_index_steps.proofs.Standing.{same_all}
+use Rattle.bl_index_events.specs.Held.{KeepsLatch}
+use Rattle.bl_index_events.specs.Rooms.{LacksPost}
+use Rattle.bl_index_events.specs.Runs.{IsSameProcess, OpensTo, Runs}
+use Rattle.bl_index_events.specs.declared.tree.Tree.{Tree}
+use Rattle.bl_index_events.proofs.Held.{keeps_anchor}
+use Rattle.bl_index_events.proofs.Rooms.{lacks_on, refused_on}
+use Rattle.bl_index_events.proofs.Standing.{same_all}
 use Rattle.bl_index_ways.proofs.Spreading.{spelled}
 
 -- a change by which a pair enters, by whether there is room
@@ -196,8 +196,8 @@ some_same e = cc
 -- what it runs then
 pub leaves_opened : (tree : Tree) (h : H) (hand : Hand PassState) (level key : ℕ) (staged : Staged level) (opened : Opened level) (replies : Option PostReply) (r : PostReply) → LeavesParent tree h hand level key staged opened replies → replies ≡ Some r → (may : MayReply level r) × Runs tree hand (opened r may)
 leaves_opened tree h hand level key staged opened replies r left e =
-    let is = subst (λ (z : Option PostReply). IsOpened level staged opened z left.state) e left.is in
+    let is = subst (λ (z : Option PostReply). HasOpenedParent level staged opened z left.state) e left.is in
     (is.0, subst (λ (z : Proc). Runs tree hand z) is.1 left.runs)
 
 pub leaves_again : (tree : Tree) (h : H) (hand : Hand PassState) (level key : ℕ) (staged : Staged level) (opened : Opened level) (replies : Option PostReply) → LeavesParent tree h hand level key staged opened replies → replies ≡ None → Runs tree hand (staged (post.Coming approach.Start) tt tt)
-leaves_again tree h hand level key staged opened replies left e = subst (λ (z : Proc). Runs tree hand z) (subst (λ (z : Option PostReply). IsOpened level staged opened z left.state) e left.is) left.runs
+leaves_again tree h hand level key staged opened replies left e = subst (λ (z : Proc). Runs tree hand z) (subst (λ (z : Option PostReply). HasOpenedParent level staged opened z left.state) e left.is) left.runs

@@ -16,45 +16,45 @@ use Rattle.bl_page.specs.Nodes.{IsTreePage}
 use Rattle.bl_rearrange.specs.Entered.{dropped, replaced}
 use Rattle.bl_rearrange.specs.Rearranged.{pairs_of, KeepsFrame}
 use Rattle.bl_rearrange.proofs.EnteredLemmas.{RisesFrom-dropped, map_of-dropped, RisesFrom-replaced, map_of-replaced}
-use Rattle.bl_proc_base.specs.declared.acts.Action.TheVariants as act
-use Rattle.bl_proc_base.specs.declared.acts.Seen.TheVariants as seen
-use Rattle.bl_proc_base.specs.declared.approaching.Approach.TheVariants as approach
-use Rattle.bl_proc_base.specs.declared.editing.Edit.{Edit}
-use Rattle.bl_proc_base.specs.declared.editing.Edit.TheVariants as edit
-use Rattle.bl_proc_base.specs.declared.editing.Full.{Full}
-use Rattle.bl_proc_base.specs.declared.editing.Outcome.{Outcome}
-use Rattle.bl_proc_base.specs.declared.editing.Outcome.TheVariants as outcome
-use Rattle.bl_proc_pages.specs.Respelled.{words_by}
-use Rattle.bl_proc_base.specs.Thin.{thin_low}
-use Rattle.bl_proc_pages.proofs.Spellings.{tree_lists, pairs_counted}
+use Rattle.bl_proc_steps.specs.declared.acts.Action.TheVariants as act
+use Rattle.bl_proc_steps.specs.declared.acts.Seen.TheVariants as seen
+use Rattle.bl_proc_steps.specs.declared.approach.Approach.TheVariants as approach
+use Rattle.bl_proc_steps.specs.declared.edit.Edit.{Edit}
+use Rattle.bl_proc_steps.specs.declared.edit.Edit.TheVariants as edit
+use Rattle.bl_proc_steps.specs.declared.edit.Full.{Full}
+use Rattle.bl_proc_steps.specs.declared.edit.Outcome.{Outcome}
+use Rattle.bl_proc_steps.specs.declared.edit.Outcome.TheVariants as outcome
+use Rattle.bl_proc_routes.specs.WordEdits.{words_by}
+use Rattle.bl_proc_steps.specs.Thin.{thin_low}
+use Rattle.bl_proc_routes.proofs.Spellings.{tree_lists, pairs_counted}
 use Rattle.bl_proc_writes.specs.declared.writing.Noted.{Noted}
 use Rattle.bl_proc_writes.specs.declared.writing.WriteStage.{WriteStage}
 use Rattle.bl_proc_writes.specs.declared.writing.WriteStage.TheVariants as write
 use Rattle.bl_proc.specs.declared.kinds.Proc.{Proc}
 use Rattle.bl_proc.specs.Processes.{next_of}
 use Rattle.bl_proc_writes.specs.declared.writing.WriteReply.TheVariants.{Done, NoRoom}
-use Rattle.bl_proc_base.specs.Thin.{thin_hint}
+use Rattle.bl_proc_steps.specs.Thin.{thin_hint}
 use Rattle.bl_proc_writes.specs.Writes.{post_hint, thin_by, Performs, WriteGoes}
-use Rattle.bl_proc_unique.specs.Courses.{GoesOn}
-use Rattle.bl_proc_unique.proofs.Pages.{without_some, value_some, rising}
-use Rattle.bl_proc_unique.proofs.Edits.{enter_one}
-use Rattle.bl_proc_unique.proofs.Leaves.{leaf_covers, leaf_lists, leaf_holds, leaf_loses, leaf_has}
+use Rattle.bl_proc_deterministic.specs.Courses.{GoesOn}
+use Rattle.bl_proc_deterministic.proofs.Pages.{without_some, value_some, rising}
+use Rattle.bl_proc_deterministic.proofs.Edits.{enter_one}
+use Rattle.bl_proc_deterministic.proofs.Leaves.{leaf_covers, leaf_lists, leaf_holds, leaf_loses, leaf_has}
 use Rattle.atomic_table.specs.declared.shared.Seat.{Seat}
-use Rattle.bl_frames.specs.declared.view.View.{View}
+use Rattle.bl_store_rule.specs.declared.view.View.{View}
 use Rattle.bl_store.specs.Drafts.{IsSpread}
 use Rattle.bl_store.specs.Hands.{known, read_words, HasNoStock, IsSameHand, IsSameRefusal, WasRefused}
 use Rattle.bl_store.specs.declared.put.Spread.{Spread}
 use Rattle.bl_store.specs.declared.store.Hand.{Hand}
 use Rattle.bl_index_rule.specs.declared.known.PassState.{PassState}
 use Rattle.bl_index_rule.specs.Observed.{Goes}
-use Rattle.bl_index_steps.specs.declared.tree.Tree.{Tree}
-use Rattle.bl_index_steps.specs.Held.{own_marks, KeepsLatch}
-use Rattle.bl_index_steps.specs.Refused.{LacksForEffect}
-use Rattle.bl_index_steps.specs.Rooms.{LacksWrite}
-use Rattle.bl_index_steps.specs.Runs.{IsOn, IsSameProcess, Runs, OpensTo}
-use Rattle.bl_index_steps.proofs.Held.{goes_keeps, keeps_both, put_latches_not}
-use Rattle.bl_index_steps.proofs.Rooms.{lacks_frame, lacks_on, refused_on}
-use Rattle.bl_index_steps.proofs.Standing.{put_gave, goes_to, same_goes, same_all, course_at, on_held}
+use Rattle.bl_index_events.specs.declared.tree.Tree.{Tree}
+use Rattle.bl_index_events.specs.Held.{own_marks, KeepsLatch}
+use Rattle.bl_index_events.specs.Refused.{LacksForEffect}
+use Rattle.bl_index_events.specs.Rooms.{LacksWrite}
+use Rattle.bl_index_events.specs.Runs.{IsOn, IsSameProcess, Runs, OpensTo}
+use Rattle.bl_index_events.proofs.Held.{goes_keeps, keeps_both, put_latches_not}
+use Rattle.bl_index_events.proofs.Rooms.{lacks_frame, lacks_on, refused_on}
+use Rattle.bl_index_events.proofs.Standing.{put_gave, goes_to, same_goes, same_all, course_at, on_held}
 use Rattle.bl_index_ways.specs.Events.{outcome_by, IsAtLeaf, IsThere, IsToEnter, LeavesLeaf}
 use Rattle.bl_index_ways.specs.declared.writers.Left.{Left}
 use Rattle.bl_index_ways.specs.declared.writers.Left.TheVariants.{Kept, Changed, Split, Refused}

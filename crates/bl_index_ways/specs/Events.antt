@@ -10,24 +10,24 @@ use Rattle.bl_rearrange.specs.Rearranged.{pairs_of, MayHold}
 use Rattle.bl_page.specs.Words.{words_of}
 use Rattle.bl_layout.specs.declared.layout.Layout.{Layout}
 use Rattle.bl_model.specs.declared.deciding.KeyWrite.{KeyWrite}
-use Rattle.bl_frames.specs.declared.view.View.{View}
+use Rattle.bl_store_rule.specs.declared.view.View.{View}
 use Rattle.bl_store.specs.declared.store.Glance.{Glance}
 use Rattle.bl_store.specs.declared.store.Hand.{Hand}
 use Rattle.bl_store.specs.Hands.{known, read_words, IsSameHand, HasNoStock, ReadsFrom}
-use Rattle.bl_proc_base.specs.declared.acts.Seen.TheVariants as seen
-use Rattle.bl_proc_base.specs.declared.approaching.Approach.{Approach}
-use Rattle.bl_proc_base.specs.declared.approaching.Approach.TheVariants.{Start, At, Latching, Latched, Leaving}
-use Rattle.bl_proc_base.specs.declared.editing.Edit.{Edit}
-use Rattle.bl_proc_base.specs.declared.editing.Outcome.{Outcome}
-use Rattle.bl_proc_base.specs.declared.editing.Outcome.TheVariants as outcome
-use Rattle.bl_proc_pages.specs.declared.onwards.Step.TheVariants.{Here}
-use Rattle.bl_proc_base.specs.Edits.{EntersPair}
-use Rattle.bl_proc_pages.specs.Onwards.{Leads}
+use Rattle.bl_proc_steps.specs.declared.acts.Seen.TheVariants as seen
+use Rattle.bl_proc_steps.specs.declared.approach.Approach.{Approach}
+use Rattle.bl_proc_steps.specs.declared.approach.Approach.TheVariants.{Start, At, Latching, Latched, Leaving}
+use Rattle.bl_proc_steps.specs.declared.edit.Edit.{Edit}
+use Rattle.bl_proc_steps.specs.declared.edit.Outcome.{Outcome}
+use Rattle.bl_proc_steps.specs.declared.edit.Outcome.TheVariants as outcome
+use Rattle.bl_proc_routes.specs.declared.routes.Step.TheVariants.{Here}
+use Rattle.bl_proc_steps.specs.Edits.{EntersPair}
+use Rattle.bl_proc_routes.specs.Routes.{Leads}
 use Rattle.bl_proc_writes.specs.declared.writing.WriteStage.{WriteStage}
 use Rattle.bl_proc_writes.specs.declared.writing.WriteStage.TheVariants as write
-use Rattle.bl_proc_writes.specs.declared.posting.PostStage.TheVariants as post
-use Rattle.bl_proc_writes.specs.declared.posting.PostReply.{PostReply}
-use Rattle.bl_proc_writes.specs.declared.posting.PostReply.TheVariants as reply
+use Rattle.bl_proc_writes.specs.declared.post.PostStage.TheVariants as post
+use Rattle.bl_proc_writes.specs.declared.post.PostReply.{PostReply}
+use Rattle.bl_proc_writes.specs.declared.post.PostReply.TheVariants as reply
 use Rattle.bl_proc_writes.specs.declared.walking.Walk.{Walk}
 use Rattle.bl_proc_writes.specs.Levels.{MayReply}
 use Rattle.bl_proc.specs.declared.kinds.Proc.{Proc}
@@ -37,7 +37,7 @@ use Rattle.bl_index_ways.specs.declared.coming.Arrived.{Arrived}
 use Rattle.bl_index_ways.specs.declared.coming.Arrived.TheVariants.{There, Away}
 use Rattle.bl_index_ways.specs.declared.writers.Left.{Left}
 use Rattle.bl_index_ways.specs.declared.writers.Left.TheVariants.{Refused}
-use Rattle.bl_index_steps.specs.declared.tree.Tree.{Tree}
+use Rattle.bl_index_events.specs.declared.tree.Tree.{Tree}
 use Rattle.bl_index_ways.specs.declared.parents.Walked.{Walked}
 use Rattle.bl_index_ways.specs.declared.parents.Walked.TheVariants.{On, Found, Stale, Lost}
 use Rattle.bl_index_ways.specs.declared.reaching.Neared.{Neared}
@@ -45,8 +45,8 @@ use Rattle.bl_index_ways.specs.declared.reaching.Neared.TheVariants as neared
 use Rattle.bl_index_ways.specs.declared.reaching.Reached.{Reached}
 use Rattle.bl_index_ways.specs.declared.reaching.Reached.TheVariants.{Parent, Again, NoLevel}
 use Rattle.bl_index_ways.specs.Posters.{Staged, Opened}
-use Rattle.bl_index_steps.specs.Runs.{IsOn, IsSameProcess, Runs}
-use Rattle.bl_index_steps.specs.Rooms.{LacksPost, LacksWrite}
+use Rattle.bl_index_events.specs.Runs.{IsOn, IsSameProcess, Runs}
+use Rattle.bl_index_events.specs.Rooms.{LacksPost, LacksWrite}
 
 -- a writer on its way that holds no page
 abbrev pub HoldsNone : Approach → Type 0
@@ -185,9 +185,9 @@ reached_by (Some t) = Parent t.0 t.1
 reached_by None = Again
 
 -- It has opened its parent, and replies that; or its way begins again.
-abbrev pub IsOpened : (level : ℕ) → Staged level → Opened level → Option PostReply → Proc → Type 0
-IsOpened level staged opened (Some r) state = (may : MayReply level r) × (state ≡ opened r may)
-IsOpened level staged opened None state = state ≡ staged (post.Coming Start) tt tt
+abbrev pub HasOpenedParent : (level : ℕ) → Staged level → Opened level → Option PostReply → Proc → Type 0
+HasOpenedParent level staged opened (Some r) state = (may : MayReply level r) × (state ≡ opened r may)
+HasOpenedParent level staged opened None state = state ≡ staged (post.Coming Start) tt tt
 
 -- From where it held its parent it has gone on: it has opened that, with this reply or none.
 pub record LeavesParent (tree : Tree) (h : Seat (Unit {0}) (View PassState)) (hand : Hand PassState) (level key : ℕ) (staged : Staged level)
@@ -196,6 +196,6 @@ pub record LeavesParent (tree : Tree) (h : Seat (Unit {0}) (View PassState)) (ha
   pub empty : HasNoStock hand.seat
   pub state : Proc
   pub runs : Runs tree hand state
-  pub is : IsOpened level staged opened replies state
+  pub is : HasOpenedParent level staged opened replies state
   pub since : IsSameProcess (known h) (known hand.seat)
   pub no_room : replies ≡ Some reply.NoRoom → LacksPost level key hand.seat

@@ -12,6 +12,6 @@ pub record AreSpread (place key word : ℕ) (words entries : List ℕ) : Type 0 
 
 -- The page with these words is split so, with a pair more among those entries: of 15 pairs the lower 8 stay, and the others
 -- go to the new page.
-pub record AreParts (new : ℕ) (words entries : List ℕ) (left right : Page) : Type 0 where
+pub record AreHalvesOf (new : ℕ) (words entries : List ℕ) (left right : Page) : Type 0 where
   pub lower : words_of left ≡ layout (slice_index words 0 - 6) (slice_index words 1) (slice_index entries 16) new (take 16 entries)
   pub upper : words_of right ≡ layout (slice_index words 0 - 7) (slice_index entries 16) (slice_index words 2) (slice_index words 3) (drop 16 entries)

@@ -2,22 +2,22 @@
 
 ghost use Rattle.std.specs.Prelude.{◌≡◌, true, false};
 ghost use Rattle.bl_page.specs.declared.page.Page.{Page};
-ghost use Rattle.bl_proc_base.specs.declared.acts.Action.TheVariants as act;
-ghost use Rattle.bl_proc_base.specs.declared.approaching.Approach.TheVariants as approach;
+ghost use Rattle.bl_proc_steps.specs.declared.acts.Action.TheVariants as act;
+ghost use Rattle.bl_proc_steps.specs.declared.approach.Approach.TheVariants as approach;
 ghost use Rattle.bl_store.specs.Hands.{known, read_words, IsIdle, IsRunning, IsSameHand, IsSameStock, ReadsFrom};
 ghost use Rattle.bl_store.specs.Owners.{IsHandOf};
-ghost use Rattle.bl_proc_base.specs.declared.acts.Seen.TheVariants as seen;
+ghost use Rattle.bl_proc_steps.specs.declared.acts.Seen.TheVariants as seen;
 ghost use Rattle.bl_proc.specs.Processes.{next_of};
-ghost use Rattle.bl_proc_unique.specs.Courses.{GoesOn};
+ghost use Rattle.bl_proc_deterministic.specs.Courses.{GoesOn};
 ghost use Rattle.bl_index_rule.specs.Observed.{Begins, IsUnborn};
-ghost use Rattle.bl_index_steps.specs.Runs.{Runs, Keeps, IsOn, IsSince, IsSameProcess};
+ghost use Rattle.bl_index_events.specs.Runs.{Runs, KeepsHand, IsOn, IsSince, IsSameProcess};
 ghost use Rattle.bl_index_ways.specs.Events.{HoldsNone, IsSought, IsThere, HasArrived, HasCome, HasComeWithin};
 
 use crate::targets::{Target, Unborn};
+use bl_index_events::{FrameView, Tree};
 use bl_index_rule::{Began, Launch, PassState};
-use bl_index_steps::{FrameView, Tree};
-use bl_proc_base::{Approach, approach_by};
-use bl_proc_pages::{Step, level_in, step_in};
+use bl_proc_routes::{Step, level_in, step_in};
+use bl_proc_steps::{Approach, approach_by};
 use bl_store::{Glance, Hand};
 use crossbeam_utils::Backoff;
 use std::marker::Brand;
@@ -73,7 +73,7 @@ fn read_anchor<J: Target>(
 ) -> Approach
     requires runs { Runs tree.now hand.old (J.at target.now path.now approach.Start) }
     requires led { (c : Page) → J.IsLedBy target.now c }
-    ensures same { Keeps hand.old.seat hand.new.seat }
+    ensures same { KeepsHand hand.old.seat hand.new.seat }
     ensures runs { Runs tree.now hand.new (J.at target.now path.now result) }
     ensures free { HoldsNone result }
     ensures since { IsSameProcess (known hand.old.seat) (known hand.new.seat) }
@@ -97,7 +97,7 @@ fn read_next<J: Target>(
     page: u32,
 ) -> Approach
     requires runs { Runs tree.now hand.old (J.at target.now path.old (approach.At page)) }
-    ensures same { Keeps hand.old.seat hand.new.seat }
+    ensures same { KeepsHand hand.old.seat hand.new.seat }
     ensures runs { Runs tree.now hand.new (J.at target.now path.new result) }
     ensures free { HoldsNone result }
     ensures since { IsSameProcess (known hand.old.seat) (known hand.new.seat) }
@@ -127,7 +127,7 @@ fn seek<J: Target>(
 ) -> Result<u32, Approach>
     requires runs { Runs tree.now hand.old (J.at target.now path.old from) }
     requires free { HoldsNone from }
-    ensures same { Keeps hand.old.seat hand.new.seat }
+    ensures same { KeepsHand hand.old.seat hand.new.seat }
     ensures sought { IsSought (J.at target.now path.new) tree.now.store.layout (known hand.new.seat) result }
     ensures since { IsSameProcess (known hand.old.seat) (known hand.new.seat) }
 {
@@ -153,7 +153,7 @@ fn latch_there<J: Target>(
     page: u32,
 ) -> bool
     requires runs { Runs tree.now hand.old (J.at target.now path.now (approach.Latching page)) }
-    ensures same { Keeps hand.old.seat hand.new.seat }
+    ensures same { KeepsHand hand.old.seat hand.new.seat }
     ensures done { result ≡ true → IsOn tree.now.store.layout (known hand.new.seat) (J.at target.now path.now (approach.Latched page)) }
     ensures missed { result ≡ false → IsOn tree.now.store.layout (known hand.new.seat) (J.at target.now path.now (approach.At page)) }
     ensures since { IsSameProcess (known hand.old.seat) (known hand.new.seat) }
@@ -173,7 +173,7 @@ fn read_latched<J: Target>(
     page: u32,
 ) -> Arrived
     requires runs { Runs tree.now hand.old (J.at target.now path.now (approach.Latched page)) }
-    ensures same { Keeps hand.old.seat hand.new.seat }
+    ensures same { KeepsHand hand.old.seat hand.new.seat }
     ensures arrived { HasArrived (J.level_of target.now) (J.key_of target.now) (J.at target.now path.now) page tree.now.store.layout hand.new.seat result }
     ensures since { IsSameProcess (known hand.old.seat) (known hand.new.seat) }
 {
@@ -201,7 +201,7 @@ fn move_on<J: Target>(
     to: Option<u32>,
 ) -> Approach
     requires runs { Runs tree.now hand.old (J.at target.now path.now (approach.Leaving page to)) }
-    ensures same { Keeps hand.old.seat hand.new.seat }
+    ensures same { KeepsHand hand.old.seat hand.new.seat }
     ensures runs { Runs tree.now hand.new (J.at target.now path.now result) }
     ensures free { HoldsNone result }
     ensures since { IsSameProcess (known hand.old.seat) (known hand.new.seat) }
@@ -228,7 +228,7 @@ pub(crate) fn come_within<J: Target>(
 ) -> Result<(u32, Glance), Approach>
     requires runs { Runs tree.now hand.old (J.at target.now path.old from) }
     requires free { HoldsNone from }
-    ensures same { Keeps hand.old.seat hand.new.seat }
+    ensures same { KeepsHand hand.old.seat hand.new.seat }
     ensures came { HasComeWithin (J.level_of target.now) (J.key_of target.now) (J.at target.now path.new) tree.now.store.layout hand.new.seat result }
     ensures since { IsSameProcess (known hand.old.seat) (known hand.new.seat) }
 {
@@ -266,7 +266,7 @@ pub(crate) fn come_from<J: Target, R: Wait>(
 ) -> Option<(u32, Glance)>
     requires runs { Runs tree.now hand.old (J.at target.now path.old from) }
     requires free { HoldsNone from }
-    ensures same { Keeps hand.old.seat hand.new.seat }
+    ensures same { KeepsHand hand.old.seat hand.new.seat }
     ensures came { HasCome (J.level_of target.now) (J.key_of target.now) (J.at target.now path.new) tree.now.store.layout hand.new.seat result }
     ensures since { IsSameProcess (known hand.old.seat) (known hand.new.seat) }
 {
@@ -296,7 +296,7 @@ pub fn descend_within<J: Target>(
 ) -> Result<(u32, Glance), Approach>
     requires runs { Runs tree.now hand.old (J.at target.now path.old approach.Start) }
     requires led { (c : Page) → J.IsLedBy target.now c }
-    ensures same { Keeps hand.old.seat hand.new.seat }
+    ensures same { KeepsHand hand.old.seat hand.new.seat }
     ensures came { HasComeWithin (J.level_of target.now) (J.key_of target.now) (J.at target.now path.new) tree.now.store.layout hand.new.seat result }
     ensures since { IsSameProcess (known hand.old.seat) (known hand.new.seat) }
 {
@@ -315,7 +315,7 @@ pub fn descend<J: Target, R: Wait>(
 ) -> (u32, Glance)
     requires runs { Runs tree.now hand.old (J.at target.now path.old approach.Start) }
     requires led { (c : Page) → J.IsLedBy target.now c }
-    ensures same { Keeps hand.old.seat hand.new.seat }
+    ensures same { KeepsHand hand.old.seat hand.new.seat }
     ensures runs { Runs tree.now hand.new (known hand.new.seat).state }
     ensures reads { ReadsFrom hand.new.seat result.1 }
     ensures there { IsThere (J.level_of target.now) (J.key_of target.now) (J.at target.now path.new (approach.Latched result.0))

@@ -10,17 +10,17 @@ use crate::writers::Writer;
 /// Who changes a page that it holds and has got. There is a process that does so, of which there is no value.
 pub(crate) trait Editor {
     ghost use Rattle.std.specs.Prelude.{◌≡◌, ℕ};
-    ghost use Rattle.bl_proc_base.specs.declared.acts.Seen.{Seen};
-    ghost use Rattle.bl_proc_base.specs.declared.editing.Edit.{Edit};
-    ghost use Rattle.bl_proc_base.specs.declared.editing.Edit.TheVariants as edit;
-    ghost use Rattle.bl_proc_base.specs.declared.editing.Edited.TheVariants as changed;
-    ghost use Rattle.bl_proc_base.specs.Edits.{edit_next, edit_needs, Changes};
-    ghost use Rattle.bl_proc_base.specs.Given.{Gives};
+    ghost use Rattle.bl_proc_steps.specs.declared.acts.Seen.{Seen};
+    ghost use Rattle.bl_proc_steps.specs.declared.edit.Edit.{Edit};
+    ghost use Rattle.bl_proc_steps.specs.declared.edit.Edit.TheVariants as edit;
+    ghost use Rattle.bl_proc_steps.specs.declared.edit.Edited.TheVariants as changed;
+    ghost use Rattle.bl_proc_steps.specs.Edits.{edit_next, edit_needs, Changes};
+    ghost use Rattle.bl_proc_steps.specs.Given.{Gives};
     ghost use Rattle.bl_proc.specs.declared.kinds.Proc.{Proc};
     ghost use Rattle.bl_proc.specs.Processes.{next_of, Takes};
-    ghost use Rattle.bl_proc_unique.specs.Courses.{GoesOn};
+    ghost use Rattle.bl_proc_deterministic.specs.Courses.{GoesOn};
     ghost use Rattle.bl_claims.specs.Trails.{Trail};
-    ghost use Rattle.bl_index_steps.specs.Held.{edit_held, proc_held};
+    ghost use Rattle.bl_index_events.specs.Held.{edit_held, proc_held};
 
     // The process that has come so far with its change.
     ghost editing: { Self → Edit → Proc };
@@ -50,7 +50,7 @@ pub(crate) struct Entering<'a, W: Writer> {
 impl<'a, W: Writer> Editor for Entering<'a, W> {
     ghost use Rattle.std.specs.Prelude.{refl, None};
     ghost use Rattle.bl_proc_writes.specs.declared.writing.WriteStage.TheVariants as stages;
-    ghost use Rattle.bl_index_steps.proofs.Held.{enters_held};
+    ghost use Rattle.bl_index_events.proofs.Held.{enters_held};
 
     ghost editing = { λ j c. W.staged j.writer.now (stages.Editing (record { there = None; thin = None }) c) };
 
@@ -77,7 +77,7 @@ pub(crate) struct Listing<'a, P: Poster> {
 }
 
 impl<'a, P: Poster> Editor for Listing<'a, P> {
-    ghost use Rattle.bl_proc_writes.specs.declared.posting.PostStage.TheVariants as post;
+    ghost use Rattle.bl_proc_writes.specs.declared.post.PostStage.TheVariants as post;
 
     ghost editing = { λ j c. P.staged j.poster.now (post.Editing c) j.below tt };
 

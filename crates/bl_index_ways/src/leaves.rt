@@ -7,25 +7,25 @@ ghost use Rattle.bl_page.specs.declared.page.Page.{Page};
 ghost use Rattle.bl_page.specs.Faults.{count_in, pairs_of as pairs_in};
 ghost use Rattle.bl_page.specs.Pairs.{place as place_among};
 ghost use Rattle.bl_page.specs.Words.{words_of};
-ghost use Rattle.bl_proc_base.specs.declared.approaching.Approach.TheVariants as approach;
-ghost use Rattle.bl_proc_base.specs.declared.editing.Edit.TheVariants as edit;
+ghost use Rattle.bl_proc_steps.specs.declared.approach.Approach.TheVariants as approach;
+ghost use Rattle.bl_proc_steps.specs.declared.edit.Edit.TheVariants as edit;
 ghost use Rattle.bl_proc_writes.specs.declared.writing.WriteStage.TheVariants as stages;
 ghost use Rattle.bl_store.specs.Hands.{known, read_words, IsRunning, IsSameHand, IsSameRefusal, HasNoStock, ReadsFrom};
 ghost use Rattle.bl_store.specs.Owners.{IsHandOf};
-ghost use Rattle.bl_index_steps.specs.Held.{KeepsLatch};
-ghost use Rattle.bl_index_steps.specs.Runs.{Runs, IsOn, IsSameProcess, OpensTo};
+ghost use Rattle.bl_index_events.specs.Held.{KeepsLatch};
+ghost use Rattle.bl_index_events.specs.Runs.{Runs, IsOn, IsSameProcess, OpensTo};
 ghost use Rattle.bl_index_ways.specs.Events.{outcome_by, IsThere, IsAtLeaf, LeavesLeaf};
 
 use crate::editors::Entering;
 use crate::placing::listed_at;
 use crate::splitting::split_full;
 use crate::writers::{Left, Writer};
+use bl_index_events::{FrameView, Tree};
 use bl_index_rule::PassState;
-use bl_index_steps::{FrameView, Tree};
 use bl_model::{Effect, decide};
 use bl_page::{LEVEL_UNIT, place_in, word, words_from};
-use bl_proc_base::{Outcome, thin_in};
-use bl_proc_pages::{words_with_value, words_without};
+use bl_proc_routes::{words_with_value, words_without};
+use bl_proc_steps::{Outcome, thin_in};
 use bl_proc_writes::Noted;
 use bl_store::{Glance, Hand, Spread};
 
@@ -115,7 +115,7 @@ fn remove<W: Writer>(
 
 /// The key, which the leaf that it holds lists, gets the value there.
 #[inline(always)]
-fn change<W: Writer>(
+fn replace_value<W: Writer>(
     tree: &Tree,
     hand: &mut Hand<PassState>,
     at: u32,
@@ -230,7 +230,7 @@ pub fn write_there<W: Writer>(
     match decide(writer.write(), there).effect {
         Effect::Keep => open_leaf(tree, hand, at, writer, Left::Kept(there)),
         Effect::Remove => remove(tree, hand, at, writer, there, glance),
-        Effect::Replace(value) => change(tree, hand, at, writer, there, value, glance),
+        Effect::Replace(value) => replace_value(tree, hand, at, writer, there, value, glance),
         Effect::Enter(value) => {
             if count < 14 {
                 let spread = Spread {

@@ -4,27 +4,27 @@ ghost use Rattle.std.specs.Prelude.{◌≡◌, ◌≢◌, ◌<◌, ◌-◌, Some
 ghost use Rattle.bl_page.specs.declared.page.Page.{Page};
 ghost use Rattle.bl_page.specs.Words.{words_of};
 ghost use Rattle.bl_page.specs.Nodes.{node_of, IsTreePage};
-ghost use Rattle.bl_proc_base.specs.declared.approaching.Approach.TheVariants as approach;
-ghost use Rattle.bl_proc_base.specs.declared.editing.Edit.{Edit};
-ghost use Rattle.bl_proc_pages.specs.declared.onwards.Step.TheVariants as onward;
-ghost use Rattle.bl_proc_pages.specs.Onwards.{Leads};
-ghost use Rattle.bl_proc_writes.specs.declared.posting.PostStage.TheVariants as post;
+ghost use Rattle.bl_proc_steps.specs.declared.approach.Approach.TheVariants as approach;
+ghost use Rattle.bl_proc_steps.specs.declared.edit.Edit.{Edit};
+ghost use Rattle.bl_proc_routes.specs.declared.routes.Step.TheVariants as onward;
+ghost use Rattle.bl_proc_routes.specs.Routes.{Leads};
+ghost use Rattle.bl_proc_writes.specs.declared.post.PostStage.TheVariants as post;
 ghost use Rattle.bl_proc_writes.specs.Levels.{MayReply};
 ghost use Rattle.bl_proc_writes.specs.Posts.{post_reply};
 ghost use Rattle.bl_store.specs.Hands.{known, read_words, IsRunning, HasNoStock, ReadsFrom};
 ghost use Rattle.bl_store.specs.Owners.{IsHandOf};
-ghost use Rattle.bl_index_steps.specs.Runs.{Runs, Keeps, IsOn, IsSameProcess};
+ghost use Rattle.bl_index_events.specs.Runs.{Runs, KeepsHand, IsOn, IsSameProcess};
 ghost use Rattle.bl_index_ways.specs.Events.{IsThere, IsToEnter, IsWalking, HasWalked, LeavesParent, WalksOn};
-ghost use Rattle.bl_proc_writes.specs.declared.posting.PostReply.TheVariants as replies;
+ghost use Rattle.bl_proc_writes.specs.declared.post.PostReply.TheVariants as replies;
 
 use crate::editors::Listing;
 use crate::posters::Poster;
 use crate::splitting::enter_page;
+use bl_index_events::{FrameView, Tree};
 use bl_index_rule::PassState;
-use bl_index_steps::{FrameView, Tree};
 use bl_page::{Words, word, words_from};
-use bl_proc_base::Outcome;
-use bl_proc_pages::{Step, row_in, step_in};
+use bl_proc_routes::{Step, row_in, step_in};
+use bl_proc_steps::Outcome;
 use bl_proc_writes::PostReply;
 use bl_store::{Glance, Hand};
 use std::sync::Wait;
@@ -126,7 +126,7 @@ fn walk_on<P: Poster>(
 ) -> Walked
     requires runs { Runs tree.now hand.old (known hand.old.seat).state }
     requires walking { IsWalking (P.level_of poster.now) (P.key_of poster.now) (P.staged poster.now) at parent.now child (known hand.old.seat).state }
-    ensures same { Keeps hand.old.seat hand.new.seat }
+    ensures same { KeepsHand hand.old.seat hand.new.seat }
     ensures walked { HasWalked (P.level_of poster.now) (P.key_of poster.now) (P.staged poster.now) tree.now.store.layout at parent.now child
         (known hand.new.seat) result }
     ensures since { IsSameProcess (known hand.old.seat) (known hand.new.seat) }

@@ -3,17 +3,17 @@
 ghost use Rattle.std.specs.Prelude.{◌≡◌, ◌<◌, IfOk, IfErr};
 ghost use Rattle.bl_page.specs.declared.page.Page.{Page};
 ghost use Rattle.bl_page.specs.Nodes.{roots_of};
-ghost use Rattle.bl_proc_base.specs.declared.approaching.Approach.TheVariants as approach;
+ghost use Rattle.bl_proc_steps.specs.declared.approach.Approach.TheVariants as approach;
 ghost use Rattle.bl_store.specs.Hands.{known, read_words, ReadsFrom};
-ghost use Rattle.bl_index_steps.specs.Runs.{Runs, Keeps, IsSameProcess};
+ghost use Rattle.bl_index_events.specs.Runs.{Runs, KeepsHand, IsSameProcess};
 ghost use Rattle.bl_index_ways.specs.Events.{HasGotAnchor, HasNeared, HasReached, HoldsNone, reached_by};
 
 use crate::coming::{come_from, come_within};
 use crate::targets::Target;
+use bl_index_events::{FrameView, Tree};
 use bl_index_rule::PassState;
-use bl_index_steps::{FrameView, Tree};
-use bl_proc_base::Approach;
-use bl_proc_pages::levels_in;
+use bl_proc_routes::levels_in;
+use bl_proc_steps::Approach;
 use bl_store::{Glance, Hand};
 use std::sync::Wait;
 
@@ -62,7 +62,7 @@ fn look_up<J: Target>(
 ) -> Result<Approach, Glance>
     requires runs { Runs tree.now hand.old (J.at target.now path.now approach.Start) }
     requires led { (c : Page) → J.level_of target.now < (roots_of c).levels → J.IsLedBy target.now c }
-    ensures same { Keeps hand.old.seat hand.new.seat }
+    ensures same { KeepsHand hand.old.seat hand.new.seat }
     ensures ok { IfOk result (λ a. HoldsNone a × Runs tree.now hand.new (J.at target.now path.now a)) }
     ensures err { IfErr result (λ glance. ReadsFrom hand.new.seat glance × Runs tree.now hand.new (known hand.new.seat).state
         × HasGotAnchor (J.at target.now path.now approach.Start) (read_words hand.new.seat) (known hand.new.seat)) }
@@ -94,7 +94,7 @@ pub fn reach<J: Target, R: Wait>(
     requires runs { Runs tree.now hand.old (J.at target.now path.old from) }
     requires free { HoldsNone from }
     requires led { (c : Page) → J.level_of target.now < (roots_of c).levels → J.IsLedBy target.now c }
-    ensures same { Keeps hand.old.seat hand.new.seat }
+    ensures same { KeepsHand hand.old.seat hand.new.seat }
     ensures reached { HasReached (J.level_of target.now) (J.key_of target.now) (J.at target.now path.new) tree.now.store.layout hand.new.seat result }
     ensures since { IsSameProcess (known hand.old.seat) (known hand.new.seat) }
 {
@@ -119,7 +119,7 @@ pub fn reach_within<J: Target>(
 ) -> Neared
     requires runs { Runs tree.now hand.old (J.at target.now path.old approach.Start) }
     requires led { (c : Page) → J.level_of target.now < (roots_of c).levels → J.IsLedBy target.now c }
-    ensures same { Keeps hand.old.seat hand.new.seat }
+    ensures same { KeepsHand hand.old.seat hand.new.seat }
     ensures neared { HasNeared (J.level_of target.now) (J.key_of target.now) (J.at target.now path.new) tree.now.store.layout hand.new.seat result }
     ensures since { IsSameProcess (known hand.old.seat) (known hand.new.seat) }
 {

@@ -4,37 +4,37 @@
 ghost use Rattle.std.specs.Prelude.{◌≡◌, ◌≤◌, slice_index};
 ghost use Rattle.bl_page.specs.declared.page.Page.{Page};
 ghost use Rattle.bl_page.specs.Words.{words_of};
-ghost use Rattle.bl_proc_base.specs.declared.editing.Full.{Full};
-ghost use Rattle.bl_proc_base.specs.declared.editing.Edit.{Edit};
-ghost use Rattle.bl_proc_base.specs.declared.editing.Edit.TheVariants as edit;
-ghost use Rattle.bl_store.specs.Hands.{known, IsRunning, IsSameHand, IsSameStage, IsStockOf, HasNoStock, WasRefused};
+ghost use Rattle.bl_proc_steps.specs.declared.edit.Full.{Full};
+ghost use Rattle.bl_proc_steps.specs.declared.edit.Edit.{Edit};
+ghost use Rattle.bl_proc_steps.specs.declared.edit.Edit.TheVariants as edit;
+ghost use Rattle.bl_store.specs.Hands.{known, IsRunning, IsSameHand, IsSameStamp, IsStockOf, HasNoStock, WasRefused};
 ghost use Rattle.bl_store.specs.Owners.{IsHandOf};
-ghost use Rattle.bl_index_steps.specs.Runs.{Runs, IsOn, IsSameProcess};
+ghost use Rattle.bl_index_events.specs.Runs.{Runs, IsOn, IsSameProcess};
 ghost use Rattle.bl_index_ways.specs.Events.{IsToEnter};
-ghost use Rattle.bl_index_ways.specs.Halves.{AreParts};
-ghost use Rattle.bl_proc_base.specs.declared.editing.Outcome.TheVariants as outcomes;
-ghost use Rattle.bl_index_steps.specs.Refused.{GotHeld};
-ghost use Rattle.bl_index_steps.specs.Held.{IsFull, own_marks};
-ghost use Rattle.bl_index_steps.specs.Rooms.{LacksPage};
+ghost use Rattle.bl_index_ways.specs.Halves.{AreHalvesOf};
+ghost use Rattle.bl_proc_steps.specs.declared.edit.Outcome.TheVariants as outcomes;
+ghost use Rattle.bl_index_events.specs.Refused.{GotHeld};
+ghost use Rattle.bl_index_events.specs.Held.{IsFull, own_marks};
+ghost use Rattle.bl_index_events.specs.Rooms.{LacksPage};
 
 use crate::editors::Editor;
 use crate::halves::{entries_with, laid_out};
+use bl_index_events::Tree;
 use bl_index_rule::PassState;
-use bl_index_steps::Tree;
 use bl_page::LEVEL_UNIT;
-use bl_proc_base::Outcome;
-use bl_proc_pages::words_with;
+use bl_proc_routes::words_with;
+use bl_proc_steps::Outcome;
 use bl_store::{Hand, Stock};
 
-/// The page that is split, and the new one, which was taken for its upper part.
+/// The page that is split, and the new one, which was taken for its upper half.
 #[derive(Clone, Copy)]
 struct SplitPages {
     at: u32,
     new: u32,
 }
 
-/// Puts the two parts of the page with these words, whose entries with a pair more are those, and opens the new one.
-fn put_parts<J: Editor>(
+/// Puts the two halves of the page with these words, whose entries with a pair more are those, and opens the new one.
+fn put_halves<J: Editor>(
     tree: &Tree,
     hand: &mut Hand<PassState>,
     editor: &J,
@@ -46,7 +46,7 @@ fn put_parts<J: Editor>(
     requires own { IsHandOf tree.now.store hand.old }
     requires running { IsRunning hand.old.seat }
     requires stock { IsStockOf hand.old.seat stock × (stock.count ≡ 2) }
-    requires process { (left : Page) × (right : Page) × AreParts pages.new words.now entries.now left right
+    requires process { (left : Page) × (right : Page) × AreHalvesOf pages.new words.now entries.now left right
         × IsOn tree.now.store.layout (known hand.old.seat) (J.editing editor.now (edit.PuttingNew (record {
           at = pages.at;
           new = pages.new;
@@ -55,7 +55,7 @@ fn put_parts<J: Editor>(
           separator = slice_index entries.now 16;
         }))) }
     requires head { 14 ≤ slice_index words.now 0 }
-    ensures same { IsSameHand hand.old.seat hand.new.seat × IsSameStage hand.old.seat hand.new.seat }
+    ensures same { IsSameHand hand.old.seat hand.new.seat × IsSameStamp hand.old.seat hand.new.seat }
     ensures empty { HasNoStock hand.new.seat }
     ensures runs { Runs tree.now hand.new (J.editing editor.now (edit.Opening pages.at result)) }
     ensures since { IsSameProcess (known hand.old.seat) (known hand.new.seat) }
@@ -95,7 +95,7 @@ pub(crate) fn split_full<J: Editor>(
     requires running { IsRunning hand.old.seat × HasNoStock hand.old.seat }
     requires full { (f : Full) × (f.at ≡ at) × (f.key ≡ key) × (f.word ≡ word) × (words.now ≡ words_of f.page)
         × IsOn tree.now.store.layout (known hand.old.seat) (J.editing editor.now (edit.Taking f)) }
-    ensures same { IsSameHand hand.old.seat hand.new.seat × IsSameStage hand.old.seat hand.new.seat }
+    ensures same { IsSameHand hand.old.seat hand.new.seat × IsSameStamp hand.old.seat hand.new.seat }
     ensures empty { HasNoStock hand.new.seat }
     ensures runs { Runs tree.now hand.new (J.editing editor.now (edit.Opening at result)) }
     ensures since { IsSameProcess (known hand.old.seat) (known hand.new.seat) }
@@ -107,7 +107,7 @@ pub(crate) fn split_full<J: Editor>(
             let mut entries = [0; 30];
             entries_with(words, key, word, &mut entries);
             let pages = SplitPages { at, new };
-            put_parts(tree, hand, editor, pages, words, &entries, stock)
+            put_halves(tree, hand, editor, pages, words, &entries, stock)
         }
         None => Outcome::Refused,
     }
@@ -126,7 +126,7 @@ pub(crate) fn enter_page<J: Editor>(
     requires own { IsHandOf tree.now.store hand.old }
     requires running { IsRunning hand.old.seat × HasNoStock hand.old.seat }
     requires page { (c : Edit) × IsToEnter at key word words.now c × IsOn tree.now.store.layout (known hand.old.seat) (J.editing editor.now c) }
-    ensures same { IsSameHand hand.old.seat hand.new.seat × IsSameStage hand.old.seat hand.new.seat }
+    ensures same { IsSameHand hand.old.seat hand.new.seat × IsSameStamp hand.old.seat hand.new.seat }
     ensures empty { HasNoStock hand.new.seat }
     ensures runs { Runs tree.now hand.new (J.editing editor.now (edit.Opening at result)) }
     ensures since { IsSameProcess (known hand.old.seat) (known hand.new.seat) }

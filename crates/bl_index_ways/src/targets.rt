@@ -1,24 +1,24 @@
 //! What writers come to pages for.
 
-use bl_proc_pages::Step;
+use bl_proc_routes::Step;
 
 /// What a writer comes to a page for. There is a process with this target, of which there is no value.
 pub trait Target {
     ghost use Rattle.std.specs.Prelude.{◌≡◌, ℕ, None};
     ghost use Rattle.bl_page.specs.Nodes.{node_of};
-    ghost use Rattle.bl_proc_base.specs.declared.acts.Seen.{Seen};
-    ghost use Rattle.bl_proc_base.specs.declared.acts.Seen.TheVariants as seen;
-    ghost use Rattle.bl_proc_base.specs.declared.approaching.Approach.{Approach};
-    ghost use Rattle.bl_proc_base.specs.declared.approaching.Approach.TheVariants as way;
-    ghost use Rattle.bl_proc_base.specs.declared.approaching.Approached.TheVariants as came;
-    ghost use Rattle.bl_proc_pages.specs.declared.onwards.Step.{Step as StepIs};
+    ghost use Rattle.bl_proc_steps.specs.declared.acts.Seen.{Seen};
+    ghost use Rattle.bl_proc_steps.specs.declared.acts.Seen.TheVariants as seen;
+    ghost use Rattle.bl_proc_steps.specs.declared.approach.Approach.{Approach};
+    ghost use Rattle.bl_proc_steps.specs.declared.approach.Approach.TheVariants as way;
+    ghost use Rattle.bl_proc_steps.specs.declared.approach.Approached.TheVariants as came;
+    ghost use Rattle.bl_proc_routes.specs.declared.routes.Step.{Step as StepIs};
     ghost use Rattle.bl_page.specs.declared.page.Page.{Page};
-    ghost use Rattle.bl_proc_base.specs.Approaches.{approach_next, Approaches, Turns};
-    ghost use Rattle.bl_proc_base.specs.Given.{Gives};
-    ghost use Rattle.bl_proc_pages.specs.Onwards.{Leads};
+    ghost use Rattle.bl_proc_steps.specs.Approaches.{approach_next, Approaches, Turns};
+    ghost use Rattle.bl_proc_steps.specs.Given.{Gives};
+    ghost use Rattle.bl_proc_routes.specs.Routes.{Leads};
     ghost use Rattle.bl_proc.specs.declared.kinds.Proc.{Proc};
     ghost use Rattle.bl_proc.specs.Processes.{next_of, Takes};
-    ghost use Rattle.bl_proc_unique.specs.Courses.{GoesOn};
+    ghost use Rattle.bl_proc_deterministic.specs.Courses.{GoesOn};
     ghost use Rattle.bl_index_ways.specs.Ways.{IsToHold};
 
     /// The pages that are noted on its way.
@@ -66,11 +66,11 @@ pub trait Target {
 /// What a process begins for, of which there is no value.
 pub trait Unborn {
     ghost use Rattle.std.specs.Prelude.{◌≡◌};
-    ghost use Rattle.bl_proc_base.specs.declared.acts.Action.TheVariants as act;
-    ghost use Rattle.bl_proc_base.specs.declared.acts.Seen.TheVariants as seen;
+    ghost use Rattle.bl_proc_steps.specs.declared.acts.Action.TheVariants as act;
+    ghost use Rattle.bl_proc_steps.specs.declared.acts.Seen.TheVariants as seen;
     ghost use Rattle.bl_proc.specs.declared.kinds.Proc.{Proc};
     ghost use Rattle.bl_proc.specs.Processes.{next_of, Takes};
-    ghost use Rattle.bl_proc_unique.specs.Courses.{GoesOn};
+    ghost use Rattle.bl_proc_deterministic.specs.Courses.{GoesOn};
 
     // The process that is to begin, and what it is when it has begun.
     ghost unborn: { Self → Proc };

@@ -3,17 +3,17 @@
 ghost use Rattle.std.specs.Prelude.{◌≡◌, IfOk, IfErr};
 ghost use Rattle.bl_page.specs.declared.page.Page.TheVariants as page;
 ghost use Rattle.bl_page.specs.Words.{words_of};
-ghost use Rattle.bl_proc_base.specs.declared.approaching.Approach.TheVariants as approach;
-ghost use Rattle.bl_proc_writes.specs.declared.posting.PostStage.TheVariants as post;
+ghost use Rattle.bl_proc_steps.specs.declared.approach.Approach.TheVariants as approach;
+ghost use Rattle.bl_proc_writes.specs.declared.post.PostStage.TheVariants as post;
 ghost use Rattle.bl_proc_writes.specs.declared.walking.Walk.{Walk as WalkIs};
 ghost use Rattle.bl_store.specs.Hands.{known, read_words, HasNoStock, ReadsFrom};
-ghost use Rattle.bl_index_steps.specs.Runs.{Runs};
+ghost use Rattle.bl_index_events.specs.Runs.{Runs};
 ghost use Rattle.bl_index_ways.specs.Events.{IsThere, IsWalkOf, LeavesParent, WalksStill};
 
 use crate::parents::{begin_walk, stay, walk_within};
 use crate::posters::Poster;
+use bl_index_events::Tree;
 use bl_index_rule::PassState;
-use bl_index_steps::Tree;
 use bl_page::{Page, from_wide_words};
 use bl_proc_writes::{PostReply, Walk};
 use bl_store::{Glance, Hand};

@@ -5,7 +5,7 @@ ghost use Rattle.bl_index_ways.specs.Writers.{left_reply, left_by};
 
 use bl_model::KeyWrite;
 use bl_proc::Hint;
-use bl_proc_base::{Level, Outcome, hint_of_thin};
+use bl_proc_steps::{Level, Outcome, hint_of_thin};
 use bl_proc_writes::{Noted, WriteReply};
 
 /// What a write has left when it has opened its leaf.

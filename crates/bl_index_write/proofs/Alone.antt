@@ -1,12 +1,12 @@
 -- How a write ends.
 use Rattle.std.proofs.Common.{ℕ, ◌≡◌, refl, sym, subst}
 use Rattle.bl_model.specs.declared.deciding.KeyWrite.{KeyWrite}
-use Rattle.bl_proc_base.specs.declared.acts.Seen.TheVariants as seen
+use Rattle.bl_proc_steps.specs.declared.acts.Seen.TheVariants as seen
 use Rattle.bl_proc_writes.specs.declared.writing.WriteStage.TheVariants as write
 use Rattle.bl_proc.specs.declared.kinds.Proc.{Proc}
 use Rattle.bl_proc_writes.specs.declared.writing.WriteReply.{WriteReply}
-use Rattle.bl_proc_unique.proofs.Writings.{write_goes}
-use Rattle.bl_index_steps.specs.Runs.{EndsAs}
+use Rattle.bl_proc_deterministic.proofs.Writings.{write_goes}
+use Rattle.bl_index_events.specs.Runs.{EndsAs}
 use Rattle.bl_index_write.specs.Events.{writing}
 
 -- a write that has opened its leaf ends

@@ -4,53 +4,53 @@ use Rattle.bl_model.specs.Writes.{write_op}
 use Rattle.bl_model.specs.declared.operation.Reply.{Reply}
 use Rattle.bl_model.specs.declared.operation.Reply.TheVariants as reply
 use Rattle.bl_page.specs.Nodes.{unbounded}
-use Rattle.bl_core.specs.Blank.{IsBlank}
+use Rattle.bl_tree_worlds.specs.Blank.{IsBlank}
 use Rattle.atomic_table.specs.declared.shared.Seat.{Seat}
-use Rattle.bl_proc_base.specs.declared.acts.Seen.{Seen}
-use Rattle.bl_proc_base.specs.declared.acts.Seen.TheVariants as seen
-use Rattle.bl_proc_base.specs.declared.answers.Answer.{Answer}
-use Rattle.bl_proc_base.specs.declared.answers.Answer.TheVariants.{Op, Post as PostAnswer, InsertPost as Answered}
-use Rattle.bl_proc_base.specs.declared.answers.Hint.{Hint}
-use Rattle.bl_proc_base.specs.declared.answers.Hint.TheVariants as hint
-use Rattle.bl_proc_base.specs.declared.answers.Posted.{Posted}
-use Rattle.bl_proc_base.specs.declared.answers.Posted.TheVariants as posted
-use Rattle.bl_proc_base.specs.declared.approaching.Approach.{Approach}
-use Rattle.bl_proc_base.specs.declared.approaching.Approach.TheVariants as way
-use Rattle.bl_proc_base.specs.Approaches.{approach_next}
-use Rattle.bl_proc_base.specs.Given.{Gives}
-use Rattle.bl_proc_writes.specs.declared.climbing.Climbed.{Climbed}
-use Rattle.bl_proc_writes.specs.declared.climbing.Climbed.TheVariants as climbed
-use Rattle.bl_proc_writes.specs.declared.climbing.ClimbStage.TheVariants as climb
-use Rattle.bl_proc_writes.specs.declared.climbing.InsertPost.{InsertPost}
+use Rattle.bl_proc_steps.specs.declared.acts.Seen.{Seen}
+use Rattle.bl_proc_steps.specs.declared.acts.Seen.TheVariants as seen
+use Rattle.bl_proc_steps.specs.declared.answers.Answer.{Answer}
+use Rattle.bl_proc_steps.specs.declared.answers.Answer.TheVariants.{Op, Post as PostAnswer, InsertPost as Answered}
+use Rattle.bl_proc_steps.specs.declared.answers.Hint.{Hint}
+use Rattle.bl_proc_steps.specs.declared.answers.Hint.TheVariants as hint
+use Rattle.bl_proc_steps.specs.declared.answers.Posted.{Posted}
+use Rattle.bl_proc_steps.specs.declared.answers.Posted.TheVariants as posted
+use Rattle.bl_proc_steps.specs.declared.approach.Approach.{Approach}
+use Rattle.bl_proc_steps.specs.declared.approach.Approach.TheVariants as way
+use Rattle.bl_proc_steps.specs.Approaches.{approach_next}
+use Rattle.bl_proc_steps.specs.Given.{Gives}
+use Rattle.bl_proc_writes.specs.declared.insert_post.Climbed.{Climbed}
+use Rattle.bl_proc_writes.specs.declared.insert_post.Climbed.TheVariants as climbed
+use Rattle.bl_proc_writes.specs.declared.insert_post.ClimbStage.TheVariants as climb
+use Rattle.bl_proc_writes.specs.declared.insert_post.InsertPost.{InsertPost}
 use Rattle.bl_proc.specs.declared.kinds.Proc.{Proc}
 use Rattle.bl_proc.specs.declared.kinds.Proc.TheVariants as proc
 use Rattle.bl_proc_writes.specs.declared.paths.Path.{Path}
-use Rattle.bl_proc_writes.specs.declared.posting.PostReply.{PostReply}
-use Rattle.bl_proc_writes.specs.declared.posting.PostReply.TheVariants as listed
+use Rattle.bl_proc_writes.specs.declared.post.PostReply.{PostReply}
+use Rattle.bl_proc_writes.specs.declared.post.PostReply.TheVariants as listed
 use Rattle.bl_proc_writes.specs.declared.writing.WriteReply.{WriteReply}
 use Rattle.bl_proc_writes.specs.declared.writing.WriteReply.TheVariants as written
 use Rattle.std.specs.Coded.{le_prop}
 use mathlib.Core.HLevel.{is_prop→PathP}
-use Rattle.bl_proc_writes.specs.declared.posting.Post.{Post}
-use Rattle.bl_proc_writes.specs.declared.posting.PostStage.TheVariants as post
+use Rattle.bl_proc_writes.specs.declared.post.Post.{Post}
+use Rattle.bl_proc_writes.specs.declared.post.PostStage.TheVariants as post
 use Rattle.bl_proc_writes.specs.Levels.{IsBelowTop, IsBelowTop-prop, MayReply}
 use Rattle.bl_proc_writes.specs.Posts.{posted_answer}
 use Rattle.bl_proc_writes.specs.Stands.{Stands, Stands-prop}
-use Rattle.bl_proc_writes.specs.Climbs.{posted_as, left_hint, climbed_answer, climb_answer_in, IsLast}
+use Rattle.bl_proc_writes.specs.InsertPosts.{posted_as, left_hint, climbed_answer, climb_answer_in, IsLast}
 use Rattle.bl_proc_writes.specs.Paths.{page_at, from_page, IsBlank as IsBlankPath}
 use Rattle.bl_proc_writes.specs.Writes.{write_answer}
-use Rattle.bl_proc_unique.specs.Courses.{GoesOn}
-use Rattle.bl_proc_unique.specs.Frames.{op_of}
-use Rattle.bl_proc_unique.proofs.Climbs.{climb_goes}
+use Rattle.bl_proc_deterministic.specs.Courses.{GoesOn}
+use Rattle.bl_proc_deterministic.specs.Frames.{op_of}
+use Rattle.bl_proc_deterministic.proofs.Climbs.{climb_goes}
 use Rattle.bl_proc_invariant.specs.Knowing.{know_of}
 use Rattle.bl_proc_invariant.proofs.Noting.{blank_goes}
-use Rattle.bl_frames.specs.declared.view.View.{View}
+use Rattle.bl_store_rule.specs.declared.view.View.{View}
 use Rattle.bl_index_rule.specs.declared.known.PassState.{PassState}
 use Rattle.bl_index_rule.specs.Observed.{IsUnborn}
-use Rattle.bl_index_steps.specs.Rooms.{LacksPost, LacksWrite}
-use Rattle.bl_index_steps.specs.Runs.{IsDone, IsSameProcess, EndsAs}
-use Rattle.bl_index_steps.proofs.Ends.{climb_over}
-use Rattle.bl_index_steps.proofs.Rooms.{LacksClimb}
+use Rattle.bl_index_events.specs.Rooms.{LacksPost, LacksWrite}
+use Rattle.bl_index_events.specs.Runs.{IsDone, IsSameProcess, EndsAs}
+use Rattle.bl_index_events.proofs.Ends.{climb_over}
+use Rattle.bl_index_events.proofs.Rooms.{LacksClimb}
 use Rattle.bl_index_ways.specs.declared.writers.Left.{Left}
 use Rattle.bl_index_ways.specs.declared.writers.Left.TheVariants as left
 use Rattle.bl_index_write.specs.declared.rising.Rising.{Rising}
@@ -58,8 +58,8 @@ use Rattle.bl_index_write.specs.Climbing.{climbing, climb_unborn, climb_ending, 
 use Rattle.bl_index_ways.specs.Events.{HoldsNone}
 use Rattle.bl_index_write.specs.Kinds.{IsClimbAnswer}
 use Rattle.bl_index_ways.specs.Writers.{left_reply}
-use Rattle.bl_proc_writes.specs.declared.climbing.Placing.{Placing}
-use Rattle.bl_proc_writes.specs.declared.climbing.Placing.TheVariants as place
+use Rattle.bl_proc_writes.specs.declared.insert_post.Placing.{Placing}
+use Rattle.bl_proc_writes.specs.declared.insert_post.Placing.TheVariants as place
 use Rattle.bl_proc_writes.specs.Placings.{write_of}
 
 module _ (key : ℕ) (placing : Placing) (path : Path) where

@@ -1,33 +1,33 @@
 -- How a post ends.
 use Rattle.std.proofs.Common.{ℕ, ◌≡◌, ◌≢◌, Option, Some, refl, sym, ◌∙◌, subst}
-use Rattle.bl_proc_base.specs.declared.acts.Action.TheVariants as act
-use Rattle.bl_proc_base.specs.declared.acts.Seen.TheVariants as seen
-use Rattle.bl_proc_base.specs.declared.answers.Answer.{Answer}
-use Rattle.bl_proc_base.specs.declared.growing.Growth.{Growth}
-use Rattle.bl_proc_base.specs.declared.growing.Growth.TheVariants as growth
-use Rattle.bl_proc_base.specs.Growths.{growth_next}
-use Rattle.bl_proc_writes.specs.declared.posting.Post.{Post}
-use Rattle.bl_proc_writes.specs.declared.posting.PostReply.{PostReply}
-use Rattle.bl_proc_writes.specs.declared.posting.PostReply.TheVariants as reply
+use Rattle.bl_proc_steps.specs.declared.acts.Action.TheVariants as act
+use Rattle.bl_proc_steps.specs.declared.acts.Seen.TheVariants as seen
+use Rattle.bl_proc_steps.specs.declared.answers.Answer.{Answer}
+use Rattle.bl_proc_steps.specs.declared.growth.Growth.{Growth}
+use Rattle.bl_proc_steps.specs.declared.growth.Growth.TheVariants as growth
+use Rattle.bl_proc_steps.specs.Growths.{growth_next}
+use Rattle.bl_proc_writes.specs.declared.post.Post.{Post}
+use Rattle.bl_proc_writes.specs.declared.post.PostReply.{PostReply}
+use Rattle.bl_proc_writes.specs.declared.post.PostReply.TheVariants as reply
 use Rattle.bl_proc_writes.specs.Levels.{MayReply}
-use Rattle.bl_proc_unique.proofs.Posts.{post_goes}
+use Rattle.bl_proc_deterministic.proofs.Posts.{post_goes}
 use Rattle.bl_index_write.specs.declared.targets.Posting.{Posting}
-use Rattle.bl_proc_writes.specs.declared.posting.PostStage.{PostStage}
-use Rattle.bl_proc_writes.specs.declared.posting.PostStage.TheVariants as post
+use Rattle.bl_proc_writes.specs.declared.post.PostStage.{PostStage}
+use Rattle.bl_proc_writes.specs.declared.post.PostStage.TheVariants as post
 use Rattle.bl_proc.specs.declared.kinds.Proc.{Proc}
 use Rattle.bl_proc.specs.declared.kinds.Proc.TheVariants as proc
 use Rattle.bl_proc_writes.specs.Posts.{post_next_in, post_answer_in, post_answer, PostGoes}
 use Rattle.bl_proc.specs.Processes.{next_of, Takes}
-use Rattle.bl_proc_unique.specs.Frames.{work_of}
+use Rattle.bl_proc_deterministic.specs.Frames.{work_of}
 use Rattle.atomic_table.specs.declared.shared.Seat.{Seat}
-use Rattle.bl_proc_base.specs.declared.answers.Hint.{Hint}
-use Rattle.bl_proc_base.specs.declared.answers.Posted.{Posted}
-use Rattle.bl_frames.specs.declared.view.View.{View}
+use Rattle.bl_proc_steps.specs.declared.answers.Hint.{Hint}
+use Rattle.bl_proc_steps.specs.declared.answers.Posted.{Posted}
+use Rattle.bl_store_rule.specs.declared.view.View.{View}
 use Rattle.bl_index_rule.specs.declared.known.PassState.{PassState}
-use Rattle.bl_index_steps.specs.Runs.{IsDone, IsSameProcess, EndsAs}
+use Rattle.bl_index_events.specs.Runs.{IsDone, IsSameProcess, EndsAs}
 use Rattle.bl_index_write.specs.Events.{HasPosted, IsPostAnswer, IsPostOver, posting}
-use Rattle.bl_index_steps.proofs.Quiet.{first_of, second_of}
-use Rattle.bl_index_steps.proofs.Ends.{not_end_way, not_end}
+use Rattle.bl_index_events.proofs.Quiet.{first_of, second_of}
+use Rattle.bl_index_events.proofs.Ends.{not_end_way, not_end}
 
 pub not_end_growth : (g : Growth) → growth_next g ≢ act.End
 not_end_growth growth.Latching e = cc

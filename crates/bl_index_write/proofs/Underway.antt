@@ -2,38 +2,38 @@
 use Rattle.std.proofs.Common.{ℕ, ◌≡◌, ◌≢◌, ◌<◌, ◌≤◌, Option, Some, Result, Ok, Err, IfOk, IfErr, inl, inr, refl, sym, ap, subst}
 use Rattle.std.proofs.Props.{props}
 use Rattle.bl_page.specs.declared.page.Page.{Page}
-use Rattle.bl_proc_base.specs.declared.acts.Action.{Action}
-use Rattle.bl_proc_base.specs.declared.acts.Action.TheVariants as act
-use Rattle.bl_proc_base.specs.declared.acts.Seen.TheVariants as seen
-use Rattle.bl_proc_base.specs.declared.approaching.Approach.{Approach}
-use Rattle.bl_proc_base.specs.declared.approaching.Approach.TheVariants as way
-use Rattle.bl_proc_writes.specs.declared.posting.Post.{Post}
-use Rattle.bl_proc_writes.specs.declared.posting.PostStage.{PostStage}
-use Rattle.bl_proc_writes.specs.declared.posting.PostStage.TheVariants as post
+use Rattle.bl_proc_steps.specs.declared.acts.Action.{Action}
+use Rattle.bl_proc_steps.specs.declared.acts.Action.TheVariants as act
+use Rattle.bl_proc_steps.specs.declared.acts.Seen.TheVariants as seen
+use Rattle.bl_proc_steps.specs.declared.approach.Approach.{Approach}
+use Rattle.bl_proc_steps.specs.declared.approach.Approach.TheVariants as way
+use Rattle.bl_proc_writes.specs.declared.post.Post.{Post}
+use Rattle.bl_proc_writes.specs.declared.post.PostStage.{PostStage}
+use Rattle.bl_proc_writes.specs.declared.post.PostStage.TheVariants as post
 use Rattle.bl_proc_writes.specs.declared.walking.Walk.{Walk}
 use Rattle.bl_proc_writes.specs.Levels.{IsBelowTop, IsBelowTop-prop}
 use Rattle.bl_proc_writes.specs.Posts.{post_next_in}
 use Rattle.bl_proc.specs.declared.kinds.Proc.{Proc}
 use Rattle.bl_proc.specs.declared.kinds.Proc.TheVariants as proc
 use Rattle.bl_proc.specs.Processes.{Takes}
-use Rattle.bl_proc_unique.proofs.Following.{not_begin_way}
-use Rattle.bl_proc_unique.proofs.PostsFollowing.{post_follows}
-use Rattle.bl_proc_unique.proofs.Retirements.{post_none}
-use Rattle.bl_proc_unique.proofs.RefusedTurns.{takes_refused, takes_puts}
-use Rattle.bl_proc_unique.specs.Frames.{work_of}
-use Rattle.bl_proc_unique.specs.Retirements.{RetiresAfter}
-use Rattle.bl_proc_base.specs.declared.answers.Hint.{Hint}
-use Rattle.bl_proc_base.specs.declared.answers.Posted.{Posted}
-use Rattle.bl_proc_base.specs.declared.answers.Posted.TheVariants as posted
+use Rattle.bl_proc_deterministic.proofs.Following.{not_begin_way}
+use Rattle.bl_proc_deterministic.proofs.PostsFollowing.{post_follows}
+use Rattle.bl_proc_deterministic.proofs.Retirements.{post_none}
+use Rattle.bl_proc_deterministic.proofs.RefusedTurns.{takes_refused, takes_puts}
+use Rattle.bl_proc_deterministic.specs.Frames.{work_of}
+use Rattle.bl_proc_deterministic.specs.Retirements.{RetiresAfter}
+use Rattle.bl_proc_steps.specs.declared.answers.Hint.{Hint}
+use Rattle.bl_proc_steps.specs.declared.answers.Posted.{Posted}
+use Rattle.bl_proc_steps.specs.declared.answers.Posted.TheVariants as posted
 use Rattle.atomic_table.specs.declared.shared.Seat.{Seat}
-use Rattle.bl_frames.specs.declared.view.View.{View}
+use Rattle.bl_store_rule.specs.declared.view.View.{View}
 use Rattle.bl_store.specs.declared.store.Hand.{Hand}
 use Rattle.bl_store.specs.Hands.{known, HasNoStock}
 use Rattle.bl_index_rule.specs.declared.known.PassState.{PassState}
-use Rattle.bl_index_steps.specs.declared.tree.Tree.{Tree}
-use Rattle.bl_index_steps.specs.Runs.{IsSameProcess, IsSince, Rests, Runs}
-use Rattle.bl_index_steps.specs.Rooms.{LacksPost}
-use Rattle.bl_index_steps.proofs.Rooms.{words_not_refused}
+use Rattle.bl_index_events.specs.declared.tree.Tree.{Tree}
+use Rattle.bl_index_events.specs.Runs.{IsSameProcess, IsSince, Rests, Runs}
+use Rattle.bl_index_events.specs.Rooms.{LacksPost}
+use Rattle.bl_index_events.proofs.Rooms.{words_not_refused}
 use Rattle.bl_index_write.specs.declared.targets.Posting.{Posting}
 use Rattle.bl_index_write.proofs.PostEnds.{posted_first}
 use Rattle.bl_index_write.specs.Events.{HasPosted, IsPostOver, IsPostUnderway, posting}

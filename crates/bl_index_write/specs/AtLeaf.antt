@@ -1,12 +1,12 @@
 -- How a write, and one that posts, stand and go on at their leaves, for the laws of `Writer` and `Target`.
 use Rattle.bl_claims.specs.Trails.{Trail}
-use Rattle.bl_index_steps.specs.Held.{proc_held, write_held}
+use Rattle.bl_index_events.specs.Held.{proc_held, write_held}
 use Rattle.bl_index_write.specs.Climbing.{climb_coming, climb_opened, climb_staged, climb_unborn}
 use Rattle.bl_index_write.specs.Events.{writing}
 use Rattle.bl_index_ways.specs.Ways.{IsToHold}
 use Rattle.bl_index_ways.specs.Writers.{IsAtWork, IsWriter, left_by, left_reply}
 use Rattle.bl_model.specs.declared.deciding.KeyWrite.{KeyWrite}
-use Rattle.bl_proc_writes.specs.Climbs.{IsUnsplit}
+use Rattle.bl_proc_writes.specs.InsertPosts.{IsUnsplit}
 use Rattle.bl_proc_writes.specs.Paths.{Notes, IsBlank as IsBlankPath}
 use Rattle.bl_proc.specs.Processes.{Takes, next_of}
 use Rattle.bl_proc_writes.specs.Writes.{WriteGoes, write_needs_in, write_next_in, write_reply}
@@ -14,23 +14,23 @@ use Rattle.bl_proc.specs.declared.kinds.Proc.{Proc}
 use Rattle.bl_proc_writes.specs.declared.paths.Path.{Path}
 use Rattle.bl_proc_writes.specs.declared.writing.Noted.{Noted}
 use Rattle.bl_proc_writes.specs.declared.writing.WriteStage.{WriteStage}
-use Rattle.bl_proc_base.specs.Given.{Gives}
-use Rattle.bl_proc_base.specs.Thin.{thin_hint}
-use Rattle.bl_proc_base.specs.declared.acts.Seen.{Seen}
-use Rattle.bl_proc_base.specs.declared.approaching.Approach.{Approach}
-use Rattle.bl_proc_base.specs.declared.editing.Outcome.{Outcome}
-use Rattle.bl_proc_unique.proofs.Climbs.{climb_goes}
-use Rattle.bl_proc_unique.proofs.Writings.{write_goes}
-use Rattle.bl_proc_unique.specs.Courses.{GoesOn}
+use Rattle.bl_proc_steps.specs.Given.{Gives}
+use Rattle.bl_proc_steps.specs.Thin.{thin_hint}
+use Rattle.bl_proc_steps.specs.declared.acts.Seen.{Seen}
+use Rattle.bl_proc_steps.specs.declared.approach.Approach.{Approach}
+use Rattle.bl_proc_steps.specs.declared.edit.Outcome.{Outcome}
+use Rattle.bl_proc_deterministic.proofs.Climbs.{climb_goes}
+use Rattle.bl_proc_deterministic.proofs.Writings.{write_goes}
+use Rattle.bl_proc_deterministic.specs.Courses.{GoesOn}
 use Rattle.std.proofs.Common.{None, Option, Some, refl, ℕ, ◌≡◌}
-use Rattle.bl_proc_writes.specs.declared.climbing.ClimbStage.TheVariants as climb
+use Rattle.bl_proc_writes.specs.declared.insert_post.ClimbStage.TheVariants as climb
 use Rattle.bl_proc_writes.specs.declared.writing.WriteReply.TheVariants as written
 use Rattle.bl_proc_writes.specs.declared.writing.WriteStage.TheVariants as write
-use Rattle.bl_proc_base.specs.declared.acts.Seen.TheVariants as seen
-use Rattle.bl_proc_base.specs.declared.approaching.Approach.TheVariants as way
-use Rattle.bl_proc_base.specs.declared.editing.Edit.TheVariants as edit
-use Rattle.bl_proc_base.specs.declared.editing.Outcome.TheVariants as outcome
-use Rattle.bl_proc_writes.specs.declared.climbing.Placing.{Placing}
+use Rattle.bl_proc_steps.specs.declared.acts.Seen.TheVariants as seen
+use Rattle.bl_proc_steps.specs.declared.approach.Approach.TheVariants as way
+use Rattle.bl_proc_steps.specs.declared.edit.Edit.TheVariants as edit
+use Rattle.bl_proc_steps.specs.declared.edit.Outcome.TheVariants as outcome
+use Rattle.bl_proc_writes.specs.declared.insert_post.Placing.{Placing}
 use Rattle.bl_proc_writes.specs.Placings.{write_of}
 
 -- the reply by what was left is the reply by what became of the leaf

@@ -1,30 +1,30 @@
 -- How a post, and an insertion that posts, stand and go on at their parents, for the laws of `Poster` and `Target`.
 use Rattle.std.proofs.Common.{Some, None, refl, ℕ, ◌≡◌, ◌<◌, ◌≤◌, inl, inr}
-use Rattle.bl_proc_base.specs.Given.{Gives}
-use Rattle.bl_proc_base.specs.declared.acts.Seen.{Seen}
-use Rattle.bl_proc_base.specs.declared.acts.Seen.TheVariants as seen
-use Rattle.bl_proc_base.specs.declared.editing.Edit.TheVariants as edit
-use Rattle.bl_proc_base.specs.declared.editing.Outcome.{Outcome}
-use Rattle.bl_proc_base.specs.declared.editing.Outcome.TheVariants as outcome
-use Rattle.bl_proc_writes.specs.Climbs.{PostNotes}
+use Rattle.bl_proc_steps.specs.Given.{Gives}
+use Rattle.bl_proc_steps.specs.declared.acts.Seen.{Seen}
+use Rattle.bl_proc_steps.specs.declared.acts.Seen.TheVariants as seen
+use Rattle.bl_proc_steps.specs.declared.edit.Edit.TheVariants as edit
+use Rattle.bl_proc_steps.specs.declared.edit.Outcome.{Outcome}
+use Rattle.bl_proc_steps.specs.declared.edit.Outcome.TheVariants as outcome
+use Rattle.bl_proc_writes.specs.InsertPosts.{PostNotes}
 use Rattle.bl_proc_writes.specs.Levels.{IsBelowTop, MayReply}
 use Rattle.bl_proc_writes.specs.Posts.{post_answer_in, post_next_in, post_needs_in, post_reply}
 use Rattle.bl_proc.specs.Processes.{Takes}
 use Rattle.bl_proc_writes.specs.Stands.{IsPosting}
-use Rattle.bl_proc_writes.specs.declared.climbing.ClimbStage.TheVariants as climb
+use Rattle.bl_proc_writes.specs.declared.insert_post.ClimbStage.TheVariants as climb
 use Rattle.bl_proc.specs.declared.kinds.Proc.TheVariants as proc
 use Rattle.bl_proc_writes.specs.declared.paths.Path.{Path}
-use Rattle.bl_proc_writes.specs.declared.posting.PostReply.{PostReply}
-use Rattle.bl_proc_writes.specs.declared.posting.PostReply.TheVariants as reply
-use Rattle.bl_proc_writes.specs.declared.posting.PostStage.{PostStage}
-use Rattle.bl_proc_writes.specs.declared.posting.PostStage.TheVariants as post
-use Rattle.bl_proc_unique.proofs.Climbs.{climb_goes}
-use Rattle.bl_proc_unique.proofs.Posts.{post_goes}
-use Rattle.bl_proc_unique.specs.Courses.{GoesOn}
+use Rattle.bl_proc_writes.specs.declared.post.PostReply.{PostReply}
+use Rattle.bl_proc_writes.specs.declared.post.PostReply.TheVariants as reply
+use Rattle.bl_proc_writes.specs.declared.post.PostStage.{PostStage}
+use Rattle.bl_proc_writes.specs.declared.post.PostStage.TheVariants as post
+use Rattle.bl_proc_deterministic.proofs.Climbs.{climb_goes}
+use Rattle.bl_proc_deterministic.proofs.Posts.{post_goes}
+use Rattle.bl_proc_deterministic.specs.Courses.{GoesOn}
 use Rattle.bl_index_write.specs.AtLeaf.{unnoted}
 use Rattle.bl_index_write.specs.Climbing.{climb_posting, climb_posted}
 use Rattle.bl_index_ways.specs.Posters.{IsAtParent, IsPoster, Opened, Staged}
-use Rattle.bl_proc_writes.specs.declared.climbing.Placing.{Placing}
+use Rattle.bl_proc_writes.specs.declared.insert_post.Placing.{Placing}
 
 -- a post that has not ended has answered nothing
 unanswered : (level : ℕ) (s : PostStage) → IsPosting s → post_answer_in level s ≡ None

@@ -2,32 +2,32 @@
 use Rattle.std.specs.Prelude.{◌≡◌, ◌≢◌, ℕ, Option, Some, None}
 use Rattle.atomic_table.specs.declared.shared.Seat.{Seat}
 use Rattle.bl_model.specs.declared.deciding.KeyWrite.{KeyWrite}
-use Rattle.bl_frames.specs.declared.view.View.{View}
+use Rattle.bl_store_rule.specs.declared.view.View.{View}
 use Rattle.bl_store.specs.declared.store.Hand.{Hand}
 use Rattle.bl_store.specs.Hands.{known, HasNoStock}
-use Rattle.bl_proc_base.specs.declared.acts.Action.TheVariants as act
-use Rattle.bl_proc_base.specs.declared.answers.Answer.TheVariants as answer
-use Rattle.bl_proc_base.specs.declared.answers.Hint.{Hint}
-use Rattle.bl_proc_base.specs.declared.answers.Posted.{Posted}
+use Rattle.bl_proc_steps.specs.declared.acts.Action.TheVariants as act
+use Rattle.bl_proc_steps.specs.declared.answers.Answer.TheVariants as answer
+use Rattle.bl_proc_steps.specs.declared.answers.Hint.{Hint}
+use Rattle.bl_proc_steps.specs.declared.answers.Posted.{Posted}
 use Rattle.bl_proc_writes.specs.declared.writing.WriteStage.{WriteStage}
 use Rattle.bl_proc_writes.specs.declared.writing.WriteStage.TheVariants as write
 use Rattle.bl_proc_writes.specs.declared.writing.WriteReply.{WriteReply}
 use Rattle.bl_proc_writes.specs.Writes.{write_answer}
-use Rattle.bl_proc_writes.specs.declared.posting.Post.{Post}
-use Rattle.bl_proc_writes.specs.declared.posting.PostStage.{PostStage}
-use Rattle.bl_proc_writes.specs.declared.posting.PostStage.TheVariants as post
+use Rattle.bl_proc_writes.specs.declared.post.Post.{Post}
+use Rattle.bl_proc_writes.specs.declared.post.PostStage.{PostStage}
+use Rattle.bl_proc_writes.specs.declared.post.PostStage.TheVariants as post
 use Rattle.bl_proc_writes.specs.Levels.{IsBelowTop}
 use Rattle.bl_proc.specs.declared.kinds.Proc.{Proc}
 use Rattle.bl_proc.specs.declared.kinds.Proc.TheVariants as proc
 use Rattle.bl_proc.specs.Processes.{answer_of, next_of}
-use Rattle.bl_proc_unique.specs.Refusals.{IsRefused, PutsRefused}
+use Rattle.bl_proc_deterministic.specs.Refusals.{IsRefused, PutsRefused}
 use Rattle.bl_index_rule.specs.declared.known.PassState.{PassState}
 use Rattle.bl_index_write.specs.declared.targets.Posting.{Posting}
-use Rattle.bl_index_steps.specs.Runs.{IsSince, IsDone, Rests, Runs, HasReserved}
-use Rattle.bl_index_steps.specs.declared.tree.Tree.{Tree}
-use Rattle.bl_index_steps.specs.Rooms.{LacksPost}
-use Rattle.bl_proc_base.specs.declared.answers.Posted.TheVariants as posted
-use Rattle.bl_proc_base.specs.declared.answers.Answer.{Answer}
+use Rattle.bl_index_events.specs.Runs.{IsSince, IsDone, Rests, Runs, HasReserved}
+use Rattle.bl_index_events.specs.declared.tree.Tree.{Tree}
+use Rattle.bl_index_events.specs.Rooms.{LacksPost}
+use Rattle.bl_proc_steps.specs.declared.answers.Posted.TheVariants as posted
+use Rattle.bl_proc_steps.specs.declared.answers.Answer.{Answer}
 
 -- a write of that key that has come so far
 abbrev pub writing : ℕ → KeyWrite → WriteStage → Proc

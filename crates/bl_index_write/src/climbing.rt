@@ -5,20 +5,20 @@ ghost use Rattle.std.specs.Prelude.{◌≡◌, ◌<◌, ◌≤◌, ℕ, Option, 
 ghost use Rattle.bl_model.specs.declared.operation.KeyReply.TheVariants as replies;
 ghost use Rattle.bl_model.specs.declared.operation.Reply.TheVariants as reply;
 ghost use Rattle.bl_model.specs.Replies.{reply_of};
-ghost use Rattle.bl_proc_base.specs.declared.answers.Answer.TheVariants as answers;
-ghost use Rattle.bl_proc_base.specs.declared.answers.Hint.TheVariants as hints;
-ghost use Rattle.bl_proc_base.specs.declared.approaching.Approach.TheVariants as approach;
-ghost use Rattle.bl_proc_writes.specs.declared.posting.PostReply.TheVariants as listed;
-ghost use Rattle.bl_proc_writes.specs.declared.posting.PostStage.TheVariants as post;
-ghost use Rattle.bl_proc_writes.specs.Climbs.{IsLast, left_hint, posted_as};
+ghost use Rattle.bl_proc_steps.specs.declared.answers.Answer.TheVariants as answers;
+ghost use Rattle.bl_proc_steps.specs.declared.answers.Hint.TheVariants as hints;
+ghost use Rattle.bl_proc_steps.specs.declared.approach.Approach.TheVariants as approach;
+ghost use Rattle.bl_proc_writes.specs.declared.post.PostReply.TheVariants as listed;
+ghost use Rattle.bl_proc_writes.specs.declared.post.PostStage.TheVariants as post;
+ghost use Rattle.bl_proc_writes.specs.InsertPosts.{IsLast, left_hint, posted_as};
 ghost use Rattle.bl_proc_writes.specs.Levels.{MayReply};
 ghost use Rattle.bl_proc_writes.specs.Paths.{IsBlank as IsBlankPath};
 ghost use Rattle.bl_proc_writes.specs.Placings.{write_of};
 ghost use Rattle.bl_store.specs.Hands.{known, read_words, IsIdle, IsSameHand, HasNoStock, ReadsFrom};
 ghost use Rattle.bl_store.specs.Owners.{IsHandOf};
 ghost use Rattle.bl_index_rule.specs.declared.known.PassState.{PassState as Knows};
-ghost use Rattle.bl_index_steps.specs.Rooms.{LacksWrite, LacksPost};
-ghost use Rattle.bl_index_steps.specs.Runs.{Runs, Rests, IsSince};
+ghost use Rattle.bl_index_events.specs.Rooms.{LacksWrite, LacksPost};
+ghost use Rattle.bl_index_events.specs.Runs.{Runs, Rests, IsSince};
 ghost use Rattle.bl_index_ways.specs.declared.writers.Left.TheVariants as lefts;
 ghost use Rattle.bl_index_write.specs.Climbing.{climb_opened, rises, rose, HasClimbed, IsClimbOver};
 ghost use Rattle.bl_index_ways.specs.Events.{HasGotAnchor};
@@ -27,15 +27,15 @@ ghost use Rattle.bl_index_write.specs.Kinds.{IsOfInsertion, IsClimbAnswer};
 use crate::posting::posted_by;
 use crate::rising::{Riser, Rising};
 use crate::writing::answer_of;
+use bl_index_events::{FrameView, Tree};
 use bl_index_rule::PassState;
-use bl_index_steps::{FrameView, Tree};
 use bl_index_ways::{
     Left, Reached, Target, Unborn, Writer, begin_descent, descend, post_there, reach, write_there,
 };
 use bl_model::{KeyReply, KeyWrite, Reply};
 use bl_proc::{Answer, Hint, Posted, Process, Reader};
-use bl_proc_base::{Approach, Level};
-use bl_proc_pages::Step;
+use bl_proc_routes::Step;
+use bl_proc_steps::{Approach, Level};
 use bl_proc_writes::{ClimbStage, InsertPost, Path, Placing, Post, PostReply, PostStage};
 use bl_store::{Glance, Hand};
 use std::sync::Wait;
@@ -49,11 +49,11 @@ pub(crate) struct Climbing {
 
 impl Target for Climbing {
     ghost use Rattle.std.specs.Prelude.{refl};
-    ghost use Rattle.bl_proc_writes.specs.declared.climbing.ClimbStage.TheVariants as stages;
+    ghost use Rattle.bl_proc_writes.specs.declared.insert_post.ClimbStage.TheVariants as stages;
     ghost use Rattle.bl_proc_writes.specs.declared.writing.WriteStage.TheVariants as write;
     ghost use Rattle.bl_proc_writes.specs.Paths.{NotesBy};
     ghost use Rattle.bl_proc_writes.specs.Placings.{write_of};
-    ghost use Rattle.bl_proc_unique.proofs.Climbs.{climb_goes};
+    ghost use Rattle.bl_proc_deterministic.proofs.Climbs.{climb_goes};
     ghost use Rattle.bl_index_write.specs.Climbing.{climb_coming};
     ghost use Rattle.bl_index_write.specs.AtLeaf.{unnoted};
 

@@ -3,34 +3,34 @@
 ghost use Rattle.std.specs.Prelude.{◌≡◌, ◌<◌, ◌≤◌, ◌-◌, ℕ, Some, None, IfOk, IfErr};
 ghost use Rattle.bl_page.specs.declared.page.Page.{Page};
 ghost use Rattle.bl_page.specs.Words.{words_of};
-ghost use Rattle.bl_proc_base.specs.declared.acts.Seen.TheVariants as seen;
-ghost use Rattle.bl_proc_base.specs.declared.answers.Answer.TheVariants as answers;
-ghost use Rattle.bl_proc_base.specs.declared.approaching.Approach.TheVariants as approach;
+ghost use Rattle.bl_proc_steps.specs.declared.acts.Seen.TheVariants as seen;
+ghost use Rattle.bl_proc_steps.specs.declared.answers.Answer.TheVariants as answers;
+ghost use Rattle.bl_proc_steps.specs.declared.approach.Approach.TheVariants as approach;
 ghost use Rattle.bl_proc.specs.declared.kinds.Proc.{Proc};
 ghost use Rattle.bl_proc.specs.declared.kinds.Proc.TheVariants as proc;
 ghost use Rattle.bl_proc.specs.Processes.{Takes};
-ghost use Rattle.bl_proc_writes.specs.declared.posting.PostStage.TheVariants as post;
+ghost use Rattle.bl_proc_writes.specs.declared.post.PostStage.TheVariants as post;
 ghost use Rattle.bl_proc_writes.specs.Levels.{MayReply};
 ghost use Rattle.bl_proc_writes.specs.Posts.{posted_answer};
-ghost use Rattle.bl_proc_unique.specs.Frames.{work_of};
+ghost use Rattle.bl_proc_deterministic.specs.Frames.{work_of};
 ghost use Rattle.bl_store.specs.Hands.{known, read_words, IsIdle, IsSameHand, HasNoStock, ReadsFrom};
 ghost use Rattle.bl_store.specs.Owners.{IsHandOf};
 ghost use Rattle.bl_index_rule.specs.declared.known.PassState.{PassState as Knows};
-ghost use Rattle.bl_index_steps.specs.Runs.{Runs, Rests, IsSince, IsSameProcess};
+ghost use Rattle.bl_index_events.specs.Runs.{Runs, Rests, IsSince, IsSameProcess};
 ghost use Rattle.bl_index_ways.specs.Events.{HasGotAnchor, IsThere};
 ghost use Rattle.bl_index_write.specs.Events.{posting, HasPosted, IsPostOver, IsPostUnderway, IsPostAnswer};
-ghost use Rattle.bl_index_steps.specs.Rooms.{LacksPost};
-ghost use Rattle.bl_proc_base.specs.declared.answers.Posted.TheVariants as postings;
-ghost use Rattle.bl_proc_writes.specs.declared.posting.PostReply.TheVariants as replies;
+ghost use Rattle.bl_index_events.specs.Rooms.{LacksPost};
+ghost use Rattle.bl_proc_steps.specs.declared.answers.Posted.TheVariants as postings;
+ghost use Rattle.bl_proc_writes.specs.declared.post.PostReply.TheVariants as replies;
 
 use crate::targets::Posting;
+use bl_index_events::{FrameView, Tree};
 use bl_index_rule::PassState;
-use bl_index_steps::{FrameView, Tree};
 use bl_index_ways::{
     Neared, Reached, begin_descent, post_there, post_there_within, reach, reach_within,
 };
 use bl_proc::{Answer, Hint, Posted, Process, Reader};
-use bl_proc_base::{Approach, Level};
+use bl_proc_steps::{Approach, Level};
 use bl_proc_writes::{Post, PostReply, PostStage, Walk};
 use bl_store::{Glance, Hand};
 use std::sync::Wait;

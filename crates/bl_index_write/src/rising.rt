@@ -3,7 +3,7 @@
 ghost use Rattle.std.specs.Prelude.{◌<◌, ◌≤◌};
 
 use bl_index_ways::{Poster, Target};
-use bl_proc_pages::Step;
+use bl_proc_routes::Step;
 use bl_proc_writes::{Path, Placing};
 
 /// The post of a write to a level.
@@ -23,13 +23,13 @@ impl Target for Rising {
     ghost use Rattle.std.specs.Prelude.{refl, ◌<◌};
     ghost use Rattle.std.proofs.Common.{inl};
     ghost use Rattle.bl_page.specs.Nodes.{roots_of};
-    ghost use Rattle.bl_proc_writes.specs.declared.climbing.ClimbStage.TheVariants as stages;
-    ghost use Rattle.bl_proc_writes.specs.declared.posting.PostStage.TheVariants as post;
+    ghost use Rattle.bl_proc_writes.specs.declared.insert_post.ClimbStage.TheVariants as stages;
+    ghost use Rattle.bl_proc_writes.specs.declared.post.PostStage.TheVariants as post;
     ghost use Rattle.bl_proc_writes.specs.Paths.{NotesBy};
-    ghost use Rattle.bl_proc_base.specs.declared.acts.Seen.TheVariants as seen;
-    ghost use Rattle.bl_proc_base.specs.declared.approaching.Approach.TheVariants as approach;
-    ghost use Rattle.bl_proc_base.specs.declared.approaching.Came.TheVariants as descend;
-    ghost use Rattle.bl_proc_unique.proofs.Climbs.{climb_goes};
+    ghost use Rattle.bl_proc_steps.specs.declared.acts.Seen.TheVariants as seen;
+    ghost use Rattle.bl_proc_steps.specs.declared.approach.Approach.TheVariants as approach;
+    ghost use Rattle.bl_proc_steps.specs.declared.approach.Came.TheVariants as descend;
+    ghost use Rattle.bl_proc_deterministic.proofs.Climbs.{climb_goes};
     ghost use Rattle.bl_index_write.specs.AtLeaf.{unnoted};
     ghost use Rattle.bl_index_write.specs.Climbing.{rises};
     ghost use Rattle.bl_index_ways.specs.Ways.{nears, past_held};

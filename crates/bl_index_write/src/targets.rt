@@ -4,7 +4,7 @@ ghost use Rattle.std.specs.Prelude.{◌<◌, ◌≤◌};
 
 use bl_index_ways::{Poster, Target, Unborn, Writer};
 use bl_model::KeyWrite;
-use bl_proc_pages::Step;
+use bl_proc_routes::Step;
 
 /// The write of a key.
 #[derive(Clone, Copy)]
@@ -16,7 +16,7 @@ pub(crate) struct Writing {
 impl Target for Writing {
     ghost use Rattle.std.specs.Prelude.{refl};
     ghost use Rattle.bl_proc_writes.specs.declared.writing.WriteStage.TheVariants as stages;
-    ghost use Rattle.bl_proc_unique.proofs.Writings.{write_goes};
+    ghost use Rattle.bl_proc_deterministic.proofs.Writings.{write_goes};
     ghost use Rattle.bl_index_write.specs.Events.{writing};
 
     type Path = ();
@@ -58,9 +58,9 @@ impl Target for Writing {
 impl Unborn for Writing {
     ghost use Rattle.std.specs.Prelude.{refl};
     ghost use Rattle.bl_proc_writes.specs.declared.writing.WriteStage.TheVariants as stages;
-    ghost use Rattle.bl_proc_base.specs.declared.acts.Seen.TheVariants as seen;
-    ghost use Rattle.bl_proc_base.specs.declared.approaching.Approach.TheVariants as approach;
-    ghost use Rattle.bl_proc_unique.proofs.Writings.{write_goes};
+    ghost use Rattle.bl_proc_steps.specs.declared.acts.Seen.TheVariants as seen;
+    ghost use Rattle.bl_proc_steps.specs.declared.approach.Approach.TheVariants as approach;
+    ghost use Rattle.bl_proc_deterministic.proofs.Writings.{write_goes};
     ghost use Rattle.bl_index_write.specs.Events.{writing};
 
     ghost unborn = { λ j. writing j.key j.write stages.New };
@@ -88,11 +88,11 @@ impl Target for Posting {
     ghost use Rattle.std.specs.Prelude.{refl, ◌<◌};
     ghost use Rattle.bl_page.specs.Nodes.{roots_of};
     ghost use Rattle.bl_proc.specs.declared.kinds.Proc.TheVariants as proc;
-    ghost use Rattle.bl_proc_writes.specs.declared.posting.PostStage.TheVariants as post;
-    ghost use Rattle.bl_proc_base.specs.declared.acts.Seen.TheVariants as seen;
-    ghost use Rattle.bl_proc_base.specs.declared.approaching.Approach.TheVariants as approach;
-    ghost use Rattle.bl_proc_base.specs.declared.approaching.Came.TheVariants as descend;
-    ghost use Rattle.bl_proc_unique.proofs.Posts.{post_goes};
+    ghost use Rattle.bl_proc_writes.specs.declared.post.PostStage.TheVariants as post;
+    ghost use Rattle.bl_proc_steps.specs.declared.acts.Seen.TheVariants as seen;
+    ghost use Rattle.bl_proc_steps.specs.declared.approach.Approach.TheVariants as approach;
+    ghost use Rattle.bl_proc_steps.specs.declared.approach.Came.TheVariants as descend;
+    ghost use Rattle.bl_proc_deterministic.proofs.Posts.{post_goes};
     ghost use Rattle.bl_index_ways.specs.Ways.{nears, past_held};
 
     type Path = ();
@@ -137,10 +137,10 @@ impl Target for Posting {
 impl Unborn for Posting {
     ghost use Rattle.std.specs.Prelude.{refl};
     ghost use Rattle.bl_proc.specs.declared.kinds.Proc.TheVariants as proc;
-    ghost use Rattle.bl_proc_writes.specs.declared.posting.PostStage.TheVariants as post;
-    ghost use Rattle.bl_proc_base.specs.declared.acts.Seen.TheVariants as seen;
-    ghost use Rattle.bl_proc_base.specs.declared.approaching.Approach.TheVariants as approach;
-    ghost use Rattle.bl_proc_unique.proofs.Posts.{post_goes};
+    ghost use Rattle.bl_proc_writes.specs.declared.post.PostStage.TheVariants as post;
+    ghost use Rattle.bl_proc_steps.specs.declared.acts.Seen.TheVariants as seen;
+    ghost use Rattle.bl_proc_steps.specs.declared.approach.Approach.TheVariants as approach;
+    ghost use Rattle.bl_proc_deterministic.proofs.Posts.{post_goes};
 
     ghost unborn = { λ j. proc.Post (record { level = j.level; key = j.key; stage = post.New; least = j.least; most = j.most; below = tt }) };
 

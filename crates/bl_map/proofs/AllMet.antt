@@ -14,7 +14,7 @@ use Rattle.bl_index.specs.Meetings.{Learns, Hears}
 use Rattle.bl_index.proofs.Taken.{same_of}
 use Rattle.bl_map.specs.declared.handle.Handle.{Handle}
 use Rattle.bl_map.specs.Handles.{IsSameHandle, KeepsHints, number_of_seat, seat_of, seen_by}
-use Rattle.bl_map.specs.Meetings.{IsSeated, Keeps, Comes, HasCome, LearnsAll, HaveAllMet}
+use Rattle.bl_map.specs.Meetings.{IsSeated, KeepsHandle, Comes, HasCome, LearnsAll, HaveAllMet}
 use Rattle.bl_map.proofs.Elements.{take_set, next_is, drop_set, drop_one}
 
 goes_on : (old mid new : Trail) → GoesOnFrom old mid → GoesOnFrom mid new → GoesOnFrom old new
@@ -29,18 +29,18 @@ same_again p q r a b = (b.0 ∙ a.0, same_pass p.pass q.pass r.pass a.1 b.1)
 same_self : (p : Handle) → IsSameHandle p p
 same_self p = (refl, (refl, refl, refl, refl))
 
-keeps_self : (p : Handle) → Keeps p p
+keeps_self : (p : Handle) → KeepsHandle p p
 keeps_self p = (same_self p, refl, refl)
 
-keeps_again : (p q r : Handle) → Keeps p q → Keeps q r → Keeps p r
+keeps_again : (p q r : Handle) → KeepsHandle p q → KeepsHandle q r → KeepsHandle p r
 keeps_again p q r a b = (same_again p q r a.0 b.0, b.1 ∙ a.1, b.2 ∙ a.2)
 
-keeps_all : (ps : List Handle) → AllZip Keeps ps ps
+keeps_all : (ps : List Handle) → AllZip KeepsHandle ps ps
 keeps_all [] = tt
 keeps_all (p ∷ ps) = (keeps_self p, keeps_all ps)
 
 -- one element has changed
-keeps_set : (ps qs : List Handle) (i : ℕ) (r d : Handle) → AllZip Keeps ps qs → Keeps (get_or qs i d) r → i < length qs → AllZip Keeps ps (set qs i r)
+keeps_set : (ps qs : List Handle) (i : ℕ) (r d : Handle) → AllZip KeepsHandle ps qs → KeepsHandle (get_or qs i d) r → i < length qs → AllZip KeepsHandle ps (set qs i r)
 keeps_set [] [] i r d h k low = tt
 keeps_set [] (q ∷ qs) i r d h k low = absurd h
 keeps_set (p ∷ ps) [] i r d h k low = absurd h
@@ -52,11 +52,11 @@ keeps_set (p ∷ ps) (q ∷ qs) (suc i) r d h k low = (h.0, keeps_set ps qs i r 
 pub seated_as : (index : Index) (old new : Handle) → IsSameHandle old new → IsSeated index old → IsSeated index new
 seated_as index old new same of = same_of index old.pass new.pass same.1 of
 
-pub seated_at : (index : Index) (ps qs : List Handle) (i : ℕ) (d : Handle) → All (IsSeated index) ps → AllZip Keeps ps qs → i < length qs → IsSeated index (get_or qs i d)
-seated_at index ps qs i d own kept low = let long = length_all_zip Keeps ps qs kept in
-    seated_as index (get_or ps i d) (get_or qs i d) (AllZip-get_or Keeps ps qs i d d kept (omega arith)).0 (own i d (omega arith))
+pub seated_at : (index : Index) (ps qs : List Handle) (i : ℕ) (d : Handle) → All (IsSeated index) ps → AllZip KeepsHandle ps qs → i < length qs → IsSeated index (get_or qs i d)
+seated_at index ps qs i d own kept low = let long = length_all_zip KeepsHandle ps qs kept in
+    seated_as index (get_or ps i d) (get_or qs i d) (AllZip-get_or KeepsHandle ps qs i d d kept (omega arith)).0 (own i d (omega arith))
 
-pub seated_all : (index : Index) (ps qs : List Handle) → All (IsSeated index) ps → AllZip Keeps ps qs → All (IsSeated index) qs
+pub seated_all : (index : Index) (ps qs : List Handle) → All (IsSeated index) ps → AllZip KeepsHandle ps qs → All (IsSeated index) qs
 seated_all index ps qs own kept i d low = seated_at index ps qs i d own kept low
 
 -- ---- the first one learns
@@ -71,7 +71,7 @@ pub record LearnsUpTo (first : List (Option Page)) (one one' : Handle) (others o
   pub begins : GoesOnFrom (seen_by one) (seen_by one')
   pub none : own (number_of_seat one) (seen_by one') ≡ own (number_of_seat one) (seen_by one)
   pub may_be : IsLinearizable first (seen_by one) → IsLinearizable first (seen_by one')
-  pub kept : AllZip Keeps others others'
+  pub kept : AllZip KeepsHandle others others'
   pub known : All (Knows one') (take i others')
 
 pub learns_none : (first : List (Option Page)) (one : Handle) (others : List Handle) → LearnsUpTo first one one others others 0
@@ -86,7 +86,7 @@ learns_none first one others = record {
 }
 
 pub learns_one : (first : List (Option Page)) (one mid new d other other' : Handle) (others now : List Handle) (i : ℕ) → LearnsUpTo first one mid others now i → i < length now → other ≡ get_or now i d
-    → IsSameHandle mid new → KeepsHints mid new → Keeps other other' → Learns (number_of_seat mid) (number_of_seat other) (seen_by mid) (seen_by other) (seen_by new) → IsLinearizable first (seen_by new)
+    → IsSameHandle mid new → KeepsHints mid new → KeepsHandle other other' → Learns (number_of_seat mid) (number_of_seat other) (seen_by mid) (seen_by other) (seen_by new) → IsLinearizable first (seen_by new)
     → LearnsUpTo first one new others (set now i other') (i + 1)
 learns_one first one mid new d other other' others now i l low at same keeps kept learns seen = record {
   same = same_again one mid new l.same same;
@@ -94,7 +94,7 @@ learns_one first one mid new d other other' others now i l low at same keeps kep
   begins = goes_on (seen_by one) (seen_by mid) (seen_by new) l.begins learns.begins;
   none = subst (λ (z : ℕ). own z (seen_by new) ≡ own z (seen_by mid)) l.same.1.2 learns.none ∙ l.none;
   may_be = λ h. seen;
-  kept = keeps_set others now i other' d l.kept (subst (λ (z : Handle). Keeps z other') at kept) low;
+  kept = keeps_set others now i other' d l.kept (subst (λ (z : Handle). KeepsHandle z other') at kept) low;
   known = subst (All (Knows new)) (sym (take_set now i other' low))
       (All-push (Knows new) (take i now) other' (All-weaker (Knows mid) (Knows new) (λ p k. goes_on (seen_by p) (seen_by mid) (seen_by new) k learns.begins) (take i now) l.known)
       (subst (λ (z : Trail). GoesOnFrom z (seen_by new)) (sym kept.2) learns.begins_theirs));
@@ -115,7 +115,7 @@ learns_all first one one' others others' i end l = record {
 
 -- how many have been told
 pub record TellsUpTo (one one' : Handle) (others others' : List Handle) (i : ℕ) : Type 0 where
-  pub keeps : Keeps one one'
+  pub keeps : KeepsHandle one one'
   pub observed : AllZip (HasCome (seen_by one)) (take i others) (take i others')
   pub left : drop i others' ≡ drop i others
 
@@ -123,7 +123,7 @@ pub tells_none : (one : Handle) (others : List Handle) → TellsUpTo one one oth
 tells_none one others = record { keeps = keeps_self one; observed = tt; left = refl }
 
 pub tells_one : (one mid new d other other' : Handle) (others now : List Handle) (i : ℕ) → length now ≡ length others → TellsUpTo one mid others now i → i < length now → other ≡ get_or now i d
-    → All (Knows one) others → Keeps mid new → IsSameHandle other other' → KeepsHints other other' → Hears (number_of_seat other) (seen_by other) (seen_by mid) (seen_by other')
+    → All (Knows one) others → KeepsHandle mid new → IsSameHandle other other' → KeepsHints other other' → Hears (number_of_seat other) (seen_by other) (seen_by mid) (seen_by other')
     → TellsUpTo one new others (set now i other') (i + 1)
 tells_one one mid new d other other' others now i long l low at known kept same keeps hears =
     let was : other ≡ get_or others i d = at ∙ next_is others now i d l.left low in
@@ -159,7 +159,7 @@ tells_all one one' others others' i long end l =
 
 -- ---- all
 
-then_come : (t : Trail) (ps qs rs : List Handle) → AllZip Keeps ps qs → AllZip (HasCome t) qs rs → AllZip (HasCome t) ps rs
+then_come : (t : Trail) (ps qs rs : List Handle) → AllZip KeepsHandle ps qs → AllZip (HasCome t) qs rs → AllZip (HasCome t) ps rs
 then_come t [] [] [] h k = tt
 then_come t [] [] (r ∷ rs) h k = absurd k
 then_come t [] (q ∷ qs) rs h k = absurd h
@@ -175,7 +175,7 @@ then_come t (p ∷ ps) (q ∷ qs) (r ∷ rs) h k =
     } in
     ((k.0.0 ∙ h.0.0.0, k.0.1 ∙ h.0.1, now), then_come t ps qs rs h.1 k.1)
 
-pub all_met : (first : List (Option Page)) (one mid last : Handle) (others mids lasts : List Handle) → LearnsAll first one mid others mids → Keeps mid last → AllZip (HasCome (seen_by mid)) mids lasts → HaveAllMet first one others last lasts
+pub all_met : (first : List (Option Page)) (one mid last : Handle) (others mids lasts : List Handle) → LearnsAll first one mid others mids → KeepsHandle mid last → AllZip (HasCome (seen_by mid)) mids lasts → HaveAllMet first one others last lasts
 all_met first one mid last others mids lasts l k observed = record {
   seen = seen_by mid;
   mine = (k.0.0 ∙ l.same.0, k.1 ∙ l.keeps, record { same = same_pass one.pass mid.pass last.pass l.same.1 k.0.1; is = k.2; begins = l.begins; none = l.none });

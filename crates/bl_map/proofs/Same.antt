@@ -4,8 +4,8 @@ use Rattle.bl_page.specs.declared.page.Page.{Page}
 use Rattle.bl_index.specs.Calls.{first_of}
 use Rattle.bl_map.specs.declared.handle.Handle.{Handle}
 use Rattle.bl_map.specs.Handles.{IsSameHandle, HasKeptUp, first_map_of, number_of_seat, seen_by}
-use Rattle.bl_map.specs.Works.{Adds}
-use Rattle.bl_map.proofs.Adding.{nothing, then_adds}
+use Rattle.bl_map_calls.specs.Works.{Adds}
+use Rattle.bl_map_calls.proofs.Adding.{nothing, then_adds}
 
 pub by_same : (P : List (Option Page) → ℕ → Type 0) (a b : Handle) → IsSameHandle a b → P (first_map_of b) (number_of_seat b) → P (first_map_of a) (number_of_seat a)
 by_same P a b same h = subst (λ (z : List (Option Page) × ℕ). P z.0 z.1) (λ i. (first_of (same.0 i).now, same.1.2 i)) h

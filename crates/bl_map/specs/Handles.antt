@@ -10,21 +10,21 @@ use Rattle.bl_index.specs.Calls.{first_of, pages_of, IsPassOf, IsSamePass, numbe
 use Rattle.bl_index.specs.Meetings.{Meet}
 use Rattle.bl_index.specs.declared.index.Index.{Index}
 use Rattle.bl_index.specs.declared.index.Pass.{Pass}
-use Rattle.bl_proc_base.specs.declared.answers.Hint.{Hint}
+use Rattle.bl_proc_steps.specs.declared.answers.Hint.{Hint}
 use Rattle.bl_check.specs.declared.quiet.Quiet.{Quiet}
 use Rattle.bl_load.specs.declared.fault.LoadFault.{LoadFault}
 use Rattle.bl_map.specs.declared.handle.Handle.{Handle}
-use Rattle.bl_map.specs.declared.upkeep.Followed.{Followed}
-use Rattle.bl_map.specs.Works.{Works, Adds, Searched, Swept, FoundNoRoom}
-use Rattle.bl_map.specs.Finds.{FindsMany}
-use Rattle.bl_map.specs.Leasts.{FindsLeast, CountsRows}
-use Rattle.bl_map.specs.Falling.{FindsGreatest}
-use Rattle.bl_map.specs.Many.{WritesMany, StopsFull}
-use Rattle.bl_map.specs.Follows.{FollowsHint, WritesLeaving}
-use Rattle.bl_map.specs.Copies.{Copies}
-use Rattle.bl_map.specs.Updates.{Updates}
-use Rattle.bl_map.specs.declared.updating.Updated.{Updated}
-use Rattle.bl_map.specs.Waits.{hints_of, Changes, TriesAgain, Tidies, IsNone}
+use Rattle.bl_map_calls.specs.declared.upkeep.Followed.{Followed}
+use Rattle.bl_map_calls.specs.Works.{Works, Adds, Searched, Swept, FoundNoRoom}
+use Rattle.bl_map_calls.specs.Finds.{FindsMany}
+use Rattle.bl_map_calls.specs.Leasts.{FindsLeast, CountsRows}
+use Rattle.bl_map_calls.specs.Falling.{FindsGreatest}
+use Rattle.bl_map_calls.specs.Many.{WritesMany, StopsFull}
+use Rattle.bl_map_calls.specs.Follows.{FollowsHint, WritesLeaving}
+use Rattle.bl_map_calls.specs.Copies.{Copies}
+use Rattle.bl_map_calls.specs.Updates.{Updates}
+use Rattle.bl_map_calls.specs.declared.updating.Updated.{Updated}
+use Rattle.bl_map_calls.specs.Waits.{hints_of, WritesKey, TriesAgain, Tidies, IsNone}
 
 -- the index that a handle works on: that of its map
 abbrev pub index_of : Handle → Index
@@ -146,7 +146,7 @@ KeepsHints old new = new.waiting ≡ old.waiting
 
 -- A key was written, and what that left to do is done or kept.
 abbrev pub HasChanged : Op → Reply → Handle → Handle → Type 0
-HasChanged op reply old new = Changes (first_map_of old) (number_of_seat old) op reply old.waiting new.waiting (seen_by old) (seen_by new)
+HasChanged op reply old new = WritesKey (first_map_of old) (number_of_seat old) op reply old.waiting new.waiting (seen_by old) (seen_by new)
 
 -- Hints that wait were tried, so many at most, and what is left of them is kept.
 abbrev pub HasTriedAgain : ℕ → Handle → Handle → Type 0

@@ -1,15 +1,4 @@
-pub mod Works
-pub mod Entries
-pub mod Finds
-pub mod Follows
-pub mod Waits
-pub mod Many
 pub mod Handles
 pub mod Meetings
 pub mod Seats
-pub mod Scans
-pub mod Leasts
-pub mod Updates
-pub mod Copies
 pub mod Maps
-pub mod Falling

@@ -2,7 +2,7 @@
 use Rattle.std.specs.Prelude.{◌≡◌, ℕ, List, length}
 use Rattle.bl_check.specs.declared.quiet.Quiet.{Quiet}
 use Rattle.bl_index.specs.Calls.{IsPassOf}
-use Rattle.bl_index.specs.Opened.{IsOpened as IsIndexOpened, IsLargeRefusal, IsReopened as IsIndexReopened, IsImageRefusal}
+use Rattle.bl_index.specs.Opened.{IsIndexOpened, IsLargeRefusal, IsReopened as IsIndexReopened, IsImageRefusal}
 use Rattle.bl_index.specs.Closed.{AreOf, Closes, IsRefused}
 use Rattle.bl_index.specs.declared.config.CloseFault.{CloseFault}
 use Rattle.bl_index.specs.declared.config.OpenFault.{OpenFault}
@@ -21,8 +21,8 @@ IsSeatOf map seat = IsPassOf map.index seat
 abbrev pub AreSeatsOf : Map → List Pass → Type 0
 AreSeatsOf map seats = AreOf map.index seats
 
-abbrev pub IsOpened : ℕ → ℕ → Map → List Pass → Type 0
-IsOpened pages among map seats = IsIndexOpened (record { pages = pages; passes = among }) map.index seats
+abbrev pub IsMapOpened : ℕ → ℕ → Map → List Pass → Type 0
+IsMapOpened pages among map seats = IsIndexOpened (record { pages = pages; passes = among }) map.index seats
 
 abbrev pub IsOpenFault : ℕ → ℕ → OpenFault → Type 0
 IsOpenFault pages among why = IsLargeRefusal (record { pages = pages; passes = among }) why

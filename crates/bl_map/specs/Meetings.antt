@@ -15,8 +15,8 @@ abbrev pub IsSeated : Index → Handle → Type 0
 IsSeated index handle = IsPassOf index (seat_of handle)
 
 -- The handle has seen what it had seen, and no more.
-abbrev pub Keeps : Handle → Handle → Type 0
-Keeps old new = IsSameHandle old new × KeepsHints old new × (seen_by new ≡ seen_by old)
+abbrev pub KeepsHandle : Handle → Handle → Type 0
+KeepsHandle old new = IsSameHandle old new × KeepsHints old new × (seen_by new ≡ seen_by old)
 
 -- The pass has now seen that trail, which begins with what it had seen and has no further entry of it.
 pub record Comes (seen : Trail) (old new : Pass) : Type 0 where
@@ -36,7 +36,7 @@ pub record LearnsAll (first : List (Option Page)) (one one' : Handle) (others ot
   pub begins : GoesOnFrom (seen_by one) (seen_by one')
   pub none : own (number_of_seat one) (seen_by one') ≡ own (number_of_seat one) (seen_by one)
   pub may_be : IsLinearizable first (seen_by one) → IsLinearizable first (seen_by one')
-  pub kept : AllZip Keeps others others'
+  pub kept : AllZip KeepsHandle others others'
   pub known : All (λ h. GoesOnFrom (seen_by h) (seen_by one')) others'
 
 -- All have seen one trail. It is linearizable, if what the first one had seen was.

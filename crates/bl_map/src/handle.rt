@@ -9,16 +9,16 @@ ghost use Rattle.bl_model.specs.Replies.{reply_of};
 ghost use Rattle.bl_model.specs.Writes.{write_op};
 ghost use Rattle.bl_index.specs.Calls.{IsPassOf, Sweeps};
 ghost use Rattle.bl_map.specs.Seats.{IsPassOf-prop};
-ghost use Rattle.bl_map.specs.declared.updating.Updated.TheVariants as updated;
+ghost use Rattle.bl_map_calls.specs.declared.updating.Updated.TheVariants as updated;
 
-use crate::many::{Deletions, Insertions, Puts};
-use crate::updating::{self, Updated};
-use crate::upkeep::{self, Followed};
-use crate::waiting::Waiting;
-use crate::{calls, changes, copying, counting, falling, least, many, room, telling};
 use bl_check::Quiet;
 use bl_index::{Hint, Index, KeyReply, KeyWrite, Pass, Reply};
 use bl_load::LoadFault;
+use bl_map_calls::many::{Deletions, Insertions, Puts};
+use bl_map_calls::updating::{self, Updated};
+use bl_map_calls::upkeep::{self, Followed};
+use bl_map_calls::waiting::Waiting;
+use bl_map_calls::{calls, copying, counting, falling, least, many, room, telling, writes};
 use std::alloc::{AllocError, Global};
 use std::sync::Wait;
 
@@ -43,12 +43,12 @@ pub struct Handle<'a> {
 impl<'a> Handle<'a> {
     ghost use Rattle.bl_map.specs.Handles.{IsSameHandle, HasCalled, HasSearched, HasFoundMany, HasChanged, HasWritten, HasFoundNoRoom, HasFoundLeast, HasFoundGreatest, HasCounted, HasKeptUp, HasFollowed, HasSwept, HasTriedAgain, HasTidied};
     ghost use Rattle.bl_map.specs.Handles.{HasWrittenMany, HasStoppedFull};
-    ghost use Rattle.bl_map.specs.Many.{insertion_of, put_of, deletion_of};
+    ghost use Rattle.bl_map_calls.specs.Many.{insertion_of, put_of, deletion_of};
     ghost use Rattle.bl_map.specs.Handles.{HasUpdated, HasCopied};
     ghost use Rattle.bl_map.specs.Handles.{HaveMet, KeepsHints, AreOfOne, IsHandleOver, released_in};
     ghost use Rattle.bl_map.specs.Handles.{first_map_of, pages_of_map, number_of_seat, seat_of, seen_by, waiting_of, dropped_of};
-    ghost use Rattle.bl_map.specs.Scans.{Scanned, Tells};
-    ghost use Rattle.bl_map.specs.Falling.{ScannedDown, TellsDown};
+    ghost use Rattle.bl_map_calls.specs.Scans.{Scanned, TellsRows};
+    ghost use Rattle.bl_map_calls.specs.Falling.{ScannedDown, TellsDown};
 
     /// The handle that works on an index from a seat of it. For a map see [`crate::Map::handle`].
     pub fn over(index: &'a Index, seat: Pass) -> Handle<'a>
@@ -118,7 +118,7 @@ impl<'a> Handle<'a> {
         ensures no_room { result ≡ replies.NoRoom → HasFoundNoRoom key write self.old self.new }
     {
         let index = self.index;
-        changes::write(rt, index, &mut self.pass, &mut self.waiting, key, write)
+        writes::write(rt, index, &mut self.pass, &mut self.waiting, key, write)
     }
 
     /// Writes a key, and lists the pages that it has split, but merges none and gives nothing back. What is left to do then comes with
@@ -135,7 +135,7 @@ impl<'a> Handle<'a> {
         ensures no_room { result.0 ≡ replies.NoRoom → HasFoundNoRoom key write self.old self.new }
         ensures keeps { KeepsHints self.old self.new }
     {
-        changes::write_leaving(rt, self.index, &mut self.pass, key, write)
+        writes::write_leaving(rt, self.index, &mut self.pass, key, write)
     }
 
     /// Inserts the value if the key is absent: `Inserted`, or `Present` with the value that stays, or `NoRoom`.
@@ -273,7 +273,7 @@ impl<'a> Handle<'a> {
     )
         requires { F.IsAlwaysCallable visit.old }
         ensures same { IsSameHandle self.old self.new }
-        ensures tells { Tells (λ p x q. F.step p x tt q) (first_map_of self.old) (pages_of_map self.old) (number_of_seat self.old) from to visit.old visit.new
+        ensures tells { TellsRows (λ p x q. F.step p x tt q) (first_map_of self.old) (pages_of_map self.old) (number_of_seat self.old) from to visit.old visit.new
             (seen_by self.old) (seen_by self.new) }
         ensures keeps { KeepsHints self.old self.new }
     {
@@ -416,7 +416,7 @@ impl<'a> Handle<'a> {
         ensures tried { HasTriedAgain most self.old self.new }
         ensures waits { (result.waiting ≡ waiting_of self.new) × (result.dropped ≡ dropped_of self.new) }
     {
-        changes::try_again(rt, self.index, &mut self.pass, &mut self.waiting, most);
+        writes::try_again(rt, self.index, &mut self.pass, &mut self.waiting, most);
         self.backlog()
     }
 

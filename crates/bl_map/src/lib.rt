@@ -16,28 +16,16 @@
 //! [`give_seats`], [`meet_all`]), which write and leave what is to be done, and follow it, one piece a call.
 #![tactic(auto)]
 
-mod calls;
-mod changes;
-mod copying;
-mod counting;
-mod falling;
 mod handle;
-mod least;
-mod many;
 mod map;
 mod meeting;
-mod room;
 mod seating;
-mod telling;
-mod updating;
-mod upkeep;
-mod waiting;
 
 pub use bl_index::{CloseFault, Hint, KeyReply, KeyWrite, Next, OpenFault, Pass as Seat, Reply};
 pub use bl_load::LoadFault;
+pub use bl_map_calls::updating::Updated;
+pub use bl_map_calls::upkeep::Followed;
 pub use handle::{Backlog, Handle};
 pub use map::{Map, MapLoadFault};
 pub use meeting::meet_all;
 pub use seating::{give_seats, handles_over};
-pub use updating::Updated;
-pub use upkeep::Followed;

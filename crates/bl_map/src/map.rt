@@ -1,7 +1,7 @@
 //! The map, which its threads share.
 
 ghost use Rattle.std.specs.Prelude.{◌≡◌, IfOk, IfErr};
-ghost use Rattle.bl_map.specs.Maps.{IsSeatOf, AreSeatsOf, IsNewHandle, IsOpened, IsOpenFault, IsReopened, IsImageFault, IsLoaded, IsLoadFault, IsClosed, IsBack};
+ghost use Rattle.bl_map.specs.Maps.{IsSeatOf, AreSeatsOf, IsNewHandle, IsMapOpened, IsOpenFault, IsReopened, IsImageFault, IsLoaded, IsLoadFault, IsClosed, IsBack};
 
 use crate::handle::Handle;
 use bl_check::Quiet;
@@ -27,7 +27,7 @@ pub enum MapLoadFault {
 impl Map {
     /// An empty map of so many pages, 4 to 2^28, and a seat for each of so many threads, 1 to 64.
     pub fn open(alloc: Global, pages: u32, seats: u32) -> Result<(Map, Vec<Pass>), OpenFault>
-        ensures ok { IfOk result (λ t. IsOpened pages seats t.0 t.1.items) }
+        ensures ok { IfOk result (λ t. IsMapOpened pages seats t.0 t.1.items) }
         ensures seats { IfOk result (λ t. AreSeatsOf t.0 t.1.items) }
         ensures fault { IfErr result (IsOpenFault pages seats) }
     {

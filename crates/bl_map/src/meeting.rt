@@ -6,7 +6,7 @@ ghost use Rattle.bl_claims.specs.Seeing.{IsLinearizable, GoesOnFrom};
 ghost use Rattle.bl_index.specs.Calls.{first_of};
 ghost use Rattle.bl_index.specs.Meetings.{Learns, Hears};
 ghost use Rattle.bl_map.specs.Handles.{IsSameHandle, KeepsHints, number_of_seat, seen_by};
-ghost use Rattle.bl_map.specs.Meetings.{IsSeated, Keeps, HasCome, LearnsAll, HaveAllMet};
+ghost use Rattle.bl_map.specs.Meetings.{IsSeated, KeepsHandle, HasCome, LearnsAll, HaveAllMet};
 
 use crate::handle::Handle;
 use bl_index::Index;
@@ -15,7 +15,7 @@ use bl_index::Index;
 fn learn(index: &Index, one: &mut Handle<'_>, other: &mut Handle<'_>)
     requires { IsSeated index.now one.old × IsSeated index.now other.old }
     ensures same { IsSameHandle one.old one.new × KeepsHints one.old one.new }
-    ensures other { Keeps other.old other.new }
+    ensures other { KeepsHandle other.old other.new }
     ensures learns { Learns (number_of_seat one.old) (number_of_seat other.old) (seen_by one.old) (seen_by other.old) (seen_by one.new) }
     ensures seen { IsLinearizable (first_of index.now) (seen_by one.new) }
 {
@@ -27,7 +27,7 @@ fn tell(index: &Index, one: &mut Handle<'_>, other: &mut Handle<'_>)
     requires own { IsSeated index.now one.old × IsSeated index.now other.old }
     requires begins { GoesOnFrom (seen_by one.old) (seen_by other.old) }
     ensures same { IsSameHandle one.old one.new × KeepsHints one.old one.new }
-    ensures other { Keeps other.old other.new }
+    ensures other { KeepsHandle other.old other.new }
     ensures hears { Hears (number_of_seat one.old) (seen_by one.old) (seen_by other.old) (seen_by one.new) }
 {
     index.tell(&mut one.pass, &mut other.pass);
@@ -47,7 +47,7 @@ fn learn_all(index: &Index, first: &mut Handle<'_>, others: &mut [Handle<'_>])
 fn tell_all(index: &Index, first: &mut Handle<'_>, others: &mut [Handle<'_>])
     requires own { IsSeated index.now first.old × All (IsSeated index.now) others.old }
     requires begins { All (λ h. GoesOnFrom (seen_by h) (seen_by first.old)) others.old }
-    ensures first { Keeps first.old first.new }
+    ensures first { KeepsHandle first.old first.new }
     ensures observed { AllZip (HasCome (seen_by first.old)) others.old others.new }
 {
     for number in 0..others.len() {

@@ -8,7 +8,7 @@ use Rattle.bl_page.specs.declared.page.WordFault.{WordFault}
 use Rattle.bl_page.specs.declared.page.WordFault.TheVariants as fault
 use Rattle.bl_page.specs.Pairs.{RisesFrom, AllWithin, BeginsWith, NameNumbers, AreNumbers}
 use Rattle.bl_page.specs.Words.{words_of, head, layout, entries_of, IsBelow}
-use Rattle.bl_page.specs.Faults.{Kind, number, pairs_in, pairs_of, IsOf, LevelFits, CountFits, BoundsFit, OrderFits, CoverFits, RestFits, IsFault}
+use Rattle.bl_page.specs.Faults.{Kind, number, pairs_in, pairs_of, IsOf, LevelFits, CountFits, BoundsFit, OrderFits, CoverFits, RestFits, IsWordFault}
 use Rattle.bl_page.proofs.Writing.{length-entries_of}
 
 -- nothing is wrong with words of that kind
@@ -48,7 +48,7 @@ number-same Kind.Dead Kind.Dead e = refl
 pub kind_same : (a b : Kind) (words : List ℕ) → IsOf a words → IsOf b words → a ≡ b
 kind_same a b words p q = number-same a b (sym p ∙ q)
 
-pub no_fault : (most : ℕ) (kind : Kind) (words : List ℕ) → AllFit most kind words → (f : WordFault) → IsFault most f words → ⊥
+pub no_fault : (most : ℕ) (kind : Kind) (words : List ℕ) → AllFit most kind words → (f : WordFault) → IsWordFault most f words → ⊥
 no_fault most kind words fit fault.Kind h = h kind fit.is_of
 no_fault most kind words fit fault.Level (k, is, other) = other (subst (λ k. LevelFits k words) (kind_same kind k words fit.is_of is) fit.level)
 no_fault most kind words fit fault.Count (k, is, level, other) = other (subst (λ k. CountFits k words) (kind_same kind k words fit.is_of is) fit.count)

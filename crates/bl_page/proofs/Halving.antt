@@ -199,9 +199,9 @@ reached-either which place number is = elim (cases_lt place which) [
 ]
 
 -- three numbers tell the part of a page where a place is
-pub part_of : (p a b c : ℕ) → p ≤ 14 → IsReached 4 p a → IsReached 8 p b → IsReached 11 p c
+pub third_of : (p a b c : ℕ) → p ≤ 14 → IsReached 4 p a → IsReached 8 p b → IsReached 11 p c
     → (4 * a + 4 * b + 3 * c ≤ p) × (p ≤ 4 * a + 4 * b + 3 * c + 3) × (4 * a + 4 * b + 3 * c ≤ 11)
-part_of p a b c few first second third =
+third_of p a b c few first second third =
     let x = reached-either 4 p a first in
     let y = reached-either 8 p b second in
     let z = reached-either 11 p c third in
@@ -220,8 +220,8 @@ part_of p a b c few first second third =
     ]
 
 -- and three more the place in that part
-pub place_of_part : (p before a b c : ℕ) → before ≤ p → p ≤ before + 3 → IsReached (before + 1) p a → IsReached (before + 2) p b → IsReached (before + 3) p c → before + a + b + c ≡ p
-place_of_part p before a b c low high first second third =
+pub place_of_third : (p before a b c : ℕ) → before ≤ p → p ≤ before + 3 → IsReached (before + 1) p a → IsReached (before + 2) p b → IsReached (before + 3) p c → before + a + b + c ≡ p
+place_of_third p before a b c low high first second third =
     elim (reached-either (before + 1) p a first) [
       | inl x ↦ elim (reached-either (before + 2) p b second) [
         | inl y ↦ elim (reached-either (before + 3) p c third) [

@@ -10,7 +10,7 @@ use Rattle.bl_page.specs.declared.page.Leaf.{Leaf}
 use Rattle.bl_page.specs.declared.page.Inner.{Inner}
 use Rattle.bl_page.specs.declared.page.WordFault.{WordFault}
 use Rattle.bl_page.specs.Words.{words_of, entries_of, IsBelow}
-use Rattle.bl_page.specs.Faults.{IsOf, level_in, count_in, pairs_in, pairs_of, IsFault}
+use Rattle.bl_page.specs.Faults.{IsOf, level_in, count_in, pairs_in, pairs_of, IsWordFault}
 use Rattle.bl_page.proofs.Same.{anchor_same, leaf_same, inner_same, dead_same}
 use Rattle.bl_page.proofs.FaultLemmas.{AllFit, kind_of, kind_same, no_fault, fits, fits_below, head-level, head-count, pairs_in-entries_of}
 
@@ -57,7 +57,7 @@ once (page.Dead d) (page.Anchor b) e = absurd (let k = same_kind (page.Dead d) (
 once (page.Dead d) (page.Leaf m) e = absurd (let k = same_kind (page.Dead d) (page.Leaf m) e in cc k)
 once (page.Dead d) (page.Inner o) e = absurd (let k = same_kind (page.Dead d) (page.Inner o) e in cc k)
 
-pub only_page : (most : ℕ) (words : List ℕ) (r : Result Page WordFault) → IfOk r (λ p. words ≡ words_of p) → IfErr r (λ f. IsFault most f words)
+pub only_page : (most : ℕ) (words : List ℕ) (r : Result Page WordFault) → IfOk r (λ p. words ≡ words_of p) → IfErr r (λ f. IsWordFault most f words)
     → (p : Page) → IsBelow most p → words ≡ words_of p → r ≡ Ok p
 only_page most words (Ok read) ok err p small is = ap Ok (once read p (sym ok ∙ is))
 only_page most words (Err f) ok err p small is = absurd (no_fault most (kind_of p) words (subst (AllFit most (kind_of p)) (sym is) (fits_below most p small)) f err)

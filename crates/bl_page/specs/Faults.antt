@@ -90,14 +90,14 @@ abbrev pub RestFits : Kind → List ℕ → Type 0
 RestFits kind words = (i : ℕ) → 4 + width kind (count_in words) ≤ i → i < 32 → slice_index words i ≡ 0
 
 -- The fault is the first that applies: the demands before it are met, its own is not.
-abbrev pub IsFault : ℕ → WordFault → List ℕ → Type 0
-IsFault most fault.Kind words = (kind : Kind) → ¬ IsOf kind words
-IsFault most fault.Level words = (kind : Kind) × IsOf kind words × ¬ LevelFits kind words
-IsFault most fault.Count words = (kind : Kind) × IsOf kind words × LevelFits kind words × ¬ CountFits kind words
-IsFault most fault.Bounds words = (kind : Kind) × IsOf kind words × LevelFits kind words × CountFits kind words × ¬ BoundsFit most kind words
-IsFault most fault.Order words = (kind : Kind) × IsOf kind words × LevelFits kind words × CountFits kind words × BoundsFit most kind words × ¬ OrderFits kind words
-IsFault most fault.Cover words =
+abbrev pub IsWordFault : ℕ → WordFault → List ℕ → Type 0
+IsWordFault most fault.Kind words = (kind : Kind) → ¬ IsOf kind words
+IsWordFault most fault.Level words = (kind : Kind) × IsOf kind words × ¬ LevelFits kind words
+IsWordFault most fault.Count words = (kind : Kind) × IsOf kind words × LevelFits kind words × ¬ CountFits kind words
+IsWordFault most fault.Bounds words = (kind : Kind) × IsOf kind words × LevelFits kind words × CountFits kind words × ¬ BoundsFit most kind words
+IsWordFault most fault.Order words = (kind : Kind) × IsOf kind words × LevelFits kind words × CountFits kind words × BoundsFit most kind words × ¬ OrderFits kind words
+IsWordFault most fault.Cover words =
     (kind : Kind) × IsOf kind words × LevelFits kind words × CountFits kind words × BoundsFit most kind words × OrderFits kind words × ¬ CoverFits most kind words
-IsFault most fault.Rest words =
+IsWordFault most fault.Rest words =
     (kind : Kind) × IsOf kind words × LevelFits kind words × CountFits kind words × BoundsFit most kind words × OrderFits kind words × CoverFits most kind words
     × ¬ RestFits kind words

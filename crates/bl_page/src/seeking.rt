@@ -89,7 +89,7 @@ fn reached_behind<W: Words>(
 
 /// The place before the part of a page in which the place of a key is. Each part has three keys.
 #[inline(always)]
-fn part_in<W: Words>(source: &W, hand: &mut W::Hand, used: &mut u32, key: u64) -> usize
+fn third_in<W: Words>(source: &W, hand: &mut W::Hand, used: &mut u32, key: u64) -> usize
     requires sees { W.Sees source.now hand.old }
     requires pairs { HasPairs (W.shown source.now hand.old) }
     requires room { used.old + 3 ≤ 4294967295 }
@@ -124,7 +124,7 @@ pub fn place_in<W: Words>(
     ensures place { result ≡ place key (pairs_of (W.shown source.now hand.old)) }
     ensures within { result ≤ count }
 {
-    let before = part_in(source, hand, used, key);
+    let before = third_in(source, hand, used, key);
     let first = reached_within(source, hand, used, count, before + 1, key);
     let second = reached(source, hand, used, before + 2, key);
     let third = reached(source, hand, used, before + 3, key);
@@ -143,7 +143,7 @@ fn only_place_in<W: Words>(source: &W, hand: &mut W::Hand, used: &mut u32, key: 
     ensures place { 0 < place key (pairs_of (W.shown source.now hand.old)) → result ≡ place key (pairs_of (W.shown source.now hand.old)) }
     ensures within { result ≤ 14 }
 {
-    let before = part_in(source, hand, used, key);
+    let before = third_in(source, hand, used, key);
     let first = reached_behind(source, hand, used, before + 1, key);
     let second = reached(source, hand, used, before + 2, key);
     let third = reached(source, hand, used, before + 3, key);

@@ -3,44 +3,44 @@
 use Rattle.std.proofs.Common.{◌≡◌, Some, None, [], ◌∷◌, arith, refl, inl, inr}
 use Rattle.bl_page.specs.declared.page.Page.{Page}
 use Rattle.bl_page.specs.declared.page.Page.TheVariants as page
-use Rattle.bl_proc_base.specs.declared.acts.Action.TheVariants as act
-use Rattle.bl_proc_base.specs.declared.acts.Seen.TheVariants as seen
-use Rattle.bl_proc_base.specs.declared.answers.Answer.TheVariants as answer
-use Rattle.bl_proc_base.specs.declared.answers.Posted.TheVariants as posted
-use Rattle.bl_proc_base.specs.declared.answers.Hint.TheVariants as hint
+use Rattle.bl_proc_steps.specs.declared.acts.Action.TheVariants as act
+use Rattle.bl_proc_steps.specs.declared.acts.Seen.TheVariants as seen
+use Rattle.bl_proc_steps.specs.declared.answers.Answer.TheVariants as answer
+use Rattle.bl_proc_steps.specs.declared.answers.Posted.TheVariants as posted
+use Rattle.bl_proc_steps.specs.declared.answers.Hint.TheVariants as hint
 use Rattle.bl_model.specs.declared.operation.Reply.TheVariants as reply
-use Rattle.bl_proc_pages.specs.declared.onwards.Step.TheVariants as onward
-use Rattle.bl_proc_base.specs.declared.descent.Descent.TheVariants as descent
+use Rattle.bl_proc_routes.specs.declared.routes.Step.TheVariants as onward
+use Rattle.bl_proc_steps.specs.declared.descent.Descent.TheVariants as descent
 use Rattle.bl_proc.specs.declared.searching.FindStage.TheVariants as find
-use Rattle.bl_proc_base.specs.declared.approaching.Approach.TheVariants as approach
-use Rattle.bl_proc_base.specs.declared.approaching.Approached.TheVariants as came
-use Rattle.bl_proc_base.specs.declared.approaching.Came.TheVariants as come
-use Rattle.bl_proc_base.specs.declared.editing.Outcome.TheVariants as outcome
-use Rattle.bl_proc_base.specs.declared.editing.Edit.TheVariants as edit
-use Rattle.bl_proc_base.specs.declared.editing.Edited.TheVariants as changed
+use Rattle.bl_proc_steps.specs.declared.approach.Approach.TheVariants as approach
+use Rattle.bl_proc_steps.specs.declared.approach.Approached.TheVariants as came
+use Rattle.bl_proc_steps.specs.declared.approach.Came.TheVariants as come
+use Rattle.bl_proc_steps.specs.declared.edit.Outcome.TheVariants as outcome
+use Rattle.bl_proc_steps.specs.declared.edit.Edit.TheVariants as edit
+use Rattle.bl_proc_steps.specs.declared.edit.Edited.TheVariants as changed
 use Rattle.bl_model.specs.declared.deciding.KeyWrite.TheVariants.{Insert, Put, Delete, Change}
 use Rattle.bl_proc_writes.specs.declared.writing.WriteStage.TheVariants as write
 use Rattle.bl_proc_writes.specs.declared.writing.WriteReply.TheVariants.{Done}
-use Rattle.bl_proc_base.specs.declared.growing.Growth.TheVariants as growth
-use Rattle.bl_proc_base.specs.declared.growing.Grew.TheVariants as grew
-use Rattle.bl_proc_writes.specs.declared.posting.PostStage.TheVariants as post
-use Rattle.bl_proc_writes.specs.declared.posting.PostReply.TheVariants as listed
-use Rattle.bl_proc_base.specs.Given.{Gives}
-use Rattle.bl_proc_pages.specs.Onwards.{Leads}
+use Rattle.bl_proc_steps.specs.declared.growth.Growth.TheVariants as growth
+use Rattle.bl_proc_steps.specs.declared.growth.Grew.TheVariants as grew
+use Rattle.bl_proc_writes.specs.declared.post.PostStage.TheVariants as post
+use Rattle.bl_proc_writes.specs.declared.post.PostReply.TheVariants as listed
+use Rattle.bl_proc_steps.specs.Given.{Gives}
+use Rattle.bl_proc_routes.specs.Routes.{Leads}
 use Rattle.bl_proc.specs.Searches.{FindGoes, found_answer}
-use Rattle.bl_proc_base.specs.Approaches.{Approaches}
-use Rattle.bl_proc_base.specs.Edits.{Changes, edit_needs}
+use Rattle.bl_proc_steps.specs.Approaches.{Approaches}
+use Rattle.bl_proc_steps.specs.Edits.{Changes, edit_needs}
 use Rattle.bl_proc_writes.specs.Writes.{WriteGoes, write_reply, write_answer}
-use Rattle.bl_proc_base.specs.Growths.{Grows, Raises}
+use Rattle.bl_proc_steps.specs.Growths.{Grows, Raises}
 use Rattle.bl_proc_writes.specs.Posts.{PostGoes, posted_answer}
 use Rattle.bl_proc_writes.specs.declared.paths.Path.{Path}
-use Rattle.bl_proc_writes.specs.declared.posting.Post.{Post}
+use Rattle.bl_proc_writes.specs.declared.post.Post.{Post}
 use Rattle.bl_proc_writes.specs.declared.writing.Write.{Write}
-use Rattle.bl_proc_writes.specs.declared.climbing.ClimbStage.TheVariants.{Writing, Posting}
-use Rattle.bl_proc_writes.specs.declared.climbing.Climbed.TheVariants.{Posted, Unsplit}
-use Rattle.bl_proc_writes.specs.declared.climbing.Placing.TheVariants as place
+use Rattle.bl_proc_writes.specs.declared.insert_post.ClimbStage.TheVariants.{Writing, Posting}
+use Rattle.bl_proc_writes.specs.declared.insert_post.Climbed.TheVariants.{Posted, Unsplit}
+use Rattle.bl_proc_writes.specs.declared.insert_post.Placing.TheVariants as place
 use Rattle.bl_proc_writes.specs.Paths.{Notes}
-use Rattle.bl_proc_writes.specs.Climbs.{climbed_answer, ClimbGoes}
+use Rattle.bl_proc_writes.specs.InsertPosts.{climbed_answer, ClimbGoes}
 
 abbrev left_leaf : Page
 left_leaf = page.Leaf (record { low = 0; high = 9; right = 2; rows = record { items = (1, 10) ∷ [] }; bounds = omega arith; link = omega arith; few = omega arith; order = (omega arith, tt); cover = ((omega arith, omega arith), tt) })

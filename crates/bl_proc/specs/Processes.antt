@@ -1,14 +1,14 @@
 -- A process of any kind does what its kind does.
 use Rattle.std.specs.Prelude.{◌≡◌, ℕ, Option, true}
 use Rattle.bl_model.specs.declared.deciding.KeyWrite.{KeyWrite}
-use Rattle.bl_proc_base.specs.declared.acts.Action.{Action}
-use Rattle.bl_proc_base.specs.declared.acts.Seen.{Seen}
-use Rattle.bl_proc_base.specs.declared.answers.Answer.{Answer}
+use Rattle.bl_proc_steps.specs.declared.acts.Action.{Action}
+use Rattle.bl_proc_steps.specs.declared.acts.Seen.{Seen}
+use Rattle.bl_proc_steps.specs.declared.answers.Answer.{Answer}
 use Rattle.bl_proc.specs.declared.kinds.Proc.{Proc}
 use Rattle.bl_proc.specs.declared.kinds.Proc.TheVariants.{Find, Write, Post, Part, Compress, Reclaim, Lower, InsertPost}
 use Rattle.bl_proc.specs.declared.searching.FindStage.TheVariants as find
 use Rattle.bl_proc_writes.specs.declared.writing.WriteStage.TheVariants as write_stage
-use Rattle.bl_proc_writes.specs.declared.posting.PostStage.TheVariants as post
+use Rattle.bl_proc_writes.specs.declared.post.PostStage.TheVariants as post
 use Rattle.bl_proc.specs.declared.parts.PartStage.TheVariants as part
 use Rattle.bl_proc.specs.declared.parts.PartStart.{PartStart}
 use Rattle.bl_proc.specs.declared.reclaiming.ReclaimStage.TheVariants as reclaim
@@ -16,14 +16,14 @@ use Rattle.bl_proc.specs.declared.lowering.LowerStage.TheVariants as lower
 use Rattle.bl_proc.specs.Searches.{find_next, find_needs, find_answer, FindTakes}
 use Rattle.bl_proc_writes.specs.Writes.{write_next_of, write_needs_of, write_answer_of, WriteTakes}
 use Rattle.bl_proc_writes.specs.Posts.{post_next, post_needs, post_answer, PostTakes}
-use Rattle.bl_proc_compress.specs.declared.squeezing.CompressStage.TheVariants as compress
+use Rattle.bl_proc_compress.specs.declared.compress.CompressStage.TheVariants as compress
 use Rattle.bl_proc_compress.specs.Compresses.{compress_next, compress_needs, compress_answer, CompressTakes}
 use Rattle.bl_proc.specs.Parts.{part_next, part_needs, part_answer, PartTakes}
 use Rattle.bl_proc.specs.Reclaims.{reclaim_next, reclaim_needs, reclaim_answer, ReclaimTakes}
 use Rattle.bl_proc.specs.Lowers.{lower_next, lower_needs, lower_answer, LowerTakes}
-use Rattle.bl_proc_writes.specs.declared.climbing.Placing.{Placing}
+use Rattle.bl_proc_writes.specs.declared.insert_post.Placing.{Placing}
 use Rattle.bl_proc_writes.specs.Paths.{IsBlank}
-use Rattle.bl_proc_writes.specs.Climbs.{IsToBegin, climb_next, climb_needs, climb_answer, ClimbTakes}
+use Rattle.bl_proc_writes.specs.InsertPosts.{IsToBegin, climb_next, climb_needs, climb_answer, ClimbTakes}
 
 abbrev pub next_of : Proc → Action
 next_of (Find p) = find_next p

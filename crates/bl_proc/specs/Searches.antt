@@ -2,18 +2,18 @@
 use Rattle.std.specs.Prelude.{◌≡◌, ℕ, Option, None, Some}
 use Rattle.bl_model.specs.declared.operation.Reply.TheVariants as reply
 use Rattle.bl_page.specs.Nodes.{node_of}
-use Rattle.bl_proc_base.specs.declared.acts.Action.{Action}
-use Rattle.bl_proc_base.specs.declared.acts.Action.TheVariants as act
-use Rattle.bl_proc_base.specs.declared.acts.Seen.{Seen}
-use Rattle.bl_proc_base.specs.declared.acts.Seen.TheVariants as seen
-use Rattle.bl_proc_base.specs.declared.answers.Answer.{Answer}
-use Rattle.bl_proc_base.specs.declared.answers.Answer.TheVariants.{Op}
-use Rattle.bl_proc_base.specs.declared.descent.Descent.TheVariants.{AtAnchor}
-use Rattle.bl_proc_base.specs.declared.descent.Descended.TheVariants.{On, Here}
+use Rattle.bl_proc_steps.specs.declared.acts.Action.{Action}
+use Rattle.bl_proc_steps.specs.declared.acts.Action.TheVariants as act
+use Rattle.bl_proc_steps.specs.declared.acts.Seen.{Seen}
+use Rattle.bl_proc_steps.specs.declared.acts.Seen.TheVariants as seen
+use Rattle.bl_proc_steps.specs.declared.answers.Answer.{Answer}
+use Rattle.bl_proc_steps.specs.declared.answers.Answer.TheVariants.{Op}
+use Rattle.bl_proc_steps.specs.declared.descent.Descent.TheVariants.{AtAnchor}
+use Rattle.bl_proc_steps.specs.declared.descent.Descended.TheVariants.{On, Here}
 use Rattle.bl_proc.specs.declared.searching.Find.{Find}
 use Rattle.bl_proc.specs.declared.searching.FindStage.{FindStage}
 use Rattle.bl_proc.specs.declared.searching.FindStage.TheVariants.{New, Near, Probing, Descending, Ending, Over}
-use Rattle.bl_proc_base.specs.Descents.{descent_next, Descends}
+use Rattle.bl_proc_steps.specs.Descents.{descent_next, Descends}
 use Rattle.bl_proc.specs.Parts.{way_by}
 
 -- An ended process has no next action: it is not asked for one.

@@ -2,9 +2,9 @@
 
 ghost use Rattle.std.specs.Prelude.{◌≡◌, ◌<◌, ◌≤◌};
 ghost use Rattle.bl_model.specs.declared.deciding.KeyWrite.TheVariants as key_write;
-ghost use Rattle.bl_proc_base.specs.declared.acts.Action.TheVariants as act;
+ghost use Rattle.bl_proc_steps.specs.declared.acts.Action.TheVariants as act;
 ghost use Rattle.bl_proc.specs.Parts.{up, down};
-ghost use Rattle.bl_proc_writes.specs.declared.climbing.Placing.TheVariants as place;
+ghost use Rattle.bl_proc_writes.specs.declared.insert_post.Placing.TheVariants as place;
 ghost use Rattle.bl_proc.specs.Processes.{next_of, needs_of, answer_of, Takes, IsFind, IsWrite, IsPost, IsPart, IsCompress, IsReclaim, IsLower, IsInsertPost};
 
 use crate::lowering::Lower;
@@ -12,8 +12,8 @@ use crate::parts::Part;
 use crate::reclaiming::Reclaim;
 use crate::searching::Find;
 use bl_model::KeyWrite;
-use bl_proc_base::{Action, Answer, Process, Seen};
 use bl_proc_compress::Compress;
+use bl_proc_steps::{Action, Answer, Process, Seen};
 use bl_proc_writes::{InsertPost, Placing, Post, Write};
 
 /// A process of any kind.

@@ -14,11 +14,11 @@ mod reclaiming;
 mod searching;
 
 pub use bl_page::Words;
-pub use bl_proc_base::{
+pub use bl_proc_compress::{Compress, CompressReply, CompressStage};
+pub use bl_proc_routes::{Step, row_in, step_in};
+pub use bl_proc_steps::{
     Action, Answer, Hint, Level, Lowered, Posted, Process, Reader, Reclaimed, Seen, Squeezed,
 };
-pub use bl_proc_compress::{Compress, CompressReply, CompressStage};
-pub use bl_proc_pages::{Step, row_in, step_in};
 pub use kinds::Proc;
 pub use lowering::{Lower, LowerStage};
 pub use parts::{Direction, Part, PartRows, PartStage, PartStart, first_way};

@@ -2,10 +2,10 @@
 
 ghost use Rattle.std.specs.Prelude.{◌≡◌, None};
 ghost use Rattle.bl_proc.specs.declared.lowering.LowerStage.TheVariants as lower_stage;
-ghost use Rattle.bl_proc_base.specs.Given.{Gives};
+ghost use Rattle.bl_proc_steps.specs.Given.{Gives};
 ghost use Rattle.bl_proc.specs.Lowers.{lower_next_in, lower_needs_in, lower_answer_in, LowerGoes, lower_next, lower_needs, lower_answer, LowerTakes};
 
-use bl_proc_base::{Action, Answer, Lowered, Lowering, Process, Reader, Sank, Seen};
+use bl_proc_steps::{Action, Answer, Lowered, Lowering, Process, Reader, Sank, Seen};
 use std::mem;
 
 /// A process that takes the top level of the tree away, where that is one page with one pair.

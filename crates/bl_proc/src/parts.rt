@@ -6,16 +6,16 @@ ghost use Rattle.bl_model.specs.Rows.{map_of};
 ghost use Rattle.bl_model.proofs.Parts.{IsPlaceOf};
 ghost use Rattle.bl_model.proofs.Falling.{IsCountTo};
 ghost use Rattle.bl_page.specs.Pairs.{RisesFrom, end_of};
-ghost use Rattle.bl_proc_pages.specs.declared.onwards.Step.TheVariants as onward;
+ghost use Rattle.bl_proc_routes.specs.declared.routes.Step.TheVariants as onward;
 ghost use Rattle.bl_proc.specs.declared.parts.PartStage.TheVariants as part_stage;
-ghost use Rattle.bl_proc_base.specs.Given.{Gives};
-ghost use Rattle.bl_proc_pages.specs.Onwards.{Leads};
+ghost use Rattle.bl_proc_steps.specs.Given.{Gives};
+ghost use Rattle.bl_proc_routes.specs.Routes.{Leads};
 ghost use Rattle.bl_proc.specs.Parts.{GoesOnAt, GoesOnBelow, IsPartBy, up, down, part_next_in, part_answer_in, way_by, PartGoes, part_next, part_needs, part_answer, PartTakes};
 
 use arrayvec::ArrayVec;
 use bl_model::{Next, Reply};
 use bl_page::{Page, Pairs};
-use bl_proc_base::{Action, Answer, Descended, Descent, Process, Seen};
+use bl_proc_steps::{Action, Answer, Descended, Descent, Process, Seen};
 use std::mem;
 
 /// Which way a part goes from its key on.

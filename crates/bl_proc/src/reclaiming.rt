@@ -2,10 +2,10 @@
 
 ghost use Rattle.std.specs.Prelude.{◌≡◌, None};
 ghost use Rattle.bl_proc.specs.declared.reclaiming.ReclaimStage.TheVariants as reclaim_stage;
-ghost use Rattle.bl_proc_base.specs.Given.{Gives};
+ghost use Rattle.bl_proc_steps.specs.Given.{Gives};
 ghost use Rattle.bl_proc.specs.Reclaims.{reclaim_next_in, reclaim_answer_in, GoesPast, ReclaimGoes, reclaim_next, reclaim_needs, reclaim_answer, ReclaimTakes};
 
-use bl_proc_base::{Action, Answer, Process, Reclaimed, Seen};
+use bl_proc_steps::{Action, Answer, Process, Reclaimed, Seen};
 
 /// A process that releases a page, if that is retired and no process may still read it.
 #[derive(Clone, Copy)]

@@ -2,14 +2,14 @@
 
 ghost use Rattle.std.specs.Prelude.{◌≡◌, None};
 ghost use Rattle.bl_proc.specs.declared.searching.FindStage.TheVariants as find_stage;
-ghost use Rattle.bl_proc_base.specs.Given.{Gives};
+ghost use Rattle.bl_proc_steps.specs.Given.{Gives};
 ghost use Rattle.bl_proc.specs.Searches.{find_next_in, find_answer_in, find_next, find_needs, find_answer, FindGoes, FindTakes};
 
 use crate::parts::first_way;
 use bl_model::Reply;
 use bl_page::Words;
-use bl_proc_base::{Action, Answer, Descended, Descent, Process, Reader, Seen};
-use bl_proc_pages::{listed, row_in};
+use bl_proc_routes::{listed, row_in};
+use bl_proc_steps::{Action, Answer, Descended, Descent, Process, Reader, Seen};
 
 /// A search for the value of a key.
 #[derive(Clone, Copy)]

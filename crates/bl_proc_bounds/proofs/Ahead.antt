@@ -4,11 +4,11 @@ use Rattle.bl_page.specs.declared.page.Page.{Page}
 use Rattle.bl_page.specs.Nodes.{node_of, IsTreePage}
 use Rattle.bl_claims.specs.Walks.{IsWalk, Each}
 use Rattle.bl_claims.specs.Walks.IsWalk.{Ends, Right, Down}
-use Rattle.bl_proc_base.specs.declared.descent.Descent.{Descent}
-use Rattle.bl_proc_base.specs.declared.descent.Descent.TheVariants.{At}
-use Rattle.bl_proc_base.specs.declared.descent.Descended.TheVariants as descended
-use Rattle.bl_proc_base.specs.Descents.{descent_page, Descends}
-use Rattle.bl_proc_unique.proofs.Descents.{on_one, on_here}
+use Rattle.bl_proc_steps.specs.declared.descent.Descent.{Descent}
+use Rattle.bl_proc_steps.specs.declared.descent.Descent.TheVariants.{At}
+use Rattle.bl_proc_steps.specs.declared.descent.Descended.TheVariants as descended
+use Rattle.bl_proc_steps.specs.Descents.{descent_page, Descends}
+use Rattle.bl_proc_deterministic.proofs.Descents.{on_one, on_here}
 use Rattle.bl_proc_bounds.specs.Paces.{IsAhead}
 use Rattle.bl_proc_bounds.specs.Paces.IsAhead.{Last, On}
 

@@ -4,9 +4,9 @@ use Rattle.bl_page.specs.declared.page.Page.{Page}
 use Rattle.bl_page.specs.Machine.{Name}
 use Rattle.bl_page.specs.Machine.Phase.{Waiting}
 use Rattle.bl_claims.specs.Trails.{Mark, Trail, IsPhase}
-use Rattle.bl_core.proofs.Pushes.{name_cases}
-use Rattle.bl_core.specs.Worlds.{Stage, World, IsGood, Extends}
-use Rattle.bl_core.proofs.After.{is_put_name}
+use Rattle.bl_tree_worlds.proofs.Pushes.{name_cases}
+use Rattle.bl_tree_worlds.specs.Worlds.{Stage, World, IsGood, Extends}
+use Rattle.bl_tree_worlds.proofs.After.{is_put_name}
 use Rattle.bl_proc.specs.declared.searching.FindStage.{FindStage}
 use Rattle.bl_proc.specs.declared.searching.FindStage.TheVariants as find
 use Rattle.bl_proc.specs.declared.parts.PartStage.{PartStage}
@@ -21,7 +21,7 @@ use Rattle.bl_proc_bounds.specs.Searches.{IsSearch, IsGoing, IsUnderWay}
 use Rattle.bl_proc_bounds.proofs.Counts.{own_gets_own, within_none}
 use Rattle.bl_proc_bounds.proofs.Ahead.{ahead_some}
 use Rattle.bl_proc_bounds.specs.Paces.{Place, find_place, part_place, place_of, sought, IsKept, AllPaced}
-use Rattle.bl_proc_base.specs.declared.descent.Descent.TheVariants.{AtAnchor}
+use Rattle.bl_proc_steps.specs.declared.descent.Descent.TheVariants.{AtAnchor}
 use Rattle.bl_proc_bounds.specs.Paces.Place.{Nowhere, Trying, Going}
 use Rattle.bl_proc_bounds.proofs.Keeping.{Knows, knows, IsKeptThen, stays, then_paced}
 

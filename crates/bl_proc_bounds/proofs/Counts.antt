@@ -7,7 +7,7 @@ use Rattle.bl_page.specs.declared.page.Page.{Page}
 use Rattle.bl_page.specs.Machine.{Name, Act}
 use Rattle.bl_page.specs.Machine.Act.{Begin, End, Get, Put, Take, Latch, Retire, Look, Release, Miss}
 use Rattle.bl_claims.specs.Trails.{Mark, Trail, same_name, DoesAt}
-use Rattle.bl_core.proofs.Pushes.{name_cases, same_self, not_same}
+use Rattle.bl_tree_worlds.proofs.Pushes.{name_cases, same_self, not_same}
 use Rattle.bl_claims.specs.Bounds.{is_begin, gets_in, puts_in, begins, since_begin, gets_by, puts_beside, gets_of, puts_near, most_gets, IsWithinBound}
 
 bool_cases : (b : Bool) → (b ≡ true) ⊎ (b ≡ false)

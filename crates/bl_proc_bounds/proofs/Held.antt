@@ -7,8 +7,8 @@ use Rattle.bl_page.specs.Machine.{Name, Owner, State, Act, Enabled, Changes}
 use Rattle.bl_page.specs.Machine.Owner.{Released, Held, Retired}
 use Rattle.bl_page.specs.Machine.Act.{Begin, End, Get, Put, Take, Latch, Retire, Look, Release, Miss}
 use Rattle.bl_claims.specs.Trails.{Mark, Trail, marks_of}
-use Rattle.bl_core.proofs.Pushes.{name_cases, marks_of-own, marks_of-other}
-use Rattle.bl_core.specs.Worlds.{World, Extends}
+use Rattle.bl_tree_worlds.proofs.Pushes.{name_cases, marks_of-own, marks_of-other}
+use Rattle.bl_tree_worlds.specs.Worlds.{World, Extends}
 use Rattle.bl_claims.specs.Latches.{holds_after}
 use Rattle.bl_proc_bounds.specs.Latches.{AllOwned}
 

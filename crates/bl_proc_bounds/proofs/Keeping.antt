@@ -10,14 +10,14 @@ use Rattle.bl_page.specs.Machine.Phase.{Waiting}
 use Rattle.bl_page.specs.Nodes.{unbounded}
 use Rattle.bl_claims.specs.Trails.{Mark, IsPhase}
 use Rattle.bl_claims.specs.Walks.{Each}
-use Rattle.bl_core.proofs.Pushes.{name_cases}
-use Rattle.bl_core.specs.Worlds.{World, IsGoes, IsSure, IsGood, Extends}
-use Rattle.bl_proc_base.specs.declared.acts.Seen.{Seen}
-use Rattle.bl_proc_base.specs.declared.acts.Seen.TheVariants as seen
-use Rattle.bl_proc_base.specs.declared.descent.Descent.{Descent}
-use Rattle.bl_proc_base.specs.declared.descent.Descent.TheVariants.{AtAnchor}
-use Rattle.bl_proc_base.specs.declared.descent.Descended.TheVariants as descended
-use Rattle.bl_proc_base.specs.Descents.{descent_page, Descends}
+use Rattle.bl_tree_worlds.proofs.Pushes.{name_cases}
+use Rattle.bl_tree_worlds.specs.Worlds.{World, IsGoes, IsSure, IsGood, Extends}
+use Rattle.bl_proc_steps.specs.declared.acts.Seen.{Seen}
+use Rattle.bl_proc_steps.specs.declared.acts.Seen.TheVariants as seen
+use Rattle.bl_proc_steps.specs.declared.descent.Descent.{Descent}
+use Rattle.bl_proc_steps.specs.declared.descent.Descent.TheVariants.{AtAnchor}
+use Rattle.bl_proc_steps.specs.declared.descent.Descended.TheVariants as descended
+use Rattle.bl_proc_steps.specs.Descents.{descent_page, Descends}
 use Rattle.bl_proc.specs.declared.searching.FindStage.{FindStage}
 use Rattle.bl_proc.specs.declared.searching.FindStage.TheVariants as find
 use Rattle.bl_proc.specs.declared.parts.PartStage.{PartStage}

@@ -6,28 +6,28 @@ use Rattle.bl_page.specs.declared.page.Page.{Page}
 use Rattle.bl_page.specs.Machine.{Name}
 use Rattle.bl_page.specs.Machine.Act.{Latch}
 use Rattle.bl_claims.specs.Trails.{Mark, Trail, marks_of}
-use Rattle.bl_core.proofs.Pushes.{name_cases, marks_of-own, marks_of-other}
-use Rattle.bl_core.specs.Worlds.{Goes, Know, World, HoldsPage, IsGood, Extends}
-use Rattle.bl_proc_base.specs.declared.acts.Action.{Action}
-use Rattle.bl_proc_base.specs.declared.acts.Action.TheVariants as act
-use Rattle.bl_proc_base.specs.declared.acts.Seen.{Seen}
-use Rattle.bl_proc_base.specs.declared.acts.Seen.TheVariants as seen
-use Rattle.bl_proc_base.specs.declared.approaching.Approach.{Approach}
-use Rattle.bl_proc_base.specs.declared.approaching.Approach.TheVariants as way
-use Rattle.bl_proc_base.specs.declared.editing.Edit.{Edit}
-use Rattle.bl_proc_base.specs.declared.editing.Edit.TheVariants as edit
-use Rattle.bl_proc_base.specs.declared.growing.Growth.{Growth}
-use Rattle.bl_proc_base.specs.declared.growing.Growth.TheVariants as growth
-use Rattle.bl_proc_base.specs.Approaches.{approach_next}
-use Rattle.bl_proc_base.specs.Edits.{edit_next}
-use Rattle.bl_proc_base.specs.Growths.{growth_next}
+use Rattle.bl_tree_worlds.proofs.Pushes.{name_cases, marks_of-own, marks_of-other}
+use Rattle.bl_tree_worlds.specs.Worlds.{Goes, Know, World, HoldsPage, IsGood, Extends}
+use Rattle.bl_proc_steps.specs.declared.acts.Action.{Action}
+use Rattle.bl_proc_steps.specs.declared.acts.Action.TheVariants as act
+use Rattle.bl_proc_steps.specs.declared.acts.Seen.{Seen}
+use Rattle.bl_proc_steps.specs.declared.acts.Seen.TheVariants as seen
+use Rattle.bl_proc_steps.specs.declared.approach.Approach.{Approach}
+use Rattle.bl_proc_steps.specs.declared.approach.Approach.TheVariants as way
+use Rattle.bl_proc_steps.specs.declared.edit.Edit.{Edit}
+use Rattle.bl_proc_steps.specs.declared.edit.Edit.TheVariants as edit
+use Rattle.bl_proc_steps.specs.declared.growth.Growth.{Growth}
+use Rattle.bl_proc_steps.specs.declared.growth.Growth.TheVariants as growth
+use Rattle.bl_proc_steps.specs.Approaches.{approach_next}
+use Rattle.bl_proc_steps.specs.Edits.{edit_next}
+use Rattle.bl_proc_steps.specs.Growths.{growth_next}
 use Rattle.bl_rearrange.specs.declared.sides.Side.{Side}
 use Rattle.bl_rearrange.specs.declared.sides.Side.TheVariants as side
-use Rattle.bl_proc_compress.specs.declared.compressing.Puts.{Puts}
-use Rattle.bl_proc_compress.specs.declared.compressing.Compression.{Compression}
-use Rattle.bl_proc_compress.specs.declared.compressing.Compression.TheVariants.{LatchingLeft, LatchingRight, PuttingFirst, PuttingLast}
-use Rattle.bl_proc_compress.specs.declared.squeezing.CompressStage.{CompressStage}
-use Rattle.bl_proc_compress.specs.declared.squeezing.CompressStage.TheVariants as compress
+use Rattle.bl_proc_compress.specs.declared.compression.Puts.{Puts}
+use Rattle.bl_proc_compress.specs.declared.compression.Compression.{Compression}
+use Rattle.bl_proc_compress.specs.declared.compression.Compression.TheVariants.{LatchingLeft, LatchingRight, PuttingFirst, PuttingLast}
+use Rattle.bl_proc_compress.specs.declared.compress.CompressStage.{CompressStage}
+use Rattle.bl_proc_compress.specs.declared.compress.CompressStage.TheVariants as compress
 use Rattle.bl_proc_compress.specs.Compressions.{put_of, other, compression_next}
 use Rattle.bl_proc_compress.specs.Compresses.{compress_next_in}
 use Rattle.bl_proc.specs.declared.searching.FindStage.{FindStage}
@@ -36,12 +36,12 @@ use Rattle.bl_proc.specs.declared.parts.PartStage.{PartStage}
 use Rattle.bl_proc.specs.declared.parts.PartStage.TheVariants as part
 use Rattle.bl_proc_writes.specs.declared.writing.WriteStage.{WriteStage}
 use Rattle.bl_proc_writes.specs.declared.writing.WriteStage.TheVariants as write
-use Rattle.bl_proc_writes.specs.declared.posting.Post.{Post}
-use Rattle.bl_proc_writes.specs.declared.posting.PostStage.{PostStage}
-use Rattle.bl_proc_writes.specs.declared.posting.PostStage.TheVariants as post
-use Rattle.bl_proc_base.specs.declared.lowering.Lowering.{Lowering}
-use Rattle.bl_proc_base.specs.declared.lowering.Lowering.TheVariants.{LatchingAnchor, LatchingTop}
-use Rattle.bl_proc_base.specs.Lowerings.{lowering_next}
+use Rattle.bl_proc_writes.specs.declared.post.Post.{Post}
+use Rattle.bl_proc_writes.specs.declared.post.PostStage.{PostStage}
+use Rattle.bl_proc_writes.specs.declared.post.PostStage.TheVariants as post
+use Rattle.bl_proc_steps.specs.declared.lowering.Lowering.{Lowering}
+use Rattle.bl_proc_steps.specs.declared.lowering.Lowering.TheVariants.{LatchingAnchor, LatchingTop}
+use Rattle.bl_proc_steps.specs.Lowerings.{lowering_next}
 use Rattle.bl_proc.specs.declared.lowering.LowerStage.{LowerStage}
 use Rattle.bl_proc.specs.declared.lowering.LowerStage.TheVariants as lower
 use Rattle.bl_proc.specs.Lowers.{lower_next_in}
@@ -53,23 +53,23 @@ use Rattle.bl_proc_writes.specs.Writes.{write_next_in}
 use Rattle.bl_proc_writes.specs.Posts.{post_next_in}
 use Rattle.bl_proc.specs.Processes.{next_of, Takes}
 use Rattle.bl_proc_writes.specs.declared.paths.Path.{Path}
-use Rattle.bl_proc_writes.specs.declared.climbing.ClimbStage.{ClimbStage}
-use Rattle.bl_proc_writes.specs.declared.climbing.ClimbStage.TheVariants as climb
-use Rattle.bl_proc_writes.specs.Climbs.{climb_next_in}
+use Rattle.bl_proc_writes.specs.declared.insert_post.ClimbStage.{ClimbStage}
+use Rattle.bl_proc_writes.specs.declared.insert_post.ClimbStage.TheVariants as climb
+use Rattle.bl_proc_writes.specs.InsertPosts.{climb_next_in}
 use Rattle.bl_proc_invariant.specs.Turns.{event_of}
 use Rattle.bl_proc_invariant.specs.Tables.{Carried, unsaid, alone, know_approach}
-use Rattle.bl_proc_invariant.specs.Logs.{squeeze_log, compress_log, proc_log}
-use Rattle.bl_proc_invariant.specs.Compressing.{know_squeeze}
+use Rattle.bl_proc_invariant.specs.Logs.{compression_log, compress_log, proc_log}
+use Rattle.bl_proc_invariant.specs.Compressing.{know_compression}
 use Rattle.bl_proc_invariant.specs.Lowering.{know_lowering}
 use Rattle.bl_proc_invariant.specs.Knowing.{Run, path_goes, inserted, know_growth, know_write, know_post, know_climb, know_compress, know_lower, know_of, know, end_of_proc}
-use Rattle.bl_core.proofs.After.{is_put_name}
+use Rattle.bl_tree_worlds.proofs.After.{is_put_name}
 use Rattle.bl_proc_invariant.proofs.Instead.{with_proc}
 use Rattle.bl_proc_bounds.specs.Searches.{IsSearch}
-use Rattle.bl_claims.specs.Latches.{Keeps, LatchesNone, LatchesAlone, LatchesBelowAnchor}
+use Rattle.bl_claims.specs.Latches.{KeepsPage, LatchesNone, LatchesAlone, LatchesBelowAnchor}
 use Rattle.bl_claims.specs.Families.{HoldsFamily, LatchesBeside}
 use Rattle.bl_proc_bounds.specs.Latches.{IsTidy, AllOwned, AllTidy}
 use Rattle.bl_proc_bounds.proofs.Counts.{take_front}
-use Rattle.bl_proc_writes.specs.declared.climbing.Placing.{Placing}
+use Rattle.bl_proc_writes.specs.declared.insert_post.Placing.{Placing}
 use Rattle.bl_proc_writes.specs.Placings.{write_of}
 
 -- A list goes on by one mark
@@ -92,19 +92,19 @@ take_now xs m i e = ap (λ n. take n (xs ++ m ∷ [])) e ∙ (take_front xs m (l
 
 -- no page, or the parent and the left child at most
 abbrev HoldsFew : ℕ → ℕ → Trail → Type 0
-HoldsFew level key marks = ((y : ℕ) → Keeps marks y → ⊥) ⊎ HoldsFamily level key marks
+HoldsFew level key marks = ((y : ℕ) → KeepsPage marks y → ⊥) ⊎ HoldsFamily level key marks
 
 module _ (marks : Trail) (m : Mark) where
-  alone_on : LatchesAlone marks → ((x y : ℕ) → m.event.act ≡ Latch x → Keeps marks y → ⊥) → LatchesAlone (marks ++ m ∷ [])
+  alone_on : LatchesAlone marks → ((x y : ℕ) → m.event.act ≡ Latch x → KeepsPage marks y → ⊥) → LatchesAlone (marks ++ m ∷ [])
   alone_on h now i n x y is does keeps = elim (push_cases marks m i n is) [
-    | inl e ↦ h i n x y e.0 does (subst (λ t. Keeps t y) (take_front marks m i (omega (arith, e.1))) keeps)
-    | inr e ↦ now x y (ap (λ (v : Mark). v.event.act) e.1 ∙ does) (subst (λ t. Keeps t y) (take_now marks m i e.0) keeps)
+    | inl e ↦ h i n x y e.0 does (subst (λ t. KeepsPage t y) (take_front marks m i (omega (arith, e.1))) keeps)
+    | inr e ↦ now x y (ap (λ (v : Mark). v.event.act) e.1 ∙ does) (subst (λ t. KeepsPage t y) (take_now marks m i e.0) keeps)
   ]
 
-  below_on : LatchesBelowAnchor marks → ((x y : ℕ) → m.event.act ≡ Latch x → Keeps marks y → y ≡ 0) → LatchesBelowAnchor (marks ++ m ∷ [])
+  below_on : LatchesBelowAnchor marks → ((x y : ℕ) → m.event.act ≡ Latch x → KeepsPage marks y → y ≡ 0) → LatchesBelowAnchor (marks ++ m ∷ [])
   below_on h now i n x y is does keeps = elim (push_cases marks m i n is) [
-    | inl e ↦ h i n x y e.0 does (subst (λ t. Keeps t y) (take_front marks m i (omega (arith, e.1))) keeps)
-    | inr e ↦ now x y (ap (λ (v : Mark). v.event.act) e.1 ∙ does) (subst (λ t. Keeps t y) (take_now marks m i e.0) keeps)
+    | inl e ↦ h i n x y e.0 does (subst (λ t. KeepsPage t y) (take_front marks m i (omega (arith, e.1))) keeps)
+    | inr e ↦ now x y (ap (λ (v : Mark). v.event.act) e.1 ∙ does) (subst (λ t. KeepsPage t y) (take_now marks m i e.0) keeps)
   ]
 
   beside_on : (level key : ℕ) → LatchesBeside level key marks → ((x : ℕ) → m.event.act ≡ Latch x → HoldsFew level key marks) → LatchesBeside level key (marks ++ m ∷ [])
@@ -185,16 +185,16 @@ put_never : (sd : Side) (p : Puts) (x : ℕ) → put_of sd p ≢ act.Latch x
 put_never side.Left p x e = cc
 put_never side.Right p x e = cc
 
-squeeze_few : (level key : ℕ) (got : ℕ → Page) (c : Compression) (x : ℕ) (marks : Trail) → compression_next c ≡ act.Latch x → squeeze_log level key c marks → ((y : ℕ) → Keeps marks y → HoldsPage (know_squeeze level key got c).holds y) → HoldsFew level key marks
-squeeze_few level key got (LatchingLeft f) x marks e log h = inr (record { family = f; acts = _; at = log; no_more = λ y keeps. elim (h y keeps) [ inl i ↦ inl (sym i) | inr n ↦ absurd n ] })
-squeeze_few level key got (LatchingRight f c) x marks e log h = inr (record { family = f; acts = _; at = log.family; no_more = λ y keeps. elim (h y keeps) [ inl i ↦ inl (sym i) | inr n ↦ elim n [ inl j ↦ inr (sym j) | inr o ↦ absurd o ] ] })
-squeeze_few level key got (PuttingFirst p) x marks e log h = absurd (put_never p.gains p x e)
-squeeze_few level key got (PuttingLast p) x marks e log h = absurd (put_never (other p.gains) p x e)
-squeeze_few level key got old x marks e log h = absurd (cc e)
+compression_few : (level key : ℕ) (got : ℕ → Page) (c : Compression) (x : ℕ) (marks : Trail) → compression_next c ≡ act.Latch x → compression_log level key c marks → ((y : ℕ) → KeepsPage marks y → HoldsPage (know_compression level key got c).holds y) → HoldsFew level key marks
+compression_few level key got (LatchingLeft f) x marks e log h = inr (record { family = f; acts = _; at = log; no_more = λ y keeps. elim (h y keeps) [ inl i ↦ inl (sym i) | inr n ↦ absurd n ] })
+compression_few level key got (LatchingRight f c) x marks e log h = inr (record { family = f; acts = _; at = log.family; no_more = λ y keeps. elim (h y keeps) [ inl i ↦ inl (sym i) | inr n ↦ elim n [ inl j ↦ inr (sym j) | inr o ↦ absurd o ] ] })
+compression_few level key got (PuttingFirst p) x marks e log h = absurd (put_never p.gains p x e)
+compression_few level key got (PuttingLast p) x marks e log h = absurd (put_never (other p.gains) p x e)
+compression_few level key got old x marks e log h = absurd (cc e)
 
-compress_few : (level key : ℕ) (got : ℕ → Page) (a : CompressStage) (x : ℕ) (marks : Trail) → compress_next_in a ≡ act.Latch x → compress_log level key a marks → ((y : ℕ) → Keeps marks y → HoldsPage (know_compress level key got a).holds y) → HoldsFew level key marks
+compress_few : (level key : ℕ) (got : ℕ → Page) (a : CompressStage) (x : ℕ) (marks : Trail) → compress_next_in a ≡ act.Latch x → compress_log level key a marks → ((y : ℕ) → KeepsPage marks y → HoldsPage (know_compress level key got a).holds y) → HoldsFew level key marks
 compress_few level key got (compress.Coming a) x marks e log h = inl (λ y keeps. subst (λ hs. HoldsPage hs y) (approach_alone alone level key a x e) (h y keeps))
-compress_few level key got (compress.Compressing c) x marks e log h = squeeze_few level key got c x marks e log h
+compress_few level key got (compress.Compressing c) x marks e log h = compression_few level key got c x marks e log h
 compress_few level key got old x marks e log h = absurd (cc e)
 
 lowering_below : (got : ℕ → Page) (l : Lowering) (x y : ℕ) → lowering_next l ≡ act.Latch x → HoldsPage (know_lowering got l).holds y → y ≡ 0
@@ -229,7 +229,7 @@ module _ (w : World Run) (p : Name) (g : IsGood know w) (owned : AllOwned w) whe
   alone_turn : (m : Mark) → LatchesAlone (marks_of p w.trail) → ((x : ℕ) → m.event.act ≡ Latch x → (know (w.proc p)).holds ≡ []) → LatchesAlone (marks_of p w.trail ++ m ∷ [])
   alone_turn m h none = alone_on (marks_of p w.trail) m h (λ x y e keeps. subst (λ hs. HoldsPage hs y) (none x e) (g.owned.held y p (owned p y keeps)))
 
-  holds_kept : (k : Know) → know (w.proc p) ≡ k → (y : ℕ) → Keeps (marks_of p w.trail) y → HoldsPage k.holds y
+  holds_kept : (k : Know) → know (w.proc p) ≡ k → (y : ℕ) → KeepsPage (marks_of p w.trail) y → HoldsPage k.holds y
   holds_kept k is y keeps = subst (λ (z : Know). HoldsPage z.holds y) is (g.owned.held y p (owned p y keeps))
 
   -- of a process of that state, which is told something of its next action

@@ -3,9 +3,9 @@ use Rattle.std.proofs.Common.{ℕ, ◌≡◌, ◌≢◌, ◌≤◌, ◌+◌, ◌
 use Rattle.bl_page.specs.Machine.{Name}
 use Rattle.bl_page.specs.Machine.Act.{Begin}
 use Rattle.bl_claims.specs.Trails.{Mark, Trail, DoesAt}
-use Rattle.bl_core.proofs.Pushes.{DoesAt-push}
+use Rattle.bl_tree_worlds.proofs.Pushes.{DoesAt-push}
 use Rattle.bl_claims.specs.Walks.{Each}
-use Rattle.bl_core.proofs.Frames.{Each-map}
+use Rattle.bl_tree_worlds.proofs.Frames.{Each-map}
 use Rattle.bl_claims.specs.Bounds.{gets_of, puts_near, IsWithinBound, IsBelowBound}
 use Rattle.bl_proc_bounds.proofs.Counts.{own_gets, own_gets_other, gets_on, puts_on, within_on, within_now}
 use Rattle.bl_proc_bounds.proofs.Spending.{most_rises}

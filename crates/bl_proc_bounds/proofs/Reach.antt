@@ -7,19 +7,19 @@ use Rattle.bl_page.specs.declared.page.Page.TheVariants.{Anchor, Leaf, Inner, De
 use Rattle.bl_page.specs.Machine.{Name, Owner}
 use Rattle.bl_page.specs.Machine.Owner.{Released, Held, Retired}
 use Rattle.bl_page.specs.Nodes.{Node, unbounded, node_of, roots_of, IsTreePage}
-use Rattle.bl_core_tree.specs.Trees.{Status, is_live, IsLive}
-use Rattle.bl_core_tree.specs.Trees.Status.{Free, Fresh, Live, Left, Right, Uprooted, Gone, Anchored}
-use Rattle.bl_core_tree.proofs.Statuses.{live_live, left_live, right_live, uprooted_live, free_dead, not_anchor}
+use Rattle.bl_tree.specs.Trees.{Status, is_live, IsLive}
+use Rattle.bl_tree.specs.Trees.Status.{Free, Fresh, Live, Left, Right, Uprooted, Gone, Anchored}
+use Rattle.bl_tree.proofs.Statuses.{live_live, left_live, right_live, uprooted_live, free_dead, not_anchor}
 use Rattle.bl_claims.specs.Walks.{Each, IsWalk, IsNoneOf, NoneTwice}
-use Rattle.bl_core_tree.proofs.LawsHold.{live}
-use Rattle.bl_core_tree.proofs.WalksEnd.{After, Walked, walk_from, at_most}
-use Rattle.bl_core.specs.Worlds.{Know, World, nodes, tree_of, was_in, MayGet, IsGoes, IsGood}
-use Rattle.bl_core.proofs.Steady.{free_not, fresh_not, anchored_not}
-use Rattle.bl_core.proofs.WorldLaws.{tree_page, all_sound}
-use Rattle.bl_proc_pages.specs.declared.onwards.Step.TheVariants as onward
-use Rattle.bl_proc_base.specs.declared.descent.Descent.{Descent}
-use Rattle.bl_proc_base.specs.declared.descent.Descent.TheVariants.{AtAnchor, At}
-use Rattle.bl_proc_pages.specs.Onwards.{top_of, Leads}
+use Rattle.bl_tree.proofs.LawsHold.{live}
+use Rattle.bl_tree.proofs.WalksEnd.{After, Walked, walk_from, at_most}
+use Rattle.bl_tree_worlds.specs.Worlds.{Know, World, nodes, tree_of, was_in, MayGet, IsGoes, IsGood}
+use Rattle.bl_tree_worlds.proofs.Steady.{free_not, fresh_not, anchored_not}
+use Rattle.bl_tree_worlds.proofs.WorldLaws.{tree_page, all_sound}
+use Rattle.bl_proc_routes.specs.declared.routes.Step.TheVariants as onward
+use Rattle.bl_proc_steps.specs.declared.descent.Descent.{Descent}
+use Rattle.bl_proc_steps.specs.declared.descent.Descent.TheVariants.{AtAnchor, At}
+use Rattle.bl_proc_routes.specs.Routes.{top_of, Leads}
 use Rattle.bl_proc.specs.Parts.{way_by}
 use Rattle.bl_proc_invariant.specs.Tables.{descent_goes}
 use Rattle.bl_proc_bounds.specs.Paces.{IsAhead}

@@ -5,7 +5,7 @@ use Rattle.bl_page.specs.declared.page.Page.{Page}
 use Rattle.bl_page.specs.Machine.{Name}
 use Rattle.bl_page.specs.Machine.Act.{Begin}
 use Rattle.bl_claims.specs.Trails.{Mark, Trail, DoesAt}
-use Rattle.bl_core.proofs.Pushes.{DoesAt-push, DoesAt-last}
+use Rattle.bl_tree_worlds.proofs.Pushes.{DoesAt-push, DoesAt-last}
 use Rattle.bl_claims.specs.Bounds.{gets_by, puts_beside, gets_of, puts_near, most_gets}
 use Rattle.bl_proc_bounds.specs.Paces.{Place, AreLeft, Spends}
 use Rattle.bl_proc_bounds.proofs.Counts.{since_first, own_gets, other_puts, gets_on, puts_on, within_on, within_none}

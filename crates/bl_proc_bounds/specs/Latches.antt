@@ -3,8 +3,8 @@ use Rattle.std.specs.Prelude.{ℕ, ◌≡◌}
 use Rattle.bl_page.specs.Machine.{Name}
 use Rattle.bl_page.specs.Machine.Owner.{Held}
 use Rattle.bl_claims.specs.Trails.{Trail, marks_of}
-use Rattle.bl_claims.specs.Latches.{Keeps, LatchesNone, LatchesAlone, LatchesBelowAnchor}
-use Rattle.bl_core.specs.Worlds.{World}
+use Rattle.bl_claims.specs.Latches.{KeepsPage, LatchesNone, LatchesAlone, LatchesBelowAnchor}
+use Rattle.bl_tree_worlds.specs.Worlds.{World}
 use Rattle.bl_proc.specs.declared.kinds.Proc.{Proc}
 use Rattle.bl_proc.specs.declared.kinds.Proc.TheVariants as proc
 use Rattle.bl_claims.specs.Families.{LatchesBeside}
@@ -23,7 +23,7 @@ IsTidy (proc.InsertPost p) marks = LatchesAlone marks
 
 -- what is kept by the marks is owned
 abbrev pub AllOwned : {P : Type 0} → World P → Type 0
-AllOwned w = (p : Name) (y : ℕ) → Keeps (marks_of p w.trail) y → w.now.owner y ≡ Held p
+AllOwned w = (p : Name) (y : ℕ) → KeepsPage (marks_of p w.trail) y → w.now.owner y ≡ Held p
 
 abbrev pub AllTidy : World Run → Type 0
 AllTidy w = (p : Name) → IsTidy (w.proc p).state (marks_of p w.trail)

@@ -5,11 +5,11 @@ use Rattle.bl_page.specs.declared.page.Page.{Page}
 use Rattle.bl_page.specs.Machine.{Name}
 use Rattle.bl_page.specs.Machine.Act.{Begin}
 use Rattle.bl_claims.specs.Trails.{Trail, DoesAt}
-use Rattle.bl_core.specs.Worlds.{World}
-use Rattle.bl_proc_base.specs.declared.descent.Descent.{Descent}
-use Rattle.bl_proc_base.specs.declared.descent.Descent.TheVariants.{AtAnchor}
-use Rattle.bl_proc_base.specs.declared.descent.Descended.TheVariants as descended
-use Rattle.bl_proc_base.specs.Descents.{descent_page, Descends}
+use Rattle.bl_tree_worlds.specs.Worlds.{World}
+use Rattle.bl_proc_steps.specs.declared.descent.Descent.{Descent}
+use Rattle.bl_proc_steps.specs.declared.descent.Descent.TheVariants.{AtAnchor}
+use Rattle.bl_proc_steps.specs.declared.descent.Descended.TheVariants as descended
+use Rattle.bl_proc_steps.specs.Descents.{descent_page, Descends}
 use Rattle.bl_proc.specs.declared.searching.FindStage.{FindStage}
 use Rattle.bl_proc.specs.declared.searching.FindStage.TheVariants as find
 use Rattle.bl_proc.specs.declared.parts.PartStage.{PartStage}

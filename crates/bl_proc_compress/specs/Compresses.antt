@@ -1,26 +1,26 @@
 -- A compression, by its state.
 use Rattle.std.specs.Prelude.{◌≡◌, ℕ, Bool, Option, None, Some}
 use Rattle.bl_page.specs.declared.page.Inner.{Inner}
-use Rattle.bl_proc_base.specs.declared.acts.Action.{Action}
-use Rattle.bl_proc_base.specs.declared.acts.Action.TheVariants as act
-use Rattle.bl_proc_base.specs.declared.acts.Seen.{Seen}
-use Rattle.bl_proc_base.specs.declared.acts.Seen.TheVariants as seen
-use Rattle.bl_proc_base.specs.declared.answers.Answer.{Answer}
-use Rattle.bl_proc_base.specs.declared.answers.Answer.TheVariants as answer
-use Rattle.bl_proc_base.specs.declared.answers.Squeezed.TheVariants as squeezed
-use Rattle.bl_proc_base.specs.declared.approaching.Approach.TheVariants.{Start}
-use Rattle.bl_proc_base.specs.declared.approaching.Came.{Came}
-use Rattle.bl_proc_base.specs.declared.approaching.Came.TheVariants as come
-use Rattle.bl_proc_compress.specs.declared.compressing.Decision.{Decision}
-use Rattle.bl_proc_compress.specs.declared.compressing.Decision.TheVariants as decision
-use Rattle.bl_proc_compress.specs.declared.compressing.Compression.TheVariants.{LatchingLeft}
-use Rattle.bl_proc_compress.specs.declared.compressing.Compressed.TheVariants as step
-use Rattle.bl_proc_compress.specs.declared.squeezing.Compress.{Compress}
-use Rattle.bl_proc_compress.specs.declared.squeezing.CompressStage.{CompressStage}
-use Rattle.bl_proc_compress.specs.declared.squeezing.CompressStage.TheVariants.{New, Coming, Compressing, Staying, Ending, Over}
-use Rattle.bl_proc_compress.specs.declared.squeezing.CompressReply.{CompressReply}
-use Rattle.bl_proc_compress.specs.declared.squeezing.CompressReply.TheVariants as reply
-use Rattle.bl_proc_base.specs.Approaches.{approach_next, Comes}
+use Rattle.bl_proc_steps.specs.declared.acts.Action.{Action}
+use Rattle.bl_proc_steps.specs.declared.acts.Action.TheVariants as act
+use Rattle.bl_proc_steps.specs.declared.acts.Seen.{Seen}
+use Rattle.bl_proc_steps.specs.declared.acts.Seen.TheVariants as seen
+use Rattle.bl_proc_steps.specs.declared.answers.Answer.{Answer}
+use Rattle.bl_proc_steps.specs.declared.answers.Answer.TheVariants as answer
+use Rattle.bl_proc_steps.specs.declared.answers.Squeezed.TheVariants as squeezed
+use Rattle.bl_proc_steps.specs.declared.approach.Approach.TheVariants.{Start}
+use Rattle.bl_proc_steps.specs.declared.approach.Came.{Came}
+use Rattle.bl_proc_steps.specs.declared.approach.Came.TheVariants as come
+use Rattle.bl_proc_compress.specs.declared.compression.Decision.{Decision}
+use Rattle.bl_proc_compress.specs.declared.compression.Decision.TheVariants as decision
+use Rattle.bl_proc_compress.specs.declared.compression.Compression.TheVariants.{LatchingLeft}
+use Rattle.bl_proc_compress.specs.declared.compression.Compressed.TheVariants as step
+use Rattle.bl_proc_compress.specs.declared.compress.Compress.{Compress}
+use Rattle.bl_proc_compress.specs.declared.compress.CompressStage.{CompressStage}
+use Rattle.bl_proc_compress.specs.declared.compress.CompressStage.TheVariants.{New, Coming, Compressing, Staying, Ending, Over}
+use Rattle.bl_proc_compress.specs.declared.compress.CompressReply.{CompressReply}
+use Rattle.bl_proc_compress.specs.declared.compress.CompressReply.TheVariants as reply
+use Rattle.bl_proc_steps.specs.Approaches.{approach_next, Comes}
 use Rattle.bl_proc_compress.specs.Compressions.{AreSiblings, compression_next, compression_needs, Compresses}
 
 -- what a compression answers by what became of the children, if it does not begin again

@@ -4,7 +4,7 @@ ghost use Rattle.std.specs.Prelude.{◌≡◌, ◌<◌, length};
 ghost use Rattle.bl_page.specs.Pairs.{IsWithin};
 ghost use Rattle.bl_proc_compress.specs.Compressions.{right_place, AreSiblings};
 
-use crate::compressing::{Family, Siblings};
+use crate::compression::{Family, Siblings};
 use bl_page::{Inner, place_of};
 
 /// The place of the right one of the two: behind the child for the key, or that child's own where it is the last.

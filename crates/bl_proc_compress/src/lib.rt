@@ -6,11 +6,11 @@
 //! on B*-trees with overtaking" (JCSS 33, 1986). Nothing is allocated.
 #![tactic(auto)]
 
-mod compressing;
-mod compressions;
+mod compress;
+mod compress_steps;
+mod compression;
+mod compression_steps;
 mod families;
-mod squeezes;
-mod squeezing;
 
-pub use compressing::{Compressed, Compression, Decision, Family, Puts, Siblings};
-pub use squeezing::{Compress, CompressReply, CompressStage};
+pub use compress::{Compress, CompressReply, CompressStage};
+pub use compression::{Compressed, Compression, Decision, Family, Puts, Siblings};

@@ -6,32 +6,32 @@ use Rattle.bl_model.specs.declared.deciding.Effect.TheVariants.{Keep, Enter, Rem
 use Rattle.bl_model.specs.Writes.{effect_of}
 use Rattle.bl_page.specs.declared.page.Page.{Page}
 use Rattle.bl_page.specs.Machine.{Name}
-use Rattle.bl_core.specs.Worlds.{Goes, World, IsGood}
-use Rattle.bl_proc_base.specs.declared.acts.Seen.{Seen}
-use Rattle.bl_proc_base.specs.declared.acts.Seen.TheVariants as seen
-use Rattle.bl_proc_base.specs.declared.acts.Action.TheVariants as act
-use Rattle.bl_proc_base.specs.declared.answers.Hint.TheVariants as hint
+use Rattle.bl_tree_worlds.specs.Worlds.{Goes, World, IsGood}
+use Rattle.bl_proc_steps.specs.declared.acts.Seen.{Seen}
+use Rattle.bl_proc_steps.specs.declared.acts.Seen.TheVariants as seen
+use Rattle.bl_proc_steps.specs.declared.acts.Action.TheVariants as act
+use Rattle.bl_proc_steps.specs.declared.answers.Hint.TheVariants as hint
 use Rattle.bl_page.specs.declared.page.Page.TheVariants.{Inner as InnerPage}
-use Rattle.bl_proc_base.specs.declared.editing.Edit.{Edit}
-use Rattle.bl_proc_base.specs.declared.editing.Edit.TheVariants as edit
-use Rattle.bl_proc_base.specs.declared.editing.Edited.TheVariants as changed
-use Rattle.bl_proc_base.specs.declared.editing.Outcome.{Outcome}
-use Rattle.bl_proc_base.specs.declared.editing.Outcome.TheVariants as outcome
-use Rattle.bl_proc_base.specs.Edits.{edit_next, EntersPair}
-use Rattle.bl_proc_base.specs.Thin.{thin_hint}
+use Rattle.bl_proc_steps.specs.declared.edit.Edit.{Edit}
+use Rattle.bl_proc_steps.specs.declared.edit.Edit.TheVariants as edit
+use Rattle.bl_proc_steps.specs.declared.edit.Edited.TheVariants as changed
+use Rattle.bl_proc_steps.specs.declared.edit.Outcome.{Outcome}
+use Rattle.bl_proc_steps.specs.declared.edit.Outcome.TheVariants as outcome
+use Rattle.bl_proc_steps.specs.Edits.{edit_next, EntersPair}
+use Rattle.bl_proc_steps.specs.Thin.{thin_hint}
 use Rattle.bl_proc_writes.specs.declared.writing.Noted.{Noted}
 use Rattle.bl_proc_writes.specs.declared.writing.WriteReply.TheVariants as written
 use Rattle.bl_proc_writes.specs.declared.writing.WriteStage.{WriteStage}
-use Rattle.bl_proc_writes.specs.declared.posting.PostReply.TheVariants as listed
-use Rattle.bl_proc_writes.specs.declared.posting.PostStage.{PostStage}
-use Rattle.bl_proc_writes.specs.declared.posting.PostStage.TheVariants as post
+use Rattle.bl_proc_writes.specs.declared.post.PostReply.TheVariants as listed
+use Rattle.bl_proc_writes.specs.declared.post.PostStage.{PostStage}
+use Rattle.bl_proc_writes.specs.declared.post.PostStage.TheVariants as post
 use Rattle.bl_proc_writes.specs.Writes.{write_next_in, write_reply, Performs}
 use Rattle.bl_proc_writes.specs.Posts.{post_next_in, post_reply, PostGoes}
-use Rattle.bl_proc_unique.proofs.WayCases.{EditCase, edit_case}
-use Rattle.bl_proc_unique.proofs.WayCases.EditCase.{Opened as EditOpened, OpenedNew as EditOpenedNew, Put as EditPut, PutNew as EditPutNew, PutOld as EditPutOld, PutRefused as EditPutRefused, TakeRefused as EditTakeRefused, Took as EditTook}
-use Rattle.bl_proc_unique.proofs.KindCases.{WriteCase, PostCase, post_case}
-use Rattle.bl_proc_unique.proofs.KindCases.WriteCase.{Began as WriteBegan, Came as WriteCame, Changed as WriteChanged, Edited as WriteEdited, Ended as WriteEnded, Finished as WriteFinished, Kept as WriteKept, Opened as WriteOpened}
-use Rattle.bl_proc_unique.proofs.KindCases.PostCase.{Edited as PostEdited, Entered as PostEntered}
+use Rattle.bl_proc_deterministic.proofs.WayCases.{EditCase, edit_case}
+use Rattle.bl_proc_deterministic.proofs.WayCases.EditCase.{Opened as EditOpened, OpenedNew as EditOpenedNew, Put as EditPut, PutNew as EditPutNew, PutOld as EditPutOld, PutRefused as EditPutRefused, TakeRefused as EditTakeRefused, Took as EditTook}
+use Rattle.bl_proc_deterministic.proofs.KindCases.{WriteCase, PostCase, post_case}
+use Rattle.bl_proc_deterministic.proofs.KindCases.WriteCase.{Began as WriteBegan, Came as WriteCame, Changed as WriteChanged, Edited as WriteEdited, Ended as WriteEnded, Finished as WriteFinished, Kept as WriteKept, Opened as WriteOpened}
+use Rattle.bl_proc_deterministic.proofs.KindCases.PostCase.{Edited as PostEdited, Entered as PostEntered}
 use Rattle.bl_proc_invariant.specs.Tables.{Carried}
 use Rattle.bl_proc_invariant.specs.Turns.{IsObserved}
 use Rattle.bl_proc_invariant.specs.Knowing.{Run, know_write, know_post, know}

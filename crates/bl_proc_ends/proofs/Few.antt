@@ -5,27 +5,27 @@ use Rattle.bl_model.specs.declared.deciding.KeyWrite.{KeyWrite}
 use Rattle.bl_page.specs.declared.page.Page.{Page}
 use Rattle.bl_page.specs.Machine.{Name}
 use Rattle.bl_page.specs.Nodes.{unbounded, roots_of}
-use Rattle.bl_core.specs.Worlds.{Goes, World, IsGood}
-use Rattle.bl_proc_base.specs.declared.approaching.Approach.{Approach}
-use Rattle.bl_proc_base.specs.declared.descent.Descent.TheVariants.{AtAnchor}
-use Rattle.bl_proc_base.specs.declared.editing.Edit.{Edit}
-use Rattle.bl_proc_base.specs.declared.editing.Edit.TheVariants as edit
-use Rattle.bl_proc_base.specs.declared.editing.Outcome.TheVariants as outcome
-use Rattle.bl_proc_base.specs.declared.growing.Growth.{Growth}
-use Rattle.bl_proc_base.specs.declared.growing.Growth.TheVariants as growth
-use Rattle.bl_proc_base.specs.declared.lowering.Lowering.{Lowering}
-use Rattle.bl_proc_base.specs.declared.lowering.Lowering.TheVariants as lowering
-use Rattle.bl_proc_compress.specs.declared.compressing.Compression.{Compression}
-use Rattle.bl_proc_compress.specs.declared.compressing.Compression.TheVariants as squeeze
-use Rattle.bl_proc_compress.specs.declared.squeezing.CompressStage.{CompressStage}
-use Rattle.bl_proc_compress.specs.declared.squeezing.CompressStage.TheVariants as compress
+use Rattle.bl_tree_worlds.specs.Worlds.{Goes, World, IsGood}
+use Rattle.bl_proc_steps.specs.declared.approach.Approach.{Approach}
+use Rattle.bl_proc_steps.specs.declared.descent.Descent.TheVariants.{AtAnchor}
+use Rattle.bl_proc_steps.specs.declared.edit.Edit.{Edit}
+use Rattle.bl_proc_steps.specs.declared.edit.Edit.TheVariants as edit
+use Rattle.bl_proc_steps.specs.declared.edit.Outcome.TheVariants as outcome
+use Rattle.bl_proc_steps.specs.declared.growth.Growth.{Growth}
+use Rattle.bl_proc_steps.specs.declared.growth.Growth.TheVariants as growth
+use Rattle.bl_proc_steps.specs.declared.lowering.Lowering.{Lowering}
+use Rattle.bl_proc_steps.specs.declared.lowering.Lowering.TheVariants as lowering
+use Rattle.bl_proc_compress.specs.declared.compression.Compression.{Compression}
+use Rattle.bl_proc_compress.specs.declared.compression.Compression.TheVariants as compression
+use Rattle.bl_proc_compress.specs.declared.compress.CompressStage.{CompressStage}
+use Rattle.bl_proc_compress.specs.declared.compress.CompressStage.TheVariants as compress
 use Rattle.bl_proc_writes.specs.declared.writing.WriteStage.{WriteStage}
 use Rattle.bl_proc_writes.specs.declared.writing.WriteStage.TheVariants as write
-use Rattle.bl_proc_writes.specs.declared.posting.PostStage.{PostStage}
-use Rattle.bl_proc_writes.specs.declared.posting.PostStage.TheVariants as post
-use Rattle.bl_proc_writes.specs.declared.climbing.InsertPost.{InsertPost}
-use Rattle.bl_proc_writes.specs.declared.climbing.ClimbStage.{ClimbStage}
-use Rattle.bl_proc_writes.specs.declared.climbing.ClimbStage.TheVariants as climb
+use Rattle.bl_proc_writes.specs.declared.post.PostStage.{PostStage}
+use Rattle.bl_proc_writes.specs.declared.post.PostStage.TheVariants as post
+use Rattle.bl_proc_writes.specs.declared.insert_post.InsertPost.{InsertPost}
+use Rattle.bl_proc_writes.specs.declared.insert_post.ClimbStage.{ClimbStage}
+use Rattle.bl_proc_writes.specs.declared.insert_post.ClimbStage.TheVariants as climb
 use Rattle.bl_proc_writes.specs.Stands.{Stands}
 use Rattle.bl_proc.specs.declared.searching.FindStage.{FindStage}
 use Rattle.bl_proc.specs.declared.searching.FindStage.TheVariants as find
@@ -39,10 +39,10 @@ use Rattle.bl_proc.specs.declared.kinds.Proc.TheVariants as proc
 use Rattle.bl_proc_invariant.specs.Tables.{Carried, unsaid, know_approach}
 use Rattle.bl_proc_invariant.specs.Knowing.{Run, path_goes, inserted, know_find, know_part, know_write, know_growth, know_post, know_compress, know_climb, know_of, know}
 use Rattle.bl_proc_bounds.proofs.Reach.{descent_near}
-use Rattle.bl_proc_progress.specs.Holds.{edit_hold, squeeze_hold}
+use Rattle.bl_proc_progress.specs.Holds.{edit_hold, compression_hold}
 use Rattle.bl_proc_progress.proofs.Nearing.{edit_most}
 use Rattle.bl_proc_progress.proofs.Shortening.{from_page, short}
-use Rattle.bl_proc_ends.specs.Left.{most_turns, IsOnWay, IsStaying, IsPressing, IsClimbing, IsMeant, rises_or, find_left, part_left, write_left, growth_left, post_left, compress_left, lowering_turns, lower_left, climb_edit, writing_left, posting_left, climb_left, TurnsLeft}
+use Rattle.bl_proc_ends.specs.Left.{most_turns, IsOnWay, IsStaying, IsCompressing, IsClimbing, IsMeant, rises_or, find_left, part_left, write_left, growth_left, post_left, compress_left, lowering_turns, lower_left, climb_edit, writing_left, posting_left, climb_left, TurnsLeft}
 use Rattle.bl_proc_progress.specs.Ways.{IsLeft}
 use Rattle.bl_proc_ends.proofs.Plain.{sure_of, from_anchor}
 use Rattle.bl_proc_ends.proofs.Climbs.{else_or, widen}
@@ -53,18 +53,18 @@ pub record Few (P : ℕ → Type 0) (most : ℕ) : Type 0 where
   pub left : P turns
   pub few : turns ≤ most
 
-squeeze_most : (c : Compression) → squeeze_hold c < 11
-squeeze_most (squeeze.LatchingLeft f) = omega arith
-squeeze_most (squeeze.LatchedLeft f) = omega arith
-squeeze_most (squeeze.LatchingRight f c) = omega arith
-squeeze_most (squeeze.LatchedRight f c) = omega arith
-squeeze_most (squeeze.PuttingFirst p) = omega arith
-squeeze_most (squeeze.PuttingParent p) = omega arith
-squeeze_most (squeeze.PuttingLast p) = omega arith
-squeeze_most (squeeze.Retiring at decision) = omega arith
-squeeze_most (squeeze.OpeningRight at decision) = omega arith
-squeeze_most (squeeze.OpeningLeft at decision) = omega arith
-squeeze_most (squeeze.OpeningParent x decision) = omega arith
+compression_most : (c : Compression) → compression_hold c < 11
+compression_most (compression.LatchingLeft f) = omega arith
+compression_most (compression.LatchedLeft f) = omega arith
+compression_most (compression.LatchingRight f c) = omega arith
+compression_most (compression.LatchedRight f c) = omega arith
+compression_most (compression.PuttingFirst p) = omega arith
+compression_most (compression.PuttingParent p) = omega arith
+compression_most (compression.PuttingLast p) = omega arith
+compression_most (compression.Retiring at decision) = omega arith
+compression_most (compression.OpeningRight at decision) = omega arith
+compression_most (compression.OpeningLeft at decision) = omega arith
+compression_most (compression.OpeningParent x decision) = omega arith
 
 lowering_most : (l : Lowering) → lowering_turns l < 11
 lowering_most lowering.Looking = omega arith
@@ -152,10 +152,10 @@ module _ (w : World Run) (g : IsGood know w) (p : Name) where
   post_few carried level key least low got child (post.Ending r) h is = record { turns = 1; left = refl; few = omega arith }
   post_few carried level key least low got child (post.Over r) h is = record { turns = 0; left = refl; few = omega arith }
 
-  compress_few : (level key : ℕ) → level ≤ 12 → (got : ℕ → Page) (a : CompressStage) → IsPressing a → know (w.proc p) ≡ know_compress level key got a → Few (compress_left w.size w.now.contents key a) most
+  compress_few : (level key : ℕ) → level ≤ 12 → (got : ℕ → Page) (a : CompressStage) → IsCompressing a → know (w.proc p) ≡ know_compress level key got a → Few (compress_left w.size w.now.contents key a) most
   compress_few level key low got compress.New h is = record { turns = most; left = refl; few = omega arith }
   compress_few level key low got (compress.Coming a) h is = way_few (unsaid []) level key 16 low (omega arith) a is
-  compress_few level key low got (compress.Compressing c) h is = record { turns = squeeze_hold c + 1; left = (h, refl); few = (let few = squeeze_most c in omega (arith, few)) }
+  compress_few level key low got (compress.Compressing c) h is = record { turns = compression_hold c + 1; left = (h, refl); few = (let few = compression_most c in omega (arith, few)) }
   compress_few level key low got (compress.Staying x) h is = record { turns = 2; left = refl; few = omega arith }
   compress_few level key low got (compress.Ending r) h is = record { turns = 1; left = refl; few = omega arith }
   compress_few level key low got (compress.Over r) h is = record { turns = 0; left = refl; few = omega arith }

@@ -1,24 +1,24 @@
 -- No process has many puts to do.
 use Rattle.std.proofs.Common.{◌≤◌, arith}
-use Rattle.bl_proc_base.specs.declared.growing.Growth.{Growth}
-use Rattle.bl_proc_base.specs.declared.growing.Growth.TheVariants as growth
-use Rattle.bl_proc_base.specs.declared.lowering.Lowering.{Lowering}
-use Rattle.bl_proc_base.specs.declared.lowering.Lowering.TheVariants as lowering
-use Rattle.bl_proc_compress.specs.declared.compressing.Compression.{Compression}
-use Rattle.bl_proc_compress.specs.declared.compressing.Compression.TheVariants as squeeze
-use Rattle.bl_proc_compress.specs.declared.squeezing.CompressStage.{CompressStage}
-use Rattle.bl_proc_compress.specs.declared.squeezing.CompressStage.TheVariants as compress
+use Rattle.bl_proc_steps.specs.declared.growth.Growth.{Growth}
+use Rattle.bl_proc_steps.specs.declared.growth.Growth.TheVariants as growth
+use Rattle.bl_proc_steps.specs.declared.lowering.Lowering.{Lowering}
+use Rattle.bl_proc_steps.specs.declared.lowering.Lowering.TheVariants as lowering
+use Rattle.bl_proc_compress.specs.declared.compression.Compression.{Compression}
+use Rattle.bl_proc_compress.specs.declared.compression.Compression.TheVariants as compression
+use Rattle.bl_proc_compress.specs.declared.compress.CompressStage.{CompressStage}
+use Rattle.bl_proc_compress.specs.declared.compress.CompressStage.TheVariants as compress
 use Rattle.bl_proc_writes.specs.declared.writing.WriteStage.{WriteStage}
 use Rattle.bl_proc_writes.specs.declared.writing.WriteStage.TheVariants as write
-use Rattle.bl_proc_writes.specs.declared.posting.PostStage.{PostStage}
-use Rattle.bl_proc_writes.specs.declared.posting.PostStage.TheVariants as post
-use Rattle.bl_proc_writes.specs.declared.climbing.ClimbStage.{ClimbStage}
-use Rattle.bl_proc_writes.specs.declared.climbing.ClimbStage.TheVariants as climb
+use Rattle.bl_proc_writes.specs.declared.post.PostStage.{PostStage}
+use Rattle.bl_proc_writes.specs.declared.post.PostStage.TheVariants as post
+use Rattle.bl_proc_writes.specs.declared.insert_post.ClimbStage.{ClimbStage}
+use Rattle.bl_proc_writes.specs.declared.insert_post.ClimbStage.TheVariants as climb
 use Rattle.bl_proc.specs.declared.lowering.LowerStage.{LowerStage}
 use Rattle.bl_proc.specs.declared.lowering.LowerStage.TheVariants as lower
 use Rattle.bl_proc.specs.declared.kinds.Proc.{Proc}
 use Rattle.bl_proc.specs.declared.kinds.Proc.TheVariants as proc
-use Rattle.bl_proc_ends.specs.Budget.{growth_puts, lowering_puts, squeeze_puts, write_puts, post_puts, compress_puts, lower_puts, climb_puts, puts_of}
+use Rattle.bl_proc_ends.specs.Budget.{growth_puts, lowering_puts, compression_puts, write_puts, post_puts, compress_puts, lower_puts, climb_puts, puts_of}
 use Rattle.bl_proc_ends.proofs.Spending.{edit_two, decision_three}
 
 growth_two : (g : Growth) → growth_puts g ≤ 2
@@ -43,18 +43,18 @@ lowering_four (lowering.Retiring x) = omega arith
 lowering_four (lowering.OpeningTop x what) = omega arith
 lowering_four (lowering.OpeningAnchor what) = omega arith
 
-squeeze_six : (c : Compression) → squeeze_puts c ≤ 6
-squeeze_six (squeeze.LatchingLeft f) = omega arith
-squeeze_six (squeeze.LatchedLeft f) = omega arith
-squeeze_six (squeeze.LatchingRight f c) = omega arith
-squeeze_six (squeeze.LatchedRight f c) = omega arith
-squeeze_six (squeeze.PuttingFirst p) = (let few = decision_three p.decision in omega (arith, few))
-squeeze_six (squeeze.PuttingParent p) = (let few = decision_three p.decision in omega (arith, few))
-squeeze_six (squeeze.PuttingLast p) = (let few = decision_three p.decision in omega (arith, few))
-squeeze_six (squeeze.Retiring at what) = (let few = decision_three what in omega (arith, few))
-squeeze_six (squeeze.OpeningRight at what) = (let few = decision_three what in omega (arith, few))
-squeeze_six (squeeze.OpeningLeft at what) = (let few = decision_three what in omega (arith, few))
-squeeze_six (squeeze.OpeningParent x what) = (let few = decision_three what in omega (arith, few))
+compression_six : (c : Compression) → compression_puts c ≤ 6
+compression_six (compression.LatchingLeft f) = omega arith
+compression_six (compression.LatchedLeft f) = omega arith
+compression_six (compression.LatchingRight f c) = omega arith
+compression_six (compression.LatchedRight f c) = omega arith
+compression_six (compression.PuttingFirst p) = (let few = decision_three p.decision in omega (arith, few))
+compression_six (compression.PuttingParent p) = (let few = decision_three p.decision in omega (arith, few))
+compression_six (compression.PuttingLast p) = (let few = decision_three p.decision in omega (arith, few))
+compression_six (compression.Retiring at what) = (let few = decision_three what in omega (arith, few))
+compression_six (compression.OpeningRight at what) = (let few = decision_three what in omega (arith, few))
+compression_six (compression.OpeningLeft at what) = (let few = decision_three what in omega (arith, few))
+compression_six (compression.OpeningParent x what) = (let few = decision_three what in omega (arith, few))
 
 write_two : (a : WriteStage) → write_puts a ≤ 2
 write_two write.New = omega arith
@@ -77,7 +77,7 @@ post_two (post.Over r) = omega arith
 compress_six : (a : CompressStage) → compress_puts a ≤ 6
 compress_six compress.New = omega arith
 compress_six (compress.Coming a) = omega arith
-compress_six (compress.Compressing c) = squeeze_six c
+compress_six (compress.Compressing c) = compression_six c
 compress_six (compress.Staying x) = omega arith
 compress_six (compress.Ending r) = omega arith
 compress_six (compress.Over r) = omega arith

@@ -1,5 +1,5 @@
 pub mod Plain
-pub mod Squeezes
+pub mod CompressionEnds
 pub mod Posts
 pub mod Climbs
 pub mod Turning

@@ -2,22 +2,22 @@
 use Rattle.std.proofs.Common.{ℕ, ◌≡◌, true, sym, ◌∙◌, refl, subst}
 use Rattle.bl_page.specs.declared.page.Page.{Page}
 use Rattle.bl_page.specs.Machine.{Name}
-use Rattle.bl_core.specs.Worlds.{World, IsGood}
-use Rattle.bl_proc_base.specs.declared.acts.Seen.{Seen}
-use Rattle.bl_proc_writes.specs.declared.posting.PostStage.{PostStage}
+use Rattle.bl_tree_worlds.specs.Worlds.{World, IsGood}
+use Rattle.bl_proc_steps.specs.declared.acts.Seen.{Seen}
+use Rattle.bl_proc_writes.specs.declared.post.PostStage.{PostStage}
 use Rattle.bl_proc_writes.specs.declared.paths.Path.{Path}
-use Rattle.bl_proc_writes.specs.declared.climbing.ClimbStage.{ClimbStage}
+use Rattle.bl_proc_writes.specs.declared.insert_post.ClimbStage.{ClimbStage}
 use Rattle.bl_proc_compress.specs.Compresses.{CompressGoes}
 use Rattle.bl_proc.specs.declared.kinds.Proc.{Proc}
 use Rattle.bl_proc.specs.declared.kinds.Proc.TheVariants as proc
 use Rattle.bl_proc.specs.Processes.{next_of, Takes}
-use Rattle.bl_proc_unique.proofs.KindCases.{PostCase, post_case, compress_case, ClimbCase, climb_case}
-use Rattle.bl_proc_unique.proofs.KindCases.PostCase.{Began as PostBegan, NoLevel as PostNoLevel, Tallest as PostTallest, ToGrow as PostToGrow, Came as PostCame, Listed as PostListed, ToWalk as PostToWalk, Grew as PostGrew, Grown as PostGrown, NoRoom as PostNoRoom, Walked as PostWalked, Entered as PostEntered, Stale as PostStale, Lost as PostLost, Edited as PostEdited, Finished as PostFinished, Opened as PostOpened, Ended as PostEnded}
-use Rattle.bl_proc_unique.proofs.KindCases.ClimbCase.{Wrote as ClimbWrote, Split as ClimbSplit, Unsplit as ClimbUnsplit, Posted as ClimbPosted, Higher as ClimbHigher, Finished as ClimbFinished, Ended as ClimbEnded}
+use Rattle.bl_proc_deterministic.proofs.KindCases.{PostCase, post_case, compress_case, ClimbCase, climb_case}
+use Rattle.bl_proc_deterministic.proofs.KindCases.PostCase.{Began as PostBegan, NoLevel as PostNoLevel, Tallest as PostTallest, ToGrow as PostToGrow, Came as PostCame, Listed as PostListed, ToWalk as PostToWalk, Grew as PostGrew, Grown as PostGrown, NoRoom as PostNoRoom, Walked as PostWalked, Entered as PostEntered, Stale as PostStale, Lost as PostLost, Edited as PostEdited, Finished as PostFinished, Opened as PostOpened, Ended as PostEnded}
+use Rattle.bl_proc_deterministic.proofs.KindCases.ClimbCase.{Wrote as ClimbWrote, Split as ClimbSplit, Unsplit as ClimbUnsplit, Posted as ClimbPosted, Higher as ClimbHigher, Finished as ClimbFinished, Ended as ClimbEnded}
 use Rattle.bl_proc_invariant.specs.Turns.{IsObserved}
 use Rattle.bl_proc_invariant.specs.Knowing.{Run, know_of, know}
 use Rattle.bl_proc_ends.specs.Left.{IsStaying, IsClimbing, IsMeant}
-use Rattle.bl_proc_ends.proofs.Squeezes.{compress_found}
+use Rattle.bl_proc_ends.proofs.CompressionEnds.{compress_found}
 
 pub post_kept : {level key : ℕ} {a b : PostStage} {what : Seen} → PostCase level key a what b → IsStaying b
 post_kept (PostBegan a e) = tt

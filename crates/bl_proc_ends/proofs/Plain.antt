@@ -4,23 +4,23 @@ use Rattle.bl_model.specs.declared.deciding.KeyWrite.{KeyWrite}
 use Rattle.bl_page.specs.declared.page.Page.{Page}
 use Rattle.bl_page.specs.Machine.{Name}
 use Rattle.bl_page.specs.Nodes.{unbounded, roots_of}
-use Rattle.bl_core.specs.Worlds.{Know, World, IsSure, IsGood}
-use Rattle.bl_proc_base.specs.declared.acts.Action.TheVariants as act
-use Rattle.bl_proc_base.specs.declared.acts.Seen.{Seen}
-use Rattle.bl_proc_base.specs.declared.acts.Seen.TheVariants as seen
-use Rattle.bl_proc_base.specs.declared.approaching.Approach.{Approach}
-use Rattle.bl_proc_base.specs.declared.approaching.Approach.TheVariants as way
-use Rattle.bl_proc_base.specs.declared.approaching.Approached.TheVariants as came
-use Rattle.bl_proc_base.specs.declared.descent.Descent.{Descent}
-use Rattle.bl_proc_base.specs.declared.descent.Descent.TheVariants.{AtAnchor}
-use Rattle.bl_proc_base.specs.declared.descent.Descended.TheVariants as descended
-use Rattle.bl_proc_base.specs.declared.editing.Edited.TheVariants as changed
-use Rattle.bl_proc_base.specs.declared.lowering.Lowering.{Lowering}
-use Rattle.bl_proc_base.specs.declared.lowering.Lowering.TheVariants as lowering
-use Rattle.bl_proc_base.specs.declared.lowering.Sank.TheVariants as sank
-use Rattle.bl_proc_base.specs.Approaches.{approach_next, HasLevel, Approaches}
-use Rattle.bl_proc_base.specs.Descents.{descent_page, Descends}
-use Rattle.bl_proc_base.specs.Lowerings.{Lowers}
+use Rattle.bl_tree_worlds.specs.Worlds.{Know, World, IsSure, IsGood}
+use Rattle.bl_proc_steps.specs.declared.acts.Action.TheVariants as act
+use Rattle.bl_proc_steps.specs.declared.acts.Seen.{Seen}
+use Rattle.bl_proc_steps.specs.declared.acts.Seen.TheVariants as seen
+use Rattle.bl_proc_steps.specs.declared.approach.Approach.{Approach}
+use Rattle.bl_proc_steps.specs.declared.approach.Approach.TheVariants as way
+use Rattle.bl_proc_steps.specs.declared.approach.Approached.TheVariants as came
+use Rattle.bl_proc_steps.specs.declared.descent.Descent.{Descent}
+use Rattle.bl_proc_steps.specs.declared.descent.Descent.TheVariants.{AtAnchor}
+use Rattle.bl_proc_steps.specs.declared.descent.Descended.TheVariants as descended
+use Rattle.bl_proc_steps.specs.declared.edit.Edited.TheVariants as changed
+use Rattle.bl_proc_steps.specs.declared.lowering.Lowering.{Lowering}
+use Rattle.bl_proc_steps.specs.declared.lowering.Lowering.TheVariants as lowering
+use Rattle.bl_proc_steps.specs.declared.lowering.Sank.TheVariants as sank
+use Rattle.bl_proc_steps.specs.Approaches.{approach_next, HasLevel, Approaches}
+use Rattle.bl_proc_steps.specs.Descents.{descent_page, Descends}
+use Rattle.bl_proc_steps.specs.Lowerings.{Lowers}
 use Rattle.bl_proc.specs.declared.searching.FindStage.{FindStage}
 use Rattle.bl_proc.specs.declared.searching.FindStage.TheVariants as find
 use Rattle.bl_proc.specs.declared.parts.PartStage.{PartStage}
@@ -32,14 +32,14 @@ use Rattle.bl_proc.specs.Parts.{part_next_in, way_by}
 use Rattle.bl_proc_writes.specs.declared.writing.WriteStage.{WriteStage}
 use Rattle.bl_proc_writes.specs.declared.writing.WriteStage.TheVariants as write
 use Rattle.bl_proc_writes.specs.Writes.{write_next_in}
-use Rattle.bl_proc_unique.proofs.WayCases.{edit_case}
-use Rattle.bl_proc_unique.proofs.KindCases.{FindCase, PartCase, WriteCase, LowerCase}
-use Rattle.bl_proc_unique.proofs.KindCases.FindCase.{Began as FindBegan, BeganNear as FindBeganNear, Ended as FindEnded, Found as FindFound, Looked as FindLooked, Went as FindWent}
-use Rattle.bl_proc_unique.proofs.KindCases.PartCase.{Began as PartBegan, BeganNear as PartBeganNear, Ended as PartEnded, Listed as PartListed, Looked as PartLooked, Went as PartWent}
-use Rattle.bl_proc_unique.proofs.KindCases.WriteCase.{Began as WriteBegan, Came as WriteCame, Changed as WriteChanged, Edited as WriteEdited, Ended as WriteEnded, Finished as WriteFinished, Kept as WriteKept, Opened as WriteOpened}
-use Rattle.bl_proc_unique.proofs.KindCases.LowerCase.{Began as LowerBegan, Ended as LowerEnded, Finished as LowerFinished, Sank as LowerSank}
+use Rattle.bl_proc_deterministic.proofs.WayCases.{edit_case}
+use Rattle.bl_proc_deterministic.proofs.KindCases.{FindCase, PartCase, WriteCase, LowerCase}
+use Rattle.bl_proc_deterministic.proofs.KindCases.FindCase.{Began as FindBegan, BeganNear as FindBeganNear, Ended as FindEnded, Found as FindFound, Looked as FindLooked, Went as FindWent}
+use Rattle.bl_proc_deterministic.proofs.KindCases.PartCase.{Began as PartBegan, BeganNear as PartBeganNear, Ended as PartEnded, Listed as PartListed, Looked as PartLooked, Went as PartWent}
+use Rattle.bl_proc_deterministic.proofs.KindCases.WriteCase.{Began as WriteBegan, Came as WriteCame, Changed as WriteChanged, Edited as WriteEdited, Ended as WriteEnded, Finished as WriteFinished, Kept as WriteKept, Opened as WriteOpened}
+use Rattle.bl_proc_deterministic.proofs.KindCases.LowerCase.{Began as LowerBegan, Ended as LowerEnded, Finished as LowerFinished, Sank as LowerSank}
 use Rattle.bl_proc_invariant.specs.Tables.{Carried, unsaid, know_approach}
-use Rattle.bl_core.specs.Worlds.{Goes}
+use Rattle.bl_tree_worlds.specs.Worlds.{Goes}
 use Rattle.bl_proc_invariant.specs.Turns.{IsObserved}
 use Rattle.bl_proc_invariant.specs.Knowing.{Run, know_find, know_part, know_write, know}
 use Rattle.bl_proc_bounds.proofs.Ahead.{ahead_on, ahead_some}

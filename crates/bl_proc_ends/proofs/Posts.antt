@@ -5,33 +5,33 @@ use Rattle.bl_page.specs.declared.page.Page.TheVariants.{Anchor, Leaf, Inner, De
 use Rattle.bl_page.specs.declared.page.Inner.{Inner as InnerPage}
 use Rattle.bl_page.specs.Machine.{Name}
 use Rattle.bl_page.specs.Nodes.{node_of, roots_of, IsChildOf}
-use Rattle.bl_core.specs.Worlds.{World, nodes, IsGood}
-use Rattle.bl_proc_base.specs.declared.acts.Seen.{Seen}
-use Rattle.bl_proc_base.specs.declared.acts.Seen.TheVariants as seen
-use Rattle.bl_proc_base.specs.declared.acts.Action.TheVariants as act
-use Rattle.bl_proc_base.specs.declared.approaching.Approach.{Approach}
-use Rattle.bl_proc_base.specs.declared.approaching.Approach.TheVariants as way
-use Rattle.bl_proc_base.specs.declared.approaching.Approached.TheVariants as approached
-use Rattle.bl_proc_base.specs.declared.approaching.Came.{Came}
-use Rattle.bl_proc_base.specs.declared.approaching.Came.TheVariants as come
-use Rattle.bl_proc_base.specs.declared.descent.Descent.TheVariants.{AtAnchor, At}
-use Rattle.bl_proc_base.specs.declared.editing.Edited.TheVariants as changed
-use Rattle.bl_proc_base.specs.declared.growing.Growth.{Growth}
-use Rattle.bl_proc_base.specs.declared.growing.Growth.TheVariants as growth
-use Rattle.bl_proc_base.specs.declared.growing.Grew.TheVariants as grew
-use Rattle.bl_proc_base.specs.Approaches.{approach_next, Approaches, CountsLevels, Comes}
-use Rattle.bl_proc_base.specs.Growths.{growth_next, Grows}
-use Rattle.bl_proc_pages.specs.declared.onwards.Step.{Step}
-use Rattle.bl_proc_pages.specs.declared.onwards.Step.TheVariants.{Again, Right, Down, Here}
-use Rattle.bl_proc_pages.specs.Onwards.{Leads}
-use Rattle.bl_proc_writes.specs.declared.posting.PostStage.{PostStage}
-use Rattle.bl_proc_writes.specs.declared.posting.PostStage.TheVariants as post
-use Rattle.bl_proc_writes.specs.declared.posting.PostReply.TheVariants as listed
+use Rattle.bl_tree_worlds.specs.Worlds.{World, nodes, IsGood}
+use Rattle.bl_proc_steps.specs.declared.acts.Seen.{Seen}
+use Rattle.bl_proc_steps.specs.declared.acts.Seen.TheVariants as seen
+use Rattle.bl_proc_steps.specs.declared.acts.Action.TheVariants as act
+use Rattle.bl_proc_steps.specs.declared.approach.Approach.{Approach}
+use Rattle.bl_proc_steps.specs.declared.approach.Approach.TheVariants as way
+use Rattle.bl_proc_steps.specs.declared.approach.Approached.TheVariants as approached
+use Rattle.bl_proc_steps.specs.declared.approach.Came.{Came}
+use Rattle.bl_proc_steps.specs.declared.approach.Came.TheVariants as come
+use Rattle.bl_proc_steps.specs.declared.descent.Descent.TheVariants.{AtAnchor, At}
+use Rattle.bl_proc_steps.specs.declared.edit.Edited.TheVariants as changed
+use Rattle.bl_proc_steps.specs.declared.growth.Growth.{Growth}
+use Rattle.bl_proc_steps.specs.declared.growth.Growth.TheVariants as growth
+use Rattle.bl_proc_steps.specs.declared.growth.Grew.TheVariants as grew
+use Rattle.bl_proc_steps.specs.Approaches.{approach_next, Approaches, CountsLevels, Comes}
+use Rattle.bl_proc_steps.specs.Growths.{growth_next, Grows}
+use Rattle.bl_proc_routes.specs.declared.routes.Step.{Step}
+use Rattle.bl_proc_routes.specs.declared.routes.Step.TheVariants.{Again, Right, Down, Here}
+use Rattle.bl_proc_routes.specs.Routes.{Leads}
+use Rattle.bl_proc_writes.specs.declared.post.PostStage.{PostStage}
+use Rattle.bl_proc_writes.specs.declared.post.PostStage.TheVariants as post
+use Rattle.bl_proc_writes.specs.declared.post.PostReply.TheVariants as listed
 use Rattle.bl_proc_writes.specs.declared.walking.Walk.{Walk}
 use Rattle.bl_proc_writes.specs.Posts.{post_next_in, PostLacks, PostArrives, PostWalks, PostComes, PostGoes, IsLost}
-use Rattle.bl_proc_unique.proofs.WayCases.{ApproachCase, approach_case, edit_case, GrowthCase, growth_case}
-use Rattle.bl_proc_unique.proofs.WayCases.GrowthCase.{OpenedGrown as GrowthOpenedGrown, OpenedRefused as GrowthOpenedRefused}
-use Rattle.bl_proc_unique.proofs.WayCases.ApproachCase.{Arrived as ApproachArrived}
+use Rattle.bl_proc_deterministic.proofs.WayCases.{ApproachCase, approach_case, edit_case, GrowthCase, growth_case}
+use Rattle.bl_proc_deterministic.proofs.WayCases.GrowthCase.{OpenedGrown as GrowthOpenedGrown, OpenedRefused as GrowthOpenedRefused}
+use Rattle.bl_proc_deterministic.proofs.WayCases.ApproachCase.{Arrived as ApproachArrived}
 use Rattle.bl_proc_invariant.specs.Tables.{Carried, know_approach}
 use Rattle.bl_proc_invariant.specs.Turns.{IsObserved}
 use Rattle.bl_proc_invariant.specs.Knowing.{Run, know_post, know}

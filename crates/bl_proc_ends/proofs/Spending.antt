@@ -2,41 +2,41 @@
 use Rattle.std.proofs.Common.{ℕ, ◌≡◌, ◌≢◌, ◌⊎◌, ◌+◌, ◌-◌, ◌*◌, ◌<◌, ◌≤◌, Bool, Option, None, Some, arith, ap, sym, ◌∙◌, refl, inl, inr, subst}
 use Rattle.bl_model.specs.declared.deciding.KeyWrite.{KeyWrite}
 use Rattle.bl_page.specs.declared.page.Page.{Page}
-use Rattle.bl_proc_base.specs.declared.acts.Action.{Action}
-use Rattle.bl_proc_base.specs.declared.acts.Action.TheVariants as act
-use Rattle.bl_proc_base.specs.declared.acts.Seen.{Seen}
-use Rattle.bl_proc_base.specs.declared.acts.Seen.TheVariants as seen
-use Rattle.bl_proc_base.specs.declared.answers.Hint.TheVariants as hint
-use Rattle.bl_proc_base.specs.declared.approaching.Approach.{Approach}
-use Rattle.bl_proc_base.specs.declared.approaching.Approach.TheVariants as way
-use Rattle.bl_proc_base.specs.declared.editing.Edit.{Edit}
-use Rattle.bl_proc_base.specs.declared.editing.Edit.TheVariants as edit
-use Rattle.bl_proc_base.specs.declared.editing.Edited.TheVariants as changed
-use Rattle.bl_proc_base.specs.declared.editing.Outcome.{Outcome}
-use Rattle.bl_proc_base.specs.declared.editing.Outcome.TheVariants as outcome
-use Rattle.bl_proc_base.specs.declared.growing.Growth.{Growth}
-use Rattle.bl_proc_base.specs.declared.growing.Growth.TheVariants as growth
-use Rattle.bl_proc_base.specs.declared.growing.Grew.TheVariants as grew
-use Rattle.bl_proc_base.specs.declared.lowering.Lowering.{Lowering}
-use Rattle.bl_proc_base.specs.declared.lowering.Lowering.TheVariants as lowering
-use Rattle.bl_proc_base.specs.declared.lowering.Sank.TheVariants as sank
-use Rattle.bl_proc_base.specs.Approaches.{approach_next}
-use Rattle.bl_proc_base.specs.Edits.{edit_next, Changes}
-use Rattle.bl_proc_base.specs.Growths.{growth_next, Grows}
+use Rattle.bl_proc_steps.specs.declared.acts.Action.{Action}
+use Rattle.bl_proc_steps.specs.declared.acts.Action.TheVariants as act
+use Rattle.bl_proc_steps.specs.declared.acts.Seen.{Seen}
+use Rattle.bl_proc_steps.specs.declared.acts.Seen.TheVariants as seen
+use Rattle.bl_proc_steps.specs.declared.answers.Hint.TheVariants as hint
+use Rattle.bl_proc_steps.specs.declared.approach.Approach.{Approach}
+use Rattle.bl_proc_steps.specs.declared.approach.Approach.TheVariants as way
+use Rattle.bl_proc_steps.specs.declared.edit.Edit.{Edit}
+use Rattle.bl_proc_steps.specs.declared.edit.Edit.TheVariants as edit
+use Rattle.bl_proc_steps.specs.declared.edit.Edited.TheVariants as changed
+use Rattle.bl_proc_steps.specs.declared.edit.Outcome.{Outcome}
+use Rattle.bl_proc_steps.specs.declared.edit.Outcome.TheVariants as outcome
+use Rattle.bl_proc_steps.specs.declared.growth.Growth.{Growth}
+use Rattle.bl_proc_steps.specs.declared.growth.Growth.TheVariants as growth
+use Rattle.bl_proc_steps.specs.declared.growth.Grew.TheVariants as grew
+use Rattle.bl_proc_steps.specs.declared.lowering.Lowering.{Lowering}
+use Rattle.bl_proc_steps.specs.declared.lowering.Lowering.TheVariants as lowering
+use Rattle.bl_proc_steps.specs.declared.lowering.Sank.TheVariants as sank
+use Rattle.bl_proc_steps.specs.Approaches.{approach_next}
+use Rattle.bl_proc_steps.specs.Edits.{edit_next, Changes}
+use Rattle.bl_proc_steps.specs.Growths.{growth_next, Grows}
 use Rattle.bl_page.specs.declared.page.Page.TheVariants.{Inner as InnerPage}
-use Rattle.bl_proc_writes.specs.declared.posting.PostStage.{PostStage}
-use Rattle.bl_proc_writes.specs.declared.posting.PostStage.TheVariants as post
+use Rattle.bl_proc_writes.specs.declared.post.PostStage.{PostStage}
+use Rattle.bl_proc_writes.specs.declared.post.PostStage.TheVariants as post
 use Rattle.bl_proc_writes.specs.Posts.{post_next_in}
-use Rattle.bl_proc_base.specs.Lowerings.{lowering_next, Lowers}
-use Rattle.bl_proc_base.specs.declared.lowering.Lowered.{Lowered}
-use Rattle.bl_proc_compress.specs.declared.compressing.Family.{Family}
-use Rattle.bl_proc_compress.specs.declared.compressing.Siblings.{Siblings}
-use Rattle.bl_proc_compress.specs.declared.compressing.Decision.{Decision}
-use Rattle.bl_proc_compress.specs.declared.compressing.Decision.TheVariants as decision
-use Rattle.bl_proc_compress.specs.declared.compressing.Compression.{Compression}
-use Rattle.bl_proc_compress.specs.declared.compressing.Compression.TheVariants as squeeze
-use Rattle.bl_proc_compress.specs.declared.compressing.Compressed.TheVariants as step
-use Rattle.bl_proc_compress.specs.declared.squeezing.CompressStage.{CompressStage}
+use Rattle.bl_proc_steps.specs.Lowerings.{lowering_next, Lowers}
+use Rattle.bl_proc_steps.specs.declared.lowering.Lowered.{Lowered}
+use Rattle.bl_proc_compress.specs.declared.compression.Family.{Family}
+use Rattle.bl_proc_compress.specs.declared.compression.Siblings.{Siblings}
+use Rattle.bl_proc_compress.specs.declared.compression.Decision.{Decision}
+use Rattle.bl_proc_compress.specs.declared.compression.Decision.TheVariants as decision
+use Rattle.bl_proc_compress.specs.declared.compression.Compression.{Compression}
+use Rattle.bl_proc_compress.specs.declared.compression.Compression.TheVariants as compression
+use Rattle.bl_proc_compress.specs.declared.compression.Compressed.TheVariants as step
+use Rattle.bl_proc_compress.specs.declared.compress.CompressStage.{CompressStage}
 use Rattle.bl_proc_compress.specs.Compressions.{put_of, other, compression_next, Links, Decides, after_puts, Compresses}
 use Rattle.bl_proc_compress.specs.Compresses.{compress_reply, compress_next_in}
 use Rattle.bl_proc.specs.declared.searching.FindStage.{FindStage}
@@ -55,27 +55,27 @@ use Rattle.bl_proc.specs.declared.kinds.Proc.TheVariants as proc
 use Rattle.bl_proc.specs.Processes.{next_of, Takes}
 use Rattle.bl_proc_writes.specs.declared.writing.Noted.{Noted}
 use Rattle.bl_proc_writes.specs.declared.writing.WriteReply.TheVariants as written
-use Rattle.bl_proc_writes.specs.declared.posting.PostReply.{PostReply}
+use Rattle.bl_proc_writes.specs.declared.post.PostReply.{PostReply}
 use Rattle.bl_proc_writes.specs.declared.paths.Path.{Path}
-use Rattle.bl_proc_writes.specs.declared.climbing.ClimbStage.{ClimbStage}
-use Rattle.bl_proc_writes.specs.Climbs.{climb_next_in}
+use Rattle.bl_proc_writes.specs.declared.insert_post.ClimbStage.{ClimbStage}
+use Rattle.bl_proc_writes.specs.InsertPosts.{climb_next_in}
 use Rattle.bl_proc_writes.specs.Writes.{write_reply}
 use Rattle.bl_proc_ends.proofs.Climbs.{not_thin}
 use Rattle.bl_proc_writes.specs.declared.writing.WriteStage.{WriteStage}
 use Rattle.bl_proc_writes.specs.declared.writing.WriteStage.TheVariants as write
 use Rattle.bl_proc_writes.specs.Writes.{write_next_in}
-use Rattle.bl_proc_base.specs.declared.growing.Raising.{Raising}
-use Rattle.bl_proc_unique.proofs.WayCases.{EditCase, edit_case, GrowthCase, growth_case, SqueezeCase, squeeze_case}
-use Rattle.bl_proc_unique.proofs.WayCases.GrowthCase.{LatchedAnchor as GrowthLatchedAnchor, Missed as GrowthMissed, Rises as GrowthRises, Stands as GrowthStands, TookTop as GrowthTookTop, TopRefused as GrowthTopRefused, PutTop as GrowthPutTop, PutAnchor as GrowthPutAnchor, OpenedTop as GrowthOpenedTop, OpenedGrown as GrowthOpenedGrown, OpenedRefused as GrowthOpenedRefused}
-use Rattle.bl_proc_unique.proofs.WayCases.EditCase.{Put as EditPut, PutRefused as EditPutRefused, Took as EditTook, TakeRefused as EditTakeRefused, PutNew as EditPutNew, PutOld as EditPutOld, OpenedNew as EditOpenedNew, Opened as EditOpened}
-use Rattle.bl_proc_unique.proofs.KindCases.{WriteCase, write_case, PostCase, post_case, CompressCase, compress_case, LowerCase, lower_case, ClimbCase, climb_case}
-use Rattle.bl_proc_unique.proofs.WayCases.SqueezeCase.{LatchLeft as SqueezeLatchLeft, MissLeft as SqueezeMissLeft, LeaveLeft as SqueezeLeaveLeft, GotLeft as SqueezeGotLeft, LatchRight as SqueezeLatchRight, MissRight as SqueezeMissRight, LeaveRight as SqueezeLeaveRight, GotRight as SqueezeGotRight, PutFirst as SqueezePutFirst, FirstRefused as SqueezeFirstRefused, PutParent as SqueezePutParent, PutLast as SqueezePutLast, Retired as SqueezeRetired, OpenedRight as SqueezeOpenedRight, OpenedLeft as SqueezeOpenedLeft, OpenedParent as SqueezeOpenedParent}
-use Rattle.bl_proc_unique.proofs.KindCases.CompressCase.{Began as CompressBegan, NoLevel as CompressNoLevel, Came as CompressCame, Met as CompressMet, Single as CompressSingle, Squeezed as CompressSqueezed, Lost as CompressLost, Finished as CompressFinished, Opened as CompressOpened, Ended as CompressEnded}
-use Rattle.bl_proc_unique.proofs.KindCases.LowerCase.{Began as LowerBegan, Sank as LowerSank, Finished as LowerFinished, Ended as LowerEnded}
-use Rattle.bl_proc_unique.proofs.KindCases.ClimbCase.{Wrote as ClimbWrote, Split as ClimbSplit, Unsplit as ClimbUnsplit, Posted as ClimbPosted, Higher as ClimbHigher, Finished as ClimbFinished, Ended as ClimbEnded}
-use Rattle.bl_proc_unique.proofs.KindCases.PostCase.{Began as PostBegan, NoLevel as PostNoLevel, Tallest as PostTallest, ToGrow as PostToGrow, Came as PostCame, Listed as PostListed, ToWalk as PostToWalk, Grew as PostGrew, Grown as PostGrown, NoRoom as PostNoRoom, Walked as PostWalked, Entered as PostEntered, Stale as PostStale, Lost as PostLost, Edited as PostEdited, Finished as PostFinished, Opened as PostOpened, Ended as PostEnded}
-use Rattle.bl_proc_unique.proofs.KindCases.WriteCase.{Began as WriteBegan, Came as WriteCame, Kept as WriteKept, Changed as WriteChanged, Opened as WriteOpened, Edited as WriteEdited, Finished as WriteFinished, Ended as WriteEnded}
-use Rattle.bl_proc_ends.specs.Budget.{edit_puts, growth_puts, lowering_puts, decision_puts, squeeze_puts, write_puts, post_puts, compress_puts, lower_puts, climb_puts, puts_of, IsRaisingIn, IsRaisingUp, IsRaising}
+use Rattle.bl_proc_steps.specs.declared.growth.Raising.{Raising}
+use Rattle.bl_proc_deterministic.proofs.WayCases.{EditCase, edit_case, GrowthCase, growth_case, CompressionCase, compression_case}
+use Rattle.bl_proc_deterministic.proofs.WayCases.GrowthCase.{LatchedAnchor as GrowthLatchedAnchor, Missed as GrowthMissed, Rises as GrowthRises, Stands as GrowthStands, TookTop as GrowthTookTop, TopRefused as GrowthTopRefused, PutTop as GrowthPutTop, PutAnchor as GrowthPutAnchor, OpenedTop as GrowthOpenedTop, OpenedGrown as GrowthOpenedGrown, OpenedRefused as GrowthOpenedRefused}
+use Rattle.bl_proc_deterministic.proofs.WayCases.EditCase.{Put as EditPut, PutRefused as EditPutRefused, Took as EditTook, TakeRefused as EditTakeRefused, PutNew as EditPutNew, PutOld as EditPutOld, OpenedNew as EditOpenedNew, Opened as EditOpened}
+use Rattle.bl_proc_deterministic.proofs.KindCases.{WriteCase, write_case, PostCase, post_case, CompressCase, compress_case, LowerCase, lower_case, ClimbCase, climb_case}
+use Rattle.bl_proc_deterministic.proofs.WayCases.CompressionCase.{LatchLeft as CompressionLatchLeft, MissLeft as CompressionMissLeft, LeaveLeft as CompressionLeaveLeft, GotLeft as CompressionGotLeft, LatchRight as CompressionLatchRight, MissRight as CompressionMissRight, LeaveRight as CompressionLeaveRight, GotRight as CompressionGotRight, PutFirst as CompressionPutFirst, FirstRefused as CompressionFirstRefused, PutParent as CompressionPutParent, PutLast as CompressionPutLast, Retired as CompressionRetired, OpenedRight as CompressionOpenedRight, OpenedLeft as CompressionOpenedLeft, OpenedParent as CompressionOpenedParent}
+use Rattle.bl_proc_deterministic.proofs.KindCases.CompressCase.{Began as CompressBegan, NoLevel as CompressNoLevel, Came as CompressCame, Met as CompressMet, Single as CompressSingle, WentOn as CompressWentOn, Lost as CompressLost, Finished as CompressFinished, Opened as CompressOpened, Ended as CompressEnded}
+use Rattle.bl_proc_deterministic.proofs.KindCases.LowerCase.{Began as LowerBegan, Sank as LowerSank, Finished as LowerFinished, Ended as LowerEnded}
+use Rattle.bl_proc_deterministic.proofs.KindCases.ClimbCase.{Wrote as ClimbWrote, Split as ClimbSplit, Unsplit as ClimbUnsplit, Posted as ClimbPosted, Higher as ClimbHigher, Finished as ClimbFinished, Ended as ClimbEnded}
+use Rattle.bl_proc_deterministic.proofs.KindCases.PostCase.{Began as PostBegan, NoLevel as PostNoLevel, Tallest as PostTallest, ToGrow as PostToGrow, Came as PostCame, Listed as PostListed, ToWalk as PostToWalk, Grew as PostGrew, Grown as PostGrown, NoRoom as PostNoRoom, Walked as PostWalked, Entered as PostEntered, Stale as PostStale, Lost as PostLost, Edited as PostEdited, Finished as PostFinished, Opened as PostOpened, Ended as PostEnded}
+use Rattle.bl_proc_deterministic.proofs.KindCases.WriteCase.{Began as WriteBegan, Came as WriteCame, Kept as WriteKept, Changed as WriteChanged, Opened as WriteOpened, Edited as WriteEdited, Finished as WriteFinished, Ended as WriteEnded}
+use Rattle.bl_proc_ends.specs.Budget.{edit_puts, growth_puts, lowering_puts, decision_puts, compression_puts, write_puts, post_puts, compress_puts, lower_puts, climb_puts, puts_of, IsRaisingIn, IsRaisingUp, IsRaising}
 
 -- of two budgets, before and after a turn by which that was given
 pub record Spends (old : ℕ) (next : Action) (what : Seen) (new : ℕ) : Type 0 where
@@ -232,7 +232,7 @@ decision_three (decision.Unposted h) = omega arith
 decision_three decision.Refused = omega arith
 decision_three decision.Lost = omega arith
 
-after_is : (at : Siblings) (d : Decision) → squeeze_puts (after_puts at d) ≡ decision_puts d
+after_is : (at : Siblings) (d : Decision) → compression_puts (after_puts at d) ≡ decision_puts d
 after_is at (decision.Merged h) = refl
 after_is at decision.Evened = refl
 after_is at decision.Enough = refl
@@ -240,45 +240,45 @@ after_is at (decision.Unposted h) = refl
 after_is at decision.Refused = refl
 after_is at decision.Lost = refl
 
-links_puts : (f : Family) (c : Page) (new : Compression) → Links f c new → squeeze_puts new ≤ 3
-links_puts f c (squeeze.LatchingRight g page) t = omega arith
-links_puts f c (squeeze.OpeningLeft at d) t = decision_three d
+links_puts : (f : Family) (c : Page) (new : Compression) → Links f c new → compression_puts new ≤ 3
+links_puts f c (compression.LatchingRight g page) t = omega arith
+links_puts f c (compression.OpeningLeft at d) t = decision_three d
 links_puts f c old t = absurd t
 
-decides_puts : (f : Family) (c d : Page) (new : Compression) → Decides f c d new → squeeze_puts new ≤ 3
-decides_puts f c d (squeeze.PuttingFirst p) t = elim t [
+decides_puts : (f : Family) (c d : Page) (new : Compression) → Decides f c d new → compression_puts new ≤ 3
+decides_puts f c d (compression.PuttingFirst p) t = elim t [
   | inl m ↦ (let none : decision_puts p.decision ≡ 0 = ap decision_puts m.1.decision in omega (arith, none))
   | inr v ↦ (let none : decision_puts p.decision ≡ 0 = ap decision_puts v.decision in omega (arith, none))
 ]
-decides_puts f c d (squeeze.OpeningRight at e) t = decision_three e
+decides_puts f c d (compression.OpeningRight at e) t = decision_three e
 decides_puts f c d old t = absurd t
 
 latch_none : (x y : ℕ) (c : Page) → act.Latch x ≢ act.Put y c
 latch_none x y c e = cc
 
-squeeze_spends : {c d : Compression} {what : Seen} → SqueezeCase c what (step.On d) → Spends (squeeze_puts c) (compression_next c) what (squeeze_puts d)
-squeeze_spends (SqueezeLatchLeft f new e) = subst (λ v. Spends 3 (act.Latch f.at.left) seen.Done (squeeze_puts v)) (sym e) (keeps _ _ _ 3 (omega arith) (latch_none f.at.left))
-squeeze_spends (SqueezeMissLeft f new e) = subst (λ v. Spends 3 (act.Latch f.at.left) seen.Missed (squeeze_puts v)) (sym e) (keeps _ _ _ 3 (omega arith) (latch_none f.at.left))
-squeeze_spends (SqueezeLeaveLeft f new e) = subst (λ v. Spends 3 (act.Latch f.at.left) seen.Missed (squeeze_puts v)) (sym e) (keeps _ _ _ 3 (omega arith) (latch_none f.at.left))
-squeeze_spends (SqueezeGotLeft f c new t) = keeps 3 (act.Get f.at.left) (seen.Words c) (squeeze_puts new) (links_puts f c new t) (get_none f.at.left)
-squeeze_spends (SqueezeLatchRight f c new e) = subst (λ v. Spends 3 (act.Latch f.at.right) seen.Done (squeeze_puts v)) (sym e) (keeps _ _ _ 3 (omega arith) (latch_none f.at.right))
-squeeze_spends (SqueezeMissRight f c new e) = subst (λ v. Spends 3 (act.Latch f.at.right) seen.Missed (squeeze_puts v)) (sym e) (keeps _ _ _ 3 (omega arith) (latch_none f.at.right))
-squeeze_spends (SqueezeLeaveRight f c new e) = subst (λ v. Spends 3 (act.Latch f.at.right) seen.Missed (squeeze_puts v)) (sym e) (keeps _ _ _ 3 (omega arith) (latch_none f.at.right))
-squeeze_spends (SqueezeGotRight f c d new t) = keeps 3 (act.Get f.at.right) (seen.Words d) (squeeze_puts new) (decides_puts f c d new t) (get_none f.at.right)
-squeeze_spends (SqueezePutFirst p new e) = subst (λ v. Spends (3 + decision_puts p.decision) (put_of p.gains p) seen.Done (squeeze_puts v)) (sym e) (less _ _ _ (2 + decision_puts p.decision) (omega arith))
-squeeze_spends (SqueezeFirstRefused p new e) = subst (λ v. Spends (3 + decision_puts p.decision) (put_of p.gains p) seen.Refused (squeeze_puts v)) (sym e) (less _ _ _ 0 (omega arith))
-squeeze_spends (SqueezePutParent p new e) = subst (λ v. Spends (2 + decision_puts p.decision) (act.Put p.at.parent p.parent) seen.Done (squeeze_puts v)) (sym e) (less _ _ _ (1 + decision_puts p.decision) (omega arith))
-squeeze_spends (SqueezePutLast p new e) = subst (λ v. Spends (1 + decision_puts p.decision) (put_of (other p.gains) p) seen.Done (squeeze_puts v)) (sym e) (less _ _ _ (squeeze_puts (after_puts p.at p.decision)) (let same = after_is p.at p.decision in omega (arith, same)))
-squeeze_spends (SqueezeRetired at d new e) = subst (λ v. Spends (decision_puts d) (act.Retire at.right) seen.Done (squeeze_puts v)) (sym e) (keeps _ _ _ (decision_puts d) (omega arith) (λ x c i. cc))
-squeeze_spends (SqueezeOpenedRight at d new e) = subst (λ v. Spends (decision_puts d) (act.Open at.right) seen.Done (squeeze_puts v)) (sym e) (keeps _ _ _ (decision_puts d) (omega arith) (open_none at.right))
-squeeze_spends (SqueezeOpenedLeft at d new e) = subst (λ v. Spends (decision_puts d) (act.Open at.left) seen.Done (squeeze_puts v)) (sym e) (keeps _ _ _ (decision_puts d) (omega arith) (open_none at.left))
+compression_spends : {c d : Compression} {what : Seen} → CompressionCase c what (step.On d) → Spends (compression_puts c) (compression_next c) what (compression_puts d)
+compression_spends (CompressionLatchLeft f new e) = subst (λ v. Spends 3 (act.Latch f.at.left) seen.Done (compression_puts v)) (sym e) (keeps _ _ _ 3 (omega arith) (latch_none f.at.left))
+compression_spends (CompressionMissLeft f new e) = subst (λ v. Spends 3 (act.Latch f.at.left) seen.Missed (compression_puts v)) (sym e) (keeps _ _ _ 3 (omega arith) (latch_none f.at.left))
+compression_spends (CompressionLeaveLeft f new e) = subst (λ v. Spends 3 (act.Latch f.at.left) seen.Missed (compression_puts v)) (sym e) (keeps _ _ _ 3 (omega arith) (latch_none f.at.left))
+compression_spends (CompressionGotLeft f c new t) = keeps 3 (act.Get f.at.left) (seen.Words c) (compression_puts new) (links_puts f c new t) (get_none f.at.left)
+compression_spends (CompressionLatchRight f c new e) = subst (λ v. Spends 3 (act.Latch f.at.right) seen.Done (compression_puts v)) (sym e) (keeps _ _ _ 3 (omega arith) (latch_none f.at.right))
+compression_spends (CompressionMissRight f c new e) = subst (λ v. Spends 3 (act.Latch f.at.right) seen.Missed (compression_puts v)) (sym e) (keeps _ _ _ 3 (omega arith) (latch_none f.at.right))
+compression_spends (CompressionLeaveRight f c new e) = subst (λ v. Spends 3 (act.Latch f.at.right) seen.Missed (compression_puts v)) (sym e) (keeps _ _ _ 3 (omega arith) (latch_none f.at.right))
+compression_spends (CompressionGotRight f c d new t) = keeps 3 (act.Get f.at.right) (seen.Words d) (compression_puts new) (decides_puts f c d new t) (get_none f.at.right)
+compression_spends (CompressionPutFirst p new e) = subst (λ v. Spends (3 + decision_puts p.decision) (put_of p.gains p) seen.Done (compression_puts v)) (sym e) (less _ _ _ (2 + decision_puts p.decision) (omega arith))
+compression_spends (CompressionFirstRefused p new e) = subst (λ v. Spends (3 + decision_puts p.decision) (put_of p.gains p) seen.Refused (compression_puts v)) (sym e) (less _ _ _ 0 (omega arith))
+compression_spends (CompressionPutParent p new e) = subst (λ v. Spends (2 + decision_puts p.decision) (act.Put p.at.parent p.parent) seen.Done (compression_puts v)) (sym e) (less _ _ _ (1 + decision_puts p.decision) (omega arith))
+compression_spends (CompressionPutLast p new e) = subst (λ v. Spends (1 + decision_puts p.decision) (put_of (other p.gains) p) seen.Done (compression_puts v)) (sym e) (less _ _ _ (compression_puts (after_puts p.at p.decision)) (let same = after_is p.at p.decision in omega (arith, same)))
+compression_spends (CompressionRetired at d new e) = subst (λ v. Spends (decision_puts d) (act.Retire at.right) seen.Done (compression_puts v)) (sym e) (keeps _ _ _ (decision_puts d) (omega arith) (λ x c i. cc))
+compression_spends (CompressionOpenedRight at d new e) = subst (λ v. Spends (decision_puts d) (act.Open at.right) seen.Done (compression_puts v)) (sym e) (keeps _ _ _ (decision_puts d) (omega arith) (open_none at.right))
+compression_spends (CompressionOpenedLeft at d new e) = subst (λ v. Spends (decision_puts d) (act.Open at.left) seen.Done (compression_puts v)) (sym e) (keeps _ _ _ (decision_puts d) (omega arith) (open_none at.left))
 
 -- it is over when it opens the parent
-over_squeeze : (waits : Bool) (what : Seen) (c : Compression) (last : Decision) → Compresses waits c what (step.Over last) → (squeeze_puts c ≡ decision_puts last) × ((x : ℕ) (page : Page) → compression_next c ≢ act.Put x page)
-over_squeeze waits what c last t = by (squeeze_case waits c what (step.Over last) t)
+over_compression : (waits : Bool) (what : Seen) (c : Compression) (last : Decision) → Compresses waits c what (step.Over last) → (compression_puts c ≡ decision_puts last) × ((x : ℕ) (page : Page) → compression_next c ≢ act.Put x page)
+over_compression waits what c last t = by (compression_case waits c what (step.Over last) t)
   where
-    by : {what : Seen} {c : Compression} {last : Decision} → SqueezeCase c what (step.Over last) → (squeeze_puts c ≡ decision_puts last) × ((x : ℕ) (page : Page) → compression_next c ≢ act.Put x page)
-    by (SqueezeOpenedParent x d last e) = (ap decision_puts (sym e), open_none x)
+    by : {what : Seen} {c : Compression} {last : Decision} → CompressionCase c what (step.Over last) → (compression_puts c ≡ decision_puts last) × ((x : ℕ) (page : Page) → compression_next c ≢ act.Put x page)
+    by (CompressionOpenedParent x d last e) = (ap decision_puts (sym e), open_none x)
 
 lost_is : (d : Decision) → compress_reply d ≡ None → decision_puts d ≡ 3
 lost_is (decision.Merged h) e = absurd (cc e)
@@ -294,9 +294,9 @@ compress_spends (CompressNoLevel c t) = keeps 3 (act.Get 0) (seen.Words c) 0 (om
 compress_spends (CompressCame a what b t) = keeps 3 (approach_next a) what 3 (omega arith) (approach_none a)
 compress_spends (CompressMet x parent f l t) = keeps 3 (act.Get x) (seen.Words (InnerPage parent)) 3 (omega arith) (get_none x)
 compress_spends (CompressSingle x parent y l t) = keeps 3 (act.Get x) (seen.Words (InnerPage parent)) 0 (omega arith) (get_none x)
-compress_spends (CompressSqueezed c what d t) = squeeze_spends (squeeze_case _ c what (step.On d) t)
-compress_spends {waits = waits} (CompressLost c what a t) = (let over = over_squeeze waits what c t.0 t.1 in let same = over.0 in let three = lost_is t.0 t.2 in keeps (squeeze_puts c) (compression_next c) what 3 (omega (arith, same, three)) over.1)
-compress_spends {waits = waits} (CompressFinished c what r t) = (let over = over_squeeze waits what c t.0 t.1 in keeps (squeeze_puts c) (compression_next c) what 0 (omega arith) over.1)
+compress_spends (CompressWentOn c what d t) = compression_spends (compression_case _ c what (step.On d) t)
+compress_spends {waits = waits} (CompressLost c what a t) = (let over = over_compression waits what c t.0 t.1 in let same = over.0 in let three = lost_is t.0 t.2 in keeps (compression_puts c) (compression_next c) what 3 (omega (arith, same, three)) over.1)
+compress_spends {waits = waits} (CompressFinished c what r t) = (let over = over_compression waits what c t.0 t.1 in keeps (compression_puts c) (compression_next c) what 0 (omega arith) over.1)
 compress_spends (CompressOpened x r e) = keeps 0 (act.Open x) seen.Done 0 (omega arith) (open_none x)
 compress_spends (CompressEnded r last e) = keeps 0 act.End seen.Done 0 (omega arith) (λ x c i. cc)
 

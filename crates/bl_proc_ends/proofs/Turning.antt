@@ -3,39 +3,39 @@ use Rattle.std.proofs.Common.{ℕ, ◌≡◌, ◌≢◌, ◌+◌, ◌*◌, ◌<�
 use Rattle.bl_model.specs.declared.deciding.KeyWrite.{KeyWrite}
 use Rattle.bl_page.specs.declared.page.Page.{Page}
 use Rattle.bl_page.specs.Machine.{Name}
-use Rattle.bl_core.specs.Worlds.{World, IsGood}
-use Rattle.bl_proc_base.specs.declared.acts.Seen.{Seen}
-use Rattle.bl_proc_base.specs.declared.acts.Seen.TheVariants as seen
-use Rattle.bl_proc_base.specs.declared.acts.Action.TheVariants as act
-use Rattle.bl_proc_base.specs.declared.answers.Hint.TheVariants as hint
-use Rattle.bl_proc_base.specs.declared.approaching.Approach.{Approach}
-use Rattle.bl_proc_base.specs.declared.editing.Edited.TheVariants as changed
-use Rattle.bl_proc_base.specs.declared.editing.Outcome.TheVariants as outcome
-use Rattle.bl_proc_base.specs.Edits.{Changes}
+use Rattle.bl_tree_worlds.specs.Worlds.{World, IsGood}
+use Rattle.bl_proc_steps.specs.declared.acts.Seen.{Seen}
+use Rattle.bl_proc_steps.specs.declared.acts.Seen.TheVariants as seen
+use Rattle.bl_proc_steps.specs.declared.acts.Action.TheVariants as act
+use Rattle.bl_proc_steps.specs.declared.answers.Hint.TheVariants as hint
+use Rattle.bl_proc_steps.specs.declared.approach.Approach.{Approach}
+use Rattle.bl_proc_steps.specs.declared.edit.Edited.TheVariants as changed
+use Rattle.bl_proc_steps.specs.declared.edit.Outcome.TheVariants as outcome
+use Rattle.bl_proc_steps.specs.Edits.{Changes}
 use Rattle.bl_proc_writes.specs.declared.writing.WriteReply.TheVariants as written
 use Rattle.bl_proc_writes.specs.declared.writing.WriteStage.{WriteStage}
 use Rattle.bl_proc_writes.specs.declared.writing.WriteStage.TheVariants as write
-use Rattle.bl_proc_writes.specs.declared.posting.Post.{Post}
-use Rattle.bl_proc_writes.specs.declared.posting.PostReply.TheVariants as listed
-use Rattle.bl_proc_writes.specs.declared.posting.PostStage.{PostStage}
-use Rattle.bl_proc_writes.specs.declared.posting.PostStage.TheVariants as post
-use Rattle.bl_proc_writes.specs.declared.climbing.InsertPost.{InsertPost}
-use Rattle.bl_proc_writes.specs.declared.climbing.ClimbStage.{ClimbStage}
-use Rattle.bl_proc_writes.specs.declared.climbing.ClimbStage.TheVariants as climb
+use Rattle.bl_proc_writes.specs.declared.post.Post.{Post}
+use Rattle.bl_proc_writes.specs.declared.post.PostReply.TheVariants as listed
+use Rattle.bl_proc_writes.specs.declared.post.PostStage.{PostStage}
+use Rattle.bl_proc_writes.specs.declared.post.PostStage.TheVariants as post
+use Rattle.bl_proc_writes.specs.declared.insert_post.InsertPost.{InsertPost}
+use Rattle.bl_proc_writes.specs.declared.insert_post.ClimbStage.{ClimbStage}
+use Rattle.bl_proc_writes.specs.declared.insert_post.ClimbStage.TheVariants as climb
 use Rattle.bl_proc_writes.specs.declared.paths.Path.{Path}
 use Rattle.bl_proc.specs.declared.parts.PartStart.{PartStart}
 use Rattle.bl_proc_writes.specs.Paths.{from_page, page_at}
-use Rattle.bl_proc_writes.specs.Climbs.{climb_next_in, PostsFrom, ClimbGoes}
+use Rattle.bl_proc_writes.specs.InsertPosts.{climb_next_in, PostsFrom, ClimbGoes}
 use Rattle.bl_proc_writes.specs.Stands.{Stands}
 use Rattle.bl_proc_writes.specs.declared.writing.Write.{Write}
 use Rattle.bl_proc_compress.specs.Compresses.{CompressGoes}
 use Rattle.bl_proc.specs.declared.kinds.Proc.{Proc}
 use Rattle.bl_proc.specs.declared.kinds.Proc.TheVariants as proc
 use Rattle.bl_proc.specs.Processes.{next_of, Takes}
-use Rattle.bl_proc_unique.proofs.WayCases.{edit_case}
-use Rattle.bl_proc_unique.proofs.KindCases.{find_case, part_case, WriteCase, write_case, PostCase, post_case, lower_case}
-use Rattle.bl_proc_unique.proofs.KindCases.WriteCase.{Finished as WriteFinished, Opened as WriteOpened}
-use Rattle.bl_proc_unique.proofs.KindCases.PostCase.{Finished as PostFinished, NoRoom as PostNoRoom, Opened as PostOpened}
+use Rattle.bl_proc_deterministic.proofs.WayCases.{edit_case}
+use Rattle.bl_proc_deterministic.proofs.KindCases.{find_case, part_case, WriteCase, write_case, PostCase, post_case, lower_case}
+use Rattle.bl_proc_deterministic.proofs.KindCases.WriteCase.{Finished as WriteFinished, Opened as WriteOpened}
+use Rattle.bl_proc_deterministic.proofs.KindCases.PostCase.{Finished as PostFinished, NoRoom as PostNoRoom, Opened as PostOpened}
 use Rattle.bl_proc_invariant.specs.Tables.{Carried, know_approach}
 use Rattle.bl_proc_invariant.specs.Turns.{IsObserved}
 use Rattle.bl_proc_invariant.specs.Knowing.{Run, path_goes, inserted, know_write, know_post, know_climb, know_of, know}
@@ -43,7 +43,7 @@ use Rattle.bl_proc_progress.specs.Ways.{WayLeft}
 use Rattle.bl_proc_progress.proofs.Shortening.{short}
 use Rattle.bl_proc_ends.specs.Left.{IsStay, IsOnWay, find_left, part_left, write_left, post_left, compress_left, writing_left, posting_left, climb_left, TurnsLeft}
 use Rattle.bl_proc_ends.proofs.Plain.{Fewer, fewer, find_fewer, part_fewer, write_fewer, lower_fewer}
-use Rattle.bl_proc_ends.proofs.Squeezes.{compress_fewer}
+use Rattle.bl_proc_ends.proofs.CompressionEnds.{compress_fewer}
 use Rattle.bl_proc_ends.proofs.Posts.{post_fewer}
 use Rattle.bl_proc_ends.proofs.Climbs.{splits, post_splits, split_over, writing_fewer, posting_fewer}
 

@@ -3,24 +3,24 @@
 use Rattle.std.specs.Prelude.{ℕ, ◌+◌, ◌*◌, ◌-◌}
 use Rattle.bl_page.specs.declared.page.Page.{Page}
 use Rattle.bl_page.specs.Nodes.{roots_of}
-use Rattle.bl_proc_base.specs.declared.editing.Edit.{Edit}
-use Rattle.bl_proc_base.specs.declared.editing.Edit.TheVariants as edit
-use Rattle.bl_proc_base.specs.declared.growing.Growth.{Growth}
-use Rattle.bl_proc_base.specs.declared.growing.Growth.TheVariants as growth
-use Rattle.bl_proc_base.specs.declared.lowering.Lowering.{Lowering}
-use Rattle.bl_proc_base.specs.declared.lowering.Lowering.TheVariants as lowering
-use Rattle.bl_proc_compress.specs.declared.compressing.Decision.{Decision}
-use Rattle.bl_proc_compress.specs.declared.compressing.Decision.TheVariants as decision
-use Rattle.bl_proc_compress.specs.declared.compressing.Compression.{Compression}
-use Rattle.bl_proc_compress.specs.declared.compressing.Compression.TheVariants as squeeze
-use Rattle.bl_proc_compress.specs.declared.squeezing.CompressStage.{CompressStage}
-use Rattle.bl_proc_compress.specs.declared.squeezing.CompressStage.TheVariants as compress
+use Rattle.bl_proc_steps.specs.declared.edit.Edit.{Edit}
+use Rattle.bl_proc_steps.specs.declared.edit.Edit.TheVariants as edit
+use Rattle.bl_proc_steps.specs.declared.growth.Growth.{Growth}
+use Rattle.bl_proc_steps.specs.declared.growth.Growth.TheVariants as growth
+use Rattle.bl_proc_steps.specs.declared.lowering.Lowering.{Lowering}
+use Rattle.bl_proc_steps.specs.declared.lowering.Lowering.TheVariants as lowering
+use Rattle.bl_proc_compress.specs.declared.compression.Decision.{Decision}
+use Rattle.bl_proc_compress.specs.declared.compression.Decision.TheVariants as decision
+use Rattle.bl_proc_compress.specs.declared.compression.Compression.{Compression}
+use Rattle.bl_proc_compress.specs.declared.compression.Compression.TheVariants as compression
+use Rattle.bl_proc_compress.specs.declared.compress.CompressStage.{CompressStage}
+use Rattle.bl_proc_compress.specs.declared.compress.CompressStage.TheVariants as compress
 use Rattle.bl_proc_writes.specs.declared.writing.WriteStage.{WriteStage}
 use Rattle.bl_proc_writes.specs.declared.writing.WriteStage.TheVariants as write
-use Rattle.bl_proc_writes.specs.declared.posting.PostStage.{PostStage}
-use Rattle.bl_proc_writes.specs.declared.posting.PostStage.TheVariants as post
-use Rattle.bl_proc_writes.specs.declared.climbing.ClimbStage.{ClimbStage}
-use Rattle.bl_proc_writes.specs.declared.climbing.ClimbStage.TheVariants as climb
+use Rattle.bl_proc_writes.specs.declared.post.PostStage.{PostStage}
+use Rattle.bl_proc_writes.specs.declared.post.PostStage.TheVariants as post
+use Rattle.bl_proc_writes.specs.declared.insert_post.ClimbStage.{ClimbStage}
+use Rattle.bl_proc_writes.specs.declared.insert_post.ClimbStage.TheVariants as climb
 use Rattle.bl_proc.specs.declared.lowering.LowerStage.{LowerStage}
 use Rattle.bl_proc.specs.declared.lowering.LowerStage.TheVariants as lower
 use Rattle.bl_proc.specs.declared.kinds.Proc.{Proc}
@@ -66,18 +66,18 @@ decision_puts (decision.Unposted h) = 0
 decision_puts decision.Refused = 0
 decision_puts decision.Lost = 3
 
-abbrev pub squeeze_puts : Compression → ℕ
-squeeze_puts (squeeze.LatchingLeft f) = 3
-squeeze_puts (squeeze.LatchedLeft f) = 3
-squeeze_puts (squeeze.LatchingRight f c) = 3
-squeeze_puts (squeeze.LatchedRight f c) = 3
-squeeze_puts (squeeze.PuttingFirst p) = 3 + decision_puts p.decision
-squeeze_puts (squeeze.PuttingParent p) = 2 + decision_puts p.decision
-squeeze_puts (squeeze.PuttingLast p) = 1 + decision_puts p.decision
-squeeze_puts (squeeze.Retiring at what) = decision_puts what
-squeeze_puts (squeeze.OpeningRight at what) = decision_puts what
-squeeze_puts (squeeze.OpeningLeft at what) = decision_puts what
-squeeze_puts (squeeze.OpeningParent x what) = decision_puts what
+abbrev pub compression_puts : Compression → ℕ
+compression_puts (compression.LatchingLeft f) = 3
+compression_puts (compression.LatchedLeft f) = 3
+compression_puts (compression.LatchingRight f c) = 3
+compression_puts (compression.LatchedRight f c) = 3
+compression_puts (compression.PuttingFirst p) = 3 + decision_puts p.decision
+compression_puts (compression.PuttingParent p) = 2 + decision_puts p.decision
+compression_puts (compression.PuttingLast p) = 1 + decision_puts p.decision
+compression_puts (compression.Retiring at what) = decision_puts what
+compression_puts (compression.OpeningRight at what) = decision_puts what
+compression_puts (compression.OpeningLeft at what) = decision_puts what
+compression_puts (compression.OpeningParent x what) = decision_puts what
 
 abbrev pub write_puts : WriteStage → ℕ
 write_puts write.New = 2
@@ -100,7 +100,7 @@ post_puts (post.Over r) = 0
 abbrev pub compress_puts : CompressStage → ℕ
 compress_puts compress.New = 3
 compress_puts (compress.Coming a) = 3
-compress_puts (compress.Compressing c) = squeeze_puts c
+compress_puts (compress.Compressing c) = compression_puts c
 compress_puts (compress.Staying x) = 0
 compress_puts (compress.Ending r) = 0
 compress_puts (compress.Over r) = 0

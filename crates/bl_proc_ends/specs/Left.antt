@@ -3,28 +3,28 @@
 use Rattle.std.specs.Prelude.{◌≡◌, ◌≢◌, ◌⊎◌, ℕ, ◌+◌, ◌*◌, ◌<◌, true}
 use Rattle.bl_page.specs.declared.page.Page.{Page}
 use Rattle.bl_page.specs.Nodes.{roots_of}
-use Rattle.bl_proc_base.specs.declared.approaching.Approach.{Approach}
-use Rattle.bl_proc_base.specs.declared.descent.Descent.TheVariants.{AtAnchor, At}
-use Rattle.bl_proc_base.specs.declared.editing.Edit.{Edit}
-use Rattle.bl_proc_base.specs.declared.editing.Edit.TheVariants as edit
-use Rattle.bl_proc_base.specs.declared.editing.Outcome.TheVariants as outcome
-use Rattle.bl_proc_base.specs.declared.growing.Growth.{Growth}
-use Rattle.bl_proc_base.specs.declared.growing.Growth.TheVariants as growth
-use Rattle.bl_proc_base.specs.declared.lowering.Lowering.{Lowering}
-use Rattle.bl_proc_base.specs.declared.lowering.Lowering.TheVariants as lowering
-use Rattle.bl_proc_compress.specs.declared.compressing.Compression.{Compression}
-use Rattle.bl_proc_compress.specs.declared.compressing.Compression.TheVariants as squeeze
-use Rattle.bl_proc_compress.specs.declared.compressing.Decision.TheVariants.{Lost}
-use Rattle.bl_proc_compress.specs.declared.squeezing.CompressStage.{CompressStage}
-use Rattle.bl_proc_compress.specs.declared.squeezing.CompressStage.TheVariants as compress
+use Rattle.bl_proc_steps.specs.declared.approach.Approach.{Approach}
+use Rattle.bl_proc_steps.specs.declared.descent.Descent.TheVariants.{AtAnchor, At}
+use Rattle.bl_proc_steps.specs.declared.edit.Edit.{Edit}
+use Rattle.bl_proc_steps.specs.declared.edit.Edit.TheVariants as edit
+use Rattle.bl_proc_steps.specs.declared.edit.Outcome.TheVariants as outcome
+use Rattle.bl_proc_steps.specs.declared.growth.Growth.{Growth}
+use Rattle.bl_proc_steps.specs.declared.growth.Growth.TheVariants as growth
+use Rattle.bl_proc_steps.specs.declared.lowering.Lowering.{Lowering}
+use Rattle.bl_proc_steps.specs.declared.lowering.Lowering.TheVariants as lowering
+use Rattle.bl_proc_compress.specs.declared.compression.Compression.{Compression}
+use Rattle.bl_proc_compress.specs.declared.compression.Compression.TheVariants as compression
+use Rattle.bl_proc_compress.specs.declared.compression.Decision.TheVariants.{Lost}
+use Rattle.bl_proc_compress.specs.declared.compress.CompressStage.{CompressStage}
+use Rattle.bl_proc_compress.specs.declared.compress.CompressStage.TheVariants as compress
 use Rattle.bl_proc_writes.specs.declared.writing.WriteStage.{WriteStage}
 use Rattle.bl_proc_writes.specs.declared.writing.WriteStage.TheVariants as write
-use Rattle.bl_proc_writes.specs.declared.posting.PostReply.{PostReply}
-use Rattle.bl_proc_writes.specs.declared.posting.PostReply.TheVariants as listed
-use Rattle.bl_proc_writes.specs.declared.posting.PostStage.{PostStage}
-use Rattle.bl_proc_writes.specs.declared.posting.PostStage.TheVariants as post
-use Rattle.bl_proc_writes.specs.declared.climbing.ClimbStage.{ClimbStage}
-use Rattle.bl_proc_writes.specs.declared.climbing.ClimbStage.TheVariants as climb
+use Rattle.bl_proc_writes.specs.declared.post.PostReply.{PostReply}
+use Rattle.bl_proc_writes.specs.declared.post.PostReply.TheVariants as listed
+use Rattle.bl_proc_writes.specs.declared.post.PostStage.{PostStage}
+use Rattle.bl_proc_writes.specs.declared.post.PostStage.TheVariants as post
+use Rattle.bl_proc_writes.specs.declared.insert_post.ClimbStage.{ClimbStage}
+use Rattle.bl_proc_writes.specs.declared.insert_post.ClimbStage.TheVariants as climb
 use Rattle.bl_proc.specs.declared.searching.FindStage.{FindStage}
 use Rattle.bl_proc.specs.declared.searching.FindStage.TheVariants as find
 use Rattle.bl_proc.specs.declared.parts.PartStage.{PartStage}
@@ -33,7 +33,7 @@ use Rattle.bl_proc.specs.declared.lowering.LowerStage.{LowerStage}
 use Rattle.bl_proc.specs.declared.lowering.LowerStage.TheVariants as lower
 use Rattle.bl_proc.specs.declared.kinds.Proc.{Proc}
 use Rattle.bl_proc.specs.declared.kinds.Proc.TheVariants as proc
-use Rattle.bl_proc_progress.specs.Holds.{edit_hold, squeeze_hold}
+use Rattle.bl_proc_progress.specs.Holds.{edit_hold, compression_hold}
 use Rattle.bl_proc_progress.specs.Ways.{IsLeft, WayLeft}
 
 -- as many as any process has left, in so many pages
@@ -107,22 +107,22 @@ post_left size contents level key (post.Over r) turns = turns ≡ 0
 
 -- it has not found that it is to begin again
 abbrev pub IsFound : Compression → Type 0
-IsFound (squeeze.LatchingLeft f) = Unit {0}
-IsFound (squeeze.LatchedLeft f) = Unit {0}
-IsFound (squeeze.LatchingRight f c) = Unit {0}
-IsFound (squeeze.LatchedRight f c) = Unit {0}
-IsFound (squeeze.PuttingFirst p) = p.decision ≢ Lost
-IsFound (squeeze.PuttingParent p) = p.decision ≢ Lost
-IsFound (squeeze.PuttingLast p) = p.decision ≢ Lost
-IsFound (squeeze.Retiring at decision) = decision ≢ Lost
-IsFound (squeeze.OpeningRight at decision) = decision ≢ Lost
-IsFound (squeeze.OpeningLeft at decision) = decision ≢ Lost
-IsFound (squeeze.OpeningParent x decision) = decision ≢ Lost
+IsFound (compression.LatchingLeft f) = Unit {0}
+IsFound (compression.LatchedLeft f) = Unit {0}
+IsFound (compression.LatchingRight f c) = Unit {0}
+IsFound (compression.LatchedRight f c) = Unit {0}
+IsFound (compression.PuttingFirst p) = p.decision ≢ Lost
+IsFound (compression.PuttingParent p) = p.decision ≢ Lost
+IsFound (compression.PuttingLast p) = p.decision ≢ Lost
+IsFound (compression.Retiring at decision) = decision ≢ Lost
+IsFound (compression.OpeningRight at decision) = decision ≢ Lost
+IsFound (compression.OpeningLeft at decision) = decision ≢ Lost
+IsFound (compression.OpeningParent x decision) = decision ≢ Lost
 
 abbrev pub compress_left : ℕ → (ℕ → Page) → ℕ → CompressStage → ℕ → Type 0
 compress_left size contents key compress.New turns = turns ≡ most_turns size
 compress_left size contents key (compress.Coming a) turns = IsOnWay contents key a 16 turns
-compress_left size contents key (compress.Compressing c) turns = IsFound c × (turns ≡ squeeze_hold c + 1)
+compress_left size contents key (compress.Compressing c) turns = IsFound c × (turns ≡ compression_hold c + 1)
 compress_left size contents key (compress.Staying x) turns = turns ≡ 2
 compress_left size contents key (compress.Ending r) turns = turns ≡ 1
 compress_left size contents key (compress.Over r) turns = turns ≡ 0
@@ -181,9 +181,9 @@ abbrev pub IsStaying : PostStage → Type 0
 IsStaying (post.Staying x r) = IsStay r
 IsStaying stage = Unit {0}
 
-abbrev pub IsPressing : CompressStage → Type 0
-IsPressing (compress.Compressing c) = IsFound c
-IsPressing stage = Unit {0}
+abbrev pub IsCompressing : CompressStage → Type 0
+IsCompressing (compress.Compressing c) = IsFound c
+IsCompressing stage = Unit {0}
 
 abbrev pub IsClimbing : ClimbStage → Type 0
 IsClimbing (climb.Posting p) = IsStaying p.stage
@@ -194,7 +194,7 @@ IsMeant (proc.Find p) = Unit {0}
 IsMeant (proc.Write p) = Unit {0}
 IsMeant (proc.Post p) = IsStaying p.stage
 IsMeant (proc.Part p) = Unit {0}
-IsMeant (proc.Compress p) = (p.waits ≡ true) × IsPressing p.stage
+IsMeant (proc.Compress p) = (p.waits ≡ true) × IsCompressing p.stage
 IsMeant (proc.Reclaim p) = ⊥
 IsMeant (proc.Lower p) = Unit {0}
 IsMeant (proc.InsertPost p) = IsClimbing p.stage

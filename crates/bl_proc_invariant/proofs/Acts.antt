@@ -5,17 +5,17 @@ use Rattle.bl_page.specs.declared.page.Page.{Page}
 use Rattle.bl_page.specs.Machine.{Name, Owner, State, Act, Phase, Enabled}
 use Rattle.bl_page.specs.Machine.Act.{Begin, End, Take, Latch}
 use Rattle.bl_page.specs.Machine.Phase.{Running}
-use Rattle.bl_core_tree.specs.Trees.{Status}
+use Rattle.bl_tree.specs.Trees.{Status}
 use Rattle.bl_page.specs.Machine.Owner.{Released, Held}
-use Rattle.bl_core_tree.specs.Trees.Status.{Fresh, Live, Uprooted, Gone, Anchored}
+use Rattle.bl_tree.specs.Trees.Status.{Fresh, Live, Uprooted, Gone, Anchored}
 use Rattle.bl_claims.specs.Trails.{Said, Mark, Saw, Answered, HasSaid}
-use Rattle.bl_core.specs.Worlds.{Hold, Know, World, MapsTo, HoldsPage, IsHeld, IsSure, IsGood, silent}
+use Rattle.bl_tree_worlds.specs.Worlds.{Hold, Know, World, MapsTo, HoldsPage, IsHeld, IsSure, IsGood, silent}
 use Rattle.bl_claims.specs.Walks.{Each}
-use Rattle.bl_core.proofs.Watches.{Learns, IsWatch, Watches-keeps}
-use Rattle.bl_core.proofs.Latches.{Latches-keeps, Opens-keeps}
-use Rattle.bl_core.proofs.Ends.{Begins-keeps, Finishes-keeps}
-use Rattle.bl_core.proofs.Outside.{Takes-keeps}
-use Rattle.bl_core.proofs.After.{after, Extends-after, put_at, is_put_at}
+use Rattle.bl_tree_worlds.proofs.Watches.{Learns, IsWatch, Watches-keeps}
+use Rattle.bl_tree_worlds.proofs.Latches.{Latches-keeps, Opens-keeps}
+use Rattle.bl_tree_worlds.proofs.Ends.{Begins-keeps, Finishes-keeps}
+use Rattle.bl_tree_worlds.proofs.Outside.{Takes-keeps}
+use Rattle.bl_tree_worlds.proofs.After.{after, Extends-after, put_at, is_put_at}
 use Rattle.bl_proc_invariant.specs.Turns.{Does, Turned}
 
 -- what is said of the status of each page that a list has, holds of the status of each page in the list

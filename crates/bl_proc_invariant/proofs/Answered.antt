@@ -2,16 +2,16 @@
 use Rattle.std.proofs.Common.{ℕ, ◌≡◌, Option, Some, sym, subst}
 use Rattle.bl_claims.specs.Trails.{Trail, marks_of}
 use Rattle.bl_page.specs.Machine.{Name}
-use Rattle.bl_core.specs.Worlds.{World}
-use Rattle.bl_proc_base.specs.declared.answers.Answer.{Answer}
-use Rattle.bl_proc_base.specs.declared.answers.Answer.TheVariants as answer
-use Rattle.bl_proc_base.specs.declared.answers.Posted.{Posted}
-use Rattle.bl_proc_base.specs.declared.answers.Hint.{Hint}
-use Rattle.bl_proc_writes.specs.declared.posting.Post.{Post}
-use Rattle.bl_proc_writes.specs.declared.posting.PostReply.{PostReply}
-use Rattle.bl_proc_writes.specs.declared.posting.PostReply.TheVariants as reply
-use Rattle.bl_proc_writes.specs.declared.posting.PostStage.{PostStage}
-use Rattle.bl_proc_writes.specs.declared.posting.PostStage.TheVariants as post
+use Rattle.bl_tree_worlds.specs.Worlds.{World}
+use Rattle.bl_proc_steps.specs.declared.answers.Answer.{Answer}
+use Rattle.bl_proc_steps.specs.declared.answers.Answer.TheVariants as answer
+use Rattle.bl_proc_steps.specs.declared.answers.Posted.{Posted}
+use Rattle.bl_proc_steps.specs.declared.answers.Hint.{Hint}
+use Rattle.bl_proc_writes.specs.declared.post.Post.{Post}
+use Rattle.bl_proc_writes.specs.declared.post.PostReply.{PostReply}
+use Rattle.bl_proc_writes.specs.declared.post.PostReply.TheVariants as reply
+use Rattle.bl_proc_writes.specs.declared.post.PostStage.{PostStage}
+use Rattle.bl_proc_writes.specs.declared.post.PostStage.TheVariants as post
 use Rattle.bl_proc.specs.declared.kinds.Proc.TheVariants as proc
 use Rattle.bl_proc_writes.specs.Posts.{posted_answer, post_answer_in}
 use Rattle.bl_proc_invariant.specs.Logs.{reply_log, post_log, proc_log, AllLogs}

@@ -7,22 +7,22 @@ use Rattle.bl_page.specs.Machine.{Name, Owner, State, Act}
 use Rattle.bl_page.specs.Machine.Owner.{Held}
 use Rattle.bl_page.specs.Machine.Act.{Get, Latch, Miss}
 use Rattle.bl_page.specs.Nodes.{unbounded, node_of, roots_of, IsTreePage}
-use Rattle.bl_core_tree.specs.Trees.Status.{Live}
+use Rattle.bl_tree.specs.Trees.Status.{Live}
 use Rattle.bl_claims.specs.Trails.{Said, HasSaid}
-use Rattle.bl_core.proofs.Pushes.{HasSaid-silent}
-use Rattle.bl_core.specs.Worlds.{Goes, Stage, Know, World, nodes, IsStage, MayGet, IsGoes, IsSure, IsGood}
+use Rattle.bl_tree_worlds.proofs.Pushes.{HasSaid-silent}
+use Rattle.bl_tree_worlds.specs.Worlds.{Goes, Stage, Know, World, nodes, IsStage, MayGet, IsGoes, IsSure, IsGood}
 use Rattle.bl_claims.specs.Walks.{Each}
-use Rattle.bl_core.proofs.Watches.{Learns}
-use Rattle.bl_core.proofs.Descents.{goes_leftmost, goes_on, goes_right, goes_down, not_released, anchor_not_released, open_live}
-use Rattle.bl_proc_base.specs.declared.acts.Seen.{Seen}
-use Rattle.bl_proc_base.specs.declared.acts.Seen.TheVariants as seen
-use Rattle.bl_proc_pages.specs.declared.onwards.Step.{Step}
-use Rattle.bl_proc_pages.specs.declared.onwards.Step.TheVariants.{Again, Right, Down, Here}
-use Rattle.bl_proc_base.specs.declared.approaching.Approach.{Approach}
-use Rattle.bl_proc_base.specs.declared.approaching.Approach.TheVariants.{Start, At, Latching, Latched, Leaving}
-use Rattle.bl_proc_base.specs.declared.approaching.Approached.TheVariants as came
-use Rattle.bl_proc_pages.specs.Onwards.{IsDead, Leads}
-use Rattle.bl_proc_base.specs.Approaches.{approach_next, Enters, Turns, Quits, Approaches}
+use Rattle.bl_tree_worlds.proofs.Watches.{Learns}
+use Rattle.bl_tree_worlds.proofs.Descents.{goes_leftmost, goes_on, goes_right, goes_down, not_released, anchor_not_released, open_live}
+use Rattle.bl_proc_steps.specs.declared.acts.Seen.{Seen}
+use Rattle.bl_proc_steps.specs.declared.acts.Seen.TheVariants as seen
+use Rattle.bl_proc_routes.specs.declared.routes.Step.{Step}
+use Rattle.bl_proc_routes.specs.declared.routes.Step.TheVariants.{Again, Right, Down, Here}
+use Rattle.bl_proc_steps.specs.declared.approach.Approach.{Approach}
+use Rattle.bl_proc_steps.specs.declared.approach.Approach.TheVariants.{Start, At, Latching, Latched, Leaving}
+use Rattle.bl_proc_steps.specs.declared.approach.Approached.TheVariants as came
+use Rattle.bl_proc_routes.specs.Routes.{IsDead, Leads}
+use Rattle.bl_proc_steps.specs.Approaches.{approach_next, Enters, Turns, Quits, Approaches}
 use Rattle.bl_proc_invariant.specs.Turns.{event_of, IsObserved, Does, Turned}
 use Rattle.bl_proc_invariant.specs.Tables.{idle, Carried, carrying, holds_live, goes_to, know_approach}
 use Rattle.bl_proc_invariant.specs.Knowing.{ending}

@@ -17,15 +17,15 @@ use Rattle.bl_rearrange.specs.declared.sides.Evened.{Evened}
 use Rattle.bl_rearrange.specs.declared.sides.Side.{Side}
 use Rattle.bl_rearrange.specs.declared.sides.Side.TheVariants as side
 use Rattle.bl_claims.specs.Trails.{Trail}
-use Rattle.bl_proc_base.specs.declared.answers.Hint.{Hint}
-use Rattle.bl_proc_base.specs.declared.answers.Hint.TheVariants as hint
-use Rattle.bl_proc_base.specs.Thin.{thin_low, thin_hint}
-use Rattle.bl_proc_compress.specs.declared.compressing.Siblings.{Siblings}
-use Rattle.bl_proc_compress.specs.declared.compressing.Family.{Family}
-use Rattle.bl_proc_compress.specs.declared.compressing.Puts.{Puts}
+use Rattle.bl_proc_steps.specs.declared.answers.Hint.{Hint}
+use Rattle.bl_proc_steps.specs.declared.answers.Hint.TheVariants as hint
+use Rattle.bl_proc_steps.specs.Thin.{thin_low, thin_hint}
+use Rattle.bl_proc_compress.specs.declared.compression.Siblings.{Siblings}
+use Rattle.bl_proc_compress.specs.declared.compression.Family.{Family}
+use Rattle.bl_proc_compress.specs.declared.compression.Puts.{Puts}
 use Rattle.bl_proc_compress.specs.Compressions.{IsBuried, Merges, Evens, Relists, either_hint, merge_hint, other}
 use Rattle.bl_claims.specs.Squeezed.{Adjoin, GotBoth, evened_puts, NowLists, IsMergeOf, IsEveningOf, thin_or, HasMerged, HasEvened}
-use Rattle.bl_proc_invariant.specs.Logs.{to_right, AtBoth, put_act, IsToSqueeze, to_last}
+use Rattle.bl_proc_invariant.specs.Logs.{to_right, AtBoth, put_act, IsToCompress, to_last}
 
 bound_is : (high : ℕ) → high ≢ 0 → end_of high ≡ high
 bound_is high some = grind (arith, some)
@@ -185,7 +185,7 @@ merged_acts u gains =
     ap (λ (z : Side). to_right u.at (put_act z u ∷ Put u.at.parent u.parent ∷ put_act (other z) u ∷ Retire u.at.right ∷ [])) gains
 
 module _ (level key : ℕ) (ms : Trail) (u : Puts) where
-  pub has_merged : (h : IsToSqueeze level key ms u (to_last u ++ Retire u.at.right ∷ [])) → AreNeighbours h.left h.right → Merges h.family h.left h.right u → HasMerged level key (merge_hint h.family.parent.level u.parent u.left) ms
+  pub has_merged : (h : IsToCompress level key ms u (to_last u ++ Retire u.at.right ∷ [])) → AreNeighbours h.left h.right → Merges h.family h.left h.right u → HasMerged level key (merge_hint h.family.parent.level u.parent u.left) ms
   has_merged h near m =
       let acts : AtBoth level key ms h.family h.left h.right (to_right u.at (put_merged u u.at)) = subst (λ (z : List (Act Page Reply)). AtBoth level key ms h.family h.left h.right z) (merged_acts u m.gains) h.both in
       record {
@@ -197,7 +197,7 @@ module _ (level key : ℕ) (ms : Trail) (u : Puts) where
         hint_is = ap (λ (l : ℕ). merge_hint l u.parent u.left) h.both.left.family.level_is ∙ hints level u.parent u.left (tree_now _ _ _ (InnerPage h.family.parent) u.parent m.parent.frame) (tree_now _ _ _ h.left u.left m.left.1);
       }
 
-  pub has_evened : (h : IsToSqueeze level key ms u (to_last u)) → Evens h.family h.left h.right u → HasEvened level key ms
+  pub has_evened : (h : IsToCompress level key ms u (to_last u)) → Evens h.family h.left h.right u → HasEvened level key ms
   has_evened h v =
       let acts : AtBoth level key ms h.family h.left h.right (to_right u.at (evened_puts u.gains (evened_of u v.separator) u.parent u.at)) = subst (λ (z : List (Act Page Reply)). AtBoth level key ms h.family h.left h.right (to_right u.at z)) (puts_are u.gains u v.separator) h.both in
       record {

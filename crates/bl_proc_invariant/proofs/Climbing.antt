@@ -7,25 +7,25 @@ use Rattle.bl_page.specs.declared.page.Page.{Page}
 use Rattle.bl_page.specs.Machine.{Name, State}
 use Rattle.bl_page.specs.Nodes.{unbounded}
 use Rattle.bl_claims.specs.Trails.{HasSaid}
-use Rattle.bl_core.specs.Worlds.{World, IsSure, IsGood}
-use Rattle.bl_core.proofs.After.{is_put_name}
-use Rattle.bl_proc_base.specs.declared.acts.Seen.{Seen}
-use Rattle.bl_proc_base.specs.declared.answers.Hint.TheVariants as hint
+use Rattle.bl_tree_worlds.specs.Worlds.{World, IsSure, IsGood}
+use Rattle.bl_tree_worlds.proofs.After.{is_put_name}
+use Rattle.bl_proc_steps.specs.declared.acts.Seen.{Seen}
+use Rattle.bl_proc_steps.specs.declared.answers.Hint.TheVariants as hint
 use Rattle.bl_proc_writes.specs.declared.paths.Path.{Path}
-use Rattle.bl_proc_writes.specs.declared.posting.Post.{Post}
-use Rattle.bl_proc_writes.specs.declared.posting.PostReply.TheVariants as listed
+use Rattle.bl_proc_writes.specs.declared.post.Post.{Post}
+use Rattle.bl_proc_writes.specs.declared.post.PostReply.TheVariants as listed
 use Rattle.bl_proc_writes.specs.declared.writing.Write.{Write}
 use Rattle.bl_proc_writes.specs.declared.writing.WriteReply.TheVariants as written
 use Rattle.bl_proc_writes.specs.declared.writing.WriteStage.{WriteStage}
 use Rattle.bl_proc_writes.specs.declared.writing.WriteStage.TheVariants as write
-use Rattle.bl_proc_writes.specs.declared.climbing.Climbed.{Climbed}
-use Rattle.bl_proc_writes.specs.declared.climbing.Climbed.TheVariants as climbed
-use Rattle.bl_proc_writes.specs.declared.climbing.ClimbStage.{ClimbStage}
-use Rattle.bl_proc_writes.specs.declared.climbing.ClimbStage.TheVariants as climb
+use Rattle.bl_proc_writes.specs.declared.insert_post.Climbed.{Climbed}
+use Rattle.bl_proc_writes.specs.declared.insert_post.Climbed.TheVariants as climbed
+use Rattle.bl_proc_writes.specs.declared.insert_post.ClimbStage.{ClimbStage}
+use Rattle.bl_proc_writes.specs.declared.insert_post.ClimbStage.TheVariants as climb
 use Rattle.bl_proc.specs.declared.kinds.Proc.TheVariants as proc
 use Rattle.bl_proc_writes.specs.Paths.{page_at, from_page}
 use Rattle.bl_proc_writes.specs.Stands.{IsPosting, BeginsBlank, Stands}
-use Rattle.bl_proc_writes.specs.Climbs.{WriteNotes, ClimbNotes, climb_next_in}
+use Rattle.bl_proc_writes.specs.InsertPosts.{WriteNotes, ClimbNotes, climb_next_in}
 use Rattle.bl_proc_invariant.specs.Turns.{event_of, IsObserved, Does, Turned}
 use Rattle.bl_proc_invariant.specs.Tables.{know_approach}
 use Rattle.bl_proc_invariant.specs.Knowing.{Run, know, path_goes, climbed_said, LeavesClimb, inserted, know_write, know_post, know_climb, climb_end, climb_got, climb_child, write_got, post_got, post_child}
@@ -34,9 +34,9 @@ use Rattle.bl_proc_invariant.proofs.Instead.{with_proc, turned_instead, then_ins
 use Rattle.bl_proc_invariant.proofs.Noting.{from_sure, from_holds, write_noted, post_noted}
 use Rattle.bl_proc_invariant.proofs.Writing.{write_turn}
 use Rattle.bl_proc_invariant.proofs.Posting.{post_turn}
-use Rattle.bl_proc_unique.proofs.KindCases.{WriteCase, PostCase, ClimbCase}
-use Rattle.bl_proc_writes.specs.declared.climbing.Placing.{Placing}
-use Rattle.bl_proc_writes.specs.declared.climbing.Placing.TheVariants as place
+use Rattle.bl_proc_deterministic.proofs.KindCases.{WriteCase, PostCase, ClimbCase}
+use Rattle.bl_proc_writes.specs.declared.insert_post.Placing.{Placing}
+use Rattle.bl_proc_writes.specs.declared.insert_post.Placing.TheVariants as place
 use Rattle.bl_proc_writes.specs.Placings.{write_of}
 
 -- a write whose key was not there says that its pair has entered

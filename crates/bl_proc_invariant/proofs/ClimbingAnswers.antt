@@ -5,29 +5,29 @@ use Rattle.bl_model.specs.declared.deciding.Effect.TheVariants.{Enter}
 use Rattle.bl_model.specs.Writes.{effect_of, replied}
 use Rattle.bl_page.specs.Machine.{Name}
 use Rattle.bl_claims.specs.Trails.{Trail, marks_of}
-use Rattle.bl_core.specs.Worlds.{World}
-use Rattle.bl_proc_base.specs.declared.answers.Answer.{Answer}
-use Rattle.bl_proc_base.specs.declared.answers.Answer.TheVariants as answer
-use Rattle.bl_proc_base.specs.declared.answers.Hint.{Hint}
-use Rattle.bl_proc_base.specs.declared.answers.Hint.TheVariants as hint
-use Rattle.bl_proc_base.specs.declared.answers.Posted.{Posted}
+use Rattle.bl_tree_worlds.specs.Worlds.{World}
+use Rattle.bl_proc_steps.specs.declared.answers.Answer.{Answer}
+use Rattle.bl_proc_steps.specs.declared.answers.Answer.TheVariants as answer
+use Rattle.bl_proc_steps.specs.declared.answers.Hint.{Hint}
+use Rattle.bl_proc_steps.specs.declared.answers.Hint.TheVariants as hint
+use Rattle.bl_proc_steps.specs.declared.answers.Posted.{Posted}
 use Rattle.bl_proc_writes.specs.declared.writing.WriteReply.{WriteReply}
 use Rattle.bl_proc_writes.specs.declared.writing.WriteReply.TheVariants as written
-use Rattle.bl_proc_writes.specs.declared.climbing.InsertPost.{InsertPost}
-use Rattle.bl_proc_writes.specs.declared.climbing.Climbed.{Climbed}
-use Rattle.bl_proc_writes.specs.declared.climbing.Climbed.TheVariants as climbed
-use Rattle.bl_proc_writes.specs.declared.climbing.ClimbStage.{ClimbStage}
-use Rattle.bl_proc_writes.specs.declared.climbing.ClimbStage.TheVariants as climb
+use Rattle.bl_proc_writes.specs.declared.insert_post.InsertPost.{InsertPost}
+use Rattle.bl_proc_writes.specs.declared.insert_post.Climbed.{Climbed}
+use Rattle.bl_proc_writes.specs.declared.insert_post.Climbed.TheVariants as climbed
+use Rattle.bl_proc_writes.specs.declared.insert_post.ClimbStage.{ClimbStage}
+use Rattle.bl_proc_writes.specs.declared.insert_post.ClimbStage.TheVariants as climb
 use Rattle.bl_proc.specs.declared.kinds.Proc.TheVariants as proc
 use Rattle.bl_proc_writes.specs.Writes.{post_hint}
-use Rattle.bl_proc_writes.specs.Climbs.{placed_reply, climbed_answer, IsUnsplit, climb_answer_in}
+use Rattle.bl_proc_writes.specs.InsertPosts.{placed_reply, climbed_answer, IsUnsplit, climb_answer_in}
 use Rattle.bl_claims.specs.Hinted.{MeansWritten}
 use Rattle.bl_claims.specs.Climbed.{MeansClimbed}
 use Rattle.bl_proc_invariant.specs.Logs.{effect_log, written_log, climbed_log, climb_log, proc_log, AllLogs}
 use Rattle.bl_proc_invariant.specs.Knowing.{Run}
 use Rattle.bl_proc_invariant.proofs.Beside.{effect_means}
-use Rattle.bl_proc_writes.specs.declared.climbing.Placing.{Placing}
-use Rattle.bl_proc_writes.specs.declared.climbing.Placing.TheVariants as place
+use Rattle.bl_proc_writes.specs.declared.insert_post.Placing.{Placing}
+use Rattle.bl_proc_writes.specs.declared.insert_post.Placing.TheVariants as place
 use Rattle.bl_proc_writes.specs.Placings.{write_of}
 
 -- only a write that has split its leaf leaves a hint, where no pair is taken away

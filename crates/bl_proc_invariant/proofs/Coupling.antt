@@ -5,22 +5,22 @@ use Rattle.bl_page.specs.Machine.{Name, State}
 use Rattle.bl_page.specs.Machine.Owner.{Held}
 use Rattle.bl_page.specs.Machine.Act.{Put, Retire}
 use Rattle.bl_page.specs.Nodes.{Covers, unbounded, node_of}
-use Rattle.bl_core_tree.specs.Trees.Status.{Fresh, Left, Right}
-use Rattle.bl_core_tree.specs.Moves.{IsAtTwo, IsJoin, IsLeftGain, IsRightGain}
+use Rattle.bl_tree.specs.Trees.Status.{Fresh, Left, Right}
+use Rattle.bl_tree.specs.Moves.{IsAtTwo, IsJoin, IsLeftGain, IsRightGain}
 use Rattle.bl_claims.specs.Trails.{Mark}
-use Rattle.bl_core.proofs.Pushes.{HasSaid-silent}
-use Rattle.bl_core.specs.Worlds.{Know, World, IsSure, IsGood, silent, put_mark}
-use Rattle.bl_core.proofs.After.{after, Extends-after, put_at, is_put_at}
-use Rattle.bl_core.proofs.Outside.{Retires-keeps}
-use Rattle.bl_core.specs.Compressions.{Couples}
-use Rattle.bl_core.proofs.Compressions.{PutsJoin-keeps, PutsLeftGain-keeps, PutsRightGain-keeps}
+use Rattle.bl_tree_worlds.proofs.Pushes.{HasSaid-silent}
+use Rattle.bl_tree_worlds.specs.Worlds.{Know, World, IsSure, IsGood, silent, put_mark}
+use Rattle.bl_tree_worlds.proofs.After.{after, Extends-after, put_at, is_put_at}
+use Rattle.bl_tree_worlds.proofs.Outside.{Retires-keeps}
+use Rattle.bl_tree_worlds.specs.Compressions.{Couples}
+use Rattle.bl_tree_worlds.proofs.Compressions.{PutsJoin-keeps, PutsLeftGain-keeps, PutsRightGain-keeps}
 use Rattle.bl_rearrange.specs.declared.sides.Side.TheVariants as side
-use Rattle.bl_proc_compress.specs.declared.compressing.Siblings.{Siblings}
-use Rattle.bl_proc_compress.specs.declared.compressing.Decision.{Decision}
-use Rattle.bl_proc_compress.specs.declared.compressing.Puts.{Puts}
-use Rattle.bl_proc_compress.specs.declared.compressing.Compression.TheVariants.{PuttingFirst, PuttingParent, Retiring, OpeningLeft}
+use Rattle.bl_proc_compress.specs.declared.compression.Siblings.{Siblings}
+use Rattle.bl_proc_compress.specs.declared.compression.Decision.{Decision}
+use Rattle.bl_proc_compress.specs.declared.compression.Puts.{Puts}
+use Rattle.bl_proc_compress.specs.declared.compression.Compression.TheVariants.{PuttingFirst, PuttingParent, Retiring, OpeningLeft}
 use Rattle.bl_proc_invariant.specs.Turns.{Does, Turned}
-use Rattle.bl_proc_invariant.specs.Compressing.{left_now, right_now, AreThree, IsToPut, ToEvenRight, know_compression}
+use Rattle.bl_proc_invariant.specs.Compressing.{left_now, right_now, AreThree, IsToPut, ToEvenRight, know_compression_by}
 use Rattle.bl_proc_invariant.proofs.Acts.{of_held, not_gone}
 
 -- two places are changed, one after the other
@@ -30,8 +30,8 @@ is_put_two x y a b f n =
     let second = is_put_at y b (put_at x a f) in
     record { at = second.others x n ∙ first.at; at_two = second.at; others = λ z i j. second.others z j ∙ first.others z i }
 
-module _ {P : Type 0} (know : P → Know) (w : World P) (g : IsGood know w) (p : Name) (b : P) (level key : ℕ) (got : ℕ → Page) (at new : ℕ) (u : Puts) (before : know (w.proc p) ≡ know_compression level key got at new (PuttingFirst u)) (then : know b ≡ know_compression level key got at new (PuttingParent u)) where
-  sure : IsSure w p (know_compression level key got at new (PuttingFirst u))
+module _ {P : Type 0} (know : P → Know) (w : World P) (g : IsGood know w) (p : Name) (b : P) (level key : ℕ) (got : ℕ → Page) (at new : ℕ) (u : Puts) (before : know (w.proc p) ≡ know_compression_by level key got at new (PuttingFirst u)) (then : know b ≡ know_compression_by level key got at new (PuttingParent u)) where
+  sure : IsSure w p (know_compression_by level key got at new (PuttingFirst u))
   sure = rw before at (g.sure p)
 
   three : AreThree u.at
@@ -161,9 +161,9 @@ module _ {P : Type 0} (know : P → Know) (w : World P) (g : IsGood know w) (p :
     }
 
 -- the dead page is retired, and the other two are still held
-pub retire_turn : {P : Type 0} (know : P → Know) (w : World P) (g : IsGood know w) (p : Name) (b : P) (level key : ℕ) (got : ℕ → Page) (at new : ℕ) (t : Siblings) (decision : Decision) (s : State Page) → know (w.proc p) ≡ know_compression level key got at new (Retiring t decision) → know b ≡ know_compression level key got at new (OpeningLeft t decision) → Does w.now p (Retire t.right) s → Turned know w p (Retire t.right) s b
+pub retire_turn : {P : Type 0} (know : P → Know) (w : World P) (g : IsGood know w) (p : Name) (b : P) (level key : ℕ) (got : ℕ → Page) (at new : ℕ) (t : Siblings) (decision : Decision) (s : State Page) → know (w.proc p) ≡ know_compression_by level key got at new (Retiring t decision) → know b ≡ know_compression_by level key got at new (OpeningLeft t decision) → Does w.now p (Retire t.right) s → Turned know w p (Retire t.right) s b
 retire_turn know w g p b level key got at new t decision s before then does =
-    let is : IsSure w p (know_compression level key got at new (Retiring t decision)) = rw before at (g.sure p) in
+    let is : IsSure w p (know_compression_by level key got at new (Retiring t decision)) = rw before at (g.sure p) in
     let m : Mark = silent p (Retire t.right) in
     let three : AreThree t = is.sound.1 in
     let owns = does.changes.3 in

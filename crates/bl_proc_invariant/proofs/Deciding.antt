@@ -6,25 +6,25 @@ use Rattle.bl_page.specs.Machine.{Name, State}
 use Rattle.bl_page.specs.Machine.Owner.{Held}
 use Rattle.bl_page.specs.Machine.Act.{Get}
 use Rattle.bl_page.specs.Nodes.{Covers, unbounded, node_of}
-use Rattle.bl_core_tree.specs.Trees.{IsLive, IsChild}
-use Rattle.bl_core_tree.specs.Trees.Status.{Live, Right}
-use Rattle.bl_core_tree.proofs.Statuses.{live_live}
+use Rattle.bl_tree.specs.Trees.{IsLive, IsChild}
+use Rattle.bl_tree.specs.Trees.Status.{Live, Right}
+use Rattle.bl_tree.proofs.Statuses.{live_live}
 use Rattle.bl_rearrange.specs.Neighbours.{AreNeighbours}
-use Rattle.bl_core.proofs.Pushes.{HasSaid-silent}
+use Rattle.bl_tree_worlds.proofs.Pushes.{HasSaid-silent}
 use Rattle.bl_claims.specs.Trails.{Mark}
-use Rattle.bl_core.specs.Worlds.{Know, World, nodes, tree_of, IsSure, IsGood}
-use Rattle.bl_core.proofs.Descents.{not_released}
-use Rattle.bl_core.proofs.Neighbours.{meets}
-use Rattle.bl_proc_compress.specs.declared.compressing.Siblings.{Siblings}
-use Rattle.bl_proc_compress.specs.declared.compressing.Family.{Family}
-use Rattle.bl_proc_compress.specs.declared.compressing.Puts.{Puts}
-use Rattle.bl_proc_compress.specs.declared.compressing.Compression.TheVariants.{LatchedRight, PuttingFirst}
+use Rattle.bl_tree_worlds.specs.Worlds.{Know, World, nodes, tree_of, IsSure, IsGood}
+use Rattle.bl_tree_worlds.proofs.Descents.{not_released}
+use Rattle.bl_tree_worlds.proofs.Neighbours.{meets}
+use Rattle.bl_proc_compress.specs.declared.compression.Siblings.{Siblings}
+use Rattle.bl_proc_compress.specs.declared.compression.Family.{Family}
+use Rattle.bl_proc_compress.specs.declared.compression.Puts.{Puts}
+use Rattle.bl_proc_compress.specs.declared.compression.Compression.TheVariants.{LatchedRight, PuttingFirst}
 use Rattle.bl_proc_invariant.specs.Turns.{Does, Turned}
-use Rattle.bl_proc_invariant.specs.Compressing.{AreThree, ToMerge, ToEvenLeft, ToEvenRight, know_compression}
+use Rattle.bl_proc_invariant.specs.Compressing.{AreThree, ToMerge, ToEvenLeft, ToEvenRight, know_compression_by}
 use Rattle.bl_proc_invariant.proofs.Acts.{watched}
 
-module _ {P : Type 0} (know : P → Know) (w : World P) (g : IsGood know w) (p : Name) (b : P) (level key : ℕ) (got got' : ℕ → Page) (at at' new new' : ℕ) (f : Family) (c d : Page) (u : Puts) (before : know (w.proc p) ≡ know_compression level key got at new (LatchedRight f c)) (observed : d ≡ w.now.contents f.at.right) where
-  sure : IsSure w p (know_compression level key got at new (LatchedRight f c))
+module _ {P : Type 0} (know : P → Know) (w : World P) (g : IsGood know w) (p : Name) (b : P) (level key : ℕ) (got got' : ℕ → Page) (at at' new new' : ℕ) (f : Family) (c d : Page) (u : Puts) (before : know (w.proc p) ≡ know_compression_by level key got at new (LatchedRight f c)) (observed : d ≡ w.now.contents f.at.right) where
+  sure : IsSure w p (know_compression_by level key got at new (LatchedRight f c))
   sure = rw before at (g.sure p)
 
   parent_is : w.now.contents f.at.parent ≡ Inner f.parent
@@ -49,7 +49,7 @@ module _ {P : Type 0} (know : P → Know) (w : World P) (g : IsGood know w) (p :
   pub low_is : (nodes w.now f.at.right).shape.low ≡ f.key
   low_is = g.tree.side.sep_same f.at.right child.alive (λ z e. (let r : Live ≡ Right z = sym sure.holds.1.1.0.status ∙ e in cc)) ∙ child.sep_is
 
-  pub decide_turn : (s : State Page) → know b ≡ know_compression level key got' f.key new' (PuttingFirst u) → u.at ≡ f.at → got' u.at.parent ≡ Inner f.parent → got' u.at.left ≡ c → got' u.at.right ≡ d → AreNeighbours c d → (ToMerge got' u f.key new' ⊎ (ToEvenLeft got' u f.key new' ⊎ ToEvenRight got' u f.key new')) → Does w.now p (Get f.at.right) s → Turned know w p (Get f.at.right) s b
+  pub decide_turn : (s : State Page) → know b ≡ know_compression_by level key got' f.key new' (PuttingFirst u) → u.at ≡ f.at → got' u.at.parent ≡ Inner f.parent → got' u.at.left ≡ c → got' u.at.right ≡ d → AreNeighbours c d → (ToMerge got' u f.key new' ⊎ (ToEvenLeft got' u f.key new' ⊎ ToEvenRight got' u f.key new')) → Does w.now p (Get f.at.right) s → Turned know w p (Get f.at.right) s b
   decide_turn s then same got_parent got_left got_right neighbours does_it does =
       let x = f.at.left in
       let y = f.at.right in

@@ -6,14 +6,14 @@ use Rattle.bl_page.specs.Machine.Act.{Get}
 use Rattle.bl_page.specs.Nodes.{roots_of}
 use Rattle.bl_claims.specs.Trails.{Mark, Said}
 use Rattle.bl_claims.specs.Walks.{Each}
-use Rattle.bl_core.specs.Worlds.{Know, World, nodes, MapsTo, MayGet, IsGoes, IsSure, IsGood}
-use Rattle.bl_core.proofs.Descents.{goes_leftmost, goes_down, not_released, anchor_not_released}
-use Rattle.bl_proc_pages.specs.declared.onwards.Step.TheVariants as onward
-use Rattle.bl_proc_base.specs.declared.descent.Descent.{Descent}
-use Rattle.bl_proc_base.specs.declared.descent.Descent.TheVariants.{AtAnchor, At}
-use Rattle.bl_proc_base.specs.declared.descent.Descended.TheVariants.{On, Here}
-use Rattle.bl_proc_pages.specs.Onwards.{Leads}
-use Rattle.bl_proc_base.specs.Descents.{descent_page, Descends}
+use Rattle.bl_tree_worlds.specs.Worlds.{Know, World, nodes, MapsTo, MayGet, IsGoes, IsSure, IsGood}
+use Rattle.bl_tree_worlds.proofs.Descents.{goes_leftmost, goes_down, not_released, anchor_not_released}
+use Rattle.bl_proc_routes.specs.declared.routes.Step.TheVariants as onward
+use Rattle.bl_proc_steps.specs.declared.descent.Descent.{Descent}
+use Rattle.bl_proc_steps.specs.declared.descent.Descent.TheVariants.{AtAnchor, At}
+use Rattle.bl_proc_steps.specs.declared.descent.Descended.TheVariants.{On, Here}
+use Rattle.bl_proc_routes.specs.Routes.{Leads}
+use Rattle.bl_proc_steps.specs.Descents.{descent_page, Descends}
 use Rattle.bl_proc_invariant.specs.Turns.{Does, Turned}
 use Rattle.bl_proc_invariant.specs.Tables.{alone, goes_to, descent_goes, know_descent}
 use Rattle.bl_proc_invariant.specs.Knowing.{ending}

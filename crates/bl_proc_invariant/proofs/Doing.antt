@@ -16,35 +16,35 @@ use Rattle.bl_rearrange.specs.declared.sides.Side.{Side}
 use Rattle.bl_rearrange.specs.declared.sides.Side.TheVariants as side
 use Rattle.bl_claims.specs.Trails.{Mark, Trail}
 use Rattle.bl_claims.specs.Meanings.{writes_in, writes_of, Unwritten}
-use Rattle.bl_core.proofs.Meant.{writes_of-append, unwritten_since, unwritten_now, none_written, unwritten_on, got_on, got_last}
-use Rattle.bl_proc_base.specs.declared.acts.Seen.{Seen}
-use Rattle.bl_proc_base.specs.declared.acts.Seen.TheVariants as seen
-use Rattle.bl_proc_base.specs.declared.answers.Hint.{Hint}
-use Rattle.bl_proc_base.specs.declared.answers.Hint.TheVariants as post
-use Rattle.bl_proc_pages.specs.declared.onwards.Step.TheVariants.{Here}
-use Rattle.bl_proc_compress.specs.declared.compressing.Siblings.{Siblings}
-use Rattle.bl_proc_compress.specs.declared.compressing.Family.{Family}
-use Rattle.bl_proc_compress.specs.declared.compressing.Puts.{Puts}
-use Rattle.bl_proc_compress.specs.declared.compressing.Decision.{Decision}
-use Rattle.bl_proc_compress.specs.declared.compressing.Decision.TheVariants as decision
-use Rattle.bl_proc_compress.specs.declared.compressing.Compression.{Compression}
-use Rattle.bl_proc_compress.specs.declared.compressing.Compression.TheVariants.{LatchingLeft, LatchedLeft, LatchingRight, LatchedRight, PuttingFirst, PuttingParent, PuttingLast, Retiring, OpeningRight, OpeningLeft, OpeningParent}
-use Rattle.bl_proc_compress.specs.declared.compressing.Compressed.TheVariants as step
-use Rattle.bl_proc_pages.specs.Onwards.{Leads}
+use Rattle.bl_tree_worlds.proofs.Meant.{writes_of-append, unwritten_since, unwritten_now, none_written, unwritten_on, got_on, got_last}
+use Rattle.bl_proc_steps.specs.declared.acts.Seen.{Seen}
+use Rattle.bl_proc_steps.specs.declared.acts.Seen.TheVariants as seen
+use Rattle.bl_proc_steps.specs.declared.answers.Hint.{Hint}
+use Rattle.bl_proc_steps.specs.declared.answers.Hint.TheVariants as post
+use Rattle.bl_proc_routes.specs.declared.routes.Step.TheVariants.{Here}
+use Rattle.bl_proc_compress.specs.declared.compression.Siblings.{Siblings}
+use Rattle.bl_proc_compress.specs.declared.compression.Family.{Family}
+use Rattle.bl_proc_compress.specs.declared.compression.Puts.{Puts}
+use Rattle.bl_proc_compress.specs.declared.compression.Decision.{Decision}
+use Rattle.bl_proc_compress.specs.declared.compression.Decision.TheVariants as decision
+use Rattle.bl_proc_compress.specs.declared.compression.Compression.{Compression}
+use Rattle.bl_proc_compress.specs.declared.compression.Compression.TheVariants.{LatchingLeft, LatchedLeft, LatchingRight, LatchedRight, PuttingFirst, PuttingParent, PuttingLast, Retiring, OpeningRight, OpeningLeft, OpeningParent}
+use Rattle.bl_proc_compress.specs.declared.compression.Compressed.TheVariants as step
+use Rattle.bl_proc_routes.specs.Routes.{Leads}
 use Rattle.bl_proc_compress.specs.Compressions.{put_of, other, after_puts, IsFew, Links, Decides, compression_next}
-use Rattle.bl_proc_compress.specs.declared.squeezing.CompressReply.{CompressReply}
-use Rattle.bl_proc_compress.specs.declared.squeezing.CompressReply.TheVariants as reply
-use Rattle.bl_proc_compress.specs.declared.squeezing.CompressStage.{CompressStage}
-use Rattle.bl_proc_compress.specs.declared.squeezing.CompressStage.TheVariants as compress
+use Rattle.bl_proc_compress.specs.declared.compress.CompressReply.{CompressReply}
+use Rattle.bl_proc_compress.specs.declared.compress.CompressReply.TheVariants as reply
+use Rattle.bl_proc_compress.specs.declared.compress.CompressStage.{CompressStage}
+use Rattle.bl_proc_compress.specs.declared.compress.CompressStage.TheVariants as compress
 use Rattle.bl_proc_compress.specs.Compresses.{compress_reply, compress_next_in, CompressArrives}
 use Rattle.bl_proc_invariant.specs.Turns.{event_of}
 use Rattle.bl_claims.specs.Squeezed.{acts_in, acts_of, Since, AreBeside, LacksPlace, Once}
-use Rattle.bl_proc_invariant.specs.Logs.{to_right, AtFamily, AtLeft, AtBoth, put_act, to_last, IsToSqueeze, come_log, decision_log, squeeze_log, pressed_log, compress_log}
+use Rattle.bl_proc_invariant.specs.Logs.{to_right, AtFamily, AtLeft, AtBoth, put_act, to_last, IsToCompress, come_log, decision_log, compression_log, compress_reply_log, compress_log}
 use Rattle.bl_proc_invariant.proofs.SideBySide.{beside}
 use Rattle.bl_proc_invariant.proofs.ByPages.{right_is, got_both, merge_of, evened_of, evening_of, has_merged, has_evened}
 use Rattle.bl_proc_invariant.proofs.Logging.{way_stays, way_goes}
-use Rattle.bl_proc_unique.proofs.WayCases.{SqueezeCase, squeeze_case}
-use Rattle.bl_proc_unique.proofs.KindCases.{CompressCase}
+use Rattle.bl_proc_deterministic.proofs.WayCases.{CompressionCase, compression_case}
+use Rattle.bl_proc_deterministic.proofs.KindCases.{CompressCase}
 
 pub acts_of-push : (ms : Trail) (m : Mark) → acts_of (ms ++ m ∷ []) ≡ acts_of ms ++ acts_in m.event.act
 acts_of-push [] m = append-nil (acts_in m.event.act)
@@ -128,7 +128,7 @@ module _ (ms : Trail) (m : Mark) where
   abbrev both_on : {level key : ℕ} {f : Family} {c d : Page} {acts : List (Act Page Reply)} (new : List (Act Page Reply)) → acts_in m.event.act ≡ new → AtBoth level key ms f c d acts → AtBoth level key more f c d (acts ++ new)
   both_on new did h = record { left = left_on new did h.left; got = got_on h.left.family.since.during m h.got }
 
-  abbrev puts_on : {level key : ℕ} {u : Puts} {acts : List (Act Page Reply)} (new : List (Act Page Reply)) → acts_in m.event.act ≡ new → IsToSqueeze level key ms u acts → IsToSqueeze level key more u (acts ++ new)
+  abbrev puts_on : {level key : ℕ} {u : Puts} {acts : List (Act Page Reply)} (new : List (Act Page Reply)) → acts_in m.event.act ≡ new → IsToCompress level key ms u acts → IsToCompress level key more u (acts ++ new)
   puts_on new did h = record { family = h.family; left = h.left; right = h.right; at = h.at; both = both_on new did h.both; decided = h.decided }
 
   -- the left child was got just now, and the right one
@@ -160,24 +160,24 @@ module _ (ms : Trail) (m : Mark) where
     decision_on decision.Refused put h = once_on put h
     decision_on decision.Lost put h = unwritten_on ms m put h
 
-    pressed_on : (r : CompressReply) → writes_in m.event.act ≡ [] → pressed_log level key r ms → pressed_log level key r more
-    pressed_on (reply.Merged hint) put h = once_on put h
-    pressed_on reply.Evened put h = once_on put h
-    pressed_on reply.Enough put h = once_on put h
-    pressed_on reply.Alone put h = once_on put h
-    pressed_on (reply.Unposted hint) put h = once_on put h
-    pressed_on reply.NoRoom put h = once_on put h
+    compressed_on : (r : CompressReply) → writes_in m.event.act ≡ [] → compress_reply_log level key r ms → compress_reply_log level key r more
+    compressed_on (reply.Merged hint) put h = once_on put h
+    compressed_on reply.Evened put h = once_on put h
+    compressed_on reply.Enough put h = once_on put h
+    compressed_on reply.Alone put h = once_on put h
+    compressed_on (reply.Unposted hint) put h = once_on put h
+    compressed_on reply.NoRoom put h = once_on put h
 
     same_reply : (r r' : CompressReply) → Some r ≡ Some r' → r ≡ r'
     same_reply r r' e = cc
 
-    decision_pressed : (ended : Decision) (r : CompressReply) → compress_reply ended ≡ Some r → decision_log level key ended more → pressed_log level key r more
-    decision_pressed (decision.Merged hint) r e h = subst (λ z. pressed_log level key z more) (same_reply _ _ e) h
-    decision_pressed decision.Evened r e h = subst (λ z. pressed_log level key z more) (same_reply _ _ e) h
-    decision_pressed decision.Enough r e h = subst (λ z. pressed_log level key z more) (same_reply _ _ e) h
-    decision_pressed (decision.Unposted hint) r e h = subst (λ z. pressed_log level key z more) (same_reply _ _ e) h
-    decision_pressed decision.Refused r e h = subst (λ z. pressed_log level key z more) (same_reply _ _ e) h
-    decision_pressed decision.Lost r e h = absurd (let z : None ≡ Some r = e in cc)
+    decision_compressed : (ended : Decision) (r : CompressReply) → compress_reply ended ≡ Some r → decision_log level key ended more → compress_reply_log level key r more
+    decision_compressed (decision.Merged hint) r e h = subst (λ z. compress_reply_log level key z more) (same_reply _ _ e) h
+    decision_compressed decision.Evened r e h = subst (λ z. compress_reply_log level key z more) (same_reply _ _ e) h
+    decision_compressed decision.Enough r e h = subst (λ z. compress_reply_log level key z more) (same_reply _ _ e) h
+    decision_compressed (decision.Unposted hint) r e h = subst (λ z. compress_reply_log level key z more) (same_reply _ _ e) h
+    decision_compressed decision.Refused r e h = subst (λ z. compress_reply_log level key z more) (same_reply _ _ e) h
+    decision_compressed decision.Lost r e h = absurd (let z : None ≡ Some r = e in cc)
 
     lost_unwritten : (ended : Decision) → compress_reply ended ≡ None → decision_log level key ended more → Unwritten more
     lost_unwritten decision.Lost e h = h
@@ -188,14 +188,14 @@ module _ (ms : Trail) (m : Mark) where
     lost_unwritten decision.Refused e h = absurd (let z : Some reply.NoRoom ≡ None = e in cc)
 
     -- all three pages were put
-    last_on : (u : Puts) → IsToSqueeze level key more u (to_last u) → squeeze_log level key (after_puts u.at u.decision) more
+    last_on : (u : Puts) → IsToCompress level key more u (to_last u) → compression_log level key (after_puts u.at u.decision) more
     last_on u h = elim h.decided [
-      | inl m ↦ subst (λ z. squeeze_log level key (after_puts u.at z) more) (sym m.1.decision) (u, refl, h, m.1.decision, (_, refl))
-      | inr v ↦ subst (λ z. squeeze_log level key (after_puts u.at z) more) (sym v.decision) (once_now (has_evened level key more u h v))
+      | inl m ↦ subst (λ z. compression_log level key (after_puts u.at z) more) (sym m.1.decision) (u, refl, h, m.1.decision, (_, refl))
+      | inr v ↦ subst (λ z. compression_log level key (after_puts u.at z) more) (sym v.decision) (once_now (has_evened level key more u h v))
     ]
 
     -- no frame was there for the first put
-    lacks : (u : Puts) → m.event.act ≡ Miss missed.Reservation → IsToSqueeze level key ms u (to_right u.at []) → LacksPlace level key more
+    lacks : (u : Puts) → m.event.act ≡ Miss missed.Reservation → IsToCompress level key ms u (to_right u.at []) → LacksPlace level key more
     lacks u did h = record {
       until = ms;
       mark = m;
@@ -209,7 +209,7 @@ module _ (ms : Trail) (m : Mark) where
     }
 
     -- the right one was retired
-    retired_on : (at : Siblings) (ended : Decision) → m.event.act ≡ Retire at.right → squeeze_log level key (Retiring at ended) ms → decision_log level key ended more
+    retired_on : (at : Siblings) (ended : Decision) → m.event.act ≡ Retire at.right → compression_log level key (Retiring at ended) ms → decision_log level key ended more
     retired_on at ended did (u, same, h, is, one) =
         let e : acts_in m.event.act ≡ Retire u.at.right ∷ [] = ap acts_in did ∙ ap (λ (t : Siblings). Retire t.right ∷ []) (sym same) in
         let whole = puts_on (Retire u.at.right ∷ []) e h in
@@ -218,12 +218,12 @@ module _ (ms : Trail) (m : Mark) where
           | inr v ↦ absurd (not_evened one.0 (sym (is ∙ one.1) ∙ v.decision))
         ]
 
-    links_on : (f : Family) (c : Page) (d : Compression) → Links f c d → m.event.act ≡ Get f.at.left → m.saw ≡ Some c → AtFamily level key ms f (Get f.at.parent ∷ Latch f.at.left ∷ []) → squeeze_log level key d more
+    links_on : (f : Family) (c : Page) (d : Compression) → Links f c d → m.event.act ≡ Get f.at.left → m.saw ≡ Some c → AtFamily level key ms f (Get f.at.parent ∷ Latch f.at.left ∷ []) → compression_log level key d more
     links_on f c (LatchingRight h page) t did saw log = rw (← t.0, ← t.1) at (left_got c did saw log)
     links_on f c (OpeningLeft at ended) t did saw log = subst (λ z. decision_log level key z more) (sym t.2) (once_now (let got = left_got c did saw log in record { first = record { family = f; at = got.family; left = c; got = got.got }; between = λ e. t.1 (right_is c ∙ e); hint_is = ap (λ l. post.Post l (high_of c)) log.level_is }))
     links_on f c old t did saw log = absurd t
 
-    decides_on : (f : Family) (c d : Page) (new : Compression) → Decides f c d new → m.event.act ≡ Get f.at.right → m.saw ≡ Some d → AtLeft level key ms f c (Get f.at.parent ∷ Latch f.at.left ∷ Get f.at.left ∷ Latch f.at.right ∷ []) → squeeze_log level key new more
+    decides_on : (f : Family) (c d : Page) (new : Compression) → Decides f c d new → m.event.act ≡ Get f.at.right → m.saw ≡ Some d → AtLeft level key ms f c (Get f.at.parent ∷ Latch f.at.left ∷ Get f.at.left ∷ Latch f.at.right ∷ []) → compression_log level key new more
     decides_on f c d (PuttingFirst u) t did saw log =
         let same = decided_at f c d u t in
         record { family = f; left = c; right = d; at = same; both = subst (λ (z : Siblings). AtBoth level key more f c d (to_right z [])) (sym same) (right_got d did saw log); decided = t }
@@ -231,25 +231,25 @@ module _ (ms : Trail) (m : Mark) where
     decides_on f c d (OpeningRight at decision.Lost) t did saw log = unwritten_on ms m (ap writes_in did) (since_unwritten refl log.family.since)
     decides_on f c d old t did saw log = absurd t
 
-    squeeze_on : {c d : Compression} {what : Seen} → SqueezeCase c what (step.On d) → m.event.act ≡ event_of None (compression_next c) what → ((x : ℕ) (e : Page) → m.event.act ≡ Get x → what ≡ seen.Words e → m.saw ≡ Some e) → squeeze_log level key c ms → squeeze_log level key d more
-    squeeze_on (SqueezeCase.LatchLeft f d t) did saw h = subst (λ z. squeeze_log level key z more) (sym t) (family_on (Latch f.at.left ∷ []) (ap acts_in did) h)
-    squeeze_on (SqueezeCase.MissLeft f d t) did saw h = subst (λ z. squeeze_log level key z more) (sym t) (family_on [] (ap acts_in did) h)
-    squeeze_on (SqueezeCase.LeaveLeft f d t) did saw h = subst (λ z. squeeze_log level key z more) (sym t) (unwritten_on ms m (ap writes_in did) (since_unwritten refl h.since))
-    squeeze_on (SqueezeCase.GotLeft f c d t) did saw h = links_on f c d t did (saw f.at.left c did refl) h
-    squeeze_on (SqueezeCase.LatchRight f c d t) did saw h = subst (λ z. squeeze_log level key z more) (sym t) (left_on (Latch f.at.right ∷ []) (ap acts_in did) h)
-    squeeze_on (SqueezeCase.MissRight f c d t) did saw h = subst (λ z. squeeze_log level key z more) (sym t) (left_on [] (ap acts_in did) h)
-    squeeze_on (SqueezeCase.LeaveRight f c d t) did saw h = subst (λ z. squeeze_log level key z more) (sym t) (unwritten_on ms m (ap writes_in did) (since_unwritten refl h.family.since))
-    squeeze_on (SqueezeCase.GotRight f c e d t) did saw h = decides_on f c e d t did (saw f.at.right e did refl) h
-    squeeze_on (SqueezeCase.PutFirst u d t) did saw h = subst (λ z. squeeze_log level key z more) (sym t) (puts_on (put_act u.gains u ∷ []) (ap acts_in (did ∙ put_event u.gains u) ∙ act_put u.gains u) h)
-    squeeze_on (SqueezeCase.FirstRefused u d t) did saw h = subst (λ z. squeeze_log level key z more) (sym t) (once_now (lacks u (did ∙ refused_event u.gains u) h))
-    squeeze_on (SqueezeCase.PutParent u d t) did saw h = subst (λ z. squeeze_log level key z more) (sym t) (puts_on (Put u.at.parent u.parent ∷ []) (ap acts_in did) h)
-    squeeze_on (SqueezeCase.PutLast u d t) did saw h = subst (λ z. squeeze_log level key z more) (sym t) (last_on u (puts_on (put_act (other u.gains) u ∷ []) (ap acts_in (did ∙ put_event (other u.gains) u) ∙ act_put (other u.gains) u) h))
-    squeeze_on (SqueezeCase.Retired at ended d t) did saw h = subst (λ z. squeeze_log level key z more) (sym t) (retired_on at ended did h)
-    squeeze_on (SqueezeCase.OpenedRight at ended d t) did saw h = subst (λ z. squeeze_log level key z more) (sym t) (decision_on ended (ap writes_in did) h)
-    squeeze_on (SqueezeCase.OpenedLeft at ended d t) did saw h = subst (λ z. squeeze_log level key z more) (sym t) (decision_on ended (ap writes_in did) h)
+    compression_on : {c d : Compression} {what : Seen} → CompressionCase c what (step.On d) → m.event.act ≡ event_of None (compression_next c) what → ((x : ℕ) (e : Page) → m.event.act ≡ Get x → what ≡ seen.Words e → m.saw ≡ Some e) → compression_log level key c ms → compression_log level key d more
+    compression_on (CompressionCase.LatchLeft f d t) did saw h = subst (λ z. compression_log level key z more) (sym t) (family_on (Latch f.at.left ∷ []) (ap acts_in did) h)
+    compression_on (CompressionCase.MissLeft f d t) did saw h = subst (λ z. compression_log level key z more) (sym t) (family_on [] (ap acts_in did) h)
+    compression_on (CompressionCase.LeaveLeft f d t) did saw h = subst (λ z. compression_log level key z more) (sym t) (unwritten_on ms m (ap writes_in did) (since_unwritten refl h.since))
+    compression_on (CompressionCase.GotLeft f c d t) did saw h = links_on f c d t did (saw f.at.left c did refl) h
+    compression_on (CompressionCase.LatchRight f c d t) did saw h = subst (λ z. compression_log level key z more) (sym t) (left_on (Latch f.at.right ∷ []) (ap acts_in did) h)
+    compression_on (CompressionCase.MissRight f c d t) did saw h = subst (λ z. compression_log level key z more) (sym t) (left_on [] (ap acts_in did) h)
+    compression_on (CompressionCase.LeaveRight f c d t) did saw h = subst (λ z. compression_log level key z more) (sym t) (unwritten_on ms m (ap writes_in did) (since_unwritten refl h.family.since))
+    compression_on (CompressionCase.GotRight f c e d t) did saw h = decides_on f c e d t did (saw f.at.right e did refl) h
+    compression_on (CompressionCase.PutFirst u d t) did saw h = subst (λ z. compression_log level key z more) (sym t) (puts_on (put_act u.gains u ∷ []) (ap acts_in (did ∙ put_event u.gains u) ∙ act_put u.gains u) h)
+    compression_on (CompressionCase.FirstRefused u d t) did saw h = subst (λ z. compression_log level key z more) (sym t) (once_now (lacks u (did ∙ refused_event u.gains u) h))
+    compression_on (CompressionCase.PutParent u d t) did saw h = subst (λ z. compression_log level key z more) (sym t) (puts_on (Put u.at.parent u.parent ∷ []) (ap acts_in did) h)
+    compression_on (CompressionCase.PutLast u d t) did saw h = subst (λ z. compression_log level key z more) (sym t) (last_on u (puts_on (put_act (other u.gains) u ∷ []) (ap acts_in (did ∙ put_event (other u.gains) u) ∙ act_put (other u.gains) u) h))
+    compression_on (CompressionCase.Retired at ended d t) did saw h = subst (λ z. compression_log level key z more) (sym t) (retired_on at ended did h)
+    compression_on (CompressionCase.OpenedRight at ended d t) did saw h = subst (λ z. compression_log level key z more) (sym t) (decision_on ended (ap writes_in did) h)
+    compression_on (CompressionCase.OpenedLeft at ended d t) did saw h = subst (λ z. compression_log level key z more) (sym t) (decision_on ended (ap writes_in did) h)
 
-    over_on : {c : Compression} {what : Seen} {ended : Decision} → SqueezeCase c what (step.Over ended) → m.event.act ≡ event_of None (compression_next c) what → squeeze_log level key c ms → decision_log level key ended more
-    over_on (SqueezeCase.OpenedParent x ended _ t) did h = subst (λ z. decision_log level key z more) (sym t) (decision_on ended (ap writes_in did) h)
+    over_on : {c : Compression} {what : Seen} {ended : Decision} → CompressionCase c what (step.Over ended) → m.event.act ≡ event_of None (compression_next c) what → compression_log level key c ms → decision_log level key ended more
+    over_on (CompressionCase.OpenedParent x ended _ t) did h = subst (λ z. decision_log level key z more) (sym t) (decision_on ended (ap writes_in did) h)
 
     -- at the parent
     met_on : (x : ℕ) (parent : Inner) (f : Family) → CompressArrives key x parent (compress.Compressing (LatchingLeft f)) → Leads (InnerPage parent) key level Here → m.event.act ≡ Get x → m.saw ≡ Some (InnerPage parent) → Since ms x [] → compress_log level key (compress.Compressing (LatchingLeft f)) more
@@ -288,31 +288,31 @@ module _ (ms : Trail) (m : Mark) where
       compress_on (CompressCase.Came a what b t) did saw h = way_goes m level key (λ x k. since_unwritten refl k) (unwritten_on ms m) since_now a b what t did h
       compress_on (CompressCase.Met x parent f l t) did saw h = met_on x parent f t l did (saw x (InnerPage parent) did refl) h
       compress_on (CompressCase.Single x parent y l t) did saw h = single_on x parent y t l did (saw x (InnerPage parent) did refl) h
-      compress_on (CompressCase.Squeezed c what d t) did saw h = squeeze_on (squeeze_case _ c what _ t) did saw h
-      compress_on (CompressCase.Lost c what a (ended, t, none, start)) did saw h = subst (λ z. come_log z more) (sym start) (lost_unwritten ended none (over_on (squeeze_case _ c what _ t) did h))
-      compress_on (CompressCase.Finished c what r (ended, t, some)) did saw h = decision_pressed ended r some (over_on (squeeze_case _ c what _ t) did h)
-      compress_on (CompressCase.Opened x r t) did saw h = subst (λ z. pressed_log level key z more) (sym t) (once_on (ap writes_in did) h)
-      compress_on (CompressCase.Ended r last t) did saw h = subst (λ z. pressed_log level key z more) (sym t) (pressed_on r (ap writes_in did) h)
+      compress_on (CompressCase.WentOn c what d t) did saw h = compression_on (compression_case _ c what _ t) did saw h
+      compress_on (CompressCase.Lost c what a (ended, t, none, start)) did saw h = subst (λ z. come_log z more) (sym start) (lost_unwritten ended none (over_on (compression_case _ c what _ t) did h))
+      compress_on (CompressCase.Finished c what r (ended, t, some)) did saw h = decision_compressed ended r some (over_on (compression_case _ c what _ t) did h)
+      compress_on (CompressCase.Opened x r t) did saw h = subst (λ z. compress_reply_log level key z more) (sym t) (once_on (ap writes_in did) h)
+      compress_on (CompressCase.Ended r last t) did saw h = subst (λ z. compress_reply_log level key z more) (sym t) (compressed_on r (ap writes_in did) h)
 
   -- a miss that is of no turn of its own changes nothing
   module _ {what : Missed} (level key : ℕ) (did : m.event.act ≡ Miss what) where
-    squeeze_stays : (c : Compression) → squeeze_log level key c ms → squeeze_log level key c more
-    squeeze_stays (LatchingLeft f) h = family_on [] (ap acts_in did) h
-    squeeze_stays (LatchedLeft f) h = family_on [] (ap acts_in did) h
-    squeeze_stays (LatchingRight f c) h = left_on [] (ap acts_in did) h
-    squeeze_stays (LatchedRight f c) h = left_on [] (ap acts_in did) h
-    squeeze_stays (PuttingFirst u) h = puts_on [] (ap acts_in did) h
-    squeeze_stays (PuttingParent u) h = puts_on [] (ap acts_in did) h
-    squeeze_stays (PuttingLast u) h = puts_on [] (ap acts_in did) h
-    squeeze_stays (Retiring at ended) (u, same, h, is, one) = (u, same, puts_on [] (ap acts_in did) h, is, one)
-    squeeze_stays (OpeningRight at ended) h = decision_on level key ended (ap writes_in did) h
-    squeeze_stays (OpeningLeft at ended) h = decision_on level key ended (ap writes_in did) h
-    squeeze_stays (OpeningParent x ended) h = decision_on level key ended (ap writes_in did) h
+    compression_stays : (c : Compression) → compression_log level key c ms → compression_log level key c more
+    compression_stays (LatchingLeft f) h = family_on [] (ap acts_in did) h
+    compression_stays (LatchedLeft f) h = family_on [] (ap acts_in did) h
+    compression_stays (LatchingRight f c) h = left_on [] (ap acts_in did) h
+    compression_stays (LatchedRight f c) h = left_on [] (ap acts_in did) h
+    compression_stays (PuttingFirst u) h = puts_on [] (ap acts_in did) h
+    compression_stays (PuttingParent u) h = puts_on [] (ap acts_in did) h
+    compression_stays (PuttingLast u) h = puts_on [] (ap acts_in did) h
+    compression_stays (Retiring at ended) (u, same, h, is, one) = (u, same, puts_on [] (ap acts_in did) h, is, one)
+    compression_stays (OpeningRight at ended) h = decision_on level key ended (ap writes_in did) h
+    compression_stays (OpeningLeft at ended) h = decision_on level key ended (ap writes_in did) h
+    compression_stays (OpeningParent x ended) h = decision_on level key ended (ap writes_in did) h
 
     pub compress_stays : (a : CompressStage) → compress_log level key a ms → compress_log level key a more
     compress_stays compress.New h = none_written ms m (ap writes_in did) h
     compress_stays (compress.Coming a) h = way_stays (unwritten_on ms m (ap writes_in did)) (λ x k. since_on [] (ap acts_in did) k) a h
-    compress_stays (compress.Compressing c) h = squeeze_stays c h
+    compress_stays (compress.Compressing c) h = compression_stays c h
     compress_stays (compress.Staying x) h = once_on (ap writes_in did) h
-    compress_stays (compress.Ending r) h = pressed_on level key r (ap writes_in did) h
-    compress_stays (compress.Over r) h = pressed_on level key r (ap writes_in did) h
+    compress_stays (compress.Ending r) h = compressed_on level key r (ap writes_in did) h
+    compress_stays (compress.Over r) h = compressed_on level key r (ap writes_in did) h

@@ -10,32 +10,32 @@ use Rattle.bl_rearrange.specs.declared.fitted.Fitted.TheVariants.{Split}
 use Rattle.bl_rearrange.specs.Rearranged.{IsFitted}
 use Rattle.bl_model.specs.Map.{Map}
 use Rattle.bl_page.specs.Nodes.{unbounded, node_of}
-use Rattle.bl_core_tree.specs.Trees.{Status, is_live, IsLive}
-use Rattle.bl_core_tree.specs.Trees.Status.{Free, Fresh, Live}
-use Rattle.bl_core_tree.specs.Moves.{IsMapRow, IsRow, IsCut}
-use Rattle.bl_core_tree.proofs.Statuses.{live_live, free_dead, fresh_dead}
+use Rattle.bl_tree.specs.Trees.{Status, is_live, IsLive}
+use Rattle.bl_tree.specs.Trees.Status.{Free, Fresh, Live}
+use Rattle.bl_tree.specs.Moves.{IsMapRow, IsRow, IsCut}
+use Rattle.bl_tree.proofs.Statuses.{live_live, free_dead, fresh_dead}
 use Rattle.bl_claims.specs.Trails.{Said, Mark, HasSaid}
-use Rattle.bl_core.proofs.Pushes.{HasSaid-silent, SaysAt-last}
-use Rattle.bl_core.specs.Worlds.{Hold, Child, Know, World, nodes, MapsTo, IsHeld, IsRelied, IsSure, IsBounded, IsGood, silent, put_mark}
-use Rattle.bl_core.proofs.Frames.{Each-map}
-use Rattle.bl_core.proofs.After.{after, Extends-after, put_at, is_put_at}
-use Rattle.bl_core.proofs.Moves.{PutsFresh-keeps, PutsRow-keeps, PutsSplit-keeps}
-use Rattle.bl_core.proofs.Fitted.{split_cut}
-use Rattle.bl_proc_base.specs.declared.acts.Seen.{Seen}
-use Rattle.bl_proc_base.specs.declared.editing.Edited.TheVariants.{On, Over}
-use Rattle.bl_proc_base.specs.Edits.{edit_next}
+use Rattle.bl_tree_worlds.proofs.Pushes.{HasSaid-silent, SaysAt-last}
+use Rattle.bl_tree_worlds.specs.Worlds.{Hold, Child, Know, World, nodes, MapsTo, IsHeld, IsRelied, IsSure, IsBounded, IsGood, silent, put_mark}
+use Rattle.bl_tree_worlds.proofs.Frames.{Each-map}
+use Rattle.bl_tree_worlds.proofs.After.{after, Extends-after, put_at, is_put_at}
+use Rattle.bl_tree_worlds.proofs.Moves.{PutsFresh-keeps, PutsRow-keeps, PutsSplit-keeps}
+use Rattle.bl_tree_worlds.proofs.Fitted.{split_cut}
+use Rattle.bl_proc_steps.specs.declared.acts.Seen.{Seen}
+use Rattle.bl_proc_steps.specs.declared.edit.Edited.TheVariants.{On, Over}
+use Rattle.bl_proc_steps.specs.Edits.{edit_next}
 use Rattle.bl_proc_invariant.specs.Turns.{event_of, IsObserved, Does, Turned}
-use Rattle.bl_proc_base.specs.declared.editing.Outcome.{Outcome}
-use Rattle.bl_proc_base.specs.declared.editing.Outcome.TheVariants as outcome
-use Rattle.bl_proc_base.specs.declared.editing.Full.{Full}
-use Rattle.bl_proc_base.specs.declared.editing.Splitting.{Splitting}
-use Rattle.bl_proc_base.specs.declared.editing.Edit.{Edit}
-use Rattle.bl_proc_base.specs.declared.editing.Edit.TheVariants.{Putting, Taking, PuttingNew, PuttingOld, OpeningNew, Opening}
+use Rattle.bl_proc_steps.specs.declared.edit.Outcome.{Outcome}
+use Rattle.bl_proc_steps.specs.declared.edit.Outcome.TheVariants as outcome
+use Rattle.bl_proc_steps.specs.declared.edit.Full.{Full}
+use Rattle.bl_proc_steps.specs.declared.edit.Splitting.{Splitting}
+use Rattle.bl_proc_steps.specs.declared.edit.Edit.{Edit}
+use Rattle.bl_proc_steps.specs.declared.edit.Edit.TheVariants.{Putting, Taking, PuttingNew, PuttingOld, OpeningNew, Opening}
 use Rattle.bl_proc_invariant.specs.Tables.{carrying, holds_known, Aim, IsAim, IsDue, IsBelow, know_edit}
 use Rattle.bl_proc_invariant.proofs.Acts.{of_held, not_gone, watched, opened, taken}
 use Rattle.bl_proc_invariant.proofs.Holdings.{cut_low}
 use Rattle.bl_proc_invariant.proofs.Going.{goes_still, put_steady, take_steady, was_put, was_fresh}
-use Rattle.bl_proc_unique.proofs.WayCases.{EditCase}
+use Rattle.bl_proc_deterministic.proofs.WayCases.{EditCase}
 
 -- one row of one level
 abbrev pub row_at : ℕ → ℕ → Option ℕ → (ℕ → Map) → ℕ → Map
@@ -206,7 +206,7 @@ module _ {P : Type 0} (know : P → Know) (w : World P) (g : IsGood know w) (p :
         sound = (due.changes, tt);
       })
 
-  -- a page is taken for the upper part
+  -- a page is taken for the upper half
   pub take_turn : (full : Full) (y : ℕ) (t : Splitting) (s : State Page) → know (w.proc p) ≡ know_edit aim got (Taking full) → know b ≡ know_edit aim got (PuttingNew t) → w.now.owner y ≡ Released → y < w.size → (t.at ≡ full.at) → (t.new ≡ y) → IsFitted full.page full.key full.word y (Split t.left t.right t.separator) → Does w.now p (Take y) s → Turned know w p (Take y) s b
   take_turn full y t s before then free within at new fitted does =
       let is : IsSure w p (know_edit aim got (Taking full)) = rw before at (g.sure p) in
@@ -243,7 +243,7 @@ module _ {P : Type 0} (know : P → Know) (w : World P) (g : IsGood know w) (p :
         sound = (rw (at, known) due, rw (at, new) cut_here, (is.sound.4, below));
       })
 
-  -- the upper part is put first, in the page that nobody names yet
+  -- the upper half is put first, in the page that nobody names yet
   pub fresh_turn : (t : Splitting) (s : State Page) → know (w.proc p) ≡ know_edit aim got (PuttingNew t) → know b ≡ know_edit aim got (PuttingOld t) → Does w.now p (Put t.new t.right) s → Turned know w p (Put t.new t.right) s b
   fresh_turn t s before then does =
       let is : IsSure w p (know_edit aim got (PuttingNew t)) = rw before at (g.sure p) in
@@ -292,7 +292,7 @@ module _ {P : Type 0} (know : P → Know) (w : World P) (g : IsGood know w) (p :
         }) g;
       }
 
-  -- then the lower part in the old page, which names the new one
+  -- then the lower half in the old page, which names the new one
   pub split_turn : (t : Splitting) (s : State Page) → know (w.proc p) ≡ know_edit aim got (PuttingOld t) → know b ≡ know_edit aim got (OpeningNew t.at t.new t.separator) → Does w.now p (Put t.at t.left) s → Turned know w p (Put t.at t.left) s b
   split_turn t s before then does =
       let is : IsSure w p (know_edit aim got (PuttingOld t)) = rw before at (g.sure p) in

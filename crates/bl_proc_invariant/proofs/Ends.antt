@@ -6,9 +6,9 @@ use Rattle.bl_page.specs.Machine.Act.{Begin, End}
 use Rattle.bl_page.specs.Machine.Phase.{Waiting, Running}
 use Rattle.bl_page.specs.Nodes.{unbounded}
 use Rattle.bl_claims.specs.Trails.{Said, Answered, HasSaid}
-use Rattle.bl_core.proofs.Pushes.{HasSaid-silent}
-use Rattle.bl_core.specs.Worlds.{Goes, Stage, Know, World, IsGoes, IsSure, IsGood, silent}
-use Rattle.bl_core.proofs.Frames.{Each-map}
+use Rattle.bl_tree_worlds.proofs.Pushes.{HasSaid-silent}
+use Rattle.bl_tree_worlds.specs.Worlds.{Goes, Stage, Know, World, IsGoes, IsSure, IsGood, silent}
+use Rattle.bl_tree_worlds.proofs.Frames.{Each-map}
 use Rattle.bl_proc_invariant.specs.Turns.{Does, Turned}
 use Rattle.bl_proc_invariant.specs.Tables.{idle, Carried, carrying}
 use Rattle.bl_proc_invariant.specs.Knowing.{early, ending, late}

@@ -6,16 +6,16 @@ use Rattle.bl_model.specs.Writes.{effected, MayHave}
 use Rattle.bl_page.specs.declared.page.Page.{Page}
 use Rattle.bl_page.specs.Machine.{Name, Act}
 use Rattle.bl_page.specs.Machine.Owner.{Held}
-use Rattle.bl_core_tree.specs.Trees.Status.{Live}
+use Rattle.bl_tree.specs.Trees.Status.{Live}
 use Rattle.bl_claims.specs.Trails.{HasSaid}
-use Rattle.bl_core.proofs.Pushes.{HasSaid-silent}
-use Rattle.bl_core.specs.Worlds.{Stage, World, IsStage, IsGoes, IsRelied, HoldsPage}
+use Rattle.bl_tree_worlds.proofs.Pushes.{HasSaid-silent}
+use Rattle.bl_tree_worlds.specs.Worlds.{Stage, World, IsStage, IsGoes, IsRelied, HoldsPage}
 use Rattle.bl_claims.specs.Walks.{Each}
-use Rattle.bl_core.proofs.Watches.{Learns}
-use Rattle.bl_core.proofs.Fitted.{fits_row, without_row, value_row}
-use Rattle.bl_proc_base.specs.declared.editing.Edit.{Edit}
-use Rattle.bl_proc_base.specs.declared.editing.Edit.TheVariants.{Putting, Taking, PuttingNew, PuttingOld, OpeningNew, Opening}
-use Rattle.bl_proc_base.specs.Edits.{EntersPair, DropsPair, GivesValue}
+use Rattle.bl_tree_worlds.proofs.Watches.{Learns}
+use Rattle.bl_tree_worlds.proofs.Fitted.{fits_row, without_row, value_row}
+use Rattle.bl_proc_steps.specs.declared.edit.Edit.{Edit}
+use Rattle.bl_proc_steps.specs.declared.edit.Edit.TheVariants.{Putting, Taking, PuttingNew, PuttingOld, OpeningNew, Opening}
+use Rattle.bl_proc_steps.specs.Edits.{EntersPair, DropsPair, GivesValue}
 use Rattle.bl_proc_writes.specs.Writes.{Performs}
 use Rattle.bl_proc_invariant.specs.Tables.{Aim, IsDue, know_edit}
 

@@ -2,11 +2,11 @@
 use Rattle.std.proofs.Common.{◌≡◌, None, [], refl, arith}
 use Rattle.bl_page.specs.Machine.{Name, State}
 use Rattle.bl_page.specs.Machine.Act.{End}
-use Rattle.bl_core.proofs.Pushes.{HasSaid-silent}
-use Rattle.bl_core.specs.Worlds.{Stage, World, IsGood, silent}
+use Rattle.bl_tree_worlds.proofs.Pushes.{HasSaid-silent}
+use Rattle.bl_tree_worlds.specs.Worlds.{Stage, World, IsGood, silent}
 use Rattle.bl_proc.specs.declared.kinds.Proc.TheVariants.{Post}
-use Rattle.bl_proc_writes.specs.declared.posting.PostStage.TheVariants.{Over}
-use Rattle.bl_proc_writes.specs.declared.posting.PostReply.TheVariants.{Stale}
+use Rattle.bl_proc_writes.specs.declared.post.PostStage.TheVariants.{Over}
+use Rattle.bl_proc_writes.specs.declared.post.PostReply.TheVariants.{Stale}
 use Rattle.bl_page.specs.declared.page.Page.{Page}
 use Rattle.bl_proc_invariant.specs.Turns.{Does, Turned}
 use Rattle.bl_proc_invariant.specs.Knowing.{Run, know, late}

@@ -5,14 +5,14 @@ use Rattle.bl_page.specs.declared.page.Page.{Page}
 use Rattle.bl_page.specs.Machine.{Name, IsAt}
 use Rattle.bl_page.specs.Machine.Owner.{Released, Held, Retired}
 use Rattle.bl_page.specs.Machine.Act.{Put, Take}
-use Rattle.bl_core_tree.specs.Trees.{Status}
-use Rattle.bl_core_tree.specs.Trees.Status.{Free, Fresh, Live, Anchored}
-use Rattle.bl_core_tree.proofs.Statuses.{live_live}
+use Rattle.bl_tree.specs.Trees.{Status}
+use Rattle.bl_tree.specs.Trees.Status.{Free, Fresh, Live, Anchored}
+use Rattle.bl_tree.proofs.Statuses.{live_live}
 use Rattle.bl_page.specs.Nodes.{node_of}
 use Rattle.bl_claims.specs.Walks.{Each}
-use Rattle.bl_core.specs.Worlds.{Goes, World, nodes, was_in, IsGoes}
-use Rattle.bl_core.proofs.Frames.{Each-map}
-use Rattle.bl_core.proofs.Steady.{Steady, may_still, was_live, free_not, fresh_not, anchored_not}
+use Rattle.bl_tree_worlds.specs.Worlds.{Goes, World, nodes, was_in, IsGoes}
+use Rattle.bl_tree_worlds.proofs.Frames.{Each-map}
+use Rattle.bl_tree_worlds.proofs.Steady.{Steady, may_still, was_live, free_not, fresh_not, anchored_not}
 use Rattle.bl_proc_invariant.specs.Turns.{Does}
 
 pub goes_still : {P : Type 0} (w w' : World P) (p : Name) (goes : List Goes) → Steady w w' → Each (IsGoes w p) goes → Each (IsGoes w' p) goes

@@ -9,25 +9,25 @@ use Rattle.bl_page.specs.Machine.Owner.{Released, Held}
 use Rattle.bl_page.specs.Machine.Act.{Get, Put, Take, Latch, Miss}
 use Rattle.bl_page.specs.Pairs.{end_of}
 use Rattle.bl_page.specs.Nodes.{unbounded, node_of, roots_of}
-use Rattle.bl_core_tree.specs.Trees.Status.{Free, Fresh, Live, Uprooted, Anchored}
-use Rattle.bl_core_tree.proofs.Statuses.{free_dead, fresh_dead}
-use Rattle.bl_core.proofs.Pushes.{HasSaid-silent}
+use Rattle.bl_tree.specs.Trees.Status.{Free, Fresh, Live, Uprooted, Anchored}
+use Rattle.bl_tree.proofs.Statuses.{free_dead, fresh_dead}
+use Rattle.bl_tree_worlds.proofs.Pushes.{HasSaid-silent}
 use Rattle.bl_claims.specs.Trails.{Mark, HasSaid}
-use Rattle.bl_core.specs.Worlds.{IfKnown, Stage, Know, World, nodes, IsStage, IsHeld, IsGoes, IsSure, IsBounded, IsGood, silent, put_mark}
+use Rattle.bl_tree_worlds.specs.Worlds.{IfKnown, Stage, Know, World, nodes, IsStage, IsHeld, IsGoes, IsSure, IsBounded, IsGood, silent, put_mark}
 use Rattle.bl_claims.specs.Walks.{Each}
-use Rattle.bl_core.proofs.Watches.{Learns}
-use Rattle.bl_core.proofs.After.{after, Extends-after, put_at, is_put_at}
-use Rattle.bl_core.proofs.Descents.{anchor_not_released}
-use Rattle.bl_core.proofs.Moves.{PutsFresh-keeps, PutsTop-keeps}
-use Rattle.bl_proc_base.specs.declared.growing.Rise.{Rise}
-use Rattle.bl_proc_base.specs.declared.growing.Raising.{Raising}
-use Rattle.bl_proc_base.specs.declared.growing.Growth.{Growth}
-use Rattle.bl_proc_base.specs.declared.growing.Growth.TheVariants as growth
-use Rattle.bl_proc_base.specs.declared.acts.Seen.{Seen}
-use Rattle.bl_proc_base.specs.declared.growing.Grew.TheVariants.{On, Grown, Refused}
-use Rattle.bl_proc_base.specs.declared.approaching.Approach.TheVariants.{Start}
-use Rattle.bl_proc_writes.specs.declared.posting.PostStage.TheVariants.{Growing}
-use Rattle.bl_proc_base.specs.Growths.{growth_next, IsTop, IsAnchor, Raises}
+use Rattle.bl_tree_worlds.proofs.Watches.{Learns}
+use Rattle.bl_tree_worlds.proofs.After.{after, Extends-after, put_at, is_put_at}
+use Rattle.bl_tree_worlds.proofs.Descents.{anchor_not_released}
+use Rattle.bl_tree_worlds.proofs.Moves.{PutsFresh-keeps, PutsTop-keeps}
+use Rattle.bl_proc_steps.specs.declared.growth.Rise.{Rise}
+use Rattle.bl_proc_steps.specs.declared.growth.Raising.{Raising}
+use Rattle.bl_proc_steps.specs.declared.growth.Growth.{Growth}
+use Rattle.bl_proc_steps.specs.declared.growth.Growth.TheVariants as growth
+use Rattle.bl_proc_steps.specs.declared.acts.Seen.{Seen}
+use Rattle.bl_proc_steps.specs.declared.growth.Grew.TheVariants.{On, Grown, Refused}
+use Rattle.bl_proc_steps.specs.declared.approach.Approach.TheVariants.{Start}
+use Rattle.bl_proc_writes.specs.declared.post.PostStage.TheVariants.{Growing}
+use Rattle.bl_proc_steps.specs.Growths.{growth_next, IsTop, IsAnchor, Raises}
 use Rattle.bl_proc_invariant.specs.Turns.{event_of, IsObserved, Does, Turned}
 use Rattle.bl_proc_invariant.specs.Tables.{Carried, carrying, know_approach, anchor_known}
 use Rattle.bl_proc_invariant.specs.Knowing.{ending, know_growth, post_got}
@@ -35,7 +35,7 @@ use Rattle.bl_proc_invariant.proofs.Acts.{of_held, not_gone, watched, latched, o
 use Rattle.bl_proc_invariant.proofs.Approaching.{walks}
 use Rattle.bl_proc_invariant.proofs.Editing.{Aside, aside_held}
 use Rattle.bl_proc_invariant.proofs.Going.{goes_still, put_steady, take_steady, was_put, was_fresh, was_anchored}
-use Rattle.bl_proc_unique.proofs.WayCases.{GrowthCase}
+use Rattle.bl_proc_deterministic.proofs.WayCases.{GrowthCase}
 
 -- a list with one more at its end
 pub pushed_at : (xs : List ℕ) (y : ℕ) → IsAt (length xs) y (λ l. get_or xs l 0) (λ l. get_or (xs ++ y ∷ []) l 0)

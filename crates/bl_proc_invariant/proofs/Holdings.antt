@@ -12,11 +12,11 @@ use Rattle.bl_page.specs.Machine.Act.{Get, Latch, Miss}
 use Rattle.bl_rearrange.specs.declared.fitted.Fitted.TheVariants.{Split}
 use Rattle.bl_rearrange.specs.Rearranged.{IsFitted}
 use Rattle.bl_page.specs.Nodes.{Covers, node_of}
-use Rattle.bl_core_tree.specs.Moves.{IsRow, IsCut}
-use Rattle.bl_core_tree.proofs.SoundPages.{sound_node}
+use Rattle.bl_tree.specs.Moves.{IsRow, IsCut}
+use Rattle.bl_tree.proofs.SoundPages.{sound_node}
 use Rattle.bl_claims.specs.Trails.{Mark, Trail}
 use Rattle.bl_claims.specs.Meanings.{writes_in, writes_of, RaisesOnly, HasRaised, WritesBack, UnderLatch, ListTogether, MeansDone, MeansNoRoom}
-use Rattle.bl_core.proofs.Meant.{writes_of-append, writes_of-push, got_on, got_last}
+use Rattle.bl_tree_worlds.proofs.Meant.{writes_of-append, writes_of-push, got_on, got_last}
 use Rattle.bl_proc_invariant.specs.Logs.{Holding, HoldsParent, HoldsBoth, IsToPut}
 
 pub none_of : (mark : Mark) → Contains [] mark → ⊥
@@ -136,7 +136,7 @@ is_done {level} {key} {x} {ms} separator acts pages p back =
       lists = p.together;
     }
 
--- the low of the upper part
+-- the low of the upper half
 pub cut_low : (c left right : Page) (key word new separator : ℕ) → IsFitted c key word new (Split left right separator) → (node_of right).shape.low ≡ separator
 cut_low (Leaf c) left (Leaf p) key word new separator f = f.4.0
 cut_low (Inner c) left (Inner p) key word new separator f = f.4.1
@@ -174,7 +174,7 @@ row_together old new key child r none = record {
     none_of_pages : (page : Page) → Contains [] page → ⊥
     none_of_pages page c = absurd (omega (arith, c.1))
 
--- the two parts of a page that was split list what they are to list
+-- the two halves of a page that was split list what they are to list
 pub cut_together : (old left right : Page) (y key child : ℕ) → IsCut y key (Some child) (node_of old) (node_of left) (node_of right) → (node_of old).look key ≡ None → ListTogether (right ∷ left ∷ []) old key child
 cut_together old left right y key child r none = record {
   no_other = λ j c page is e. elim (Contains-push_cases (right ∷ []) left page is) [

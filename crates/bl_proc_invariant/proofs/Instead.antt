@@ -3,10 +3,10 @@ use Rattle.std.proofs.Common.{ℕ, ◌≡◌, None, Some, ap, sym, ◌∙◌, su
 use Rattle.bl_model.specs.declared.operation.Reply.{Reply}
 use Rattle.bl_page.specs.declared.page.Page.{Page}
 use Rattle.bl_page.specs.Machine.{Name, State, Act}
-use Rattle.bl_core.proofs.Pushes.{name_cases}
-use Rattle.bl_core.specs.Worlds.{Middle, Know, World, HoldsPage, IsHeld, IsGoes, IsRelied, IsSure, IsGood, IsPassed, MayGet}
-use Rattle.bl_core.proofs.Frames.{Each-map}
-use Rattle.bl_core.proofs.After.{put_name, is_put_name}
+use Rattle.bl_tree_worlds.proofs.Pushes.{name_cases}
+use Rattle.bl_tree_worlds.specs.Worlds.{Middle, Know, World, HoldsPage, IsHeld, IsGoes, IsRelied, IsSure, IsGood, IsPassed, MayGet}
+use Rattle.bl_tree_worlds.proofs.Frames.{Each-map}
+use Rattle.bl_tree_worlds.proofs.After.{put_name, is_put_name}
 use Rattle.bl_proc_invariant.specs.Turns.{Turned}
 
 -- the same world with another process at one name

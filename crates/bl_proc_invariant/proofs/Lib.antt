@@ -32,7 +32,7 @@ pub mod Starting
 pub mod Answered
 pub mod Beside
 pub mod ByPages
-pub mod Pressed
+pub mod CompressAnswers
 pub mod Gets
 pub mod GivingUp
 pub mod Releasing
@@ -43,5 +43,5 @@ pub mod Splitting
 pub mod Deciding
 pub mod SiblingLemmas
 pub mod SideBySide
-pub mod Squeezing
-pub mod Pressing
+pub mod CompressionTurn
+pub mod CompressTurn

@@ -10,18 +10,18 @@ use Rattle.bl_page.specs.Machine.Act.{Look as Looks}
 use Rattle.bl_page.specs.Machine.Looked.{Page as OfPage}
 use Rattle.bl_claims.specs.Trails.{Mark}
 use Rattle.bl_claims.specs.Walks.{Each}
-use Rattle.bl_core_tree.specs.Trees.{IsLive}
-use Rattle.bl_core_tree.specs.Trees.Status.{Live, Uprooted}
-use Rattle.bl_core_tree.proofs.Statuses.{live_live}
-use Rattle.bl_core_tree.proofs.SoundPages.{sound_node}
-use Rattle.bl_core.specs.Worlds.{Stage, Know, World, nodes, IsStage, MayGet, IsGoes, IsSure, IsBounded, IsGood, silent}
-use Rattle.bl_core.proofs.Pushes.{HasSaid-silent}
-use Rattle.bl_core.proofs.Descents.{leaf_says, may_live}
-use Rattle.bl_proc_base.specs.declared.acts.Seen.{Seen}
-use Rattle.bl_proc_base.specs.declared.acts.Seen.TheVariants as seen
-use Rattle.bl_proc_pages.specs.declared.onwards.Step.TheVariants.{Here}
-use Rattle.bl_proc_pages.specs.Onwards.{Leads}
-use Rattle.bl_proc_base.specs.Descents.{descent_page}
+use Rattle.bl_tree.specs.Trees.{IsLive}
+use Rattle.bl_tree.specs.Trees.Status.{Live, Uprooted}
+use Rattle.bl_tree.proofs.Statuses.{live_live}
+use Rattle.bl_tree.proofs.SoundPages.{sound_node}
+use Rattle.bl_tree_worlds.specs.Worlds.{Stage, Know, World, nodes, IsStage, MayGet, IsGoes, IsSure, IsBounded, IsGood, silent}
+use Rattle.bl_tree_worlds.proofs.Pushes.{HasSaid-silent}
+use Rattle.bl_tree_worlds.proofs.Descents.{leaf_says, may_live}
+use Rattle.bl_proc_steps.specs.declared.acts.Seen.{Seen}
+use Rattle.bl_proc_steps.specs.declared.acts.Seen.TheVariants as seen
+use Rattle.bl_proc_routes.specs.declared.routes.Step.TheVariants.{Here}
+use Rattle.bl_proc_routes.specs.Routes.{Leads}
+use Rattle.bl_proc_steps.specs.Descents.{descent_page}
 use Rattle.bl_proc.specs.declared.parts.Direction.{Direction}
 use Rattle.bl_proc.specs.declared.parts.Direction.TheVariants.{Up, Down}
 use Rattle.bl_proc.specs.declared.parts.PartRows.{PartRows}

@@ -8,31 +8,31 @@ use Rattle.bl_page.specs.Machine.{Name, State, Act}
 use Rattle.bl_page.specs.Machine.Act.{Get, Miss}
 use Rattle.bl_claims.specs.Trails.{Mark, Trail, Saw, marks_of}
 use Rattle.bl_claims.specs.Meanings.{writes_in, writes_of}
-use Rattle.bl_core.proofs.Pushes.{name_cases, marks_of-own, marks_of-other}
-use Rattle.bl_core.specs.Worlds.{Goes, Stage, World}
-use Rattle.bl_proc_base.specs.declared.acts.Action.{Action}
-use Rattle.bl_proc_base.specs.declared.acts.Action.TheVariants as act
-use Rattle.bl_proc_base.specs.declared.acts.Seen.{Seen}
-use Rattle.bl_proc_base.specs.declared.acts.Seen.TheVariants as seen
-use Rattle.bl_proc_base.specs.declared.approaching.Approach.TheVariants as way
-use Rattle.bl_proc_base.specs.declared.editing.Edit.TheVariants as edit
-use Rattle.bl_proc_base.specs.declared.growing.Growth.TheVariants as growth
+use Rattle.bl_tree_worlds.proofs.Pushes.{name_cases, marks_of-own, marks_of-other}
+use Rattle.bl_tree_worlds.specs.Worlds.{Goes, Stage, World}
+use Rattle.bl_proc_steps.specs.declared.acts.Action.{Action}
+use Rattle.bl_proc_steps.specs.declared.acts.Action.TheVariants as act
+use Rattle.bl_proc_steps.specs.declared.acts.Seen.{Seen}
+use Rattle.bl_proc_steps.specs.declared.acts.Seen.TheVariants as seen
+use Rattle.bl_proc_steps.specs.declared.approach.Approach.TheVariants as way
+use Rattle.bl_proc_steps.specs.declared.edit.Edit.TheVariants as edit
+use Rattle.bl_proc_steps.specs.declared.growth.Growth.TheVariants as growth
 use Rattle.bl_proc_writes.specs.declared.writing.WriteStage.{WriteStage}
 use Rattle.bl_proc_writes.specs.declared.writing.WriteStage.TheVariants as write
-use Rattle.bl_proc_writes.specs.declared.posting.PostStage.{PostStage}
-use Rattle.bl_proc_writes.specs.declared.posting.PostStage.TheVariants as post
-use Rattle.bl_proc_compress.specs.declared.compressing.Compression.TheVariants.{LatchingLeft}
-use Rattle.bl_proc_compress.specs.declared.squeezing.CompressStage.{CompressStage}
-use Rattle.bl_proc_compress.specs.declared.squeezing.CompressStage.TheVariants as compress
+use Rattle.bl_proc_writes.specs.declared.post.PostStage.{PostStage}
+use Rattle.bl_proc_writes.specs.declared.post.PostStage.TheVariants as post
+use Rattle.bl_proc_compress.specs.declared.compression.Compression.TheVariants.{LatchingLeft}
+use Rattle.bl_proc_compress.specs.declared.compress.CompressStage.{CompressStage}
+use Rattle.bl_proc_compress.specs.declared.compress.CompressStage.TheVariants as compress
 use Rattle.bl_proc.specs.declared.lowering.LowerStage.{LowerStage}
 use Rattle.bl_proc.specs.declared.lowering.LowerStage.TheVariants as lower
-use Rattle.bl_proc_base.specs.declared.lowering.Lowering.TheVariants.{Looking}
+use Rattle.bl_proc_steps.specs.declared.lowering.Lowering.TheVariants.{Looking}
 use Rattle.bl_proc.specs.declared.kinds.Proc.{Proc}
 use Rattle.bl_proc.specs.declared.kinds.Proc.TheVariants.{Find, Write, Post, Part, Compress, Reclaim, Lower, InsertPost}
 use Rattle.bl_proc.specs.Processes.{next_of, Takes}
 use Rattle.bl_proc_writes.specs.declared.paths.Path.{Path}
-use Rattle.bl_proc_writes.specs.declared.climbing.ClimbStage.{ClimbStage}
-use Rattle.bl_proc_writes.specs.declared.climbing.ClimbStage.TheVariants as climb
+use Rattle.bl_proc_writes.specs.declared.insert_post.ClimbStage.{ClimbStage}
+use Rattle.bl_proc_writes.specs.declared.insert_post.ClimbStage.TheVariants as climb
 use Rattle.bl_proc_writes.specs.Stands.{IsPosting, Stands}
 use Rattle.bl_proc_invariant.proofs.ClimbingLogs.{climb_on, climb_stays}
 use Rattle.bl_proc_invariant.specs.Turns.{event_of, IsObserved, Turned}
@@ -44,8 +44,8 @@ use Rattle.bl_proc_invariant.proofs.Doing.{compress_on, compress_stays}
 use Rattle.bl_proc_invariant.proofs.LoweringLogs.{lower_on, lower_stays}
 use Rattle.bl_proc_invariant.proofs.Looking.{looking_on, find_on, part_on}
 use Rattle.bl_proc_invariant.proofs.Putting.{write_on, write_stays}
-use Rattle.bl_proc_unique.proofs.KindCases.{find_case, part_case, write_case, post_case, compress_case, lower_case, climb_case}
-use Rattle.bl_proc_writes.specs.declared.climbing.Placing.{Placing}
+use Rattle.bl_proc_deterministic.proofs.KindCases.{find_case, part_case, write_case, post_case, compress_case, lower_case, climb_case}
+use Rattle.bl_proc_writes.specs.declared.insert_post.Placing.{Placing}
 use Rattle.bl_proc_writes.specs.Placings.{write_of}
 
 -- a process that has not begun has nothing to tell
@@ -57,12 +57,12 @@ early_post carried level key got child (post.Growing growth.Latching) e marks = 
 early_post carried level key got child (post.Editing (edit.Putting x page)) e marks = absurd (let f = e in cc)
 early_post carried level key got child old e marks = absurd (let f = e in cc)
 
-early_press : (level key : ℕ) (got : ℕ → Page) (a : CompressStage) → (know_compress level key got a).stage ≡ Stage.Early → (marks : Trail) → writes_of marks ≡ [] → compress_log level key a marks
-early_press level key got compress.New e marks none = none
-early_press level key got (compress.Coming way.Start) e marks none = absurd (let f = e in cc)
-early_press level key got (compress.Coming (way.Leaving x None)) e marks none = absurd (let f = e in cc)
-early_press level key got (compress.Compressing (LatchingLeft h)) e marks none = absurd (let f = e in cc)
-early_press level key got old e marks none = absurd (let f = e in cc)
+early_compress : (level key : ℕ) (got : ℕ → Page) (a : CompressStage) → (know_compress level key got a).stage ≡ Stage.Early → (marks : Trail) → writes_of marks ≡ [] → compress_log level key a marks
+early_compress level key got compress.New e marks none = none
+early_compress level key got (compress.Coming way.Start) e marks none = absurd (let f = e in cc)
+early_compress level key got (compress.Coming (way.Leaving x None)) e marks none = absurd (let f = e in cc)
+early_compress level key got (compress.Compressing (LatchingLeft h)) e marks none = absurd (let f = e in cc)
+early_compress level key got old e marks none = absurd (let f = e in cc)
 
 -- a post within an insertion has begun
 not_early : (carried : Carried) → (level key : ℕ) (got : ℕ → Page) (child : ℕ) (a : PostStage) → IsPosting a → (know_post carried level key got child a).stage ≡ Stage.Early → ⊥
@@ -95,7 +95,7 @@ early_state got child time (Find a) e marks none = none
 early_state got child time (Write a) e marks none = early_write [] a.key a.write got a.stage e marks none
 early_state got child time (Post a) e marks none = early_post alone a.level a.key got child a.stage e marks
 early_state got child time (Part a) e marks none = none
-early_state got child time (Compress a) e marks none = early_press a.level a.key got a.stage e marks none
+early_state got child time (Compress a) e marks none = early_compress a.level a.key got a.stage e marks none
 early_state got child time (Reclaim a) e marks none = tt
 early_state got child time (Lower a) e marks none = early_lower got a.stage e marks none
 early_state got child time (InsertPost a) e marks none = early_climb a.key a.placing a.path got child a.stage a.stands e marks none

@@ -7,8 +7,8 @@ use Rattle.bl_page.specs.Machine.{Act}
 use Rattle.bl_claims.specs.Trails.{Mark, Trail}
 use Rattle.bl_claims.specs.Meanings.{writes_in, writes_of}
 use Rattle.bl_claims.specs.Latches.{LatchesNone, OnlyLooks}
-use Rattle.bl_core.proofs.Meant.{writes_of-push}
-use Rattle.bl_proc_base.specs.declared.acts.Seen.{Seen}
+use Rattle.bl_tree_worlds.proofs.Meant.{writes_of-push}
+use Rattle.bl_proc_steps.specs.declared.acts.Seen.{Seen}
 use Rattle.bl_proc.specs.declared.searching.FindStage.{FindStage}
 use Rattle.bl_proc.specs.declared.parts.PartStage.{PartStage}
 use Rattle.bl_proc.specs.declared.parts.PartStart.{PartStart}
@@ -16,7 +16,7 @@ use Rattle.bl_proc.specs.Searches.{find_next_in}
 use Rattle.bl_proc.specs.Parts.{part_next_in}
 use Rattle.bl_proc_invariant.specs.Turns.{event_of}
 use Rattle.bl_proc_invariant.specs.Knowing.{find_end, part_end}
-use Rattle.bl_proc_unique.proofs.KindCases.{FindCase, PartCase}
+use Rattle.bl_proc_deterministic.proofs.KindCases.{FindCase, PartCase}
 
 find_writes : {key : ℕ} {a b : FindStage} {what : Seen} → FindCase key a what b → writes_in (event_of (find_end a) (find_next_in a) what) ≡ []
 find_writes (FindCase.Began d t) = refl

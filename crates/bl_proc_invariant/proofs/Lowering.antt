@@ -8,31 +8,31 @@ use Rattle.bl_page.specs.Machine.{Name, Owner, State, Act}
 use Rattle.bl_page.specs.Machine.Act.{Get, Put, Latch, Retire, Miss}
 use Rattle.bl_page.specs.Pairs.{end_of}
 use Rattle.bl_page.specs.Nodes.{unbounded, node_of, roots_of}
-use Rattle.bl_core_tree.specs.Trees.{IsLive}
-use Rattle.bl_core_tree.specs.Trees.Status.{Fresh, Live, Uprooted, Gone}
+use Rattle.bl_tree.specs.Trees.{IsLive}
+use Rattle.bl_tree.specs.Trees.Status.{Fresh, Live, Uprooted, Gone}
 use Rattle.bl_claims.specs.Trails.{Mark}
-use Rattle.bl_core.specs.Worlds.{Stage, Know, World, nodes, IsSure, IsBounded, IsGood, silent, put_mark}
-use Rattle.bl_core.proofs.Pushes.{HasSaid-silent}
-use Rattle.bl_core.proofs.After.{after, Extends-after, put_at, is_put_at}
-use Rattle.bl_core.proofs.Descents.{anchor_not_released}
-use Rattle.bl_core.proofs.Lowerings.{PutsLower-keeps, PutsFallen-keeps}
-use Rattle.bl_core.proofs.Outside.{Retires-keeps}
-use Rattle.bl_proc_base.specs.declared.acts.Seen.{Seen}
-use Rattle.bl_proc_base.specs.declared.lowering.Lowered.{Lowered}
-use Rattle.bl_proc_base.specs.declared.lowering.Lowered.TheVariants as lowered
-use Rattle.bl_proc_base.specs.declared.lowering.Lowering.{Lowering}
-use Rattle.bl_proc_base.specs.declared.lowering.Sank.TheVariants.{On, Over}
-use Rattle.bl_proc_base.specs.declared.lowering.Summit.{Summit}
-use Rattle.bl_proc_base.specs.declared.lowering.Sinking.{Sinking}
-use Rattle.bl_proc_base.specs.declared.lowering.Lowering.TheVariants as lowering
-use Rattle.bl_proc_pages.specs.Onwards.{top_of}
-use Rattle.bl_proc_base.specs.Lowerings.{lowering_next, IsSole, IsFallen, Sinks}
-use Rattle.bl_proc_base.proofs.Tops.{length_take}
+use Rattle.bl_tree_worlds.specs.Worlds.{Stage, Know, World, nodes, IsSure, IsBounded, IsGood, silent, put_mark}
+use Rattle.bl_tree_worlds.proofs.Pushes.{HasSaid-silent}
+use Rattle.bl_tree_worlds.proofs.After.{after, Extends-after, put_at, is_put_at}
+use Rattle.bl_tree_worlds.proofs.Descents.{anchor_not_released}
+use Rattle.bl_tree_worlds.proofs.Lowerings.{PutsLower-keeps, PutsFallen-keeps}
+use Rattle.bl_tree_worlds.proofs.Outside.{Retires-keeps}
+use Rattle.bl_proc_steps.specs.declared.acts.Seen.{Seen}
+use Rattle.bl_proc_steps.specs.declared.lowering.Lowered.{Lowered}
+use Rattle.bl_proc_steps.specs.declared.lowering.Lowered.TheVariants as lowered
+use Rattle.bl_proc_steps.specs.declared.lowering.Lowering.{Lowering}
+use Rattle.bl_proc_steps.specs.declared.lowering.Sank.TheVariants.{On, Over}
+use Rattle.bl_proc_steps.specs.declared.lowering.Summit.{Summit}
+use Rattle.bl_proc_steps.specs.declared.lowering.Sinking.{Sinking}
+use Rattle.bl_proc_steps.specs.declared.lowering.Lowering.TheVariants as lowering
+use Rattle.bl_proc_routes.specs.Routes.{top_of}
+use Rattle.bl_proc_steps.specs.Lowerings.{lowering_next, IsSole, IsFallen, Sinks}
+use Rattle.bl_proc_steps.proofs.Tops.{length_take}
 use Rattle.bl_proc_invariant.specs.Turns.{event_of, IsObserved, Does, Turned}
 use Rattle.bl_proc_invariant.specs.Tables.{idle, alone}
 use Rattle.bl_proc_invariant.specs.Lowering.{got_top, know_lowering, lowering_got}
-use Rattle.bl_proc_unique.proofs.Lowerings.{LoweringCase, lowering_case}
-use Rattle.bl_proc_unique.proofs.KindCases.{LowerCase}
+use Rattle.bl_proc_deterministic.proofs.Lowerings.{LoweringCase, lowering_case}
+use Rattle.bl_proc_deterministic.proofs.KindCases.{LowerCase}
 use Rattle.bl_proc.specs.declared.lowering.LowerStage.{LowerStage}
 use Rattle.bl_proc.specs.Lowers.{lower_next_in}
 use Rattle.bl_proc_invariant.specs.Knowing.{know_lower, lower_got}

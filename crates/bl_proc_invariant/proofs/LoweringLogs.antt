@@ -9,26 +9,26 @@ use Rattle.bl_page.specs.Machine.Act.{Get, Put, Latch, Retire, Miss}
 use Rattle.bl_page.specs.Nodes.{roots_of}
 use Rattle.bl_claims.specs.Trails.{Mark, Trail, marks_of}
 use Rattle.bl_claims.specs.Meanings.{HasGot, writes_in, Unwritten}
-use Rattle.bl_core.specs.Worlds.{World}
-use Rattle.bl_core.proofs.Meant.{unwritten_now, none_written, unwritten_on, got_on, got_last}
-use Rattle.bl_proc_base.specs.declared.acts.Seen.{Seen}
-use Rattle.bl_proc_base.specs.declared.acts.Seen.TheVariants as seen
-use Rattle.bl_proc_base.specs.declared.lowering.Lowered.{Lowered}
-use Rattle.bl_proc_base.specs.declared.lowering.Lowered.TheVariants as lowered
-use Rattle.bl_proc_base.specs.declared.lowering.Summit.{Summit}
-use Rattle.bl_proc_base.specs.declared.lowering.Sinking.{Sinking}
-use Rattle.bl_proc_base.specs.declared.answers.Answer.{Answer}
-use Rattle.bl_proc_base.specs.declared.answers.Answer.TheVariants as answer
-use Rattle.bl_proc_base.specs.declared.lowering.Lowering.{Lowering}
-use Rattle.bl_proc_base.specs.declared.lowering.Lowering.TheVariants.{Looking, LatchingAnchor, LatchedAnchor, LatchingTop, LatchedTop, PuttingAnchor, PuttingDead, Retiring, OpeningTop, OpeningAnchor}
+use Rattle.bl_tree_worlds.specs.Worlds.{World}
+use Rattle.bl_tree_worlds.proofs.Meant.{unwritten_now, none_written, unwritten_on, got_on, got_last}
+use Rattle.bl_proc_steps.specs.declared.acts.Seen.{Seen}
+use Rattle.bl_proc_steps.specs.declared.acts.Seen.TheVariants as seen
+use Rattle.bl_proc_steps.specs.declared.lowering.Lowered.{Lowered}
+use Rattle.bl_proc_steps.specs.declared.lowering.Lowered.TheVariants as lowered
+use Rattle.bl_proc_steps.specs.declared.lowering.Summit.{Summit}
+use Rattle.bl_proc_steps.specs.declared.lowering.Sinking.{Sinking}
+use Rattle.bl_proc_steps.specs.declared.answers.Answer.{Answer}
+use Rattle.bl_proc_steps.specs.declared.answers.Answer.TheVariants as answer
+use Rattle.bl_proc_steps.specs.declared.lowering.Lowering.{Lowering}
+use Rattle.bl_proc_steps.specs.declared.lowering.Lowering.TheVariants.{Looking, LatchingAnchor, LatchedAnchor, LatchingTop, LatchedTop, PuttingAnchor, PuttingDead, Retiring, OpeningTop, OpeningAnchor}
 use Rattle.bl_proc.specs.declared.lowering.Lower.{Lower}
 use Rattle.bl_proc.specs.declared.lowering.LowerStage.{LowerStage}
 use Rattle.bl_proc.specs.declared.lowering.LowerStage.TheVariants as lower
 use Rattle.bl_proc.specs.declared.kinds.Proc.TheVariants as proc
 use Rattle.bl_proc.specs.Lowers.{lower_next_in, lower_answer_in}
-use Rattle.bl_proc_base.specs.declared.lowering.Sank.TheVariants.{On, Over}
-use Rattle.bl_proc_pages.specs.Onwards.{top_of}
-use Rattle.bl_proc_base.specs.Lowerings.{lowering_next}
+use Rattle.bl_proc_steps.specs.declared.lowering.Sank.TheVariants.{On, Over}
+use Rattle.bl_proc_routes.specs.Routes.{top_of}
+use Rattle.bl_proc_steps.specs.Lowerings.{lowering_next}
 use Rattle.bl_claims.specs.Squeezed.{acts_in}
 use Rattle.bl_claims.specs.Lowered.{AtTop, to_top, to_sunk, HasLowered, MeansLowered}
 use Rattle.bl_proc_invariant.specs.Turns.{event_of}
@@ -36,8 +36,8 @@ use Rattle.bl_proc_invariant.specs.LoweringLog.{AtSummit, IsToLowerBy, lowering_
 use Rattle.bl_proc_invariant.specs.Logs.{proc_log, lower_log, AllLogs}
 use Rattle.bl_proc_invariant.specs.Knowing.{Run}
 use Rattle.bl_proc_invariant.proofs.Doing.{since_now, since_on, since_unwritten, once_on, once_now}
-use Rattle.bl_proc_unique.proofs.Lowerings.{LoweringCase, lowering_case}
-use Rattle.bl_proc_unique.proofs.KindCases.{LowerCase}
+use Rattle.bl_proc_deterministic.proofs.Lowerings.{LoweringCase, lowering_case}
+use Rattle.bl_proc_deterministic.proofs.KindCases.{LowerCase}
 
 module _ (ms : Trail) (m : Mark) where
   abbrev more : Trail

@@ -9,22 +9,22 @@ use Rattle.bl_page.specs.declared.machine.Missed.{Missed}
 use Rattle.bl_page.specs.Machine.{Name, Act}
 use Rattle.bl_page.specs.Machine.Phase.{Running}
 use Rattle.bl_page.specs.Machine.Act.{Begin, End, Get, Put, Take, Latch, Retire, Look, Release, Miss}
-use Rattle.bl_core_tree.specs.Trees.Status.{Right}
+use Rattle.bl_tree.specs.Trees.Status.{Right}
 use Rattle.bl_page.specs.Nodes.{node_of}
 use Rattle.bl_rearrange.specs.declared.sides.Side.{Side}
 use Rattle.bl_rearrange.specs.declared.sides.Side.TheVariants as side
 use Rattle.bl_claims.specs.Trails.{Mark, Trail, marks_of}
 use Rattle.bl_claims.specs.Moments.{Puts as PutsPage, IsMiddleBy, InMiddle, InEvening}
-use Rattle.bl_core.specs.Worlds.{Middle, World, nodes, HasMiddle, IsSure, IsGood}
-use Rattle.bl_core.specs.Observed.{TellsMiddles}
-use Rattle.bl_proc_base.specs.declared.approaching.Approach.TheVariants as way
-use Rattle.bl_proc_compress.specs.declared.compressing.Puts.{Puts}
-use Rattle.bl_proc_compress.specs.declared.compressing.Compression.TheVariants.{PuttingParent, PuttingLast}
-use Rattle.bl_proc_compress.specs.declared.squeezing.CompressStage.{CompressStage}
-use Rattle.bl_proc_compress.specs.declared.squeezing.CompressStage.TheVariants as compress
+use Rattle.bl_tree_worlds.specs.Worlds.{Middle, World, nodes, HasMiddle, IsSure, IsGood}
+use Rattle.bl_tree_worlds.specs.Observed.{TellsMiddles}
+use Rattle.bl_proc_steps.specs.declared.approach.Approach.TheVariants as way
+use Rattle.bl_proc_compress.specs.declared.compression.Puts.{Puts}
+use Rattle.bl_proc_compress.specs.declared.compression.Compression.TheVariants.{PuttingParent, PuttingLast}
+use Rattle.bl_proc_compress.specs.declared.compress.CompressStage.{CompressStage}
+use Rattle.bl_proc_compress.specs.declared.compress.CompressStage.TheVariants as compress
 use Rattle.bl_proc_invariant.specs.Compressing.{AreThree, left_now, right_now}
 use Rattle.bl_claims.specs.Squeezed.{acts_in, acts_of, Since}
-use Rattle.bl_proc_invariant.specs.Logs.{put_act, IsToSqueeze, proc_log, compress_log}
+use Rattle.bl_proc_invariant.specs.Logs.{put_act, IsToCompress, proc_log, compress_log}
 use Rattle.bl_proc_invariant.specs.Knowing.{Run, know_of, know_compress, know}
 use Rattle.bl_proc_invariant.proofs.Plain.{of_middle}
 
@@ -188,7 +188,7 @@ module _ (w : World Run) (g : IsGood know w) (logs : KeepsLogs w) (x y : ℕ) (a
   whole = record { parent = m.parent; left = x; right = y }
 
   -- the list of what was done ends so
-  same_since : (level key : ℕ) (u : Puts) (tail : List (Act Page Reply)) {marks : Trail} (s : IsToSqueeze level key marks u (Get u.at.parent ∷ Latch u.at.left ∷ Get u.at.left ∷ Latch u.at.right ∷ Get u.at.right ∷ put_act u.gains u ∷ tail)) → Since marks s.family.at.parent (Get u.at.parent ∷ Latch u.at.left ∷ Get u.at.left ∷ Latch u.at.right ∷ Get u.at.right ∷ put_act u.gains u ∷ tail)
+  same_since : (level key : ℕ) (u : Puts) (tail : List (Act Page Reply)) {marks : Trail} (s : IsToCompress level key marks u (Get u.at.parent ∷ Latch u.at.left ∷ Get u.at.left ∷ Latch u.at.right ∷ Get u.at.right ∷ put_act u.gains u ∷ tail)) → Since marks s.family.at.parent (Get u.at.parent ∷ Latch u.at.left ∷ Get u.at.left ∷ Latch u.at.right ∷ Get u.at.right ∷ put_act u.gains u ∷ tail)
   same_since level key u tail s = s.both.left.family.since
 
   by_stage : (level key : ℕ) (got : ℕ → Page) (stage : CompressStage) → (know_compress level key got stage).middle ≡ Some whole → ((since : ℕ) → w.now.phase m.by ≡ Running since → compress_log level key stage (marks_of m.by w.trail)) → IsSure w m.by (know_compress level key got stage) → InMiddle w.now w.trail x y × (((nodes w.now y).shape.low ≡ w.sep y) ⊎ InEvening w.now w.trail y)

@@ -1,26 +1,26 @@
 -- What a process does next is possible: the pages that it gets are not released, and those that it puts, opens or retires are
 -- its own.
 use Rattle.std.proofs.Common.{ℕ, ◌≡◌, ◌≢◌, ◌-◌, None, Some, List, [], ap, sym, ◌∙◌, subst, arith}
-use Rattle.bl_core_tree.specs.Trees.{is_live, IsLive}
+use Rattle.bl_tree.specs.Trees.{is_live, IsLive}
 use Rattle.bl_page.specs.Nodes.{roots_of}
-use Rattle.bl_proc_pages.specs.Onwards.{top_of}
+use Rattle.bl_proc_routes.specs.Routes.{top_of}
 use Rattle.std.proofs.lemmas.Bool.{false≢true}
 use Rattle.bl_model.specs.declared.deciding.KeyWrite.{KeyWrite}
 use Rattle.bl_page.specs.declared.page.Page.{Page}
 use Rattle.bl_page.specs.Machine.{Name}
 use Rattle.bl_page.specs.Machine.Owner.{Released, Held}
-use Rattle.bl_core_tree.specs.Trees.Status.{Free}
-use Rattle.bl_core.specs.Worlds.{Goes, Know, World, was_in, MayGet, IsSure, IsGood}
-use Rattle.bl_core.proofs.Steady.{free_not}
-use Rattle.bl_core.proofs.Descents.{not_released, anchor_not_released}
-use Rattle.bl_proc_base.specs.declared.acts.Action.{Action}
-use Rattle.bl_proc_base.specs.declared.acts.Action.TheVariants as act
-use Rattle.bl_proc_base.specs.declared.approaching.Approach.{Approach}
-use Rattle.bl_proc_base.specs.declared.approaching.Approach.TheVariants as way
-use Rattle.bl_proc_base.specs.declared.editing.Edit.{Edit}
-use Rattle.bl_proc_base.specs.declared.editing.Edit.TheVariants as edit
-use Rattle.bl_proc_base.specs.declared.growing.Growth.{Growth}
-use Rattle.bl_proc_base.specs.declared.growing.Growth.TheVariants as growth
+use Rattle.bl_tree.specs.Trees.Status.{Free}
+use Rattle.bl_tree_worlds.specs.Worlds.{Goes, Know, World, was_in, MayGet, IsSure, IsGood}
+use Rattle.bl_tree_worlds.proofs.Steady.{free_not}
+use Rattle.bl_tree_worlds.proofs.Descents.{not_released, anchor_not_released}
+use Rattle.bl_proc_steps.specs.declared.acts.Action.{Action}
+use Rattle.bl_proc_steps.specs.declared.acts.Action.TheVariants as act
+use Rattle.bl_proc_steps.specs.declared.approach.Approach.{Approach}
+use Rattle.bl_proc_steps.specs.declared.approach.Approach.TheVariants as way
+use Rattle.bl_proc_steps.specs.declared.edit.Edit.{Edit}
+use Rattle.bl_proc_steps.specs.declared.edit.Edit.TheVariants as edit
+use Rattle.bl_proc_steps.specs.declared.growth.Growth.{Growth}
+use Rattle.bl_proc_steps.specs.declared.growth.Growth.TheVariants as growth
 use Rattle.bl_proc.specs.declared.searching.FindStage.{FindStage}
 use Rattle.bl_proc.specs.declared.searching.FindStage.TheVariants as find
 use Rattle.bl_proc.specs.declared.parts.PartStage.{PartStage}
@@ -28,32 +28,32 @@ use Rattle.bl_proc.specs.declared.parts.PartStart.{PartStart}
 use Rattle.bl_proc.specs.declared.parts.PartStage.TheVariants as part
 use Rattle.bl_proc_writes.specs.declared.writing.WriteStage.{WriteStage}
 use Rattle.bl_proc_writes.specs.declared.writing.WriteStage.TheVariants as write
-use Rattle.bl_proc_writes.specs.declared.posting.PostStage.{PostStage}
-use Rattle.bl_proc_writes.specs.declared.posting.PostStage.TheVariants as post
+use Rattle.bl_proc_writes.specs.declared.post.PostStage.{PostStage}
+use Rattle.bl_proc_writes.specs.declared.post.PostStage.TheVariants as post
 use Rattle.bl_proc.specs.declared.reclaiming.ReclaimStage.{ReclaimStage}
 use Rattle.bl_proc.specs.declared.lowering.LowerStage.{LowerStage}
 use Rattle.bl_proc.specs.declared.lowering.LowerStage.TheVariants as lower
-use Rattle.bl_proc_base.specs.declared.lowering.Lowering.{Lowering}
-use Rattle.bl_proc_base.specs.declared.lowering.Lowering.TheVariants as lowering
+use Rattle.bl_proc_steps.specs.declared.lowering.Lowering.{Lowering}
+use Rattle.bl_proc_steps.specs.declared.lowering.Lowering.TheVariants as lowering
 use Rattle.bl_proc_writes.specs.declared.paths.Path.{Path}
-use Rattle.bl_proc_writes.specs.declared.climbing.ClimbStage.{ClimbStage}
-use Rattle.bl_proc_writes.specs.declared.climbing.ClimbStage.TheVariants as climb
-use Rattle.bl_proc_writes.specs.Climbs.{climb_next_in}
+use Rattle.bl_proc_writes.specs.declared.insert_post.ClimbStage.{ClimbStage}
+use Rattle.bl_proc_writes.specs.declared.insert_post.ClimbStage.TheVariants as climb
+use Rattle.bl_proc_writes.specs.InsertPosts.{climb_next_in}
 use Rattle.bl_proc_invariant.specs.Lowering.{know_lowering}
 use Rattle.bl_proc.specs.declared.reclaiming.ReclaimStage.TheVariants as reclaim
-use Rattle.bl_proc_compress.specs.declared.compressing.Compression.{Compression}
-use Rattle.bl_proc_compress.specs.declared.compressing.Compression.TheVariants.{LatchingLeft, LatchedLeft, LatchingRight, LatchedRight, PuttingFirst, PuttingParent, PuttingLast, Retiring, OpeningRight, OpeningLeft, OpeningParent}
-use Rattle.bl_proc_compress.specs.declared.squeezing.CompressStage.{CompressStage}
-use Rattle.bl_proc_compress.specs.declared.squeezing.CompressStage.TheVariants as compress
+use Rattle.bl_proc_compress.specs.declared.compression.Compression.{Compression}
+use Rattle.bl_proc_compress.specs.declared.compression.Compression.TheVariants.{LatchingLeft, LatchedLeft, LatchingRight, LatchedRight, PuttingFirst, PuttingParent, PuttingLast, Retiring, OpeningRight, OpeningLeft, OpeningParent}
+use Rattle.bl_proc_compress.specs.declared.compress.CompressStage.{CompressStage}
+use Rattle.bl_proc_compress.specs.declared.compress.CompressStage.TheVariants as compress
 use Rattle.bl_proc.specs.declared.kinds.Proc.{Proc}
 use Rattle.bl_proc.specs.declared.kinds.Proc.TheVariants.{Find, Write, Post, Part, Compress, Reclaim, Lower, InsertPost}
-use Rattle.bl_proc_base.specs.Approaches.{approach_next}
-use Rattle.bl_proc_base.specs.Edits.{edit_next}
+use Rattle.bl_proc_steps.specs.Approaches.{approach_next}
+use Rattle.bl_proc_steps.specs.Edits.{edit_next}
 use Rattle.bl_proc_compress.specs.Compressions.{put_of, other, compression_next}
 use Rattle.bl_rearrange.specs.declared.sides.Side.{Side}
 use Rattle.bl_rearrange.specs.declared.sides.Side.TheVariants as side
-use Rattle.bl_proc_compress.specs.declared.compressing.Puts.{Puts}
-use Rattle.bl_proc_base.specs.Growths.{growth_next}
+use Rattle.bl_proc_compress.specs.declared.compression.Puts.{Puts}
+use Rattle.bl_proc_steps.specs.Growths.{growth_next}
 use Rattle.bl_proc.specs.Searches.{find_next_in}
 use Rattle.bl_proc.specs.Parts.{part_next_in}
 use Rattle.bl_proc_writes.specs.Writes.{write_next_in}
@@ -61,13 +61,13 @@ use Rattle.bl_proc_writes.specs.Posts.{post_next_in}
 use Rattle.bl_proc_compress.specs.Compresses.{compress_next_in}
 use Rattle.bl_proc.specs.Reclaims.{reclaim_next_in}
 use Rattle.bl_proc.specs.Lowers.{lower_next_in}
-use Rattle.bl_proc_base.specs.Lowerings.{lowering_next}
+use Rattle.bl_proc_steps.specs.Lowerings.{lowering_next}
 use Rattle.bl_proc.specs.Processes.{next_of}
-use Rattle.bl_proc_invariant.specs.Compressing.{know_squeeze}
+use Rattle.bl_proc_invariant.specs.Compressing.{know_compression}
 use Rattle.bl_proc_invariant.specs.Tables.{Carried, unsaid, alone, Aim, know_approach, know_edit}
 use Rattle.bl_proc_invariant.specs.Knowing.{know_growth, know_find, know_part, know_write, path_goes, inserted, know_climb, know_post, know_compress, know_reclaim, know_lower, know_of, Run, know}
 use Rattle.bl_proc_invariant.proofs.Descending.{descent_there}
-use Rattle.bl_proc_writes.specs.declared.climbing.Placing.{Placing}
+use Rattle.bl_proc_writes.specs.declared.insert_post.Placing.{Placing}
 use Rattle.bl_proc_writes.specs.Placings.{write_of}
 
 abbrev pub IsNear : {P : Type 0} → World P → Name → Action → Type 0
@@ -149,23 +149,23 @@ module _ {P : Type 0} (know : P → Know) (w : World P) (g : IsGood know w) (p :
   put_near u side.Left left right = left
   put_near u side.Right left right = right
 
-  squeeze_near : (level key : ℕ) (got : ℕ → Page) (c : Compression) → IsSure w p (know_squeeze level key got c) → IsNear w p (compression_next c)
-  squeeze_near level key got (LatchingLeft f) is = not_free f.at.left is.goes.0.may
-  squeeze_near level key got (LatchedLeft f) is = not_released know w g p f.at.left is.goes.0.may
-  squeeze_near level key got (LatchingRight f c) is = not_free f.at.right is.goes.0.may
-  squeeze_near level key got (LatchedRight f c) is = not_released know w g p f.at.right is.goes.0.may
-  squeeze_near level key got (PuttingFirst u) is = put_near u u.gains is.holds.1.0.owner is.holds.1.1.0.owner
-  squeeze_near level key got (PuttingParent u) is = is.holds.0.owner
-  squeeze_near level key got (PuttingLast u) is = put_near u (other u.gains) is.holds.1.0.owner is.holds.1.1.0.owner
-  squeeze_near level key got (Retiring t f) is = is.holds.1.1.0.owner
-  squeeze_near level key got (OpeningRight t f) is = is.holds.1.1.0.owner
-  squeeze_near level key got (OpeningLeft t f) is = is.holds.1.0.owner
-  squeeze_near level key got (OpeningParent x f) is = is.holds.0.owner
+  compression_near : (level key : ℕ) (got : ℕ → Page) (c : Compression) → IsSure w p (know_compression level key got c) → IsNear w p (compression_next c)
+  compression_near level key got (LatchingLeft f) is = not_free f.at.left is.goes.0.may
+  compression_near level key got (LatchedLeft f) is = not_released know w g p f.at.left is.goes.0.may
+  compression_near level key got (LatchingRight f c) is = not_free f.at.right is.goes.0.may
+  compression_near level key got (LatchedRight f c) is = not_released know w g p f.at.right is.goes.0.may
+  compression_near level key got (PuttingFirst u) is = put_near u u.gains is.holds.1.0.owner is.holds.1.1.0.owner
+  compression_near level key got (PuttingParent u) is = is.holds.0.owner
+  compression_near level key got (PuttingLast u) is = put_near u (other u.gains) is.holds.1.0.owner is.holds.1.1.0.owner
+  compression_near level key got (Retiring t f) is = is.holds.1.1.0.owner
+  compression_near level key got (OpeningRight t f) is = is.holds.1.1.0.owner
+  compression_near level key got (OpeningLeft t f) is = is.holds.1.0.owner
+  compression_near level key got (OpeningParent x f) is = is.holds.0.owner
 
   compress_near : (level key : ℕ) (got : ℕ → Page) (a : CompressStage) → IsSure w p (know_compress level key got a) → IsNear w p (compress_next_in a)
   compress_near level key got compress.New is = tt
   compress_near level key got (compress.Coming a) is = approach_near alone level key a is
-  compress_near level key got (compress.Compressing c) is = squeeze_near level key got c is
+  compress_near level key got (compress.Compressing c) is = compression_near level key got c is
   compress_near level key got (compress.Staying x) is = is.holds.0.owner
   compress_near level key got (compress.Ending r) is = tt
   compress_near level key got (compress.Over r) is = tt

@@ -6,25 +6,25 @@ use Rattle.bl_page.specs.Machine.{Name}
 use Rattle.bl_page.specs.Nodes.{unbounded, node_of}
 use Rattle.bl_claims.specs.Trails.{Said, HasSaid}
 use Rattle.bl_claims.specs.Walks.{Each}
-use Rattle.bl_core.specs.Worlds.{Stage, Know, World, IsStage, IsGoes, IsSure, IsGood}
-use Rattle.bl_proc_base.specs.declared.acts.Seen.{Seen}
-use Rattle.bl_proc_base.specs.declared.approaching.Approach.{Approach}
-use Rattle.bl_proc_base.specs.declared.approaching.Approach.TheVariants as way
-use Rattle.bl_proc_base.specs.Approaches.{approach_next}
+use Rattle.bl_tree_worlds.specs.Worlds.{Stage, Know, World, IsStage, IsGoes, IsSure, IsGood}
+use Rattle.bl_proc_steps.specs.declared.acts.Seen.{Seen}
+use Rattle.bl_proc_steps.specs.declared.approach.Approach.{Approach}
+use Rattle.bl_proc_steps.specs.declared.approach.Approach.TheVariants as way
+use Rattle.bl_proc_steps.specs.Approaches.{approach_next}
 use Rattle.bl_proc_writes.specs.declared.paths.Path.{Path}
-use Rattle.bl_proc_writes.specs.declared.posting.PostStage.{PostStage}
-use Rattle.bl_proc_writes.specs.declared.posting.PostStage.TheVariants as post
+use Rattle.bl_proc_writes.specs.declared.post.PostStage.{PostStage}
+use Rattle.bl_proc_writes.specs.declared.post.PostStage.TheVariants as post
 use Rattle.bl_proc_writes.specs.declared.writing.WriteStage.{WriteStage}
 use Rattle.bl_proc_writes.specs.declared.writing.WriteStage.TheVariants as write
 use Rattle.bl_proc_writes.specs.Paths.{page_at, from_page, IsBlank}
 use Rattle.bl_proc_writes.specs.Writes.{write_next_in}
 use Rattle.bl_proc_writes.specs.Posts.{post_next_in}
-use Rattle.bl_proc_writes.specs.Climbs.{WriteNotes, PostNotes}
+use Rattle.bl_proc_writes.specs.InsertPosts.{WriteNotes, PostNotes}
 use Rattle.bl_proc_invariant.specs.Turns.{IsObserved}
 use Rattle.bl_proc_invariant.specs.Tables.{Carried, goes_to, know_approach}
 use Rattle.bl_proc_invariant.specs.Knowing.{goes_above, path_goes, know_write, know_post}
 use Rattle.bl_proc_invariant.proofs.Instead.{with_proc, instead_good}
-use Rattle.bl_proc_unique.proofs.KindCases.{NoteCase, note_case}
+use Rattle.bl_proc_deterministic.proofs.KindCases.{NoteCase, note_case}
 
 module _ {P : Type 0} (w : World P) (p : Name) where
   -- one of the pages that are noted

@@ -7,24 +7,24 @@ use Rattle.bl_page.specs.declared.page.Inner.{Inner}
 use Rattle.bl_page.specs.Machine.{Name, State}
 use Rattle.bl_page.specs.Machine.Act.{Get}
 use Rattle.bl_page.specs.Nodes.{Covers, unbounded, node_of, IsChildOf}
-use Rattle.bl_core_tree.specs.Trees.{IsChild}
+use Rattle.bl_tree.specs.Trees.{IsChild}
 use Rattle.bl_claims.specs.Trails.{Mark}
-use Rattle.bl_core.proofs.Pushes.{HasSaid-silent}
-use Rattle.bl_core.specs.Worlds.{HoldsPage, Know, World, nodes, tree_of, IsGoes, IsSure, IsGood}
-use Rattle.bl_core.proofs.Descents.{goes_down, not_released, anchor_not_released}
-use Rattle.bl_core.proofs.Children.{child_found}
-use Rattle.bl_proc_base.specs.declared.acts.Seen.{Seen}
-use Rattle.bl_proc_pages.specs.declared.onwards.Step.TheVariants.{Here}
-use Rattle.bl_proc_base.specs.declared.approaching.Approach.TheVariants as way
-use Rattle.bl_proc_base.specs.declared.editing.Outcome.{Outcome}
-use Rattle.bl_proc_base.specs.declared.editing.Outcome.TheVariants as outcome
-use Rattle.bl_proc_base.specs.declared.editing.Edit.{Edit}
+use Rattle.bl_tree_worlds.proofs.Pushes.{HasSaid-silent}
+use Rattle.bl_tree_worlds.specs.Worlds.{HoldsPage, Know, World, nodes, tree_of, IsGoes, IsSure, IsGood}
+use Rattle.bl_tree_worlds.proofs.Descents.{goes_down, not_released, anchor_not_released}
+use Rattle.bl_tree_worlds.proofs.Children.{child_found}
+use Rattle.bl_proc_steps.specs.declared.acts.Seen.{Seen}
+use Rattle.bl_proc_routes.specs.declared.routes.Step.TheVariants.{Here}
+use Rattle.bl_proc_steps.specs.declared.approach.Approach.TheVariants as way
+use Rattle.bl_proc_steps.specs.declared.edit.Outcome.{Outcome}
+use Rattle.bl_proc_steps.specs.declared.edit.Outcome.TheVariants as outcome
+use Rattle.bl_proc_steps.specs.declared.edit.Edit.{Edit}
 use Rattle.bl_proc_writes.specs.declared.walking.Walk.{Walk}
-use Rattle.bl_proc_writes.specs.declared.posting.PostReply.{PostReply}
-use Rattle.bl_proc_writes.specs.declared.posting.PostStage.{PostStage}
-use Rattle.bl_proc_writes.specs.declared.posting.PostStage.TheVariants as post
-use Rattle.bl_proc_pages.specs.Onwards.{Leads}
-use Rattle.bl_proc_base.specs.Edits.{EntersPair}
+use Rattle.bl_proc_writes.specs.declared.post.PostReply.{PostReply}
+use Rattle.bl_proc_writes.specs.declared.post.PostStage.{PostStage}
+use Rattle.bl_proc_writes.specs.declared.post.PostStage.TheVariants as post
+use Rattle.bl_proc_routes.specs.Routes.{Leads}
+use Rattle.bl_proc_steps.specs.Edits.{EntersPair}
 use Rattle.bl_proc_writes.specs.Posts.{post_reply, post_next_in, PostArrives, PostWalks}
 use Rattle.bl_proc_invariant.specs.Turns.{event_of, IsObserved, Does, Turned}
 use Rattle.bl_proc_invariant.specs.Tables.{Aim, Carried, carrying, holds_live, goes_to, IsAim, IsDue, IsBelow, know_approach, know_edit}
@@ -35,8 +35,8 @@ use Rattle.bl_proc_invariant.proofs.Editing.{edit_turn, finish_turn}
 use Rattle.bl_proc_invariant.proofs.Entering.{enters_learns, enters_places, edit_middle}
 use Rattle.bl_proc_invariant.proofs.Ends.{begin_turn, end_turn}
 use Rattle.bl_proc_invariant.proofs.Growing as growing
-use Rattle.bl_proc_unique.proofs.WayCases.{edit_case, growth_case}
-use Rattle.bl_proc_unique.proofs.KindCases.{PostCase}
+use Rattle.bl_proc_deterministic.proofs.WayCases.{edit_case, growth_case}
+use Rattle.bl_proc_deterministic.proofs.KindCases.{PostCase}
 
 pub post_fine : (carried : Carried) (level key child : ℕ) → 0 < level → IsAim (post_aim carried level key child)
 post_fine carried level key child above = record {

@@ -6,28 +6,28 @@ use Rattle.bl_page.specs.Machine.Act.{Put, Take, Miss}
 use Rattle.bl_page.specs.Machine.{Act}
 use Rattle.bl_claims.specs.Trails.{Mark, Trail}
 use Rattle.bl_claims.specs.Meanings.{writes_in, Unwritten, WroteHeld, WritesBack}
-use Rattle.bl_core.proofs.Meant.{unwritten_now, none_written, unwritten_on, latched_unwritten, latched_now, held_writes, held_still}
-use Rattle.bl_proc_base.specs.declared.acts.Seen.{Seen}
-use Rattle.bl_proc_base.specs.declared.approaching.Approach.{Approach}
-use Rattle.bl_proc_base.specs.declared.approaching.Approached.TheVariants as came
-use Rattle.bl_proc_base.specs.declared.editing.Outcome.{Outcome}
-use Rattle.bl_proc_base.specs.declared.editing.Outcome.TheVariants as outcome
-use Rattle.bl_proc_base.specs.declared.editing.Edit.{Edit}
-use Rattle.bl_proc_base.specs.declared.editing.Edit.TheVariants as edit
-use Rattle.bl_proc_base.specs.declared.editing.Edited.TheVariants as changed
-use Rattle.bl_proc_base.specs.Approaches.{approach_next, Approaches}
-use Rattle.bl_proc_base.specs.Edits.{edit_next}
+use Rattle.bl_tree_worlds.proofs.Meant.{unwritten_now, none_written, unwritten_on, latched_unwritten, latched_now, held_writes, held_still}
+use Rattle.bl_proc_steps.specs.declared.acts.Seen.{Seen}
+use Rattle.bl_proc_steps.specs.declared.approach.Approach.{Approach}
+use Rattle.bl_proc_steps.specs.declared.approach.Approached.TheVariants as came
+use Rattle.bl_proc_steps.specs.declared.edit.Outcome.{Outcome}
+use Rattle.bl_proc_steps.specs.declared.edit.Outcome.TheVariants as outcome
+use Rattle.bl_proc_steps.specs.declared.edit.Edit.{Edit}
+use Rattle.bl_proc_steps.specs.declared.edit.Edit.TheVariants as edit
+use Rattle.bl_proc_steps.specs.declared.edit.Edited.TheVariants as changed
+use Rattle.bl_proc_steps.specs.Approaches.{approach_next, Approaches}
+use Rattle.bl_proc_steps.specs.Edits.{edit_next}
 use Rattle.bl_model.specs.declared.deciding.KeyWrite.{KeyWrite}
 use Rattle.bl_model.specs.declared.deciding.Effect.{Effect}
 use Rattle.bl_model.specs.declared.deciding.Effect.TheVariants.{Keep, Enter, Remove, Replace}
 use Rattle.bl_model.specs.Writes.{effect_of}
-use Rattle.bl_proc_base.specs.declared.answers.Hint.{Hint}
+use Rattle.bl_proc_steps.specs.declared.answers.Hint.{Hint}
 use Rattle.bl_proc_writes.specs.declared.writing.Noted.{Noted}
 use Rattle.bl_proc_writes.specs.declared.writing.WriteReply.{WriteReply}
 use Rattle.bl_proc_writes.specs.declared.writing.WriteReply.TheVariants as written
 use Rattle.bl_proc_writes.specs.declared.writing.WriteStage.{WriteStage}
 use Rattle.bl_proc_writes.specs.declared.writing.WriteStage.TheVariants as write
-use Rattle.bl_proc_base.specs.Thin.{thin_hint}
+use Rattle.bl_proc_steps.specs.Thin.{thin_hint}
 use Rattle.bl_proc_writes.specs.Writes.{post_hint, Performs, thin_by, write_reply, write_next_in}
 use Rattle.bl_proc_invariant.specs.Turns.{event_of}
 use Rattle.bl_claims.specs.Hinted.{WroteLeaf}
@@ -35,8 +35,8 @@ use Rattle.bl_proc_invariant.specs.Logs.{way_log, put_log, entry_log, IsAsNoted,
 use Rattle.bl_proc_invariant.specs.Knowing.{write_end}
 use Rattle.bl_proc_invariant.proofs.Holdings.{cut_low}
 use Rattle.bl_proc_invariant.proofs.Logging.{way_stays, way_goes}
-use Rattle.bl_proc_unique.proofs.WayCases.{EditCase, edit_case}
-use Rattle.bl_proc_unique.proofs.KindCases.{WriteCase}
+use Rattle.bl_proc_deterministic.proofs.WayCases.{EditCase, edit_case}
+use Rattle.bl_proc_deterministic.proofs.KindCases.{WriteCase}
 
 module _ (marks : Trail) (m : Mark) where
   abbrev more : Trail

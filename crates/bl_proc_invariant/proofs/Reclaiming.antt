@@ -10,14 +10,14 @@ use Rattle.bl_page.specs.Machine.Act.{Look, Release, Miss}
 use Rattle.bl_page.specs.Machine.Looked.{Process, Page as OfPage}
 use Rattle.bl_page.specs.Machine.Owner.{Retired}
 use Rattle.bl_page.specs.Machine.Phase.{Waiting, Running}
-use Rattle.bl_core_tree.specs.Trees.Status.{Free}
+use Rattle.bl_tree.specs.Trees.Status.{Free}
 use Rattle.bl_claims.specs.Trails.{Mark, Saw}
-use Rattle.bl_core.proofs.Pushes.{HasSaid-silent, name_cases}
-use Rattle.bl_core.specs.Worlds.{Passed, IsAhead, Stage, Know, World, IsPassed, IsSure, IsGood, silent}
-use Rattle.bl_core.proofs.After.{after, Extends-after, put_at, is_put_at}
-use Rattle.bl_core.proofs.Outside.{Releases-keeps}
-use Rattle.bl_core.proofs.Watches.{IsWatch}
-use Rattle.bl_proc_base.specs.declared.acts.Seen.{Seen}
+use Rattle.bl_tree_worlds.proofs.Pushes.{HasSaid-silent, name_cases}
+use Rattle.bl_tree_worlds.specs.Worlds.{Passed, IsAhead, Stage, Know, World, IsPassed, IsSure, IsGood, silent}
+use Rattle.bl_tree_worlds.proofs.After.{after, Extends-after, put_at, is_put_at}
+use Rattle.bl_tree_worlds.proofs.Outside.{Releases-keeps}
+use Rattle.bl_tree_worlds.proofs.Watches.{IsWatch}
+use Rattle.bl_proc_steps.specs.declared.acts.Seen.{Seen}
 use Rattle.bl_proc.specs.declared.reclaiming.Round.{Round}
 use Rattle.bl_proc.specs.declared.reclaiming.ReclaimStage.{ReclaimStage}
 use Rattle.bl_proc.specs.declared.reclaiming.ReclaimStage.TheVariants.{Seeing, Looking, Releasing, Over}
@@ -26,7 +26,7 @@ use Rattle.bl_proc_invariant.specs.Turns.{numbered, event_of, IsOwnerShown, IsSh
 use Rattle.bl_proc_invariant.specs.Tables.{idle}
 use Rattle.bl_proc_invariant.specs.Knowing.{looks, round, all, know_reclaim, retired_since, reclaim_time}
 use Rattle.bl_proc_invariant.proofs.Acts.{watched}
-use Rattle.bl_proc_unique.proofs.KindCases.{ReclaimCase}
+use Rattle.bl_proc_deterministic.proofs.KindCases.{ReclaimCase}
 
 -- what is known of the others in that state
 abbrev known : ℕ → ReclaimStage → Passed

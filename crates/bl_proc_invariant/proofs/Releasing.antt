@@ -5,14 +5,14 @@ use Rattle.bl_page.specs.Machine.{Name, State, IsAt, AllBeganAfter}
 use Rattle.bl_page.specs.Machine.Act.{Release}
 use Rattle.bl_page.specs.Machine.Owner.{Held, Retired}
 use Rattle.bl_page.specs.Nodes.{Node, Covers, node_of}
-use Rattle.bl_core_tree.specs.Trees.{Status, IsLive}
-use Rattle.bl_core_tree.specs.Trees.Status.{Free, Gone}
-use Rattle.bl_core_tree.proofs.Statuses.{gone_dead, not_dead}
-use Rattle.bl_core.proofs.Pushes.{HasSaid-silent}
-use Rattle.bl_core.specs.Worlds.{Hold, Goes, Child, Passed, World, nodes, was_in, IsStage, IfKnown, MayGet, IsHeld, IsGoes, IsRelied, IsPassed, IsSure, IsGood, silent}
-use Rattle.bl_core.proofs.Frames.{Each-map}
-use Rattle.bl_core.proofs.After.{after, Extends-after, put_at, is_put_at}
-use Rattle.bl_core.proofs.Outside.{Releases-keeps}
+use Rattle.bl_tree.specs.Trees.{Status, IsLive}
+use Rattle.bl_tree.specs.Trees.Status.{Free, Gone}
+use Rattle.bl_tree.proofs.Statuses.{gone_dead, not_dead}
+use Rattle.bl_tree_worlds.proofs.Pushes.{HasSaid-silent}
+use Rattle.bl_tree_worlds.specs.Worlds.{Hold, Goes, Child, Passed, World, nodes, was_in, IsStage, IfKnown, MayGet, IsHeld, IsGoes, IsRelied, IsPassed, IsSure, IsGood, silent}
+use Rattle.bl_tree_worlds.proofs.Frames.{Each-map}
+use Rattle.bl_tree_worlds.proofs.After.{after, Extends-after, put_at, is_put_at}
+use Rattle.bl_tree_worlds.proofs.Outside.{Releases-keeps}
 use Rattle.bl_proc_invariant.specs.Turns.{Does, Turned}
 use Rattle.bl_proc_invariant.specs.Knowing.{Run, know}
 

@@ -4,19 +4,19 @@ use Rattle.bl_page.specs.declared.page.Page.{Page}
 use Rattle.bl_page.specs.Machine.{Name, Owner, State}
 use Rattle.bl_page.specs.Machine.Act.{Put}
 use Rattle.bl_model.specs.Map.{Map}
-use Rattle.bl_core_tree.specs.Trees.Status.{Fresh}
-use Rattle.bl_core_tree.specs.Moves.{IsRow, IsMapRow, IsRelisted}
+use Rattle.bl_tree.specs.Trees.Status.{Fresh}
+use Rattle.bl_tree.specs.Moves.{IsRow, IsMapRow, IsRelisted}
 use Rattle.bl_page.specs.Nodes.{node_of}
-use Rattle.bl_core.proofs.Pushes.{HasSaid-silent}
-use Rattle.bl_core.specs.Worlds.{Know, World, nodes, IsSure, IsGood, IsBounded, put_mark}
-use Rattle.bl_core.proofs.After.{after, Extends-after, put_at, is_put_at}
-use Rattle.bl_core.specs.Puts.{Owes}
-use Rattle.bl_core.proofs.Moves.{PutsRow-keeps}
-use Rattle.bl_core.proofs.Splittings.{PutsRelisted-keeps}
-use Rattle.bl_proc_compress.specs.declared.compressing.Puts.{Puts}
-use Rattle.bl_proc_compress.specs.declared.compressing.Compression.TheVariants.{PuttingParent, PuttingLast}
+use Rattle.bl_tree_worlds.proofs.Pushes.{HasSaid-silent}
+use Rattle.bl_tree_worlds.specs.Worlds.{Know, World, nodes, IsSure, IsGood, IsBounded, put_mark}
+use Rattle.bl_tree_worlds.proofs.After.{after, Extends-after, put_at, is_put_at}
+use Rattle.bl_tree_worlds.specs.Puts.{Owes}
+use Rattle.bl_tree_worlds.proofs.Moves.{PutsRow-keeps}
+use Rattle.bl_tree_worlds.proofs.Splittings.{PutsRelisted-keeps}
+use Rattle.bl_proc_compress.specs.declared.compression.Puts.{Puts}
+use Rattle.bl_proc_compress.specs.declared.compression.Compression.TheVariants.{PuttingParent, PuttingLast}
 use Rattle.bl_proc_invariant.specs.Turns.{Does, Turned}
-use Rattle.bl_proc_invariant.specs.Compressing.{right_now, AreThree, IsToPut, ToMerge, ToEvenLeft, ToEvenRight, know_compression}
+use Rattle.bl_proc_invariant.specs.Compressing.{right_now, AreThree, IsToPut, ToMerge, ToEvenLeft, ToEvenRight, know_compression_by}
 use Rattle.bl_proc_invariant.proofs.Acts.{of_held, not_gone}
 
 -- one level's map with its key changed, and with two of them
@@ -29,8 +29,8 @@ is_row_map l k v m =
     let row = is_put_at k v (m l) in
     record { here = ap (λ f. f k) level.at ∙ row.at; rest = λ j n. ap (λ f. f j) level.at ∙ row.others j n; others = level.others }
 
-module _ {P : Type 0} (know : P → Know) (w : World P) (g : IsGood know w) (p : Name) (b : P) (level key : ℕ) (got : ℕ → Page) (at new : ℕ) (u : Puts) (before : know (w.proc p) ≡ know_compression level key got at new (PuttingParent u)) (then : know b ≡ know_compression level key got at new (PuttingLast u)) (s : State Page) (does : Does w.now p (Put u.at.parent u.parent) s) (above : 0 < level) where
-  sure : IsSure w p (know_compression level key got at new (PuttingParent u))
+module _ {P : Type 0} (know : P → Know) (w : World P) (g : IsGood know w) (p : Name) (b : P) (level key : ℕ) (got : ℕ → Page) (at new : ℕ) (u : Puts) (before : know (w.proc p) ≡ know_compression_by level key got at new (PuttingParent u)) (then : know b ≡ know_compression_by level key got at new (PuttingLast u)) (s : State Page) (does : Does w.now p (Put u.at.parent u.parent) s) (above : 0 < level) where
+  sure : IsSure w p (know_compression_by level key got at new (PuttingParent u))
   sure = rw before at (g.sure p)
 
   three : AreThree u.at

@@ -5,21 +5,21 @@ use Rattle.bl_page.specs.declared.page.Page.TheVariants.{Dead}
 use Rattle.bl_page.specs.Machine.{Name, Owner, State}
 use Rattle.bl_page.specs.Machine.Act.{Put}
 use Rattle.bl_page.specs.Nodes.{Covers, node_of}
-use Rattle.bl_core_tree.specs.Trees.{Status}
-use Rattle.bl_core_tree.specs.Trees.Status.{Fresh, Live, Gone}
-use Rattle.bl_core_tree.specs.Moves.{IsAtTwo, IsRightLoss, IsLeftLoss}
-use Rattle.bl_core.proofs.Pushes.{HasSaid-silent}
-use Rattle.bl_core.specs.Worlds.{Know, World, nodes, IsHeld, IsSure, IsGood, HoldsPage, put_mark}
-use Rattle.bl_core.proofs.After.{after, Extends-after, put_at}
-use Rattle.bl_core.specs.Compressions.{Parts}
-use Rattle.bl_core.proofs.Splittings.{PutsRightLoss-keeps, PutsLeftLoss-keeps, PutsDead-keeps}
+use Rattle.bl_tree.specs.Trees.{Status}
+use Rattle.bl_tree.specs.Trees.Status.{Fresh, Live, Gone}
+use Rattle.bl_tree.specs.Moves.{IsAtTwo, IsRightLoss, IsLeftLoss}
+use Rattle.bl_tree_worlds.proofs.Pushes.{HasSaid-silent}
+use Rattle.bl_tree_worlds.specs.Worlds.{Know, World, nodes, IsHeld, IsSure, IsGood, HoldsPage, put_mark}
+use Rattle.bl_tree_worlds.proofs.After.{after, Extends-after, put_at}
+use Rattle.bl_tree_worlds.specs.Compressions.{Parts}
+use Rattle.bl_tree_worlds.proofs.Splittings.{PutsRightLoss-keeps, PutsLeftLoss-keeps, PutsDead-keeps}
 use Rattle.bl_proc_compress.specs.Compressions.{IsBuried}
-use Rattle.bl_proc_compress.specs.declared.compressing.Decision.{Decision}
-use Rattle.bl_proc_compress.specs.declared.compressing.Puts.{Puts}
-use Rattle.bl_proc_compress.specs.declared.compressing.Compression.TheVariants.{PuttingLast, Retiring, OpeningRight}
+use Rattle.bl_proc_compress.specs.declared.compression.Decision.{Decision}
+use Rattle.bl_proc_compress.specs.declared.compression.Puts.{Puts}
+use Rattle.bl_proc_compress.specs.declared.compression.Compression.TheVariants.{PuttingLast, Retiring, OpeningRight}
 use Rattle.bl_proc_invariant.specs.Turns.{Does, Turned}
 use Rattle.bl_proc_invariant.specs.Tables.{holds_live}
-use Rattle.bl_proc_invariant.specs.Compressing.{left_now, right_now, AreThree, IsToPut, ToMerge, ToEvenLeft, ToEvenRight, know_compression}
+use Rattle.bl_proc_invariant.specs.Compressing.{left_now, right_now, AreThree, IsToPut, ToMerge, ToEvenLeft, ToEvenRight, know_compression_by}
 use Rattle.bl_proc_invariant.proofs.Acts.{of_held, not_gone}
 use Rattle.bl_proc_invariant.proofs.Coupling.{is_put_two}
 
@@ -33,8 +33,8 @@ pub buried_says : (x : ℕ) (old new : Page) → IsBuried x old new → BuriedSa
 buried_says x old (Dead d) h = record { level = h.0; end = refl; leads = h.2 }
 buried_says x old what h = absurd h
 
-module _ {P : Type 0} (know : P → Know) (w : World P) (g : IsGood know w) (p : Name) (b : P) (level key : ℕ) (got : ℕ → Page) (at new : ℕ) (u : Puts) (before : know (w.proc p) ≡ know_compression level key got at new (PuttingLast u)) (s : State Page) where
-  sure : IsSure w p (know_compression level key got at new (PuttingLast u))
+module _ {P : Type 0} (know : P → Know) (w : World P) (g : IsGood know w) (p : Name) (b : P) (level key : ℕ) (got : ℕ → Page) (at new : ℕ) (u : Puts) (before : know (w.proc p) ≡ know_compression_by level key got at new (PuttingLast u)) (s : State Page) where
+  sure : IsSure w p (know_compression_by level key got at new (PuttingLast u))
   sure = rw before at (g.sure p)
 
   three : AreThree u.at
@@ -82,7 +82,7 @@ module _ {P : Type 0} (know : P → Know) (w : World P) (g : IsGood know w) (p :
   }
 
   -- a merge: the right page is dead
-  pub die_turn : (decision : Decision) → know b ≡ know_compression level key got at new (Retiring u.at decision) → Does w.now p (Put u.at.right u.right) s → ToMerge got u at new → Turned know w p (Put u.at.right u.right) s b
+  pub die_turn : (decision : Decision) → know b ≡ know_compression_by level key got at new (Retiring u.at decision) → Does w.now p (Put u.at.right u.right) s → ToMerge got u at new → Turned know w p (Put u.at.right u.right) s b
   die_turn decision then does to =
       let left_is : w.now.contents u.at.left ≡ u.left = sure.holds.1.0.page ∙ ap (left_now got u) to.gains in
       let right_is : w.now.contents u.at.right ≡ got u.at.right = sure.holds.1.1.0.page ∙ ap (right_now got u) to.gains in
@@ -127,7 +127,7 @@ module _ {P : Type 0} (know : P → Know) (w : World P) (g : IsGood know w) (p :
       }
 
   -- an evening: the page that gave pairs loses them
-  opening : (z : ℕ) (c : Page) (decision : Decision) → Does w.now p (Put z c) s → IsSure (next z c Live) p (know_compression level key got at new (OpeningRight u.at decision))
+  opening : (z : ℕ) (c : Page) (decision : Decision) → Does w.now p (Put z c) s → IsSure (next z c Live) p (know_compression_by level key got at new (OpeningRight u.at decision))
   opening z c decision does = record {
     stage = rw (does.changes.2 p) sure.stage;
     said = HasSaid-silent w.trail (put_mark p z c None) p None refl sure.said;
@@ -138,7 +138,7 @@ module _ {P : Type 0} (know : P → Know) (w : World P) (g : IsGood know w) (p :
     sound = (to_put.small, three);
   }
 
-  pub lose_right_turn : (decision : Decision) → know b ≡ know_compression level key got at new (OpeningRight u.at decision) → Does w.now p (Put u.at.right u.right) s → ToEvenLeft got u at new → Turned know w p (Put u.at.right u.right) s b
+  pub lose_right_turn : (decision : Decision) → know b ≡ know_compression_by level key got at new (OpeningRight u.at decision) → Does w.now p (Put u.at.right u.right) s → ToEvenLeft got u at new → Turned know w p (Put u.at.right u.right) s b
   lose_right_turn decision then does to =
       let left_is : w.now.contents u.at.left ≡ u.left = sure.holds.1.0.page ∙ ap (left_now got u) to.gains in
       let right_is : w.now.contents u.at.right ≡ got u.at.right = sure.holds.1.1.0.page ∙ ap (right_now got u) to.gains in
@@ -167,7 +167,7 @@ module _ {P : Type 0} (know : P → Know) (w : World P) (g : IsGood know w) (p :
         }) g;
       }
 
-  pub lose_left_turn : (decision : Decision) → know b ≡ know_compression level key got at new (OpeningRight u.at decision) → Does w.now p (Put u.at.left u.left) s → ToEvenRight got u at new → Turned know w p (Put u.at.left u.left) s b
+  pub lose_left_turn : (decision : Decision) → know b ≡ know_compression_by level key got at new (OpeningRight u.at decision) → Does w.now p (Put u.at.left u.left) s → ToEvenRight got u at new → Turned know w p (Put u.at.left u.left) s b
   lose_left_turn decision then does to =
       let left_is : w.now.contents u.at.left ≡ got u.at.left = sure.holds.1.0.page ∙ ap (left_now got u) to.gains in
       let right_is : w.now.contents u.at.right ≡ u.right = sure.holds.1.1.0.page ∙ ap (right_now got u) to.gains in

@@ -4,12 +4,12 @@ use Rattle.bl_page.specs.Machine.{Name}
 use Rattle.bl_page.specs.Machine.Phase.{Waiting}
 use Rattle.bl_claims.specs.Moments.{snapshot_of, HasLaws}
 use Rattle.bl_claims.specs.Trails.{marks_of, HasSaid}
-use Rattle.bl_core.proofs.Pushes.{name_cases}
+use Rattle.bl_tree_worlds.proofs.Pushes.{name_cases}
 use Rattle.bl_claims.specs.Meanings.{writes_of}
-use Rattle.bl_core.specs.Worlds.{World, HoldsPage, IsGood}
-use Rattle.bl_core.proofs.After.{put_name, is_put_name}
-use Rattle.bl_core.specs.Blank.{IsBlank}
-use Rattle.bl_core.proofs.WorldLaws.{laws}
+use Rattle.bl_tree_worlds.specs.Worlds.{World, HoldsPage, IsGood}
+use Rattle.bl_tree_worlds.proofs.After.{put_name, is_put_name}
+use Rattle.bl_tree_worlds.specs.Blank.{IsBlank}
+use Rattle.bl_tree_worlds.proofs.WorldLaws.{laws}
 use Rattle.bl_proc_invariant.specs.Logs.{proc_log, AllLogs}
 use Rattle.bl_proc_invariant.specs.Knowing.{Run, know}
 use Rattle.bl_proc_invariant.proofs.Instead.{with_proc, instead_good}

@@ -5,10 +5,10 @@ use Rattle.bl_page.specs.Machine.{Name, State}
 use Rattle.bl_page.specs.Machine.Act.{Miss}
 use Rattle.bl_page.specs.declared.page.Page.{Page}
 use Rattle.bl_claims.specs.Trails.{Mark}
-use Rattle.bl_core.proofs.Pushes.{HasSaid-silent}
-use Rattle.bl_core.specs.Worlds.{World, IsHeld, IsRelied, IsGood, silent}
-use Rattle.bl_core.proofs.Frames.{Each-map}
-use Rattle.bl_proc_base.specs.declared.acts.Seen.{Seen}
+use Rattle.bl_tree_worlds.proofs.Pushes.{HasSaid-silent}
+use Rattle.bl_tree_worlds.specs.Worlds.{World, IsHeld, IsRelied, IsGood, silent}
+use Rattle.bl_tree_worlds.proofs.Frames.{Each-map}
+use Rattle.bl_proc_steps.specs.declared.acts.Seen.{Seen}
 use Rattle.bl_proc.specs.declared.kinds.Proc.{Proc}
 use Rattle.bl_proc.specs.declared.kinds.Proc.TheVariants.{Find, Write, Post, Part, Compress, Reclaim, Lower, InsertPost}
 use Rattle.bl_proc.specs.Processes.{next_of, Takes}
@@ -20,11 +20,11 @@ use Rattle.bl_proc_invariant.proofs.Finding.{find_turn}
 use Rattle.bl_proc_invariant.proofs.Listing.{part_turn}
 use Rattle.bl_proc_invariant.proofs.Writing.{write_turn}
 use Rattle.bl_proc_invariant.proofs.Posting.{post_turn}
-use Rattle.bl_proc_invariant.proofs.Pressing.{compress_turn}
+use Rattle.bl_proc_invariant.proofs.CompressTurn.{compress_turn}
 use Rattle.bl_proc_invariant.proofs.Reclaiming.{reclaim_turn}
 use Rattle.bl_proc_invariant.proofs.Lowering.{lower_turn}
 use Rattle.bl_proc_invariant.proofs.Climbing.{climb_turn}
-use Rattle.bl_proc_unique.proofs.KindCases.{write_case, post_case, compress_case, reclaim_case, lower_case, climb_case}
+use Rattle.bl_proc_deterministic.proofs.KindCases.{write_case, post_case, compress_case, reclaim_case, lower_case, climb_case}
 
 state_turn : (w : World Run) (p : Name) (got : ℕ → Page) (child time : ℕ) (old new : Proc) (b : Run) (what : Seen) (s : State Page) → IsGood know w → know (w.proc p) ≡ know_of got child time old → know b ≡ know_of (got_next got old what) (child_next child old) (time_next w.now time old) new → Takes old what new → IsObserved w.now w.size (next_of old) what → IsShown w.now p time (next_of old) what → Does w.now p (event_of (end_of_proc old) (next_of old) what) s → Turned know w p (event_of (end_of_proc old) (next_of old) what) s b
 state_turn w p got child time (Find a) (Find c) b what s g before then t observed shown does =

@@ -11,22 +11,22 @@ use Rattle.bl_page.specs.declared.page.Page.{Page}
 use Rattle.bl_page.specs.Machine.{Name, State, Act}
 use Rattle.bl_page.specs.Machine.Act.{Get}
 use Rattle.bl_claims.specs.Trails.{Mark}
-use Rattle.bl_core.proofs.Pushes.{HasSaid-silent}
-use Rattle.bl_core.specs.Worlds.{HoldsPage, Goes, Know, World, nodes, MapsTo, IsSure, IsGood, silent}
-use Rattle.bl_core.proofs.Descents.{held_leaf_says, not_released}
-use Rattle.bl_core_tree.proofs.Statuses.{live_live}
-use Rattle.bl_proc_base.specs.declared.acts.Seen.{Seen}
-use Rattle.bl_proc_pages.specs.declared.onwards.Step.TheVariants.{Here}
-use Rattle.bl_proc_base.specs.declared.approaching.Approach.TheVariants as way
-use Rattle.bl_proc_base.specs.declared.editing.Outcome.{Outcome}
-use Rattle.bl_proc_base.specs.declared.editing.Outcome.TheVariants as outcome
-use Rattle.bl_proc_base.specs.declared.editing.Edit.{Edit}
+use Rattle.bl_tree_worlds.proofs.Pushes.{HasSaid-silent}
+use Rattle.bl_tree_worlds.specs.Worlds.{HoldsPage, Goes, Know, World, nodes, MapsTo, IsSure, IsGood, silent}
+use Rattle.bl_tree_worlds.proofs.Descents.{held_leaf_says, not_released}
+use Rattle.bl_tree.proofs.Statuses.{live_live}
+use Rattle.bl_proc_steps.specs.declared.acts.Seen.{Seen}
+use Rattle.bl_proc_routes.specs.declared.routes.Step.TheVariants.{Here}
+use Rattle.bl_proc_steps.specs.declared.approach.Approach.TheVariants as way
+use Rattle.bl_proc_steps.specs.declared.edit.Outcome.{Outcome}
+use Rattle.bl_proc_steps.specs.declared.edit.Outcome.TheVariants as outcome
+use Rattle.bl_proc_steps.specs.declared.edit.Edit.{Edit}
 use Rattle.bl_proc_writes.specs.declared.writing.Noted.{Noted}
 use Rattle.bl_proc_writes.specs.declared.writing.WriteStage.{WriteStage}
 use Rattle.bl_proc_writes.specs.declared.writing.WriteStage.TheVariants as write
 use Rattle.bl_proc_writes.specs.declared.writing.WriteReply.TheVariants as written
-use Rattle.bl_proc_pages.specs.Onwards.{Leads}
-use Rattle.bl_proc_base.specs.Thin.{thin_hint}
+use Rattle.bl_proc_routes.specs.Routes.{Leads}
+use Rattle.bl_proc_steps.specs.Thin.{thin_hint}
 use Rattle.bl_proc_writes.specs.Writes.{Performs, write_reply, write_next_in}
 use Rattle.bl_proc_invariant.specs.Turns.{event_of, IsObserved, Does, Turned}
 use Rattle.bl_proc_invariant.specs.Tables.{unsaid, IsAim, IsBelow, know_approach, know_edit}
@@ -36,8 +36,8 @@ use Rattle.bl_proc_invariant.proofs.Approaching.{approach_turn}
 use Rattle.bl_proc_invariant.proofs.Editing.{says, edit_turn, finish_turn}
 use Rattle.bl_proc_invariant.proofs.Entering.{performs_learns, performs_places, edit_middle}
 use Rattle.bl_proc_invariant.proofs.Ends.{begin_turn, end_turn}
-use Rattle.bl_proc_unique.proofs.WayCases.{edit_case}
-use Rattle.bl_proc_unique.proofs.KindCases.{WriteCase}
+use Rattle.bl_proc_deterministic.proofs.WayCases.{edit_case}
+use Rattle.bl_proc_deterministic.proofs.KindCases.{WriteCase}
 
 pub write_fine : (goes : List Goes) (key : ℕ) (does : KeyWrite) (noted : Noted) → IsAim (write_aim goes key does noted)
 write_fine goes key does noted = record {

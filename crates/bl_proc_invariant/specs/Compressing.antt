@@ -3,21 +3,21 @@ use Rattle.std.specs.Prelude.{◌≡◌, ◌≢◌, ◌⊎◌, ℕ, suc, ◌-◌
 use Rattle.bl_page.specs.declared.page.Page.{Page}
 use Rattle.bl_page.specs.declared.page.Page.TheVariants.{Inner}
 use Rattle.bl_page.specs.Nodes.{Covers, unbounded, node_of}
-use Rattle.bl_core_tree.specs.Trees.Status.{Live, Left, Right, Gone}
-use Rattle.bl_core_tree.specs.Moves.{IsRow, IsJoin, IsLeftGain, IsRightLoss, IsRightGain, IsLeftLoss, IsRelisted}
-use Rattle.bl_core.specs.Worlds.{Hold, Stage, Know}
+use Rattle.bl_tree.specs.Trees.Status.{Live, Left, Right, Gone}
+use Rattle.bl_tree.specs.Moves.{IsRow, IsJoin, IsLeftGain, IsRightLoss, IsRightGain, IsLeftLoss, IsRelisted}
+use Rattle.bl_tree_worlds.specs.Worlds.{Hold, Stage, Know}
 use Rattle.bl_rearrange.specs.Rearranged.{right_of}
 use Rattle.bl_rearrange.specs.declared.sides.Side.{Side}
 use Rattle.bl_rearrange.specs.declared.sides.Side.TheVariants as side
-use Rattle.bl_proc_base.specs.declared.acts.Seen.{Seen}
-use Rattle.bl_proc_base.specs.declared.acts.Seen.TheVariants.{Words}
-use Rattle.bl_proc_compress.specs.declared.compressing.Siblings.{Siblings}
-use Rattle.bl_proc_compress.specs.declared.compressing.Family.{Family}
-use Rattle.bl_proc_compress.specs.declared.compressing.Puts.{Puts}
-use Rattle.bl_proc_base.specs.declared.answers.Hint.{Hint}
-use Rattle.bl_proc_compress.specs.declared.compressing.Decision.TheVariants as decision
-use Rattle.bl_proc_compress.specs.declared.compressing.Compression.{Compression}
-use Rattle.bl_proc_compress.specs.declared.compressing.Compression.TheVariants.{LatchingLeft, LatchedLeft, LatchingRight, LatchedRight, PuttingFirst, PuttingParent, PuttingLast, Retiring, OpeningRight, OpeningLeft, OpeningParent}
+use Rattle.bl_proc_steps.specs.declared.acts.Seen.{Seen}
+use Rattle.bl_proc_steps.specs.declared.acts.Seen.TheVariants.{Words}
+use Rattle.bl_proc_compress.specs.declared.compression.Siblings.{Siblings}
+use Rattle.bl_proc_compress.specs.declared.compression.Family.{Family}
+use Rattle.bl_proc_compress.specs.declared.compression.Puts.{Puts}
+use Rattle.bl_proc_steps.specs.declared.answers.Hint.{Hint}
+use Rattle.bl_proc_compress.specs.declared.compression.Decision.TheVariants as decision
+use Rattle.bl_proc_compress.specs.declared.compression.Compression.{Compression}
+use Rattle.bl_proc_compress.specs.declared.compression.Compression.TheVariants.{LatchingLeft, LatchedLeft, LatchingRight, LatchedRight, PuttingFirst, PuttingParent, PuttingLast, Retiring, OpeningRight, OpeningLeft, OpeningParent}
 use Rattle.bl_proc_compress.specs.Compressions.{IsBuried}
 use Rattle.bl_proc_invariant.specs.Tables.{idle, holds_live, holds_known, goes_to}
 
@@ -118,37 +118,37 @@ got_three f c d x = if x == f.at.parent then Inner f.parent else if x == f.at.le
 
 -- got is what the process got of each page under its latch; at is the key by which the parent listed the right child, and new
 -- the one by which it is to list it.
-abbrev pub know_compression : ℕ → ℕ → (ℕ → Page) → ℕ → ℕ → Compression → Know
-know_compression level key got at new (LatchingLeft f) =
+abbrev pub know_compression_by : ℕ → ℕ → (ℕ → Page) → ℕ → ℕ → Compression → Know
+know_compression_by level key got at new (LatchingLeft f) =
     record (idle Stage.Busy) {
       holds = holds_known f.at.parent (Inner f.parent) ∷ [];
       goes = goes_to f.at.left (level - 1) (level - 1) ∷ goes_to f.at.right (level - 1) (level - 1) ∷ [];
       sound = IsParent level key f;
     }
-know_compression level key got at new (LatchedLeft f) =
+know_compression_by level key got at new (LatchedLeft f) =
     record (idle Stage.Busy) {
       holds = holds_known f.at.parent (Inner f.parent) ∷ holds_live f.at.left ∷ [];
       goes = goes_to f.at.left (level - 1) (level - 1) ∷ goes_to f.at.right (level - 1) (level - 1) ∷ [];
       sound = IsParent level key f × (f.at.parent ≢ f.at.left);
     }
-know_compression level key got at new (LatchingRight f c) =
+know_compression_by level key got at new (LatchingRight f c) =
     record (idle Stage.Busy) {
       holds = holds_known f.at.parent (Inner f.parent) ∷ holds_known f.at.left c ∷ [];
       goes = goes_to f.at.right (level - 1) (level - 1) ∷ [];
       sound = IsParent level key f × (f.at.parent ≢ f.at.left) × (right_of c ≡ f.at.right) × (suc (node_of c).shape.level ≡ level);
     }
-know_compression level key got at new (LatchedRight f c) =
+know_compression_by level key got at new (LatchedRight f c) =
     record (idle Stage.Busy) {
       holds = holds_known f.at.parent (Inner f.parent) ∷ holds_known f.at.left c ∷ holds_live f.at.right ∷ [];
       goes = goes_to f.at.right (level - 1) (level - 1) ∷ [];
       sound = IsParent level key f × AreThree f.at × (right_of c ≡ f.at.right) × (suc (node_of c).shape.level ≡ level);
     }
-know_compression level key got at new (PuttingFirst p) =
+know_compression_by level key got at new (PuttingFirst p) =
     record (idle Stage.Busy) {
       holds = holds_known p.at.parent (got p.at.parent) ∷ holds_known p.at.left (got p.at.left) ∷ held_as p.at.right (Some at) (got p.at.right) ∷ [];
       sound = IsToPut level key got p at new × AreThree p.at;
     }
-know_compression level key got at new (PuttingParent p) = record (idle Stage.Busy) {
+know_compression_by level key got at new (PuttingParent p) = record (idle Stage.Busy) {
   holds = holds_known p.at.parent (got p.at.parent) ∷ record {
     at = p.at.left;
     status = Left p.at.right;
@@ -163,7 +163,7 @@ know_compression level key got at new (PuttingParent p) = record (idle Stage.Bus
   middle = Some (record { parent = p.at.parent; left = p.at.left; right = p.at.right });
   sound = IsToPut level key got p at new × AreThree p.at;
 }
-know_compression level key got at new (PuttingLast p) = record (idle Stage.Busy) {
+know_compression_by level key got at new (PuttingLast p) = record (idle Stage.Busy) {
   holds = holds_known p.at.parent p.parent ∷ record {
     at = p.at.left;
     status = Left p.at.right;
@@ -178,20 +178,20 @@ know_compression level key got at new (PuttingLast p) = record (idle Stage.Busy)
   middle = Some (record { parent = p.at.parent; left = p.at.left; right = p.at.right });
   sound = IsToPut level key got p at new × AreThree p.at;
 }
-know_compression level key got at new (Retiring t decision) =
+know_compression_by level key got at new (Retiring t decision) =
     record (idle Stage.Busy) {
       holds = holds_live t.parent ∷ holds_live t.left ∷ record { at = t.right; status = Gone; sep = None; page = None } ∷ [];
       sound = (key < unbounded) × AreThree t;
     }
-know_compression level key got at new (OpeningRight t decision) =
+know_compression_by level key got at new (OpeningRight t decision) =
     record (idle Stage.Busy) { holds = holds_live t.parent ∷ holds_live t.left ∷ holds_live t.right ∷ []; sound = (key < unbounded) × AreThree t }
-know_compression level key got at new (OpeningLeft t decision) =
+know_compression_by level key got at new (OpeningLeft t decision) =
     record (idle Stage.Busy) { holds = holds_live t.parent ∷ holds_live t.left ∷ []; sound = (key < unbounded) × (t.parent ≢ t.left) }
-know_compression level key got at new (OpeningParent x decision) = record (idle Stage.Busy) { holds = holds_live x ∷ []; sound = key < unbounded }
+know_compression_by level key got at new (OpeningParent x decision) = record (idle Stage.Busy) { holds = holds_live x ∷ []; sound = key < unbounded }
 
 -- The same, with those keys; and what the process has got of the three after it was told this.
-abbrev pub know_squeeze : ℕ → ℕ → (ℕ → Page) → Compression → Know
-know_squeeze level key got c = know_compression level key got (key_before got c) (key_after c) c
+abbrev pub know_compression : ℕ → ℕ → (ℕ → Page) → Compression → Know
+know_compression level key got c = know_compression_by level key got (key_before got c) (key_after c) c
 
 abbrev pub compression_got : (ℕ → Page) → Compression → Seen → ℕ → Page
 compression_got got (LatchedRight f c) (Words d) = got_three f c d

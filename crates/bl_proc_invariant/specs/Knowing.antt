@@ -12,12 +12,12 @@ use Rattle.bl_page.specs.declared.page.Page.TheVariants.{Anchor, Inner}
 use Rattle.bl_page.specs.Machine.{Owner, State}
 use Rattle.bl_page.specs.Machine.Owner.{Released, Held, Retired}
 use Rattle.bl_page.specs.Nodes.{unbounded}
-use Rattle.bl_core_tree.specs.Trees.Status.{Fresh}
+use Rattle.bl_tree.specs.Trees.Status.{Fresh}
 use Rattle.bl_claims.specs.Trails.{Said}
-use Rattle.bl_core.specs.Worlds.{Goes, Passed, Stage, Know}
-use Rattle.bl_proc_base.specs.declared.acts.Seen.{Seen}
-use Rattle.bl_proc_base.specs.declared.acts.Seen.TheVariants as seen
-use Rattle.bl_proc_base.specs.declared.answers.Hint.TheVariants as hint
+use Rattle.bl_tree_worlds.specs.Worlds.{Goes, Passed, Stage, Know}
+use Rattle.bl_proc_steps.specs.declared.acts.Seen.{Seen}
+use Rattle.bl_proc_steps.specs.declared.acts.Seen.TheVariants as seen
+use Rattle.bl_proc_steps.specs.declared.answers.Hint.TheVariants as hint
 use Rattle.bl_proc.specs.declared.searching.FindStage.TheVariants as find
 use Rattle.bl_proc.specs.declared.searching.FindStage.{FindStage}
 use Rattle.bl_proc_writes.specs.declared.writing.Noted.{Noted}
@@ -30,31 +30,31 @@ use Rattle.bl_proc.specs.declared.parts.PartStage.{PartStage}
 use Rattle.bl_proc.specs.declared.parts.PartStart.{PartStart}
 use Rattle.bl_proc.specs.declared.parts.PartStage.TheVariants as part
 use Rattle.bl_proc.specs.Parts.{part_op}
-use Rattle.bl_proc_base.specs.declared.growing.Growth.{Growth}
-use Rattle.bl_proc_base.specs.declared.growing.Growth.TheVariants as growth
-use Rattle.bl_proc_writes.specs.declared.posting.PostReply.{PostReply}
-use Rattle.bl_proc_writes.specs.declared.posting.PostReply.TheVariants as posted
-use Rattle.bl_proc_writes.specs.declared.posting.PostStage.{PostStage}
-use Rattle.bl_proc_writes.specs.declared.posting.PostStage.TheVariants as post
+use Rattle.bl_proc_steps.specs.declared.growth.Growth.{Growth}
+use Rattle.bl_proc_steps.specs.declared.growth.Growth.TheVariants as growth
+use Rattle.bl_proc_writes.specs.declared.post.PostReply.{PostReply}
+use Rattle.bl_proc_writes.specs.declared.post.PostReply.TheVariants as posted
+use Rattle.bl_proc_writes.specs.declared.post.PostStage.{PostStage}
+use Rattle.bl_proc_writes.specs.declared.post.PostStage.TheVariants as post
 use Rattle.bl_proc.specs.declared.reclaiming.Round.{Round}
 use Rattle.bl_proc.specs.declared.reclaiming.ReclaimStage.{ReclaimStage}
 use Rattle.bl_proc.specs.declared.reclaiming.ReclaimStage.TheVariants as reclaim
-use Rattle.bl_proc_compress.specs.declared.squeezing.CompressStage.{CompressStage}
-use Rattle.bl_proc_compress.specs.declared.squeezing.CompressStage.TheVariants as compress
+use Rattle.bl_proc_compress.specs.declared.compress.CompressStage.{CompressStage}
+use Rattle.bl_proc_compress.specs.declared.compress.CompressStage.TheVariants as compress
 use Rattle.bl_proc.specs.declared.lowering.LowerStage.{LowerStage}
 use Rattle.bl_proc.specs.declared.lowering.LowerStage.TheVariants as lower
 use Rattle.bl_proc_writes.specs.declared.paths.Path.{Path}
-use Rattle.bl_proc_writes.specs.declared.climbing.Climbed.{Climbed}
-use Rattle.bl_proc_writes.specs.declared.climbing.Climbed.TheVariants as climbed
-use Rattle.bl_proc_writes.specs.declared.climbing.Placing.{Placing}
+use Rattle.bl_proc_writes.specs.declared.insert_post.Climbed.{Climbed}
+use Rattle.bl_proc_writes.specs.declared.insert_post.Climbed.TheVariants as climbed
+use Rattle.bl_proc_writes.specs.declared.insert_post.Placing.{Placing}
 use Rattle.bl_proc_writes.specs.Placings.{write_of}
-use Rattle.bl_proc_writes.specs.declared.climbing.ClimbStage.{ClimbStage}
-use Rattle.bl_proc_writes.specs.declared.climbing.ClimbStage.TheVariants as climb
+use Rattle.bl_proc_writes.specs.declared.insert_post.ClimbStage.{ClimbStage}
+use Rattle.bl_proc_writes.specs.declared.insert_post.ClimbStage.TheVariants as climb
 use Rattle.bl_proc.specs.declared.kinds.Proc.{Proc}
 use Rattle.bl_proc.specs.declared.kinds.Proc.TheVariants as proc
 use Rattle.bl_proc_writes.specs.Writes.{write_reply}
-use Rattle.bl_proc_base.specs.Growths.{Raises, IsAnchor}
-use Rattle.bl_proc_invariant.specs.Compressing.{know_squeeze, compression_got}
+use Rattle.bl_proc_steps.specs.Growths.{Raises, IsAnchor}
+use Rattle.bl_proc_invariant.specs.Compressing.{know_compression, compression_got}
 use Rattle.bl_proc_invariant.specs.Lowering.{know_lowering, lowering_got}
 use Rattle.bl_proc_invariant.specs.Tables.{idle, Carried, unsaid, alone, carrying, holds_live, holds_known, anchor_known, goes_to, know_descent, know_approach, Aim, IsDue, know_edit}
 
@@ -242,7 +242,7 @@ know_climb key placing path got child (climb.Over r) = late (climbed_said key pl
 abbrev pub know_compress : ℕ → ℕ → (ℕ → Page) → CompressStage → Know
 know_compress level key got compress.New = early key
 know_compress level key got (compress.Coming a) = know_approach alone level key a
-know_compress level key got (compress.Compressing c) = know_squeeze level key got c
+know_compress level key got (compress.Compressing c) = know_compression level key got c
 know_compress level key got (compress.Staying x) = record (idle Stage.Busy) { holds = holds_live x ∷ [] }
 know_compress level key got (compress.Ending r) = ending None
 know_compress level key got (compress.Over r) = late None

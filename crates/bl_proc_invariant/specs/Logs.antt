@@ -6,36 +6,36 @@ use Rattle.bl_page.specs.declared.page.Page.TheVariants.{Inner}
 use Rattle.bl_page.specs.Machine.{Name, Act}
 use Rattle.bl_page.specs.Machine.Act.{Begin, Get, Put, Take, Latch}
 use Rattle.bl_page.specs.Nodes.{Covers, node_of}
-use Rattle.bl_core.specs.Worlds.{World}
+use Rattle.bl_tree_worlds.specs.Worlds.{World}
 use Rattle.bl_claims.specs.Trails.{Mark, Trail, marks_of}
 use Rattle.bl_claims.specs.Meanings.{HasGot, writes_of, Wrote, Unwritten, WroteHeld, IsNewTop, RaisesOnly, HasRaised, ListTogether, MeansDone, MeansAlready, MeansStale, MeansTooTall, MeansNoRoom}
-use Rattle.bl_proc_base.specs.declared.approaching.Approach.{Approach}
-use Rattle.bl_proc_base.specs.declared.approaching.Approach.TheVariants as way
-use Rattle.bl_proc_base.specs.declared.editing.Outcome.{Outcome}
-use Rattle.bl_proc_base.specs.declared.editing.Outcome.TheVariants as outcome
-use Rattle.bl_proc_base.specs.declared.editing.Edit.{Edit}
-use Rattle.bl_proc_base.specs.declared.editing.Edit.TheVariants as edit
-use Rattle.bl_proc_base.specs.declared.growing.Growth.{Growth}
-use Rattle.bl_proc_base.specs.declared.growing.Growth.TheVariants as growth
-use Rattle.bl_proc_writes.specs.declared.posting.PostReply.{PostReply}
-use Rattle.bl_proc_writes.specs.declared.posting.PostReply.TheVariants as reply
-use Rattle.bl_proc_writes.specs.declared.posting.PostStage.{PostStage}
-use Rattle.bl_proc_writes.specs.declared.posting.PostStage.TheVariants as post
+use Rattle.bl_proc_steps.specs.declared.approach.Approach.{Approach}
+use Rattle.bl_proc_steps.specs.declared.approach.Approach.TheVariants as way
+use Rattle.bl_proc_steps.specs.declared.edit.Outcome.{Outcome}
+use Rattle.bl_proc_steps.specs.declared.edit.Outcome.TheVariants as outcome
+use Rattle.bl_proc_steps.specs.declared.edit.Edit.{Edit}
+use Rattle.bl_proc_steps.specs.declared.edit.Edit.TheVariants as edit
+use Rattle.bl_proc_steps.specs.declared.growth.Growth.{Growth}
+use Rattle.bl_proc_steps.specs.declared.growth.Growth.TheVariants as growth
+use Rattle.bl_proc_writes.specs.declared.post.PostReply.{PostReply}
+use Rattle.bl_proc_writes.specs.declared.post.PostReply.TheVariants as reply
+use Rattle.bl_proc_writes.specs.declared.post.PostStage.{PostStage}
+use Rattle.bl_proc_writes.specs.declared.post.PostStage.TheVariants as post
 use Rattle.bl_rearrange.specs.declared.sides.Side.{Side}
 use Rattle.bl_rearrange.specs.declared.sides.Side.TheVariants as side
-use Rattle.bl_proc_compress.specs.declared.compressing.Siblings.{Siblings}
-use Rattle.bl_proc_compress.specs.declared.compressing.Puts.{Puts}
-use Rattle.bl_proc_compress.specs.declared.compressing.Family.{Family}
-use Rattle.bl_proc_base.specs.declared.answers.Hint.{Hint}
-use Rattle.bl_proc_base.specs.declared.answers.Posted.{Posted}
-use Rattle.bl_proc_compress.specs.declared.compressing.Decision.{Decision}
-use Rattle.bl_proc_compress.specs.declared.compressing.Decision.TheVariants as decision
-use Rattle.bl_proc_compress.specs.declared.compressing.Compression.{Compression}
-use Rattle.bl_proc_compress.specs.declared.compressing.Compression.TheVariants.{LatchingLeft, LatchedLeft, LatchingRight, LatchedRight, PuttingFirst, PuttingParent, PuttingLast, Retiring, OpeningRight, OpeningLeft, OpeningParent}
-use Rattle.bl_proc_compress.specs.declared.squeezing.CompressReply.{CompressReply}
-use Rattle.bl_proc_compress.specs.declared.squeezing.CompressReply.TheVariants as pressed
-use Rattle.bl_proc_compress.specs.declared.squeezing.CompressStage.{CompressStage}
-use Rattle.bl_proc_compress.specs.declared.squeezing.CompressStage.TheVariants as compress
+use Rattle.bl_proc_compress.specs.declared.compression.Siblings.{Siblings}
+use Rattle.bl_proc_compress.specs.declared.compression.Puts.{Puts}
+use Rattle.bl_proc_compress.specs.declared.compression.Family.{Family}
+use Rattle.bl_proc_steps.specs.declared.answers.Hint.{Hint}
+use Rattle.bl_proc_steps.specs.declared.answers.Posted.{Posted}
+use Rattle.bl_proc_compress.specs.declared.compression.Decision.{Decision}
+use Rattle.bl_proc_compress.specs.declared.compression.Decision.TheVariants as decision
+use Rattle.bl_proc_compress.specs.declared.compression.Compression.{Compression}
+use Rattle.bl_proc_compress.specs.declared.compression.Compression.TheVariants.{LatchingLeft, LatchedLeft, LatchingRight, LatchedRight, PuttingFirst, PuttingParent, PuttingLast, Retiring, OpeningRight, OpeningLeft, OpeningParent}
+use Rattle.bl_proc_compress.specs.declared.compress.CompressReply.{CompressReply}
+use Rattle.bl_proc_compress.specs.declared.compress.CompressReply.TheVariants as compressed
+use Rattle.bl_proc_compress.specs.declared.compress.CompressStage.{CompressStage}
+use Rattle.bl_proc_compress.specs.declared.compress.CompressStage.TheVariants as compress
 use Rattle.bl_claims.specs.Squeezed.{Since, AtParent, Once, HasMerged, HasEvened, HasEnough, HasUnposted, HasNoLevel, HasOneChild, LacksPlace}
 use Rattle.bl_proc_compress.specs.Compressions.{Decides, other}
 use Rattle.bl_model.specs.declared.deciding.KeyWrite.{KeyWrite}
@@ -47,19 +47,19 @@ use Rattle.bl_proc_writes.specs.declared.writing.WriteReply.{WriteReply}
 use Rattle.bl_proc_writes.specs.declared.writing.WriteReply.TheVariants as written
 use Rattle.bl_proc_writes.specs.declared.writing.WriteStage.{WriteStage}
 use Rattle.bl_proc_writes.specs.declared.writing.WriteStage.TheVariants as write
-use Rattle.bl_proc_base.specs.Thin.{thin_low}
+use Rattle.bl_proc_steps.specs.Thin.{thin_low}
 use Rattle.bl_claims.specs.Hinted.{WroteLeaf, WrittenSo}
 use Rattle.bl_claims.specs.Lowered.{MeansLowered}
 use Rattle.bl_claims.specs.Climbed.{PostsUp, WroteAndPosted}
 use Rattle.bl_proc_invariant.specs.LoweringLog.{lowering_log}
 use Rattle.bl_proc_invariant.specs.Knowing.{Run}
-use Rattle.bl_proc_writes.specs.declared.climbing.Placing.{Placing}
+use Rattle.bl_proc_writes.specs.declared.insert_post.Placing.{Placing}
 use Rattle.bl_proc_writes.specs.Placings.{write_of}
-use Rattle.bl_proc_writes.specs.declared.climbing.Climbed.{Climbed}
-use Rattle.bl_proc_writes.specs.declared.climbing.Climbed.TheVariants as climbed
-use Rattle.bl_proc_writes.specs.declared.climbing.ClimbStage.{ClimbStage}
-use Rattle.bl_proc_writes.specs.declared.climbing.ClimbStage.TheVariants as climb
-use Rattle.bl_proc_writes.specs.Climbs.{posted_as, left_hint, IsUnsplit}
+use Rattle.bl_proc_writes.specs.declared.insert_post.Climbed.{Climbed}
+use Rattle.bl_proc_writes.specs.declared.insert_post.Climbed.TheVariants as climbed
+use Rattle.bl_proc_writes.specs.declared.insert_post.ClimbStage.{ClimbStage}
+use Rattle.bl_proc_writes.specs.declared.insert_post.ClimbStage.TheVariants as climb
+use Rattle.bl_proc_writes.specs.InsertPosts.{posted_as, left_hint, IsUnsplit}
 use Rattle.bl_proc.specs.declared.lowering.LowerStage.{LowerStage}
 use Rattle.bl_proc.specs.declared.lowering.LowerStage.TheVariants as lower
 use Rattle.bl_proc.specs.declared.kinds.Proc.{Proc}
@@ -242,7 +242,7 @@ pub record AtBoth (level key : ℕ) (marks : Trail) (f : Family) (c d : Page) (a
   pub got : HasGot left.family.since.during f.at.right d
 
 -- What is to be put was decided, of these two children that were got.
-pub record IsToSqueeze (level key : ℕ) (marks : Trail) (p : Puts) (acts : List (Act Page Reply)) : Type 0 where
+pub record IsToCompress (level key : ℕ) (marks : Trail) (p : Puts) (acts : List (Act Page Reply)) : Type 0 where
   pub family : Family
   pub left : Page
   pub right : Page
@@ -258,35 +258,35 @@ decision_log level key (decision.Unposted hint) marks = Once marks (HasUnposted 
 decision_log level key decision.Refused marks = Once marks (LacksPlace level key)
 decision_log level key decision.Lost marks = Unwritten marks
 
-abbrev pub squeeze_log : ℕ → ℕ → Compression → Trail → Type 0
-squeeze_log level key (LatchingLeft f) marks = AtFamily level key marks f (Get f.at.parent ∷ [])
-squeeze_log level key (LatchedLeft f) marks = AtFamily level key marks f (Get f.at.parent ∷ Latch f.at.left ∷ [])
-squeeze_log level key (LatchingRight f c) marks = AtLeft level key marks f c (Get f.at.parent ∷ Latch f.at.left ∷ Get f.at.left ∷ [])
-squeeze_log level key (LatchedRight f c) marks = AtLeft level key marks f c (Get f.at.parent ∷ Latch f.at.left ∷ Get f.at.left ∷ Latch f.at.right ∷ [])
-squeeze_log level key (PuttingFirst p) marks = IsToSqueeze level key marks p (to_right p.at [])
-squeeze_log level key (PuttingParent p) marks = IsToSqueeze level key marks p (to_first p)
-squeeze_log level key (PuttingLast p) marks = IsToSqueeze level key marks p (to_second p)
-squeeze_log level key (Retiring at last) marks =
-    (p : Puts) × (p.at ≡ at) × IsToSqueeze level key marks p (to_last p) × (p.decision ≡ last) × ((hint : Option Hint) × (last ≡ decision.Merged hint))
-squeeze_log level key (OpeningRight at last) marks = decision_log level key last marks
-squeeze_log level key (OpeningLeft at last) marks = decision_log level key last marks
-squeeze_log level key (OpeningParent x last) marks = decision_log level key last marks
+abbrev pub compression_log : ℕ → ℕ → Compression → Trail → Type 0
+compression_log level key (LatchingLeft f) marks = AtFamily level key marks f (Get f.at.parent ∷ [])
+compression_log level key (LatchedLeft f) marks = AtFamily level key marks f (Get f.at.parent ∷ Latch f.at.left ∷ [])
+compression_log level key (LatchingRight f c) marks = AtLeft level key marks f c (Get f.at.parent ∷ Latch f.at.left ∷ Get f.at.left ∷ [])
+compression_log level key (LatchedRight f c) marks = AtLeft level key marks f c (Get f.at.parent ∷ Latch f.at.left ∷ Get f.at.left ∷ Latch f.at.right ∷ [])
+compression_log level key (PuttingFirst p) marks = IsToCompress level key marks p (to_right p.at [])
+compression_log level key (PuttingParent p) marks = IsToCompress level key marks p (to_first p)
+compression_log level key (PuttingLast p) marks = IsToCompress level key marks p (to_second p)
+compression_log level key (Retiring at last) marks =
+    (p : Puts) × (p.at ≡ at) × IsToCompress level key marks p (to_last p) × (p.decision ≡ last) × ((hint : Option Hint) × (last ≡ decision.Merged hint))
+compression_log level key (OpeningRight at last) marks = decision_log level key last marks
+compression_log level key (OpeningLeft at last) marks = decision_log level key last marks
+compression_log level key (OpeningParent x last) marks = decision_log level key last marks
 
-abbrev pub pressed_log : ℕ → ℕ → CompressReply → Trail → Type 0
-pressed_log level key (pressed.Merged hint) marks = Once marks (HasMerged level key hint)
-pressed_log level key pressed.Evened marks = Once marks (HasEvened level key)
-pressed_log level key pressed.Enough marks = Once marks (HasEnough level key)
-pressed_log level key pressed.Alone marks = Once marks (λ ms. HasNoLevel level ms ⊎ HasOneChild level key ms)
-pressed_log level key (pressed.Unposted hint) marks = Once marks (HasUnposted level key hint)
-pressed_log level key pressed.NoRoom marks = Once marks (LacksPlace level key)
+abbrev pub compress_reply_log : ℕ → ℕ → CompressReply → Trail → Type 0
+compress_reply_log level key (compressed.Merged hint) marks = Once marks (HasMerged level key hint)
+compress_reply_log level key compressed.Evened marks = Once marks (HasEvened level key)
+compress_reply_log level key compressed.Enough marks = Once marks (HasEnough level key)
+compress_reply_log level key compressed.Alone marks = Once marks (λ ms. HasNoLevel level ms ⊎ HasOneChild level key ms)
+compress_reply_log level key (compressed.Unposted hint) marks = Once marks (HasUnposted level key hint)
+compress_reply_log level key compressed.NoRoom marks = Once marks (LacksPlace level key)
 
 abbrev pub compress_log : ℕ → ℕ → CompressStage → Trail → Type 0
 compress_log level key compress.New marks = writes_of marks ≡ []
 compress_log level key (compress.Coming a) marks = come_log a marks
-compress_log level key (compress.Compressing c) marks = squeeze_log level key c marks
-compress_log level key (compress.Staying x) marks = pressed_log level key pressed.Alone marks
-compress_log level key (compress.Ending r) marks = pressed_log level key r marks
-compress_log level key (compress.Over r) marks = pressed_log level key r marks
+compress_log level key (compress.Compressing c) marks = compression_log level key c marks
+compress_log level key (compress.Staying x) marks = compress_reply_log level key compressed.Alone marks
+compress_log level key (compress.Ending r) marks = compress_reply_log level key r marks
+compress_log level key (compress.Over r) marks = compress_reply_log level key r marks
 
 abbrev pub lower_log : LowerStage → Trail → Type 0
 lower_log lower.New marks = writes_of marks ≡ []

@@ -2,17 +2,17 @@
 use Rattle.std.specs.Prelude.{◌≡◌, ◌≢◌, ℕ, ◌-◌, ◌<◌, ◌==◌, if◌then◌else◌, Some, None, List, [], ◌∷◌, length, get_or}
 use Rattle.bl_page.specs.declared.page.Page.{Page}
 use Rattle.bl_page.specs.declared.page.Page.TheVariants.{Anchor}
-use Rattle.bl_core_tree.specs.Trees.Status.{Uprooted, Gone}
+use Rattle.bl_tree.specs.Trees.Status.{Uprooted, Gone}
 use Rattle.bl_page.specs.Nodes.{node_of, roots_of}
-use Rattle.bl_core.specs.Worlds.{Stage, Know}
-use Rattle.bl_proc_base.specs.declared.acts.Seen.{Seen}
-use Rattle.bl_proc_base.specs.declared.acts.Seen.TheVariants as seen
-use Rattle.bl_proc_base.specs.declared.lowering.Sinking.{Sinking}
-use Rattle.bl_proc_base.specs.declared.lowering.Lowering.{Lowering}
-use Rattle.bl_proc_base.specs.declared.lowering.Lowering.TheVariants.{Looking, LatchingAnchor, LatchedAnchor, LatchingTop, LatchedTop, PuttingAnchor, PuttingDead, Retiring, OpeningTop, OpeningAnchor}
-use Rattle.bl_proc_pages.specs.Onwards.{top_of}
-use Rattle.bl_proc_base.specs.Growths.{IsAnchor}
-use Rattle.bl_proc_base.specs.Lowerings.{IsSole, IsFallen, Sinks}
+use Rattle.bl_tree_worlds.specs.Worlds.{Stage, Know}
+use Rattle.bl_proc_steps.specs.declared.acts.Seen.{Seen}
+use Rattle.bl_proc_steps.specs.declared.acts.Seen.TheVariants as seen
+use Rattle.bl_proc_steps.specs.declared.lowering.Sinking.{Sinking}
+use Rattle.bl_proc_steps.specs.declared.lowering.Lowering.{Lowering}
+use Rattle.bl_proc_steps.specs.declared.lowering.Lowering.TheVariants.{Looking, LatchingAnchor, LatchedAnchor, LatchingTop, LatchedTop, PuttingAnchor, PuttingDead, Retiring, OpeningTop, OpeningAnchor}
+use Rattle.bl_proc_routes.specs.Routes.{top_of}
+use Rattle.bl_proc_steps.specs.Growths.{IsAnchor}
+use Rattle.bl_proc_steps.specs.Lowerings.{IsSole, IsFallen, Sinks}
 use Rattle.bl_proc_invariant.specs.Tables.{idle, holds_live, holds_known, anchor_known}
 
 -- the anchor and the top page, as they were got

@@ -9,12 +9,12 @@ use Rattle.bl_page.specs.Machine.Act.{Get, Put, Latch}
 use Rattle.bl_page.specs.Nodes.{roots_of}
 use Rattle.bl_claims.specs.Trails.{Trail}
 use Rattle.bl_claims.specs.Meanings.{HasGot, Unwritten}
-use Rattle.bl_proc_base.specs.declared.lowering.Summit.{Summit}
-use Rattle.bl_proc_base.specs.declared.lowering.Sinking.{Sinking}
-use Rattle.bl_proc_base.specs.declared.lowering.Lowering.{Lowering}
-use Rattle.bl_proc_base.specs.declared.lowering.Lowering.TheVariants.{Looking, LatchingAnchor, LatchedAnchor, LatchingTop, LatchedTop, PuttingAnchor, PuttingDead, Retiring, OpeningTop, OpeningAnchor}
-use Rattle.bl_proc_pages.specs.Onwards.{top_of}
-use Rattle.bl_proc_base.specs.Lowerings.{Sinks}
+use Rattle.bl_proc_steps.specs.declared.lowering.Summit.{Summit}
+use Rattle.bl_proc_steps.specs.declared.lowering.Sinking.{Sinking}
+use Rattle.bl_proc_steps.specs.declared.lowering.Lowering.{Lowering}
+use Rattle.bl_proc_steps.specs.declared.lowering.Lowering.TheVariants.{Looking, LatchingAnchor, LatchedAnchor, LatchingTop, LatchedTop, PuttingAnchor, PuttingDead, Retiring, OpeningTop, OpeningAnchor}
+use Rattle.bl_proc_routes.specs.Routes.{top_of}
+use Rattle.bl_proc_steps.specs.Lowerings.{Sinks}
 use Rattle.bl_claims.specs.Squeezed.{Since}
 use Rattle.bl_claims.specs.Lowered.{to_top, IsToLower, MeansLowered}
 

@@ -2,21 +2,21 @@
 use Rattle.std.specs.Prelude.{◌≡◌, ◌≢◌, ◌⊎◌, ℕ, ◌<◌, Bool, true, Option, Some, None, List, [], ◌∷◌}
 use Rattle.bl_page.specs.declared.page.Page.{Page}
 use Rattle.bl_page.specs.Nodes.{Covers, unbounded, node_of}
-use Rattle.bl_core_tree.specs.Trees.Status.{Fresh, Live, Anchored}
-use Rattle.bl_core_tree.specs.Moves.{IsRow, IsCut, MayList}
+use Rattle.bl_tree.specs.Trees.Status.{Fresh, Live, Anchored}
+use Rattle.bl_tree.specs.Moves.{IsRow, IsCut, MayList}
 use Rattle.bl_claims.specs.Trails.{Said}
 use Rattle.bl_model.specs.Map.{Map}
 use Rattle.bl_page.specs.Machine.{Name}
-use Rattle.bl_core.specs.Worlds.{Hold, Goes, Child, Stage, Know, World, IsRelied, MapsTo, nodes, tree_of}
+use Rattle.bl_tree_worlds.specs.Worlds.{Hold, Goes, Child, Stage, Know, World, IsRelied, MapsTo, nodes, tree_of}
 use Rattle.bl_claims.specs.Walks.{Each}
-use Rattle.bl_proc_base.specs.declared.descent.Descent.{Descent}
-use Rattle.bl_proc_base.specs.declared.descent.Descent.TheVariants as descent
-use Rattle.bl_proc_base.specs.declared.approaching.Approach.{Approach}
-use Rattle.bl_proc_base.specs.declared.approaching.Approach.TheVariants.{Start, At, Latching, Latched, Leaving}
-use Rattle.bl_proc_base.specs.declared.editing.Outcome.{Outcome}
-use Rattle.bl_proc_base.specs.declared.editing.Outcome.TheVariants as outcome
-use Rattle.bl_proc_base.specs.declared.editing.Edit.{Edit}
-use Rattle.bl_proc_base.specs.declared.editing.Edit.TheVariants.{Putting, Taking, PuttingNew, PuttingOld, OpeningNew, Opening}
+use Rattle.bl_proc_steps.specs.declared.descent.Descent.{Descent}
+use Rattle.bl_proc_steps.specs.declared.descent.Descent.TheVariants as descent
+use Rattle.bl_proc_steps.specs.declared.approach.Approach.{Approach}
+use Rattle.bl_proc_steps.specs.declared.approach.Approach.TheVariants.{Start, At, Latching, Latched, Leaving}
+use Rattle.bl_proc_steps.specs.declared.edit.Outcome.{Outcome}
+use Rattle.bl_proc_steps.specs.declared.edit.Outcome.TheVariants as outcome
+use Rattle.bl_proc_steps.specs.declared.edit.Edit.{Edit}
+use Rattle.bl_proc_steps.specs.declared.edit.Edit.TheVariants.{Putting, Taking, PuttingNew, PuttingOld, OpeningNew, Opening}
 
 -- nothing but where it stands
 abbrev pub idle : Stage → Know

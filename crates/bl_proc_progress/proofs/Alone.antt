@@ -2,24 +2,24 @@
 use Rattle.std.proofs.Common.{ℕ, ◌≡◌, ◌≢◌, ◌<◌, Some, List, [], arith, refl}
 use Rattle.bl_model.specs.declared.deciding.KeyWrite.{KeyWrite}
 use Rattle.bl_page.specs.declared.page.Page.{Page}
-use Rattle.bl_core.specs.Worlds.{Goes}
-use Rattle.bl_proc_base.specs.declared.acts.Action.TheVariants as act
-use Rattle.bl_proc_base.specs.declared.answers.Answer.{Answer}
-use Rattle.bl_proc_base.specs.declared.approaching.Approach.{Approach}
-use Rattle.bl_proc_base.specs.declared.approaching.Approach.TheVariants as way
-use Rattle.bl_proc_base.specs.declared.editing.Edit.{Edit}
-use Rattle.bl_proc_base.specs.declared.editing.Edit.TheVariants as edit
-use Rattle.bl_proc_base.specs.declared.growing.Growth.{Growth}
-use Rattle.bl_proc_base.specs.declared.growing.Growth.TheVariants as growth
-use Rattle.bl_proc_base.specs.Approaches.{approach_next}
-use Rattle.bl_proc_base.specs.Edits.{edit_next}
-use Rattle.bl_proc_base.specs.Growths.{growth_next}
-use Rattle.bl_proc_base.specs.declared.lowering.Lowering.{Lowering}
-use Rattle.bl_proc_base.specs.declared.lowering.Lowering.TheVariants as lowering
-use Rattle.bl_proc_compress.specs.declared.compressing.Compression.{Compression}
-use Rattle.bl_proc_compress.specs.declared.compressing.Compression.TheVariants as squeeze
-use Rattle.bl_proc_compress.specs.declared.squeezing.CompressStage.{CompressStage}
-use Rattle.bl_proc_compress.specs.declared.squeezing.CompressStage.TheVariants as compress
+use Rattle.bl_tree_worlds.specs.Worlds.{Goes}
+use Rattle.bl_proc_steps.specs.declared.acts.Action.TheVariants as act
+use Rattle.bl_proc_steps.specs.declared.answers.Answer.{Answer}
+use Rattle.bl_proc_steps.specs.declared.approach.Approach.{Approach}
+use Rattle.bl_proc_steps.specs.declared.approach.Approach.TheVariants as way
+use Rattle.bl_proc_steps.specs.declared.edit.Edit.{Edit}
+use Rattle.bl_proc_steps.specs.declared.edit.Edit.TheVariants as edit
+use Rattle.bl_proc_steps.specs.declared.growth.Growth.{Growth}
+use Rattle.bl_proc_steps.specs.declared.growth.Growth.TheVariants as growth
+use Rattle.bl_proc_steps.specs.Approaches.{approach_next}
+use Rattle.bl_proc_steps.specs.Edits.{edit_next}
+use Rattle.bl_proc_steps.specs.Growths.{growth_next}
+use Rattle.bl_proc_steps.specs.declared.lowering.Lowering.{Lowering}
+use Rattle.bl_proc_steps.specs.declared.lowering.Lowering.TheVariants as lowering
+use Rattle.bl_proc_compress.specs.declared.compression.Compression.{Compression}
+use Rattle.bl_proc_compress.specs.declared.compression.Compression.TheVariants as compression
+use Rattle.bl_proc_compress.specs.declared.compress.CompressStage.{CompressStage}
+use Rattle.bl_proc_compress.specs.declared.compress.CompressStage.TheVariants as compress
 use Rattle.bl_proc_compress.specs.Compresses.{compress_answer_in}
 use Rattle.bl_proc.specs.declared.searching.FindStage.{FindStage}
 use Rattle.bl_proc.specs.declared.searching.FindStage.TheVariants as find
@@ -28,8 +28,8 @@ use Rattle.bl_proc.specs.declared.parts.PartStart.{PartStart}
 use Rattle.bl_proc.specs.declared.parts.PartStage.TheVariants as part
 use Rattle.bl_proc_writes.specs.declared.writing.WriteStage.{WriteStage}
 use Rattle.bl_proc_writes.specs.declared.writing.WriteStage.TheVariants as write
-use Rattle.bl_proc_writes.specs.declared.posting.PostStage.{PostStage}
-use Rattle.bl_proc_writes.specs.declared.posting.PostStage.TheVariants as post
+use Rattle.bl_proc_writes.specs.declared.post.PostStage.{PostStage}
+use Rattle.bl_proc_writes.specs.declared.post.PostStage.TheVariants as post
 use Rattle.bl_proc.specs.declared.reclaiming.ReclaimStage.{ReclaimStage}
 use Rattle.bl_proc.specs.declared.reclaiming.ReclaimStage.TheVariants as reclaim
 use Rattle.bl_proc.specs.declared.lowering.LowerStage.{LowerStage}
@@ -44,14 +44,14 @@ use Rattle.bl_proc.specs.Reclaims.{reclaim_next_in, reclaim_answer_in}
 use Rattle.bl_proc_writes.specs.Writes.{write_next_in, write_answer_in}
 use Rattle.bl_proc_writes.specs.Posts.{post_next_in, post_answer_in}
 use Rattle.bl_proc_writes.specs.declared.paths.Path.{Path}
-use Rattle.bl_proc_writes.specs.declared.climbing.ClimbStage.{ClimbStage}
-use Rattle.bl_proc_writes.specs.declared.climbing.ClimbStage.TheVariants as climb
-use Rattle.bl_proc_writes.specs.Climbs.{climb_next_in, climb_answer_in}
+use Rattle.bl_proc_writes.specs.declared.insert_post.ClimbStage.{ClimbStage}
+use Rattle.bl_proc_writes.specs.declared.insert_post.ClimbStage.TheVariants as climb
+use Rattle.bl_proc_writes.specs.InsertPosts.{climb_next_in, climb_answer_in}
 use Rattle.bl_proc_invariant.specs.Tables.{Carried, unsaid, know_approach}
 use Rattle.bl_proc_invariant.specs.Lowering.{know_lowering}
-use Rattle.bl_proc_progress.specs.Holds.{approach_hold, edit_hold, growth_hold, lowering_hold, squeeze_hold, write_hold, post_hold, compress_hold, lower_hold, climb_hold, hold_of}
+use Rattle.bl_proc_progress.specs.Holds.{approach_hold, edit_hold, growth_hold, lowering_hold, compression_hold, write_hold, post_hold, compress_hold, lower_hold, climb_hold, hold_of}
 use Rattle.bl_proc_invariant.specs.Knowing.{path_goes, inserted, know_find, know_part, know_growth, know_write, know_post, know_climb, know_compress, know_reclaim, know_lower, know_of}
-use Rattle.bl_proc_writes.specs.declared.climbing.Placing.{Placing}
+use Rattle.bl_proc_writes.specs.declared.insert_post.Placing.{Placing}
 use Rattle.bl_proc_writes.specs.Placings.{write_of}
 
 -- What a process holds that is to latch a page
@@ -207,23 +207,23 @@ post_none carried level key got child (post.Staying x r) e = absurd (omega (arit
 post_none carried level key got child (post.Ending r) e = refl
 post_none carried level key got child (post.Over r) e = refl
 
-squeeze_none : (c : Compression) → squeeze_hold c ≡ 0 → ⊥
-squeeze_none (squeeze.LatchingLeft f) e = omega (arith, e)
-squeeze_none (squeeze.LatchedLeft f) e = omega (arith, e)
-squeeze_none (squeeze.LatchingRight f c) e = omega (arith, e)
-squeeze_none (squeeze.LatchedRight f c) e = omega (arith, e)
-squeeze_none (squeeze.PuttingFirst p) e = omega (arith, e)
-squeeze_none (squeeze.PuttingParent p) e = omega (arith, e)
-squeeze_none (squeeze.PuttingLast p) e = omega (arith, e)
-squeeze_none (squeeze.Retiring at decision) e = omega (arith, e)
-squeeze_none (squeeze.OpeningRight at decision) e = omega (arith, e)
-squeeze_none (squeeze.OpeningLeft at decision) e = omega (arith, e)
-squeeze_none (squeeze.OpeningParent x decision) e = omega (arith, e)
+compression_none : (c : Compression) → compression_hold c ≡ 0 → ⊥
+compression_none (compression.LatchingLeft f) e = omega (arith, e)
+compression_none (compression.LatchedLeft f) e = omega (arith, e)
+compression_none (compression.LatchingRight f c) e = omega (arith, e)
+compression_none (compression.LatchedRight f c) e = omega (arith, e)
+compression_none (compression.PuttingFirst p) e = omega (arith, e)
+compression_none (compression.PuttingParent p) e = omega (arith, e)
+compression_none (compression.PuttingLast p) e = omega (arith, e)
+compression_none (compression.Retiring at decision) e = omega (arith, e)
+compression_none (compression.OpeningRight at decision) e = omega (arith, e)
+compression_none (compression.OpeningLeft at decision) e = omega (arith, e)
+compression_none (compression.OpeningParent x decision) e = omega (arith, e)
 
 compress_none : (level key : ℕ) (got : ℕ → Page) (a : CompressStage) → compress_hold a ≡ 0 → (know_compress level key got a).holds ≡ []
 compress_none level key got compress.New e = refl
 compress_none level key got (compress.Coming a) e = approach_none (unsaid []) level key 11 a (omega arith) e
-compress_none level key got (compress.Compressing c) e = absurd (squeeze_none c e)
+compress_none level key got (compress.Compressing c) e = absurd (compression_none c e)
 compress_none level key got (compress.Staying x) e = absurd (omega (arith, e))
 compress_none level key got (compress.Ending r) e = refl
 compress_none level key got (compress.Over r) e = refl

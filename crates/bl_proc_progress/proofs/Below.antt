@@ -6,25 +6,25 @@ use Rattle.bl_page.specs.declared.page.Page.TheVariants.{Anchor, Leaf, Inner, De
 use Rattle.bl_page.specs.Machine.{Name}
 use Rattle.bl_page.specs.Machine.Owner.{Held}
 use Rattle.bl_page.specs.Nodes.{unbounded, node_of, roots_of, IsTreePage}
-use Rattle.bl_core_tree.specs.Trees.{IsLive}
-use Rattle.bl_core_tree.proofs.Statuses.{live_live, not_anchor}
+use Rattle.bl_tree.specs.Trees.{IsLive}
+use Rattle.bl_tree.proofs.Statuses.{live_live, not_anchor}
 use Rattle.bl_rearrange.specs.Rearranged.{right_of}
-use Rattle.bl_core.specs.Worlds.{Know, World, nodes, HoldsPage, IsSure, IsGood}
-use Rattle.bl_core.proofs.WorldLaws.{tree_page}
-use Rattle.bl_proc_base.specs.declared.acts.Action.TheVariants as act
-use Rattle.bl_proc_base.specs.declared.lowering.Summit.{Summit}
-use Rattle.bl_proc_base.specs.declared.lowering.Lowering.{Lowering}
-use Rattle.bl_proc_base.specs.declared.lowering.Lowering.TheVariants.{LatchingAnchor, LatchingTop}
-use Rattle.bl_proc_base.specs.Lowerings.{lowering_next}
-use Rattle.bl_proc_pages.specs.Onwards.{top_of}
-use Rattle.bl_proc_compress.specs.declared.compressing.Family.{Family}
+use Rattle.bl_tree_worlds.specs.Worlds.{Know, World, nodes, HoldsPage, IsSure, IsGood}
+use Rattle.bl_tree_worlds.proofs.WorldLaws.{tree_page}
+use Rattle.bl_proc_steps.specs.declared.acts.Action.TheVariants as act
+use Rattle.bl_proc_steps.specs.declared.lowering.Summit.{Summit}
+use Rattle.bl_proc_steps.specs.declared.lowering.Lowering.{Lowering}
+use Rattle.bl_proc_steps.specs.declared.lowering.Lowering.TheVariants.{LatchingAnchor, LatchingTop}
+use Rattle.bl_proc_steps.specs.Lowerings.{lowering_next}
+use Rattle.bl_proc_routes.specs.Routes.{top_of}
+use Rattle.bl_proc_compress.specs.declared.compression.Family.{Family}
 use Rattle.bl_rearrange.specs.declared.sides.Side.{Side}
 use Rattle.bl_rearrange.specs.declared.sides.Side.TheVariants as side
-use Rattle.bl_proc_compress.specs.declared.compressing.Puts.{Puts}
-use Rattle.bl_proc_compress.specs.declared.compressing.Compression.{Compression}
-use Rattle.bl_proc_compress.specs.declared.compressing.Compression.TheVariants.{LatchingLeft, LatchingRight, PuttingFirst, PuttingLast}
-use Rattle.bl_proc_compress.specs.declared.squeezing.CompressStage.{CompressStage}
-use Rattle.bl_proc_compress.specs.declared.squeezing.CompressStage.TheVariants as compress
+use Rattle.bl_proc_compress.specs.declared.compression.Puts.{Puts}
+use Rattle.bl_proc_compress.specs.declared.compression.Compression.{Compression}
+use Rattle.bl_proc_compress.specs.declared.compression.Compression.TheVariants.{LatchingLeft, LatchingRight, PuttingFirst, PuttingLast}
+use Rattle.bl_proc_compress.specs.declared.compress.CompressStage.{CompressStage}
+use Rattle.bl_proc_compress.specs.declared.compress.CompressStage.TheVariants as compress
 use Rattle.bl_proc_compress.specs.Compressions.{put_of, other, compression_next}
 use Rattle.bl_proc_compress.specs.Compresses.{compress_next_in}
 use Rattle.bl_proc.specs.declared.lowering.LowerStage.{LowerStage}
@@ -33,7 +33,7 @@ use Rattle.bl_proc.specs.Lowers.{lower_next_in}
 use Rattle.bl_proc.specs.declared.kinds.Proc.{Proc}
 use Rattle.bl_proc.specs.declared.kinds.Proc.TheVariants as proc
 use Rattle.bl_proc.specs.Processes.{next_of}
-use Rattle.bl_proc_invariant.specs.Compressing.{know_squeeze}
+use Rattle.bl_proc_invariant.specs.Compressing.{know_compression}
 use Rattle.bl_proc_invariant.specs.Lowering.{know_lowering}
 use Rattle.bl_proc_invariant.specs.Knowing.{Run, know_compress, know_lower, know_of, know}
 use Rattle.bl_proc_progress.specs.Order.{StandsBelow}
@@ -79,20 +79,20 @@ module _ (w : World Run) (g : IsGood know w) (p : Name) where
       end = λ later same. absurd (omega (arith, above, is_parent, parent_is, is_child, child_is, same));
     }
 
-    at_left : (level key : ℕ) (got : ℕ → Page) (f : Family) → know (w.proc p) ≡ know_squeeze level key got (LatchingLeft f) → LatchesBelow w f.at.left y
+    at_left : (level key : ℕ) (got : ℕ → Page) (f : Family) → know (w.proc p) ≡ know_compression level key got (LatchingLeft f) → LatchesBelow w f.at.left y
     at_left level key got f is =
-        let s : IsSure w p (know_squeeze level key got (LatchingLeft f)) = sure_of (know_squeeze level key got (LatchingLeft f)) is in
-        elim (holds_of (know_squeeze level key got (LatchingLeft f)) is) [
+        let s : IsSure w p (know_compression level key got (LatchingLeft f)) = sure_of (know_compression level key got (LatchingLeft f)) is in
+        elim (holds_of (know_compression level key got (LatchingLeft f)) is) [
           | inl i ↦
               let level_is : (nodes w.now y).shape.level ≡ f.parent.level = ap (λ z. (nodes w.now z).shape.level) (sym i) ∙ ap (λ v. (node_of v).shape.level) s.holds.0.page in
               lower_level f.at.left level f.parent.level (nodes w.now f.at.left).shape.level f.left_child.0 s.sound.1 level_is s.sound.2 refl s.goes.0.most
           | inr n ↦ absurd n
         ]
 
-    at_right : (level key : ℕ) (got : ℕ → Page) (f : Family) (c : Page) → know (w.proc p) ≡ know_squeeze level key got (LatchingRight f c) → LatchesBelow w f.at.right y
+    at_right : (level key : ℕ) (got : ℕ → Page) (f : Family) (c : Page) → know (w.proc p) ≡ know_compression level key got (LatchingRight f c) → LatchesBelow w f.at.right y
     at_right level key got f c is =
-        let s : IsSure w p (know_squeeze level key got (LatchingRight f c)) = sure_of (know_squeeze level key got (LatchingRight f c)) is in
-        elim (holds_of (know_squeeze level key got (LatchingRight f c)) is) [
+        let s : IsSure w p (know_compression level key got (LatchingRight f c)) = sure_of (know_compression level key got (LatchingRight f c)) is in
+        elim (holds_of (know_compression level key got (LatchingRight f c)) is) [
           | inl i ↦
               let level_is : (nodes w.now y).shape.level ≡ f.parent.level = ap (λ z. (nodes w.now z).shape.level) (sym i) ∙ ap (λ v. (node_of v).shape.level) s.holds.0.page in
               lower_level f.at.right level f.parent.level (nodes w.now f.at.right).shape.level f.right_child.0 s.sound.0.1 level_is s.sound.0.2 refl s.goes.0.most
@@ -135,16 +135,16 @@ module _ (w : World Run) (g : IsGood know w) (p : Name) where
           | inr n ↦ absurd n
         ]
 
-    squeeze_below : (level key : ℕ) (got : ℕ → Page) (c : Compression) (x : ℕ) → know (w.proc p) ≡ know_squeeze level key got c → compression_next c ≡ act.Latch x → LatchesBelow w x y
-    squeeze_below level key got (LatchingLeft f) x is e = subst (λ z. LatchesBelow w z y) (same_page f.at.left x e) (at_left level key got f is)
-    squeeze_below level key got (LatchingRight f c) x is e = subst (λ z. LatchesBelow w z y) (same_page f.at.right x e) (at_right level key got f c is)
-    squeeze_below level key got (PuttingFirst u) x is e = absurd (put_never u.gains u x e)
-    squeeze_below level key got (PuttingLast u) x is e = absurd (put_never (other u.gains) u x e)
-    squeeze_below level key got old x is e = absurd (cc e)
+    compression_below : (level key : ℕ) (got : ℕ → Page) (c : Compression) (x : ℕ) → know (w.proc p) ≡ know_compression level key got c → compression_next c ≡ act.Latch x → LatchesBelow w x y
+    compression_below level key got (LatchingLeft f) x is e = subst (λ z. LatchesBelow w z y) (same_page f.at.left x e) (at_left level key got f is)
+    compression_below level key got (LatchingRight f c) x is e = subst (λ z. LatchesBelow w z y) (same_page f.at.right x e) (at_right level key got f c is)
+    compression_below level key got (PuttingFirst u) x is e = absurd (put_never u.gains u x e)
+    compression_below level key got (PuttingLast u) x is e = absurd (put_never (other u.gains) u x e)
+    compression_below level key got old x is e = absurd (cc e)
 
     compress_below : (level key : ℕ) (got : ℕ → Page) (a : CompressStage) (x : ℕ) → know (w.proc p) ≡ know_compress level key got a → compress_next_in a ≡ act.Latch x → LatchesBelow w x y
     compress_below level key got (compress.Coming a) x is e = absurd (holds_none (know_compress level key got (compress.Coming a)) is (coming_alone level key a x e))
-    compress_below level key got (compress.Compressing c) x is e = squeeze_below level key got c x is e
+    compress_below level key got (compress.Compressing c) x is e = compression_below level key got c x is e
     compress_below level key got old x is e = absurd (cc e)
 
     lowering_below : (got : ℕ → Page) (l : Lowering) (x : ℕ) → know (w.proc p) ≡ know_lowering got l → lowering_next l ≡ act.Latch x → LatchesBelow w x y

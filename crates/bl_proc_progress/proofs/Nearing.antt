@@ -2,55 +2,55 @@
 use Rattle.std.proofs.Common.{ℕ, zero, suc, ◌≡◌, ◌≢◌, ◌+◌, ◌<◌, ◌≤◌, Bool, arith, refl, inl, inr, sym, subst}
 use Rattle.bl_model.specs.declared.deciding.KeyWrite.{KeyWrite}
 use Rattle.bl_page.specs.declared.page.Page.{Page}
-use Rattle.bl_proc_base.specs.declared.acts.Seen.{Seen}
-use Rattle.bl_proc_base.specs.declared.acts.Seen.TheVariants as seen
-use Rattle.bl_proc_base.specs.declared.approaching.Approach.{Approach}
-use Rattle.bl_proc_base.specs.declared.approaching.Approached.TheVariants as came
-use Rattle.bl_proc_base.specs.declared.editing.Edit.{Edit}
-use Rattle.bl_proc_base.specs.declared.editing.Edit.TheVariants as edit
-use Rattle.bl_proc_base.specs.declared.editing.Edited.TheVariants as changed
-use Rattle.bl_proc_base.specs.declared.growing.Growth.{Growth}
-use Rattle.bl_proc_base.specs.declared.growing.Grew.TheVariants as grew
-use Rattle.bl_proc_base.specs.declared.lowering.Lowering.{Lowering}
-use Rattle.bl_proc_base.specs.declared.lowering.Lowering.TheVariants as lowering
-use Rattle.bl_proc_base.specs.declared.lowering.Sank.TheVariants as sank
-use Rattle.bl_proc_base.specs.Lowerings.{Lowers}
-use Rattle.bl_proc_compress.specs.declared.compressing.Compression.{Compression}
-use Rattle.bl_proc_compress.specs.declared.compressing.Compression.TheVariants as squeeze
-use Rattle.bl_proc_compress.specs.declared.compressing.Compressed.TheVariants as step
-use Rattle.bl_proc_compress.specs.declared.compressing.Family.{Family}
-use Rattle.bl_proc_compress.specs.declared.compressing.Siblings.{Siblings}
-use Rattle.bl_proc_compress.specs.declared.compressing.Decision.{Decision}
-use Rattle.bl_proc_compress.specs.declared.compressing.Decision.TheVariants as decision
-use Rattle.bl_proc_compress.specs.declared.squeezing.CompressStage.{CompressStage}
+use Rattle.bl_proc_steps.specs.declared.acts.Seen.{Seen}
+use Rattle.bl_proc_steps.specs.declared.acts.Seen.TheVariants as seen
+use Rattle.bl_proc_steps.specs.declared.approach.Approach.{Approach}
+use Rattle.bl_proc_steps.specs.declared.approach.Approached.TheVariants as came
+use Rattle.bl_proc_steps.specs.declared.edit.Edit.{Edit}
+use Rattle.bl_proc_steps.specs.declared.edit.Edit.TheVariants as edit
+use Rattle.bl_proc_steps.specs.declared.edit.Edited.TheVariants as changed
+use Rattle.bl_proc_steps.specs.declared.growth.Growth.{Growth}
+use Rattle.bl_proc_steps.specs.declared.growth.Grew.TheVariants as grew
+use Rattle.bl_proc_steps.specs.declared.lowering.Lowering.{Lowering}
+use Rattle.bl_proc_steps.specs.declared.lowering.Lowering.TheVariants as lowering
+use Rattle.bl_proc_steps.specs.declared.lowering.Sank.TheVariants as sank
+use Rattle.bl_proc_steps.specs.Lowerings.{Lowers}
+use Rattle.bl_proc_compress.specs.declared.compression.Compression.{Compression}
+use Rattle.bl_proc_compress.specs.declared.compression.Compression.TheVariants as compression
+use Rattle.bl_proc_compress.specs.declared.compression.Compressed.TheVariants as step
+use Rattle.bl_proc_compress.specs.declared.compression.Family.{Family}
+use Rattle.bl_proc_compress.specs.declared.compression.Siblings.{Siblings}
+use Rattle.bl_proc_compress.specs.declared.compression.Decision.{Decision}
+use Rattle.bl_proc_compress.specs.declared.compression.Decision.TheVariants as decision
+use Rattle.bl_proc_compress.specs.declared.compress.CompressStage.{CompressStage}
 use Rattle.bl_proc_compress.specs.Compressions.{Links, Decides, after_puts}
 use Rattle.bl_proc_writes.specs.declared.writing.WriteStage.{WriteStage}
-use Rattle.bl_proc_writes.specs.declared.posting.PostStage.{PostStage}
-use Rattle.bl_proc_writes.specs.declared.posting.PostStage.TheVariants as post
-use Rattle.bl_proc_writes.specs.declared.climbing.ClimbStage.{ClimbStage}
+use Rattle.bl_proc_writes.specs.declared.post.PostStage.{PostStage}
+use Rattle.bl_proc_writes.specs.declared.post.PostStage.TheVariants as post
+use Rattle.bl_proc_writes.specs.declared.insert_post.ClimbStage.{ClimbStage}
 use Rattle.bl_proc_writes.specs.declared.paths.Path.{Path}
 use Rattle.bl_proc_writes.specs.Paths.{from_page, page_at}
 use Rattle.bl_proc.specs.declared.lowering.LowerStage.{LowerStage}
 use Rattle.bl_proc.specs.declared.kinds.Proc.{Proc}
 use Rattle.bl_proc.specs.declared.kinds.Proc.TheVariants as proc
 use Rattle.bl_proc.specs.Processes.{Takes}
-use Rattle.bl_proc_unique.proofs.WayCases.{ApproachCase, approach_case, EditCase, edit_case, GrowthCase, growth_case, SqueezeCase, squeeze_case}
-use Rattle.bl_proc_unique.proofs.WayCases.ApproachCase.{Entered as ApproachEntered, LatchedPage as ApproachLatchedPage, MissedPage as ApproachMissedPage, OpenedFor as ApproachOpenedFor, OpenedLost as ApproachOpenedLost, Quitted as ApproachQuitted, Turned as ApproachTurned}
-use Rattle.bl_proc_unique.proofs.WayCases.EditCase.{OpenedNew as EditOpenedNew, Put as EditPut, PutNew as EditPutNew, PutOld as EditPutOld, PutRefused as EditPutRefused, TakeRefused as EditTakeRefused, Took as EditTook}
-use Rattle.bl_proc_unique.proofs.WayCases.GrowthCase.{LatchedAnchor as GrowthLatchedAnchor, Missed as GrowthMissed, OpenedTop as GrowthOpenedTop, PutAnchor as GrowthPutAnchor, PutTop as GrowthPutTop, Rises as GrowthRises, Stands as GrowthStands, TookTop as GrowthTookTop, TopRefused as GrowthTopRefused}
-use Rattle.bl_proc_unique.proofs.WayCases.SqueezeCase.{FirstRefused as SqueezeFirstRefused, GotLeft as SqueezeGotLeft, GotRight as SqueezeGotRight, LatchLeft as SqueezeLatchLeft, LatchRight as SqueezeLatchRight, LeaveLeft as SqueezeLeaveLeft, LeaveRight as SqueezeLeaveRight, MissLeft as SqueezeMissLeft, MissRight as SqueezeMissRight, OpenedLeft as SqueezeOpenedLeft, OpenedRight as SqueezeOpenedRight, PutFirst as SqueezePutFirst, PutLast as SqueezePutLast, PutParent as SqueezePutParent, Retired as SqueezeRetired}
-use Rattle.bl_proc_unique.proofs.KindCases.{WriteCase, write_case, PostCase, post_case, CompressCase, compress_case, LowerCase, lower_case, ClimbCase, climb_case}
-use Rattle.bl_proc_unique.proofs.KindCases.WriteCase.{Began as WriteBegan, Came as WriteCame, Changed as WriteChanged, Edited as WriteEdited, Ended as WriteEnded, Finished as WriteFinished, Kept as WriteKept, Opened as WriteOpened}
-use Rattle.bl_proc_unique.proofs.KindCases.PostCase.{Began as PostBegan, Came as PostCame, Edited as PostEdited, Ended as PostEnded, Entered as PostEntered, Finished as PostFinished, Grew as PostGrew, Grown as PostGrown, Listed as PostListed, Lost as PostLost, NoLevel as PostNoLevel, NoRoom as PostNoRoom, Opened as PostOpened, Stale as PostStale, Tallest as PostTallest, ToGrow as PostToGrow, ToWalk as PostToWalk, Walked as PostWalked}
-use Rattle.bl_proc_unique.proofs.KindCases.CompressCase.{Began as CompressBegan, Came as CompressCame, Ended as CompressEnded, Finished as CompressFinished, Lost as CompressLost, Met as CompressMet, NoLevel as CompressNoLevel, Opened as CompressOpened, Single as CompressSingle, Squeezed as CompressSqueezed}
-use Rattle.bl_proc_unique.proofs.KindCases.LowerCase.{Began as LowerBegan, Ended as LowerEnded, Finished as LowerFinished, Sank as LowerSank}
-use Rattle.bl_proc_unique.proofs.KindCases.ClimbCase.{Ended as ClimbEnded, Finished as ClimbFinished, Higher as ClimbHigher, Posted as ClimbPosted, Split as ClimbSplit, Unsplit as ClimbUnsplit, Wrote as ClimbWrote}
+use Rattle.bl_proc_deterministic.proofs.WayCases.{ApproachCase, approach_case, EditCase, edit_case, GrowthCase, growth_case, CompressionCase, compression_case}
+use Rattle.bl_proc_deterministic.proofs.WayCases.ApproachCase.{Entered as ApproachEntered, LatchedPage as ApproachLatchedPage, MissedPage as ApproachMissedPage, OpenedFor as ApproachOpenedFor, OpenedLost as ApproachOpenedLost, Quitted as ApproachQuitted, Turned as ApproachTurned}
+use Rattle.bl_proc_deterministic.proofs.WayCases.EditCase.{OpenedNew as EditOpenedNew, Put as EditPut, PutNew as EditPutNew, PutOld as EditPutOld, PutRefused as EditPutRefused, TakeRefused as EditTakeRefused, Took as EditTook}
+use Rattle.bl_proc_deterministic.proofs.WayCases.GrowthCase.{LatchedAnchor as GrowthLatchedAnchor, Missed as GrowthMissed, OpenedTop as GrowthOpenedTop, PutAnchor as GrowthPutAnchor, PutTop as GrowthPutTop, Rises as GrowthRises, Stands as GrowthStands, TookTop as GrowthTookTop, TopRefused as GrowthTopRefused}
+use Rattle.bl_proc_deterministic.proofs.WayCases.CompressionCase.{FirstRefused as CompressionFirstRefused, GotLeft as CompressionGotLeft, GotRight as CompressionGotRight, LatchLeft as CompressionLatchLeft, LatchRight as CompressionLatchRight, LeaveLeft as CompressionLeaveLeft, LeaveRight as CompressionLeaveRight, MissLeft as CompressionMissLeft, MissRight as CompressionMissRight, OpenedLeft as CompressionOpenedLeft, OpenedRight as CompressionOpenedRight, PutFirst as CompressionPutFirst, PutLast as CompressionPutLast, PutParent as CompressionPutParent, Retired as CompressionRetired}
+use Rattle.bl_proc_deterministic.proofs.KindCases.{WriteCase, write_case, PostCase, post_case, CompressCase, compress_case, LowerCase, lower_case, ClimbCase, climb_case}
+use Rattle.bl_proc_deterministic.proofs.KindCases.WriteCase.{Began as WriteBegan, Came as WriteCame, Changed as WriteChanged, Edited as WriteEdited, Ended as WriteEnded, Finished as WriteFinished, Kept as WriteKept, Opened as WriteOpened}
+use Rattle.bl_proc_deterministic.proofs.KindCases.PostCase.{Began as PostBegan, Came as PostCame, Edited as PostEdited, Ended as PostEnded, Entered as PostEntered, Finished as PostFinished, Grew as PostGrew, Grown as PostGrown, Listed as PostListed, Lost as PostLost, NoLevel as PostNoLevel, NoRoom as PostNoRoom, Opened as PostOpened, Stale as PostStale, Tallest as PostTallest, ToGrow as PostToGrow, ToWalk as PostToWalk, Walked as PostWalked}
+use Rattle.bl_proc_deterministic.proofs.KindCases.CompressCase.{Began as CompressBegan, Came as CompressCame, Ended as CompressEnded, Finished as CompressFinished, Lost as CompressLost, Met as CompressMet, NoLevel as CompressNoLevel, Opened as CompressOpened, Single as CompressSingle, WentOn as CompressWentOn}
+use Rattle.bl_proc_deterministic.proofs.KindCases.LowerCase.{Began as LowerBegan, Ended as LowerEnded, Finished as LowerFinished, Sank as LowerSank}
+use Rattle.bl_proc_deterministic.proofs.KindCases.ClimbCase.{Ended as ClimbEnded, Finished as ClimbFinished, Higher as ClimbHigher, Posted as ClimbPosted, Split as ClimbSplit, Unsplit as ClimbUnsplit, Wrote as ClimbWrote}
 use Rattle.bl_page.specs.Machine.{Name}
 use Rattle.bl_page.specs.Machine.Owner.{Held}
-use Rattle.bl_core.specs.Worlds.{World, HoldsPage, IsGood}
+use Rattle.bl_tree_worlds.specs.Worlds.{World, HoldsPage, IsGood}
 use Rattle.bl_proc_invariant.specs.Knowing.{Run, know}
 use Rattle.bl_proc_progress.proofs.Alone.{over_holds}
-use Rattle.bl_proc_progress.specs.Holds.{approach_hold, edit_hold, growth_hold, lowering_hold, squeeze_hold, write_hold, post_hold, compress_hold, lower_hold, climb_hold, hold_of, Nears}
+use Rattle.bl_proc_progress.specs.Holds.{approach_hold, edit_hold, growth_hold, lowering_hold, compression_hold, write_hold, post_hold, compress_hold, lower_hold, climb_hold, hold_of, Nears}
 
 -- A state is one of which it is known that less is left.
 below : {A : Type 0} {x y : A} (f : A → ℕ) (n : ℕ) → x ≡ y → f y < n → f x < n
@@ -131,17 +131,17 @@ post_near (PostFinished c what r t) some = inl (edit_some c)
 post_near (PostOpened x r last e) some = inl (omega arith)
 post_near (PostEnded r last e) some = absurd (omega (arith, some))
 
-pub links_hold : (f : Family) (c : Page) (new : Compression) → Links f c new → squeeze_hold new < 9
-links_hold f c (squeeze.LatchingRight g page) t = omega arith
-links_hold f c (squeeze.OpeningLeft at decision) t = omega arith
+pub links_hold : (f : Family) (c : Page) (new : Compression) → Links f c new → compression_hold new < 9
+links_hold f c (compression.LatchingRight g page) t = omega arith
+links_hold f c (compression.OpeningLeft at decision) t = omega arith
 links_hold f c old t = absurd t
 
-pub decides_hold : (f : Family) (c d : Page) (new : Compression) → Decides f c d new → squeeze_hold new < 7
-decides_hold f c d (squeeze.PuttingFirst p) t = omega arith
-decides_hold f c d (squeeze.OpeningRight at decision) t = omega arith
+pub decides_hold : (f : Family) (c d : Page) (new : Compression) → Decides f c d new → compression_hold new < 7
+decides_hold f c d (compression.PuttingFirst p) t = omega arith
+decides_hold f c d (compression.OpeningRight at decision) t = omega arith
 decides_hold f c d old t = absurd t
 
-pub after_hold : (at : Siblings) (d : Decision) → squeeze_hold (after_puts at d) < 4
+pub after_hold : (at : Siblings) (d : Decision) → compression_hold (after_puts at d) < 4
 after_hold at (decision.Merged h) = omega arith
 after_hold at decision.Evened = omega arith
 after_hold at decision.Enough = omega arith
@@ -149,39 +149,39 @@ after_hold at (decision.Unposted h) = omega arith
 after_hold at decision.Refused = omega arith
 after_hold at decision.Lost = omega arith
 
-pub squeeze_some : (c : Compression) → 0 < squeeze_hold c
-squeeze_some (squeeze.LatchingLeft f) = omega arith
-squeeze_some (squeeze.LatchedLeft f) = omega arith
-squeeze_some (squeeze.LatchingRight f c) = omega arith
-squeeze_some (squeeze.LatchedRight f c) = omega arith
-squeeze_some (squeeze.PuttingFirst p) = omega arith
-squeeze_some (squeeze.PuttingParent p) = omega arith
-squeeze_some (squeeze.PuttingLast p) = omega arith
-squeeze_some (squeeze.Retiring at decision) = omega arith
-squeeze_some (squeeze.OpeningRight at decision) = omega arith
-squeeze_some (squeeze.OpeningLeft at decision) = omega arith
-squeeze_some (squeeze.OpeningParent x decision) = omega arith
+pub compression_some : (c : Compression) → 0 < compression_hold c
+compression_some (compression.LatchingLeft f) = omega arith
+compression_some (compression.LatchedLeft f) = omega arith
+compression_some (compression.LatchingRight f c) = omega arith
+compression_some (compression.LatchedRight f c) = omega arith
+compression_some (compression.PuttingFirst p) = omega arith
+compression_some (compression.PuttingParent p) = omega arith
+compression_some (compression.PuttingLast p) = omega arith
+compression_some (compression.Retiring at decision) = omega arith
+compression_some (compression.OpeningRight at decision) = omega arith
+compression_some (compression.OpeningLeft at decision) = omega arith
+compression_some (compression.OpeningParent x decision) = omega arith
 
 -- it stays as it was, since it missed a latch
-stayed : {c d : Compression} → d ≡ c → Nears (squeeze_hold c) seen.Missed (squeeze_hold d)
-stayed {c} e = inr (subst (λ z. squeeze_hold z ≤ squeeze_hold c) (sym e) (omega arith), inl refl)
+stayed : {c d : Compression} → d ≡ c → Nears (compression_hold c) seen.Missed (compression_hold d)
+stayed {c} e = inr (subst (λ z. compression_hold z ≤ compression_hold c) (sym e) (omega arith), inl refl)
 
-squeeze_near : {c d : Compression} {what : Seen} → SqueezeCase c what (step.On d) → Nears (squeeze_hold c) what (squeeze_hold d)
-squeeze_near (SqueezeLatchLeft f new e) = inl (below squeeze_hold 10 e (omega arith))
-squeeze_near (SqueezeMissLeft f new e) = stayed e
-squeeze_near (SqueezeLeaveLeft f new e) = inl (below squeeze_hold 10 e (omega arith))
-squeeze_near (SqueezeGotLeft f c new t) = inl (links_hold f c new t)
-squeeze_near (SqueezeLatchRight f c new e) = inl (below squeeze_hold 8 e (omega arith))
-squeeze_near (SqueezeMissRight f c new e) = stayed e
-squeeze_near (SqueezeLeaveRight f c new e) = inl (below squeeze_hold 8 e (omega arith))
-squeeze_near (SqueezeGotRight f c d new t) = inl (decides_hold f c d new t)
-squeeze_near (SqueezePutFirst p new e) = inl (below squeeze_hold 6 e (omega arith))
-squeeze_near (SqueezeFirstRefused p new e) = inl (below squeeze_hold 6 e (omega arith))
-squeeze_near (SqueezePutParent p new e) = inl (below squeeze_hold 5 e (omega arith))
-squeeze_near (SqueezePutLast p new e) = inl (below squeeze_hold 4 e (after_hold p.at p.decision))
-squeeze_near (SqueezeRetired at decision new e) = inl (below squeeze_hold 3 e (omega arith))
-squeeze_near (SqueezeOpenedRight at decision new e) = inl (below squeeze_hold 3 e (omega arith))
-squeeze_near (SqueezeOpenedLeft at decision new e) = inl (below squeeze_hold 2 e (omega arith))
+compression_near : {c d : Compression} {what : Seen} → CompressionCase c what (step.On d) → Nears (compression_hold c) what (compression_hold d)
+compression_near (CompressionLatchLeft f new e) = inl (below compression_hold 10 e (omega arith))
+compression_near (CompressionMissLeft f new e) = stayed e
+compression_near (CompressionLeaveLeft f new e) = inl (below compression_hold 10 e (omega arith))
+compression_near (CompressionGotLeft f c new t) = inl (links_hold f c new t)
+compression_near (CompressionLatchRight f c new e) = inl (below compression_hold 8 e (omega arith))
+compression_near (CompressionMissRight f c new e) = stayed e
+compression_near (CompressionLeaveRight f c new e) = inl (below compression_hold 8 e (omega arith))
+compression_near (CompressionGotRight f c d new t) = inl (decides_hold f c d new t)
+compression_near (CompressionPutFirst p new e) = inl (below compression_hold 6 e (omega arith))
+compression_near (CompressionFirstRefused p new e) = inl (below compression_hold 6 e (omega arith))
+compression_near (CompressionPutParent p new e) = inl (below compression_hold 5 e (omega arith))
+compression_near (CompressionPutLast p new e) = inl (below compression_hold 4 e (after_hold p.at p.decision))
+compression_near (CompressionRetired at decision new e) = inl (below compression_hold 3 e (omega arith))
+compression_near (CompressionOpenedRight at decision new e) = inl (below compression_hold 3 e (omega arith))
+compression_near (CompressionOpenedLeft at decision new e) = inl (below compression_hold 2 e (omega arith))
 
 compress_near : {level key : ℕ} {waits : Bool} {a b : CompressStage} {what : Seen} → CompressCase level key waits a what b → 0 < compress_hold a → Nears (compress_hold a) what (compress_hold b)
 compress_near (CompressBegan a e) some = absurd (omega (arith, some))
@@ -189,9 +189,9 @@ compress_near (CompressNoLevel c t) some = absurd (omega (arith, some))
 compress_near (CompressCame a what b t) some = inl (approach_near 11 (omega arith) (approach_case _ _ a what (came.On b) t) some)
 compress_near (CompressMet x parent f l t) some = inl (omega arith)
 compress_near (CompressSingle x parent y l t) some = inl (omega arith)
-compress_near (CompressSqueezed c what d t) some = squeeze_near (squeeze_case _ c what (step.On d) t)
-compress_near (CompressLost c what a t) some = inl (below (approach_hold 11) (squeeze_hold c) t.3 (squeeze_some c))
-compress_near (CompressFinished c what r t) some = inl (squeeze_some c)
+compress_near (CompressWentOn c what d t) some = compression_near (compression_case _ c what (step.On d) t)
+compress_near (CompressLost c what a t) some = inl (below (approach_hold 11) (compression_hold c) t.3 (compression_some c))
+compress_near (CompressFinished c what r t) some = inl (compression_some c)
 compress_near (CompressOpened x r e) some = inl (omega arith)
 compress_near (CompressEnded r last e) some = absurd (omega (arith, some))
 

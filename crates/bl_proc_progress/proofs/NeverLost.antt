@@ -10,21 +10,21 @@ use Rattle.bl_page.specs.Nodes.{Covers, unbounded, node_of, IsTreePage}
 use Rattle.bl_page.specs.Pairs.{end_of}
 use Rattle.bl_rearrange.specs.Neighbours.{AreNeighbours}
 use Rattle.bl_rearrange.specs.Rearranged.{pairs_of}
-use Rattle.bl_core_tree.specs.Trees.{IsLive, IsChild}
-use Rattle.bl_core_tree.specs.Trees.Status.{Live, Left, Right}
-use Rattle.bl_core_tree.proofs.Statuses.{live_live}
-use Rattle.bl_core.specs.Worlds.{Know, World, nodes, tree_of, IsSure, IsGood}
-use Rattle.bl_core.proofs.WorldLaws.{tree_page, all_sound}
-use Rattle.bl_core.proofs.Fitted.{end_is}
-use Rattle.bl_core.proofs.Neighbours.{shares}
-use Rattle.bl_proc_compress.specs.declared.compressing.Family.{Family}
-use Rattle.bl_proc_compress.specs.declared.compressing.Decision.TheVariants.{Lost}
-use Rattle.bl_proc_compress.specs.declared.compressing.Siblings.{Siblings}
-use Rattle.bl_proc_compress.specs.declared.compressing.Compression.TheVariants.{LatchedRight, OpeningRight}
+use Rattle.bl_tree.specs.Trees.{IsLive, IsChild}
+use Rattle.bl_tree.specs.Trees.Status.{Live, Left, Right}
+use Rattle.bl_tree.proofs.Statuses.{live_live}
+use Rattle.bl_tree_worlds.specs.Worlds.{Know, World, nodes, tree_of, IsSure, IsGood}
+use Rattle.bl_tree_worlds.proofs.WorldLaws.{tree_page, all_sound}
+use Rattle.bl_tree_worlds.proofs.Fitted.{end_is}
+use Rattle.bl_tree_worlds.proofs.Neighbours.{shares}
+use Rattle.bl_proc_compress.specs.declared.compression.Family.{Family}
+use Rattle.bl_proc_compress.specs.declared.compression.Decision.TheVariants.{Lost}
+use Rattle.bl_proc_compress.specs.declared.compression.Siblings.{Siblings}
+use Rattle.bl_proc_compress.specs.declared.compression.Compression.TheVariants.{LatchedRight, OpeningRight}
 use Rattle.bl_proc_compress.specs.Compressions.{Relists, Decides}
-use Rattle.bl_proc_invariant.specs.Compressing.{know_squeeze}
-use Rattle.bl_proc_compress.specs.declared.squeezing.Compress.{Compress as Press}
-use Rattle.bl_proc_compress.specs.declared.squeezing.CompressStage.TheVariants as compress
+use Rattle.bl_proc_invariant.specs.Compressing.{know_compression}
+use Rattle.bl_proc_compress.specs.declared.compress.Compress.{Compress as CompressIs}
+use Rattle.bl_proc_compress.specs.declared.compress.CompressStage.TheVariants as compress
 use Rattle.bl_proc.specs.declared.kinds.Proc.TheVariants as proc
 use Rattle.bl_proc_invariant.specs.Knowing.{Run, know_of, know_compress, know}
 use Rattle.bl_proc_progress.proofs.Below.{right_is}
@@ -57,8 +57,8 @@ without_cases old s key v e = elim (cases_eq s key) [
   | inr n ↦ (n, (let f : (if s == key then None else old) ≡ old = grind arith in sym f ∙ e))
 ]
 
-module _ (w : World Run) (g : IsGood know w) (p : Name) (level key : ℕ) (got : ℕ → Page) (f : Family) (c : Page) (is : know (w.proc p) ≡ know_squeeze level key got (LatchedRight f c)) where
-  sure : IsSure w p (know_squeeze level key got (LatchedRight f c))
+module _ (w : World Run) (g : IsGood know w) (p : Name) (level key : ℕ) (got : ℕ → Page) (f : Family) (c : Page) (is : know (w.proc p) ≡ know_compression level key got (LatchedRight f c)) where
+  sure : IsSure w p (know_compression level key got (LatchedRight f c))
   sure = subst (λ (z : Know). IsSure w p z) is (g.sure p)
 
   parent_is : w.now.contents f.at.parent ≡ Inner f.parent
@@ -215,9 +215,9 @@ module _ (w : World Run) (g : IsGood know w) (p : Name) (level key : ℕ) (got :
   ]
 
 -- the same of a process, by its state
-pub never_lost_of : (w : World Run) (p : Name) (a : Press) (f : Family) (c : Page) (at : Siblings) → IsGood know w → (w.proc p).state ≡ proc.Compress a → a.stage ≡ compress.Compressing (LatchedRight f c) → Decides f c (w.now.contents f.at.right) (OpeningRight at Lost) → ⊥
+pub never_lost_of : (w : World Run) (p : Name) (a : CompressIs) (f : Family) (c : Page) (at : Siblings) → IsGood know w → (w.proc p).state ≡ proc.Compress a → a.stage ≡ compress.Compressing (LatchedRight f c) → Decides f c (w.now.contents f.at.right) (OpeningRight at Lost) → ⊥
 never_lost_of w p a f c at g state stage h =
     let r = w.proc p in
     let known : know r ≡ know_compress a.level a.key r.got a.stage = ap (know_of r.got r.child r.time) state in
-    let is : know r ≡ know_squeeze a.level a.key r.got (LatchedRight f c) = known ∙ ap (know_compress a.level a.key r.got) stage in
+    let is : know r ≡ know_compression a.level a.key r.got (LatchedRight f c) = known ∙ ap (know_compress a.level a.key r.got) stage in
     never_lost w g p a.level a.key r.got f c is at h

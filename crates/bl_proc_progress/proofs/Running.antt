@@ -5,38 +5,38 @@ use Rattle.bl_model.specs.declared.deciding.KeyWrite.{KeyWrite}
 use Rattle.bl_page.specs.declared.page.Page.{Page}
 use Rattle.bl_page.specs.Machine.{Name, IsRunning}
 use Rattle.bl_page.specs.Machine.Owner.{Held}
-use Rattle.bl_core.specs.Worlds.{Goes, Stage, World, IsStage, IsGood}
-use Rattle.bl_core.specs.Worlds.Stage.{Busy}
-use Rattle.bl_proc_base.specs.declared.approaching.Approach.{Approach}
-use Rattle.bl_proc_base.specs.declared.approaching.Approach.TheVariants as way
-use Rattle.bl_proc_base.specs.declared.editing.Edit.{Edit}
-use Rattle.bl_proc_base.specs.declared.editing.Edit.TheVariants as edit
-use Rattle.bl_proc_base.specs.declared.growing.Growth.{Growth}
-use Rattle.bl_proc_base.specs.declared.growing.Growth.TheVariants as growth
-use Rattle.bl_proc_base.specs.declared.lowering.Lowering.{Lowering}
-use Rattle.bl_proc_base.specs.declared.lowering.Lowering.TheVariants as lowering
-use Rattle.bl_proc_compress.specs.declared.compressing.Compression.{Compression}
-use Rattle.bl_proc_compress.specs.declared.compressing.Compression.TheVariants as squeeze
-use Rattle.bl_proc_compress.specs.declared.squeezing.CompressStage.{CompressStage}
-use Rattle.bl_proc_compress.specs.declared.squeezing.CompressStage.TheVariants as compress
+use Rattle.bl_tree_worlds.specs.Worlds.{Goes, Stage, World, IsStage, IsGood}
+use Rattle.bl_tree_worlds.specs.Worlds.Stage.{Busy}
+use Rattle.bl_proc_steps.specs.declared.approach.Approach.{Approach}
+use Rattle.bl_proc_steps.specs.declared.approach.Approach.TheVariants as way
+use Rattle.bl_proc_steps.specs.declared.edit.Edit.{Edit}
+use Rattle.bl_proc_steps.specs.declared.edit.Edit.TheVariants as edit
+use Rattle.bl_proc_steps.specs.declared.growth.Growth.{Growth}
+use Rattle.bl_proc_steps.specs.declared.growth.Growth.TheVariants as growth
+use Rattle.bl_proc_steps.specs.declared.lowering.Lowering.{Lowering}
+use Rattle.bl_proc_steps.specs.declared.lowering.Lowering.TheVariants as lowering
+use Rattle.bl_proc_compress.specs.declared.compression.Compression.{Compression}
+use Rattle.bl_proc_compress.specs.declared.compression.Compression.TheVariants as compression
+use Rattle.bl_proc_compress.specs.declared.compress.CompressStage.{CompressStage}
+use Rattle.bl_proc_compress.specs.declared.compress.CompressStage.TheVariants as compress
 use Rattle.bl_proc_writes.specs.declared.writing.WriteStage.{WriteStage}
 use Rattle.bl_proc_writes.specs.declared.writing.WriteStage.TheVariants as write
-use Rattle.bl_proc_writes.specs.declared.posting.PostStage.{PostStage}
-use Rattle.bl_proc_writes.specs.declared.posting.PostStage.TheVariants as post
-use Rattle.bl_proc_writes.specs.declared.climbing.ClimbStage.{ClimbStage}
-use Rattle.bl_proc_writes.specs.declared.climbing.ClimbStage.TheVariants as climb
+use Rattle.bl_proc_writes.specs.declared.post.PostStage.{PostStage}
+use Rattle.bl_proc_writes.specs.declared.post.PostStage.TheVariants as post
+use Rattle.bl_proc_writes.specs.declared.insert_post.ClimbStage.{ClimbStage}
+use Rattle.bl_proc_writes.specs.declared.insert_post.ClimbStage.TheVariants as climb
 use Rattle.bl_proc_writes.specs.declared.paths.Path.{Path}
 use Rattle.bl_proc.specs.declared.lowering.LowerStage.{LowerStage}
 use Rattle.bl_proc.specs.declared.lowering.LowerStage.TheVariants as lower
 use Rattle.bl_proc.specs.declared.kinds.Proc.{Proc}
 use Rattle.bl_proc.specs.declared.kinds.Proc.TheVariants as proc
 use Rattle.bl_proc_invariant.specs.Tables.{Carried, unsaid, Aim, know_approach, know_edit}
-use Rattle.bl_proc_invariant.specs.Compressing.{know_squeeze}
+use Rattle.bl_proc_invariant.specs.Compressing.{know_compression}
 use Rattle.bl_proc_invariant.specs.Lowering.{know_lowering}
 use Rattle.bl_proc_invariant.specs.Knowing.{Run, path_goes, inserted, know_growth, know_write, know_post, know_climb, know_compress, know_lower, know_of, know}
 use Rattle.bl_proc_progress.specs.Holds.{write_hold, post_hold, compress_hold, lower_hold, climb_hold, hold_of}
 use Rattle.bl_proc_progress.proofs.Nearing.{holds_none}
-use Rattle.bl_proc_writes.specs.declared.climbing.Placing.{Placing}
+use Rattle.bl_proc_writes.specs.declared.insert_post.Placing.{Placing}
 use Rattle.bl_proc_writes.specs.Placings.{write_of}
 
 approach_busy : (carried : Carried) → (level key : ℕ) (a : Approach) → (know_approach carried level key a).stage ≡ Busy
@@ -83,23 +83,23 @@ post_busy carried level key got child (post.Staying x r) some = refl
 post_busy carried level key got child (post.Ending r) some = refl
 post_busy carried level key got child (post.Over r) some = absurd (omega (arith, some))
 
-squeeze_busy : (level key : ℕ) (got : ℕ → Page) (c : Compression) → (know_squeeze level key got c).stage ≡ Busy
-squeeze_busy level key got (squeeze.LatchingLeft f) = refl
-squeeze_busy level key got (squeeze.LatchedLeft f) = refl
-squeeze_busy level key got (squeeze.LatchingRight f c) = refl
-squeeze_busy level key got (squeeze.LatchedRight f c) = refl
-squeeze_busy level key got (squeeze.PuttingFirst p) = refl
-squeeze_busy level key got (squeeze.PuttingParent p) = refl
-squeeze_busy level key got (squeeze.PuttingLast p) = refl
-squeeze_busy level key got (squeeze.Retiring at decision) = refl
-squeeze_busy level key got (squeeze.OpeningRight at decision) = refl
-squeeze_busy level key got (squeeze.OpeningLeft at decision) = refl
-squeeze_busy level key got (squeeze.OpeningParent x decision) = refl
+compression_busy : (level key : ℕ) (got : ℕ → Page) (c : Compression) → (know_compression level key got c).stage ≡ Busy
+compression_busy level key got (compression.LatchingLeft f) = refl
+compression_busy level key got (compression.LatchedLeft f) = refl
+compression_busy level key got (compression.LatchingRight f c) = refl
+compression_busy level key got (compression.LatchedRight f c) = refl
+compression_busy level key got (compression.PuttingFirst p) = refl
+compression_busy level key got (compression.PuttingParent p) = refl
+compression_busy level key got (compression.PuttingLast p) = refl
+compression_busy level key got (compression.Retiring at decision) = refl
+compression_busy level key got (compression.OpeningRight at decision) = refl
+compression_busy level key got (compression.OpeningLeft at decision) = refl
+compression_busy level key got (compression.OpeningParent x decision) = refl
 
 compress_busy : (level key : ℕ) (got : ℕ → Page) (a : CompressStage) → 0 < compress_hold a → (know_compress level key got a).stage ≡ Busy
 compress_busy level key got compress.New some = absurd (omega (arith, some))
 compress_busy level key got (compress.Coming a) some = approach_busy _ level key a
-compress_busy level key got (compress.Compressing c) some = squeeze_busy level key got c
+compress_busy level key got (compress.Compressing c) some = compression_busy level key got c
 compress_busy level key got (compress.Staying x) some = refl
 compress_busy level key got (compress.Ending r) some = refl
 compress_busy level key got (compress.Over r) some = absurd (omega (arith, some))

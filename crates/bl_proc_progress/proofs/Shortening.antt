@@ -3,22 +3,22 @@ use Rattle.std.proofs.Common.{ℕ, suc, ◌≡◌, ◌⊎◌, ◌+◌, ◌-◌, 
 use Rattle.bl_page.specs.declared.page.Page.{Page}
 use Rattle.bl_page.specs.Machine.{Name}
 use Rattle.bl_page.specs.Nodes.{unbounded, node_of, roots_of}
-use Rattle.bl_core.specs.Worlds.{Know, World, nodes, IsGoes, IsSure, IsGood}
-use Rattle.bl_proc_base.specs.declared.acts.Seen.{Seen}
-use Rattle.bl_proc_base.specs.declared.acts.Seen.TheVariants as seen
-use Rattle.bl_proc_base.specs.declared.approaching.Approach.{Approach}
-use Rattle.bl_proc_base.specs.declared.approaching.Approach.TheVariants as way
-use Rattle.bl_proc_base.specs.declared.approaching.Approached.TheVariants as came
-use Rattle.bl_proc_base.specs.declared.descent.Descent.{Descent}
-use Rattle.bl_proc_base.specs.declared.descent.Descent.TheVariants.{AtAnchor, At}
-use Rattle.bl_proc_base.specs.declared.descent.Descended.TheVariants.{On}
-use Rattle.bl_proc_base.specs.Approaches.{approach_next, HasLevel, Enters, Turns, Quits, Approaches}
-use Rattle.bl_proc_base.specs.Descents.{descent_page, Descends}
-use Rattle.bl_proc_pages.specs.declared.onwards.Step.{Step}
-use Rattle.bl_proc_pages.specs.declared.onwards.Step.TheVariants.{Again, Right, Down, Here}
-use Rattle.bl_proc_pages.specs.Onwards.{top_of, Leads}
-use Rattle.bl_proc_unique.proofs.WayCases.{ApproachCase, approach_case}
-use Rattle.bl_proc_unique.proofs.WayCases.ApproachCase.{Entered as ApproachEntered, LatchedPage as ApproachLatchedPage, MissedPage as ApproachMissedPage, OpenedFor as ApproachOpenedFor, OpenedLost as ApproachOpenedLost, Quitted as ApproachQuitted, Turned as ApproachTurned}
+use Rattle.bl_tree_worlds.specs.Worlds.{Know, World, nodes, IsGoes, IsSure, IsGood}
+use Rattle.bl_proc_steps.specs.declared.acts.Seen.{Seen}
+use Rattle.bl_proc_steps.specs.declared.acts.Seen.TheVariants as seen
+use Rattle.bl_proc_steps.specs.declared.approach.Approach.{Approach}
+use Rattle.bl_proc_steps.specs.declared.approach.Approach.TheVariants as way
+use Rattle.bl_proc_steps.specs.declared.approach.Approached.TheVariants as came
+use Rattle.bl_proc_steps.specs.declared.descent.Descent.{Descent}
+use Rattle.bl_proc_steps.specs.declared.descent.Descent.TheVariants.{AtAnchor, At}
+use Rattle.bl_proc_steps.specs.declared.descent.Descended.TheVariants.{On}
+use Rattle.bl_proc_steps.specs.Approaches.{approach_next, HasLevel, Enters, Turns, Quits, Approaches}
+use Rattle.bl_proc_steps.specs.Descents.{descent_page, Descends}
+use Rattle.bl_proc_routes.specs.declared.routes.Step.{Step}
+use Rattle.bl_proc_routes.specs.declared.routes.Step.TheVariants.{Again, Right, Down, Here}
+use Rattle.bl_proc_routes.specs.Routes.{top_of, Leads}
+use Rattle.bl_proc_deterministic.proofs.WayCases.{ApproachCase, approach_case}
+use Rattle.bl_proc_deterministic.proofs.WayCases.ApproachCase.{Entered as ApproachEntered, LatchedPage as ApproachLatchedPage, MissedPage as ApproachMissedPage, OpenedFor as ApproachOpenedFor, OpenedLost as ApproachOpenedLost, Quitted as ApproachQuitted, Turned as ApproachTurned}
 use Rattle.bl_proc_invariant.specs.Tables.{Carried, goes_to, know_approach}
 use Rattle.bl_proc_invariant.specs.Turns.{IsObserved}
 use Rattle.bl_proc_invariant.specs.Knowing.{Run, know}

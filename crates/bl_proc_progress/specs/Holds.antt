@@ -1,26 +1,26 @@
 -- How long a process holds pages, by its state: how many of its own turns are left until it holds none. Not counted are the missed
 -- latches of a child, and the gets of a post that walks to the child.
 use Rattle.std.specs.Prelude.{ℕ, ◌≡◌, ◌⊎◌, ◌<◌, ◌≤◌}
-use Rattle.bl_proc_base.specs.declared.acts.Seen.{Seen}
-use Rattle.bl_proc_base.specs.declared.acts.Seen.TheVariants as seen
-use Rattle.bl_proc_base.specs.declared.approaching.Approach.{Approach}
-use Rattle.bl_proc_base.specs.declared.approaching.Approach.TheVariants as way
-use Rattle.bl_proc_base.specs.declared.editing.Edit.{Edit}
-use Rattle.bl_proc_base.specs.declared.editing.Edit.TheVariants as edit
-use Rattle.bl_proc_base.specs.declared.growing.Growth.{Growth}
-use Rattle.bl_proc_base.specs.declared.growing.Growth.TheVariants as growth
-use Rattle.bl_proc_base.specs.declared.lowering.Lowering.{Lowering}
-use Rattle.bl_proc_base.specs.declared.lowering.Lowering.TheVariants as lowering
-use Rattle.bl_proc_compress.specs.declared.compressing.Compression.{Compression}
-use Rattle.bl_proc_compress.specs.declared.compressing.Compression.TheVariants as squeeze
-use Rattle.bl_proc_compress.specs.declared.squeezing.CompressStage.{CompressStage}
-use Rattle.bl_proc_compress.specs.declared.squeezing.CompressStage.TheVariants as compress
+use Rattle.bl_proc_steps.specs.declared.acts.Seen.{Seen}
+use Rattle.bl_proc_steps.specs.declared.acts.Seen.TheVariants as seen
+use Rattle.bl_proc_steps.specs.declared.approach.Approach.{Approach}
+use Rattle.bl_proc_steps.specs.declared.approach.Approach.TheVariants as way
+use Rattle.bl_proc_steps.specs.declared.edit.Edit.{Edit}
+use Rattle.bl_proc_steps.specs.declared.edit.Edit.TheVariants as edit
+use Rattle.bl_proc_steps.specs.declared.growth.Growth.{Growth}
+use Rattle.bl_proc_steps.specs.declared.growth.Growth.TheVariants as growth
+use Rattle.bl_proc_steps.specs.declared.lowering.Lowering.{Lowering}
+use Rattle.bl_proc_steps.specs.declared.lowering.Lowering.TheVariants as lowering
+use Rattle.bl_proc_compress.specs.declared.compression.Compression.{Compression}
+use Rattle.bl_proc_compress.specs.declared.compression.Compression.TheVariants as compression
+use Rattle.bl_proc_compress.specs.declared.compress.CompressStage.{CompressStage}
+use Rattle.bl_proc_compress.specs.declared.compress.CompressStage.TheVariants as compress
 use Rattle.bl_proc_writes.specs.declared.writing.WriteStage.{WriteStage}
 use Rattle.bl_proc_writes.specs.declared.writing.WriteStage.TheVariants as write
-use Rattle.bl_proc_writes.specs.declared.posting.PostStage.{PostStage}
-use Rattle.bl_proc_writes.specs.declared.posting.PostStage.TheVariants as post
-use Rattle.bl_proc_writes.specs.declared.climbing.ClimbStage.{ClimbStage}
-use Rattle.bl_proc_writes.specs.declared.climbing.ClimbStage.TheVariants as climb
+use Rattle.bl_proc_writes.specs.declared.post.PostStage.{PostStage}
+use Rattle.bl_proc_writes.specs.declared.post.PostStage.TheVariants as post
+use Rattle.bl_proc_writes.specs.declared.insert_post.ClimbStage.{ClimbStage}
+use Rattle.bl_proc_writes.specs.declared.insert_post.ClimbStage.TheVariants as climb
 use Rattle.bl_proc.specs.declared.lowering.LowerStage.{LowerStage}
 use Rattle.bl_proc.specs.declared.lowering.LowerStage.TheVariants as lower
 use Rattle.bl_proc.specs.declared.kinds.Proc.{Proc}
@@ -64,18 +64,18 @@ lowering_hold (lowering.Retiring x) = 2
 lowering_hold (lowering.OpeningTop x what) = 2
 lowering_hold (lowering.OpeningAnchor what) = 1
 
-abbrev pub squeeze_hold : Compression → ℕ
-squeeze_hold (squeeze.LatchingLeft f) = 10
-squeeze_hold (squeeze.LatchedLeft f) = 9
-squeeze_hold (squeeze.LatchingRight f c) = 8
-squeeze_hold (squeeze.LatchedRight f c) = 7
-squeeze_hold (squeeze.PuttingFirst p) = 6
-squeeze_hold (squeeze.PuttingParent p) = 5
-squeeze_hold (squeeze.PuttingLast p) = 4
-squeeze_hold (squeeze.Retiring at decision) = 3
-squeeze_hold (squeeze.OpeningRight at decision) = 3
-squeeze_hold (squeeze.OpeningLeft at decision) = 2
-squeeze_hold (squeeze.OpeningParent x decision) = 1
+abbrev pub compression_hold : Compression → ℕ
+compression_hold (compression.LatchingLeft f) = 10
+compression_hold (compression.LatchedLeft f) = 9
+compression_hold (compression.LatchingRight f c) = 8
+compression_hold (compression.LatchedRight f c) = 7
+compression_hold (compression.PuttingFirst p) = 6
+compression_hold (compression.PuttingParent p) = 5
+compression_hold (compression.PuttingLast p) = 4
+compression_hold (compression.Retiring at decision) = 3
+compression_hold (compression.OpeningRight at decision) = 3
+compression_hold (compression.OpeningLeft at decision) = 2
+compression_hold (compression.OpeningParent x decision) = 1
 
 abbrev pub write_hold : WriteStage → ℕ
 write_hold write.New = 0
@@ -98,7 +98,7 @@ post_hold (post.Over r) = 0
 abbrev pub compress_hold : CompressStage → ℕ
 compress_hold compress.New = 0
 compress_hold (compress.Coming a) = approach_hold 11 a
-compress_hold (compress.Compressing c) = squeeze_hold c
+compress_hold (compress.Compressing c) = compression_hold c
 compress_hold (compress.Staying x) = 1
 compress_hold (compress.Ending r) = 0
 compress_hold (compress.Over r) = 0

@@ -5,19 +5,19 @@ use Rattle.bl_model.specs.Rows.{map_of}
 use Rattle.bl_page.specs.declared.page.Page.{Page}
 use Rattle.bl_page.specs.Machine.{Name}
 use Rattle.bl_page.specs.Nodes.{node_of, roots_of}
-use Rattle.bl_core_tree.specs.Trees.{is_live, IsLive}
-use Rattle.bl_core_tree.specs.Trees.Status.{Gone, Anchored}
-use Rattle.bl_core_tree.proofs.Statuses.{live_live, gone_dead}
-use Rattle.bl_core.specs.Worlds.{Know, World, nodes, IsSure, IsGood}
-use Rattle.bl_core.proofs.WorldLaws.{all_sound}
-use Rattle.bl_proc_base.specs.declared.lowering.Summit.{Summit}
-use Rattle.bl_proc_base.specs.declared.lowering.Lowering.TheVariants as lowering
-use Rattle.bl_proc_pages.specs.Onwards.{top_of}
-use Rattle.bl_proc_compress.specs.declared.compressing.Family.{Family}
-use Rattle.bl_proc_compress.specs.declared.compressing.Compression.TheVariants.{LatchingLeft, LatchingRight}
+use Rattle.bl_tree.specs.Trees.{is_live, IsLive}
+use Rattle.bl_tree.specs.Trees.Status.{Gone, Anchored}
+use Rattle.bl_tree.proofs.Statuses.{live_live, gone_dead}
+use Rattle.bl_tree_worlds.specs.Worlds.{Know, World, nodes, IsSure, IsGood}
+use Rattle.bl_tree_worlds.proofs.WorldLaws.{all_sound}
+use Rattle.bl_proc_steps.specs.declared.lowering.Summit.{Summit}
+use Rattle.bl_proc_steps.specs.declared.lowering.Lowering.TheVariants as lowering
+use Rattle.bl_proc_routes.specs.Routes.{top_of}
+use Rattle.bl_proc_compress.specs.declared.compression.Family.{Family}
+use Rattle.bl_proc_compress.specs.declared.compression.Compression.TheVariants.{LatchingLeft, LatchingRight}
 use Rattle.bl_proc_compress.proofs.Places.{listed_at}
 use Rattle.bl_claims.specs.Squeezed.{AreBeside}
-use Rattle.bl_proc_invariant.specs.Compressing.{know_squeeze}
+use Rattle.bl_proc_invariant.specs.Compressing.{know_compression}
 use Rattle.bl_proc_invariant.specs.Lowering.{know_lowering}
 use Rattle.bl_proc_invariant.specs.Knowing.{Run, know}
 
@@ -49,9 +49,9 @@ module _ (w : World Run) (g : IsGood know w) (p : Name) where
       let covers = (all_sound know w g x alive).covered k c look in
       (g.tree.listed level k c (ap (λ l. w.map l k) (sym level_is) ∙ (sym (g.tree.agree x k alive covers) ∙ look))).alive
 
-  pub left_live : (level key : ℕ) (got : ℕ → Page) (f : Family) → know (w.proc p) ≡ know_squeeze level key got (LatchingLeft f) → AreBeside key f.parent (Some f) → IsLive (w.status f.at.left)
+  pub left_live : (level key : ℕ) (got : ℕ → Page) (f : Family) → know (w.proc p) ≡ know_compression level key got (LatchingLeft f) → AreBeside key f.parent (Some f) → IsLive (w.status f.at.left)
   left_live level key got f is beside =
-      let s : IsSure w p (know_squeeze level key got (LatchingLeft f)) = sure_of (know_squeeze level key got (LatchingLeft f)) is in
+      let s : IsSure w p (know_compression level key got (LatchingLeft f)) = sure_of (know_compression level key got (LatchingLeft f)) is in
       let l = left_listed key f beside in
       let alive : IsLive (w.status f.at.parent) = rw s.holds.0.status live_live in
       let page = s.holds.0.page in
@@ -60,9 +60,9 @@ module _ (w : World Run) (g : IsGood know w) (p : Name) where
       let level_is : (nodes w.now f.at.parent).shape.level ≡ suc (level - 1) = ap (λ v. (node_of v).shape.level) page ∙ omega (arith, some, at) in
       listed_live f.at.parent l.0 f.at.left (level - 1) alive level_is (ap (λ v. (node_of v).look l.0) page ∙ l.1)
 
-  pub right_live : (level key : ℕ) (got : ℕ → Page) (f : Family) (c : Page) → know (w.proc p) ≡ know_squeeze level key got (LatchingRight f c) → IsLive (w.status f.at.right)
+  pub right_live : (level key : ℕ) (got : ℕ → Page) (f : Family) (c : Page) → know (w.proc p) ≡ know_compression level key got (LatchingRight f c) → IsLive (w.status f.at.right)
   right_live level key got f c is =
-      let s : IsSure w p (know_squeeze level key got (LatchingRight f c)) = sure_of (know_squeeze level key got (LatchingRight f c)) is in
+      let s : IsSure w p (know_compression level key got (LatchingRight f c)) = sure_of (know_compression level key got (LatchingRight f c)) is in
       let alive : IsLive (w.status f.at.parent) = rw s.holds.0.status live_live in
       let page = s.holds.0.page in
       let some = s.sound.0.1 in

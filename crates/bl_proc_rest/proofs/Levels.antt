@@ -7,44 +7,44 @@ use Rattle.bl_page.specs.declared.page.Page.{Page}
 use Rattle.bl_page.specs.declared.page.Page.TheVariants.{Anchor, Leaf, Inner, Dead}
 use Rattle.bl_page.specs.Machine.{Name}
 use Rattle.bl_page.specs.Nodes.{roots_of}
-use Rattle.bl_core_tree.specs.Trees.{Status}
-use Rattle.bl_core_tree.specs.Trees.Status.{Fresh, Live, Left, Right, Uprooted, Anchored}
-use Rattle.bl_core.specs.Worlds.{Goes, World, IsSure, IsGood}
-use Rattle.bl_proc_base.specs.declared.acts.Action.TheVariants as act
-use Rattle.bl_proc_base.specs.declared.acts.Seen.{Seen}
-use Rattle.bl_proc_base.specs.declared.acts.Seen.TheVariants as seen
-use Rattle.bl_proc_base.specs.declared.approaching.Approach.{Approach}
-use Rattle.bl_proc_base.specs.declared.approaching.Approach.TheVariants as way
-use Rattle.bl_proc_base.specs.declared.editing.Edit.{Edit}
-use Rattle.bl_proc_base.specs.declared.editing.Edit.TheVariants as edit
-use Rattle.bl_proc_base.specs.declared.growing.Growth.{Growth}
-use Rattle.bl_proc_base.specs.declared.growing.Growth.TheVariants as growth
-use Rattle.bl_proc_base.specs.declared.lowering.Lowering.{Lowering}
-use Rattle.bl_proc_base.specs.declared.lowering.Lowering.TheVariants as lowering
-use Rattle.bl_proc_base.specs.Approaches.{approach_next}
-use Rattle.bl_proc_base.specs.Edits.{edit_next}
-use Rattle.bl_proc_base.specs.Growths.{IsAnchor, growth_next}
-use Rattle.bl_proc_base.specs.Lowerings.{lowering_next}
+use Rattle.bl_tree.specs.Trees.{Status}
+use Rattle.bl_tree.specs.Trees.Status.{Fresh, Live, Left, Right, Uprooted, Anchored}
+use Rattle.bl_tree_worlds.specs.Worlds.{Goes, World, IsSure, IsGood}
+use Rattle.bl_proc_steps.specs.declared.acts.Action.TheVariants as act
+use Rattle.bl_proc_steps.specs.declared.acts.Seen.{Seen}
+use Rattle.bl_proc_steps.specs.declared.acts.Seen.TheVariants as seen
+use Rattle.bl_proc_steps.specs.declared.approach.Approach.{Approach}
+use Rattle.bl_proc_steps.specs.declared.approach.Approach.TheVariants as way
+use Rattle.bl_proc_steps.specs.declared.edit.Edit.{Edit}
+use Rattle.bl_proc_steps.specs.declared.edit.Edit.TheVariants as edit
+use Rattle.bl_proc_steps.specs.declared.growth.Growth.{Growth}
+use Rattle.bl_proc_steps.specs.declared.growth.Growth.TheVariants as growth
+use Rattle.bl_proc_steps.specs.declared.lowering.Lowering.{Lowering}
+use Rattle.bl_proc_steps.specs.declared.lowering.Lowering.TheVariants as lowering
+use Rattle.bl_proc_steps.specs.Approaches.{approach_next}
+use Rattle.bl_proc_steps.specs.Edits.{edit_next}
+use Rattle.bl_proc_steps.specs.Growths.{IsAnchor, growth_next}
+use Rattle.bl_proc_steps.specs.Lowerings.{lowering_next}
 use Rattle.bl_rearrange.specs.declared.sides.Side.{Side}
 use Rattle.bl_rearrange.specs.declared.sides.Side.TheVariants as side
-use Rattle.bl_proc_compress.specs.declared.compressing.Puts.{Puts}
-use Rattle.bl_proc_compress.specs.declared.compressing.Compression.{Compression}
-use Rattle.bl_proc_compress.specs.declared.compressing.Compression.TheVariants as squeeze
-use Rattle.bl_proc_compress.specs.declared.squeezing.CompressStage.{CompressStage}
-use Rattle.bl_proc_compress.specs.declared.squeezing.CompressStage.TheVariants as compress
+use Rattle.bl_proc_compress.specs.declared.compression.Puts.{Puts}
+use Rattle.bl_proc_compress.specs.declared.compression.Compression.{Compression}
+use Rattle.bl_proc_compress.specs.declared.compression.Compression.TheVariants as compression
+use Rattle.bl_proc_compress.specs.declared.compress.CompressStage.{CompressStage}
+use Rattle.bl_proc_compress.specs.declared.compress.CompressStage.TheVariants as compress
 use Rattle.bl_proc_compress.specs.Compressions.{put_of, other, compression_next}
 use Rattle.bl_proc_compress.specs.Compresses.{compress_next_in}
 use Rattle.bl_proc_writes.specs.declared.writing.WriteStage.{WriteStage}
 use Rattle.bl_proc_writes.specs.declared.writing.WriteStage.TheVariants as write
-use Rattle.bl_proc_writes.specs.declared.posting.PostStage.{PostStage}
-use Rattle.bl_proc_writes.specs.declared.posting.PostStage.TheVariants as post
+use Rattle.bl_proc_writes.specs.declared.post.PostStage.{PostStage}
+use Rattle.bl_proc_writes.specs.declared.post.PostStage.TheVariants as post
 use Rattle.bl_proc_writes.specs.declared.paths.Path.{Path}
-use Rattle.bl_proc_writes.specs.declared.climbing.ClimbStage.{ClimbStage}
-use Rattle.bl_proc_writes.specs.declared.climbing.ClimbStage.TheVariants as climb
+use Rattle.bl_proc_writes.specs.declared.insert_post.ClimbStage.{ClimbStage}
+use Rattle.bl_proc_writes.specs.declared.insert_post.ClimbStage.TheVariants as climb
 use Rattle.bl_proc_writes.specs.Writes.{write_next_in}
 use Rattle.bl_proc_writes.specs.Posts.{post_next_in, PostGoes}
-use Rattle.bl_proc_writes.specs.Climbs.{climb_next_in, ClimbGoes}
-use Rattle.bl_proc_writes.specs.declared.climbing.Placing.{Placing}
+use Rattle.bl_proc_writes.specs.InsertPosts.{climb_next_in, ClimbGoes}
+use Rattle.bl_proc_writes.specs.declared.insert_post.Placing.{Placing}
 use Rattle.bl_proc_writes.specs.Placings.{write_of}
 use Rattle.bl_proc.specs.declared.searching.FindStage.{FindStage}
 use Rattle.bl_proc.specs.declared.searching.FindStage.TheVariants as find
@@ -63,11 +63,11 @@ use Rattle.bl_proc.specs.declared.kinds.Proc.TheVariants as proc
 use Rattle.bl_proc.specs.Processes.{next_of, Takes}
 use Rattle.bl_proc_invariant.specs.Tables.{Carried, alone, Aim, know_edit}
 use Rattle.bl_proc_invariant.specs.Lowering.{know_lowering}
-use Rattle.bl_proc_invariant.specs.Compressing.{know_squeeze}
+use Rattle.bl_proc_invariant.specs.Compressing.{know_compression}
 use Rattle.bl_proc_invariant.specs.Knowing.{Run, path_goes, inserted, know_growth, know_write, know_post, know_compress, know_lower, know_climb, know_of, know}
 use Rattle.bl_proc_ends.specs.Budget.{lower_puts, puts_of, room_above, IsRaisingIn, IsRaisingUp, IsRaising, IsSinkingIn, IsSinking}
 use Rattle.bl_proc_ends.proofs.Spending.{spends}
-use Rattle.bl_proc_writes.specs.declared.climbing.Placing.{Placing}
+use Rattle.bl_proc_writes.specs.declared.insert_post.Placing.{Placing}
 use Rattle.bl_proc_writes.specs.Placings.{write_of}
 
 anchor_levels : (c : Page) (leftmost : List ℕ) → IsAnchor leftmost c → (roots_of c).levels ≡ length leftmost
@@ -137,14 +137,14 @@ module _ (w : World Run) (g : IsGood know w) (p : Name) where
   side_off side.Left u x c s t l r n m e = off u.at.left x u.left c s l n e
   side_off side.Right u x c s t l r n m e = off u.at.right x u.right c t r m e
 
-  squeeze_off : (level key : ℕ) (got : ℕ → Page) (a : Compression) (x : ℕ) (c : Page) → IsSure w p (know_squeeze level key got a) → compression_next a ≡ act.Put x c → x ≢ 0
-  squeeze_off level key got (squeeze.PuttingFirst u) x c is e = side_off u.gains u x c Live Live is.holds.1.0.status is.holds.1.1.0.status (λ i. cc) (λ i. cc) e
-  squeeze_off level key got (squeeze.PuttingParent u) x c is e = off u.at.parent x u.parent c Live is.holds.0.status (λ i. cc) e
-  squeeze_off level key got (squeeze.PuttingLast u) x c is e = side_off (other u.gains) u x c (Left u.at.right) (Right u.at.left) is.holds.1.0.status is.holds.1.1.0.status (λ i. cc) (λ i. cc) e
-  squeeze_off level key got old x c is e = absurd (cc e)
+  compression_off : (level key : ℕ) (got : ℕ → Page) (a : Compression) (x : ℕ) (c : Page) → IsSure w p (know_compression level key got a) → compression_next a ≡ act.Put x c → x ≢ 0
+  compression_off level key got (compression.PuttingFirst u) x c is e = side_off u.gains u x c Live Live is.holds.1.0.status is.holds.1.1.0.status (λ i. cc) (λ i. cc) e
+  compression_off level key got (compression.PuttingParent u) x c is e = off u.at.parent x u.parent c Live is.holds.0.status (λ i. cc) e
+  compression_off level key got (compression.PuttingLast u) x c is e = side_off (other u.gains) u x c (Left u.at.right) (Right u.at.left) is.holds.1.0.status is.holds.1.1.0.status (λ i. cc) (λ i. cc) e
+  compression_off level key got old x c is e = absurd (cc e)
 
   compress_off : (level key : ℕ) (got : ℕ → Page) (a : CompressStage) (x : ℕ) (c : Page) → IsSure w p (know_compress level key got a) → compress_next_in a ≡ act.Put x c → x ≢ 0
-  compress_off level key got (compress.Compressing d) x c is e = squeeze_off level key got d x c is e
+  compress_off level key got (compress.Compressing d) x c is e = compression_off level key got d x c is e
   compress_off level key got (compress.Coming a) x c is e = absurd (approach_none a x c e)
   compress_off level key got old x c is e = absurd (cc e)
 

@@ -4,42 +4,42 @@ use Rattle.bl_model.specs.declared.deciding.KeyWrite.{KeyWrite}
 use Rattle.bl_page.specs.declared.page.Page.{Page}
 use Rattle.bl_page.specs.Machine.{Name}
 use Rattle.bl_page.specs.Nodes.{node_of}
-use Rattle.bl_core_tree.specs.Trees.Status.{Gone}
-use Rattle.bl_core.specs.Worlds.{World, IsGood}
+use Rattle.bl_tree.specs.Trees.Status.{Gone}
+use Rattle.bl_tree_worlds.specs.Worlds.{World, IsGood}
 use Rattle.bl_claims.specs.Trails.{Trail}
-use Rattle.bl_proc_base.specs.declared.acts.Action.TheVariants as act
-use Rattle.bl_proc_base.specs.declared.acts.Seen.TheVariants as seen
-use Rattle.bl_proc_base.specs.declared.approaching.Approach.{Approach}
-use Rattle.bl_proc_base.specs.declared.approaching.Approach.TheVariants as way
-use Rattle.bl_proc_base.specs.declared.approaching.Approached.TheVariants as came
-use Rattle.bl_proc_base.specs.declared.approaching.Came.{Came}
-use Rattle.bl_proc_base.specs.declared.approaching.Came.TheVariants as come
-use Rattle.bl_proc_base.specs.declared.growing.Growth.{Growth}
-use Rattle.bl_proc_base.specs.declared.growing.Growth.TheVariants as growth
-use Rattle.bl_proc_base.specs.declared.lowering.Lowering.{Lowering}
-use Rattle.bl_proc_base.specs.declared.lowering.Lowering.TheVariants as lowering
-use Rattle.bl_proc_base.specs.Approaches.{approach_next, Approaches, Comes}
-use Rattle.bl_proc_base.specs.Growths.{growth_next}
-use Rattle.bl_proc_base.specs.Lowerings.{lowering_next}
+use Rattle.bl_proc_steps.specs.declared.acts.Action.TheVariants as act
+use Rattle.bl_proc_steps.specs.declared.acts.Seen.TheVariants as seen
+use Rattle.bl_proc_steps.specs.declared.approach.Approach.{Approach}
+use Rattle.bl_proc_steps.specs.declared.approach.Approach.TheVariants as way
+use Rattle.bl_proc_steps.specs.declared.approach.Approached.TheVariants as came
+use Rattle.bl_proc_steps.specs.declared.approach.Came.{Came}
+use Rattle.bl_proc_steps.specs.declared.approach.Came.TheVariants as come
+use Rattle.bl_proc_steps.specs.declared.growth.Growth.{Growth}
+use Rattle.bl_proc_steps.specs.declared.growth.Growth.TheVariants as growth
+use Rattle.bl_proc_steps.specs.declared.lowering.Lowering.{Lowering}
+use Rattle.bl_proc_steps.specs.declared.lowering.Lowering.TheVariants as lowering
+use Rattle.bl_proc_steps.specs.Approaches.{approach_next, Approaches, Comes}
+use Rattle.bl_proc_steps.specs.Growths.{growth_next}
+use Rattle.bl_proc_steps.specs.Lowerings.{lowering_next}
 use Rattle.bl_rearrange.specs.declared.sides.Side.{Side}
 use Rattle.bl_rearrange.specs.declared.sides.Side.TheVariants as side
-use Rattle.bl_proc_compress.specs.declared.compressing.Puts.{Puts}
-use Rattle.bl_proc_compress.specs.declared.compressing.Compression.{Compression}
-use Rattle.bl_proc_compress.specs.declared.compressing.Compression.TheVariants as squeeze
-use Rattle.bl_proc_compress.specs.declared.squeezing.CompressStage.{CompressStage}
-use Rattle.bl_proc_compress.specs.declared.squeezing.CompressStage.TheVariants as compress
+use Rattle.bl_proc_compress.specs.declared.compression.Puts.{Puts}
+use Rattle.bl_proc_compress.specs.declared.compression.Compression.{Compression}
+use Rattle.bl_proc_compress.specs.declared.compression.Compression.TheVariants as compression
+use Rattle.bl_proc_compress.specs.declared.compress.CompressStage.{CompressStage}
+use Rattle.bl_proc_compress.specs.declared.compress.CompressStage.TheVariants as compress
 use Rattle.bl_proc_compress.specs.Compressions.{put_of, other, compression_next}
 use Rattle.bl_proc_compress.specs.Compresses.{CompressComes, CompressGoes, compress_next_in}
 use Rattle.bl_proc_writes.specs.declared.writing.WriteStage.{WriteStage}
 use Rattle.bl_proc_writes.specs.declared.writing.WriteStage.TheVariants as write
-use Rattle.bl_proc_writes.specs.declared.posting.PostStage.{PostStage}
-use Rattle.bl_proc_writes.specs.declared.posting.PostStage.TheVariants as post
+use Rattle.bl_proc_writes.specs.declared.post.PostStage.{PostStage}
+use Rattle.bl_proc_writes.specs.declared.post.PostStage.TheVariants as post
 use Rattle.bl_proc_writes.specs.declared.paths.Path.{Path}
-use Rattle.bl_proc_writes.specs.declared.climbing.ClimbStage.{ClimbStage}
-use Rattle.bl_proc_writes.specs.declared.climbing.ClimbStage.TheVariants as climb
+use Rattle.bl_proc_writes.specs.declared.insert_post.ClimbStage.{ClimbStage}
+use Rattle.bl_proc_writes.specs.declared.insert_post.ClimbStage.TheVariants as climb
 use Rattle.bl_proc_writes.specs.Writes.{write_next_in, WriteGoes}
 use Rattle.bl_proc_writes.specs.Posts.{post_next_in, PostComes, PostGoes}
-use Rattle.bl_proc_writes.specs.Climbs.{climb_next_in, ClimbGoes}
+use Rattle.bl_proc_writes.specs.InsertPosts.{climb_next_in, ClimbGoes}
 use Rattle.bl_proc.specs.declared.lowering.LowerStage.{LowerStage}
 use Rattle.bl_proc.specs.declared.lowering.LowerStage.TheVariants as lower
 use Rattle.bl_proc.specs.Lowers.{lower_next_in}
@@ -47,8 +47,8 @@ use Rattle.bl_proc.specs.declared.kinds.Proc.{Proc}
 use Rattle.bl_proc.specs.declared.kinds.Proc.TheVariants as proc
 use Rattle.bl_proc.specs.Processes.{next_of, Takes}
 use Rattle.bl_proc_invariant.specs.Lowering.{know_lowering}
-use Rattle.bl_proc_invariant.specs.Logs.{compress_log, squeeze_log, proc_log}
-use Rattle.bl_proc_invariant.specs.Compressing.{know_squeeze}
+use Rattle.bl_proc_invariant.specs.Logs.{compress_log, compression_log, proc_log}
+use Rattle.bl_proc_invariant.specs.Compressing.{know_compression}
 use Rattle.bl_proc_invariant.specs.Knowing.{Run, know_compress, know_lower, know_of, know}
 use Rattle.bl_proc_progress.proofs.Alone.{edit_never, find_looks, part_looks, reclaim_looks}
 use Rattle.bl_proc_progress.proofs.Below.{same_page}
@@ -154,18 +154,18 @@ module _ (w : World Run) (g : IsGood know w) (p : Name) (x : ℕ) (gone : w.stat
   posting_falls level key a b turns t e l = stage_falls w.now.contents x none post.Coming (posting_left w.size w.now.contents level key) key 20 turns a b (λ z n h. h) (λ z n h. h) (post_missed level key a b x not_anchor t e) l
 
   -- who holds a page latches a page of the tree
-  squeeze_never : (level key : ℕ) (got : ℕ → Page) (marks : Trail) (c : Compression) → know (w.proc p) ≡ know_squeeze level key got c → squeeze_log level key c marks → compression_next c ≡ act.Latch x → ⊥
-  squeeze_never level key got marks (squeeze.LatchingLeft f) is log e = live_not_gone w f.at.left (left_live w g p level key got f is log.siblings) (ap w.status (same_page f.at.left x e) ∙ gone)
-  squeeze_never level key got marks (squeeze.LatchingRight f c) is log e = live_not_gone w f.at.right (right_live w g p level key got f c is) (ap w.status (same_page f.at.right x e) ∙ gone)
-  squeeze_never level key got marks (squeeze.PuttingFirst u) is log e = put_never u.gains u x e
-  squeeze_never level key got marks (squeeze.PuttingLast u) is log e = put_never (other u.gains) u x e
-  squeeze_never level key got marks old is log e = absurd (cc e)
+  compression_never : (level key : ℕ) (got : ℕ → Page) (marks : Trail) (c : Compression) → know (w.proc p) ≡ know_compression level key got c → compression_log level key c marks → compression_next c ≡ act.Latch x → ⊥
+  compression_never level key got marks (compression.LatchingLeft f) is log e = live_not_gone w f.at.left (left_live w g p level key got f is log.siblings) (ap w.status (same_page f.at.left x e) ∙ gone)
+  compression_never level key got marks (compression.LatchingRight f c) is log e = live_not_gone w f.at.right (right_live w g p level key got f c is) (ap w.status (same_page f.at.right x e) ∙ gone)
+  compression_never level key got marks (compression.PuttingFirst u) is log e = put_never u.gains u x e
+  compression_never level key got marks (compression.PuttingLast u) is log e = put_never (other u.gains) u x e
+  compression_never level key got marks old is log e = absurd (cc e)
 
   compress_missed : (level key : ℕ) (does : _) (got : ℕ → Page) (marks : Trail) (a b : CompressStage) → know (w.proc p) ≡ know_compress level key got a → compress_log level key a marks → CompressGoes level key does a seen.Missed b → compress_next_in a ≡ act.Latch x → IsMissed compress.Coming a b x
   compress_missed level key does got marks (compress.Coming a) b is log t e =
       let m = no_count level key a t.0 x t.1 e in
       (ap compress.Coming m.2, subst (λ n. CompressComes key n b) m.1 t.2 ∙ ap compress.Coming m.3)
-  compress_missed level key does got marks (compress.Compressing c) b is log t e = absurd (squeeze_never level key got marks c is log e)
+  compress_missed level key does got marks (compress.Compressing c) b is log t e = absurd (compression_never level key got marks c is log e)
   compress_missed level key does got marks compress.New b is log t e = absurd (cc e)
   compress_missed level key does got marks (compress.Staying y) b is log t e = absurd (cc e)
   compress_missed level key does got marks (compress.Ending r) b is log t e = absurd (cc e)

@@ -2,17 +2,17 @@
 use Rattle.std.proofs.Common.{ℕ, ◌≡◌, ◌≢◌, ◌⊎◌, ◌+◌, ◌*◌, ◌<◌, ◌≤◌, Bool, arith, sym, ◌∙◌, refl, subst, inl, inr}
 use Rattle.bl_page.specs.declared.page.Page.{Page}
 use Rattle.bl_page.specs.Machine.{Name}
-use Rattle.bl_core_tree.specs.Trees.Status.{Gone}
-use Rattle.bl_core.specs.Worlds.{World, IsGood}
+use Rattle.bl_tree.specs.Trees.Status.{Gone}
+use Rattle.bl_tree_worlds.specs.Worlds.{World, IsGood}
 use Rattle.bl_claims.specs.Trails.{marks_of}
-use Rattle.bl_proc_base.specs.declared.acts.Action.TheVariants as act
-use Rattle.bl_proc_base.specs.declared.acts.Seen.{Seen}
-use Rattle.bl_proc_base.specs.declared.acts.Seen.TheVariants as seen
-use Rattle.bl_proc_compress.specs.declared.compressing.Compression.{Compression}
-use Rattle.bl_proc_compress.specs.declared.compressing.Compression.TheVariants as squeeze
-use Rattle.bl_proc_compress.specs.declared.compressing.Compressed.TheVariants as step
-use Rattle.bl_proc_compress.specs.declared.squeezing.CompressStage.{CompressStage}
-use Rattle.bl_proc_compress.specs.declared.squeezing.CompressStage.TheVariants as compress
+use Rattle.bl_proc_steps.specs.declared.acts.Action.TheVariants as act
+use Rattle.bl_proc_steps.specs.declared.acts.Seen.{Seen}
+use Rattle.bl_proc_steps.specs.declared.acts.Seen.TheVariants as seen
+use Rattle.bl_proc_compress.specs.declared.compression.Compression.{Compression}
+use Rattle.bl_proc_compress.specs.declared.compression.Compression.TheVariants as compression
+use Rattle.bl_proc_compress.specs.declared.compression.Compressed.TheVariants as step
+use Rattle.bl_proc_compress.specs.declared.compress.CompressStage.{CompressStage}
+use Rattle.bl_proc_compress.specs.declared.compress.CompressStage.TheVariants as compress
 use Rattle.bl_proc_compress.specs.Compressions.{Compresses}
 use Rattle.bl_proc_compress.specs.Compresses.{CompressGoes}
 use Rattle.bl_proc.specs.declared.reclaiming.ReclaimStage.{ReclaimStage}
@@ -20,18 +20,18 @@ use Rattle.bl_proc.specs.declared.reclaiming.ReclaimStage.TheVariants as reclaim
 use Rattle.bl_proc.specs.declared.kinds.Proc.{Proc}
 use Rattle.bl_proc.specs.declared.kinds.Proc.TheVariants as proc
 use Rattle.bl_proc.specs.Processes.{next_of, Takes}
-use Rattle.bl_proc_unique.proofs.KindCases.{post_case, climb_case, ReclaimCase, reclaim_case}
-use Rattle.bl_proc_unique.proofs.KindCases.ReclaimCase.{First, NoneThere, NotRetired, Further, NoMore, Blocked, Done, Missed}
+use Rattle.bl_proc_deterministic.proofs.KindCases.{post_case, climb_case, ReclaimCase, reclaim_case}
+use Rattle.bl_proc_deterministic.proofs.KindCases.ReclaimCase.{First, NoneThere, NotRetired, Further, NoMore, Blocked, Done, Missed}
 use Rattle.bl_proc_invariant.specs.Turns.{IsObserved}
 use Rattle.bl_proc_invariant.specs.Logs.{AllLogs}
 use Rattle.bl_proc_invariant.specs.Knowing.{Run, know_of, know}
-use Rattle.bl_proc_progress.specs.Holds.{squeeze_hold, compress_hold}
+use Rattle.bl_proc_progress.specs.Holds.{compression_hold, compress_hold}
 use Rattle.bl_proc_progress.proofs.Nearing.{after_hold}
-use Rattle.bl_proc_writes.specs.declared.posting.PostStage.{PostStage}
-use Rattle.bl_proc_writes.specs.declared.posting.PostStage.TheVariants as post
-use Rattle.bl_proc_writes.specs.declared.climbing.ClimbStage.{ClimbStage}
-use Rattle.bl_proc_writes.specs.declared.climbing.ClimbStage.TheVariants as climb
-use Rattle.bl_proc_ends.specs.Left.{most_turns, IsFound, IsStaying, IsPressing, IsClimbing, IsMeant, post_left, compress_left, posting_left, climb_left, TurnsLeft}
+use Rattle.bl_proc_writes.specs.declared.post.PostStage.{PostStage}
+use Rattle.bl_proc_writes.specs.declared.post.PostStage.TheVariants as post
+use Rattle.bl_proc_writes.specs.declared.insert_post.ClimbStage.{ClimbStage}
+use Rattle.bl_proc_writes.specs.declared.insert_post.ClimbStage.TheVariants as climb
+use Rattle.bl_proc_ends.specs.Left.{most_turns, IsFound, IsStaying, IsCompressing, IsClimbing, IsMeant, post_left, compress_left, posting_left, climb_left, TurnsLeft}
 use Rattle.bl_proc_ends.proofs.Few.{by_kind as few_by_kind}
 use Rattle.bl_proc_ends.proofs.Turning.{by_kind as fewer_by_kind}
 use Rattle.bl_proc_ends.proofs.Meaning.{post_kept, climb_kept, by_kind as meant_by_kind}
@@ -41,23 +41,23 @@ use Rattle.bl_proc_rest.proofs.Missing.{Falls, missed_falls}
 
 -- One that is not meant stays so for few turns.
 
-squeeze_falls : (waits : Bool) (c : Compression) (what : Seen) (d : Compression) → (¬ IsFound c) → Compresses waits c what (step.On d) → squeeze_hold d < squeeze_hold c
-squeeze_falls waits (squeeze.LatchingLeft f) what d n t = absurd (n tt)
-squeeze_falls waits (squeeze.LatchedLeft f) what d n t = absurd (n tt)
-squeeze_falls waits (squeeze.LatchingRight f c) what d n t = absurd (n tt)
-squeeze_falls waits (squeeze.LatchedRight f c) what d n t = absurd (n tt)
-squeeze_falls waits (squeeze.PuttingFirst p) seen.Done d n t = subst (λ v. squeeze_hold v < 6) (sym t) (omega arith)
-squeeze_falls waits (squeeze.PuttingFirst p) seen.Refused d n t = subst (λ v. squeeze_hold v < 6) (sym t) (omega arith)
-squeeze_falls waits (squeeze.PuttingParent p) seen.Done d n t = subst (λ v. squeeze_hold v < 5) (sym t) (omega arith)
-squeeze_falls waits (squeeze.PuttingLast p) seen.Done d n t = subst (λ v. squeeze_hold v < 4) (sym t) (after_hold p.at p.decision)
-squeeze_falls waits (squeeze.Retiring at e) seen.Done d n t = subst (λ v. squeeze_hold v < 3) (sym t) (omega arith)
-squeeze_falls waits (squeeze.OpeningRight at e) seen.Done d n t = subst (λ v. squeeze_hold v < 3) (sym t) (omega arith)
-squeeze_falls waits (squeeze.OpeningLeft at e) seen.Done d n t = subst (λ v. squeeze_hold v < 2) (sym t) (omega arith)
-squeeze_falls waits (squeeze.OpeningParent x e) seen.Done d n t = absurd t
-squeeze_falls waits c what d n t = absurd t
+compression_falls : (waits : Bool) (c : Compression) (what : Seen) (d : Compression) → (¬ IsFound c) → Compresses waits c what (step.On d) → compression_hold d < compression_hold c
+compression_falls waits (compression.LatchingLeft f) what d n t = absurd (n tt)
+compression_falls waits (compression.LatchedLeft f) what d n t = absurd (n tt)
+compression_falls waits (compression.LatchingRight f c) what d n t = absurd (n tt)
+compression_falls waits (compression.LatchedRight f c) what d n t = absurd (n tt)
+compression_falls waits (compression.PuttingFirst p) seen.Done d n t = subst (λ v. compression_hold v < 6) (sym t) (omega arith)
+compression_falls waits (compression.PuttingFirst p) seen.Refused d n t = subst (λ v. compression_hold v < 6) (sym t) (omega arith)
+compression_falls waits (compression.PuttingParent p) seen.Done d n t = subst (λ v. compression_hold v < 5) (sym t) (omega arith)
+compression_falls waits (compression.PuttingLast p) seen.Done d n t = subst (λ v. compression_hold v < 4) (sym t) (after_hold p.at p.decision)
+compression_falls waits (compression.Retiring at e) seen.Done d n t = subst (λ v. compression_hold v < 3) (sym t) (omega arith)
+compression_falls waits (compression.OpeningRight at e) seen.Done d n t = subst (λ v. compression_hold v < 3) (sym t) (omega arith)
+compression_falls waits (compression.OpeningLeft at e) seen.Done d n t = subst (λ v. compression_hold v < 2) (sym t) (omega arith)
+compression_falls waits (compression.OpeningParent x e) seen.Done d n t = absurd t
+compression_falls waits c what d n t = absurd t
 
-compress_falls : (level key : ℕ) (waits : Bool) (a : CompressStage) (what : Seen) (b : CompressStage) → (¬ IsPressing a) → (¬ IsPressing b) → CompressGoes level key waits a what b → compress_hold b < compress_hold a
-compress_falls level key waits (compress.Compressing c) what (compress.Compressing d) n m t = squeeze_falls waits c what d n t
+compress_falls : (level key : ℕ) (waits : Bool) (a : CompressStage) (what : Seen) (b : CompressStage) → (¬ IsCompressing a) → (¬ IsCompressing b) → CompressGoes level key waits a what b → compress_hold b < compress_hold a
+compress_falls level key waits (compress.Compressing c) what (compress.Compressing d) n m t = compression_falls waits c what d n t
 compress_falls level key waits compress.New what b n m t = absurd (n tt)
 compress_falls level key waits (compress.Coming a) what b n m t = absurd (n tt)
 compress_falls level key waits (compress.Staying x) what b n m t = absurd (n tt)
@@ -108,18 +108,18 @@ odd_falls count (proc.Compress a) (proc.Compress b) what n m t is = compress_fal
 odd_falls count (proc.Reclaim a) (proc.Reclaim b) what n m t is = reclaim_falls count (reclaim_case a.stage what b.stage t.1) is
 odd_falls count old new what n m t is = absurd t
 
-squeeze_few : (c : Compression) → squeeze_hold c ≤ 11
-squeeze_few (squeeze.LatchingLeft f) = omega arith
-squeeze_few (squeeze.LatchedLeft f) = omega arith
-squeeze_few (squeeze.LatchingRight f c) = omega arith
-squeeze_few (squeeze.LatchedRight f c) = omega arith
-squeeze_few (squeeze.PuttingFirst p) = omega arith
-squeeze_few (squeeze.PuttingParent p) = omega arith
-squeeze_few (squeeze.PuttingLast p) = omega arith
-squeeze_few (squeeze.Retiring at e) = omega arith
-squeeze_few (squeeze.OpeningRight at e) = omega arith
-squeeze_few (squeeze.OpeningLeft at e) = omega arith
-squeeze_few (squeeze.OpeningParent x e) = omega arith
+compression_few : (c : Compression) → compression_hold c ≤ 11
+compression_few (compression.LatchingLeft f) = omega arith
+compression_few (compression.LatchedLeft f) = omega arith
+compression_few (compression.LatchingRight f c) = omega arith
+compression_few (compression.LatchedRight f c) = omega arith
+compression_few (compression.PuttingFirst p) = omega arith
+compression_few (compression.PuttingParent p) = omega arith
+compression_few (compression.PuttingLast p) = omega arith
+compression_few (compression.Retiring at e) = omega arith
+compression_few (compression.OpeningRight at e) = omega arith
+compression_few (compression.OpeningLeft at e) = omega arith
+compression_few (compression.OpeningParent x e) = omega arith
 
 reclaim_few : (count : ℕ) (a : ReclaimStage) → IsCountedIn count a → reclaim_left count a ≤ count + 2
 reclaim_few count reclaim.Seeing h = omega arith
@@ -127,16 +127,16 @@ reclaim_few count (reclaim.Looking r) h = omega (arith, h)
 reclaim_few count reclaim.Releasing h = omega arith
 reclaim_few count (reclaim.Over what) h = omega arith
 
-press_few : (a : CompressStage) → (¬ IsPressing a) → compress_hold a ≤ 11
-press_few (compress.Compressing c) n = squeeze_few c
-press_few compress.New n = absurd (n tt)
-press_few (compress.Coming a) n = absurd (n tt)
-press_few (compress.Staying x) n = absurd (n tt)
-press_few (compress.Ending r) n = absurd (n tt)
-press_few (compress.Over r) n = absurd (n tt)
+compressing_few : (a : CompressStage) → (¬ IsCompressing a) → compress_hold a ≤ 11
+compressing_few (compress.Compressing c) n = compression_few c
+compressing_few compress.New n = absurd (n tt)
+compressing_few (compress.Coming a) n = absurd (n tt)
+compressing_few (compress.Staying x) n = absurd (n tt)
+compressing_few (compress.Ending r) n = absurd (n tt)
+compressing_few (compress.Over r) n = absurd (n tt)
 
 odd_few : (count : ℕ) (p : Proc) → (¬ IsMeant (patient p)) → IsCounted count p → odd_left count p ≤ count + 13
-odd_few count (proc.Compress a) n h = (let few = press_few a.stage (λ k. n (refl, k)) in omega (arith, few))
+odd_few count (proc.Compress a) n h = (let few = compressing_few a.stage (λ k. n (refl, k)) in omega (arith, few))
 odd_few count (proc.Reclaim a) n h = (let few = reclaim_few count a.stage h in omega (arith, few))
 odd_few count (proc.Find a) n h = omega arith
 odd_few count (proc.Part a) n h = omega arith
@@ -170,9 +170,9 @@ posting_meant : (size : ℕ) (contents : ℕ → Page) (level key : ℕ) (a : Po
 posting_meant size contents level key (post.Staying x r) n l = l.0
 posting_meant size contents level key a n l = tt
 
-press_meant : (size : ℕ) (contents : ℕ → Page) (key : ℕ) (a : CompressStage) (n : ℕ) → compress_left size contents key a n → IsPressing a
-press_meant size contents key (compress.Compressing c) n l = l.0
-press_meant size contents key a n l = tt
+compress_meant : (size : ℕ) (contents : ℕ → Page) (key : ℕ) (a : CompressStage) (n : ℕ) → compress_left size contents key a n → IsCompressing a
+compress_meant size contents key (compress.Compressing c) n l = l.0
+compress_meant size contents key a n l = tt
 
 climb_meant : (size : ℕ) (contents : ℕ → Page) (a : ClimbStage) (n : ℕ) → climb_left size contents a n → IsClimbing a
 climb_meant size contents (climb.Posting p) n l = posting_meant size contents p.level p.key p.stage n l
@@ -183,7 +183,7 @@ left_meant size contents (proc.Find p) n l = tt
 left_meant size contents (proc.Write p) n l = tt
 left_meant size contents (proc.Post p) n l = post_meant size contents p.level p.key p.stage n l
 left_meant size contents (proc.Part p) n l = tt
-left_meant size contents (proc.Compress p) n l = (l.0, press_meant size contents p.key p.stage n l.1)
+left_meant size contents (proc.Compress p) n l = (l.0, compress_meant size contents p.key p.stage n l.1)
 left_meant size contents (proc.Reclaim p) n l = l
 left_meant size contents (proc.Lower p) n l = tt
 left_meant size contents (proc.InsertPost p) n l = climb_meant size contents p.stage n l

@@ -3,11 +3,11 @@
 ghost use Rattle.std.specs.Prelude.{◌≡◌, ◌≢◌, ◌⊎◌, ℕ, ◌+◌, ◌<◌, ◌≤◌};
 ghost use Rattle.bl_page.specs.declared.page.Page.{Page as PageSpec};
 ghost use Rattle.bl_page.specs.Machine.{Name};
-ghost use Rattle.bl_core_tree.specs.Trees.Status.{Gone};
-ghost use Rattle.bl_core.specs.Worlds.{World, IsGood};
-ghost use Rattle.bl_proc_base.specs.declared.acts.Action.TheVariants as act;
-ghost use Rattle.bl_proc_base.specs.declared.acts.Seen.{Seen as SeenSpec};
-ghost use Rattle.bl_proc_base.specs.declared.acts.Seen.TheVariants as seen;
+ghost use Rattle.bl_tree.specs.Trees.Status.{Gone};
+ghost use Rattle.bl_tree_worlds.specs.Worlds.{World, IsGood};
+ghost use Rattle.bl_proc_steps.specs.declared.acts.Action.TheVariants as act;
+ghost use Rattle.bl_proc_steps.specs.declared.acts.Seen.{Seen as SeenSpec};
+ghost use Rattle.bl_proc_steps.specs.declared.acts.Seen.TheVariants as seen;
 ghost use Rattle.bl_proc.specs.declared.kinds.Proc.{Proc as ProcSpec};
 ghost use Rattle.bl_proc.specs.Processes.{next_of, Takes};
 ghost use Rattle.bl_proc_invariant.specs.Turns.{IsObserved};

@@ -2,12 +2,12 @@
 use Rattle.std.specs.Prelude.{ℕ}
 use Rattle.bl_model.specs.declared.deciding.KeyWrite.{KeyWrite}
 use Rattle.bl_page.specs.declared.page.Page.{Page}
-use Rattle.bl_proc_base.specs.declared.acts.Seen.{Seen}
-use Rattle.bl_proc_base.specs.declared.approaching.Approach.{Approach}
-use Rattle.bl_proc_base.specs.declared.approaching.Approached.TheVariants as came
+use Rattle.bl_proc_steps.specs.declared.acts.Seen.{Seen}
+use Rattle.bl_proc_steps.specs.declared.approach.Approach.{Approach}
+use Rattle.bl_proc_steps.specs.declared.approach.Approached.TheVariants as came
 use Rattle.bl_proc_writes.specs.declared.writing.WriteStage.{WriteStage}
 use Rattle.bl_proc_writes.specs.declared.writing.WriteStage.TheVariants.{New, Coming, Keeping, Editing, Ending, Over}
-use Rattle.bl_proc_base.specs.Approaches.{Approaches}
+use Rattle.bl_proc_steps.specs.Approaches.{Approaches}
 use Rattle.bl_proc_writes.specs.Writes.{WriteArrives, WriteGoes}
 
 pub write_arrives : (key : ℕ) (write : KeyWrite) (a : Approach) (what : Seen) (x : ℕ) (c : Page) (new : WriteStage) → Approaches 0 key a what (came.Here x c) → WriteArrives key write x c new → WriteGoes key write (Coming a) what new

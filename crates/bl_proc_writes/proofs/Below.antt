@@ -3,20 +3,20 @@ use Rattle.std.proofs.Common.{ℕ, ◌≡◌, ◌<◌, sym, subst, arith}
 use Rattle.bl_page.specs.declared.page.Page.{Page}
 use Rattle.bl_page.specs.declared.page.Page.TheVariants.{Inner as InnerPage}
 use Rattle.bl_page.specs.declared.page.Inner.{Inner}
-use Rattle.bl_proc_base.specs.declared.acts.Seen.{Seen}
-use Rattle.bl_proc_base.specs.declared.acts.Seen.TheVariants as seen
-use Rattle.bl_proc_base.specs.declared.approaching.Approach.{Approach}
-use Rattle.bl_proc_base.specs.declared.approaching.Came.{Came}
-use Rattle.bl_proc_base.specs.declared.approaching.Came.TheVariants as come
-use Rattle.bl_proc_base.specs.declared.editing.Outcome.{Outcome}
-use Rattle.bl_proc_base.specs.declared.editing.Outcome.TheVariants as outcome
-use Rattle.bl_proc_base.specs.declared.growing.Growth.TheVariants as growth
-use Rattle.bl_proc_base.specs.Approaches.{Comes}
-use Rattle.bl_proc_base.proofs.Ways.{here_leads}
+use Rattle.bl_proc_steps.specs.declared.acts.Seen.{Seen}
+use Rattle.bl_proc_steps.specs.declared.acts.Seen.TheVariants as seen
+use Rattle.bl_proc_steps.specs.declared.approach.Approach.{Approach}
+use Rattle.bl_proc_steps.specs.declared.approach.Came.{Came}
+use Rattle.bl_proc_steps.specs.declared.approach.Came.TheVariants as come
+use Rattle.bl_proc_steps.specs.declared.edit.Outcome.{Outcome}
+use Rattle.bl_proc_steps.specs.declared.edit.Outcome.TheVariants as outcome
+use Rattle.bl_proc_steps.specs.declared.growth.Growth.TheVariants as growth
+use Rattle.bl_proc_steps.specs.Approaches.{Comes}
+use Rattle.bl_proc_steps.proofs.Ways.{here_leads}
 use Rattle.bl_proc_writes.specs.declared.walking.Walk.{Walk}
-use Rattle.bl_proc_writes.specs.declared.posting.PostStage.{PostStage}
-use Rattle.bl_proc_writes.specs.declared.posting.PostStage.TheVariants.{New, Coming, Growing, Walking, Editing, Staying, Ending, Over}
-use Rattle.bl_proc_writes.specs.declared.posting.PostReply.TheVariants as reply
+use Rattle.bl_proc_writes.specs.declared.post.PostStage.{PostStage}
+use Rattle.bl_proc_writes.specs.declared.post.PostStage.TheVariants.{New, Coming, Growing, Walking, Editing, Staying, Ending, Over}
+use Rattle.bl_proc_writes.specs.declared.post.PostReply.TheVariants as reply
 use Rattle.bl_proc_writes.specs.Levels.{MayReply, IsBelowTop}
 use Rattle.bl_proc_writes.specs.Posts.{post_reply, PostLacks, PostArrives, PostWalks, PostComes, PostGoes}
 

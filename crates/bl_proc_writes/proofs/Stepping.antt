@@ -1,17 +1,17 @@
 -- A write that posts stands where it may after each turn.
 use Rattle.std.proofs.Common.{ℕ, sym, subst, ◌∙◌, inl, inr}
 use Rattle.bl_model.specs.declared.deciding.KeyWrite.{KeyWrite}
-use Rattle.bl_proc_base.specs.declared.acts.Seen.{Seen}
-use Rattle.bl_proc_base.specs.declared.acts.Seen.TheVariants as seen
+use Rattle.bl_proc_steps.specs.declared.acts.Seen.{Seen}
+use Rattle.bl_proc_steps.specs.declared.acts.Seen.TheVariants as seen
 use Rattle.bl_proc_writes.specs.declared.paths.Path.{Path}
 use Rattle.bl_proc_writes.specs.declared.writing.WriteStage.{WriteStage}
 use Rattle.bl_proc_writes.specs.declared.writing.WriteStage.TheVariants as write
-use Rattle.bl_proc_writes.specs.declared.climbing.Placing.{Placing}
-use Rattle.bl_proc_writes.specs.declared.climbing.ClimbStage.{ClimbStage}
-use Rattle.bl_proc_writes.specs.declared.climbing.ClimbStage.TheVariants.{Writing, Posting, Ending, Over}
+use Rattle.bl_proc_writes.specs.declared.insert_post.Placing.{Placing}
+use Rattle.bl_proc_writes.specs.declared.insert_post.ClimbStage.{ClimbStage}
+use Rattle.bl_proc_writes.specs.declared.insert_post.ClimbStage.TheVariants.{Writing, Posting, Ending, Over}
 use Rattle.bl_proc_writes.specs.Stands.{IsPosting, BeginsBlank, Stands}
 use Rattle.bl_proc_writes.specs.Writes.{WriteGoes}
-use Rattle.bl_proc_writes.specs.Climbs.{ClimbGoes}
+use Rattle.bl_proc_writes.specs.InsertPosts.{ClimbGoes}
 
 -- no write is to begin after a turn
 pub begun : (path : Path) (key : ℕ) (does : KeyWrite) (a : WriteStage) (what : Seen) (b : WriteStage) → WriteGoes key does a what b → BeginsBlank path b

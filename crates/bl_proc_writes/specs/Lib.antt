@@ -4,4 +4,4 @@ pub mod Posts
 pub mod Paths
 pub mod Placings
 pub mod Stands
-pub mod Climbs
+pub mod InsertPosts

@@ -2,13 +2,13 @@
 use Rattle.std.specs.Prelude.{◌≡◌, ℕ, zero, suc, ◌-◌, slice_index, slice_set}
 use Rattle.bl_page.specs.declared.page.Page.{Page}
 use Rattle.bl_page.specs.Nodes.{node_of}
-use Rattle.bl_proc_base.specs.declared.acts.Seen.{Seen}
-use Rattle.bl_proc_base.specs.declared.acts.Seen.TheVariants as seen
-use Rattle.bl_proc_pages.specs.declared.onwards.Step.{Step}
-use Rattle.bl_proc_pages.specs.declared.onwards.Step.TheVariants.{Down}
-use Rattle.bl_proc_base.specs.declared.approaching.Approach.{Approach}
-use Rattle.bl_proc_base.specs.declared.approaching.Approach.TheVariants.{Start, At, Latching}
-use Rattle.bl_proc_pages.specs.Onwards.{Leads}
+use Rattle.bl_proc_steps.specs.declared.acts.Seen.{Seen}
+use Rattle.bl_proc_steps.specs.declared.acts.Seen.TheVariants as seen
+use Rattle.bl_proc_routes.specs.declared.routes.Step.{Step}
+use Rattle.bl_proc_routes.specs.declared.routes.Step.TheVariants.{Down}
+use Rattle.bl_proc_steps.specs.declared.approach.Approach.{Approach}
+use Rattle.bl_proc_steps.specs.declared.approach.Approach.TheVariants.{Start, At, Latching}
+use Rattle.bl_proc_routes.specs.Routes.{Leads}
 use Rattle.bl_proc_writes.specs.declared.paths.Path.{Path}
 
 -- the page that is noted for a level above the leaves, 0 for none

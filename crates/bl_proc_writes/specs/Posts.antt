@@ -4,33 +4,33 @@ use Rattle.bl_page.specs.declared.page.Page.{Page}
 use Rattle.bl_page.specs.declared.page.Page.TheVariants.{Inner as InnerPage}
 use Rattle.bl_page.specs.declared.page.Inner.{Inner}
 use Rattle.bl_page.specs.Nodes.{node_of, IsChildOf}
-use Rattle.bl_proc_base.specs.declared.acts.Action.{Action}
-use Rattle.bl_proc_base.specs.declared.acts.Action.TheVariants as act
-use Rattle.bl_proc_base.specs.declared.acts.Seen.{Seen}
-use Rattle.bl_proc_base.specs.declared.acts.Seen.TheVariants as seen
-use Rattle.bl_proc_base.specs.declared.answers.Answer.{Answer}
-use Rattle.bl_proc_base.specs.declared.answers.Answer.TheVariants as answer
-use Rattle.bl_proc_base.specs.declared.answers.Posted.TheVariants as posted
-use Rattle.bl_proc_pages.specs.declared.onwards.Step.{Step}
-use Rattle.bl_proc_pages.specs.declared.onwards.Step.TheVariants.{Again, Right, Down, Here}
-use Rattle.bl_proc_base.specs.declared.approaching.Approach.TheVariants.{Start, Leaving}
-use Rattle.bl_proc_base.specs.declared.approaching.Came.{Came}
-use Rattle.bl_proc_base.specs.declared.approaching.Came.TheVariants as come
-use Rattle.bl_proc_base.specs.declared.editing.Outcome.{Outcome}
-use Rattle.bl_proc_base.specs.declared.editing.Outcome.TheVariants as outcome
-use Rattle.bl_proc_base.specs.declared.editing.Edited.TheVariants as edit
-use Rattle.bl_proc_base.specs.declared.growing.Growth.TheVariants as growth
-use Rattle.bl_proc_base.specs.declared.growing.Grew.TheVariants as grew
+use Rattle.bl_proc_steps.specs.declared.acts.Action.{Action}
+use Rattle.bl_proc_steps.specs.declared.acts.Action.TheVariants as act
+use Rattle.bl_proc_steps.specs.declared.acts.Seen.{Seen}
+use Rattle.bl_proc_steps.specs.declared.acts.Seen.TheVariants as seen
+use Rattle.bl_proc_steps.specs.declared.answers.Answer.{Answer}
+use Rattle.bl_proc_steps.specs.declared.answers.Answer.TheVariants as answer
+use Rattle.bl_proc_steps.specs.declared.answers.Posted.TheVariants as posted
+use Rattle.bl_proc_routes.specs.declared.routes.Step.{Step}
+use Rattle.bl_proc_routes.specs.declared.routes.Step.TheVariants.{Again, Right, Down, Here}
+use Rattle.bl_proc_steps.specs.declared.approach.Approach.TheVariants.{Start, Leaving}
+use Rattle.bl_proc_steps.specs.declared.approach.Came.{Came}
+use Rattle.bl_proc_steps.specs.declared.approach.Came.TheVariants as come
+use Rattle.bl_proc_steps.specs.declared.edit.Outcome.{Outcome}
+use Rattle.bl_proc_steps.specs.declared.edit.Outcome.TheVariants as outcome
+use Rattle.bl_proc_steps.specs.declared.edit.Edited.TheVariants as edit
+use Rattle.bl_proc_steps.specs.declared.growth.Growth.TheVariants as growth
+use Rattle.bl_proc_steps.specs.declared.growth.Grew.TheVariants as grew
 use Rattle.bl_proc_writes.specs.declared.walking.Walk.{Walk}
-use Rattle.bl_proc_writes.specs.declared.posting.Post.{Post}
-use Rattle.bl_proc_writes.specs.declared.posting.PostStage.{PostStage}
-use Rattle.bl_proc_writes.specs.declared.posting.PostStage.TheVariants.{New, Coming, Growing, Walking, Editing, Staying, Ending, Over}
-use Rattle.bl_proc_writes.specs.declared.posting.PostReply.{PostReply}
-use Rattle.bl_proc_writes.specs.declared.posting.PostReply.TheVariants as reply
-use Rattle.bl_proc_pages.specs.Onwards.{Leads}
-use Rattle.bl_proc_base.specs.Approaches.{approach_next, Comes}
-use Rattle.bl_proc_base.specs.Edits.{edit_next, edit_needs, EntersPair, Changes}
-use Rattle.bl_proc_base.specs.Growths.{growth_next, growth_needs, Grows}
+use Rattle.bl_proc_writes.specs.declared.post.Post.{Post}
+use Rattle.bl_proc_writes.specs.declared.post.PostStage.{PostStage}
+use Rattle.bl_proc_writes.specs.declared.post.PostStage.TheVariants.{New, Coming, Growing, Walking, Editing, Staying, Ending, Over}
+use Rattle.bl_proc_writes.specs.declared.post.PostReply.{PostReply}
+use Rattle.bl_proc_writes.specs.declared.post.PostReply.TheVariants as reply
+use Rattle.bl_proc_routes.specs.Routes.{Leads}
+use Rattle.bl_proc_steps.specs.Approaches.{approach_next, Comes}
+use Rattle.bl_proc_steps.specs.Edits.{edit_next, edit_needs, EntersPair, Changes}
+use Rattle.bl_proc_steps.specs.Growths.{growth_next, growth_needs, Grows}
 use Rattle.bl_proc_writes.specs.Writes.{post_hint}
 
 -- what a post answers when its parent is open again

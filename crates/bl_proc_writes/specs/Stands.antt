@@ -5,14 +5,14 @@ use Rattle.std.proofs.Props.{props}
 use Rattle.bl_proc_writes.specs.declared.paths.Path.{Path}
 use Rattle.bl_proc_writes.specs.Paths.{IsBlank}
 use Rattle.bl_proc_writes.specs.Placings.{write_of}
-use Rattle.bl_proc_writes.specs.declared.climbing.Placing.{Placing}
-use Rattle.bl_proc_writes.specs.declared.posting.PostStage.{PostStage}
-use Rattle.bl_proc_writes.specs.declared.posting.PostStage.TheVariants as post
+use Rattle.bl_proc_writes.specs.declared.insert_post.Placing.{Placing}
+use Rattle.bl_proc_writes.specs.declared.post.PostStage.{PostStage}
+use Rattle.bl_proc_writes.specs.declared.post.PostStage.TheVariants as post
 use Rattle.bl_proc_writes.specs.declared.writing.Write.{Write}
 use Rattle.bl_proc_writes.specs.declared.writing.WriteStage.{WriteStage}
 use Rattle.bl_proc_writes.specs.declared.writing.WriteStage.TheVariants as write
-use Rattle.bl_proc_writes.specs.declared.climbing.ClimbStage.{ClimbStage}
-use Rattle.bl_proc_writes.specs.declared.climbing.ClimbStage.TheVariants.{Writing, Posting, Ending, Over}
+use Rattle.bl_proc_writes.specs.declared.insert_post.ClimbStage.{ClimbStage}
+use Rattle.bl_proc_writes.specs.declared.insert_post.ClimbStage.TheVariants.{Writing, Posting, Ending, Over}
 
 abbrev pub IsWriting : WriteStage → Type 0
 IsWriting write.New = Unit {0}

@@ -7,30 +7,30 @@ use Rattle.bl_model.specs.declared.deciding.Effect.TheVariants.{Keep, Enter, Rem
 use Rattle.bl_model.specs.Writes.{effect_of, replied}
 use Rattle.bl_page.specs.declared.page.Page.{Page}
 use Rattle.bl_page.specs.Nodes.{node_of}
-use Rattle.bl_proc_base.specs.declared.acts.Action.{Action}
-use Rattle.bl_proc_base.specs.declared.acts.Action.TheVariants as act
-use Rattle.bl_proc_base.specs.declared.acts.Seen.{Seen}
-use Rattle.bl_proc_base.specs.declared.acts.Seen.TheVariants as seen
-use Rattle.bl_proc_base.specs.declared.answers.Answer.{Answer}
-use Rattle.bl_proc_base.specs.declared.answers.Answer.TheVariants.{Op}
-use Rattle.bl_proc_base.specs.declared.answers.Hint.{Hint}
-use Rattle.bl_proc_base.specs.declared.answers.Hint.TheVariants as hint
-use Rattle.bl_proc_base.specs.declared.approaching.Approach.TheVariants.{Start}
-use Rattle.bl_proc_base.specs.declared.approaching.Approached.TheVariants as came
-use Rattle.bl_proc_base.specs.declared.editing.Outcome.{Outcome}
-use Rattle.bl_proc_base.specs.declared.editing.Outcome.TheVariants as outcome
-use Rattle.bl_proc_base.specs.declared.editing.Edit.{Edit}
-use Rattle.bl_proc_base.specs.declared.editing.Edit.TheVariants as edit
-use Rattle.bl_proc_base.specs.declared.editing.Edited.TheVariants as changed
+use Rattle.bl_proc_steps.specs.declared.acts.Action.{Action}
+use Rattle.bl_proc_steps.specs.declared.acts.Action.TheVariants as act
+use Rattle.bl_proc_steps.specs.declared.acts.Seen.{Seen}
+use Rattle.bl_proc_steps.specs.declared.acts.Seen.TheVariants as seen
+use Rattle.bl_proc_steps.specs.declared.answers.Answer.{Answer}
+use Rattle.bl_proc_steps.specs.declared.answers.Answer.TheVariants.{Op}
+use Rattle.bl_proc_steps.specs.declared.answers.Hint.{Hint}
+use Rattle.bl_proc_steps.specs.declared.answers.Hint.TheVariants as hint
+use Rattle.bl_proc_steps.specs.declared.approach.Approach.TheVariants.{Start}
+use Rattle.bl_proc_steps.specs.declared.approach.Approached.TheVariants as came
+use Rattle.bl_proc_steps.specs.declared.edit.Outcome.{Outcome}
+use Rattle.bl_proc_steps.specs.declared.edit.Outcome.TheVariants as outcome
+use Rattle.bl_proc_steps.specs.declared.edit.Edit.{Edit}
+use Rattle.bl_proc_steps.specs.declared.edit.Edit.TheVariants as edit
+use Rattle.bl_proc_steps.specs.declared.edit.Edited.TheVariants as changed
 use Rattle.bl_proc_writes.specs.declared.writing.Noted.{Noted}
 use Rattle.bl_proc_writes.specs.declared.writing.Write.{Write}
 use Rattle.bl_proc_writes.specs.declared.writing.WriteStage.{WriteStage}
 use Rattle.bl_proc_writes.specs.declared.writing.WriteStage.TheVariants.{New, Coming, Keeping, Editing, Ending, Over}
 use Rattle.bl_proc_writes.specs.declared.writing.WriteReply.{WriteReply}
 use Rattle.bl_proc_writes.specs.declared.writing.WriteReply.TheVariants.{Done, NoRoom}
-use Rattle.bl_proc_base.specs.Thin.{thin_low, thin_hint}
-use Rattle.bl_proc_base.specs.Approaches.{approach_next, Approaches}
-use Rattle.bl_proc_base.specs.Edits.{edit_next, edit_needs, EntersPair, DropsPair, GivesValue, Changes}
+use Rattle.bl_proc_steps.specs.Thin.{thin_low, thin_hint}
+use Rattle.bl_proc_steps.specs.Approaches.{approach_next, Approaches}
+use Rattle.bl_proc_steps.specs.Edits.{edit_next, edit_needs, EntersPair, DropsPair, GivesValue, Changes}
 
 -- the hint to list a page one level above its own
 abbrev pub post_hint : ℕ → Option ℕ → Option Hint

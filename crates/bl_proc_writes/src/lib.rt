@@ -6,16 +6,16 @@
 //! Sagiv, "Concurrent operations on B*-trees with overtaking" (JCSS 33, 1986). Nothing is allocated.
 #![tactic(auto)]
 
-mod climbing;
-mod climbs;
+mod insert_post;
+mod insert_post_steps;
 mod paths;
-mod posting;
-mod posts;
+mod post;
+mod post_steps;
 mod walking;
 mod writing;
 
-pub use climbing::{ClimbStage, Climbed, InsertPost, Placing};
+pub use insert_post::{ClimbStage, Climbed, InsertPost, Placing};
 pub use paths::Path;
-pub use posting::{Post, PostReply, PostStage};
+pub use post::{Post, PostReply, PostStage};
 pub use walking::Walk;
 pub use writing::{Noted, Write, WriteReply, WriteStage};

@@ -1,13 +1,13 @@
 //! The pages by which a process has come down.
 
 ghost use Rattle.std.specs.Prelude.{◌≡◌, ◌<◌, ◌≤◌};
-ghost use Rattle.bl_proc_base.specs.declared.acts.Seen.TheVariants as seen;
-ghost use Rattle.bl_proc_base.specs.declared.approaching.Approach.TheVariants as approach;
+ghost use Rattle.bl_proc_steps.specs.declared.acts.Seen.TheVariants as seen;
+ghost use Rattle.bl_proc_steps.specs.declared.approach.Approach.TheVariants as approach;
 ghost use Rattle.bl_proc_writes.specs.Paths.{page_at, noted, from_page, IsBlank, Notes};
 
 use bl_page::Page;
-use bl_proc_base::{Approach, Seen};
-use bl_proc_pages::{Step, level_of, way_from};
+use bl_proc_routes::{Step, level_of, way_from};
+use bl_proc_steps::{Approach, Seen};
 
 /// The page from which a process last went down, for each level above the leaves.
 #[derive(Drop)]

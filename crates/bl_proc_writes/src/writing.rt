@@ -1,21 +1,21 @@
 //! The write of one key: an insertion, a deletion or a change.
 
 ghost use Rattle.std.specs.Prelude.{◌≡◌, None, Some};
-ghost use Rattle.bl_proc_base.specs.declared.editing.Edit.{Edit};
-ghost use Rattle.bl_proc_pages.specs.declared.onwards.Step.TheVariants as onward;
-ghost use Rattle.bl_proc_base.specs.Given.{Gives};
-ghost use Rattle.bl_proc_pages.specs.Onwards.{Leads};
+ghost use Rattle.bl_proc_steps.specs.declared.edit.Edit.{Edit};
+ghost use Rattle.bl_proc_routes.specs.declared.routes.Step.TheVariants as onward;
+ghost use Rattle.bl_proc_steps.specs.Given.{Gives};
+ghost use Rattle.bl_proc_routes.specs.Routes.{Leads};
 ghost use Rattle.bl_proc_writes.specs.declared.writing.Noted.{Noted};
 ghost use Rattle.bl_proc_writes.specs.declared.writing.WriteStage.TheVariants as write_stage;
 ghost use Rattle.bl_proc_writes.specs.Writes.{post_hint, thin_after, write_reply, write_answer, write_next_in, write_needs_in, WriteArrives, write_next_of, write_needs_of, write_answer_of, WriteTakes};
 
 use bl_model::{Effect, KeyWrite, Reply, decide};
 use bl_page::Page;
-use bl_proc_base::{
+use bl_proc_routes::listed;
+use bl_proc_steps::{
     Action, Answer, Approach, Approached, Edit, Edited, Hint, Level, Outcome, Process, Seen,
     dropping, entering, hint_of_thin, replacing, thin_low,
 };
-use bl_proc_pages::listed;
 use std::mem;
 
 /// The write of one key.

@@ -18,8 +18,8 @@ use bl_page::{Inner, Leaf, Page};
 pub enum Fitted {
     /// The pair has room.
     Fits(Page),
-    /// The page was full: its lower part, its upper part for the new page, and the separator, the first key of the
-    /// upper part.
+    /// The page was full: its lower half, its upper half for the new page, and the separator, the first key of the
+    /// upper half.
     Split(Page, Page, u64),
 }
 
@@ -116,8 +116,8 @@ fn inner_with(inner: Inner, key: u64, child: u64, new_page: u32) -> Fitted
     )
 }
 
-/// The page with a pair more: a row of a leaf, or a child of an inner page. Where it is full, its upper part is for the
-/// page `new_page`, to which the lower part links.
+/// The page with a pair more: a row of a leaf, or a child of an inner page. Where it is full, its upper half is for the
+/// page `new_page`, to which the lower half links.
 pub fn with_pair(page: Page, key: u64, word: u64, new_page: u32) -> Fitted
     requires covers { Covers page key }
     requires absent { map_of (pairs_of page) key ≡ None }

@@ -55,11 +55,11 @@ fn split(pairs: &[(u64, u64)], key: u64, word: u64) -> (Pairs, Pairs)
     }
 }
 
-/// The two parts of what does not fit into one page.
+/// The two halves of what does not fit into one page.
 pub struct Halves {
     pub lower: Pairs,
     pub upper: Pairs,
-    /// The first key of the upper part.
+    /// The first key of the upper half.
     pub separator: u64,
 }
 

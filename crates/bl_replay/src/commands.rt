@@ -9,7 +9,7 @@ ghost use Rattle.bl_world.specs.Turns.{IsStarted};
 ghost use Rattle.bl_world.specs.WorldSteps.{MayStart as MayBegin};
 ghost use Rattle.bl_replay.specs.declared.fault.ReplayFault.TheVariants as fault;
 ghost use Rattle.bl_model.specs.Writes.{IsRead};
-ghost use Rattle.bl_proc_base.specs.declared.acts.Action.TheVariants as act;
+ghost use Rattle.bl_proc_steps.specs.declared.acts.Action.TheVariants as act;
 ghost use Rattle.bl_proc.specs.Processes.{next_of};
 ghost use Rattle.bl_replay.specs.Plays.{Prints, PrintsChosen, PrintsTurns, PrintsSettling, Reads, Carries, IsStart, Does, all_kinds};
 ghost use Rattle.bl_replay.specs.Emits.{Emits, Partly};

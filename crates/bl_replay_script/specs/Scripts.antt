@@ -49,7 +49,7 @@ pub data IsBadAt (kinds : Kinds) (bytes : List ℕ) (at_end : Type 0) : ℕ → 
       → BeginsBadly (IsNext kinds pages (started_by commands)) left at_end → IsBadAt kinds bytes at_end (length commands + 2)
 
 -- Why bytes gave no script: that line is bad, or the reader has failed. Memory says nothing of them.
-abbrev pub IsFault : Kinds → List ℕ → Type 0 → Type 0 → ScriptFault → Type 0
-IsFault kinds bytes at_end reader_failed (fault.Line number) = IsBadAt kinds bytes at_end number
-IsFault kinds bytes at_end reader_failed fault.Read = reader_failed
-IsFault kinds bytes at_end reader_failed fault.Memory = Unit {0}
+abbrev pub IsScriptFault : Kinds → List ℕ → Type 0 → Type 0 → ScriptFault → Type 0
+IsScriptFault kinds bytes at_end reader_failed (fault.Line number) = IsBadAt kinds bytes at_end number
+IsScriptFault kinds bytes at_end reader_failed fault.Read = reader_failed
+IsScriptFault kinds bytes at_end reader_failed fault.Memory = Unit {0}

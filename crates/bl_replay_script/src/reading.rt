@@ -4,7 +4,7 @@ ghost use Rattle.std.specs.Prelude.{◌≡◌, ◌≤◌, ℕ, List, [], ◌∷�
 ghost use Rattle.std.specs.Io.KnownBytes.{Consumes, IsAtEnd};
 ghost use Rattle.bl_replay_script.specs.declared.reading.ScriptFault.TheVariants.{Memory};
 ghost use Rattle.bl_replay_script.specs.Commands.{starts};
-ghost use Rattle.bl_replay_script.specs.Scripts.{IsScript, IsFault};
+ghost use Rattle.bl_replay_script.specs.Scripts.{IsScript, IsScriptFault};
 
 use crate::command::{Command, Kinds, Script};
 use crate::lines::{Said, read_command, read_head};
@@ -49,7 +49,7 @@ pub fn read_script<R: Read>(
         × MatchResult result
         (λ script. IsScript kinds script.pages script.commands.items bytes
         × IsAtEnd (R.remaining reader.new.inner))
-        (λ fault. IsFault kinds bytes (IsAtEnd (R.remaining reader.new.inner)) (reader.new.failed ≡ true) fault) }
+        (λ fault. IsScriptFault kinds bytes (IsAtEnd (R.remaining reader.new.inner)) (reader.new.failed ≡ true) fault) }
 {
     let mut source = Source::new(alloc)?;
     let mut line = ArrayVec::new();

@@ -11,8 +11,8 @@ use Rattle.bl_serve_lines.specs.declared.serving.ServeFault.{ServeFault}
 use Rattle.bl_serve_lines.specs.declared.serving.ServeFault.TheVariants.{Read, Write}
 use Rattle.bl_serve_lines.specs.declared.serving.Totals.{Totals}
 use Rattle.bl_serve_worker.proofs.Lines.{history_append}
-use Rattle.bl_serve.specs.declared.reading.SectionEnd.{SectionEnd}
-use Rattle.bl_serve.specs.declared.reading.SectionEnd.TheVariants as section_end
+use Rattle.bl_serve.specs.declared.section_reader.SectionEnd.{SectionEnd}
+use Rattle.bl_serve.specs.declared.section_reader.SectionEnd.TheVariants as section_end
 use Rattle.bl_model.specs.History.{IsLegalFrom, final_map}
 use Rattle.bl_model.proofs.Histories.{legal_append, legal_rest}
 use Rattle.bl_serve_lines.specs.Lines.{Line, IsLine, Answer, Synced, entries, input_of, output_of, rest_text, text_of, HasNoLf}

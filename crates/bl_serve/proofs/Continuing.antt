@@ -17,8 +17,8 @@ use Rattle.bl_serve_lines.specs.Served.Interleaves.{Done, Takes}
 use Rattle.bl_claims.specs.Trails.{Trail, history_of}
 use Rattle.bl_index.specs.declared.index.Index.{Index}
 use Rattle.bl_index.specs.declared.index.Pass.{Pass}
-use Rattle.bl_serve.specs.declared.reading.SectionEnd.{SectionEnd}
-use Rattle.bl_serve.specs.declared.reading.SectionEnd.TheVariants.{Synced, Rest, Finished}
+use Rattle.bl_serve.specs.declared.section_reader.SectionEnd.{SectionEnd}
+use Rattle.bl_serve.specs.declared.section_reader.SectionEnd.TheVariants.{Synced, Rest, Finished}
 use Rattle.bl_serve_worker.specs.Answering.{IsFor, answers_text}
 use Rattle.bl_serve.specs.Reading.{IsReadAs, bytes_of, AsksNoSync, AsksSyncLast, ReadsLines, EndsReading}
 use Rattle.bl_serve.specs.Sections.{Held, CountsSection, end_text, rests}

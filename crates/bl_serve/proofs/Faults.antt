@@ -22,8 +22,8 @@ use Rattle.bl_claims.specs.Seeing.{IsLinearizable}
 use Rattle.bl_index.specs.declared.index.Index.{Index}
 use Rattle.bl_index.specs.declared.index.Pass.{Pass}
 use Rattle.bl_index.specs.Calls.{first_of, map_after}
-use Rattle.bl_serve.specs.declared.reading.SectionEnd.{SectionEnd}
-use Rattle.bl_serve.specs.declared.reading.SectionEnd.TheVariants as section_end
+use Rattle.bl_serve.specs.declared.section_reader.SectionEnd.{SectionEnd}
+use Rattle.bl_serve.specs.declared.section_reader.SectionEnd.TheVariants as section_end
 use Rattle.bl_serve.specs.Reading.{ReadsLines, AsksSyncLast, EndsReading, IsReadAs, bytes_of}
 use Rattle.bl_serve.specs.Sections.{Held, CountsSection, end_text, rests}
 use Rattle.bl_serve.specs.Serving.{AreTogether, FailsSection, ServesSection, ServedBy, IsInside}

@@ -23,9 +23,9 @@ use Rattle.bl_map.proofs.Elements.{take_set, next_is, drop_set, drop_one}
 use Rattle.bl_serve_worker.specs.declared.chunk.Slot.{Slot}
 use Rattle.bl_serve_worker.specs.declared.chunk.BatchOutput.{BatchOutput}
 use Rattle.bl_serve_worker.specs.Answering.{IsFor, answers_text}
-use Rattle.bl_serve_worker.specs.Batches.{Piece, IsPiece, Logs, TakesTurn, lines_in}
+use Rattle.bl_serve_worker.specs.Batches.{Piece, IsPiece, Logs, WorksOn, lines_in}
 use Rattle.bl_serve.specs.Joining.{Chains, IsWithin, joined_text}
-use Rattle.bl_serve.specs.Chunks.{Taken, IsTaken, Weaves, IsChunk, Collects, TakeTurns}
+use Rattle.bl_serve.specs.Chunks.{Taken, IsTaken, Weaves, IsChunk, Collects, WorkOn}
 use Rattle.bl_serve_worker.proofs.Lines.{zip_append, zip_length, text_append}
 use Rattle.bl_serve.proofs.Pieces.{lifted, cut, cut_length, flat_id, map_flat}
 use Rattle.bl_serve.proofs.Weaving.{joined, all_of, in_any_order, one_by_one}
@@ -68,8 +68,8 @@ collects_all all now written i end g =
 -- ---- from slot to slot
 
 module _ (number : ℕ) (lines : List (Option Request)) where
-  -- two parts of the passes have had their turns
-  pub turns_append : (os ns : List Handle) (ds : List Slot) (os' ns' : List Handle) (ds' : List Slot) → TakeTurns number lines os ns ds → TakeTurns number lines os' ns' ds' → TakeTurns number lines (os ++ os') (ns ++ ns') (ds ++ ds')
+  -- two parts of the passes have done their work
+  pub turns_append : (os ns : List Handle) (ds : List Slot) (os' ns' : List Handle) (ds' : List Slot) → WorkOn number lines os ns ds → WorkOn number lines os' ns' ds' → WorkOn number lines (os ++ os') (ns ++ ns') (ds ++ ds')
   turns_append [] [] [] os' ns' ds' h k = k
   turns_append [] [] (d ∷ ds) os' ns' ds' h k = absurd h
   turns_append [] (n ∷ ns) ds os' ns' ds' h k = absurd h
@@ -78,7 +78,7 @@ module _ (number : ℕ) (lines : List (Option Request)) where
   turns_append (o ∷ os) (n ∷ ns) (d ∷ ds) os' ns' ds' h k = (h.0, turns_append os ns ds os' ns' ds' h.1 k)
 
   -- there are as many of each
-  pub turns_long : (os ns : List Handle) (ds : List Slot) → TakeTurns number lines os ns ds → (length ns ≡ length os) × (length ds ≡ length os)
+  pub turns_long : (os ns : List Handle) (ds : List Slot) → WorkOn number lines os ns ds → (length ns ≡ length os) × (length ds ≡ length os)
   turns_long [] [] [] h = (refl, refl)
   turns_long [] [] (d ∷ ds) h = absurd h
   turns_long [] (n ∷ ns) ds h = absurd h
@@ -91,12 +91,12 @@ module _ (number : ℕ) (lines : List (Option Request)) where
     pub long : length news ≡ length olds
     pub many : length now ≡ length slots
     pub left : drop i news ≡ drop i olds
-    pub turns : TakeTurns number lines (take i olds) (take i news) (take i now)
+    pub turns : WorkOn number lines (take i olds) (take i news) (take i now)
 
   pub turns_none : (olds : List Handle) (slots : List Slot) → TurnsSo olds olds slots slots 0
   turns_none olds slots = record { long = refl; many = refl; left = refl; turns = tt }
 
-  pub turns_more : (olds news : List Handle) (slots now : List Slot) (i : ℕ) (was is d : Handle) (slot : Slot) → TurnsSo olds news slots now i → i < length news → i < length now → was ≡ get_or news i d → TakesTurn number lines was is slot
+  pub turns_more : (olds news : List Handle) (slots now : List Slot) (i : ℕ) (was is d : Handle) (slot : Slot) → TurnsSo olds news slots now i → i < length news → i < length now → was ≡ get_or news i d → WorksOn number lines was is slot
       → TurnsSo olds (set news i is) slots (set now i slot) (i + 1)
   turns_more olds news slots now i was is d slot t low low' at turn =
       let there : was ≡ get_or olds i d = at ∙ next_is olds news i d t.left low in
@@ -106,24 +106,24 @@ module _ (number : ℕ) (lines : List (Option Request)) where
         long = length-set news i is ∙ t.long;
         many = length-set now i slot ∙ t.many;
         left = rw add-one (drop_set news i is ∙ drop_one news olds i t.left);
-        turns = subst (λ (z : List Handle × List Handle × List Slot). TakeTurns number lines z.0 z.1 z.2) (λ k. (sym old_are k, sym (take_set news i is low) k, sym (take_set now i slot low') k)) both;
+        turns = subst (λ (z : List Handle × List Handle × List Slot). WorkOn number lines z.0 z.1 z.2) (λ k. (sym old_are k, sym (take_set news i is low) k, sym (take_set now i slot low') k)) both;
       }
 
-  pub turns_all : (olds news : List Handle) (slots now : List Slot) (i : ℕ) → length slots ≡ length olds → length olds ≤ i → TurnsSo olds news slots now i → TakeTurns number lines olds news now
+  pub turns_all : (olds news : List Handle) (slots now : List Slot) (i : ℕ) → length slots ≡ length olds → length olds ≤ i → TurnsSo olds news slots now i → WorkOn number lines olds news now
   turns_all olds news slots now i as_many end t =
       let e = t.long in let f = t.many in
-      subst (λ (z : List Handle × List Handle × List Slot). TakeTurns number lines z.0 z.1 z.2)
+      subst (λ (z : List Handle × List Handle × List Slot). WorkOn number lines z.0 z.1 z.2)
       (λ k. (take_all i olds end k, take_all i news (omega (arith, e, end)) k, take_all i now (omega (arith, f, as_many, end)) k)) t.turns
 
   -- the first ones and the others, in two threads
-  turns_parted : (place : ℕ) (olds news some now : List Handle) (slots theirs : List Slot) → TakeTurns number lines (take place olds) news slots → TakeTurns number lines (drop place olds) now theirs → some ≡ news ++ now
-      → TakeTurns number lines olds some (slots ++ theirs)
+  turns_parted : (place : ℕ) (olds news some now : List Handle) (slots theirs : List Slot) → WorkOn number lines (take place olds) news slots → WorkOn number lines (drop place olds) now theirs → some ≡ news ++ now
+      → WorkOn number lines olds some (slots ++ theirs)
   turns_parted place olds news some now slots theirs h k is =
-      subst (λ (z : List Handle × List Handle). TakeTurns number lines z.0 z.1 (slots ++ theirs)) (λ i. (take-append-drop place olds i, sym is i))
+      subst (λ (z : List Handle × List Handle). WorkOn number lines z.0 z.1 (slots ++ theirs)) (λ i. (take-append-drop place olds i, sym is i))
       (turns_append (take place olds) news slots (drop place olds) now theirs h k)
 
-  pub parted_ok : {A E : Type 0} (r : Result A E) (place : ℕ) (olds news some now : List Handle) (slots theirs : List Slot) → TakeTurns number lines (take place olds) news slots → TakeTurns number lines (drop place olds) now theirs
-      → some ≡ cond (is_ok r) (news ++ now) news → OnOk r (TakeTurns number lines olds some (slots ++ theirs))
+  pub parted_ok : {A E : Type 0} (r : Result A E) (place : ℕ) (olds news some now : List Handle) (slots theirs : List Slot) → WorkOn number lines (take place olds) news slots → WorkOn number lines (drop place olds) now theirs
+      → some ≡ cond (is_ok r) (news ++ now) news → OnOk r (WorkOn number lines olds some (slots ++ theirs))
   parted_ok (Ok x) place olds news some now slots theirs h k is = turns_parted place olds news some now slots theirs h k is
   parted_ok (Err e) place olds news some now slots theirs h k is = tt
 
@@ -141,7 +141,7 @@ module _ (first : List (Option Page)) (number : ℕ) (lines : List (Option Reque
     written : map (λ p. p.output) pieces ≡ flat_map (λ d. d.log.items) slots
     shares : flat_map (λ t. t.share) taken ≡ map entries_in pieces
 
-  spread : (olds news : List Handle) (slots : List Slot) → All (BeganWith first) olds → TakeTurns number lines olds news slots → All (λ (d : Slot). d.failed ≡ false) slots → Spread olds news slots
+  spread : (olds news : List Handle) (slots : List Slot) → All (BeganWith first) olds → WorkOn number lines olds news slots → All (λ (d : Slot). d.failed ≡ false) slots → Spread olds news slots
   spread [] [] [] began h ok = record { taken = []; pieces = []; old_are = refl; new_are = refl; each_taken = All-nil (IsTaken first); each = All-nil (IsPiece number lines); written = refl; shares = refl }
   spread [] [] (d ∷ slots) began h ok = absurd h
   spread [] (n ∷ news) slots began h ok = absurd h
@@ -163,7 +163,7 @@ module _ (first : List (Option Page)) (number : ℕ) (lines : List (Option Reque
       }
 
   -- all batches that were written are the section's
-  pub collected_within : (olds news : List Handle) (slots : List Slot) (written : List BatchOutput) → All (BeganWith first) olds → TakeTurns number lines olds news slots → Collects slots written → All (IsWithin (length lines)) written
+  pub collected_within : (olds news : List Handle) (slots : List Slot) (written : List BatchOutput) → All (BeganWith first) olds → WorkOn number lines olds news slots → Collects slots written → All (IsWithin (length lines)) written
   collected_within olds news slots written began turns g =
       let s = spread olds news slots began turns g.none_failed in
       subst (All (IsWithin (length lines))) (s.written ∙ sym g.outputs_are) (All-map (IsWithin (length lines)) (λ (p : Piece). p.output) s.pieces
@@ -207,7 +207,7 @@ module _ (first : List (Option Page)) (number : ℕ) (lines : List (Option Reque
       let c : Interleaves (all_of groups) history = one_by_one b groups (joined_lists after) in
       subst (λ (z : List (List Entry)). Interleaves z history) (flat_id (λ (p : Piece). map entries p.answers) after ∙ sym (map_flat (λ (p : Piece). p.answers) entries after)) c
 
-  pub chunk : (text : List ℕ) (olds news : List Handle) (slots : List Slot) (written sorted : List BatchOutput) → All (BeganWith first) olds → TakeTurns number lines olds news slots → Collects slots written
+  pub chunk : (text : List ℕ) (olds news : List Handle) (slots : List Slot) (written sorted : List BatchOutput) → All (BeganWith first) olds → WorkOn number lines olds news slots → Collects slots written
       → IsPermutation written sorted → Chains 0 (length lines) sorted → text ≡ joined_text sorted → IsChunk first number lines text (seats_of olds) (seats_of news)
   chunk text olds news slots written sorted began turns g perm chains text_is =
       let s = spread olds news slots began turns g.none_failed in

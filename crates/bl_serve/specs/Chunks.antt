@@ -13,7 +13,7 @@ use Rattle.bl_map.specs.declared.handle.Handle.{Handle}
 use Rattle.bl_serve_worker.specs.declared.chunk.BatchOutput.{BatchOutput}
 use Rattle.bl_serve_worker.specs.declared.chunk.Slot.{Slot}
 use Rattle.bl_serve_worker.specs.Answering.{IsFor, answers_text}
-use Rattle.bl_serve_worker.specs.Batches.{TakesTurn}
+use Rattle.bl_serve_worker.specs.Batches.{WorksOn}
 
 -- a pass before and after a chunk, and the entries of the batches that its thread answered
 pub record Taken : Type 0 where
@@ -48,8 +48,8 @@ pub record Collects (slots : List Slot) (outputs : List BatchOutput) : Type 0 wh
   pub none_failed : All (λ (s : Slot). s.failed ≡ false) slots
   pub outputs_are : outputs ≡ flat_map (λ s. s.log.items) slots
 
--- Each of these handles has had its turn, at the slot that has its place.
-abbrev pub TakeTurns : ℕ → List (Option Request) → List Handle → List Handle → List Slot → Type 0
-TakeTurns number lines [] [] [] = Unit {0}
-TakeTurns number lines (old ∷ olds) (new ∷ news) (slot ∷ slots) = TakesTurn number lines old new slot × TakeTurns number lines olds news slots
-TakeTurns number lines olds news slots = ⊥
+-- Each of these handles has done its work for a chunk, at the slot that has its place.
+abbrev pub WorkOn : ℕ → List (Option Request) → List Handle → List Handle → List Slot → Type 0
+WorkOn number lines [] [] [] = Unit {0}
+WorkOn number lines (old ∷ olds) (new ∷ news) (slot ∷ slots) = WorksOn number lines old new slot × WorkOn number lines olds news slots
+WorkOn number lines olds news slots = ⊥

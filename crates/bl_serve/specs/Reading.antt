@@ -6,11 +6,11 @@ use Rattle.bl_serve_lines.specs.declared.request.Request.{Request}
 use Rattle.bl_serve_lines.specs.declared.request.Request.TheVariants.{Sync}
 use Rattle.bl_serve_lines.specs.declared.serving.ServeFault.{ServeFault}
 use Rattle.bl_serve_lines.specs.declared.serving.ServeFault.TheVariants.{Read, Write, Memory, Lost}
-use Rattle.bl_serve.specs.declared.reading.Reading.{Reading}
-use Rattle.bl_serve.specs.declared.reading.Reading.TheVariants as reading
-use Rattle.bl_serve.specs.declared.reading.ReadAhead.{ReadAhead}
-use Rattle.bl_serve.specs.declared.reading.SectionEnd.{SectionEnd}
-use Rattle.bl_serve.specs.declared.reading.SectionEnd.TheVariants.{Synced, Rest, Finished}
+use Rattle.bl_serve.specs.declared.section_reader.Reading.{Reading}
+use Rattle.bl_serve.specs.declared.section_reader.Reading.TheVariants as reading
+use Rattle.bl_serve.specs.declared.section_reader.ReadAhead.{ReadAhead}
+use Rattle.bl_serve.specs.declared.section_reader.SectionEnd.{SectionEnd}
+use Rattle.bl_serve.specs.declared.section_reader.SectionEnd.TheVariants.{Synced, Rest, Finished}
 use Rattle.bl_serve_lines.specs.Text.{Means}
 use Rattle.bl_serve_lines.specs.Lines.{HasNoLf}
 use Rattle.bl_serve_lines.specs.Streams.{EndsRead}

@@ -3,8 +3,8 @@ use Rattle.std.specs.Prelude.{◌≡◌, ℕ, suc, ◌+◌, map, List, [], Optio
 use Rattle.std.specs.List.{AllZip}
 use Rattle.bl_serve_lines.specs.declared.request.Request.{Request}
 use Rattle.bl_serve_lines.specs.declared.serving.Totals.{Totals}
-use Rattle.bl_serve.specs.declared.reading.SectionEnd.{SectionEnd}
-use Rattle.bl_serve.specs.declared.reading.SectionEnd.TheVariants.{Synced, Rest, Finished}
+use Rattle.bl_serve.specs.declared.section_reader.SectionEnd.{SectionEnd}
+use Rattle.bl_serve.specs.declared.section_reader.SectionEnd.TheVariants.{Synced, Rest, Finished}
 use Rattle.bl_serve_lines.specs.Text.{numbered}
 use Rattle.bl_serve_lines.specs.Lines.{Answer, entries}
 use Rattle.bl_serve_lines.specs.Served.{Interleaves}

@@ -15,7 +15,7 @@ use Rattle.bl_index.specs.declared.index.Pass.{Pass}
 use Rattle.bl_index.specs.Calls.{first_of, IsPassOf, number_of, trail, passes_of, map_after}
 use Rattle.bl_map.specs.declared.handle.Handle.{Handle}
 use Rattle.bl_map.specs.Handles.{seats_of}
-use Rattle.bl_serve.specs.declared.reading.SectionEnd.{SectionEnd}
+use Rattle.bl_serve.specs.declared.section_reader.SectionEnd.{SectionEnd}
 use Rattle.bl_serve.specs.Reading.{EndsReading, ReadsLines}
 use Rattle.bl_serve.specs.Sections.{Held, end_text}
 

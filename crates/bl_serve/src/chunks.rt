@@ -8,19 +8,19 @@ ghost use Rattle.bl_serve.specs.Meetings.{AllMeet};
 ghost use Rattle.std.specs.Thread.{IsSync};
 ghost use Rattle.std.specs.Io.KnownBytes.{Consumes};
 ghost use Rattle.bl_serve.specs.Reading.{ReadsOn};
-ghost use Rattle.bl_serve.specs.Chunks.{IsChunk, Collects, TakeTurns};
+ghost use Rattle.bl_serve.specs.Chunks.{IsChunk, Collects, WorkOn};
 ghost use Rattle.bl_serve.specs.Serving.{AreMet, HoldsSection, IsInside};
 
 use crate::joining::join_outputs;
 use crate::meeting::meet_all;
 use crate::parsed_lines::ParsedLines;
-use crate::reading::{ReadAhead, read_on};
+use crate::section_reader::{ReadAhead, read_on};
 use crate::session::{Session, ThreadPlan};
 use bl_index::Index;
 use bl_map::Handle;
 use bl_model::Watched;
 use bl_serve_lines::ServeFault;
-use bl_serve_worker::{Batch, BatchOutput, Chunk, Gate, Role, Service, Slot, Wakeup, take_turn};
+use bl_serve_worker::{Batch, BatchOutput, Chunk, Gate, Role, Service, Slot, Wakeup, work_on};
 use crossbeam_channel::{Receiver, unbounded};
 use std::alloc::{AllocError, Global};
 use std::io::Read;
@@ -119,7 +119,7 @@ fn last_share(handles: usize, threads: usize) -> usize {
     handles.saturating_sub(handles.div_ceil(threads.max(1)))
 }
 
-/// The handles have their turns one after another, each at its slot.
+/// The handles work one after another, each at its slot.
 fn work_in_turn<R: Wait, G: Gate>(
     rt: &R,
     chunk: &Chunk<'_, G>,
@@ -127,14 +127,14 @@ fn work_in_turn<R: Wait, G: Gate>(
     slots: &mut [Slot],
 )
     requires { length slots.old ≡ length handles.old }
-    ensures { TakeTurns (suc chunk.now.before) chunk.now.lines.now handles.old handles.new slots.new }
+    ensures { WorkOn (suc chunk.now.before) chunk.now.lines.now handles.old handles.new slots.new }
 {
     for number in 0..handles.len() {
-        take_turn(rt, chunk, &mut handles[number], &mut slots[number]);
+        work_on(rt, chunk, &mut handles[number], &mut slots[number]);
     }
 }
 
-/// Reads on, and then all handles have their turns, in this thread.
+/// Reads on, and then all handles work, in this thread.
 fn work_alone<R: Wait, G: Gate, I: Read>(
     rt: &R,
     chunk: &Chunk<'_, G>,
@@ -144,16 +144,16 @@ fn work_alone<R: Wait, G: Gate, I: Read>(
     ahead: &mut ReadAhead,
 )
     requires { length slots.old ≡ length handles.old }
-    ensures turns { TakeTurns (suc chunk.now.before) chunk.now.lines.now handles.old handles.new slots.new }
+    ensures turns { WorkOn (suc chunk.now.before) chunk.now.lines.now handles.old handles.new slots.new }
     ensures reads { ReadsOn ahead.old ahead.new (I.remaining reader.old.inner) (I.remaining reader.new.inner) (reader.new.failed ≡ true) }
 {
     read_on(reader, ahead);
     work_in_turn(rt, chunk, handles, slots);
 }
 
-/// The handles have their turns, in so many threads. This thread makes all others, and works as they do: a thread that another new
+/// The handles work, in so many threads. This thread makes all others, and works as they do: a thread that another new
 /// one makes would often wait for a processor. Before it works it reads on. The last ones get a thread first: where none can be
-/// made, their turns come behind all others, so no compressor waits for a worker that has not begun. Where there is no memory to
+/// made, they work behind all others, so no compressor waits for a worker that has not begun. Where there is no memory to
 /// part the handles, this thread does the rest alone.
 #[cycle(abreast)]
 fn work_abreast<R: Threads + Wait + Sync, G: Gate + Sync, I: Read>(
@@ -166,7 +166,7 @@ fn work_abreast<R: Threads + Wait + Sync, G: Gate + Sync, I: Read>(
     ahead: &mut ReadAhead,
 ) -> Result<(), AllocError>
     requires { length slots.old ≡ vec_len handles.old }
-    ensures turns { OnOk result (TakeTurns (suc chunk.now.before) chunk.now.lines.now handles.old.items handles.new.items slots.new) }
+    ensures turns { OnOk result (WorkOn (suc chunk.now.before) chunk.now.lines.now handles.old.items handles.new.items slots.new) }
     ensures reads { ReadsOn ahead.old ahead.new (I.remaining reader.old.inner) (I.remaining reader.new.inner) (reader.new.failed ≡ true) }
 {
     let place = last_share(slots.len(), threads);
@@ -183,11 +183,11 @@ fn work_abreast<R: Threads + Wait + Sync, G: Gate + Sync, I: Read>(
         rt,
         &mut ||
             requires { length theirs.now ≡ vec_len some }
-            ensures { TakeTurns (suc chunk.entry.now.before) chunk.entry.now.lines.now some.entry.items some.exit.items theirs.exit.now }
+            ensures { WorkOn (suc chunk.entry.now.before) chunk.entry.now.lines.now some.entry.items some.exit.items theirs.exit.now }
         { work_in_turn(rt, chunk, some.as_mut_slice(), theirs) },
         &mut ||
             requires { IsSync R.row × IsSync G.row × (length rest.now ≡ vec_len handles.now) }
-            ensures turns { OnOk result (TakeTurns (suc chunk.entry.now.before) chunk.entry.now.lines.now
+            ensures turns { OnOk result (WorkOn (suc chunk.entry.now.before) chunk.entry.now.lines.now
                 handles.entry.now.items handles.exit.now.items rest.exit.now) }
             ensures reads { ReadsOn ahead.entry.now ahead.exit.now (I.remaining reader.entry.now.inner) (I.remaining reader.exit.now.inner)
                 (reader.exit.now.failed ≡ true) }

@@ -13,7 +13,7 @@ mod joining;
 mod meeting;
 mod origin;
 mod parsed_lines;
-mod reading;
+mod section_reader;
 mod serving;
 mod session;
 mod starting;

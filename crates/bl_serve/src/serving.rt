@@ -11,7 +11,7 @@ ghost use Rattle.bl_serve.specs.Serving.{AreMet, AreTogether, EndsServing, Fails
 
 use crate::chunks::{new_slots, run_chunk};
 use crate::parsed_lines::ParsedLines;
-use crate::reading::{ReadAhead, SectionEnd, read_on};
+use crate::section_reader::{ReadAhead, SectionEnd, read_on};
 use crate::session::{Session, ThreadPlan};
 use bl_hints::Hints;
 use bl_index::{Index, Pass};

@@ -14,11 +14,11 @@ use Rattle.bl_serve_worker.specs.declared.chunk.BatchOutput.{BatchOutput}
 use Rattle.bl_serve_worker.specs.declared.chunk.Slot.{Slot}
 use Rattle.bl_map.specs.declared.handle.Handle.{Handle}
 use Rattle.bl_map.specs.Handles.{IsSameHandle, HasKeptUp, first_map_of, number_of_seat, seen_by}
-use Rattle.bl_map.specs.Works.{Adds}
+use Rattle.bl_map_calls.specs.Works.{Adds}
 use Rattle.bl_map.proofs.AllMet.{same_again}
 use Rattle.bl_map.proofs.Same.{by_same, kept_as}
 use Rattle.bl_serve_worker.specs.Answering.{answers_text, AnswersLines}
-use Rattle.bl_serve_worker.specs.Batches.{Piece, IsPiece, Logs, TakesTurn, lines_in}
+use Rattle.bl_serve_worker.specs.Batches.{Piece, IsPiece, Logs, WorksOn, lines_in}
 use Rattle.bl_serve_worker.proofs.Lines.{goes_on, stays}
 
 pub no_logs : (first : List (Option Page)) (number : ℕ) (lines : List (Option Request)) (pass : ℕ) (old : Trail) (log : List BatchOutput) → Logs first number lines pass old old log log
@@ -50,7 +50,7 @@ pub idle_logs : (first : List (Option Page)) (number : ℕ) (lines : List (Optio
 idle_logs first number lines pass old new log is a = record { pieces = []; log = is; each = All-nil (IsPiece number lines); begins = a.begins; seen = a.seen; mine = a.none ∙ sym (append-nil (own pass old)) }
 
 -- a turn, and then what adds no entry
-pub turn_idle : (a b c : Handle) (number : ℕ) (lines : List (Option Request)) (slot : Slot) → TakesTurn number lines a b slot → IsSameHandle b c → HasKeptUp b c → TakesTurn number lines a c slot
+pub turn_idle : (a b c : Handle) (number : ℕ) (lines : List (Option Request)) (slot : Slot) → WorksOn number lines a b slot → IsSameHandle b c → HasKeptUp b c → WorksOn number lines a c slot
 turn_idle a b c number lines slot t same kept = let k = kept_as a b c t.0 kept in (
   same_again a b c t.0 same,
   λ ok. let x = t.1 ok in record {

@@ -15,7 +15,7 @@ use Rattle.bl_claims.specs.Trails.{Trail, entries_at, history_of}
 use Rattle.bl_claims.specs.Seeing.{own, GoesOnFrom}
 use Rattle.bl_map.specs.declared.handle.Handle.{Handle}
 use Rattle.bl_map.specs.Handles.{IsSameHandle, HasKeptUp, first_map_of, number_of_seat, seen_by}
-use Rattle.bl_map.specs.Works.{Works}
+use Rattle.bl_map_calls.specs.Works.{Works}
 use Rattle.bl_map.proofs.Same.{by_same, kept_as}
 use Rattle.bl_serve_worker.specs.Answering.IsFor.{Replies, Syncs, Refuses}
 use Rattle.bl_serve_worker.specs.Answering.{IsFor, answers_text, AnswersLine, AnswersLines, ListsRows}

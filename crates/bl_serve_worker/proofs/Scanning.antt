@@ -16,10 +16,10 @@ use Rattle.bl_page.specs.declared.page.Page.{Page}
 use Rattle.bl_claims.specs.Trails.{Trail}
 use Rattle.bl_claims.specs.Seeing.{IsLinearizable, own}
 use Rattle.bl_index.specs.Scans.{AreParts as ArePartsUpTo, rows_below as rows_of_part}
-use Rattle.bl_map.specs.Falling.{ArePartsDown as ArePartsDownTo, IsOverDown, TellsDown}
+use Rattle.bl_map_calls.specs.Falling.{ArePartsDown as ArePartsDownTo, IsOverDown, TellsDown}
 use Rattle.bl_map.specs.declared.handle.Handle.{Handle}
 use Rattle.bl_map.specs.Handles.{first_map_of, number_of_seat, seen_by}
-use Rattle.bl_map.specs.Scans.{Tells}
+use Rattle.bl_map_calls.specs.Scans.{TellsRows}
 use Rattle.bl_serve_worker.specs.Answering.{ListsRows, HasWrittenRows}
 use Rattle.bl_serve_worker.specs.Answering.IsFor.{Scans, ScansFrom, ScansDown}
 
@@ -78,7 +78,7 @@ module _ {F : Type 0} (leads : F → ℕ × ℕ → F → Type 0) (first : List 
   abbrev pub Lists : Request → Type 0
   Lists asked = (rows : List (ℕ × ℕ)) × ListsRows first pass asked rows old new × FoldsTo leads p rows q
 
-  pub lists_below : (low high : ℕ) (asked : Request) → asked ≡ Scan low high → Tells leads first pages pass low (Some high) p q old new → Lists asked
+  pub lists_below : (low high : ℕ) (asked : Request) → asked ≡ Scan low high → TellsRows leads first pages pass low (Some high) p q old new → Lists asked
   lists_below low high asked is t = subst Lists (sym is) (let s = t.scanned in (
     t.rows,
     record {
@@ -92,7 +92,7 @@ module _ {F : Type 0} (leads : F → ℕ × ℕ → F → Type 0) (first : List 
     t.told,
   ))
 
-  pub lists_from : (low : ℕ) (asked : Request) → asked ≡ ScanFrom low → Tells leads first pages pass low None p q old new → Lists asked
+  pub lists_from : (low : ℕ) (asked : Request) → asked ≡ ScanFrom low → TellsRows leads first pages pass low None p q old new → Lists asked
   lists_from low asked is t = subst Lists (sym is) (let s = t.scanned in (
     t.rows,
     record {

@@ -38,10 +38,10 @@ pub record Logs (first : List (Option Page)) (number : ℕ) (lines : List (Optio
   pub seen : IsLinearizable first old → IsLinearizable first new
   pub mine : own pass new ≡ own pass old ++ flat_map (λ p. flat_map entries p.answers) pieces
 
--- A handle has had its turn, and what it wrote stands in the log of its slot.
-abbrev pub IsTurn : ℕ → List (Option Request) → Handle → Handle → Slot → Type 0
-IsTurn number lines old new slot = Logs (first_map_of old) number lines (number_of_seat old) (seen_by old) (seen_by new) [] slot.log.items
+-- A handle has done its work for a chunk, and what it wrote stands in the log of its slot.
+abbrev pub IsWork : ℕ → List (Option Request) → Handle → Handle → Slot → Type 0
+IsWork number lines old new slot = Logs (first_map_of old) number lines (number_of_seat old) (seen_by old) (seen_by new) [] slot.log.items
 
--- It has had its turn, if there was memory for what it wrote.
-abbrev pub TakesTurn : ℕ → List (Option Request) → Handle → Handle → Slot → Type 0
-TakesTurn number lines old new slot = IsSameHandle old new × (slot.failed ≡ false → IsTurn number lines old new slot)
+-- It has done its work, if there was memory for what it wrote.
+abbrev pub WorksOn : ℕ → List (Option Request) → Handle → Handle → Slot → Type 0
+WorksOn number lines old new slot = IsSameHandle old new × (slot.failed ≡ false → IsWork number lines old new slot)

@@ -25,8 +25,8 @@ use std::sync::Wait;
 /// puts of the handle.
 const LINES_TO_SWEEP: u64 = 256;
 
-/// So many bytes of output are made room for at once for each line: an answer about one key has few more.
-const ROOM: usize = 32;
+/// So many bytes of output are reserved at once for each line: an answer about one key has few more.
+const BYTES_A_LINE: usize = 32;
 
 /// Sweeps, where the worker may and a sweep is due.
 fn sweep_if_may(handle: &mut Handle<'_>, may_sweep: bool)
@@ -238,7 +238,7 @@ pub(crate) fn answer_lines<R: Wait, G: Gate>(
     ensures same { IsSameHandle handle.old handle.new }
     ensures answers { IfOk result (λ text. HasAnsweredAll (suc before) lines.now text.items handle.old handle.new) }
 {
-    let mut text = Vec::with_capacity(service.alloc, lines.len().saturating_mul(ROOM))?;
+    let mut text = Vec::with_capacity(service.alloc, lines.len().saturating_mul(BYTES_A_LINE))?;
     let mut number = before;
     for request in lines {
         number += 1;

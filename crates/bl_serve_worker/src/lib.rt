@@ -5,7 +5,7 @@
 //! workers leave, and rests where none waits; where hints were dropped it looks at all pages. Behind the last line of the input the last handle
 //! puts the index in order. A worker sweeps now and then, a compressor behind each hint.
 //!
-//! Promised to `bl_serve`, which makes threads of them: a turn of a handle adds to what it has seen the entries of the lines that it
+//! Promised to `bl_serve`, which makes threads of them: the work of a handle adds to what it has seen the entries of the lines that it
 //! answered, in their order, and no others, and the output of a batch prints their answers. How hints are followed, and when a handle
 //! sweeps, adds no entry.
 #![tactic(auto)]
@@ -23,4 +23,4 @@ pub use compressing::follow_hint;
 pub use gate::{Gate, OpenGate};
 pub use service::Service;
 pub use wakeup::Wakeup;
-pub use working::take_turn;
+pub use working::work_on;

@@ -2,7 +2,7 @@
 
 ghost use Rattle.std.specs.Prelude.{◌≡◌, suc, ◌+◌, ◌<◌, ◌^◌, [], length, OnOk};
 ghost use Rattle.bl_map.specs.Handles.{IsSameHandle, HasKeptUp, first_map_of, number_of_seat, seen_by};
-ghost use Rattle.bl_serve_worker.specs.Batches.{Logs, TakesTurn};
+ghost use Rattle.bl_serve_worker.specs.Batches.{Logs, WorksOn};
 
 use crate::answering::answer_lines;
 use crate::chunk::{Batch, BatchOutput, Chunk, Role, Slot};
@@ -66,7 +66,7 @@ fn serve_at<R: Wait, G: Gate>(
     handle: &mut Handle<'_>,
     slot: &mut Slot,
 )
-    ensures { TakesTurn (suc chunk.now.before) chunk.now.lines.now handle.old handle.new slot.new }
+    ensures { WorksOn (suc chunk.now.before) chunk.now.lines.now handle.old handle.new slot.new }
 {
     let mut log = Vec::new(chunk.service.alloc);
     let served = serve_batches(rt, chunk, handle, &mut log);
@@ -93,7 +93,7 @@ fn compress_at<R: Wait, G: Gate>(
 
 /// A handle answers lines or follows hints, as its slot says.
 fn work_at<R: Wait, G: Gate>(rt: &R, chunk: &Chunk<'_, G>, handle: &mut Handle<'_>, slot: &mut Slot)
-    ensures { TakesTurn (suc chunk.now.before) chunk.now.lines.now handle.old handle.new slot.new }
+    ensures { WorksOn (suc chunk.now.before) chunk.now.lines.now handle.old handle.new slot.new }
 {
     match slot.role {
         Role::Serve => serve_at(rt, chunk, handle, slot),
@@ -101,8 +101,8 @@ fn work_at<R: Wait, G: Gate>(rt: &R, chunk: &Chunk<'_, G>, handle: &mut Handle<'
     }
 }
 
-/// Behind the last line the last handle puts the index in order, once all workers have ended. All of them have begun: a thread has the
-/// turns of its handles in their order, and those of the last threads come behind all others where there is no thread for them.
+/// Behind the last line the last handle puts the index in order, once all workers have ended. All of them have begun: a thread does the
+/// work of its handles in their order, and that of the last threads comes behind all others where there is no thread for them.
 fn tidy_at_last<R: Wait, G: Gate>(
     rt: &R,
     chunk: &Chunk<'_, G>,
@@ -119,13 +119,13 @@ fn tidy_at_last<R: Wait, G: Gate>(
 }
 
 /// A handle does what its slot says for one chunk, and what is due behind the last line.
-pub fn take_turn<R: Wait, G: Gate>(
+pub fn work_on<R: Wait, G: Gate>(
     rt: &R,
     chunk: &Chunk<'_, G>,
     handle: &mut Handle<'_>,
     slot: &mut Slot,
 )
-    ensures { TakesTurn (suc chunk.now.before) chunk.now.lines.now handle.old handle.new slot.new }
+    ensures { WorksOn (suc chunk.now.before) chunk.now.lines.now handle.old handle.new slot.new }
 {
     work_at(rt, chunk, handle, slot);
     tidy_at_last(rt, chunk, handle, slot);

@@ -11,13 +11,13 @@ use Rattle.atomic_table.proofs.Lists.{at_set, set_else}
 use Rattle.bl_layout.specs.declared.layout.Layout.{Layout}
 use Rattle.bl_layout.specs.Words.{frame_count}
 use Rattle.bl_layout.specs.Cells.{cell_count}
-use Rattle.bl_frames.specs.Pages.{Owner, Released, Open, Retired, Stage, Idle, Running, Pages, IsOrderly, owned, written}
-use Rattle.bl_frames.specs.Frames.{process_at, page_at, owner_at, state_at, place_at, drafted, shown, Frame, free, used, FrameIs, OwnerIs, ProcessIs, Knows, total_of, Shows, IsLive, Kept, share, starting}
-use Rattle.bl_frames.specs.declared.view.View.{View}
-use Rattle.bl_frames.specs.declared.view.Joined.{Joined}
-use Rattle.bl_frames.proofs.Lists.{at_below, there, one_there, set_there}
-use Rattle.bl_frames.specs.declared.view.Sealing.TheVariants.{Sealed}
-use Rattle.bl_frames.proofs.Keeps.{shows_frame, shows_owner, orderly_owned, orderly_written, sealed_on}
+use Rattle.bl_store_rule.specs.Pages.{Owner, Released, Open, Retired, Stage, Idle, Running, Pages, IsOrderly, owned, written}
+use Rattle.bl_store_rule.specs.Frames.{process_at, page_at, owner_at, state_at, place_at, drafted, shown, Frame, free, used, FrameIs, OwnerIs, ProcessIs, Knows, total_of, Shows, IsLive, Kept, share, starting}
+use Rattle.bl_store_rule.specs.declared.view.View.{View}
+use Rattle.bl_store_rule.specs.declared.view.Joined.{Joined}
+use Rattle.bl_store_rule.proofs.Lists.{at_below, there, one_there, set_there}
+use Rattle.bl_store_rule.specs.declared.view.Sealing.TheVariants.{Sealed}
+use Rattle.bl_store_rule.proofs.Keeps.{shows_frame, shows_owner, orderly_owned, orderly_written, sealed_on}
 use Rattle.std.proofs.Common.{map, take, take_all, length-take-le, true, false, ◌&&◌, if◌then◌else◌}
 use Rattle.std.proofs.lemmas.Bool.{eqb-true}
 use Rattle.std.proofs.lemmas.List.{take_more, length-map, length-replicate}
@@ -26,7 +26,7 @@ use Rattle.atomic_table.proofs.Lists.{at_snoc, at_map, at_longer, at_last}
 use Rattle.atomic_table.specs.Seated.{TableId}
 use Rattle.bl_store.specs.declared.store.Hand.{Hand}
 use Rattle.bl_store.specs.Opening.{is_blank, first_owner, first_pages, padded, Laid, IsDealt}
-use Rattle.bl_frames.proofs.Putting.{first_put, shows_put}
+use Rattle.bl_store_rule.proofs.Putting.{first_put, shows_put}
 
 module _ {A : Type 0} where
   pub at_all : (n : ℕ) (a : A) (k : ℕ) → k < n → get_elem? (replicate n a) k ≡ some a

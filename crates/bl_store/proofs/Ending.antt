@@ -10,16 +10,16 @@ use Rattle.atomic_table.specs.Table.{State, Final, Seen}
 use Rattle.atomic_table.proofs.Lists.{at_longer, at_last}
 use Rattle.bl_layout.specs.declared.layout.Layout.{Layout}
 use Rattle.bl_layout.specs.Words.{frame_count}
-use Rattle.bl_frames.specs.Pages.{Owner, Released, Open, Held, Retired, Pages, Stands}
-use Rattle.bl_frames.specs.Frames.{page_at, owner_at, place_at, shown, used, OwnerIs, stage_of, IsLive, Kept, joined, taking_in}
+use Rattle.bl_store_rule.specs.Pages.{Owner, Released, Open, Held, Retired, Pages, Stands}
+use Rattle.bl_store_rule.specs.Frames.{page_at, owner_at, place_at, shown, used, OwnerIs, stage_of, IsLive, Kept, joined, taking_in}
 use Rattle.bl_store.specs.Hands.{known}
 use Rattle.bl_store.specs.Closing.{HasEach, left_of, IsClosed, IsGone}
 use Rattle.bl_store.specs.declared.store.Hand.{Hand}
-use Rattle.bl_frames.specs.declared.view.View.{View}
-use Rattle.bl_frames.specs.declared.view.Stamp.{Stamp}
-use Rattle.bl_frames.specs.declared.view.Stamp.TheVariants.{Out}
-use Rattle.bl_frames.specs.declared.view.Sealing.TheVariants.{Unsealed, Sealed}
-use Rattle.bl_frames.proofs.Lists.{at_below, there, one_there, index_of}
+use Rattle.bl_store_rule.specs.declared.view.View.{View}
+use Rattle.bl_store_rule.specs.declared.view.Stamp.{Stamp}
+use Rattle.bl_store_rule.specs.declared.view.Stamp.TheVariants.{Out}
+use Rattle.bl_store_rule.specs.declared.view.Sealing.TheVariants.{Unsealed, Sealed}
+use Rattle.bl_store_rule.proofs.Lists.{at_below, there, one_there, index_of}
 
 -- what was read of the page x
 pub record IsLeft (ws : List ℕ) (l : Layout) (x : ℕ) (xs : List ℕ) : Type 0 where

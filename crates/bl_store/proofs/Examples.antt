@@ -1,13 +1,13 @@
 -- Worked examples of the definitions.
 use Rattle.std.proofs.Common.{◌≡◌, ℕ, [], ◌∷◌, replicate, refl, inl}
 use Rattle.bl_layout.specs.Cells.{cell_count}
-use Rattle.bl_frames.specs.Pages.{Released, Open, Held, Retired, Idle, Running, Pages, Stands, IsPage, observed, owned, written, later}
-use Rattle.bl_frames.specs.Frames.{process_at, page_at, owner_at, state_at, place_at, smallest, OwnerIs, share, taking_in, giving_back, given_back, joined}
+use Rattle.bl_store_rule.specs.Pages.{Released, Open, Held, Retired, Idle, Running, Pages, Stands, IsPage, observed, owned, written, later}
+use Rattle.bl_store_rule.specs.Frames.{process_at, page_at, owner_at, state_at, place_at, smallest, OwnerIs, share, taking_in, giving_back, given_back, joined}
 use Rattle.bl_store.specs.Opening.{first_pages}
-use Rattle.bl_frames.specs.Observed.{draft, lower}
+use Rattle.bl_store_rule.specs.Observed.{draft, lower}
 use Rattle.bl_store.specs.Hands.{drafts}
 use Rattle.bl_store.specs.Closing.{left_of}
-use Rattle.bl_frames.specs.declared.view.View.{View}
+use Rattle.bl_store_rule.specs.declared.view.View.{View}
 
 -- Two pages, of which the second has only zeros, and two hands that know the number 7.
 abbrev start : Pages ℕ

@@ -2,9 +2,9 @@
 use Rattle.std.proofs.Common.{◌≡◌, ap, arith}
 use Rattle.atomic_table.specs.Table.{Me}
 use Rattle.bl_layout.specs.declared.layout.Layout.{Layout}
-use Rattle.bl_frames.specs.Frames.{IsLive}
+use Rattle.bl_store_rule.specs.Frames.{IsLive}
 use Rattle.bl_store.specs.declared.store.Hand.{Hand}
-use Rattle.bl_frames.specs.declared.view.View.{View}
+use Rattle.bl_store_rule.specs.declared.view.View.{View}
 
 module _ {D : Type 0} where
   pub live_hand : (h : Hand D) → IsLive h.seat.me.0

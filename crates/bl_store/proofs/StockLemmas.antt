@@ -3,7 +3,7 @@ use Rattle.std.proofs.Common.{◌≡◌, ℕ, zero, suc, ◌+◌, ◌-◌, ◌<�
 use mathlib.Core.Logic.{dite}
 use native.Mathlib.Decide.{ℕ_discrete}
 use Rattle.std.proofs.lemmas.Grind.{get_or-set_at}
-use Rattle.bl_frames.specs.Observed.{draft}
+use Rattle.bl_store_rule.specs.Observed.{draft}
 use Rattle.bl_store.specs.Hands.{Has, drafts}
 
 drafts_set : (fs : List ℕ) (n m x : ℕ) → n ≤ m → drafts (set fs m x) n ≡ drafts fs n

@@ -5,14 +5,14 @@ use Rattle.std.proofs.lemmas.List.{get_or_append_left, length-append}
 use Rattle.atomic_table.specs.declared.shared.Seat.{Seat}
 use Rattle.bl_layout.specs.declared.layout.Layout.{Layout}
 use Rattle.bl_layout.specs.Words.{frame_count}
-use Rattle.bl_frames.specs.Observed.{draft}
+use Rattle.bl_store_rule.specs.Observed.{draft}
 use Rattle.bl_store.specs.Drafts.{first_words, behind_first, IsSpread}
 use Rattle.bl_store.specs.Hands.{drafts, BeginsAt, IsStockOf}
 use Rattle.bl_store.specs.declared.put.Spread.{Spread}
 use Rattle.bl_store.specs.declared.stock.Stock.{Stock}
-use Rattle.bl_frames.specs.declared.view.Draft.{Draft}
-use Rattle.bl_frames.specs.declared.view.Reading.{Reading}
-use Rattle.bl_frames.specs.declared.view.View.{View}
+use Rattle.bl_store_rule.specs.declared.view.Draft.{Draft}
+use Rattle.bl_store_rule.specs.declared.view.Reading.{Reading}
+use Rattle.bl_store_rule.specs.declared.view.View.{View}
 
 -- the frame that is written, by its words
 pub has_draft : (s : List Draft) (f n : ℕ) (xs : List ℕ) (ds : List Draft) → s ≡ draft f xs ∷ ds → length xs ≡ n → (s ≡ draft f (first_words s) ∷ behind_first s) × (length (first_words s) ≡ n)

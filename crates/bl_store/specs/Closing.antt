@@ -3,8 +3,8 @@ use Rattle.std.specs.Prelude.{◌≡◌, ◌⊎◌, ℕ, ◌%◌, ◌<◌, List,
 use mathlib.Core.Option.{some}
 use lib.ListN.{get_elem?}
 use Rattle.bl_layout.specs.declared.layout.Layout.{Layout}
-use Rattle.bl_frames.specs.Pages.{Owner, Released, Open, Held, Retired, Idle, Pages, Stands, IsPage, IsOrderly}
-use Rattle.bl_frames.specs.Frames.{page_at, owner_at}
+use Rattle.bl_store_rule.specs.Pages.{Owner, Released, Open, Held, Retired, Idle, Pages, Stands, IsPage, IsOrderly}
+use Rattle.bl_store_rule.specs.Frames.{page_at, owner_at}
 use Rattle.bl_store.specs.Hands.{known}
 use Rattle.bl_store.specs.declared.store.Hand.{Hand}
 

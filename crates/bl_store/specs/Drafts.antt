@@ -1,10 +1,10 @@
 -- What a hand has written into the frame that it reserved last.
 use Rattle.std.specs.Prelude.{◌≡◌, ℕ, ◌+◌, ◌*◌, ◌<◌, ◌≤◌, List, [], ◌∷◌, length, slice_index}
 use Rattle.atomic_table.specs.declared.shared.Seat.{Seat}
-use Rattle.bl_frames.specs.Observed.{draft}
+use Rattle.bl_store_rule.specs.Observed.{draft}
 use Rattle.bl_store.specs.declared.put.Spread.{Spread}
-use Rattle.bl_frames.specs.declared.view.Draft.{Draft}
-use Rattle.bl_frames.specs.declared.view.View.{View}
+use Rattle.bl_store_rule.specs.declared.view.Draft.{Draft}
+use Rattle.bl_store_rule.specs.declared.view.View.{View}
 
 abbrev pub first_words : List Draft → List ℕ
 first_words [] = []

@@ -4,18 +4,18 @@ use Rattle.atomic_table.specs.Seated.{TableId}
 use Rattle.atomic_table.specs.declared.shared.Seat.{Seat}
 use Rattle.bl_layout.specs.declared.layout.Layout.{Layout}
 use Rattle.bl_layout.specs.Words.{frame_count}
-use Rattle.bl_frames.specs.Frames.{owner_at, state_at, place_at}
-use Rattle.bl_frames.specs.Observed.{draft, KeepsRefusal}
+use Rattle.bl_store_rule.specs.Frames.{owner_at, state_at, place_at}
+use Rattle.bl_store_rule.specs.Observed.{draft, KeepsRefusal}
 use Rattle.bl_store.specs.declared.stock.Stock.{Stock}
 use Rattle.bl_store.specs.declared.stock.NoRoom.{NoRoom}
 use Rattle.bl_store.specs.declared.stock.NoRoom.TheVariants.{Pages, Frames, Clock}
 use Rattle.bl_store.specs.declared.store.Glance.{Glance}
-use Rattle.bl_frames.specs.declared.view.Draft.{Draft}
-use Rattle.bl_frames.specs.declared.view.Dropping.TheVariants.{Empty}
-use Rattle.bl_frames.specs.declared.view.Reading.{Reading}
-use Rattle.bl_frames.specs.declared.view.Reading.TheVariants.{Nowhere, At}
-use Rattle.bl_frames.specs.declared.view.View.{View}
-use Rattle.bl_frames.specs.declared.view.Stamp.TheVariants.{Out, In}
+use Rattle.bl_store_rule.specs.declared.view.Draft.{Draft}
+use Rattle.bl_store_rule.specs.declared.view.Dropping.TheVariants.{Empty}
+use Rattle.bl_store_rule.specs.declared.view.Reading.{Reading}
+use Rattle.bl_store_rule.specs.declared.view.Reading.TheVariants.{Nowhere, At}
+use Rattle.bl_store_rule.specs.declared.view.View.{View}
+use Rattle.bl_store_rule.specs.declared.view.Stamp.TheVariants.{Out, In}
 
 -- the number is in the list
 abbrev pub Has : List ℕ → ℕ → Type 0
@@ -73,8 +73,8 @@ module _ {D : Type 0} where
   IsSameHand h h' = (h'.table_id ≡ h.table_id) × (h'.me.0.layout ≡ h.me.0.layout) × (h'.me.0.number ≡ h.me.0.number)
 
   -- it goes on with its process, or stays outside one
-  abbrev pub IsSameStage : Seat (Unit {0}) (View D) → Seat (Unit {0}) (View D) → Type 0
-  IsSameStage h h' = h'.me.0.stamp ≡ h.me.0.stamp
+  abbrev pub IsSameStamp : Seat (Unit {0}) (View D) → Seat (Unit {0}) (View D) → Type 0
+  IsSameStamp h h' = h'.me.0.stamp ≡ h.me.0.stamp
 
   -- the same frames are reserved, with leave for as many puts and retirements
   abbrev pub IsSameStock : Seat (Unit {0}) (View D) → Seat (Unit {0}) (View D) → Type 0

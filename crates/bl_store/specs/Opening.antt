@@ -5,8 +5,8 @@ use mathlib.Core.Option.{some}
 use lib.ListN.{get_elem?}
 use Rattle.bl_layout.specs.declared.layout.Layout.{Layout}
 use Rattle.bl_layout.specs.Words.{frame_count}
-use Rattle.bl_frames.specs.Pages.{Owner, Released, Open, Idle, Pages, IsOrderly}
-use Rattle.bl_frames.specs.Frames.{Frame, free, Shows, share}
+use Rattle.bl_store_rule.specs.Pages.{Owner, Released, Open, Idle, Pages, IsOrderly}
+use Rattle.bl_store_rule.specs.Frames.{Frame, free, Shows, share}
 use Rattle.atomic_table.specs.Seated.{TableId}
 use Rattle.bl_store.specs.declared.store.Hand.{Hand}
 

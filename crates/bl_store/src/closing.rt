@@ -5,15 +5,15 @@ ghost use mathlib.Core.Option.{some};
 ghost use lib.ListN.{get_elem?};
 ghost use Rattle.bl_layout.specs.Words.{frame_count};
 ghost use Rattle.bl_layout.specs.Cells.{cell_count};
-ghost use Rattle.bl_frames.specs.Frames.{page_at, owner_at, place_at};
+ghost use Rattle.bl_store_rule.specs.Frames.{page_at, owner_at, place_at};
 ghost use Rattle.bl_store.specs.Hands.{IsIdle};
 ghost use Rattle.bl_store.specs.Closing.{HasEach, IsClosed, IsGone};
 
 use crate::meeting::TakeIn;
 use crate::store::{Hand, Store};
 use atomic_table::Closed;
-use bl_frames::PageRule;
 use bl_layout::Layout;
+use bl_store_rule::PageRule;
 use std::alloc::Allocator;
 
 impl<D, R: PageRule<D>, A: Allocator> Store<D, R, A> {

@@ -1,12 +1,12 @@
 //! One hand learns of another: the other's seat is taken in for the time of a load, and given back.
 ghost use Rattle.std.specs.Prelude.{◌≡◌};
-ghost use Rattle.bl_frames.specs.Pages.{Meets};
-ghost use Rattle.bl_store.specs.Hands.{known, IsIdle, IsSameHand, IsSameStage, IsSameStock, HasNoStock};
+ghost use Rattle.bl_store_rule.specs.Pages.{Meets};
+ghost use Rattle.bl_store.specs.Hands.{known, IsIdle, IsSameHand, IsSameStamp, IsSameStock, HasNoStock};
 
 use crate::store::{Hand, Store};
 use atomic_table::{Join, Split};
-use bl_frames::plays::Met;
-use bl_frames::{MeetPlay, PageRule, View};
+use bl_store_rule::plays::Met;
+use bl_store_rule::{MeetPlay, PageRule, View};
 use std::alloc::Allocator;
 use std::marker::PhantomData;
 use std::mem;
@@ -15,7 +15,7 @@ use std::mem;
 pub(crate) struct Blank;
 
 impl<D> Split<View<D>> for Blank {
-    ghost use Rattle.bl_frames.specs.Frames.{without_hand};
+    ghost use Rattle.bl_store_rule.specs.Frames.{without_hand};
 
     ghost left = { λ v. v };
 
@@ -28,7 +28,7 @@ pub(crate) struct TakeIn<R> {
 }
 
 impl<D, R: PageRule<D>> Join<View<D>> for TakeIn<R> {
-    ghost use Rattle.bl_frames.specs.Frames.{spent_view, taking_in};
+    ghost use Rattle.bl_store_rule.specs.Frames.{spent_view, taking_in};
 
     ghost both = { taking_in };
 
@@ -39,7 +39,7 @@ impl<D, R: PageRule<D>> Join<View<D>> for TakeIn<R> {
 pub(crate) struct GiveBack;
 
 impl<D> Split<View<D>> for GiveBack {
-    ghost use Rattle.bl_frames.specs.Frames.{giving_back, given_back};
+    ghost use Rattle.bl_store_rule.specs.Frames.{giving_back, given_back};
 
     ghost left = { giving_back };
 
@@ -55,7 +55,7 @@ impl<D, R: PageRule<D>, A: Allocator> Store<D, R, A> {
         requires own { IsHandOf self.now hand.old × IsHandOf self.now other.old }
         requires other { IsIdle other.old.seat × HasNoStock other.old.seat }
         requires rule { Meets R.holds self.now.layout hand.old.number (known hand.old.seat) other.old.number (known other.old.seat) M.then }
-        ensures same { IsSameHand hand.old.seat hand.new.seat × IsSameStage hand.old.seat hand.new.seat × IsSameStock hand.old.seat hand.new.seat }
+        ensures same { IsSameHand hand.old.seat hand.new.seat × IsSameStamp hand.old.seat hand.new.seat × IsSameStock hand.old.seat hand.new.seat }
         ensures other { IsSameHand other.old.seat other.new.seat × IsIdle other.new.seat × HasNoStock other.new.seat
             × (known other.new.seat ≡ known other.old.seat) }
         ensures observed { M.then (known hand.old.seat) (known other.old.seat) (known hand.new.seat) }

@@ -1,15 +1,15 @@
 //! A store is made, and its hands are dealt out.
 ghost use Rattle.std.specs.Prelude.{◌≡◌, ℕ, ◌+◌, ◌<◌, ◌≤◌, ◌^◌, false, [], length, replicate, slice_index_or, IfOk};
 ghost use Rattle.bl_layout.specs.Cells.{cell_count};
-ghost use Rattle.bl_frames.specs.Frames.{share};
+ghost use Rattle.bl_store_rule.specs.Frames.{share};
 ghost use Rattle.bl_store.specs.Opening.{first_pages, padded, is_blank, Laid, IsDealt};
-ghost use Rattle.bl_frames.specs.declared.view.Sealing.TheVariants.{Unsealed};
+ghost use Rattle.bl_store_rule.specs.declared.view.Sealing.TheVariants.{Unsealed};
 
 use crate::room::{Room, first_frame};
 use crate::store::{APART, Hand, RING, Store};
 use atomic_table::{Seat, Split, Table};
-use bl_frames::{Ground, PageRule, View};
 use bl_layout::Layout;
+use bl_store_rule::{Ground, PageRule, View};
 use std::alloc::{AllocError, Global};
 use std::mem;
 use std::snapshot::Snapshot;
@@ -21,7 +21,7 @@ const PUTS_BETWEEN: u32 = 8;
 pub(crate) struct Deal;
 
 impl<D> Split<View<D>> for Deal {
-    ghost use Rattle.bl_frames.specs.Frames.{own_share, next_share};
+    ghost use Rattle.bl_store_rule.specs.Frames.{own_share, next_share};
 
     ghost left = { own_share };
 

@@ -1,15 +1,15 @@
 //! Latches, and the retirement of a page.
 ghost use Rattle.std.specs.Prelude.{◌≡◌, ℕ, ◌+◌, ◌<◌, ◌≤◌, ◌↔◌, List, [], IsTrue};
-ghost use Rattle.bl_frames.specs.Pages.{Owner, Open, Held, Latches, Misses, Probes, Opens, Retires};
-ghost use Rattle.bl_store.specs.Hands.{known, IsOf, IsSameHand, IsSameStage, IsSameStock, IsSameRefusal, MayRetire};
-ghost use Rattle.bl_frames.specs.declared.view.Sealing.TheVariants.{Unsealed, Sealed};
-ghost use Rattle.bl_frames.specs.Frames.{IsLive};
+ghost use Rattle.bl_store_rule.specs.Pages.{Owner, Open, Held, Latches, Misses, Probes, Opens, Retires};
+ghost use Rattle.bl_store.specs.Hands.{known, IsOf, IsSameHand, IsSameStamp, IsSameStock, IsSameRefusal, MayRetire};
+ghost use Rattle.bl_store_rule.specs.declared.view.Sealing.TheVariants.{Unsealed, Sealed};
+ghost use Rattle.bl_store_rule.specs.Frames.{IsLive};
 
 use crate::store::{Hand, Store};
 use atomic_table::Seat;
-use bl_frames::plays::{Aim, Open, Publish, Seal, Try};
-use bl_frames::{PagePlay, PageRule, TimePlay, View};
 use bl_layout::{held_by, retired_at};
+use bl_store_rule::plays::{Aim, Open, Publish, Seal, Try};
+use bl_store_rule::{PagePlay, PageRule, TimePlay, View};
 use std::alloc::Allocator;
 use std::marker::Brand;
 
@@ -22,7 +22,7 @@ impl<D, R: PageRule<D>, A: Allocator> Store<D, R, A> {
         requires page { page < self.now.layout.pages }
         requires latches { Latches R.holds self.now.layout hand.old.number (known hand.old.seat) page M.then }
         requires misses { Misses R.holds self.now.layout hand.old.number (known hand.old.seat) page M.then }
-        ensures same { IsSameHand hand.old.seat hand.new.seat × IsSameStage hand.old.seat hand.new.seat × IsSameStock hand.old.seat hand.new.seat }
+        ensures same { IsSameHand hand.old.seat hand.new.seat × IsSameStamp hand.old.seat hand.new.seat × IsSameStock hand.old.seat hand.new.seat }
         ensures observed { (owner : Owner) × (words : List ℕ) × (IsTrue result ↔ (owner ≡ Owner.Open))
             × M.then (known hand.old.seat) page owner words (known hand.new.seat) }
     {
@@ -40,7 +40,7 @@ impl<D, R: PageRule<D>, A: Allocator> Store<D, R, A> {
         requires own { IsHandOf self.now hand.old }
         requires page { page < self.now.layout.pages }
         requires rule { Probes R.holds self.now.layout hand.old.number (known hand.old.seat) page M.then }
-        ensures same { IsSameHand hand.old.seat hand.new.seat × IsSameStage hand.old.seat hand.new.seat × IsSameStock hand.old.seat hand.new.seat }
+        ensures same { IsSameHand hand.old.seat hand.new.seat × IsSameStamp hand.old.seat hand.new.seat × IsSameStock hand.old.seat hand.new.seat }
         ensures observed { (owner : Owner) × (words : List ℕ) × (IsTrue result ↔ (owner ≡ Owner.Open))
             × M.then (known hand.old.seat) page owner words (known hand.new.seat) }
     {
@@ -53,7 +53,7 @@ impl<D, R: PageRule<D>, A: Allocator> Store<D, R, A> {
         requires own { IsHandOf self.now hand.old }
         requires page { page < self.now.layout.pages }
         requires rule { Opens R.holds self.now.layout hand.old.number (known hand.old.seat) page M.then }
-        ensures same { IsSameHand hand.old.seat hand.new.seat × IsSameStage hand.old.seat hand.new.seat × IsSameStock hand.old.seat hand.new.seat }
+        ensures same { IsSameHand hand.old.seat hand.new.seat × IsSameStamp hand.old.seat hand.new.seat × IsSameStock hand.old.seat hand.new.seat }
         ensures refusal { IsSameRefusal hand.old.seat hand.new.seat }
         ensures observed { (words : List ℕ) × M.then (known hand.old.seat) page (Held hand.old.number) words (known hand.new.seat) }
     {
@@ -67,7 +67,7 @@ impl<D, R: PageRule<D>, A: Allocator> Store<D, R, A> {
         requires page { page < self.now.layout.pages }
         requires leave { MayRetire hand.old.seat }
         requires rule { Retires R.holds self.now.layout hand.old.number (known hand.old.seat) page M.then }
-        ensures same { IsSameHand hand.old.seat hand.new.seat × IsSameStage hand.old.seat hand.new.seat }
+        ensures same { IsSameHand hand.old.seat hand.new.seat × IsSameStamp hand.old.seat hand.new.seat }
         ensures stock { (hand.new.seat.me.0.stock ≡ hand.old.seat.me.0.stock) × (hand.new.seat.me.0.puts ≡ hand.old.seat.me.0.puts) }
         ensures observed { (time : ℕ) × M.then (known hand.old.seat) time (known hand.new.seat) }
     {
@@ -87,7 +87,7 @@ impl<D, R: PageRule<D>, A: Allocator> Store<D, R, A> {
         requires leave { MayRetire seat.old }
         requires hand { IsLive seat.old.me.0 × (seat.old.me.0.sealing ≡ Unsealed) × (seat.old.me.1 ≡ []) }
         requires rule { Retires R.holds self.now.layout seat.old.me.0.number (known seat.old) page M.then }
-        ensures same { IsSameHand seat.old seat.new × IsSameStage seat.old seat.new }
+        ensures same { IsSameHand seat.old seat.new × IsSameStamp seat.old seat.new }
         ensures stock { (seat.new.me.0.stock ≡ seat.old.me.0.stock) × (seat.new.me.0.puts ≡ seat.old.me.0.puts) }
         ensures sealed { (seat.new.me.0.sealing ≡ Sealed page result) × (result < 2305843009213693952) × (seat.new.me.1 ≡ []) }
         ensures observed { M.then (known seat.old) result (known seat.new) }

@@ -2,19 +2,19 @@
 ghost use Rattle.std.specs.Prelude.{◌≡◌, ℕ, ◌+◌, ◌*◌, ◌-◌, ◌<◌, ◌≤◌, List, [], ◌∷◌, length, slice_index};
 ghost use Rattle.bl_layout.specs.Words.{frame_count};
 ghost use Rattle.bl_store.specs.Drafts.{draft_words, other_drafts, HasDraft, IsSpread};
-ghost use Rattle.bl_frames.specs.Frames.{place_at};
-ghost use Rattle.bl_frames.specs.Pages.{Held, Puts};
-ghost use Rattle.bl_store.specs.Hands.{known, read_words, IsSameHand, IsSameReading, IsSameStage, IsQuiet, IsStockOf, HasRetired, ReadsFrom};
-ghost use Rattle.bl_frames.specs.Observed.{draft};
-ghost use Rattle.bl_frames.specs.declared.view.Draft.{Draft};
-ghost use Rattle.bl_frames.specs.declared.view.Dropping.TheVariants.{Dropped};
+ghost use Rattle.bl_store_rule.specs.Frames.{place_at};
+ghost use Rattle.bl_store_rule.specs.Pages.{Held, Puts};
+ghost use Rattle.bl_store.specs.Hands.{known, read_words, IsSameHand, IsSameReading, IsSameStamp, IsQuiet, IsStockOf, HasRetired, ReadsFrom};
+ghost use Rattle.bl_store_rule.specs.Observed.{draft};
+ghost use Rattle.bl_store_rule.specs.declared.view.Draft.{Draft};
+ghost use Rattle.bl_store_rule.specs.declared.view.Dropping.TheVariants.{Dropped};
 
 use crate::stock::Stock;
 use crate::store::{Glance, Hand, RING, Store};
-use crate::sweep::LOOKS;
-use bl_frames::plays::{Confirm, Settle, Swap, Tick, Write};
-use bl_frames::{PagePlay, PageRule};
+use crate::sweep::OWNERS_A_SWEEP;
 use bl_layout::retired_at;
+use bl_store_rule::plays::{Confirm, Settle, Swap, Tick, Write};
+use bl_store_rule::{PagePlay, PageRule};
 use std::alloc::Allocator;
 
 /// How the words of a page are to change: they get another first one, and two words enter behind 4 + 2 * place of them.
@@ -49,7 +49,7 @@ impl<D, R: PageRule<D>, A: Allocator> Store<D, R, A> {
         requires page { page < self.now.layout.pages }
         requires stock { IsStockOf hand.old.seat stock.old × (0 < stock.old.count) }
         requires rule { Puts R.holds self.now.layout hand.old.number (known hand.old.seat) page words.now M.then }
-        ensures same { IsSameHand hand.old.seat hand.new.seat × IsSameStage hand.old.seat hand.new.seat
+        ensures same { IsSameHand hand.old.seat hand.new.seat × IsSameStamp hand.old.seat hand.new.seat
             × (hand.new.seat.me.0.retires ≡ hand.old.seat.me.0.retires) }
         ensures stock { IsStockOf hand.new.seat stock.new × (stock.new.count + 1 ≡ stock.old.count) × (stock.new.page ≡ stock.old.page) }
         ensures observed { (old : List ℕ) × M.then (known hand.old.seat) page (Held hand.old.number) old (known hand.new.seat) }
@@ -80,7 +80,7 @@ impl<D, R: PageRule<D>, A: Allocator> Store<D, R, A> {
         requires stock { IsStockOf hand.old.seat stock.old × (0 < stock.old.count) }
         requires rule { (words : List ℕ) × IsSpread change (read_words hand.old.seat) words
             × Puts R.holds self.now.layout hand.old.number (known hand.old.seat) page words M.then }
-        ensures same { IsSameHand hand.old.seat hand.new.seat × IsSameStage hand.old.seat hand.new.seat
+        ensures same { IsSameHand hand.old.seat hand.new.seat × IsSameStamp hand.old.seat hand.new.seat
             × (hand.new.seat.me.0.retires ≡ hand.old.seat.me.0.retires) }
         ensures stock { IsStockOf hand.new.seat stock.new × (stock.new.count + 1 ≡ stock.old.count) × (stock.new.page ≡ stock.old.page) }
         ensures observed { (old : List ℕ) × M.then (known hand.old.seat) page (Held hand.old.number) old (known hand.new.seat) }
@@ -100,7 +100,7 @@ impl<D, R: PageRule<D>, A: Allocator> Store<D, R, A> {
         requires ticks { 0 < hand.old.seat.me.0.puts }
         requires draft { HasDraft hand.old.seat frame 32 }
         requires rule { Puts R.holds self.now.layout hand.old.number (known hand.old.seat) page (draft_words hand.old.seat) M.then }
-        ensures same { IsSameHand hand.old.seat hand.new.seat × IsSameStage hand.old.seat hand.new.seat
+        ensures same { IsSameHand hand.old.seat hand.new.seat × IsSameStamp hand.old.seat hand.new.seat
             × (hand.new.seat.me.0.retires ≡ hand.old.seat.me.0.retires) }
         ensures stock { (hand.new.seat.me.0.stock ≡ other_drafts hand.old.seat) × (hand.old.seat.me.0.puts ≤ hand.new.seat.me.0.puts + 1) }
         ensures observed { (old : List ℕ) × M.then (known hand.old.seat) page (Held hand.old.number) old (known hand.new.seat) }
@@ -275,7 +275,7 @@ impl<D, R: PageRule<D>, A: Allocator> Store<D, R, A> {
         requires own { IsHandOf self.now hand.old }
         requires frame { (frame < frame_count self.now.layout) × (hand.old.seat.me.0.dropping ≡ Dropped frame) }
         requires ticks { 0 < hand.old.seat.me.0.puts }
-        ensures same { IsSameHand hand.old.seat hand.new.seat × IsSameStage hand.old.seat hand.new.seat × (known hand.new.seat ≡ known hand.old.seat) }
+        ensures same { IsSameHand hand.old.seat hand.new.seat × IsSameStamp hand.old.seat hand.new.seat × (known hand.new.seat ≡ known hand.old.seat) }
         ensures stock { (hand.new.seat.me.0.stock ≡ hand.old.seat.me.0.stock) × (hand.new.seat.me.0.puts + 1 ≡ hand.old.seat.me.0.puts)
             × (hand.new.seat.me.0.retires ≡ hand.old.seat.me.0.retires) }
         ensures retired { HasRetired hand.new.seat }
@@ -305,15 +305,15 @@ impl<D, R: PageRule<D>, A: Allocator> Store<D, R, A> {
             hand.retired[hand.waiting as usize] = frame;
             hand.waiting += 1;
         } else {
-            hand.owed = (self.layout.pages + self.layout.frames()) / LOOKS + 1;
+            hand.owed = (self.layout.pages + self.layout.frames()) / OWNERS_A_SWEEP + 1;
         }
         // With few frames to spare none may wait for long.
-        let patience = if self.layout.spare / SPARE_FRAMES >= self.layout.passes {
+        let puts_to_sweep = if self.layout.spare / SPARE_FRAMES >= self.layout.passes {
             PUTS_TO_SWEEP
         } else {
             1
         };
-        if hand.unswept >= patience && hand.owed == 0 {
+        if hand.unswept >= puts_to_sweep && hand.owed == 0 {
             hand.owed = 1;
         }
     }

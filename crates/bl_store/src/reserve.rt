@@ -1,17 +1,17 @@
 //! Reservations of frames and of a page.
 ghost use Rattle.std.specs.Prelude.{◌≡◌, ◌≢◌, ◌⊎◌, ℕ, ◌+◌, ◌*◌, ◌<◌, ◌≤◌, ◌↔◌, true, false, List, [], ◌∷◌, length, IfOk, IfErr, IfSome, IfNone, IsTrue, Some, None};
 ghost use Rattle.bl_layout.specs.Words.{frame_count};
-ghost use Rattle.bl_frames.specs.Pages.{Released, Takes, Refuses};
-ghost use Rattle.bl_frames.specs.Frames.{owner_at};
-ghost use Rattle.bl_frames.specs.Observed.{wanted};
-ghost use Rattle.bl_store.specs.Hands.{known, IsSameHand, IsSameReading, IsSameStage, IsSameStock, IsQuiet, HasNoStock, IsStockOf, MayRetire, SawTaken, IsTried, IsWhy, WasRefused};
+ghost use Rattle.bl_store_rule.specs.Pages.{Released, Takes, Refuses};
+ghost use Rattle.bl_store_rule.specs.Frames.{owner_at};
+ghost use Rattle.bl_store_rule.specs.Observed.{wanted};
+ghost use Rattle.bl_store.specs.Hands.{known, IsSameHand, IsSameReading, IsSameStamp, IsSameStock, IsQuiet, HasNoStock, IsStockOf, MayRetire, SawTaken, IsTried, IsWhy, WasRefused};
 
 use crate::room::end_near;
 use crate::stock::{NoRoom, Stock};
 use crate::store::{Hand, RING, Store};
-use bl_frames::plays::{Allot, Ask, Note, Refuse, Reserve, Return, Take};
-use bl_frames::{PagePlay, PageRule, TimePlay};
 use bl_layout::held_by;
+use bl_store_rule::plays::{Allot, Ask, Note, Refuse, Reserve, Return, Take};
+use bl_store_rule::{PagePlay, PageRule, TimePlay};
 use std::alloc::Allocator;
 use std::marker::Brand;
 
@@ -37,7 +37,7 @@ impl<D, R: PageRule<D>, A: Allocator> Store<D, R, A> {
         requires empty { HasNoStock hand.old.seat }
         requires takes { pages ≡ 1 → (x : ℕ) → Takes R.holds self.now.layout hand.old.number (known hand.old.seat) x T.then }
         requires refuses { Refuses R.holds self.now.layout hand.old.number (known hand.old.seat) M.then }
-        ensures same { IsSameHand hand.old.seat hand.new.seat × IsSameStage hand.old.seat hand.new.seat }
+        ensures same { IsSameHand hand.old.seat hand.new.seat × IsSameStamp hand.old.seat hand.new.seat }
         ensures stock { IfOk result (λ s. IsStockOf hand.new.seat s × (s.count ≡ frames) × MayRetire hand.new.seat) }
         ensures no_page { pages ≡ 0 → IfOk result (λ s. (s.page ≡ None) × (known hand.new.seat ≡ known hand.old.seat)) }
         ensures page { pages ≡ 1
@@ -84,7 +84,7 @@ impl<D, R: PageRule<D>, A: Allocator> Store<D, R, A> {
         requires own { IsHandOf self.now hand.old }
         requires asked { (pages ≡ J.pages) × (frames ≡ J.frames) }
         requires refuses { Refuses R.holds self.now.layout hand.old.number (known hand.old.seat) M.then }
-        ensures same { IsSameHand hand.old.seat hand.new.seat × IsSameStage hand.old.seat hand.new.seat }
+        ensures same { IsSameHand hand.old.seat hand.new.seat × IsSameStamp hand.old.seat hand.new.seat }
         ensures stock { (hand.new.seat.me.0.stock ≡ hand.old.seat.me.0.stock) × (hand.new.seat.me.0.seen ≡ hand.old.seat.me.0.seen)
             × (hand.new.seat.me.0.got ≡ hand.old.seat.me.0.got) }
         ensures refused { hand.new.seat.me.0.refused ≡ Some (wanted pages frames) }
@@ -154,7 +154,7 @@ impl<D, R: PageRule<D>, A: Allocator> Store<D, R, A> {
     #[inline(always)]
     fn prepare(&self, hand: &mut Hand<D>, frames: u32)
         requires own { IsHandOf self.now hand.old }
-        ensures same { IsSameHand hand.old.seat hand.new.seat × IsSameStage hand.old.seat hand.new.seat × IsSameStock hand.old.seat hand.new.seat
+        ensures same { IsSameHand hand.old.seat hand.new.seat × IsSameStamp hand.old.seat hand.new.seat × IsSameStock hand.old.seat hand.new.seat
             × (known hand.new.seat ≡ known hand.old.seat) }
         ensures reads { IsSameReading hand.old.seat hand.new.seat }
     {
@@ -260,7 +260,7 @@ impl<D, R: PageRule<D>, A: Allocator> Store<D, R, A> {
     fn take<T: PagePlay<D>>(&self, hand: &mut Hand<D>) -> Option<u32>
         requires own { IsHandOf self.now hand.old }
         requires takes { (x : ℕ) → Takes R.holds self.now.layout hand.old.number (known hand.old.seat) x T.then }
-        ensures same { IsSameHand hand.old.seat hand.new.seat × IsSameStage hand.old.seat hand.new.seat × IsSameStock hand.old.seat hand.new.seat }
+        ensures same { IsSameHand hand.old.seat hand.new.seat × IsSameStamp hand.old.seat hand.new.seat × IsSameStock hand.old.seat hand.new.seat }
         ensures page { IfSome result (λ x. (0 < x) × (x < self.now.layout.pages)
             × ((words : List ℕ) × T.then (known hand.old.seat) x Released words (known hand.new.seat))) }
         ensures none { IfNone result ((known hand.new.seat ≡ known hand.old.seat)
@@ -282,7 +282,7 @@ impl<D, R: PageRule<D>, A: Allocator> Store<D, R, A> {
         requires own { IsHandOf self.now hand.old }
         requires range { (0 < from) × (from ≤ to) × (to ≤ self.now.layout.pages) }
         requires takes { (x : ℕ) → Takes R.holds self.now.layout hand.old.number (known hand.old.seat) x T.then }
-        ensures same { IsSameHand hand.old.seat hand.new.seat × IsSameStage hand.old.seat hand.new.seat × IsSameStock hand.old.seat hand.new.seat }
+        ensures same { IsSameHand hand.old.seat hand.new.seat × IsSameStamp hand.old.seat hand.new.seat × IsSameStock hand.old.seat hand.new.seat }
         ensures page { IfSome result (λ x. (0 < x) × (x < self.now.layout.pages)
             × ((words : List ℕ) × T.then (known hand.old.seat) x Released words (known hand.new.seat))) }
         ensures none { IfNone result ((known hand.new.seat ≡ known hand.old.seat)
@@ -303,7 +303,7 @@ impl<D, R: PageRule<D>, A: Allocator> Store<D, R, A> {
         requires own { IsHandOf self.now hand.old }
         requires page { page < self.now.layout.pages }
         requires takes { Takes R.holds self.now.layout hand.old.number (known hand.old.seat) page T.then }
-        ensures same { IsSameHand hand.old.seat hand.new.seat × IsSameStage hand.old.seat hand.new.seat × IsSameStock hand.old.seat hand.new.seat }
+        ensures same { IsSameHand hand.old.seat hand.new.seat × IsSameStamp hand.old.seat hand.new.seat × IsSameStock hand.old.seat hand.new.seat }
         ensures taken { result ≡ true → (words : List ℕ) × T.then (known hand.old.seat) page Released words (known hand.new.seat) }
         ensures missed { result ≡ false → (known hand.new.seat ≡ known hand.old.seat) × SawTaken hand.new.seat (owner_at self.now.layout page)
             × ((i : ℕ) → SawTaken hand.old.seat i → SawTaken hand.new.seat i) }

@@ -5,7 +5,7 @@ ghost use Rattle.std.specs.Prelude.{◌≤◌};
 ghost use Rattle.bl_layout.specs.Words.{frame_count};
 
 use crate::store::{Hand, RING, Store};
-use bl_frames::PageRule;
+use bl_store_rule::PageRule;
 use std::alloc::Allocator;
 
 /// How many frames a reservation asks for at most.

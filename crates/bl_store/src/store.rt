@@ -2,17 +2,17 @@
 ghost use Rattle.std.specs.Prelude.{◌≡◌, ◌≢◌, ℕ, ◌+◌, ◌*◌, ◌<◌, ◌≤◌, true, false, List, [], length, slice_index, Some, None, IfSome};
 ghost use Rattle.bl_layout.specs.Words.{frame_count};
 ghost use Rattle.bl_layout.specs.Cells.{cell_count};
-ghost use Rattle.bl_frames.specs.Frames.{process_at, page_at, place_at};
-ghost use Rattle.bl_frames.specs.Pages.{Owner, Begins, Ends, Gets};
-ghost use Rattle.bl_store.specs.Hands.{known, read_words, IsIdle, IsRunning, IsSameHand, IsSameStage, IsSameStock, IsSameRefusal, IsSameLook, ReadsFrom, HasSeen};
-ghost use Rattle.bl_frames.specs.declared.view.Reading.TheVariants.{At};
-ghost use Rattle.bl_frames.specs.declared.view.Sealing.TheVariants.{Unsealed};
+ghost use Rattle.bl_store_rule.specs.Frames.{process_at, page_at, place_at};
+ghost use Rattle.bl_store_rule.specs.Pages.{Owner, Begins, Ends, Gets};
+ghost use Rattle.bl_store.specs.Hands.{known, read_words, IsIdle, IsRunning, IsSameHand, IsSameStamp, IsSameStock, IsSameRefusal, IsSameLook, ReadsFrom, HasSeen};
+ghost use Rattle.bl_store_rule.specs.declared.view.Reading.TheVariants.{At};
+ghost use Rattle.bl_store_rule.specs.declared.view.Sealing.TheVariants.{Unsealed};
 
 use crate::room::Room;
 use atomic_table::{Seat, Table};
-use bl_frames::plays::{Clock, Copy, Enter, Leave, Look, Raise, Renew};
-use bl_frames::{Framed, Ground, PagePlay, PageRule, TimePlay, View};
 use bl_layout::{Layout, PROCESS_CELLS};
+use bl_store_rule::plays::{Clock, Copy, Enter, Leave, Look, Raise, Renew};
+use bl_store_rule::{Framed, Ground, PagePlay, PageRule, TimePlay, View};
 use std::alloc::{Allocator, Global};
 
 /// How many frames a hand keeps in sight that it has retired, and that it has released.
@@ -263,7 +263,7 @@ impl<D, R: PageRule<D>, A: Allocator> Store<D, R, A> {
         requires running { IsRunning hand.old.seat }
         requires page { page < self.now.layout.pages }
         requires rule { Gets R.holds self.now.layout hand.old.number (known hand.old.seat) page M.then }
-        ensures same { IsSameHand hand.old.seat hand.new.seat × IsSameStage hand.old.seat hand.new.seat × IsSameStock hand.old.seat hand.new.seat }
+        ensures same { IsSameHand hand.old.seat hand.new.seat × IsSameStamp hand.old.seat hand.new.seat × IsSameStock hand.old.seat hand.new.seat }
         ensures observed { (owner : Owner) × (words : List ℕ) × HasSeen result hand.new.seat words
             × M.then (known hand.old.seat) page owner words (known hand.new.seat) }
         ensures unread { (glance : Glance) → result ≡ Some glance → glance.used ≡ 0 }
@@ -316,7 +316,7 @@ impl<D, R: PageRule<D>, A: Allocator> Store<D, R, A> {
         requires running { IsRunning hand.old.seat }
         requires page { page < self.now.layout.pages }
         requires rule { Gets R.holds self.now.layout hand.old.number (known hand.old.seat) page M.then }
-        ensures same { IsSameHand hand.old.seat hand.new.seat × IsSameStage hand.old.seat hand.new.seat × IsSameStock hand.old.seat hand.new.seat }
+        ensures same { IsSameHand hand.old.seat hand.new.seat × IsSameStamp hand.old.seat hand.new.seat × IsSameStock hand.old.seat hand.new.seat }
         ensures observed { (owner : Owner) × M.then (known hand.old.seat) page owner result (known hand.new.seat) }
     {
         let mut words = [0u64; 32];
@@ -330,7 +330,7 @@ impl<D, R: PageRule<D>, A: Allocator> Store<D, R, A> {
         requires running { IsRunning hand.old.seat }
         requires page { page < self.now.layout.pages }
         requires rule { Gets R.holds self.now.layout hand.old.number (known hand.old.seat) page M.then }
-        ensures same { IsSameHand hand.old.seat hand.new.seat × IsSameStage hand.old.seat hand.new.seat × IsSameStock hand.old.seat hand.new.seat }
+        ensures same { IsSameHand hand.old.seat hand.new.seat × IsSameStamp hand.old.seat hand.new.seat × IsSameStock hand.old.seat hand.new.seat }
         ensures observed { (owner : Owner) × M.then (known hand.old.seat) page owner words.new (known hand.new.seat) }
     {
         let found = self

@@ -1,17 +1,17 @@
 //! Sweeps: pages and frames that no process can read any more are released.
 ghost use Rattle.std.specs.Prelude.{◌≡◌, ◌⊎◌, ℕ, ◌+◌, ◌*◌, ◌/◌, ◌%◌, ◌^◌, ◌<◌, ◌≤◌, true, false, List, length};
 ghost use Rattle.bl_layout.specs.Words.{frame_count};
-ghost use Rattle.bl_frames.specs.Pages.{Releases, ReleasesMany};
-ghost use Rattle.bl_store.specs.Hands.{known, IsSameHand, IsSameReading, IsSameStage, IsSameStock};
-ghost use Rattle.bl_frames.specs.declared.view.Sweep.TheVariants.{Over};
+ghost use Rattle.bl_store_rule.specs.Pages.{Releases, ReleasesMany};
+ghost use Rattle.bl_store.specs.Hands.{known, IsSameHand, IsSameReading, IsSameStamp, IsSameStock};
+ghost use Rattle.bl_store_rule.specs.declared.view.Sweep.TheVariants.{Over};
 
 use crate::store::{Hand, RING, Store};
-use bl_frames::plays::{Free, Horizon, Pass, Release};
-use bl_frames::{PageRule, SweepPlay};
+use bl_store_rule::plays::{Free, Horizon, Pass, Release};
+use bl_store_rule::{PageRule, SweepPlay};
 use std::alloc::Allocator;
 
 /// How many owner words a sweep looks at, or all where there are fewer.
-pub(crate) const LOOKS: u32 = 64;
+pub(crate) const OWNERS_A_SWEEP: u32 = 64;
 
 /// The number that lies so many behind another one, where the last is followed by 0. A remainder takes longer.
 #[inline(always)]
@@ -70,17 +70,17 @@ impl<D, R: PageRule<D>, A: Allocator> Store<D, R, A> {
     pub fn sweep<M: SweepPlay<D>>(&self, hand: &mut Hand<D>) -> u32
         requires own { IsHandOf self.now hand.old }
         requires rule { ReleasesMany R.holds self.now.layout hand.old.number (known hand.old.seat) M.then }
-        ensures same { IsSameHand hand.old.seat hand.new.seat × IsSameStage hand.old.seat hand.new.seat × IsSameStock hand.old.seat hand.new.seat }
+        ensures same { IsSameHand hand.old.seat hand.new.seat × IsSameStamp hand.old.seat hand.new.seat × IsSameStock hand.old.seat hand.new.seat }
         ensures observed { (pages : ℕ) × (pages ≤ result) × M.then (known hand.old.seat) pages (known hand.new.seat) }
         ensures count { hand.new.seat.me.0.releases ≡ hand.old.seat.me.0.releases + result }
     {
         hand.unswept = 0;
         hand.owed = hand.owed.saturating_sub(1);
         let owners = self.layout.pages + self.layout.frames();
-        let looks = owners.min(LOOKS);
+        let looks = owners.min(OWNERS_A_SWEEP);
         let mine = hand.take_gone();
         let first = mine.unwrap_or(hand.owner) % owners;
-        let mut states = [0u64; LOOKS as usize];
+        let mut states = [0u64; OWNERS_A_SWEEP as usize];
         let mut any = false;
         for i in 0..looks {
             let state = self.table.shared.peek(
@@ -128,7 +128,7 @@ impl<D, R: PageRule<D>, A: Allocator> Store<D, R, A> {
     // A time at which or after which each process began that still runs.
     fn oldest(&self, hand: &mut Hand<D>) -> u64
         requires own { IsHandOf self.now hand.old }
-        ensures same { IsSameHand hand.old.seat hand.new.seat × IsSameStage hand.old.seat hand.new.seat × IsSameStock hand.old.seat hand.new.seat
+        ensures same { IsSameHand hand.old.seat hand.new.seat × IsSameStamp hand.old.seat hand.new.seat × IsSameStock hand.old.seat hand.new.seat
             × (known hand.new.seat ≡ known hand.old.seat) × (hand.new.seat.me.0.releases ≡ hand.old.seat.me.0.releases) }
         ensures swept { hand.new.seat.me.0.sweep ≡ Over result self.now.layout.passes }
         ensures reads { IsSameReading hand.old.seat hand.new.seat }
@@ -153,7 +153,7 @@ impl<D, R: PageRule<D>, A: Allocator> Store<D, R, A> {
     #[inline(never)]
     pub(crate) fn recycle(&self, hand: &mut Hand<D>)
         requires own { IsHandOf self.now hand.old }
-        ensures same { IsSameHand hand.old.seat hand.new.seat × IsSameStage hand.old.seat hand.new.seat × IsSameStock hand.old.seat hand.new.seat
+        ensures same { IsSameHand hand.old.seat hand.new.seat × IsSameStamp hand.old.seat hand.new.seat × IsSameStock hand.old.seat hand.new.seat
             × (known hand.new.seat ≡ known hand.old.seat) }
         ensures reads { IsSameReading hand.old.seat hand.new.seat }
     {
@@ -195,7 +195,7 @@ impl<D, R: PageRule<D>, A: Allocator> Store<D, R, A> {
         requires frame { frame < frame_count self.now.layout }
         requires state { (state % 4 ≡ 3) × (state / 4 < oldest) }
         requires swept { hand.old.seat.me.0.sweep ≡ Over oldest self.now.layout.passes }
-        ensures same { IsSameHand hand.old.seat hand.new.seat × IsSameStage hand.old.seat hand.new.seat × IsSameStock hand.old.seat hand.new.seat
+        ensures same { IsSameHand hand.old.seat hand.new.seat × IsSameStamp hand.old.seat hand.new.seat × IsSameStock hand.old.seat hand.new.seat
             × (known hand.new.seat ≡ known hand.old.seat) × (hand.new.seat.me.0.sweep ≡ hand.old.seat.me.0.sweep) }
         ensures kept { (hand.new.retired ≡ hand.old.retired) × (hand.new.waiting ≡ hand.old.waiting) }
         ensures reads { IsSameReading hand.old.seat hand.new.seat }
@@ -224,7 +224,7 @@ impl<D, R: PageRule<D>, A: Allocator> Store<D, R, A> {
         requires state { (state % 4 ≡ 3) × (state / 4 < oldest) }
         requires swept { hand.old.seat.me.0.sweep ≡ Over oldest self.now.layout.passes }
         requires rule { (x time : ℕ) → Releases R.holds self.now.layout hand.old.number (known hand.old.seat) x time (M.then (known hand.old.seat) 1) }
-        ensures same { IsSameHand hand.old.seat hand.new.seat × IsSameStage hand.old.seat hand.new.seat × IsSameStock hand.old.seat hand.new.seat
+        ensures same { IsSameHand hand.old.seat hand.new.seat × IsSameStamp hand.old.seat hand.new.seat × IsSameStock hand.old.seat hand.new.seat
             × (hand.new.seat.me.0.sweep ≡ hand.old.seat.me.0.sweep) }
         ensures observed { ((result ≡ true) × M.then (known hand.old.seat) 1 (known hand.new.seat)) ⊎ (known hand.new.seat ≡ known hand.old.seat) }
         ensures yes { result ≡ true → hand.new.seat.me.0.releases ≡ hand.old.seat.me.0.releases + 1 }

@@ -5,7 +5,7 @@ use lib.ListN.{get_elem?}
 use Rattle.bl_page.specs.declared.machine.Missed.{Missed}
 use Rattle.bl_page.specs.Machine.{Name, Steps}
 use Rattle.bl_page.specs.Machine as machine
-use Rattle.bl_frames.specs.Pages.{Owner, Released, Open, Held, Retired, Stage, Idle, Running, Pages, Stands, IsPage, HoldsNone, AllBeganAfter, observed, owned, written, later}
+use Rattle.bl_store_rule.specs.Pages.{Owner, Released, Open, Held, Retired, Stage, Idle, Running, Pages, Stands, IsPage, HoldsNone, AllBeganAfter, observed, owned, written, later}
 
 abbrev pub name : (ℕ → ℕ) → ℕ → Name
 name ended n = record { pass = n; number = ended n }

@@ -8,18 +8,18 @@ use Rattle.bl_page.specs.Machine.Act.{End}
 use Rattle.bl_page.specs.Machine.Phase.{Waiting, Ended}
 use Rattle.bl_claims.specs.Trails.{Said, marks_of, history_of, SaysAt, DoesAt, HasSaid}
 use Rattle.bl_claims.specs.Moments.{snapshot_of, HasLaws}
-use Rattle.bl_core.specs.Worlds.{IsStage, World as ModelWorld, IsSure, IsGood}
-use Rattle.bl_proc_base.specs.declared.answers.Answer.{Answer}
-use Rattle.bl_proc_base.specs.declared.answers.Answer.TheVariants as answer
-use Rattle.bl_proc_base.specs.declared.answers.Hint.{Hint}
-use Rattle.bl_proc_base.specs.declared.answers.Posted.{Posted}
-use Rattle.bl_proc_writes.specs.declared.posting.Post.{Post}
-use Rattle.bl_proc_base.specs.declared.answers.Squeezed.{Squeezed}
-use Rattle.bl_proc_base.specs.declared.lowering.Lowered.{Lowered}
+use Rattle.bl_tree_worlds.specs.Worlds.{IsStage, World as ModelWorld, IsSure, IsGood}
+use Rattle.bl_proc_steps.specs.declared.answers.Answer.{Answer}
+use Rattle.bl_proc_steps.specs.declared.answers.Answer.TheVariants as answer
+use Rattle.bl_proc_steps.specs.declared.answers.Hint.{Hint}
+use Rattle.bl_proc_steps.specs.declared.answers.Posted.{Posted}
+use Rattle.bl_proc_writes.specs.declared.post.Post.{Post}
+use Rattle.bl_proc_steps.specs.declared.answers.Squeezed.{Squeezed}
+use Rattle.bl_proc_steps.specs.declared.lowering.Lowered.{Lowered}
 use Rattle.bl_proc.specs.declared.lowering.Lower.{Lower}
-use Rattle.bl_proc_writes.specs.declared.climbing.InsertPost.{InsertPost}
-use Rattle.bl_proc_compress.specs.declared.squeezing.Compress.{Compress}
-use Rattle.bl_proc_base.specs.declared.answers.Reclaimed.{Reclaimed}
+use Rattle.bl_proc_writes.specs.declared.insert_post.InsertPost.{InsertPost}
+use Rattle.bl_proc_compress.specs.declared.compress.Compress.{Compress}
+use Rattle.bl_proc_steps.specs.declared.answers.Reclaimed.{Reclaimed}
 use Rattle.bl_proc.specs.declared.reclaiming.ReclaimStage.{ReclaimStage}
 use Rattle.bl_proc.specs.declared.reclaiming.ReclaimStage.TheVariants as reclaim
 use Rattle.bl_proc.specs.Reclaims.{reclaim_answer_in}
@@ -35,7 +35,7 @@ use Rattle.bl_proc_invariant.proofs.Answered.{post_means}
 use Rattle.bl_proc_invariant.proofs.Beside.{beside_means}
 use Rattle.bl_proc_invariant.specs.Beside.{MeansBeside}
 use Rattle.bl_proc_invariant.specs.Logs.{proc_log}
-use Rattle.bl_proc_invariant.proofs.Pressed.{compress_means}
+use Rattle.bl_proc_invariant.proofs.CompressAnswers.{compress_means}
 use Rattle.bl_proc_invariant.proofs.LoweringLogs.{lower_means}
 use Rattle.bl_proc_invariant.proofs.ClimbingAnswers.{climb_means}
 use Rattle.bl_proc_invariant.proofs.Starting.{run_laws}
@@ -55,7 +55,7 @@ use Rattle.bl_world.proofs.ReclaimArms.{named}
 use Rattle.bl_world.proofs.Moments.{world_map}
 use Rattle.bl_world.proofs.Orders.{ordered, ended_in, none_released}
 use Rattle.bl_world.proofs.Entries.{said_op, answered_said, climb_answered, answered_late}
-use Rattle.bl_proc_unique.proofs.RefusedAnswers.{answers_refused}
+use Rattle.bl_proc_deterministic.proofs.RefusedAnswers.{answers_refused}
 use Rattle.bl_world.proofs.Ways.{events_count, first_refused}
 use Rattle.bl_world.proofs.Keeping.{Has, GrowsTo}
 

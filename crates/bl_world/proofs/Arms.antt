@@ -12,11 +12,11 @@ use Rattle.bl_page.specs.Machine.{State, Act as MachineAct, Owner as MachineOwne
 use Rattle.bl_page.specs.Machine.Owner.{Held as MachineHeld, Retired as MachineRetired}
 use Rattle.bl_page.specs.Machine.Phase.{Running, Ended}
 use Rattle.bl_page.specs.Machine.Looked.{Page as OfPage}
-use Rattle.bl_core.proofs.After.{put_at, is_put_at, put_name, is_put_name}
-use Rattle.bl_proc_base.specs.declared.acts.Action.{Action}
-use Rattle.bl_proc_base.specs.declared.acts.Action.TheVariants as act
-use Rattle.bl_proc_base.specs.declared.acts.Seen.{Seen}
-use Rattle.bl_proc_base.specs.declared.acts.Seen.TheVariants as seen
+use Rattle.bl_tree_worlds.proofs.After.{put_at, is_put_at, put_name, is_put_name}
+use Rattle.bl_proc_steps.specs.declared.acts.Action.{Action}
+use Rattle.bl_proc_steps.specs.declared.acts.Action.TheVariants as act
+use Rattle.bl_proc_steps.specs.declared.acts.Seen.{Seen}
+use Rattle.bl_proc_steps.specs.declared.acts.Seen.TheVariants as seen
 use Rattle.bl_proc.specs.declared.reclaiming.Reclaim.{Reclaim}
 use Rattle.bl_proc.specs.declared.kinds.Proc.{Proc}
 use Rattle.bl_proc.specs.declared.kinds.Proc.TheVariants as proc

@@ -1,23 +1,23 @@
 -- A change, a growth or a compression of two children is never to begin: the process that carries it out has begun.
 use Rattle.std.proofs.Common.{◌≡◌}
-use Rattle.bl_proc_base.specs.declared.acts.Action.TheVariants as act
-use Rattle.bl_proc_base.specs.declared.approaching.Approach.{Approach}
-use Rattle.bl_proc_base.specs.declared.approaching.Approach.TheVariants as way
-use Rattle.bl_proc_base.specs.declared.editing.Edit.{Edit}
-use Rattle.bl_proc_base.specs.declared.editing.Edit.TheVariants as edit
-use Rattle.bl_proc_base.specs.declared.growing.Growth.{Growth}
-use Rattle.bl_proc_base.specs.declared.growing.Growth.TheVariants as growth
+use Rattle.bl_proc_steps.specs.declared.acts.Action.TheVariants as act
+use Rattle.bl_proc_steps.specs.declared.approach.Approach.{Approach}
+use Rattle.bl_proc_steps.specs.declared.approach.Approach.TheVariants as way
+use Rattle.bl_proc_steps.specs.declared.edit.Edit.{Edit}
+use Rattle.bl_proc_steps.specs.declared.edit.Edit.TheVariants as edit
+use Rattle.bl_proc_steps.specs.declared.growth.Growth.{Growth}
+use Rattle.bl_proc_steps.specs.declared.growth.Growth.TheVariants as growth
 use Rattle.bl_rearrange.specs.declared.sides.Side.{Side}
 use Rattle.bl_rearrange.specs.declared.sides.Side.TheVariants as side
-use Rattle.bl_proc_base.specs.declared.lowering.Lowering.{Lowering}
-use Rattle.bl_proc_base.specs.declared.lowering.Lowering.TheVariants as lowering
-use Rattle.bl_proc_base.specs.Lowerings.{lowering_next}
-use Rattle.bl_proc_compress.specs.declared.compressing.Puts.{Puts}
-use Rattle.bl_proc_compress.specs.declared.compressing.Compression.{Compression}
-use Rattle.bl_proc_compress.specs.declared.compressing.Compression.TheVariants.{PuttingFirst, PuttingLast}
-use Rattle.bl_proc_base.specs.Approaches.{approach_next}
-use Rattle.bl_proc_base.specs.Edits.{edit_next}
-use Rattle.bl_proc_base.specs.Growths.{growth_next}
+use Rattle.bl_proc_steps.specs.declared.lowering.Lowering.{Lowering}
+use Rattle.bl_proc_steps.specs.declared.lowering.Lowering.TheVariants as lowering
+use Rattle.bl_proc_steps.specs.Lowerings.{lowering_next}
+use Rattle.bl_proc_compress.specs.declared.compression.Puts.{Puts}
+use Rattle.bl_proc_compress.specs.declared.compression.Compression.{Compression}
+use Rattle.bl_proc_compress.specs.declared.compression.Compression.TheVariants.{PuttingFirst, PuttingLast}
+use Rattle.bl_proc_steps.specs.Approaches.{approach_next}
+use Rattle.bl_proc_steps.specs.Edits.{edit_next}
+use Rattle.bl_proc_steps.specs.Growths.{growth_next}
 use Rattle.bl_proc_compress.specs.Compressions.{put_of, other, compression_next}
 
 pub approach_begins : {X : Type 0} (a : Approach) → approach_next a ≡ act.Begin → X
@@ -49,10 +49,10 @@ put_begins : {X : Type 0} (sd : Side) (u : Puts) → put_of sd u ≡ act.Begin �
 put_begins side.Left u e = absurd cc
 put_begins side.Right u e = absurd cc
 
-pub squeeze_begins : {X : Type 0} (c : Compression) → compression_next c ≡ act.Begin → X
-squeeze_begins (PuttingFirst u) e = put_begins u.gains u e
-squeeze_begins (PuttingLast u) e = put_begins (other u.gains) u e
-squeeze_begins old e = absurd cc
+pub compression_begins : {X : Type 0} (c : Compression) → compression_next c ≡ act.Begin → X
+compression_begins (PuttingFirst u) e = put_begins u.gains u e
+compression_begins (PuttingLast u) e = put_begins (other u.gains) u e
+compression_begins old e = absurd cc
 
 pub lowering_begins : {X : Type 0} (l : Lowering) → lowering_next l ≡ act.Begin → X
 lowering_begins lowering.Looking e = absurd cc

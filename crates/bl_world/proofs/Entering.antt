@@ -4,10 +4,10 @@ use Rattle.std.proofs.lemmas.Option.{slice_get_within}
 use Rattle.bl_model.specs.declared.deciding.KeyWrite.{KeyWrite}
 use Rattle.bl_page.specs.declared.page.Page.{Page}
 use Rattle.bl_page.specs.Machine.{Name}
-use Rattle.bl_core.proofs.After.{put_name, is_put_name}
-use Rattle.bl_core.specs.Blank.{IsBlank}
-use Rattle.bl_core.specs.Worlds.{Goes}
-use Rattle.bl_proc_base.specs.declared.acts.Action.TheVariants as act
+use Rattle.bl_tree_worlds.proofs.After.{put_name, is_put_name}
+use Rattle.bl_tree_worlds.specs.Blank.{IsBlank}
+use Rattle.bl_tree_worlds.specs.Worlds.{Goes}
+use Rattle.bl_proc_steps.specs.declared.acts.Action.TheVariants as act
 use Rattle.bl_proc.specs.declared.searching.FindStage.{FindStage}
 use Rattle.bl_proc.specs.declared.searching.FindStage.TheVariants as find
 use Rattle.bl_proc.specs.declared.parts.PartStage.{PartStage}
@@ -15,16 +15,16 @@ use Rattle.bl_proc.specs.declared.parts.PartStart.{PartStart}
 use Rattle.bl_proc.specs.declared.parts.PartStage.TheVariants as part
 use Rattle.bl_proc_writes.specs.declared.writing.WriteStage.{WriteStage}
 use Rattle.bl_proc_writes.specs.declared.writing.WriteStage.TheVariants as write
-use Rattle.bl_proc_writes.specs.declared.posting.PostStage.{PostStage}
-use Rattle.bl_proc_writes.specs.declared.posting.PostStage.TheVariants as post
-use Rattle.bl_proc_compress.specs.declared.squeezing.CompressStage.{CompressStage}
-use Rattle.bl_proc_compress.specs.declared.squeezing.CompressStage.TheVariants as compress
+use Rattle.bl_proc_writes.specs.declared.post.PostStage.{PostStage}
+use Rattle.bl_proc_writes.specs.declared.post.PostStage.TheVariants as post
+use Rattle.bl_proc_compress.specs.declared.compress.CompressStage.{CompressStage}
+use Rattle.bl_proc_compress.specs.declared.compress.CompressStage.TheVariants as compress
 use Rattle.bl_proc.specs.declared.reclaiming.Reclaim.{Reclaim}
 use Rattle.bl_proc.specs.declared.reclaiming.ReclaimStage.{ReclaimStage}
 use Rattle.bl_proc.specs.declared.reclaiming.ReclaimStage.TheVariants as reclaim
 use Rattle.bl_proc_writes.specs.declared.paths.Path.{Path}
-use Rattle.bl_proc_writes.specs.declared.climbing.ClimbStage.{ClimbStage}
-use Rattle.bl_proc_writes.specs.declared.climbing.ClimbStage.TheVariants as climb
+use Rattle.bl_proc_writes.specs.declared.insert_post.ClimbStage.{ClimbStage}
+use Rattle.bl_proc_writes.specs.declared.insert_post.ClimbStage.TheVariants as climb
 use Rattle.bl_proc.specs.declared.kinds.Proc.{Proc}
 use Rattle.bl_proc.specs.declared.lowering.LowerStage.{LowerStage}
 use Rattle.bl_proc.specs.declared.lowering.LowerStage.TheVariants as lower
@@ -39,8 +39,8 @@ use Rattle.bl_proc.specs.Reclaims.{reclaim_next_in}
 use Rattle.bl_proc.specs.Lowers.{lower_next_in}
 use Rattle.bl_proc_writes.specs.Paths.{IsBlank as IsUnnoted}
 use Rattle.bl_proc_writes.specs.Stands.{BeginsBlank, IsPosting, Stands}
-use Rattle.bl_proc_writes.specs.Climbs.{climb_next_in}
-use Rattle.bl_proc_writes.specs.declared.climbing.Placing.{Placing}
+use Rattle.bl_proc_writes.specs.InsertPosts.{climb_next_in}
+use Rattle.bl_proc_writes.specs.declared.insert_post.Placing.{Placing}
 use Rattle.bl_proc_writes.specs.Placings.{write_of}
 use Rattle.bl_proc_invariant.specs.Knowing.{Run, know_of, know_find, know_part, know_write, know_post, know_compress, know_reclaim, know_lower, goes_above, path_goes, know_climb}
 use Rattle.bl_proc_invariant.specs.Tables.{alone}
@@ -52,7 +52,7 @@ use Rattle.bl_world.specs.declared.owners.Owner.{Owner}
 use Rattle.bl_world.specs.Views.{name_of}
 use Rattle.bl_world.specs.Worlds.{key_in, IsUnknown, IsReclaiming, HasWorld}
 use Rattle.bl_world.proofs.Stands.{Grows, name_differs}
-use Rattle.bl_world.proofs.Begins.{approach_begins, edit_begins, growth_begins, squeeze_begins, lowering_begins}
+use Rattle.bl_world.proofs.Begins.{approach_begins, edit_begins, growth_begins, compression_begins, lowering_begins}
 use Rattle.bl_world.proofs.Places.{push_cases, push_length}
 
 -- A process that is to begin has done nothing.
@@ -106,7 +106,7 @@ climb_blank k placing path got child (climb.Over r) h small e = absurd cc
 compress_blank : (l k : ℕ) (got : ℕ → Page) (a : CompressStage) → k < 2 ^ 64 → compress_next_in a ≡ act.Begin → IsBlank (know_compress l k got a)
 compress_blank l k got compress.New small e = record { stage = refl; said = refl; holds = refl; goes = refl; children = refl; passed = refl; sound = small }
 compress_blank l k got (compress.Coming a) small e = approach_begins a e
-compress_blank l k got (compress.Compressing c) small e = squeeze_begins c e
+compress_blank l k got (compress.Compressing c) small e = compression_begins c e
 compress_blank l k got old small e = absurd cc
 
 lower_blank : (got : ℕ → Page) (a : LowerStage) → lower_next_in a ≡ act.Begin → IsBlank (know_lower got a)

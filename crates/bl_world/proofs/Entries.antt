@@ -6,18 +6,18 @@ use Rattle.bl_model.specs.declared.deciding.KeyWrite.{KeyWrite}
 use Rattle.bl_model.specs.Writes.{write_op}
 use Rattle.bl_page.specs.declared.page.Page.{Page}
 use Rattle.bl_claims.specs.Trails.{Said}
-use Rattle.bl_core.specs.Worlds.{Goes, Stage}
-use Rattle.bl_proc_base.specs.declared.approaching.Approach.{Approach}
-use Rattle.bl_proc_base.specs.declared.approaching.Approach.TheVariants as way
-use Rattle.bl_proc_base.specs.declared.editing.Outcome.{Outcome}
-use Rattle.bl_proc_base.specs.declared.editing.Edit.{Edit}
-use Rattle.bl_proc_base.specs.declared.editing.Edit.TheVariants as edit
-use Rattle.bl_proc_base.specs.declared.growing.Growth.{Growth}
-use Rattle.bl_proc_base.specs.declared.growing.Growth.TheVariants as growth
-use Rattle.bl_proc_base.specs.declared.answers.Answer.{Answer}
-use Rattle.bl_proc_base.specs.declared.answers.Answer.TheVariants as answer
-use Rattle.bl_proc_base.specs.declared.answers.Hint.{Hint}
-use Rattle.bl_proc_base.specs.declared.answers.Posted.{Posted}
+use Rattle.bl_tree_worlds.specs.Worlds.{Goes, Stage}
+use Rattle.bl_proc_steps.specs.declared.approach.Approach.{Approach}
+use Rattle.bl_proc_steps.specs.declared.approach.Approach.TheVariants as way
+use Rattle.bl_proc_steps.specs.declared.edit.Outcome.{Outcome}
+use Rattle.bl_proc_steps.specs.declared.edit.Edit.{Edit}
+use Rattle.bl_proc_steps.specs.declared.edit.Edit.TheVariants as edit
+use Rattle.bl_proc_steps.specs.declared.growth.Growth.{Growth}
+use Rattle.bl_proc_steps.specs.declared.growth.Growth.TheVariants as growth
+use Rattle.bl_proc_steps.specs.declared.answers.Answer.{Answer}
+use Rattle.bl_proc_steps.specs.declared.answers.Answer.TheVariants as answer
+use Rattle.bl_proc_steps.specs.declared.answers.Hint.{Hint}
+use Rattle.bl_proc_steps.specs.declared.answers.Posted.{Posted}
 use Rattle.bl_proc.specs.declared.searching.FindStage.{FindStage}
 use Rattle.bl_proc.specs.declared.searching.FindStage.TheVariants as find
 use Rattle.bl_proc.specs.declared.parts.PartStage.{PartStage}
@@ -26,23 +26,23 @@ use Rattle.bl_proc.specs.declared.parts.PartStage.TheVariants as part
 use Rattle.bl_proc_writes.specs.declared.writing.WriteStage.{WriteStage}
 use Rattle.bl_proc_writes.specs.declared.writing.WriteStage.TheVariants as write
 use Rattle.bl_proc_writes.specs.declared.writing.WriteReply.TheVariants.{Done, NoRoom}
-use Rattle.bl_proc_writes.specs.declared.posting.PostStage.{PostStage}
-use Rattle.bl_proc_writes.specs.declared.posting.PostStage.TheVariants as post
-use Rattle.bl_proc_writes.specs.declared.posting.PostReply.TheVariants as listed
-use Rattle.bl_proc_compress.specs.declared.compressing.Compression.{Compression}
-use Rattle.bl_proc_compress.specs.declared.compressing.Compression.TheVariants.{LatchingLeft, LatchedLeft, LatchingRight, LatchedRight, PuttingFirst, PuttingParent, PuttingLast, Retiring, OpeningRight, OpeningLeft, OpeningParent}
-use Rattle.bl_proc_compress.specs.declared.squeezing.CompressReply.TheVariants as pressed
-use Rattle.bl_proc_compress.specs.declared.squeezing.CompressStage.{CompressStage}
-use Rattle.bl_proc_compress.specs.declared.squeezing.CompressStage.TheVariants as compress
+use Rattle.bl_proc_writes.specs.declared.post.PostStage.{PostStage}
+use Rattle.bl_proc_writes.specs.declared.post.PostStage.TheVariants as post
+use Rattle.bl_proc_writes.specs.declared.post.PostReply.TheVariants as listed
+use Rattle.bl_proc_compress.specs.declared.compression.Compression.{Compression}
+use Rattle.bl_proc_compress.specs.declared.compression.Compression.TheVariants.{LatchingLeft, LatchedLeft, LatchingRight, LatchedRight, PuttingFirst, PuttingParent, PuttingLast, Retiring, OpeningRight, OpeningLeft, OpeningParent}
+use Rattle.bl_proc_compress.specs.declared.compress.CompressReply.TheVariants as compressed
+use Rattle.bl_proc_compress.specs.declared.compress.CompressStage.{CompressStage}
+use Rattle.bl_proc_compress.specs.declared.compress.CompressStage.TheVariants as compress
 use Rattle.bl_proc.specs.declared.reclaiming.ReclaimStage.{ReclaimStage}
 use Rattle.bl_proc.specs.declared.reclaiming.ReclaimStage.TheVariants as reclaim
 use Rattle.bl_proc_writes.specs.declared.paths.Path.{Path}
-use Rattle.bl_proc_writes.specs.declared.climbing.Climbed.TheVariants as climbed
-use Rattle.bl_proc_writes.specs.declared.climbing.ClimbStage.{ClimbStage}
-use Rattle.bl_proc_writes.specs.declared.climbing.ClimbStage.TheVariants as climb
+use Rattle.bl_proc_writes.specs.declared.insert_post.Climbed.TheVariants as climbed
+use Rattle.bl_proc_writes.specs.declared.insert_post.ClimbStage.{ClimbStage}
+use Rattle.bl_proc_writes.specs.declared.insert_post.ClimbStage.TheVariants as climb
 use Rattle.bl_proc.specs.declared.kinds.Proc.{Proc}
-use Rattle.bl_proc_base.specs.declared.lowering.Lowering.{Lowering}
-use Rattle.bl_proc_base.specs.declared.lowering.Lowering.TheVariants as lowering
+use Rattle.bl_proc_steps.specs.declared.lowering.Lowering.{Lowering}
+use Rattle.bl_proc_steps.specs.declared.lowering.Lowering.TheVariants as lowering
 use Rattle.bl_proc.specs.declared.lowering.LowerStage.{LowerStage}
 use Rattle.bl_proc.specs.declared.lowering.LowerStage.TheVariants as lower
 use Rattle.bl_proc.specs.declared.kinds.Proc.TheVariants as proc
@@ -53,12 +53,12 @@ use Rattle.bl_proc_writes.specs.Writes.{write_answer_in}
 use Rattle.bl_proc_writes.specs.Posts.{post_answer_in}
 use Rattle.bl_proc_compress.specs.Compresses.{compress_answer_in}
 use Rattle.bl_proc.specs.Lowers.{lower_answer_in}
-use Rattle.bl_proc_writes.specs.Climbs.{climb_answer_in}
-use Rattle.bl_proc_writes.specs.declared.climbing.Placing.{Placing}
+use Rattle.bl_proc_writes.specs.InsertPosts.{climb_answer_in}
+use Rattle.bl_proc_writes.specs.declared.insert_post.Placing.{Placing}
 use Rattle.bl_proc_writes.specs.Placings.{write_of}
 use Rattle.bl_proc.specs.Reclaims.{reclaim_answer_in}
 use Rattle.bl_proc_invariant.specs.Tables.{Carried, unsaid, alone, Aim, know_approach, know_edit}
-use Rattle.bl_proc_invariant.specs.Compressing.{know_squeeze}
+use Rattle.bl_proc_invariant.specs.Compressing.{know_compression}
 use Rattle.bl_proc_invariant.specs.Lowering.{know_lowering}
 use Rattle.bl_proc_invariant.specs.Knowing.{know_of, know_find, know_part, know_write, know_post, know_compress, know_reclaim, know_lower, know_growth, write_aim, post_aim, path_goes, inserted, know_climb}
 use Rattle.bl_world.specs.Accounts.{op_of, HasEnd}
@@ -96,18 +96,18 @@ growth_said carried level key got (growth.OpeningTop x) = refl
 growth_said carried level key got growth.OpeningGrown = refl
 growth_said carried level key got growth.OpeningRefused = refl
 
-squeeze_said : (level key : ℕ) (got : ℕ → Page) (c : Compression) → (know_squeeze level key got c).said ≡ None
-squeeze_said level key got (LatchingLeft f) = refl
-squeeze_said level key got (LatchedLeft f) = refl
-squeeze_said level key got (LatchingRight f page) = refl
-squeeze_said level key got (LatchedRight f page) = refl
-squeeze_said level key got (PuttingFirst u) = refl
-squeeze_said level key got (PuttingParent u) = refl
-squeeze_said level key got (PuttingLast u) = refl
-squeeze_said level key got (Retiring at end) = refl
-squeeze_said level key got (OpeningRight at end) = refl
-squeeze_said level key got (OpeningLeft at end) = refl
-squeeze_said level key got (OpeningParent x end) = refl
+compression_said : (level key : ℕ) (got : ℕ → Page) (c : Compression) → (know_compression level key got c).said ≡ None
+compression_said level key got (LatchingLeft f) = refl
+compression_said level key got (LatchedLeft f) = refl
+compression_said level key got (LatchingRight f page) = refl
+compression_said level key got (LatchedRight f page) = refl
+compression_said level key got (PuttingFirst u) = refl
+compression_said level key got (PuttingParent u) = refl
+compression_said level key got (PuttingLast u) = refl
+compression_said level key got (Retiring at end) = refl
+compression_said level key got (OpeningRight at end) = refl
+compression_said level key got (OpeningLeft at end) = refl
+compression_said level key got (OpeningParent x end) = refl
 
 -- Its own operation
 
@@ -155,7 +155,7 @@ climb_says k placing path got child (climb.Over r) s e = same_op _ s e
 compress_none : {X : Type 0} (l k : ℕ) (got : ℕ → Page) (a : CompressStage) (s : Said) → (know_compress l k got a).said ≡ Some s → X
 compress_none l k got compress.New s e = none_said s e
 compress_none l k got (compress.Coming a) s e = none_said s (sym (approach_said alone l k a) ∙ e)
-compress_none l k got (compress.Compressing c) s e = none_said s (sym (squeeze_said l k got c) ∙ e)
+compress_none l k got (compress.Compressing c) s e = none_said s (sym (compression_said l k got c) ∙ e)
 compress_none l k got (compress.Staying x) s e = none_said s e
 compress_none l k got (compress.Ending r) s e = none_said s e
 compress_none l k got (compress.Over r) s e = none_said s e
@@ -216,8 +216,8 @@ same_reply a b hint other e =
 no_post : {X : Type 0} (p : _) (b : Reply) (hint other : Option Hint) → Some (answer.Post p hint) ≡ Some (answer.Op b other) → X
 no_post p b hint other e = absurd (let f : answer.Post p hint ≡ answer.Op b other = cc in let g : None ≡ Some b = ap reply_in f in cc)
 
-no_press : {X : Type 0} (p : _) (b : Reply) (hint other : Option Hint) → Some (answer.Compress p hint) ≡ Some (answer.Op b other) → X
-no_press p b hint other e = absurd (let f : answer.Compress p hint ≡ answer.Op b other = cc in let g : None ≡ Some b = ap reply_in f in cc)
+no_compress : {X : Type 0} (p : _) (b : Reply) (hint other : Option Hint) → Some (answer.Compress p hint) ≡ Some (answer.Op b other) → X
+no_compress p b hint other e = absurd (let f : answer.Compress p hint ≡ answer.Op b other = cc in let g : None ≡ Some b = ap reply_in f in cc)
 
 same_inserted : (a b : Reply) (last other : Option Posted) (left hint : Option Hint) → Some (answer.InsertPost a last left) ≡ Some (answer.InsertPost b other hint) → a ≡ b
 same_inserted a b last other left hint e =
@@ -289,12 +289,12 @@ compress_answered (compress.Coming a) reply hint e = none_answer _ e
 compress_answered (compress.Compressing c) reply hint e = none_answer _ e
 compress_answered (compress.Staying x) reply hint e = none_answer _ e
 compress_answered (compress.Ending r) reply hint e = none_answer _ e
-compress_answered (compress.Over (pressed.Merged h)) reply hint e = no_press _ _ _ _ e
-compress_answered (compress.Over pressed.Evened) reply hint e = no_press _ _ _ _ e
-compress_answered (compress.Over pressed.Enough) reply hint e = no_press _ _ _ _ e
-compress_answered (compress.Over pressed.Alone) reply hint e = no_press _ _ _ _ e
-compress_answered (compress.Over (pressed.Unposted h)) reply hint e = no_press _ _ _ _ e
-compress_answered (compress.Over pressed.NoRoom) reply hint e = no_press _ _ _ _ e
+compress_answered (compress.Over (compressed.Merged h)) reply hint e = no_compress _ _ _ _ e
+compress_answered (compress.Over compressed.Evened) reply hint e = no_compress _ _ _ _ e
+compress_answered (compress.Over compressed.Enough) reply hint e = no_compress _ _ _ _ e
+compress_answered (compress.Over compressed.Alone) reply hint e = no_compress _ _ _ _ e
+compress_answered (compress.Over (compressed.Unposted h)) reply hint e = no_compress _ _ _ _ e
+compress_answered (compress.Over compressed.NoRoom) reply hint e = no_compress _ _ _ _ e
 
 reclaim_answered : {X : Type 0} (a : ReclaimStage) (reply : Reply) (hint : Option Hint) → reclaim_answer_in a ≡ Some (answer.Op reply hint) → X
 reclaim_answered reclaim.Seeing reply hint e = none_answer _ e

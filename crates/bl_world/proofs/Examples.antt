@@ -2,8 +2,8 @@
 use Rattle.std.proofs.Common.{◌≡◌, ◌<◌, Some, None, zero, suc, List, [], ◌∷◌, slice_get, arith, refl, inl, inr}
 use Rattle.bl_page.specs.declared.page.Page.{Page}
 use Rattle.bl_page.specs.declared.page.Page.TheVariants as page
-use Rattle.bl_proc_base.specs.declared.descent.Descent.{Descent}
-use Rattle.bl_proc_base.specs.declared.descent.Descent.TheVariants as descent
+use Rattle.bl_proc_steps.specs.declared.descent.Descent.{Descent}
+use Rattle.bl_proc_steps.specs.declared.descent.Descent.TheVariants as descent
 use Rattle.bl_proc.specs.declared.searching.FindStage.{FindStage}
 use Rattle.bl_proc.specs.declared.searching.FindStage.TheVariants as find
 use Rattle.bl_proc.specs.declared.kinds.Proc.{Proc}

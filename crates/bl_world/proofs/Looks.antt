@@ -1,17 +1,17 @@
 -- Only a process that is to release a page looks at an owner or a process, or releases.
 use Rattle.std.proofs.Common.{ℕ, ◌≡◌, None, Some, refl}
-use Rattle.bl_proc_base.specs.declared.acts.Action.{Action}
-use Rattle.bl_proc_base.specs.declared.acts.Action.TheVariants as act
-use Rattle.bl_proc_base.specs.declared.acts.Seen.{Seen}
-use Rattle.bl_proc_base.specs.declared.approaching.Approach.{Approach}
-use Rattle.bl_proc_base.specs.declared.approaching.Approach.TheVariants as way
-use Rattle.bl_proc_base.specs.declared.editing.Edit.{Edit}
-use Rattle.bl_proc_base.specs.declared.editing.Edit.TheVariants as edit
-use Rattle.bl_proc_base.specs.declared.growing.Growth.{Growth}
-use Rattle.bl_proc_base.specs.declared.growing.Growth.TheVariants as growth
-use Rattle.bl_proc_base.specs.Approaches.{approach_next}
-use Rattle.bl_proc_base.specs.Edits.{edit_next}
-use Rattle.bl_proc_base.specs.Growths.{growth_next}
+use Rattle.bl_proc_steps.specs.declared.acts.Action.{Action}
+use Rattle.bl_proc_steps.specs.declared.acts.Action.TheVariants as act
+use Rattle.bl_proc_steps.specs.declared.acts.Seen.{Seen}
+use Rattle.bl_proc_steps.specs.declared.approach.Approach.{Approach}
+use Rattle.bl_proc_steps.specs.declared.approach.Approach.TheVariants as way
+use Rattle.bl_proc_steps.specs.declared.edit.Edit.{Edit}
+use Rattle.bl_proc_steps.specs.declared.edit.Edit.TheVariants as edit
+use Rattle.bl_proc_steps.specs.declared.growth.Growth.{Growth}
+use Rattle.bl_proc_steps.specs.declared.growth.Growth.TheVariants as growth
+use Rattle.bl_proc_steps.specs.Approaches.{approach_next}
+use Rattle.bl_proc_steps.specs.Edits.{edit_next}
+use Rattle.bl_proc_steps.specs.Growths.{growth_next}
 use Rattle.bl_proc_compress.specs.Compressions.{put_of, other, compression_next}
 use Rattle.bl_proc.specs.declared.searching.FindStage.{FindStage}
 use Rattle.bl_proc.specs.declared.searching.FindStage.TheVariants as find
@@ -19,21 +19,21 @@ use Rattle.bl_proc.specs.declared.parts.PartStage.{PartStage}
 use Rattle.bl_proc.specs.declared.parts.PartStage.TheVariants as part
 use Rattle.bl_proc_writes.specs.declared.writing.WriteStage.{WriteStage}
 use Rattle.bl_proc_writes.specs.declared.writing.WriteStage.TheVariants as write
-use Rattle.bl_proc_writes.specs.declared.posting.PostStage.{PostStage}
-use Rattle.bl_proc_writes.specs.declared.posting.PostStage.TheVariants as post
+use Rattle.bl_proc_writes.specs.declared.post.PostStage.{PostStage}
+use Rattle.bl_proc_writes.specs.declared.post.PostStage.TheVariants as post
 use Rattle.bl_rearrange.specs.declared.sides.Side.{Side}
 use Rattle.bl_rearrange.specs.declared.sides.Side.TheVariants as side
-use Rattle.bl_proc_compress.specs.declared.compressing.Puts.{Puts}
-use Rattle.bl_proc_compress.specs.declared.compressing.Compression.{Compression}
-use Rattle.bl_proc_compress.specs.declared.compressing.Compression.TheVariants.{LatchingLeft, LatchedLeft, LatchingRight, LatchedRight, PuttingFirst, PuttingParent, PuttingLast, Retiring, OpeningRight, OpeningLeft, OpeningParent}
-use Rattle.bl_proc_compress.specs.declared.squeezing.CompressStage.{CompressStage}
-use Rattle.bl_proc_compress.specs.declared.squeezing.CompressStage.TheVariants as compress
+use Rattle.bl_proc_compress.specs.declared.compression.Puts.{Puts}
+use Rattle.bl_proc_compress.specs.declared.compression.Compression.{Compression}
+use Rattle.bl_proc_compress.specs.declared.compression.Compression.TheVariants.{LatchingLeft, LatchedLeft, LatchingRight, LatchedRight, PuttingFirst, PuttingParent, PuttingLast, Retiring, OpeningRight, OpeningLeft, OpeningParent}
+use Rattle.bl_proc_compress.specs.declared.compress.CompressStage.{CompressStage}
+use Rattle.bl_proc_compress.specs.declared.compress.CompressStage.TheVariants as compress
 use Rattle.bl_proc.specs.declared.reclaiming.Reclaim.{Reclaim}
 use Rattle.bl_proc.specs.declared.reclaiming.ReclaimStage.{ReclaimStage}
 use Rattle.bl_proc.specs.declared.reclaiming.ReclaimStage.TheVariants as reclaim
 use Rattle.bl_proc.specs.declared.kinds.Proc.{Proc}
-use Rattle.bl_proc_base.specs.declared.lowering.Lowering.{Lowering}
-use Rattle.bl_proc_base.specs.declared.lowering.Lowering.TheVariants as lowering
+use Rattle.bl_proc_steps.specs.declared.lowering.Lowering.{Lowering}
+use Rattle.bl_proc_steps.specs.declared.lowering.Lowering.TheVariants as lowering
 use Rattle.bl_proc.specs.declared.lowering.LowerStage.{LowerStage}
 use Rattle.bl_proc.specs.declared.lowering.LowerStage.TheVariants as lower
 use Rattle.bl_proc.specs.declared.kinds.Proc.TheVariants as proc
@@ -43,11 +43,11 @@ use Rattle.bl_proc_writes.specs.Writes.{write_next_in}
 use Rattle.bl_proc_writes.specs.Posts.{post_next_in}
 use Rattle.bl_proc_compress.specs.Compresses.{compress_next_in}
 use Rattle.bl_proc.specs.Reclaims.{reclaim_next_in}
-use Rattle.bl_proc_base.specs.Lowerings.{lowering_next}
+use Rattle.bl_proc_steps.specs.Lowerings.{lowering_next}
 use Rattle.bl_proc.specs.Lowers.{lower_next_in}
-use Rattle.bl_proc_writes.specs.declared.climbing.ClimbStage.{ClimbStage}
-use Rattle.bl_proc_writes.specs.declared.climbing.ClimbStage.TheVariants as climb
-use Rattle.bl_proc_writes.specs.Climbs.{climb_next_in}
+use Rattle.bl_proc_writes.specs.declared.insert_post.ClimbStage.{ClimbStage}
+use Rattle.bl_proc_writes.specs.declared.insert_post.ClimbStage.TheVariants as climb
+use Rattle.bl_proc_writes.specs.InsertPosts.{climb_next_in}
 use Rattle.bl_proc.specs.Processes.{next_of, Takes}
 
 abbrev pub IsOfTree : Action → Type 0
@@ -94,18 +94,18 @@ put_tree : (sd : Side) (u : Puts) → IsOfTree (put_of sd u)
 put_tree side.Left u = tt
 put_tree side.Right u = tt
 
-squeeze_tree : (a : Compression) → IsOfTree (compression_next a)
-squeeze_tree (LatchingLeft f) = tt
-squeeze_tree (LatchedLeft f) = tt
-squeeze_tree (LatchingRight f page) = tt
-squeeze_tree (LatchedRight f page) = tt
-squeeze_tree (PuttingFirst u) = put_tree u.gains u
-squeeze_tree (PuttingParent u) = tt
-squeeze_tree (PuttingLast u) = put_tree (other u.gains) u
-squeeze_tree (Retiring at end) = tt
-squeeze_tree (OpeningRight at end) = tt
-squeeze_tree (OpeningLeft at end) = tt
-squeeze_tree (OpeningParent x end) = tt
+compression_tree : (a : Compression) → IsOfTree (compression_next a)
+compression_tree (LatchingLeft f) = tt
+compression_tree (LatchedLeft f) = tt
+compression_tree (LatchingRight f page) = tt
+compression_tree (LatchedRight f page) = tt
+compression_tree (PuttingFirst u) = put_tree u.gains u
+compression_tree (PuttingParent u) = tt
+compression_tree (PuttingLast u) = put_tree (other u.gains) u
+compression_tree (Retiring at end) = tt
+compression_tree (OpeningRight at end) = tt
+compression_tree (OpeningLeft at end) = tt
+compression_tree (OpeningParent x end) = tt
 
 find_tree : (a : FindStage) → IsOfTree (find_next_in a)
 find_tree find.New = tt
@@ -144,7 +144,7 @@ post_tree (post.Over r) = tt
 compress_tree : (a : CompressStage) → IsOfTree (compress_next_in a)
 compress_tree compress.New = tt
 compress_tree (compress.Coming a) = approach_tree a
-compress_tree (compress.Compressing c) = squeeze_tree c
+compress_tree (compress.Compressing c) = compression_tree c
 compress_tree (compress.Staying x) = tt
 compress_tree (compress.Ending r) = tt
 compress_tree (compress.Over r) = tt

@@ -5,7 +5,7 @@ use Rattle.bl_model.specs.History.{final_map}
 use Rattle.bl_claims.specs.Trails.{history_of}
 use Rattle.bl_claims.specs.Moments.{snapshot_of, HasLaws}
 use Rattle.bl_claims.specs.States.{Moment}
-use Rattle.bl_core.specs.Worlds.{World as ModelWorld, IsGood}
+use Rattle.bl_tree_worlds.specs.Worlds.{World as ModelWorld, IsGood}
 use Rattle.bl_proc_invariant.specs.Logs.{AllLogs}
 use Rattle.bl_proc_invariant.specs.Knowing.{Run, know}
 use Rattle.bl_proc_invariant.proofs.Starting.{run_laws}

@@ -3,9 +3,9 @@ use Rattle.std.proofs.Common.{ℕ, ◌≡◌, ◌≢◌, ◌<◌, ◌+◌, suc, 
 use Rattle.std.proofs.Math.Logic.{∥∥₁_elim}
 use Rattle.std.specs.Coded.{le_prop}
 use Rattle.bl_page.specs.declared.page.Page.{Page}
-use Rattle.bl_core_tree.specs.Trees.Status.{Free}
-use Rattle.bl_proc_base.specs.declared.acts.Action.{Action}
-use Rattle.bl_proc_base.specs.declared.acts.Action.TheVariants as act
+use Rattle.bl_tree.specs.Trees.Status.{Free}
+use Rattle.bl_proc_steps.specs.declared.acts.Action.{Action}
+use Rattle.bl_proc_steps.specs.declared.acts.Action.TheVariants as act
 use Rattle.bl_proc.specs.declared.reclaiming.Reclaim.{Reclaim}
 use Rattle.bl_proc.specs.declared.reclaiming.ReclaimStage.{ReclaimStage}
 use Rattle.bl_proc.specs.declared.reclaiming.ReclaimStage.TheVariants as reclaim

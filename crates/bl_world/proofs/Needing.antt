@@ -1,36 +1,36 @@
 -- A process that is to take a page reserves for it.
 use Rattle.std.proofs.Common.{◌≡◌, IsSome, refl}
-use Rattle.bl_proc_base.specs.declared.acts.Action.TheVariants as act
-use Rattle.bl_proc_base.specs.declared.approaching.Approach.{Approach}
-use Rattle.bl_proc_base.specs.declared.approaching.Approach.TheVariants as way
-use Rattle.bl_proc_base.specs.declared.editing.Edit.{Edit}
-use Rattle.bl_proc_base.specs.declared.editing.Edit.TheVariants as edit
-use Rattle.bl_proc_base.specs.declared.growing.Growth.{Growth}
-use Rattle.bl_proc_base.specs.declared.growing.Growth.TheVariants as growth
-use Rattle.bl_proc_base.specs.declared.lowering.Lowering.{Lowering}
-use Rattle.bl_proc_base.specs.declared.lowering.Lowering.TheVariants as lowering
-use Rattle.bl_proc_base.specs.Approaches.{approach_next}
-use Rattle.bl_proc_base.specs.Edits.{edit_next, edit_needs}
-use Rattle.bl_proc_base.specs.Growths.{growth_next, growth_needs}
-use Rattle.bl_proc_base.specs.Lowerings.{lowering_next}
+use Rattle.bl_proc_steps.specs.declared.acts.Action.TheVariants as act
+use Rattle.bl_proc_steps.specs.declared.approach.Approach.{Approach}
+use Rattle.bl_proc_steps.specs.declared.approach.Approach.TheVariants as way
+use Rattle.bl_proc_steps.specs.declared.edit.Edit.{Edit}
+use Rattle.bl_proc_steps.specs.declared.edit.Edit.TheVariants as edit
+use Rattle.bl_proc_steps.specs.declared.growth.Growth.{Growth}
+use Rattle.bl_proc_steps.specs.declared.growth.Growth.TheVariants as growth
+use Rattle.bl_proc_steps.specs.declared.lowering.Lowering.{Lowering}
+use Rattle.bl_proc_steps.specs.declared.lowering.Lowering.TheVariants as lowering
+use Rattle.bl_proc_steps.specs.Approaches.{approach_next}
+use Rattle.bl_proc_steps.specs.Edits.{edit_next, edit_needs}
+use Rattle.bl_proc_steps.specs.Growths.{growth_next, growth_needs}
+use Rattle.bl_proc_steps.specs.Lowerings.{lowering_next}
 use Rattle.bl_rearrange.specs.declared.sides.Side.{Side}
 use Rattle.bl_rearrange.specs.declared.sides.Side.TheVariants as side
-use Rattle.bl_proc_compress.specs.declared.compressing.Puts.{Puts}
-use Rattle.bl_proc_compress.specs.declared.compressing.Compression.{Compression}
-use Rattle.bl_proc_compress.specs.declared.compressing.Compression.TheVariants as squeeze
-use Rattle.bl_proc_compress.specs.declared.squeezing.CompressStage.{CompressStage}
-use Rattle.bl_proc_compress.specs.declared.squeezing.CompressStage.TheVariants as compress
+use Rattle.bl_proc_compress.specs.declared.compression.Puts.{Puts}
+use Rattle.bl_proc_compress.specs.declared.compression.Compression.{Compression}
+use Rattle.bl_proc_compress.specs.declared.compression.Compression.TheVariants as compression
+use Rattle.bl_proc_compress.specs.declared.compress.CompressStage.{CompressStage}
+use Rattle.bl_proc_compress.specs.declared.compress.CompressStage.TheVariants as compress
 use Rattle.bl_proc_compress.specs.Compressions.{put_of, other, compression_next}
 use Rattle.bl_proc_compress.specs.Compresses.{compress_next_in}
 use Rattle.bl_proc_writes.specs.declared.writing.WriteStage.{WriteStage}
 use Rattle.bl_proc_writes.specs.declared.writing.WriteStage.TheVariants as write
-use Rattle.bl_proc_writes.specs.declared.posting.PostStage.{PostStage}
-use Rattle.bl_proc_writes.specs.declared.posting.PostStage.TheVariants as post
-use Rattle.bl_proc_writes.specs.declared.climbing.ClimbStage.{ClimbStage}
-use Rattle.bl_proc_writes.specs.declared.climbing.ClimbStage.TheVariants as climb
+use Rattle.bl_proc_writes.specs.declared.post.PostStage.{PostStage}
+use Rattle.bl_proc_writes.specs.declared.post.PostStage.TheVariants as post
+use Rattle.bl_proc_writes.specs.declared.insert_post.ClimbStage.{ClimbStage}
+use Rattle.bl_proc_writes.specs.declared.insert_post.ClimbStage.TheVariants as climb
 use Rattle.bl_proc_writes.specs.Writes.{write_next_in, write_needs_in}
 use Rattle.bl_proc_writes.specs.Posts.{post_next_in, post_needs_in}
-use Rattle.bl_proc_writes.specs.Climbs.{climb_next_in, climb_needs_in}
+use Rattle.bl_proc_writes.specs.InsertPosts.{climb_next_in, climb_needs_in}
 use Rattle.bl_proc.specs.declared.searching.FindStage.{FindStage}
 use Rattle.bl_proc.specs.declared.searching.FindStage.TheVariants as find
 use Rattle.bl_proc.specs.declared.parts.PartStage.{PartStage}
@@ -66,10 +66,10 @@ put_takes : (sd : Side) (u : Puts) → put_of sd u ≡ act.Take → ⊥
 put_takes side.Left u e = cc
 put_takes side.Right u e = cc
 
-squeeze_takes : (c : Compression) → compression_next c ≡ act.Take → ⊥
-squeeze_takes (squeeze.PuttingFirst u) e = put_takes u.gains u e
-squeeze_takes (squeeze.PuttingLast u) e = put_takes (other u.gains) u e
-squeeze_takes old e = absurd (cc e)
+compression_takes : (c : Compression) → compression_next c ≡ act.Take → ⊥
+compression_takes (compression.PuttingFirst u) e = put_takes u.gains u e
+compression_takes (compression.PuttingLast u) e = put_takes (other u.gains) u e
+compression_takes old e = absurd (cc e)
 
 lowering_takes : (l : Lowering) → lowering_next l ≡ act.Take → ⊥
 lowering_takes lowering.Looking e = cc
@@ -95,7 +95,7 @@ post_takes (post.Coming a) e = absurd (approach_takes a e)
 post_takes old e = absurd (cc e)
 
 compress_takes : (a : CompressStage) → compress_next_in a ≡ act.Take → ⊥
-compress_takes (compress.Compressing c) e = squeeze_takes c e
+compress_takes (compress.Compressing c) e = compression_takes c e
 compress_takes (compress.Coming a) e = approach_takes a e
 compress_takes old e = absurd (cc e)
 

@@ -10,11 +10,11 @@ use Rattle.bl_page.specs.declared.page.Leaf.{Leaf as LeafPage}
 use Rattle.bl_page.specs.Machine.{State}
 use Rattle.bl_page.specs.Machine.Owner.{Released, Open, Retired}
 use Rattle.bl_page.specs.Machine.Phase.{Waiting, Running}
-use Rattle.bl_core.proofs.States.{moments_first}
+use Rattle.bl_tree_worlds.proofs.States.{moments_first}
 use Rattle.bl_claims.specs.Opening.{Opening}
-use Rattle.bl_core.specs.Blank.{IsBlank}
-use Rattle.bl_core.proofs.Starts.{opening_world, opening_good}
-use Rattle.bl_proc_base.specs.Growths.{IsAnchor}
+use Rattle.bl_tree_worlds.specs.Blank.{IsBlank}
+use Rattle.bl_tree_worlds.proofs.Starts.{opening_world, opening_good}
+use Rattle.bl_proc_steps.specs.Growths.{IsAnchor}
 use Rattle.bl_proc.specs.declared.kinds.Proc.{Proc}
 use Rattle.bl_proc.specs.declared.kinds.Proc.TheVariants as proc
 use Rattle.bl_proc.specs.declared.searching.FindStage.TheVariants as find

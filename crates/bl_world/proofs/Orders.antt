@@ -8,7 +8,7 @@ use Rattle.bl_page.specs.Machine.Act.{Begin, End, Get, Put, Take, Latch, Open, R
 use Rattle.bl_page.specs.Machine.Owner.{Released}
 use Rattle.bl_page.specs.Machine.Phase.{Waiting, Running, Ended}
 use Rattle.bl_claims.specs.Trails.{Mark, Trail, DoesAt, IsMarked, LeadsOn}
-use Rattle.bl_core.proofs.Pushes.{name_cases}
+use Rattle.bl_tree_worlds.proofs.Pushes.{name_cases}
 use Rattle.bl_world.specs.Accounts.{NoneReleased, IsOrdered}
 
 -- who has begun has begun

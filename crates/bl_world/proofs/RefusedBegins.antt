@@ -1,12 +1,12 @@
 -- A process that is to begin does not go on without room.
 use Rattle.std.proofs.Common.{ℕ, ◌≡◌}
-use Rattle.bl_proc_base.specs.declared.acts.Action.TheVariants as act
+use Rattle.bl_proc_steps.specs.declared.acts.Action.TheVariants as act
 use Rattle.bl_proc_writes.specs.declared.writing.WriteStage.{WriteStage}
 use Rattle.bl_proc_writes.specs.declared.writing.WriteStage.TheVariants as write
-use Rattle.bl_proc_writes.specs.declared.posting.PostStage.{PostStage}
-use Rattle.bl_proc_writes.specs.declared.posting.PostStage.TheVariants as post
-use Rattle.bl_proc_compress.specs.declared.squeezing.CompressStage.{CompressStage}
-use Rattle.bl_proc_compress.specs.declared.squeezing.CompressStage.TheVariants as compress
+use Rattle.bl_proc_writes.specs.declared.post.PostStage.{PostStage}
+use Rattle.bl_proc_writes.specs.declared.post.PostStage.TheVariants as post
+use Rattle.bl_proc_compress.specs.declared.compress.CompressStage.{CompressStage}
+use Rattle.bl_proc_compress.specs.declared.compress.CompressStage.TheVariants as compress
 use Rattle.bl_proc.specs.declared.kinds.Proc.{Proc}
 use Rattle.bl_proc.specs.declared.lowering.LowerStage.{LowerStage}
 use Rattle.bl_proc.specs.declared.lowering.LowerStage.TheVariants as lower
@@ -16,11 +16,11 @@ use Rattle.bl_proc_writes.specs.Writes.{write_next_in}
 use Rattle.bl_proc_writes.specs.Posts.{post_next_in}
 use Rattle.bl_proc_compress.specs.Compresses.{compress_next_in}
 use Rattle.bl_proc.specs.Lowers.{lower_next_in}
-use Rattle.bl_proc_writes.specs.declared.climbing.ClimbStage.{ClimbStage}
-use Rattle.bl_proc_writes.specs.declared.climbing.ClimbStage.TheVariants as climb
-use Rattle.bl_proc_writes.specs.Climbs.{climb_next_in}
-use Rattle.bl_proc_unique.specs.Refusals.{WriteRefused, PostRefused, CompressRefused, LowerRefused, ClimbRefused, IsRefused}
-use Rattle.bl_world.proofs.Begins.{edit_begins, growth_begins, squeeze_begins, lowering_begins}
+use Rattle.bl_proc_writes.specs.declared.insert_post.ClimbStage.{ClimbStage}
+use Rattle.bl_proc_writes.specs.declared.insert_post.ClimbStage.TheVariants as climb
+use Rattle.bl_proc_writes.specs.InsertPosts.{climb_next_in}
+use Rattle.bl_proc_deterministic.specs.Refusals.{WriteRefused, PostRefused, CompressRefused, LowerRefused, ClimbRefused, IsRefused}
+use Rattle.bl_world.proofs.Begins.{edit_begins, growth_begins, compression_begins, lowering_begins}
 
 -- A process that is to begin was not refused.
 
@@ -45,7 +45,7 @@ post_free (post.Over x) e r = cc
 compress_free : (a : CompressStage) → compress_next_in a ≡ act.Begin → CompressRefused a → ⊥
 compress_free compress.New e r = r
 compress_free (compress.Coming a) e r = r
-compress_free (compress.Compressing c) e r = squeeze_begins c e
+compress_free (compress.Compressing c) e r = compression_begins c e
 compress_free (compress.Staying x) e r = r
 compress_free (compress.Ending s) e r = cc
 compress_free (compress.Over s) e r = cc

@@ -1,29 +1,29 @@
 -- A process reserves only for a take, or for a put.
 use Rattle.std.proofs.Common.{IsSome}
 use Rattle.std.proofs.lemmas.Bool.{false≢true}
-use Rattle.bl_proc_base.specs.declared.acts.Action.{Action}
-use Rattle.bl_proc_base.specs.declared.acts.Action.TheVariants as act
-use Rattle.bl_proc_base.specs.declared.editing.Edit.{Edit}
-use Rattle.bl_proc_base.specs.declared.editing.Edit.TheVariants as edit
-use Rattle.bl_proc_base.specs.declared.growing.Growth.{Growth}
-use Rattle.bl_proc_base.specs.declared.growing.Growth.TheVariants as growth
-use Rattle.bl_proc_base.specs.Edits.{edit_next, edit_needs}
-use Rattle.bl_proc_base.specs.Growths.{growth_next, growth_needs}
+use Rattle.bl_proc_steps.specs.declared.acts.Action.{Action}
+use Rattle.bl_proc_steps.specs.declared.acts.Action.TheVariants as act
+use Rattle.bl_proc_steps.specs.declared.edit.Edit.{Edit}
+use Rattle.bl_proc_steps.specs.declared.edit.Edit.TheVariants as edit
+use Rattle.bl_proc_steps.specs.declared.growth.Growth.{Growth}
+use Rattle.bl_proc_steps.specs.declared.growth.Growth.TheVariants as growth
+use Rattle.bl_proc_steps.specs.Edits.{edit_next, edit_needs}
+use Rattle.bl_proc_steps.specs.Growths.{growth_next, growth_needs}
 use Rattle.bl_proc_compress.specs.Compressions.{put_of, compression_next, compression_needs}
 use Rattle.bl_proc_writes.specs.declared.writing.WriteStage.{WriteStage}
 use Rattle.bl_proc_writes.specs.declared.writing.WriteStage.TheVariants as write
-use Rattle.bl_proc_writes.specs.declared.posting.PostStage.{PostStage}
-use Rattle.bl_proc_writes.specs.declared.posting.PostStage.TheVariants as post
+use Rattle.bl_proc_writes.specs.declared.post.PostStage.{PostStage}
+use Rattle.bl_proc_writes.specs.declared.post.PostStage.TheVariants as post
 use Rattle.bl_rearrange.specs.declared.sides.Side.{Side}
 use Rattle.bl_rearrange.specs.declared.sides.Side.TheVariants as side
-use Rattle.bl_proc_compress.specs.declared.compressing.Puts.{Puts}
-use Rattle.bl_proc_compress.specs.declared.compressing.Compression.{Compression}
-use Rattle.bl_proc_compress.specs.declared.compressing.Compression.TheVariants.{PuttingFirst}
-use Rattle.bl_proc_compress.specs.declared.squeezing.CompressStage.{CompressStage}
-use Rattle.bl_proc_compress.specs.declared.squeezing.CompressStage.TheVariants as compress
+use Rattle.bl_proc_compress.specs.declared.compression.Puts.{Puts}
+use Rattle.bl_proc_compress.specs.declared.compression.Compression.{Compression}
+use Rattle.bl_proc_compress.specs.declared.compression.Compression.TheVariants.{PuttingFirst}
+use Rattle.bl_proc_compress.specs.declared.compress.CompressStage.{CompressStage}
+use Rattle.bl_proc_compress.specs.declared.compress.CompressStage.TheVariants as compress
 use Rattle.bl_proc.specs.declared.kinds.Proc.{Proc}
-use Rattle.bl_proc_base.specs.declared.lowering.Lowering.{Lowering}
-use Rattle.bl_proc_base.specs.declared.lowering.Lowering.TheVariants as lowering
+use Rattle.bl_proc_steps.specs.declared.lowering.Lowering.{Lowering}
+use Rattle.bl_proc_steps.specs.declared.lowering.Lowering.TheVariants as lowering
 use Rattle.bl_proc.specs.declared.lowering.LowerStage.{LowerStage}
 use Rattle.bl_proc.specs.declared.lowering.LowerStage.TheVariants as lower
 use Rattle.bl_proc.specs.declared.kinds.Proc.TheVariants as proc
@@ -31,10 +31,10 @@ use Rattle.bl_proc.specs.Processes.{next_of, needs_of}
 use Rattle.bl_proc_writes.specs.Writes.{write_next_in, write_needs_in}
 use Rattle.bl_proc_writes.specs.Posts.{post_next_in, post_needs_in}
 use Rattle.bl_proc_compress.specs.Compresses.{compress_next_in, compress_needs_in}
-use Rattle.bl_proc_base.specs.Lowerings.{lowering_next, lowering_needs}
-use Rattle.bl_proc_writes.specs.declared.climbing.ClimbStage.{ClimbStage}
-use Rattle.bl_proc_writes.specs.declared.climbing.ClimbStage.TheVariants as climb
-use Rattle.bl_proc_writes.specs.Climbs.{climb_next_in, climb_needs_in}
+use Rattle.bl_proc_steps.specs.Lowerings.{lowering_next, lowering_needs}
+use Rattle.bl_proc_writes.specs.declared.insert_post.ClimbStage.{ClimbStage}
+use Rattle.bl_proc_writes.specs.declared.insert_post.ClimbStage.TheVariants as climb
+use Rattle.bl_proc_writes.specs.InsertPosts.{climb_next_in, climb_needs_in}
 use Rattle.bl_proc.specs.Lowers.{lower_next_in, lower_needs_in}
 
 abbrev pub Reserves : Action → Type 0
@@ -69,9 +69,9 @@ put_reserves : (sd : Side) (u : Puts) → Reserves (put_of sd u)
 put_reserves side.Left u = tt
 put_reserves side.Right u = tt
 
-squeeze_reserves : (c : Compression) → IsSome (compression_needs c) → Reserves (compression_next c)
-squeeze_reserves (PuttingFirst u) h = put_reserves u.gains u
-squeeze_reserves old h = absurd (false≢true h)
+compression_reserves : (c : Compression) → IsSome (compression_needs c) → Reserves (compression_next c)
+compression_reserves (PuttingFirst u) h = put_reserves u.gains u
+compression_reserves old h = absurd (false≢true h)
 
 write_reserves : (a : WriteStage) → IsSome (write_needs_in a) → Reserves (write_next_in a)
 write_reserves (write.Editing noted c) h = edit_reserves c h
@@ -83,7 +83,7 @@ post_reserves (post.Editing c) h = edit_reserves c h
 post_reserves old h = absurd (false≢true h)
 
 compress_reserves : (a : CompressStage) → IsSome (compress_needs_in a) → Reserves (compress_next_in a)
-compress_reserves (compress.Compressing c) h = squeeze_reserves c h
+compress_reserves (compress.Compressing c) h = compression_reserves c h
 compress_reserves old h = absurd (false≢true h)
 
 lowering_reserves : (l : Lowering) → IsSome (lowering_needs l) → Reserves (lowering_next l)

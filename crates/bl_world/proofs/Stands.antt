@@ -8,8 +8,8 @@ use Rattle.bl_page.specs.Machine.{Name, State, Act as MachineAct, Enabled, Chang
 use Rattle.bl_page.specs.Machine.Owner.{Released, Held}
 use Rattle.bl_page.specs.Machine.Act.{Begin, End, Get, Put, Take, Latch, Retire, Look, Release, Miss}
 use Rattle.bl_claims.specs.Trails.{Mark, Trail, events_of, marks_of}
-use Rattle.bl_core.proofs.Pushes.{marks_of-other}
-use Rattle.bl_core.proofs.States.{moments_on}
+use Rattle.bl_tree_worlds.proofs.Pushes.{marks_of-other}
+use Rattle.bl_tree_worlds.proofs.States.{moments_on}
 use Rattle.bl_proc.specs.declared.reclaiming.Reclaim.{Reclaim}
 use Rattle.bl_proc.specs.declared.kinds.Proc.{Proc}
 use Rattle.bl_proc.specs.declared.kinds.Proc.TheVariants as proc

@@ -9,8 +9,8 @@ use Rattle.bl_page.specs.Machine.Act.{Begin, End, Get, Put, Take, Latch, Retire,
 use Rattle.bl_page.specs.Machine.Looked.{Process, Page as OfPage}
 use Rattle.bl_page.specs.Machine.Owner.{Released, Retired}
 use Rattle.bl_page.specs.Machine.Phase.{Waiting, Running, Ended}
-use Rattle.bl_core.proofs.Pushes.{name_cases}
-use Rattle.bl_core.specs.Worlds.{World as ModelWorld}
+use Rattle.bl_tree_worlds.proofs.Pushes.{name_cases}
+use Rattle.bl_tree_worlds.specs.Worlds.{World as ModelWorld}
 use Rattle.bl_proc_invariant.specs.Knowing.{Run}
 use Rattle.bl_world.specs.declared.turns.Act.{Act}
 use Rattle.bl_world.specs.declared.turns.Act.TheVariants as shown

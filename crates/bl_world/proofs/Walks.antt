@@ -7,16 +7,16 @@ use Rattle.bl_page.specs.declared.page.Page.{Page}
 use Rattle.bl_page.specs.Nodes.{unbounded, node_of, roots_of, IsTreePage}
 use Rattle.bl_claims.specs.Walks.{IsWalk, Each, HasLoneWalk}
 use Rattle.bl_claims.specs.Walks.IsWalk.{Ends, Right, Down}
-use Rattle.bl_core_tree.proofs.WalksEnd.{walk_is_short}
+use Rattle.bl_tree.proofs.WalksEnd.{walk_is_short}
 use Rattle.bl_claims.specs.Moments.{IsLivePage, snapshot_of}
-use Rattle.bl_core.proofs.WorldLaws.{live_status}
-use Rattle.bl_core_tree.specs.Trees.{is_live}
-use Rattle.bl_core_tree.proofs.Statuses.{free_dead}
+use Rattle.bl_tree_worlds.proofs.WorldLaws.{live_status}
+use Rattle.bl_tree.specs.Trees.{is_live}
+use Rattle.bl_tree.proofs.Statuses.{free_dead}
 use Rattle.std.proofs.lemmas.Bool.{false≢true}
-use Rattle.bl_proc_pages.specs.declared.onwards.Step.{Step}
-use Rattle.bl_proc_pages.specs.declared.onwards.Step.TheVariants as onward
-use Rattle.bl_proc_pages.specs.Onwards.{top_of, Leads}
-use Rattle.bl_proc_unique.proofs.Onwards.{leads_one}
+use Rattle.bl_proc_routes.specs.declared.routes.Step.{Step}
+use Rattle.bl_proc_routes.specs.declared.routes.Step.TheVariants as onward
+use Rattle.bl_proc_routes.specs.Routes.{top_of, Leads}
+use Rattle.bl_proc_deterministic.proofs.Onwards.{leads_one}
 use Rattle.bl_proc_invariant.specs.Knowing.{know}
 use Rattle.bl_proc_invariant.proofs.Starting.{run_laws}
 use Rattle.bl_world.specs.Views.{View}

@@ -2,10 +2,10 @@
 use Rattle.std.proofs.Common.{ℕ, ◌≡◌, ◌≢◌, ◌⊎◌, ◌+◌, ◌++◌, Some, List, [], ◌∷◌, length, slice_get, slice_set, arith, ap, sym, ◌∙◌, refl, subst, inl, inr}
 use Rattle.std.proofs.lemmas.Bool.{cases_eq}
 use Rattle.std.proofs.lemmas.Option.{slice_get_within}
-use Rattle.bl_proc_base.specs.declared.acts.Action.{Action}
-use Rattle.bl_proc_base.specs.declared.acts.Action.TheVariants as act
-use Rattle.bl_proc_base.specs.declared.acts.Seen.{Seen}
-use Rattle.bl_proc_base.specs.declared.acts.Seen.TheVariants as seen
+use Rattle.bl_proc_steps.specs.declared.acts.Action.{Action}
+use Rattle.bl_proc_steps.specs.declared.acts.Action.TheVariants as act
+use Rattle.bl_proc_steps.specs.declared.acts.Seen.{Seen}
+use Rattle.bl_proc_steps.specs.declared.acts.Seen.TheVariants as seen
 use Rattle.bl_proc.specs.declared.kinds.Proc.{Proc}
 use Rattle.bl_proc.specs.Processes.{next_of}
 use Rattle.bl_world.specs.declared.turns.Act.{Act}
@@ -17,8 +17,8 @@ use Rattle.bl_world.specs.WorldSteps.{IsOpening, WorldStep, MayStart, Starts, Do
 use Rattle.bl_world.specs.WorldSteps.WorldStep.{Starting, Turning}
 use Rattle.bl_world.proofs.Arms.{set_here, set_other}
 use Rattle.bl_world.proofs.Places.{push_plus, push_cases}
-use Rattle.bl_proc_unique.specs.Refusals.{IsRefused}
-use Rattle.bl_proc_unique.proofs.RefusedTurns.{takes_refused}
+use Rattle.bl_proc_deterministic.specs.Refusals.{IsRefused}
+use Rattle.bl_proc_deterministic.proofs.RefusedTurns.{takes_refused}
 use Rattle.bl_world.proofs.RefusedBegins.{begins_free, reclaim_free}
 
 -- Ways go on

@@ -1,6 +1,6 @@
 -- Which processes may go on, which wait for others, and where a wait ends.
 use Rattle.std.specs.Prelude.{◌≡◌, ℕ, ◌+◌, Bool, true, false, Some, None, slice_get}
-use Rattle.bl_proc_base.specs.declared.acts.Action.TheVariants as act
+use Rattle.bl_proc_steps.specs.declared.acts.Action.TheVariants as act
 use Rattle.bl_proc.specs.declared.kinds.Proc.{Proc}
 use Rattle.bl_proc.specs.Processes.{next_of, answer_of}
 use Rattle.bl_world.specs.declared.owners.Owner.{Owner}

@@ -7,8 +7,8 @@ use Rattle.bl_page.specs.Machine.Owner.{Retired}
 use Rattle.bl_page.specs.Machine.Phase.{Waiting, Running, Ended}
 use Rattle.bl_claims.specs.Trails.{events_of, marks_of}
 use Rattle.bl_claims.specs.States.{HasMoments}
-use Rattle.bl_core.specs.Worlds.{World as ModelWorld, IsGood}
-use Rattle.bl_core.specs.Blank.{IsBlank}
+use Rattle.bl_tree_worlds.specs.Worlds.{World as ModelWorld, IsGood}
+use Rattle.bl_tree_worlds.specs.Blank.{IsBlank}
 use Rattle.bl_claims.specs.Opening.{Opening}
 use Rattle.bl_proc.specs.declared.reclaiming.Reclaim.{Reclaim}
 use Rattle.bl_proc.specs.declared.reclaiming.ReclaimStage.{ReclaimStage}

@@ -4,8 +4,8 @@ ghost use Rattle.std.specs.Prelude.{ℕ, ◌≡◌, ◌<◌, ◌≤◌, ◌++◌
 ghost use Rattle.std.specs.Bool.{OnTrue, OnFalse};
 ghost use Rattle.bl_world.specs.declared.owners.Owner.TheVariants as own;
 ghost use Rattle.bl_proc.specs.declared.kinds.Proc.{Proc};
-ghost use Rattle.bl_proc_base.specs.declared.acts.Action.TheVariants as act;
-ghost use Rattle.bl_proc_base.specs.Given.{Gives};
+ghost use Rattle.bl_proc_steps.specs.declared.acts.Action.TheVariants as act;
+ghost use Rattle.bl_proc_steps.specs.Given.{Gives};
 ghost use Rattle.bl_proc.specs.Processes.{next_of, needs_of, answer_of, Takes};
 ghost use Rattle.bl_world.specs.Views.{view_of, number_in, is_retired as is_retired_owner, is_open as is_open_page};
 ghost use Rattle.bl_world.specs.Retirements.{HasSeen};

@@ -6,7 +6,7 @@ ghost use Rattle.bl_world.specs.Worlds.{IsWorld};
 ghost use Rattle.bl_world.specs.Lone.{HasWalk};
 
 use crate::lists::Lists;
-use bl_proc_pages::{Step, top_page, way_from};
+use bl_proc_routes::{Step, top_page, way_from};
 
 impl Lists {
     /// The leaf at which the lone walk of the key ends, and how many pages it gets, page 0 included.

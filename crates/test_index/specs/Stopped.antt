@@ -1,14 +1,14 @@
 -- A deletion that is stopped.
 use Rattle.std.specs.Prelude.{ℕ}
 use Rattle.bl_model.specs.declared.deciding.KeyWrite.TheVariants.{Delete}
-use Rattle.bl_proc_base.specs.declared.approaching.Approach.TheVariants.{Latched}
+use Rattle.bl_proc_steps.specs.declared.approach.Approach.TheVariants.{Latched}
 use Rattle.bl_proc_writes.specs.declared.writing.WriteStage.TheVariants.{Coming}
 use Rattle.bl_store.specs.declared.store.Glance.{Glance}
 use Rattle.bl_store.specs.declared.store.Hand.{Hand}
 use Rattle.bl_store.specs.Hands.{known, read_words, HasNoStock, ReadsFrom}
 use Rattle.bl_index_rule.specs.declared.known.PassState.{PassState}
-use Rattle.bl_index_steps.specs.declared.tree.Tree.{Tree}
-use Rattle.bl_index_steps.specs.Runs.{Runs}
+use Rattle.bl_index_events.specs.declared.tree.Tree.{Tree}
+use Rattle.bl_index_events.specs.Runs.{Runs}
 use Rattle.bl_index_ways.specs.Events.{IsThere}
 use Rattle.bl_index_write.specs.Events.{writing}
 

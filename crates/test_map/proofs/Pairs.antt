@@ -4,8 +4,8 @@ use Rattle.std.specs.Arc.{arc_value}
 use Rattle.std.specs.List.{AllZip}
 use Rattle.bl_index.specs.declared.index.Index.{Index}
 use Rattle.bl_index.specs.declared.index.Pass.{Pass}
-use Rattle.bl_seats.specs.declared.seat.Seat.{Seat}
-use Rattle.bl_seats.specs.Opened.{IsNewSeat}
+use Rattle.bl_ffi_seats.specs.declared.seat.Seat.{Seat}
+use Rattle.bl_ffi_seats.specs.Opened.{IsNewSeat}
 
 pub last_at : (index : Index) (passes : List Pass) (seats : List Seat) (last : Seat) → AllZip (IsNewSeat index) passes (seats ++ last ∷ []) → arc_value last.index ≡ index
 last_at index (p ∷ ps) [] last h = h.0.at

@@ -1,5 +1,5 @@
 //! Tests of what programs call: the map of `bl_map`, by one thread and by two, from an image, and while rows come and go, and the seats of
-//! `bl_seats`, on which the C library stands.
+//! `bl_ffi_seats`, on which the C library stands.
 //!
 //! They stand apart from what they test, and nothing else uses them. The index below has tests of its own, in `test_index`.
 #![tactic(auto)]

@@ -1,14 +1,14 @@
 //! Calls of seats.
 
 ghost use Rattle.std.specs.Prelude.{◌≡◌, [], ◌∷◌, IfSome};
-ghost use Rattle.bl_seats.specs.Closed.{values};
-ghost use Rattle.bl_seats.specs.Meetings.{AreOfOne};
+ghost use Rattle.bl_ffi_seats.specs.Closed.{values};
+ghost use Rattle.bl_ffi_seats.specs.Meetings.{AreOfOne};
 
-use bl_image::image_length;
-use bl_seats::{
+use bl_ffi_seats::{
     CloseFault, ImageFault, KeyReply, KeyWrite, Next, OpenFault, Reply, Seat, close, open,
     open_image,
 };
+use bl_image::image_length;
 use std::alloc::Global;
 
 /// How many rows are inserted where there are many.

@@ -6,7 +6,7 @@ use native.Mathlib.Decide.{ℕ_discrete}
 use lib.ListN.{get_elem?}
 use Rattle.atomic_table.proofs.Lists.{at_set, set_here, set_else, at_last, at_longer}
 use Rattle.bl_layout.specs.declared.layout.Layout.{Layout}
-use Rattle.bl_frames.specs.Pages.{Owner, Released, Open, Held, Retired, Stage, Idle, Running, Pages, Stands, observed, owned, written, Begins, Ends, Gets, Puts, Takes, Latches, Misses, Opens, Retires, Refuses, Meets, ReleasesMany}
+use Rattle.bl_store_rule.specs.Pages.{Owner, Released, Open, Held, Retired, Stage, Idle, Running, Pages, Stands, observed, owned, written, Begins, Ends, Gets, Puts, Takes, Latches, Misses, Opens, Retires, Refuses, Meets, ReleasesMany}
 use Rattle.bl_store.specs.Opening.{is_blank, first_owner, first_pages, IsDealt}
 use Rattle.test_store_rule.specs.declared.Mine.{Mine}
 use Rattle.std.proofs.lemmas.List.{get_or-replicate, length-replicate, length-append}
@@ -16,7 +16,7 @@ use Rattle.bl_store.specs.Closing.{left_of, HasEach, IsClosed}
 use Rattle.bl_store.specs.Hands.{IsSameHand}
 use Rattle.atomic_table.specs.Seated.{TableId}
 use Rattle.bl_store.specs.declared.store.Hand.{Hand}
-use Rattle.bl_frames.specs.declared.view.View.{View}
+use Rattle.bl_store_rule.specs.declared.view.View.{View}
 use Rattle.test_store_rule.specs.Holding.{first_words, IsFresh, AllSame, holding, IsUsed, Fits, same_at_time, saw, took, tried, lost, lost_at_time, same_after, same_apart}
 
 module _ {A : Type 0} where

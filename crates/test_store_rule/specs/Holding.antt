@@ -2,7 +2,7 @@
 use Rattle.std.specs.Prelude.{◌≡◌, ◌≢◌, ℕ, zero, suc, ◌<◌, List, length, replicate, slice_index, Option, Some, None}
 use mathlib.Core.Option.{some}
 use lib.ListN.{get_elem?}
-use Rattle.bl_frames.specs.Pages.{Owner, Released, Open, Held, Retired, Stage, Pages, Stands}
+use Rattle.bl_store_rule.specs.Pages.{Owner, Released, Open, Held, Retired, Stage, Pages, Stands}
 use Rattle.atomic_table.specs.Seated.{TableId}
 use Rattle.bl_layout.specs.declared.layout.Layout.{Layout}
 use Rattle.bl_store.specs.Hands.{known, IsOf, IsIdle, HasNoStock}

@@ -9,12 +9,12 @@ ghost use mathlib.Core.Option.{some};
 ghost use lib.ListN.{get_elem?};
 ghost use Rattle.bl_store.specs.Opening.{IsDealt};
 ghost use Rattle.bl_store.specs.Closing.{HasEach};
-ghost use Rattle.bl_store.specs.Hands.{known, IsOf, IsIdle, IsRunning, IsSameHand, IsSameStage, IsSameStock, HasNoStock, HasSeen, IsStockOf, MayRetire};
-ghost use Rattle.bl_frames.specs.Pages.{Pages};
+ghost use Rattle.bl_store.specs.Hands.{known, IsOf, IsIdle, IsRunning, IsSameHand, IsSameStamp, IsSameStock, HasNoStock, HasSeen, IsStockOf, MayRetire};
+ghost use Rattle.bl_store_rule.specs.Pages.{Pages};
 ghost use Rattle.test_store_rule.specs.Holding.{AllSame, Fits, IsApart, IsFresh, holding, same_apart, same_at_time, saw, took, tried, lost, lost_at_time, same_after};
 
-use bl_frames::{MeetPlay, PagePlay, PageRule, SweepPlay, TimePlay};
 use bl_store::{Glance, Hand, NoRoom, Stock, Store};
+use bl_store_rule::{MeetPlay, PagePlay, PageRule, SweepPlay, TimePlay};
 use std::alloc::{AllocError, Global};
 
 /// What a hand knows: the page that it holds.
@@ -131,7 +131,7 @@ pub fn shut(store: Held, hands: Vec<Hand<Mine>>, room: Vec<[u64; 32]>) -> Vec<[u
 pub fn meet(store: &Held, hand: &mut Hand<Mine>, other: &mut Hand<Mine>)
     requires own { IsOf store.now.table.shared.table_id store.now.layout hand.old.seat × IsOf store.now.table.shared.table_id store.now.layout other.old.seat }
     requires idle { IsIdle other.old.seat × HasNoStock other.old.seat }
-    ensures same { IsSameHand hand.old.seat hand.new.seat × IsSameStage hand.old.seat hand.new.seat
+    ensures same { IsSameHand hand.old.seat hand.new.seat × IsSameStamp hand.old.seat hand.new.seat
         × IsSameStock hand.old.seat hand.new.seat × (known hand.new.seat ≡ known hand.old.seat) }
     ensures other { IsSameHand other.old.seat other.new.seat × IsIdle other.new.seat × HasNoStock other.new.seat
         × (known other.new.seat ≡ known other.old.seat) }
@@ -166,7 +166,7 @@ pub fn look(store: &Held, hand: &mut Hand<Mine>, page: u32) -> [u64; 32]
     requires own { IsOf store.now.table.shared.table_id store.now.layout hand.old.seat }
     requires running { IsRunning hand.old.seat }
     requires page { page < 2 }
-    ensures same { IsSameHand hand.old.seat hand.new.seat × IsSameStage hand.old.seat hand.new.seat
+    ensures same { IsSameHand hand.old.seat hand.new.seat × IsSameStamp hand.old.seat hand.new.seat
         × IsSameStock hand.old.seat hand.new.seat × (known hand.new.seat ≡ known hand.old.seat) }
     ensures whole { AllSame result }
 {
@@ -179,7 +179,7 @@ pub fn glance(store: &Held, hand: &mut Hand<Mine>, page: u32) -> Option<Glance>
     requires own { IsOf store.now.table.shared.table_id store.now.layout hand.old.seat }
     requires running { IsRunning hand.old.seat }
     requires page { page < 2 }
-    ensures same { IsSameHand hand.old.seat hand.new.seat × IsSameStage hand.old.seat hand.new.seat
+    ensures same { IsSameHand hand.old.seat hand.new.seat × IsSameStamp hand.old.seat hand.new.seat
         × IsSameStock hand.old.seat hand.new.seat × (known hand.new.seat ≡ known hand.old.seat) }
     ensures whole { (words : List ℕ) × HasSeen result hand.new.seat words × AllSame words }
 {
@@ -191,7 +191,7 @@ pub fn latch(store: &Held, hand: &mut Hand<Mine>, page: u32) -> bool
     requires own { IsOf store.now.table.shared.table_id store.now.layout hand.old.seat }
     requires page { page < 2 }
     requires empty { (known hand.old.seat).held ≡ None }
-    ensures same { IsSameHand hand.old.seat hand.new.seat × IsSameStage hand.old.seat hand.new.seat × IsSameStock hand.old.seat hand.new.seat }
+    ensures same { IsSameHand hand.old.seat hand.new.seat × IsSameStamp hand.old.seat hand.new.seat × IsSameStock hand.old.seat hand.new.seat }
     ensures yes { result ≡ true → known hand.new.seat ≡ holding (Some page) }
     ensures no { result ≡ false → known hand.new.seat ≡ known hand.old.seat }
 {
@@ -203,7 +203,7 @@ pub fn open(store: &Held, hand: &mut Hand<Mine>, page: u32)
     requires own { IsOf store.now.table.shared.table_id store.now.layout hand.old.seat }
     requires page { page < store.now.layout.pages }
     requires holds { (known hand.old.seat).held ≡ Some page }
-    ensures same { IsSameHand hand.old.seat hand.new.seat × IsSameStage hand.old.seat hand.new.seat × IsSameStock hand.old.seat hand.new.seat }
+    ensures same { IsSameHand hand.old.seat hand.new.seat × IsSameStamp hand.old.seat hand.new.seat × IsSameStock hand.old.seat hand.new.seat }
     ensures empty { known hand.new.seat ≡ holding None }
 {
     store.open::<Gone>(hand, page);
@@ -220,7 +220,7 @@ pub fn reserve(
     requires few { (pages ≤ 1) × (frames ≤ 3) }
     requires empty { HasNoStock hand.old.seat }
     requires none { pages ≡ 1 → (known hand.old.seat).held ≡ None }
-    ensures same { IsSameHand hand.old.seat hand.new.seat × IsSameStage hand.old.seat hand.new.seat }
+    ensures same { IsSameHand hand.old.seat hand.new.seat × IsSameStamp hand.old.seat hand.new.seat }
     ensures stock { IfOk result (λ s. IsStockOf hand.new.seat s × (s.count ≡ frames) × MayRetire hand.new.seat) }
     ensures frame { pages ≡ 0 → IfOk result (λ s. known hand.new.seat ≡ known hand.old.seat) }
     ensures page { pages ≡ 1 → IfOk result (λ s. (x : ℕ) × (s.page ≡ Some x) × (0 < x) × (x < store.now.layout.pages)
@@ -236,7 +236,7 @@ pub fn fill(store: &Held, hand: &mut Hand<Mine>, page: u32, word: u64, stock: &m
     requires page { page < store.now.layout.pages }
     requires holds { (known hand.old.seat).held ≡ Some page }
     requires stock { IsStockOf hand.old.seat stock.old × (0 < stock.old.count) }
-    ensures same { IsSameHand hand.old.seat hand.new.seat × IsSameStage hand.old.seat hand.new.seat
+    ensures same { IsSameHand hand.old.seat hand.new.seat × IsSameStamp hand.old.seat hand.new.seat
         × (known hand.new.seat ≡ known hand.old.seat) × (hand.new.seat.me.0.retires ≡ hand.old.seat.me.0.retires) }
     ensures stock { IsStockOf hand.new.seat stock.new × (stock.new.count + 1 ≡ stock.old.count) × (stock.new.page ≡ stock.old.page) }
 {
@@ -249,7 +249,7 @@ pub fn retire(store: &Held, hand: &mut Hand<Mine>, page: u32)
     requires page { (2 ≤ page) × (page < store.now.layout.pages) }
     requires leave { MayRetire hand.old.seat }
     requires holds { (known hand.old.seat).held ≡ Some page }
-    ensures same { IsSameHand hand.old.seat hand.new.seat × IsSameStage hand.old.seat hand.new.seat }
+    ensures same { IsSameHand hand.old.seat hand.new.seat × IsSameStamp hand.old.seat hand.new.seat }
     ensures stock { (hand.new.seat.me.0.stock ≡ hand.old.seat.me.0.stock) × (hand.new.seat.me.0.puts ≡ hand.old.seat.me.0.puts) }
     ensures empty { known hand.new.seat ≡ holding None }
 {
@@ -259,7 +259,7 @@ pub fn retire(store: &Held, hand: &mut Hand<Mine>, page: u32)
 /// Releases what no process can read any more.
 pub fn sweep(store: &Held, hand: &mut Hand<Mine>) -> u32
     requires own { IsOf store.now.table.shared.table_id store.now.layout hand.old.seat }
-    ensures same { IsSameHand hand.old.seat hand.new.seat × IsSameStage hand.old.seat hand.new.seat
+    ensures same { IsSameHand hand.old.seat hand.new.seat × IsSameStamp hand.old.seat hand.new.seat
         × IsSameStock hand.old.seat hand.new.seat × (known hand.new.seat ≡ known hand.old.seat) }
 {
     store.sweep::<Still>(hand)
@@ -270,7 +270,7 @@ pub fn change(store: &Held, hand: &mut Hand<Mine>, page: u32, word: u64) -> bool
     requires own { IsOf store.now.table.shared.table_id store.now.layout hand.old.seat }
     requires page { page < 2 }
     requires empty { (known hand.old.seat ≡ holding None) × HasNoStock hand.old.seat }
-    ensures same { IsSameHand hand.old.seat hand.new.seat × IsSameStage hand.old.seat hand.new.seat }
+    ensures same { IsSameHand hand.old.seat hand.new.seat × IsSameStamp hand.old.seat hand.new.seat }
     ensures empty { (known hand.new.seat ≡ holding None) × HasNoStock hand.new.seat }
 {
     if !latch(store, hand, page) {

@@ -2,8 +2,8 @@
 
 use crate::answers::{maybe, numbered};
 use bl_page::{Page, from_words};
-use bl_proc_base::Approach;
-use bl_proc_pages::{Step, count_of, level_in, levels_in, row_in, step_in, top_in};
+use bl_proc_routes::{Step, count_of, level_in, levels_in, row_in, step_in, top_in};
+use bl_proc_steps::Approach;
 use std::alloc::{AllocError, Global};
 use test_worked_lines::{count, page_words, said};
 

@@ -83,19 +83,19 @@ fn changed(running: &mut Running, map: &mut PlainMap, act: Act, tree: &Tree) -> 
 }
 
 /// A compression that has put all has done so as the pages show, and what it is to answer is known.
-fn has_squeezed(
+fn has_compressed(
     alloc: Global,
     running: &mut Running,
     lists: &Lists,
     tree: &Tree,
     tally: &mut Tally,
 ) -> Result<(), Law> {
-    if let Some(squeeze) = &running.squeeze
-        && squeeze.puts == 3
+    if let Some(compression) = &running.compression
+        && compression.puts == 3
     {
-        squeeze.is_done(alloc, lists, tree)?;
-        running.own = Some(squeeze.answer_in(tree)?);
-        tally.squeezed(squeeze);
+        compression.is_done(alloc, lists, tree)?;
+        running.own = Some(compression.answer_in(tree)?);
+        tally.compressed(compression);
     }
     Ok(())
 }
@@ -250,7 +250,7 @@ impl Trial {
             parts(running, tree, named)?;
             self.tally.split_by(running, named);
         }
-        has_squeezed(alloc, running, self.twins.lists(), tree, &mut self.tally)
+        has_compressed(alloc, running, self.twins.lists(), tree, &mut self.tally)
     }
 
     /// The rows have changed to those of this tree by that event, and the map has them too.

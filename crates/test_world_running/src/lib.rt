@@ -2,8 +2,8 @@
 //! proofs. What it promises is in the words of each law that it finds broken.
 #![tactic(auto)]
 
+mod compressions;
 mod running;
-mod squeezes;
 
+pub use compressions::{Compression, Way};
 pub use running::{Job, Running, hint_of, is_to_post};
-pub use squeezes::{Squeeze, Way};

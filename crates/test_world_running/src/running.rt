@@ -1,6 +1,6 @@
 //! Processes that run, and what they may do and answer.
 
-use crate::squeezes::{Squeeze, rights_of};
+use crate::compressions::{Compression, rights_of};
 use bl_model::Reply;
 use bl_proc::{Answer, Hint, Lowered, Posted, Reclaimed, Squeezed};
 use bl_world::{Act, Owner, Turn};
@@ -58,7 +58,7 @@ pub struct Running {
     /// The same of one that an insertion has listed itself.
     pub listed: Option<(usize, u64)>,
     /// It compresses, and has put a page.
-    pub squeeze: Option<Squeeze>,
+    pub compression: Option<Compression>,
     /// Its children have shown that it is in the middle of an evening.
     pub evens: bool,
     /// The pages that it has put, of a process that takes the top level away.
@@ -224,7 +224,7 @@ impl Running {
             thin: None,
             split: None,
             listed: None,
-            squeeze: None,
+            compression: None,
             evens: false,
             sunk: Vec::new(alloc),
             retired: false,
@@ -294,8 +294,8 @@ impl Running {
             Act::Look(_) | Act::Release(_) => Err("who looks is to release a page"),
             Act::Retire(page) => {
                 self.retired = true;
-                let is_own = match &self.squeeze {
-                    Some(squeeze) => squeeze.retires(page),
+                let is_own = match &self.compression {
+                    Some(compression) => compression.retires(page),
                     None => self.sunk.len() == 2 && self.sunk.as_slice().last() == Some(&page),
                 };
                 holds(
@@ -396,8 +396,8 @@ impl Running {
 
     /// It has answered this, of a compression.
     fn judge_of_children(&self, what: Squeezed) -> Result<(), Law> {
-        let puts = match &self.squeeze {
-            Some(squeeze) => squeeze.puts,
+        let puts = match &self.compression {
+            Some(compression) => compression.puts,
             None => 0,
         };
         let has_put = what == Squeezed::Merged || what == Squeezed::Evened;

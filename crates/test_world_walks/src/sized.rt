@@ -1,7 +1,7 @@
 //! Worlds whose number of pages is known.
 
 ghost use Rattle.std.specs.Prelude.{◌≡◌, length};
-ghost use Rattle.bl_proc_base.specs.declared.acts.Action.TheVariants as act;
+ghost use Rattle.bl_proc_steps.specs.declared.acts.Action.TheVariants as act;
 ghost use Rattle.bl_proc.specs.Processes.{next_of};
 
 use bl_proc::{Answer, Proc};

@@ -5,7 +5,7 @@ use bl_model::Op;
 use bl_proc::{Answer, Posted};
 use bl_world::{Act, Owner, Turn};
 use std::alloc::Global;
-use test_world_running::{Job, Running, Squeeze};
+use test_world_running::{Compression, Job, Running};
 use test_world_walks::{Law, Tree, add, found, holds, keep};
 
 /// Those that run, in the order in which they were started.
@@ -33,11 +33,11 @@ pub fn change_of(running: &mut Running, act: Act, tree: &Tree) -> Result<Op, Law
 }
 
 /// The next put of a compression, of that page. Whether it is the last one.
-fn puts_last(squeeze: &mut Option<Squeeze>, page: u32) -> Result<bool, Law> {
-    match squeeze {
-        Some(squeeze) => {
-            squeeze.puts(page)?;
-            Ok(squeeze.puts == 3)
+fn puts_last(compression: &mut Option<Compression>, page: u32) -> Result<bool, Law> {
+    match compression {
+        Some(compression) => {
+            compression.puts(page)?;
+            Ok(compression.puts == 3)
         }
         None => Ok(false),
     }
@@ -55,11 +55,11 @@ pub fn puts_in_compression(
         return Ok(());
     };
     let number = running.number;
-    if running.squeeze.is_none() {
-        running.squeeze = Some(Squeeze::new(alloc, tree, level, key)?);
+    if running.compression.is_none() {
+        running.compression = Some(Compression::new(alloc, tree, level, key)?);
         add(compressing, number)?;
     }
-    if puts_last(&mut running.squeeze, page)? {
+    if puts_last(&mut running.compression, page)? {
         compressing.retain(|other| *other != number);
     }
     Ok(())
@@ -108,7 +108,7 @@ pub fn parts(running: &mut Running, tree: &Tree, named: Option<u32>) -> Result<(
 
 /// A compression that has put nothing waits for a latch.
 fn waits(running: &Running, turn: Turn, act: Act) -> bool {
-    running.squeeze.is_none()
+    running.compression.is_none()
         && matches!(running.job, Job::Compress(_, _))
         && running.begun.is_some()
         && act == Act::Miss

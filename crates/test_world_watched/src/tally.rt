@@ -4,7 +4,7 @@ use bl_model::Reply;
 use bl_page::Page;
 use bl_proc::{Answer, Hint, Lowered, Posted, Reclaimed, Squeezed};
 use bl_world::Owner;
-use test_world_running::{Job, Running, Squeeze, Way, is_to_post};
+use test_world_running::{Compression, Job, Running, Way, is_to_post};
 
 /// Answers of operations, but for changes of a value.
 #[derive(Clone, Copy, Debug)]
@@ -362,7 +362,7 @@ impl Shapes {
         }
     }
 
-    fn squeezed(&mut self, way: Way) {
+    fn compressed(&mut self, way: Way) {
         if way == Way::Merged {
             one_more(&mut self.merged);
         } else {
@@ -432,14 +432,14 @@ impl Tally {
     }
 
     /// A compression has put all.
-    pub fn squeezed(&mut self, squeeze: &Squeeze) {
-        let way = squeeze.way();
+    pub fn compressed(&mut self, compression: &Compression) {
+        let way = compression.way();
         match way {
             Way::Merged => {}
             Way::ToTheLeft => one_more(&mut self.compressions.to_the_left),
             Way::ToTheRight => one_more(&mut self.compressions.to_the_right),
         }
-        self.shapes(squeeze.level() == 0).squeezed(way);
+        self.shapes(compression.level() == 0).compressed(way);
     }
 
     /// A tree had so many levels.

@@ -1,7 +1,7 @@
 //! A world, and the same world carried out plainly.
 
 ghost use Rattle.std.specs.Prelude.{◌≡◌};
-ghost use Rattle.bl_proc_base.specs.declared.acts.Action.TheVariants as act;
+ghost use Rattle.bl_proc_steps.specs.declared.acts.Action.TheVariants as act;
 ghost use Rattle.bl_proc.specs.Processes.{next_of};
 
 use crate::model::Model;

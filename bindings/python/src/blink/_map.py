@@ -8,7 +8,7 @@ import threading
 import warnings
 import weakref
 from array import array
-from collections.abc import ItemsView, Iterable, Iterator, KeysView, Mapping, MutableMapping, ValuesView
+from collections.abc import Callable, ItemsView, Iterable, Iterator, KeysView, Mapping, MutableMapping, ValuesView
 from operator import index
 from typing import Any, NoReturn, TypeVar, overload
 
@@ -67,6 +67,14 @@ def _word(value: Any, what: str) -> int:
     if not 0 <= whole <= _MOST:
         raise OverflowError(f"the {what} {whole} is not 0 to 2**64 - 1")
     return whole
+
+
+def _delta(value: Any) -> int:
+    """What is added to a value, modulo 2**64."""
+    try:
+        return index(value) & _MOST
+    except TypeError:
+        raise TypeError(f"what is added is an integer, not {type(value).__name__}") from None
 
 
 def _key_or_none(key: Any) -> int | None:
@@ -226,11 +234,7 @@ class Map(MutableMapping[int, int]):
             _refuse(code)
 
     def put(self, key: int, value: int) -> int | None:
-        """Sets the value, whatever is there: the value that was there, or None.
-
-        It is an insertion, or an insertion and a change, and goes round while others write the key in between. As a whole
-        it takes effect at one moment, that of its last call.
-        """
+        """Sets the value, whatever is there, in one step: the value that was there, or None."""
         old = _new("uint64_t *")
         code = lib.shim_put(self._at, _word(key, "key"), _word(value, "value"), old)
         if code == _PRESENT:
@@ -259,6 +263,26 @@ class Map(MutableMapping[int, int]):
         if code not in (_OK, _PRESENT):
             _refuse(code)
         return bool(code == _OK)
+
+    def add(self, key: int, delta: int = 1) -> int:
+        """Adds to the key's value, modulo 2**64, in one step: the sum. A key that is not there counts as 0, as in a Counter.
+
+        `delta` may be any integer: add(key, -1) takes 1 away.
+        """
+        now = _new("uint64_t *")
+        code = lib.shim_add(self._at, _word(key, "key"), _delta(delta), now)
+        return int(now[0]) if code in (_OK, _PRESENT) else _refuse(code)
+
+    def update_value(self, key: int, function: Callable[[int], int]) -> int:
+        """Sets the value to what the function makes of it: the new value. KeyError where the key is not there.
+
+        It is a lookup and then changes, and the function is called again where others write in between: so no seat is taken
+        while it runs, and it may use the map.
+        """
+        old = self[key]
+        while not self.change(key, old, new := _word(function(old), "value")):
+            old = self[key]
+        return new
 
     def _take(self, key: Any) -> int | None:
         word = _key_or_none(key)
@@ -289,7 +313,8 @@ class Map(MutableMapping[int, int]):
     # Many keys.
 
     def get_many(self, keys: Any, default: int = 0, *, out: Any = None, found: Any = None) -> Any:
-        """The values of many keys, by one call in C: an array('Q'), with `default` for keys that are not there.
+        """The values of many keys, by one call in C that fetches their pages side by side: an array('Q'), with `default` for keys
+        that are not there.
 
         `keys` is array('Q'), numpy.uint64 or another buffer of unsigned 64-bit numbers. With `out`, another such buffer of as
         many places, the values are written there and it is the answer; what stands at the place of an absent key stays.
@@ -301,8 +326,7 @@ class Map(MutableMapping[int, int]):
             out = array("Q", [_word(default, "default")]) * count
         values = _numbers(out, "out", count, is_written=True)
         flags = ffi.NULL if found is None else _flags(found, count)
-        hits = _new("size_t *")
-        code = lib.shim_get_many(self._at, asked, count, values, flags, hits)
+        code = lib.shim_get_many(self._at, asked, count, values, flags)
         if code != _OK:
             _refuse(code)
         return out
@@ -401,9 +425,9 @@ class Map(MutableMapping[int, int]):
     def peekitem(self, index: int = -1) -> tuple[int, int]:
         """The row at a place of the order; -1 is the last one. The first and the last are one call;
         others are counted to from the nearer end, since the map has no ranks. IndexError where there are fewer rows."""
-        if index == -1:
+        if index in (0, -1):
             row = _new("blink_row *")
-            code = lib.shim_last(self._at, _MOST, row)
+            code = lib.shim_end(self._at, index == -1, row)
             if code == _OK:
                 return row.key, row.value
             if code != _ABSENT:

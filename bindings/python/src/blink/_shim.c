@@ -2,7 +2,6 @@
  * here, so that no signal that Python handles, as that of Ctrl-C, comes between taking a seat and giving it back. cffi lets
  * other threads of Python run during each call. */
 #include "blink.h"
-#include "blink_more.h"
 
 #include <pthread.h>
 #include <stdlib.h>
@@ -15,7 +14,7 @@ typedef struct shim_map {
     uint64_t free;    /* a bit for each seat that is in no call */
     uint32_t waiting; /* how many threads wait for a seat */
     uint32_t pages, count;
-    int64_t rows; /* how many rows there are, since the library does not tell it */
+    int64_t rows; /* how many rows there are: the library would go along them */
     pthread_mutex_t lock;
     pthread_cond_t given;
 } shim_map;
@@ -86,23 +85,15 @@ static void shim_count(shim_map *map, int64_t more) { __atomic_add_fetch(&map->r
 
 /* Counts the rows of a map that was just opened. */
 static void shim_count_all(shim_map *map) {
-    blink_row rows[512];
-    uint64_t from = 0;
-    size_t count = 0;
-    bool more = true;
-    map->rows = 0;
-    while (more && blink_scan(&map->seats[0], from, rows, 512, &count, &from, &more) == BLINK_OK)
-        map->rows += (int64_t)count;
-}
-
-/* How many pages the map has whose image has so many bytes, which the library does not tell. */
-static uint32_t shim_pages(size_t length) {
-    return length < 32 ? 0 : (uint32_t)((length - 32) / (blink_image_length(1) - blink_image_length(0)));
+    uint64_t rows = 0;
+    blink_count(&map->seats[0], 0, UINT64_MAX, &rows);
+    map->rows = (int64_t)rows;
 }
 
 /* Opens a map without rows, or, where `image` is not null, with the rows of an image. */
 static int32_t shim_open(uint32_t pages, uint32_t count, const uint8_t *image, size_t length, shim_map **made) {
     shim_map *map;
+    blink_stats stats = { 0, 0, 0, 0 };
     int32_t answer;
     if (count < 1 || count > 64) return BLINK_BAD_SEATS;
     map = calloc(1, sizeof *map);
@@ -116,7 +107,8 @@ static int32_t shim_open(uint32_t pages, uint32_t count, const uint8_t *image, s
         free(map);
         return answer;
     }
-    map->pages = image ? shim_pages(length) : pages;
+    blink_stat(&map->seats[0], &stats);
+    map->pages = (uint32_t)stats.pages;
     map->count = count;
     map->free = shim_all(map);
     pthread_mutex_init(&map->lock, NULL);
@@ -188,13 +180,13 @@ static int32_t shim_insert(shim_map *map, uint64_t key, uint64_t value, uint64_t
 /* Puts a value, and tells no old one: so BLINK_OK in place of BLINK_PRESENT. */
 static int32_t shim_set(shim_map *map, uint64_t key, uint64_t value) {
     uint64_t old = 0;
-    SHIM_CALL(map, answer = blink_more_put(seat, key, value, &old))
+    SHIM_CALL(map, answer = blink_put(seat, key, value, &old))
     if (answer == BLINK_OK) shim_count(map, 1);
     return answer == BLINK_PRESENT ? BLINK_OK : answer;
 }
 
 static int32_t shim_put(shim_map *map, uint64_t key, uint64_t value, uint64_t *old) {
-    SHIM_CALL(map, answer = blink_more_put(seat, key, value, old))
+    SHIM_CALL(map, answer = blink_put(seat, key, value, old))
     if (answer == BLINK_OK) shim_count(map, 1);
     return answer;
 }
@@ -210,8 +202,15 @@ static int32_t shim_change(shim_map *map, uint64_t key, uint64_t old_value, uint
     return answer;
 }
 
-static int32_t shim_last(shim_map *map, uint64_t most, blink_row *row) {
-    SHIM_CALL(map, answer = blink_more_last(seat, most, row))
+static int32_t shim_add(shim_map *map, uint64_t key, uint64_t delta, uint64_t *now) {
+    SHIM_CALL(map, answer = blink_add(seat, key, delta, now))
+    if (answer == BLINK_OK) shim_count(map, 1);
+    return answer;
+}
+
+/* The first row, or the last one. */
+static int32_t shim_end(shim_map *map, bool is_last, blink_row *row) {
+    SHIM_CALL(map, answer = is_last ? blink_last(seat, row) : blink_first(seat, row))
     return answer;
 }
 
@@ -238,9 +237,20 @@ static int32_t shim_rows(shim_map *map, bool is_falling, size_t most, uint64_t *
     return BLINK_OK;
 }
 
-static int32_t shim_get_many(shim_map *map, const uint64_t *keys, size_t count, uint64_t *values, uint8_t *found,
-                             size_t *hits) {
-    SHIM_CALL(map, answer = blink_more_find_many(seat, keys, count, values, found, hits))
+/* Looks many keys up, some at a time: writes the values of those that are there, and, if `found` is not null, which they are. */
+static int32_t shim_get_many(shim_map *map, const uint64_t *keys, size_t count, uint64_t *values, uint8_t *found) {
+    enum { SOME = 256 };
+    uint64_t some[SOME];
+    bool are_there[SOME];
+    size_t done, at;
+    SHIM_CALL(map, answer = BLINK_OK; for (done = 0; done < count && answer == BLINK_OK; done += SOME) {
+        const size_t more = count - done < SOME ? count - done : SOME;
+        answer = blink_find_many(seat, keys + done, more, some, are_there);
+        for (at = 0; answer == BLINK_OK && at < more; at++) {
+            if (are_there[at]) values[done + at] = some[at];
+            if (found) found[done + at] = are_there[at];
+        }
+    })
     return answer;
 }
 
@@ -251,7 +261,7 @@ static int32_t shim_put_many(shim_map *map, const uint64_t *keys, const uint64_t
     *done = 0;
     SHIM_CALL(map, answer = BLINK_OK;
               for (; *done < count && answer != BLINK_NO_ROOM && answer != BLINK_CLOSED; *done += answer <= BLINK_PRESENT) {
-                  answer = blink_more_put(seat, keys[*done], values[*done], &old);
+                  answer = blink_put(seat, keys[*done], values[*done], &old);
                   fresh += answer == BLINK_OK;
               })
     shim_count(map, fresh);

@@ -23,6 +23,9 @@ pub struct blink_row {
     pub value: u64,
 }
 
+/// Makes the new value for [`blink_update`] of the old one, with the context of the caller. It is not to unwind.
+pub type blink_update_fn = extern "C" fn(value: u64, context: *mut c_void) -> u64;
+
 /// How far a part of the rows goes. All zeros before the first part.
 #[repr(C)]
 #[derive(Clone, Copy, Debug, Default)]
@@ -55,7 +58,7 @@ pub struct blink_stats {
 pub const BLINK_OK: i32 = 0;
 /// The key is not there.
 pub const BLINK_ABSENT: i32 = 1;
-/// The key has a value, which it keeps.
+/// The key was there.
 pub const BLINK_PRESENT: i32 = 2;
 /// No free page or frame; nothing has changed.
 pub const BLINK_NO_ROOM: i32 = 3;
@@ -132,6 +135,15 @@ extern "C" {
     pub fn blink_put(seat: *mut blink_seat, key: u64, value: u64, old: *mut u64) -> i32;
     pub fn blink_delete(seat: *mut blink_seat, key: u64, gone: *mut u64) -> i32;
     pub fn blink_change(seat: *mut blink_seat, key: u64, old_value: u64, new_value: u64, there: *mut u64) -> i32;
+    pub fn blink_update(
+        seat: *mut blink_seat,
+        key: u64,
+        make: blink_update_fn,
+        context: *mut c_void,
+        old: *mut u64,
+        now: *mut u64,
+    ) -> i32;
+    pub fn blink_add(seat: *mut blink_seat, key: u64, delta: u64, now: *mut u64) -> i32;
     pub fn blink_scan(
         seat: *mut blink_seat,
         from: u64,
@@ -184,6 +196,11 @@ extern "C" {
         room: usize,
         part: *mut blink_part,
     ) -> i32;
+    pub fn blink_first(seat: *mut blink_seat, row: *mut blink_row) -> i32;
+    pub fn blink_last(seat: *mut blink_seat, row: *mut blink_row) -> i32;
+    pub fn blink_next(seat: *mut blink_seat, key: u64, row: *mut blink_row) -> i32;
+    pub fn blink_previous(seat: *mut blink_seat, key: u64, row: *mut blink_row) -> i32;
+    pub fn blink_count(seat: *mut blink_seat, from: u64, last: u64, count: *mut u64) -> i32;
     pub fn blink_upkeep(seat: *mut blink_seat, most: u32) -> i32;
     pub fn blink_upkeep_all(seat: *mut blink_seat) -> i32;
     pub fn blink_waiting(seat: *mut blink_seat) -> u32;

@@ -1,12 +1,6 @@
 //! Counts words of standard input by their lengths, by four threads: `echo a bc de | cargo run --example count`.
 use std::io::{self, Read};
 
-fn count(handle: &blink::Handle, length: u64) -> Result<(), blink::NoRoom> {
-    // Where the key is not there yet it begins with 1; whoever comes second adds.
-    while handle.update(length, |count| count + 1)?.is_none() && handle.insert(length, 1)?.is_some() {}
-    Ok(())
-}
-
 fn main() -> Result<(), Box<dyn std::error::Error>> {
     let mut text = String::new();
     io::stdin().read_to_string(&mut text)?;
@@ -17,7 +11,7 @@ fn main() -> Result<(), Box<dyn std::error::Error>> {
             .chunks(words.len() / 4 + 1)
             .filter_map(|part| Some((part, map.handle()?)))
             .map(|(part, handle)| {
-                scope.spawn(move || part.iter().try_for_each(|word| count(&handle, word.len() as u64)))
+                scope.spawn(move || part.iter().try_for_each(|word| handle.add(word.len() as u64, 1).map(drop)))
             })
             .collect();
         threads.into_iter().try_for_each(|thread| thread.join().expect("no thread panics"))

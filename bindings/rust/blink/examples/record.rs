@@ -1,8 +1,8 @@
 //! Records calls of maps for the checker of `checks/linearizable`: `record SECONDS PAGES THREADS KEYS CALLS SEED`.
 //!
 //! One map after the other is opened, for so many seconds, and one at least. In each of the three rounds of a map so many threads
-//! make so many calls each, through handles, on few keys: searches, insertions, deletions, changes, and ranges of some keys, up and
-//! down, which tell of each key that they pass. Behind a round the map is closed to its image and opened from that. The next map
+//! make so many calls each, through handles, on few keys: searches, insertions, puts, deletions, changes, updates, which are told as
+//! changes, and ranges of some keys, up and down, which tell of each key that they pass. Behind a round the map is closed to its image and opened from that. The next map
 //! has other keys. A line is printed for each call: the thread, the nanoseconds right before the call and right behind it, the key,
 //! what was asked and what was answered; and behind each round the line `round`.
 use blink::{ExchangeError, Handle, Map, NoRoom};
@@ -46,7 +46,7 @@ impl Worker {
                 self.seen = found.map(|found| (key, found)).or(self.seen);
                 (key, format!("Find {}", found.map_or("Absent".to_string(), |found| format!("Found({})", found))))
             }
-            (40..=69, _) => {
+            (40..=59, _) => {
                 let there = handle.insert(key, value);
                 let told = match there {
                     Ok(None) => "Inserted".to_string(),
@@ -55,7 +55,28 @@ impl Worker {
                 };
                 (key, format!("Insert({}) {}", value, told))
             }
-            (70..=89, _) | (_, None) => {
+            (60..=67, _) => {
+                let told = match handle.put(key, value) {
+                    Ok(None) => "Inserted".to_string(),
+                    Ok(Some(old)) => format!("Replaced({})", old),
+                    Err(NoRoom) => "NoRoom".to_string(),
+                };
+                (key, format!("Put({}) {}", value, told))
+            }
+            (68..=71, _) => {
+                let (mut stamp, asked) = (self.stamp, key);
+                let updated = handle.update(asked, |_| {
+                    stamp += 1;
+                    stamp
+                });
+                self.stamp = stamp;
+                match updated {
+                    Ok(Some(old)) => (key, format!("Change({}, {}) Changed", old, stamp)),
+                    Ok(None) => (key, format!("Change({}, {}) Absent", value, stamp)),
+                    Err(NoRoom) => (key, format!("Put({}) NoRoom", stamp)),
+                }
+            }
+            (72..=89, _) | (_, None) => {
                 let told = match handle.remove(key) {
                     Ok(Some(gone)) => format!("Deleted({})", gone),
                     Ok(None) => "Absent".to_string(),

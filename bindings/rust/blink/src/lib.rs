@@ -19,13 +19,15 @@
 //! two (`Send`, not `Sync`), and no call of it calls back. So its calls take `&self`, and a range may be listed while the same
 //! handle changes rows.
 //!
-//! There is one order of all calls of one key, which keeps the order of calls that did not overlap. In the child of a `fork` of
-//! a program with threads no call may be made.
+//! There is one order of all calls, which keeps the order of calls that did not overlap. It is proved for the calls of one seat
+//! and for seats that have met; between others, as a map's handles are, it is tested. In the child of a `fork` of a program with
+//! threads no call may be made.
 #![deny(missing_docs)]
 #![deny(unsafe_op_in_unsafe_fn)]
 
 mod error;
 mod range;
+mod update;
 
 pub use error::{CloseError, ExchangeError, NoRoom, OpenError};
 pub use range::Range;
@@ -81,20 +83,16 @@ fn closed_seats(count: usize) -> Vec<blink_seat> {
     (0..count).map(|_| blink_seat { at: std::ptr::null_mut() }).collect()
 }
 
-fn opened(code: i32, seats: Vec<blink_seat>, pages: u32) -> Result<Map, OpenError> {
+fn opened(code: i32, mut seats: Vec<blink_seat>) -> Result<Map, OpenError> {
     if code != BLINK_OK {
         return Err(OpenError::of(code));
     }
-    let handles = seats.len();
+    let (handles, mut stats) = (seats.len(), blink_stats::default());
+    // SAFETY: the pointers are of an open seat and of a local variable.
+    unsafe { blink_stat(&mut seats[0], &mut stats) };
+    let pages = stats.pages as u32;
     let free = Mutex::new(seats.into_iter().rev().map(Seat).collect());
     Ok(Map { shared: Arc::new(Shared { free, pages, handles }) })
-}
-
-/// How many pages the map of an image has, which the library does not tell.
-fn pages_of(image: &[u8]) -> u32 {
-    // SAFETY: the function takes any number.
-    let (none, one) = unsafe { (blink_image_length(0), blink_image_length(1)) };
-    ((image.len() as u64).saturating_sub(none) / (one - none)) as u32
 }
 
 /// The version of the library that is linked, as "0.1.0".
@@ -116,7 +114,7 @@ impl Map {
         let mut seats = closed_seats(handles);
         // SAFETY: the pointer and the length are of one vector of closed seats.
         let code = unsafe { blink_open(pages, seats.as_mut_ptr(), seats.len()) };
-        opened(code, seats, pages)
+        opened(code, seats)
     }
 
     /// A map that begins with the rows of an image, as [`Map::close_image`] and `blink dump` make it.
@@ -131,7 +129,7 @@ impl Map {
         let mut seats = closed_seats(handles);
         // SAFETY: as above, and the image is a slice.
         let code = unsafe { blink_open_image(image.as_ptr(), image.len(), seats.as_mut_ptr(), seats.len()) };
-        opened(code, seats, pages_of(image))
+        opened(code, seats)
     }
 
     /// A handle, if one is free.
@@ -187,6 +185,21 @@ impl fmt::Debug for Map {
     }
 }
 
+/// The least and the greatest key of a range, if there may be any.
+fn bounds_of(range: impl RangeBounds<u64>) -> Option<(u64, u64)> {
+    let low = match range.start_bound() {
+        Bound::Included(&key) => key,
+        Bound::Excluded(&key) => key.checked_add(1)?,
+        Bound::Unbounded => 0,
+    };
+    let high = match range.end_bound() {
+        Bound::Included(&key) => key,
+        Bound::Excluded(&key) => key.checked_sub(1)?,
+        Bound::Unbounded => u64::MAX,
+    };
+    Some((low, high))
+}
+
 impl Handle {
     fn at(&self) -> *mut blink_seat {
         // SAFETY: a handle is in one thread at a time and no call calls back, so nobody else has a reference into the cell.
@@ -212,9 +225,17 @@ impl Handle {
         self.get(key).is_some()
     }
 
-    /// The values of many keys, in their order; each is a search of its own.
+    /// The values of many keys, in their order; each is a search of its own, and the pages of eight at a time are fetched side by
+    /// side.
     pub fn get_many(&self, keys: &[u64]) -> Vec<Option<u64>> {
-        keys.iter().map(|&key| self.get(key)).collect()
+        let (mut values, mut found) = (vec![0; keys.len()], vec![false; keys.len()]);
+        // SAFETY: the seat is this handle's alone, and each other pointer is of a vector with a place for each key.
+        let code =
+            unsafe { blink_find_many(self.at(), keys.as_ptr(), keys.len(), values.as_mut_ptr(), found.as_mut_ptr()) };
+        if code != BLINK_OK {
+            error::unexpected(code);
+        }
+        values.into_iter().zip(found).map(|(value, is_there)| is_there.then_some(value)).collect()
     }
 
     /// Puts the value at the key where it has none: `None`, or the value that is there and stays.
@@ -278,42 +299,35 @@ impl Handle {
         }
     }
 
-    /// Puts at a key that is there what the function makes of its value, by [`Handle::compare_exchange`]: the value before, or
-    /// `None` where the key is not there. The function is called again where others write in between.
+    /// Puts at a key that is there what the function makes of its value: the value before, or `None` where the key is not there.
+    /// The function is called again where others write in between. Where it panics nothing has changed.
     ///
     /// # Errors
     ///
     /// Where no frame was free.
-    pub fn update(&self, key: u64, mut make: impl FnMut(u64) -> u64) -> Result<Option<u64>, NoRoom> {
-        let mut seen = self.get(key);
-        while let Some(there) = seen {
-            match self.compare_exchange(key, there, make(there)) {
-                Ok(()) => break,
-                Err(ExchangeError::Differs(other)) => seen = Some(other),
-                Err(ExchangeError::Absent) => seen = None,
-                Err(ExchangeError::NoRoom) => return Err(NoRoom),
-            }
+    pub fn update(&self, key: u64, make: impl FnMut(u64) -> u64) -> Result<Option<u64>, NoRoom> {
+        update::update(self, key, make)
+    }
+
+    /// Adds to the key's value, modulo 2^64: the sum. A key that is not there counts as 0, and is inserted.
+    ///
+    /// # Errors
+    ///
+    /// Where no page or frame was free.
+    pub fn add(&self, key: u64, delta: u64) -> Result<u64, NoRoom> {
+        let mut now = 0;
+        match unsafe { blink_add(self.at(), key, delta, &mut now) } {
+            BLINK_OK | BLINK_PRESENT => Ok(now),
+            BLINK_NO_ROOM => Err(NoRoom),
+            code => error::unexpected(code),
         }
-        Ok(seen)
     }
 
     /// The rows of a range by rising keys, or by falling ones from its end. Each leaf is read at one moment; the whole is no
     /// snapshot.
     pub fn range(&self, range: impl RangeBounds<u64>) -> Range<'_> {
-        let low = match range.start_bound() {
-            Bound::Included(&key) => Some(key),
-            Bound::Excluded(&key) => key.checked_add(1),
-            Bound::Unbounded => Some(0),
-        };
-        let high = match range.end_bound() {
-            Bound::Included(&key) => Some(key),
-            Bound::Excluded(&key) => key.checked_sub(1),
-            Bound::Unbounded => Some(u64::MAX),
-        };
-        match (low, high) {
-            (Some(low), Some(high)) => Range::new(self, low, high),
-            _ => Range::new(self, 1, 0),
-        }
+        let (low, high) = bounds_of(range).unwrap_or((1, 0));
+        Range::new(self, low, high)
     }
 
     /// All rows, as [`Handle::range`].
@@ -323,12 +337,41 @@ impl Handle {
 
     /// The row of the least key.
     pub fn first(&self) -> Option<(u64, u64)> {
-        self.iter().next()
+        self.row(|seat, row| unsafe { blink_first(seat, row) })
     }
 
     /// The row of the greatest key.
     pub fn last(&self) -> Option<(u64, u64)> {
-        self.iter().next_back()
+        self.row(|seat, row| unsafe { blink_last(seat, row) })
+    }
+
+    /// The row of the least key above this one.
+    pub fn next(&self, key: u64) -> Option<(u64, u64)> {
+        self.row(|seat, row| unsafe { blink_next(seat, key, row) })
+    }
+
+    /// The row of the greatest key below this one.
+    pub fn previous(&self, key: u64) -> Option<(u64, u64)> {
+        self.row(|seat, row| unsafe { blink_previous(seat, key, row) })
+    }
+
+    /// The row that a call of one row answers, if there is one.
+    fn row(&self, call: impl FnOnce(*mut blink_seat, *mut blink_row) -> i32) -> Option<(u64, u64)> {
+        let mut row = blink_row::default();
+        match call(self.at(), &mut row) {
+            BLINK_OK => Some((row.key, row.value)),
+            BLINK_ABSENT => None,
+            code => error::unexpected(code),
+        }
+    }
+
+    /// How many rows of a range there are. It goes along them, and is exact where nobody writes meanwhile.
+    pub fn count(&self, range: impl RangeBounds<u64>) -> u64 {
+        let (mut rows, (low, high)) = (0, bounds_of(range).unwrap_or((1, 0)));
+        match unsafe { blink_count(self.at(), low, high, &mut rows) } {
+            BLINK_OK => rows,
+            code => error::unexpected(code),
+        }
     }
 
     /// Does so many pieces of upkeep at most: whether nothing is left to do. No program need call it.

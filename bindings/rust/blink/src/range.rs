@@ -36,9 +36,13 @@ impl Ahead {
         Ahead { way, rows: Vec::new(), at: 0, next: Some(next) }
     }
 
-    /// Reads further rows up to the key `last`, itself included: few at first, since many ranges are left early. Whether there may be any.
+    /// Reads further rows up to the key `last`, itself included: few at first, since many ranges are left early. Whether there
+    /// may be any.
     fn read(&mut self, handle: &Handle, last: u64) -> bool {
-        let Some(from) = self.next else { return false };
+        let from = match self.next {
+            Some(from) => from,
+            None => return false,
+        };
         let room = if self.rows.is_empty() { 32 } else { 128 };
         let (mut count, mut next, mut more) = (0, 0, false);
         self.rows.resize(room, blink_row::default());

@@ -31,7 +31,7 @@ fn same_range(handle: &Handle, model: &Model, from: u64, to: u64, x: &mut u64) {
 }
 
 fn step(handle: &Handle, model: &mut Model, x: &mut u64) {
-    let (what, v) = (draw(x) % 9, draw(x));
+    let (what, v) = (draw(x) % 11, draw(x));
     let k = if draw(x) % 2 == 0 { draw(x) % 500 } else { draw(x) | 1 << 63 };
     let old = model.get(&k).copied();
     match what {
@@ -56,7 +56,23 @@ fn step(handle: &Handle, model: &mut Model, x: &mut u64) {
             assert_eq!(handle.update(k, |v| v ^ 5), Ok(old));
             model.entry(k).and_modify(|v| *v ^= 5);
         }
-        7 => assert_eq!(handle.get_many(&[k, 3, k]), [old, model.get(&3).copied(), old]),
+        7 => {
+            let keys: Vec<u64> = (0..draw(x) % 40).map(|n| if n % 3 == 0 { k } else { draw(x) % 500 }).collect();
+            let wanted: Vec<Option<u64>> = keys.iter().map(|k| model.get(k).copied()).collect();
+            assert_eq!(handle.get_many(&keys), wanted);
+        }
+        8 => {
+            assert_eq!(handle.add(k, v), Ok(old.unwrap_or(0).wrapping_add(v)));
+            model.entry(k).and_modify(|sum| *sum = sum.wrapping_add(v)).or_insert(v);
+        }
+        9 => {
+            let told = |row: Option<(&u64, &u64)>| row.map(|(k, v)| (*k, *v));
+            assert_eq!(handle.first(), told(model.iter().next()));
+            assert_eq!(handle.next(k), told(model.range((Bound::Excluded(k), Bound::Unbounded)).next()));
+            assert_eq!(handle.previous(k), told(model.range(..k).next_back()));
+            assert_eq!(handle.count(k..), model.range(k..).count() as u64);
+            assert_eq!(handle.count(..k), model.range(..k).count() as u64);
+        }
         _ => {
             let (from, to) = (k.saturating_sub(draw(x) % 100), k.saturating_add(draw(x) % 100));
             same_range(handle, model, from, to, x);
@@ -96,6 +112,10 @@ fn edges() {
     assert_eq!((handle.range(5..5).count(), handle.range(0..0).count()), (0, 0));
     assert_eq!(handle.range((Bound::Excluded(0), Bound::Excluded(u64::MAX))).rev().count(), 0);
     assert_eq!(handle.range((Bound::Excluded(u64::MAX), Bound::Unbounded)).count(), 0);
+    assert_eq!((handle.next(u64::MAX), handle.previous(0)), (None, None));
+    assert_eq!((handle.next(0), handle.previous(u64::MAX)), (Some((u64::MAX, 2)), Some((0, 1))));
+    assert_eq!((handle.count(..), handle.count(..u64::MAX), handle.count(0..0), handle.count(1..)), (2, 1, 0, 1));
+    assert_eq!((handle.add(5, 5), handle.add(5, u64::MAX), handle.remove(5)), (Ok(5), Ok(4), Ok(Some(4))));
     assert!(handle.upkeep(10));
     let refused = map.close_image().unwrap_err();
     assert_eq!(refused.to_string(), "some handles of the map are out, or it is closed");
@@ -119,6 +139,7 @@ fn refusals() {
     let map = Map::new(8, 1).unwrap();
     let handle = map.handle().unwrap();
     let refused = (0..1000).find(|&k| handle.insert(k, k) == Err(NoRoom)).unwrap();
+    assert_eq!((handle.add(refused, 1), handle.get(refused)), (Err(NoRoom), None));
     assert!(handle.iter().eq((0..refused).map(|k| (k, k))));
     // Where all have gone there is room again.
     for k in 0..refused {
@@ -139,6 +160,7 @@ fn threads() {
             scope.spawn(move || {
                 for n in 0..times {
                     assert!(handle.update(1 << 40, |v| v + 1).unwrap().is_some());
+                    assert!(handle.add(1 << 40, 1).unwrap() > n);
                     assert_eq!(handle.insert(n * 4 + t, n), Ok(None));
                     assert_eq!(handle.get(n * 4 + t), Some(n));
                     if n >= 100 {
@@ -151,7 +173,7 @@ fn threads() {
         scope.spawn(move || (0..100).for_each(|_| lists(&handle)));
     });
     let handle = map.handle().unwrap();
-    assert_eq!(handle.get(1 << 40), Some(4 * times));
+    assert_eq!(handle.get(1 << 40), Some(2 * 4 * times));
     assert_eq!(handle.iter().count() as u64, 4 * 100 + 1);
 }
 
@@ -167,6 +189,21 @@ fn lists(handle: &Handle) {
         assert!(key < last && (key == 1 << 40 || key / 4 == value));
         last = key;
     }
+}
+
+/// A function that panics leaves the value as it was, and the handle for further calls.
+#[test]
+fn a_function_that_panics() {
+    let map = Map::new(16, 1).unwrap();
+    let handle = map.handle().unwrap();
+    handle.insert(1, 10).unwrap();
+    let call = || handle.update(1, |_| std::panic::resume_unwind(Box::new("no value")));
+    let thrown = std::panic::catch_unwind(std::panic::AssertUnwindSafe(call)).unwrap_err();
+    assert_eq!(thrown.downcast_ref(), Some(&"no value"));
+    assert_eq!(
+        (handle.update(1, |v| v + 1), handle.get(1), handle.update(2, |v| v)),
+        (Ok(Some(10)), Some(11), Ok(None))
+    );
 }
 
 /// A handle may go to another thread in the middle of a program, and may outlive the map.

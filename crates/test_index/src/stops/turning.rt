@@ -1,12 +1,12 @@
 //! Writes of one leaf on one thread: each ends as it starts, or goes on in turns and opens the leaf before it comes back.
 
 ghost use Rattle.bl_index.specs.Calls.{IsPassOf};
-ghost use Rattle.bl_index_turns.specs.Stages.{IsAtRest};
+ghost use Rattle.bl_index_resume.specs.Stages.{IsAtRest};
 
 use crate::stops::begun::opened;
 use bl_index::{Index, Pass};
+use bl_index_resume::{Stage, advance, start_write};
 use bl_index_rule::PassState;
-use bl_index_turns::{Stage, advance, start_write};
 use bl_index_write::{begin_write, end_write};
 use bl_model::{KeyReply, KeyWrite, Reply};
 use bl_proc::Answer;

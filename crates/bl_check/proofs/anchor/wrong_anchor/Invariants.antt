@@ -1,6 +1,6 @@
 use Rattle.std.proofs.Common.{ℕ, ◌<◌}
-use Rattle.bl_check.specs.Rules.{Rule, Keeps}
+use Rattle.bl_check.specs.Rules.{Rule, KeepsRule}
 use Rattle.bl_check.proofs.anchor.wrong_anchor.Given as goal
 
 abbrev pub invariant-loop-x : goal.invariant-loop-x
-invariant-loop-x l = (y : ℕ) → y < l.x → Keeps Rule.OneAnchor l.pages y
+invariant-loop-x l = (y : ℕ) → y < l.x → KeepsRule Rule.OneAnchor l.pages y

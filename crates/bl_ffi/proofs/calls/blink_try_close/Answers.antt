@@ -1,5 +1,5 @@
 use Rattle.std.proofs.Common.{Some, inl, inr, refl, sym, ap, ◌∙◌}
-use Rattle.bl_seats.specs.declared.seat.Seat.{Seat}
+use Rattle.bl_ffi_seats.specs.declared.seat.Seat.{Seat}
 use Rattle.bl_ffi.proofs.Called.{closes, not_true}
 use Rattle.bl_ffi.proofs.calls.blink_try_close.Goals as goal
 

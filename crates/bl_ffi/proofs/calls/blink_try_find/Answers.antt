@@ -1,6 +1,6 @@
 use Rattle.std.proofs.Common.{Some, inl, inr, refl, sym, ap, ◌∙◌}
 use Rattle.bl_model.specs.Replies.{reply_of}
-use Rattle.bl_seats.specs.declared.seat.Seat.{Seat}
+use Rattle.bl_ffi_seats.specs.declared.seat.Seat.{Seat}
 use Rattle.bl_ffi.proofs.Called.{called, code_kept}
 use Rattle.bl_ffi.proofs.calls.blink_try_find.Goals as goal
 

@@ -1,9 +1,9 @@
 use Rattle.std.proofs.Common.{Some, inl, inr, refl, sym, ap, ◌∙◌}
 use Rattle.bl_model.specs.declared.operation.Op.TheVariants as op
-use Rattle.bl_seats.specs.declared.seat.Seat.{Seat}
+use Rattle.bl_ffi_seats.specs.declared.seat.Seat.{Seat}
 use Rattle.bl_ffi.proofs.Called.{called}
 use Rattle.bl_ffi.proofs.Listing.{part_down_has_rows}
-use Rattle.bl_seats.proofs.PartReplies.{part_may}
+use Rattle.bl_ffi_seats.proofs.PartReplies.{part_may}
 use Rattle.bl_ffi.proofs.calls.blink_try_rows_down.Goals as goal
 
 pub listed-requires : goal.listed-requires

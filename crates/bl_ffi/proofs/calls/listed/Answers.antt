@@ -1,5 +1,5 @@
 use Rattle.std.proofs.Common.{ℕ, ◌<◌, List, length, get_or, ap, ◌∙◌, arith}
-use Rattle.bl_seats.proofs.Closings.{set_length}
+use Rattle.bl_ffi_seats.proofs.Closings.{set_length}
 use Rattle.bl_ffi.specs.Told.{row_of}
 use Rattle.bl_ffi.proofs.Listing.{list_next, same_there}
 use Rattle.bl_ffi.proofs.calls.listed.Goals as goal

@@ -1,5 +1,5 @@
 use Rattle.std.proofs.Common.{rules, ◌<◌, length}
-use Rattle.bl_seats.proofs.Made.{first_taken}
+use Rattle.bl_ffi_seats.proofs.Made.{first_taken}
 use Rattle.bl_ffi.proofs.Placing.{boxed_next}
 use Rattle.bl_ffi.proofs.opening.boxed.Goals as goal
 

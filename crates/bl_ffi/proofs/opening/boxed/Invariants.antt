@@ -1,5 +1,5 @@
 use Rattle.std.proofs.Common.{◌≡◌, ◌++◌, length}
-use Rattle.bl_seats.specs.Closed.{values}
+use Rattle.bl_ffi_seats.specs.Closed.{values}
 use Rattle.bl_ffi.proofs.opening.boxed.Given as goal
 
 abbrev pub invariant-loop-alloc : goal.invariant-loop-alloc

@@ -1,5 +1,5 @@
 use Rattle.std.proofs.Common.{◌∙◌, arith}
-use Rattle.bl_seats.proofs.Closings.{set_length}
+use Rattle.bl_ffi_seats.proofs.Closings.{set_length}
 use Rattle.bl_ffi.proofs.Placing.{close_next, all_closed}
 use Rattle.bl_ffi.proofs.places.close_all.Goals as goal
 

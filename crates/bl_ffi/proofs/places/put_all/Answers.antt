@@ -1,7 +1,7 @@
 use Rattle.std.proofs.Common.{rules, refl, ◌≡◌, ◌<◌, length, ap, ◌∙◌, arith}
-use Rattle.bl_seats.specs.Closed.{values}
-use Rattle.bl_seats.proofs.Closings.{set_length}
-use Rattle.bl_seats.proofs.Made.{first_taken}
+use Rattle.bl_ffi_seats.specs.Closed.{values}
+use Rattle.bl_ffi_seats.proofs.Closings.{set_length}
+use Rattle.bl_ffi_seats.proofs.Made.{first_taken}
 use Rattle.bl_ffi.specs.Places.{seats_in}
 use Rattle.bl_ffi.proofs.Placing.{none_put, put_next, all_put, value_length}
 use Rattle.bl_ffi.proofs.places.put_all.Goals as goal

@@ -1,8 +1,8 @@
 use Rattle.std.proofs.Common.{◌<◌, length, ap, ◌∙◌, arith}
 use Rattle.std.proofs.lemmas.List.{length_push}
 use Rattle.bl_index.proofs.Gathered.{item_at}
-use Rattle.bl_seats.specs.Closed.{values}
-use Rattle.bl_seats.proofs.Closings.{set_length}
+use Rattle.bl_ffi_seats.specs.Closed.{values}
+use Rattle.bl_ffi_seats.proofs.Closings.{set_length}
 use Rattle.bl_ffi.proofs.Placing.{seat_in, value_push, take_next, taken_all, taken_some}
 use Rattle.bl_ffi.proofs.places.take_all.Goals as goal
 

@@ -1,5 +1,5 @@
 use Rattle.std.proofs.Common.{◌≡◌, ◌≤◌, length, vec_capacity}
-use Rattle.bl_seats.specs.Closed.{values}
+use Rattle.bl_ffi_seats.specs.Closed.{values}
 use Rattle.bl_ffi.specs.Places.{seats_in}
 use Rattle.bl_ffi.proofs.Placing.{TakeSo}
 use Rattle.bl_ffi.proofs.places.take_all.Given as goal

@@ -1,6 +1,6 @@
 use Rattle.std.proofs.Common.{◌≡◌, length, inr, arith}
-use Rattle.bl_seats.specs.Closed.{values}
-use Rattle.bl_seats.proofs.Closings.{map_length}
+use Rattle.bl_ffi_seats.specs.Closed.{values}
+use Rattle.bl_ffi_seats.proofs.Closings.{map_length}
 use Rattle.bl_ffi.specs.Places.{seats_in}
 use Rattle.bl_ffi.proofs.Placing.{seat_in, taken_whole, no_more, at_one_map, value_length}
 use Rattle.bl_ffi.proofs.ClosedTo.{closes_kept}

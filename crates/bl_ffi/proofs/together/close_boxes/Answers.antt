@@ -5,9 +5,9 @@ use Rattle.std.proofs.lemmas.List.{length-take-le}
 use Rattle.bl_index.specs.Calls.{pages_of}
 use Rattle.bl_image.specs.Images.{IsImage}
 use Rattle.bl_image.specs.declared.image.Image.{Image}
-use Rattle.bl_seats.specs.Closed.{values}
-use Rattle.bl_seats.specs.declared.seat.Seat.{Seat}
-use Rattle.bl_seats.proofs.Closings.{Boxed}
+use Rattle.bl_ffi_seats.specs.Closed.{values}
+use Rattle.bl_ffi_seats.specs.declared.seat.Seat.{Seat}
+use Rattle.bl_ffi_seats.proofs.Closings.{Boxed}
 use Rattle.bl_ffi.specs.Places.{seats_in}
 use Rattle.bl_ffi.proofs.Placing.{put_full, pages_closed, value_length}
 use Rattle.bl_ffi.proofs.ClosedTo.{too_long, back_fits, closed_to}

@@ -1,6 +1,6 @@
 use Rattle.std.proofs.Common.{ℕ, subst}
 use Rattle.bl_store.specs.Hands.{known}
-use Rattle.bl_frames.specs.Pages.{Meets}
+use Rattle.bl_store_rule.specs.Pages.{Meets}
 use Rattle.bl_index_rule.specs.Simulation.{Simulates}
 use Rattle.bl_index.specs.Meetings.{heard}
 use Rattle.bl_index.proofs.Learning.{hears_all}

@@ -1,10 +1,10 @@
 use Rattle.std.proofs.Common.{ℕ, subst}
 use Rattle.bl_store.specs.Hands.{known}
-use Rattle.bl_frames.specs.Pages.{ReleasesMany}
+use Rattle.bl_store_rule.specs.Pages.{ReleasesMany}
 use Rattle.bl_index_rule.specs.Simulation.{Simulates}
 use Rattle.bl_index_rule.specs.Observed.{sweeps}
 use Rattle.bl_index_rule.proofs.Releasing.{sweeps_pages}
-use Rattle.bl_index_steps.proofs.Withins.{sweep_within}
+use Rattle.bl_index_events.proofs.Withins.{sweep_within}
 use Rattle.bl_index.proofs.sweeping.release.Goals as goal
 
 pub sweep-requires-clause-rule : goal.sweep-requires-clause-rule

@@ -1,5 +1,5 @@
 use Rattle.std.proofs.Common.{◌≡◌, Some, refl, sym, subst}
-use Rattle.bl_proc_compress.specs.declared.squeezing.CompressReply.TheVariants as reply
+use Rattle.bl_proc_compress.specs.declared.compress.CompressReply.TheVariants as reply
 use Rattle.bl_proc_compress.specs.Compresses.{compress_reply}
 use Rattle.bl_index_compress.proofs.children.answer_of.Goals as goal
 

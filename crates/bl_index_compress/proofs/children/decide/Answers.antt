@@ -2,16 +2,16 @@ use Rattle.std.proofs.Common.{rules, ◌<◌, refl, sym, ap, ◌∙◌, inl, inr
 use Rattle.std.specs.Prelude.{◌⊎◌}
 use Rattle.std.proofs.lemmas.Bool.{false≢true}
 use Rattle.bl_rearrange.specs.Neighbours.{AreNeighbours, together}
-use Rattle.bl_proc_base.specs.declared.acts.Action.TheVariants as act
-use Rattle.bl_proc_base.specs.declared.acts.Seen.TheVariants as seen
-use Rattle.bl_proc_pages.proofs.Spellings.{pairs_counted}
-use Rattle.bl_proc_compress.specs.declared.compressing.Compression.TheVariants.{LatchedRight, OpeningRight}
-use Rattle.bl_proc_compress.specs.declared.compressing.Decision.TheVariants.{Enough, Lost}
-use Rattle.bl_proc_compress.specs.declared.compressing.Siblings.{Siblings}
+use Rattle.bl_proc_steps.specs.declared.acts.Action.TheVariants as act
+use Rattle.bl_proc_steps.specs.declared.acts.Seen.TheVariants as seen
+use Rattle.bl_proc_routes.proofs.Spellings.{pairs_counted}
+use Rattle.bl_proc_compress.specs.declared.compression.Compression.TheVariants.{LatchedRight, OpeningRight}
+use Rattle.bl_proc_compress.specs.declared.compression.Decision.TheVariants.{Enough, Lost}
+use Rattle.bl_proc_compress.specs.declared.compression.Siblings.{Siblings}
 use Rattle.bl_proc_compress.specs.Compressions.{IsFew}
 use Rattle.bl_proc.specs.Processes.{next_of}
-use Rattle.bl_index_steps.proofs.Standing.{on_after, same_goes}
-use Rattle.bl_index_compress.proofs.Presses.{decided_since, has_both, on_opening, press_course}
+use Rattle.bl_index_events.proofs.Standing.{on_after, same_goes}
+use Rattle.bl_index_compress.proofs.CompressionCourses.{decided_since, has_both, on_opening, compression_course}
 use Rattle.bl_index_compress.proofs.Spelled.{neighbours_tree}
 use Rattle.bl_index_compress.proofs.children.decide.Goals as goal
 
@@ -19,7 +19,7 @@ pub words_at-right-requires-clause-next : goal.words_at-right-requires-clause-ne
 words_at-right-requires-clause-next c = let t = c.requires.process in ap next_of t.4 ∙ ap (λ (z : Siblings). act.Get z.right) t.2.at
 
 pub words_at-right-requires-clause-course : goal.words_at-right-requires-clause-course
-words_at-right-requires-clause-course c = λ page. let t = c.requires.process in press_course c.args.target (LatchedRight t.0 t.1) (seen.Words page) _ t.4 tt
+words_at-right-requires-clause-course c = λ page. let t = c.requires.process in compression_course c.args.target (LatchedRight t.0 t.1) (seen.Words page) _ t.4 tt
 
 pub open_right-requires-clause-runs : goal.open_right-requires-clause-runs
 open_right-requires-clause-runs c = record {

@@ -1,13 +1,13 @@
 use Rattle.std.proofs.Common.{rules, refl, ap, ◌∙◌, subst, inr}
-use Rattle.bl_proc_compress.specs.declared.compressing.Compression.TheVariants.{PuttingFirst, OpeningRight}
-use Rattle.bl_proc_compress.specs.declared.compressing.Compression.{Compression}
-use Rattle.bl_proc_compress.specs.declared.compressing.Decision.TheVariants.{Lost, Refused}
-use Rattle.bl_proc_compress.specs.declared.compressing.Siblings.{Siblings}
+use Rattle.bl_proc_compress.specs.declared.compression.Compression.TheVariants.{PuttingFirst, OpeningRight}
+use Rattle.bl_proc_compress.specs.declared.compression.Compression.{Compression}
+use Rattle.bl_proc_compress.specs.declared.compression.Decision.TheVariants.{Lost, Refused}
+use Rattle.bl_proc_compress.specs.declared.compression.Siblings.{Siblings}
 use Rattle.bl_store.specs.Hands.{known}
-use Rattle.bl_index_steps.specs.Runs.{IsOn}
-use Rattle.bl_index_compress.specs.Squeezes.{pressing}
+use Rattle.bl_index_events.specs.Runs.{IsOn}
+use Rattle.bl_index_compress.specs.CompressStands.{compression_of}
 use Rattle.bl_index_compress.specs.Shares.{IsRelisted}
-use Rattle.bl_index_compress.proofs.Presses.{decided_since, on_opening}
+use Rattle.bl_index_compress.proofs.CompressionCourses.{decided_since, on_opening}
 use Rattle.bl_index_compress.proofs.Puts.{evening, relisting, relisted_at, evens_some, unlisted, even_puts, even_next}
 use Rattle.bl_index_compress.proofs.children.even.Goals as goal
 
@@ -50,7 +50,7 @@ open_right-requires-then-put_three-clause-runs c = record {
       let right = ap (λ (z : Siblings). z.right) b.are.at in
       let listed = relisted_at f b.lower b.upper t.1 _ _ _ c.relisted_words.new.words c.relisted_words.result b.are.key shares.separator right (λ r s. c.relisted_words.ensures f r b.are.parent b.are.key right s) in
       let h = evens_some f b.lower b.upper t.1 c.relisted_words.new.words (subst (IsRelisted (relisting f b.lower b.upper t.1).0 c.relisted_words.new.words) c.if-not-relisted_words.false listed) in
-      subst (λ (z : Compression). IsOn c.args.tree.now.store.layout (known c.put_three.new.hand.seat) (pressing j z)) (even_next f b.lower b.upper e.0 c.relisted_words.new.words h j c.args.kin c.args.parent.now b.are) (c.put_three.ensures.done c.if-put_three.true j h.puts (b.decides (PuttingFirst h.puts) (inr h.evens))));
+      subst (λ (z : Compression). IsOn c.args.tree.now.store.layout (known c.put_three.new.hand.seat) (compression_of j z)) (even_next f b.lower b.upper e.0 c.relisted_words.new.words h j c.args.kin c.args.parent.now b.are) (c.put_three.ensures.done c.if-put_three.true j h.puts (b.decides (PuttingFirst h.puts) (inr h.evens))));
 }
 
 pub open_right-requires-else-put_three-clause-runs : goal.open_right-requires-else-put_three-clause-runs
@@ -63,7 +63,7 @@ open_right-requires-else-put_three-clause-runs c = record {
       let right = ap (λ (z : Siblings). z.right) b.are.at in
       let listed = relisted_at f b.lower b.upper t.1 _ _ _ c.relisted_words.new.words c.relisted_words.result b.are.key shares.separator right (λ r s. c.relisted_words.ensures f r b.are.parent b.are.key right s) in
       let h = evens_some f b.lower b.upper t.1 c.relisted_words.new.words (subst (IsRelisted (relisting f b.lower b.upper t.1).0 c.relisted_words.new.words) c.if-not-relisted_words.false listed) in
-      subst (λ (z : Siblings). IsOn c.args.tree.now.store.layout (known c.put_three.new.hand.seat) (pressing j (OpeningRight z Refused))) (h.at ∙ b.are.at) (c.put_three.ensures.refused c.if-put_three.false j h.puts (b.decides (PuttingFirst h.puts) (inr h.evens))));
+      subst (λ (z : Siblings). IsOn c.args.tree.now.store.layout (known c.put_three.new.hand.seat) (compression_of j (OpeningRight z Refused))) (h.at ∙ b.are.at) (c.put_three.ensures.refused c.if-put_three.false j h.puts (b.decides (PuttingFirst h.puts) (inr h.evens))));
 }
 
 pub returns-then-put_three : goal.returns-then-put_three

@@ -1,11 +1,11 @@
 use Rattle.std.proofs.Common.{rules, ◌≡◌, refl, sym, ap, subst, ◌∙◌}
-use Rattle.bl_proc_compress.specs.declared.squeezing.CompressReply.TheVariants as reply
+use Rattle.bl_proc_compress.specs.declared.compress.CompressReply.TheVariants as reply
 use Rattle.bl_store.specs.Hands.{known, IsRunning}
 use Rattle.bl_store.specs.declared.store.Hand.{Hand}
 use Rattle.bl_index_rule.specs.declared.known.PassState.{PassState}
-use Rattle.bl_index_steps.specs.Runs.{IsSameProcess}
-use Rattle.bl_index_steps.proofs.Standing.{none_of, same_all}
-use Rattle.bl_index_compress.proofs.Presses.{leaves_again, leaves_answered, over_since, refused_said, same_hands}
+use Rattle.bl_index_events.specs.Runs.{IsSameProcess}
+use Rattle.bl_index_events.proofs.Standing.{none_of, same_all}
+use Rattle.bl_index_compress.proofs.CompressionCourses.{leaves_again, leaves_answered, over_since, refused_said, same_hands}
 use Rattle.bl_index_compress.proofs.compressing.compress_until.Goals as goal
 
 pub end_compression-requires-clause-process : goal.end_compression-requires-clause-process

@@ -1,9 +1,9 @@
 use Rattle.std.proofs.Common.{true, Some, ap, ◌∙◌}
-use Rattle.bl_proc_compress.specs.declared.squeezing.CompressStage.TheVariants as stages
-use Rattle.bl_proc_unique.specs.Frames.{op_of, work_of}
-use Rattle.bl_index_steps.proofs.Rooms.{refused_on}
-use Rattle.bl_index_compress.specs.Squeezes.{squeezing}
-use Rattle.bl_index_compress.proofs.Presses.{ends_compression}
+use Rattle.bl_proc_compress.specs.declared.compress.CompressStage.TheVariants as stages
+use Rattle.bl_proc_deterministic.specs.Frames.{op_of, work_of}
+use Rattle.bl_index_events.proofs.Rooms.{refused_on}
+use Rattle.bl_index_compress.specs.CompressStands.{compress_of}
+use Rattle.bl_index_compress.proofs.CompressionCourses.{ends_compression}
 use Rattle.bl_index_compress.proofs.compressing.end_compression.Goals as goal
 
 pub conclude-requires-clause-ends : goal.conclude-requires-clause-ends
@@ -18,7 +18,7 @@ returns-clause-over c =
       no_room = λ none. refused_on c.args.hand.now.seat c.conclude.new.hand.seat 0 3 c.conclude.ensures.refusal (c.requires.no_room none);
       is_compressed = λ pass old since. record {
         last = record { level = j.level; key = j.key; waits = true; stage = stages.Over t.0; least = j.least; most = j.most };
-        done = c.conclude.ensures.done pass old (squeezing j stages.New) _ since (ends_compression j t.0 _ is) (ap op_of is) (ap work_of is);
+        done = c.conclude.ensures.done pass old (compress_of j stages.New) _ since (ends_compression j t.0 _ is) (ap op_of is) (ap work_of is);
         answer = ap Some t.1;
       };
     }

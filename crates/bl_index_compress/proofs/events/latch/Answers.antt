@@ -1,7 +1,7 @@
 use Rattle.std.proofs.Common.{rules, ap, ◌∙◌}
-use Rattle.bl_proc_base.specs.declared.acts.Seen.TheVariants as seen
+use Rattle.bl_proc_steps.specs.declared.acts.Seen.TheVariants as seen
 use Rattle.bl_proc.specs.Processes.{next_of}
-use Rattle.bl_index_steps.proofs.Standing.{course_at, on_goes, on_itself, same_all, same_goes}
+use Rattle.bl_index_events.proofs.Standing.{course_at, on_goes, on_itself, same_all, same_goes}
 use Rattle.bl_index_compress.proofs.events.latch.Goals as goal
 
 pub loop-init : goal.loop-init

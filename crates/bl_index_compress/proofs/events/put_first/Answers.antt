@@ -1,11 +1,11 @@
 use Rattle.std.proofs.Common.{◌≡◌, refl, ap, subst, ◌∙◌, arith}
-use Rattle.bl_proc_base.specs.declared.acts.Seen.TheVariants as seen
+use Rattle.bl_proc_steps.specs.declared.acts.Seen.TheVariants as seen
 use Rattle.bl_proc.specs.Processes.{next_of}
 use Rattle.bl_store.specs.Hands.{known}
 use Rattle.bl_index_rule.specs.declared.known.PassState.{PassState}
 use Rattle.bl_index_rule.specs.Observed.{Goes}
 use Rattle.bl_index_rule.proofs.Pages.{puts_page, refuses_put}
-use Rattle.bl_index_steps.proofs.Standing.{course_at}
+use Rattle.bl_index_events.proofs.Standing.{course_at}
 use Rattle.bl_index_compress.proofs.events.put_first.Goals as goal
 
 pub reserve-requires-clause-refuses : goal.reserve-requires-clause-refuses

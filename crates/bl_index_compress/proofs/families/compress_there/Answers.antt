@@ -2,21 +2,21 @@ use Rattle.std.proofs.Common.{rules, ◌<◌, ◌≤◌, length, refl, sym, ap, 
 use Rattle.bl_page.specs.declared.page.Page.TheVariants.{Inner}
 use Rattle.bl_page.specs.declared.page.Inner.{Inner as InnerIs}
 use Rattle.bl_page.specs.Words.{words_of}
-use Rattle.bl_proc_base.specs.declared.acts.Seen.TheVariants as seen
-use Rattle.bl_proc_pages.proofs.Spellings.{pairs_counted}
-use Rattle.bl_proc_compress.specs.declared.compressing.Compression.TheVariants.{LatchingLeft}
-use Rattle.bl_proc_compress.specs.declared.squeezing.CompressReply.TheVariants as reply
-use Rattle.bl_proc_compress.specs.declared.squeezing.CompressStage.TheVariants as stages
+use Rattle.bl_proc_steps.specs.declared.acts.Seen.TheVariants as seen
+use Rattle.bl_proc_routes.proofs.Spellings.{pairs_counted}
+use Rattle.bl_proc_compress.specs.declared.compression.Compression.TheVariants.{LatchingLeft}
+use Rattle.bl_proc_compress.specs.declared.compress.CompressReply.TheVariants as reply
+use Rattle.bl_proc_compress.specs.declared.compress.CompressStage.TheVariants as stages
 use Rattle.bl_proc.specs.Processes.{next_of}
-use Rattle.bl_proc_unique.proofs.Families.{family_some}
+use Rattle.bl_proc_deterministic.proofs.Families.{family_some}
 use Rattle.bl_store.specs.Hands.{known, IsSameHand}
 use Rattle.bl_store.specs.declared.store.Hand.{Hand}
 use Rattle.bl_index_rule.specs.declared.known.PassState.{PassState}
-use Rattle.bl_index_steps.specs.Runs.{IsOn, IsSameProcess}
-use Rattle.bl_index_steps.proofs.Standing.{on_as, on_goes, same_goes}
-use Rattle.bl_index_compress.specs.Squeezes.{squeezing}
+use Rattle.bl_index_events.specs.Runs.{IsOn, IsSameProcess}
+use Rattle.bl_index_events.proofs.Standing.{on_as, on_goes, same_goes}
+use Rattle.bl_index_compress.specs.CompressStands.{compress_of}
 use Rattle.bl_index_compress.proofs.Arrives.{has_parent}
-use Rattle.bl_index_compress.proofs.Presses.{alone_has_room, same_hands, stage_course}
+use Rattle.bl_index_compress.proofs.CompressionCourses.{alone_has_room, same_hands, stage_course}
 use Rattle.bl_index_compress.proofs.families.compress_there.Goals as goal
 
 pub reopen-requires-clause-next : goal.reopen-requires-clause-next
@@ -41,12 +41,12 @@ returns-then-parent-lt2 g c =
     let one : length p.parent.children.items < 2 = (let few = c.if-parent-lt2.true in omega (arith, count, few)) in
     let l = c.args.tree.now.store.layout in
     let before = on_as l (known c.args.hand.now.seat) _ c.requires.runs.on (p.stands (stages.Staying c.args.at) (refl, one)) in
-    let on = subst (λ (h : Hand PassState). IsOn l (known h.seat) (squeezing j (stages.Staying c.args.at))) (sym still) before in
+    let on = subst (λ (h : Hand PassState). IsOn l (known h.seat) (compress_of j (stages.Staying c.args.at))) (sym still) before in
     let same = subst (λ (h : Hand PassState). IsSameHand c.args.hand.now.seat h.seat) (sym still) (refl, refl, refl) in
     record {
       same = same_hands c.args.hand.now.seat c.words_from-parent.new.hand.seat c.reopen.new.hand.seat same c.reopen.ensures.same.0;
       empty = c.reopen.ensures.same.2.0 ∙ (ap (λ (h : Hand PassState). h.seat.me.0.stock) still ∙ c.requires.empty);
-      state = squeezing j (stages.Ending reply.Alone);
+      state = compress_of j (stages.Ending reply.Alone);
       runs = record { own = search rules; running = search rules; on = on_goes l seen.Done _ _ _ _ on c.reopen.ensures.goes (refl, refl, refl, refl) };
       left = (reply.Alone, refl, refl);
       since = subst (λ (h : Hand PassState). IsSameProcess (known h.seat) (known c.reopen.new.hand.seat)) still (same_goes _ _ _ c.reopen.ensures.goes);

@@ -3,7 +3,7 @@ use Rattle.bl_page.specs.declared.page.Page.TheVariants.{Inner}
 use Rattle.bl_page.specs.Pairs.{place}
 use Rattle.bl_page.specs.Faults.{pairs_of as pairs_in_words}
 use Rattle.bl_page.proofs.Once.{children_again}
-use Rattle.bl_proc_pages.proofs.Spellings.{tree_pairs, pairs_counted}
+use Rattle.bl_proc_routes.proofs.Spellings.{tree_pairs, pairs_counted}
 use Rattle.bl_index_compress.proofs.Kins.{place_front, place_last}
 use Rattle.bl_index_compress.proofs.families.right_place_in.Goals as goal
 

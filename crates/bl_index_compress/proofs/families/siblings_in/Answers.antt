@@ -1,5 +1,5 @@
 use Rattle.std.proofs.Common.{sym, arith}
-use Rattle.bl_proc_unique.proofs.Families.{family_some}
+use Rattle.bl_proc_deterministic.proofs.Families.{family_some}
 use Rattle.bl_index_compress.proofs.Kins.{finds}
 use Rattle.bl_index_compress.proofs.families.siblings_in.Goals as goal
 

@@ -1,6 +1,6 @@
 use Rattle.std.proofs.Common.{◌≡◌, ℕ, ◌+◌, ◌*◌, ◌-◌, ◌%◌, ◌<◌, ◌≤◌, length, get_or, sym, ap, ◌∙◌, arith}
 use Rattle.bl_rearrange.specs.Rearranged.{pairs_of}
-use Rattle.bl_proc_pages.proofs.Spellings.{pairs_counted}
+use Rattle.bl_proc_routes.proofs.Spellings.{pairs_counted}
 use Rattle.bl_index_compress.proofs.Parted.{entry_at, entry_below, entry_above}
 use Rattle.bl_index_compress.proofs.pages.entry_of.Goals as goal
 

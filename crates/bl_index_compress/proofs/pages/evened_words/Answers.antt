@@ -3,7 +3,7 @@ use Rattle.bl_page.specs.declared.page.Page.{Page}
 use Rattle.bl_page.proofs.Once.{once}
 use Rattle.bl_rearrange.specs.Rearranged.{pairs_of}
 use Rattle.bl_rearrange.specs.Neighbours.{AreNeighbours, together}
-use Rattle.bl_proc_pages.proofs.Spellings.{pairs_counted}
+use Rattle.bl_proc_routes.proofs.Spellings.{pairs_counted}
 use Rattle.bl_index_compress.proofs.Spelled.{neighbours_tree}
 use Rattle.bl_index_compress.proofs.Evens.{has_half, gains_left, gains_right, shares}
 use Rattle.bl_index_compress.proofs.pages.evened_words.Goals as goal

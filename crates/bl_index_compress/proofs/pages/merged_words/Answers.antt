@@ -4,7 +4,7 @@ use Rattle.bl_page.specs.Words.{layout, entries_of}
 use Rattle.bl_page.proofs.Once.{once}
 use Rattle.bl_page.specs.Nodes.{IsTreePage}
 use Rattle.bl_rearrange.specs.Rearranged.{pairs_of, IsNow}
-use Rattle.bl_proc_pages.proofs.Spellings.{pairs_counted}
+use Rattle.bl_proc_routes.proofs.Spellings.{pairs_counted}
 use Rattle.bl_index_compress.proofs.Spelled.{neighbours_tree, reads, spelled_now}
 use Rattle.bl_index_compress.proofs.pages.merged_words.Goals as goal
 

@@ -5,7 +5,7 @@ use Rattle.bl_page.specs.declared.page.Page.TheVariants.{Inner}
 use Rattle.bl_page.specs.Pairs.{IsChild, IsWithin}
 use Rattle.bl_rearrange.specs.Rearranged.{pairs_of}
 use Rattle.bl_proc_compress.proofs.Looks.{look_is}
-use Rattle.bl_index_steps.proofs.Standing.{none_of}
+use Rattle.bl_index_events.proofs.Standing.{none_of}
 use Rattle.bl_index_compress.proofs.Spelled.{reads}
 use Rattle.bl_index_compress.proofs.Puts.{lists_key}
 use Rattle.bl_index_compress.proofs.Relists.{no_relist, middle_of, relists_with}

@@ -1,6 +1,6 @@
 use Rattle.std.proofs.Common.{sym, subst, ◌∙◌}
 use Rattle.bl_page.specs.Faults.{HasPairs}
-use Rattle.bl_proc_pages.proofs.Spellings.{tree_pairs}
+use Rattle.bl_proc_routes.proofs.Spellings.{tree_pairs}
 use Rattle.bl_index_read.proofs.Portions.{place_first}
 use Rattle.bl_index_read.proofs.leaf_rows.first_from.Goals as goal
 

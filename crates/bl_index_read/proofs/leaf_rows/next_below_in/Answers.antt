@@ -1,6 +1,6 @@
 use Rattle.std.proofs.Common.{◌∙◌, subst}
 use Rattle.bl_proc.specs.Parts.{GoesOnBelow}
-use Rattle.bl_proc_pages.proofs.Spellings.{bounds_are}
+use Rattle.bl_proc_routes.proofs.Spellings.{bounds_are}
 use Rattle.bl_index_read.proofs.leaf_rows.next_below_in.Goals as goal
 
 pub returns-clause-next : goal.returns-clause-next

@@ -1,7 +1,7 @@
 use Rattle.std.proofs.Common.{◌∙◌, ap, subst}
 use Rattle.bl_page.specs.Pairs.{end_of}
 use Rattle.bl_proc.specs.Parts.{GoesOnAt}
-use Rattle.bl_proc_pages.proofs.Spellings.{bounds_are}
+use Rattle.bl_proc_routes.proofs.Spellings.{bounds_are}
 use Rattle.bl_index_read.proofs.leaf_rows.next_in.Goals as goal
 
 pub returns-clause-next : goal.returns-clause-next

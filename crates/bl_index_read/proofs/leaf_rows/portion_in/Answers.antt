@@ -1,7 +1,7 @@
 use Rattle.std.proofs.Common.{ℕ, ◌≡◌, ◌≤◌, ◌%◌, get_or, sym, subst, ap, ◌∙◌, arith}
 use Rattle.bl_model.proofs.Parts.{IsPlaceOf}
 use Rattle.bl_page.specs.Faults.{pairs_of, count_in, HasPairs}
-use Rattle.bl_proc_pages.proofs.Spellings.{tree_pairs}
+use Rattle.bl_proc_routes.proofs.Spellings.{tree_pairs}
 use Rattle.bl_index_read.proofs.Picked.{count_is}
 use Rattle.bl_index_read.proofs.Portions.{ends_with}
 use Rattle.bl_index_read.proofs.leaf_rows.portion_in.Goals as goal

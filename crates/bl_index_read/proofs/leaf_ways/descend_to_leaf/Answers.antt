@@ -1,6 +1,6 @@
 use Rattle.std.proofs.Common.{rules, ℕ, subst, ◌+◌, ◌-◌, ◌≡◌, ◌≤◌, arith}
 use Rattle.bl_index_read.specs.LeafWays.{HasGivenUp, HasLeaf}
-use Rattle.bl_index_steps.proofs.Calls.{since_step}
+use Rattle.bl_index_events.proofs.Calls.{since_step}
 use Rattle.bl_index_read.proofs.Ways.{going_under_way, going_is_search, ending_is_search}
 use Rattle.bl_index_read.proofs.Setting.{none_given}
 use Rattle.bl_index_read.proofs.Paces.{at_step, at_last}

@@ -1,7 +1,7 @@
 use Rattle.bl_store.specs.Hands.{known}
 use Rattle.bl_index_rule.proofs.Bounds.{ends_process}
 use Rattle.bl_index_read.proofs.Ways.{is_to_end, ending_course}
-use Rattle.bl_index_steps.proofs.Withins.{ends_within}
+use Rattle.bl_index_events.proofs.Withins.{ends_within}
 use Rattle.bl_index_read.proofs.leaf_ways.end_at_leaf.Goals as goal
 
 pub end-requires-clause-rule : goal.end-requires-clause-rule

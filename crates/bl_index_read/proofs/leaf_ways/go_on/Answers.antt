@@ -1,12 +1,12 @@
 use Rattle.std.proofs.Common.{ap, sym, subst, ◌∙◌}
-use Rattle.bl_proc_base.specs.declared.acts.Action.TheVariants as act
-use Rattle.bl_proc_base.specs.declared.descent.Descended.TheVariants.{On, Here}
+use Rattle.bl_proc_steps.specs.declared.acts.Action.TheVariants as act
+use Rattle.bl_proc_steps.specs.declared.descent.Descended.TheVariants.{On, Here}
 use Rattle.bl_store.specs.declared.store.Hand.{Hand}
 use Rattle.bl_index_rule.specs.declared.known.PassState.{PassState}
 use Rattle.bl_index_read.specs.LeafWays.{HasReached}
 use Rattle.bl_index_read.proofs.Ways.{gets, going_course}
 use Rattle.bl_index_read.proofs.Setting.{reached_by, page_reached}
-use Rattle.bl_index_steps.proofs.Standing.{on_itself}
+use Rattle.bl_index_events.proofs.Standing.{on_itself}
 use Rattle.bl_index_read.proofs.leaf_ways.go_on.Goals as goal
 
 pub look-glance-requires-clause-runs : goal.look-glance-requires-clause-runs

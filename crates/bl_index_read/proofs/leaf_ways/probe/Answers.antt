@@ -1,8 +1,8 @@
 use Rattle.std.proofs.Common.{rules}
-use Rattle.bl_proc_base.specs.declared.acts.Seen.TheVariants as seen
+use Rattle.bl_proc_steps.specs.declared.acts.Seen.TheVariants as seen
 use Rattle.bl_index_read.specs.LeafWays.{probing, going}
 use Rattle.bl_index_read.proofs.Ways.{probes, probing_course, probing_takes, probing_steps}
-use Rattle.bl_index_steps.proofs.Standing.{on_itself, on_goes}
+use Rattle.bl_index_events.proofs.Standing.{on_itself, on_goes}
 use Rattle.bl_index_read.proofs.leaf_ways.probe.Goals as goal
 
 pub is_open-free-requires-clause-runs : goal.is_open-free-requires-clause-runs

@@ -1,7 +1,7 @@
 use Rattle.std.proofs.Common.{rules, ℕ, refl, subst, ap, ◌+◌, ◌≡◌, ◌≤◌, ◌∙◌, None, arith}
 use Rattle.bl_store.specs.Hands.{known}
 use Rattle.bl_index_read.specs.Turns.{IsAtTurn}
-use Rattle.bl_index_steps.proofs.Calls.{since_step, own_looks}
+use Rattle.bl_index_events.proofs.Calls.{since_step, own_looks}
 use Rattle.bl_index_read.proofs.Silent.{gives_up}
 use Rattle.bl_index_read.proofs.Ways.{going_under_way, going_is_search, ending_is_search, going_may_give_up}
 use Rattle.bl_index_read.proofs.Paces.{at_step, at_last, at_end}

@@ -1,7 +1,7 @@
 use Rattle.std.proofs.Common.{ℕ, ◌+◌}
 use Rattle.bl_store.specs.Hands.{known, IsRunning, IsSameHand, IsSameStock}
 use Rattle.bl_index_rule.specs.declared.known.PassState.{PassState}
-use Rattle.bl_index_steps.specs.Runs.{IsOn, IsSince}
+use Rattle.bl_index_events.specs.Runs.{IsOn, IsSince}
 use Rattle.bl_index_read.specs.Turns.{IsAtTurn}
 use Rattle.bl_index_read.specs.LeafWays.{going}
 use Rattle.bl_index_read.proofs.leaf_ways.seek_leaf.Given as goal

@@ -1,5 +1,5 @@
 use Rattle.std.proofs.Common.{ℕ, subst}
-use Rattle.bl_proc_base.specs.declared.descent.Descent.TheVariants.{AtAnchor}
+use Rattle.bl_proc_steps.specs.declared.descent.Descent.TheVariants.{AtAnchor}
 use Rattle.bl_store.specs.Hands.{known}
 use Rattle.bl_index_read.specs.LeafWays.{HasSetOff}
 use Rattle.bl_index_read.proofs.Setting.{near_off, far_off, same_number}

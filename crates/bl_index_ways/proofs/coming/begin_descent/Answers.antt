@@ -1,6 +1,6 @@
 use Rattle.std.proofs.Common.{rules, sym, ◌∙◌}
-use Rattle.bl_index_steps.proofs.Calls.{since_begin}
-use Rattle.bl_index_steps.proofs.Held.{begins_held}
+use Rattle.bl_index_events.proofs.Calls.{since_begin}
+use Rattle.bl_index_events.proofs.Held.{begins_held}
 use Rattle.bl_index_ways.proofs.coming.begin_descent.Goals as goal
 
 pub begin_process-requires-clause-next : goal.begin_process-requires-clause-next

@@ -1,6 +1,6 @@
 use Rattle.std.proofs.Common.{ℕ, subst}
 use Rattle.bl_store.specs.Hands.{known}
-use Rattle.bl_frames.specs.Pages.{Begins as BeginsIn}
+use Rattle.bl_store_rule.specs.Pages.{Begins as BeginsIn}
 use Rattle.bl_index_rule.specs.Simulation.{Simulates}
 use Rattle.bl_index_rule.specs.Observed.{begins}
 use Rattle.bl_index_rule.proofs.Bounds.{begins_process}

@@ -1,7 +1,7 @@
 use Rattle.std.proofs.Common.{ℕ, Option, subst, rules}
 use Rattle.bl_store.specs.declared.store.Glance.{Glance}
 use Rattle.bl_index_ways.specs.Events.{HasCome}
-use Rattle.bl_index_steps.proofs.Standing.{same_all, none_of}
+use Rattle.bl_index_events.proofs.Standing.{same_all, none_of}
 use Rattle.bl_index_ways.proofs.coming.descend.Goals as goal
 
 pub returns-in-Some-come_from-clause-since : goal.returns-in-Some-come_from-clause-since

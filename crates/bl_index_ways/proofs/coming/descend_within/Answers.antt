@@ -1,4 +1,4 @@
-use Rattle.bl_index_steps.proofs.Standing.{same_all}
+use Rattle.bl_index_events.proofs.Standing.{same_all}
 use Rattle.bl_index_ways.proofs.coming.descend_within.Goals as goal
 
 pub returns-clause-since : goal.returns-clause-since

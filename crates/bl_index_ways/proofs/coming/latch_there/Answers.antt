@@ -1,8 +1,8 @@
 use Rattle.std.proofs.Common.{refl}
-use Rattle.bl_proc_base.specs.declared.acts.Seen.TheVariants as seen
-use Rattle.bl_proc_base.specs.declared.approaching.Approach.TheVariants as approach
+use Rattle.bl_proc_steps.specs.declared.acts.Seen.TheVariants as seen
+use Rattle.bl_proc_steps.specs.declared.approach.Approach.TheVariants as approach
 use Rattle.bl_store.specs.Hands.{known}
-use Rattle.bl_index_steps.proofs.Standing.{on_goes, same_latch}
+use Rattle.bl_index_events.proofs.Standing.{on_goes, same_latch}
 use Rattle.bl_index_ways.proofs.coming.latch_there.Goals as goal
 
 pub returns-clause-done : goal.returns-clause-done

@@ -1,9 +1,9 @@
 use Rattle.std.proofs.Common.{rules, ℕ, Option, Some, None, refl, subst}
-use Rattle.bl_proc_base.specs.declared.acts.Seen.TheVariants as seen
-use Rattle.bl_proc_base.specs.declared.approaching.Approach.TheVariants as approach
+use Rattle.bl_proc_steps.specs.declared.acts.Seen.TheVariants as seen
+use Rattle.bl_proc_steps.specs.declared.approach.Approach.TheVariants as approach
 use Rattle.bl_store.specs.Hands.{known}
-use Rattle.bl_index_steps.specs.Runs.{IsOn}
-use Rattle.bl_index_steps.proofs.Standing.{on_goes, same_goes}
+use Rattle.bl_index_events.specs.Runs.{IsOn}
+use Rattle.bl_index_events.proofs.Standing.{on_goes, same_goes}
 use Rattle.bl_index_ways.proofs.coming.move_on.Goals as goal
 
 pub returns-in-Some-clause-runs : goal.returns-in-Some-clause-runs

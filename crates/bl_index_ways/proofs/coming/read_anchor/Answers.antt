@@ -1,13 +1,13 @@
 use Rattle.std.proofs.Common.{rules, ℕ, sym, subst}
-use Rattle.bl_proc_base.specs.declared.acts.Seen.TheVariants as seen
-use Rattle.bl_proc_base.specs.declared.approaching.Approach.TheVariants as approach
-use Rattle.bl_proc_base.specs.declared.approaching.Approached.TheVariants as came
-use Rattle.bl_proc_base.specs.Approaches.{Approaches}
+use Rattle.bl_proc_steps.specs.declared.acts.Seen.TheVariants as seen
+use Rattle.bl_proc_steps.specs.declared.approach.Approach.TheVariants as approach
+use Rattle.bl_proc_steps.specs.declared.approach.Approached.TheVariants as came
+use Rattle.bl_proc_steps.specs.Approaches.{Approaches}
 use Rattle.bl_store.specs.Hands.{known, IsRunning}
 use Rattle.bl_store.specs.declared.store.Hand.{Hand}
 use Rattle.bl_index_rule.specs.declared.known.PassState.{PassState}
-use Rattle.bl_index_steps.specs.Runs.{IsOn, IsSameProcess}
-use Rattle.bl_index_steps.proofs.Standing.{on_goes, same_goes}
+use Rattle.bl_index_events.specs.Runs.{IsOn, IsSameProcess}
+use Rattle.bl_index_events.proofs.Standing.{on_goes, same_goes}
 use Rattle.bl_index_ways.proofs.coming.read_anchor.Goals as goal
 
 pub returns-clause-runs : goal.returns-clause-runs

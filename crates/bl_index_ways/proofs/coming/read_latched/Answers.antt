@@ -1,17 +1,17 @@
 use Rattle.std.proofs.Common.{ℕ, Some, None, refl, sym, subst}
-use Rattle.bl_proc_base.specs.declared.acts.Seen.TheVariants as seen
-use Rattle.bl_proc_base.specs.declared.approaching.Approach.TheVariants as approach
-use Rattle.bl_proc_pages.specs.declared.onwards.Step.TheVariants.{Again, Right, Down, Here}
-use Rattle.bl_proc_pages.specs.Onwards.{Leads}
+use Rattle.bl_proc_steps.specs.declared.acts.Seen.TheVariants as seen
+use Rattle.bl_proc_steps.specs.declared.approach.Approach.TheVariants as approach
+use Rattle.bl_proc_routes.specs.declared.routes.Step.TheVariants.{Again, Right, Down, Here}
+use Rattle.bl_proc_routes.specs.Routes.{Leads}
 use Rattle.bl_proc.specs.declared.kinds.Proc.{Proc}
 use Rattle.bl_proc.specs.Processes.{Takes}
 use Rattle.bl_store.specs.Hands.{known}
 use Rattle.bl_store.specs.declared.store.Hand.{Hand}
 use Rattle.bl_index_rule.specs.declared.known.PassState.{PassState}
 use Rattle.bl_index_ways.specs.declared.coming.Arrived.TheVariants.{There}
-use Rattle.bl_index_steps.specs.Runs.{IsOn, IsSameProcess}
+use Rattle.bl_index_events.specs.Runs.{IsOn, IsSameProcess}
 use Rattle.bl_index_ways.specs.Events.{HasArrived}
-use Rattle.bl_index_steps.proofs.Standing.{on_goes, on_after, goes_takes, same_goes}
+use Rattle.bl_index_events.proofs.Standing.{on_goes, on_after, goes_takes, same_goes}
 use Rattle.bl_index_ways.proofs.coming.read_latched.Goals as goal
 
 pub returns-in-Here-clause-arrived : goal.returns-in-Here-clause-arrived

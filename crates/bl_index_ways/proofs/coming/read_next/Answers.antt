@@ -1,12 +1,12 @@
 use Rattle.std.proofs.Common.{rules, ℕ, sym, ap, subst, ◌∙◌}
-use Rattle.bl_proc_base.specs.declared.acts.Seen.TheVariants as seen
-use Rattle.bl_proc_base.specs.Approaches.{Turns}
-use Rattle.bl_proc_pages.specs.Onwards.{Leads}
+use Rattle.bl_proc_steps.specs.declared.acts.Seen.TheVariants as seen
+use Rattle.bl_proc_steps.specs.Approaches.{Turns}
+use Rattle.bl_proc_routes.specs.Routes.{Leads}
 use Rattle.bl_store.specs.Hands.{known, read_words, IsRunning}
 use Rattle.bl_store.specs.declared.store.Hand.{Hand}
 use Rattle.bl_index_rule.specs.declared.known.PassState.{PassState}
-use Rattle.bl_index_steps.specs.Runs.{IsOn, IsSameProcess}
-use Rattle.bl_index_steps.proofs.Standing.{on_goes, same_goes}
+use Rattle.bl_index_events.specs.Runs.{IsOn, IsSameProcess}
+use Rattle.bl_index_events.proofs.Standing.{on_goes, same_goes}
 use Rattle.bl_index_ways.proofs.coming.read_next.Goals as goal
 
 pub step_in-way-requires-clause-page : goal.step_in-way-requires-clause-page

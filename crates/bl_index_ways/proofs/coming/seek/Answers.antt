@@ -1,5 +1,5 @@
 use Rattle.std.proofs.Common.{rules}
-use Rattle.bl_index_steps.proofs.Standing.{same_all}
+use Rattle.bl_index_events.proofs.Standing.{same_all}
 use Rattle.bl_index_ways.proofs.coming.seek.Goals as goal
 
 pub loop-turn-preserved : goal.loop-turn-preserved

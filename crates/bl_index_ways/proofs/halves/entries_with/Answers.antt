@@ -3,7 +3,7 @@ use Rattle.bl_page.specs.declared.page.Page.{Page}
 use Rattle.bl_page.proofs.Once.{once}
 use Rattle.bl_page.specs.Nodes.{IsTreePage}
 use Rattle.bl_rearrange.specs.Rearranged.{pairs_of}
-use Rattle.bl_proc_pages.proofs.Spellings.{tree_pairs}
+use Rattle.bl_proc_routes.proofs.Spellings.{tree_pairs}
 use Rattle.bl_index_ways.proofs.Splits.{spread_full}
 use Rattle.bl_index_ways.proofs.halves.entries_with.Goals as goal
 

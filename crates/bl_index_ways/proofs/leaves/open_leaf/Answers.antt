@@ -1,8 +1,8 @@
 use Rattle.std.proofs.Common.{rules}
-use Rattle.bl_proc_base.specs.declared.acts.Seen.TheVariants as seen
+use Rattle.bl_proc_steps.specs.declared.acts.Seen.TheVariants as seen
 use Rattle.bl_store.specs.Hands.{known}
-use Rattle.bl_index_steps.proofs.Held.{goes_keeps, open_latches_not}
-use Rattle.bl_index_steps.proofs.Standing.{on_goes, same_goes}
+use Rattle.bl_index_events.proofs.Held.{goes_keeps, open_latches_not}
+use Rattle.bl_index_events.proofs.Standing.{on_goes, same_goes}
 use Rattle.bl_index_ways.proofs.leaves.open_leaf.Goals as goal
 
 pub returns-clause-runs : goal.returns-clause-runs

@@ -1,6 +1,6 @@
 use Rattle.std.proofs.Common.{rules, ap, ◌∙◌}
 use Rattle.bl_store.specs.Hands.{known}
-use Rattle.bl_index_steps.proofs.Standing.{put_gave, goes_put, on_itself, on_after}
+use Rattle.bl_index_events.proofs.Standing.{put_gave, goes_put, on_itself, on_after}
 use Rattle.bl_index_ways.specs.Events.{outcome_by}
 use Rattle.bl_index_ways.specs.Writers.{left_by}
 use Rattle.bl_index_ways.proofs.Written.{puts_next, put_courses, stands_opening, opens_changed, leaves_put}

@@ -3,14 +3,14 @@ use Rattle.std.specs.Prelude.{IsSome}
 use Rattle.bl_model.specs.Rows.{map_of}
 use Rattle.bl_rearrange.specs.Entered.{dropped}
 use Rattle.bl_rearrange.specs.Rearranged.{pairs_of}
-use Rattle.bl_proc_pages.specs.Respelled.{words_by}
-use Rattle.bl_proc_base.specs.declared.editing.Edit.TheVariants as edit
+use Rattle.bl_proc_routes.specs.WordEdits.{words_by}
+use Rattle.bl_proc_steps.specs.declared.edit.Edit.TheVariants as edit
 use Rattle.bl_proc_writes.specs.declared.writing.WriteStage.TheVariants as write
 use Rattle.bl_store.specs.Hands.{known}
 use Rattle.bl_store.specs.declared.store.Hand.{Hand}
 use Rattle.bl_index_rule.specs.declared.known.PassState.{PassState}
-use Rattle.bl_index_steps.specs.Runs.{IsOn}
-use Rattle.bl_index_steps.proofs.Standing.{on_as}
+use Rattle.bl_index_events.specs.Runs.{IsOn}
+use Rattle.bl_index_events.proofs.Standing.{on_as}
 use Rattle.bl_index_ways.proofs.Written.{stands_removing}
 use Rattle.bl_index_ways.proofs.leaves.remove.Goals as goal
 

@@ -1,14 +1,14 @@
 use Rattle.std.proofs.Common.{None, sym, subst, ◌∙◌}
-use Rattle.bl_proc_base.specs.declared.editing.Edit.TheVariants as edit
+use Rattle.bl_proc_steps.specs.declared.edit.Edit.TheVariants as edit
 use Rattle.bl_proc_writes.specs.declared.writing.WriteStage.TheVariants as write
 use Rattle.bl_store.specs.Hands.{known, IsSameHand}
 use Rattle.bl_store.specs.declared.store.Hand.{Hand}
 use Rattle.bl_index_rule.specs.declared.known.PassState.{PassState}
-use Rattle.bl_index_steps.specs.Held.{IsFull}
-use Rattle.bl_index_steps.specs.Runs.{IsOn, IsSince}
-use Rattle.bl_index_steps.proofs.Held.{keeps_held}
-use Rattle.bl_index_steps.proofs.Rooms.{lacks_split, refused_on}
-use Rattle.bl_index_steps.proofs.Standing.{on_as}
+use Rattle.bl_index_events.specs.Held.{IsFull}
+use Rattle.bl_index_events.specs.Runs.{IsOn, IsSince}
+use Rattle.bl_index_events.proofs.Held.{keeps_held}
+use Rattle.bl_index_events.proofs.Rooms.{lacks_split, refused_on}
+use Rattle.bl_index_events.proofs.Standing.{on_as}
 use Rattle.bl_index_ways.proofs.Written.{enters_full, unthinned, opens_changed, left_refused}
 use Rattle.bl_index_ways.proofs.leaves.split_leaf.Goals as goal
 

@@ -3,11 +3,11 @@ use Rattle.bl_model.specs.declared.deciding.Decided.{Decided}
 use Rattle.bl_model.specs.Rows.{map_of}
 use Rattle.bl_model.specs.Writes.{effect_of}
 use Rattle.bl_page.specs.Faults.{HasPairs, pairs_of}
-use Rattle.bl_proc_pages.proofs.Spellings.{tree_pairs}
+use Rattle.bl_proc_routes.proofs.Spellings.{tree_pairs}
 use Rattle.bl_store.specs.Hands.{known, read_words, IsSameHand}
 use Rattle.bl_store.specs.declared.store.Hand.{Hand}
 use Rattle.bl_index_rule.specs.declared.known.PassState.{PassState}
-use Rattle.bl_index_steps.specs.Runs.{IsSameProcess}
+use Rattle.bl_index_events.specs.Runs.{IsSameProcess}
 use Rattle.bl_index_ways.specs.declared.writers.Left.TheVariants.{Kept, Refused}
 use Rattle.bl_index_ways.proofs.Written.{at_leaf, entering_none, stands_keeping, opens_kept}
 use Rattle.bl_index_ways.proofs.leaves.write_there.Goals as goal
@@ -50,14 +50,14 @@ remove-requires-clause-leaf g c =
 pub remove-requires-clause-effect : goal.remove-requires-clause-effect
 remove-requires-clause-effect g c = ap (λ z. effect_of z c.listed_at-there.result) (sym c.write.ensures) ∙ (ap (λ (z : Decided). z.effect) (sym c.decide.ensures.is) ∙ c.in-Remove.is)
 
-pub change-requires-clause-leaf : goal.change-requires-clause-leaf
-change-requires-clause-leaf g c =
+pub replace_value-requires-clause-leaf : goal.replace_value-requires-clause-leaf
+replace_value-requires-clause-leaf g c =
     let w = c.args.writer.now in
     let listed = c.listed_at-there.ensures.listed ∙ ap (λ (k : ℕ). map_of (pairs_of (read_words c.place_in-place.new.hand.seat)) k) c.key-key.ensures in
     at_leaf (g.W.Writer.key_of w) (g.W.Writer.staged w) c.args.at _ _ _ _ _ c.word-head.ensures.same c.place_in-place.ensures.same c.listed_at-there.ensures.same c.requires.there listed
 
-pub change-requires-clause-effect : goal.change-requires-clause-effect
-change-requires-clause-effect g c = ap (λ z. effect_of z c.listed_at-there.result) (sym c.write.ensures) ∙ (ap (λ (z : Decided). z.effect) (sym c.decide.ensures.is) ∙ c.in-Replace.is)
+pub replace_value-requires-clause-effect : goal.replace_value-requires-clause-effect
+replace_value-requires-clause-effect g c = ap (λ z. effect_of z c.listed_at-there.result) (sym c.write.ensures) ∙ (ap (λ (z : Decided). z.effect) (sym c.decide.ensures.is) ∙ c.in-Replace.is)
 
 pub enter-requires-clause-leaf : goal.enter-requires-clause-leaf
 enter-requires-clause-leaf g c =

@@ -1,11 +1,11 @@
 use Rattle.std.proofs.Common.{ℕ, ◌-◌, ◌<◌, sym, ap, subst, ◌∙◌}
 use Rattle.bl_page.specs.Nodes.{node_of}
-use Rattle.bl_proc_pages.specs.declared.onwards.Step.TheVariants.{Here, Down}
-use Rattle.bl_proc_pages.specs.Onwards.{Leads}
+use Rattle.bl_proc_routes.specs.declared.routes.Step.TheVariants.{Here, Down}
+use Rattle.bl_proc_routes.specs.Routes.{Leads}
 use Rattle.bl_store.specs.Hands.{read_words}
 use Rattle.bl_store.specs.declared.store.Hand.{Hand}
 use Rattle.bl_index_rule.specs.declared.known.PassState.{PassState}
-use Rattle.bl_index_steps.proofs.Standing.{none_of}
+use Rattle.bl_index_events.proofs.Standing.{none_of}
 use Rattle.bl_index_ways.proofs.Walked.{stands_already, stands_walking}
 use Rattle.bl_index_ways.proofs.parents.begin_walk.Goals as goal
 

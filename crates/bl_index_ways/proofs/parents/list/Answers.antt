@@ -1,16 +1,16 @@
 use Rattle.std.proofs.Common.{rules, ℕ, inl, refl, sym, subst, ◌≡◌, ◌∙◌}
-use Rattle.bl_proc_writes.specs.declared.posting.PostReply.{PostReply}
-use Rattle.bl_proc_writes.specs.declared.posting.PostStage.TheVariants as post
+use Rattle.bl_proc_writes.specs.declared.post.PostReply.{PostReply}
+use Rattle.bl_proc_writes.specs.declared.post.PostStage.TheVariants as post
 use Rattle.bl_proc.specs.declared.kinds.Proc.{Proc}
 use Rattle.bl_proc_writes.specs.Levels.{MayReply}
 use Rattle.bl_proc_writes.specs.Posts.{post_reply}
-use Rattle.bl_proc_base.specs.declared.acts.Seen.TheVariants as seen
-use Rattle.bl_proc_base.specs.declared.editing.Edit.TheVariants as edit
+use Rattle.bl_proc_steps.specs.declared.acts.Seen.TheVariants as seen
+use Rattle.bl_proc_steps.specs.declared.edit.Edit.TheVariants as edit
 use Rattle.bl_store.specs.Hands.{known}
-use Rattle.bl_index_steps.proofs.Held.{goes_keeps, open_latches_not}
-use Rattle.bl_index_steps.proofs.Rooms.{lacks_on, reply_refused}
-use Rattle.bl_index_steps.proofs.Standing.{on_goes, on_itself, same_all, same_goes}
-use Rattle.bl_index_steps.specs.Runs.{IsOn}
+use Rattle.bl_index_events.proofs.Held.{goes_keeps, open_latches_not}
+use Rattle.bl_index_events.proofs.Rooms.{lacks_on, reply_refused}
+use Rattle.bl_index_events.proofs.Standing.{on_goes, on_itself, same_all, same_goes}
+use Rattle.bl_index_events.specs.Runs.{IsOn}
 use Rattle.bl_index_ways.specs.Events.{IsToEnter}
 use Rattle.bl_index_ways.proofs.Walked.{may_reply, opens_listed, some_same, staged_same}
 use Rattle.bl_index_ways.proofs.parents.list.Goals as goal

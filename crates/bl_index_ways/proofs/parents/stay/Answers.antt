@@ -1,6 +1,6 @@
 use Rattle.std.proofs.Common.{rules, refl, ◌∙◌}
-use Rattle.bl_proc_base.specs.declared.acts.Seen.TheVariants as seen
-use Rattle.bl_index_steps.proofs.Standing.{on_goes, same_goes}
+use Rattle.bl_proc_steps.specs.declared.acts.Seen.TheVariants as seen
+use Rattle.bl_index_events.proofs.Standing.{on_goes, same_goes}
 use Rattle.bl_index_ways.proofs.Walked.{opens_staying, some_same}
 use Rattle.bl_index_ways.proofs.parents.stay.Goals as goal
 

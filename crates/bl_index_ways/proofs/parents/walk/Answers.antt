@@ -1,5 +1,5 @@
 use Rattle.std.proofs.Common.{◌∙◌}
-use Rattle.bl_index_steps.proofs.Standing.{same_all}
+use Rattle.bl_index_events.proofs.Standing.{same_all}
 use Rattle.bl_index_ways.proofs.Walked.{leaves_since}
 use Rattle.bl_index_ways.proofs.parents.walk.Goals as goal
 

@@ -1,5 +1,5 @@
 use Rattle.bl_store.specs.Hands.{known, HasNoStock, IsSameHand}
-use Rattle.bl_index_steps.specs.Runs.{IsSameProcess, Runs}
+use Rattle.bl_index_events.specs.Runs.{IsSameProcess, Runs}
 use Rattle.bl_index_ways.specs.Events.{IsWalking}
 use Rattle.bl_index_ways.proofs.parents.walk.Given as goal
 

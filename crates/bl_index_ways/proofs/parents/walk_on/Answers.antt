@@ -1,15 +1,15 @@
 use Rattle.std.proofs.Common.{ℕ, ◌-◌, sym, ap, subst, ◌∙◌}
-use Rattle.bl_proc_base.specs.declared.acts.Seen.TheVariants as seen
-use Rattle.bl_proc_pages.specs.declared.onwards.Step.TheVariants.{Again, Right, Down, Here}
-use Rattle.bl_proc_pages.specs.Onwards.{Leads}
-use Rattle.bl_proc_writes.specs.declared.posting.PostStage.TheVariants as post
+use Rattle.bl_proc_steps.specs.declared.acts.Seen.TheVariants as seen
+use Rattle.bl_proc_routes.specs.declared.routes.Step.TheVariants.{Again, Right, Down, Here}
+use Rattle.bl_proc_routes.specs.Routes.{Leads}
+use Rattle.bl_proc_writes.specs.declared.post.PostStage.TheVariants as post
 use Rattle.bl_store.specs.Hands.{known, read_words}
 use Rattle.bl_store.specs.declared.store.Hand.{Hand}
 use Rattle.bl_index_rule.specs.declared.known.PassState.{PassState}
 use Rattle.bl_index_ways.specs.declared.parents.Walked.TheVariants.{On, Found, Stale, Lost}
-use Rattle.bl_index_steps.specs.Runs.{IsSameProcess}
+use Rattle.bl_index_events.specs.Runs.{IsSameProcess}
 use Rattle.bl_index_ways.specs.Events.{HasWalked}
-use Rattle.bl_index_steps.proofs.Standing.{on_as, on_after, goes_takes, same_goes, course_at}
+use Rattle.bl_index_events.proofs.Standing.{on_as, on_after, goes_takes, same_goes, course_at}
 use Rattle.bl_index_ways.proofs.Walked.{walked_on, walked_found, walked_stale, walked_lost}
 use Rattle.bl_index_ways.proofs.parents.walk_on.Goals as goal
 

@@ -1,8 +1,8 @@
 use Rattle.std.proofs.Common.{refl, ◌∙◌, rules}
-use Rattle.bl_proc_base.specs.declared.acts.Seen.TheVariants as seen
-use Rattle.bl_proc_base.specs.declared.approaching.Approach.TheVariants as approach
-use Rattle.bl_proc_writes.specs.declared.posting.PostStage.TheVariants as post
-use Rattle.bl_index_steps.proofs.Standing.{same_all, same_goes, on_goes, on_itself}
+use Rattle.bl_proc_steps.specs.declared.acts.Seen.TheVariants as seen
+use Rattle.bl_proc_steps.specs.declared.approach.Approach.TheVariants as approach
+use Rattle.bl_proc_writes.specs.declared.post.PostStage.TheVariants as post
+use Rattle.bl_index_events.proofs.Standing.{same_all, same_goes, on_goes, on_itself}
 use Rattle.bl_index_ways.proofs.Walked.{leaves_since, opens_lost}
 use Rattle.bl_index_ways.proofs.parents.walk_within.Goals as goal
 

@@ -1,14 +1,14 @@
 use Rattle.std.proofs.Common.{rules, ℕ, ◌≡◌, ◌<◌, sym, ap, subst, ◌∙◌, arith}
 use Rattle.bl_page.specs.Nodes.{roots_of}
-use Rattle.bl_proc_base.specs.declared.acts.Seen.TheVariants as seen
-use Rattle.bl_proc_base.specs.declared.approaching.Approach.TheVariants as approach
-use Rattle.bl_proc_base.specs.declared.approaching.Approached.TheVariants as came
-use Rattle.bl_proc_base.specs.Approaches.{Approaches}
+use Rattle.bl_proc_steps.specs.declared.acts.Seen.TheVariants as seen
+use Rattle.bl_proc_steps.specs.declared.approach.Approach.TheVariants as approach
+use Rattle.bl_proc_steps.specs.declared.approach.Approached.TheVariants as came
+use Rattle.bl_proc_steps.specs.Approaches.{Approaches}
 use Rattle.bl_store.specs.Hands.{known, read_words, IsRunning, ReadsFrom}
 use Rattle.bl_store.specs.declared.store.Hand.{Hand}
 use Rattle.bl_index_rule.specs.declared.known.PassState.{PassState}
-use Rattle.bl_index_steps.specs.Runs.{IsOn, IsSameProcess, Runs}
-use Rattle.bl_index_steps.proofs.Standing.{goes_takes, on_after, on_goes, same_goes}
+use Rattle.bl_index_events.specs.Runs.{IsOn, IsSameProcess, Runs}
+use Rattle.bl_index_events.proofs.Standing.{goes_takes, on_after, on_goes, same_goes}
 use Rattle.bl_proc.specs.declared.kinds.Proc.{Proc}
 use Rattle.bl_proc.specs.Processes.{Takes}
 use Rattle.bl_index_ways.specs.Events.{HasGotAnchor}

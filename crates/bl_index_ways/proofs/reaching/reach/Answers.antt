@@ -1,4 +1,4 @@
-use Rattle.bl_index_steps.proofs.Standing.{same_all}
+use Rattle.bl_index_events.proofs.Standing.{same_all}
 use Rattle.bl_index_ways.proofs.reaching.reach.Goals as goal
 
 pub returns-in-Ok-clause-since : goal.returns-in-Ok-clause-since

@@ -1,4 +1,4 @@
-use Rattle.bl_index_steps.proofs.Standing.{same_all}
+use Rattle.bl_index_events.proofs.Standing.{same_all}
 use Rattle.bl_index_ways.proofs.reaching.reach_within.Goals as goal
 
 pub returns-in-Ok-come_within-clause-since : goal.returns-in-Ok-come_within-clause-since

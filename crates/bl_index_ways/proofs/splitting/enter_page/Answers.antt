@@ -1,16 +1,16 @@
 use Rattle.std.proofs.Common.{rules, ◌<◌, ◌≤◌, length, inl, inr, refl, sym, ap, subst, ◌∙◌, arith}
 use Rattle.bl_rearrange.specs.Rearranged.{pairs_of}
-use Rattle.bl_proc_base.specs.declared.acts.Seen.TheVariants as seen
-use Rattle.bl_proc_base.specs.declared.editing.Edit.{Edit}
-use Rattle.bl_proc_base.specs.declared.editing.Edit.TheVariants as edit
-use Rattle.bl_proc_base.specs.declared.editing.Outcome.TheVariants as outcome
-use Rattle.bl_proc_pages.proofs.Spellings.{pairs_counted}
+use Rattle.bl_proc_steps.specs.declared.acts.Seen.TheVariants as seen
+use Rattle.bl_proc_steps.specs.declared.edit.Edit.{Edit}
+use Rattle.bl_proc_steps.specs.declared.edit.Edit.TheVariants as edit
+use Rattle.bl_proc_steps.specs.declared.edit.Outcome.TheVariants as outcome
+use Rattle.bl_proc_routes.proofs.Spellings.{pairs_counted}
 use Rattle.bl_proc.specs.Processes.{next_of}
 use Rattle.bl_store.specs.Hands.{known}
-use Rattle.bl_index_steps.specs.Runs.{IsOn}
-use Rattle.bl_index_steps.specs.Held.{HasRoom, own_marks}
-use Rattle.bl_index_steps.proofs.Held.{goes_keeps, keeps_held, put_latches_not}
-use Rattle.bl_index_steps.proofs.Standing.{on_held, on_goes, same_goes, course_at}
+use Rattle.bl_index_events.specs.Runs.{IsOn}
+use Rattle.bl_index_events.specs.Held.{HasRoom, own_marks}
+use Rattle.bl_index_events.proofs.Held.{goes_keeps, keeps_held, put_latches_not}
+use Rattle.bl_index_events.proofs.Standing.{on_held, on_goes, same_goes, course_at}
 use Rattle.bl_index_ways.proofs.Walked.{enters_putting, enters_taking}
 use Rattle.bl_index_ways.proofs.splitting.enter_page.Goals as goal
 

@@ -1,10 +1,10 @@
 use Rattle.std.proofs.Common.{rules, ◌+◌, ◌<◌, Some, refl, sym, ap, subst, ◌∙◌, arith}
 use Rattle.bl_proc.specs.declared.kinds.Proc.{Proc}
-use Rattle.bl_proc_writes.specs.declared.posting.PostStage.TheVariants as post
-use Rattle.bl_proc_base.specs.declared.approaching.Approach.{Approach}
+use Rattle.bl_proc_writes.specs.declared.post.PostStage.TheVariants as post
+use Rattle.bl_proc_steps.specs.declared.approach.Approach.{Approach}
 use Rattle.bl_store.specs.Hands.{known}
-use Rattle.bl_index_steps.specs.Runs.{Runs}
-use Rattle.bl_index_steps.proofs.Standing.{none_of, same_all}
+use Rattle.bl_index_events.specs.Runs.{Runs}
+use Rattle.bl_index_events.proofs.Standing.{none_of, same_all}
 use Rattle.bl_index_ways.specs.Events.{HoldsNone}
 use Rattle.bl_index_write.proofs.Climbs.{climb_since, from_free, goes_above, goes_with, posting_alike}
 use Rattle.bl_index_ways.proofs.Walked.{leaves_again, leaves_opened}

@@ -1,7 +1,7 @@
 use Rattle.std.proofs.Common.{◌<◌, ◌≤◌}
-use Rattle.bl_proc_writes.specs.declared.posting.PostStage.TheVariants as post
+use Rattle.bl_proc_writes.specs.declared.post.PostStage.TheVariants as post
 use Rattle.bl_store.specs.Hands.{known, IsSameHand, HasNoStock}
-use Rattle.bl_index_steps.specs.Runs.{Runs, IsSameProcess}
+use Rattle.bl_index_events.specs.Runs.{Runs, IsSameProcess}
 use Rattle.bl_index_write.specs.Climbing.{climb_posting}
 use Rattle.bl_index_ways.specs.Events.{HoldsNone}
 use Rattle.bl_index_write.proofs.climbing.climb.Given as goal

@@ -2,24 +2,24 @@ use Rattle.std.proofs.Common.{rules, ℕ, ◌≡◌, Some, inl, inr, sym, ap, su
 use Rattle.bl_model.specs.Writes.{write_op}
 use Rattle.bl_model.specs.declared.operation.Reply.TheVariants as reply
 use Rattle.bl_model.specs.Replies.{reply_of}
-use Rattle.bl_proc_base.specs.declared.acts.Seen.TheVariants as seen
-use Rattle.bl_proc_base.specs.declared.answers.Answer.TheVariants.{InsertPost as Answered}
-use Rattle.bl_proc_base.specs.declared.answers.Hint.TheVariants as hint
-use Rattle.bl_proc_base.specs.declared.answers.Posted.TheVariants as posted
-use Rattle.bl_proc_base.specs.declared.approaching.Approach.TheVariants as approach
+use Rattle.bl_proc_steps.specs.declared.acts.Seen.TheVariants as seen
+use Rattle.bl_proc_steps.specs.declared.answers.Answer.TheVariants.{InsertPost as Answered}
+use Rattle.bl_proc_steps.specs.declared.answers.Hint.TheVariants as hint
+use Rattle.bl_proc_steps.specs.declared.answers.Posted.TheVariants as posted
+use Rattle.bl_proc_steps.specs.declared.approach.Approach.TheVariants as approach
 use Rattle.bl_proc.specs.declared.kinds.Proc.TheVariants as proc
-use Rattle.bl_proc_writes.specs.declared.posting.PostStage.TheVariants as post
-use Rattle.bl_proc_writes.specs.declared.climbing.Placing.{Placing}
+use Rattle.bl_proc_writes.specs.declared.post.PostStage.TheVariants as post
+use Rattle.bl_proc_writes.specs.declared.insert_post.Placing.{Placing}
 use Rattle.bl_proc_writes.specs.Placings.{write_of}
-use Rattle.bl_proc_writes.specs.Climbs.{climb_answer_in}
-use Rattle.bl_proc_unique.proofs.RefusedTurns.{takes_refused, takes_puts}
+use Rattle.bl_proc_writes.specs.InsertPosts.{climb_answer_in}
+use Rattle.bl_proc_deterministic.proofs.RefusedTurns.{takes_refused, takes_puts}
 use Rattle.bl_store.specs.Hands.{known, IsRunning}
 use Rattle.bl_store.specs.declared.store.Hand.{Hand}
 use Rattle.bl_index_rule.specs.declared.known.PassState.{PassState}
-use Rattle.bl_index_steps.specs.Rooms.{LacksWrite}
-use Rattle.bl_index_steps.specs.Runs.{IsOn, IsSince}
-use Rattle.bl_index_steps.proofs.Rooms.{lacks_climb, words_not_refused}
-use Rattle.bl_index_steps.proofs.Standing.{on_as}
+use Rattle.bl_index_events.specs.Rooms.{LacksWrite}
+use Rattle.bl_index_events.specs.Runs.{IsOn, IsSince}
+use Rattle.bl_index_events.proofs.Rooms.{lacks_climb, words_not_refused}
+use Rattle.bl_index_events.proofs.Standing.{on_as}
 use Rattle.bl_index_write.specs.Climbing.{rises}
 use Rattle.bl_index_write.proofs.Climbs.{ended, has_answer, said_by, no_room_page, left_post, rises_on}
 use Rattle.bl_index_write.proofs.climbing.climb_above.Goals as goal

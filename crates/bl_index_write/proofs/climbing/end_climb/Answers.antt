@@ -1,10 +1,10 @@
 use Rattle.std.proofs.Common.{Some, refl, sym, ap, ◌∙◌, ◌≡◌}
 use Rattle.bl_model.specs.declared.operation.Reply.TheVariants as reply
-use Rattle.bl_proc_base.specs.declared.answers.Answer.TheVariants.{InsertPost as Answered}
-use Rattle.bl_proc_writes.specs.declared.climbing.Climbed.TheVariants as climbed
-use Rattle.bl_proc_writes.specs.declared.climbing.ClimbStage.TheVariants as climb
-use Rattle.bl_proc_unique.specs.Frames.{op_of, work_of}
-use Rattle.bl_index_steps.proofs.Standing.{on_itself}
+use Rattle.bl_proc_steps.specs.declared.answers.Answer.TheVariants.{InsertPost as Answered}
+use Rattle.bl_proc_writes.specs.declared.insert_post.Climbed.TheVariants as climbed
+use Rattle.bl_proc_writes.specs.declared.insert_post.ClimbStage.TheVariants as climb
+use Rattle.bl_proc_deterministic.specs.Frames.{op_of, work_of}
+use Rattle.bl_index_events.proofs.Standing.{on_itself}
 use Rattle.bl_index_write.specs.Climbing.{climbing}
 use Rattle.bl_index_write.proofs.Climbs.{rose_last, ends_climb, post_left, refused_post}
 use Rattle.bl_index_ways.proofs.Walked.{lacks_post_same}

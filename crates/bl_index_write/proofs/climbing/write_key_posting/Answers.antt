@@ -1,11 +1,11 @@
 use Rattle.std.proofs.Common.{◌≡◌, Some, None, refl, sym, ap, ◌∙◌}
 use Rattle.bl_model.specs.Replies.{reply_of}
-use Rattle.bl_proc_base.specs.declared.answers.Hint.TheVariants as hint
-use Rattle.bl_proc_writes.specs.declared.climbing.Climbed.TheVariants as climbed
-use Rattle.bl_proc_writes.specs.declared.climbing.ClimbStage.TheVariants as climb
+use Rattle.bl_proc_steps.specs.declared.answers.Hint.TheVariants as hint
+use Rattle.bl_proc_writes.specs.declared.insert_post.Climbed.TheVariants as climbed
+use Rattle.bl_proc_writes.specs.declared.insert_post.ClimbStage.TheVariants as climb
 use Rattle.bl_proc_writes.specs.Writes.{write_answer}
-use Rattle.bl_proc_unique.specs.Frames.{op_of, work_of}
-use Rattle.bl_index_steps.proofs.Standing.{on_itself}
+use Rattle.bl_proc_deterministic.specs.Frames.{op_of, work_of}
+use Rattle.bl_index_events.proofs.Standing.{on_itself}
 use Rattle.bl_index_write.specs.Climbing.{climb_unborn}
 use Rattle.bl_index_ways.specs.Writers.{left_reply}
 use Rattle.bl_index_write.proofs.Climbs.{unborn_blank, ends_unsplit, unsplit_opened, unsplit_answer}

@@ -1,7 +1,7 @@
 use Rattle.std.proofs.Common.{Some, ap, ◌∙◌}
-use Rattle.bl_proc_writes.specs.declared.posting.PostStage.TheVariants as post
-use Rattle.bl_proc_unique.specs.Frames.{op_of, work_of}
-use Rattle.bl_index_steps.proofs.Standing.{on_itself}
+use Rattle.bl_proc_writes.specs.declared.post.PostStage.TheVariants as post
+use Rattle.bl_proc_deterministic.specs.Frames.{op_of, work_of}
+use Rattle.bl_index_events.proofs.Standing.{on_itself}
 use Rattle.bl_index_write.specs.Events.{posting}
 use Rattle.bl_index_ways.proofs.Walked.{lacks_post_same}
 use Rattle.bl_index_write.proofs.PostEnds.{ends_post}

@@ -1,14 +1,14 @@
 use Rattle.std.proofs.Common.{rules, refl, sym, subst, ◌∙◌}
-use Rattle.bl_proc_base.specs.declared.acts.Seen.TheVariants as seen
-use Rattle.bl_proc_base.specs.declared.approaching.Approach.TheVariants as approach
-use Rattle.bl_proc_writes.specs.declared.posting.PostStage.TheVariants as post
+use Rattle.bl_proc_steps.specs.declared.acts.Seen.TheVariants as seen
+use Rattle.bl_proc_steps.specs.declared.approach.Approach.TheVariants as approach
+use Rattle.bl_proc_writes.specs.declared.post.PostStage.TheVariants as post
 use Rattle.bl_proc.specs.declared.kinds.Proc.TheVariants as proc
 use Rattle.bl_store.specs.Hands.{known, IsRunning, HasNoStock}
 use Rattle.bl_store.specs.declared.store.Hand.{Hand}
 use Rattle.bl_index_rule.specs.declared.known.PassState.{PassState}
-use Rattle.bl_proc_unique.proofs.Posts.{post_goes}
-use Rattle.bl_index_steps.specs.Runs.{IsOn}
-use Rattle.bl_index_steps.proofs.Standing.{on_as}
+use Rattle.bl_proc_deterministic.proofs.Posts.{post_goes}
+use Rattle.bl_index_events.specs.Runs.{IsOn}
+use Rattle.bl_index_events.proofs.Standing.{on_as}
 use Rattle.bl_index_write.proofs.Underway.{underway_looked}
 use Rattle.bl_index_write.proofs.posting.looked_up.Goals as goal
 

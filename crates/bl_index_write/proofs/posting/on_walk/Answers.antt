@@ -1,4 +1,4 @@
-use Rattle.bl_proc_writes.specs.declared.posting.PostStage.TheVariants as post
+use Rattle.bl_proc_writes.specs.declared.post.PostStage.TheVariants as post
 use Rattle.bl_index_write.proofs.Underway.{post_is}
 use Rattle.bl_index_write.proofs.posting.on_walk.Goals as goal
 

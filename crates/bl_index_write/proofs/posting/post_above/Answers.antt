@@ -1,18 +1,18 @@
 use Rattle.std.proofs.Common.{ℕ, Some, refl, sym, subst, ◌∙◌}
-use Rattle.bl_proc_writes.specs.declared.posting.PostStage.TheVariants as post
+use Rattle.bl_proc_writes.specs.declared.post.PostStage.TheVariants as post
 use Rattle.bl_proc.specs.declared.kinds.Proc.TheVariants as proc
 use Rattle.bl_store.specs.Hands.{known}
 use Rattle.bl_store.specs.declared.store.Hand.{Hand}
 use Rattle.bl_index_rule.specs.declared.known.PassState.{PassState}
-use Rattle.bl_index_steps.specs.Runs.{IsSince}
+use Rattle.bl_index_events.specs.Runs.{IsSince}
 use Rattle.bl_index_write.specs.Events.{posting}
-use Rattle.bl_index_steps.specs.Rooms.{LacksPost}
+use Rattle.bl_index_events.specs.Rooms.{LacksPost}
 use Rattle.bl_index_write.proofs.PostEnds.{post_has_answer, post_named}
-use Rattle.bl_index_steps.proofs.Standing.{done_from}
-use Rattle.bl_proc_base.specs.declared.answers.Answer.TheVariants as answer
-use Rattle.bl_proc_base.specs.declared.answers.Posted.{Posted}
-use Rattle.bl_proc_unique.specs.Refusals.{IsNoRoom}
-use Rattle.bl_index_steps.proofs.Rooms.{lacks_asked}
+use Rattle.bl_index_events.proofs.Standing.{done_from}
+use Rattle.bl_proc_steps.specs.declared.answers.Answer.TheVariants as answer
+use Rattle.bl_proc_steps.specs.declared.answers.Posted.{Posted}
+use Rattle.bl_proc_deterministic.specs.Refusals.{IsNoRoom}
+use Rattle.bl_index_events.proofs.Rooms.{lacks_asked}
 use Rattle.bl_index_write.proofs.posting.post_above.Goals as goal
 
 pub posted-requires : goal.posted-requires

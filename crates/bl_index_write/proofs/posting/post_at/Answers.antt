@@ -1,5 +1,5 @@
 use Rattle.std.proofs.Common.{Some, ◌∙◌}
-use Rattle.bl_proc_base.specs.declared.approaching.Approach.TheVariants as approach
+use Rattle.bl_proc_steps.specs.declared.approach.Approach.TheVariants as approach
 use Rattle.bl_store.specs.Hands.{known}
 use Rattle.bl_index_ways.proofs.Walked.{leaves_again, leaves_opened}
 use Rattle.bl_index_write.proofs.PostEnds.{over_since}

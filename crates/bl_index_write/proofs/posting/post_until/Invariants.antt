@@ -1,7 +1,7 @@
-use Rattle.bl_proc_base.specs.declared.approaching.Approach.TheVariants as approach
-use Rattle.bl_proc_writes.specs.declared.posting.PostStage.TheVariants as post
+use Rattle.bl_proc_steps.specs.declared.approach.Approach.TheVariants as approach
+use Rattle.bl_proc_writes.specs.declared.post.PostStage.TheVariants as post
 use Rattle.bl_store.specs.Hands.{known, IsSameHand, HasNoStock}
-use Rattle.bl_index_steps.specs.Runs.{Runs, IsSameProcess}
+use Rattle.bl_index_events.specs.Runs.{Runs, IsSameProcess}
 use Rattle.bl_index_write.specs.Events.{posting}
 use Rattle.bl_index_write.proofs.posting.post_until.Given as goal
 

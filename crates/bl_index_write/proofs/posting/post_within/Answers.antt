@@ -2,7 +2,7 @@ use Rattle.std.proofs.Common.{rules, ◌∙◌, subst, sym}
 use Rattle.bl_store.specs.Hands.{known}
 use Rattle.bl_store.specs.declared.store.Hand.{Hand}
 use Rattle.bl_index_rule.specs.declared.known.PassState.{PassState}
-use Rattle.bl_index_steps.specs.Runs.{IsSince}
+use Rattle.bl_index_events.specs.Runs.{IsSince}
 use Rattle.bl_index_write.proofs.Underway.{ended_within, lacks_within, underway_on_way, underway_within}
 use Rattle.bl_index_write.proofs.posting.post_within.Goals as goal
 

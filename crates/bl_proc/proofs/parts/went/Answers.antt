@@ -1,4 +1,4 @@
-use Rattle.bl_proc_base.proofs.Descents.{here_leads}
+use Rattle.bl_proc_steps.proofs.Descents.{here_leads}
 use Rattle.bl_proc.proofs.parts.went.Goals as goal
 
 pub part_of-requires : goal.part_of-requires

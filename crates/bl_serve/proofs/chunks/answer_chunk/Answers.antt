@@ -3,7 +3,7 @@ use Rattle.std.specs.Prelude.{All, Option}
 use Rattle.bl_serve_lines.specs.declared.request.Request.{Request}
 use Rattle.bl_index.specs.Calls.{first_of}
 use Rattle.bl_serve_worker.specs.declared.chunk.Slot.{Slot}
-use Rattle.bl_serve.specs.Chunks.{Collects, TakeTurns}
+use Rattle.bl_serve.specs.Chunks.{Collects, WorkOn}
 use Rattle.bl_serve.specs.Joining.{Chains, IsWithin, joined_text}
 use Rattle.bl_serve.proofs.Holding.{own_together}
 use Rattle.bl_serve.proofs.Shares.{chunk, collected_within, turns_long, lent}
@@ -12,7 +12,7 @@ use Rattle.bl_serve.proofs.chunks.answer_chunk.Goals as goal
 
 pub join_outputs-requires-clause-within : goal.join_outputs-requires-clause-within
 join_outputs-requires-clause-within g c =
-    let t = subst (λ (z : List (Option Request)). TakeTurns (suc c.args.session.totals.requests) z c.args.session.handles.items c.work_abreast.new.handles.items c.work_abreast.new.slots) c.as_slice.ensures c.in_ok-work_abreast.ensures.turns in
+    let t = subst (λ (z : List (Option Request)). WorkOn (suc c.args.session.totals.requests) z c.args.session.handles.items c.work_abreast.new.handles.items c.work_abreast.new.slots) c.as_slice.ensures c.in_ok-work_abreast.ensures.turns in
     let long = (turns_long _ _ _ _ _ t).1 in
     let slots = c.args.session.paired in
     let a = c.args.session.handles.ok in
@@ -23,7 +23,7 @@ join_outputs-requires-clause-within g c =
 
 pub returns-clause-chunk : goal.returns-clause-chunk
 returns-clause-chunk g c =
-    let t = subst (λ (z : List (Option Request)). TakeTurns (suc c.args.session.totals.requests) z c.args.session.handles.items c.work_abreast.new.handles.items c.work_abreast.new.slots) c.as_slice.ensures c.in_ok-work_abreast.ensures.turns in
+    let t = subst (λ (z : List (Option Request)). WorkOn (suc c.args.session.totals.requests) z c.args.session.handles.items c.work_abreast.new.handles.items c.work_abreast.new.slots) c.as_slice.ensures c.in_ok-work_abreast.ensures.turns in
     let long = (turns_long _ _ _ _ _ t).1 in
     let slots = c.args.session.paired in
     let a = c.args.session.handles.ok in

@@ -8,8 +8,8 @@ loop-number-init g c = turns_none (suc c.args.chunk.now.before) c.args.chunk.now
 
 pub loop-number-preserved : goal.loop-number-preserved
 loop-number-preserved g c = let t = c.loop-number.invariant in let e = t.long in let f = t.many in let same = c.requires in
-    turns_more (suc c.args.chunk.now.before) c.args.chunk.now.lines.now c.args.handles.now c.loop-number.handles c.args.slots.now c.loop-number.slots c.loop-number.number (slice_index_or c.loop-number.handles c.loop-number.number c.index-handles-number.result) c.take_turn.new.handle c.index-handles-number.result c.take_turn.new.slot
-    t (omega arith) (omega (arith, e, f, same)) refl c.take_turn.ensures
+    turns_more (suc c.args.chunk.now.before) c.args.chunk.now.lines.now c.args.handles.now c.loop-number.handles c.args.slots.now c.loop-number.slots c.loop-number.number (slice_index_or c.loop-number.handles c.loop-number.number c.index-handles-number.result) c.work_on.new.handle c.index-handles-number.result c.work_on.new.slot
+    t (omega arith) (omega (arith, e, f, same)) refl c.work_on.ensures
 
 pub returns : goal.returns
 returns g c = turns_all (suc c.args.chunk.now.before) c.args.chunk.now.lines.now c.args.handles.now c.loop-number.handles c.args.slots.now c.loop-number.slots c.loop-number.number c.requires (omega arith) c.loop-number.invariant

@@ -8,7 +8,7 @@ use Rattle.bl_serve_lines.specs.declared.serving.Totals.{Totals}
 use Rattle.bl_serve_lines.proofs.Known.{consumes_more}
 use Rattle.bl_index.specs.declared.index.Pass.{Pass}
 use Rattle.bl_map.specs.Handles.{seats_of}
-use Rattle.bl_serve.specs.declared.reading.SectionEnd.TheVariants as section_end
+use Rattle.bl_serve.specs.declared.section_reader.SectionEnd.TheVariants as section_end
 use Rattle.bl_serve.specs.Reading.{EndsReading}
 use Rattle.bl_serve.specs.Serving.{FailsSection, ServesSection}
 use Rattle.bl_serve.proofs.Holding.{together_by_first}

@@ -5,7 +5,7 @@ use Rattle.bl_serve_lines.specs.declared.serving.ServeFault.TheVariants.{Memory}
 use Rattle.bl_serve_lines.proofs.Known.{consumes_start, consumes_next, consumes_rest, appends_start, appends_more, appends_text}
 use Rattle.bl_index.specs.Calls.{first_of}
 use Rattle.bl_map.specs.Handles.{seats_of}
-use Rattle.bl_serve.specs.declared.reading.SectionEnd.TheVariants as section_end
+use Rattle.bl_serve.specs.declared.section_reader.SectionEnd.TheVariants as section_end
 use Rattle.bl_serve.specs.Serving.{seen_by}
 use Rattle.bl_serve.proofs.Advance.{no_progress, stops_inside}
 use Rattle.bl_serve.proofs.Holding.{together_by_first}

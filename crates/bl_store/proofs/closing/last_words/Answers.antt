@@ -1,9 +1,9 @@
 use Rattle.std.proofs.Common.{arith, ℕ, ◌≡◌, ◌%◌, List, ap, sym, ◌∙◌, inl, inr, ⊎_elim, get_or, length-set, refl}
 use Rattle.std.specs.Slots.{slots_items}
-use Rattle.bl_frames.specs.Frames.{page_at, owner_at}
+use Rattle.bl_store_rule.specs.Frames.{page_at, owner_at}
 use Rattle.bl_store.specs.Closing.{IsGone}
 use Rattle.bl_store.proofs.Ending.{word_on}
-use Rattle.bl_frames.proofs.Lists.{index_of}
+use Rattle.bl_store_rule.proofs.Lists.{index_of}
 use Rattle.bl_store.proofs.closing.last_words.Goals as goal
 use Rattle.bl_store.proofs.closing.last_words.Goals.{then-owner-eq0-via-then-owner-eq0, then-owner-eq0-via-else-owner-eq0+then-owner-eq3, then-owner-eq0-via-else-owner-eq0+else-owner-eq3+then-found-eq0}
 

@@ -1,7 +1,7 @@
 use Rattle.std.proofs.Common.{arith, ℕ, ◌+◌, ◌<◌, List, [], length, get_or, sym, subst, ◌∙◌}
 use Rattle.bl_store.specs.Opening.{Laid}
 use Rattle.bl_store.proofs.Dealing.{laid_none, laid_blank}
-use Rattle.bl_frames.proofs.Lists.{index_there}
+use Rattle.bl_store_rule.proofs.Lists.{index_there}
 use Rattle.bl_store.proofs.opening.lay.Goals as goal
 use Rattle.bl_store.proofs.opening.lay.Goals.{then-not-is_all_zeros, else-not-is_all_zeros}
 

@@ -1,6 +1,6 @@
 use Rattle.std.proofs.Common.{rules, arith, ◌≡◌, ℕ, ◌<◌, List, [], length, get_or, subst}
 use Rattle.bl_store.proofs.Dealing.{Drafting, drafting, drafts_on, laid_open}
-use Rattle.bl_frames.proofs.Lists.{index_there}
+use Rattle.bl_store_rule.proofs.Lists.{index_there}
 use Rattle.bl_store.proofs.opening.lay_page.Goals as goal
 
 pub loop-place-init : goal.loop-place-init

@@ -16,7 +16,7 @@ use Rattle.std.specs.Prelude.{Option, None}
 use Rattle.std.proofs.raw_atomic.Walks.{proved_at, leaves}
 use Rattle.bl_ffi.proofs.SeatSteps.{word, held_in}
 use Rattle.bl_ffi.specs.contracts.seat.SeatOfC.empty as f
-use Rattle.bl_seats.specs.declared.seat.Seat.{Seat}
+use Rattle.bl_ffi_seats.specs.declared.seat.Seat.{Seat}
 use Rattle.bl_ffi.proofs.seat.SeatOfC.empty.Statement.{statement}
 use Rattle.bl_ffi.proofs.seat.SeatOfC.empty.Code as code
 

@@ -48,9 +48,9 @@ use Rattle.std.proofs.impls.GlobalAllocator.TheImpl.Met.{passed}
 use Rattle.std.specs.contracts.boxed.Box.from_raw as callee
 use Rattle.std.proofs.boxed.Box.from_raw.Met.{met}
 use Rattle.bl_ffi.proofs.SeatSteps.{word, held_out, either}
-use Rattle.bl_seats.specs.contracts.seat.Seat as seat
-use Rattle.bl_seats.proofs.seat.Seat.TheLaws as seat_laws
-use Rattle.bl_seats.specs.declared.seat.Seat.{Seat}
+use Rattle.bl_ffi_seats.specs.contracts.seat.Seat as seat
+use Rattle.bl_ffi_seats.proofs.seat.Seat.TheLaws as seat_laws
+use Rattle.bl_ffi_seats.specs.declared.seat.Seat.{Seat}
 use Rattle.bl_ffi.specs.contracts.seat.SeatOfC.into_box as f
 use Rattle.bl_ffi.proofs.seat.SeatOfC.into_box.Statement.{statement}
 use Rattle.bl_ffi.proofs.seat.SeatOfC.into_box.Code as code

@@ -24,8 +24,8 @@ use Rattle.std.specs.contracts.impls.GlobalAllocator.TheImpl.{ghosts}
 use Rattle.bl_ffi.proofs.SeatSteps.{word, held_in}
 use Rattle.bl_ffi.proofs.LooseSteps.{both, loose_good, loose_out}
 use Rattle.bl_ffi.specs.contracts.loose.Loose as loose
-use Rattle.bl_seats.specs.contracts.seat.Seat as seat
-use Rattle.bl_seats.specs.declared.seat.Seat.{Seat}
+use Rattle.bl_ffi_seats.specs.contracts.seat.Seat as seat
+use Rattle.bl_ffi_seats.specs.declared.seat.Seat.{Seat}
 use Rattle.bl_ffi.specs.contracts.seat.SeatOfC.of as f
 use Rattle.bl_ffi.proofs.seat.SeatOfC.of.Statement.{statement}
 use Rattle.bl_ffi.proofs.seat.SeatOfC.of.Code as code

@@ -1,5 +1,5 @@
 use Rattle.std.proofs.Common.{rules, ◌≡◌, true, List, ap, subst, arith}
-use Rattle.bl_index_steps.specs.declared.tree.Tree.{Tree}
+use Rattle.bl_index_events.specs.declared.tree.Tree.{Tree}
 use Rattle.bl_index.specs.Closed.{HasPass}
 use Rattle.bl_index.specs.declared.index.Pass.{Pass}
 use Rattle.bl_index.proofs.AtRest.{each_hand, idle_hands, closes}

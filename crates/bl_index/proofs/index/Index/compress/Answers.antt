@@ -1,7 +1,7 @@
 use Rattle.std.proofs.Common.{Some, ◌∙◌}
 use Rattle.bl_index.proofs.Taken.{same_pass, of_inside}
-use Rattle.bl_index_steps.proofs.Ends.{done_first}
-use Rattle.bl_index.proofs.Pressed.{compress_answered}
+use Rattle.bl_index_events.proofs.Ends.{done_first}
+use Rattle.bl_index.proofs.CompressEnds.{compress_answered}
 use Rattle.bl_index.proofs.index.Index.compress.Goals as goal
 
 pub returns-clause-compresses : goal.returns-clause-compresses

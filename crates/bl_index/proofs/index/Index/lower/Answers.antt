@@ -1,11 +1,11 @@
 use Rattle.std.proofs.Common.{◌∙◌, sym, subst}
-use Rattle.bl_proc_base.specs.declared.answers.Answer.TheVariants as answer
-use Rattle.bl_proc_base.specs.declared.lowering.Lowered.{Lowered}
-use Rattle.bl_proc_unique.specs.Refusals.{IsNoRoom, LowerRefused}
+use Rattle.bl_proc_steps.specs.declared.answers.Answer.TheVariants as answer
+use Rattle.bl_proc_steps.specs.declared.lowering.Lowered.{Lowered}
+use Rattle.bl_proc_deterministic.specs.Refusals.{IsNoRoom, LowerRefused}
 use Rattle.bl_index.proofs.Taken.{same_pass, of_inside}
-use Rattle.bl_index_steps.proofs.Ends.{done_first}
+use Rattle.bl_index_events.proofs.Ends.{done_first}
 use Rattle.bl_index.proofs.Lowerings.{lower_has_answer, lower_answered}
-use Rattle.bl_index_steps.proofs.Rooms.{lacks_two}
+use Rattle.bl_index_events.proofs.Rooms.{lacks_two}
 use Rattle.bl_index.proofs.index.Index.lower.Goals as goal
 
 pub lowered-requires : goal.lowered-requires

@@ -1,7 +1,7 @@
 use Rattle.std.proofs.Common.{◌≡◌, ◌∙◌, ℕ, List, length, map, sym, ap, subst, arith}
 use Rattle.bl_image.specs.Images.{page_words, image_bytes}
 use Rattle.bl_image.specs.declared.image.Image.{Image}
-use Rattle.bl_check_tree.proofs.Beginnings.{AllFit}
+use Rattle.bl_check_laws.proofs.Beginnings.{AllFit}
 use Rattle.bl_store.specs.Opening.{first_pages, padded}
 use Rattle.bl_index_rule.specs.Simulation.{beginner, Simulates}
 use Rattle.bl_index_rule.proofs.Reopened.{beginner_seen, reopens, map_length}

@@ -1,10 +1,10 @@
 use Rattle.std.proofs.Common.{ℕ, Some, subst, ◌∙◌}
-use Rattle.bl_proc_base.specs.Hints.{level_of, key_of}
+use Rattle.bl_proc_steps.specs.Hints.{level_of, key_of}
 use Rattle.bl_store.specs.Hands.{known, WasRefused}
-use Rattle.bl_index_steps.specs.Refused.{LacksForPost}
-use Rattle.bl_index_steps.specs.Held.{own_marks}
+use Rattle.bl_index_events.specs.Refused.{LacksForPost}
+use Rattle.bl_index_events.specs.Held.{own_marks}
 use Rattle.bl_index.proofs.Taken.{same_pass, of_inside}
-use Rattle.bl_index_steps.proofs.Ends.{done_first}
+use Rattle.bl_index_events.proofs.Ends.{done_first}
 use Rattle.bl_index.proofs.Posts.{post_answered, post_in_call}
 use Rattle.bl_index.proofs.index.Index.post.Goals as goal
 

@@ -1,12 +1,12 @@
 use Rattle.std.proofs.Common.{Some, refl, ap, subst}
 use Rattle.bl_model.specs.Replies.{reply_of}
 use Rattle.bl_model.specs.Writes.{write_op}
-use Rattle.bl_proc_base.specs.declared.answers.Answer.TheVariants.{Op}
+use Rattle.bl_proc_steps.specs.declared.answers.Answer.TheVariants.{Op}
 use Rattle.bl_store.specs.Hands.{known}
 use Rattle.bl_index_write.specs.Events.{HasWritten}
 use Rattle.bl_index.specs.Calls.{number_of}
 use Rattle.bl_index.proofs.Taken.{same_pass, of_inside}
-use Rattle.bl_index_steps.proofs.Ends.{op_answered, op_beside, done_first}
+use Rattle.bl_index_events.proofs.Ends.{op_answered, op_beside, done_first}
 use Rattle.bl_index.proofs.Alone.{steps_alone}
 use Rattle.bl_index.proofs.Changes.{change_unhinted, write_lacks}
 use Rattle.bl_index.specs.contracts.index.Pass as view

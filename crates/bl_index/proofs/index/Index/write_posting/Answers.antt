@@ -3,8 +3,8 @@ use Rattle.bl_model.specs.Writes.{write_op}
 use Rattle.bl_proc_writes.specs.Placings.{write_of}
 use Rattle.bl_model.specs.Replies.{reply_of}
 use Rattle.bl_store.specs.Hands.{known, WasRefused}
-use Rattle.bl_index_steps.specs.Refused.{LacksForWrite, LacksForPost}
-use Rattle.bl_index_steps.proofs.Ends.{done_first}
+use Rattle.bl_index_events.specs.Refused.{LacksForWrite, LacksForPost}
+use Rattle.bl_index_events.proofs.Ends.{done_first}
 use Rattle.bl_index_write.specs.Climbing.{HasClimbed}
 use Rattle.bl_index.specs.Calls.{number_of}
 use Rattle.bl_index.proofs.Taken.{same_pass, of_inside}

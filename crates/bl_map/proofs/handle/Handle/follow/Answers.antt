@@ -1,4 +1,4 @@
-use Rattle.bl_map.proofs.Following.{hint_adds}
+use Rattle.bl_map_calls.proofs.Following.{hint_adds}
 use Rattle.bl_map.proofs.handle.Handle.follow.Goals as goal
 
 pub returns-clause-kept : goal.returns-clause-kept

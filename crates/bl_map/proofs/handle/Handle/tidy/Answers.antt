@@ -1,4 +1,4 @@
-use Rattle.bl_map.proofs.Following.{tidies_adds}
+use Rattle.bl_map_calls.proofs.Following.{tidies_adds}
 use Rattle.bl_map.proofs.handle.Handle.tidy.Goals as goal
 
 pub returns-clause-kept : goal.returns-clause-kept

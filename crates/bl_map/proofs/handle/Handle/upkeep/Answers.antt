@@ -1,4 +1,4 @@
-use Rattle.bl_map.proofs.Following.{again_adds}
+use Rattle.bl_map_calls.proofs.Following.{again_adds}
 use Rattle.bl_map.proofs.handle.Handle.upkeep.Goals as goal
 
 pub returns-clause-kept : goal.returns-clause-kept

@@ -1,4 +1,4 @@
-use Rattle.bl_map.proofs.Following.{changes_works}
+use Rattle.bl_map_calls.proofs.Following.{changes_works}
 use Rattle.bl_map.proofs.handle.Handle.write.Goals as goal
 
 pub returns-clause-called : goal.returns-clause-called

@@ -1,5 +1,5 @@
 use Rattle.std.proofs.Common.{ap, ◌∙◌}
-use Rattle.bl_proc_base.proofs.Descents.{here_leads}
+use Rattle.bl_proc_steps.proofs.Descents.{here_leads}
 use Rattle.bl_proc.proofs.searching.FindReader.took_words.Goals as goal
 
 pub row_in-requires-clause-page : goal.row_in-requires-clause-page

@@ -2,8 +2,8 @@ use Rattle.std.proofs.Common.{rules, arith, ◌≡◌, ℕ, ◌+◌, ◌-◌, []
 use Rattle.atomic_table.specs.Table.{Me, Splits}
 use Rattle.atomic_table.specs.declared.shared.Seat.{Seat}
 use Rattle.bl_layout.specs.declared.layout.Layout.{Layout}
-use Rattle.bl_frames.specs.Frames.{Kept, share, own_share, next_share}
-use Rattle.bl_frames.specs.declared.view.View.{View}
+use Rattle.bl_store_rule.specs.Frames.{Kept, share, own_share, next_share}
+use Rattle.bl_store_rule.specs.declared.view.View.{View}
 use Rattle.bl_store.proofs.Dealing.{deals, dealt_on}
 use Rattle.bl_store.proofs.opening.Store+D+R+Global.deal.Goals as goal
 

@@ -1,5 +1,5 @@
 use Rattle.std.proofs.Common.{◌≡◌, ◌-◌, []}
-use Rattle.bl_frames.specs.Frames.{share}
+use Rattle.bl_store_rule.specs.Frames.{share}
 use Rattle.bl_store.specs.Opening.{IsDealt}
 use Rattle.bl_store.proofs.opening.Store+D+R+Global.deal.Given as goal
 

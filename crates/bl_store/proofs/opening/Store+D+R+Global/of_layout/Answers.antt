@@ -2,7 +2,7 @@ use Rattle.std.proofs.Common.{arith, ◌≡◌, ℕ, List, [], ◌∷◌, ◌++�
 use Rattle.std.proofs.lemmas.List.{take-append-le, replicate_more}
 use Rattle.atomic_table.specs.Table.{opening}
 use Rattle.bl_layout.specs.Cells.{cell_count}
-use Rattle.bl_frames.specs.Frames.{Kept, starting}
+use Rattle.bl_store_rule.specs.Frames.{Kept, starting}
 use Rattle.bl_store.specs.Opening.{padded}
 use Rattle.bl_store.proofs.Dealing.{opens_with, laid_padded, padded_long}
 use Rattle.bl_store.proofs.opening.Store+D+R+Global.of_layout.Goals as goal

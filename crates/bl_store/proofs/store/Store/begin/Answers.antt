@@ -1,7 +1,7 @@
 use Rattle.std.proofs.Common.{rules, arith, ap, sym, ◌∙◌, ◌≡◌, ◌<◌, ℕ, subst, refl}
 use Rattle.bl_layout.specs.declared.layout.Layout.{Layout}
-use Rattle.bl_frames.specs.Pages.{Begins}
-use Rattle.bl_frames.proofs.Time.{reads_clock, stamps}
+use Rattle.bl_store_rule.specs.Pages.{Begins}
+use Rattle.bl_store_rule.proofs.Time.{reads_clock, stamps}
 use Rattle.bl_store.proofs.Living.{live_hand, live_on}
 use Rattle.bl_store.proofs.store.Store.begin.Goals as goal
 

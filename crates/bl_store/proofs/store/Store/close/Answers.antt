@@ -6,13 +6,13 @@ use Rattle.atomic_table.specs.Table.{Me, Final, Seen}
 use Rattle.atomic_table.proofs.Lists.{at_last}
 use Rattle.bl_layout.specs.declared.layout.Layout.{Layout}
 use Rattle.bl_layout.specs.Words.{frame_count}
-use Rattle.bl_frames.specs.Frames.{IsLive, Kept, page_at, joined, taking_in}
+use Rattle.bl_store_rule.specs.Frames.{IsLive, Kept, page_at, joined, taking_in}
 use Rattle.bl_store.specs.Hands.{known}
 use Rattle.bl_store.specs.declared.store.Hand.{Hand}
-use Rattle.bl_frames.specs.declared.view.View.{View}
+use Rattle.bl_store_rule.specs.declared.view.View.{View}
 use Rattle.bl_store.proofs.Ending.{IsWith, left_on, with_more, still_there, last_taken, framed, closes}
-use Rattle.bl_frames.proofs.Joining.{takes_in}
-use Rattle.bl_frames.proofs.Lists.{at_below}
+use Rattle.bl_store_rule.proofs.Joining.{takes_in}
+use Rattle.bl_store_rule.proofs.Lists.{at_below}
 use Rattle.bl_store.proofs.Living.{live_hand}
 use Rattle.bl_store.proofs.store.Store.close.Goals as goal
 

@@ -4,11 +4,11 @@ use lib.ListN.{get_elem?}
 use Rattle.std.specs.Slots.{slots_items, slots_len, IsFull}
 use Rattle.bl_layout.specs.Words.{frame_count}
 use Rattle.bl_layout.specs.Cells.{cell_count}
-use Rattle.bl_frames.specs.Frames.{IsLive, page_at}
+use Rattle.bl_store_rule.specs.Frames.{IsLive, page_at}
 use Rattle.bl_store.specs.Hands.{known}
 use Rattle.bl_store.specs.declared.store.Hand.{Hand}
-use Rattle.bl_frames.specs.declared.view.Stamp.TheVariants.{Out}
-use Rattle.bl_frames.specs.declared.view.Sealing.TheVariants.{Unsealed}
+use Rattle.bl_store_rule.specs.declared.view.Stamp.TheVariants.{Out}
+use Rattle.bl_store_rule.specs.declared.view.Sealing.TheVariants.{Unsealed}
 use Rattle.bl_store.proofs.Ending.{IsWith, IsLeft}
 use Rattle.bl_store.proofs.store.Store.close.Given as goal
 

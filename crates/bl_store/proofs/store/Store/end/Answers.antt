@@ -1,7 +1,7 @@
 use Rattle.std.proofs.Common.{rules, arith, ap, sym, ◌<◌, ℕ, subst}
 use Rattle.bl_layout.specs.declared.layout.Layout.{Layout}
-use Rattle.bl_frames.specs.Pages.{Ends}
-use Rattle.bl_frames.proofs.Time.{finishes}
+use Rattle.bl_store_rule.specs.Pages.{Ends}
+use Rattle.bl_store_rule.proofs.Time.{finishes}
 use Rattle.bl_store.proofs.Living.{live_hand}
 use Rattle.bl_store.proofs.store.Store.end.Goals as goal
 

@@ -1,5 +1,5 @@
 use Rattle.std.proofs.Common.{◌≡◌, ℕ, ◌<◌, List, length, get_or}
-use Rattle.bl_frames.specs.declared.view.Reading.TheVariants.{At}
+use Rattle.bl_store_rule.specs.declared.view.Reading.TheVariants.{At}
 use Rattle.bl_store.proofs.store.Store.gather.Given as goal
 
 abbrev pub invariant-loop-i : goal.invariant-loop-i

@@ -2,10 +2,10 @@ use Rattle.std.proofs.Common.{rules, arith, ◌≡◌, ℕ, ◌-◌, List, ◌�
 use Rattle.atomic_table.specs.Table.{Me}
 use Rattle.bl_layout.specs.declared.layout.Layout.{Layout}
 use Rattle.bl_layout.specs.Words.{frame_count}
-use Rattle.bl_frames.specs.Pages.{Gets}
-use Rattle.bl_frames.specs.declared.view.View.{View}
-use Rattle.bl_frames.specs.declared.view.Reading.TheVariants.{At}
-use Rattle.bl_frames.proofs.Time.{looks}
+use Rattle.bl_store_rule.specs.Pages.{Gets}
+use Rattle.bl_store_rule.specs.declared.view.View.{View}
+use Rattle.bl_store_rule.specs.declared.view.Reading.TheVariants.{At}
+use Rattle.bl_store_rule.proofs.Time.{looks}
 use Rattle.bl_store.proofs.Living.{live_hand}
 use Rattle.bl_store.proofs.store.Store.get_into.Goals as goal
 

@@ -1,6 +1,6 @@
 use Rattle.std.proofs.Common.{rules, arith, ℕ, ◌-◌, List, [], sym, ap, ◌∙◌, get_or}
 use Rattle.bl_layout.specs.declared.layout.Layout.{Layout}
-use Rattle.bl_frames.proofs.Reserving.{returns}
+use Rattle.bl_store_rule.proofs.Reserving.{returns}
 use Rattle.bl_store.proofs.StockLemmas.{drafts_pop}
 use Rattle.bl_store.proofs.Living.{live_hand}
 use Rattle.bl_store.proofs.store.Store.give_back.Goals as goal

@@ -1,12 +1,12 @@
 use Rattle.std.proofs.Common.{rules, arith, ◌≡◌, ℕ, sym, ap, ◌∙◌, subst}
 use Rattle.atomic_table.specs.Table.{Me}
 use Rattle.bl_layout.specs.declared.layout.Layout.{Layout}
-use Rattle.bl_frames.specs.Pages.{Meets}
-use Rattle.bl_frames.specs.Frames.{joined, taking_in}
+use Rattle.bl_store_rule.specs.Pages.{Meets}
+use Rattle.bl_store_rule.specs.Frames.{joined, taking_in}
 use Rattle.atomic_table.specs.declared.shared.Seat.{Seat}
-use Rattle.bl_frames.specs.declared.view.View.{View}
-use Rattle.bl_frames.specs.declared.view.Joined.{Joined}
-use Rattle.bl_frames.proofs.Joining.{blanks, takes_in, meets, gives_back}
+use Rattle.bl_store_rule.specs.declared.view.View.{View}
+use Rattle.bl_store_rule.specs.declared.view.Joined.{Joined}
+use Rattle.bl_store_rule.proofs.Joining.{blanks, takes_in, meets, gives_back}
 use Rattle.bl_store.proofs.Living.{live_on}
 use Rattle.bl_store.proofs.store.Store.meet.Goals as goal
 

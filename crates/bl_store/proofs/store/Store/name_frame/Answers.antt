@@ -2,8 +2,8 @@ use Rattle.std.proofs.Common.{rules, arith, ℕ, ◌-◌, sym, subst, ap, ◌∙
 use Rattle.bl_layout.specs.declared.layout.Layout.{Layout}
 use Rattle.bl_layout.specs.Words.{frame_count}
 use Rattle.bl_store.specs.Drafts.{draft_words, other_drafts}
-use Rattle.bl_frames.specs.Pages.{Held, Puts}
-use Rattle.bl_frames.proofs.Putting.{swaps}
+use Rattle.bl_store_rule.specs.Pages.{Held, Puts}
+use Rattle.bl_store_rule.proofs.Putting.{swaps}
 use Rattle.bl_store.proofs.Living.{live_hand}
 use Rattle.bl_store.proofs.store.Store.name_frame.Goals as goal
 

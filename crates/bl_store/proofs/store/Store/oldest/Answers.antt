@@ -1,7 +1,7 @@
 use Rattle.std.proofs.Common.{rules, arith, ◌≡◌, ℕ, ◌+◌, ap, sym, ◌∙◌}
-use Rattle.bl_frames.specs.Observed.{lower}
-use Rattle.bl_frames.specs.declared.view.Sweep.TheVariants.{Over}
-use Rattle.bl_frames.proofs.Sweeping.{horizons, passes, lower_none, lower_some}
+use Rattle.bl_store_rule.specs.Observed.{lower}
+use Rattle.bl_store_rule.specs.declared.view.Sweep.TheVariants.{Over}
+use Rattle.bl_store_rule.proofs.Sweeping.{horizons, passes, lower_none, lower_some}
 use Rattle.bl_store.proofs.Living.{live_hand}
 use Rattle.bl_store.proofs.store.Store.oldest.Goals as goal
 use Rattle.bl_store.proofs.store.Store.oldest.Goals.{then-stamp-ne0, else-stamp-ne0}

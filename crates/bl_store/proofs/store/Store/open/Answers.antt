@@ -1,7 +1,7 @@
 use Rattle.std.proofs.Common.{rules, arith, ℕ, ap, sym, subst, ◌∙◌}
 use Rattle.bl_layout.specs.declared.layout.Layout.{Layout}
-use Rattle.bl_frames.specs.Pages.{Held, Opens}
-use Rattle.bl_frames.proofs.Owning.{opens}
+use Rattle.bl_store_rule.specs.Pages.{Held, Opens}
+use Rattle.bl_store_rule.proofs.Owning.{opens}
 use Rattle.bl_store.proofs.Living.{live_hand}
 use Rattle.bl_store.proofs.store.Store.open.Goals as goal
 

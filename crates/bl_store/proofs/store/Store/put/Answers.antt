@@ -1,6 +1,6 @@
 use Rattle.std.proofs.Common.{rules, arith, ◌≡◌, ℕ, ◌-◌, List, length, get_or, ap, sym, subst, refl, ◌∙◌}
 use Rattle.bl_store.specs.Drafts.{draft_words, first_words, behind_first}
-use Rattle.bl_frames.specs.Pages.{Held, Puts}
+use Rattle.bl_store_rule.specs.Pages.{Held, Puts}
 use Rattle.bl_store.specs.Hands.{drafts}
 use Rattle.bl_store.proofs.StockLemmas.{drafts_pop}
 use Rattle.bl_store.proofs.Written.{has_draft, stock_after}

@@ -1,7 +1,7 @@
 use Rattle.std.proofs.Common.{rules, arith, ℕ, sym, subst}
 use Rattle.bl_layout.specs.declared.layout.Layout.{Layout}
-use Rattle.bl_frames.specs.Pages.{Refuses}
-use Rattle.bl_frames.proofs.Owning.{refuses}
+use Rattle.bl_store_rule.specs.Pages.{Refuses}
+use Rattle.bl_store_rule.proofs.Owning.{refuses}
 use Rattle.bl_store.proofs.Living.{live_hand}
 use Rattle.bl_store.proofs.store.Store.refuse.Goals as goal
 

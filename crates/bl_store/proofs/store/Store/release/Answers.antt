@@ -1,8 +1,8 @@
 use Rattle.std.proofs.Common.{rules, arith, ℕ, ◌/◌, ap, sym, subst, ◌∙◌, inl, inr, refl}
 use Rattle.bl_layout.specs.declared.layout.Layout.{Layout}
-use Rattle.bl_frames.specs.Pages.{Releases}
-use Rattle.bl_frames.specs.declared.view.Sweep.TheVariants.{Over}
-use Rattle.bl_frames.proofs.Owning.{frees}
+use Rattle.bl_store_rule.specs.Pages.{Releases}
+use Rattle.bl_store_rule.specs.declared.view.Sweep.TheVariants.{Over}
+use Rattle.bl_store_rule.proofs.Owning.{frees}
 use Rattle.bl_store.proofs.Living.{live_hand}
 use Rattle.bl_store.proofs.store.Store.release.Goals as goal
 

@@ -1,7 +1,7 @@
 use Rattle.std.proofs.Common.{rules, arith, ℕ, ◌/◌, ap, sym, ◌∙◌, refl}
 use Rattle.bl_layout.specs.declared.layout.Layout.{Layout}
-use Rattle.bl_frames.specs.declared.view.Sweep.TheVariants.{Over}
-use Rattle.bl_frames.proofs.Reserving.{releases_frame}
+use Rattle.bl_store_rule.specs.declared.view.Sweep.TheVariants.{Over}
+use Rattle.bl_store_rule.proofs.Reserving.{releases_frame}
 use Rattle.bl_store.proofs.Living.{live_hand}
 use Rattle.bl_store.proofs.store.Store.release_frame.Goals as goal
 

@@ -1,7 +1,7 @@
 use Rattle.std.proofs.Common.{rules, arith, ap, sym, ◌∙◌, ◌≡◌, ◌<◌, ℕ, subst, refl}
 use Rattle.bl_layout.specs.declared.layout.Layout.{Layout}
-use Rattle.bl_frames.specs.Pages.{Begins, Ends}
-use Rattle.bl_frames.proofs.Time.{renews, raises}
+use Rattle.bl_store_rule.specs.Pages.{Begins, Ends}
+use Rattle.bl_store_rule.proofs.Time.{renews, raises}
 use Rattle.bl_store.proofs.Living.{live_hand, live_on}
 use Rattle.bl_store.proofs.store.Store.renew.Goals as goal
 

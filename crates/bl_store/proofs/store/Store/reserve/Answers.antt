@@ -1,9 +1,9 @@
 use Rattle.std.proofs.Common.{rules, arith, ◌≡◌, ℕ, ◌<◌, ◌≤◌, ap, sym, subst, ◌∙◌, inl, inr, ⊎_elim, length, slice_index, refl}
 use Rattle.bl_layout.specs.declared.layout.Layout.{Layout}
 use Rattle.bl_layout.specs.Words.{frame_count}
-use Rattle.bl_frames.specs.Pages.{Takes, Refuses}
-use Rattle.bl_frames.specs.Frames.{state_at}
-use Rattle.bl_frames.proofs.Reserving.{allots}
+use Rattle.bl_store_rule.specs.Pages.{Takes, Refuses}
+use Rattle.bl_store_rule.specs.Frames.{state_at}
+use Rattle.bl_store_rule.proofs.Reserving.{allots}
 use Rattle.bl_store.proofs.StockLemmas.{has_same}
 use Rattle.bl_store.proofs.Living.{live_hand}
 use Rattle.bl_store.specs.declared.stock.NoRoom.TheVariants.{Frames}

@@ -1,8 +1,8 @@
 use Rattle.std.proofs.Common.{rules, arith, ℕ, ap, subst}
 use Rattle.bl_layout.specs.declared.layout.Layout.{Layout}
-use Rattle.bl_frames.specs.Pages.{Retires}
+use Rattle.bl_store_rule.specs.Pages.{Retires}
 use Rattle.bl_store.specs.Hands.{known}
-use Rattle.bl_frames.proofs.Ticking.{publishes}
+use Rattle.bl_store_rule.proofs.Ticking.{publishes}
 use Rattle.bl_store.proofs.Living.{live_on}
 use Rattle.bl_store.proofs.store.Store.retire.Goals as goal
 

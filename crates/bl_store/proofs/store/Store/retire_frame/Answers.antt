@@ -1,7 +1,7 @@
 use Rattle.std.proofs.Common.{rules, arith, ◌-◌, ap}
 use Rattle.bl_layout.specs.declared.layout.Layout.{Layout}
-use Rattle.bl_frames.proofs.Reserving.{retires_frame}
-use Rattle.bl_frames.proofs.Ticking.{draws}
+use Rattle.bl_store_rule.proofs.Reserving.{retires_frame}
+use Rattle.bl_store_rule.proofs.Ticking.{draws}
 use Rattle.bl_store.proofs.Living.{live_hand, live_on}
 use Rattle.bl_store.proofs.store.Store.retire_frame.Goals as goal
 

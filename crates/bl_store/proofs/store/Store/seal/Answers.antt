@@ -1,7 +1,7 @@
 use Rattle.std.proofs.Common.{rules, arith, ℕ, ap, sym, subst}
 use Rattle.bl_layout.specs.declared.layout.Layout.{Layout}
-use Rattle.bl_frames.specs.Pages.{Retires}
-use Rattle.bl_frames.proofs.Ticking.{seals}
+use Rattle.bl_store_rule.specs.Pages.{Retires}
+use Rattle.bl_store_rule.proofs.Ticking.{seals}
 use Rattle.bl_store.proofs.store.Store.seal.Goals as goal
 
 pub fetch_add-requires : goal.fetch_add-requires

@@ -1,8 +1,8 @@
 use Rattle.std.proofs.Common.{rules, ◌≡◌, ℕ, sym, ap, refl, subst, ◌∙◌, false, inr, arith}
 use Rattle.std.proofs.lemmas.Bool.{false≢true}
-use Rattle.bl_frames.specs.Pages.{Releases}
+use Rattle.bl_store_rule.specs.Pages.{Releases}
 use Rattle.bl_store.specs.Hands.{known}
-use Rattle.bl_frames.proofs.Sweeping.{counts_on}
+use Rattle.bl_store_rule.proofs.Sweeping.{counts_on}
 use Rattle.bl_store.proofs.store.Store.sweep.Goals as goal
 use Rattle.bl_store.proofs.store.Store.sweep.Goals.{then-state-eq3-2+then-state-oldest+then-release, then-state-eq3-2+then-state-oldest+else-release, else-state-eq3-2}
 

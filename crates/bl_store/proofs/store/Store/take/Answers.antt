@@ -1,5 +1,5 @@
 use Rattle.std.proofs.Common.{◌≡◌, ℕ, sym, subst, ◌∙◌}
-use Rattle.bl_frames.specs.Pages.{Takes}
+use Rattle.bl_store_rule.specs.Pages.{Takes}
 use Rattle.bl_store.proofs.store.Store.take.Goals as goal
 
 pub take_from-requires-2-clause-takes : goal.take_from-requires-2-clause-takes

@@ -1,5 +1,5 @@
 use Rattle.std.proofs.Common.{◌≡◌, ℕ, sym, subst, ◌∙◌}
-use Rattle.bl_frames.specs.Pages.{Takes}
+use Rattle.bl_store_rule.specs.Pages.{Takes}
 use Rattle.bl_store.proofs.store.Store.take_from.Goals as goal
 
 pub try_page-requires-clause-takes : goal.try_page-requires-clause-takes

@@ -1,10 +1,10 @@
 use Rattle.std.proofs.Common.{rules, arith, ◌≡◌, ℕ, ◌+◌, ◌<◌, List, [], ◌∷◌, length, slice_index, set, sym, ap, subst, ◌∙◌, inl, inr, ⊎_elim, refl}
 use Rattle.bl_layout.specs.declared.layout.Layout.{Layout}
 use Rattle.bl_layout.specs.Words.{frame_count}
-use Rattle.bl_frames.specs.Frames.{state_at}
-use Rattle.bl_frames.specs.Observed.{draft}
-use Rattle.bl_frames.specs.declared.view.Draft.{Draft}
-use Rattle.bl_frames.proofs.Reserving.{notes, reserves}
+use Rattle.bl_store_rule.specs.Frames.{state_at}
+use Rattle.bl_store_rule.specs.Observed.{draft}
+use Rattle.bl_store_rule.specs.declared.view.Draft.{Draft}
+use Rattle.bl_store_rule.proofs.Reserving.{notes, reserves}
 use Rattle.bl_store.proofs.StockLemmas.{drafts_push, within_push, has_same, has_more, has_new}
 use Rattle.bl_store.proofs.Living.{live_hand, live_on}
 use Rattle.bl_store.proofs.store.Store.try_frame.Goals as goal

@@ -4,8 +4,8 @@ use mathlib.Core.Logic.{dite}
 use native.Mathlib.Decide.{ℕ_discrete}
 use Rattle.std.proofs.Common.{eq-eqb}
 use Rattle.std.proofs.lemmas.Bool.{eqb-true}
-use Rattle.bl_frames.specs.Pages.{Latches, Misses}
-use Rattle.bl_frames.proofs.Owning.{tries}
+use Rattle.bl_store_rule.specs.Pages.{Latches, Misses}
+use Rattle.bl_store_rule.proofs.Owning.{tries}
 use Rattle.bl_store.proofs.Living.{live_hand}
 use Rattle.bl_store.proofs.store.Store.try_latch.Goals as goal
 

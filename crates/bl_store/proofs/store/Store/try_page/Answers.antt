@@ -1,9 +1,9 @@
 use Rattle.std.proofs.Common.{rules, arith, ◌≡◌, ℕ, sym, ap, subst, ◌∙◌, refl, eq-eqb}
 use Rattle.std.proofs.lemmas.Bool.{eqb-true}
 use Rattle.bl_layout.specs.declared.layout.Layout.{Layout}
-use Rattle.bl_frames.specs.Pages.{Released, Takes}
-use Rattle.bl_frames.proofs.Reserving.{notes}
-use Rattle.bl_frames.proofs.Owning.{takes}
+use Rattle.bl_store_rule.specs.Pages.{Released, Takes}
+use Rattle.bl_store_rule.proofs.Reserving.{notes}
+use Rattle.bl_store_rule.proofs.Owning.{takes}
 use Rattle.bl_store.proofs.StockLemmas.{has_same, has_more, has_new}
 use Rattle.bl_store.proofs.Living.{live_hand, live_on}
 use Rattle.bl_store.proofs.store.Store.try_page.Goals as goal

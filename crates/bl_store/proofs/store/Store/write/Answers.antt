@@ -1,6 +1,6 @@
 use Rattle.std.proofs.Common.{rules, arith, ◌≡◌, ◌∷◌, length, ap, ◌∙◌, ext_get_or}
 use Rattle.bl_store.specs.Drafts.{draft_words, other_drafts, behind_first}
-use Rattle.bl_frames.specs.Observed.{draft}
+use Rattle.bl_store_rule.specs.Observed.{draft}
 use Rattle.bl_store.proofs.store.Store.write.Goals as goal
 
 pub returns-clause-stock : goal.returns-clause-stock

@@ -1,8 +1,8 @@
 use Rattle.std.proofs.Common.{rules, arith, List, get_or, ap, ◌∙◌}
 use Rattle.bl_layout.specs.declared.layout.Layout.{Layout}
 use Rattle.bl_store.specs.Drafts.{draft_words, other_drafts, first_words, behind_first}
-use Rattle.bl_frames.specs.declared.view.Draft.{Draft}
-use Rattle.bl_frames.proofs.Reserving.{confirms}
+use Rattle.bl_store_rule.specs.declared.view.Draft.{Draft}
+use Rattle.bl_store_rule.proofs.Reserving.{confirms}
 use Rattle.bl_store.proofs.Living.{live_hand}
 use Rattle.bl_store.proofs.Written.{has_draft, next_draft, next_others, next_kept, next_there}
 use Rattle.bl_store.proofs.store.Store.write_blank.Goals as goal

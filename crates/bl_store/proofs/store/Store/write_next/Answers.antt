@@ -1,7 +1,7 @@
 use Rattle.std.proofs.Common.{rules, arith, ap}
 use Rattle.bl_layout.specs.declared.layout.Layout.{Layout}
 use Rattle.bl_store.specs.Drafts.{other_drafts}
-use Rattle.bl_frames.proofs.Reserving.{writes}
+use Rattle.bl_store_rule.proofs.Reserving.{writes}
 use Rattle.bl_store.proofs.Living.{live_hand}
 use Rattle.bl_store.proofs.Written.{next_draft, next_others, next_kept, next_there}
 use Rattle.bl_store.proofs.store.Store.write_next.Goals as goal

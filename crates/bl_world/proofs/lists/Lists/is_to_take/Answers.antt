@@ -1,5 +1,5 @@
 use Rattle.std.proofs.Common.{◌∙◌, ◌-◌, arith, refl, sym, inl, inr}
-use Rattle.bl_proc_base.specs.declared.acts.Action.TheVariants as act
+use Rattle.bl_proc_steps.specs.declared.acts.Action.TheVariants as act
 use Rattle.bl_world.specs.Views.{view_of}
 use Rattle.bl_world.proofs.Turned.{goes_on, has_answered, is_taking, next_observed, none_takes, none_there}
 use Rattle.bl_world.proofs.lists.Lists.is_to_take.Goals as goal

@@ -1,5 +1,5 @@
 use Rattle.std.proofs.Common.{arith, sym, ◌∙◌}
-use Rattle.bl_proc_base.specs.declared.acts.Action.TheVariants as act
+use Rattle.bl_proc_steps.specs.declared.acts.Action.TheVariants as act
 use Rattle.bl_world.specs.Views.{view_of}
 use Rattle.bl_world.proofs.Arms.{stands, read_at}
 use Rattle.bl_world.proofs.Near.{latch_within}

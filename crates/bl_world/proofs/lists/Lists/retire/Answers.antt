@@ -1,5 +1,5 @@
 use Rattle.std.proofs.Common.{ℕ, arith, ◌≡◌, length, subst}
-use Rattle.bl_proc_base.specs.declared.acts.Seen.TheVariants as seen
+use Rattle.bl_proc_steps.specs.declared.acts.Seen.TheVariants as seen
 use Rattle.bl_world.specs.declared.turns.Act.TheVariants as shown
 use Rattle.bl_world.specs.declared.owners.Owner.TheVariants as own
 use Rattle.bl_world.specs.Views.{view_of}

@@ -1,5 +1,5 @@
 use Rattle.std.proofs.Common.{refl, inr}
-use Rattle.bl_proc_base.specs.declared.acts.Action.TheVariants as act
+use Rattle.bl_proc_steps.specs.declared.acts.Action.TheVariants as act
 use Rattle.bl_world.specs.Views.{view_of}
 use Rattle.bl_world.proofs.Outcomes.{ok_map}
 use Rattle.bl_world.proofs.Turned.{carried, goes_on, has_answered, may_begin, may_end, waited}

@@ -1,6 +1,6 @@
 use Rattle.std.proofs.Common.{◌∙◌, arith, refl, sym, inl, inr}
 use Rattle.std.proofs.lemmas.Option.{slice_get_within}
-use Rattle.bl_proc_base.specs.declared.acts.Action.TheVariants as act
+use Rattle.bl_proc_steps.specs.declared.acts.Action.TheVariants as act
 use Rattle.bl_world.proofs.Outcomes.{ok_map}
 use Rattle.bl_world.proofs.Turned.{goes_on, has_answered, may_give_page, next_observed}
 use Rattle.bl_world.proofs.lists.Lists.take.Goals as goal

@@ -1,0 +1,337 @@
+//! A load on a map that may be a large one, for `bench/large` and `bench/groups`: so many threads insert so many rows, search for them one by
+//! one and many at a time, list them, and then mix searches, insertions and deletions, of which each call is timed. With GROUP it
+//! only inserts that many rows at a time and looks up as many. It prints for each part how many calls were made, how many
+//! of them were answered as they should be, the microseconds of all together, and last the nanoseconds of the longest call of the mix.
+
+ghost use Rattle.std.specs.Prelude.{◌≡◌};
+
+use crate::handles_of;
+use bl_map::{Handle, KeyReply, Map};
+use std::alloc::Global;
+use std::io::{Eprint, Print};
+use std::sync::Wait;
+use std::sync::atomic::{AtomicU64, Ordering};
+use std::thread;
+use std::thread::Threads;
+use std::time::{Clock, Instant};
+
+/// So many threads at most.
+const MOST_THREADS: usize = 16;
+
+/// So many keys are looked up at a time, where no other number is named.
+const GROUP: usize = 64;
+
+/// So many at most.
+const MOST_KEYS: usize = 1_000;
+
+/// So many rows a scan lists, about.
+const WIDTH: u64 = 100;
+
+/// How large the map is, and what its threads do.
+#[derive(Clone, Copy)]
+struct Load {
+    pages: u32,
+    rows: u64,
+    threads: u32,
+    calls: u64,
+    // Whether the keys rise, or look random.
+    rising: bool,
+    // So many keys are looked up at a time.
+    group: usize,
+    // Whether so many rows are inserted at a time too, and no more is done than that.
+    grouped: bool,
+}
+
+/// The parts of a load, one after another.
+#[derive(Clone, Copy)]
+enum Part {
+    Rows,
+    Finds,
+    Groups,
+    Scans,
+    Mixed,
+}
+
+impl Load {
+    fn read(words: &[String]) -> Option<Load> {
+        let [_, pages, rows, threads, calls, order, group @ ..] = words else {
+            return None;
+        };
+        let group = match group {
+            [] => None,
+            [group] => Some(group.parse::<usize>().ok()?.clamp(1, MOST_KEYS)),
+            _ => return None,
+        };
+        Some(Load {
+            pages: pages.parse::<u32>().ok()?,
+            rows: rows.parse::<u64>().ok()?,
+            threads: threads.parse::<u32>().ok()?,
+            calls: calls.parse::<u64>().ok()?,
+            rising: order.as_str() == "rising",
+            group: group.unwrap_or(GROUP),
+            grouped: group.is_some(),
+        })
+    }
+
+    // The key of a row.
+    fn key(self, row: u64) -> u64 {
+        if self.rising { row } else { scattered(row) }
+    }
+
+    // The number of a thread's row: each takes every so many-th.
+    fn own(self, turn: u64, place: u64) -> u64 {
+        turn.wrapping_mul(u64::from(self.threads))
+            .wrapping_add(place)
+    }
+
+    // How many of so many calls each thread makes.
+    fn share(self, calls: u64) -> u64 {
+        calls.checked_div(u64::from(self.threads)).unwrap_or(0)
+    }
+
+    // The number of one of the rows, or of as many more that were not inserted.
+    fn row(self, drawn: u64, more: u64) -> u64 {
+        (drawn >> 8)
+            .checked_rem(self.rows.saturating_mul(more))
+            .unwrap_or(0)
+    }
+}
+
+/// A number that looks random, another one for each.
+fn scattered(number: u64) -> u64 {
+    let first = number.wrapping_add(1).wrapping_mul(0x9e37_79b9_7f4a_7c15);
+    let second = (first ^ (first >> 30)).wrapping_mul(0xbf58_476d_1ce4_e5b9);
+    let third = (second ^ (second >> 27)).wrapping_mul(0x94d0_49bb_1331_11eb);
+    third ^ (third >> 31)
+}
+
+/// Inserts the rows of a thread one by one. Says how many were new.
+fn fill<R: Wait>(rt: &R, handle: &mut Handle<'_>, place: u64, load: Load) -> u64
+    ensures { handle.new.index ≡ handle.old.index }
+{
+    let mut done = 0u64;
+    for turn in 0..load.share(load.rows) {
+        let row = load.own(turn, place);
+        if handle.insert(rt, load.key(row), row) == KeyReply::Inserted {
+            done = done.wrapping_add(1);
+        }
+    }
+    done
+}
+
+/// Inserts them many at a time. Says how many were new.
+fn fill_groups<R: Wait>(rt: &R, handle: &mut Handle<'_>, place: u64, load: Load) -> u64
+    ensures { handle.new.index ≡ handle.old.index }
+{
+    let mut done = 0u64;
+    let mut rows = [(0u64, 0u64); MOST_KEYS];
+    let mut replies = [KeyReply::Absent; MOST_KEYS];
+    let share = load.share(load.rows);
+    for group in (0..share).step_by(load.group.max(1)) {
+        let count = load.group.min((share - group) as usize).min(MOST_KEYS);
+        for (turn, row) in rows[..count].iter_mut().enumerate() {
+            let number = load.own(group.wrapping_add(turn as u64), place);
+            *row = (load.key(number), number);
+        }
+        handle.insert_many(rt, &rows[..count], &mut replies[..count]);
+        done = done.wrapping_add(inserted_in(&replies[..count]));
+    }
+    done
+}
+
+/// How many replies are those of rows that were new.
+fn inserted_in(replies: &[KeyReply]) -> u64 {
+    replies
+        .iter()
+        .filter(|reply| matches!(reply, KeyReply::Inserted))
+        .count() as u64
+}
+
+/// Searches for rows that were inserted. Says how many were found.
+fn search<R: Wait>(rt: &R, handle: &mut Handle<'_>, place: u64, load: Load) -> u64
+    ensures { handle.new.index ≡ handle.old.index }
+{
+    let mut done = 0u64;
+    let mut seed = scattered(place);
+    for _call in 0..load.share(load.calls) {
+        seed = scattered(seed);
+        if let KeyReply::Found(_) = handle.find(rt, load.key(load.row(seed, 1))) {
+            done = done.wrapping_add(1);
+        }
+    }
+    done
+}
+
+/// Searches for rows that were inserted, many at a time. Says how many were found.
+fn search_groups<R: Wait>(rt: &R, handle: &mut Handle<'_>, place: u64, load: Load) -> u64
+    ensures { handle.new.index ≡ handle.old.index }
+{
+    let mut done = 0u64;
+    let mut seed = scattered(place);
+    let mut keys = [0u64; MOST_KEYS];
+    let mut replies = [KeyReply::Absent; MOST_KEYS];
+    let count = load.group.clamp(1, MOST_KEYS);
+    for _group in 0..load.share(load.calls) / count as u64 {
+        for key in keys[..count].iter_mut() {
+            seed = scattered(seed);
+            *key = load.key(load.row(seed, 1));
+        }
+        handle.find_many(rt, &keys[..count], &mut replies[..count]);
+        done = done.wrapping_add(found_in(&replies[..count]));
+    }
+    done
+}
+
+/// How many replies are those of keys that were found.
+fn found_in(replies: &[KeyReply]) -> u64 {
+    replies
+        .iter()
+        .filter(|reply| matches!(reply, KeyReply::Found(_)))
+        .count() as u64
+}
+
+/// Lists rows from some that were inserted on. Says how many were listed.
+fn scan<R: Wait>(rt: &R, handle: &mut Handle<'_>, place: u64, load: Load) -> u64
+    ensures { handle.new.index ≡ handle.old.index }
+{
+    let mut done = 0u64;
+    let mut seed = scattered(place);
+    let width = if load.rising {
+        WIDTH
+    } else {
+        (u64::MAX / WIDTH.max(1))
+            .checked_div(load.rows / WIDTH + 1)
+            .unwrap_or(0)
+            .saturating_mul(WIDTH)
+    };
+    for _call in 0..load.share(load.calls) / WIDTH {
+        seed = scattered(seed);
+        let from = load.key(load.row(seed, 1));
+        let to = from.saturating_add(width);
+        handle.scan_with(
+            rt,
+            from,
+            Some(to),
+            &mut |_row: (u64, u64)| done = done.wrapping_add(1),
+        );
+    }
+    done
+}
+
+/// One call of a mix: of four, two search, one inserts and one deletes. Half of the rows were inserted before. Says whether there was room.
+fn call<R: Wait>(rt: &R, handle: &mut Handle<'_>, load: Load, drawn: u64) -> bool
+    ensures { handle.new.index ≡ handle.old.index }
+{
+    let row = load.row(drawn, 2);
+    let key = load.key(row);
+    let reply = match drawn % 4 {
+        0 => handle.insert(rt, key, row),
+        1 => handle.delete(rt, key),
+        _ => handle.find(rt, key),
+    };
+    reply != KeyReply::NoRoom
+}
+
+/// Mixes calls. Says how many found room, and how many nanoseconds the longest took, as far as the clock tells.
+fn mixed<R: Wait + Clock>(rt: &R, handle: &mut Handle<'_>, place: u64, load: Load) -> (u64, u64)
+    ensures { handle.new.index ≡ handle.old.index }
+{
+    let mut done = 0u64;
+    let mut longest = 0u64;
+    let mut seed = scattered(place);
+    for _call in 0..load.share(load.calls) {
+        seed = scattered(seed);
+        let start = Instant::now(rt).ok();
+        if call(rt, handle, load, seed) {
+            done = done.wrapping_add(1);
+        }
+        longest = longest.max(nanos_since(rt, start));
+    }
+    (done, longest)
+}
+
+/// The nanoseconds since that time.
+fn nanos_since<R: Clock>(rt: &R, start: Option<Instant>) -> u64 {
+    let Some(start) = start else {
+        return 0;
+    };
+    match start.elapsed(rt) {
+        Ok(passed) => u64::try_from(passed.as_nanos()).unwrap_or(u64::MAX),
+        Err(_) => 0,
+    }
+}
+
+/// Does a part with all handles. Says how many calls were answered as they should be, and how long the longest took, of a mix.
+fn run<R: Threads + Wait + Clock + Sync>(
+    rt: &R,
+    handles: &mut [Handle<'_>],
+    load: Load,
+    part: Part,
+) -> (u64, u64) {
+    let done = AtomicU64::new(0);
+    let longest = AtomicU64::new(0);
+    thread::for_each_mut(
+        rt,
+        handles,
+        MOST_THREADS,
+        &|place, handle| {
+            let place = place as u64;
+            let (mine, most) = match part {
+                Part::Rows if load.grouped => (fill_groups(rt, handle, place, load), 0),
+                Part::Rows => (fill(rt, handle, place, load), 0),
+                Part::Finds => (search(rt, handle, place, load), 0),
+                Part::Groups => (search_groups(rt, handle, place, load), 0),
+                Part::Scans => (scan(rt, handle, place, load), 0),
+                Part::Mixed => mixed(rt, handle, place, load),
+            };
+            done.fetch_add(mine, Ordering::SeqCst);
+            longest.fetch_max(most, Ordering::SeqCst);
+        },
+    );
+    (done.load(Ordering::SeqCst), longest.load(Ordering::SeqCst))
+}
+
+/// Does the load that these words name.
+pub fn run_load<R: Print + Eprint + Threads + Wait + Clock + Sync>(
+    rt: &R,
+    alloc: Global,
+    words: &[String],
+) -> anyhow::Result<()> {
+    let Some(load) = Load::read(words) else {
+        eprintln!(rt; "usage: bench_map PAGES ROWS THREADS CALLS rising|random [GROUP]")?;
+        return Ok(());
+    };
+    let start = Instant::now(rt)?;
+    let Ok((map, seats)) = Map::open(alloc, load.pages, load.threads) else {
+        eprintln!(rt; "the map was not opened")?;
+        return Ok(());
+    };
+    println!(rt;
+        "open {} {} {} 0",
+        load.pages,
+        load.pages,
+        start.elapsed(rt)?.as_micros()
+    )?;
+    let Some(mut handles) = handles_of(alloc, &map, seats) else {
+        eprintln!(rt; "out of memory")?;
+        return Ok(());
+    };
+    let handles = handles.as_mut_slice();
+    let parts = [
+        (Part::Rows, "rows", load.rows),
+        (Part::Finds, "finds", load.calls),
+        (Part::Groups, "groups", load.calls),
+        (Part::Scans, "scans", load.calls / WIDTH),
+        (Part::Mixed, "mixed", load.calls),
+    ];
+    for (part, name, calls) in parts {
+        if load.grouped && matches!(part, Part::Scans) {
+            break;
+        }
+        let start = Instant::now(rt)?;
+        let (done, longest) = run(rt, handles, load, part);
+        let micros = start.elapsed(rt)?.as_micros();
+        println!(rt; "{name} {calls} {done} {micros} {longest}")?;
+    }
+    Ok(())
+}

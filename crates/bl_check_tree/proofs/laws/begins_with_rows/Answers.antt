@@ -1,5 +1,0 @@
-use Rattle.bl_check_tree.proofs.Opened.{opened_begins}
-use Rattle.bl_check_tree.proofs.laws.begins_with_rows.Goals as goal
-
-pub returns : goal.returns
-returns c = opened_begins

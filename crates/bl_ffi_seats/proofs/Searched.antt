@@ -1,0 +1,42 @@
+-- What a hand that rests has told after a search, and after a sweep.
+use Rattle.std.proofs.Common.{ℕ, ◌≡◌, Option, List, refl, sym, ap, ◌∙◌, subst}
+use Rattle.std.specs.Prelude.{Result, Ok, Err}
+use Rattle.bl_model.specs.declared.operation.Op.{Op}
+use Rattle.bl_model.specs.declared.operation.Reply.{Reply}
+use Rattle.bl_page.specs.declared.page.Page.{Page}
+use Rattle.bl_claims.specs.Seeing.{own}
+use Rattle.bl_store.specs.declared.store.Hand.{Hand}
+use Rattle.bl_store.specs.Hands.{known}
+use Rattle.bl_index_rule.specs.declared.known.PassState.{PassState}
+use Rattle.bl_index_events.specs.Answered.{Answers}
+use Rattle.bl_index_read.specs.declared.finding.OutOfTurns.{OutOfTurns}
+use Rattle.bl_index_read.specs.Searching.{Finds, RunsOut, AnswersOrRunsOut}
+use Rattle.bl_index_resume.specs.declared.stages.Stage.{Stage}
+use Rattle.bl_index_resume.specs.declared.stages.Stage.TheVariants as stage
+use Rattle.bl_ffi_seats.specs.Seats.{HasReplied}
+use Rattle.bl_ffi_seats.specs.Accounts.{account, AddsEntry}
+use Rattle.bl_ffi_seats.proofs.Accounts.{account_is}
+
+module _ (hand hand' : Hand PassState) (num : hand'.number ≡ hand.number) (first : (known hand'.seat).first ≡ (known hand.seat).first) (pages turns : ℕ) (op : Op) where
+  abbrev Tells : Result Reply OutOfTurns → Type 0
+  Tells r = AnswersOrRunsOut (known hand.seat).first pages hand.number turns op r (known hand.seat).trail (known hand'.seat).trail
+
+  finds : (r : Result Reply OutOfTurns) (reply : Reply) → r ≡ Ok reply → Tells r → Finds (known hand.seat).first pages hand.number turns op reply (known hand.seat).trail (known hand'.seat).trail
+  finds r reply is tells = (subst Tells is tells).answered
+
+  runs_out : (r : Result Reply OutOfTurns) (e : OutOfTurns) → r ≡ Err e → Tells r → RunsOut (known hand.seat).first pages hand.number turns (known hand.seat).trail (known hand'.seat).trail
+  runs_out r e is tells = (subst Tells is tells).refused
+
+  pub searched : (r : Result Reply OutOfTurns) (reply : Reply) → r ≡ Ok reply → Tells r → HasReplied hand' op reply
+  searched r reply is tells = record {
+    before = (known hand.seat).trail;
+    answers = subst (λ (z : List (Option Page) × ℕ). Answers z.0 z.1 op reply (known hand.seat).trail (known hand'.seat).trail) (λ i. (sym first i, sym num i)) (finds r reply is tells).answers;
+  }
+
+  pub search_told : (s : Stage) (r : Result Reply OutOfTurns) (reply : Reply) → s ≡ stage.Rests → r ≡ Ok reply → Tells r → AddsEntry hand.number op reply (account hand s) (account hand' s)
+  search_told s r reply rests is tells = subst (λ (z : Stage). AddsEntry hand.number op reply (account hand z) (account hand' z)) (sym rests)
+      (account_is _ _ _ _ refl (ap (λ (z : ℕ). own z (known hand'.seat).trail) num ∙ (finds r reply is tells).answers.once))
+
+  pub search_untold : (s : Stage) (r : Result Reply OutOfTurns) (e : OutOfTurns) → s ≡ stage.Rests → r ≡ Err e → Tells r → account hand' s ≡ account hand s
+  search_untold s r e rests is tells = subst (λ (z : Stage). account hand' z ≡ account hand z) (sym rests)
+      (account_is _ _ _ _ refl (ap (λ (z : ℕ). own z (known hand'.seat).trail) num ∙ (runs_out r e is tells).adds.none))

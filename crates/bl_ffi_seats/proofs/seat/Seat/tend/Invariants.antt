@@ -1,0 +1,16 @@
+use Rattle.std.proofs.Common.{◌≡◌, ◌⊎◌, ◌+◌, ◌≤◌}
+use Rattle.bl_index_resume.specs.declared.stages.Stage.TheVariants as stage
+use Rattle.bl_ffi_seats.specs.Calls.{IsSameSeat, HasGoneOn, begun_by, count_underway}
+use Rattle.bl_ffi_seats.specs.Tended.{Tends}
+use Rattle.bl_ffi_seats.specs.Waits.{lacked_in}
+use Rattle.bl_ffi_seats.proofs.seat.Seat.tend.Given as goal
+
+abbrev pub invariant-loop-piece : goal.invariant-loop-piece
+invariant-loop-piece l = record {
+  same : IsSameSeat l.fn.self l.self;
+  told : HasGoneOn l.fn.self l.self;
+  rests : (l.self.stage ≡ stage.Rests) ⊎ ((l._piece ≡ 0) × (l.self ≡ l.fn.self));
+  done : begun_by l.fn.self + l._piece ≤ begun_by l.self + count_underway l.fn.self.stage;
+  tends : Tends l._piece l.fn.self l.self;
+  row : lacked_in l.self.upkeep ≡ lacked_in l.fn.self.upkeep;
+}

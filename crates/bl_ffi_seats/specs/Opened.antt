@@ -1,0 +1,47 @@
+-- Seats that were just made.
+use Rattle.std.specs.Prelude.{◌≡◌, ◌<◌, ◌⊎◌, ℕ, Option, List}
+use Rattle.std.specs.Arc.{arc_value}
+use Rattle.std.specs.List.{AllZip}
+use Rattle.bl_page.specs.declared.page.Page.{Page}
+use Rattle.bl_image.specs.Images.{IsImage}
+use Rattle.bl_check.specs.Faults.{AreSoundImage}
+use Rattle.bl_index.specs.declared.index.Index.{Index}
+use Rattle.bl_index.specs.declared.index.Pass.{Pass}
+use Rattle.bl_index.specs.Opened.{IsIndexOpened, IsReopened as IsIndexReopened}
+use Rattle.bl_ffi_seats.specs.declared.seat.Seat.{Seat}
+use Rattle.bl_ffi_seats.specs.declared.opening.ImageFault.{ImageFault}
+use Rattle.bl_ffi_seats.specs.declared.opening.ImageFault.TheVariants as fault
+use Rattle.bl_ffi_seats.specs.Calls.{HasNothingToDo}
+
+-- The seat works at this index by the hand of that pass. It has nothing to do, and has dropped nothing.
+pub record IsNewSeat (index : Index) (pass : Pass) (seat : Seat) : Type 0 where
+  pub at : arc_value seat.index ≡ index
+  pub hand : seat.hand ≡ pass.hand
+  pub rests : HasNothingToDo seat
+  pub dropped : seat.upkeep.dropped ≡ 0
+
+-- a seat for each pass, in their order
+abbrev pub AreSeatsOf : Index → List Pass → List Seat → Type 0
+AreSeatsOf index passes seats = AllZip (IsNewSeat index) passes seats
+
+-- An index was just opened, of so many pages, without rows, with so many passes; and there is a seat for each of its passes.
+pub record AreSeatsOpened (pages among : ℕ) (seats : List Seat) : Type 0 where
+  pub index : Index
+  pub passes : List Pass
+  pub opened : IsIndexOpened (record { pages = pages; passes = among }) index passes
+  pub each : AreSeatsOf index passes seats
+
+-- The same of an index that begins with the pages of an image, which the bytes spell, and so with its rows.
+pub record IsReopened (bytes : List ℕ) (among : ℕ) (seats : List Seat) : Type 0 where
+  pub image : List (Option Page)
+  pub spelled : IsImage image bytes
+  pub index : Index
+  pub passes : List Pass
+  pub opened : IsIndexReopened image among index passes
+  pub each : AreSeatsOf index passes seats
+
+-- Why no index was opened from the bytes: they are no sound image; or they are an image, and the seats are not within their limits.
+abbrev pub IsImageFault : List ℕ → ℕ → ImageFault → Type 0
+IsImageFault bytes among fault.Image = AreSoundImage bytes → ⊥
+IsImageFault bytes among fault.Seats = (image : List (Option Page)) × IsImage image bytes × ((among < 1) ⊎ (64 < among))
+IsImageFault bytes among fault.Memory = Unit {0}

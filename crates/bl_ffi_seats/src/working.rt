@@ -1,0 +1,271 @@
+//! What a seat's hand does at its index, by what it is about.
+
+ghost use Rattle.std.specs.Prelude.{◌≡◌, ◌≢◌, ◌⊎◌, ◌+◌, ◌<◌, ◌≤◌, IfSome, IfNone, MatchOption, true, false};
+ghost use Rattle.bl_model.specs.declared.operation.Op.TheVariants as op;
+ghost use Rattle.bl_model.specs.Replies.{reply_of};
+ghost use Rattle.bl_proc_steps.specs.declared.answers.Hint.TheVariants as hints;
+ghost use Rattle.bl_model.specs.Writes.{write_op};
+ghost use Rattle.bl_ffi_seats.specs.Seats.{IsSeated, IsSameOne, HasAnswered, HasFound, HasReplied, HasReleased, HasNotFound, HasWorked, HasWritten, HasFollowed, HasPosted, begun_in};
+ghost use Rattle.bl_ffi_seats.specs.Accounts.{account, HasGone, AddsEntry, Starts};
+ghost use Rattle.bl_index_resume.specs.Stages.{IsWriteOf, IsFor, IsLowering};
+ghost use Rattle.bl_proc.specs.Parts.{op_toward};
+ghost use Rattle.bl_store.specs.Hands.{known, IsIdle, IsSameHand, IsSameStock};
+ghost use Rattle.bl_store.specs.Owners.{IsHandOf};
+ghost use Rattle.bl_claims.specs.Seeing.{IsSeen};
+ghost use Rattle.bl_index_events.specs.Runs.{Rests};
+ghost use Rattle.bl_index_read.specs.Searching.{AnswersOrRunsOut};
+ghost use Rattle.bl_index.specs.Meetings.{Meet};
+ghost use Rattle.bl_index_resume.specs.declared.stages.Stage.TheVariants as stages;
+
+use bl_index::{Hint, Index, KeyReply, KeyWrite, Reply};
+use bl_index_events::Tree;
+use bl_index_read::{OutOfTurns, find_key, list_part, list_part_down};
+use bl_index_resume::{
+    Stage, advance, begin_hint, begin_lower, stands, start_post, start_write, sweep,
+};
+use bl_index_rule::PassState;
+use bl_proc::{Answer, Direction, Posted};
+use bl_store::Hand;
+
+/// How many events a call takes at most for each process that it carries on.
+const EVENTS: u32 = 256;
+
+/// The value of a key, or that the key is absent. None: it ran out of turns, or a process is underway.
+pub(crate) fn find(
+    index: &Index,
+    hand: &mut Hand<PassState>,
+    stage: &Stage,
+    key: u64,
+) -> Option<KeyReply>
+    requires { ∥ IsSeated index.now hand.old stage.now ∥₁ }
+    ensures same { IsSameOne hand.old hand.new }
+    ensures stands { IsSeated index.now hand.new stage.now }
+    ensures kept { stage.now ≢ stages.Rests → hand.new ≡ hand.old }
+    ensures missed { IfNone result (HasNotFound index.now stage.now hand.old hand.new) }
+    ensures found { IfSome result (λ reply. HasFound hand.new key (reply_of reply)) }
+    ensures told { MatchOption result (account hand.new stage.now ≡ account hand.old stage.now)
+        (λ reply. AddsEntry hand.old.number (op.Find key) (reply_of reply) (account hand.old stage.now) (account hand.new stage.now)) }
+{
+    stands(index.tree(), hand, stage);
+    match stage {
+        Stage::Rests => match find_key(index.tree(), hand, key, None, index.patience()) {
+            Ok(found) => Some(found),
+            Err(_) => None,
+        },
+        _ => None,
+    }
+}
+
+/// Carries a part out in that direction, from its begin to its end: it is answered, or has got so many pages. With a page in mind it
+/// looks at that one first; upwards it leaves there the page to which its leaf links.
+fn list(
+    tree: &Tree,
+    hand: &mut Hand<PassState>,
+    direction: Direction,
+    from: u64,
+    near: &mut Option<u32>,
+    turns: u32,
+) -> Result<Reply, OutOfTurns>
+    requires own { IsHandOf tree.now.store hand.old }
+    requires idle { IsIdle hand.old.seat }
+    ensures same { IsSameHand hand.old.seat hand.new.seat × IsSameStock hand.old.seat hand.new.seat }
+    ensures rests { Rests hand.new.seat }
+    ensures first { (known hand.new.seat).first ≡ (known hand.old.seat).first }
+    ensures seen { IsSeen (known hand.new.seat).first (known hand.new.seat).trail }
+    ensures answers { AnswersOrRunsOut (known hand.old.seat).first tree.now.store.layout.pages hand.old.number turns (op_toward direction from) result
+        (known hand.old.seat).trail (known hand.new.seat).trail }
+{
+    match direction {
+        Direction::Up => list_part(tree, hand, from, near, turns),
+        Direction::Down => list_part_down(tree, hand, from, *near, turns),
+    }
+}
+
+/// The rows of one leaf from a key on, in that direction. None: as for a search.
+pub(crate) fn part(
+    index: &Index,
+    hand: &mut Hand<PassState>,
+    stage: &Stage,
+    direction: Direction,
+    from: u64,
+    near: &mut Option<u32>,
+) -> Option<Reply>
+    requires { ∥ IsSeated index.now hand.old stage.now ∥₁ }
+    ensures same { IsSameOne hand.old hand.new }
+    ensures stands { IsSeated index.now hand.new stage.now }
+    ensures kept { stage.now ≢ stages.Rests → hand.new ≡ hand.old }
+    ensures missed { IfNone result (HasNotFound index.now stage.now hand.old hand.new) }
+    ensures listed { IfSome result (λ reply. HasReplied hand.new (op_toward direction from) reply) }
+    ensures told { MatchOption result (account hand.new stage.now ≡ account hand.old stage.now)
+        (λ reply. AddsEntry hand.old.number (op_toward direction from) reply (account hand.old stage.now) (account hand.new stage.now)) }
+{
+    stands(index.tree(), hand, stage);
+    match stage {
+        Stage::Rests => match list(index.tree(), hand, direction, from, near, index.patience()) {
+            Ok(rows) => Some(rows),
+            Err(_) => None,
+        },
+        _ => None,
+    }
+}
+
+/// Releases what no call can read any more, unless a process is underway. Returns how many pages and frames.
+pub(crate) fn release(index: &Index, hand: &mut Hand<PassState>, stage: &Stage) -> u32
+    requires { ∥ IsSeated index.now hand.old stage.now ∥₁ }
+    ensures same { IsSameOne hand.old hand.new }
+    ensures stands { IsSeated index.now hand.new stage.now }
+    ensures swept { HasReleased result stage.now hand.old hand.new }
+    ensures count { hand.new.seat.me.0.releases ≡ hand.old.seat.me.0.releases + result }
+    ensures told { account hand.new stage.now ≡ account hand.old stage.now }
+{
+    stands(index.tree(), hand, stage);
+    match stage {
+        Stage::Rests => sweep(index.tree(), hand),
+        _ => 0,
+    }
+}
+
+/// What is underway goes on. Gives its answer, where it has ended.
+pub(crate) fn go_on(index: &Index, hand: &mut Hand<PassState>, stage: &mut Stage) -> Option<Answer>
+    requires { ∥ IsSeated index.now hand.old stage.old ∥₁ }
+    ensures same { IsSameOne hand.old hand.new }
+    ensures stands { IsSeated index.now hand.new stage.new }
+    ensures answers { HasAnswered hand.new stage.old result }
+    ensures gone { HasGone hand.old.number (account hand.old stage.old) result (account hand.new stage.new) }
+    ensures rests { IfSome result (λ _. stage.new ≡ stages.Rests) }
+    ensures worked { HasWorked hand.old stage.new hand.new }
+    ensures still { IfNone result ((stage.old ≡ stages.Rests) ⊎ (stage.new ≢ stages.Rests)) }
+    ensures begun { begun_in hand.new ≡ begun_in hand.old }
+{
+    stands(index.tree(), hand, stage);
+    advance(index.tree(), hand, stage, EVENTS)
+}
+
+/// A write begins where no process is underway, and goes on by the words of pages. Its reply, with its hint, where it has ended; else it
+/// is underway.
+pub(crate) fn start_writing(
+    index: &Index,
+    hand: &mut Hand<PassState>,
+    stage: &mut Stage,
+    key: u64,
+    write: KeyWrite,
+) -> Option<(KeyReply, Option<Hint>)>
+    requires seated { ∥ IsSeated index.now hand.old stage.old ∥₁ }
+    requires rests { stage.old ≡ stages.Rests }
+    ensures same { IsSameOne hand.old hand.new }
+    ensures stands { IsSeated index.now hand.new stage.new }
+    ensures underway { IfNone result (IsWriteOf key write stage.new × Starts (write_op key write) (account hand.old stage.old) (account hand.new stage.new)) }
+    ensures answered { IfSome result (λ said. (stage.new ≡ stages.Rests) × HasWritten hand.new key write (reply_of said.0) said.1
+        × AddsEntry hand.old.number (write_op key write) (reply_of said.0) (account hand.old stage.old) (account hand.new stage.new)) }
+{
+    stands(index.tree(), hand, stage);
+    start_write(index.tree(), hand, stage, key, write, EVENTS)
+}
+
+/// A post begins where no process is underway, and goes on by the words of pages. What became of it, with its hint, where it has ended; else
+/// it is underway.
+fn start_posting(
+    index: &Index,
+    hand: &mut Hand<PassState>,
+    stage: &mut Stage,
+    level: u32,
+    key: u64,
+) -> Option<(Posted, Option<Hint>)>
+    requires seated { ∥ IsSeated index.now hand.old stage.old ∥₁ }
+    requires rests { stage.old ≡ stages.Rests }
+    requires least { 0 < level }
+    requires most { level ≤ 12 }
+    ensures same { IsSameOne hand.old hand.new }
+    ensures stands { IsSeated index.now hand.new stage.new }
+    ensures began { IfNone result (IsFor (hints.Post level key) stage.new) }
+    ensures ended { IfSome result (λ said. (stage.new ≡ stages.Rests) × HasPosted hand.new level key said.0 said.1) }
+    ensures begun { begun_in hand.new ≡ begun_in hand.old + 1 }
+    ensures told { account hand.new stage.new ≡ account hand.old stage.old }
+{
+    stands(index.tree(), hand, stage);
+    start_post(index.tree(), hand, stage, level, key, EVENTS)
+}
+
+/// What the hint asks for begins where no process is underway.
+fn begin_hinted(index: &Index, hand: &mut Hand<PassState>, stage: &mut Stage, hint: Hint)
+    requires seated { ∥ IsSeated index.now hand.old stage.old ∥₁ }
+    requires rests { stage.old ≡ stages.Rests }
+    ensures same { IsSameOne hand.old hand.new }
+    ensures stands { IsSeated index.now hand.new stage.new }
+    ensures began { IsFor hint stage.new × (begun_in hand.new ≡ begun_in hand.old + 1) }
+    ensures told { account hand.new stage.new ≡ account hand.old stage.old }
+{
+    stands(index.tree(), hand, stage);
+    *stage = begin_hint(index.tree(), hand, hint);
+}
+
+/// What the hint asks for begins where no process is underway. A post goes on by the words of pages: its answer, where it has ended. Else
+/// what it asks for is underway.
+pub(crate) fn begin_following(
+    index: &Index,
+    hand: &mut Hand<PassState>,
+    stage: &mut Stage,
+    hint: Hint,
+) -> Option<Answer>
+    requires seated { ∥ IsSeated index.now hand.old stage.old ∥₁ }
+    requires rests { stage.old ≡ stages.Rests }
+    ensures same { IsSameOne hand.old hand.new }
+    ensures stands { IsSeated index.now hand.new stage.new }
+    ensures began { IfNone result (IsFor hint stage.new) }
+    ensures ended { IfSome result (λ answer. (stage.new ≡ stages.Rests) × HasFollowed hand.new hint answer) }
+    ensures begun { begun_in hand.new ≡ begun_in hand.old + 1 }
+    ensures told { account hand.new stage.new ≡ account hand.old stage.old }
+{
+    match hint {
+        Hint::Post { .. } => {
+            let said = start_posting(index, hand, stage, hint.level(), hint.key());
+            said.map(|(posted, more)| Answer::Post(posted, more))
+        }
+        Hint::Thin { .. } => {
+            begin_hinted(index, hand, stage, hint);
+            None
+        }
+    }
+}
+
+/// A lowering begins where no process is underway.
+pub(crate) fn begin_lowering(index: &Index, hand: &mut Hand<PassState>, stage: &mut Stage)
+    requires seated { ∥ IsSeated index.now hand.old stage.old ∥₁ }
+    requires rests { stage.old ≡ stages.Rests }
+    ensures same { IsSameOne hand.old hand.new }
+    ensures stands { IsSeated index.now hand.new stage.new }
+    ensures began { IsLowering stage.new × (begun_in hand.new ≡ begun_in hand.old + 1) }
+    ensures told { account hand.new stage.new ≡ account hand.old stage.old }
+{
+    stands(index.tree(), hand, stage);
+    *stage = begin_lower(index.tree(), hand);
+}
+
+/// Two hands meet, unless a process is underway at one of them. Says whether they have.
+pub(crate) fn meet(
+    index: &Index,
+    one: &mut Hand<PassState>,
+    one_stage: &Stage,
+    two: &mut Hand<PassState>,
+    two_stage: &Stage,
+) -> bool
+    requires one { ∥ IsSeated index.now one.old one_stage.now ∥₁ }
+    requires two { ∥ IsSeated index.now two.old two_stage.now ∥₁ }
+    ensures same { IsSameOne one.old one.new × IsSameOne two.old two.new }
+    ensures stands { IsSeated index.now one.new one_stage.now × IsSeated index.now two.new two_stage.now }
+    ensures told { (account one.new one_stage.now ≡ account one.old one_stage.now) × (account two.new two_stage.now ≡ account two.old two_stage.now) }
+    ensures rest { result ≡ true → (one_stage.now ≡ stages.Rests) × (two_stage.now ≡ stages.Rests) }
+    ensures met { result ≡ true → Meet (known one.old.seat).first one.old.number two.old.number (known one.old.seat).trail (known two.old.seat).trail
+        (known one.new.seat).trail (known two.new.seat).trail }
+    ensures not { result ≡ false → ((one_stage.now ≢ stages.Rests) ⊎ (two_stage.now ≢ stages.Rests)) × (one.new ≡ one.old) × (two.new ≡ two.old) }
+{
+    stands(index.tree(), one, one_stage);
+    stands(index.tree(), two, two_stage);
+    match (one_stage, two_stage) {
+        (Stage::Rests, Stage::Rests) => {
+            index.meet_hands(one, two);
+            true
+        }
+        _ => false,
+    }
+}

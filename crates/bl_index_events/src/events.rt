@@ -1,0 +1,214 @@
+//! The events of a process of which there is no value: the hand's pass knows where it stands.
+
+ghost use Rattle.std.specs.Prelude.{◌≡◌, ◌<◌, ◌+◌, ℕ, Bool, true, false, MatchOption, IfNone};
+ghost use Rattle.bl_page.specs.declared.page.Page.{Page};
+ghost use Rattle.bl_page.specs.Pairs.{IsChild};
+ghost use Rattle.bl_page.specs.Words.{words_of};
+ghost use Rattle.bl_proc_steps.specs.declared.acts.Action.TheVariants as act;
+ghost use Rattle.bl_proc_steps.specs.declared.acts.Seen.TheVariants as seen;
+ghost use Rattle.bl_proc.specs.declared.kinds.Proc.{Proc};
+ghost use Rattle.bl_proc.specs.Processes.{next_of};
+ghost use Rattle.bl_proc_deterministic.specs.Courses.{GoesOn};
+ghost use Rattle.bl_proc_deterministic.specs.Frames.{op_of, work_of};
+ghost use Rattle.bl_store.specs.Drafts.{IsSpread};
+ghost use Rattle.bl_store.specs.Hands.{known, read_words, IsSameHand, IsSameStamp, IsSameStock, HasNoStock, IsStockOf, ReadsFrom, WasRefused, IsSameRefusal};
+ghost use Rattle.bl_index_rule.specs.declared.known.PassState.{PassState as Knows};
+ghost use Rattle.bl_index_rule.specs.Observed.{Goes};
+ghost use Rattle.bl_index_events.specs.Held.{KeepsLatch};
+ghost use Rattle.bl_index_events.specs.Runs.{Runs, KeepsHand, Rests, IsSince, IsDone, EndsAs};
+
+use crate::tree::Tree;
+use bl_index_rule::{Ended, Got, Opened, PassState, Probed, Put, Refused, Took, Tried};
+use bl_store::{Glance, Hand, Spread, Stock};
+use std::thread;
+
+/// How often a process lets others run at most where it finds too few frames.
+const YIELDS: u32 = 256;
+
+impl Tree {
+    /// The process gets the page.
+    #[inline(always)]
+    pub fn look(&self, hand: &mut Hand<PassState>, page: u32) -> Glance
+        requires runs { Runs self.now hand.old (known hand.old.seat).state }
+        requires next { next_of (known hand.old.seat).state ≡ act.Get page }
+        requires course { (c : Page) → GoesOn (known hand.old.seat).state (seen.Words c) }
+        ensures same { KeepsHand hand.old.seat hand.new.seat }
+        ensures reads { ReadsFrom hand.new.seat result }
+        ensures goes { (c : Page) × (read_words hand.new.seat ≡ words_of c) × Goes (seen.Words c) (known hand.old.seat) (known hand.new.seat) }
+    {
+        match self.store.glance::<Got>(hand, page) {
+            Some(glance) => glance,
+            None => unreachable!(),
+        }
+    }
+
+    /// The process tries to latch the page.
+    #[inline(always)]
+    pub fn try_latch(&self, hand: &mut Hand<PassState>, page: u32) -> bool
+        requires runs { Runs self.now hand.old (known hand.old.seat).state }
+        requires next { next_of (known hand.old.seat).state ≡ act.Latch page }
+        requires course { GoesOn (known hand.old.seat).state seen.Done × GoesOn (known hand.old.seat).state seen.Missed }
+        ensures same { KeepsHand hand.old.seat hand.new.seat }
+        ensures done { result ≡ true → Goes seen.Done (known hand.old.seat) (known hand.new.seat) }
+        ensures missed { result ≡ false → Goes seen.Missed (known hand.old.seat) (known hand.new.seat) }
+    {
+        self.store.try_latch::<Tried>(hand, page)
+    }
+
+    /// The process looks whether the page is open.
+    #[inline(always)]
+    pub fn is_open(&self, hand: &mut Hand<PassState>, page: u32) -> bool
+        requires runs { Runs self.now hand.old (known hand.old.seat).state }
+        requires page { page < self.now.store.layout.pages }
+        requires next { next_of (known hand.old.seat).state ≡ act.Probe page }
+        requires course { (free : Bool) → GoesOn (known hand.old.seat).state (seen.Probed free) }
+        ensures same { KeepsHand hand.old.seat hand.new.seat }
+        ensures goes { Goes (seen.Probed result) (known hand.old.seat) (known hand.new.seat) }
+    {
+        self.store.probe::<Probed>(hand, page)
+    }
+
+    /// The process opens the page.
+    #[inline(always)]
+    pub fn reopen(&self, hand: &mut Hand<PassState>, page: u32)
+        requires runs { Runs self.now hand.old (known hand.old.seat).state }
+        requires next { next_of (known hand.old.seat).state ≡ act.Open page }
+        requires course { GoesOn (known hand.old.seat).state seen.Done }
+        ensures same { KeepsHand hand.old.seat hand.new.seat }
+        ensures goes { Goes seen.Done (known hand.old.seat) (known hand.new.seat) }
+        ensures refusal { IsSameRefusal hand.old.seat hand.new.seat }
+    {
+        self.store.open::<Opened>(hand, page);
+    }
+
+    /// Lets other threads run while a reservation would find too few frames, so often at most: those that hold frames back may be in the
+    /// middle of a process, and this one may have lost its processor since it looked for frames before it began. It holds others back
+    /// itself meanwhile, so it may not be for long. Who may wait calls it before a process changes the page that it holds; nothing else here
+    /// waits.
+    #[inline(always)]
+    pub fn await_frames(&self, hand: &Hand<PassState>) {
+        if !self.store.finds_frames(hand) {
+            self.let_others_run(hand);
+        }
+    }
+
+    #[inline(never)]
+    fn let_others_run(&self, hand: &Hand<PassState>) {
+        for _ in 0..YIELDS {
+            if self.store.finds_frames(hand) {
+                return;
+            }
+            thread::yield_now();
+        }
+    }
+
+    /// The process reserves a frame and puts the page with these words, or is refused.
+    #[inline(always)]
+    pub fn replace(&self, hand: &mut Hand<PassState>, page: u32, words: &[u64; 32]) -> bool
+        requires runs { Runs self.now hand.old (known hand.old.seat).state }
+        requires next { (c : Page) × (next_of (known hand.old.seat).state ≡ act.Put page c) × (words.now ≡ words_of c) }
+        requires course { GoesOn (known hand.old.seat).state seen.Done × GoesOn (known hand.old.seat).state seen.Refused }
+        requires empty { HasNoStock hand.old.seat }
+        ensures same { IsSameHand hand.old.seat hand.new.seat × IsSameStamp hand.old.seat hand.new.seat }
+        ensures empty { HasNoStock hand.new.seat }
+        ensures done { result ≡ true → Goes seen.Done (known hand.old.seat) (known hand.new.seat) }
+        ensures refused { result ≡ false → Goes seen.Refused (known hand.old.seat) (known hand.new.seat) }
+        ensures asked { result ≡ false → WasRefused hand.new.seat 0 1 }
+    {
+        match self.store.reserve::<Took, Refused>(hand, 0, 1) {
+            Ok(stock) => {
+                let mut stock = stock;
+                self.store.put::<Put>(hand, page, words, &mut stock);
+                true
+            }
+            Err(_) => false,
+        }
+    }
+
+    /// The process reserves a frame and puts the page, whose words are those that it looked at last, spread so, or is refused.
+    #[inline(always)]
+    pub fn replace_spread(
+        &self,
+        hand: &mut Hand<PassState>,
+        page: u32,
+        glance: Glance,
+        edit: Spread,
+    ) -> bool
+        requires runs { Runs self.now hand.old (known hand.old.seat).state }
+        requires reads { ReadsFrom hand.old.seat glance }
+        requires place { edit.place < 14 }
+        requires next { (c : Page) × (next_of (known hand.old.seat).state ≡ act.Put page c) × IsSpread edit (read_words hand.old.seat) (words_of c) }
+        requires course { GoesOn (known hand.old.seat).state seen.Done × GoesOn (known hand.old.seat).state seen.Refused }
+        requires empty { HasNoStock hand.old.seat }
+        ensures same { IsSameHand hand.old.seat hand.new.seat × IsSameStamp hand.old.seat hand.new.seat }
+        ensures empty { HasNoStock hand.new.seat }
+        ensures done { result ≡ true → Goes seen.Done (known hand.old.seat) (known hand.new.seat) }
+        ensures refused { result ≡ false → Goes seen.Refused (known hand.old.seat) (known hand.new.seat) }
+        ensures asked { result ≡ false → WasRefused hand.new.seat 0 1 }
+    {
+        match self.store.reserve::<Took, Refused>(hand, 0, 1) {
+            Ok(stock) => {
+                let mut stock = stock;
+                self.store
+                    .put_spread::<Put>(hand, page, glance, edit, &mut stock);
+                true
+            }
+            Err(_) => false,
+        }
+    }
+
+    /// The process reserves a page and two frames, and takes the page, or is refused.
+    pub fn take_page(&self, hand: &mut Hand<PassState>) -> Option<(u32, Stock)>
+        requires runs { Runs self.now hand.old (known hand.old.seat).state }
+        requires next { next_of (known hand.old.seat).state ≡ act.Take }
+        requires course { ((y : ℕ) → IsChild y → GoesOn (known hand.old.seat).state (seen.Took y)) × GoesOn (known hand.old.seat).state seen.Refused }
+        requires empty { HasNoStock hand.old.seat }
+        ensures same { IsSameHand hand.old.seat hand.new.seat × IsSameStamp hand.old.seat hand.new.seat }
+        ensures took { MatchOption result (HasNoStock hand.new.seat × Goes seen.Refused (known hand.old.seat) (known hand.new.seat)) (λ t. IsChild t.0
+            × IsStockOf hand.new.seat t.1 × (t.1.count ≡ 2) × Goes (seen.Took t.0) (known hand.old.seat) (known hand.new.seat)) }
+        ensures asked { IfNone result (WasRefused hand.new.seat 1 2) }
+    {
+        match self.store.reserve::<Took, Refused>(hand, 1, 2) {
+            Ok(stock) => match stock.page() {
+                Some(page) => Some((page, stock)),
+                None => unreachable!(),
+            },
+            Err(_) => None,
+        }
+    }
+
+    /// The process puts the page with these words, in a frame that it has reserved.
+    pub fn put_reserved(
+        &self,
+        hand: &mut Hand<PassState>,
+        page: u32,
+        words: &[u64; 32],
+        stock: &mut Stock,
+    )
+        requires runs { Runs self.now hand.old (known hand.old.seat).state }
+        requires next { (c : Page) × (next_of (known hand.old.seat).state ≡ act.Put page c) × (words.now ≡ words_of c) }
+        requires course { GoesOn (known hand.old.seat).state seen.Done }
+        requires stock { IsStockOf hand.old.seat stock.old × (0 < stock.old.count) }
+        ensures same { IsSameHand hand.old.seat hand.new.seat × IsSameStamp hand.old.seat hand.new.seat }
+        ensures stock { IsStockOf hand.new.seat stock.new × (stock.new.count + 1 ≡ stock.old.count) }
+        ensures goes { Goes seen.Done (known hand.old.seat) (known hand.new.seat) }
+    {
+        self.store.put::<Put>(hand, page, words, stock);
+    }
+
+    /// The process, which is to end, ends.
+    #[inline(always)]
+    pub fn conclude(&self, hand: &mut Hand<PassState>)
+        requires runs { Runs self.now hand.old (known hand.old.seat).state }
+        requires ends { (last : Proc) × EndsAs (known hand.old.seat).state last }
+        ensures same { IsSameHand hand.old.seat hand.new.seat × IsSameStock hand.old.seat hand.new.seat }
+        ensures rests { Rests hand.new.seat }
+        ensures done { (pass : ℕ) (old : Knows) (first last : Proc) → IsSince pass old (known hand.old.seat) → EndsAs (known hand.old.seat).state last
+            → op_of (known hand.old.seat).state ≡ op_of first → work_of (known hand.old.seat).state ≡ work_of first
+            → IsDone pass old (known hand.new.seat) first last }
+        ensures refusal { IsSameRefusal hand.old.seat hand.new.seat }
+        ensures keeps { KeepsLatch (known hand.old.seat) (known hand.new.seat) }
+    {
+        self.store.end::<Ended>(hand);
+    }
+}

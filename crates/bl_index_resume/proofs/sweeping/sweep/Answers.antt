@@ -1,0 +1,16 @@
+use Rattle.std.proofs.Common.{rules, ◌≡◌, false, ◌∙◌, ap, inl, inr}
+use Rattle.bl_store.specs.Hands.{known}
+use Rattle.bl_index_rule.specs.declared.known.PassState.{PassState}
+use Rattle.bl_index_resume.proofs.sweeping.sweep.Goals as goal
+
+pub returns-clause-rests : goal.returns-clause-rests
+returns-clause-rests c =
+    let e = c.release.ensures in let was = c.requires in
+    let over : (known c.release.new.hand.seat).runs ≡ false = elim e.observed.2 [
+      | inl is ↦ ap (λ (z : PassState). z.runs) is.0 ∙ was.rests.over
+      | inr t ↦ t.runs
+    ] in record {
+      own = search rules;
+      rests = record { idle = e.same.1 ∙ was.rests.idle; within = e.within; over = over };
+      empty = e.same.2.0 ∙ was.empty;
+    }

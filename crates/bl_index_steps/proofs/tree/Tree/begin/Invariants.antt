@@ -1,4 +1,0 @@
-use Rattle.bl_index_steps.proofs.tree.Tree.begin.Given as goal
-
-abbrev pub ghosts-launch : goal.ghosts-launch
-ghosts-launch g a = record { pass = a.hand.now.number; pages = a.self.now.store.layout.pages; passes = a.self.now.store.layout.passes; process = g.P.Kind.proc_of a.process.now }

@@ -1,9 +1,0 @@
-use Rattle.bl_index_rule.proofs.Bounds.{gives_up_process}
-use Rattle.bl_index_steps.proofs.Withins.{ends_within}
-use Rattle.bl_index_steps.proofs.tree.Tree.give_up.Goals as goal
-
-pub end-requires-clause-rule : goal.end-requires-clause-rule
-end-requires-clause-rule c = gives_up_process _ _ _ c.requires.may
-
-pub returns-clause-within : goal.returns-clause-within
-returns-clause-within c = ends_within c.args.self.now.store.layout c.args.hand.now.seat c.end.new.hand.seat _ c.requires.own.1 c.end.ensures.same.0.1 c.requires.passes c.end.ensures.observed.1.0

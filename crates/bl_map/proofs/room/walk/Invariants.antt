@@ -1,9 +1,0 @@
-use Rattle.bl_index.specs.Calls.{first_of, IsSamePass, number_of, trail}
-use Rattle.bl_map.specs.Follows.{KeptUp}
-use Rattle.bl_map.proofs.room.walk.Given as goal
-
-abbrev pub invariant-loop-page : goal.invariant-loop-page
-invariant-loop-page g l = record {
-  same : IsSamePass l.fn.pass l.pass;
-  readies : KeptUp (first_of l.index) (number_of l.fn.pass) (trail l.fn.pass) (trail l.pass);
-}

@@ -1,0 +1,13 @@
+pub mod Adding
+pub mod Listing
+pub mod Finding
+pub mod Following
+pub mod Lacking
+pub mod Writing
+pub mod Scanning
+pub mod Looking
+pub mod TryByTry
+pub mod Imaged
+pub mod Told
+pub mod Groups
+pub mod Downwards

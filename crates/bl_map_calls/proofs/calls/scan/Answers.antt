@@ -1,0 +1,31 @@
+use Rattle.std.proofs.Common.{rules, ◌++◌, [], sym, append-nil, arith}
+use Rattle.bl_map_calls.proofs.Scanning.{searched_none, all_rows, has_ended, ran_out, had_no_room}
+use Rattle.bl_map_calls.proofs.calls.scan.Goals as goal
+
+pub loop-init : goal.loop-init
+loop-init g c = record { same = search rules; low = omega arith; listed = []; grown = sym (append-nil _); so_far = searched_none _ _ _ _ _ _ }
+
+pub returns-in-Ok-clause-scanned : goal.returns-in-Ok-clause-scanned
+returns-in-Ok-clause-scanned g c =
+    let inv = c.loop.invariant in
+    let m = c.in-Ok.ensures.scans in
+    has_ended _ _ _ _ _ _ _ _ _ _ m.rows _ _ _ _ _ _ inv.same.2 c.patience-turns.ensures inv.so_far inv.low inv.grown m.appended m.ended
+
+pub loop-preserved : goal.loop-preserved
+loop-preserved g c =
+    let inv = c.loop.invariant in
+    let m = c.in-Err-OutOfTurns.ensures.scans in
+    let on = ran_out _ _ _ _ _ _ _ _ _ _ m.rows _ _ _ _ _ _ inv.same.2 c.patience-turns.ensures inv.so_far inv.low inv.grown m.appended _ _ c.in-Err-OutOfTurns.field-0-is m.stopped in
+    record {
+      same = search rules;
+      low = on.0;
+      listed = inv.listed ++ m.rows;
+      grown = all_rows inv.listed m.rows _ _ _ inv.grown m.appended;
+      so_far = on.1;
+    }
+
+pub returns-in-Err-Memory-clause-scanned : goal.returns-in-Err-Memory-clause-scanned
+returns-in-Err-Memory-clause-scanned g c =
+    let inv = c.loop.invariant in
+    let m = c.in-Err-Memory.ensures.scans in
+    had_no_room _ _ _ _ _ _ _ _ _ _ m.rows _ _ _ _ _ _ inv.same.2 c.patience-turns.ensures inv.so_far inv.low inv.grown m.appended _ _ _ c.in-Err-Memory.field-0-is m.stopped

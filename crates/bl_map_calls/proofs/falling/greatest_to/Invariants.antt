@@ -1,0 +1,11 @@
+use Rattle.std.proofs.Common.{◌≤◌, Some, []}
+use Rattle.bl_index.specs.Calls.{first_of, pages_of, IsSamePass, number_of, trail}
+use Rattle.bl_map_calls.proofs.Downwards.{HasSearchedDown}
+use Rattle.bl_map_calls.proofs.falling.greatest_to.Given as goal
+
+abbrev pub invariant-loop : goal.invariant-loop
+invariant-loop g l = record {
+  same : IsSamePass l.fn.pass l.pass;
+  high : l.at ≤ l.from;
+  so_far : HasSearchedDown (first_of l.index) (pages_of l.index) (number_of l.fn.pass) l.from 0 (Some l.at) [] (trail l.fn.pass) (trail l.pass);
+}

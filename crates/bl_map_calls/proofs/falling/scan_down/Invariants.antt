@@ -1,0 +1,14 @@
+use Rattle.std.proofs.Common.{◌≡◌, ℕ, ◌≤◌, ◌++◌, List, Some}
+use Rattle.bl_index.specs.Calls.{first_of, pages_of, IsSamePass, number_of, trail}
+use Rattle.bl_map_calls.proofs.Downwards.{HasSearchedDown}
+use Rattle.bl_map_calls.proofs.falling.scan_down.Given as goal
+
+abbrev pub invariant-loop : goal.invariant-loop
+invariant-loop g l = record {
+  same : IsSamePass l.fn.pass l.pass;
+  high : l.at ≤ l.from;
+  least : l.low ≤ l.at;
+  listed : List (ℕ × ℕ);
+  grown : l.rows.items ≡ l.fn.rows.items ++ listed;
+  so_far : HasSearchedDown (first_of l.index) (pages_of l.index) (number_of l.fn.pass) l.from l.low (Some l.at) listed (trail l.fn.pass) (trail l.pass);
+}

@@ -1,0 +1,11 @@
+pub mod Works
+pub mod Entries
+pub mod Finds
+pub mod Follows
+pub mod Waits
+pub mod Many
+pub mod Scans
+pub mod Leasts
+pub mod Updates
+pub mod Copies
+pub mod Falling

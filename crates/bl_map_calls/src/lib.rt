@@ -1,0 +1,24 @@
+//! The calls of a map over a seat: each goes on until it has its answer, and whoever changes the map keeps it in order.
+//!
+//! A search or a part that ran out of turns is made again. A write waits for room before it begins, lists the pages that it has split,
+//! merges those that it has left with few rows, takes top levels away that are not needed, and gives back what was swapped out. What finds
+//! no room waits, 32 pieces at most.
+//!
+//! Promised to `bl_map`, whose handles are a seat with what waits ([`waiting::Waiting`]) and call these by name: a call adds one entry to what
+//! the pass has seen, this operation with this reply (`specs/Works`), or those of its keys, one after another (`specs/Finds`, `Many`,
+//! `Updates`); a scan is parts and nothing else (`specs/Scans`, `Falling`, `Leasts`, `Copies`). Upkeep adds no entry: it is posts, compressions,
+//! lowerings and sweeps of the pass's own (`specs/Follows`), and a piece is carried out, waits, or is counted as dropped (`specs/Waits`).
+#![tactic(auto)]
+
+pub mod calls;
+pub mod copying;
+pub mod counting;
+pub mod falling;
+pub mod least;
+pub mod many;
+pub mod room;
+pub mod telling;
+pub mod updating;
+pub mod upkeep;
+pub mod waiting;
+pub mod writes;

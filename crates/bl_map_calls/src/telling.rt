@@ -1,0 +1,33 @@
+//! Scans that tell a callback each row.
+
+ghost use Rattle.bl_index.specs.Calls.{first_of, pages_of, IsPassOf, IsSamePass, number_of, trail};
+ghost use Rattle.bl_map_calls.specs.Scans.{TellsRows};
+
+use bl_index::{Index, Pass};
+use std::sync::Wait;
+
+/// Tells the rows from a key on and below an end, if there is one. Where a part ran out of turns the scan goes on from there.
+pub fn tell<R: Wait, F: FnMut((u64, u64))>(
+    rt: &R,
+    index: &Index,
+    pass: &mut Pass,
+    from: u64,
+    to: Option<u64>,
+    visit: &mut F,
+)
+    requires own { IsPassOf index.now pass.old }
+    requires callable { F.IsAlwaysCallable visit.old }
+    ensures same { IsSamePass pass.old pass.new }
+    ensures tells { TellsRows (λ p x q. F.step p x tt q) (first_of index.now) (pages_of index.now) (number_of pass.old) from to visit.old visit.new
+        (trail pass.old) (trail pass.new) }
+{
+    let turns = index.patience();
+    let mut at = from;
+    for _ in rt.forever() {
+        match index.scan_with(pass, at, to, turns, visit) {
+            Ok(()) => return,
+            Err(out) => at = out.key,
+        }
+    }
+    unreachable!()
+}

@@ -1,2 +1,0 @@
-pub mod Onwards
-pub mod Respelled

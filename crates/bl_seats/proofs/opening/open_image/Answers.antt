@@ -1,5 +1,0 @@
-use Rattle.bl_seats.proofs.Begun.{all_begun}
-use Rattle.bl_seats.proofs.opening.open_image.Goals as goal
-
-pub shared-requires : goal.shared-requires
-shared-requires c = all_begun _ _ _ c.in-Ok-open_image.index _ c.in-Ok-open_image.ensures.ok.begun
