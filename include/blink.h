@@ -112,8 +112,9 @@ enum {
     BLINK_SEATS_LOST = 14, /* all seats are closed, and there is no image. Cannot happen
                               as long as only seats own the map, which is not proved */
     BLINK_BAD_ROWS = 15,   /* the keys of the rows do not rise */
-    BLINK_BAD_FILL = 16    /* pages are to have less than 1 row or more than 14; or so few
+    BLINK_BAD_FILL = 16,   /* pages are to have less than 1 row or more than 14; or so few
                               that the tree would have more than 12 levels */
+    BLINK_IN_USE = 17      /* a place has an open seat: close it first; nothing is done */
 };
 
 /* The most rows of one leaf: as much room as blink_rows ever needs. */
@@ -155,12 +156,13 @@ typedef struct blink_stats {
 
 /* Opens a map without rows, of so many pages, with a seat for each of the `count` places.
  * A page holds up to 14 rows, and some are kept for the tree and for changes underway:
- * plan a page for each 6 rows. A place that was open is closed, on BLINK_OK alone, and
- * what was underway at it is not ended: so close it first.
+ * plan a page for each 6 rows. All places have to be closed before; with every answer
+ * but BLINK_OK they are as they were, here and below.
  *   BLINK_OK          all places are open
  *   BLINK_BAD_PAGES   `pages` is not 4 to 2^28
  *   BLINK_BAD_SEATS   `count` is not 1 to 64
- *   BLINK_NO_MEMORY   malloc refused; all places are as they were, here and below */
+ *   BLINK_IN_USE      a place has an open seat, which blink_close closes
+ *   BLINK_NO_MEMORY   malloc refused */
 int32_t blink_open(uint32_t pages, blink_seat *seats, size_t count);
 
 /* The same for a map that begins with the rows of an image, as `blink dump` and
@@ -168,6 +170,7 @@ int32_t blink_open(uint32_t pages, blink_seat *seats, size_t count);
  *   BLINK_OK          all places are open
  *   BLINK_BAD_IMAGE   the bytes are no sound image
  *   BLINK_BAD_SEATS   `count` is not 1 to 64
+ *   BLINK_IN_USE      a place has an open seat
  *   BLINK_NO_MEMORY   malloc refused */
 int32_t blink_open_image(const uint8_t *bytes, size_t length, blink_seat *seats,
                          size_t count);
@@ -870,6 +873,7 @@ BLINK_INLINE const char *blink_text(int32_t code) {
         case BLINK_SEATS_LOST: return "the map is gone, without an image";
         case BLINK_BAD_ROWS: return "the keys of the rows do not rise";
         case BLINK_BAD_FILL: return "so many rows a page are not 1 to 14, or too few";
+        case BLINK_IN_USE: return "a place has an open seat: close it first";
         default: return "no code of this library";
     }
 }

@@ -1,4 +1,4 @@
-/* A caller that keeps the rules of blink.h and does all that is odd: numbers at and past their limits, places that are opened twice,
+/* A caller that keeps the rules of blink.h and does all that is odd: numbers at and past their limits, places that are open already,
  * calls of closed seats, rooms that are too small, images that are cut or altered, seats of two maps, a map that is full. Each answer has to be
  * the one that the header promises. */
 #include "blink.h"
@@ -33,8 +33,8 @@ static void versions(void) {
 /* No code is told as another one, and what is none is told so. */
 static void texts(void) {
     int32_t one, two;
-    HOLDS(!strcmp(blink_text(-1), blink_text(BLINK_BAD_FILL + 1)));
-    for (one = -1; one <= BLINK_BAD_FILL; one++) {
+    HOLDS(!strcmp(blink_text(-1), blink_text(BLINK_IN_USE + 1)));
+    for (one = -1; one <= BLINK_IN_USE; one++) {
         for (two = -1; two < one; two++) HOLDS(strcmp(blink_text(one), blink_text(two)) != 0);
     }
 }
@@ -54,20 +54,32 @@ static void limits(void) {
     HOLDS(blink_image_length(0) == 32 && blink_image_length(UINT32_MAX) == 32 + 256 * (uint64_t)UINT32_MAX);
 }
 
-/* Places that are open are opened again: they are closed, and the other seats of their map stay. */
+/* Places that are open are not opened again, nor closed ones among them, and stay as they were. */
 static void opened_twice(void) {
+    static uint8_t bytes[LENGTH];
+    int32_t fault;
     int i;
+    WANT(blink_image_of(rows, 0, PAGES, 14, bytes, sizeof bytes, &length), BLINK_OK);
     WANT(blink_open(PAGES, seats, 64), BLINK_OK);
     value = 77;
     WANT(blink_find(&seats[63], 5, &value), BLINK_ABSENT);
     HOLDS(value == 77);
-    WANT(blink_open(PAGES, seats, 2), BLINK_OK);
-    WANT(blink_insert(&seats[40], 5, 50, &value), BLINK_OK);
-    WANT(blink_find(&seats[41], 5, &value), BLINK_OK);
+    WANT(blink_insert(&seats[0], 5, 50, &value), BLINK_OK);
+    WANT(blink_open(PAGES, seats, 64), BLINK_IN_USE);
+    WANT(blink_open_image(bytes, sizeof bytes, seats, 64), BLINK_IN_USE);
+    /* Of two faults one is told, whichever. */
+    fault = blink_open(3, seats, 2);
+    HOLDS(fault == BLINK_BAD_PAGES || fault == BLINK_IN_USE);
+    fault = blink_open_image(bytes, LENGTH - 1, seats, 2);
+    HOLDS(fault == BLINK_BAD_IMAGE || fault == BLINK_IN_USE);
+    for (i = 0; i < 64; i++) WANT(blink_find(&seats[i], 5, &value), BLINK_OK);
     HOLDS(value == 50);
-    WANT(blink_find(&seats[0], 5, &value), BLINK_ABSENT);
-    WANT(blink_open(3, seats, 2), BLINK_BAD_PAGES);
-    WANT(blink_find(&seats[0], 5, &value), BLINK_ABSENT);
+    for (i = 0; i < 63; i++) WANT(blink_close(&seats[i]), BLINK_OK);
+    WANT(blink_open(PAGES, seats, 64), BLINK_IN_USE);
+    WANT(blink_open_image(bytes, sizeof bytes, seats, 64), BLINK_IN_USE);
+    WANT(blink_find(&seats[63], 5, &value), BLINK_OK);
+    HOLDS(!seats[0].at && !seats[62].at && value == 50);
+    WANT(blink_open_image(bytes, sizeof bytes, seats, 63), BLINK_OK);
     for (i = 0; i < 64; i++) WANT(blink_close(&seats[i]), BLINK_OK);
 }
 

@@ -2,13 +2,11 @@
 use Rattle.std.proofs.Common.{ℕ, zero, suc, ◌≡◌, ◌+◌, ◌<◌, ◌≤◌, ◌++◌, List, [], ◌∷◌, length, map, set, get_or, take, drop, refl, sym, ap, ◌∙◌, append_assoc, add-one, arith}
 use Rattle.std.proofs.lemmas.List.{take_more}
 use Rattle.bl_ffi.specs.declared.calls.Row.{Row}
-use Rattle.bl_ffi.specs.declared.calls.Part.{Part}
 use Rattle.bl_model.specs.declared.operation.Reply.{Reply}
 use Rattle.bl_model.specs.declared.operation.Reply.TheVariants.{Rows}
-use Rattle.bl_model.specs.declared.operation.Next.TheVariants.{More, End}
 use Rattle.bl_model.specs.declared.operation.Op.TheVariants as op
 use Rattle.bl_model.specs.Map.{Map, MayAnswer}
-use Rattle.bl_ffi.specs.Told.{row_of, IsRows, IsListed}
+use Rattle.bl_ffi.specs.Told.{row_of, IsRows}
 
 set_behind : (front old : List Row) (x : Row) → 0 < length old → set (front ++ old) (length front) x ≡ front ++ x ∷ drop 1 old
 set_behind [] [] x lt = absurd (omega (arith, lt))

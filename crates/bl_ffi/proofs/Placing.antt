@@ -18,7 +18,7 @@ use Rattle.std.specs.Arc.{arc_value}
 use Rattle.std.specs.List.{AllZip}
 use Rattle.std.specs.Prelude.{All, slice_get, ◌⊎◌}
 use Rattle.bl_ffi.specs.Together.{AreAtOneMap}
-use Rattle.bl_ffi.specs.Places.{seats_in, opened, closed, placed, AreTaken}
+use Rattle.bl_ffi.specs.Places.{seats_in, opened, closed, placed, IsOpen, HasOpenSeat, AreTaken}
 
 abbrev pub seat_in : SeatOfC → Option Seat
 seat_in place = place.seat
@@ -80,9 +80,8 @@ behind front old i a long at = ap (λ (z : List (Option Seat)). get_elem? (front
 set_next : (front old : List (Option Seat)) (i : ℕ) (a x : Option Seat) → length front ≡ i → get_elem? old i ≡ some a → set (front ++ drop i old) i x ≡ front ++ x ∷ drop (i + 1) old
 set_next front old i a x long at = ap (λ (z : List (Option Seat)). set (front ++ z) i x) (drop_at old i a at) ∙ (ap (λ (n : ℕ). set (front ++ a ∷ drop (i + 1) old) n x) (sym long) ∙ set_seam front (drop (i + 1) old) x a)
 
--- ---- all are closed
-
-pub close_next : (old places : List SeatOfC) (i : ℕ) (place : SeatOfC) → i < length old → place.seat ≡ None → seats_in places ≡ closed i ++ drop i (seats_in old) → seats_in (set places i place) ≡ closed (i + 1) ++ drop (i + 1) (seats_in old)
+-- a place is closed
+close_next : (old places : List SeatOfC) (i : ℕ) (place : SeatOfC) → i < length old → place.seat ≡ None → seats_in places ≡ closed i ++ drop i (seats_in old) → seats_in (set places i place) ≡ closed (i + 1) ++ drop (i + 1) (seats_in old)
 close_next old places i place lt none so_far =
     let olds = seats_in old in let t = there olds i (let long = map_length seat_in old in omega (arith, lt, long)) in
     map_set seat_in places i place ∙ ((λ j. set (so_far j) i (none j)) ∙ (set_next (closed i) olds i t.0 None (closed_length i) t.1
@@ -94,8 +93,33 @@ drop_all [] (suc i) le = refl
 drop_all (x ∷ l) zero le = absurd (omega (arith, le))
 drop_all (x ∷ l) (suc i) le = drop_all l i (omega (arith, le))
 
-pub all_closed : (old places : List SeatOfC) (i : ℕ) → i ≡ length old → seats_in places ≡ closed i ++ drop i (seats_in old) → seats_in places ≡ closed (length old)
-all_closed old places i is so_far =
+set_same : {A : Type 0} (l : List A) (i : ℕ) (a : A) → get_elem? l i ≡ some a → set l i a ≡ l
+set_same [] i a at = refl
+set_same (x ∷ l) zero a at = ap (λ (z : _). z ∷ l) (sym (some-injective x a at))
+set_same (x ∷ l) (suc i) a at = ap (λ (z : _). x ∷ z) (set_same l i a at)
+
+-- ---- whether one is open
+
+-- a place that has the same as before
+pub seats_kept : (places : List SeatOfC) (i : ℕ) (was place : SeatOfC) → get_elem? places i ≡ some was → place.seat ≡ was.seat → seats_in (set places i place) ≡ seats_in places
+seats_kept places i was place at same =
+    map_set seat_in places i place ∙ (ap (λ (z : Option Seat). set (seats_in places) i z) same ∙ set_same (seats_in places) i was.seat (map_at seat_in places i was at))
+
+-- what stands at a place stood there before
+stood : (old places : List SeatOfC) (i : ℕ) (was : SeatOfC) (seat : Option Seat) → get_elem? places i ≡ some was → was.seat ≡ seat → seats_in places ≡ seats_in old → get_elem? (seats_in old) i ≡ some seat
+stood old places i was seat at is kept = ap (λ (z : List (Option Seat)). get_elem? z i) (sym kept) ∙ (map_at seat_in places i was at ∙ ap some is)
+
+pub one_open : (old places : List SeatOfC) (i : ℕ) (was : SeatOfC) → get_elem? places i ≡ some was → IsOpen was.seat → seats_in places ≡ seats_in old → HasOpenSeat (seats_in old)
+one_open old places i was at has kept = (i, has.0, stood old places i was (Some has.0) at has.1 kept)
+
+pub closed_next : (old places : List SeatOfC) (i : ℕ) (was : SeatOfC) → get_elem? places i ≡ some was → was.seat ≡ None → seats_in places ≡ seats_in old → seats_in old ≡ closed i ++ drop i (seats_in old) → seats_in old ≡ closed (i + 1) ++ drop (i + 1) (seats_in old)
+closed_next old places i was at none kept so_far =
+    let olds = seats_in old in
+    so_far ∙ (ap (λ (z : List (Option Seat)). closed i ++ z) (drop_at olds i None (stood old places i was None at none kept))
+    ∙ (sym (append_assoc (closed i) (None ∷ []) (drop (i + 1) olds)) ∙ ap (λ (z : List (Option Seat)). z ++ drop (i + 1) olds) (sym (closed_more i))))
+
+pub all_closed : (old : List SeatOfC) (i : ℕ) → i ≡ length old → seats_in old ≡ closed i ++ drop i (seats_in old) → seats_in old ≡ closed (length old)
+all_closed old i is so_far =
     so_far ∙ (ap (λ (z : List (Option Seat)). closed i ++ z) (drop_all (seats_in old) i (let long = map_length seat_in old in omega (arith, is, long))) ∙ (append-nil (closed i) ∙ ap closed is))
 
 -- ---- seats are put into places

@@ -3,9 +3,9 @@ use Rattle.std.specs.Prelude.{◌≡◌, ◌⊎◌, ◌<◌, ◌^◌, ℕ, ℤ, 
 use Rattle.bl_check.specs.Faults.{AreSoundImage}
 use Rattle.bl_ffi_seats.specs.declared.seat.Seat.{Seat}
 use Rattle.bl_ffi_seats.specs.Opened.{AreSeatsOpened, IsReopened}
-use Rattle.bl_ffi.specs.Places.{opened}
+use Rattle.bl_ffi.specs.Places.{opened, closed, HasOpenSeat}
 
--- Each place has its seat, and one that it had is closed; or there was no memory, and the places are as they were.
+-- Each place has its seat; or there was no memory, and the places are as they were.
 abbrev pub AreHandedOut : List Seat → List (Option Seat) → List (Option Seat) → ℤ → Type 0
 AreHandedOut seats old new code = ((code ≡ pos 0) × (new ≡ opened seats)) ⊎ ((code ≡ pos 7) × (new ≡ old))
 
@@ -13,22 +13,26 @@ AreHandedOut seats old new code = ((code ≡ pos 0) × (new ≡ opened seats)) �
 abbrev pub AreBadSeats : ℕ → Type 0
 AreBadSeats count = (count < 1) ⊎ (64 < count)
 
--- Why no map of so many pages was opened: the pages are not within their limits; the seats are not; or there was no memory.
-abbrev pub IsNotOpened : ℕ → ℕ → ℤ → Type 0
-IsNotOpened pages count code = ((code ≡ pos 5) × ((pages < 4) ⊎ (2 ^ 28 < pages))) ⊎ ((code ≡ pos 6) × AreBadSeats count) ⊎ (code ≡ pos 7)
+-- Why these places were given no seats: they are too few or too many; one has a seat; or there was no memory.
+abbrev pub AreRefused : List (Option Seat) → ℤ → Type 0
+AreRefused places code = ((code ≡ pos 6) × AreBadSeats (length places)) ⊎ ((code ≡ pos 17) × HasOpenSeat places) ⊎ (code ≡ pos 7)
 
--- The places have the seats of one new map without rows; or none was opened, and they are as they were.
+-- Why no map of so many pages was opened: the pages are not within their limits; or the places are refused.
+abbrev pub IsNotOpened : ℕ → List (Option Seat) → ℤ → Type 0
+IsNotOpened pages places code = ((code ≡ pos 5) × ((pages < 4) ⊎ (2 ^ 28 < pages))) ⊎ AreRefused places code
+
+-- The places, which were closed, have the seats of one new map without rows; or none was opened, and they are as they were.
 abbrev pub Opens : ℕ → List (Option Seat) → List (Option Seat) → ℤ → Type 0
 Opens pages old new code =
-    ((code ≡ pos 0) × ((seats : List Seat) × AreSeatsOpened pages (length old) seats × (new ≡ opened seats)))
-    ⊎ (IsNotOpened pages (length old) code × (new ≡ old))
+    ((code ≡ pos 0) × (old ≡ closed (length old)) × ((seats : List Seat) × AreSeatsOpened pages (length old) seats × (new ≡ opened seats)))
+    ⊎ (IsNotOpened pages old code × (new ≡ old))
 
--- Why none was opened from bytes: they are no sound image; the seats are not within their limits; or there was no memory.
-abbrev pub IsNotReopened : List ℕ → ℕ → ℤ → Type 0
-IsNotReopened bytes count code = ((code ≡ pos 8) × (AreSoundImage bytes → ⊥)) ⊎ ((code ≡ pos 6) × AreBadSeats count) ⊎ (code ≡ pos 7)
+-- Why none was opened from bytes: they are no sound image; or the places are refused.
+abbrev pub IsNotReopened : List ℕ → List (Option Seat) → ℤ → Type 0
+IsNotReopened bytes places code = ((code ≡ pos 8) × (AreSoundImage bytes → ⊥)) ⊎ AreRefused places code
 
 -- The same of a map that begins with the rows of the image that the bytes are.
 abbrev pub OpensImage : List ℕ → List (Option Seat) → List (Option Seat) → ℤ → Type 0
 OpensImage bytes old new code =
-    ((code ≡ pos 0) × ((seats : List Seat) × IsReopened bytes (length old) seats × (new ≡ opened seats)))
-    ⊎ (IsNotReopened bytes (length old) code × (new ≡ old))
+    ((code ≡ pos 0) × (old ≡ closed (length old)) × ((seats : List Seat) × IsReopened bytes (length old) seats × (new ≡ opened seats)))
+    ⊎ (IsNotReopened bytes old code × (new ≡ old))

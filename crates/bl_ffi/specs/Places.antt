@@ -21,6 +21,14 @@ closed n = replicate n None
 abbrev pub placed : List Seat → ℕ → List (Option Seat)
 placed seats n = opened seats ++ drop (length seats) (closed n)
 
+-- it has a seat
+abbrev pub IsOpen : Option Seat → Type 0
+IsOpen place = (seat : Seat) × (place ≡ Some seat)
+
+-- one of them has a seat
+abbrev pub HasOpenSeat : List (Option Seat) → Type 0
+HasOpenSeat places = (number : ℕ) × (seat : Seat) × (get_elem? places number ≡ some (Some seat))
+
 -- The seats of the first places were taken out, up to the end or to a closed place.
 pub record AreTaken (old new : List (Option Seat)) (seats : List Seat) : Type 0 where
   pub taken : opened seats ≡ take (length seats) old

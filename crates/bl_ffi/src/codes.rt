@@ -32,3 +32,5 @@ pub(crate) const SEATS_LOST: i32 = 14;
 pub(crate) const BAD_ROWS: i32 = 15;
 /// The pages are to be filled with less than 1 row or more than 14, or so little that the tree would have more than 12 levels.
 pub(crate) const BAD_FILL: i32 = 16;
+/// A place has an open seat.
+pub(crate) const IN_USE: i32 = 17;

@@ -3,10 +3,10 @@
 ghost use Rattle.std.specs.Prelude.{◌≡◌, length, IfOk};
 ghost use Rattle.bl_ffi_seats.specs.Closed.{values};
 ghost use Rattle.bl_ffi.specs.Opened.{Opens, OpensImage, AreHandedOut};
-ghost use Rattle.bl_ffi.specs.Places.{seats_in};
+ghost use Rattle.bl_ffi.specs.Places.{seats_in, closed};
 
-use crate::codes::{BAD_IMAGE, BAD_PAGES, BAD_SEATS, NO_MEMORY, OK};
-use crate::places::{close_all, put_all};
+use crate::codes::{BAD_IMAGE, BAD_PAGES, BAD_SEATS, IN_USE, NO_MEMORY, OK};
+use crate::places::{is_any_open, put_all};
 use crate::seat::SeatOfC;
 use bl_ffi_seats::{ImageFault, OpenFault, Seat, open, open_image};
 use std::alloc::{AllocError, Global};
@@ -26,26 +26,29 @@ fn boxed(alloc: Global, seats: Vec<Seat>) -> Result<Vec<Box<Seat, Global>>, Allo
     Ok(boxes)
 }
 
-/// Hands the seats out. A place that has one already has that closed.
+/// Hands the seats out to closed places.
 fn hand_out(alloc: Global, seats: Vec<Seat>, places: &mut [SeatOfC]) -> i32
-    requires { length seats.items ≡ length places.old }
+    requires count { length seats.items ≡ length places.old }
+    requires empty { seats_in places.old ≡ closed (length places.old) }
     ensures { AreHandedOut seats.items (seats_in places.old) (seats_in places.new) result }
 {
     let Ok(boxes) = boxed(alloc, seats) else {
         return NO_MEMORY;
     };
-    close_all(alloc, places);
     put_all(alloc, places, boxes);
     OK
 }
 
-/// Opens an index without rows, with a seat for each place.
+/// Opens an index without rows, with a seat for each place, all of which are closed.
 #[unsafe(no_mangle)]
 pub extern "C" fn blink_open(alloc: Global, pages: u32, seats: &mut [SeatOfC]) -> i32
     ensures { Opens pages (seats_in seats.old) (seats_in seats.new) result }
 {
     if seats.len() > 64 {
         return BAD_SEATS;
+    }
+    if is_any_open(alloc, seats) {
+        return IN_USE;
     }
     match open(alloc, pages, seats.len() as u32) {
         Ok(opened) => hand_out(alloc, opened, seats),
@@ -55,13 +58,16 @@ pub extern "C" fn blink_open(alloc: Global, pages: u32, seats: &mut [SeatOfC]) -
     }
 }
 
-/// Opens an index with the rows of an image, with a seat for each place.
+/// The same with the rows of an image.
 #[unsafe(no_mangle)]
 pub extern "C" fn blink_open_image(alloc: Global, bytes: &[u8], seats: &mut [SeatOfC]) -> i32
     ensures { OpensImage bytes.now (seats_in seats.old) (seats_in seats.new) result }
 {
     if seats.len() > 64 {
         return BAD_SEATS;
+    }
+    if is_any_open(alloc, seats) {
+        return IN_USE;
     }
     match open_image(alloc, bytes, seats.len() as u32) {
         Ok(opened) => hand_out(alloc, opened, seats),

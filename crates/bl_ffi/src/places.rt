@@ -1,8 +1,8 @@
 //! Places of C: a seat's box is taken out of one for the time of a call, and put back.
 
-ghost use Rattle.std.specs.Prelude.{◌≡◌, ◌++◌, ◌≤◌, [], None, Some, MatchOption, drop, length, vec_capacity};
+ghost use Rattle.std.specs.Prelude.{◌≡◌, ◌++◌, ◌≤◌, [], None, Some, MatchBool, MatchOption, drop, length, vec_capacity};
 ghost use Rattle.bl_ffi_seats.specs.Closed.{values};
-ghost use Rattle.bl_ffi.specs.Places.{seats_in, opened, closed, AreTaken};
+ghost use Rattle.bl_ffi.specs.Places.{seats_in, opened, closed, IsOpen, HasOpenSeat, AreTaken};
 
 use crate::loose::Loose;
 use crate::seat::SeatOfC;
@@ -61,11 +61,27 @@ pub(crate) fn put_all(alloc: Global, places: &mut [SeatOfC], boxes: Vec<Box<Seat
     }
 }
 
-/// Closes the seats of all places.
-pub(crate) fn close_all(alloc: Global, places: &mut [SeatOfC])
-    ensures { seats_in places.new ≡ closed (length places.old) }
+/// Whether a place has a seat. Its box is taken out for the look, and put back.
+fn is_open(alloc: Global, place: &mut SeatOfC) -> bool
+    ensures left { place.new.seat ≡ place.old.seat }
+    ensures told { MatchBool result (IsOpen place.old.seat) (place.old.seat ≡ None) }
+{
+    let Some(seat) = taken(alloc, place) else {
+        return false;
+    };
+    put_back(alloc, place, seat);
+    true
+}
+
+/// Whether one of the places has a seat.
+pub(crate) fn is_any_open(alloc: Global, places: &mut [SeatOfC]) -> bool
+    ensures left { seats_in places.new ≡ seats_in places.old }
+    ensures told { MatchBool result (HasOpenSeat (seats_in places.old)) (seats_in places.old ≡ closed (length places.old)) }
 {
     for number in 0..places.len() {
-        let _ = taken(alloc, &mut places[number]);
+        if is_open(alloc, &mut places[number]) {
+            return true;
+        }
     }
+    false
 }

@@ -88,6 +88,8 @@ pub const BLINK_SEATS_LOST: i32 = 14;
 pub const BLINK_BAD_ROWS: i32 = 15;
 /// Pages are to have less than 1 row or more than 14; or so few that the tree would have more than 12 levels.
 pub const BLINK_BAD_FILL: i32 = 16;
+/// A place has an open seat: close it first; nothing was done.
+pub const BLINK_IN_USE: i32 = 17;
 /// The most rows of one leaf.
 pub const BLINK_LEAF_ROWS: usize = 14;
 
