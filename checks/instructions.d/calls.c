@@ -1,4 +1,4 @@
-/* Calls of a map from C, for checks/instructions: calls WHAT ROWS COUNT. calls.rt says what each kind is, and makes the same calls from Rattle. */
+/* Calls of a map from C, for checks/instructions: calls WHAT ROWS COUNT. calls.rattle says what each kind is, and makes the same calls from Rattle. */
 #include <blink.h>
 
 #include <stdio.h>
