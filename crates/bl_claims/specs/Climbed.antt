@@ -5,10 +5,10 @@ use Rattle.bl_model.specs.declared.operation.Reply.TheVariants.{Inserted}
 use Rattle.bl_page.specs.Machine.Act.{Begin}
 use Rattle.bl_claims.specs.Trails.{Mark, Trail}
 use Rattle.bl_claims.specs.Meanings.{MeansDone}
-use Rattle.bl_proc_steps.specs.declared.answers.Hint.{Hint}
-use Rattle.bl_proc_steps.specs.declared.answers.Hint.TheVariants as hint
-use Rattle.bl_proc_steps.specs.declared.answers.Posted.{Posted}
-use Rattle.bl_proc_writes.specs.InsertPosts.{left_hint}
+use Rattle.bl_answers.specs.declared.answers.Hint.{Hint}
+use Rattle.bl_answers.specs.declared.answers.Hint.TheVariants as hint
+use Rattle.bl_answers.specs.declared.answers.Posted.{Posted}
+use Rattle.bl_answers.specs.Hints.{left_hint}
 use Rattle.bl_claims.specs.Hinted.{MeansWritten}
 use Rattle.bl_claims.specs.Answers.{MeansPosted}
 

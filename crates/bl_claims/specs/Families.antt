@@ -6,7 +6,7 @@ use Rattle.bl_page.specs.Machine.{Act}
 use Rattle.bl_page.specs.Machine.Act.{Latch}
 use Rattle.bl_claims.specs.Trails.{Mark, Trail}
 use Rattle.bl_claims.specs.Latches.{KeepsPage}
-use Rattle.bl_proc_compress.specs.declared.compression.Family.{Family}
+use Rattle.bl_rearrange.specs.declared.families.Family.{Family}
 use Rattle.bl_claims.specs.Squeezed.{AtParent}
 
 -- It holds no page but the parent of that level, which covers the key, and of two children of it that stand side by side at the

@@ -8,9 +8,9 @@ use Rattle.bl_page.specs.Machine.{Act}
 use Rattle.bl_page.specs.Machine.Act.{Put}
 use Rattle.bl_claims.specs.Trails.{Trail}
 use Rattle.bl_claims.specs.Meanings.{Unwritten, WroteHeld, WritesBack}
-use Rattle.bl_proc_steps.specs.declared.answers.Hint.{Hint}
-use Rattle.bl_proc_steps.specs.Thin.{thin_low, thin_hint}
-use Rattle.bl_proc_writes.specs.Writes.{post_hint}
+use Rattle.bl_answers.specs.declared.answers.Hint.{Hint}
+use Rattle.bl_answers.specs.Thin.{thin_low, thin_hint}
+use Rattle.bl_answers.specs.Hints.{post_hint}
 
 -- It has written back the page that it latched, whole or split at that separator, and has written nothing else.
 abbrev pub WroteLeaf : Option ℕ → Trail → Type 0

@@ -10,11 +10,9 @@ use Rattle.bl_page.specs.declared.machine.Missed.TheVariants as missed
 use Rattle.bl_page.specs.Nodes.{roots_of}
 use Rattle.bl_claims.specs.Trails.{Mark, Trail}
 use Rattle.bl_claims.specs.Meanings.{HasGot}
-use Rattle.bl_proc_steps.specs.declared.lowering.Lowered.{Lowered}
-use Rattle.bl_proc_steps.specs.declared.lowering.Lowered.TheVariants as lowered
-use Rattle.bl_proc_routes.specs.Routes.{top_of}
-use Rattle.bl_proc_steps.specs.Lowerings.{IsSole, IsFallen}
-use Rattle.bl_proc_steps.specs.Growths.{IsAnchor}
+use Rattle.bl_answers.specs.declared.answers.Lowered.{Lowered}
+use Rattle.bl_answers.specs.declared.answers.Lowered.TheVariants as lowered
+use Rattle.bl_page.specs.Tops.{top_of, IsSole, IsFallen, IsAnchor}
 use Rattle.bl_claims.specs.Squeezed.{Since, Once, HasNoLevel}
 
 -- The anchor was latched and got, and names more than one level; then the leftmost page of the last one was latched and got.

@@ -18,12 +18,12 @@ use Rattle.bl_rearrange.specs.declared.sides.Side.TheVariants as side
 use Rattle.bl_page.specs.Nodes.{Shape, Covers, node_of}
 use Rattle.bl_claims.specs.Trails.{Mark, Trail}
 use Rattle.bl_claims.specs.Meanings.{HasGot, writes_of, Unwritten}
-use Rattle.bl_proc_steps.specs.declared.answers.Hint.{Hint}
-use Rattle.bl_proc_steps.specs.declared.answers.Hint.TheVariants as post
-use Rattle.bl_proc_steps.specs.declared.answers.Squeezed.{Squeezed}
-use Rattle.bl_proc_steps.specs.declared.answers.Squeezed.TheVariants as squeezed
-use Rattle.bl_proc_compress.specs.declared.compression.Siblings.{Siblings}
-use Rattle.bl_proc_compress.specs.declared.compression.Family.{Family}
+use Rattle.bl_answers.specs.declared.answers.Hint.{Hint}
+use Rattle.bl_answers.specs.declared.answers.Hint.TheVariants as post
+use Rattle.bl_answers.specs.declared.answers.Squeezed.{Squeezed}
+use Rattle.bl_answers.specs.declared.answers.Squeezed.TheVariants as squeezed
+use Rattle.bl_rearrange.specs.declared.families.Siblings.{Siblings}
+use Rattle.bl_rearrange.specs.declared.families.Family.{Family}
 
 -- what was done, in its order; what was missed is left out
 abbrev pub acts_in : Act Page Reply → List (Act Page Reply)

@@ -7,10 +7,11 @@
 //! `specs/States` that the laws hold in every state. `specs/Opening` is what an index begins with, and `specs/Seeing` what a pass has
 //! seen. `specs/Bounds` says how long a search may go on, `specs/Latches` what a process holds when it latches.
 //!
-//! What the answers and hints of writers mean is told by what their processes have done: `specs/Meanings` says what a process has
-//! written, page by page, `specs/Hinted` what a write of one key has, with the hint beside its reply, `specs/Answers` what the answers of
-//! a post mean, `specs/Climbed` what an insertion that posts has done, `specs/Squeezed` the answers of a compression, `specs/Lowered`
-//! those of a lowering, and `specs/Families` what a compression holds when it latches a page.
+//! What the answers and hints of writers mean, which are types of `bl_answers`, is told by what their processes have done, and not by
+//! their states: `specs/Meanings` says what a process has written, page by page, `specs/Hinted` what a write of one key has, with the hint
+//! beside its reply, `specs/Answers` what the answers of a post mean, `specs/Climbed` what an insertion that posts has done,
+//! `specs/Squeezed` the answers of a compression, `specs/Lowered` those of a lowering, and `specs/Families` what a compression holds when
+//! it latches a page.
 //!
 //! `proofs/` has worked examples alone: the laws on a small tree, the trail of a search, and posts by what they did. The promises
 //! are proved by the crates above; invariants, which only those proofs need, stand there.

@@ -1,7 +1,7 @@
 -- A piece of upkeep more in a row, or one less.
 use Rattle.std.proofs.Common.{◌≡◌, ◌++◌, true, Option, Some, None, List, [], ◌∷◌, refl, sym, ap, ◌∙◌}
 use Rattle.std.specs.Prelude.{IfNone}
-use Rattle.bl_proc_steps.specs.declared.answers.Hint.{Hint}
+use Rattle.bl_answers.specs.declared.answers.Hint.{Hint}
 use Rattle.bl_ffi_seats.specs.Pieces.{are_pieces}
 
 pub one_more : (xs : List (Option Hint)) (h : Hint) → are_pieces xs ≡ true → are_pieces (xs ++ Some h ∷ []) ≡ true

@@ -10,8 +10,8 @@ use Rattle.bl_model.specs.declared.operation.KeyReply.TheVariants as key_reply
 use Rattle.bl_model.specs.declared.operation.Reply.TheVariants as reply
 use Rattle.bl_index_events.specs.Rooms.{LacksWrite}
 use Rattle.bl_ffi_seats.proofs.Goes.{since_goes, done_goes}
-use Rattle.bl_proc_steps.specs.declared.answers.Answer.TheVariants as answers
-use Rattle.bl_proc_steps.specs.declared.answers.Hint.{Hint}
+use Rattle.bl_answers.specs.declared.answers.Answer.TheVariants as answers
+use Rattle.bl_answers.specs.declared.answers.Hint.{Hint}
 use Rattle.bl_store.specs.declared.store.Hand.{Hand}
 use Rattle.bl_store.specs.Hands.{known}
 use Rattle.bl_index_rule.specs.declared.known.PassState.{PassState}

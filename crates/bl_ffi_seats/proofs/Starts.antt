@@ -3,8 +3,8 @@ use Rattle.std.proofs.Common.{ℕ, ◌≡◌, ◌+◌, ◌≤◌, Some, inl, inr
 use Rattle.bl_model.specs.declared.deciding.KeyWrite.{KeyWrite}
 use Rattle.bl_model.specs.Writes.{write_op}
 use Rattle.bl_claims.specs.Seeing.{own, GoesOnFrom}
-use Rattle.bl_proc_steps.specs.declared.answers.Hint.{Hint}
-use Rattle.bl_proc_steps.specs.declared.answers.Hint.TheVariants as hint
+use Rattle.bl_answers.specs.declared.answers.Hint.{Hint}
+use Rattle.bl_answers.specs.declared.answers.Hint.TheVariants as hint
 use Rattle.bl_store.specs.declared.store.Hand.{Hand}
 use Rattle.bl_store.specs.Hands.{known}
 use Rattle.bl_index_rule.specs.declared.known.PassState.{PassState}

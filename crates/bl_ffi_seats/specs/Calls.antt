@@ -5,8 +5,8 @@ use Rattle.bl_model.specs.declared.operation.Op.{Op}
 use Rattle.bl_model.specs.declared.operation.Reply.{Reply}
 use Rattle.bl_page.specs.declared.page.Page.{Page}
 use Rattle.bl_claims.specs.Trails.{Trail}
-use Rattle.bl_proc_steps.specs.declared.answers.Answer.{Answer}
-use Rattle.bl_proc_steps.specs.declared.answers.Hint.{Hint}
+use Rattle.bl_answers.specs.declared.answers.Answer.{Answer}
+use Rattle.bl_answers.specs.declared.answers.Hint.{Hint}
 use Rattle.bl_store.specs.Hands.{known}
 use Rattle.bl_index_resume.specs.declared.stages.Stage.{Stage}
 use Rattle.bl_index_resume.specs.declared.stages.Stage.TheVariants as stage

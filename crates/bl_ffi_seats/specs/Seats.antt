@@ -9,12 +9,12 @@ use Rattle.bl_model.specs.Writes.{write_op}
 use Rattle.bl_claims.specs.Trails.{Trail}
 use Rattle.bl_claims.specs.Seeing.{GoesOnFrom}
 use Rattle.bl_index_events.specs.Rooms.{LacksWrite}
-use Rattle.bl_proc_steps.specs.declared.answers.Answer.{Answer}
-use Rattle.bl_proc_steps.specs.declared.answers.Answer.TheVariants as answers
-use Rattle.bl_proc_steps.specs.declared.answers.Hint.{Hint}
-use Rattle.bl_proc_steps.specs.declared.answers.Hint.TheVariants as hint
-use Rattle.bl_proc_steps.specs.declared.answers.Posted.{Posted}
-use Rattle.bl_proc_steps.specs.declared.answers.Posted.TheVariants as posted
+use Rattle.bl_answers.specs.declared.answers.Answer.{Answer}
+use Rattle.bl_answers.specs.declared.answers.Answer.TheVariants as answers
+use Rattle.bl_answers.specs.declared.answers.Hint.{Hint}
+use Rattle.bl_answers.specs.declared.answers.Hint.TheVariants as hint
+use Rattle.bl_answers.specs.declared.answers.Posted.{Posted}
+use Rattle.bl_answers.specs.declared.answers.Posted.TheVariants as posted
 use Rattle.bl_store.specs.declared.store.Hand.{Hand}
 use Rattle.bl_store.specs.Hands.{known}
 use Rattle.bl_index_rule.specs.declared.known.PassState.{PassState}

@@ -4,8 +4,8 @@ use Rattle.bl_model.specs.declared.deciding.KeyWrite.{KeyWrite}
 use Rattle.bl_model.specs.declared.deciding.KeyWrite.TheVariants.{Insert, Put}
 use Rattle.bl_model.specs.declared.operation.Reply.{Reply}
 use Rattle.bl_model.specs.Writes.{write_op}
-use Rattle.bl_proc_steps.specs.declared.answers.Answer.{Answer}
-use Rattle.bl_proc_steps.specs.declared.answers.Hint.{Hint}
+use Rattle.bl_answers.specs.declared.answers.Answer.{Answer}
+use Rattle.bl_answers.specs.declared.answers.Hint.{Hint}
 use Rattle.bl_store.specs.Hands.{known}
 use Rattle.bl_index_resume.specs.declared.stages.Stage.TheVariants as stage
 use Rattle.bl_index_resume.specs.Stages.{HasTurnedIn}

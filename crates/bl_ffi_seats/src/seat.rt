@@ -183,7 +183,7 @@ impl Seat {
     ghost use Rattle.bl_ffi_seats.specs.Seats.{HasAnswered, HasWritten};
     ghost use Rattle.bl_ffi_seats.specs.Accounts.{AddsEntry, HasGone, Starts};
     ghost use Rattle.std.specs.Prelude.{ℕ, Option};
-    ghost use Rattle.bl_proc_steps.specs.declared.answers.Hint.{Hint as HintIs};
+    ghost use Rattle.bl_answers.specs.declared.answers.Hint.{Hint as HintIs};
     ghost use Rattle.bl_index_resume.specs.Stages.{IsAtRest};
     ghost use Rattle.bl_ffi_seats.specs.Waits.{hints_of, lacked_in, IsKept, IsFound, IsLeft};
     ghost use Rattle.bl_ffi_seats.specs.Calls.{IsSameSeat, HasToldLast, HasTold, HasGoneOn, HasGoneOnOrBegun, HasSwept, HasNothingToDo, HasBegunPiece};

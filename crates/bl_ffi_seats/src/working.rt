@@ -3,7 +3,7 @@
 ghost use Rattle.std.specs.Prelude.{◌≡◌, ◌≢◌, ◌⊎◌, ◌+◌, ◌<◌, ◌≤◌, IfSome, IfNone, MatchOption, true, false};
 ghost use Rattle.bl_model.specs.declared.operation.Op.TheVariants as op;
 ghost use Rattle.bl_model.specs.Replies.{reply_of};
-ghost use Rattle.bl_proc_steps.specs.declared.answers.Hint.TheVariants as hints;
+ghost use Rattle.bl_answers.specs.declared.answers.Hint.TheVariants as hints;
 ghost use Rattle.bl_model.specs.Writes.{write_op};
 ghost use Rattle.bl_ffi_seats.specs.Seats.{IsSeated, IsSameOne, HasAnswered, HasFound, HasReplied, HasReleased, HasNotFound, HasWorked, HasWritten, HasFollowed, HasPosted, begun_in};
 ghost use Rattle.bl_ffi_seats.specs.Accounts.{account, HasGone, AddsEntry, Starts};

@@ -2,7 +2,7 @@
 use Rattle.std.specs.Prelude.{ℕ, List, ⊤}
 use Rattle.std.specs.List.{All}
 use Rattle.std.proofs.lemmas.List.Elements.{All-head, All-tail}
-use Rattle.bl_proc_steps.specs.declared.answers.Hint.{Hint}
+use Rattle.bl_answers.specs.declared.answers.Hint.{Hint}
 use Rattle.crossbeam_queue.specs.Fifo.{Pops}
 
 pub pops : (P : Hint → Type 0) (pass : ℕ) (v : ⊤) → Pops (λ items (views : List ⊤). All P items) pass v (λ x w. P x)

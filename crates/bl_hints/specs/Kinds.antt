@@ -1,7 +1,7 @@
 -- The kinds of hints.
 use Rattle.std.specs.Prelude.{◌≡◌, Bool, true, false}
-use Rattle.bl_proc_steps.specs.declared.answers.Hint.{Hint}
-use Rattle.bl_proc_steps.specs.declared.answers.Hint.TheVariants as hint
+use Rattle.bl_answers.specs.declared.answers.Hint.{Hint}
+use Rattle.bl_answers.specs.declared.answers.Hint.TheVariants as hint
 
 abbrev pub is_post : Hint → Bool
 is_post (hint.Post level key) = true

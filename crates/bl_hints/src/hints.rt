@@ -4,7 +4,7 @@ ghost use Rattle.std.specs.Prelude.{IfOk, IfSome};
 ghost use Rattle.bl_hints.specs.Kinds.{IsPost, IsThin};
 
 use crate::kinds::{Posts, Thins};
-use bl_proc_steps::{Hint, Level};
+use bl_answers::{Hint, Level};
 use crossbeam_queue::RuledArrayQueue;
 use std::alloc::{AllocError, Global};
 use std::sync::Wait;

@@ -3,7 +3,7 @@
 ghost use Rattle.std.specs.Prelude.{All, ⊤};
 ghost use Rattle.bl_hints.specs.Kinds.{IsPost, IsThin};
 
-use bl_proc_steps::Hint;
+use bl_answers::Hint;
 use crossbeam_queue::protocol::{Lesson, Outcome, Protocol};
 
 /// The rule of the queue of hints to list a page: it holds no others. Passes need to know nothing.

@@ -14,8 +14,8 @@ use Rattle.bl_model.specs.Map.{Map, MayAnswer}
 use Rattle.bl_model.specs.History.{final_map}
 use Rattle.bl_claims.specs.Trails.{Trail, history_of}
 use Rattle.bl_claims.specs.Seeing.{first_map}
-use Rattle.bl_proc_steps.specs.declared.answers.Answer.TheVariants.{Op}
-use Rattle.bl_proc_steps.specs.declared.answers.Hint.{Hint}
+use Rattle.bl_answers.specs.declared.answers.Answer.TheVariants.{Op}
+use Rattle.bl_answers.specs.declared.answers.Hint.{Hint}
 use Rattle.bl_proc_writes.specs.declared.writing.WriteReply.{WriteReply}
 use Rattle.bl_proc_writes.specs.declared.writing.WriteReply.TheVariants as written
 use Rattle.bl_proc_writes.specs.Writes.{write_answer}

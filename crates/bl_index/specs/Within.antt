@@ -7,8 +7,8 @@ use Rattle.bl_index_read.specs.declared.leaf_rows.Behind.{Behind}
 use Rattle.bl_index_rule.specs.declared.known.PassState.{PassState}
 use Rattle.bl_index_events.specs.Runs.{Rests}
 use Rattle.bl_index_events.specs.declared.tree.Tree.{Tree}
-use Rattle.bl_proc_steps.specs.declared.answers.Answer.TheVariants.{Op, Post, Compress, Reclaim, Lower, InsertPost}
-use Rattle.bl_proc_steps.specs.declared.answers.Answer.{Answer}
+use Rattle.bl_answers.specs.declared.answers.Answer.TheVariants.{Op, Post, Compress, Reclaim, Lower, InsertPost}
+use Rattle.bl_answers.specs.declared.answers.Answer.{Answer}
 use Rattle.bl_proc_steps.specs.declared.descent.Descent.{Descent}
 use Rattle.bl_store.specs.Hands.{known}
 use Rattle.bl_store.specs.declared.store.Hand.{Hand}

@@ -6,7 +6,7 @@ ghost use Rattle.bl_model.specs.declared.operation.KeyReply.TheVariants as repli
 ghost use Rattle.bl_model.specs.declared.operation.Op.TheVariants as op;
 ghost use Rattle.bl_model.specs.Replies.{reply_of};
 ghost use Rattle.bl_model.specs.Writes.{write_op};
-ghost use Rattle.bl_proc_steps.specs.declared.answers.Hint.TheVariants as hints;
+ghost use Rattle.bl_answers.specs.declared.answers.Hint.TheVariants as hints;
 ghost use Rattle.bl_proc_writes.specs.Placings.{write_of};
 
 use crate::index::{Index, Pass};

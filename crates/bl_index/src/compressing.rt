@@ -1,8 +1,8 @@
 //! Compressions.
 
 ghost use Rattle.std.specs.Prelude.{◌≡◌};
-ghost use Rattle.bl_proc_steps.specs.declared.answers.Squeezed.TheVariants as answer;
-ghost use Rattle.bl_proc_steps.specs.Hints.{level_of, key_of};
+ghost use Rattle.bl_answers.specs.declared.answers.Squeezed.TheVariants as answer;
+ghost use Rattle.bl_answers.specs.Hints.{level_of, key_of};
 
 use crate::index::{Index, Pass};
 use bl_index_compress::compress_children;

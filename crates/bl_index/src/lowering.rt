@@ -1,8 +1,8 @@
 //! Lowerings.
 
 ghost use Rattle.std.specs.Prelude.{◌≡◌, Some};
-ghost use Rattle.bl_proc_steps.specs.declared.answers.Answer.TheVariants as answers;
-ghost use Rattle.bl_proc_steps.specs.declared.lowering.Lowered.TheVariants as answer;
+ghost use Rattle.bl_answers.specs.declared.answers.Answer.TheVariants as answers;
+ghost use Rattle.bl_answers.specs.declared.answers.Lowered.TheVariants as answer;
 ghost use Rattle.bl_index.specs.Within.{IsLowerAnswer};
 
 use crate::index::{Index, Pass};

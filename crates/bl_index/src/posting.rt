@@ -1,8 +1,8 @@
 //! Posts.
 
 ghost use Rattle.std.specs.Prelude.{◌≡◌};
-ghost use Rattle.bl_proc_steps.specs.Hints.{level_of, key_of};
-ghost use Rattle.bl_proc_steps.specs.declared.answers.Posted.TheVariants as postings;
+ghost use Rattle.bl_answers.specs.Hints.{level_of, key_of};
+ghost use Rattle.bl_answers.specs.declared.answers.Posted.TheVariants as postings;
 
 use crate::index::{Index, Pass};
 use bl_index_write::post_key;

@@ -7,17 +7,17 @@ use Rattle.bl_proc_steps.specs.declared.acts.Seen.{Seen}
 use Rattle.bl_proc_steps.specs.declared.acts.Seen.TheVariants as seen
 use Rattle.bl_proc_steps.specs.Given.{Gives}
 use Rattle.bl_proc_steps.specs.declared.approach.Approach.TheVariants.{Start}
-use Rattle.bl_proc_steps.specs.declared.answers.Hint.{Hint}
-use Rattle.bl_proc_steps.specs.declared.answers.Hint.TheVariants as hint
-use Rattle.bl_proc_steps.specs.declared.answers.Answer.TheVariants as answer
-use Rattle.bl_proc_steps.specs.declared.answers.Squeezed.{Squeezed}
-use Rattle.bl_proc_steps.specs.declared.answers.Squeezed.TheVariants as squeezed
+use Rattle.bl_answers.specs.declared.answers.Hint.{Hint}
+use Rattle.bl_answers.specs.declared.answers.Hint.TheVariants as hint
+use Rattle.bl_answers.specs.declared.answers.Answer.TheVariants as answer
+use Rattle.bl_answers.specs.declared.answers.Squeezed.{Squeezed}
+use Rattle.bl_answers.specs.declared.answers.Squeezed.TheVariants as squeezed
 use Rattle.bl_proc_compress.specs.declared.compression.Compression.{Compression}
 use Rattle.bl_proc_compress.specs.declared.compression.Compression.TheVariants.{LatchedLeft, LatchingRight, LatchedRight, OpeningLeft, OpeningParent, OpeningRight}
 use Rattle.bl_proc_compress.specs.declared.compression.Compressed.TheVariants as step
 use Rattle.bl_proc_compress.specs.declared.compression.Decision.{Decision}
-use Rattle.bl_proc_compress.specs.declared.compression.Family.{Family}
-use Rattle.bl_proc_compress.specs.declared.compression.Siblings.{Siblings}
+use Rattle.bl_rearrange.specs.declared.families.Family.{Family}
+use Rattle.bl_rearrange.specs.declared.families.Siblings.{Siblings}
 use Rattle.bl_proc_compress.specs.declared.compress.CompressReply.{CompressReply}
 use Rattle.bl_proc_compress.specs.declared.compress.CompressReply.TheVariants as reply
 use Rattle.bl_proc_compress.specs.declared.compression.Decision.TheVariants.{Merged, Evened, Enough, Unposted, Refused, Lost}

@@ -5,7 +5,7 @@ use Rattle.bl_page.specs.declared.page.Page.TheVariants.{Inner as InnerPage}
 use Rattle.bl_page.specs.declared.page.Inner.{Inner}
 use Rattle.bl_page.specs.Pairs.{place}
 use Rattle.bl_page.specs.Words.{entries_of, words_of}
-use Rattle.bl_proc_compress.specs.declared.compression.Family.{Family}
+use Rattle.bl_rearrange.specs.declared.families.Family.{Family}
 use Rattle.bl_proc_compress.specs.Compressions.{right_place, IsFamily}
 use Rattle.bl_index_compress.proofs.Parted.{entry_at}
 

@@ -12,7 +12,7 @@ use Rattle.bl_rearrange.specs.Entered.{dropped, entered}
 use Rattle.bl_rearrange.specs.Rearranged.{pairs_of, IsWithout, KeepsFrame, MayHold}
 use Rattle.bl_rearrange.proofs.EnteredLemmas.{RisesFrom-entered, map_of-entered}
 use Rattle.bl_proc_routes.specs.WordEdits.{words_by}
-use Rattle.bl_proc_compress.specs.declared.compression.Family.{Family}
+use Rattle.bl_rearrange.specs.declared.families.Family.{Family}
 use Rattle.bl_proc_compress.specs.Compressions.{Relists}
 use Rattle.bl_proc_deterministic.proofs.Pages.{fits_some, rising, without_some}
 use Rattle.bl_proc_deterministic.proofs.Relistings.{relist_one, relist_apart}

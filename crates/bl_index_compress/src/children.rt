@@ -6,7 +6,7 @@ ghost use Rattle.bl_page.specs.Words.{words_of};
 ghost use Rattle.bl_rearrange.specs.Neighbours.{AreNeighbours, together};
 ghost use Rattle.bl_proc_compress.specs.declared.compression.Compression.TheVariants.{LatchingLeft, LatchedRight, PuttingFirst, OpeningRight};
 ghost use Rattle.bl_proc_compress.specs.declared.compression.Decision.TheVariants as decisions;
-ghost use Rattle.bl_proc_compress.specs.declared.compression.Family.{Family};
+ghost use Rattle.bl_rearrange.specs.declared.families.Family.{Family};
 ghost use Rattle.bl_proc_compress.specs.declared.compression.Puts.{Puts as PutsIs};
 ghost use Rattle.bl_proc_compress.specs.Compressions.{MayEven, after_puts};
 ghost use Rattle.bl_store.specs.Hands.{known, IsSameHand, IsSameStamp, HasNoStock, MayRetire, WasRefused};

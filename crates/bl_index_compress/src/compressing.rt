@@ -1,8 +1,8 @@
 //! Compressions, by the words of pages.
 
 ghost use Rattle.std.specs.Prelude.{◌≡◌, ◌<◌, ◌≤◌, ℕ, Some, IfNone, IfSome};
-ghost use Rattle.bl_proc_steps.specs.declared.answers.Answer.TheVariants as answers;
-ghost use Rattle.bl_proc_steps.specs.declared.answers.Squeezed.TheVariants as said;
+ghost use Rattle.bl_answers.specs.declared.answers.Answer.TheVariants as answers;
+ghost use Rattle.bl_answers.specs.declared.answers.Squeezed.TheVariants as said;
 ghost use Rattle.bl_proc_steps.specs.declared.approach.Approach.TheVariants as approach;
 ghost use Rattle.bl_proc_compress.specs.declared.compress.CompressReply.{CompressReply};
 ghost use Rattle.bl_proc_compress.specs.declared.compress.CompressReply.TheVariants as replies;

@@ -6,7 +6,7 @@ ghost use Rattle.bl_page.specs.declared.page.Page.TheVariants.{Inner};
 ghost use Rattle.bl_page.specs.Pairs.{IsWithin};
 ghost use Rattle.bl_page.specs.Words.{words_of};
 ghost use Rattle.bl_proc_steps.specs.declared.approach.Approach.TheVariants.{Latched};
-ghost use Rattle.bl_proc_compress.specs.declared.compression.Family.{Family};
+ghost use Rattle.bl_rearrange.specs.declared.families.Family.{Family};
 ghost use Rattle.bl_proc_compress.specs.declared.compress.CompressStage.TheVariants.{Coming};
 ghost use Rattle.bl_proc_compress.specs.Compressions.{IsFamily, right_place};
 ghost use Rattle.bl_store.specs.Hands.{known, read_words, HasNoStock, ReadsFrom};

@@ -8,7 +8,7 @@ ghost use Rattle.bl_page.specs.Nodes.{IsTreePage};
 ghost use Rattle.bl_rearrange.specs.declared.sides.Evened.{Evened};
 ghost use Rattle.bl_rearrange.specs.Rearranged.{pairs_of};
 ghost use Rattle.bl_rearrange.specs.Neighbours.{AreNeighbours, together, IsMerged, IsEvened};
-ghost use Rattle.bl_proc_compress.specs.declared.compression.Family.{Family};
+ghost use Rattle.bl_rearrange.specs.declared.families.Family.{Family};
 ghost use Rattle.bl_proc_compress.specs.Compressions.{IsBuried, merge_hint, Relists};
 ghost use Rattle.bl_index_compress.specs.Shares.{AreSharesOf, IsRelisted};
 

@@ -32,8 +32,9 @@ use Rattle.bl_proc.specs.declared.kinds.Proc.TheVariants as proc
 use Rattle.bl_proc.specs.declared.lowering.Lower.{Lower}
 use Rattle.bl_proc_writes.specs.declared.writing.Noted.{Noted}
 use Rattle.bl_proc_writes.specs.declared.writing.WriteReply.TheVariants.{Done, NoRoom}
-use Rattle.bl_proc_writes.specs.Writes.{write_reply, post_hint}
-use Rattle.bl_proc_steps.specs.Thin.{thin_hint}
+use Rattle.bl_proc_writes.specs.Writes.{write_reply}
+use Rattle.bl_answers.specs.Hints.{post_hint}
+use Rattle.bl_answers.specs.Thin.{thin_hint}
 use Rattle.bl_proc_writes.specs.Posts.{post_reply}
 use Rattle.bl_index_events.specs.Refused.{GotHeld, LacksForEffect}
 use Rattle.bl_index_events.specs.Held.{HasRoom, IsFull, own_marks, KeepsLatch, IsOfOne, IfEnters, edit_held, proc_held, AsksForPage, AsksForWrite, AsksForPost, AsksWhen, AsksForClimb, AsksFor}

@@ -2,7 +2,7 @@
 
 ghost use Rattle.std.specs.Prelude.{◌≡◌, ◌≢◌, ℕ, None, Some};
 ghost use Rattle.bl_proc_steps.specs.declared.acts.Action.TheVariants as act;
-ghost use Rattle.bl_proc_steps.specs.declared.answers.Answer.{Answer as AnswerIs};
+ghost use Rattle.bl_answers.specs.declared.answers.Answer.{Answer as AnswerIs};
 ghost use Rattle.bl_proc_deterministic.specs.Refusals.{IsNoRoom, IsRefused, PutsRefused};
 ghost use Rattle.bl_store.specs.Hands.{known, IsIdle, IsSameHand, HasNoStock};
 ghost use Rattle.bl_store.specs.Owners.{IsHandOf};

@@ -1,6 +1,6 @@
 -- A process that has gone on stands, or has ended.
 use Rattle.std.proofs.Common.{ℕ, ◌≡◌, Option, None, inl, inr, sym, ◌∙◌, subst}
-use Rattle.bl_proc_steps.specs.declared.answers.Answer.{Answer}
+use Rattle.bl_answers.specs.declared.answers.Answer.{Answer}
 use Rattle.bl_proc.specs.declared.kinds.Proc.{Proc}
 use Rattle.bl_proc.specs.Processes.{answer_of}
 use Rattle.bl_store.specs.declared.store.Hand.{Hand}

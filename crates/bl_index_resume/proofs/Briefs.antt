@@ -10,8 +10,8 @@ use Rattle.bl_proc_steps.specs.declared.approach.Approached.TheVariants as came
 use Rattle.bl_proc_steps.specs.declared.edit.Edit.{Edit}
 use Rattle.bl_proc_steps.specs.declared.edit.Edit.TheVariants as edit
 use Rattle.bl_proc_steps.specs.declared.edit.Edited.TheVariants as changed
-use Rattle.bl_proc_compress.specs.declared.compression.Siblings.{Siblings}
-use Rattle.bl_proc_compress.specs.declared.compression.Family.{Family}
+use Rattle.bl_rearrange.specs.declared.families.Siblings.{Siblings}
+use Rattle.bl_rearrange.specs.declared.families.Family.{Family}
 use Rattle.bl_page.specs.declared.page.Page.{Page}
 use Rattle.bl_proc_compress.specs.declared.compression.Decision.{Decision}
 use Rattle.bl_proc_compress.specs.declared.compression.Decision.TheVariants as decision

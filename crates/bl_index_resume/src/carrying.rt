@@ -7,7 +7,7 @@ ghost use Rattle.bl_store.specs.Hands.{known, IsSameHand, HasNoStock};
 ghost use Rattle.bl_index_rule.specs.declared.known.PassState.{PassState as Knows};
 ghost use Rattle.bl_index_events.specs.Runs.{Runs, Rests, IsSince, IsSameProcess, IsDone, HasReserved};
 ghost use Rattle.bl_claims.specs.Seeing.{GoesOnFrom};
-ghost use Rattle.bl_proc_steps.specs.declared.answers.Answer.{Answer as AnswerIs};
+ghost use Rattle.bl_answers.specs.declared.answers.Answer.{Answer as AnswerIs};
 ghost use Rattle.bl_proc_deterministic.specs.Refusals.{IsNoRoom};
 ghost use Rattle.bl_index_resume.specs.Rooms.{KnowsRoom, LacksRoom};
 ghost use Rattle.bl_index_resume.specs.Stages.{HasTurned, Yields};

@@ -1,8 +1,8 @@
 //! A post starts by the words of pages.
 
 ghost use Rattle.std.specs.Prelude.{◌≡◌, ◌<◌, ◌≤◌, Some, IfSome, IfNone};
-ghost use Rattle.bl_proc_steps.specs.declared.answers.Hint.TheVariants as hints;
-ghost use Rattle.bl_proc_steps.specs.declared.answers.Posted.TheVariants as postings;
+ghost use Rattle.bl_answers.specs.declared.answers.Hint.TheVariants as hints;
+ghost use Rattle.bl_answers.specs.declared.answers.Posted.TheVariants as postings;
 ghost use Rattle.bl_proc.specs.declared.kinds.Proc.{Proc};
 ghost use Rattle.bl_proc_deterministic.specs.Frames.{work_of};
 ghost use Rattle.bl_store.specs.Hands.{known, IsSameHand};

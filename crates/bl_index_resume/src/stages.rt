@@ -3,7 +3,7 @@
 ghost use Rattle.std.specs.Prelude.{◌≡◌, IfSome, IfNone};
 ghost use Rattle.bl_model.specs.declared.operation.KeyReply.TheVariants as replies;
 ghost use Rattle.bl_model.specs.Replies.{reply_of};
-ghost use Rattle.bl_proc_steps.specs.declared.answers.Answer.TheVariants as answers;
+ghost use Rattle.bl_answers.specs.declared.answers.Answer.TheVariants as answers;
 ghost use Rattle.bl_store.specs.Hands.{known, IsSameHand};
 ghost use Rattle.bl_index_events.specs.Rooms.{LacksWrite};
 ghost use Rattle.bl_index_events.specs.Runs.{IsSince};

@@ -25,7 +25,7 @@ use Rattle.bl_proc_steps.specs.declared.edit.Full.{Full}
 use Rattle.bl_proc_steps.specs.declared.edit.Outcome.{Outcome}
 use Rattle.bl_proc_steps.specs.declared.edit.Outcome.TheVariants as outcome
 use Rattle.bl_proc_routes.specs.WordEdits.{words_by}
-use Rattle.bl_proc_steps.specs.Thin.{thin_low}
+use Rattle.bl_answers.specs.Thin.{thin_low}
 use Rattle.bl_proc_routes.proofs.Spellings.{tree_lists, pairs_counted}
 use Rattle.bl_proc_writes.specs.declared.writing.Noted.{Noted}
 use Rattle.bl_proc_writes.specs.declared.writing.WriteStage.{WriteStage}
@@ -33,8 +33,9 @@ use Rattle.bl_proc_writes.specs.declared.writing.WriteStage.TheVariants as write
 use Rattle.bl_proc.specs.declared.kinds.Proc.{Proc}
 use Rattle.bl_proc.specs.Processes.{next_of}
 use Rattle.bl_proc_writes.specs.declared.writing.WriteReply.TheVariants.{Done, NoRoom}
-use Rattle.bl_proc_steps.specs.Thin.{thin_hint}
-use Rattle.bl_proc_writes.specs.Writes.{post_hint, thin_by, Performs, WriteGoes}
+use Rattle.bl_answers.specs.Thin.{thin_hint}
+use Rattle.bl_proc_writes.specs.Writes.{thin_by, Performs, WriteGoes}
+use Rattle.bl_answers.specs.Hints.{post_hint}
 use Rattle.bl_proc_deterministic.specs.Courses.{GoesOn}
 use Rattle.bl_proc_deterministic.proofs.Pages.{without_some, value_some, rising}
 use Rattle.bl_proc_deterministic.proofs.Edits.{enter_one}

@@ -10,7 +10,7 @@ use Rattle.bl_proc_steps.specs.declared.edit.Edit.TheVariants as edit
 use Rattle.bl_proc_steps.specs.declared.edit.Outcome.{Outcome}
 use Rattle.bl_proc_steps.specs.declared.edit.Outcome.TheVariants as outcome
 use Rattle.bl_proc_steps.specs.Given.{Gives}
-use Rattle.bl_proc_steps.specs.Thin.{thin_hint}
+use Rattle.bl_answers.specs.Thin.{thin_hint}
 use Rattle.bl_proc.specs.declared.kinds.Proc.{Proc}
 use Rattle.bl_proc_writes.specs.declared.writing.Noted.{Noted}
 use Rattle.bl_proc_writes.specs.declared.writing.WriteReply.{WriteReply}
@@ -18,7 +18,8 @@ use Rattle.bl_proc_writes.specs.declared.writing.WriteReply.TheVariants.{Done, N
 use Rattle.bl_proc_writes.specs.declared.writing.WriteStage.{WriteStage}
 use Rattle.bl_proc_writes.specs.declared.writing.WriteStage.TheVariants.{New, Coming, Keeping, Editing, Ending, Over}
 use Rattle.bl_proc.specs.Processes.{next_of, Takes}
-use Rattle.bl_proc_writes.specs.Writes.{post_hint, write_next_in, write_needs_in, WriteGoes}
+use Rattle.bl_proc_writes.specs.Writes.{write_next_in, write_needs_in, WriteGoes}
+use Rattle.bl_answers.specs.Hints.{post_hint}
 use Rattle.bl_proc_deterministic.specs.Courses.{GoesOn}
 use Rattle.bl_index_events.specs.Held.{proc_held, write_held}
 use Rattle.bl_index_ways.specs.declared.writers.Left.{Left}

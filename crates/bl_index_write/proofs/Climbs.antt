@@ -8,12 +8,12 @@ use Rattle.bl_tree_worlds.specs.Blank.{IsBlank}
 use Rattle.atomic_table.specs.declared.shared.Seat.{Seat}
 use Rattle.bl_proc_steps.specs.declared.acts.Seen.{Seen}
 use Rattle.bl_proc_steps.specs.declared.acts.Seen.TheVariants as seen
-use Rattle.bl_proc_steps.specs.declared.answers.Answer.{Answer}
-use Rattle.bl_proc_steps.specs.declared.answers.Answer.TheVariants.{Op, Post as PostAnswer, InsertPost as Answered}
-use Rattle.bl_proc_steps.specs.declared.answers.Hint.{Hint}
-use Rattle.bl_proc_steps.specs.declared.answers.Hint.TheVariants as hint
-use Rattle.bl_proc_steps.specs.declared.answers.Posted.{Posted}
-use Rattle.bl_proc_steps.specs.declared.answers.Posted.TheVariants as posted
+use Rattle.bl_answers.specs.declared.answers.Answer.{Answer}
+use Rattle.bl_answers.specs.declared.answers.Answer.TheVariants.{Op, Post as PostAnswer, InsertPost as Answered}
+use Rattle.bl_answers.specs.declared.answers.Hint.{Hint}
+use Rattle.bl_answers.specs.declared.answers.Hint.TheVariants as hint
+use Rattle.bl_answers.specs.declared.answers.Posted.{Posted}
+use Rattle.bl_answers.specs.declared.answers.Posted.TheVariants as posted
 use Rattle.bl_proc_steps.specs.declared.approach.Approach.{Approach}
 use Rattle.bl_proc_steps.specs.declared.approach.Approach.TheVariants as way
 use Rattle.bl_proc_steps.specs.Approaches.{approach_next}
@@ -36,7 +36,8 @@ use Rattle.bl_proc_writes.specs.declared.post.PostStage.TheVariants as post
 use Rattle.bl_proc_writes.specs.Levels.{IsBelowTop, IsBelowTop-prop, MayReply}
 use Rattle.bl_proc_writes.specs.Posts.{posted_answer}
 use Rattle.bl_proc_writes.specs.Stands.{Stands, Stands-prop}
-use Rattle.bl_proc_writes.specs.InsertPosts.{posted_as, left_hint, climbed_answer, climb_answer_in, IsLast}
+use Rattle.bl_proc_writes.specs.InsertPosts.{posted_as, climbed_answer, climb_answer_in, IsLast}
+use Rattle.bl_answers.specs.Hints.{left_hint}
 use Rattle.bl_proc_writes.specs.Paths.{page_at, from_page, IsBlank as IsBlankPath}
 use Rattle.bl_proc_writes.specs.Writes.{write_answer}
 use Rattle.bl_proc_deterministic.specs.Courses.{GoesOn}

@@ -2,7 +2,7 @@
 use Rattle.std.proofs.Common.{ℕ, ◌≡◌, ◌≢◌, Option, Some, refl, sym, ◌∙◌, subst}
 use Rattle.bl_proc_steps.specs.declared.acts.Action.TheVariants as act
 use Rattle.bl_proc_steps.specs.declared.acts.Seen.TheVariants as seen
-use Rattle.bl_proc_steps.specs.declared.answers.Answer.{Answer}
+use Rattle.bl_answers.specs.declared.answers.Answer.{Answer}
 use Rattle.bl_proc_steps.specs.declared.growth.Growth.{Growth}
 use Rattle.bl_proc_steps.specs.declared.growth.Growth.TheVariants as growth
 use Rattle.bl_proc_steps.specs.Growths.{growth_next}
@@ -20,8 +20,8 @@ use Rattle.bl_proc_writes.specs.Posts.{post_next_in, post_answer_in, post_answer
 use Rattle.bl_proc.specs.Processes.{next_of, Takes}
 use Rattle.bl_proc_deterministic.specs.Frames.{work_of}
 use Rattle.atomic_table.specs.declared.shared.Seat.{Seat}
-use Rattle.bl_proc_steps.specs.declared.answers.Hint.{Hint}
-use Rattle.bl_proc_steps.specs.declared.answers.Posted.{Posted}
+use Rattle.bl_answers.specs.declared.answers.Hint.{Hint}
+use Rattle.bl_answers.specs.declared.answers.Posted.{Posted}
 use Rattle.bl_store_rule.specs.declared.view.View.{View}
 use Rattle.bl_index_rule.specs.declared.known.PassState.{PassState}
 use Rattle.bl_index_events.specs.Runs.{IsDone, IsSameProcess, EndsAs}

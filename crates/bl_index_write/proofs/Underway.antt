@@ -22,9 +22,9 @@ use Rattle.bl_proc_deterministic.proofs.Retirements.{post_none}
 use Rattle.bl_proc_deterministic.proofs.RefusedTurns.{takes_refused, takes_puts}
 use Rattle.bl_proc_deterministic.specs.Frames.{work_of}
 use Rattle.bl_proc_deterministic.specs.Retirements.{RetiresAfter}
-use Rattle.bl_proc_steps.specs.declared.answers.Hint.{Hint}
-use Rattle.bl_proc_steps.specs.declared.answers.Posted.{Posted}
-use Rattle.bl_proc_steps.specs.declared.answers.Posted.TheVariants as posted
+use Rattle.bl_answers.specs.declared.answers.Hint.{Hint}
+use Rattle.bl_answers.specs.declared.answers.Posted.{Posted}
+use Rattle.bl_answers.specs.declared.answers.Posted.TheVariants as posted
 use Rattle.atomic_table.specs.declared.shared.Seat.{Seat}
 use Rattle.bl_store_rule.specs.declared.view.View.{View}
 use Rattle.bl_store.specs.declared.store.Hand.{Hand}

@@ -15,7 +15,7 @@ use Rattle.bl_proc_writes.specs.declared.paths.Path.{Path}
 use Rattle.bl_proc_writes.specs.declared.writing.Noted.{Noted}
 use Rattle.bl_proc_writes.specs.declared.writing.WriteStage.{WriteStage}
 use Rattle.bl_proc_steps.specs.Given.{Gives}
-use Rattle.bl_proc_steps.specs.Thin.{thin_hint}
+use Rattle.bl_answers.specs.Thin.{thin_hint}
 use Rattle.bl_proc_steps.specs.declared.acts.Seen.{Seen}
 use Rattle.bl_proc_steps.specs.declared.approach.Approach.{Approach}
 use Rattle.bl_proc_steps.specs.declared.edit.Outcome.{Outcome}

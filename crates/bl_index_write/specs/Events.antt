@@ -6,9 +6,9 @@ use Rattle.bl_store_rule.specs.declared.view.View.{View}
 use Rattle.bl_store.specs.declared.store.Hand.{Hand}
 use Rattle.bl_store.specs.Hands.{known, HasNoStock}
 use Rattle.bl_proc_steps.specs.declared.acts.Action.TheVariants as act
-use Rattle.bl_proc_steps.specs.declared.answers.Answer.TheVariants as answer
-use Rattle.bl_proc_steps.specs.declared.answers.Hint.{Hint}
-use Rattle.bl_proc_steps.specs.declared.answers.Posted.{Posted}
+use Rattle.bl_answers.specs.declared.answers.Answer.TheVariants as answer
+use Rattle.bl_answers.specs.declared.answers.Hint.{Hint}
+use Rattle.bl_answers.specs.declared.answers.Posted.{Posted}
 use Rattle.bl_proc_writes.specs.declared.writing.WriteStage.{WriteStage}
 use Rattle.bl_proc_writes.specs.declared.writing.WriteStage.TheVariants as write
 use Rattle.bl_proc_writes.specs.declared.writing.WriteReply.{WriteReply}
@@ -26,8 +26,8 @@ use Rattle.bl_index_write.specs.declared.targets.Posting.{Posting}
 use Rattle.bl_index_events.specs.Runs.{IsSince, IsDone, Rests, Runs, HasReserved}
 use Rattle.bl_index_events.specs.declared.tree.Tree.{Tree}
 use Rattle.bl_index_events.specs.Rooms.{LacksPost}
-use Rattle.bl_proc_steps.specs.declared.answers.Posted.TheVariants as posted
-use Rattle.bl_proc_steps.specs.declared.answers.Answer.{Answer}
+use Rattle.bl_answers.specs.declared.answers.Posted.TheVariants as posted
+use Rattle.bl_answers.specs.declared.answers.Answer.{Answer}
 
 -- a write of that key that has come so far
 abbrev pub writing : ℕ → KeyWrite → WriteStage → Proc

@@ -2,8 +2,8 @@
 use Rattle.std.specs.Prelude.{Option, Some}
 use Rattle.bl_model.specs.declared.operation.Reply.{Reply}
 use Rattle.bl_model.specs.declared.operation.Reply.TheVariants as reply
-use Rattle.bl_proc_steps.specs.declared.answers.Answer.{Answer}
-use Rattle.bl_proc_steps.specs.declared.answers.Answer.TheVariants.{InsertPost}
+use Rattle.bl_answers.specs.declared.answers.Answer.{Answer}
+use Rattle.bl_answers.specs.declared.answers.Answer.TheVariants.{InsertPost}
 
 -- a reply of an insertion or a put
 abbrev pub IsOfInsertion : Reply → Type 0

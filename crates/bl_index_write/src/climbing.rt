@@ -5,12 +5,13 @@ ghost use Rattle.std.specs.Prelude.{◌≡◌, ◌<◌, ◌≤◌, ℕ, Option, 
 ghost use Rattle.bl_model.specs.declared.operation.KeyReply.TheVariants as replies;
 ghost use Rattle.bl_model.specs.declared.operation.Reply.TheVariants as reply;
 ghost use Rattle.bl_model.specs.Replies.{reply_of};
-ghost use Rattle.bl_proc_steps.specs.declared.answers.Answer.TheVariants as answers;
-ghost use Rattle.bl_proc_steps.specs.declared.answers.Hint.TheVariants as hints;
+ghost use Rattle.bl_answers.specs.declared.answers.Answer.TheVariants as answers;
+ghost use Rattle.bl_answers.specs.declared.answers.Hint.TheVariants as hints;
 ghost use Rattle.bl_proc_steps.specs.declared.approach.Approach.TheVariants as approach;
 ghost use Rattle.bl_proc_writes.specs.declared.post.PostReply.TheVariants as listed;
 ghost use Rattle.bl_proc_writes.specs.declared.post.PostStage.TheVariants as post;
-ghost use Rattle.bl_proc_writes.specs.InsertPosts.{IsLast, left_hint, posted_as};
+ghost use Rattle.bl_proc_writes.specs.InsertPosts.{IsLast, posted_as};
+ghost use Rattle.bl_answers.specs.Hints.{left_hint};
 ghost use Rattle.bl_proc_writes.specs.Levels.{MayReply};
 ghost use Rattle.bl_proc_writes.specs.Paths.{IsBlank as IsBlankPath};
 ghost use Rattle.bl_proc_writes.specs.Placings.{write_of};

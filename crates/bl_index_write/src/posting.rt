@@ -4,7 +4,7 @@ ghost use Rattle.std.specs.Prelude.{◌≡◌, ◌<◌, ◌≤◌, ◌-◌, ℕ,
 ghost use Rattle.bl_page.specs.declared.page.Page.{Page};
 ghost use Rattle.bl_page.specs.Words.{words_of};
 ghost use Rattle.bl_proc_steps.specs.declared.acts.Seen.TheVariants as seen;
-ghost use Rattle.bl_proc_steps.specs.declared.answers.Answer.TheVariants as answers;
+ghost use Rattle.bl_answers.specs.declared.answers.Answer.TheVariants as answers;
 ghost use Rattle.bl_proc_steps.specs.declared.approach.Approach.TheVariants as approach;
 ghost use Rattle.bl_proc.specs.declared.kinds.Proc.{Proc};
 ghost use Rattle.bl_proc.specs.declared.kinds.Proc.TheVariants as proc;
@@ -20,7 +20,7 @@ ghost use Rattle.bl_index_events.specs.Runs.{Runs, Rests, IsSince, IsSameProcess
 ghost use Rattle.bl_index_ways.specs.Events.{HasGotAnchor, IsThere};
 ghost use Rattle.bl_index_write.specs.Events.{posting, HasPosted, IsPostOver, IsPostUnderway, IsPostAnswer};
 ghost use Rattle.bl_index_events.specs.Rooms.{LacksPost};
-ghost use Rattle.bl_proc_steps.specs.declared.answers.Posted.TheVariants as postings;
+ghost use Rattle.bl_answers.specs.declared.answers.Posted.TheVariants as postings;
 ghost use Rattle.bl_proc_writes.specs.declared.post.PostReply.TheVariants as replies;
 
 use crate::targets::Posting;

@@ -3,7 +3,7 @@
 ghost use Rattle.std.specs.Prelude.{◌≡◌, ℕ, ◌<◌, None, IfOk, IfErr};
 ghost use Rattle.bl_model.specs.declared.operation.KeyReply.TheVariants as replies;
 ghost use Rattle.bl_model.specs.Replies.{reply_of};
-ghost use Rattle.bl_proc_steps.specs.declared.answers.Answer.TheVariants as answers;
+ghost use Rattle.bl_answers.specs.declared.answers.Answer.TheVariants as answers;
 ghost use Rattle.bl_proc_steps.specs.declared.approach.Approach.TheVariants as approach;
 ghost use Rattle.bl_proc_writes.specs.declared.writing.WriteReply.TheVariants as written;
 ghost use Rattle.bl_proc_writes.specs.declared.writing.WriteStage.TheVariants as stages;

@@ -10,7 +10,7 @@ use Rattle.bl_index.specs.Calls.{first_of, pages_of, IsPassOf, IsSamePass, numbe
 use Rattle.bl_index.specs.Meetings.{Meet}
 use Rattle.bl_index.specs.declared.index.Index.{Index}
 use Rattle.bl_index.specs.declared.index.Pass.{Pass}
-use Rattle.bl_proc_steps.specs.declared.answers.Hint.{Hint}
+use Rattle.bl_answers.specs.declared.answers.Hint.{Hint}
 use Rattle.bl_check.specs.declared.quiet.Quiet.{Quiet}
 use Rattle.bl_load.specs.declared.fault.LoadFault.{LoadFault}
 use Rattle.bl_map.specs.declared.handle.Handle.{Handle}

@@ -11,8 +11,8 @@ use Rattle.bl_claims.specs.Climbed.{MeansClimbed}
 use Rattle.bl_claims.specs.Trails.{Trail}
 use Rattle.bl_index.specs.Calls.{InsertLacks, WriteLacks}
 use Rattle.bl_index.specs.declared.index.Pass.{Pass}
-use Rattle.bl_proc_steps.specs.declared.answers.Hint.{Hint}
-use Rattle.bl_proc_steps.specs.declared.answers.Posted.{Posted}
+use Rattle.bl_answers.specs.declared.answers.Hint.{Hint}
+use Rattle.bl_answers.specs.declared.answers.Posted.{Posted}
 use Rattle.bl_map_calls.specs.Follows.{Makes, Written, FollowsHints, WritesLeaving}
 use Rattle.bl_map_calls.specs.Waits.{WritesKey}
 use Rattle.bl_map_calls.specs.Works.{Swept}

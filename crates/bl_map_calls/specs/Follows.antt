@@ -5,14 +5,14 @@ use Rattle.bl_model.specs.declared.operation.Op.TheVariants as op
 use Rattle.bl_model.specs.declared.operation.Reply.{Reply}
 use Rattle.bl_page.specs.declared.page.Page.{Page}
 use Rattle.bl_claims.specs.Trails.{Trail}
-use Rattle.bl_proc_steps.specs.declared.answers.Hint.{Hint}
-use Rattle.bl_proc_steps.specs.declared.answers.Hint.TheVariants as hint
-use Rattle.bl_proc_steps.specs.declared.answers.Posted.{Posted}
-use Rattle.bl_proc_steps.specs.declared.answers.Posted.TheVariants as posted
-use Rattle.bl_proc_steps.specs.declared.answers.Squeezed.{Squeezed}
-use Rattle.bl_proc_steps.specs.declared.answers.Squeezed.TheVariants as squeezed
-use Rattle.bl_proc_steps.specs.declared.lowering.Lowered.{Lowered}
-use Rattle.bl_proc_steps.specs.declared.lowering.Lowered.TheVariants as lowered
+use Rattle.bl_answers.specs.declared.answers.Hint.{Hint}
+use Rattle.bl_answers.specs.declared.answers.Hint.TheVariants as hint
+use Rattle.bl_answers.specs.declared.answers.Posted.{Posted}
+use Rattle.bl_answers.specs.declared.answers.Posted.TheVariants as posted
+use Rattle.bl_answers.specs.declared.answers.Squeezed.{Squeezed}
+use Rattle.bl_answers.specs.declared.answers.Squeezed.TheVariants as squeezed
+use Rattle.bl_answers.specs.declared.answers.Lowered.{Lowered}
+use Rattle.bl_answers.specs.declared.answers.Lowered.TheVariants as lowered
 use Rattle.bl_index.specs.Calls.{Writes, Climbs, Posts, Compresses, LowersTree, Sweeps}
 use Rattle.bl_map_calls.specs.declared.upkeep.Followed.{Followed}
 use Rattle.bl_map_calls.specs.declared.upkeep.Followed.TheVariants as followed

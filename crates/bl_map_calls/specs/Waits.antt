@@ -4,7 +4,7 @@ use Rattle.bl_model.specs.declared.operation.Op.{Op}
 use Rattle.bl_model.specs.declared.operation.Reply.{Reply}
 use Rattle.bl_page.specs.declared.page.Page.{Page}
 use Rattle.bl_claims.specs.Trails.{Trail}
-use Rattle.bl_proc_steps.specs.declared.answers.Hint.{Hint}
+use Rattle.bl_answers.specs.declared.answers.Hint.{Hint}
 use Rattle.bl_map_calls.specs.Works.{Swept}
 use Rattle.bl_map_calls.specs.Follows.{Written, FollowsHints, KeptUp}
 use Rattle.bl_map_calls.specs.declared.waiting.Waiting.{Waiting}

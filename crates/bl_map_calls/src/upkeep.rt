@@ -4,7 +4,7 @@ ghost use Rattle.std.specs.Prelude.{◌≡◌};
 ghost use Rattle.bl_index.specs.Calls.{first_of, IsPassOf, IsSamePass, number_of, trail};
 ghost use Rattle.bl_map_calls.specs.Works.{Adds, Swept};
 ghost use Rattle.bl_map_calls.specs.Follows.{Tries, TriesPost, TriesCompression, TriesHint, has_fallen, Lowers, FollowsHint, FollowsOnce, FollowsHints, FollowsSplit};
-ghost use Rattle.bl_proc_steps.specs.Hints.{level_of, key_of};
+ghost use Rattle.bl_answers.specs.Hints.{level_of, key_of};
 
 use bl_index::{Hint, Index, Lowered, Pass, Posted, Squeezed};
 use std::sync::Wait;

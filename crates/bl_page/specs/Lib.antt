@@ -4,3 +4,4 @@ pub mod Words
 pub mod Faults
 pub mod Machine
 pub mod Nodes
+pub mod Tops

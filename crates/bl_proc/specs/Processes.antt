@@ -3,7 +3,7 @@ use Rattle.std.specs.Prelude.{◌≡◌, ℕ, Option, true}
 use Rattle.bl_model.specs.declared.deciding.KeyWrite.{KeyWrite}
 use Rattle.bl_proc_steps.specs.declared.acts.Action.{Action}
 use Rattle.bl_proc_steps.specs.declared.acts.Seen.{Seen}
-use Rattle.bl_proc_steps.specs.declared.answers.Answer.{Answer}
+use Rattle.bl_answers.specs.declared.answers.Answer.{Answer}
 use Rattle.bl_proc.specs.declared.kinds.Proc.{Proc}
 use Rattle.bl_proc.specs.declared.kinds.Proc.TheVariants.{Find, Write, Post, Part, Compress, Reclaim, Lower, InsertPost}
 use Rattle.bl_proc.specs.declared.searching.FindStage.TheVariants as find

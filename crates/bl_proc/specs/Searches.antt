@@ -6,8 +6,8 @@ use Rattle.bl_proc_steps.specs.declared.acts.Action.{Action}
 use Rattle.bl_proc_steps.specs.declared.acts.Action.TheVariants as act
 use Rattle.bl_proc_steps.specs.declared.acts.Seen.{Seen}
 use Rattle.bl_proc_steps.specs.declared.acts.Seen.TheVariants as seen
-use Rattle.bl_proc_steps.specs.declared.answers.Answer.{Answer}
-use Rattle.bl_proc_steps.specs.declared.answers.Answer.TheVariants.{Op}
+use Rattle.bl_answers.specs.declared.answers.Answer.{Answer}
+use Rattle.bl_answers.specs.declared.answers.Answer.TheVariants.{Op}
 use Rattle.bl_proc_steps.specs.declared.descent.Descent.TheVariants.{AtAnchor}
 use Rattle.bl_proc_steps.specs.declared.descent.Descended.TheVariants.{On, Here}
 use Rattle.bl_proc.specs.declared.searching.Find.{Find}

@@ -19,7 +19,8 @@ use Rattle.bl_tree_worlds.proofs.WorldLaws.{tree_page, all_sound}
 use Rattle.bl_proc_routes.specs.declared.routes.Step.TheVariants as onward
 use Rattle.bl_proc_steps.specs.declared.descent.Descent.{Descent}
 use Rattle.bl_proc_steps.specs.declared.descent.Descent.TheVariants.{AtAnchor, At}
-use Rattle.bl_proc_routes.specs.Routes.{top_of, Leads}
+use Rattle.bl_proc_routes.specs.Routes.{Leads}
+use Rattle.bl_page.specs.Tops.{top_of}
 use Rattle.bl_proc.specs.Parts.{way_by}
 use Rattle.bl_proc_invariant.specs.Tables.{descent_goes}
 use Rattle.bl_proc_bounds.specs.Paces.{IsAhead}

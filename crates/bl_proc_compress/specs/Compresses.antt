@@ -5,9 +5,9 @@ use Rattle.bl_proc_steps.specs.declared.acts.Action.{Action}
 use Rattle.bl_proc_steps.specs.declared.acts.Action.TheVariants as act
 use Rattle.bl_proc_steps.specs.declared.acts.Seen.{Seen}
 use Rattle.bl_proc_steps.specs.declared.acts.Seen.TheVariants as seen
-use Rattle.bl_proc_steps.specs.declared.answers.Answer.{Answer}
-use Rattle.bl_proc_steps.specs.declared.answers.Answer.TheVariants as answer
-use Rattle.bl_proc_steps.specs.declared.answers.Squeezed.TheVariants as squeezed
+use Rattle.bl_answers.specs.declared.answers.Answer.{Answer}
+use Rattle.bl_answers.specs.declared.answers.Answer.TheVariants as answer
+use Rattle.bl_answers.specs.declared.answers.Squeezed.TheVariants as squeezed
 use Rattle.bl_proc_steps.specs.declared.approach.Approach.TheVariants.{Start}
 use Rattle.bl_proc_steps.specs.declared.approach.Came.{Came}
 use Rattle.bl_proc_steps.specs.declared.approach.Came.TheVariants as come

@@ -1,36 +1,8 @@
 //! The compression of two neighbouring children of a parent that a process holds and has got.
 
-ghost use Rattle.std.specs.Prelude.{◌≡◌, ◌<◌, Some};
-ghost use Rattle.bl_model.specs.Rows.{map_of};
-ghost use Rattle.bl_page.specs.Pairs.{IsWithin, IsWithin-prop, IsChild, IsChild-prop};
-
-use bl_page::{Inner, Page};
+use bl_page::Page;
 use bl_proc_steps::Hint;
-use bl_rearrange::Side;
-
-/// The numbers of a parent and of two neighbouring children.
-#[derive(Clone, Copy)]
-pub struct Siblings {
-    pub parent: u32,
-    pub left: u32,
-    pub right: u32,
-}
-
-/// A parent, and two of its children that stand side by side.
-#[derive(Drop)]
-pub struct Family {
-    /// The numbers of the three.
-    pub at: Siblings,
-    /// The parent.
-    pub parent: Inner,
-    /// The key by which it lists the right child.
-    pub key: u64,
-    ghost covers: { IsWithin parent.low parent.high key } by { IsWithin-prop parent.low parent.high key },
-    ghost above: { parent.low < key },
-    ghost lists: { map_of parent.children.items key ≡ Some at.right },
-    ghost left_child: { IsChild at.left } by { IsChild-prop at.left },
-    ghost right_child: { IsChild at.right } by { IsChild-prop at.right },
-}
+use bl_rearrange::{Family, Siblings, Side};
 
 /// What a compression is to put: first the child that gains, then the parent, and last the child that loses.
 #[derive(Drop)]

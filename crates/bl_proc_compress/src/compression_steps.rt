@@ -9,12 +9,12 @@ ghost use Rattle.bl_proc_compress.specs.declared.compression.Compression.TheVari
 ghost use Rattle.bl_proc_steps.specs.Given.{Gives};
 ghost use Rattle.bl_proc_compress.specs.Compressions.{put_of, other, merge_hint, IsBuried, Merges, Relists, MayEven, Decides, Links, after_puts, missed_left, missed_right, compression_next, compression_needs, Compresses};
 
-use crate::compression::{Compressed, Compression, Decision, Family, Puts, Siblings};
+use crate::compression::{Compressed, Compression, Decision, Puts};
 use bl_model::limits::{ENOUGH_PAIRS, MOST_PAIRS};
 use bl_page::{Dead, Inner, Page, is_within};
 use bl_proc_routes::{count_of, listed};
 use bl_proc_steps::{Action, Hint, Level, Seen, hint_of_thin, thin_low};
-use bl_rearrange::{Evened, Fitted, Side, evened, merged, with_pair, without};
+use bl_rearrange::{Evened, Family, Fitted, Siblings, Side, evened, merged, with_pair, without};
 
 /// The page to the right, 0 for none.
 fn right_of(page: &Page) -> u32

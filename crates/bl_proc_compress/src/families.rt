@@ -4,8 +4,8 @@ ghost use Rattle.std.specs.Prelude.{◌≡◌, ◌<◌, length};
 ghost use Rattle.bl_page.specs.Pairs.{IsWithin};
 ghost use Rattle.bl_proc_compress.specs.Compressions.{right_place, AreSiblings};
 
-use crate::compression::{Family, Siblings};
 use bl_page::{Inner, place_of};
+use bl_rearrange::{Family, Siblings};
 
 /// The place of the right one of the two: behind the child for the key, or that child's own where it is the last.
 fn right_place(children: &[(u64, u64)], key: u64) -> usize

@@ -12,5 +12,6 @@ mod compression;
 mod compression_steps;
 mod families;
 
+pub use bl_rearrange::{Family, Siblings};
 pub use compress::{Compress, CompressReply, CompressStage};
-pub use compression::{Compressed, Compression, Decision, Family, Puts, Siblings};
+pub use compression::{Compressed, Compression, Decision, Puts};

@@ -15,7 +15,7 @@ use Rattle.bl_proc_steps.specs.declared.approach.Came.TheVariants as come
 use Rattle.bl_proc_steps.specs.Given.{Gives}
 use Rattle.bl_proc_steps.specs.Approaches.{Comes}
 use Rattle.bl_proc_steps.proofs.Ways.{here_leads}
-use Rattle.bl_proc_compress.specs.declared.compression.Family.{Family}
+use Rattle.bl_rearrange.specs.declared.families.Family.{Family}
 use Rattle.bl_proc_compress.specs.declared.compression.Decision.{Decision}
 use Rattle.bl_proc_compress.specs.declared.compression.Compression.{Compression}
 use Rattle.bl_proc_compress.specs.declared.compression.Compression.TheVariants.{LatchingLeft}

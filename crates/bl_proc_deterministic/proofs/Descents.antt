@@ -8,7 +8,8 @@ use Rattle.bl_proc_steps.specs.declared.descent.Descent.{Descent}
 use Rattle.bl_proc_steps.specs.declared.descent.Descent.TheVariants.{AtAnchor, At}
 use Rattle.bl_proc_steps.specs.declared.descent.Descended.{Descended}
 use Rattle.bl_proc_steps.specs.declared.descent.Descended.TheVariants.{On, Here}
-use Rattle.bl_proc_routes.specs.Routes.{top_of, Leads}
+use Rattle.bl_proc_routes.specs.Routes.{Leads}
+use Rattle.bl_page.specs.Tops.{top_of}
 use Rattle.bl_proc_steps.specs.Descents.{Descends}
 use Rattle.bl_proc_deterministic.proofs.Onwards.{leads_some, leads_one}
 

@@ -8,8 +8,8 @@ use Rattle.bl_model.specs.Rows.{map_of}
 use Rattle.bl_page.specs.declared.page.Inner.{Inner}
 use Rattle.bl_page.specs.Pairs.{IsChild, IsChild-prop, IsWithin, IsWithin-prop, place}
 use Rattle.bl_page.proofs.Lookups.{place-le, NameChildren-at}
-use Rattle.bl_proc_compress.specs.declared.compression.Siblings.{Siblings}
-use Rattle.bl_proc_compress.specs.declared.compression.Family.{Family}
+use Rattle.bl_rearrange.specs.declared.families.Siblings.{Siblings}
+use Rattle.bl_rearrange.specs.declared.families.Family.{Family}
 use Rattle.bl_proc_compress.specs.Compressions.{right_place, IsFamily}
 use Rattle.bl_proc_compress.proofs.Places.{right_place-some, listed_at, above_first, within_at}
 

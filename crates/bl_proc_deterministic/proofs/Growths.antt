@@ -21,7 +21,8 @@ use Rattle.bl_proc_steps.specs.declared.growth.Growth.TheVariants.{Latching, Lat
 use Rattle.bl_proc_steps.specs.declared.growth.Grew.{Grew}
 use Rattle.bl_proc_steps.specs.declared.growth.Grew.TheVariants.{On, Grown, Refused}
 use Rattle.bl_proc_steps.specs.Given.{Gives}
-use Rattle.bl_proc_steps.specs.Growths.{growth_next, growth_needs, IsTop, IsAnchor, Raises, Grows}
+use Rattle.bl_proc_steps.specs.Growths.{growth_next, growth_needs, IsTop, Raises, Grows}
+use Rattle.bl_page.specs.Tops.{IsAnchor}
 use Rattle.bl_proc_deterministic.specs.One.{One}
 use Rattle.bl_proc_deterministic.proofs.Pages.{vec_one}
 use Rattle.bl_proc_deterministic.proofs.WayCases.{GrowthCase, growth_case}

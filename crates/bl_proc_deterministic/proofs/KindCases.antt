@@ -10,9 +10,9 @@ use Rattle.bl_page.specs.declared.page.Inner.{Inner}
 use Rattle.bl_page.specs.Nodes.{node_of, roots_of}
 use Rattle.bl_proc_steps.specs.declared.acts.Seen.{Seen}
 use Rattle.bl_proc_steps.specs.declared.acts.Seen.TheVariants as seen
-use Rattle.bl_proc_steps.specs.declared.answers.Hint.TheVariants as hint
-use Rattle.bl_proc_steps.specs.declared.answers.Reclaimed.{Reclaimed}
-use Rattle.bl_proc_steps.specs.declared.answers.Reclaimed.TheVariants as reclaimed
+use Rattle.bl_answers.specs.declared.answers.Hint.TheVariants as hint
+use Rattle.bl_answers.specs.declared.answers.Reclaimed.{Reclaimed}
+use Rattle.bl_answers.specs.declared.answers.Reclaimed.TheVariants as reclaimed
 use Rattle.bl_proc_routes.specs.declared.routes.Step.{Step}
 use Rattle.bl_proc_routes.specs.declared.routes.Step.TheVariants.{Again, Right, Down, Here}
 use Rattle.bl_proc_steps.specs.declared.descent.Descent.{Descent}
@@ -29,11 +29,11 @@ use Rattle.bl_proc_steps.specs.declared.edit.Edited.TheVariants as changed
 use Rattle.bl_proc_steps.specs.declared.growth.Growth.{Growth}
 use Rattle.bl_proc_steps.specs.declared.growth.Growth.TheVariants as growth
 use Rattle.bl_proc_steps.specs.declared.growth.Grew.TheVariants as grew
-use Rattle.bl_proc_steps.specs.declared.lowering.Lowered.{Lowered}
+use Rattle.bl_answers.specs.declared.answers.Lowered.{Lowered}
 use Rattle.bl_proc_steps.specs.declared.lowering.Lowering.{Lowering}
 use Rattle.bl_proc_steps.specs.declared.lowering.Lowering.TheVariants.{Looking}
 use Rattle.bl_proc_steps.specs.declared.lowering.Sank.TheVariants as sank
-use Rattle.bl_proc_compress.specs.declared.compression.Family.{Family}
+use Rattle.bl_rearrange.specs.declared.families.Family.{Family}
 use Rattle.bl_proc_compress.specs.declared.compression.Decision.{Decision}
 use Rattle.bl_proc_compress.specs.declared.compression.Compression.{Compression}
 use Rattle.bl_proc_compress.specs.declared.compression.Compression.TheVariants.{LatchingLeft}

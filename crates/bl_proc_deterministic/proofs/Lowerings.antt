@@ -11,8 +11,8 @@ use Rattle.bl_page.proofs.Same.{dead_same}
 use Rattle.bl_page.specs.Nodes.{roots_of}
 use Rattle.bl_proc_steps.specs.declared.acts.Seen.{Seen}
 use Rattle.bl_proc_steps.specs.declared.acts.Seen.TheVariants as seen
-use Rattle.bl_proc_steps.specs.declared.lowering.Lowered.{Lowered}
-use Rattle.bl_proc_steps.specs.declared.lowering.Lowered.TheVariants as lowered
+use Rattle.bl_answers.specs.declared.answers.Lowered.{Lowered}
+use Rattle.bl_answers.specs.declared.answers.Lowered.TheVariants as lowered
 use Rattle.bl_proc_steps.specs.declared.lowering.Summit.{Summit}
 use Rattle.bl_proc_steps.specs.declared.lowering.Sinking.{Sinking}
 use Rattle.bl_proc_steps.specs.declared.lowering.Lowering.{Lowering}
@@ -20,8 +20,8 @@ use Rattle.bl_proc_steps.specs.declared.lowering.Lowering.TheVariants.{Looking, 
 use Rattle.bl_proc_steps.specs.declared.lowering.Sank.{Sank}
 use Rattle.bl_proc_steps.specs.declared.lowering.Sank.TheVariants.{On, Over}
 use Rattle.bl_proc_steps.specs.Given.{Gives}
-use Rattle.bl_proc_routes.specs.Routes.{top_of}
-use Rattle.bl_proc_steps.specs.Lowerings.{lowering_next, lowering_needs, IsSole, IsFallen, Sinks, Lowers}
+use Rattle.bl_page.specs.Tops.{top_of, IsSole, IsFallen}
+use Rattle.bl_proc_steps.specs.Lowerings.{lowering_next, lowering_needs, Sinks, Lowers}
 use Rattle.bl_proc_steps.proofs.Tops.{length_take, AreChildren-take}
 use Rattle.bl_proc_deterministic.specs.One.{One}
 use Rattle.bl_proc_deterministic.proofs.Growths.{anchor_one, leftmost_one}

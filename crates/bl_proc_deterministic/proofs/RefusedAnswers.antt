@@ -7,9 +7,9 @@ use Rattle.bl_proc_writes.specs.declared.insert_post.Placing.{Placing}
 use Rattle.bl_proc_writes.specs.Placings.{write_of}
 use Rattle.bl_model.specs.Writes.{replied}
 use Rattle.bl_model.proofs.Decisions.{is_decided}
-use Rattle.bl_proc_steps.specs.declared.answers.Answer.{Answer}
-use Rattle.bl_proc_steps.specs.declared.answers.Answer.TheVariants as answer
-use Rattle.bl_proc_steps.specs.declared.answers.Hint.{Hint}
+use Rattle.bl_answers.specs.declared.answers.Answer.{Answer}
+use Rattle.bl_answers.specs.declared.answers.Answer.TheVariants as answer
+use Rattle.bl_answers.specs.declared.answers.Hint.{Hint}
 use Rattle.bl_proc.specs.declared.searching.FindStage.{FindStage}
 use Rattle.bl_proc.specs.declared.searching.FindStage.TheVariants as find
 use Rattle.bl_proc.specs.declared.parts.PartStage.{PartStage}
@@ -25,7 +25,7 @@ use Rattle.bl_proc_compress.specs.declared.compress.CompressStage.{CompressStage
 use Rattle.bl_proc_compress.specs.declared.compress.CompressStage.TheVariants as compress
 use Rattle.bl_proc.specs.declared.reclaiming.ReclaimStage.{ReclaimStage}
 use Rattle.bl_proc.specs.declared.reclaiming.ReclaimStage.TheVariants as reclaim
-use Rattle.bl_proc_steps.specs.declared.lowering.Lowered.TheVariants as lowered
+use Rattle.bl_answers.specs.declared.answers.Lowered.TheVariants as lowered
 use Rattle.bl_proc.specs.declared.lowering.LowerStage.{LowerStage}
 use Rattle.bl_proc.specs.declared.lowering.LowerStage.TheVariants as lower
 use Rattle.bl_proc_writes.specs.declared.insert_post.Climbed.TheVariants as climbed

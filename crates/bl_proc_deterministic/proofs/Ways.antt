@@ -16,7 +16,8 @@ use Rattle.bl_proc_steps.specs.declared.approach.Approached.TheVariants as came
 use Rattle.bl_proc_steps.specs.declared.approach.Came.{Came}
 use Rattle.bl_proc_steps.specs.declared.approach.Came.TheVariants as come
 use Rattle.bl_proc_steps.specs.Given.{Gives}
-use Rattle.bl_proc_routes.specs.Routes.{top_of, Leads}
+use Rattle.bl_proc_routes.specs.Routes.{Leads}
+use Rattle.bl_page.specs.Tops.{top_of}
 use Rattle.bl_proc_steps.specs.Approaches.{approach_next, Enters, Turns, Quits, Approaches, HasLevel, CountsLevels, Comes}
 use Rattle.bl_proc_steps.proofs.Ways.{here_leads}
 use Rattle.bl_proc_deterministic.specs.One.{One}

@@ -1,18 +1,18 @@
 -- Where a process goes on without room, and what it may have asked for.
 use Rattle.std.specs.Prelude.{◌≡◌, ◌⊎◌, ℕ, Some}
 use Rattle.bl_model.specs.declared.operation.Reply.TheVariants as reply
-use Rattle.bl_proc_steps.specs.declared.answers.Answer.{Answer}
-use Rattle.bl_proc_steps.specs.declared.answers.Answer.TheVariants as answer
-use Rattle.bl_proc_steps.specs.declared.answers.Posted.TheVariants as posted
-use Rattle.bl_proc_steps.specs.declared.answers.Squeezed.TheVariants as squeezed
+use Rattle.bl_answers.specs.declared.answers.Answer.{Answer}
+use Rattle.bl_answers.specs.declared.answers.Answer.TheVariants as answer
+use Rattle.bl_answers.specs.declared.answers.Posted.TheVariants as posted
+use Rattle.bl_answers.specs.declared.answers.Squeezed.TheVariants as squeezed
 use Rattle.bl_proc_steps.specs.declared.edit.Outcome.{Outcome}
 use Rattle.bl_proc_steps.specs.declared.edit.Outcome.TheVariants as outcome
 use Rattle.bl_proc_steps.specs.declared.edit.Edit.{Edit}
 use Rattle.bl_proc_steps.specs.declared.edit.Edit.TheVariants as edit
 use Rattle.bl_proc_steps.specs.declared.growth.Growth.{Growth}
 use Rattle.bl_proc_steps.specs.declared.growth.Growth.TheVariants as growth
-use Rattle.bl_proc_steps.specs.declared.lowering.Lowered.{Lowered}
-use Rattle.bl_proc_steps.specs.declared.lowering.Lowered.TheVariants as lowered
+use Rattle.bl_answers.specs.declared.answers.Lowered.{Lowered}
+use Rattle.bl_answers.specs.declared.answers.Lowered.TheVariants as lowered
 use Rattle.bl_proc_steps.specs.declared.lowering.Lowering.{Lowering}
 use Rattle.bl_proc_steps.specs.declared.lowering.Lowering.TheVariants as lowering
 use Rattle.bl_proc_compress.specs.declared.compression.Decision.{Decision}

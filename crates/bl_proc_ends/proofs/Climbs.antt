@@ -10,7 +10,7 @@ use Rattle.bl_tree_worlds.specs.Worlds.{Goes, World, IsGood}
 use Rattle.bl_proc_steps.specs.declared.acts.Seen.{Seen}
 use Rattle.bl_proc_steps.specs.declared.acts.Seen.TheVariants as seen
 use Rattle.bl_proc_steps.specs.declared.acts.Action.TheVariants as act
-use Rattle.bl_proc_steps.specs.declared.answers.Hint.TheVariants as hint
+use Rattle.bl_answers.specs.declared.answers.Hint.TheVariants as hint
 use Rattle.bl_page.specs.declared.page.Page.TheVariants.{Inner as InnerPage}
 use Rattle.bl_proc_steps.specs.declared.edit.Edit.{Edit}
 use Rattle.bl_proc_steps.specs.declared.edit.Edit.TheVariants as edit
@@ -18,7 +18,7 @@ use Rattle.bl_proc_steps.specs.declared.edit.Edited.TheVariants as changed
 use Rattle.bl_proc_steps.specs.declared.edit.Outcome.{Outcome}
 use Rattle.bl_proc_steps.specs.declared.edit.Outcome.TheVariants as outcome
 use Rattle.bl_proc_steps.specs.Edits.{edit_next, EntersPair}
-use Rattle.bl_proc_steps.specs.Thin.{thin_hint}
+use Rattle.bl_answers.specs.Thin.{thin_hint}
 use Rattle.bl_proc_writes.specs.declared.writing.Noted.{Noted}
 use Rattle.bl_proc_writes.specs.declared.writing.WriteReply.TheVariants as written
 use Rattle.bl_proc_writes.specs.declared.writing.WriteStage.{WriteStage}

@@ -3,10 +3,10 @@ use Rattle.std.proofs.Common.{ℕ, ◌≡◌, Option, Some, sym, subst}
 use Rattle.bl_claims.specs.Trails.{Trail, marks_of}
 use Rattle.bl_page.specs.Machine.{Name}
 use Rattle.bl_tree_worlds.specs.Worlds.{World}
-use Rattle.bl_proc_steps.specs.declared.answers.Answer.{Answer}
-use Rattle.bl_proc_steps.specs.declared.answers.Answer.TheVariants as answer
-use Rattle.bl_proc_steps.specs.declared.answers.Posted.{Posted}
-use Rattle.bl_proc_steps.specs.declared.answers.Hint.{Hint}
+use Rattle.bl_answers.specs.declared.answers.Answer.{Answer}
+use Rattle.bl_answers.specs.declared.answers.Answer.TheVariants as answer
+use Rattle.bl_answers.specs.declared.answers.Posted.{Posted}
+use Rattle.bl_answers.specs.declared.answers.Hint.{Hint}
 use Rattle.bl_proc_writes.specs.declared.post.Post.{Post}
 use Rattle.bl_proc_writes.specs.declared.post.PostReply.{PostReply}
 use Rattle.bl_proc_writes.specs.declared.post.PostReply.TheVariants as reply

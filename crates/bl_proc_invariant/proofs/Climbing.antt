@@ -10,7 +10,7 @@ use Rattle.bl_claims.specs.Trails.{HasSaid}
 use Rattle.bl_tree_worlds.specs.Worlds.{World, IsSure, IsGood}
 use Rattle.bl_tree_worlds.proofs.After.{is_put_name}
 use Rattle.bl_proc_steps.specs.declared.acts.Seen.{Seen}
-use Rattle.bl_proc_steps.specs.declared.answers.Hint.TheVariants as hint
+use Rattle.bl_answers.specs.declared.answers.Hint.TheVariants as hint
 use Rattle.bl_proc_writes.specs.declared.paths.Path.{Path}
 use Rattle.bl_proc_writes.specs.declared.post.Post.{Post}
 use Rattle.bl_proc_writes.specs.declared.post.PostReply.TheVariants as listed

@@ -6,11 +6,11 @@ use Rattle.bl_model.specs.Writes.{effect_of, replied}
 use Rattle.bl_page.specs.Machine.{Name}
 use Rattle.bl_claims.specs.Trails.{Trail, marks_of}
 use Rattle.bl_tree_worlds.specs.Worlds.{World}
-use Rattle.bl_proc_steps.specs.declared.answers.Answer.{Answer}
-use Rattle.bl_proc_steps.specs.declared.answers.Answer.TheVariants as answer
-use Rattle.bl_proc_steps.specs.declared.answers.Hint.{Hint}
-use Rattle.bl_proc_steps.specs.declared.answers.Hint.TheVariants as hint
-use Rattle.bl_proc_steps.specs.declared.answers.Posted.{Posted}
+use Rattle.bl_answers.specs.declared.answers.Answer.{Answer}
+use Rattle.bl_answers.specs.declared.answers.Answer.TheVariants as answer
+use Rattle.bl_answers.specs.declared.answers.Hint.{Hint}
+use Rattle.bl_answers.specs.declared.answers.Hint.TheVariants as hint
+use Rattle.bl_answers.specs.declared.answers.Posted.{Posted}
 use Rattle.bl_proc_writes.specs.declared.writing.WriteReply.{WriteReply}
 use Rattle.bl_proc_writes.specs.declared.writing.WriteReply.TheVariants as written
 use Rattle.bl_proc_writes.specs.declared.insert_post.InsertPost.{InsertPost}
@@ -19,7 +19,7 @@ use Rattle.bl_proc_writes.specs.declared.insert_post.Climbed.TheVariants as clim
 use Rattle.bl_proc_writes.specs.declared.insert_post.ClimbStage.{ClimbStage}
 use Rattle.bl_proc_writes.specs.declared.insert_post.ClimbStage.TheVariants as climb
 use Rattle.bl_proc.specs.declared.kinds.Proc.TheVariants as proc
-use Rattle.bl_proc_writes.specs.Writes.{post_hint}
+use Rattle.bl_answers.specs.Hints.{post_hint}
 use Rattle.bl_proc_writes.specs.InsertPosts.{placed_reply, climbed_answer, IsUnsplit, climb_answer_in}
 use Rattle.bl_claims.specs.Hinted.{MeansWritten}
 use Rattle.bl_claims.specs.Climbed.{MeansClimbed}

@@ -11,10 +11,10 @@ use Rattle.bl_claims.specs.Trails.{Mark, Trail}
 use Rattle.bl_claims.specs.Meanings.{writes_in, HasRaised, RaisesOnly, WroteHeld, MeansDone}
 use Rattle.bl_proc_steps.specs.declared.acts.Seen.{Seen}
 use Rattle.bl_proc_steps.specs.declared.acts.Seen.TheVariants as seen
-use Rattle.bl_proc_steps.specs.declared.answers.Hint.{Hint}
-use Rattle.bl_proc_steps.specs.declared.answers.Hint.TheVariants as hint
-use Rattle.bl_proc_steps.specs.declared.answers.Posted.{Posted}
-use Rattle.bl_proc_steps.specs.declared.answers.Posted.TheVariants as posted
+use Rattle.bl_answers.specs.declared.answers.Hint.{Hint}
+use Rattle.bl_answers.specs.declared.answers.Hint.TheVariants as hint
+use Rattle.bl_answers.specs.declared.answers.Posted.{Posted}
+use Rattle.bl_answers.specs.declared.answers.Posted.TheVariants as posted
 use Rattle.bl_proc_writes.specs.declared.paths.Path.{Path}
 use Rattle.bl_proc_writes.specs.declared.post.Post.{Post}
 use Rattle.bl_proc_writes.specs.declared.post.PostReply.{PostReply}
@@ -29,8 +29,9 @@ use Rattle.bl_proc_writes.specs.declared.insert_post.ClimbStage.{ClimbStage}
 use Rattle.bl_proc_writes.specs.declared.insert_post.ClimbStage.TheVariants as climb
 use Rattle.bl_proc_writes.specs.Paths.{page_at, from_page}
 use Rattle.bl_proc_writes.specs.Stands.{Stands}
-use Rattle.bl_proc_writes.specs.InsertPosts.{posted_as, left_hint, IsLast, climb_next_in}
-use Rattle.bl_proc_writes.specs.Writes.{post_hint, write_next_in}
+use Rattle.bl_proc_writes.specs.InsertPosts.{posted_as, IsLast, climb_next_in}
+use Rattle.bl_answers.specs.Hints.{left_hint, post_hint}
+use Rattle.bl_proc_writes.specs.Writes.{write_next_in}
 use Rattle.bl_claims.specs.Hinted.{WroteLeaf}
 use Rattle.bl_claims.specs.Answers.{MeansPosted}
 use Rattle.bl_claims.specs.Climbed.{PostsUp, WroteAndPosted}

@@ -16,7 +16,7 @@ use Rattle.bl_tree_worlds.specs.Worlds.{Stage, Know, World, MayGet, IsGoes, IsSu
 use Rattle.bl_tree_worlds.proofs.Descents.{goes_down, not_released}
 use Rattle.bl_proc_steps.specs.declared.acts.Seen.{Seen}
 use Rattle.bl_proc_steps.specs.declared.approach.Approach.TheVariants as way
-use Rattle.bl_proc_compress.specs.declared.compression.Family.{Family}
+use Rattle.bl_rearrange.specs.declared.families.Family.{Family}
 use Rattle.bl_proc_compress.specs.declared.compression.Decision.{Decision}
 use Rattle.bl_proc_compress.specs.declared.compression.Compression.{Compression}
 use Rattle.bl_proc_compress.specs.declared.compression.Compression.TheVariants.{LatchingLeft}

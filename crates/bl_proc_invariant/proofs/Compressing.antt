@@ -10,8 +10,8 @@ use Rattle.bl_tree_worlds.proofs.Pushes.{HasSaid-silent}
 use Rattle.bl_claims.specs.Trails.{Mark}
 use Rattle.bl_tree_worlds.specs.Worlds.{Stage, Know, World, nodes, IsSure, IsGood, silent}
 use Rattle.bl_tree_worlds.proofs.Descents.{not_released, open_live}
-use Rattle.bl_proc_compress.specs.declared.compression.Siblings.{Siblings}
-use Rattle.bl_proc_compress.specs.declared.compression.Family.{Family}
+use Rattle.bl_rearrange.specs.declared.families.Siblings.{Siblings}
+use Rattle.bl_rearrange.specs.declared.families.Family.{Family}
 use Rattle.bl_proc_compress.specs.declared.compression.Decision.{Decision}
 use Rattle.bl_proc_compress.specs.declared.compression.Puts.{Puts}
 use Rattle.bl_proc_compress.specs.declared.compression.Compression.TheVariants.{LatchingLeft, LatchedLeft, LatchingRight, LatchedRight, PuttingFirst, OpeningRight, OpeningLeft, OpeningParent}

@@ -13,8 +13,8 @@ use Rattle.bl_tree_worlds.proofs.Neighbours.{meets}
 use Rattle.bl_tree_worlds.specs.Worlds.{Know, World, IsSure, IsGood}
 use Rattle.bl_proc_steps.specs.declared.acts.Seen.{Seen}
 use Rattle.bl_proc_steps.specs.declared.acts.Seen.TheVariants as seen
-use Rattle.bl_proc_compress.specs.declared.compression.Siblings.{Siblings}
-use Rattle.bl_proc_compress.specs.declared.compression.Family.{Family}
+use Rattle.bl_rearrange.specs.declared.families.Siblings.{Siblings}
+use Rattle.bl_rearrange.specs.declared.families.Family.{Family}
 use Rattle.bl_proc_compress.specs.declared.compression.Puts.{Puts}
 use Rattle.bl_proc_compress.specs.declared.compression.Decision.TheVariants as decision
 use Rattle.bl_proc_compress.specs.declared.compression.Compression.{Compression}

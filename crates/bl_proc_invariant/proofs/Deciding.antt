@@ -15,8 +15,8 @@ use Rattle.bl_claims.specs.Trails.{Mark}
 use Rattle.bl_tree_worlds.specs.Worlds.{Know, World, nodes, tree_of, IsSure, IsGood}
 use Rattle.bl_tree_worlds.proofs.Descents.{not_released}
 use Rattle.bl_tree_worlds.proofs.Neighbours.{meets}
-use Rattle.bl_proc_compress.specs.declared.compression.Siblings.{Siblings}
-use Rattle.bl_proc_compress.specs.declared.compression.Family.{Family}
+use Rattle.bl_rearrange.specs.declared.families.Siblings.{Siblings}
+use Rattle.bl_rearrange.specs.declared.families.Family.{Family}
 use Rattle.bl_proc_compress.specs.declared.compression.Puts.{Puts}
 use Rattle.bl_proc_compress.specs.declared.compression.Compression.TheVariants.{LatchedRight, PuttingFirst}
 use Rattle.bl_proc_invariant.specs.Turns.{Does, Turned}

@@ -27,7 +27,8 @@ use Rattle.bl_proc_steps.specs.declared.acts.Seen.{Seen}
 use Rattle.bl_proc_steps.specs.declared.growth.Grew.TheVariants.{On, Grown, Refused}
 use Rattle.bl_proc_steps.specs.declared.approach.Approach.TheVariants.{Start}
 use Rattle.bl_proc_writes.specs.declared.post.PostStage.TheVariants.{Growing}
-use Rattle.bl_proc_steps.specs.Growths.{growth_next, IsTop, IsAnchor, Raises}
+use Rattle.bl_proc_steps.specs.Growths.{growth_next, IsTop, Raises}
+use Rattle.bl_page.specs.Tops.{IsAnchor}
 use Rattle.bl_proc_invariant.specs.Turns.{event_of, IsObserved, Does, Turned}
 use Rattle.bl_proc_invariant.specs.Tables.{Carried, carrying, know_approach, anchor_known}
 use Rattle.bl_proc_invariant.specs.Knowing.{ending, know_growth, post_got}

@@ -40,7 +40,8 @@ use Rattle.bl_proc_writes.specs.declared.post.PostStage.TheVariants as post
 use Rattle.bl_proc_routes.specs.Routes.{Leads}
 use Rattle.bl_proc_steps.specs.Approaches.{approach_next, Turns, Approaches}
 use Rattle.bl_proc_steps.specs.Edits.{edit_next, EntersPair}
-use Rattle.bl_proc_steps.specs.Growths.{growth_next, IsTop, IsAnchor, Raises}
+use Rattle.bl_proc_steps.specs.Growths.{growth_next, IsTop, Raises}
+use Rattle.bl_page.specs.Tops.{IsAnchor}
 use Rattle.bl_proc_writes.specs.Posts.{post_reply, post_next_in, PostArrives}
 use Rattle.bl_proc_invariant.specs.Turns.{event_of}
 use Rattle.bl_proc_invariant.specs.Logs.{Holding, HoldsParent, HoldsBoth, IsToPut, on_way, approach_log, outcome_log, edit_log, HasHalfRaised, growth_log, reply_log, post_log}

@@ -18,15 +18,15 @@ use Rattle.bl_tree_worlds.proofs.Descents.{anchor_not_released}
 use Rattle.bl_tree_worlds.proofs.Lowerings.{PutsLower-keeps, PutsFallen-keeps}
 use Rattle.bl_tree_worlds.proofs.Outside.{Retires-keeps}
 use Rattle.bl_proc_steps.specs.declared.acts.Seen.{Seen}
-use Rattle.bl_proc_steps.specs.declared.lowering.Lowered.{Lowered}
-use Rattle.bl_proc_steps.specs.declared.lowering.Lowered.TheVariants as lowered
+use Rattle.bl_answers.specs.declared.answers.Lowered.{Lowered}
+use Rattle.bl_answers.specs.declared.answers.Lowered.TheVariants as lowered
 use Rattle.bl_proc_steps.specs.declared.lowering.Lowering.{Lowering}
 use Rattle.bl_proc_steps.specs.declared.lowering.Sank.TheVariants.{On, Over}
 use Rattle.bl_proc_steps.specs.declared.lowering.Summit.{Summit}
 use Rattle.bl_proc_steps.specs.declared.lowering.Sinking.{Sinking}
 use Rattle.bl_proc_steps.specs.declared.lowering.Lowering.TheVariants as lowering
-use Rattle.bl_proc_routes.specs.Routes.{top_of}
-use Rattle.bl_proc_steps.specs.Lowerings.{lowering_next, IsSole, IsFallen, Sinks}
+use Rattle.bl_page.specs.Tops.{top_of, IsSole, IsFallen}
+use Rattle.bl_proc_steps.specs.Lowerings.{lowering_next, Sinks}
 use Rattle.bl_proc_steps.proofs.Tops.{length_take}
 use Rattle.bl_proc_invariant.specs.Turns.{event_of, IsObserved, Does, Turned}
 use Rattle.bl_proc_invariant.specs.Tables.{idle, alone}

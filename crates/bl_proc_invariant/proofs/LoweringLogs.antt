@@ -13,12 +13,12 @@ use Rattle.bl_tree_worlds.specs.Worlds.{World}
 use Rattle.bl_tree_worlds.proofs.Meant.{unwritten_now, none_written, unwritten_on, got_on, got_last}
 use Rattle.bl_proc_steps.specs.declared.acts.Seen.{Seen}
 use Rattle.bl_proc_steps.specs.declared.acts.Seen.TheVariants as seen
-use Rattle.bl_proc_steps.specs.declared.lowering.Lowered.{Lowered}
-use Rattle.bl_proc_steps.specs.declared.lowering.Lowered.TheVariants as lowered
+use Rattle.bl_answers.specs.declared.answers.Lowered.{Lowered}
+use Rattle.bl_answers.specs.declared.answers.Lowered.TheVariants as lowered
 use Rattle.bl_proc_steps.specs.declared.lowering.Summit.{Summit}
 use Rattle.bl_proc_steps.specs.declared.lowering.Sinking.{Sinking}
-use Rattle.bl_proc_steps.specs.declared.answers.Answer.{Answer}
-use Rattle.bl_proc_steps.specs.declared.answers.Answer.TheVariants as answer
+use Rattle.bl_answers.specs.declared.answers.Answer.{Answer}
+use Rattle.bl_answers.specs.declared.answers.Answer.TheVariants as answer
 use Rattle.bl_proc_steps.specs.declared.lowering.Lowering.{Lowering}
 use Rattle.bl_proc_steps.specs.declared.lowering.Lowering.TheVariants.{Looking, LatchingAnchor, LatchedAnchor, LatchingTop, LatchedTop, PuttingAnchor, PuttingDead, Retiring, OpeningTop, OpeningAnchor}
 use Rattle.bl_proc.specs.declared.lowering.Lower.{Lower}
@@ -27,7 +27,7 @@ use Rattle.bl_proc.specs.declared.lowering.LowerStage.TheVariants as lower
 use Rattle.bl_proc.specs.declared.kinds.Proc.TheVariants as proc
 use Rattle.bl_proc.specs.Lowers.{lower_next_in, lower_answer_in}
 use Rattle.bl_proc_steps.specs.declared.lowering.Sank.TheVariants.{On, Over}
-use Rattle.bl_proc_routes.specs.Routes.{top_of}
+use Rattle.bl_page.specs.Tops.{top_of}
 use Rattle.bl_proc_steps.specs.Lowerings.{lowering_next}
 use Rattle.bl_claims.specs.Squeezed.{acts_in}
 use Rattle.bl_claims.specs.Lowered.{AtTop, to_top, to_sunk, HasLowered, MeansLowered}

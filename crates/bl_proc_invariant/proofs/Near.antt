@@ -3,7 +3,7 @@
 use Rattle.std.proofs.Common.{ℕ, ◌≡◌, ◌≢◌, ◌-◌, None, Some, List, [], ap, sym, ◌∙◌, subst, arith}
 use Rattle.bl_tree.specs.Trees.{is_live, IsLive}
 use Rattle.bl_page.specs.Nodes.{roots_of}
-use Rattle.bl_proc_routes.specs.Routes.{top_of}
+use Rattle.bl_page.specs.Tops.{top_of}
 use Rattle.std.proofs.lemmas.Bool.{false≢true}
 use Rattle.bl_model.specs.declared.deciding.KeyWrite.{KeyWrite}
 use Rattle.bl_page.specs.declared.page.Page.{Page}

@@ -21,14 +21,15 @@ use Rattle.bl_model.specs.declared.deciding.KeyWrite.{KeyWrite}
 use Rattle.bl_model.specs.declared.deciding.Effect.{Effect}
 use Rattle.bl_model.specs.declared.deciding.Effect.TheVariants.{Keep, Enter, Remove, Replace}
 use Rattle.bl_model.specs.Writes.{effect_of}
-use Rattle.bl_proc_steps.specs.declared.answers.Hint.{Hint}
+use Rattle.bl_answers.specs.declared.answers.Hint.{Hint}
 use Rattle.bl_proc_writes.specs.declared.writing.Noted.{Noted}
 use Rattle.bl_proc_writes.specs.declared.writing.WriteReply.{WriteReply}
 use Rattle.bl_proc_writes.specs.declared.writing.WriteReply.TheVariants as written
 use Rattle.bl_proc_writes.specs.declared.writing.WriteStage.{WriteStage}
 use Rattle.bl_proc_writes.specs.declared.writing.WriteStage.TheVariants as write
-use Rattle.bl_proc_steps.specs.Thin.{thin_hint}
-use Rattle.bl_proc_writes.specs.Writes.{post_hint, Performs, thin_by, write_reply, write_next_in}
+use Rattle.bl_answers.specs.Thin.{thin_hint}
+use Rattle.bl_proc_writes.specs.Writes.{Performs, thin_by, write_reply, write_next_in}
+use Rattle.bl_answers.specs.Hints.{post_hint}
 use Rattle.bl_proc_invariant.specs.Turns.{event_of}
 use Rattle.bl_claims.specs.Hinted.{WroteLeaf}
 use Rattle.bl_proc_invariant.specs.Logs.{way_log, put_log, entry_log, IsAsNoted, MaySplit, effect_log, written_log, write_log}

@@ -14,10 +14,10 @@ use Rattle.bl_page.specs.Nodes.{Covers, node_of}
 use Rattle.bl_tree.specs.Moves.{IsJoin, IsRow, IsRelisted, IsLeftGain, IsRightLoss, IsRightGain, IsLeftLoss}
 use Rattle.bl_tree_worlds.proofs.Fitted.{look_of, frame_shape, end_is, fits_row, without_row}
 use Rattle.bl_tree_worlds.proofs.Neighbours.{meets, cover_of, merged_join, now_low, shares, evened_left, evened_right}
-use Rattle.bl_proc_compress.specs.declared.compression.Family.{Family}
+use Rattle.bl_rearrange.specs.declared.families.Family.{Family}
 use Rattle.bl_proc_compress.specs.declared.compression.Puts.{Puts}
 use Rattle.bl_proc_compress.specs.Compressions.{IsBuried, Merges, MayEven, Evens, Relists, merge_hint}
-use Rattle.bl_proc_compress.specs.declared.compression.Siblings.{Siblings}
+use Rattle.bl_rearrange.specs.declared.families.Siblings.{Siblings}
 use Rattle.bl_proc_invariant.specs.Compressing.{ToMerge, ToEvenLeft, ToEvenRight}
 use Rattle.bl_proc_invariant.proofs.Holdings.{covered_in}
 

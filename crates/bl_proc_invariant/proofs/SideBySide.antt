@@ -4,7 +4,7 @@ use Rattle.std.proofs.lemmas.Bool.{cases_lt}
 use Rattle.bl_page.specs.declared.page.Inner.{Inner}
 use Rattle.bl_page.specs.Pairs.{place}
 use Rattle.bl_page.proofs.Lookups.{place-le}
-use Rattle.bl_proc_compress.specs.declared.compression.Family.{Family}
+use Rattle.bl_rearrange.specs.declared.families.Family.{Family}
 use Rattle.bl_proc_compress.specs.Compressions.{right_place, AreSiblings}
 use Rattle.bl_proc_compress.proofs.Places.{right_place-some}
 use Rattle.bl_claims.specs.Squeezed.{AreBeside}

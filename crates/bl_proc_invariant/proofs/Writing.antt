@@ -26,7 +26,7 @@ use Rattle.bl_proc_writes.specs.declared.writing.WriteStage.{WriteStage}
 use Rattle.bl_proc_writes.specs.declared.writing.WriteStage.TheVariants as write
 use Rattle.bl_proc_writes.specs.declared.writing.WriteReply.TheVariants as written
 use Rattle.bl_proc_routes.specs.Routes.{Leads}
-use Rattle.bl_proc_steps.specs.Thin.{thin_hint}
+use Rattle.bl_answers.specs.Thin.{thin_hint}
 use Rattle.bl_proc_writes.specs.Writes.{Performs, write_reply, write_next_in}
 use Rattle.bl_proc_invariant.specs.Turns.{event_of, IsObserved, Does, Turned}
 use Rattle.bl_proc_invariant.specs.Tables.{unsaid, IsAim, IsBelow, know_approach, know_edit}

@@ -11,10 +11,10 @@ use Rattle.bl_rearrange.specs.declared.sides.Side.{Side}
 use Rattle.bl_rearrange.specs.declared.sides.Side.TheVariants as side
 use Rattle.bl_proc_steps.specs.declared.acts.Seen.{Seen}
 use Rattle.bl_proc_steps.specs.declared.acts.Seen.TheVariants.{Words}
-use Rattle.bl_proc_compress.specs.declared.compression.Siblings.{Siblings}
-use Rattle.bl_proc_compress.specs.declared.compression.Family.{Family}
+use Rattle.bl_rearrange.specs.declared.families.Siblings.{Siblings}
+use Rattle.bl_rearrange.specs.declared.families.Family.{Family}
 use Rattle.bl_proc_compress.specs.declared.compression.Puts.{Puts}
-use Rattle.bl_proc_steps.specs.declared.answers.Hint.{Hint}
+use Rattle.bl_answers.specs.declared.answers.Hint.{Hint}
 use Rattle.bl_proc_compress.specs.declared.compression.Decision.TheVariants as decision
 use Rattle.bl_proc_compress.specs.declared.compression.Compression.{Compression}
 use Rattle.bl_proc_compress.specs.declared.compression.Compression.TheVariants.{LatchingLeft, LatchedLeft, LatchingRight, LatchedRight, PuttingFirst, PuttingParent, PuttingLast, Retiring, OpeningRight, OpeningLeft, OpeningParent}

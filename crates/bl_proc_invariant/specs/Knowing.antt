@@ -17,7 +17,7 @@ use Rattle.bl_claims.specs.Trails.{Said}
 use Rattle.bl_tree_worlds.specs.Worlds.{Goes, Passed, Stage, Know}
 use Rattle.bl_proc_steps.specs.declared.acts.Seen.{Seen}
 use Rattle.bl_proc_steps.specs.declared.acts.Seen.TheVariants as seen
-use Rattle.bl_proc_steps.specs.declared.answers.Hint.TheVariants as hint
+use Rattle.bl_answers.specs.declared.answers.Hint.TheVariants as hint
 use Rattle.bl_proc.specs.declared.searching.FindStage.TheVariants as find
 use Rattle.bl_proc.specs.declared.searching.FindStage.{FindStage}
 use Rattle.bl_proc_writes.specs.declared.writing.Noted.{Noted}
@@ -53,7 +53,8 @@ use Rattle.bl_proc_writes.specs.declared.insert_post.ClimbStage.TheVariants as c
 use Rattle.bl_proc.specs.declared.kinds.Proc.{Proc}
 use Rattle.bl_proc.specs.declared.kinds.Proc.TheVariants as proc
 use Rattle.bl_proc_writes.specs.Writes.{write_reply}
-use Rattle.bl_proc_steps.specs.Growths.{Raises, IsAnchor}
+use Rattle.bl_proc_steps.specs.Growths.{Raises}
+use Rattle.bl_page.specs.Tops.{IsAnchor}
 use Rattle.bl_proc_invariant.specs.Compressing.{know_compression, compression_got}
 use Rattle.bl_proc_invariant.specs.Lowering.{know_lowering, lowering_got}
 use Rattle.bl_proc_invariant.specs.Tables.{idle, Carried, unsaid, alone, carrying, holds_live, holds_known, anchor_known, goes_to, know_descent, know_approach, Aim, IsDue, know_edit}

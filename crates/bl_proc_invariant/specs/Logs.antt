@@ -23,11 +23,11 @@ use Rattle.bl_proc_writes.specs.declared.post.PostStage.{PostStage}
 use Rattle.bl_proc_writes.specs.declared.post.PostStage.TheVariants as post
 use Rattle.bl_rearrange.specs.declared.sides.Side.{Side}
 use Rattle.bl_rearrange.specs.declared.sides.Side.TheVariants as side
-use Rattle.bl_proc_compress.specs.declared.compression.Siblings.{Siblings}
+use Rattle.bl_rearrange.specs.declared.families.Siblings.{Siblings}
 use Rattle.bl_proc_compress.specs.declared.compression.Puts.{Puts}
-use Rattle.bl_proc_compress.specs.declared.compression.Family.{Family}
-use Rattle.bl_proc_steps.specs.declared.answers.Hint.{Hint}
-use Rattle.bl_proc_steps.specs.declared.answers.Posted.{Posted}
+use Rattle.bl_rearrange.specs.declared.families.Family.{Family}
+use Rattle.bl_answers.specs.declared.answers.Hint.{Hint}
+use Rattle.bl_answers.specs.declared.answers.Posted.{Posted}
 use Rattle.bl_proc_compress.specs.declared.compression.Decision.{Decision}
 use Rattle.bl_proc_compress.specs.declared.compression.Decision.TheVariants as decision
 use Rattle.bl_proc_compress.specs.declared.compression.Compression.{Compression}
@@ -47,7 +47,7 @@ use Rattle.bl_proc_writes.specs.declared.writing.WriteReply.{WriteReply}
 use Rattle.bl_proc_writes.specs.declared.writing.WriteReply.TheVariants as written
 use Rattle.bl_proc_writes.specs.declared.writing.WriteStage.{WriteStage}
 use Rattle.bl_proc_writes.specs.declared.writing.WriteStage.TheVariants as write
-use Rattle.bl_proc_steps.specs.Thin.{thin_low}
+use Rattle.bl_answers.specs.Thin.{thin_low}
 use Rattle.bl_claims.specs.Hinted.{WroteLeaf, WrittenSo}
 use Rattle.bl_claims.specs.Lowered.{MeansLowered}
 use Rattle.bl_claims.specs.Climbed.{PostsUp, WroteAndPosted}
@@ -59,7 +59,8 @@ use Rattle.bl_proc_writes.specs.declared.insert_post.Climbed.{Climbed}
 use Rattle.bl_proc_writes.specs.declared.insert_post.Climbed.TheVariants as climbed
 use Rattle.bl_proc_writes.specs.declared.insert_post.ClimbStage.{ClimbStage}
 use Rattle.bl_proc_writes.specs.declared.insert_post.ClimbStage.TheVariants as climb
-use Rattle.bl_proc_writes.specs.InsertPosts.{posted_as, left_hint, IsUnsplit}
+use Rattle.bl_proc_writes.specs.InsertPosts.{posted_as, IsUnsplit}
+use Rattle.bl_answers.specs.Hints.{left_hint}
 use Rattle.bl_proc.specs.declared.lowering.LowerStage.{LowerStage}
 use Rattle.bl_proc.specs.declared.lowering.LowerStage.TheVariants as lower
 use Rattle.bl_proc.specs.declared.kinds.Proc.{Proc}

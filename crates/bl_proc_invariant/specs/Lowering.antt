@@ -10,9 +10,8 @@ use Rattle.bl_proc_steps.specs.declared.acts.Seen.TheVariants as seen
 use Rattle.bl_proc_steps.specs.declared.lowering.Sinking.{Sinking}
 use Rattle.bl_proc_steps.specs.declared.lowering.Lowering.{Lowering}
 use Rattle.bl_proc_steps.specs.declared.lowering.Lowering.TheVariants.{Looking, LatchingAnchor, LatchedAnchor, LatchingTop, LatchedTop, PuttingAnchor, PuttingDead, Retiring, OpeningTop, OpeningAnchor}
-use Rattle.bl_proc_routes.specs.Routes.{top_of}
-use Rattle.bl_proc_steps.specs.Growths.{IsAnchor}
-use Rattle.bl_proc_steps.specs.Lowerings.{IsSole, IsFallen, Sinks}
+use Rattle.bl_page.specs.Tops.{top_of, IsAnchor, IsSole, IsFallen}
+use Rattle.bl_proc_steps.specs.Lowerings.{Sinks}
 use Rattle.bl_proc_invariant.specs.Tables.{idle, holds_live, holds_known, anchor_known}
 
 -- the anchor and the top page, as they were got

@@ -13,7 +13,7 @@ use Rattle.bl_proc_steps.specs.declared.lowering.Summit.{Summit}
 use Rattle.bl_proc_steps.specs.declared.lowering.Sinking.{Sinking}
 use Rattle.bl_proc_steps.specs.declared.lowering.Lowering.{Lowering}
 use Rattle.bl_proc_steps.specs.declared.lowering.Lowering.TheVariants.{Looking, LatchingAnchor, LatchedAnchor, LatchingTop, LatchedTop, PuttingAnchor, PuttingDead, Retiring, OpeningTop, OpeningAnchor}
-use Rattle.bl_proc_routes.specs.Routes.{top_of}
+use Rattle.bl_page.specs.Tops.{top_of}
 use Rattle.bl_proc_steps.specs.Lowerings.{Sinks}
 use Rattle.bl_claims.specs.Squeezed.{Since}
 use Rattle.bl_claims.specs.Lowered.{to_top, IsToLower, MeansLowered}

@@ -4,7 +4,7 @@ use Rattle.bl_model.specs.declared.deciding.KeyWrite.{KeyWrite}
 use Rattle.bl_page.specs.declared.page.Page.{Page}
 use Rattle.bl_tree_worlds.specs.Worlds.{Goes}
 use Rattle.bl_proc_steps.specs.declared.acts.Action.TheVariants as act
-use Rattle.bl_proc_steps.specs.declared.answers.Answer.{Answer}
+use Rattle.bl_answers.specs.declared.answers.Answer.{Answer}
 use Rattle.bl_proc_steps.specs.declared.approach.Approach.{Approach}
 use Rattle.bl_proc_steps.specs.declared.approach.Approach.TheVariants as way
 use Rattle.bl_proc_steps.specs.declared.edit.Edit.{Edit}

@@ -16,8 +16,8 @@ use Rattle.bl_proc_steps.specs.declared.lowering.Summit.{Summit}
 use Rattle.bl_proc_steps.specs.declared.lowering.Lowering.{Lowering}
 use Rattle.bl_proc_steps.specs.declared.lowering.Lowering.TheVariants.{LatchingAnchor, LatchingTop}
 use Rattle.bl_proc_steps.specs.Lowerings.{lowering_next}
-use Rattle.bl_proc_routes.specs.Routes.{top_of}
-use Rattle.bl_proc_compress.specs.declared.compression.Family.{Family}
+use Rattle.bl_page.specs.Tops.{top_of}
+use Rattle.bl_rearrange.specs.declared.families.Family.{Family}
 use Rattle.bl_rearrange.specs.declared.sides.Side.{Side}
 use Rattle.bl_rearrange.specs.declared.sides.Side.TheVariants as side
 use Rattle.bl_proc_compress.specs.declared.compression.Puts.{Puts}

@@ -18,8 +18,8 @@ use Rattle.bl_proc_steps.specs.Lowerings.{Lowers}
 use Rattle.bl_proc_compress.specs.declared.compression.Compression.{Compression}
 use Rattle.bl_proc_compress.specs.declared.compression.Compression.TheVariants as compression
 use Rattle.bl_proc_compress.specs.declared.compression.Compressed.TheVariants as step
-use Rattle.bl_proc_compress.specs.declared.compression.Family.{Family}
-use Rattle.bl_proc_compress.specs.declared.compression.Siblings.{Siblings}
+use Rattle.bl_rearrange.specs.declared.families.Family.{Family}
+use Rattle.bl_rearrange.specs.declared.families.Siblings.{Siblings}
 use Rattle.bl_proc_compress.specs.declared.compression.Decision.{Decision}
 use Rattle.bl_proc_compress.specs.declared.compression.Decision.TheVariants as decision
 use Rattle.bl_proc_compress.specs.declared.compress.CompressStage.{CompressStage}

@@ -17,9 +17,9 @@ use Rattle.bl_tree_worlds.specs.Worlds.{Know, World, nodes, tree_of, IsSure, IsG
 use Rattle.bl_tree_worlds.proofs.WorldLaws.{tree_page, all_sound}
 use Rattle.bl_tree_worlds.proofs.Fitted.{end_is}
 use Rattle.bl_tree_worlds.proofs.Neighbours.{shares}
-use Rattle.bl_proc_compress.specs.declared.compression.Family.{Family}
+use Rattle.bl_rearrange.specs.declared.families.Family.{Family}
 use Rattle.bl_proc_compress.specs.declared.compression.Decision.TheVariants.{Lost}
-use Rattle.bl_proc_compress.specs.declared.compression.Siblings.{Siblings}
+use Rattle.bl_rearrange.specs.declared.families.Siblings.{Siblings}
 use Rattle.bl_proc_compress.specs.declared.compression.Compression.TheVariants.{LatchedRight, OpeningRight}
 use Rattle.bl_proc_compress.specs.Compressions.{Relists, Decides}
 use Rattle.bl_proc_invariant.specs.Compressing.{know_compression}

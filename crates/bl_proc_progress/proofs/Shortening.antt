@@ -16,7 +16,8 @@ use Rattle.bl_proc_steps.specs.Approaches.{approach_next, HasLevel, Enters, Turn
 use Rattle.bl_proc_steps.specs.Descents.{descent_page, Descends}
 use Rattle.bl_proc_routes.specs.declared.routes.Step.{Step}
 use Rattle.bl_proc_routes.specs.declared.routes.Step.TheVariants.{Again, Right, Down, Here}
-use Rattle.bl_proc_routes.specs.Routes.{top_of, Leads}
+use Rattle.bl_proc_routes.specs.Routes.{Leads}
+use Rattle.bl_page.specs.Tops.{top_of}
 use Rattle.bl_proc_deterministic.proofs.WayCases.{ApproachCase, approach_case}
 use Rattle.bl_proc_deterministic.proofs.WayCases.ApproachCase.{Entered as ApproachEntered, LatchedPage as ApproachLatchedPage, MissedPage as ApproachMissedPage, OpenedFor as ApproachOpenedFor, OpenedLost as ApproachOpenedLost, Quitted as ApproachQuitted, Turned as ApproachTurned}
 use Rattle.bl_proc_invariant.specs.Tables.{Carried, goes_to, know_approach}

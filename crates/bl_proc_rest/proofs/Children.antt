@@ -12,8 +12,8 @@ use Rattle.bl_tree_worlds.specs.Worlds.{Know, World, nodes, IsSure, IsGood}
 use Rattle.bl_tree_worlds.proofs.WorldLaws.{all_sound}
 use Rattle.bl_proc_steps.specs.declared.lowering.Summit.{Summit}
 use Rattle.bl_proc_steps.specs.declared.lowering.Lowering.TheVariants as lowering
-use Rattle.bl_proc_routes.specs.Routes.{top_of}
-use Rattle.bl_proc_compress.specs.declared.compression.Family.{Family}
+use Rattle.bl_page.specs.Tops.{top_of}
+use Rattle.bl_rearrange.specs.declared.families.Family.{Family}
 use Rattle.bl_proc_compress.specs.declared.compression.Compression.TheVariants.{LatchingLeft, LatchingRight}
 use Rattle.bl_proc_compress.proofs.Places.{listed_at}
 use Rattle.bl_claims.specs.Squeezed.{AreBeside}

@@ -23,7 +23,8 @@ use Rattle.bl_proc_steps.specs.declared.lowering.Lowering.{Lowering}
 use Rattle.bl_proc_steps.specs.declared.lowering.Lowering.TheVariants as lowering
 use Rattle.bl_proc_steps.specs.Approaches.{approach_next}
 use Rattle.bl_proc_steps.specs.Edits.{edit_next}
-use Rattle.bl_proc_steps.specs.Growths.{IsAnchor, growth_next}
+use Rattle.bl_proc_steps.specs.Growths.{growth_next}
+use Rattle.bl_page.specs.Tops.{IsAnchor}
 use Rattle.bl_proc_steps.specs.Lowerings.{lowering_next}
 use Rattle.bl_rearrange.specs.declared.sides.Side.{Side}
 use Rattle.bl_rearrange.specs.declared.sides.Side.TheVariants as side

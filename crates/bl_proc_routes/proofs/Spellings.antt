@@ -12,7 +12,7 @@ use Rattle.bl_page.proofs.Once.{rows_again, children_again, leftmost_again}
 use Rattle.bl_page.proofs.PagesIn.{AreChildren-at}
 use Rattle.bl_page.specs.Nodes.{node_of, roots_of, IsTreePage}
 use Rattle.bl_rearrange.specs.Rearranged.{pairs_of as pairs_in}
-use Rattle.bl_proc_routes.specs.Routes.{top_of}
+use Rattle.bl_page.specs.Tops.{top_of}
 
 -- a key can be sought in the words of a leaf or an inner page, and what is found is what the page lists
 pub tree_pairs : (c : Page) (words : List ℕ) → IsTreePage c → words ≡ words_of c → HasPairs words

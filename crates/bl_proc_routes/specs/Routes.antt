@@ -1,14 +1,10 @@
 -- Where a page leads on the way to the page of a level that covers a key.
-use Rattle.std.specs.Prelude.{◌≡◌, ◌≢◌, ℕ, ◌-◌, ◌<◌, ◌≤◌, ◌⊎◌}
+use Rattle.std.specs.Prelude.{◌≡◌, ◌≢◌, ℕ, ◌<◌, ◌≤◌, ◌⊎◌}
 use Rattle.bl_page.specs.declared.page.Page.{Page}
 use Rattle.bl_page.specs.declared.page.Page.TheVariants.{Anchor, Leaf, Inner, Dead}
-use Rattle.bl_page.specs.Nodes.{Roots, Covers, node_of, IsTreePage, IsChildOf}
+use Rattle.bl_page.specs.Nodes.{Covers, node_of, IsTreePage, IsChildOf}
 use Rattle.bl_proc_routes.specs.declared.routes.Step.{Step}
 use Rattle.bl_proc_routes.specs.declared.routes.Step.TheVariants.{Again, Right, Down, Here}
-
--- the leftmost page of the top level
-abbrev pub top_of : Roots → ℕ
-top_of roots = roots.leftmost (roots.levels - 1)
 
 -- a page that was merged away, or that was the top of the tree
 abbrev pub IsDead : Page → Type 0

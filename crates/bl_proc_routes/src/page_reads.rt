@@ -3,7 +3,7 @@
 ghost use Rattle.std.specs.Prelude.{◌≡◌, length};
 ghost use Rattle.bl_page.specs.Nodes.{node_of, roots_of};
 ghost use Rattle.bl_rearrange.specs.Rearranged.{pairs_of};
-ghost use Rattle.bl_proc_routes.specs.Routes.{top_of};
+ghost use Rattle.bl_page.specs.Tops.{top_of};
 
 use bl_page::{Page, listed_with};
 

@@ -5,7 +5,8 @@ ghost use Rattle.bl_page.specs.declared.page.Page.{Page};
 ghost use Rattle.bl_page.specs.Words.{words_of};
 ghost use Rattle.bl_page.specs.Nodes.{node_of, roots_of, IsTreePage};
 ghost use Rattle.bl_proc_routes.specs.declared.routes.Step.TheVariants as onward;
-ghost use Rattle.bl_proc_routes.specs.Routes.{Leads, top_of};
+ghost use Rattle.bl_proc_routes.specs.Routes.{Leads};
+ghost use Rattle.bl_page.specs.Tops.{top_of};
 
 use crate::routes::Step;
 use bl_page::{KIND_UNIT, LEVEL_UNIT, Words, child_in, is_within, listed_in, word};

@@ -5,7 +5,7 @@ use Rattle.bl_page.specs.declared.page.Page.TheVariants as page
 use Rattle.bl_page.specs.Words.{words_of}
 use Rattle.bl_page.specs.Faults.{count_in}
 use Rattle.bl_page.specs.Nodes.{IsTreePage}
-use Rattle.bl_proc_steps.specs.Thin.{low_if_thin, thin_low}
+use Rattle.bl_answers.specs.Thin.{low_if_thin, thin_low}
 use Rattle.bl_proc_routes.proofs.Spellings.{pairs_counted}
 
 pub thin_read : (c : Page) (words : List ℕ) → IsTreePage c → words ≡ words_of c → low_if_thin (count_in words) (get_or words 1 0) (get_or words 2 0) ≡ thin_low c

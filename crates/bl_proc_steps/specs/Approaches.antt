@@ -15,7 +15,8 @@ use Rattle.bl_proc_steps.specs.declared.approach.Approached.{Approached}
 use Rattle.bl_proc_steps.specs.declared.approach.Approached.TheVariants as came
 use Rattle.bl_proc_steps.specs.declared.approach.Came.{Came}
 use Rattle.bl_proc_steps.specs.declared.approach.Came.TheVariants.{NoLevel, On, ToParent}
-use Rattle.bl_proc_routes.specs.Routes.{top_of, Leads}
+use Rattle.bl_proc_routes.specs.Routes.{Leads}
+use Rattle.bl_page.specs.Tops.{top_of}
 
 abbrev pub approach_next : Approach → Action
 approach_next Start = act.Get 0

@@ -9,7 +9,8 @@ use Rattle.bl_proc_steps.specs.declared.descent.Descent.{Descent}
 use Rattle.bl_proc_steps.specs.declared.descent.Descent.TheVariants.{AtAnchor, At}
 use Rattle.bl_proc_steps.specs.declared.descent.Descended.{Descended}
 use Rattle.bl_proc_steps.specs.declared.descent.Descended.TheVariants.{On, Here}
-use Rattle.bl_proc_routes.specs.Routes.{top_of, Leads}
+use Rattle.bl_proc_routes.specs.Routes.{Leads}
+use Rattle.bl_page.specs.Tops.{top_of}
 
 -- the page that it is to get
 abbrev pub descent_page : Descent → ℕ

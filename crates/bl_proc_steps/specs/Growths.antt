@@ -3,6 +3,7 @@ use Rattle.std.specs.Prelude.{◌≡◌, ◌≢◌, ℕ, ◌<◌, ◌-◌, Optio
 use Rattle.bl_page.specs.declared.page.Page.{Page}
 use Rattle.bl_page.specs.declared.page.Page.TheVariants.{Anchor, Inner}
 use Rattle.bl_page.specs.Nodes.{roots_of}
+use Rattle.bl_page.specs.Tops.{IsAnchor}
 use Rattle.bl_proc_steps.specs.declared.acts.Action.{Action}
 use Rattle.bl_proc_steps.specs.declared.acts.Action.TheVariants as act
 use Rattle.bl_proc_steps.specs.declared.acts.Seen.{Seen}
@@ -37,11 +38,6 @@ growth_needs OpeningRefused = None
 abbrev pub IsTop : ℕ → ℕ → Page → Type 0
 IsTop level below (Inner i) = (i.level ≡ level) × (i.low ≡ 0) × (i.high ≡ 0) × (i.right ≡ 0) × (i.children.items ≡ (0, below) ∷ [])
 IsTop level below page = ⊥
-
--- the anchor with that list of leftmost pages
-abbrev pub IsAnchor : List ℕ → Page → Type 0
-IsAnchor leftmost (Anchor a) = a.leftmost.items ≡ leftmost
-IsAnchor leftmost page = ⊥
 
 -- Page new is to be the top of a tree with one level more than these leftmost pages have.
 abbrev pub Raises : List ℕ → ℕ → Page → Page → Type 0

@@ -5,5 +5,3 @@ pub mod Edits
 pub mod Descents
 pub mod Growths
 pub mod Lowerings
-pub mod Hints
-pub mod Thin

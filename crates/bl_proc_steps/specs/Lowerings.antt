@@ -1,20 +1,18 @@
 -- The top level is taken away.
 use Rattle.std.specs.Prelude.{◌≡◌, ◌≢◌, ℕ, ◌≤◌, ◌-◌, Option, None, Some, List, length, take}
-use Rattle.bl_page.specs.declared.page.Page.{Page}
-use Rattle.bl_page.specs.declared.page.Page.TheVariants.{Anchor, Inner, Dead}
+use Rattle.bl_page.specs.declared.page.Page.TheVariants.{Anchor}
 use Rattle.bl_page.specs.Nodes.{roots_of}
 use Rattle.bl_proc_steps.specs.declared.acts.Action.{Action}
 use Rattle.bl_proc_steps.specs.declared.acts.Action.TheVariants as act
 use Rattle.bl_proc_steps.specs.declared.acts.Seen.{Seen}
 use Rattle.bl_proc_steps.specs.declared.acts.Seen.TheVariants as seen
-use Rattle.bl_proc_steps.specs.declared.lowering.Lowered.TheVariants as lowered
+use Rattle.bl_answers.specs.declared.answers.Lowered.TheVariants as lowered
 use Rattle.bl_proc_steps.specs.declared.lowering.Sinking.{Sinking}
 use Rattle.bl_proc_steps.specs.declared.lowering.Lowering.{Lowering}
 use Rattle.bl_proc_steps.specs.declared.lowering.Lowering.TheVariants.{Looking, LatchingAnchor, LatchedAnchor, LatchingTop, LatchedTop, PuttingAnchor, PuttingDead, Retiring, OpeningTop, OpeningAnchor}
 use Rattle.bl_proc_steps.specs.declared.lowering.Sank.{Sank}
 use Rattle.bl_proc_steps.specs.declared.lowering.Sank.TheVariants.{On, Over}
-use Rattle.bl_proc_routes.specs.Routes.{top_of}
-use Rattle.bl_proc_steps.specs.Growths.{IsAnchor}
+use Rattle.bl_page.specs.Tops.{top_of, IsAnchor, IsSole, IsFallen}
 
 abbrev pub lowering_next : Lowering → Action
 lowering_next Looking = act.Get 0
@@ -40,16 +38,6 @@ lowering_needs (PuttingDead s) = None
 lowering_needs (Retiring x) = None
 lowering_needs (OpeningTop x what) = None
 lowering_needs (OpeningAnchor what) = None
-
--- A page that is not needed as the top of the tree: it has one pair, no bound and no link.
-abbrev pub IsSole : Page → Type 0
-IsSole (Inner i) = (length i.children.items ≡ 1) × (i.high ≡ 0) × (i.right ≡ 0)
-IsSole page = ⊥
-
--- what a top page of that level becomes
-abbrev pub IsFallen : ℕ → Page → Type 0
-IsFallen level (Dead d) = (d.level ≡ level) × (d.low ≡ 0) × (d.right ≡ 0)
-IsFallen level page = ⊥
 
 -- the anchor with these leftmost pages loses its top level
 abbrev pub Sinks : List ℕ → Sinking → Type 0

@@ -7,7 +7,8 @@ ghost use Rattle.bl_proc_steps.specs.declared.acts.Seen.TheVariants as seen;
 ghost use Rattle.bl_proc_steps.specs.declared.growth.Growth.TheVariants as growth;
 ghost use Rattle.bl_proc_steps.specs.declared.growth.Grew.TheVariants as grew;
 ghost use Rattle.bl_proc_steps.specs.Given.{Gives};
-ghost use Rattle.bl_proc_steps.specs.Growths.{growth_next, growth_needs, IsTop, IsAnchor, Raises, Grows};
+ghost use Rattle.bl_proc_steps.specs.Growths.{growth_next, growth_needs, IsTop, Raises, Grows};
+ghost use Rattle.bl_page.specs.Tops.{IsAnchor};
 
 use crate::acts::{Action, Seen};
 use crate::growth::{Grew, Growth, Raising, Rise};

@@ -8,7 +8,6 @@
 #![tactic(auto)]
 
 mod acts;
-mod answers;
 mod approach;
 mod approach_words;
 mod descent;
@@ -22,12 +21,12 @@ mod machine;
 mod thin;
 
 pub use acts::{Action, Seen};
-pub use answers::{Answer, Hint, Level, Posted, Reclaimed, Squeezed};
 pub use approach::{Approach, Approached, Came, approach_by};
+pub use bl_answers::{Answer, Hint, Level, Lowered, Posted, Reclaimed, Squeezed};
 pub use descent::{Descended, Descent};
 pub use edit::{Edit, Edited, Full, Outcome, Splitting};
 pub use edit_steps::{dropping, entering, replacing};
 pub use growth::{Grew, Growth, Raising, Rise};
-pub use lowering::{Lowered, Lowering, Sank, Sinking, Summit};
+pub use lowering::{Lowering, Sank, Sinking, Summit};
 pub use machine::{Process, Reader, took_page};
 pub use thin::{hint_of_thin, thin_in, thin_low};

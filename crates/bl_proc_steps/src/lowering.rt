@@ -2,18 +2,8 @@
 
 ghost use Rattle.std.specs.Prelude.{◌<◌, length};
 
+use bl_answers::Lowered;
 use bl_page::{Anchor, Page};
-
-/// What became of a lowering.
-#[derive(Clone, Copy, Debug, PartialEq, Eq)]
-pub enum Lowered {
-    /// The top level is gone.
-    Lowered,
-    /// The tree needs its top level, or has no other.
-    Needed,
-    /// There was no room, and all is as it was.
-    NoRoom,
-}
 
 /// The anchor of a tree of more than one level.
 #[derive(Drop)]

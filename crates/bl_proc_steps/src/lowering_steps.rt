@@ -5,11 +5,12 @@ ghost use Rattle.bl_proc_steps.specs.declared.acts.Seen.TheVariants as seen;
 ghost use Rattle.bl_proc_steps.specs.declared.lowering.Lowering.TheVariants as lowering;
 ghost use Rattle.bl_proc_steps.specs.declared.lowering.Sank.TheVariants as sank;
 ghost use Rattle.bl_proc_steps.specs.Given.{Gives};
-ghost use Rattle.bl_proc_steps.specs.Growths.{IsAnchor};
-ghost use Rattle.bl_proc_steps.specs.Lowerings.{lowering_next, lowering_needs, IsSole, IsFallen, Lowers};
+ghost use Rattle.bl_page.specs.Tops.{IsAnchor, IsSole, IsFallen};
+ghost use Rattle.bl_proc_steps.specs.Lowerings.{lowering_next, lowering_needs, Lowers};
 
 use crate::acts::{Action, Seen};
-use crate::lowering::{Lowered, Lowering, Sank, Sinking, Summit};
+use crate::lowering::{Lowering, Sank, Sinking, Summit};
+use bl_answers::Lowered;
 use bl_page::{Anchor, Dead, Page};
 use bl_proc_routes::levels_of;
 

@@ -3,7 +3,7 @@
 ghost use Rattle.std.specs.Prelude.{◌≡◌, ℕ, Option, None};
 ghost use Rattle.bl_proc_steps.specs.declared.acts.Action.{Action};
 ghost use Rattle.bl_proc_steps.specs.declared.acts.Seen.{Seen};
-ghost use Rattle.bl_proc_steps.specs.declared.answers.Answer.{Answer};
+ghost use Rattle.bl_answers.specs.declared.answers.Answer.{Answer};
 ghost use Rattle.bl_proc_steps.specs.declared.acts.Action.TheVariants as act;
 ghost use Rattle.bl_proc_steps.specs.declared.acts.Seen.TheVariants as seen;
 ghost use Rattle.bl_proc_steps.specs.Given.{Gives};
@@ -11,7 +11,7 @@ ghost use Rattle.bl_page.specs.declared.page.Page.{Page};
 ghost use Rattle.bl_page.specs.Words.{words_of};
 
 use crate::acts::{Action, Seen};
-use crate::answers::Answer;
+use bl_answers::Answer;
 use bl_page::{Words, from_wide_words, words_from};
 
 /// A process of one kind: whoever runs it asks for its next action, carries it out, and tells it what the action gave,

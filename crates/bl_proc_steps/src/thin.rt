@@ -4,9 +4,9 @@ ghost use Rattle.std.specs.Prelude.{◌≡◌, Some};
 ghost use Rattle.bl_page.specs.declared.page.Page.{Page};
 ghost use Rattle.bl_page.specs.Words.{words_of};
 ghost use Rattle.bl_page.specs.Nodes.{IsTreePage};
-ghost use Rattle.bl_proc_steps.specs.Thin.{low_if_thin, thin_low, thin_hint};
+ghost use Rattle.bl_answers.specs.Thin.{low_if_thin, thin_low, thin_hint};
 
-use crate::answers::{Hint, Level};
+use bl_answers::{Hint, Level};
 use bl_model::limits::ENOUGH_PAIRS;
 use bl_page::{LEVEL_UNIT, Page};
 

@@ -7,12 +7,12 @@ use Rattle.bl_proc_steps.specs.declared.acts.Action.{Action}
 use Rattle.bl_proc_steps.specs.declared.acts.Action.TheVariants as act
 use Rattle.bl_proc_steps.specs.declared.acts.Seen.{Seen}
 use Rattle.bl_proc_steps.specs.declared.acts.Seen.TheVariants as seen
-use Rattle.bl_proc_steps.specs.declared.answers.Answer.{Answer}
-use Rattle.bl_proc_steps.specs.declared.answers.Answer.TheVariants as answer
-use Rattle.bl_proc_steps.specs.declared.answers.Hint.{Hint}
-use Rattle.bl_proc_steps.specs.declared.answers.Hint.TheVariants as hint
-use Rattle.bl_proc_steps.specs.declared.answers.Posted.{Posted as PostedAs}
-use Rattle.bl_proc_steps.specs.declared.answers.Posted.TheVariants as posted
+use Rattle.bl_answers.specs.declared.answers.Answer.{Answer}
+use Rattle.bl_answers.specs.declared.answers.Answer.TheVariants as answer
+use Rattle.bl_answers.specs.declared.answers.Hint.TheVariants as hint
+use Rattle.bl_answers.specs.declared.answers.Posted.{Posted as PostedAs}
+use Rattle.bl_answers.specs.declared.answers.Posted.TheVariants as posted
+use Rattle.bl_answers.specs.Hints.{left_hint}
 use Rattle.bl_proc_writes.specs.declared.paths.Path.{Path}
 use Rattle.bl_proc_writes.specs.declared.post.Post.{Post}
 use Rattle.bl_proc_writes.specs.declared.post.PostStage.{PostStage}
@@ -47,14 +47,6 @@ posted_as listed.Already = posted.Already
 posted_as listed.Stale = posted.Stale
 posted_as listed.NoRoom = posted.NoRoom
 posted_as listed.TooTall = posted.TooTall
-
--- A post that met no room is left as a hint.
-abbrev pub left_hint : ℕ → ℕ → PostedAs → Option Hint
-left_hint level key posted.Done = None
-left_hint level key posted.Already = None
-left_hint level key posted.Stale = None
-left_hint level key posted.NoRoom = Some (hint.Post level key)
-left_hint level key posted.TooTall = None
 
 -- Only a write that has entered its pair splits a page.
 abbrev pub climbed_answer : Placing → Climbed → Answer

@@ -8,9 +8,9 @@ use Rattle.bl_proc_steps.specs.declared.acts.Action.{Action}
 use Rattle.bl_proc_steps.specs.declared.acts.Action.TheVariants as act
 use Rattle.bl_proc_steps.specs.declared.acts.Seen.{Seen}
 use Rattle.bl_proc_steps.specs.declared.acts.Seen.TheVariants as seen
-use Rattle.bl_proc_steps.specs.declared.answers.Answer.{Answer}
-use Rattle.bl_proc_steps.specs.declared.answers.Answer.TheVariants as answer
-use Rattle.bl_proc_steps.specs.declared.answers.Posted.TheVariants as posted
+use Rattle.bl_answers.specs.declared.answers.Answer.{Answer}
+use Rattle.bl_answers.specs.declared.answers.Answer.TheVariants as answer
+use Rattle.bl_answers.specs.declared.answers.Posted.TheVariants as posted
 use Rattle.bl_proc_routes.specs.declared.routes.Step.{Step}
 use Rattle.bl_proc_routes.specs.declared.routes.Step.TheVariants.{Again, Right, Down, Here}
 use Rattle.bl_proc_steps.specs.declared.approach.Approach.TheVariants.{Start, Leaving}
@@ -31,7 +31,7 @@ use Rattle.bl_proc_routes.specs.Routes.{Leads}
 use Rattle.bl_proc_steps.specs.Approaches.{approach_next, Comes}
 use Rattle.bl_proc_steps.specs.Edits.{edit_next, edit_needs, EntersPair, Changes}
 use Rattle.bl_proc_steps.specs.Growths.{growth_next, growth_needs, Grows}
-use Rattle.bl_proc_writes.specs.Writes.{post_hint}
+use Rattle.bl_answers.specs.Hints.{post_hint}
 
 -- what a post answers when its parent is open again
 abbrev pub post_reply : Outcome → PostReply

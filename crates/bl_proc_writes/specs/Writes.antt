@@ -11,10 +11,8 @@ use Rattle.bl_proc_steps.specs.declared.acts.Action.{Action}
 use Rattle.bl_proc_steps.specs.declared.acts.Action.TheVariants as act
 use Rattle.bl_proc_steps.specs.declared.acts.Seen.{Seen}
 use Rattle.bl_proc_steps.specs.declared.acts.Seen.TheVariants as seen
-use Rattle.bl_proc_steps.specs.declared.answers.Answer.{Answer}
-use Rattle.bl_proc_steps.specs.declared.answers.Answer.TheVariants.{Op}
-use Rattle.bl_proc_steps.specs.declared.answers.Hint.{Hint}
-use Rattle.bl_proc_steps.specs.declared.answers.Hint.TheVariants as hint
+use Rattle.bl_answers.specs.declared.answers.Answer.{Answer}
+use Rattle.bl_answers.specs.declared.answers.Answer.TheVariants.{Op}
 use Rattle.bl_proc_steps.specs.declared.approach.Approach.TheVariants.{Start}
 use Rattle.bl_proc_steps.specs.declared.approach.Approached.TheVariants as came
 use Rattle.bl_proc_steps.specs.declared.edit.Outcome.{Outcome}
@@ -28,14 +26,10 @@ use Rattle.bl_proc_writes.specs.declared.writing.WriteStage.{WriteStage}
 use Rattle.bl_proc_writes.specs.declared.writing.WriteStage.TheVariants.{New, Coming, Keeping, Editing, Ending, Over}
 use Rattle.bl_proc_writes.specs.declared.writing.WriteReply.{WriteReply}
 use Rattle.bl_proc_writes.specs.declared.writing.WriteReply.TheVariants.{Done, NoRoom}
-use Rattle.bl_proc_steps.specs.Thin.{thin_low, thin_hint}
+use Rattle.bl_answers.specs.Hints.{post_hint}
+use Rattle.bl_answers.specs.Thin.{thin_low, thin_hint}
 use Rattle.bl_proc_steps.specs.Approaches.{approach_next, Approaches}
 use Rattle.bl_proc_steps.specs.Edits.{edit_next, edit_needs, EntersPair, DropsPair, GivesValue, Changes}
-
--- the hint to list a page one level above its own
-abbrev pub post_hint : ℕ → Option ℕ → Option Hint
-post_hint level None = None
-post_hint level (Some separator) = Some (hint.Post level separator)
 
 -- What a write answers when its leaf is open again. A leaf that is thin without the key is to be merged or evened out, by its
 -- parent; the upper half of one that was split is to be listed there.

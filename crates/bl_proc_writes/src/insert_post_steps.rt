@@ -2,7 +2,7 @@
 
 ghost use Rattle.std.specs.Prelude.{◌≡◌, ◌<◌, ◌≤◌, ℕ, Option, None, MatchOption};
 ghost use Rattle.bl_proc_steps.specs.declared.acts.Seen.{Seen};
-ghost use Rattle.bl_proc_steps.specs.declared.answers.Hint.TheVariants as hint;
+ghost use Rattle.bl_answers.specs.declared.answers.Hint.TheVariants as hint;
 ghost use Rattle.bl_proc_steps.specs.Given.{Gives};
 ghost use Rattle.bl_proc_writes.specs.declared.writing.Write.{Write};
 ghost use Rattle.bl_proc_writes.specs.declared.writing.WriteStage.TheVariants as write_stage;
@@ -15,7 +15,8 @@ ghost use Rattle.bl_proc_writes.specs.Paths.{IsBlank};
 ghost use Rattle.bl_proc_writes.specs.Stands.{IsWriting, IsPosting, IsClimbing};
 ghost use Rattle.bl_proc_writes.specs.Writes.{write_next_of, write_needs_of, WriteGoes, WriteTakes};
 ghost use Rattle.bl_proc_writes.specs.Posts.{post_next, post_needs, PostGoes, PostTakes};
-ghost use Rattle.bl_proc_writes.specs.InsertPosts.{placed_reply, posted_as, left_hint, climbed_answer, climb_next, climb_needs, climb_answer, climb_next_in, climb_needs_in, ClimbNotes, PostsFrom, IsUnsplit, ClimbGoes, ClimbTakes, IsToBegin};
+ghost use Rattle.bl_proc_writes.specs.InsertPosts.{placed_reply, posted_as, climbed_answer, climb_next, climb_needs, climb_answer, climb_next_in, climb_needs_in, ClimbNotes, PostsFrom, IsUnsplit, ClimbGoes, ClimbTakes, IsToBegin};
+ghost use Rattle.bl_answers.specs.Hints.{left_hint};
 
 use crate::insert_post::{ClimbStage, Climbed, InsertPost, Placing};
 use crate::paths::Path;

@@ -7,7 +7,8 @@ ghost use Rattle.bl_proc_steps.specs.Given.{Gives};
 ghost use Rattle.bl_proc_routes.specs.Routes.{Leads};
 ghost use Rattle.bl_proc_writes.specs.declared.writing.Noted.{Noted};
 ghost use Rattle.bl_proc_writes.specs.declared.writing.WriteStage.TheVariants as write_stage;
-ghost use Rattle.bl_proc_writes.specs.Writes.{post_hint, thin_after, write_reply, write_answer, write_next_in, write_needs_in, WriteArrives, write_next_of, write_needs_of, write_answer_of, WriteTakes};
+ghost use Rattle.bl_proc_writes.specs.Writes.{thin_after, write_reply, write_answer, write_next_in, write_needs_in, WriteArrives, write_next_of, write_needs_of, write_answer_of, WriteTakes};
+ghost use Rattle.bl_answers.specs.Hints.{post_hint};
 
 use bl_model::{Effect, KeyWrite, Reply, decide};
 use bl_page::Page;

@@ -11,7 +11,7 @@ use Rattle.bl_replay_script.specs.declared.command.Command.TheVariants as comman
 use Rattle.bl_replay_script.specs.declared.command.Kinds.{Kinds}
 use Rattle.bl_replay_script.specs.Commands.{IsPageCount}
 use Rattle.bl_replay_script.specs.Scripts.{AllStand}
-use Rattle.bl_proc_steps.specs.declared.answers.Answer.{Answer}
+use Rattle.bl_answers.specs.declared.answers.Answer.{Answer}
 use Rattle.bl_proc.specs.declared.kinds.Proc.{Proc}
 use Rattle.bl_proc.specs.declared.kinds.Proc.TheVariants as proc
 use Rattle.bl_proc.specs.declared.searching.FindStage.TheVariants as find

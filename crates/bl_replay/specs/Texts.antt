@@ -1,18 +1,18 @@
 -- The text of events and of answers.
 use Rattle.std.specs.Prelude.{ℕ, Option, Some, None, List, [], ◌++◌, codes, decimal}
 use Rattle.bl_serve_lines.specs.Text.{reply_text, numbered}
-use Rattle.bl_proc_steps.specs.declared.answers.Answer.{Answer}
-use Rattle.bl_proc_steps.specs.declared.answers.Answer.TheVariants as answer
-use Rattle.bl_proc_steps.specs.declared.answers.Hint.{Hint}
-use Rattle.bl_proc_steps.specs.declared.answers.Hint.TheVariants as hint
-use Rattle.bl_proc_steps.specs.declared.answers.Posted.{Posted}
-use Rattle.bl_proc_steps.specs.declared.answers.Posted.TheVariants as posted
-use Rattle.bl_proc_steps.specs.declared.answers.Squeezed.{Squeezed}
-use Rattle.bl_proc_steps.specs.declared.answers.Squeezed.TheVariants as squeezed
-use Rattle.bl_proc_steps.specs.declared.answers.Reclaimed.{Reclaimed}
-use Rattle.bl_proc_steps.specs.declared.answers.Reclaimed.TheVariants as reclaimed
-use Rattle.bl_proc_steps.specs.declared.lowering.Lowered.{Lowered}
-use Rattle.bl_proc_steps.specs.declared.lowering.Lowered.TheVariants as lowered
+use Rattle.bl_answers.specs.declared.answers.Answer.{Answer}
+use Rattle.bl_answers.specs.declared.answers.Answer.TheVariants as answer
+use Rattle.bl_answers.specs.declared.answers.Hint.{Hint}
+use Rattle.bl_answers.specs.declared.answers.Hint.TheVariants as hint
+use Rattle.bl_answers.specs.declared.answers.Posted.{Posted}
+use Rattle.bl_answers.specs.declared.answers.Posted.TheVariants as posted
+use Rattle.bl_answers.specs.declared.answers.Squeezed.{Squeezed}
+use Rattle.bl_answers.specs.declared.answers.Squeezed.TheVariants as squeezed
+use Rattle.bl_answers.specs.declared.answers.Reclaimed.{Reclaimed}
+use Rattle.bl_answers.specs.declared.answers.Reclaimed.TheVariants as reclaimed
+use Rattle.bl_answers.specs.declared.answers.Lowered.{Lowered}
+use Rattle.bl_answers.specs.declared.answers.Lowered.TheVariants as lowered
 use Rattle.bl_world.specs.declared.turns.Act.{Act}
 use Rattle.bl_world.specs.declared.turns.Act.TheVariants as act
 use Rattle.bl_world.specs.declared.turns.Event.{Event}

@@ -9,17 +9,17 @@ use Rattle.bl_page.specs.Machine.Phase.{Waiting, Ended}
 use Rattle.bl_claims.specs.Trails.{Said, marks_of, history_of, SaysAt, DoesAt, HasSaid}
 use Rattle.bl_claims.specs.Moments.{snapshot_of, HasLaws}
 use Rattle.bl_tree_worlds.specs.Worlds.{IsStage, World as ModelWorld, IsSure, IsGood}
-use Rattle.bl_proc_steps.specs.declared.answers.Answer.{Answer}
-use Rattle.bl_proc_steps.specs.declared.answers.Answer.TheVariants as answer
-use Rattle.bl_proc_steps.specs.declared.answers.Hint.{Hint}
-use Rattle.bl_proc_steps.specs.declared.answers.Posted.{Posted}
+use Rattle.bl_answers.specs.declared.answers.Answer.{Answer}
+use Rattle.bl_answers.specs.declared.answers.Answer.TheVariants as answer
+use Rattle.bl_answers.specs.declared.answers.Hint.{Hint}
+use Rattle.bl_answers.specs.declared.answers.Posted.{Posted}
 use Rattle.bl_proc_writes.specs.declared.post.Post.{Post}
-use Rattle.bl_proc_steps.specs.declared.answers.Squeezed.{Squeezed}
-use Rattle.bl_proc_steps.specs.declared.lowering.Lowered.{Lowered}
+use Rattle.bl_answers.specs.declared.answers.Squeezed.{Squeezed}
+use Rattle.bl_answers.specs.declared.answers.Lowered.{Lowered}
 use Rattle.bl_proc.specs.declared.lowering.Lower.{Lower}
 use Rattle.bl_proc_writes.specs.declared.insert_post.InsertPost.{InsertPost}
 use Rattle.bl_proc_compress.specs.declared.compress.Compress.{Compress}
-use Rattle.bl_proc_steps.specs.declared.answers.Reclaimed.{Reclaimed}
+use Rattle.bl_answers.specs.declared.answers.Reclaimed.{Reclaimed}
 use Rattle.bl_proc.specs.declared.reclaiming.ReclaimStage.{ReclaimStage}
 use Rattle.bl_proc.specs.declared.reclaiming.ReclaimStage.TheVariants as reclaim
 use Rattle.bl_proc.specs.Reclaims.{reclaim_answer_in}

@@ -2,7 +2,7 @@
 use Rattle.std.proofs.Common.{ℕ, ◌≡◌, ◌≤◌, Some, List, [], ◌∷◌, length, slice_set, arith, ap, ◌∙◌, refl}
 use Rattle.std.proofs.lemmas.List.{length-set}
 use Rattle.bl_page.specs.declared.page.Page.{Page}
-use Rattle.bl_proc_steps.specs.Growths.{IsAnchor}
+use Rattle.bl_page.specs.Tops.{IsAnchor}
 use Rattle.bl_world.specs.declared.owners.Owner.{Owner}
 use Rattle.bl_world.specs.declared.owners.Owner.TheVariants as own
 use Rattle.bl_world.specs.WorldSteps.{AreEmptyLeaves, AreReleased, IsOpening}

@@ -14,7 +14,7 @@ use Rattle.bl_tree_worlds.proofs.States.{moments_first}
 use Rattle.bl_claims.specs.Opening.{Opening}
 use Rattle.bl_tree_worlds.specs.Blank.{IsBlank}
 use Rattle.bl_tree_worlds.proofs.Starts.{opening_world, opening_good}
-use Rattle.bl_proc_steps.specs.Growths.{IsAnchor}
+use Rattle.bl_page.specs.Tops.{IsAnchor}
 use Rattle.bl_proc.specs.declared.kinds.Proc.{Proc}
 use Rattle.bl_proc.specs.declared.kinds.Proc.TheVariants as proc
 use Rattle.bl_proc.specs.declared.searching.FindStage.TheVariants as find

@@ -5,8 +5,8 @@ use Rattle.bl_page.specs.declared.page.Page.{Page}
 use Rattle.bl_page.specs.Machine.{State}
 use Rattle.bl_proc_steps.specs.declared.acts.Action.TheVariants as act
 use Rattle.bl_proc_steps.specs.declared.acts.Seen.TheVariants as seen
-use Rattle.bl_proc_steps.specs.declared.answers.Reclaimed.{Reclaimed}
-use Rattle.bl_proc_steps.specs.declared.answers.Reclaimed.TheVariants as reclaimed
+use Rattle.bl_answers.specs.declared.answers.Reclaimed.{Reclaimed}
+use Rattle.bl_answers.specs.declared.answers.Reclaimed.TheVariants as reclaimed
 use Rattle.bl_proc.specs.declared.reclaiming.ReclaimStage.{ReclaimStage}
 use Rattle.bl_proc.specs.declared.reclaiming.ReclaimStage.TheVariants.{Seeing, Looking, Releasing, Over}
 use Rattle.bl_proc.specs.Reclaims.{reclaim_next_in, ReclaimGoes}

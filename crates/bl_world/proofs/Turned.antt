@@ -6,7 +6,7 @@ use Rattle.bl_proc_steps.specs.declared.acts.Action.TheVariants as act
 use Rattle.bl_proc_steps.specs.declared.acts.Seen.TheVariants as seen
 use Rattle.bl_proc_steps.specs.Given.{Gives}
 use Rattle.bl_page.specs.Pairs.{IsChild}
-use Rattle.bl_proc_steps.specs.declared.answers.Answer.{Answer}
+use Rattle.bl_answers.specs.declared.answers.Answer.{Answer}
 use Rattle.bl_proc.specs.declared.kinds.Proc.{Proc}
 use Rattle.bl_proc.specs.Processes.{next_of, needs_of, answer_of}
 use Rattle.bl_world.specs.declared.turns.Turn.TheVariants as turn

@@ -15,7 +15,8 @@ use Rattle.bl_tree.proofs.Statuses.{free_dead}
 use Rattle.std.proofs.lemmas.Bool.{false≢true}
 use Rattle.bl_proc_routes.specs.declared.routes.Step.{Step}
 use Rattle.bl_proc_routes.specs.declared.routes.Step.TheVariants as onward
-use Rattle.bl_proc_routes.specs.Routes.{top_of, Leads}
+use Rattle.bl_proc_routes.specs.Routes.{Leads}
+use Rattle.bl_page.specs.Tops.{top_of}
 use Rattle.bl_proc_deterministic.proofs.Onwards.{leads_one}
 use Rattle.bl_proc_invariant.specs.Knowing.{know}
 use Rattle.bl_proc_invariant.proofs.Starting.{run_laws}

@@ -14,21 +14,21 @@ use Rattle.bl_claims.specs.Trails.{Said, Mark, Trail, marks_of, events_of, histo
 use Rattle.bl_claims.specs.Moments.{snapshot_of, HasLaws}
 use Rattle.bl_claims.specs.States.{HasMoments}
 use Rattle.bl_claims.specs.Opening.{Opening}
-use Rattle.bl_proc_steps.specs.declared.answers.Answer.{Answer}
-use Rattle.bl_proc_steps.specs.declared.answers.Answer.TheVariants as answer
-use Rattle.bl_proc_steps.specs.declared.answers.Hint.{Hint}
-use Rattle.bl_proc_steps.specs.declared.answers.Posted.{Posted}
+use Rattle.bl_answers.specs.declared.answers.Answer.{Answer}
+use Rattle.bl_answers.specs.declared.answers.Answer.TheVariants as answer
+use Rattle.bl_answers.specs.declared.answers.Hint.{Hint}
+use Rattle.bl_answers.specs.declared.answers.Posted.{Posted}
 use Rattle.bl_proc_writes.specs.declared.post.Post.{Post}
 use Rattle.bl_proc_writes.specs.Placings.{write_of}
-use Rattle.bl_proc_steps.specs.declared.answers.Squeezed.{Squeezed}
-use Rattle.bl_proc_steps.specs.declared.lowering.Lowered.{Lowered}
+use Rattle.bl_answers.specs.declared.answers.Squeezed.{Squeezed}
+use Rattle.bl_answers.specs.declared.answers.Lowered.{Lowered}
 use Rattle.bl_proc.specs.declared.lowering.Lower.{Lower}
 use Rattle.bl_proc_writes.specs.declared.insert_post.InsertPost.{InsertPost}
 use Rattle.bl_proc_compress.specs.declared.compress.Compress.{Compress}
 use Rattle.bl_claims.specs.Squeezed.{MeansSqueezed}
 use Rattle.bl_claims.specs.Lowered.{MeansLowered}
 use Rattle.bl_claims.specs.Climbed.{MeansClimbed}
-use Rattle.bl_proc_steps.specs.declared.answers.Reclaimed.{Reclaimed}
+use Rattle.bl_answers.specs.declared.answers.Reclaimed.{Reclaimed}
 use Rattle.bl_proc.specs.declared.reclaiming.Reclaim.{Reclaim}
 use Rattle.bl_proc.specs.declared.kinds.Proc.{Proc}
 use Rattle.bl_proc.specs.declared.kinds.Proc.TheVariants as proc

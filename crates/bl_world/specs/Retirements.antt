@@ -1,7 +1,7 @@
 -- What the events tell of the retirement of a page, and of those who look at it.
 use Rattle.std.specs.Prelude.{◌≡◌, ◌⊎◌, ℕ, ◌<◌, Some, List, slice_get}
-use Rattle.bl_proc_steps.specs.declared.answers.Reclaimed.{Reclaimed}
-use Rattle.bl_proc_steps.specs.declared.answers.Reclaimed.TheVariants as reclaimed
+use Rattle.bl_answers.specs.declared.answers.Reclaimed.{Reclaimed}
+use Rattle.bl_answers.specs.declared.answers.Reclaimed.TheVariants as reclaimed
 use Rattle.bl_world.specs.declared.turns.Act.{Act}
 use Rattle.bl_world.specs.declared.turns.Act.TheVariants as shown
 use Rattle.bl_world.specs.declared.turns.Event.{Event}

@@ -2,7 +2,7 @@
 
 ghost use Rattle.std.specs.Prelude.{◌≡◌, ◌≤◌, [], ◌∷◌, length, IfOk};
 ghost use Rattle.bl_page.specs.declared.page.Page.TheVariants as page;
-ghost use Rattle.bl_proc_steps.specs.Growths.{IsAnchor};
+ghost use Rattle.bl_page.specs.Tops.{IsAnchor};
 ghost use Rattle.bl_world.specs.Views.{view_of};
 ghost use Rattle.bl_world.specs.WorldSteps.{IsEmptyLeaf, AreEmptyLeaves, AreReleased, IsOpening};
 

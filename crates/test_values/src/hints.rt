@@ -1,7 +1,7 @@
 ghost use Rattle.std.specs.Prelude.{◌<◌, ◌≤◌};
 
+use bl_answers::{Hint, Level};
 use bl_hints::Hints;
-use bl_proc_steps::{Hint, Level};
 use std::sync::Wait;
 use std::test::Fail;
 use std::thread::join;

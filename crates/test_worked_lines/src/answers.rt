@@ -1,6 +1,6 @@
 //! Answers in words: those of replies are the server's, and a hint is `post` or `thin` with a level and a key.
 
-use bl_proc_steps::{Answer, Hint, Level, Lowered, Posted, Reclaimed, Squeezed};
+use bl_answers::{Answer, Hint, Level, Lowered, Posted, Reclaimed, Squeezed};
 use bl_serve_lines::print::{push_number, push_reply};
 use std::alloc::{AllocError, Global};
 

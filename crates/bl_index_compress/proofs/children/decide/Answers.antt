@@ -7,7 +7,7 @@ use Rattle.bl_proc_steps.specs.declared.acts.Seen.TheVariants as seen
 use Rattle.bl_proc_routes.proofs.Spellings.{pairs_counted}
 use Rattle.bl_proc_compress.specs.declared.compression.Compression.TheVariants.{LatchedRight, OpeningRight}
 use Rattle.bl_proc_compress.specs.declared.compression.Decision.TheVariants.{Enough, Lost}
-use Rattle.bl_proc_compress.specs.declared.compression.Siblings.{Siblings}
+use Rattle.bl_rearrange.specs.declared.families.Siblings.{Siblings}
 use Rattle.bl_proc_compress.specs.Compressions.{IsFew}
 use Rattle.bl_proc.specs.Processes.{next_of}
 use Rattle.bl_index_events.proofs.Standing.{on_after, same_goes}

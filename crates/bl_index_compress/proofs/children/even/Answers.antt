@@ -2,7 +2,7 @@ use Rattle.std.proofs.Common.{rules, refl, ap, ◌∙◌, subst, inr}
 use Rattle.bl_proc_compress.specs.declared.compression.Compression.TheVariants.{PuttingFirst, OpeningRight}
 use Rattle.bl_proc_compress.specs.declared.compression.Compression.{Compression}
 use Rattle.bl_proc_compress.specs.declared.compression.Decision.TheVariants.{Lost, Refused}
-use Rattle.bl_proc_compress.specs.declared.compression.Siblings.{Siblings}
+use Rattle.bl_rearrange.specs.declared.families.Siblings.{Siblings}
 use Rattle.bl_store.specs.Hands.{known}
 use Rattle.bl_index_events.specs.Runs.{IsOn}
 use Rattle.bl_index_compress.specs.CompressStands.{compression_of}

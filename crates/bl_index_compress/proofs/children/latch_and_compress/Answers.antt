@@ -1,10 +1,10 @@
 use Rattle.std.proofs.Common.{rules, ◌≡◌, get_or, refl, ap, ◌∙◌}
 use Rattle.bl_proc_steps.specs.declared.acts.Action.TheVariants as act
 use Rattle.bl_proc_steps.specs.declared.acts.Seen.TheVariants as seen
-use Rattle.bl_proc_steps.specs.declared.answers.Hint.TheVariants as hint
+use Rattle.bl_answers.specs.declared.answers.Hint.TheVariants as hint
 use Rattle.bl_proc_compress.specs.declared.compression.Decision.TheVariants.{Unposted, Refused}
 use Rattle.bl_proc_compress.specs.declared.compression.Compression.TheVariants.{LatchingLeft, LatchedLeft, LatchingRight, LatchedRight}
-use Rattle.bl_proc_compress.specs.declared.compression.Siblings.{Siblings}
+use Rattle.bl_rearrange.specs.declared.families.Siblings.{Siblings}
 use Rattle.bl_proc.specs.Processes.{next_of}
 use Rattle.bl_index_events.proofs.Standing.{on_itself, same_all, same_goes}
 use Rattle.bl_index_compress.proofs.CompressionCourses.{decided_since, latches, links_left, links_right, misses, compression_course, same_hands}

@@ -6,7 +6,7 @@ use Rattle.bl_proc_compress.specs.Compressions.{after_puts}
 use Rattle.bl_proc.specs.Processes.{next_of}
 use Rattle.bl_store.specs.Hands.{drafts}
 use Rattle.bl_proc_steps.specs.declared.acts.Action.TheVariants as act
-use Rattle.bl_proc_compress.specs.declared.compression.Siblings.{Siblings}
+use Rattle.bl_rearrange.specs.declared.families.Siblings.{Siblings}
 use Rattle.bl_proc_compress.specs.Compressions.{other}
 use Rattle.bl_index_events.proofs.Standing.{on_as, on_itself, same_all, same_goes}
 use Rattle.bl_index_compress.proofs.CompressionCourses.{compression_course, compression_runs}

@@ -3,9 +3,9 @@ use Rattle.bl_model.specs.Writes.{write_op}
 use Rattle.bl_model.specs.declared.operation.Reply.TheVariants as reply
 use Rattle.bl_model.specs.Replies.{reply_of}
 use Rattle.bl_proc_steps.specs.declared.acts.Seen.TheVariants as seen
-use Rattle.bl_proc_steps.specs.declared.answers.Answer.TheVariants.{InsertPost as Answered}
-use Rattle.bl_proc_steps.specs.declared.answers.Hint.TheVariants as hint
-use Rattle.bl_proc_steps.specs.declared.answers.Posted.TheVariants as posted
+use Rattle.bl_answers.specs.declared.answers.Answer.TheVariants.{InsertPost as Answered}
+use Rattle.bl_answers.specs.declared.answers.Hint.TheVariants as hint
+use Rattle.bl_answers.specs.declared.answers.Posted.TheVariants as posted
 use Rattle.bl_proc_steps.specs.declared.approach.Approach.TheVariants as approach
 use Rattle.bl_proc.specs.declared.kinds.Proc.TheVariants as proc
 use Rattle.bl_proc_writes.specs.declared.post.PostStage.TheVariants as post

@@ -1,6 +1,6 @@
 use Rattle.std.proofs.Common.{Some, refl, sym, ap, ◌∙◌, ◌≡◌}
 use Rattle.bl_model.specs.declared.operation.Reply.TheVariants as reply
-use Rattle.bl_proc_steps.specs.declared.answers.Answer.TheVariants.{InsertPost as Answered}
+use Rattle.bl_answers.specs.declared.answers.Answer.TheVariants.{InsertPost as Answered}
 use Rattle.bl_proc_writes.specs.declared.insert_post.Climbed.TheVariants as climbed
 use Rattle.bl_proc_writes.specs.declared.insert_post.ClimbStage.TheVariants as climb
 use Rattle.bl_proc_deterministic.specs.Frames.{op_of, work_of}

@@ -1,6 +1,6 @@
 use Rattle.std.proofs.Common.{◌≡◌, Some, None, refl, sym, ap, ◌∙◌}
 use Rattle.bl_model.specs.Replies.{reply_of}
-use Rattle.bl_proc_steps.specs.declared.answers.Hint.TheVariants as hint
+use Rattle.bl_answers.specs.declared.answers.Hint.TheVariants as hint
 use Rattle.bl_proc_writes.specs.declared.insert_post.Climbed.TheVariants as climbed
 use Rattle.bl_proc_writes.specs.declared.insert_post.ClimbStage.TheVariants as climb
 use Rattle.bl_proc_writes.specs.Writes.{write_answer}

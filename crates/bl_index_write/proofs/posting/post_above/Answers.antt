@@ -9,8 +9,8 @@ use Rattle.bl_index_write.specs.Events.{posting}
 use Rattle.bl_index_events.specs.Rooms.{LacksPost}
 use Rattle.bl_index_write.proofs.PostEnds.{post_has_answer, post_named}
 use Rattle.bl_index_events.proofs.Standing.{done_from}
-use Rattle.bl_proc_steps.specs.declared.answers.Answer.TheVariants as answer
-use Rattle.bl_proc_steps.specs.declared.answers.Posted.{Posted}
+use Rattle.bl_answers.specs.declared.answers.Answer.TheVariants as answer
+use Rattle.bl_answers.specs.declared.answers.Posted.{Posted}
 use Rattle.bl_proc_deterministic.specs.Refusals.{IsNoRoom}
 use Rattle.bl_index_events.proofs.Rooms.{lacks_asked}
 use Rattle.bl_index_write.proofs.posting.post_above.Goals as goal

@@ -1,6 +1,6 @@
 use Rattle.std.proofs.Common.{◌≡◌, Option, inr, subst}
 use Rattle.std.specs.Prelude.{IfSome}
-use Rattle.bl_proc_steps.specs.declared.answers.Answer.{Answer}
+use Rattle.bl_answers.specs.declared.answers.Answer.{Answer}
 use Rattle.bl_index_resume.specs.declared.stages.Stage.TheVariants as stage
 use Rattle.bl_ffi_seats.specs.Seats.{HasFollowed}
 use Rattle.bl_ffi_seats.proofs.seat.Seat.begin_piece.Goals as goal

@@ -2,8 +2,8 @@ use Rattle.std.proofs.Common.{ℕ, ◌≡◌, Option, Some, inl, sym, ap, ◌∙
 use Rattle.std.specs.Prelude.{IfSome, IfNone, MatchOption}
 use Rattle.bl_model.specs.declared.operation.Reply.{Reply}
 use Rattle.bl_model.specs.Writes.{write_op}
-use Rattle.bl_proc_steps.specs.declared.answers.Answer.{Answer}
-use Rattle.bl_proc_steps.specs.declared.answers.Answer.TheVariants as answers
+use Rattle.bl_answers.specs.declared.answers.Answer.{Answer}
+use Rattle.bl_answers.specs.declared.answers.Answer.TheVariants as answers
 use Rattle.bl_index_resume.specs.Stages.{op_in}
 use Rattle.bl_ffi_seats.specs.Pieces.{reply_in}
 use Rattle.bl_ffi_seats.specs.Seats.{HasAnswered}

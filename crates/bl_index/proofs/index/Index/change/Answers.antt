@@ -1,7 +1,7 @@
 use Rattle.std.proofs.Common.{Option, refl, subst}
 use Rattle.bl_model.specs.declared.operation.Op.TheVariants.{Change}
 use Rattle.bl_model.specs.Replies.{reply_of}
-use Rattle.bl_proc_steps.specs.declared.answers.Hint.{Hint}
+use Rattle.bl_answers.specs.declared.answers.Hint.{Hint}
 use Rattle.bl_index.specs.Calls.{first_of, number_of, trail, Writes}
 use Rattle.bl_index.proofs.Changes.{change_lacks}
 use Rattle.bl_index.proofs.index.Index.change.Goals as goal

@@ -1,6 +1,6 @@
 use Rattle.std.proofs.Common.{◌∙◌, sym, subst}
-use Rattle.bl_proc_steps.specs.declared.answers.Answer.TheVariants as answer
-use Rattle.bl_proc_steps.specs.declared.lowering.Lowered.{Lowered}
+use Rattle.bl_answers.specs.declared.answers.Answer.TheVariants as answer
+use Rattle.bl_answers.specs.declared.answers.Lowered.{Lowered}
 use Rattle.bl_proc_deterministic.specs.Refusals.{IsNoRoom, LowerRefused}
 use Rattle.bl_index.proofs.Taken.{same_pass, of_inside}
 use Rattle.bl_index_events.proofs.Ends.{done_first}

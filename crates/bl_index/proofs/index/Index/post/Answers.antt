@@ -1,5 +1,5 @@
 use Rattle.std.proofs.Common.{ℕ, Some, subst, ◌∙◌}
-use Rattle.bl_proc_steps.specs.Hints.{level_of, key_of}
+use Rattle.bl_answers.specs.Hints.{level_of, key_of}
 use Rattle.bl_store.specs.Hands.{known, WasRefused}
 use Rattle.bl_index_events.specs.Refused.{LacksForPost}
 use Rattle.bl_index_events.specs.Held.{own_marks}

@@ -1,7 +1,7 @@
 use Rattle.std.proofs.Common.{Some, refl, ap, subst}
 use Rattle.bl_model.specs.Replies.{reply_of}
 use Rattle.bl_model.specs.Writes.{write_op}
-use Rattle.bl_proc_steps.specs.declared.answers.Answer.TheVariants.{Op}
+use Rattle.bl_answers.specs.declared.answers.Answer.TheVariants.{Op}
 use Rattle.bl_store.specs.Hands.{known}
 use Rattle.bl_index_write.specs.Events.{HasWritten}
 use Rattle.bl_index.specs.Calls.{number_of}

@@ -2,7 +2,6 @@
 
 ghost use Rattle.std.specs.Prelude.{◌≡◌, ◌<◌, ◌≤◌};
 
-use crate::lowering::Lowered;
 use bl_model::Reply;
 use std::marker::Model;
 
@@ -66,7 +65,7 @@ pub enum Hint {
 
 impl Hint {
     ghost use Rattle.std.specs.Prelude.{◌≡◌, ◌<◌, ◌≤◌};
-    ghost use Rattle.bl_proc_steps.specs.Hints.{level_of, key_of};
+    ghost use Rattle.bl_answers.specs.Hints.{level_of, key_of};
 
     /// The number of the level that it names, 1 to 12.
     pub fn level(&self) -> u32
@@ -128,6 +127,17 @@ pub enum Reclaimed {
     Released,
     /// It was not retired, or another process may still read it, or it was released before.
     Kept,
+}
+
+/// What became of a lowering.
+#[derive(Clone, Copy, Debug, PartialEq, Eq)]
+pub enum Lowered {
+    /// The top level is gone.
+    Lowered,
+    /// The tree needs its top level, or has no other.
+    Needed,
+    /// There was no room, and all is as it was.
+    NoRoom,
 }
 
 /// The answer of a process, by its kind.
