@@ -8,6 +8,7 @@ ghost use Rattle.bl_page.specs.declared.page.Page.TheVariants as page;
 ghost use Rattle.bl_page.specs.declared.page.Page.{Page};
 
 use crate::page::{Anchor, Dead, Inner, Leaf, Page, Pairs, WordFault};
+use crate::places::{ENTRIES, FIRST_KEY, FIRST_WORD, HEAD, HIGH, LOW, RIGHT};
 use crate::spelling::{KIND_UNIT, LEVEL_UNIT};
 use arrayvec::ArrayVec;
 use bl_model::limits::{MOST_LEVELS, MOST_PAIRS};
@@ -20,7 +21,7 @@ fn pairs_at(words: &[u64; 32], count: usize) -> Pairs
 {
     let mut pairs = ArrayVec::new();
     for i in 0..count {
-        pairs.push((words[4 + 2 * i], words[5 + 2 * i]));
+        pairs.push((words[FIRST_KEY + 2 * i], words[FIRST_WORD + 2 * i]));
     }
     pairs
 }
@@ -88,20 +89,20 @@ fn begins_with(low: u64, pairs: &[(u64, u64)]) -> bool
 fn level_at(words: &[u64; 32]) -> u64
     ensures { result ≡ level_in words.now }
 {
-    words[0] / LEVEL_UNIT % LEVEL_UNIT
+    words[HEAD] / LEVEL_UNIT % LEVEL_UNIT
 }
 
 fn count_at(words: &[u64; 32]) -> usize
     ensures { result ≡ count_in words.now }
 {
-    (words[0] % LEVEL_UNIT) as usize
+    (words[HEAD] % LEVEL_UNIT) as usize
 }
 
 /// The bounds and the link of a leaf or an inner page.
 fn bounds_fit(words: &[u64; 32], most: u64) -> bool
     ensures { IsTrue result ↔ BoundsFit most Kind.Leaf words.now }
 {
-    (words[2] == 0 || words[1] < words[2]) && words[3] < most
+    (words[HIGH] == 0 || words[LOW] < words[HIGH]) && words[RIGHT] < most
 }
 
 /// That many page numbers behind the head, if each is one below that bound.
@@ -114,7 +115,7 @@ fn leftmost_at(words: &[u64; 32], count: usize, most: u64) -> Option<ArrayVec<u3
 {
     let mut leftmost = ArrayVec::new();
     for i in 0..count {
-        let page = words[4 + i];
+        let page = words[ENTRIES + i];
         if page == 0 || page >= most {
             return None;
         }
@@ -137,13 +138,13 @@ fn anchor_in(words: &[u64; 32], most: u64) -> Result<Anchor, WordFault>
     if count == 0 || count > MOST_LEVELS {
         return Err(WordFault::Count);
     }
-    if words[1] != 0 || words[2] != 0 || words[3] != 0 {
+    if words[LOW] != 0 || words[HIGH] != 0 || words[RIGHT] != 0 {
         return Err(WordFault::Bounds);
     }
     let Some(leftmost) = leftmost_at(words, count, most) else {
         return Err(WordFault::Cover);
     };
-    if !is_zero_from(words, 4 + count) {
+    if !is_zero_from(words, ENTRIES + count) {
         return Err(WordFault::Rest);
     }
     Ok(Anchor { leftmost })
@@ -170,16 +171,16 @@ fn leaf_in(words: &[u64; 32], most: u64) -> Result<Leaf, WordFault>
     if !keys_rise(rows.as_slice()) {
         return Err(WordFault::Order);
     }
-    if !keys_are_within(words[1], words[2], rows.as_slice()) {
+    if !keys_are_within(words[LOW], words[HIGH], rows.as_slice()) {
         return Err(WordFault::Cover);
     }
-    if !is_zero_from(words, 4 + 2 * count) {
+    if !is_zero_from(words, ENTRIES + 2 * count) {
         return Err(WordFault::Rest);
     }
     Ok(Leaf {
-        low: words[1],
-        high: words[2],
-        right: words[3] as u32,
+        low: words[LOW],
+        high: words[HIGH],
+        right: words[RIGHT] as u32,
         rows,
     })
 }
@@ -191,8 +192,8 @@ fn children_fit(words: &[u64; 32], children: &[(u64, u64)], most: u64) -> bool
         × BeginsWith (slice_index words.now 1) children.now × NameNumbers most children.now) }
     ensures children { IsTrue result → NameChildren children.now }
 {
-    keys_are_within(words[1], words[2], children)
-        && begins_with(words[1], children)
+    keys_are_within(words[LOW], words[HIGH], children)
+        && begins_with(words[LOW], children)
         && pairs_name_pages(children, most)
 }
 
@@ -221,14 +222,14 @@ fn inner_in(words: &[u64; 32], most: u64) -> Result<Inner, WordFault>
     if !children_fit(words, children.as_slice(), most) {
         return Err(WordFault::Cover);
     }
-    if !is_zero_from(words, 4 + 2 * count) {
+    if !is_zero_from(words, ENTRIES + 2 * count) {
         return Err(WordFault::Rest);
     }
     Ok(Inner {
         level: level as u32,
-        low: words[1],
-        high: words[2],
-        right: words[3] as u32,
+        low: words[LOW],
+        high: words[HIGH],
+        right: words[RIGHT] as u32,
         children,
     })
 }
@@ -247,16 +248,16 @@ fn dead_in(words: &[u64; 32], most: u64) -> Result<Dead, WordFault>
     if count_at(words) != 0 {
         return Err(WordFault::Count);
     }
-    if words[2] != 0 || words[3] >= most {
+    if words[HIGH] != 0 || words[RIGHT] >= most {
         return Err(WordFault::Bounds);
     }
-    if !is_zero_from(words, 4) {
+    if !is_zero_from(words, ENTRIES) {
         return Err(WordFault::Rest);
     }
     Ok(Dead {
         level: level as u32,
-        low: words[1],
-        right: words[3] as u32,
+        low: words[LOW],
+        right: words[RIGHT] as u32,
     })
 }
 
@@ -267,7 +268,7 @@ fn page_in(words: &[u64; 32], most: u64) -> Result<Page, WordFault>
     ensures below { IfOk result (λ page. IsBelow most page) }
     ensures fault { IfErr result (λ fault. IsWordFault most fault words.now) }
 {
-    match words[0] / KIND_UNIT {
+    match words[HEAD] / KIND_UNIT {
         1 => Ok(Page::Anchor(anchor_in(words, most)?)),
         2 => Ok(Page::Leaf(leaf_in(words, most)?)),
         3 => Ok(Page::Inner(inner_in(words, most)?)),

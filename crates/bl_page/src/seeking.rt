@@ -5,6 +5,7 @@ ghost use Rattle.bl_model.specs.Rows.{map_of};
 ghost use Rattle.bl_page.specs.Pairs.{BeginsWith, NameChildren, IsChildFor, place};
 ghost use Rattle.bl_page.specs.Faults.{count_in, pairs_of, HasPairs};
 
+use crate::places::{HEAD, KEY_BEFORE, WORD_BEFORE};
 use crate::source::Words;
 use crate::spelling::LEVEL_UNIT;
 
@@ -28,7 +29,9 @@ fn reached<W: Words>(
     ensures none { place key (pairs_of (W.shown source.now hand.old)) < which → result ≡ 0 }
     ensures most { result ≤ 1 }
 {
-    let one_less = source.word(hand, used, 2 + 2 * which).wrapping_sub(1);
+    let one_less = source
+        .word(hand, used, KEY_BEFORE + 2 * which)
+        .wrapping_sub(1);
     if one_less < key { 1 } else { 0 }
 }
 
@@ -53,7 +56,7 @@ fn reached_within<W: Words>(
     ensures none { place key (pairs_of (W.shown source.now hand.old)) < which → result ≡ 0 }
     ensures most { result ≤ 1 }
 {
-    let there = source.word(hand, used, 2 + 2 * which);
+    let there = source.word(hand, used, KEY_BEFORE + 2 * which);
     if which <= count && there <= key { 1 } else { 0 }
 }
 
@@ -77,7 +80,9 @@ fn reached_behind<W: Words>(
     ensures none { 2 ≤ which → place key (pairs_of (W.shown source.now hand.old)) < which → result ≡ 0 }
     ensures most { result ≤ 1 }
 {
-    let one_less = source.word(hand, used, 2 + 2 * which).wrapping_sub(1);
+    let one_less = source
+        .word(hand, used, KEY_BEFORE + 2 * which)
+        .wrapping_sub(1);
     if which == 1 {
         1
     } else if one_less < key {
@@ -165,7 +170,7 @@ fn sought_in<W: Words>(source: &W, hand: &mut W::Hand, used: &mut u32, key: u64)
 {
     if key > 0 {
         only_place_in(source, hand, used, key)
-    } else if source.word(hand, used, 0) % LEVEL_UNIT > 0 {
+    } else if source.word(hand, used, HEAD) % LEVEL_UNIT > 0 {
         1
     } else {
         0
@@ -183,8 +188,8 @@ pub fn listed_in<W: Words>(source: &W, hand: &mut W::Hand, used: &mut u32, key: 
     ensures listed { result ≡ map_of (pairs_of (W.shown source.now hand.old)) key }
 {
     let place = sought_in(source, hand, used, key);
-    if place > 0 && source.word(hand, used, 2 + 2 * place) == key {
-        Some(source.word(hand, used, 3 + 2 * place))
+    if place > 0 && source.word(hand, used, KEY_BEFORE + 2 * place) == key {
+        Some(source.word(hand, used, WORD_BEFORE + 2 * place))
     } else {
         None
     }
@@ -211,5 +216,5 @@ pub fn child_in<W: Words>(
     ensures child { IsChildFor (pairs_of (W.shown source.now hand.old)) key result }
 {
     let place = place_in(source, hand, used, count, key);
-    source.word(hand, used, 3 + 2 * place) as u32
+    source.word(hand, used, WORD_BEFORE + 2 * place) as u32
 }

@@ -4,6 +4,7 @@ ghost use Rattle.std.specs.Prelude.{◌≡◌, ◌≤◌, length};
 ghost use Rattle.bl_page.specs.Words.{words_of, head, layout, entries_of};
 
 use crate::page::Page;
+use crate::places::{ENTRIES, FIRST_KEY, FIRST_WORD, HEAD, HIGH, LOW, RIGHT};
 
 /// What the kind counts in word 0.
 pub const KIND_UNIT: u64 = 1 << 32;
@@ -17,13 +18,13 @@ fn pair_words(first: u64, low: u64, high: u64, right: u32, pairs: &[(u64, u64)])
     ensures { result ≡ layout first low high right (entries_of pairs.now) }
 {
     let mut words = [0; 32];
-    words[0] = first;
-    words[1] = low;
-    words[2] = high;
-    words[3] = u64::from(right);
+    words[HEAD] = first;
+    words[LOW] = low;
+    words[HIGH] = high;
+    words[RIGHT] = u64::from(right);
     for (i, pair) in pairs.iter().enumerate() {
-        words[4 + 2 * i] = pair.0;
-        words[5 + 2 * i] = pair.1;
+        words[FIRST_KEY + 2 * i] = pair.0;
+        words[FIRST_WORD + 2 * i] = pair.1;
     }
     words
 }
@@ -34,9 +35,9 @@ fn anchor_words(leftmost: &[u32]) -> [u64; 32]
     ensures { result ≡ layout (head 1 0 (length leftmost.now)) 0 0 0 leftmost.now }
 {
     let mut words = [0; 32];
-    words[0] = KIND_UNIT + leftmost.len() as u64;
+    words[HEAD] = KIND_UNIT + leftmost.len() as u64;
     for (i, page) in leftmost.iter().enumerate() {
-        words[4 + i] = u64::from(*page);
+        words[ENTRIES + i] = u64::from(*page);
     }
     words
 }
