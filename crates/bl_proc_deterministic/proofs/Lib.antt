@@ -19,6 +19,7 @@ pub mod Posts
 pub mod Climbs
 pub mod Following
 pub mod PostsFollowing
+pub mod WritingsFollowing
 pub mod Neighbours
 pub mod Families
 pub mod Relistings

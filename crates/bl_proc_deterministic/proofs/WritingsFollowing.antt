@@ -1,4 +1,4 @@
--- What a write wants, and what follows.
+-- What a write of one key wants, and what follows.
 use Rattle.std.proofs.Common.{ℕ, ◌≡◌, ◌≢◌, Some, None, refl}
 use Rattle.bl_model.specs.declared.deciding.KeyWrite.{KeyWrite}
 use Rattle.bl_model.specs.declared.deciding.Effect.{Effect}
@@ -22,13 +22,16 @@ use Rattle.bl_proc_deterministic.proofs.Retirements.{write_none}
 use Rattle.bl_proc_deterministic.proofs.WayCases.{edit_case}
 use Rattle.bl_proc_deterministic.proofs.KindCases.{WriteCase, write_case}
 
-pub write_wants : (a : WriteStage) → Wants (write_next_in a) (write_needs_in a) (write_frames a)
-write_wants write.New = refl
-write_wants (write.Coming a) = approach_wants a None
-write_wants (write.Keeping x there) = refl
-write_wants (write.Editing noted c) = edit_wants c
-write_wants (write.Ending r) = refl
-write_wants (write.Over r) = refl
+pub write_wants : (p : Write) → Wants (write_next_in p.stage) (write_needs_in p.stage) (write_frames p.stage)
+write_wants p = wants p.stage
+  where
+    wants : (a : WriteStage) → Wants (write_next_in a) (write_needs_in a) (write_frames a)
+    wants write.New = refl
+    wants (write.Coming a) = approach_wants a None
+    wants (write.Keeping x there) = refl
+    wants (write.Editing noted c) = edit_wants c
+    wants (write.Ending r) = refl
+    wants (write.Over r) = refl
 
 performs_frames : (effect : Effect) (x key : ℕ) (c : Page) (d : Edit) → Performs effect x c key d → edit_frames d ≡ 0
 performs_frames Keep x key c d t = absurd t
@@ -38,14 +41,14 @@ performs_frames Remove x key c d t = absurd t
 performs_frames (Replace value) x key c (edit.Putting y page) t = refl
 performs_frames (Replace value) x key c d t = absurd t
 
-write_leaves : {key : ℕ} {does : KeyWrite} {a b : WriteStage} {what : Seen} → WriteCase key does a what b → Leaves (write_next_in a) (write_needs_in a) what (write_frames a) (write_frames b)
+pub write_leaves : {key : ℕ} {does : KeyWrite} {a b : WriteStage} {what : Seen} → WriteCase key does a what b → Leaves (write_next_in a) (write_needs_in a) what (write_frames a) (write_frames b)
 write_leaves (WriteCase.Came a what b t) = approach_leaves a what
 write_leaves {key = key} {does = does} (WriteCase.Changed x c noted d l t) = performs_frames (effect_of does noted.there) x key c d t.1
 write_leaves (WriteCase.Edited noted c what same d t) = edit_leaves (edit_case c what _ t.1)
 write_leaves (WriteCase.Finished noted c what r t) = edit_over (edit_case c what _ t.1)
 write_leaves other = refl
 
-write_begun : {key : ℕ} {does : KeyWrite} {a b : WriteStage} {what : Seen} → WriteCase key does a what b → write_next_in b ≢ act.Begin
+pub write_begun : {key : ℕ} {does : KeyWrite} {a b : WriteStage} {what : Seen} → WriteCase key does a what b → write_next_in b ≢ act.Begin
 write_begun (WriteCase.Began a t) = not_begin_way a
 write_begun (WriteCase.Came a what b t) = not_begin_way b
 write_begun (WriteCase.Changed x c noted d l t) = not_begin d
