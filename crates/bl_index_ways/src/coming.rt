@@ -2,20 +2,16 @@
 
 ghost use Rattle.std.specs.Prelude.{◌≡◌, true, false};
 ghost use Rattle.bl_page.specs.declared.page.Page.{Page};
-ghost use Rattle.bl_proc_steps.specs.declared.acts.Action.TheVariants as act;
 ghost use Rattle.bl_proc_steps.specs.declared.approach.Approach.TheVariants as approach;
-ghost use Rattle.bl_store.specs.Hands.{known, read_words, IsIdle, IsRunning, IsSameHand, IsSameStock, ReadsFrom};
+ghost use Rattle.bl_store.specs.Hands.{known, read_words, IsIdle, IsSameHand, IsSameStock, ReadsFrom};
 ghost use Rattle.bl_store.specs.Owners.{IsHandOf};
-ghost use Rattle.bl_proc_steps.specs.declared.acts.Seen.TheVariants as seen;
-ghost use Rattle.bl_proc.specs.Processes.{next_of};
-ghost use Rattle.bl_proc_deterministic.specs.Courses.{GoesOn};
-ghost use Rattle.bl_index_rule.specs.Observed.{Begins, IsUnborn};
+ghost use Rattle.bl_index_rule.specs.Observed.{IsUnborn};
 ghost use Rattle.bl_index_events.specs.Runs.{Runs, KeepsHand, IsOn, IsSince, IsSameProcess};
 ghost use Rattle.bl_index_ways.specs.Events.{HoldsNone, IsSought, IsThere, HasArrived, HasCome, HasComeWithin};
 
 use crate::targets::{Target, Unborn};
 use bl_index_events::{FrameView, Tree};
-use bl_index_rule::{Began, Launch, PassState};
+use bl_index_rule::PassState;
 use bl_proc_routes::{Step, level_in, step_in};
 use bl_proc_steps::{Approach, approach_by};
 use bl_store::{Glance, Hand};
@@ -32,24 +28,6 @@ pub(crate) enum Arrived {
     Away(Option<u32>),
 }
 
-// The process of this kind begins, which the first bound names beside its pass.
-#[inline(always)]
-fn begin_process<L: Launch, J: Unborn>(tree: &Tree, hand: &mut Hand<PassState>, unborn: &J)
-    requires own { IsHandOf tree.now.store hand.old }
-    requires idle { IsIdle hand.old.seat }
-    requires names { (hand.old.number ≡ L.pass) × (tree.now.store.layout.pages ≡ L.pages) × (tree.now.store.layout.passes ≡ L.passes)
-        × (J.unborn unborn.now ≡ L.process) }
-    requires next { next_of L.process ≡ act.Begin }
-    requires unborn { IsUnborn L.process }
-    requires course { GoesOn L.process seen.Done }
-    ensures same { IsSameHand hand.old.seat hand.new.seat × IsSameStock hand.old.seat hand.new.seat }
-    ensures running { IsRunning hand.new.seat }
-    ensures observed { Begins L.pass L.pages L.passes L.process (known hand.old.seat) (known hand.new.seat) }
-{
-    let _ = unborn;
-    tree.store.begin::<Began<L>>(hand);
-}
-
 /// The process of this kind begins.
 #[inline(always)]
 pub fn begin_descent<J: Unborn>(tree: &Tree, hand: &mut Hand<PassState>, unborn: &J)
@@ -60,7 +38,7 @@ pub fn begin_descent<J: Unborn>(tree: &Tree, hand: &mut Hand<PassState>, unborn:
     ensures runs { Runs tree.now hand.new (J.begun unborn.now) }
     ensures begun { IsSince hand.old.number (known hand.old.seat) (known hand.new.seat) }
 {
-    begin_process::<Brand, J>(tree, hand, unborn);
+    tree.begin_as::<Brand, J>(hand, unborn);
 }
 
 /// It gets the anchor, and goes on by its words.
