@@ -28,6 +28,7 @@ pub mod CompressionSteps
 pub mod Compressions
 pub mod CompressionsFollowing
 pub mod Retirements
+pub mod CompressionsEnding
 pub mod ClimbsFollowing
 pub mod Refusals
 pub mod RefusedCompressions
