@@ -1,4 +1,5 @@
 pub mod Written
+pub mod Nearing
 pub mod Spreading
 pub mod Splits
 pub mod Walked

@@ -1,7 +1,6 @@
 -- A full page that is split, by its words and the entries with a pair more.
 use Rattle.std.proofs.Common.{◌≡◌, ℕ, zero, suc, ◌+◌, ◌*◌, ◌-◌, ◌<◌, ◌≤◌, List, [], ◌∷◌, length, get_or, take, drop, None, refl, sym, ap, ◌∙◌, subst, inl, inr, arith, ext_get_or, take_all, length-drop}
-use Rattle.std.specs.Prelude.{replicate}
-use Rattle.std.proofs.lemmas.List.{take-append-drop, length-append, length-replicate, get_or_past}
+use Rattle.std.proofs.lemmas.List.{take-append-drop, length-append}
 use Rattle.std.proofs.lemmas.Bool.{cases_lt, cases_eq}
 use Rattle.bl_model.specs.Rows.{map_of}
 use Rattle.bl_page.specs.declared.page.Page.{Page}
@@ -24,39 +23,6 @@ use Rattle.bl_proc_steps.specs.declared.edit.Edited.TheVariants as changed
 use Rattle.bl_proc_steps.specs.Edits.{Changes}
 use Rattle.bl_proc_routes.proofs.Shifts.{padded, length-entries, entered-below, entered-key, entered-word, entered-above}
 use Rattle.bl_index_ways.specs.Halves.{AreSpread, AreHalvesOf}
-
--- a page without entries
-zeros : (n m : ℕ) → get_or (replicate {A = ℕ} n 0) m 0 ≡ 0
-zeros zero m = refl
-zeros (suc n) zero = refl
-zeros (suc n) (suc m) = zeros n m
-
-pub blank : (first low high right k : ℕ) → get_or (first ∷ low ∷ high ∷ right ∷ replicate {A = ℕ} 28 0) (4 + k) 0 ≡ 0
-blank first low high right k =
-    let e : 4 + k ≡ suc (suc (suc (suc k))) = omega arith in
-    ap (λ (j : ℕ). get_or (first ∷ low ∷ high ∷ right ∷ replicate {A = ℕ} 28 0) j 0) e ∙ zeros 28 k
-
--- words that say so are laid out
-long : (first low high right : ℕ) (es : List ℕ) → length es ≤ 28 → length (layout first low high right es) ≡ 32
-long first low high right es few = omega (arith, length-append es (replicate {A = ℕ} (28 - length es) 0), length-replicate {A = ℕ} (28 - length es) 0)
-
-module _ (first low high right : ℕ) (words es : List ℕ) (size : length words ≡ 32) (few : length es ≤ 28) (is_first : get_or words 0 0 ≡ first) (is_low : get_or words 1 0 ≡ low) (is_high : get_or words 2 0 ≡ high) (is_right : get_or words 3 0 ≡ right)
-    (read : (k : ℕ) → k < length es → get_or words (4 + k) 0 ≡ get_or es k 0) (rest : (k : ℕ) → length es ≤ k → k < 28 → get_or words (4 + k) 0 ≡ 0) where
-  word_at : (k : ℕ) → k < 32 → get_or words k 0 ≡ get_or (layout first low high right es) k 0
-  word_at zero lt = is_first
-  word_at (suc zero) lt = is_low
-  word_at (suc (suc zero)) lt = is_high
-  word_at (suc (suc (suc zero))) lt = is_right
-  word_at (suc (suc (suc (suc m)))) lt =
-      let e : suc (suc (suc (suc m))) ≡ 4 + m = omega arith in
-      let last = padded es (28 - length es) m in
-      ap (λ (k : ℕ). get_or words k 0) e ∙ elim (cases_lt m (length es)) [
-        | inl inside ↦ read m inside ∙ sym last
-        | inr past ↦ rest m past (omega arith) ∙ sym (last ∙ get_or_past es m 0 past)
-      ]
-
-  pub laid : words ≡ layout first low high right es
-  laid = ext_get_or 0 words (layout first low high right es) (size ∙ sym (long first low high right es few)) (λ k lt. word_at k (omega (arith, size, lt)))
 
 -- two words for each pair
 entries-take : (n : ℕ) (pairs : List (ℕ × ℕ)) → entries_of (take n pairs) ≡ take (2 * n) (entries_of pairs)

@@ -2,21 +2,18 @@
 use Rattle.std.proofs.Common.{◌≡◌, ℕ, zero, suc, ◌+◌, ◌*◌, ◌-◌, ◌<◌, ◌≤◌, List, length, get_or, refl, sym, ap, subst, ◌∙◌, arith}
 use Rattle.std.specs.Prelude.{replicate}
 use Rattle.std.proofs.lemmas.List.{length-append, length-replicate}
-use Rattle.bl_model.specs.Rows.{map_of}
 use Rattle.bl_page.specs.declared.page.Page.{Page}
 use Rattle.bl_page.specs.declared.page.Page.TheVariants as page
 use Rattle.bl_page.specs.Words.{head, layout, entries_of, words_of}
-use Rattle.bl_page.specs.Pairs.{place, RisesFrom}
+use Rattle.bl_page.specs.Pairs.{place}
 use Rattle.bl_page.specs.Faults.{pairs_of as pairs_in_words}
 use Rattle.bl_page.proofs.Once.{rows_again, children_again}
 use Rattle.bl_page.specs.Nodes.{IsTreePage}
 use Rattle.bl_rearrange.specs.Entered.{entered}
-use Rattle.bl_rearrange.specs.Rearranged.{pairs_of, KeepsFrame}
+use Rattle.bl_rearrange.specs.Rearranged.{pairs_of}
 use Rattle.bl_rearrange.proofs.EnteredLemmas.{length-entered}
 use Rattle.bl_proc_routes.specs.WordEdits.{words_by}
 use Rattle.bl_proc_routes.proofs.Shifts.{padded, length-entries, entered-below, entered-key, entered-word, entered-above}
-use Rattle.bl_proc_deterministic.proofs.Rows.{rows_one}
-use Rattle.bl_proc_deterministic.proofs.Pages.{rising}
 use Rattle.bl_store.specs.Drafts.{IsSpread}
 
 -- the words of a layout with a pair more
@@ -83,19 +80,3 @@ spread_entered (page.Inner n) p key word top at tree room e is_top is_at =
     subst (λ (z : ℕ × ℕ × List ℕ). IsSpread (record { first = z.0; place = z.1; key = key; word = word }) (words_of (page.Inner n)) z.2) (λ i. (first i, there i, sym e i))
     (spread_layout (head 3 n.level (length rows)) (head 3 n.level (length (entered key word rows))) n.low n.high n.right key word rows room)
 spread_entered (page.Dead d) p key word top at tree room e is_top is_at = absurd tree
-
--- a page of the same kind, bounds and link is spelled by its pairs
-spelled_by : (c p : Page) (pairs : List (ℕ × ℕ)) → KeepsFrame c p → pairs_of p ≡ pairs → words_of p ≡ words_by c pairs
-spelled_by (page.Leaf c) (page.Leaf p) pairs f e = λ i. layout (head 2 0 (length (e i))) (f.0 i) (f.1 i) (f.2 i) (entries_of (e i))
-spelled_by (page.Inner c) (page.Inner p) pairs f e = λ i. layout (head 3 (f.0 i) (length (e i))) (f.1 i) (f.2 i) (f.3 i) (entries_of (e i))
-spelled_by (page.Leaf c) (page.Anchor p) pairs f e = absurd f
-spelled_by (page.Leaf c) (page.Inner p) pairs f e = absurd f
-spelled_by (page.Leaf c) (page.Dead p) pairs f e = absurd f
-spelled_by (page.Inner c) (page.Anchor p) pairs f e = absurd f
-spelled_by (page.Inner c) (page.Leaf p) pairs f e = absurd f
-spelled_by (page.Inner c) (page.Dead p) pairs f e = absurd f
-spelled_by (page.Anchor c) p pairs f e = absurd f
-spelled_by (page.Dead c) p pairs f e = absurd f
-
-pub spelled : (c p : Page) (pairs : List (ℕ × ℕ)) → KeepsFrame c p → RisesFrom 0 pairs → ((j : ℕ) → map_of (pairs_of p) j ≡ map_of pairs j) → words_of p ≡ words_by c pairs
-spelled c p pairs frame rises same = spelled_by c p pairs frame (rows_one 0 (pairs_of p) pairs (rising p) rises same)

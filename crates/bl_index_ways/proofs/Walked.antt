@@ -47,7 +47,7 @@ use Rattle.bl_index_events.specs.declared.tree.Tree.{Tree}
 use Rattle.bl_index_events.proofs.Held.{keeps_anchor}
 use Rattle.bl_index_events.proofs.Rooms.{lacks_on, refused_on}
 use Rattle.bl_index_events.proofs.Standing.{same_all}
-use Rattle.bl_index_ways.proofs.Spreading.{spelled}
+use Rattle.bl_proc_deterministic.proofs.Spelling.{spelled}
 
 -- a change by which a pair enters, by whether there is room
 module _ (x key word : ℕ) (words : List ℕ) (c : Edit) (enter : IsToEnter x key word words c) where

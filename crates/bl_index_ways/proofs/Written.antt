@@ -55,12 +55,14 @@ use Rattle.bl_index_events.specs.Runs.{IsOn, IsSameProcess, Runs, OpensTo}
 use Rattle.bl_index_events.proofs.Held.{goes_keeps, keeps_both, put_latches_not}
 use Rattle.bl_index_events.proofs.Rooms.{lacks_frame, lacks_on, refused_on}
 use Rattle.bl_index_events.proofs.Standing.{put_gave, goes_to, same_goes, same_all, course_at, on_held}
-use Rattle.bl_index_ways.specs.Events.{outcome_by, IsAtLeaf, IsThere, IsToEnter, LeavesLeaf}
+use Rattle.bl_index_descend.specs.Events.{IsThere}
+use Rattle.bl_index_ways.specs.Events.{outcome_by, IsAtLeaf, IsToEnter, LeavesLeaf}
 use Rattle.bl_index_ways.specs.declared.writers.Left.{Left}
 use Rattle.bl_index_ways.specs.declared.writers.Left.TheVariants.{Kept, Changed, Split, Refused}
 use Rattle.bl_index_ways.specs.Writers.{IsAtWork, IsWriter, left_reply, left_by}
 use Rattle.bl_index_ways.proofs.Walked.{enters_putting, enters_taking}
-use Rattle.bl_index_ways.proofs.Spreading.{spelled, spread_entered}
+use Rattle.bl_proc_deterministic.proofs.Spelling.{spelled}
+use Rattle.bl_index_ways.proofs.Spreading.{spread_entered}
 
 -- a page that keeps its frame stays a leaf or an inner page
 frame_tree : (c p : Page) → KeepsFrame c p → IsTreePage p

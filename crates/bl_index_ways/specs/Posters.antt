@@ -16,7 +16,7 @@ use Rattle.bl_proc.specs.Processes.{next_of, Takes}
 use Rattle.bl_proc_writes.specs.Stands.{IsPosting}
 use Rattle.bl_proc_deterministic.specs.Courses.{GoesOn}
 use Rattle.bl_index_events.specs.Held.{proc_held, post_held}
-use Rattle.bl_index_ways.specs.Ways.{IsToHold}
+use Rattle.bl_index_descend.specs.Ways.{IsToHold}
 
 -- the process whose post to that level has come so far
 abbrev pub Staged : ℕ → Type 0

@@ -14,7 +14,8 @@ ghost use Rattle.bl_store.specs.Hands.{known, read_words, IsRunning, IsSameHand,
 ghost use Rattle.bl_store.specs.Owners.{IsHandOf};
 ghost use Rattle.bl_index_events.specs.Held.{KeepsLatch};
 ghost use Rattle.bl_index_events.specs.Runs.{Runs, IsOn, IsSameProcess, OpensTo};
-ghost use Rattle.bl_index_ways.specs.Events.{outcome_by, IsThere, IsAtLeaf, LeavesLeaf};
+ghost use Rattle.bl_index_descend.specs.Events.{IsThere};
+ghost use Rattle.bl_index_ways.specs.Events.{outcome_by, IsAtLeaf, LeavesLeaf};
 
 use crate::editors::Entering;
 use crate::placing::listed_at;

@@ -14,7 +14,8 @@ ghost use Rattle.bl_proc_writes.specs.Posts.{post_reply};
 ghost use Rattle.bl_store.specs.Hands.{known, read_words, IsRunning, HasNoStock, ReadsFrom};
 ghost use Rattle.bl_store.specs.Owners.{IsHandOf};
 ghost use Rattle.bl_index_events.specs.Runs.{Runs, KeepsHand, IsOn, IsSameProcess};
-ghost use Rattle.bl_index_ways.specs.Events.{IsThere, IsToEnter, IsWalking, HasWalked, LeavesParent, WalksOn};
+ghost use Rattle.bl_index_descend.specs.Events.{IsThere};
+ghost use Rattle.bl_index_ways.specs.Events.{IsToEnter, IsWalking, HasWalked, LeavesParent, WalksOn};
 ghost use Rattle.bl_proc_writes.specs.declared.post.PostReply.TheVariants as replies;
 
 use crate::editors::Listing;

@@ -8,7 +8,8 @@ ghost use Rattle.bl_proc_writes.specs.declared.post.PostStage.TheVariants as pos
 ghost use Rattle.bl_proc_writes.specs.declared.walking.Walk.{Walk as WalkIs};
 ghost use Rattle.bl_store.specs.Hands.{known, read_words, HasNoStock, ReadsFrom};
 ghost use Rattle.bl_index_events.specs.Runs.{Runs};
-ghost use Rattle.bl_index_ways.specs.Events.{IsThere, IsWalkOf, LeavesParent, WalksStill};
+ghost use Rattle.bl_index_descend.specs.Events.{IsThere};
+ghost use Rattle.bl_index_ways.specs.Events.{IsWalkOf, LeavesParent, WalksStill};
 
 use crate::parents::{begin_walk, stay, walk_within};
 use crate::posters::Poster;

@@ -2,7 +2,8 @@
 
 ghost use Rattle.std.specs.Prelude.{◌<◌, ◌≤◌};
 
-use bl_index_ways::{Poster, Target, Unborn, Writer};
+use bl_index_descend::{Target, Unborn};
+use bl_index_ways::{Poster, Writer};
 use bl_model::KeyWrite;
 use bl_proc_routes::Step;
 
@@ -93,7 +94,7 @@ impl Target for Posting {
     ghost use Rattle.bl_proc_steps.specs.declared.approach.Approach.TheVariants as approach;
     ghost use Rattle.bl_proc_steps.specs.declared.approach.Came.TheVariants as descend;
     ghost use Rattle.bl_proc_deterministic.proofs.Posts.{post_goes};
-    ghost use Rattle.bl_index_ways.specs.Ways.{nears, past_held};
+    ghost use Rattle.bl_index_ways.proofs.Nearing.{nears, past_held};
 
     type Path = ();
 

@@ -1,5 +1,5 @@
 use Rattle.std.proofs.Common.{refl, arith}
-use Rattle.bl_index_ways.proofs.Splits.{blank, laid}
+use Rattle.bl_proc_deterministic.proofs.Spelling.{blank, laid}
 use Rattle.bl_index_ways.proofs.halves.laid_out.Goals as goal
 
 pub loop-i-init : goal.loop-i-init
