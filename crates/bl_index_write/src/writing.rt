@@ -20,7 +20,7 @@ use crate::targets::Writing;
 use bl_index_events::Tree;
 use bl_index_rule::PassState;
 use bl_index_descend::{begin_descent, descend, descend_within};
-use bl_index_ways::write_there;
+use bl_index_edit::write_there;
 use bl_model::{KeyReply, KeyWrite, decide};
 use bl_proc::Hint;
 use bl_proc_steps::Approach;
