@@ -158,7 +158,7 @@ module _ (events : ℕ) (tree : Tree) (hand hand' : Hand PassState) (num : hand'
   gone stage.Rests a s' st adv =
       let same : account hand' stage.Rests ≡ account hand stage.Rests = account_is _ _ _ _ refl (λ i. own (num i) (adv.1 i).trail) in
       subst (λ (z : Option Answer). HasGone hand.number (account hand stage.Rests) z (account hand' s')) (sym adv.0) (ap (account hand') adv.2 ∙ same)
-  gone (stage.Writes p held) a s' st (inl end) = write_gone st.old _ _ a s' st.since.past end.rests (write_ends hand.number st.old e p.write end.last a end.kind end.answers (end.done hand.number st.old st.since))
+  gone (stage.Writes p held) a s' st (inl end) = write_gone st.old _ _ a s' st.since.past end.rests (write_ends hand.number st.old e p end.last a end.kind end.answers (end.done hand.number st.old st.since))
   gone (stage.Posts p held) a s' st (inl end) = quiet_gone st.old _ a s' st.since.past end.rests (post_ends hand.number st.old e p end.last a end.kind end.answers (end.done hand.number st.old st.since))
   gone (stage.Compresses p held) a s' st (inl end) = quiet_gone st.old _ a s' st.since.past end.rests (compress_ends hand.number st.old e p end.last a end.kind end.answers (end.done hand.number st.old st.since))
   gone (stage.Lowers p held) a s' st (inl end) = quiet_gone st.old _ a s' st.since.past end.rests (lower_ends hand.number st.old e p end.last a end.kind end.answers (end.done hand.number st.old st.since))
@@ -180,8 +180,8 @@ module _ (events : ℕ) (tree : Tree) (hand hand' : Hand PassState) (num : hand'
 
   pub replied : (s : Stage) (a : Option Answer) (s' : Stage) → Stands tree hand s → HasAdvanced events d e s a s' → IfSome a (λ x. IsNoRoom x → LacksIn s hand'.seat) → HasAnswered hand' s a
   replied stage.Rests a s' st adv lacks = tt
-  replied (stage.Writes p held) a s' st (inl end) lacks = wrote st.old p.write.key p.write.write a (write_ends hand.number st.old e p.write end.last a end.kind end.answers (end.done hand.number st.old st.since)) lacks
-  replied (stage.Writes p held) a s' st (inr still) lacks = subst (IfWritten hand' p.write.key p.write.write) (sym still.none) tt
+  replied (stage.Writes p held) a s' st (inl end) lacks = wrote st.old p.key p.write a (write_ends hand.number st.old e p end.last a end.kind end.answers (end.done hand.number st.old st.since)) lacks
+  replied (stage.Writes p held) a s' st (inr still) lacks = subst (IfWritten hand' p.key p.write) (sym still.none) tt
   replied (stage.Posts p held) a s' st adv lacks = tt
   replied (stage.Compresses p held) a s' st adv lacks = tt
   replied (stage.Lowers p held) a s' st adv lacks = tt
@@ -245,7 +245,7 @@ module _ (events : ℕ) (tree : Tree) (hand hand' : Hand PassState) (num : hand'
 
   pub still_after : (s : Stage) (a : Option Answer) (s' : Stage) → Stands tree hand s → HasAdvanced events d e s a s' → Unanswered s a s'
   still_after stage.Rests a s' st adv = subst (λ (z : Option Answer). Unanswered stage.Rests z s') (sym adv.0) (inl refl)
-  still_after (stage.Writes p held) a s' st (inl end) = answered_end _ a s' _ (write_ends hand.number st.old e p.write end.last a end.kind end.answers (end.done hand.number st.old st.since)).is
+  still_after (stage.Writes p held) a s' st (inl end) = answered_end _ a s' _ (write_ends hand.number st.old e p end.last a end.kind end.answers (end.done hand.number st.old st.since)).is
   still_after (stage.Posts p held) a s' st (inl end) = answered_end _ a s' _ (post_ends hand.number st.old e p end.last a end.kind end.answers (end.done hand.number st.old st.since)).is
   still_after (stage.Compresses p held) a s' st (inl end) = answered_end _ a s' _ (compress_ends hand.number st.old e p end.last a end.kind end.answers (end.done hand.number st.old st.since)).is
   still_after (stage.Lowers p held) a s' st (inl end) = answered_end _ a s' _ (lower_ends hand.number st.old e p end.last a end.kind end.answers (end.done hand.number st.old st.since)).is

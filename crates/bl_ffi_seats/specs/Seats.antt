@@ -88,7 +88,7 @@ IfWritten hand key write (Some (answers.Op reply hint)) = HasWritten hand key wr
 IfWritten hand key write other = Unit {0}
 
 abbrev pub HasAnswered : Hand PassState → Stage → Option Answer → Type 0
-HasAnswered hand (stage.Writes p held) answer = IfWritten hand p.write.key p.write.write answer
+HasAnswered hand (stage.Writes p held) answer = IfWritten hand p.key p.write answer
 HasAnswered hand other answer = Unit {0}
 
 -- Something was underway, and nothing is done; or the hand has swept, and was answered how many pages and frames are released.

@@ -385,7 +385,7 @@ impl Seat {
         ensures { result ≡ true → IsAbout key write self.now }
     {
         match &self.stage {
-            Stage::Writes(process, _) => process.write.key == key && process.write.write == write,
+            Stage::Writes(process, _) => process.key == key && process.write == write,
             _ => false,
         }
     }

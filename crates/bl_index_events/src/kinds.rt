@@ -1,7 +1,7 @@
 //! Kinds of processes, each by its own type.
 
 use bl_proc::{Compress, Lower, Process, Reader};
-use bl_proc_writes::{InsertPost, Post};
+use bl_proc_writes::{InsertPost, Post, Write};
 
 /// A kind of process that the index carries out: each is one of the kinds that the world of processes knows, and goes on
 /// in one way.
@@ -34,6 +34,31 @@ pub trait Kind: Process + Reader {
     ghost follows: { (p q : Self) (what : Seen) → Self.Process.Takes p what q → Follows (proc_of p) what (proc_of q) };
 
     ghost retires: { (p q : Self) (what : Seen) → Self.Process.Takes p what q → RetiresAfter (next_in (proc_of p)) what (next_in (proc_of q)) };
+}
+
+impl Kind for Write {
+    ghost use Rattle.std.specs.Prelude.{refl};
+    ghost use Rattle.bl_proc.specs.declared.kinds.Proc.TheVariants as proc;
+    ghost use Rattle.bl_proc_deterministic.proofs.Writings.{write_goes};
+    ghost use Rattle.bl_proc_deterministic.proofs.WritingsFollowing.{write_wants, write_follows, write_retires};
+
+    ghost proc_of = { λ p. proc.Write p };
+
+    ghost acts = { λ p. refl };
+
+    ghost asks = { λ p. refl };
+
+    ghost answers = { λ p. refl };
+
+    ghost goes = { λ p q what t. t };
+
+    ghost courses = { write_goes };
+
+    ghost wants = { write_wants };
+
+    ghost follows = { write_follows };
+
+    ghost retires = { write_retires };
 }
 
 impl Kind for Post {

@@ -15,6 +15,7 @@ mod kinds;
 mod pausing;
 mod running;
 mod stepping;
+mod sweeping;
 mod tree;
 
 pub use fetching::ABREAST;

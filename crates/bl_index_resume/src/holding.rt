@@ -3,11 +3,10 @@
 ghost use Rattle.std.specs.Prelude.{◌≡◌, ◌↔◌, IsTrue};
 ghost use Rattle.bl_index_resume.specs.Holding.{HoldsNone, none_on_way, none_in_growth, none_in_lowering, none_in_write, none_in_post, none_in_compress, none_in_lower};
 
-use crate::writing::Writing;
 use bl_index_events::Kind;
 use bl_proc::{Compress, CompressStage, Lower, LowerStage};
 use bl_proc_steps::{Approach, Growth, Lowering};
-use bl_proc_writes::{Post, PostStage, WriteStage};
+use bl_proc_writes::{Post, PostStage, Write, WriteStage};
 
 /// A process of which can be told whether it holds a page.
 pub trait Holder: Kind {
@@ -83,9 +82,9 @@ fn none_in_lower(stage: &LowerStage) -> bool
     }
 }
 
-impl Holder for Writing {
+impl Holder for Write {
     fn holds_none(&self) -> bool {
-        none_in_write(&self.write.stage)
+        none_in_write(&self.stage)
     }
 }
 

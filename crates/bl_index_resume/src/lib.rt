@@ -13,11 +13,9 @@ mod posting;
 mod spinning;
 mod stages;
 mod sweeping;
-mod writing;
 
 pub use carrying::go_on;
 pub use holding::Holder;
 pub use posting::start_post;
 pub use stages::{Stage, advance, begin_hint, begin_lower, stands, start_write};
 pub use sweeping::sweep;
-pub use writing::Writing;

@@ -14,13 +14,12 @@ ghost use Rattle.bl_proc_deterministic.specs.Refusals.{IsNoRoom};
 ghost use Rattle.bl_index_resume.specs.Stages.{IsAtRest, Stands, HasAdvanced, IsWriteOf, IsFor, IsLowering, LacksIn};
 
 use crate::carrying::go_on;
-use crate::writing::Writing;
 use bl_index_events::Tree;
 use bl_index_rule::PassState;
 use bl_index_write::write_within;
 use bl_model::{KeyReply, KeyWrite};
 use bl_proc::{Answer, Compress, Hint, Lower, Process};
-use bl_proc_writes::Post;
+use bl_proc_writes::{Post, Write, WriteStage};
 use bl_store::{Hand, Stock};
 
 /// What a hand is about: it runs no process, or one that is underway, with what it has reserved.
@@ -29,7 +28,7 @@ pub enum Stage {
     /// It runs none.
     Rests,
     /// A write of one key.
-    Writes(Writing, Option<Stock>),
+    Writes(Write, Option<Stock>),
     /// A post.
     Posts(Post, Option<Stock>),
     /// A compression.
@@ -59,7 +58,12 @@ pub fn start_write(
     match write_within(tree, hand, key, write, turns) {
         Ok(said) => Some(said),
         Err(way) => {
-            *stage = Stage::Writes(Writing::on_way(key, write, way), None);
+            let process = Write {
+                key,
+                write,
+                stage: WriteStage::Coming(way),
+            };
+            *stage = Stage::Writes(process, None);
             None
         }
     }

@@ -3,13 +3,11 @@
 ghost use Rattle.std.specs.Prelude.{◌≡◌, ℕ, ◌+◌, ◌≤◌};
 ghost use Rattle.bl_store.specs.Hands.{known, IsSameHand};
 ghost use Rattle.bl_index_rule.specs.Observed.{sweeps};
-ghost use Rattle.bl_index_events.specs.Runs.{KeepsHand, IsWithin};
 ghost use Rattle.bl_index_resume.specs.Stages.{IsAtRest};
 
 use bl_index_events::Tree;
-use bl_index_rule::{PassState, Sweeper, Swept};
+use bl_index_rule::PassState;
 use bl_store::Hand;
-use std::marker::Brand;
 
 /// Releases pages and frames that no process can read any more. Returns how many.
 pub fn sweep(tree: &Tree, hand: &mut Hand<PassState>) -> u32
@@ -20,17 +18,5 @@ pub fn sweep(tree: &Tree, hand: &mut Hand<PassState>) -> u32
         (known hand.old.seat) pages (known hand.new.seat) }
     ensures count { hand.new.seat.me.0.releases ≡ hand.old.seat.me.0.releases + result }
 {
-    release::<Brand>(tree, hand)
-}
-
-// The releases of a sweep, by the process that the bound names beside its pass.
-fn release<J: Sweeper>(tree: &Tree, hand: &mut Hand<PassState>) -> u32
-    requires rests { IsAtRest tree.now hand.old }
-    requires names { (hand.old.number ≡ J.pass) × ((known hand.old.seat).number + 1 ≡ J.number) × (tree.now.store.layout.passes ≡ J.passes) }
-    ensures same { KeepsHand hand.old.seat hand.new.seat }
-    ensures observed { (pages : ℕ) × (pages ≤ result) × sweeps J.pass J.number J.passes (known hand.old.seat) pages (known hand.new.seat) }
-    ensures within { IsWithin hand.new.seat }
-    ensures count { hand.new.seat.me.0.releases ≡ hand.old.seat.me.0.releases + result }
-{
-    tree.store.sweep::<Swept<J>>(hand)
+    tree.sweep(hand)
 }

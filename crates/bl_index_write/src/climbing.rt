@@ -20,9 +20,10 @@ ghost use Rattle.bl_store.specs.Owners.{IsHandOf};
 ghost use Rattle.bl_index_rule.specs.declared.known.PassState.{PassState as Knows};
 ghost use Rattle.bl_index_events.specs.Rooms.{LacksWrite, LacksPost};
 ghost use Rattle.bl_index_events.specs.Runs.{Runs, Rests, IsSince};
-ghost use Rattle.bl_index_ways.specs.declared.writers.Left.TheVariants as lefts;
-ghost use Rattle.bl_index_write.specs.Climbing.{climb_opened, rises, rose, HasClimbed, IsClimbOver};
-ghost use Rattle.bl_index_ways.specs.Events.{HasGotAnchor};
+ghost use Rattle.bl_index_edit.specs.declared.writers.Left.TheVariants as lefts;
+ghost use Rattle.bl_index_edit.specs.Insertions.{climb_opened};
+ghost use Rattle.bl_index_write.specs.Climbing.{rises, rose, HasClimbed, IsClimbOver};
+ghost use Rattle.bl_index_descend.specs.Events.{HasGotAnchor};
 ghost use Rattle.bl_index_write.specs.Kinds.{IsOfInsertion, IsClimbAnswer};
 
 use crate::posting::posted_by;
@@ -30,9 +31,8 @@ use crate::rising::{Riser, Rising};
 use crate::writing::answer_of;
 use bl_index_events::{FrameView, Tree};
 use bl_index_rule::PassState;
-use bl_index_ways::{
-    Left, Reached, Target, Unborn, Writer, begin_descent, descend, post_there, reach, write_there,
-};
+use bl_index_descend::{Reached, Target, Unborn, begin_descent, descend, reach};
+use bl_index_edit::{Left, Writer, post_there, write_there};
 use bl_model::{KeyReply, KeyWrite, Reply};
 use bl_proc::{Answer, Hint, Posted, Process, Reader};
 use bl_proc_routes::Step;
@@ -55,8 +55,8 @@ impl Target for Climbing {
     ghost use Rattle.bl_proc_writes.specs.Paths.{NotesBy};
     ghost use Rattle.bl_proc_writes.specs.Placings.{write_of};
     ghost use Rattle.bl_proc_deterministic.proofs.Climbs.{climb_goes};
-    ghost use Rattle.bl_index_write.specs.Climbing.{climb_coming};
-    ghost use Rattle.bl_index_write.specs.AtLeaf.{unnoted};
+    ghost use Rattle.bl_index_edit.specs.Insertions.{climb_coming};
+    ghost use Rattle.bl_index_edit.proofs.AtLeaf.{unnoted};
 
     type Path = Path;
 
@@ -116,8 +116,8 @@ pub(crate) struct Unnoted {
 
 impl Unborn for Unnoted {
     ghost use Rattle.std.specs.Prelude.{refl};
-    ghost use Rattle.bl_index_write.specs.Climbing.{climb_unborn, climb_coming};
-    ghost use Rattle.bl_index_write.specs.AtLeaf.{unborn_goes, unborn_starts};
+    ghost use Rattle.bl_index_edit.specs.Insertions.{climb_unborn, climb_coming};
+    ghost use Rattle.bl_index_edit.proofs.AtLeaf.{unborn_goes, unborn_starts};
 
     ghost unborn = { λ j. climb_unborn j.key j.placing j.path j.blank };
 
@@ -140,8 +140,8 @@ pub(crate) struct Climber {
 
 impl Writer for Climber {
     ghost use Rattle.bl_proc_writes.specs.Placings.{write_of as placed};
-    ghost use Rattle.bl_index_write.specs.Climbing.{climb_staged, climb_opened};
-    ghost use Rattle.bl_index_write.specs.AtLeaf.{writes_climbing};
+    ghost use Rattle.bl_index_edit.specs.Insertions.{climb_staged, climb_opened};
+    ghost use Rattle.bl_index_edit.proofs.AtLeaf.{writes_climbing};
 
     ghost key_of = { λ w. w.key };
 

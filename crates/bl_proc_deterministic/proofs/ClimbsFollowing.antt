@@ -1,18 +1,10 @@
 -- What an insertion that posts wants, and what follows.
 use Rattle.std.proofs.Common.{ℕ, ◌≡◌, ◌≢◌, ◌+◌, Some, None, refl, sym, ap, subst}
-use Rattle.bl_model.specs.declared.deciding.KeyWrite.{KeyWrite}
-use Rattle.bl_model.specs.declared.deciding.Effect.{Effect}
-use Rattle.bl_model.specs.declared.deciding.Effect.TheVariants.{Keep, Enter, Remove, Replace}
-use Rattle.bl_model.specs.Writes.{write_op, effect_of}
-use Rattle.bl_page.specs.declared.page.Page.{Page}
+use Rattle.bl_model.specs.Writes.{write_op}
 use Rattle.bl_proc_steps.specs.declared.acts.Action.{Action}
 use Rattle.bl_proc_steps.specs.declared.acts.Action.TheVariants as act
 use Rattle.bl_proc_steps.specs.declared.acts.Seen.{Seen}
-use Rattle.bl_proc_steps.specs.declared.edit.Edit.{Edit}
-use Rattle.bl_proc_steps.specs.declared.edit.Edit.TheVariants as edit
 use Rattle.bl_proc_writes.specs.declared.paths.Path.{Path}
-use Rattle.bl_proc_writes.specs.declared.writing.WriteStage.{WriteStage}
-use Rattle.bl_proc_writes.specs.declared.writing.WriteStage.TheVariants as write
 use Rattle.bl_proc_writes.specs.declared.post.PostStage.{PostStage}
 use Rattle.bl_proc_writes.specs.declared.post.PostStage.TheVariants as post
 use Rattle.bl_proc_writes.specs.declared.insert_post.InsertPost.{InsertPost}
@@ -22,56 +14,26 @@ use Rattle.bl_proc_writes.specs.declared.insert_post.ClimbStage.{ClimbStage}
 use Rattle.bl_proc_writes.specs.declared.insert_post.ClimbStage.TheVariants as climb
 use Rattle.bl_proc.specs.declared.kinds.Proc.TheVariants as proc
 use Rattle.bl_proc_writes.specs.Paths.{page_at, from_page}
-use Rattle.bl_proc_writes.specs.Writes.{write_next_in, write_needs_in, Performs}
+use Rattle.bl_proc_writes.specs.Writes.{write_next_in, write_needs_in}
 use Rattle.bl_proc_writes.specs.Posts.{post_next_in, post_needs_in}
 use Rattle.bl_proc_writes.specs.InsertPosts.{climb_next_in, climb_needs_in, climb_answer_in}
 use Rattle.bl_proc.specs.Processes.{next_of, Takes}
-use Rattle.bl_proc_deterministic.specs.Frames.{edit_frames, write_frames, post_frames, climb_frames, Wants, Leaves, Follows}
+use Rattle.bl_proc_deterministic.specs.Frames.{write_frames, post_frames, climb_frames, Wants, Leaves, Follows}
 use Rattle.bl_proc_deterministic.specs.Retirements.{RetiresAfter}
-use Rattle.bl_proc_deterministic.proofs.Following.{approach_wants, edit_wants, edit_leaves, edit_over, approach_leaves, not_begin_way, not_begin, came_frames}
+use Rattle.bl_proc_deterministic.proofs.Following.{not_begin_way}
 use Rattle.bl_proc_deterministic.proofs.PostsFollowing.{post_wants, post_leaves, post_begun}
+use Rattle.bl_proc_deterministic.proofs.WritingsFollowing.{write_wants, write_leaves, write_begun}
 use Rattle.bl_proc_deterministic.proofs.Retirements.{write_none, post_none}
-use Rattle.bl_proc_deterministic.proofs.WayCases.{edit_case}
-use Rattle.bl_proc_deterministic.proofs.KindCases.{WriteCase, ClimbCase, climb_case}
-
-write_wants : (a : WriteStage) → Wants (write_next_in a) (write_needs_in a) (write_frames a)
-write_wants write.New = refl
-write_wants (write.Coming a) = approach_wants a None
-write_wants (write.Keeping x there) = refl
-write_wants (write.Editing noted c) = edit_wants c
-write_wants (write.Ending r) = refl
-write_wants (write.Over r) = refl
+use Rattle.bl_proc_deterministic.proofs.KindCases.{ClimbCase, climb_case}
 
 pub climb_wants : (p : InsertPost) → Wants (climb_next_in p.stage) (climb_needs_in p.stage) (climb_frames p.stage)
 climb_wants p = wants p.stage
   where
     wants : (a : ClimbStage) → Wants (climb_next_in a) (climb_needs_in a) (climb_frames a)
-    wants (climb.Writing w) = write_wants w.stage
+    wants (climb.Writing w) = write_wants w
     wants (climb.Posting q) = post_wants q
     wants (climb.Ending r) = refl
     wants (climb.Over r) = refl
-
-performs_frames : (effect : Effect) (x key : ℕ) (c : Page) (d : Edit) → Performs effect x c key d → edit_frames d ≡ 0
-performs_frames Keep x key c d t = absurd t
-performs_frames (Enter value) x key c d t = came_frames x key value c d t
-performs_frames Remove x key c (edit.Putting y page) t = refl
-performs_frames Remove x key c d t = absurd t
-performs_frames (Replace value) x key c (edit.Putting y page) t = refl
-performs_frames (Replace value) x key c d t = absurd t
-
-write_leaves : {key : ℕ} {does : KeyWrite} {a b : WriteStage} {what : Seen} → WriteCase key does a what b → Leaves (write_next_in a) (write_needs_in a) what (write_frames a) (write_frames b)
-write_leaves (WriteCase.Came a what b t) = approach_leaves a what
-write_leaves {key = key} {does = does} (WriteCase.Changed x c noted d l t) = performs_frames (effect_of does noted.there) x key c d t.1
-write_leaves (WriteCase.Edited noted c what same d t) = edit_leaves (edit_case c what _ t.1)
-write_leaves (WriteCase.Finished noted c what r t) = edit_over (edit_case c what _ t.1)
-write_leaves other = refl
-
-write_begun : {key : ℕ} {does : KeyWrite} {a b : WriteStage} {what : Seen} → WriteCase key does a what b → write_next_in b ≢ act.Begin
-write_begun (WriteCase.Began a t) = not_begin_way a
-write_begun (WriteCase.Came a what b t) = not_begin_way b
-write_begun (WriteCase.Changed x c noted d l t) = not_begin d
-write_begun (WriteCase.Edited noted c what same d t) = not_begin d
-write_begun other = λ z. cc
 
 -- a post that begins at a page has reserved nothing, and is on its way
 from_frames : (a : PostStage) (x : ℕ) → a ≡ post.Coming (from_page x) → post_frames a ≡ 0

@@ -7,6 +7,7 @@ pub mod Searches
 pub mod Rows
 pub mod Listings
 pub mod Pages
+pub mod Spelling
 pub mod Ways
 pub mod Edits
 pub mod Growths
@@ -19,6 +20,7 @@ pub mod Posts
 pub mod Climbs
 pub mod Following
 pub mod PostsFollowing
+pub mod WritingsFollowing
 pub mod Neighbours
 pub mod Families
 pub mod Relistings
@@ -27,6 +29,7 @@ pub mod CompressionSteps
 pub mod Compressions
 pub mod CompressionsFollowing
 pub mod Retirements
+pub mod CompressionsEnding
 pub mod ClimbsFollowing
 pub mod Refusals
 pub mod RefusedCompressions

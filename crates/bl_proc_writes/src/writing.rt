@@ -1,8 +1,9 @@
 //! The write of one key: an insertion, a deletion or a change.
 
-ghost use Rattle.std.specs.Prelude.{◌≡◌, None, Some};
+ghost use Rattle.std.specs.Prelude.{◌≡◌, None, Some, IfSome};
 ghost use Rattle.bl_proc_steps.specs.declared.edit.Edit.{Edit};
 ghost use Rattle.bl_proc_routes.specs.declared.routes.Step.TheVariants as onward;
+ghost use Rattle.bl_proc_steps.specs.Approaches.{IsToLook};
 ghost use Rattle.bl_proc_steps.specs.Given.{Gives};
 ghost use Rattle.bl_proc_routes.specs.Routes.{Leads};
 ghost use Rattle.bl_proc_writes.specs.declared.writing.Noted.{Noted};
@@ -11,11 +12,11 @@ ghost use Rattle.bl_proc_writes.specs.Writes.{thin_after, write_reply, write_ans
 ghost use Rattle.bl_answers.specs.Hints.{post_hint};
 
 use bl_model::{Effect, KeyWrite, Reply, decide};
-use bl_page::Page;
+use bl_page::{Page, Words};
 use bl_proc_routes::listed;
 use bl_proc_steps::{
-    Action, Answer, Approach, Approached, Edit, Edited, Hint, Level, Outcome, Process, Seen,
-    dropping, entering, hint_of_thin, replacing, thin_low,
+    Action, Answer, Approach, Approached, Edit, Edited, Hint, Level, Outcome, Process, Reader,
+    Seen, dropping, entering, hint_of_thin, replacing, thin_low, took_page,
 };
 use std::mem;
 
@@ -225,5 +226,30 @@ impl Process for Write {
             WriteStage::Ending(reply) => self.stage = WriteStage::Over(*reply),
             WriteStage::Over(_) => unreachable!(),
         }
+    }
+}
+
+impl Write {
+    /// Where it is to get a page on its way, and holds none.
+    fn way(&self) -> Option<Approach>
+        ensures { IfSome result (λ a. (self.now.stage ≡ write_stage.Coming a) × IsToLook a) }
+    {
+        match &self.stage {
+            WriteStage::Coming(Approach::Start) => Some(Approach::Start),
+            WriteStage::Coming(Approach::At(at)) => Some(Approach::At(*at)),
+            _ => None,
+        }
+    }
+}
+
+impl Reader for Write {
+    // On its way a write makes no page of the words: most of its time would go there.
+    fn took_words<W: Words>(&mut self, source: &W, hand: &mut W::Hand) {
+        let Some(approach) = self.way() else {
+            took_page(self, source, hand);
+            return;
+        };
+        let next = approach.took_words(0, self.key, source, hand);
+        self.stage = WriteStage::Coming(next);
     }
 }

@@ -11,7 +11,7 @@ use Rattle.bl_index_resume.proofs.stages.advance.Goals as goal
 
 pub returns-then-not-go_on-clause-stands : goal.returns-then-not-go_on-clause-stands
 returns-then-not-go_on-clause-stands c =
-    let was : CanGoOn c.args.tree.now c.args.hand.now (proc.Write c.in-Writes.process.write) c.in-Writes.held = subst (λ (s : Stage). Stands c.args.tree.now c.args.hand.now s) c.in-Writes.is c.requires in
+    let was : CanGoOn c.args.tree.now c.args.hand.now (proc.Write c.in-Writes.process) c.in-Writes.held = subst (λ (s : Stage). Stands c.args.tree.now c.args.hand.now s) c.in-Writes.is c.requires in
     let e = c.go_on.ensures in let more = c.if-not-go_on.true in
     let since = since_new c.args.hand.now c.go_on.new.hand was.old e.same (e.since more c.args.hand.now.number was.old was.since) in
     record { runs = (e.runs more).0; going = e.going more; reserved = (e.runs more).1; old = was.old; since = since; yields = e.yields more was.yields; room = e.room more }
@@ -20,12 +20,12 @@ pub returns-then-not-go_on-clause-answers : goal.returns-then-not-go_on-clause-a
 returns-then-not-go_on-clause-answers c =
     let e = c.go_on.ensures in let more = c.if-not-go_on.true in
     subst (λ (s : Stage). HasAdvanced c.args.events (known c.args.hand.now.seat) (known c.go_on.new.hand.seat) s None (stage.Writes c.go_on.new.process c.go_on.new.held)) (sym c.in-Writes.is)
-    (still_so c.args.events _ _ (proc.Write c.in-Writes.process.write) (stage.Writes c.in-Writes.process c.in-Writes.held) None (stage.Writes c.go_on.new.process c.go_on.new.held) refl (e.turns more) (e.since more) (e.work more).0)
+    (still_so c.args.events _ _ (proc.Write c.in-Writes.process) (stage.Writes c.in-Writes.process c.in-Writes.held) None (stage.Writes c.go_on.new.process c.go_on.new.held) refl (e.turns more) (e.since more) (e.work more).0)
 
 pub returns-else-not-go_on-clause-answers : goal.returns-else-not-go_on-clause-answers
 returns-else-not-go_on-clause-answers c =
     subst (λ (s : Stage). HasAdvanced c.args.events (known c.args.hand.now.seat) (known c.go_on.new.hand.seat) s c.answer-answer.result stage.Rests) (sym c.in-Writes.is)
-    (ended_so c.args.events _ _ (proc.Write c.in-Writes.process.write) (proc.Write c.go_on.new.process.write) (stage.Writes c.in-Writes.process c.in-Writes.held) c.answer-answer.result stage.Rests tt c.answer-answer.ensures refl (c.go_on.ensures.done c.if-not-go_on.false))
+    (ended_so c.args.events _ _ (proc.Write c.in-Writes.process) (proc.Write c.go_on.new.process) (stage.Writes c.in-Writes.process c.in-Writes.held) c.answer-answer.result stage.Rests tt c.answer-answer.ensures refl (c.go_on.ensures.done c.if-not-go_on.false))
 
 pub returns-then-not-go_on-2-clause-stands : goal.returns-then-not-go_on-2-clause-stands
 returns-then-not-go_on-2-clause-stands c =

@@ -5,8 +5,8 @@ use Rattle.bl_index_resume.proofs.sweeping.sweep.Goals as goal
 
 pub returns-clause-rests : goal.returns-clause-rests
 returns-clause-rests c =
-    let e = c.release.ensures in let was = c.requires in
-    let over : (known c.release.new.hand.seat).runs ≡ false = elim e.observed.2 [
+    let e = c.sweep.ensures in let was = c.requires in
+    let over : (known c.sweep.new.hand.seat).runs ≡ false = elim e.observed.2 [
       | inl is ↦ ap (λ (z : PassState). z.runs) is.0 ∙ was.rests.over
       | inr t ↦ t.runs
     ] in record {

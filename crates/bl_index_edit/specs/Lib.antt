@@ -1,0 +1,5 @@
+pub mod Posters
+pub mod Writers
+pub mod Events
+pub mod Halves
+pub mod Insertions
