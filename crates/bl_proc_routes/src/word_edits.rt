@@ -9,7 +9,7 @@ ghost use Rattle.bl_rearrange.specs.Entered.{entered, dropped, replaced};
 ghost use Rattle.bl_rearrange.specs.Rearranged.{pairs_of};
 ghost use Rattle.bl_proc_routes.specs.WordEdits.{words_by, IsShiftedUp, IsShiftedDown, HasValueAt};
 
-use bl_page::{LEVEL_UNIT, Words, place_in};
+use bl_page::{FIRST_KEY, FIRST_WORD, HEAD, KEY_BEFORE, LEVEL_UNIT, WORD_BEFORE, Words, place_in};
 
 /// Copies the words, with a pair at that place among the entries.
 #[inline(always)]
@@ -26,12 +26,12 @@ fn shifted_up<W: Words>(
     ensures same { hand.new ≡ hand.old }
     ensures shifted { IsShiftedUp place key word (W.shown source.now hand.old) words.new }
 {
-    for i in 0..4 + 2 * place {
+    for i in 0..FIRST_KEY + 2 * place {
         words[i] = bl_page::word(source, hand, i);
     }
-    words[4 + 2 * place] = key;
-    words[5 + 2 * place] = word;
-    for j in 4 + 2 * place..30 {
+    words[FIRST_KEY + 2 * place] = key;
+    words[FIRST_WORD + 2 * place] = word;
+    for j in FIRST_KEY + 2 * place..30 {
         words[j + 2] = bl_page::word(source, hand, j);
     }
 }
@@ -44,10 +44,10 @@ fn shifted_down<W: Words>(source: &W, hand: &mut W::Hand, place: usize, words: &
     ensures same { hand.new ≡ hand.old }
     ensures shifted { IsShiftedDown place (W.shown source.now hand.old) words.new }
 {
-    for i in 0..2 + 2 * place {
+    for i in 0..KEY_BEFORE + 2 * place {
         words[i] = bl_page::word(source, hand, i);
     }
-    for j in 2 + 2 * place..30 {
+    for j in KEY_BEFORE + 2 * place..30 {
         words[j] = bl_page::word(source, hand, j + 2);
     }
     words[30] = 0;
@@ -68,11 +68,11 @@ pub fn words_with<W: Words>(
     ensures same { hand.new ≡ hand.old }
     ensures words { (c : Page) → W.shown source.now hand.old ≡ words_of c → words.new ≡ words_by c (entered key word (pairs_of c)) }
 {
-    let head = bl_page::word(source, hand, 0);
+    let head = bl_page::word(source, hand, HEAD);
     let count = (head % LEVEL_UNIT) as usize;
     let place = place_in(source, hand, &mut 0, count, key);
     shifted_up(source, hand, place, key, word, words);
-    words[0] = head + 1;
+    words[HEAD] = head + 1;
 }
 
 /// The words of a leaf or an inner page without the pair of a key that it lists.
@@ -83,11 +83,11 @@ pub fn words_without<W: Words>(source: &W, hand: &mut W::Hand, key: u64, words: 
     ensures same { hand.new ≡ hand.old }
     ensures words { (c : Page) → W.shown source.now hand.old ≡ words_of c → words.new ≡ words_by c (dropped key (pairs_of c)) }
 {
-    let head = bl_page::word(source, hand, 0);
+    let head = bl_page::word(source, hand, HEAD);
     let count = (head % LEVEL_UNIT) as usize;
     let place = place_in(source, hand, &mut 0, count, key);
     shifted_down(source, hand, place, words);
-    words[0] = head - 1;
+    words[HEAD] = head - 1;
 }
 
 /// Copies the words, with that word in the pair before that place.
@@ -107,7 +107,7 @@ fn with_value_at<W: Words>(
     for i in 0..32 {
         words[i] = bl_page::word(source, hand, i);
     }
-    words[3 + 2 * place] = word;
+    words[WORD_BEFORE + 2 * place] = word;
 }
 
 /// The words of a leaf or an inner page with that value at a key that it lists.
@@ -124,7 +124,7 @@ pub fn words_with_value<W: Words>(
     ensures same { hand.new ≡ hand.old }
     ensures words { (c : Page) → W.shown source.now hand.old ≡ words_of c → words.new ≡ words_by c (replaced key value (pairs_of c)) }
 {
-    let head = bl_page::word(source, hand, 0);
+    let head = bl_page::word(source, hand, HEAD);
     let count = (head % LEVEL_UNIT) as usize;
     let place = place_in(source, hand, &mut 0, count, key);
     with_value_at(source, hand, place, value, words);

@@ -9,7 +9,10 @@ ghost use Rattle.bl_proc_routes.specs.Routes.{Leads};
 ghost use Rattle.bl_page.specs.Tops.{top_of};
 
 use crate::routes::Step;
-use bl_page::{KIND_UNIT, LEVEL_UNIT, Words, child_in, is_within, listed_in, word};
+use bl_page::{
+    HEAD, HIGH, KIND_UNIT, LEVEL_BEFORE, LEVEL_UNIT, LOW, RIGHT, Words, child_in, is_within,
+    listed_in, word,
+};
 
 /// Where a leaf or an inner page leads, whose word 0 is the head.
 #[inline(always)]
@@ -31,12 +34,12 @@ fn step_within<W: Words>(
     ensures leads { (c : Page) → IsTreePage c → W.shown source.now hand.old ≡ words_of c → Leads c key level result }
 {
     let own = (head / LEVEL_UNIT % LEVEL_UNIT) as u32;
-    let low = source.word(hand, used, 1);
-    let high = source.word(hand, used, 2);
+    let low = source.word(hand, used, LOW);
+    let high = source.word(hand, used, HIGH);
     if key < low {
         Step::Again
     } else if !is_within(low, high, key) {
-        Step::Right(source.word(hand, used, 3) as u32)
+        Step::Right(source.word(hand, used, RIGHT) as u32)
     } else if level < own {
         let count = (head % LEVEL_UNIT) as usize;
         Step::Down(child_in(source, hand, used, count, key))
@@ -64,12 +67,12 @@ pub fn step_in<W: Words>(
     ensures here { result ≡ onward.Here → used.new ≤ used.old + 3 }
     ensures leads { (c : Page) → W.shown source.now hand.old ≡ words_of c → Leads c key level result }
 {
-    let head = source.word(hand, used, 0);
+    let head = source.word(hand, used, HEAD);
     let kind = head / KIND_UNIT;
     if kind == 1 {
         Step::Again
     } else if kind == 4 {
-        let right = source.word(hand, used, 3) as u32;
+        let right = source.word(hand, used, RIGHT) as u32;
         if right == 0 {
             Step::Again
         } else {
@@ -101,9 +104,9 @@ pub fn top_in<W: Words>(source: &W, hand: &mut W::Hand) -> u32
     ensures same { hand.new ≡ hand.old }
     ensures top { (c : Page) → W.shown source.now hand.old ≡ words_of c → result ≡ top_of (roots_of c) }
 {
-    let head = word(source, hand, 0);
+    let head = word(source, hand, HEAD);
     if head / KIND_UNIT == 1 {
-        word(source, hand, 3 + (head % LEVEL_UNIT) as usize) as u32
+        word(source, hand, LEVEL_BEFORE + (head % LEVEL_UNIT) as usize) as u32
     } else {
         0
     }
@@ -117,7 +120,7 @@ pub fn levels_in<W: Words>(source: &W, hand: &mut W::Hand) -> u32
     ensures same { hand.new ≡ hand.old }
     ensures levels { (c : Page) → W.shown source.now hand.old ≡ words_of c → result ≡ (roots_of c).levels }
 {
-    let head = word(source, hand, 0);
+    let head = word(source, hand, HEAD);
     if head / KIND_UNIT == 1 {
         (head % LEVEL_UNIT) as u32
     } else {
@@ -133,5 +136,5 @@ pub fn level_in<W: Words>(source: &W, hand: &mut W::Hand) -> u32
     ensures same { hand.new ≡ hand.old }
     ensures level { (c : Page) → W.shown source.now hand.old ≡ words_of c → result ≡ (node_of c).shape.level }
 {
-    (word(source, hand, 0) / LEVEL_UNIT % LEVEL_UNIT) as u32
+    (word(source, hand, HEAD) / LEVEL_UNIT % LEVEL_UNIT) as u32
 }

@@ -8,7 +8,7 @@ ghost use Rattle.bl_answers.specs.Thin.{low_if_thin, thin_low, thin_hint};
 
 use bl_answers::{Hint, Level};
 use bl_model::limits::ENOUGH_PAIRS;
-use bl_page::{LEVEL_UNIT, Page};
+use bl_page::{HEAD, HIGH, LEVEL_UNIT, LOW, Page};
 
 /// The low of a page with so many pairs and these bounds, if it is thin.
 fn low_if_thin(pairs: usize, low: u64, high: u64) -> Option<u64>
@@ -36,8 +36,8 @@ pub fn thin_low(page: &Page) -> Option<u64>
 pub fn thin_in(words: &[u64; 32]) -> Option<u64>
     ensures { (c : Page) → IsTreePage c → words.now ≡ words_of c → result ≡ thin_low c }
 {
-    let count = (words[0] % LEVEL_UNIT) as usize;
-    low_if_thin(count, words[1], words[2])
+    let count = (words[HEAD] % LEVEL_UNIT) as usize;
+    low_if_thin(count, words[LOW], words[HIGH])
 }
 
 /// The hint that the page with that low is thin, for its parent of that level.
