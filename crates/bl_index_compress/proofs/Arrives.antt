@@ -15,7 +15,7 @@ use Rattle.bl_proc_compress.specs.declared.compress.CompressStage.TheVariants.{C
 use Rattle.bl_proc_compress.specs.Compresses.{CompressArrives, CompressGoes}
 use Rattle.bl_proc.specs.Processes.{Takes}
 use Rattle.bl_index_rule.specs.declared.known.PassState.{PassState}
-use Rattle.bl_index_ways.specs.Events.{HasGotAnchor, IsThere}
+use Rattle.bl_index_descend.specs.Events.{HasGotAnchor, IsThere}
 use Rattle.bl_index_compress.specs.declared.targets.CompressTarget.{CompressTarget}
 use Rattle.bl_index_compress.specs.CompressStands.{compress_of}
 use Rattle.bl_index_compress.proofs.CompressionCourses.{stage_course}

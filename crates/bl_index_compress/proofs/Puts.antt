@@ -28,7 +28,7 @@ use Rattle.bl_proc_compress.specs.Compressions.{put_of, other, merge_hint, Merge
 use Rattle.bl_proc_deterministic.proofs.Neighbours.{merged_some, buried_some, evened_some}
 use Rattle.bl_proc_deterministic.proofs.Pages.{without_some}
 use Rattle.bl_proc_deterministic.proofs.Relistings.{relist_some}
-use Rattle.bl_index_ways.proofs.Spreading.{spelled}
+use Rattle.bl_proc_deterministic.proofs.Spelling.{spelled}
 use Rattle.bl_index_compress.specs.declared.targets.CompressTarget.{CompressTarget}
 use Rattle.bl_index_compress.specs.declared.targets.Kin.{Kin}
 use Rattle.bl_index_compress.specs.declared.shares.Shares.{Shares}

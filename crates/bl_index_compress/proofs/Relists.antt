@@ -16,7 +16,7 @@ use Rattle.bl_proc_compress.specs.declared.compression.Family.{Family}
 use Rattle.bl_proc_compress.specs.Compressions.{Relists}
 use Rattle.bl_proc_deterministic.proofs.Pages.{fits_some, rising, without_some}
 use Rattle.bl_proc_deterministic.proofs.Relistings.{relist_one, relist_apart}
-use Rattle.bl_index_ways.proofs.Spreading.{spelled}
+use Rattle.bl_proc_deterministic.proofs.Spelling.{spelled}
 use Rattle.bl_index_compress.specs.Shares.{IsRelisted}
 use Rattle.bl_index_compress.proofs.Puts.{lists_key, without_words}
 

@@ -8,7 +8,7 @@ use Rattle.bl_proc_steps.specs.declared.approach.Came.TheVariants as descend
 use Rattle.bl_proc_steps.specs.Approaches.{Approaches}
 use Rattle.bl_proc_compress.specs.declared.compress.CompressStage.TheVariants as stages
 use Rattle.bl_proc_compress.specs.Compresses.{CompressGoes}
-use Rattle.bl_index_ways.specs.Ways.{IsToHold}
+use Rattle.bl_index_descend.specs.Ways.{IsToHold}
 
 pub nears : (level key : ℕ) (waits : Bool) (a b : Approach) (what : Seen) → IsToHold a → Approaches level key a what (came.On b)
     → CompressGoes level key waits (stages.Coming a) what (stages.Coming b)

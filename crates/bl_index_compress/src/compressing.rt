@@ -14,14 +14,14 @@ ghost use Rattle.bl_store.specs.Hands.{known, read_words, IsIdle, IsSameHand, Ha
 ghost use Rattle.bl_store.specs.Owners.{IsHandOf};
 ghost use Rattle.bl_index_rule.specs.declared.known.PassState.{PassState as Knows};
 ghost use Rattle.bl_index_events.specs.Runs.{Runs, Rests, IsOn, IsSince, IsSameProcess};
-ghost use Rattle.bl_index_ways.specs.Events.{HasGotAnchor, HoldsNone};
+ghost use Rattle.bl_index_descend.specs.Events.{HasGotAnchor, HoldsNone};
 ghost use Rattle.bl_index_compress.specs.CompressStands.{compress_of, HasCompressed, IsCompressOver};
 
 use crate::families::compress_there;
 use crate::targets::CompressTarget;
+use bl_index_descend::{Reached, begin_descent, reach};
 use bl_index_events::{FrameView, Tree};
 use bl_index_rule::PassState;
-use bl_index_ways::{Reached, begin_descent, reach};
 use bl_proc_routes::levels_in;
 use bl_proc_steps::{Approach, Hint, Squeezed};
 use bl_store::{Glance, Hand};

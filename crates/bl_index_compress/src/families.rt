@@ -11,7 +11,7 @@ ghost use Rattle.bl_proc_compress.specs.declared.compress.CompressStage.TheVaria
 ghost use Rattle.bl_proc_compress.specs.Compressions.{IsFamily, right_place};
 ghost use Rattle.bl_store.specs.Hands.{known, read_words, HasNoStock, ReadsFrom};
 ghost use Rattle.bl_index_events.specs.Runs.{Runs};
-ghost use Rattle.bl_index_ways.specs.Events.{IsThere};
+ghost use Rattle.bl_index_descend.specs.Events.{IsThere};
 ghost use Rattle.bl_index_compress.specs.CompressStands.{compress_of, LeavesParent};
 
 use crate::children::compress_two;

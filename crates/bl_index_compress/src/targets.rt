@@ -2,7 +2,7 @@
 
 ghost use Rattle.std.specs.Prelude.{◌<◌, ◌≤◌};
 
-use bl_index_ways::{Target, Unborn};
+use bl_index_descend::{Target, Unborn};
 use bl_proc_compress::Siblings;
 use bl_proc_routes::Step;
 

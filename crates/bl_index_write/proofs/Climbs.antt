@@ -51,13 +51,13 @@ use Rattle.bl_index_events.specs.Rooms.{LacksPost, LacksWrite}
 use Rattle.bl_index_events.specs.Runs.{IsDone, IsSameProcess, EndsAs}
 use Rattle.bl_index_events.proofs.Ends.{climb_over}
 use Rattle.bl_index_events.proofs.Rooms.{LacksClimb}
-use Rattle.bl_index_ways.specs.declared.writers.Left.{Left}
-use Rattle.bl_index_ways.specs.declared.writers.Left.TheVariants as left
+use Rattle.bl_index_edit.specs.declared.writers.Left.{Left}
+use Rattle.bl_index_edit.specs.declared.writers.Left.TheVariants as left
 use Rattle.bl_index_write.specs.declared.rising.Rising.{Rising}
 use Rattle.bl_index_write.specs.Climbing.{climbing, climb_unborn, climb_ending, climb_opened, climb_posted, climb_posting, first_post, next_post, rises, rose, IsClimbOver}
-use Rattle.bl_index_ways.specs.Events.{HoldsNone}
+use Rattle.bl_index_descend.specs.Events.{HoldsNone}
 use Rattle.bl_index_write.specs.Kinds.{IsClimbAnswer}
-use Rattle.bl_index_ways.specs.Writers.{left_reply}
+use Rattle.bl_index_edit.specs.Writers.{left_reply}
 use Rattle.bl_proc_writes.specs.declared.insert_post.Placing.{Placing}
 use Rattle.bl_proc_writes.specs.declared.insert_post.Placing.TheVariants as place
 use Rattle.bl_proc_writes.specs.Placings.{write_of}

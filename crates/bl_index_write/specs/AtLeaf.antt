@@ -3,8 +3,8 @@ use Rattle.bl_claims.specs.Trails.{Trail}
 use Rattle.bl_index_events.specs.Held.{proc_held, write_held}
 use Rattle.bl_index_write.specs.Climbing.{climb_coming, climb_opened, climb_staged, climb_unborn}
 use Rattle.bl_index_write.specs.Events.{writing}
-use Rattle.bl_index_ways.specs.Ways.{IsToHold}
-use Rattle.bl_index_ways.specs.Writers.{IsAtWork, IsWriter, left_by, left_reply}
+use Rattle.bl_index_descend.specs.Ways.{IsToHold}
+use Rattle.bl_index_edit.specs.Writers.{IsAtWork, IsWriter, left_by, left_reply}
 use Rattle.bl_model.specs.declared.deciding.KeyWrite.{KeyWrite}
 use Rattle.bl_proc_writes.specs.InsertPosts.{IsUnsplit}
 use Rattle.bl_proc_writes.specs.Paths.{Notes, IsBlank as IsBlankPath}

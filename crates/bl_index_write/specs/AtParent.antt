@@ -23,7 +23,7 @@ use Rattle.bl_proc_deterministic.proofs.Posts.{post_goes}
 use Rattle.bl_proc_deterministic.specs.Courses.{GoesOn}
 use Rattle.bl_index_write.specs.AtLeaf.{unnoted}
 use Rattle.bl_index_write.specs.Climbing.{climb_posting, climb_posted}
-use Rattle.bl_index_ways.specs.Posters.{IsAtParent, IsPoster, Opened, Staged}
+use Rattle.bl_index_edit.specs.Posters.{IsAtParent, IsPoster, Opened, Staged}
 use Rattle.bl_proc_writes.specs.declared.insert_post.Placing.{Placing}
 
 -- a post that has not ended has answered nothing

@@ -35,9 +35,9 @@ use Rattle.bl_index_rule.specs.declared.known.PassState.{PassState}
 use Rattle.bl_index_events.specs.Rooms.{LacksWrite, LacksPost}
 use Rattle.bl_index_events.specs.Runs.{IsDone, IsSince, Rests}
 use Rattle.bl_index_write.specs.declared.rising.Rising.{Rising}
-use Rattle.bl_index_ways.specs.declared.writers.Left.{Left}
-use Rattle.bl_index_ways.specs.declared.writers.Left.TheVariants.{Kept, Changed, Split, Refused}
-use Rattle.bl_index_ways.specs.Writers.{left_reply}
+use Rattle.bl_index_edit.specs.declared.writers.Left.{Left}
+use Rattle.bl_index_edit.specs.declared.writers.Left.TheVariants.{Kept, Changed, Split, Refused}
+use Rattle.bl_index_edit.specs.Writers.{left_reply}
 use Rattle.bl_proc_writes.specs.declared.insert_post.Placing.{Placing}
 use Rattle.bl_proc_writes.specs.Placings.{write_of}
 

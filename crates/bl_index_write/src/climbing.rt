@@ -19,19 +19,18 @@ ghost use Rattle.bl_store.specs.Owners.{IsHandOf};
 ghost use Rattle.bl_index_rule.specs.declared.known.PassState.{PassState as Knows};
 ghost use Rattle.bl_index_events.specs.Rooms.{LacksWrite, LacksPost};
 ghost use Rattle.bl_index_events.specs.Runs.{Runs, Rests, IsSince};
-ghost use Rattle.bl_index_ways.specs.declared.writers.Left.TheVariants as lefts;
+ghost use Rattle.bl_index_edit.specs.declared.writers.Left.TheVariants as lefts;
 ghost use Rattle.bl_index_write.specs.Climbing.{climb_opened, rises, rose, HasClimbed, IsClimbOver};
-ghost use Rattle.bl_index_ways.specs.Events.{HasGotAnchor};
+ghost use Rattle.bl_index_descend.specs.Events.{HasGotAnchor};
 ghost use Rattle.bl_index_write.specs.Kinds.{IsOfInsertion, IsClimbAnswer};
 
 use crate::posting::posted_by;
 use crate::rising::{Riser, Rising};
 use crate::writing::answer_of;
+use bl_index_descend::{Reached, Target, Unborn, begin_descent, descend, reach};
+use bl_index_edit::{Left, Writer, post_there, write_there};
 use bl_index_events::{FrameView, Tree};
 use bl_index_rule::PassState;
-use bl_index_ways::{
-    Left, Reached, Target, Unborn, Writer, begin_descent, descend, post_there, reach, write_there,
-};
 use bl_model::{KeyReply, KeyWrite, Reply};
 use bl_proc::{Answer, Hint, Posted, Process, Reader};
 use bl_proc_routes::Step;

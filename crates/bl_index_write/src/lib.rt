@@ -1,5 +1,5 @@
 //! Writers over the pages that threads share: writes of one key, those that post what they split, and posts. What they have in common
-//! is in `bl_index_ways`.
+//! is in `bl_index_edit`.
 //!
 //! Promised to the index: what each answers, with its hint, and that its process did what a process of its kind does. They go by their
 //! events and by the words of the pages, so that no page is made of words that are only looked at. Where a tree is to get one more level,

@@ -17,18 +17,17 @@ ghost use Rattle.bl_store.specs.Hands.{known, read_words, IsIdle, IsSameHand, Ha
 ghost use Rattle.bl_store.specs.Owners.{IsHandOf};
 ghost use Rattle.bl_index_rule.specs.declared.known.PassState.{PassState as Knows};
 ghost use Rattle.bl_index_events.specs.Runs.{Runs, Rests, IsSince, IsSameProcess};
-ghost use Rattle.bl_index_ways.specs.Events.{HasGotAnchor, IsThere};
+ghost use Rattle.bl_index_descend.specs.Events.{HasGotAnchor, IsThere};
 ghost use Rattle.bl_index_write.specs.Events.{posting, HasPosted, IsPostOver, IsPostUnderway, IsPostAnswer};
 ghost use Rattle.bl_index_events.specs.Rooms.{LacksPost};
 ghost use Rattle.bl_proc_steps.specs.declared.answers.Posted.TheVariants as postings;
 ghost use Rattle.bl_proc_writes.specs.declared.post.PostReply.TheVariants as replies;
 
 use crate::targets::Posting;
+use bl_index_descend::{Neared, Reached, begin_descent, reach, reach_within};
+use bl_index_edit::{post_there, post_there_within};
 use bl_index_events::{FrameView, Tree};
 use bl_index_rule::PassState;
-use bl_index_ways::{
-    Neared, Reached, begin_descent, post_there, post_there_within, reach, reach_within,
-};
 use bl_proc::{Answer, Hint, Posted, Process, Reader};
 use bl_proc_steps::{Approach, Level};
 use bl_proc_writes::{Post, PostReply, PostStage, Walk};

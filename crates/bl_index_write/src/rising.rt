@@ -2,7 +2,8 @@
 
 ghost use Rattle.std.specs.Prelude.{◌<◌, ◌≤◌};
 
-use bl_index_ways::{Poster, Target};
+use bl_index_descend::Target;
+use bl_index_edit::Poster;
 use bl_proc_routes::Step;
 use bl_proc_writes::{Path, Placing};
 
@@ -32,7 +33,7 @@ impl Target for Rising {
     ghost use Rattle.bl_proc_deterministic.proofs.Climbs.{climb_goes};
     ghost use Rattle.bl_index_write.specs.AtLeaf.{unnoted};
     ghost use Rattle.bl_index_write.specs.Climbing.{rises};
-    ghost use Rattle.bl_index_ways.specs.Ways.{nears, past_held};
+    ghost use Rattle.bl_index_edit.proofs.Nearing.{nears, past_held};
 
     type Path = Path;
 

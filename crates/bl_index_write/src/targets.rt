@@ -2,7 +2,8 @@
 
 ghost use Rattle.std.specs.Prelude.{◌<◌, ◌≤◌};
 
-use bl_index_ways::{Poster, Target, Unborn, Writer};
+use bl_index_descend::{Target, Unborn};
+use bl_index_edit::{Poster, Writer};
 use bl_model::KeyWrite;
 use bl_proc_routes::Step;
 
@@ -93,7 +94,7 @@ impl Target for Posting {
     ghost use Rattle.bl_proc_steps.specs.declared.approach.Approach.TheVariants as approach;
     ghost use Rattle.bl_proc_steps.specs.declared.approach.Came.TheVariants as descend;
     ghost use Rattle.bl_proc_deterministic.proofs.Posts.{post_goes};
-    ghost use Rattle.bl_index_ways.specs.Ways.{nears, past_held};
+    ghost use Rattle.bl_index_edit.proofs.Nearing.{nears, past_held};
 
     type Path = ();
 
@@ -158,7 +159,7 @@ impl Unborn for Posting {
 impl Writer for Writing {
     ghost use Rattle.bl_proc_writes.specs.declared.writing.WriteStage.TheVariants as stages;
     ghost use Rattle.bl_index_write.specs.Events.{writing};
-    ghost use Rattle.bl_index_ways.specs.Writers.{left_reply};
+    ghost use Rattle.bl_index_edit.specs.Writers.{left_reply};
     ghost use Rattle.bl_index_write.specs.AtLeaf.{writes_alone};
 
     ghost key_of = { λ w. w.key };

@@ -13,13 +13,14 @@ ghost use Rattle.bl_store.specs.Owners.{IsHandOf};
 ghost use Rattle.bl_index_rule.specs.declared.known.PassState.{PassState as Knows};
 ghost use Rattle.bl_index_events.specs.Rooms.{LacksWrite};
 ghost use Rattle.bl_index_events.specs.Runs.{Runs, Rests, IsSince};
-ghost use Rattle.bl_index_ways.specs.Events.{IsThere, HoldsNone};
+ghost use Rattle.bl_index_descend.specs.Events.{IsThere, HoldsNone};
 ghost use Rattle.bl_index_write.specs.Events.{writing, HasWritten};
 
 use crate::targets::Writing;
+use bl_index_descend::{begin_descent, descend, descend_within};
+use bl_index_edit::write_there;
 use bl_index_events::Tree;
 use bl_index_rule::PassState;
-use bl_index_ways::{begin_descent, descend, descend_within, write_there};
 use bl_model::{KeyReply, KeyWrite, decide};
 use bl_proc::Hint;
 use bl_proc_steps::Approach;

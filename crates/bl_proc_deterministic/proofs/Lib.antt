@@ -7,6 +7,7 @@ pub mod Searches
 pub mod Rows
 pub mod Listings
 pub mod Pages
+pub mod Spelling
 pub mod Ways
 pub mod Edits
 pub mod Growths

@@ -9,7 +9,7 @@ use Rattle.bl_store.specs.Hands.{known, read_words, HasNoStock, ReadsFrom}
 use Rattle.bl_index_rule.specs.declared.known.PassState.{PassState}
 use Rattle.bl_index_events.specs.declared.tree.Tree.{Tree}
 use Rattle.bl_index_events.specs.Runs.{Runs}
-use Rattle.bl_index_ways.specs.Events.{IsThere}
+use Rattle.bl_index_descend.specs.Events.{IsThere}
 use Rattle.bl_index_write.specs.Events.{writing}
 
 -- The hand runs a deletion of that key, which holds page at and got it last, as its leaf.

@@ -1,7 +1,7 @@
 use Rattle.bl_proc_compress.specs.declared.compress.CompressStage.TheVariants as stages
 use Rattle.bl_store.specs.Hands.{known, IsSameHand, HasNoStock}
 use Rattle.bl_index_events.specs.Runs.{Runs, IsSameProcess}
-use Rattle.bl_index_ways.specs.Events.{HoldsNone}
+use Rattle.bl_index_descend.specs.Events.{HoldsNone}
 use Rattle.bl_index_compress.specs.CompressStands.{compress_of}
 use Rattle.bl_index_compress.proofs.compressing.compress_until.Given as goal
 

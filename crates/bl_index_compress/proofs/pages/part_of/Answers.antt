@@ -5,7 +5,7 @@ use Rattle.bl_page.proofs.Once.{once}
 use Rattle.bl_rearrange.specs.Rearranged.{pairs_of}
 use Rattle.bl_rearrange.specs.Neighbours.{together}
 use Rattle.std.proofs.lemmas.List.{length-append}
-use Rattle.bl_index_ways.proofs.Splits.{blank, laid}
+use Rattle.bl_proc_deterministic.proofs.Spelling.{blank, laid}
 use Rattle.bl_index_compress.proofs.Parted.{entry_within, entries_long}
 use Rattle.bl_index_compress.proofs.pages.part_of.Goals as goal
 

@@ -5,9 +5,9 @@ use Rattle.bl_proc_steps.specs.declared.approach.Approach.{Approach}
 use Rattle.bl_store.specs.Hands.{known}
 use Rattle.bl_index_events.specs.Runs.{Runs}
 use Rattle.bl_index_events.proofs.Standing.{none_of, same_all}
-use Rattle.bl_index_ways.specs.Events.{HoldsNone}
+use Rattle.bl_index_descend.specs.Events.{HoldsNone}
 use Rattle.bl_index_write.proofs.Climbs.{climb_since, from_free, goes_above, goes_with, posting_alike}
-use Rattle.bl_index_ways.proofs.Walked.{leaves_again, leaves_opened}
+use Rattle.bl_index_edit.proofs.Walked.{leaves_again, leaves_opened}
 use Rattle.bl_index_write.proofs.climbing.climb.Goals as goal
 
 pub loop-init : goal.loop-init

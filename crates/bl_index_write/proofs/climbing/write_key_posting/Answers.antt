@@ -7,9 +7,9 @@ use Rattle.bl_proc_writes.specs.Writes.{write_answer}
 use Rattle.bl_proc_deterministic.specs.Frames.{op_of, work_of}
 use Rattle.bl_index_events.proofs.Standing.{on_itself}
 use Rattle.bl_index_write.specs.Climbing.{climb_unborn}
-use Rattle.bl_index_ways.specs.Writers.{left_reply}
+use Rattle.bl_index_edit.specs.Writers.{left_reply}
 use Rattle.bl_index_write.proofs.Climbs.{unborn_blank, ends_unsplit, unsplit_opened, unsplit_answer}
-use Rattle.bl_index_ways.proofs.Written.{refused_reply, lacks_same}
+use Rattle.bl_index_edit.proofs.Written.{refused_reply, lacks_same}
 use Rattle.bl_index_write.proofs.climbing.write_key_posting.Goals as goal
 use Rattle.bl_proc_writes.specs.Placings.{write_of}
 

@@ -3,7 +3,7 @@ use Rattle.bl_proc_writes.specs.declared.post.PostStage.TheVariants as post
 use Rattle.bl_proc_deterministic.specs.Frames.{op_of, work_of}
 use Rattle.bl_index_events.proofs.Standing.{on_itself}
 use Rattle.bl_index_write.specs.Events.{posting}
-use Rattle.bl_index_ways.proofs.Walked.{lacks_post_same}
+use Rattle.bl_index_edit.proofs.Walked.{lacks_post_same}
 use Rattle.bl_index_write.proofs.PostEnds.{ends_post}
 use Rattle.bl_index_write.proofs.posting.end_post.Goals as goal
 

@@ -1,7 +1,7 @@
 use Rattle.std.proofs.Common.{Some, ◌∙◌}
 use Rattle.bl_proc_steps.specs.declared.approach.Approach.TheVariants as approach
 use Rattle.bl_store.specs.Hands.{known}
-use Rattle.bl_index_ways.proofs.Walked.{leaves_again, leaves_opened}
+use Rattle.bl_index_edit.proofs.Walked.{leaves_again, leaves_opened}
 use Rattle.bl_index_write.proofs.PostEnds.{over_since}
 use Rattle.bl_index_write.proofs.Underway.{underway_on_walk, underway_on_way}
 use Rattle.bl_index_write.proofs.posting.post_at.Goals as goal

@@ -1,7 +1,7 @@
 use Rattle.std.proofs.Common.{rules, Some, ◌∙◌}
 use Rattle.bl_store.specs.Hands.{known}
 use Rattle.bl_index_events.proofs.Standing.{none_of, same_all}
-use Rattle.bl_index_ways.proofs.Walked.{leaves_again, leaves_opened}
+use Rattle.bl_index_edit.proofs.Walked.{leaves_again, leaves_opened}
 use Rattle.bl_index_write.proofs.PostEnds.{over_since}
 use Rattle.bl_index_write.proofs.posting.post_until.Goals as goal
 

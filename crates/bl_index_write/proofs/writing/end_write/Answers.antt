@@ -3,8 +3,8 @@ use Rattle.bl_proc_writes.specs.declared.writing.WriteStage.TheVariants as write
 use Rattle.bl_proc_writes.specs.Writes.{write_answer}
 use Rattle.bl_proc_deterministic.specs.Frames.{op_of, work_of}
 use Rattle.bl_index_write.specs.Events.{writing}
-use Rattle.bl_index_ways.specs.Writers.{left_reply}
-use Rattle.bl_index_ways.proofs.Written.{refused_reply, lacks_same}
+use Rattle.bl_index_edit.specs.Writers.{left_reply}
+use Rattle.bl_index_edit.proofs.Written.{refused_reply, lacks_same}
 use Rattle.bl_index_write.proofs.Alone.{ends_alone}
 use Rattle.bl_index_events.proofs.Standing.{on_itself}
 use Rattle.bl_index_write.proofs.writing.end_write.Goals as goal

@@ -1,0 +1,6 @@
+pub mod Written
+pub mod Nearing
+pub mod Spreading
+pub mod Splits
+pub mod Walked
+pub mod HandedOver

@@ -1,0 +1,4 @@
+pub mod Posters
+pub mod Writers
+pub mod Events
+pub mod Halves

@@ -1,5 +1,0 @@
-pub mod Written
-pub mod Spreading
-pub mod Splits
-pub mod Walked
-pub mod HandedOver

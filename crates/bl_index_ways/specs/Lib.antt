@@ -1,5 +1,0 @@
-pub mod Posters
-pub mod Ways
-pub mod Writers
-pub mod Events
-pub mod Halves
