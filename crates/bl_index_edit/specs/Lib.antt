@@ -2,3 +2,4 @@ pub mod Posters
 pub mod Writers
 pub mod Events
 pub mod Halves
+pub mod Insertions

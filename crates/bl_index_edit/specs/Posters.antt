@@ -7,6 +7,7 @@ use Rattle.bl_proc_steps.specs.declared.edit.Edit.TheVariants as edit
 use Rattle.bl_proc_steps.specs.declared.edit.Outcome.{Outcome}
 use Rattle.bl_proc_steps.specs.Given.{Gives}
 use Rattle.bl_proc.specs.declared.kinds.Proc.{Proc}
+use Rattle.bl_proc.specs.declared.kinds.Proc.TheVariants as proc
 use Rattle.bl_proc_writes.specs.declared.post.PostReply.{PostReply}
 use Rattle.bl_proc_writes.specs.declared.post.PostStage.{PostStage}
 use Rattle.bl_proc_writes.specs.declared.post.PostStage.TheVariants.{New, Coming, Growing, Walking, Editing, Staying, Ending, Over}
@@ -25,6 +26,13 @@ Staged level = (s : PostStage) → IsBelowTop level s → IsPosting s → Proc
 -- the process that has opened its parent, by what the post replies
 abbrev pub Opened : ℕ → Type 0
 Opened level = (r : PostReply) → MayReply level r → Proc
+
+-- a post that has come so far, and one that has opened its parent
+abbrev pub alone : (level key : ℕ) → 0 < level → level ≤ 12 → Staged level
+alone level key least most s b i = proc.Post (record { level = level; key = key; stage = s; least = least; most = most; below = b })
+
+abbrev pub alone_opened : (level key : ℕ) → 0 < level → level ≤ 12 → Opened level
+alone_opened level key least most r may = proc.Post (record { level = level; key = key; stage = Ending r; least = least; most = most; below = may })
 
 -- it is to latch its parent, or holds it
 abbrev pub IsAtParent : PostStage → Type 0

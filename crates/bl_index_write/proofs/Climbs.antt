@@ -54,7 +54,8 @@ use Rattle.bl_index_events.proofs.Rooms.{LacksClimb}
 use Rattle.bl_index_edit.specs.declared.writers.Left.{Left}
 use Rattle.bl_index_edit.specs.declared.writers.Left.TheVariants as left
 use Rattle.bl_index_write.specs.declared.rising.Rising.{Rising}
-use Rattle.bl_index_write.specs.Climbing.{climbing, climb_unborn, climb_ending, climb_opened, climb_posted, climb_posting, first_post, next_post, rises, rose, IsClimbOver}
+use Rattle.bl_index_edit.specs.Insertions.{climbing, climb_unborn, climb_ending, climb_opened, climb_posted, climb_posting, first_post, next_post}
+use Rattle.bl_index_write.specs.Climbing.{rises, rose, IsClimbOver}
 use Rattle.bl_index_descend.specs.Events.{HoldsNone}
 use Rattle.bl_index_write.specs.Kinds.{IsClimbAnswer}
 use Rattle.bl_index_edit.specs.Writers.{left_reply}

@@ -20,7 +20,8 @@ ghost use Rattle.bl_index_rule.specs.declared.known.PassState.{PassState as Know
 ghost use Rattle.bl_index_events.specs.Rooms.{LacksWrite, LacksPost};
 ghost use Rattle.bl_index_events.specs.Runs.{Runs, Rests, IsSince};
 ghost use Rattle.bl_index_edit.specs.declared.writers.Left.TheVariants as lefts;
-ghost use Rattle.bl_index_write.specs.Climbing.{climb_opened, rises, rose, HasClimbed, IsClimbOver};
+ghost use Rattle.bl_index_edit.specs.Insertions.{climb_opened};
+ghost use Rattle.bl_index_write.specs.Climbing.{rises, rose, HasClimbed, IsClimbOver};
 ghost use Rattle.bl_index_descend.specs.Events.{HasGotAnchor};
 ghost use Rattle.bl_index_write.specs.Kinds.{IsOfInsertion, IsClimbAnswer};
 
@@ -53,8 +54,8 @@ impl Target for Climbing {
     ghost use Rattle.bl_proc_writes.specs.Paths.{NotesBy};
     ghost use Rattle.bl_proc_writes.specs.Placings.{write_of};
     ghost use Rattle.bl_proc_deterministic.proofs.Climbs.{climb_goes};
-    ghost use Rattle.bl_index_write.specs.Climbing.{climb_coming};
-    ghost use Rattle.bl_index_write.specs.AtLeaf.{unnoted};
+    ghost use Rattle.bl_index_edit.specs.Insertions.{climb_coming};
+    ghost use Rattle.bl_index_edit.proofs.AtLeaf.{unnoted};
 
     type Path = Path;
 
@@ -114,8 +115,8 @@ pub(crate) struct Unnoted {
 
 impl Unborn for Unnoted {
     ghost use Rattle.std.specs.Prelude.{refl};
-    ghost use Rattle.bl_index_write.specs.Climbing.{climb_unborn, climb_coming};
-    ghost use Rattle.bl_index_write.specs.AtLeaf.{unborn_goes, unborn_starts};
+    ghost use Rattle.bl_index_edit.specs.Insertions.{climb_unborn, climb_coming};
+    ghost use Rattle.bl_index_edit.proofs.AtLeaf.{unborn_goes, unborn_starts};
 
     ghost unborn = { λ j. climb_unborn j.key j.placing j.path j.blank };
 
@@ -138,8 +139,8 @@ pub(crate) struct Climber {
 
 impl Writer for Climber {
     ghost use Rattle.bl_proc_writes.specs.Placings.{write_of as placed};
-    ghost use Rattle.bl_index_write.specs.Climbing.{climb_staged, climb_opened};
-    ghost use Rattle.bl_index_write.specs.AtLeaf.{writes_climbing};
+    ghost use Rattle.bl_index_edit.specs.Insertions.{climb_staged, climb_opened};
+    ghost use Rattle.bl_index_edit.proofs.AtLeaf.{writes_climbing};
 
     ghost key_of = { λ w. w.key };
 

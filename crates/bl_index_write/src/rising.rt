@@ -31,7 +31,7 @@ impl Target for Rising {
     ghost use Rattle.bl_proc_steps.specs.declared.approach.Approach.TheVariants as approach;
     ghost use Rattle.bl_proc_steps.specs.declared.approach.Came.TheVariants as descend;
     ghost use Rattle.bl_proc_deterministic.proofs.Climbs.{climb_goes};
-    ghost use Rattle.bl_index_write.specs.AtLeaf.{unnoted};
+    ghost use Rattle.bl_index_edit.proofs.AtLeaf.{unnoted};
     ghost use Rattle.bl_index_write.specs.Climbing.{rises};
     ghost use Rattle.bl_index_edit.proofs.Nearing.{nears, past_held};
 
@@ -100,7 +100,7 @@ pub(crate) struct Riser<'a> {
 }
 
 impl<'a> Poster for Riser<'a> {
-    ghost use Rattle.bl_index_write.specs.AtParent.{posts_rising};
+    ghost use Rattle.bl_index_edit.proofs.AtParent.{posts_rising};
     ghost use Rattle.bl_index_write.specs.Climbing.{rises, rose};
 
     ghost level_of = { λ p. p.rising.now.level };

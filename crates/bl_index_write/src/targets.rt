@@ -160,7 +160,7 @@ impl Writer for Writing {
     ghost use Rattle.bl_proc_writes.specs.declared.writing.WriteStage.TheVariants as stages;
     ghost use Rattle.bl_index_write.specs.Events.{writing};
     ghost use Rattle.bl_index_edit.specs.Writers.{left_reply};
-    ghost use Rattle.bl_index_write.specs.AtLeaf.{writes_alone};
+    ghost use Rattle.bl_index_edit.proofs.AtLeaf.{writes_alone};
 
     ghost key_of = { λ w. w.key };
 
@@ -184,7 +184,8 @@ impl Writer for Writing {
 }
 
 impl Poster for Posting {
-    ghost use Rattle.bl_index_write.specs.AtParent.{alone, alone_opened, posts_alone};
+    ghost use Rattle.bl_index_edit.specs.Posters.{alone, alone_opened};
+    ghost use Rattle.bl_index_edit.proofs.AtParent.{posts_alone};
 
     ghost level_of = { λ p. p.level };
 

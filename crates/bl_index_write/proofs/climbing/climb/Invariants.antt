@@ -2,7 +2,7 @@ use Rattle.std.proofs.Common.{◌<◌, ◌≤◌}
 use Rattle.bl_proc_writes.specs.declared.post.PostStage.TheVariants as post
 use Rattle.bl_store.specs.Hands.{known, IsSameHand, HasNoStock}
 use Rattle.bl_index_events.specs.Runs.{Runs, IsSameProcess}
-use Rattle.bl_index_write.specs.Climbing.{climb_posting}
+use Rattle.bl_index_edit.specs.Insertions.{climb_posting}
 use Rattle.bl_index_descend.specs.Events.{HoldsNone}
 use Rattle.bl_index_write.proofs.climbing.climb.Given as goal
 

@@ -5,7 +5,7 @@ use Rattle.bl_proc_writes.specs.declared.insert_post.Climbed.TheVariants as clim
 use Rattle.bl_proc_writes.specs.declared.insert_post.ClimbStage.TheVariants as climb
 use Rattle.bl_proc_deterministic.specs.Frames.{op_of, work_of}
 use Rattle.bl_index_events.proofs.Standing.{on_itself}
-use Rattle.bl_index_write.specs.Climbing.{climbing}
+use Rattle.bl_index_edit.specs.Insertions.{climbing}
 use Rattle.bl_index_write.proofs.Climbs.{rose_last, ends_climb, post_left, refused_post}
 use Rattle.bl_index_edit.proofs.Walked.{lacks_post_same}
 use Rattle.bl_index_write.proofs.climbing.end_climb.Goals as goal

@@ -6,7 +6,7 @@ use Rattle.bl_proc_writes.specs.declared.insert_post.ClimbStage.TheVariants as c
 use Rattle.bl_proc_writes.specs.Writes.{write_answer}
 use Rattle.bl_proc_deterministic.specs.Frames.{op_of, work_of}
 use Rattle.bl_index_events.proofs.Standing.{on_itself}
-use Rattle.bl_index_write.specs.Climbing.{climb_unborn}
+use Rattle.bl_index_edit.specs.Insertions.{climb_unborn}
 use Rattle.bl_index_edit.specs.Writers.{left_reply}
 use Rattle.bl_index_write.proofs.Climbs.{unborn_blank, ends_unsplit, unsplit_opened, unsplit_answer}
 use Rattle.bl_index_edit.proofs.Written.{refused_reply, lacks_same}

@@ -12,7 +12,6 @@ use Rattle.bl_proc_writes.specs.Posts.{post_answer_in, post_next_in, post_needs_
 use Rattle.bl_proc.specs.Processes.{Takes}
 use Rattle.bl_proc_writes.specs.Stands.{IsPosting}
 use Rattle.bl_proc_writes.specs.declared.insert_post.ClimbStage.TheVariants as climb
-use Rattle.bl_proc.specs.declared.kinds.Proc.TheVariants as proc
 use Rattle.bl_proc_writes.specs.declared.paths.Path.{Path}
 use Rattle.bl_proc_writes.specs.declared.post.PostReply.{PostReply}
 use Rattle.bl_proc_writes.specs.declared.post.PostReply.TheVariants as reply
@@ -21,9 +20,9 @@ use Rattle.bl_proc_writes.specs.declared.post.PostStage.TheVariants as post
 use Rattle.bl_proc_deterministic.proofs.Climbs.{climb_goes}
 use Rattle.bl_proc_deterministic.proofs.Posts.{post_goes}
 use Rattle.bl_proc_deterministic.specs.Courses.{GoesOn}
-use Rattle.bl_index_write.specs.AtLeaf.{unnoted}
-use Rattle.bl_index_write.specs.Climbing.{climb_posting, climb_posted}
-use Rattle.bl_index_edit.specs.Posters.{IsAtParent, IsPoster, Opened, Staged}
+use Rattle.bl_index_edit.proofs.AtLeaf.{unnoted}
+use Rattle.bl_index_edit.specs.Insertions.{climb_posting, climb_posted}
+use Rattle.bl_index_edit.specs.Posters.{IsAtParent, IsPoster, Opened, Staged, alone, alone_opened}
 use Rattle.bl_proc_writes.specs.declared.insert_post.Placing.{Placing}
 
 -- a post that has not ended has answered nothing
@@ -38,13 +37,7 @@ unanswered level (post.Ending r) i = absurd i
 unanswered level (post.Over r) i = absurd i
 
 module _ (level key : ℕ) (least : 0 < level) (most : level ≤ 12) where
-  abbrev pub alone : Staged level
-  alone s b i = proc.Post (record { level = level; key = key; stage = s; least = least; most = most; below = b })
-
-  abbrev pub alone_opened : Opened level
-  alone_opened r may = proc.Post (record { level = level; key = key; stage = post.Ending r; least = least; most = most; below = may })
-
-  pub posts_alone : IsPoster level key alone alone_opened
+  pub posts_alone : IsPoster level key (alone level key least most) (alone_opened level key least most)
   posts_alone = record {
     least = least;
     most = most;

@@ -1,8 +1,7 @@
 -- How a write, and one that posts, stand and go on at their leaves, for the laws of `Writer` and `Target`.
 use Rattle.bl_claims.specs.Trails.{Trail}
 use Rattle.bl_index_events.specs.Held.{proc_held, write_held}
-use Rattle.bl_index_write.specs.Climbing.{climb_coming, climb_opened, climb_staged, climb_unborn}
-use Rattle.bl_index_write.specs.Events.{writing}
+use Rattle.bl_index_edit.specs.Insertions.{climb_coming, climb_opened, climb_staged, climb_unborn}
 use Rattle.bl_index_descend.specs.Ways.{IsToHold}
 use Rattle.bl_index_edit.specs.Writers.{IsAtWork, IsWriter, left_by, left_reply}
 use Rattle.bl_model.specs.declared.deciding.KeyWrite.{KeyWrite}
@@ -11,6 +10,7 @@ use Rattle.bl_proc_writes.specs.Paths.{Notes, IsBlank as IsBlankPath}
 use Rattle.bl_proc.specs.Processes.{Takes, next_of}
 use Rattle.bl_proc_writes.specs.Writes.{WriteGoes, write_needs_in, write_next_in, write_reply}
 use Rattle.bl_proc.specs.declared.kinds.Proc.{Proc}
+use Rattle.bl_proc.specs.declared.kinds.Proc.TheVariants as proc
 use Rattle.bl_proc_writes.specs.declared.paths.Path.{Path}
 use Rattle.bl_proc_writes.specs.declared.writing.Noted.{Noted}
 use Rattle.bl_proc_writes.specs.declared.writing.WriteStage.{WriteStage}
@@ -38,6 +38,10 @@ pub reply_left : (noted : Noted) (o : Outcome) → left_reply (left_by noted o) 
 reply_left noted outcome.Edited = refl
 reply_left noted (outcome.SplitAt separator) = refl
 reply_left noted outcome.Refused = refl
+
+-- a write of that key that has come so far
+abbrev writing : ℕ → KeyWrite → WriteStage → Proc
+writing key does stage = proc.Write (record { key = key; write = does; stage = stage })
 
 alone_goes : (key : ℕ) (does : KeyWrite) (s : WriteStage) (what : Seen) → IsAtWork s → Gives (write_next_in s) (write_needs_in s) what → GoesOn (writing key does s) what
 alone_goes key does (write.Coming a) what at given = write_goes (record { key = key; write = does; stage = write.Coming a }) what refl given
