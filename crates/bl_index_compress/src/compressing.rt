@@ -19,9 +19,9 @@ ghost use Rattle.bl_index_compress.specs.CompressStands.{compress_of, HasCompres
 
 use crate::families::compress_there;
 use crate::targets::CompressTarget;
+use bl_index_descend::{Reached, begin_descent, reach};
 use bl_index_events::{FrameView, Tree};
 use bl_index_rule::PassState;
-use bl_index_descend::{Reached, begin_descent, reach};
 use bl_proc_routes::levels_in;
 use bl_proc_steps::{Approach, Hint, Squeezed};
 use bl_store::{Glance, Hand};

@@ -24,10 +24,10 @@ ghost use Rattle.bl_answers.specs.declared.answers.Posted.TheVariants as posting
 ghost use Rattle.bl_proc_writes.specs.declared.post.PostReply.TheVariants as replies;
 
 use crate::targets::Posting;
-use bl_index_events::{FrameView, Tree};
-use bl_index_rule::PassState;
 use bl_index_descend::{Neared, Reached, begin_descent, reach, reach_within};
 use bl_index_edit::{post_there, post_there_within};
+use bl_index_events::{FrameView, Tree};
+use bl_index_rule::PassState;
 use bl_proc::{Answer, Hint, Posted, Process, Reader};
 use bl_proc_steps::{Approach, Level};
 use bl_proc_writes::{Post, PostReply, PostStage, Walk};

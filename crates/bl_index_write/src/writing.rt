@@ -17,10 +17,10 @@ ghost use Rattle.bl_index_descend.specs.Events.{IsThere, HoldsNone};
 ghost use Rattle.bl_index_write.specs.Events.{writing, HasWritten};
 
 use crate::targets::Writing;
-use bl_index_events::Tree;
-use bl_index_rule::PassState;
 use bl_index_descend::{begin_descent, descend, descend_within};
 use bl_index_edit::write_there;
+use bl_index_events::Tree;
+use bl_index_rule::PassState;
 use bl_model::{KeyReply, KeyWrite, decide};
 use bl_proc::Hint;
 use bl_proc_steps::Approach;
