@@ -22,7 +22,7 @@ use crate::targets::{CompressTarget, Kin};
 use bl_index_events::Tree;
 use bl_index_rule::PassState;
 use bl_model::limits::{ENOUGH_PAIRS, MOST_PAIRS};
-use bl_page::LEVEL_UNIT;
+use bl_page::{HEAD, HIGH, LEVEL_UNIT, RIGHT};
 use bl_proc_compress::{Decision, Siblings};
 use bl_proc_routes::words_without;
 use bl_proc_steps::{Hint, Level, Squeezed};
@@ -216,8 +216,8 @@ fn decide(
     if !neighbours_in(left, &right) {
         return open_right(tree, hand, target, kin, Decision::Lost);
     }
-    let left_count = (left[0] % LEVEL_UNIT) as usize;
-    let right_count = (right[0] % LEVEL_UNIT) as usize;
+    let left_count = (left[HEAD] % LEVEL_UNIT) as usize;
+    let right_count = (right[HEAD] % LEVEL_UNIT) as usize;
     if left_count + right_count <= MOST_PAIRS {
         merge(tree, hand, target, kin, parent, left, &right)
     } else if is_either_few(left_count, right_count) {
@@ -243,10 +243,10 @@ fn latch_and_compress<R: Wait>(
 {
     latch(tree, rt, hand, kin.at.left);
     let left = words_at(tree, hand, kin.at.left);
-    if left[3] != kin.at.right as u64 {
+    if left[RIGHT] != kin.at.right as u64 {
         let hint = Hint::Post {
             level: Level::new(target.level),
-            key: left[2],
+            key: left[HIGH],
         };
         return Decision::Unposted(hint);
     }

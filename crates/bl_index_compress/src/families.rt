@@ -18,7 +18,7 @@ use crate::children::compress_two;
 use crate::targets::{CompressTarget, Kin};
 use bl_index_events::{FrameView, Tree};
 use bl_index_rule::PassState;
-use bl_page::{LEVEL_UNIT, place_in, words_from};
+use bl_page::{FIRST_KEY, FIRST_WORD, HEAD, LEVEL_UNIT, WORD_BEFORE, place_in, words_from};
 use bl_proc_compress::Siblings;
 use bl_proc_steps::{Hint, Squeezed};
 use bl_store::{Glance, Hand};
@@ -31,7 +31,7 @@ fn right_place_in(parent: &[u64; 32], key: u64) -> usize
     ensures some { 0 < result }
     ensures most { result < 14 }
 {
-    let count = (parent[0] % LEVEL_UNIT) as usize;
+    let count = (parent[HEAD] % LEVEL_UNIT) as usize;
     let place = place_in(parent, &mut (), &mut 0, count, key);
     if place < count { place } else { place - 1 }
 }
@@ -44,12 +44,12 @@ fn siblings_in(parent: &[u64; 32], at: u32, key: u64) -> Kin
     let place = right_place_in(parent, key);
     let siblings = Siblings {
         parent: at,
-        left: parent[3 + 2 * place] as u32,
-        right: parent[5 + 2 * place] as u32,
+        left: parent[WORD_BEFORE + 2 * place] as u32,
+        right: parent[FIRST_WORD + 2 * place] as u32,
     };
     Kin {
         at: siblings,
-        key: parent[4 + 2 * place],
+        key: parent[FIRST_KEY + 2 * place],
     }
 }
 
@@ -73,7 +73,7 @@ pub(crate) fn compress_there<R: Wait>(
         glance,
     };
     let parent = words_from(&shown, hand);
-    if parent[0] % LEVEL_UNIT < 2 {
+    if parent[HEAD] % LEVEL_UNIT < 2 {
         tree.reopen(hand, at);
         return Some((Squeezed::Alone, None));
     }

@@ -13,7 +13,7 @@ ghost use Rattle.bl_proc_compress.specs.Compressions.{IsBuried, merge_hint, Reli
 ghost use Rattle.bl_index_compress.specs.Shares.{AreSharesOf, IsRelisted};
 
 use crate::shares::Shares;
-use bl_page::{KIND_UNIT, LEVEL_UNIT, is_within};
+use bl_page::{ENTRIES, HEAD, HIGH, KIND_UNIT, LEVEL_UNIT, LOW, RIGHT, is_within};
 use bl_proc_routes::{row_in, words_with, words_without};
 use bl_proc_steps::{Hint, Level, hint_of_thin, thin_in};
 use bl_rearrange::Side;
@@ -32,12 +32,12 @@ struct Head {
 pub(crate) fn neighbours_in(left: &[u64; 32], right: &[u64; 32]) -> bool
     ensures { (c d : Page) → left.now ≡ words_of c → right.now ≡ words_of d → IsTrue result ↔ AreNeighbours c d }
 {
-    let kind = left[0] / KIND_UNIT;
+    let kind = left[HEAD] / KIND_UNIT;
     (kind == 2 || kind == 3)
-        && right[0] / KIND_UNIT == kind
-        && right[0] / LEVEL_UNIT % LEVEL_UNIT == left[0] / LEVEL_UNIT % LEVEL_UNIT
-        && left[2] != 0
-        && right[1] == left[2]
+        && right[HEAD] / KIND_UNIT == kind
+        && right[HEAD] / LEVEL_UNIT % LEVEL_UNIT == left[HEAD] / LEVEL_UNIT % LEVEL_UNIT
+        && left[HIGH] != 0
+        && right[LOW] == left[HIGH]
 }
 
 /// One of the words of the entries that two pages with these words list together.
@@ -47,11 +47,11 @@ fn entry_of(left: &[u64; 32], right: &[u64; 32], at: usize) -> u64
     ensures { (c d : Page) → IsTreePage c → IsTreePage d → left.now ≡ words_of c → right.now ≡ words_of d
         → result ≡ slice_index (entries_of (pairs_of c ++ pairs_of d)) at }
 {
-    let split = 2 * (left[0] % LEVEL_UNIT) as usize;
+    let split = 2 * (left[HEAD] % LEVEL_UNIT) as usize;
     if at < split {
-        left[4 + at]
+        left[ENTRIES + at]
     } else {
-        right[4 + (at - split)]
+        right[ENTRIES + (at - split)]
     }
 }
 
@@ -65,12 +65,12 @@ fn part_of(left: &[u64; 32], right: &[u64; 32], from: usize, count: usize, head:
         → result ≡ layout head.first head.low head.high head.right (entries_of (take count (drop from (pairs_of c ++ pairs_of d)))) }
 {
     let mut words = [0; 32];
-    words[0] = head.first;
-    words[1] = head.low;
-    words[2] = head.high;
-    words[3] = head.right;
+    words[HEAD] = head.first;
+    words[LOW] = head.low;
+    words[HIGH] = head.high;
+    words[RIGHT] = head.right;
     for i in 0..2 * count {
-        words[4 + i] = entry_of(left, right, 2 * from + i);
+        words[ENTRIES + i] = entry_of(left, right, 2 * from + i);
     }
     words
 }
@@ -80,13 +80,13 @@ pub(crate) fn merged_words(left: &[u64; 32], right: &[u64; 32]) -> [u64; 32]
     requires pages { (c d : Page) × AreNeighbours c d × (together c d ≤ 14) × (left.now ≡ words_of c) × (right.now ≡ words_of d) }
     ensures { (c d p : Page) → left.now ≡ words_of c → right.now ≡ words_of d → IsMerged c d (Some p) → result ≡ words_of p }
 {
-    let right_count = right[0] % LEVEL_UNIT;
-    let count = (left[0] % LEVEL_UNIT + right_count) as usize;
+    let right_count = right[HEAD] % LEVEL_UNIT;
+    let count = (left[HEAD] % LEVEL_UNIT + right_count) as usize;
     let head = Head {
-        first: left[0] + right_count,
-        low: left[1],
-        high: right[2],
-        right: right[3],
+        first: left[HEAD] + right_count,
+        low: left[LOW],
+        high: right[HIGH],
+        right: right[RIGHT],
     };
     part_of(left, right, 0, count, head)
 }
@@ -97,9 +97,9 @@ pub(crate) fn buried_words(page: &[u64; 32], into: u32) -> [u64; 32]
     ensures { (c p : Page) → page.now ≡ words_of c → IsBuried into c p → result ≡ words_of p }
 {
     let mut words = [0; 32];
-    words[0] = 4 * KIND_UNIT + page[0] / LEVEL_UNIT % LEVEL_UNIT * LEVEL_UNIT;
-    words[1] = page[1];
-    words[3] = into as u64;
+    words[HEAD] = 4 * KIND_UNIT + page[HEAD] / LEVEL_UNIT % LEVEL_UNIT * LEVEL_UNIT;
+    words[LOW] = page[LOW];
+    words[RIGHT] = into as u64;
     words
 }
 
@@ -125,22 +125,22 @@ pub(crate) fn evened_words(left: &[u64; 32], right: &[u64; 32]) -> Shares
     requires pages { (c d : Page) × AreNeighbours c d × (14 < together c d) × (left.now ≡ words_of c) × (right.now ≡ words_of d) }
     ensures { (c d : Page) (e : Evened) → left.now ≡ words_of c → right.now ≡ words_of d → IsEvened c d e → AreSharesOf e result }
 {
-    let left_count = (left[0] % LEVEL_UNIT) as usize;
-    let right_count = (right[0] % LEVEL_UNIT) as usize;
+    let left_count = (left[HEAD] % LEVEL_UNIT) as usize;
+    let right_count = (right[HEAD] % LEVEL_UNIT) as usize;
     let half = (left_count + right_count + 1) / 2;
     let rest = left_count + right_count - half;
     let separator = entry_of(left, right, 2 * half);
     let lower = Head {
-        first: left[0] - left_count as u64 + half as u64,
-        low: left[1],
+        first: left[HEAD] - left_count as u64 + half as u64,
+        low: left[LOW],
         high: separator,
-        right: left[3],
+        right: left[RIGHT],
     };
     let upper = Head {
-        first: right[0] - right_count as u64 + rest as u64,
+        first: right[HEAD] - right_count as u64 + rest as u64,
         low: separator,
-        high: right[2],
-        right: right[3],
+        high: right[HIGH],
+        right: right[RIGHT],
     };
     Shares {
         left: part_of(left, right, 0, half, lower),
@@ -166,7 +166,7 @@ pub(crate) fn relisted_words(
     ensures { (f : Family) (r : Option Page) → parent.now ≡ words_of (Inner f.parent) → f.key ≡ old → f.at.right ≡ child
         → Relists f.parent old new child r → IsRelisted r words.new result }
 {
-    if !is_within(parent[1], parent[2], new) {
+    if !is_within(parent[LOW], parent[HIGH], new) {
         return false;
     }
     let mut without = [0; 32];

@@ -8,7 +8,8 @@ ghost use Rattle.bl_rearrange.specs.Entered.{entered};
 ghost use Rattle.bl_rearrange.specs.Rearranged.{pairs_of};
 ghost use Rattle.bl_index_edit.specs.Halves.{AreSpread};
 
-use bl_page::place_in;
+use bl_model::limits::MOST_PAIRS;
+use bl_page::{ENTRIES, HEAD, HIGH, LOW, RIGHT, place_in};
 
 /// Copies the entries of a full page, with a pair at that place among them.
 #[inline(always)]
@@ -17,12 +18,12 @@ fn spread_entries(words: &[u64; 32], place: usize, key: u64, word: u64, entries:
     ensures { AreSpread place key word words.now entries.new }
 {
     for i in 0..2 * place {
-        entries[i] = words[4 + i];
+        entries[i] = words[ENTRIES + i];
     }
     entries[2 * place] = key;
     entries[1 + 2 * place] = word;
     for j in 2 * place..28 {
-        entries[j + 2] = words[4 + j];
+        entries[j + 2] = words[ENTRIES + j];
     }
 }
 
@@ -31,7 +32,7 @@ pub(crate) fn entries_with(words: &[u64; 32], key: u64, word: u64, entries: &mut
     requires page { (c : Page) × IsTreePage c × (words.now ≡ words_of c) × (14 ≤ length (pairs_of c)) }
     ensures { (c : Page) → words.now ≡ words_of c → entries.new ≡ entries_of (entered key word (pairs_of c)) }
 {
-    let place = place_in(words, &mut (), &mut 0, 14, key);
+    let place = place_in(words, &mut (), &mut 0, MOST_PAIRS, key);
     spread_entries(words, place, key, word, entries);
 }
 
@@ -41,12 +42,12 @@ pub(crate) fn laid_out(first: u64, low: u64, high: u64, right: u64, entries: &[u
     ensures { result ≡ layout first low high right entries.now }
 {
     let mut words = [0; 32];
-    words[0] = first;
-    words[1] = low;
-    words[2] = high;
-    words[3] = right;
+    words[HEAD] = first;
+    words[LOW] = low;
+    words[HIGH] = high;
+    words[RIGHT] = right;
     for i in 0..entries.len() {
-        words[4 + i] = entries[i];
+        words[ENTRIES + i] = entries[i];
     }
     words
 }

@@ -23,8 +23,9 @@ use crate::splitting::split_full;
 use crate::writers::{Left, Writer};
 use bl_index_events::{FrameView, Tree};
 use bl_index_rule::PassState;
+use bl_model::limits::MOST_PAIRS;
 use bl_model::{Effect, decide};
-use bl_page::{LEVEL_UNIT, place_in, word, words_from};
+use bl_page::{HEAD, LEVEL_UNIT, place_in, word, words_from};
 use bl_proc_routes::{words_with_value, words_without};
 use bl_proc_steps::{Outcome, thin_in};
 use bl_proc_writes::Noted;
@@ -224,7 +225,7 @@ pub fn write_there<W: Writer>(
         glance,
     };
     let key = writer.key();
-    let head = word(&shown, hand, 0);
+    let head = word(&shown, hand, HEAD);
     let count = (head % LEVEL_UNIT) as usize;
     let place = place_in(&shown, hand, &mut 0, count, key);
     let there = listed_at(&shown, hand, place, key);
@@ -233,7 +234,7 @@ pub fn write_there<W: Writer>(
         Effect::Remove => remove(tree, hand, at, writer, there, glance),
         Effect::Replace(value) => replace_value(tree, hand, at, writer, there, value, glance),
         Effect::Enter(value) => {
-            if count < 14 {
+            if count < MOST_PAIRS {
                 let spread = Spread {
                     first: head + 1,
                     place,

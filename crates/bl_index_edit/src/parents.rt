@@ -23,7 +23,7 @@ use crate::posters::Poster;
 use crate::splitting::enter_page;
 use bl_index_events::{FrameView, Tree};
 use bl_index_rule::PassState;
-use bl_page::{Words, word, words_from};
+use bl_page::{LOW, Words, word, words_from};
 use bl_proc_routes::{Step, row_in, step_in};
 use bl_proc_steps::Outcome;
 use bl_proc_writes::PostReply;
@@ -72,7 +72,7 @@ fn low_in<W: Words>(source: &W, hand: &mut W::Hand) -> u64
     ensures same { hand.new ≡ hand.old }
     ensures low { (c : Page) → IsTreePage c → W.shown source.now hand.old ≡ words_of c → result ≡ (node_of c).shape.low }
 {
-    word(source, hand, 1)
+    word(source, hand, LOW)
 }
 
 /// The parent that it holds stays as it is.

@@ -5,7 +5,7 @@ ghost use Rattle.bl_model.specs.Rows.{map_of};
 ghost use Rattle.bl_page.specs.Faults.{HasPairs, pairs_of};
 ghost use Rattle.bl_page.specs.Pairs.{place as place_among};
 
-use bl_page::{Words, word};
+use bl_page::{KEY_BEFORE, WORD_BEFORE, Words, word};
 
 /// What a leaf lists with the key, so many of whose keys are not above it.
 #[inline(always)]
@@ -22,8 +22,8 @@ pub(crate) fn listed_at<W: Words>(
     ensures same { hand.new ≡ hand.old }
     ensures listed { result ≡ map_of (pairs_of (W.shown source.now hand.old)) key }
 {
-    if place > 0 && word(source, hand, 2 + 2 * place) == key {
-        Some(word(source, hand, 3 + 2 * place))
+    if place > 0 && word(source, hand, KEY_BEFORE + 2 * place) == key {
+        Some(word(source, hand, WORD_BEFORE + 2 * place))
     } else {
         None
     }

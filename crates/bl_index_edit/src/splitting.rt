@@ -21,10 +21,20 @@ use crate::editors::Editor;
 use crate::halves::{entries_with, laid_out};
 use bl_index_events::Tree;
 use bl_index_rule::PassState;
-use bl_page::LEVEL_UNIT;
+use bl_model::limits::MOST_PAIRS;
+use bl_page::{HEAD, HIGH, LEVEL_UNIT, LOW, LOWER_PAIRS, RIGHT, UPPER_PAIRS};
 use bl_proc_routes::words_with;
 use bl_proc_steps::Outcome;
 use bl_store::{Hand, Stock};
+
+/// A full page has so many pairs.
+const FULL: u64 = MOST_PAIRS as u64;
+/// The words of the entries of the lower half.
+const SPLIT: usize = 2 * LOWER_PAIRS;
+/// By so many the lower half has fewer pairs than a full page.
+const FEWER_BELOW: u64 = (MOST_PAIRS - LOWER_PAIRS) as u64;
+/// And by so many the upper half.
+const FEWER_ABOVE: u64 = (MOST_PAIRS - UPPER_PAIRS) as u64;
 
 /// The page that is split, and the new one, which was taken for its upper half.
 #[derive(Clone, Copy)]
@@ -64,15 +74,21 @@ fn put_halves<J: Editor>(
     let _ = editor;
     let SplitPages { at, new } = pages;
     let mut stock = stock;
-    let separator = entries[16];
-    let upper = laid_out(words[0] - 7, separator, words[2], words[3], &entries[16..]);
+    let separator = entries[SPLIT];
+    let upper = laid_out(
+        words[HEAD] - FEWER_ABOVE,
+        separator,
+        words[HIGH],
+        words[RIGHT],
+        &entries[SPLIT..],
+    );
     tree.put_reserved(hand, new, &upper, &mut stock);
     let lower = laid_out(
-        words[0] - 6,
-        words[1],
+        words[HEAD] - FEWER_BELOW,
+        words[LOW],
         separator,
         new as u64,
-        &entries[..16],
+        &entries[..SPLIT],
     );
     tree.put_reserved(hand, at, &lower, &mut stock);
     tree.reopen(hand, new);
@@ -132,7 +148,7 @@ pub(crate) fn enter_page<J: Editor>(
     ensures since { IsSameProcess (known hand.old.seat) (known hand.new.seat) }
     ensures asked { result ≡ outcomes.Refused → LacksPage (J.level_at editor.now) (J.key_at editor.now) hand.new.seat }
 {
-    if words[0] % LEVEL_UNIT >= 14 {
+    if words[HEAD] % LEVEL_UNIT >= FULL {
         return split_full(tree, hand, editor, at, words, key, word);
     }
     let mut new = [0; 32];

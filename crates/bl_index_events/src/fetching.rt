@@ -6,14 +6,15 @@ ghost use Rattle.std.specs.Prelude.{◌≤◌};
 ghost use Rattle.bl_store.specs.Owners.{IsPeekIn};
 
 use crate::tree::Tree;
-use bl_page::{KIND_UNIT, LEVEL_UNIT};
+use bl_model::limits::MOST_LEVELS;
+use bl_page::{HEAD, KEY_BEFORE, KIND_UNIT, LEVEL_BEFORE, LEVEL_UNIT, WORD_BEFORE};
 use bl_store::Peek;
 
 /// So many keys are looked after side by side.
 pub const ABREAST: usize = 8;
 
 /// No tree has more levels.
-const MOST_LEVELS: u64 = 12;
+const TOP: u64 = MOST_LEVELS as u64;
 
 /// 1 where that key of a page, counted from 1, is at or below a key, and 0 where it is above it or stands behind the pairs. Only the
 /// first key may be 0, so the zeros behind the pairs are told from the others by what is one less. A branch would be missed for a third of
@@ -24,7 +25,10 @@ fn reached(tree: &Tree, peek: Peek, which: usize, key: u64) -> usize
     requires which { which ≤ 14 }
     ensures most { result ≤ 1 }
 {
-    let one_less = tree.store.peek_word(peek, 2 + 2 * which).wrapping_sub(1);
+    let one_less = tree
+        .store
+        .peek_word(peek, KEY_BEFORE + 2 * which)
+        .wrapping_sub(1);
     if one_less < key { 1 } else { 0 }
 }
 
@@ -51,7 +55,7 @@ fn child_at(tree: &Tree, peek: Peek, key: u64) -> u32
     let second = reached(tree, peek, before + 2, key);
     let third = reached(tree, peek, before + 3, key);
     let place = before + first + second + third;
-    page_in(tree.store.peek_word(peek, 3 + 2 * place))
+    page_in(tree.store.peek_word(peek, WORD_BEFORE + 2 * place))
 }
 
 /// The number of a page in a word.
@@ -68,8 +72,8 @@ fn top_of(tree: &Tree) -> (u32, u64)
     let Some(peek) = tree.store.peek_page(0) else {
         return (0, 0);
     };
-    let levels = (tree.store.peek_word(peek, 0) % LEVEL_UNIT).min(MOST_LEVELS);
-    let top = tree.store.peek_word(peek, 3 + levels as usize);
+    let levels = (tree.store.peek_word(peek, HEAD) % LEVEL_UNIT).min(TOP);
+    let top = tree.store.peek_word(peek, LEVEL_BEFORE + levels as usize);
     (page_in(top), levels)
 }
 

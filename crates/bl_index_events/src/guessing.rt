@@ -3,17 +3,18 @@
 
 use crate::tree::Tree;
 use bl_model::KeyWrite;
-use bl_page::{KIND_UNIT, LEVEL_UNIT};
+use bl_model::limits::{MOST_LEVELS, MOST_PAIRS};
+use bl_page::{FIRST_KEY, FIRST_WORD, HEAD, HIGH, KIND_UNIT, LEVEL_BEFORE, LEVEL_UNIT, LOW, RIGHT};
 use bl_proc_steps::{Hint, Level};
 
 /// How many pairs a page has that is half full: two such pages fit one.
-const HALF: u64 = 7;
+const HALF: u64 = MOST_PAIRS as u64 / 2;
 
 /// How many pairs a full page has.
-const FULL: u64 = 14;
+const FULL: u64 = MOST_PAIRS as u64;
 
 /// The greatest level of a parent.
-const TOP: u64 = 12;
+const TOP: u64 = MOST_LEVELS as u64;
 
 /// So many pages are looked at on the way to a leaf at most.
 const STEPS: u32 = 64;
@@ -68,20 +69,20 @@ impl Tree {
         if !self.store.is_in_use(page) {
             return None;
         }
-        let head = Head::of(self.store.peek(page, 0));
+        let head = Head::of(self.store.peek(page, HEAD));
         if !head.is_half_full_at_most() {
             return None;
         }
         if head.count == HALF && !self.is_beside_half_full(page) {
             return None;
         }
-        thin(head.level, self.store.peek(page, 1))
+        thin(head.level, self.store.peek(page, LOW))
     }
 
     // Whether the page to which one links seems to be half full at most.
     fn is_beside_half_full(&self, page: u32) -> bool {
-        let right = page_in(self.store.peek(page, 3));
-        right > 0 && Head::of(self.store.peek(right, 0)).is_half_full_at_most()
+        let right = page_in(self.store.peek(page, RIGHT));
+        right > 0 && Head::of(self.store.peek(right, HEAD)).is_half_full_at_most()
     }
 
     /// Whether a write may split a leaf while pages are scarce.
@@ -99,7 +100,7 @@ impl Tree {
         for _step in 0..STEPS {
             let next = self.page_behind(page, key);
             if next == page {
-                return Head::of(self.store.peek(page, 0)).count >= FULL;
+                return Head::of(self.store.peek(page, HEAD)).count >= FULL;
             }
             page = next;
         }
@@ -108,7 +109,7 @@ impl Tree {
 
     // Where a search for the key seems to go on from a page: down, or by the link. From a leaf that covers the key it goes nowhere else.
     fn page_behind(&self, page: u32, key: u64) -> u32 {
-        let head = Head::of(self.store.peek(page, 0));
+        let head = Head::of(self.store.peek(page, HEAD));
         if head.kind == ANCHOR {
             return self.top_page(head.count);
         }
@@ -118,17 +119,17 @@ impl Tree {
         if head.kind == INNER && !self.ends_before(page, key) {
             return self.child_at(page, head.count, key);
         }
-        page_in(self.store.peek(page, 3))
+        page_in(self.store.peek(page, RIGHT))
     }
 
     // The leftmost page of the top level, where the anchor has so many.
     fn top_page(&self, levels: u64) -> u32 {
-        page_in(self.store.peek(0, levels.min(TOP) as usize + 3))
+        page_in(self.store.peek(0, levels.min(TOP) as usize + LEVEL_BEFORE))
     }
 
     // Whether a page seems to end before the key.
     fn ends_before(&self, page: u32, key: u64) -> bool {
-        let high = self.store.peek(page, 2);
+        let high = self.store.peek(page, HIGH);
         high != 0 && high <= key
     }
 
@@ -136,8 +137,8 @@ impl Tree {
     fn child_at(&self, page: u32, count: u64, key: u64) -> u32 {
         let mut child = 0;
         for place in 0..count.min(FULL) as usize {
-            if self.store.peek(page, 4 + 2 * place) <= key {
-                child = page_in(self.store.peek(page, 5 + 2 * place));
+            if self.store.peek(page, FIRST_KEY + 2 * place) <= key {
+                child = page_in(self.store.peek(page, FIRST_WORD + 2 * place));
             }
         }
         child

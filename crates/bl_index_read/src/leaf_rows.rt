@@ -22,7 +22,10 @@ ghost use Rattle.bl_index_read.specs.LeafRows.{IsBelow, GoesOnWithin, rows_from,
 
 use arrayvec::ArrayVec;
 use bl_model::Next;
-use bl_page::{KIND_UNIT, LEVEL_UNIT, Pairs, Words, word};
+use bl_page::{
+    FIRST_KEY, FIRST_WORD, HEAD, HIGH, KEY_BEFORE, KIND_UNIT, LEVEL_UNIT, LOW, Pairs, RIGHT, Words,
+    word,
+};
 use bl_proc_steps::{Descended, Descent};
 use std::alloc::AllocError;
 
@@ -39,7 +42,7 @@ fn place_from<W: Words>(source: &W, hand: &mut W::Hand, count: usize, from: u64)
     ensures place { IsPlaceOf (pairs_of (W.shown source.now hand.old)) from result }
 {
     for place in 0..count {
-        if from <= word(source, hand, 4 + 2 * place) {
+        if from <= word(source, hand, FIRST_KEY + 2 * place) {
             return place;
         }
     }
@@ -65,7 +68,7 @@ fn place_below<W: Words>(
 {
     for behind in 0..count - first {
         let last = count - behind;
-        if word(source, hand, 2 + 2 * last) < end {
+        if word(source, hand, KEY_BEFORE + 2 * last) < end {
             return last;
         }
     }
@@ -103,8 +106,8 @@ fn row_at<W: Words>(source: &W, hand: &mut W::Hand, place: usize) -> (u64, u64)
     ensures same { hand.new ≡ hand.old }
     ensures row { result ≡ slice_index_or (pairs_of (W.shown source.now hand.old)) place (0, 0) }
 {
-    let key = word(source, hand, 4 + 2 * place);
-    let value = word(source, hand, 5 + 2 * place);
+    let key = word(source, hand, FIRST_KEY + 2 * place);
+    let value = word(source, hand, FIRST_WORD + 2 * place);
     (key, value)
 }
 
@@ -132,8 +135,8 @@ fn begins_with<W: Words>(source: &W, hand: &mut W::Hand, key: u64) -> bool
     ensures same { hand.new ≡ hand.old }
     ensures leads { (c : Page) → IsTrue result → W.shown source.now hand.old ≡ words_of c → Leads c key 0 onward.Here }
 {
-    let head = word(source, hand, 0);
-    let low = word(source, hand, 1);
+    let head = word(source, hand, HEAD);
+    let low = word(source, hand, LOW);
     head / LEVEL_UNIT == LEAF_UNITS && low == key
 }
 
@@ -168,7 +171,7 @@ fn first_from<W: Words>(source: &W, hand: &mut W::Hand, count: usize, from: u64)
     ensures same { hand.new ≡ hand.old }
     ensures place { IsPlaceOf (pairs_of (W.shown source.now hand.old)) from result }
 {
-    if word(source, hand, 1) == from {
+    if word(source, hand, LOW) == from {
         0
     } else {
         place_from(source, hand, count, from)
@@ -200,9 +203,9 @@ pub fn portion_in<W: Words>(source: &W, hand: &mut W::Hand, from: u64, to: Optio
     ensures behind { (c : Page) (next : Next) → IsTreePage c → W.shown source.now hand.old ≡ words_of c → GoesOnAt (node_of c).shape.end next
         → GoesOnWithin to (next_key next) result.behind }
 {
-    let count = (word(source, hand, 0) % LEVEL_UNIT) as usize;
+    let count = (word(source, hand, HEAD) % LEVEL_UNIT) as usize;
     let first = first_from(source, hand, count, from);
-    let high = word(source, hand, 2);
+    let high = word(source, hand, HIGH);
     if high.wrapping_sub(1) < last_below(to) {
         let behind = Behind::Part(high, link_in(source, hand));
         Portion {
@@ -346,7 +349,7 @@ pub(crate) fn rows_in<W: Words>(source: &W, hand: &mut W::Hand, from: u64) -> Pa
     ensures same { hand.new ≡ hand.old }
     ensures rows { result.items ≡ rows_from from (pairs_of (W.shown source.now hand.old)) }
 {
-    let count = (word(source, hand, 0) % LEVEL_UNIT) as usize;
+    let count = (word(source, hand, HEAD) % LEVEL_UNIT) as usize;
     let first = place_from(source, hand, count, from);
     let mut rows = ArrayVec::new();
     for place in first..count {
@@ -375,7 +378,7 @@ pub(crate) fn next_in<W: Words>(source: &W, hand: &mut W::Hand) -> Next
     ensures same { hand.new ≡ hand.old }
     ensures next { (c : Page) → IsTreePage c → W.shown source.now hand.old ≡ words_of c → GoesOnAt (node_of c).shape.end result }
 {
-    next_after(word(source, hand, 2))
+    next_after(word(source, hand, HIGH))
 }
 
 /// How many of so many rows there are up to a key. It looks at them from the back, since a scan downwards mostly takes the whole leaf.
@@ -390,7 +393,7 @@ fn count_to<W: Words>(source: &W, hand: &mut W::Hand, count: usize, from: u64) -
 {
     for behind in 0..count {
         let last = count - behind;
-        if word(source, hand, 2 + 2 * last) <= from {
+        if word(source, hand, KEY_BEFORE + 2 * last) <= from {
             return last;
         }
     }
@@ -405,7 +408,7 @@ pub(crate) fn rows_down_in<W: Words>(source: &W, hand: &mut W::Hand, from: u64) 
     ensures same { hand.new ≡ hand.old }
     ensures rows { ListsPairs (map_of (pairs_of (W.shown source.now hand.old))) (λ key. key ≤ from) (reverse result.items) }
 {
-    let count = (word(source, hand, 0) % LEVEL_UNIT) as usize;
+    let count = (word(source, hand, HEAD) % LEVEL_UNIT) as usize;
     let last = count_to(source, hand, count, from);
     let mut rows = ArrayVec::new();
     for done in 0..last {
@@ -434,7 +437,7 @@ pub(crate) fn next_below_in<W: Words>(source: &W, hand: &mut W::Hand) -> Next
     ensures same { hand.new ≡ hand.old }
     ensures next { (c : Page) → IsTreePage c → W.shown source.now hand.old ≡ words_of c → GoesOnBelow (node_of c).shape.low result }
 {
-    next_below(word(source, hand, 1))
+    next_below(word(source, hand, LOW))
 }
 
 /// The page to which the leaf links. Nothing is said of it.
@@ -443,5 +446,5 @@ pub(crate) fn link_in<W: Words>(source: &W, hand: &mut W::Hand) -> u32
     requires sees { W.Sees source.now hand.old }
     ensures same { hand.new ≡ hand.old }
 {
-    (word(source, hand, 3) % KIND_UNIT) as u32
+    (word(source, hand, RIGHT) % KIND_UNIT) as u32
 }

@@ -17,20 +17,20 @@ use Rattle.bl_index_edit.proofs.splitting.enter_page.Goals as goal
 pub split_full-requires-clause-full : goal.split_full-requires-clause-full
 split_full-requires-clause-full g c =
     let enter = c.requires.page.1 in
-    let full : 14 ≤ length (pairs_of enter.page) = omega (arith, pairs_counted enter.page c.args.words.now enter.tree enter.is, c.if-words-ge14.true) in
+    let full : 14 ≤ length (pairs_of enter.page) = omega (arith, pairs_counted enter.page c.args.words.now enter.tree enter.is, c.if-words-ge-FULL.true) in
     let taking = enters_taking c.args.at c.args.key c.args.word c.args.words.now c.requires.page.0 enter full in
     (taking.0, taking.1, taking.2, taking.3, taking.4, subst (λ (z : Edit). IsOn c.args.tree.now.store.layout (known c.args.hand.now.seat) (g.J.Editor.editing c.args.editor.now z)) taking.5 c.requires.page.2)
 
 pub words_with-requires-clause-page : goal.words_with-requires-clause-page
 words_with-requires-clause-page g c =
     let enter = c.requires.page.1 in
-    let room : length (pairs_of enter.page) < 14 = omega (arith, pairs_counted enter.page c.args.words.now enter.tree enter.is, c.if-words-ge14.false) in
+    let room : length (pairs_of enter.page) < 14 = omega (arith, pairs_counted enter.page c.args.words.now enter.tree enter.is, c.if-words-ge-FULL.false) in
     (enter.page, enter.tree, enter.is, room)
 
 pub replace-requires-clause-next : goal.replace-requires-clause-next
 replace-requires-clause-next g c =
     let enter = c.requires.page.1 in
-    let room : length (pairs_of enter.page) < 14 = omega (arith, pairs_counted enter.page c.args.words.now enter.tree enter.is, c.if-words-ge14.false) in
+    let room : length (pairs_of enter.page) < 14 = omega (arith, pairs_counted enter.page c.args.words.now enter.tree enter.is, c.if-words-ge-FULL.false) in
     let putting = enters_putting c.args.at c.args.key c.args.word c.args.words.now c.requires.page.0 enter room in
     (putting.0, ap next_of (c.requires.page.2.state ∙ ap (g.J.Editor.editing c.args.editor.now) putting.2) ∙ g.J.Editor.acts c.args.editor.now (edit.Putting c.args.at putting.0), c.words_with.ensures.words enter.page enter.is ∙ sym putting.1)
 
@@ -39,7 +39,7 @@ returns-then-replace-clause-runs g c = record {
   own = search rules;
   running = search rules;
   on = (let enter = c.requires.page.1 in let j = c.args.editor.now in let layout = c.args.tree.now.store.layout in
-      let room : length (pairs_of enter.page) < 14 = omega (arith, pairs_counted enter.page c.args.words.now enter.tree enter.is, c.if-words-ge14.false) in
+      let room : length (pairs_of enter.page) < 14 = omega (arith, pairs_counted enter.page c.args.words.now enter.tree enter.is, c.if-words-ge-FULL.false) in
       let putting = enters_putting c.args.at c.args.key c.args.word c.args.words.now c.requires.page.0 enter room in
       let on = subst (λ (z : Edit). IsOn layout (known c.args.hand.now.seat) (g.J.Editor.editing j z)) putting.2 c.requires.page.2 in
       on_goes layout seen.Done _ _ _ _ on (c.replace.ensures.done c.if-replace.true) (g.J.Editor.goes j (edit.Putting c.args.at putting.0) (edit.Opening c.args.at outcome.Edited) seen.Done refl));
@@ -53,7 +53,7 @@ returns-else-replace-clause-runs g c = record {
   own = search rules;
   running = search rules;
   on = (let enter = c.requires.page.1 in let j = c.args.editor.now in let layout = c.args.tree.now.store.layout in
-      let room : length (pairs_of enter.page) < 14 = omega (arith, pairs_counted enter.page c.args.words.now enter.tree enter.is, c.if-words-ge14.false) in
+      let room : length (pairs_of enter.page) < 14 = omega (arith, pairs_counted enter.page c.args.words.now enter.tree enter.is, c.if-words-ge-FULL.false) in
       let putting = enters_putting c.args.at c.args.key c.args.word c.args.words.now c.requires.page.0 enter room in
       let on = subst (λ (z : Edit). IsOn layout (known c.args.hand.now.seat) (g.J.Editor.editing j z)) putting.2 c.requires.page.2 in
       on_goes layout seen.Refused _ _ _ _ on (c.replace.ensures.refused c.if-replace.false) (g.J.Editor.goes j (edit.Putting c.args.at putting.0) (edit.Opening c.args.at outcome.Refused) seen.Refused refl));
@@ -62,13 +62,13 @@ returns-else-replace-clause-runs g c = record {
 pub returns-else-replace-clause-since : goal.returns-else-replace-clause-since
 returns-else-replace-clause-since g c = same_goes _ _ _ (c.replace.ensures.refused c.if-replace.false)
 
-pub returns-then-words-ge14-clause-asked : goal.returns-then-words-ge14-clause-asked
-returns-then-words-ge14-clause-asked g c = λ none. inr (c.split_full.ensures.asked none)
+pub returns-then-words-ge-FULL-clause-asked : goal.returns-then-words-ge-FULL-clause-asked
+returns-then-words-ge-FULL-clause-asked g c = λ none. inr (c.split_full.ensures.asked none)
 
 pub returns-else-replace-clause-asked : goal.returns-else-replace-clause-asked
 returns-else-replace-clause-asked g c = λ none.
     let enter = c.requires.page.1 in let j = c.args.editor.now in let layout = c.args.tree.now.store.layout in
-    let room : length (pairs_of enter.page) < 14 = omega (arith, pairs_counted enter.page c.args.words.now enter.tree enter.is, c.if-words-ge14.false) in
+    let room : length (pairs_of enter.page) < 14 = omega (arith, pairs_counted enter.page c.args.words.now enter.tree enter.is, c.if-words-ge-FULL.false) in
     let putting = enters_putting c.args.at c.args.key c.args.word c.args.words.now c.requires.page.0 enter room in
     let on = subst (λ (z : Edit). IsOn layout (known c.args.hand.now.seat) (g.J.Editor.editing j z)) putting.2 c.requires.page.2 in
     let d = known c.args.hand.now.seat in let e = known c.replace.new.hand.seat in
@@ -91,17 +91,17 @@ replace-requires-clause-runs g c = record {
 pub replace-requires-clause-empty : goal.replace-requires-clause-empty
 replace-requires-clause-empty g c = c.requires.running.1
 
-pub returns-then-words-ge14-clause-same : goal.returns-then-words-ge14-clause-same
-returns-then-words-ge14-clause-same g c = c.split_full.ensures.same
+pub returns-then-words-ge-FULL-clause-same : goal.returns-then-words-ge-FULL-clause-same
+returns-then-words-ge-FULL-clause-same g c = c.split_full.ensures.same
 
-pub returns-then-words-ge14-clause-empty : goal.returns-then-words-ge14-clause-empty
-returns-then-words-ge14-clause-empty g c = c.split_full.ensures.empty
+pub returns-then-words-ge-FULL-clause-empty : goal.returns-then-words-ge-FULL-clause-empty
+returns-then-words-ge-FULL-clause-empty g c = c.split_full.ensures.empty
 
-pub returns-then-words-ge14-clause-runs : goal.returns-then-words-ge14-clause-runs
-returns-then-words-ge14-clause-runs g c = c.split_full.ensures.runs
+pub returns-then-words-ge-FULL-clause-runs : goal.returns-then-words-ge-FULL-clause-runs
+returns-then-words-ge-FULL-clause-runs g c = c.split_full.ensures.runs
 
-pub returns-then-words-ge14-clause-since : goal.returns-then-words-ge14-clause-since
-returns-then-words-ge14-clause-since g c = c.split_full.ensures.since
+pub returns-then-words-ge-FULL-clause-since : goal.returns-then-words-ge-FULL-clause-since
+returns-then-words-ge-FULL-clause-since g c = c.split_full.ensures.since
 
 pub returns-then-replace-clause-same : goal.returns-then-replace-clause-same
 returns-then-replace-clause-same g c = c.replace.ensures.same
@@ -118,7 +118,7 @@ returns-else-replace-clause-empty g c = c.replace.ensures.empty
 pub replace-requires-clause-course : goal.replace-requires-clause-course
 replace-requires-clause-course g c =
     let enter = c.requires.page.1 in let j = c.args.editor.now in
-    let room : length (pairs_of enter.page) < 14 = omega (arith, pairs_counted enter.page c.args.words.now enter.tree enter.is, c.if-words-ge14.false) in
+    let room : length (pairs_of enter.page) < 14 = omega (arith, pairs_counted enter.page c.args.words.now enter.tree enter.is, c.if-words-ge-FULL.false) in
     let putting = enters_putting c.args.at c.args.key c.args.word c.args.words.now c.requires.page.0 enter room in
     let on = subst (λ (z : Edit). IsOn c.args.tree.now.store.layout (known c.args.hand.now.seat) (g.J.Editor.editing j z)) putting.2 c.requires.page.2 in
     (course_at seen.Done _ _ on.state (g.J.Editor.courses j (edit.Putting c.args.at putting.0) seen.Done tt), course_at seen.Refused _ _ on.state (g.J.Editor.courses j (edit.Putting c.args.at putting.0) seen.Refused refl))
