@@ -28,6 +28,6 @@ mod stock;
 mod store;
 mod sweep;
 
-pub use put::Spread;
+pub use put::Splice;
 pub use stock::{NoRoom, Stock};
 pub use store::{Glance, Hand, Peek, Store};
