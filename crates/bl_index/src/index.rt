@@ -7,7 +7,7 @@ ghost use Rattle.bl_index_events.specs.Runs.{IsWithin};
 
 use bl_index_events::Tree;
 use bl_index_rule::PassState;
-use bl_store::Hand;
+use bl_store::{Hand, RoomSeen};
 use std::marker::Model;
 
 /// Pages of a tree that threads share.
@@ -88,13 +88,21 @@ impl Pass {
 }
 
 impl Index {
-    ghost use Rattle.bl_index.specs.Calls.{pages_of};
+    ghost use Rattle.bl_index.specs.Calls.{pages_of, frames_of};
 
     /// So many gets answer every search, where nothing is put meanwhile: the number of pages.
     pub fn patience(&self) -> u32
         ensures { result ≡ pages_of self.now }
     {
         self.tree.pages
+    }
+
+    /// How full it is, as one look over all its pages and frames finds it: see [`RoomSeen`]. No pass sees an event of it.
+    pub fn room(&self) -> RoomSeen
+        ensures pages { (result.pages ≡ pages_of self.now) × (result.used_pages + result.free_pages ≤ result.pages) }
+        ensures frames { (result.frames ≡ frames_of self.now) × (result.free_frames ≤ result.frames) }
+    {
+        self.tree.store.room()
     }
 
     /// The tree that its passes share, for one who runs a process event by event.

@@ -14,7 +14,8 @@ use Rattle.bl_rearrange.specs.Rearranged.{pairs_of}
 use Rattle.bl_rearrange.proofs.EnteredLemmas.{length-entered}
 use Rattle.bl_proc_routes.specs.WordEdits.{words_by}
 use Rattle.bl_proc_routes.proofs.Shifts.{padded, length-entries, entered-below, entered-key, entered-word, entered-above}
-use Rattle.bl_store.specs.Drafts.{IsSpread}
+use Rattle.bl_store.specs.Drafts.{IsSplice}
+use Rattle.bl_store.specs.declared.put.Splice.{Splice}
 
 -- the words of a layout with a pair more
 module _ (first top low high right key word : ℕ) (pairs : List (ℕ × ℕ)) where
@@ -39,9 +40,9 @@ module _ (first top low high right key word : ℕ) (pairs : List (ℕ × ℕ)) w
       let e : 4 + 2 * place key pairs ≡ suc (suc (suc (suc (2 * place key pairs)))) = omega arith in
       ap (λ (k : ℕ). get_or new k 0) e ∙ (padded (entries_of more) (28 - length (entries_of more)) (2 * place key pairs) ∙ entered-key key word pairs)
 
-  word_there : get_or new (5 + 2 * place key pairs) 0 ≡ word
+  word_there : get_or new (4 + 2 * place key pairs + 1) 0 ≡ word
   word_there =
-      let e : 5 + 2 * place key pairs ≡ suc (suc (suc (suc (suc (2 * place key pairs))))) = omega arith in
+      let e : 4 + 2 * place key pairs + 1 ≡ suc (suc (suc (suc (suc (2 * place key pairs))))) = omega arith in
       ap (λ (k : ℕ). get_or new k 0) e ∙ (padded (entries_of more) (28 - length (entries_of more)) (suc (2 * place key pairs)) ∙ entered-word key word pairs)
 
   above : (k : ℕ) → 4 + 2 * place key pairs ≤ k → k < 30 → get_or new (k + 2) 0 ≡ get_or old k 0
@@ -53,30 +54,30 @@ module _ (first top low high right key word : ℕ) (pairs : List (ℕ × ℕ)) w
       let e : suc (suc (suc (suc m))) + 2 ≡ suc (suc (suc (suc (suc (suc m))))) = omega arith in
       ap (λ (k : ℕ). get_or new k 0) e ∙ (padded (entries_of more) (28 - length (entries_of more)) (suc (suc m)) ∙ (entered-above key word pairs m (omega arith) ∙ sym (padded (entries_of pairs) (28 - length (entries_of pairs)) m)))
 
-  spread_layout : length pairs < 14 → IsSpread (record { first = top; place = place key pairs; key = key; word = word }) old new
-  spread_layout room = record {
+  spread_layout : (s : Splice) → length pairs < 14 → s.head ≡ top → s.at ≡ 4 + 2 * place key pairs → get_or s.words 0 0 ≡ key → get_or s.words 1 0 ≡ word → IsSplice s old new
+  spread_layout s room is_top is_at is_key is_word = record {
     size = omega (arith, length-append (entries_of more) (replicate {A = ℕ} (28 - length (entries_of more)) 0), length-replicate {A = ℕ} (28 - length (entries_of more)) 0, length-entries more, length-entered key word pairs);
-    first = refl;
-    below = below;
-    key_there = key_there;
-    word_there = word_there;
-    above = above;
+    head = sym is_top;
+    below = λ k some lt. below k some (omega (arith, is_at, lt));
+    one_there = ap (λ (k : ℕ). get_or new k 0) is_at ∙ (key_there ∙ sym is_key);
+    two_there = ap (λ (k : ℕ). get_or new (k + 1) 0) is_at ∙ (word_there ∙ sym is_word);
+    above = λ k le lt. above k (omega (arith, is_at, le)) lt;
   }
 
--- the words of a leaf or an inner page with a pair more are its own, spread so
-pub spread_entered : (c p : Page) (key word top at : ℕ) → IsTreePage c → length (pairs_of c) < 14 → words_of p ≡ words_by c (entered key word (pairs_of c)) → top ≡ get_or (words_of c) 0 0 → at ≡ place key (pairs_in_words (words_of c))
-    → IsSpread (record { first = top + 1; place = at; key = key; word = word }) (words_of c) (words_of p)
-spread_entered (page.Anchor a) p key word top at tree room e is_top is_at = absurd tree
-spread_entered (page.Leaf l) p key word top at tree room e is_top is_at =
+-- the words of a leaf or an inner page with a pair more are its own, changed so
+pub spread_entered : (s : Splice) (c p : Page) (key word : ℕ) → IsTreePage c → length (pairs_of c) < 14 → words_of p ≡ words_by c (entered key word (pairs_of c)) → s.head ≡ get_or (words_of c) 0 0 + 1 → s.at ≡ 4 + 2 * place key (pairs_in_words (words_of c))
+    → get_or s.words 0 0 ≡ key → get_or s.words 1 0 ≡ word → IsSplice s (words_of c) (words_of p)
+spread_entered s (page.Anchor a) p key word tree room e is_top is_at is_key is_word = absurd tree
+spread_entered s (page.Leaf l) p key word tree room e is_top is_at is_key is_word =
     let rows = l.rows.items in
-    let there : place key rows ≡ at = sym (is_at ∙ ap (place key) (rows_again l)) in
-    let first : head 2 0 (length (entered key word rows)) ≡ top + 1 = omega (arith, is_top, length-entered key word rows) in
-    subst (λ (z : ℕ × ℕ × List ℕ). IsSpread (record { first = z.0; place = z.1; key = key; word = word }) (words_of (page.Leaf l)) z.2) (λ i. (first i, there i, sym e i))
-    (spread_layout (head 2 0 (length rows)) (head 2 0 (length (entered key word rows))) l.low l.high l.right key word rows room)
-spread_entered (page.Inner n) p key word top at tree room e is_top is_at =
+    let there : s.at ≡ 4 + 2 * place key rows = is_at ∙ ap (λ (z : List (ℕ × ℕ)). 4 + 2 * place key z) (rows_again l) in
+    let first : s.head ≡ head 2 0 (length (entered key word rows)) = omega (arith, is_top, length-entered key word rows) in
+    subst (λ (z : List ℕ). IsSplice s (words_of (page.Leaf l)) z) (sym e)
+    (spread_layout (head 2 0 (length rows)) (head 2 0 (length (entered key word rows))) l.low l.high l.right key word rows s room first there is_key is_word)
+spread_entered s (page.Inner n) p key word tree room e is_top is_at is_key is_word =
     let rows = n.children.items in
-    let there : place key rows ≡ at = sym (is_at ∙ ap (place key) (children_again n)) in
-    let first : head 3 n.level (length (entered key word rows)) ≡ top + 1 = omega (arith, is_top, length-entered key word rows) in
-    subst (λ (z : ℕ × ℕ × List ℕ). IsSpread (record { first = z.0; place = z.1; key = key; word = word }) (words_of (page.Inner n)) z.2) (λ i. (first i, there i, sym e i))
-    (spread_layout (head 3 n.level (length rows)) (head 3 n.level (length (entered key word rows))) n.low n.high n.right key word rows room)
-spread_entered (page.Dead d) p key word top at tree room e is_top is_at = absurd tree
+    let there : s.at ≡ 4 + 2 * place key rows = is_at ∙ ap (λ (z : List (ℕ × ℕ)). 4 + 2 * place key z) (children_again n) in
+    let first : s.head ≡ head 3 n.level (length (entered key word rows)) = omega (arith, is_top, length-entered key word rows) in
+    subst (λ (z : List ℕ). IsSplice s (words_of (page.Inner n)) z) (sym e)
+    (spread_layout (head 3 n.level (length rows)) (head 3 n.level (length (entered key word rows))) n.low n.high n.right key word rows s room first there is_key is_word)
+spread_entered s (page.Dead d) p key word tree room e is_top is_at is_key is_word = absurd tree

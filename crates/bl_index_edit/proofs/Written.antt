@@ -1,5 +1,5 @@
 -- A write at its leaf.
-use Rattle.std.proofs.Common.{ℕ, Bool, true, false, ◌≡◌, ◌<◌, ◌≤◌, ◌+◌, List, Option, Some, None, length, get_or, refl, sym, ap, ◌∙◌, subst, arith}
+use Rattle.std.proofs.Common.{ℕ, Bool, true, false, ◌≡◌, ◌<◌, ◌≤◌, ◌+◌, ◌*◌, List, Option, Some, None, length, get_or, refl, sym, ap, ◌∙◌, subst, arith}
 use Rattle.std.specs.Prelude.{IsSome}
 use Rattle.bl_model.specs.Rows.{map_of}
 use Rattle.bl_model.specs.Writes.{MayHave, effect_of}
@@ -42,9 +42,9 @@ use Rattle.bl_proc_deterministic.proofs.Edits.{enter_one}
 use Rattle.bl_proc_deterministic.proofs.Leaves.{leaf_covers, leaf_lists, leaf_holds, leaf_loses, leaf_has}
 use Rattle.atomic_table.specs.declared.shared.Seat.{Seat}
 use Rattle.bl_store_rule.specs.declared.view.View.{View}
-use Rattle.bl_store.specs.Drafts.{IsSpread}
+use Rattle.bl_store.specs.Drafts.{IsSplice}
 use Rattle.bl_store.specs.Hands.{known, read_words, HasNoStock, IsSameHand, IsSameRefusal, WasRefused}
-use Rattle.bl_store.specs.declared.put.Spread.{Spread}
+use Rattle.bl_store.specs.declared.put.Splice.{Splice}
 use Rattle.bl_store.specs.declared.store.Hand.{Hand}
 use Rattle.bl_index_rule.specs.declared.known.PassState.{PassState}
 use Rattle.bl_index_rule.specs.Observed.{Goes}
@@ -178,16 +178,19 @@ entering_none key does staged at there words d value e h = subst (λ z. IsAtLeaf
 
 -- where a pair is to enter it
 module _ (key : ℕ) (does : KeyWrite) (staged : WriteStage → Proc) (opened : Left → Proc) (w : IsWriter key does staged opened) (at : ℕ) (words : List ℕ) (d : PassState) (h : IsAtLeaf key staged at None words d) where
-  -- with room, by its words spread so
-  pub enters_spread : (s : Spread) → effect_of does None ≡ Enter s.word → count_in words < 14 → s.first ≡ get_or words 0 0 + 1 → s.place ≡ place key (pairs_in_words words) → s.key ≡ key → (p : Page) × IsSpread s words (words_of p) × (d.state ≡ staged (write.Editing (unthinned None) (edit.Putting at p)))
-  enters_spread s e room first there same =
-      let stands = stands_entering key does staged opened w at None words d h s.word e in
+  -- with room, by its words changed so
+  pub enters_spread : (s : Splice) → effect_of does None ≡ Enter (get_or s.words 1 0) → count_in words < 14 → s.head ≡ get_or words 0 0 + 1 → s.at ≡ 4 + 2 * place key (pairs_in_words words) → get_or s.words 0 0 ≡ key
+      → (p : Page) × IsSplice s words (words_of p) × (d.state ≡ staged (write.Editing (unthinned None) (edit.Putting at p)))
+  enters_spread s e room head there same =
+      let value : ℕ = get_or s.words 1 0 in
+      let stands = stands_entering key does staged opened w at None words d h value e in
       let enter = stands.1 in
       let few : length (pairs_of enter.page) < 14 = omega (arith, pairs_counted enter.page words enter.tree enter.is, room) in
-      let put = enters_putting at key s.word words stands.0 enter few in
-      let spread = spread_entered enter.page put.0 key s.word (get_or words 0 0) s.place enter.tree few put.1 (ap (λ (w : List ℕ). get_or w 0 0) enter.is) (there ∙ ap (λ (w : List ℕ). place key (pairs_in_words w)) enter.is) in (
+      let put = enters_putting at key value words stands.0 enter few in
+      let head_is = head ∙ ap (λ (w : List ℕ). get_or w 0 0 + 1) enter.is in
+      let at_is = there ∙ ap (λ (w : List ℕ). 4 + 2 * place key (pairs_in_words w)) enter.is in (
         put.0,
-        subst (λ (z : Spread × List ℕ). IsSpread z.0 z.1 (words_of put.0)) (λ i. (record { first = sym first i; place = s.place; key = sym same i; word = s.word }, sym enter.is i)) spread,
+        subst (λ (w : List ℕ). IsSplice s w (words_of put.0)) (sym enter.is) (spread_entered s enter.page put.0 key value enter.tree few put.1 head_is at_is same refl),
         stands.2 ∙ ap (λ (z : Edit). staged (write.Editing (unthinned None) z)) put.2,
       )
 

@@ -1,6 +1,6 @@
 //! At a leaf that a writer holds, by the words of pages: one that is not split gets its new words from those that were read.
 
-ghost use Rattle.std.specs.Prelude.{◌≡◌, ◌+◌, ◌<◌, ◌≤◌, None, slice_index};
+ghost use Rattle.std.specs.Prelude.{◌≡◌, ◌+◌, ◌*◌, ◌<◌, ◌≤◌, None, slice_index};
 ghost use Rattle.bl_model.specs.declared.deciding.Effect.TheVariants as effects;
 ghost use Rattle.bl_model.specs.Writes.{effect_of};
 ghost use Rattle.bl_page.specs.declared.page.Page.{Page};
@@ -25,11 +25,11 @@ use bl_index_events::{FrameView, Tree};
 use bl_index_rule::PassState;
 use bl_model::limits::MOST_PAIRS;
 use bl_model::{Effect, decide};
-use bl_page::{HEAD, LEVEL_UNIT, place_in, word, words_from};
+use bl_page::{FIRST_KEY, HEAD, LEVEL_UNIT, place_in, word, words_from};
 use bl_proc_routes::{words_with_value, words_without};
 use bl_proc_steps::{Outcome, thin_in};
 use bl_proc_writes::Noted;
-use bl_store::{Glance, Hand, Spread};
+use bl_store::{Glance, Hand, Splice};
 
 /// What became of a leaf that was to be put, by whether there was room.
 #[inline(always)]
@@ -142,7 +142,7 @@ fn replace_value<W: Writer>(
     put_leaf(tree, hand, at, writer, Noted { there, thin: None }, &words)
 }
 
-/// The pair enters the leaf that it holds, which has room: its words are spread so.
+/// The pair enters the leaf that it holds, which has room: its words are changed so.
 #[inline(always)]
 fn enter<W: Writer>(
     tree: &Tree,
@@ -150,24 +150,24 @@ fn enter<W: Writer>(
     at: u32,
     writer: &W,
     glance: Glance,
-    spread: Spread,
+    splice: Splice,
 ) -> Left
     requires runs { Runs tree.now hand.old (known hand.old.seat).state }
     requires empty { HasNoStock hand.old.seat }
     requires reads { ReadsFrom hand.old.seat glance }
     requires leaf { IsAtLeaf (W.key_of writer.now) (W.staged writer.now) at None (read_words hand.old.seat) (known hand.old.seat) }
-    requires effect { effect_of (W.write_of writer.now) None ≡ effects.Enter spread.word }
+    requires effect { effect_of (W.write_of writer.now) None ≡ effects.Enter (slice_index splice.words 1) }
     requires room { count_in (read_words hand.old.seat) < 14 }
-    requires first { spread.first ≡ slice_index (read_words hand.old.seat) 0 + 1 }
-    requires place { (spread.place ≡ place_among (W.key_of writer.now) (pairs_in (read_words hand.old.seat))) × (spread.place < 14) }
-    requires key { spread.key ≡ W.key_of writer.now }
+    requires head { splice.head ≡ slice_index (read_words hand.old.seat) 0 + 1 }
+    requires at { (splice.at ≡ 4 + 2 * place_among (W.key_of writer.now) (pairs_in (read_words hand.old.seat))) × (splice.at ≤ 30) }
+    requires key { slice_index splice.words 0 ≡ W.key_of writer.now }
     ensures { LeavesLeaf tree.now hand.old.seat hand.new (W.opened writer.now) (W.key_of writer.now) (W.write_of writer.now) result }
 {
     let noted = Noted {
         there: None,
         thin: None,
     };
-    let changed = tree.replace_spread(hand, at, glance, spread);
+    let changed = tree.replace_splice(hand, at, glance, splice);
     open_leaf(tree, hand, at, writer, Left::by(noted, outcome_of(changed)))
 }
 
@@ -235,13 +235,12 @@ pub fn write_there<W: Writer>(
         Effect::Replace(value) => replace_value(tree, hand, at, writer, there, value, glance),
         Effect::Enter(value) => {
             if count < MOST_PAIRS {
-                let spread = Spread {
-                    first: head + 1,
-                    place,
-                    key,
-                    word: value,
+                let splice = Splice {
+                    head: head + 1,
+                    at: FIRST_KEY + 2 * place,
+                    words: [key, value],
                 };
-                enter(tree, hand, at, writer, glance, spread)
+                enter(tree, hand, at, writer, glance, splice)
             } else {
                 split_leaf(tree, hand, at, writer, value, glance)
             }

@@ -10,7 +10,7 @@ ghost use Rattle.bl_proc.specs.declared.kinds.Proc.{Proc};
 ghost use Rattle.bl_proc.specs.Processes.{next_of};
 ghost use Rattle.bl_proc_deterministic.specs.Courses.{GoesOn};
 ghost use Rattle.bl_proc_deterministic.specs.Frames.{op_of, work_of};
-ghost use Rattle.bl_store.specs.Drafts.{IsSpread};
+ghost use Rattle.bl_store.specs.Drafts.{IsSplice};
 ghost use Rattle.bl_store.specs.Hands.{known, read_words, IsSameHand, IsSameStamp, IsSameStock, HasNoStock, IsStockOf, ReadsFrom, WasRefused, IsSameRefusal};
 ghost use Rattle.bl_index_rule.specs.declared.known.PassState.{PassState as Knows};
 ghost use Rattle.bl_index_rule.specs.Observed.{Goes};
@@ -19,7 +19,7 @@ ghost use Rattle.bl_index_events.specs.Runs.{Runs, KeepsHand, Rests, IsSince, Is
 
 use crate::tree::Tree;
 use bl_index_rule::{Ended, Got, Opened, PassState, Probed, Put, Refused, Took, Tried};
-use bl_store::{Glance, Hand, Spread, Stock};
+use bl_store::{Glance, Hand, Splice, Stock};
 use std::thread;
 
 /// How often a process lets others run at most where it finds too few frames.
@@ -125,19 +125,19 @@ impl Tree {
         }
     }
 
-    /// The process reserves a frame and puts the page, whose words are those that it looked at last, spread so, or is refused.
+    /// The process reserves a frame and puts the page, whose words are those that it looked at last, changed so, or is refused.
     #[inline(always)]
-    pub fn replace_spread(
+    pub fn replace_splice(
         &self,
         hand: &mut Hand<PassState>,
         page: u32,
         glance: Glance,
-        edit: Spread,
+        change: Splice,
     ) -> bool
         requires runs { Runs self.now hand.old (known hand.old.seat).state }
         requires reads { ReadsFrom hand.old.seat glance }
-        requires place { edit.place < 14 }
-        requires next { (c : Page) × (next_of (known hand.old.seat).state ≡ act.Put page c) × IsSpread edit (read_words hand.old.seat) (words_of c) }
+        requires at { (0 < change.at) × (change.at ≤ 30) }
+        requires next { (c : Page) × (next_of (known hand.old.seat).state ≡ act.Put page c) × IsSplice change (read_words hand.old.seat) (words_of c) }
         requires course { GoesOn (known hand.old.seat).state seen.Done × GoesOn (known hand.old.seat).state seen.Refused }
         requires empty { HasNoStock hand.old.seat }
         ensures same { IsSameHand hand.old.seat hand.new.seat × IsSameStamp hand.old.seat hand.new.seat }
@@ -150,7 +150,7 @@ impl Tree {
             Ok(stock) => {
                 let mut stock = stock;
                 self.store
-                    .put_spread::<Put>(hand, page, glance, edit, &mut stock);
+                    .put_splice::<Put>(hand, page, glance, change, &mut stock);
                 true
             }
             Err(_) => false,

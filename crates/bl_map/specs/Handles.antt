@@ -6,7 +6,7 @@ use Rattle.bl_model.specs.declared.operation.Op.{Op}
 use Rattle.bl_model.specs.declared.operation.Reply.{Reply}
 use Rattle.bl_page.specs.declared.page.Page.{Page}
 use Rattle.bl_claims.specs.Trails.{Trail}
-use Rattle.bl_index.specs.Calls.{first_of, pages_of, IsPassOf, IsSamePass, number_of, trail, released_by}
+use Rattle.bl_index.specs.Calls.{first_of, pages_of, frames_of, IsPassOf, IsSamePass, number_of, trail, released_by}
 use Rattle.bl_index.specs.Meetings.{Meet}
 use Rattle.bl_index.specs.declared.index.Index.{Index}
 use Rattle.bl_index.specs.declared.index.Pass.{Pass}
@@ -37,6 +37,9 @@ first_map_of handle = first_of (index_of handle)
 -- how many pages the map has
 abbrev pub pages_of_map : Handle → ℕ
 pages_of_map handle = pages_of (index_of handle)
+
+abbrev pub frames_of_map : Handle → ℕ
+frames_of_map handle = frames_of (index_of handle)
 
 -- all that has happened in the map, up to the handle's own last event
 abbrev pub seen_by : Handle → Trail

@@ -12,7 +12,7 @@ ghost use Rattle.bl_map.specs.Seats.{IsPassOf-prop};
 ghost use Rattle.bl_map_calls.specs.declared.updating.Updated.TheVariants as updated;
 
 use bl_check::Quiet;
-use bl_index::{Hint, Index, KeyReply, KeyWrite, Pass, Reply};
+use bl_index::{Hint, Index, KeyReply, KeyWrite, Pass, Reply, RoomSeen};
 use bl_load::LoadFault;
 use bl_map_calls::many::{Deletions, Insertions, Puts};
 use bl_map_calls::updating::{self, Updated};
@@ -46,7 +46,7 @@ impl<'a> Handle<'a> {
     ghost use Rattle.bl_map_calls.specs.Many.{insertion_of, put_of, deletion_of};
     ghost use Rattle.bl_map.specs.Handles.{HasUpdated, HasCopied};
     ghost use Rattle.bl_map.specs.Handles.{HaveMet, KeepsHints, AreOfOne, IsHandleOver, released_in};
-    ghost use Rattle.bl_map.specs.Handles.{first_map_of, pages_of_map, number_of_seat, seat_of, seen_by, waiting_of, dropped_of};
+    ghost use Rattle.bl_map.specs.Handles.{first_map_of, pages_of_map, frames_of_map, number_of_seat, seat_of, seen_by, waiting_of, dropped_of};
     ghost use Rattle.bl_map_calls.specs.Scans.{Scanned, TellsRows};
     ghost use Rattle.bl_map_calls.specs.Falling.{ScannedDown, TellsDown};
 
@@ -437,6 +437,15 @@ impl<'a> Handle<'a> {
     /// How many pages of the map are free, about: others take and release some meanwhile.
     pub fn free_pages(&self) -> u64 {
         self.index.tree().store.free_pages()
+    }
+
+    /// How full the map is, as one look over all its pages and frames finds it: see [`RoomSeen`]. It takes time with each of them, and is
+    /// exact where no other handle works.
+    pub fn room(&self) -> RoomSeen
+        ensures pages { (result.pages ≡ pages_of_map self.now) × (result.used_pages + result.free_pages ≤ result.pages) }
+        ensures frames { (result.frames ≡ frames_of_map self.now) × (result.free_frames ≤ result.frames) }
+    {
+        self.index.room()
     }
 
     /// Whether so few are free that changes by all handles at once may want more.

@@ -21,7 +21,9 @@ mod map;
 mod meeting;
 mod seating;
 
-pub use bl_index::{CloseFault, Hint, KeyReply, KeyWrite, Next, OpenFault, Pass as Seat, Reply};
+pub use bl_index::{
+    CloseFault, Hint, KeyReply, KeyWrite, Next, OpenFault, Pass as Seat, Reply, RoomSeen,
+};
 pub use bl_load::LoadFault;
 pub use bl_map_calls::updating::Updated;
 pub use bl_map_calls::upkeep::Followed;

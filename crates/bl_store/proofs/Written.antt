@@ -6,9 +6,9 @@ use Rattle.atomic_table.specs.declared.shared.Seat.{Seat}
 use Rattle.bl_layout.specs.declared.layout.Layout.{Layout}
 use Rattle.bl_layout.specs.Words.{frame_count}
 use Rattle.bl_store_rule.specs.Observed.{draft}
-use Rattle.bl_store.specs.Drafts.{first_words, behind_first, IsSpread}
+use Rattle.bl_store.specs.Drafts.{first_words, behind_first, IsSplice}
 use Rattle.bl_store.specs.Hands.{drafts, BeginsAt, IsStockOf}
-use Rattle.bl_store.specs.declared.put.Spread.{Spread}
+use Rattle.bl_store.specs.declared.put.Splice.{Splice}
 use Rattle.bl_store.specs.declared.stock.Stock.{Stock}
 use Rattle.bl_store_rule.specs.declared.view.Draft.{Draft}
 use Rattle.bl_store_rule.specs.declared.view.Reading.{Reading}
@@ -37,15 +37,15 @@ module _ (s t : List Draft) (f n w : ℕ) (has : s ≡ draft f (first_words s) �
       last (x ∷ xs) w = last xs w
 
 -- there is one such list
-pub spread_one : (change : Spread) (old xs ys : List ℕ) → change.place < 14 → IsSpread change old xs → IsSpread change old ys → xs ≡ ys
-spread_one change old xs ys few a b = ext_get_or 0 xs ys (a.size ∙ sym b.size) (λ k low. elim (cases_eq k 0) [
-  | inl none ↦ ap (λ (z : ℕ). get_or xs z 0) none ∙ (a.first ∙ (sym b.first ∙ ap (λ (z : ℕ). get_or ys z 0) (sym none)))
-  | inr some ↦ elim (cases_lt k (4 + 2 * change.place)) [
+pub splice_one : (change : Splice) (old xs ys : List ℕ) → change.at ≤ 30 → IsSplice change old xs → IsSplice change old ys → xs ≡ ys
+splice_one change old xs ys few a b = ext_get_or 0 xs ys (a.size ∙ sym b.size) (λ k low. elim (cases_eq k 0) [
+  | inl none ↦ ap (λ (z : ℕ). get_or xs z 0) none ∙ (a.head ∙ (sym b.head ∙ ap (λ (z : ℕ). get_or ys z 0) (sym none)))
+  | inr some ↦ elim (cases_lt k change.at) [
     | inl less ↦ a.below k (omega (arith, some)) less ∙ sym (b.below k (omega (arith, some)) less)
-    | inr more ↦ elim (cases_eq k (4 + 2 * change.place)) [
-      | inl here ↦ ap (λ (z : ℕ). get_or xs z 0) here ∙ (a.key_there ∙ (sym b.key_there ∙ ap (λ (z : ℕ). get_or ys z 0) (sym here)))
-      | inr other ↦ elim (cases_eq k (5 + 2 * change.place)) [
-        | inl next ↦ ap (λ (z : ℕ). get_or xs z 0) next ∙ (a.word_there ∙ (sym b.word_there ∙ ap (λ (z : ℕ). get_or ys z 0) (sym next)))
+    | inr more ↦ elim (cases_eq k change.at) [
+      | inl here ↦ ap (λ (z : ℕ). get_or xs z 0) here ∙ (a.one_there ∙ (sym b.one_there ∙ ap (λ (z : ℕ). get_or ys z 0) (sym here)))
+      | inr other ↦ elim (cases_eq k (change.at + 1)) [
+        | inl next ↦ ap (λ (z : ℕ). get_or xs z 0) next ∙ (a.two_there ∙ (sym b.two_there ∙ ap (λ (z : ℕ). get_or ys z 0) (sym next)))
         | inr far ↦ (let e : k ≡ k - 2 + 2 = omega (arith, more, other, far) in
             ap (λ (z : ℕ). get_or xs z 0) e ∙ (a.above (k - 2) (omega (arith, more, other, far)) (omega (arith, low, a.size)) ∙ (sym (b.above (k - 2) (omega (arith, more, other, far)) (omega (arith, low, a.size))) ∙ ap (λ (z : ℕ). get_or ys z 0) (sym e))))
       ]

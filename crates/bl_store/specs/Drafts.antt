@@ -2,7 +2,7 @@
 use Rattle.std.specs.Prelude.{◌≡◌, ℕ, ◌+◌, ◌*◌, ◌<◌, ◌≤◌, List, [], ◌∷◌, length, slice_index}
 use Rattle.atomic_table.specs.declared.shared.Seat.{Seat}
 use Rattle.bl_store_rule.specs.Observed.{draft}
-use Rattle.bl_store.specs.declared.put.Spread.{Spread}
+use Rattle.bl_store.specs.declared.put.Splice.{Splice}
 use Rattle.bl_store_rule.specs.declared.view.Draft.{Draft}
 use Rattle.bl_store_rule.specs.declared.view.View.{View}
 
@@ -27,12 +27,12 @@ module _ {D : Type 0} where
   abbrev pub HasDraft : Seat (Unit {0}) (View D) → ℕ → ℕ → Type 0
   HasDraft h frame many = (h.me.0.stock ≡ draft frame (draft_words h) ∷ other_drafts h) × (length (draft_words h) ≡ many)
 
--- New words are the old ones but for the first, with two words behind 4 + 2 * place of them. The old ones from there on stand two
--- words further up, and the last two are lost.
-pub record IsSpread (change : Spread) (old new : List ℕ) : Type 0 where
+-- New words are the old ones but for the first, with two words at word `at`. The old ones from there on stand two words further
+-- up, and the last two are lost.
+pub record IsSplice (change : Splice) (old new : List ℕ) : Type 0 where
   pub size : length new ≡ 32
-  pub first : slice_index new 0 ≡ change.first
-  pub below : (k : ℕ) → 0 < k → k < 4 + 2 * change.place → slice_index new k ≡ slice_index old k
-  pub key_there : slice_index new (4 + 2 * change.place) ≡ change.key
-  pub word_there : slice_index new (5 + 2 * change.place) ≡ change.word
-  pub above : (k : ℕ) → 4 + 2 * change.place ≤ k → k < 30 → slice_index new (k + 2) ≡ slice_index old k
+  pub head : slice_index new 0 ≡ change.head
+  pub below : (k : ℕ) → 0 < k → k < change.at → slice_index new k ≡ slice_index old k
+  pub one_there : slice_index new change.at ≡ slice_index change.words 0
+  pub two_there : slice_index new (change.at + 1) ≡ slice_index change.words 1
+  pub above : (k : ℕ) → change.at ≤ k → k < 30 → slice_index new (k + 2) ≡ slice_index old k

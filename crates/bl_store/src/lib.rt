@@ -27,7 +27,9 @@ mod scarce;
 mod stock;
 mod store;
 mod sweep;
+mod usage;
 
-pub use put::Spread;
+pub use put::Splice;
 pub use stock::{NoRoom, Stock};
 pub use store::{Glance, Hand, Peek, Store};
+pub use usage::RoomSeen;

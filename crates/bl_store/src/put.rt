@@ -1,7 +1,7 @@
 //! Puts.
 ghost use Rattle.std.specs.Prelude.{◌≡◌, ℕ, ◌+◌, ◌*◌, ◌-◌, ◌<◌, ◌≤◌, List, [], ◌∷◌, length, slice_index};
 ghost use Rattle.bl_layout.specs.Words.{frame_count};
-ghost use Rattle.bl_store.specs.Drafts.{draft_words, other_drafts, HasDraft, IsSpread};
+ghost use Rattle.bl_store.specs.Drafts.{draft_words, other_drafts, HasDraft, IsSplice};
 ghost use Rattle.bl_store_rule.specs.Frames.{place_at};
 ghost use Rattle.bl_store_rule.specs.Pages.{Held, Puts};
 ghost use Rattle.bl_store.specs.Hands.{known, read_words, IsSameHand, IsSameReading, IsSameStamp, IsQuiet, IsStockOf, HasRetired, ReadsFrom};
@@ -17,14 +17,14 @@ use bl_store_rule::plays::{Confirm, Settle, Swap, Tick, Write};
 use bl_store_rule::{PagePlay, PageRule};
 use std::alloc::Allocator;
 
-/// How the words of a page are to change: they get another first one, and two words enter behind 4 + 2 * place of them.
+/// How the words of a page are to change: the first one becomes `head`, and two words enter at word `at`. Those from there on
+/// move up by two, and the last two are lost.
 #[derive(Clone, Copy)]
-pub struct Spread {
-    pub first: u64,
-    /// 0 to 13.
-    pub place: usize,
-    pub key: u64,
-    pub word: u64,
+pub struct Splice {
+    pub head: u64,
+    /// 1 to 30.
+    pub at: usize,
+    pub words: [u64; 2],
 }
 
 /// After so many puts a sweep is due.
@@ -61,24 +61,22 @@ impl<D, R: PageRule<D>, A: Allocator> Store<D, R, A> {
         self.name_frame::<M>(hand, page, frame);
     }
 
-    /// The same, with words that are those of the page that the hand looked at last, but for the first one, and for two words
-    /// that enter behind 4 + 2 * place of them. What stands from there on moves up by two words, and the last two are lost.
-    /// They are written from frame to frame.
+    /// The same, with the words of the page that the hand looked at last, changed so. They are written from frame to frame.
     #[inline(always)]
-    pub fn put_spread<M: PagePlay<D>>(
+    pub fn put_splice<M: PagePlay<D>>(
         &self,
         hand: &mut Hand<D>,
         page: u32,
         glance: Glance,
-        change: Spread,
+        change: Splice,
         stock: &mut Stock,
     )
         requires own { IsHandOf self.now hand.old }
         requires page { page < self.now.layout.pages }
         requires reads { ReadsFrom hand.old.seat glance }
-        requires place { change.place < 14 }
+        requires at { (0 < change.at) × (change.at ≤ 30) }
         requires stock { IsStockOf hand.old.seat stock.old × (0 < stock.old.count) }
-        requires rule { (words : List ℕ) × IsSpread change (read_words hand.old.seat) words
+        requires rule { (words : List ℕ) × IsSplice change (read_words hand.old.seat) words
             × Puts R.holds self.now.layout hand.old.number (known hand.old.seat) page words M.then }
         ensures same { IsSameHand hand.old.seat hand.new.seat × IsSameStamp hand.old.seat hand.new.seat
             × (hand.new.seat.me.0.retires ≡ hand.old.seat.me.0.retires) }
@@ -88,7 +86,7 @@ impl<D, R: PageRule<D>, A: Allocator> Store<D, R, A> {
     {
         stock.count -= 1;
         let frame = stock.frames[stock.count as usize];
-        self.write_spread(hand, frame, glance, change);
+        self.write_splice(hand, frame, glance, change);
         self.name_frame::<M>(hand, page, frame);
     }
 
@@ -189,8 +187,8 @@ impl<D, R: PageRule<D>, A: Allocator> Store<D, R, A> {
         }
     }
 
-    // The next words of the frame that was reserved last, so many pairs of them, are those at the same place of the page that the
-    // hand looked at last. Two words a round take less time than one.
+    // The next words of the frame that was reserved last, up to word `to`, are those at the same place of the page that the hand
+    // looked at last. Two words a round take less time than one.
     #[inline(always)]
     fn carry(
         &self,
@@ -199,24 +197,29 @@ impl<D, R: PageRule<D>, A: Allocator> Store<D, R, A> {
         first: usize,
         glance: Glance,
         from: usize,
-        pairs: usize,
+        to: usize,
     )
         requires own { IsHandOf self.now hand.old }
         requires frame { (frame < frame_count self.now.layout) × (first ≡ place_at self.now.layout frame 0) }
         requires reads { ReadsFrom hand.old.seat glance }
-        requires range { from + 2 * pairs ≤ 32 }
+        requires range { (from ≤ to) × (to ≤ 32) }
         requires draft { HasDraft hand.old.seat frame from }
         ensures same { IsQuiet hand.old.seat hand.new.seat × IsSameReading hand.old.seat hand.new.seat }
-        ensures draft { HasDraft hand.new.seat frame (from + 2 * pairs) × (other_drafts hand.new.seat ≡ other_drafts hand.old.seat) }
+        ensures draft { HasDraft hand.new.seat frame to × (other_drafts hand.new.seat ≡ other_drafts hand.old.seat) }
         ensures kept { (k : ℕ) → k < from → slice_index (draft_words hand.new.seat) k ≡ slice_index (draft_words hand.old.seat) k }
-        ensures carried { (k : ℕ) → from ≤ k → k < from + 2 * pairs
+        ensures carried { (k : ℕ) → from ≤ k → k < to
             → slice_index (draft_words hand.new.seat) k ≡ slice_index (read_words hand.old.seat) k }
     {
+        let pairs = (to - from) / 2;
         for pair in 0..pairs {
             let one = self.seen_word(hand, glance, from + 2 * pair);
             let two = self.seen_word(hand, glance, from + 2 * pair + 1);
             self.write_next(hand, frame, first, from + 2 * pair, one);
             self.write_next(hand, frame, first, from + 2 * pair + 1, two);
+        }
+        if (to - from) % 2 == 1 {
+            let last = self.seen_word(hand, glance, to - 1);
+            self.write_next(hand, frame, first, to - 1, last);
         }
     }
 
@@ -247,27 +250,25 @@ impl<D, R: PageRule<D>, A: Allocator> Store<D, R, A> {
         }
     }
 
-    // Writes the words into the frame that was reserved last, from those of the page that the hand looked at last.
+    // Writes the words of the page that the hand looked at last, changed so, into the frame that was reserved last.
     #[inline(always)]
-    fn write_spread(&self, hand: &mut Hand<D>, frame: u32, glance: Glance, change: Spread)
+    fn write_splice(&self, hand: &mut Hand<D>, frame: u32, glance: Glance, change: Splice)
         requires own { IsHandOf self.now hand.old }
         requires frame { frame < frame_count self.now.layout }
         requires reads { ReadsFrom hand.old.seat glance }
-        requires place { change.place < 14 }
+        requires at { (0 < change.at) × (change.at ≤ 30) }
         requires draft { HasDraft hand.old.seat frame 0 }
         ensures same { IsQuiet hand.old.seat hand.new.seat }
         ensures draft { HasDraft hand.new.seat frame 32 × (other_drafts hand.new.seat ≡ other_drafts hand.old.seat) }
-        ensures words { IsSpread change (read_words hand.old.seat) (draft_words hand.new.seat) }
+        ensures words { IsSplice change (read_words hand.old.seat) (draft_words hand.new.seat) }
     {
-        let place = change.place;
+        let at = change.at;
         let first = self.layout.frame_word_cell(frame, 0);
-        self.write_next(hand, frame, first, 0, change.first);
-        let low = self.seen_word(hand, glance, 1);
-        self.write_next(hand, frame, first, 1, low);
-        self.carry(hand, frame, first, glance, 2, 1 + place);
-        self.write_next(hand, frame, first, 4 + 2 * place, change.key);
-        self.write_next(hand, frame, first, 5 + 2 * place, change.word);
-        self.carry_rest(hand, frame, first, glance, 6 + 2 * place, 4 + 2 * place);
+        self.write_next(hand, frame, first, 0, change.head);
+        self.carry(hand, frame, first, glance, 1, at);
+        self.write_next(hand, frame, first, at, change.words[0]);
+        self.write_next(hand, frame, first, at + 1, change.words[1]);
+        self.carry_rest(hand, frame, first, glance, at + 2, at);
     }
 
     // The frame that the hand took from a page is retired, at a time that no other has.

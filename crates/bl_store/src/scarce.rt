@@ -109,7 +109,7 @@ impl<D, R: PageRule<D>, A: Allocator> Store<D, R, A> {
     }
 
     // How many of the frames of a range are free, so many at most, and whether one that it looked at is retired.
-    fn look_over(&self, from: u32, to: u32, wanted: u32) -> (u32, bool)
+    pub(crate) fn look_over(&self, from: u32, to: u32, wanted: u32) -> (u32, bool)
         requires range { (from ≤ to) × (to ≤ frame_count self.now.layout) }
         ensures few { result.0 ≤ wanted }
     {

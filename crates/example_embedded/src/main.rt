@@ -1,13 +1,13 @@
 //! How a program embeds the map. Two threads share it, each by a handle of its own: each inserts a hundred rows and deletes the
 //! last twenty of them. Their handles meet, and one of them finds a row of the other and lists rows of both. The map is closed, and
-//! another one opened from its image. What it prints is the same whatever the schedule. `docs/EMBEDDING.md` goes through it.
+//! another one opened from its image, of which the first rows from a key on are listed. What it prints is the same whatever the schedule. `docs/EMBEDDING.md` goes through it.
 #![tactic(auto)]
 
 ghost use Rattle.std.specs.Prelude.{◌≡◌, All, IfSome, IfOk};
 ghost use Rattle.bl_map.specs.Handles.{AreOfOne};
 ghost use Rattle.bl_map.specs.Maps.{AreSeatsOf, IsHandleOf, IsSeatOf};
 
-use bl_map::{Handle, KeyReply, Map, Seat};
+use bl_map::{Handle, KeyReply, Map, Next, Reply, Seat};
 use std::alloc::{AllocError, Global};
 use std::sync::Wait;
 use std::sync::atomic::{AtomicU64, Ordering};
@@ -130,6 +130,33 @@ fn count<R: Wait>(rt: &R, handle: &mut Handle<'_>) -> u64 {
     rows
 }
 
+/// The first rows from a key on, so many at most. A part has the rows of one leaf, and says from which key the next part goes on.
+fn first_rows<R: Wait>(
+    rt: &R,
+    alloc: Global,
+    handle: &mut Handle<'_>,
+    from: u64,
+    most: usize,
+) -> Option<Vec<(u64, u64)>> {
+    let mut rows = Vec::new(alloc);
+    let mut near = None;
+    let mut from = from;
+    for _ in rt.forever() {
+        let Reply::Rows(part, next) = handle.part(rt, from, &mut near) else {
+            return None;
+        };
+        rows.extend_from_slice(part.as_slice()).ok()?;
+        match next {
+            Next::More(key) if rows.len() < most => from = key,
+            _ => {
+                rows.truncate(most);
+                return Some(rows);
+            }
+        }
+    }
+    unreachable!()
+}
+
 /// The two handles.
 fn both<'a>(map: &Map, handles: Vec<Handle<'a>>) -> Option<(Handle<'a>, Handle<'a>)>
     requires { All (IsHandleOf map.now) handles.items }
@@ -212,14 +239,19 @@ fn shared<R: Threads + Wait + Sync>(
     ))
 }
 
+/// Prints rows.
+fn print_rows(rt: &HostRuntime, rows: &[(u64, u64)]) -> anyhow::Result<()> {
+    for (key, value) in rows {
+        println!(rt; "{key} {value}")?;
+    }
+    Ok(())
+}
+
 /// Prints what was seen.
 fn print(rt: &HostRuntime, seen: &Seen) -> anyhow::Result<()> {
     println!(rt; "inserted {}, deleted {}", seen.inserted, seen.deleted)?;
     println!(rt; "50 has {}", seen.value)?;
-    for (key, value) in seen.rows.as_slice() {
-        println!(rt; "{key} {value}")?;
-    }
-    Ok(())
+    print_rows(rt, seen.rows.as_slice())
 }
 
 fn main(rt: HostRuntime) -> anyhow::Result<()> {
@@ -237,6 +269,9 @@ fn main(rt: HostRuntime) -> anyhow::Result<()> {
     let rows = count(&rt, &mut handle);
     if let Some(value) = value_of(&rt, &mut handle, 42) {
         println!(rt; "from the image: {rows} rows, 42 has {value}")?;
+    }
+    if let Some(rows) = first_rows(&rt, rt.alloc(), &mut handle, 80, 3) {
+        print_rows(&rt, rows.as_slice())?;
     }
     Ok(())
 }

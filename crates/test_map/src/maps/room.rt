@@ -1,7 +1,7 @@
 //! Rows that come and go find room, and a map is put in order when they have gone.
 
 use crate::maps::calls::{opened, shared};
-use bl_map::{Handle, KeyReply};
+use bl_map::{Handle, KeyReply, RoomSeen};
 use std::sync::Wait;
 
 /// With so many pages some six rows a page surely fit: so many.
@@ -88,4 +88,29 @@ fn a_full_map_refuses_until_a_row_goes(rt: HostRuntime) {
     assert!(rt; rows >= SURELY && handle.lacks_pages());
     assert_eq!(rt; empty(&rt, &mut handle, 0, rows), rows);
     assert_eq!(rt; fill(&rt, &mut handle, 0, SURELY), SURELY);
+}
+
+#[test]
+fn room_is_counted_at_rest(rt: HostRuntime) {
+    let (map, seat) = opened(rt.alloc(), 64).expect(&rt, "it is opened");
+    let mut handle = map.handle(seat);
+    // The anchor and one leaf, with a frame each. There are two frames for each page, and eight for the seat.
+    let empty = RoomSeen {
+        pages: 64,
+        used_pages: 2,
+        free_pages: 62,
+        frames: 136,
+        free_frames: 134,
+    };
+    assert_eq!(rt; handle.room(), empty);
+    // A leaf of 14 rows splits at the next one: two leaves, and a page above them.
+    assert_eq!(rt; fill(&rt, &mut handle, 0, 15), 15);
+    handle.tidy(&rt);
+    let split = RoomSeen {
+        used_pages: 4,
+        free_pages: 60,
+        free_frames: 132,
+        ..empty
+    };
+    assert_eq!(rt; handle.room(), split);
 }
