@@ -152,6 +152,15 @@ typedef struct blink_stats {
     uint64_t dropped;    /* as blink_dropped */
 } blink_stats;
 
+/* How many pages and frames a map has, and how many of them are in use and free. */
+typedef struct blink_room {
+    uint64_t pages;       /* how many pages the map has */
+    uint64_t used_pages;  /* how many of them are in use */
+    uint64_t free_pages;  /* how many are free; those between wait for calls that run */
+    uint64_t frames;      /* how many frames the map has, which hold the words of pages */
+    uint64_t free_frames; /* how many of them are free */
+} blink_room;
+
 /* ---- Opening and closing. ---- */
 
 /* Opens a map without rows, of so many pages, with a seat for each of the `count` places.
@@ -416,6 +425,13 @@ uint64_t blink_dropped(blink_seat *seat);
  *   BLINK_OK          `*stats` says so
  *   BLINK_CLOSED      the seat is closed; `*stats` is as it was */
 int32_t blink_stat(blink_seat *seat, blink_stats *stats);
+
+/* Looks at each page and each frame of the map, which takes time with their number, and
+ * says how many are in use and free. It is no call of the map, and changes nothing. The
+ * numbers are exact where no other seat is in a call.
+ *   BLINK_OK          `*room` says so
+ *   BLINK_CLOSED      the seat is closed; `*room` is as it was */
+int32_t blink_room_of(blink_seat *seat, blink_room *room);
 
 /* ---- Two seats. ---- */
 

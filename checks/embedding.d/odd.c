@@ -86,6 +86,7 @@ static void opened_twice(void) {
 static void closed(void) {
     blink_part part = {0, 0, true, 0};
     blink_stats stats = {1, 2, 3, 4};
+    blink_room room = {1, 2, 3, 4, 5};
     static uint8_t bytes[LENGTH];
     size_t found = 9;
     uint64_t next = 9;
@@ -110,6 +111,8 @@ static void closed(void) {
     HOLDS(blink_waiting(&seats[0]) == 0 && blink_dropped(&seats[0]) == 0);
     WANT(blink_stat(&seats[0], &stats), BLINK_CLOSED);
     HOLDS(stats.pages == 1 && stats.free_pages == 2 && stats.waiting == 3 && stats.dropped == 4);
+    WANT(blink_room_of(&seats[0], &room), BLINK_CLOSED);
+    HOLDS(room.pages == 1 && room.used_pages == 2 && room.free_pages == 3 && room.frames == 4 && room.free_frames == 5);
     WANT(blink_save(&seats[0], 14, rows, 64, bytes, sizeof bytes, &length), BLINK_CLOSED);
     WANT(blink_try_close(&seats[0]), BLINK_CLOSED);
     WANT(blink_close(&seats[0]), BLINK_CLOSED);
@@ -128,6 +131,7 @@ static uint64_t filled(void) {
 
 static void full(uint64_t count) {
     blink_stats stats = {9, 9, 9, 9};
+    blink_room room = {9, 9, 9, 9, 9};
     WANT(blink_insert(&seats[0], 0, 9, &value), BLINK_PRESENT);
     HOLDS(value == 0);
     WANT(blink_change(&seats[0], 0, 0, 5, &value), BLINK_OK);
@@ -145,6 +149,9 @@ static void full(uint64_t count) {
     HOLDS(blink_waiting(&seats[0]) == 0);
     WANT(blink_stat(&seats[0], &stats), BLINK_OK);
     HOLDS(stats.pages == PAGES && stats.free_pages == 0 && stats.waiting == 0 && stats.dropped == blink_dropped(&seats[0]));
+    WANT(blink_room_of(&seats[0], &room), BLINK_OK);
+    HOLDS(room.pages == PAGES && room.used_pages == PAGES && room.free_pages == 0);
+    HOLDS(room.frames == 2 * PAGES + 8 * 2 && room.free_frames <= room.frames - PAGES);
     WANT(blink_meet(&seats[0], &seats[0]), BLINK_OK);
     WANT(blink_meet(&seats[0], &seats[1]), BLINK_OK);
 }

@@ -18,8 +18,9 @@ use Rattle.bl_ffi_seats.specs.Calls.{IsSameSeat, HasToldLast, HasTold, HasGoneOn
 use Rattle.bl_ffi_seats.specs.Tended.{KeepsUpkeep, HasTended, HasPrepared, HasToWait, HasChanged, SweepsOnce}
 use Rattle.bl_ffi_seats.specs.Meetings.{HasSettled, HasNoAnswer}
 use Rattle.bl_ffi_seats.specs.Waits.{hints_of}
-use Rattle.bl_index.specs.Calls.{pages_of}
+use Rattle.bl_index.specs.Calls.{pages_of, frames_of}
 use Rattle.bl_ffi.specs.declared.seat.SeatOfC.{SeatOfC}
+use Rattle.bl_ffi.specs.declared.room.Room.{Room}
 use Rattle.bl_ffi.specs.declared.stats.Stats.{Stats}
 
 -- the code of a reply, and the value that is written beside it
@@ -143,6 +144,17 @@ pub record AreStatsOf (s : Seat) (stats : Stats) : Type 0 where
 -- The seat is as it was, and a closed one leaves the numbers as they were.
 abbrev pub ShowsStats : SeatOfC → SeatOfC → Stats → Stats → ℤ → Type 0
 ShowsStats old new stats stats' code = MatchOption old.seat ((code ≡ pos 9) × (new.seat ≡ None) × (stats' ≡ stats)) (λ s. (code ≡ pos 0) × (new.seat ≡ Some s) × AreStatsOf s stats')
+
+-- What a look at all pages and frames of its map says. Of how many are free no clause says more.
+pub record IsRoomOf (s : Seat) (room : Room) : Type 0 where
+  pub pages : room.pages ≡ pages_of (arc_value s.index)
+  pub few_pages : room.used_pages + room.free_pages ≤ room.pages
+  pub frames : room.frames ≡ frames_of (arc_value s.index)
+  pub few_frames : room.free_frames ≤ room.frames
+
+-- The seat is as it was, and a closed one leaves the numbers as they were.
+abbrev pub ShowsRoom : SeatOfC → SeatOfC → Room → Room → ℤ → Type 0
+ShowsRoom old new room room' code = MatchOption old.seat ((code ≡ pos 9) × (new.seat ≡ None) × (room' ≡ room)) (λ s. (code ≡ pos 0) × (new.seat ≡ Some s) × IsRoomOf s room')
 
 -- The seat is as it was, and a closed one leaves the place as it was. Of what an open one shows no clause says more, since no clause of `Arc` says
 -- where its value lies.

@@ -10,6 +10,7 @@ mod codes;
 mod loose;
 mod opening;
 mod places;
+mod room;
 mod saving;
 mod seat;
 mod stats;
@@ -21,6 +22,7 @@ pub use calls::{
     blink_waiting,
 };
 pub use opening::{blink_open, blink_open_image};
+pub use room::{Room, blink_room_of};
 pub use saving::blink_image_of;
 pub use seat::{Hidden, SeatOfC};
 pub use stats::{Stats, blink_stat};

@@ -1,6 +1,6 @@
 //! A seat, and what is done from it.
 
-ghost use Rattle.std.specs.Prelude.{◌≡◌, ◌<◌, IfNone, [], true, false};
+ghost use Rattle.std.specs.Prelude.{◌≡◌, ◌+◌, ◌<◌, ◌≤◌, IfNone, [], true, false};
 ghost use Rattle.std.specs.Arc.{arc_value};
 ghost use Rattle.bl_ffi_seats.specs.Pieces.{are_pieces, reply_in};
 ghost use Rattle.bl_ffi_seats.specs.Seats.{IsSeated};
@@ -10,7 +10,7 @@ use crate::working::{
     begin_following, begin_lowering, find, go_on, meet, part, release, start_writing,
 };
 use arrayvec::ArrayVec;
-use bl_index::{Index, KeyReply, KeyWrite, Reply};
+use bl_index::{Index, KeyReply, KeyWrite, Reply, RoomSeen};
 use bl_index_events::Tree;
 use bl_index_resume::{Stage, stands};
 use bl_index_rule::PassState;
@@ -191,7 +191,7 @@ impl Seat {
     ghost use Rattle.bl_ffi_seats.specs.Calls.{IsAbout, seat_number, account_of, released_by, begun_by};
     ghost use Rattle.bl_ffi_seats.specs.Tended.{IsAsItWas, KeepsUpkeep, Swept, Tends, DoesNoPiece, HasTended, HasPrepared, MayEnter, HasToWait, HasChanged, HasCome};
     ghost use Rattle.bl_ffi_seats.specs.Meetings.{AreOfOne, HaveMet, HasSettled, HasNoAnswer};
-    ghost use Rattle.bl_index.specs.Calls.{pages_of};
+    ghost use Rattle.bl_index.specs.Calls.{pages_of, frames_of};
 
     /// The value of a key, or that the key is absent. None: it ran out of turns, or a change is underway; it is to be made again.
     pub fn find(&mut self, key: u64) -> Option<KeyReply>
@@ -334,6 +334,14 @@ impl Seat {
     /// How many of them are free, about: others take and release some meanwhile.
     pub fn free_pages(&self) -> u64 {
         self.index.tree().store.free_pages()
+    }
+
+    /// How full its index is, as one look over all its pages and frames finds it: see [`RoomSeen`].
+    pub fn room(&self) -> RoomSeen
+        ensures pages { (result.pages ≡ pages_of (arc_value self.now.index)) × (result.used_pages + result.free_pages ≤ result.pages) }
+        ensures frames { (result.frames ≡ frames_of (arc_value self.now.index)) × (result.free_frames ≤ result.frames) }
+    {
+        self.index.room()
     }
 
     /// A place in the memory of its index. Seats of one index have one place, and seats of two that are open have two: no clause says so.

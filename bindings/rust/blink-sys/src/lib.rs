@@ -54,6 +54,22 @@ pub struct blink_stats {
     pub dropped: u64,
 }
 
+/// How many pages and frames a map has, and how many of them are in use and free.
+#[repr(C)]
+#[derive(Clone, Copy, Debug, Default)]
+pub struct blink_room {
+    /// How many pages the map has.
+    pub pages: u64,
+    /// How many of them are in use.
+    pub used_pages: u64,
+    /// How many are free.
+    pub free_pages: u64,
+    /// How many frames the map has.
+    pub frames: u64,
+    /// How many of them are free.
+    pub free_frames: u64,
+}
+
 /// Done.
 pub const BLINK_OK: i32 = 0;
 /// The key is not there.
@@ -208,6 +224,7 @@ extern "C" {
     pub fn blink_waiting(seat: *mut blink_seat) -> u32;
     pub fn blink_dropped(seat: *mut blink_seat) -> u64;
     pub fn blink_stat(seat: *mut blink_seat, stats: *mut blink_stats) -> i32;
+    pub fn blink_room_of(seat: *mut blink_seat, room: *mut blink_room) -> i32;
     pub fn blink_meet(one: *mut blink_seat, two: *mut blink_seat) -> i32;
     pub fn blink_map(seat: *mut blink_seat, place: *mut *const u32) -> i32;
     pub fn blink_text(code: i32) -> *const c_char;
