@@ -378,6 +378,15 @@ public:
         return code == BLINK_OK;
     }
 
+    // How many pages and frames the map has, in use and free, by a look at each: exact
+    // where no other handle is in a call.
+    blink_room room() {
+        blink_room room{};
+        const int32_t code = blink_room_of(&seat_, &room);
+        if (code != BLINK_OK) detail::refuse(code);
+        return room;
+    }
+
 private:
     friend class Map;
     Handle(std::shared_ptr<detail::Seats> seats, blink_seat seat) noexcept

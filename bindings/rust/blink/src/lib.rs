@@ -29,6 +29,7 @@ mod error;
 mod range;
 mod update;
 
+pub use blink_sys::blink_room as Room;
 pub use error::{CloseError, ExchangeError, NoRoom, OpenError};
 pub use range::Range;
 
@@ -377,6 +378,15 @@ impl Handle {
     /// Does so many pieces of upkeep at most: whether nothing is left to do. No program need call it.
     pub fn upkeep(&self, most: u32) -> bool {
         unsafe { blink_upkeep(self.at(), most) == BLINK_OK }
+    }
+
+    /// How many pages and frames the map has, in use and free, by a look at each: exact where no other handle is in a call.
+    pub fn room(&self) -> Room {
+        let mut room = Room::default();
+        match unsafe { blink_room_of(self.at(), &mut room) } {
+            BLINK_OK => room,
+            code => error::unexpected(code),
+        }
     }
 }
 
