@@ -1,5 +1,5 @@
 -- What a call tells C.
-use Rattle.std.specs.Prelude.{◌≡◌, ◌≢◌, ◌⊎◌, ℕ, ℤ, pos, min, true, false, Some, None, List, [], ◌∷◌, ◌++◌, map, take, drop, length, MatchOption}
+use Rattle.std.specs.Prelude.{◌≡◌, ◌≢◌, ◌⊎◌, ◌+◌, ◌≤◌, ℕ, ℤ, pos, min, true, false, Some, None, List, [], ◌∷◌, ◌++◌, map, take, drop, length, MatchOption}
 use denote.RawPtr.{Ptr}
 use Rattle.bl_model.specs.declared.operation.Next.{Next}
 use Rattle.bl_model.specs.declared.operation.Next.TheVariants.{More, End}

@@ -1,6 +1,6 @@
 //! A seat, and what is done from it.
 
-ghost use Rattle.std.specs.Prelude.{◌≡◌, ◌+◌, ◌<◌, ◌≤◌, IfNone, [], true, false};
+ghost use Rattle.std.specs.Prelude.{◌≡◌, ◌<◌, IfNone, [], true, false};
 ghost use Rattle.std.specs.Arc.{arc_value};
 ghost use Rattle.bl_ffi_seats.specs.Pieces.{are_pieces, reply_in};
 ghost use Rattle.bl_ffi_seats.specs.Seats.{IsSeated};
@@ -174,7 +174,7 @@ impl Upkeep {
 }
 
 impl Seat {
-    ghost use Rattle.std.specs.Prelude.{◌≡◌, ◌≢◌, ◌↔◌, ◌⊎◌, ◌+◌, ◌<◌, IfSome, IfNone, MatchOption, MatchBool, length, true, false};
+    ghost use Rattle.std.specs.Prelude.{◌≡◌, ◌≢◌, ◌↔◌, ◌⊎◌, ◌+◌, ◌<◌, ◌≤◌, IfSome, IfNone, MatchOption, MatchBool, length, true, false};
     ghost use Rattle.bl_model.specs.declared.operation.Op.TheVariants as op;
     ghost use Rattle.bl_index_resume.specs.declared.stages.Stage.TheVariants as stages;
     ghost use Rattle.bl_model.specs.Replies.{reply_of};

@@ -1,6 +1,6 @@
 //! The index, and who works with it.
 
-ghost use Rattle.std.specs.Prelude.{◌≡◌, false};
+ghost use Rattle.std.specs.Prelude.{◌≡◌, ◌≤◌, ◌+◌, false};
 ghost use Rattle.bl_store.specs.Hands.{known, IsIdle, HasNoStock};
 ghost use Rattle.bl_claims.specs.Seeing.{IsSeen};
 ghost use Rattle.bl_index_events.specs.Runs.{IsWithin};

@@ -1,6 +1,6 @@
 //! The events of a process of which there is no value: the hand's pass knows where it stands.
 
-ghost use Rattle.std.specs.Prelude.{◌≡◌, ◌<◌, ◌+◌, ℕ, Bool, true, false, MatchOption, IfNone};
+ghost use Rattle.std.specs.Prelude.{◌≡◌, ◌≤◌, ◌<◌, ◌+◌, ℕ, Bool, true, false, MatchOption, IfNone};
 ghost use Rattle.bl_page.specs.declared.page.Page.{Page};
 ghost use Rattle.bl_page.specs.Pairs.{IsChild};
 ghost use Rattle.bl_page.specs.Words.{words_of};
