@@ -15,9 +15,6 @@ const BLOCK: u32 = 4_096;
 /// So many frames that nobody has used yet a hand takes at once, and it looks at so many before it does.
 const CHUNK: u32 = 1_024;
 
-/// Words of two hands lie so many apart, so that no two stand in one line of a cache.
-const LINE: usize = 16;
-
 /// Nobody has walked since room may have come.
 const UNKNOWN: u64 = 0;
 
@@ -44,8 +41,6 @@ pub(crate) struct Room {
     blocks: Vec<AtomicU64>,
     // The least frame that nobody has used yet, of a large store.
     fresh: AtomicU64,
-    // Up to which time each hand knows that frames are enough, in a line of its own.
-    enough: Vec<AtomicU64>,
 }
 
 impl Room {
@@ -70,11 +65,6 @@ impl Room {
             free = free.wrapping_add(blank);
             blocks.push(AtomicU64::new(blank))?;
         }
-        let words = passes as usize * LINE;
-        let mut enough = Vec::with_capacity(alloc, words)?;
-        for _ in 0..words {
-            enough.push(AtomicU64::new(0))?;
-        }
         Ok(Room {
             free: AtomicU64::new(free),
             retiring: AtomicU64::new(0),
@@ -83,7 +73,6 @@ impl Room {
             least: AtomicU64::new(1),
             blocks,
             fresh: AtomicU64::new((first.len() as u64).max(u64::from(first_frame(passes)))),
-            enough,
         })
     }
 
@@ -178,21 +167,6 @@ impl Room {
             return (frames, frames);
         }
         (first as u32, frames.min(first as u32 + CHUNK))
-    }
-
-    /// Whether frames are enough at that time, as the hand of that number has found when it last looked.
-    pub(crate) fn is_enough(&self, number: u32, time: u64) -> bool {
-        match self.enough.get(number as usize * LINE) {
-            Some(enough) => time < enough.load(Ordering::Relaxed),
-            None => false,
-        }
-    }
-
-    /// The hand of that number has found that frames are enough up to that time.
-    pub(crate) fn note_enough(&self, number: u32, time: u64) {
-        if let Some(enough) = self.enough.get(number as usize * LINE) {
-            enough.store(time, Ordering::Relaxed);
-        }
     }
 
     /// A walk may find room that the last one did not.

@@ -15,12 +15,6 @@ const MOST: u32 = 3;
 /// which it posts. The layout has so many to spare for each hand beside those of pages.
 const FRAMES_A_HAND: u32 = 8;
 
-/// A look goes on to so many times as many frames as are wanted: what it sees beyond them lasts for a while.
-const AHEAD: u32 = 16;
-
-/// So many frames are taken at most while the clock moves by one: each put retires a frame, but for the first one of a page that was taken.
-const FRAMES_A_TICK: u32 = 2;
-
 /// Pages are scarce where fewer are free than so many for each hand: one for a leaf, and one for each of two levels above it.
 const PAGES_A_HAND: u64 = 3;
 
@@ -31,38 +25,21 @@ const AMPLE: u32 = 1_024;
 impl<D, R: PageRule<D>, A: Allocator> Store<D, R, A> {
     /// Whether a process that begins now may find too few frames while some wait to be released: fewer are free than all hands together
     /// may take before they look again, and some are retired. So whoever has looked finds what it takes, though it loses its processor
-    /// and others go on meanwhile. It looks at the frames that the hand would try first, and no further than it has to; what it sees
-    /// beyond those that are wanted saves it the next looks, until the clock says that others may have taken them. It is a hint of which
-    /// nothing is promised: others reserve and release meanwhile.
+    /// and others go on meanwhile. It looks at the frames that the hand would try first, and no further than it has to. It is a hint of
+    /// which nothing is promised: others reserve and release meanwhile.
     pub fn lacks_frames(&self, hand: &Hand<D>) -> bool {
         if self.has_ready(hand) {
             return false;
         }
-        let time = self.table.shared.peek(self.layout.clock_cell());
-        if self.room.is_enough(hand.number, time) {
+        let total = self.layout.frames();
+        let wanted = FRAMES_A_HAND * self.layout.passes;
+        let first = hand.frame.min(total);
+        let (free, retired) = self.look_over(first, total, wanted);
+        if free >= wanted {
             return false;
         }
-        let (free, retired) = self.look_around(hand, FRAMES_A_HAND * AHEAD * self.layout.passes);
-        let wanted = FRAMES_A_HAND * self.layout.passes;
-        if free < wanted {
-            return retired;
-        }
-        let lasts = u64::from((free - wanted) / FRAMES_A_TICK);
-        self.room
-            .note_enough(hand.number, time.saturating_add(lasts));
-        false
-    }
-
-    // How many frames are free, so many at most, from those that the hand would try first on and around; and whether one that it looked at
-    // is retired.
-    fn look_around(&self, hand: &Hand<D>, most: u32) -> (u32, bool)
-        ensures few { result.0 ≤ most }
-    {
-        let total = self.layout.frames();
-        let first = hand.frame.min(total);
-        let (free, retired) = self.look_over(first, total, most);
-        let (more, others) = self.look_over(0, first, most - free);
-        (free + more, retired || others)
+        let (more, others) = self.look_over(0, first, wanted - free);
+        more < wanted - free && (retired || others)
     }
 
     /// Whether a reservation that begins now finds its frames, as far as is seen. It is a hint as well.
@@ -82,7 +59,10 @@ impl<D, R: PageRule<D>, A: Allocator> Store<D, R, A> {
 
     // Whether as many frames are free as a reservation asks for at most, from those that the hand would try first on.
     fn sees_frames(&self, hand: &Hand<D>) -> bool {
-        self.look_around(hand, MOST).0 >= MOST
+        let total = self.layout.frames();
+        let first = hand.frame.min(total);
+        let (free, _) = self.look_over(first, total, MOST);
+        free >= MOST || self.look_over(0, first, MOST - free).0 >= MOST - free
     }
 
     // Whether frames are ample, and the hand has released as many as a reservation asks for, of which nobody has taken those that it would
