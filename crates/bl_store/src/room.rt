@@ -15,6 +15,9 @@ const BLOCK: u32 = 4_096;
 /// So many frames that nobody has used yet a hand takes at once, and it looks at so many before it does.
 const CHUNK: u32 = 1_024;
 
+/// Words of two hands lie so many apart, so that no two stand in one line of a cache.
+const LINE: usize = 16;
+
 /// Nobody has walked since room may have come.
 const UNKNOWN: u64 = 0;
 
@@ -41,6 +44,8 @@ pub(crate) struct Room {
     blocks: Vec<AtomicU64>,
     // The least frame that nobody has used yet, of a large store.
     fresh: AtomicU64,
+    // How many puts each hand has made when it looks for frames next, in a line of its own.
+    looks_at: Vec<AtomicU64>,
 }
 
 impl Room {
@@ -65,6 +70,11 @@ impl Room {
             free = free.wrapping_add(blank);
             blocks.push(AtomicU64::new(blank))?;
         }
+        let words = passes as usize * LINE;
+        let mut looks_at = Vec::with_capacity(alloc, words)?;
+        for _ in 0..words {
+            looks_at.push(AtomicU64::new(0))?;
+        }
         Ok(Room {
             free: AtomicU64::new(free),
             retiring: AtomicU64::new(0),
@@ -73,6 +83,7 @@ impl Room {
             least: AtomicU64::new(1),
             blocks,
             fresh: AtomicU64::new((first.len() as u64).max(u64::from(first_frame(passes)))),
+            looks_at,
         })
     }
 
@@ -167,6 +178,22 @@ impl Room {
             return (frames, frames);
         }
         (first as u32, frames.min(first as u32 + CHUNK))
+    }
+
+    /// Whether the hand of that number, which has made so many puts, is to look for frames.
+    #[inline(always)]
+    pub(crate) fn is_to_look(&self, number: u32, puts: u64) -> bool {
+        match self.looks_at.get(number as usize * LINE) {
+            Some(next) => puts >= next.load(Ordering::SeqCst),
+            None => true,
+        }
+    }
+
+    /// The hand of that number has seen enough frames for all, and looks again when it has made so many puts.
+    pub(crate) fn note_looked(&self, number: u32, puts: u64) {
+        if let Some(next) = self.looks_at.get(number as usize * LINE) {
+            next.store(puts, Ordering::SeqCst);
+        }
     }
 
     /// A walk may find room that the last one did not.

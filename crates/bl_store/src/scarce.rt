@@ -15,6 +15,9 @@ const MOST: u32 = 3;
 /// which it posts. The layout has so many to spare for each hand beside those of pages.
 const FRAMES_A_HAND: u32 = 8;
 
+/// So many puts a hand makes at most between two looks for frames.
+const PUTS_A_LOOK: u32 = 64;
+
 /// Pages are scarce where fewer are free than so many for each hand: one for a leaf, and one for each of two levels above it.
 const PAGES_A_HAND: u64 = 3;
 
@@ -25,21 +28,45 @@ const AMPLE: u32 = 1_024;
 impl<D, R: PageRule<D>, A: Allocator> Store<D, R, A> {
     /// Whether a process that begins now may find too few frames while some wait to be released: fewer are free than all hands together
     /// may take before they look again, and some are retired. So whoever has looked finds what it takes, though it loses its processor
-    /// and others go on meanwhile. It looks at the frames that the hand would try first, and no further than it has to. It is a hint of
-    /// which nothing is promised: others reserve and release meanwhile.
+    /// and others go on meanwhile. It looks at the frames that the hand would try first, and no further than it has to; a hand that has
+    /// seen enough looks again some puts later. It is a hint of which nothing is promised: others reserve and release meanwhile.
     pub fn lacks_frames(&self, hand: &Hand<D>) -> bool {
-        if self.has_ready(hand) {
+        if !self.room.is_to_look(hand.number, hand.puts) || self.has_ready(hand) {
             return false;
         }
+        let puts = self.puts_a_look();
+        let (free, retired) = self.look_around(hand, (FRAMES_A_HAND + puts) * self.layout.passes);
+        if free < (FRAMES_A_HAND + puts) * self.layout.passes {
+            return retired;
+        }
+        self.room
+            .note_looked(hand.number, hand.puts.saturating_add(u64::from(puts)));
+        false
+    }
+
+    // How many puts a hand makes between two looks. All hands together may take so many frames, and are to see them free: so it is what half
+    // of the frames to spare is for each. Where frames are ample the ring of a hand mostly tells enough, and those in use lie close
+    // together, so that a look for many would go over thousands.
+    fn puts_a_look(&self) -> u32
+        ensures { result ≤ 64 }
+    {
+        if self.is_ample() {
+            return 0;
+        }
+        let half = self.layout.spare / 2 / self.layout.passes;
+        half.saturating_sub(FRAMES_A_HAND).min(PUTS_A_LOOK)
+    }
+
+    // How many frames are free, so many at most, from those that the hand would try first on and around; and whether one that it looked at
+    // is retired.
+    fn look_around(&self, hand: &Hand<D>, most: u32) -> (u32, bool)
+        ensures few { result.0 ≤ most }
+    {
         let total = self.layout.frames();
-        let wanted = FRAMES_A_HAND * self.layout.passes;
         let first = hand.frame.min(total);
-        let (free, retired) = self.look_over(first, total, wanted);
-        if free >= wanted {
-            return false;
-        }
-        let (more, others) = self.look_over(0, first, wanted - free);
-        more < wanted - free && (retired || others)
+        let (free, retired) = self.look_over(first, total, most);
+        let (more, others) = self.look_over(0, first, most - free);
+        (free + more, retired || others)
     }
 
     /// Whether a reservation that begins now finds its frames, as far as is seen. It is a hint as well.
@@ -59,10 +86,7 @@ impl<D, R: PageRule<D>, A: Allocator> Store<D, R, A> {
 
     // Whether as many frames are free as a reservation asks for at most, from those that the hand would try first on.
     fn sees_frames(&self, hand: &Hand<D>) -> bool {
-        let total = self.layout.frames();
-        let first = hand.frame.min(total);
-        let (free, _) = self.look_over(first, total, MOST);
-        free >= MOST || self.look_over(0, first, MOST - free).0 >= MOST - free
+        self.look_around(hand, MOST).0 >= MOST
     }
 
     // Whether frames are ample, and the hand has released as many as a reservation asks for, of which nobody has taken those that it would
