@@ -1,26 +1,11 @@
 //! Writes of one leaf on one thread: each ends as it starts, or goes on in turns and opens the leaf before it comes back.
 
-ghost use Rattle.bl_index.specs.Calls.{IsPassOf};
-ghost use Rattle.bl_index_resume.specs.Stages.{IsAtRest};
-
-use crate::stops::begun::opened;
-use bl_index::{Index, Pass};
+use crate::stops::begun::{hand_of, opened};
 use bl_index_resume::{Stage, advance, start_write};
-use bl_index_rule::PassState;
 use bl_index_write::{begin_write, end_write};
 use bl_model::{KeyReply, KeyWrite, Reply};
 use bl_proc::Answer;
-use bl_store::Hand;
 use std::test::Fail;
-
-/// The hand of a pass: it rests.
-fn hand_of(index: &Index, pass: Pass) -> Hand<PassState>
-    requires { IsPassOf index.now pass }
-    ensures { IsAtRest index.now result }
-{
-    let _ = index;
-    pass.into_hand()
-}
 
 // Each gets the anchor, and then latches the leaf. A write that came back then would hold it, and the other one would miss its latch.
 #[test]

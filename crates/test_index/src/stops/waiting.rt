@@ -1,12 +1,15 @@
 //! A deletion stands still while it holds its leaf, and another waits for that leaf. Meanwhile each kind of write that programs call is
-//! answered in another leaf: an insertion that posts by itself and one that does not, a change and a deletion, by a pass and by a handle
-//! of the map.
+//! answered in another leaf: an insertion that posts by itself and one that does not, a change and a deletion, by a pass, by a handle
+//! of the map, and in turns, as a seat of C writes.
 
+ghost use Rattle.std.specs.Prelude.{IfSome};
 ghost use Rattle.bl_index.specs.Calls.{IsPassOf};
+ghost use Rattle.bl_index_resume.specs.Stages.{IsAtRest};
 ghost use Rattle.test_index.specs.Stopped.{IsHeld};
 
-use crate::stops::begun::{fill, opened};
+use crate::stops::begun::{fill, hand_of, opened};
 use bl_index::{Index, KeyReply, Pass};
+use bl_index_resume::{Stage, start_write};
 use bl_index_rule::PassState;
 use bl_index_write::{begin_write, end_write};
 use bl_map::Handle;
@@ -108,17 +111,46 @@ fn writes_by_pass<R: Wait>(rt: &R, index: &Index, pass: &mut Pass) -> bool
         && changed == KeyReply::Changed
 }
 
-/// The same of a handle, by which programs write: key 18 is inserted, changed and deleted.
-fn writes_by_handle<R: Wait>(rt: &R, index: &Index, pass: Pass) -> bool
+/// The same of a handle, by which programs write: key 18 is inserted, changed and deleted. The pass comes back.
+fn writes_by_handle<R: Wait>(rt: &R, index: &Index, pass: Pass) -> (bool, Pass)
     requires { IsPassOf index.now pass }
+    ensures { IsPassOf index.now result.1 }
 {
     let mut handle = Handle::over(index, pass);
     let inserted = handle.insert(rt, 18, 180);
     let changed = handle.change(rt, 18, 180, 181);
     let deleted = handle.delete(rt, 18);
+    let are_right = inserted == KeyReply::Inserted
+        && changed == KeyReply::Changed
+        && deleted == KeyReply::Deleted(181);
+    (are_right, handle.into_seat())
+}
+
+/// A write of key 19 in turns, as a seat of C makes it, which may not wait: its reply, where it has ended within so many.
+fn write_in_turns(index: &Index, hand: &mut Hand<PassState>, write: KeyWrite) -> Option<KeyReply>
+    requires { IsAtRest index.now hand.old }
+    ensures { IfSome result (λ reply. IsAtRest index.now hand.new) }
+{
+    let mut stage = Stage::Rests;
+    let (reply, _hint) = start_write(index.tree(), hand, &mut stage, 19, write, 256)?;
+    Some(reply)
+}
+
+/// The same writes in turns.
+fn writes_in_turns(index: &Index, pass: Pass) -> bool
+    requires { IsPassOf index.now pass }
+{
+    let mut hand = hand_of(index, pass);
+    let Some(inserted) = write_in_turns(index, &mut hand, KeyWrite::Insert(190)) else {
+        return false;
+    };
+    let Some(changed) = write_in_turns(index, &mut hand, KeyWrite::Change(190, 191)) else {
+        return false;
+    };
+    let deleted = write_in_turns(index, &mut hand, KeyWrite::Delete);
     inserted == KeyReply::Inserted
         && changed == KeyReply::Changed
-        && deleted == KeyReply::Deleted(181)
+        && deleted == Some(KeyReply::Deleted(191))
 }
 
 /// All of them, once they may.
@@ -129,9 +161,10 @@ fn write_elsewhere<R: Wait>(rt: &R, index: &Index, pass: Pass, course: &Course) 
     for _ in rt.forever() {
         if course.goes.load(Ordering::SeqCst) {
             let by_pass = writes_by_pass(rt, index, &mut pass);
-            let by_handle = writes_by_handle(rt, index, pass);
+            let (by_handle, pass) = writes_by_handle(rt, index, pass);
+            let in_turns = writes_in_turns(index, pass);
             course.answered.store(true, Ordering::SeqCst);
-            return by_pass && by_handle;
+            return by_pass && by_handle && in_turns;
         }
         thread::yield_now();
     }
