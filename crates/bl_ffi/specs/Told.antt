@@ -17,7 +17,7 @@ use Rattle.bl_index_resume.specs.Stages.{IsAtRest}
 use Rattle.bl_ffi_seats.specs.Calls.{IsSameSeat, HasToldLast, HasTold, HasGoneOn, HasGoneOnOrBegun, HasNothingToDo, HasCarriedOn, HasDoneMost}
 use Rattle.bl_ffi_seats.specs.Tended.{KeepsUpkeep, HasTended, HasPrepared, HasToWait, HasChanged, SweepsOnce}
 use Rattle.bl_ffi_seats.specs.Meetings.{HasSettled, HasNoAnswer}
-use Rattle.bl_ffi_seats.specs.Waits.{hints_of}
+use Rattle.bl_waiting.specs.Queue.{hints_of}
 use Rattle.bl_index.specs.Calls.{pages_of, frames_of}
 use Rattle.bl_ffi.specs.declared.seat.SeatOfC.{SeatOfC}
 use Rattle.bl_ffi.specs.declared.room.Room.{Room}
@@ -130,10 +130,10 @@ abbrev pub Counts : (Seat → ℕ) → SeatOfC → SeatOfC → ℕ → Type 0
 Counts count old new result = MatchOption old.seat ((result ≡ 0) × (new.seat ≡ None)) (λ s. (result ≡ count s) × (new.seat ≡ Some s))
 
 abbrev pub waiting_of : Seat → ℕ
-waiting_of seat = length (hints_of seat.upkeep)
+waiting_of seat = length (hints_of seat.upkeep.waiting)
 
 abbrev pub dropped_of : Seat → ℕ
-dropped_of seat = seat.upkeep.dropped
+dropped_of seat = seat.upkeep.waiting.dropped
 
 -- What is said of a seat and its map by numbers. Of how many pages are free no clause says more.
 pub record AreStatsOf (s : Seat) (stats : Stats) : Type 0 where

@@ -8,7 +8,6 @@ pub mod Searched
 pub mod Starts
 pub mod Started
 pub mod Gone
-pub mod Pieces
 pub mod Closings
 pub mod PartReplies
 pub mod Followed

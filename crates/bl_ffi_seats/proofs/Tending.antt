@@ -17,10 +17,11 @@ use Rattle.bl_index_resume.proofs.Goes.{goes_nowhere, goes_further}
 use Rattle.bl_ffi_seats.specs.declared.seat.Seat.{Seat}
 use Rattle.bl_ffi_seats.specs.declared.seat.Upkeep.{Upkeep}
 use Rattle.bl_model.specs.declared.deciding.KeyWrite.{KeyWrite}
-use Rattle.bl_ffi_seats.specs.Pieces.{are_pieces}
 use Rattle.bl_ffi_seats.specs.Seats.{IsSameOne}
 use Rattle.bl_ffi_seats.specs.Accounts.{Ends}
-use Rattle.bl_ffi_seats.specs.Waits.{ArePieces, IsKept, IsFound, IsLeft, IsTaken, lacked_in}
+use Rattle.bl_waiting.specs.declared.waiting.Waiting.{Waiting}
+use Rattle.bl_waiting.specs.Queue.{IsKept}
+use Rattle.bl_ffi_seats.specs.Waits.{ArePieces, IsFound, IsLeft, lacked_in}
 use Rattle.bl_ffi_seats.specs.Calls.{IsSameSeat, HasCarriedOn, begun_by}
 use Rattle.bl_ffi_seats.specs.Tended.{IsAsItWas, LooksAbout, Swept, Tends, IsCarriedOn, HasPrepared}
 
@@ -48,7 +49,7 @@ seat_only a c index hand = seat_still a a c (seat_same a) index hand
 -- ---- pieces
 
 pub pieces_same : (a b : Upkeep) → b ≡ a → ArePieces a b
-pieces_same a b is = record { hints = ap (λ (z : Upkeep). z.hints.items) is; dropped = ap (λ (z : Upkeep). z.dropped) is; falls = ap (λ (z : Upkeep). z.may_fall) is; doing = ap (λ (z : Upkeep). z.doing) is }
+pieces_same a b is = (ap (λ (z : Upkeep). z.waiting) is, ap (λ (z : Upkeep). z.may_fall) is, ap (λ (z : Upkeep). z.doing) is)
 
 pub tends_swept : {n k : ℕ} {a b c : Seat} → Tends n a b → Swept k b c → Tends n a c
 tends_swept t Swept.Never = t
@@ -92,21 +93,11 @@ left_row (Some a) old new is = is.2
 
 -- ---- what it finds
 
-pub kept_from : (piece : Option Hint) (a b c : Upkeep) → ArePieces a b → IsKept piece b c → IsKept piece a c
-kept_from None a b c p k = (k.0 ∙ p.hints, k.1 ∙ p.dropped)
-kept_from (Some hint) a b c p (inl behind) = inl (behind.0 ∙ ap (λ (z : List (Option Hint)). z ++ Some hint ∷ []) p.hints, behind.1 ∙ p.dropped)
-kept_from (Some hint) a b c p (inr dropped) = inr (ap length (sym p.hints) ∙ dropped.0, dropped.1 ∙ p.hints, dropped.2 ∙ ap (λ (z : ℕ). min (z + 1) (2 ^ 64 - 1)) p.dropped)
-
 pub found_from : (piece : Option Hint) (a b c : Upkeep) → ArePieces a b → lacked_in b ≡ lacked_in a → IsFound piece b c → IsFound piece a c
-found_from piece a b c p row f = (kept_from piece a b c p f.0, f.1 ∙ p.falls, f.2 ∙ p.doing, f.3 ∙ row)
+found_from piece a b c p row f = (subst (λ (z : Waiting). IsKept piece z c.waiting) p.0 f.0, f.1 ∙ p.1, f.2 ∙ p.2, f.3 ∙ row)
 
 pub found_none : (a b : Upkeep) → ArePieces a b → lacked_in b ≡ lacked_in a → IsFound None a b
-found_none a b p row = ((p.hints, p.dropped), p.falls, p.doing, row)
-
--- the oldest of pieces is one
-pub none_taken : (old new : Upkeep) → IsTaken None old new → new ≡ old
-none_taken old new (inl none) = none.2
-none_taken old new (inr taken) = absurd (let f : false ≡ true = ap are_pieces (sym taken.0) ∙ old.real in cc)
+found_none a b p row = (p.0, p.1, p.2, row)
 
 -- it looks about, and is then as it was
 pub looks_still : (a b c : Seat) → LooksAbout a b → IsAsItWas b c → LooksAbout a c

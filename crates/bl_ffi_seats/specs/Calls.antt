@@ -15,7 +15,7 @@ use Rattle.bl_ffi_seats.specs.declared.seat.Seat.{Seat}
 use Rattle.bl_ffi_seats.specs.declared.seat.Upkeep.{Upkeep}
 use Rattle.bl_ffi_seats.specs.Seats.{IsSameOne, HasReplied, HasFollowed, HasReleased, HasWorked, begun_in}
 use Rattle.bl_ffi_seats.specs.Accounts.{Account, account, GoesTo, TellsReply, Begins}
-use Rattle.bl_ffi_seats.specs.Waits.{hints_of, IsIdle, IsLeft, IsTaken, lacked_in}
+use Rattle.bl_ffi_seats.specs.Waits.{IsIdle, IsLeft, IsTakenUp, lacked_in}
 
 -- the number of its pass, which its entries have
 abbrev pub seat_number : Seat → ℕ
@@ -95,14 +95,14 @@ pub record HasDonePiece (old new : Seat) : Type 0 where
   pub mid : Upkeep
   pub rests : new.stage ≡ stage.Rests
   pub followed : HasFollowed new.hand hint answer
-  pub taken : IsTaken (Some hint) old.upkeep mid
+  pub taken : IsTakenUp hint old.upkeep mid
   pub left : IsLeft (Some answer) mid new.upkeep
 
 -- A piece of upkeep is underway that was due: a lowering where the top level may be one that is not needed, or the oldest that waited. Or
 -- that is done at once.
 abbrev pub HasBegunPiece : Seat → Seat → Type 0
 HasBegunPiece old new =
-    ((old.upkeep.may_fall ≡ true) × IsLowering new.stage × (hints_of new.upkeep ≡ hints_of old.upkeep) × (new.upkeep.dropped ≡ old.upkeep.dropped)
+    ((old.upkeep.may_fall ≡ true) × IsLowering new.stage × (new.upkeep.waiting ≡ old.upkeep.waiting)
     × (lacked_in new.upkeep ≡ lacked_in old.upkeep))
-    ⊎ ((hint : Hint) × IsFor hint new.stage × IsTaken (Some hint) old.upkeep new.upkeep)
+    ⊎ ((hint : Hint) × IsFor hint new.stage × IsTakenUp hint old.upkeep new.upkeep)
     ⊎ HasDonePiece old new

@@ -1,5 +1,4 @@
 pub mod Accounts
-pub mod Pieces
 pub mod Seats
 pub mod Waits
 pub mod Calls

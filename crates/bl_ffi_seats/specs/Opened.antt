@@ -18,7 +18,7 @@ pub record IsNewSeat (index : Index) (pass : Pass) (seat : Seat) : Type 0 where
   pub at : arc_value seat.index ≡ index
   pub hand : seat.hand ≡ pass.hand
   pub rests : HasNothingToDo seat
-  pub dropped : seat.upkeep.dropped ≡ 0
+  pub dropped : seat.upkeep.waiting.dropped ≡ 0
 
 -- a seat for each pass, in their order
 abbrev pub AreSeatsOf : Index → List Pass → List Seat → Type 0

@@ -1,5 +1,5 @@
 -- Who sits at an index, and what a seat's calls have answered.
-use Rattle.std.specs.Prelude.{◌≡◌, ◌≢◌, ◌⊎◌, ℕ, Option, Some}
+use Rattle.std.specs.Prelude.{◌≡◌, ◌≢◌, ◌⊎◌, ℕ, Option, Some, None}
 use Rattle.bl_model.specs.declared.operation.Op.{Op}
 use Rattle.bl_model.specs.declared.operation.Op.TheVariants as op
 use Rattle.bl_model.specs.declared.operation.Reply.{Reply}
@@ -81,6 +81,11 @@ begun_in hand = (known hand.seat).number
 -- lowering may hold one then, after all 64.
 abbrev pub HasWorked : Hand PassState → Stage → Hand PassState → Type 0
 HasWorked old s new = (s ≡ stage.Rests) ⊎ HasTurnedIn 256 (known old.seat) (known new.seat) s
+
+-- the reply of an operation of the map
+abbrev pub reply_in : Answer → Option Reply
+reply_in (answers.Op reply hint) = Some reply
+reply_in other = None
 
 -- Of what was underway a write of a key has answered that, where it has ended. Of anything else nothing is said.
 abbrev pub IfWritten : Hand PassState → ℕ → KeyWrite → Option Answer → Type 0

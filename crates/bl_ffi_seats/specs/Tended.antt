@@ -15,7 +15,8 @@ use Rattle.bl_ffi_seats.specs.declared.seat.Seat.{Seat}
 use Rattle.bl_ffi_seats.specs.declared.seat.Upkeep.{Upkeep}
 use Rattle.bl_ffi_seats.specs.Seats.{HasWritten}
 use Rattle.bl_ffi_seats.specs.Accounts.{HasGone}
-use Rattle.bl_ffi_seats.specs.Waits.{ArePieces, IsKept, IsFound, IsLeft, lacked_in}
+use Rattle.bl_waiting.specs.Queue.{IsKept}
+use Rattle.bl_ffi_seats.specs.Waits.{ArePieces, IsFound, IsLeft, lacked_in}
 use Rattle.bl_ffi_seats.specs.Calls.{IsSameSeat, IsAbout, HasGoneOn, HasTold, HasBegun, HasCarriedOn, HasNothingToDo, HasBegunPiece, HasSwept, seat_number, account_of, released_by, begun_by}
 
 -- What was underway has gone on. What it leaves, if it has ended with that answer, waits behind what waited.
@@ -122,7 +123,7 @@ pub record HasChanged (key : ℕ) (write : KeyWrite) (reply : Reply) (old new : 
   pub written : HasWritten new.hand key write reply hint
   pub before : Upkeep
   pub prepared : HasPrepared old before
-  pub kept : IsKept hint before new.upkeep
+  pub kept : IsKept hint before.waiting new.upkeep.waiting
 
 -- A write of the key has not begun, and is to be made again; or it is underway, and was so or began; or it has told its reply.
 abbrev pub HasCome : ℕ → KeyWrite → Seat → Seat → Come → Type 0

@@ -1,21 +1,20 @@
 //! A seat, and what is done from it.
 
-ghost use Rattle.std.specs.Prelude.{◌≡◌, ◌<◌, IfNone, [], true, false};
+ghost use Rattle.std.specs.Prelude.{◌≡◌, ◌<◌, [], true, false};
 ghost use Rattle.std.specs.Arc.{arc_value};
-ghost use Rattle.bl_ffi_seats.specs.Pieces.{are_pieces, reply_in};
-ghost use Rattle.bl_ffi_seats.specs.Seats.{IsSeated};
+ghost use Rattle.bl_ffi_seats.specs.Seats.{IsSeated, reply_in};
 
 use crate::walk::{Walk, is_looked_through, may_enter, waits_for_pages};
 use crate::working::{
     begin_following, begin_lowering, find, go_on, meet, part, release, start_writing,
 };
-use arrayvec::ArrayVec;
 use bl_index::{Index, KeyReply, KeyWrite, Reply, RoomSeen};
 use bl_index_events::Tree;
 use bl_index_resume::{Stage, stands};
 use bl_index_rule::PassState;
 use bl_proc::{Answer, Direction, Hint, Lowered, Posted, Squeezed};
 use bl_store::Hand;
+use bl_waiting::Waiting;
 use std::alloc::Global;
 use std::ptr;
 use std::sync::Arc;
@@ -52,13 +51,10 @@ pub(crate) enum Come {
 /// What there is to do behind the changes of a seat.
 #[derive(Drop)]
 pub(crate) struct Upkeep {
-    /// The pieces that wait, the oldest first. Where 32 wait, a further one is dropped: a page that no parent lists is reached by the link
-    /// of the page to its left, and a page with few rows is in nobody's way.
-    hints: ArrayVec<Option<Hint>, 32>,
+    /// The pieces that wait, 32 at most.
+    waiting: Waiting,
     /// The piece that is underway.
     doing: Option<Hint>,
-    /// How many were dropped.
-    dropped: u64,
     /// Whether the top level may be one that is not needed.
     may_fall: bool,
     /// How often in a row a change has found too few frames, or too few pages.
@@ -67,20 +63,19 @@ pub(crate) struct Upkeep {
     walk: Walk,
     /// Whether a piece was dropped since the last walk began.
     missed: bool,
-    ghost real: { are_pieces hints.items ≡ true },
 }
 
 impl Upkeep {
-    ghost use Rattle.std.specs.Prelude.{◌+◌, ◌≤◌};
-    ghost use Rattle.bl_ffi_seats.specs.Waits.{hints_of, lacked_in, ArePieces, IsIdle, IsKept, IsTaken, left_by, falls_after};
+    ghost use Rattle.std.specs.Prelude.{◌+◌, ◌≤◌, MatchOption};
+    ghost use Rattle.bl_waiting.specs.Queue.{hints_of, IsKept};
+    ghost use Rattle.bl_ffi_seats.specs.Waits.{lacked_in, ArePieces, IsIdle, IsTakenUp, left_by, falls_after};
 
     pub(crate) fn new() -> Upkeep
-        ensures { IsIdle result × (result.dropped ≡ 0) }
+        ensures { IsIdle result × (result.waiting.dropped ≡ 0) }
     {
         Upkeep {
-            hints: ArrayVec::new(),
+            waiting: Waiting::new(),
             doing: None,
-            dropped: 0,
             may_fall: false,
             lacked: 0,
             walk: Walk::none(),
@@ -90,36 +85,27 @@ impl Upkeep {
 
     /// The piece waits behind the others, if there is one.
     fn keep(&mut self, piece: Option<Hint>)
-        ensures kept { IsKept piece self.old self.new }
+        ensures kept { IsKept piece self.old.waiting self.new.waiting }
         ensures same { (self.new.may_fall ≡ self.old.may_fall) × (self.new.doing ≡ self.old.doing) × (lacked_in self.new ≡ lacked_in self.old) }
     {
-        let Some(hint) = piece else {
-            return;
-        };
-        if self.hints.is_full() {
-            self.dropped = self.dropped.saturating_add(1);
+        if piece.is_some() && self.waiting.is_full() {
             self.missed = true;
-        } else {
-            self.hints.push(Some(hint));
         }
+        self.waiting.keep(piece);
     }
 
     /// Takes the oldest piece, if one waits. It is underway then.
     fn take(&mut self) -> Option<Hint>
-        ensures taken { IsTaken result self.old self.new }
-        ensures none { IfNone result (hints_of self.new ≡ []) }
-        ensures same { self.new.may_fall ≡ self.old.may_fall }
+        ensures { MatchOption result ((hints_of self.old.waiting ≡ []) × (self.new ≡ self.old)) (λ hint. IsTakenUp hint self.old self.new) }
     {
-        if self.hints.is_empty() {
-            return None;
-        }
-        self.doing = self.hints.remove(0);
-        self.doing
+        let hint = self.waiting.take()?;
+        self.doing = Some(hint);
+        Some(hint)
     }
 
     /// Notes what a process has left to do that has ended.
     fn note(&mut self, answer: &Answer)
-        ensures kept { IsKept (left_by self.old.doing answer.now) self.old self.new }
+        ensures kept { IsKept (left_by self.old.doing answer.now) self.old.waiting self.new.waiting }
         ensures falls { self.new.may_fall ≡ falls_after self.old.may_fall answer.now }
         ensures row { lacked_in self.new ≡ lacked_in self.old }
     {
@@ -185,7 +171,8 @@ impl Seat {
     ghost use Rattle.std.specs.Prelude.{ℕ, Option};
     ghost use Rattle.bl_answers.specs.declared.answers.Hint.{Hint as HintIs};
     ghost use Rattle.bl_index_resume.specs.Stages.{IsAtRest};
-    ghost use Rattle.bl_ffi_seats.specs.Waits.{hints_of, lacked_in, IsKept, IsFound, IsLeft};
+    ghost use Rattle.bl_waiting.specs.Queue.{hints_of, IsKept};
+    ghost use Rattle.bl_ffi_seats.specs.Waits.{lacked_in, IsFound, IsLeft};
     ghost use Rattle.bl_ffi_seats.specs.Calls.{IsSameSeat, HasToldLast, HasTold, HasGoneOn, HasGoneOnOrBegun, HasSwept, HasNothingToDo, HasBegunPiece};
     ghost use Rattle.bl_ffi_seats.specs.Calls.{HasCarriedOn, HasDoneMost, count_underway};
     ghost use Rattle.bl_ffi_seats.specs.Calls.{IsAbout, seat_number, account_of, released_by, begun_by};
@@ -351,16 +338,16 @@ impl Seat {
 
     /// How many pieces of upkeep wait, 32 at most.
     pub fn waiting(&self) -> u32
-        ensures { result ≡ length (hints_of self.now.upkeep) }
+        ensures { result ≡ length (hints_of self.now.upkeep.waiting) }
     {
-        self.upkeep.hints.len() as u32
+        self.upkeep.waiting.len()
     }
 
     /// How many were dropped, since 32 waited.
     pub fn dropped(&self) -> u64
-        ensures { result ≡ self.now.upkeep.dropped }
+        ensures { result ≡ self.now.upkeep.waiting.dropped }
     {
-        self.upkeep.dropped
+        self.upkeep.waiting.dropped
     }
 
     pub(crate) fn is_at_rest(&self) -> bool
@@ -385,7 +372,7 @@ impl Seat {
     fn has_nothing_to_do(&self) -> bool
         ensures { result ≡ true ↔ HasNothingToDo self.now }
     {
-        self.is_at_rest() && self.upkeep.hints.is_empty() && !self.upkeep.may_fall
+        self.is_at_rest() && self.upkeep.waiting.is_empty() && !self.upkeep.may_fall
     }
 
     /// Whether this very write is underway.
@@ -533,7 +520,8 @@ impl Seat {
         ensures same { IsSameSeat self.old self.new }
         ensures underway { IfNone result (IsAbout key write self.new × Starts (write_op key write) (account_of self.old) (account_of self.new)
             × (self.new.upkeep ≡ self.old.upkeep)) }
-        ensures answered { IfSome result (λ reply. ((hint : Option HintIs) × HasWritten self.new.hand key write reply hint × IsKept hint self.old.upkeep self.new.upkeep)
+        ensures answered { IfSome result (λ reply. ((hint : Option HintIs) × HasWritten self.new.hand key write reply hint
+            × IsKept hint self.old.upkeep.waiting self.new.upkeep.waiting)
             × AddsEntry (seat_number self.old) (write_op key write) reply (account_of self.old) (account_of self.new)) }
     {
         match start_writing(&self.index, &mut self.hand, &mut self.stage, key, write) {

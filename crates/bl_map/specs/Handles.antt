@@ -24,7 +24,8 @@ use Rattle.bl_map_calls.specs.Follows.{FollowsHint, WritesLeaving}
 use Rattle.bl_map_calls.specs.Copies.{Copies}
 use Rattle.bl_map_calls.specs.Updates.{Updates}
 use Rattle.bl_map_calls.specs.declared.updating.Updated.{Updated}
-use Rattle.bl_map_calls.specs.Waits.{hints_of, WritesKey, TriesAgain, Tidies, IsNone}
+use Rattle.bl_map_calls.specs.Waits.{WritesKey, TriesAgain, Tidies}
+use Rattle.bl_waiting.specs.Queue.{hints_of, IsNone}
 
 -- the index that a handle works on: that of its map
 abbrev pub index_of : Handle → Index

@@ -17,8 +17,8 @@ use bl_load::LoadFault;
 use bl_map_calls::many::{Deletions, Insertions, Puts};
 use bl_map_calls::updating::{self, Updated};
 use bl_map_calls::upkeep::{self, Followed};
-use bl_map_calls::waiting::Waiting;
 use bl_map_calls::{calls, copying, counting, falling, least, many, room, telling, writes};
+use bl_waiting::Waiting;
 use std::alloc::{AllocError, Global};
 use std::sync::Wait;
 

@@ -14,7 +14,7 @@ use Rattle.bl_answers.specs.declared.answers.Squeezed.TheVariants as squeezed
 use Rattle.bl_index.specs.Calls.{Posts, Compresses, LowersTree, Sweeps}
 use Rattle.bl_map_calls.specs.declared.upkeep.Followed.{Followed}
 use Rattle.bl_map_calls.specs.declared.upkeep.Followed.TheVariants.{Done, NoRoom}
-use Rattle.bl_map_calls.specs.declared.waiting.Waiting.{Waiting}
+use Rattle.bl_waiting.specs.declared.waiting.Waiting.{Waiting}
 use Rattle.bl_answers.specs.declared.answers.Lowered.{Lowered}
 use Rattle.bl_map_calls.specs.Works.{Works, Adds, Swept, Never, Again}
 use Rattle.bl_map_calls.specs.Follows.{Makes, Written, TriesPost, TriesCompression, Tries, TriesHint, may_fall, has_fallen, Lowers, FollowsHint, FollowsOnce, AreDone, StopsAt, FollowsHints, FollowsSplit, WritesLeaving, KeptUp, NothingDone, ThenSwept, ThenFollowed}

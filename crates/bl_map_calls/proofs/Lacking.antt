@@ -16,7 +16,7 @@ use Rattle.bl_answers.specs.declared.answers.Posted.{Posted}
 use Rattle.bl_map_calls.specs.Follows.{Makes, Written, FollowsHints, WritesLeaving}
 use Rattle.bl_map_calls.specs.Waits.{WritesKey}
 use Rattle.bl_map_calls.specs.Works.{Swept}
-use Rattle.bl_map_calls.specs.declared.waiting.Waiting.{Waiting}
+use Rattle.bl_waiting.specs.declared.waiting.Waiting.{Waiting}
 
 -- an insertion finds no room where the key is absent
 pub insert_lacks : (key value : ℕ) (before after : Pass) → InsertLacks before key after → WriteLacks before key (Insert value) after

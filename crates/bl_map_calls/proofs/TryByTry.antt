@@ -16,7 +16,7 @@ use Rattle.bl_index.proofs.PartByPart.{history_append}
 use Rattle.bl_index.proofs.Scanned.{answered}
 use Rattle.bl_map_calls.specs.declared.updating.Updated.{Updated}
 use Rattle.bl_map_calls.specs.declared.updating.Updated.TheVariants.{Changed, Absent, NoRoom}
-use Rattle.bl_map_calls.specs.declared.waiting.Waiting.{Waiting}
+use Rattle.bl_waiting.specs.declared.waiting.Waiting.{Waiting}
 use Rattle.bl_map_calls.specs.Updates.{Tried, Ended, Updates, ends_as}
 use Rattle.bl_map_calls.specs.Waits.{WritesKey}
 use Rattle.bl_map_calls.specs.Works.{Works, Searched}

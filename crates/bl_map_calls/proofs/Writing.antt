@@ -15,7 +15,7 @@ use Rattle.bl_claims.specs.Trails.{Trail}
 use Rattle.bl_claims.specs.Seeing.{own, GoesOnFrom}
 use Rattle.bl_index.specs.Calls.{number_of, trail}
 use Rattle.bl_index.specs.declared.index.Pass.{Pass}
-use Rattle.bl_map_calls.specs.declared.waiting.Waiting.{Waiting}
+use Rattle.bl_waiting.specs.declared.waiting.Waiting.{Waiting}
 use Rattle.bl_map_calls.specs.Entries.{entries_of}
 use Rattle.bl_map_calls.specs.Many.{op_at, WritesKeys, WritesMany, StopsFull}
 use Rattle.bl_map_calls.specs.Waits.{WritesKey}

@@ -8,7 +8,7 @@ use Rattle.bl_claims.specs.Trails.{Trail}
 use Rattle.bl_claims.specs.Seeing.{IsLinearizable, GoesOnFrom}
 use Rattle.bl_map_calls.specs.declared.updating.Updated.{Updated}
 use Rattle.bl_map_calls.specs.declared.updating.Updated.TheVariants.{Changed, Absent, NoRoom}
-use Rattle.bl_map_calls.specs.declared.waiting.Waiting.{Waiting}
+use Rattle.bl_waiting.specs.declared.waiting.Waiting.{Waiting}
 use Rattle.bl_map_calls.specs.Waits.{WritesKey}
 use Rattle.bl_map_calls.specs.Works.{Searched}
 

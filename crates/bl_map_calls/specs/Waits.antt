@@ -1,5 +1,5 @@
 -- Hints that wait for room.
-use Rattle.std.specs.Prelude.{◌≡◌, ◌⊎◌, ℕ, zero, suc, ◌+◌, ◌-◌, ◌^◌, ◌≤◌, ◌++◌, min, Option, Some, None, List, [], ◌∷◌, length}
+use Rattle.std.specs.Prelude.{◌≡◌, ◌⊎◌, ℕ, zero, suc, ◌≤◌, Option, List, []}
 use Rattle.bl_model.specs.declared.operation.Op.{Op}
 use Rattle.bl_model.specs.declared.operation.Reply.{Reply}
 use Rattle.bl_page.specs.declared.page.Page.{Page}
@@ -7,34 +7,8 @@ use Rattle.bl_claims.specs.Trails.{Trail}
 use Rattle.bl_answers.specs.declared.answers.Hint.{Hint}
 use Rattle.bl_map_calls.specs.Works.{Swept}
 use Rattle.bl_map_calls.specs.Follows.{Written, FollowsHints, KeptUp}
-use Rattle.bl_map_calls.specs.declared.waiting.Waiting.{Waiting}
-
--- the hints that wait, the oldest first
-abbrev pub hints_of : Waiting → List (Option Hint)
-hints_of waiting = waiting.hints.items
-
--- Nothing waits, and nothing was dropped.
-abbrev pub IsNone : Waiting → Type 0
-IsNone waiting = (hints_of waiting ≡ []) × (waiting.dropped ≡ 0)
-
--- One hint more stands behind the others.
-abbrev pub IsBehind : Hint → Waiting → Waiting → Type 0
-IsBehind hint old new = (hints_of new ≡ hints_of old ++ Some hint ∷ []) × (new.dropped ≡ old.dropped)
-
--- One hint more was dropped, since 32 waited. They are counted as far as the counter goes.
-abbrev pub IsDropped : Waiting → Waiting → Type 0
-IsDropped old new = (length (hints_of old) ≡ 32) × (hints_of new ≡ hints_of old) × (new.dropped ≡ min (old.dropped + 1) (2 ^ 64 - 1))
-
--- What is left, if a hint is, waits behind the others, or is dropped where 32 wait.
-abbrev pub IsKept : Option Hint → Waiting → Waiting → Type 0
-IsKept None old new = new ≡ old
-IsKept (Some hint) old new = IsBehind hint old new ⊎ IsDropped old new
-
--- The oldest hint was taken away, if one waited.
-abbrev pub IsTaken : Option Hint → Waiting → Waiting → Type 0
-IsTaken oldest old new =
-    ((hints_of old ≡ []) × (oldest ≡ None) × (new ≡ old))
-    ⊎ ((hints_of old ≡ oldest ∷ hints_of new) × (new.dropped ≡ old.dropped))
+use Rattle.bl_waiting.specs.declared.waiting.Waiting.{Waiting}
+use Rattle.bl_waiting.specs.Queue.{hints_of, IsKept, IsTaken}
 
 -- A key was written. The hint that this has left was followed, with those that following it gave, and what is left of them is kept.
 pub record WritesKey (first : List (Option Page)) (pass : ℕ) (op : Op) (reply : Reply) (before after : Waiting) (old new : Trail) : Type 0 where

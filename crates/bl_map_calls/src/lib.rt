@@ -4,7 +4,7 @@
 //! merges those that it has left with few rows, takes top levels away that are not needed, and gives back what was swapped out. What finds
 //! no room waits, 32 pieces at most.
 //!
-//! Promised to `bl_map`, whose handles are a seat with what waits ([`waiting::Waiting`]) and call these by name: a call adds one entry to what
+//! Promised to `bl_map`, whose handles are a seat with what waits (`bl_waiting`) and call these by name: a call adds one entry to what
 //! the pass has seen, this operation with this reply (`specs/Works`), or those of its keys, one after another (`specs/Finds`, `Many`,
 //! `Updates`); a scan is parts and nothing else (`specs/Scans`, `Falling`, `Leasts`, `Copies`). Upkeep adds no entry: it is posts, compressions,
 //! lowerings and sweeps of the pass's own (`specs/Follows`), and a piece is carried out, waits, or is counted as dropped (`specs/Waits`).
@@ -20,5 +20,4 @@ pub mod room;
 pub mod telling;
 pub mod updating;
 pub mod upkeep;
-pub mod waiting;
 pub mod writes;

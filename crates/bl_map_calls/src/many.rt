@@ -7,9 +7,9 @@ ghost use Rattle.bl_index.specs.Calls.{first_of, IsPassOf, IsSamePass, number_of
 ghost use Rattle.bl_map_calls.specs.Many.{WritesMany, StopsFull};
 
 use crate::calls::FETCHED;
-use crate::waiting::Waiting;
 use crate::writes;
 use bl_index::{ABREAST, Index, KeyReply, KeyWrite, Pass};
+use bl_waiting::Waiting;
 use std::sync::Wait;
 
 /// A way in which the elements of a list ask for writes of keys.

@@ -6,9 +6,9 @@ ghost use Rattle.bl_map_calls.specs.Follows.{KeptUp};
 ghost use Rattle.bl_map_calls.specs.Waits.{Tidies};
 
 use crate::upkeep::{Followed, LEVELS, Want, follow_hint, wait_for};
-use crate::waiting::Waiting;
 use crate::writes::try_again;
 use bl_index::{Hint, Index, KeyWrite, Pass};
+use bl_waiting::Waiting;
 use std::sync::Wait;
 
 /// How often all pages are walked over at most before an insertion that lacks a page. A walk that finds nothing is the last one.

@@ -7,9 +7,9 @@ ghost use Rattle.bl_map_calls.specs.Updates.{Updates};
 ghost use Rattle.bl_map_calls.specs.Works.{FoundNoRoom};
 ghost use Rattle.bl_map_calls.specs.declared.updating.Updated.TheVariants as updated;
 
-use crate::waiting::Waiting;
 use crate::{calls, writes};
 use bl_index::{Index, KeyReply, KeyWrite, Pass};
+use bl_waiting::Waiting;
 use std::sync::Wait;
 
 /// What became of a row that was to be changed by a function of its value.

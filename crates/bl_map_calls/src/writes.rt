@@ -11,8 +11,8 @@ ghost use Rattle.bl_map_calls.specs.Waits.{WritesKey, TriesOldest, TriesAgain, H
 
 use crate::calls;
 use crate::upkeep::{follow, follow_split, sweep_if_due};
-use crate::waiting::Waiting;
 use bl_index::{Hint, Index, KeyReply, KeyWrite, Pass};
+use bl_waiting::Waiting;
 use std::sync::Wait;
 
 /// Writes a key, and does what is due behind it: lists the pages that were split, and merges the page where few rows are left.

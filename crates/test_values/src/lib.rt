@@ -26,3 +26,5 @@ mod pages;
 mod releases;
 #[cfg(test)]
 mod scripts;
+#[cfg(test)]
+mod waiting;

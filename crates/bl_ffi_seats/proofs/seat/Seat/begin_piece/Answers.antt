@@ -15,6 +15,6 @@ returns-in-Some-answer-clause-piece c =
       mid = c.take.new.self;
       rests = said.0;
       followed = said.1;
-      taken = c.in-Some.ensures.taken;
+      taken = c.in-Some.ensures;
       left = (c.note.ensures.kept, c.note.ensures.falls, c.note.ensures.row);
     }))

@@ -23,7 +23,7 @@ returns-then-finds_room-clause-prepared c =
       count = tended.count;
       tends = c.finds_room.ensures.looked tended.count c.args.self.now tended.tends;
       few = tended.few;
-      pieces = record { hints = refl; dropped = refl; falls = refl; doing = refl };
+      pieces = (refl, refl, refl);
     }
 
 pub returns-clause-same : goal.returns-clause-same

@@ -5,8 +5,7 @@ use Rattle.bl_model.specs.Writes.{write_op}
 use Rattle.bl_answers.specs.declared.answers.Answer.{Answer}
 use Rattle.bl_answers.specs.declared.answers.Answer.TheVariants as answers
 use Rattle.bl_index_resume.specs.Stages.{op_in}
-use Rattle.bl_ffi_seats.specs.Pieces.{reply_in}
-use Rattle.bl_ffi_seats.specs.Seats.{HasAnswered}
+use Rattle.bl_ffi_seats.specs.Seats.{HasAnswered, reply_in}
 use Rattle.bl_ffi_seats.specs.Waits.{IsLeft}
 use Rattle.bl_ffi_seats.specs.Accounts.{HasGone}
 use Rattle.bl_ffi_seats.specs.Calls.{HasTold, HasGoneOnOrBegun, account_of, seat_number}
