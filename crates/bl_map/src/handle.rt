@@ -17,7 +17,9 @@ use bl_load::LoadFault;
 use bl_map_calls::many::{Deletions, Insertions, Puts};
 use bl_map_calls::updating::{self, Updated};
 use bl_map_calls::upkeep::{self, Followed};
-use bl_map_calls::{calls, copying, counting, falling, least, many, room, telling, writes};
+use bl_map_calls::{
+    calls, copying, counting, falling, least, limiting, many, room, telling, writes,
+};
 use bl_waiting::Waiting;
 use std::alloc::{AllocError, Global};
 use std::sync::Wait;
@@ -48,6 +50,7 @@ impl<'a> Handle<'a> {
     ghost use Rattle.bl_map.specs.Handles.{HaveMet, KeepsHints, AreOfOne, IsHandleOver, released_in};
     ghost use Rattle.bl_map.specs.Handles.{first_map_of, pages_of_map, frames_of_map, number_of_seat, seat_of, seen_by, waiting_of, dropped_of};
     ghost use Rattle.bl_map_calls.specs.Scans.{Scanned, TellsRows};
+    ghost use Rattle.bl_map_calls.specs.Limits.{ScannedAtMost};
     ghost use Rattle.bl_map_calls.specs.Falling.{ScannedDown, TellsDown};
 
     /// The handle that works on an index from a seat of it. For a map see [`crate::Map::handle`].
@@ -259,6 +262,26 @@ impl<'a> Handle<'a> {
         ensures keeps { KeepsHints self.old self.new }
     {
         calls::scan(rt, self.index, &mut self.pass, from, to, rows)
+    }
+
+    /// Appends the first of the rows that [`Handle::scan`] lists, so many at most, and says with which key a scan for the next ones begins:
+    /// that of the first row which it met and left, or the key to which it has come. `None` says that nothing is left, and where there are
+    /// fewer rows it is always said. Of no rows it looks for none, and says the first key, or `None` where that is not below the end. It
+    /// reads no leaf that is not wanted for its rows. Where memory is refused, the rows so far stay, and none before their end is left out.
+    pub fn scan_at_most<R: Wait>(
+        &mut self,
+        rt: &R,
+        from: u64,
+        to: Option<u64>,
+        most: usize,
+        rows: &mut Vec<(u64, u64)>,
+    ) -> Result<Option<u64>, AllocError>
+        ensures same { IsSameHandle self.old self.new }
+        ensures scanned { ScannedAtMost (first_map_of self.old) (pages_of_map self.old) (number_of_seat self.old) from to most
+            (vec_capacity rows.new - vec_len rows.new) result rows.old.items rows.new.items (seen_by self.old) (seen_by self.new) }
+        ensures keeps { KeepsHints self.old self.new }
+    {
+        limiting::scan_at_most(rt, self.index, &mut self.pass, from, to, most, rows)
     }
 
     /// Tells a callback the rows from a key on and below an end, if there is one, by rising keys: the rows of [`Handle::scan`], each

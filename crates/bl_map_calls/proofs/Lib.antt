@@ -6,6 +6,7 @@ pub mod Lacking
 pub mod Writing
 pub mod Scanning
 pub mod Looking
+pub mod Limited
 pub mod TryByTry
 pub mod Imaged
 pub mod Told

@@ -49,7 +49,7 @@ module _ (first : List (Option Page)) (pages pass it turns from at : ℕ) (reply
 
 -- ---- how many rows
 
-below_so : (to : Option ℕ) (at : ℕ) → is_below to at ≡ true → IsBelow to at
+pub below_so : (to : Option ℕ) (at : ℕ) → is_below to at ≡ true → IsBelow to at
 below_so None at is = tt
 below_so (Some end) at is = grind (arith, nat_tests, is)
 

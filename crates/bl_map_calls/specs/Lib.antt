@@ -6,6 +6,7 @@ pub mod Waits
 pub mod Many
 pub mod Scans
 pub mod Leasts
+pub mod Limits
 pub mod Updates
 pub mod Copies
 pub mod Falling

@@ -11,7 +11,7 @@ use bl_index::{Index, Next, Pass, Reply};
 use std::sync::Wait;
 
 /// Whether a key is below an end, if there is one.
-fn is_below(to: Option<u64>, key: u64) -> bool
+pub(crate) fn is_below(to: Option<u64>, key: u64) -> bool
     ensures { result ≡ below to key }
 {
     match to {
@@ -21,7 +21,7 @@ fn is_below(to: Option<u64>, key: u64) -> bool
 }
 
 /// How many rows of a part lie below an end, if there is one.
-fn count_in(reply: &Reply, to: Option<u64>) -> u64
+pub(crate) fn count_in(reply: &Reply, to: Option<u64>) -> u64
     ensures { result ≡ length (rows_below to reply.now) }
 {
     let Reply::Rows(rows, _) = reply else {
@@ -31,7 +31,7 @@ fn count_in(reply: &Reply, to: Option<u64>) -> u64
 }
 
 /// Where a part ended, if not at the end of the map.
-fn end_of(reply: &Reply) -> Option<u64>
+pub(crate) fn end_of(reply: &Reply) -> Option<u64>
     ensures { result ≡ ended_at reply.now }
 {
     match reply {

@@ -7,7 +7,7 @@ ghost use Rattle.std.specs.Prelude.{◌≡◌, All, IfSome, IfOk};
 ghost use Rattle.bl_map.specs.Handles.{AreOfOne};
 ghost use Rattle.bl_map.specs.Maps.{AreSeatsOf, IsHandleOf, IsSeatOf};
 
-use bl_map::{Handle, KeyReply, Map, Next, Reply, Seat};
+use bl_map::{Handle, KeyReply, Map, Seat};
 use std::alloc::{AllocError, Global};
 use std::sync::Wait;
 use std::sync::atomic::{AtomicU64, Ordering};
@@ -130,7 +130,7 @@ fn count<R: Wait>(rt: &R, handle: &mut Handle<'_>) -> u64 {
     rows
 }
 
-/// The first rows from a key on, so many at most. A part has the rows of one leaf, and says from which key the next part goes on.
+/// The first rows from a key on, so many at most.
 fn first_rows<R: Wait>(
     rt: &R,
     alloc: Global,
@@ -139,22 +139,8 @@ fn first_rows<R: Wait>(
     most: usize,
 ) -> Option<Vec<(u64, u64)>> {
     let mut rows = Vec::new(alloc);
-    let mut near = None;
-    let mut from = from;
-    for _ in rt.forever() {
-        let Reply::Rows(part, next) = handle.part(rt, from, &mut near) else {
-            return None;
-        };
-        rows.extend_from_slice(part.as_slice()).ok()?;
-        match next {
-            Next::More(key) if rows.len() < most => from = key,
-            _ => {
-                rows.truncate(most);
-                return Some(rows);
-            }
-        }
-    }
-    unreachable!()
+    handle.scan_at_most(rt, from, None, most, &mut rows).ok()?;
+    Some(rows)
 }
 
 /// The two handles.
