@@ -8,7 +8,7 @@ use Rattle.bl_model.specs.declared.operation.Next.TheVariants.{More, End}
 use Rattle.bl_model.specs.declared.operation.Entry.{Entry}
 use Rattle.bl_model.specs.Map.{empty}
 use Rattle.bl_model.specs.History.{IsLegalFrom}
-use Rattle.bl_serve_lines.specs.declared.request.Request.TheVariants.{Ask, Scan, Stat, Sync}
+use Rattle.bl_serve_lines.specs.declared.request.Request.TheVariants.{Ask, Scan, Sync}
 use Rattle.bl_serve_lines.specs.Text.{Spells}
 use Rattle.bl_serve_lines.specs.Lines.{Line, AreParts, ArePartsDown, Fits, Replied, Scanned, ScannedDown, Stated, Synced, key_below, answer_text, input_of, output_of, rest_text, text_of}
 use Rattle.bl_serve_lines.specs.Served.{Interleaves}

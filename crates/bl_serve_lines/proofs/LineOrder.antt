@@ -9,7 +9,7 @@ use Rattle.bl_model.specs.Map.{Map}
 use Rattle.bl_serve_lines.specs.declared.serving.Sectioning.TheVariants.{BySync, EachLine}
 use Rattle.bl_serve_lines.specs.declared.serving.Totals.{Totals}
 use Rattle.bl_serve_lines.specs.Lines.{Answer, Line, Replied, Scanned, ScannedDown, Stated, Synced, Malformed, entries}
-use Rattle.bl_serve_lines.specs.Served.{Interleaves, Section, IsSection, HasNoEnd, IsFinished, Served, lines_of, history_of, syncs_of, whole_history}
+use Rattle.bl_serve_lines.specs.Served.{Interleaves, Section, HasNoEnd, IsFinished, Served, lines_of, history_of, syncs_of, whole_history}
 use Rattle.bl_serve_lines.specs.Served.Interleaves.{Done, Takes}
 
 -- ---- each line is a section
