@@ -101,7 +101,7 @@ add_section how pages old now before totals input output unread left text asked 
     let lines : List Line = the_lines pages unread left asked [] r before.requests text more h in
     let are = the_are pages unread left asked [] r before.requests text more h in
     let section : Section = section_of lines more in
-    let end = end_lines how asked r.texts h.answers r.each h.each last in
+    let end = end_lines how pages asked r.texts h.answers r.each h.each last in
     let finished : IsFinished how pages section = record { front = end.front; end = end.end; lines = end.ends; last = end.is_end; no_end = end.no_end; whole = whole_section pages unread left asked [] r before.requests text more h } in
     let s = p.sections in (
       input_of lines,
@@ -160,7 +160,7 @@ serves_end how pages first old now before totals input output unread left text r
       rest = rest;
       each = p.each;
       whole = whole_section pages unread left asked rest r before.requests text more h;
-      no_end = no_end_lines how asked r.texts h.answers r.each h.each no_end;
+      no_end = no_end_lines how pages asked r.texts h.answers r.each h.each no_end;
       cut = r.cut;
       legal = legal_on first old now more (served.history_of s) seen p.more p.begins p.history;
       read = ap (λ t. t ++ (input_of lines ++ rest)) p.read ∙ sym (append_assoc (input_of (lines_of s)) (input_of lines) rest) ∙ ap (λ t. t ++ rest) (sym (input_append (lines_of s) lines));
@@ -261,7 +261,7 @@ stops_reading how pages first old now before input output unread left rest asked
     let are = are_lines pages asked r.texts l.answers r.each l.each in
     let lines : List Line = lines_with r.texts l.answers in
     let last : Section = record { lines = lines; history = flat_map entries l.answers } in
-    let quiet = no_end_lines how asked r.texts l.answers r.each l.each no_end in (
+    let quiet = no_end_lines how pages asked r.texts l.answers r.each l.each no_end in (
       subst (λ o. Stopped how pages (map_after first old) (input ++ unread) o Read) (append-nil output)
           (stopped how pages first old now before input output unread left rest [] _ Read p last
           (record { lines = are.good; history = subst (λ (z : List (List Entry)). Interleaves z (flat_map entries l.answers)) (sym are.entries_are) (interleaves_all l.answers) })
@@ -286,10 +286,10 @@ stops_writing how pages first old now before input output unread left text rest 
 
 -- no line before the last one ends a section
 pub inside_no_end : (how : Sectioning) (pages : ℕ) (unread left rest : List ℕ) (asked : List (Option Request)) (r : ReadsLines unread left asked rest) (done : ℕ) (text : List ℕ) (more : Trail) (h : Held pages done asked text more) → AskNoEnd how asked → HasNoEndInside how (lines_with r.texts h.answers)
-inside_no_end how pages unread left rest asked r done text more h no_end = no_end_any how (lines_with r.texts h.answers) (no_end_lines how asked r.texts h.answers r.each h.each no_end)
+inside_no_end how pages unread left rest asked r done text more h no_end = no_end_any how (lines_with r.texts h.answers) (no_end_lines how pages asked r.texts h.answers r.each h.each no_end)
 
 pub inside_end_last : (how : Sectioning) (pages : ℕ) (unread left rest : List ℕ) (asked : List (Option Request)) (r : ReadsLines unread left asked rest) (done : ℕ) (text : List ℕ) (more : Trail) (h : Held pages done asked text more) → AskEndLast how asked → HasNoEndInside how (lines_with r.texts h.answers)
-inside_end_last how pages unread left rest asked r done text more h last = let e = end_lines how asked r.texts h.answers r.each h.each last in subst (HasNoEndInside how) (sym e.ends) (no_end_inside how e.front e.end e.no_end)
+inside_end_last how pages unread left rest asked r done text more h last = let e = end_lines how pages asked r.texts h.answers r.each h.each last in subst (HasNoEndInside how) (sym e.ends) (no_end_inside how e.front e.end e.no_end)
 
 lines_short : (lines : List Line) → length lines ≤ length (input_of lines)
 lines_short [] = omega arith

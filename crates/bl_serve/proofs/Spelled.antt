@@ -119,13 +119,13 @@ are_lines pages (a ∷ asked) (text ∷ texts) (answer ∷ answers) h k = let r 
       let s : sum_by f (line ∷ lines_with texts answers) ≡ f line + sum_by f (lines_with texts answers) = grind (arith, common_steps) in omega (arith, one, more, c, s);
 }
 
-pub no_end_lines : {pages : ℕ} (how : Sectioning) (asked : List (Option Request)) (texts : List (List ℕ)) (answers : List Answer) → AllZip IsReadAs asked texts → AllZip (IsFor pages) asked answers → AskNoEnd how asked → HasNoEnd how (lines_with texts answers)
-no_end_lines how [] [] answers h k no_end = All-nil (λ line. ¬ Ends how line.answer)
-no_end_lines how [] (text ∷ texts) answers h k no_end = absurd h
-no_end_lines how (a ∷ asked) [] answers h k no_end = absurd h
-no_end_lines how (a ∷ asked) (text ∷ texts) [] h k no_end = absurd k
-no_end_lines how (a ∷ asked) (text ∷ texts) (answer ∷ answers) h k no_end = All-cons (λ line. ¬ Ends how line.answer) (record { bytes = text; answer = answer }) (lines_with texts answers)
-    (answers_no_end how k.0 (All-head (λ (z : Option Request). ¬ AsksEnd how z) a asked no_end)) (no_end_lines how asked texts answers h.1 k.1 (All-tail (λ (z : Option Request). ¬ AsksEnd how z) a asked no_end))
+pub no_end_lines : (how : Sectioning) (pages : ℕ) (asked : List (Option Request)) (texts : List (List ℕ)) (answers : List Answer) → AllZip IsReadAs asked texts → AllZip (IsFor pages) asked answers → AskNoEnd how asked → HasNoEnd how (lines_with texts answers)
+no_end_lines how pages [] [] answers h k no_end = All-nil (λ line. ¬ Ends how line.answer)
+no_end_lines how pages [] (text ∷ texts) answers h k no_end = absurd h
+no_end_lines how pages (a ∷ asked) [] answers h k no_end = absurd h
+no_end_lines how pages (a ∷ asked) (text ∷ texts) [] h k no_end = absurd k
+no_end_lines how pages (a ∷ asked) (text ∷ texts) (answer ∷ answers) h k no_end = All-cons (λ line. ¬ Ends how line.answer) (record { bytes = text; answer = answer }) (lines_with texts answers)
+    (answers_no_end how k.0 (All-head (λ (z : Option Request). ¬ AsksEnd how z) a asked no_end)) (no_end_lines how pages asked texts answers h.1 k.1 (All-tail (λ (z : Option Request). ¬ AsksEnd how z) a asked no_end))
 
 -- the last line ends a section, and no other does
 pub record EndsLast (how : Sectioning) (lines : List Line) : Type 0 where
@@ -135,15 +135,15 @@ pub record EndsLast (how : Sectioning) (lines : List Line) : Type 0 where
   pub is_end : Ends how end.answer
   pub no_end : HasNoEnd how front
 
-ends_last : {pages : ℕ} (how : Sectioning) (front : List (Option Request)) (last : Option Request) (texts : List (List ℕ)) (answers : List Answer) → AllZip IsReadAs (front ++ last ∷ []) texts → AllZip (IsFor pages) (front ++ last ∷ []) answers → AskNoEnd how front → AsksEnd how last
+ends_last : (how : Sectioning) (pages : ℕ) (front : List (Option Request)) (last : Option Request) (texts : List (List ℕ)) (answers : List Answer) → AllZip IsReadAs (front ++ last ∷ []) texts → AllZip (IsFor pages) (front ++ last ∷ []) answers → AskNoEnd how front → AsksEnd how last
     → EndsLast how (lines_with texts answers)
-ends_last how [] last [] answers h k no_end is = absurd h
-ends_last how [] last (text ∷ texts) [] h k no_end is = absurd k
-ends_last how [] last (text ∷ []) (answer ∷ answers) h k no_end is = record { front = []; end = record { bytes = text; answer = answer }; ends = refl; is_end = answers_end how k.0 is; no_end = All-nil (λ line. ¬ Ends how line.answer) }
-ends_last how [] last (text ∷ next ∷ texts) (answer ∷ answers) h k no_end is = absurd h.1
-ends_last how (a ∷ front) last [] answers h k no_end is = absurd h
-ends_last how (a ∷ front) last (text ∷ texts) [] h k no_end is = absurd k
-ends_last how (a ∷ front) last (text ∷ texts) (answer ∷ answers) h k no_end is = let r = ends_last how front last texts answers h.1 k.1 (All-tail (λ (z : Option Request). ¬ AsksEnd how z) a front no_end) is in let line : Line = record { bytes = text; answer = answer } in record {
+ends_last how pages [] last [] answers h k no_end is = absurd h
+ends_last how pages [] last (text ∷ texts) [] h k no_end is = absurd k
+ends_last how pages [] last (text ∷ []) (answer ∷ answers) h k no_end is = record { front = []; end = record { bytes = text; answer = answer }; ends = refl; is_end = answers_end how k.0 is; no_end = All-nil (λ line. ¬ Ends how line.answer) }
+ends_last how pages [] last (text ∷ next ∷ texts) (answer ∷ answers) h k no_end is = absurd h.1
+ends_last how pages (a ∷ front) last [] answers h k no_end is = absurd h
+ends_last how pages (a ∷ front) last (text ∷ texts) [] h k no_end is = absurd k
+ends_last how pages (a ∷ front) last (text ∷ texts) (answer ∷ answers) h k no_end is = let r = ends_last how pages front last texts answers h.1 k.1 (All-tail (λ (z : Option Request). ¬ AsksEnd how z) a front no_end) is in let line : Line = record { bytes = text; answer = answer } in record {
   front = line ∷ r.front;
   end = r.end;
   ends = ap (λ (z : List Line). line ∷ z) r.ends;
@@ -151,8 +151,8 @@ ends_last how (a ∷ front) last (text ∷ texts) (answer ∷ answers) h k no_en
   no_end = All-cons (λ line. ¬ Ends how line.answer) line r.front (answers_no_end how k.0 (All-head (λ (z : Option Request). ¬ AsksEnd how z) a front no_end)) r.no_end;
 }
 
-pub end_lines : {pages : ℕ} (how : Sectioning) (asked : List (Option Request)) (texts : List (List ℕ)) (answers : List Answer) → AllZip IsReadAs asked texts → AllZip (IsFor pages) asked answers → AskEndLast how asked → EndsLast how (lines_with texts answers)
-end_lines {pages} how asked texts answers h k s = ends_last how s.front s.last texts answers (subst (λ (z : List (Option Request)). AllZip IsReadAs z texts) s.ends h) (subst (λ (z : List (Option Request)). AllZip (IsFor pages) z answers) s.ends k) s.no_end s.is_end
+pub end_lines : (how : Sectioning) (pages : ℕ) (asked : List (Option Request)) (texts : List (List ℕ)) (answers : List Answer) → AllZip IsReadAs asked texts → AllZip (IsFor pages) asked answers → AskEndLast how asked → EndsLast how (lines_with texts answers)
+end_lines how pages asked texts answers h k s = ends_last how pages s.front s.last texts answers (subst (λ (z : List (Option Request)). AllZip IsReadAs z texts) s.ends h) (subst (λ (z : List (Option Request)). AllZip (IsFor pages) z answers) s.ends k) s.no_end s.is_end
 
 -- ---- answers that are lawful: lines that nobody answered have them too
 
