@@ -28,6 +28,8 @@ to 18446744073709551615:
                     rising keys
   scandown LO HI    the same rows, by falling keys
   scanfrom LO       rows K=V K=V, all rows from key LO on, by rising keys
+  stat              pages A used U free F: all pages of the index, those in use,
+                    and those that may be taken
   sync              synced: the end of a section
 Any other line is malformed; standard error says at the end how many were, and
 which was the first. Each reply begins with the number of its line.

@@ -45,11 +45,11 @@ input_append : (xs ys : List Line) → input_of (xs ++ ys) ≡ input_of xs ++ in
 input_append xs ys = flat_map-append (λ l. l.bytes ++ 10 ∷ []) xs ys
 
 -- the finished sections, which began where the passes had seen old and have led to now
-pub record Progress (how : Sectioning) (old now : Trail) (totals : Totals) (input output : List ℕ) : Type 0 where
+pub record Progress (how : Sectioning) (pages : ℕ) (old now : Trail) (totals : Totals) (input output : List ℕ) : Type 0 where
   pub sections : List Section
   pub more : Trail
   pub begins : now ≡ old ++ more
-  pub each : All (IsFinished how) sections
+  pub each : All (IsFinished how pages) sections
   pub history : history_of more ≡ served.history_of sections
   pub read : input ≡ input_of (lines_of sections)
   pub written : output ≡ output_of 1 (lines_of sections)
@@ -57,8 +57,8 @@ pub record Progress (how : Sectioning) (old now : Trail) (totals : Totals) (inpu
   pub malformed : totals.malformed ≡ sum_by (λ line. malformed_of line.answer) (lines_of sections)
   pub syncs : totals.sections ≡ sum_by (λ line. syncs_of line.answer) (lines_of sections)
 
-pub no_progress : (how : Sectioning) (old : Trail) (totals : Totals) → (totals.requests ≡ 0) × (totals.malformed ≡ 0) × (totals.sections ≡ 0) → Progress how old old totals [] []
-no_progress how old totals none = record { sections = []; more = []; begins = sym (append-nil old); each = All-nil (IsFinished how); history = refl; read = refl; written = refl; requests = none.0; malformed = none.1; syncs = none.2 }
+pub no_progress : (how : Sectioning) (pages : ℕ) (old : Trail) (totals : Totals) → (totals.requests ≡ 0) × (totals.malformed ≡ 0) × (totals.sections ≡ 0) → Progress how pages old old totals [] []
+no_progress how pages old totals none = record { sections = []; more = []; begins = sym (append-nil old); each = All-nil (IsFinished how pages); history = refl; read = refl; written = refl; requests = none.0; malformed = none.1; syncs = none.2 }
 
 -- a history goes on lawfully behind the one that was seen
 legal_on : (first : List (Option Page)) (old now more : Trail) (h : List Entry) → IsLinearizable first (now ++ more) → (begun : Trail) → now ≡ old ++ begun → history_of begun ≡ h → IsLegalFrom (map_after first old) (h ++ history_of more)
@@ -73,14 +73,14 @@ legal_so_far first old now h seen begun is same = subst (IsLegalFrom (map_after 
 
 -- ---- a section
 
-module _ (unread left : List ℕ) (asked : List (Option Request)) (rest : List ℕ) (r : ReadsLines unread left asked rest) (done : ℕ) (text : List ℕ) (more : Trail) (h : Held done asked text more) where
+module _ (pages : ℕ) (unread left : List ℕ) (asked : List (Option Request)) (rest : List ℕ) (r : ReadsLines unread left asked rest) (done : ℕ) (text : List ℕ) (more : Trail) (h : Held pages done asked text more) where
   abbrev pub the_lines : List Line
   the_lines = lines_with r.texts h.answers
 
-  the_are : AreLines asked r.texts h.answers
-  the_are = are_lines asked r.texts h.answers r.each h.each
+  the_are : AreLines pages asked r.texts h.answers
+  the_are = are_lines pages asked r.texts h.answers r.each h.each
 
-  whole_section : IsSection (section_of the_lines more)
+  whole_section : IsSection pages (section_of the_lines more)
   whole_section = record { lines = the_are.good; history = subst (λ (z : List (List Entry)). Interleaves z (history_of more)) (sym the_are.entries_are) h.interleaves }
 
   read_is : unread ≡ input_of the_lines ++ rest ++ left
@@ -94,26 +94,26 @@ written_more : (s : List Section) (lines : List Line) (n : ℕ) (output text : L
 written_more s lines n output text is at e = ap (λ x. x ++ text) is ∙ ap (λ x. output_of 1 (lines_of s) ++ x) e
     ∙ ap (λ k. output_of 1 (lines_of s) ++ output_of k lines) (let same : suc n ≡ 1 + length (lines_of s) = omega (arith, at) in same) ∙ sym (output_append 1 (lines_of s) lines)
 
-pub add_section : (how : Sectioning) (old now : Trail) (before totals : Totals) (input output unread left text : List ℕ) (asked : List (Option Request)) (more : Trail)
-    → Progress how old now before input output → ReadsLines unread left asked [] → AskEndLast how asked → Held before.requests asked text more → CountsSection before totals asked section_end.ByLine
-    → (consumed : List ℕ) × (unread ≡ consumed ++ left) × Progress how old (now ++ more) totals (input ++ consumed) (output ++ text)
-add_section how old now before totals input output unread left text asked more p r last h counts =
-    let lines : List Line = the_lines unread left asked [] r before.requests text more h in
-    let are = the_are unread left asked [] r before.requests text more h in
+pub add_section : (how : Sectioning) (pages : ℕ) (old now : Trail) (before totals : Totals) (input output unread left text : List ℕ) (asked : List (Option Request)) (more : Trail)
+    → Progress how pages old now before input output → ReadsLines unread left asked [] → AskEndLast how asked → Held pages before.requests asked text more → CountsSection before totals asked section_end.ByLine
+    → (consumed : List ℕ) × (unread ≡ consumed ++ left) × Progress how pages old (now ++ more) totals (input ++ consumed) (output ++ text)
+add_section how pages old now before totals input output unread left text asked more p r last h counts =
+    let lines : List Line = the_lines pages unread left asked [] r before.requests text more h in
+    let are = the_are pages unread left asked [] r before.requests text more h in
     let section : Section = section_of lines more in
-    let end = end_lines how asked r.texts h.answers r.each h.each last in
-    let finished : IsFinished how section = record { front = end.front; end = end.end; lines = end.ends; last = end.is_end; no_end = end.no_end; whole = whole_section unread left asked [] r before.requests text more h } in
+    let end = end_lines how pages asked r.texts h.answers r.each h.each last in
+    let finished : IsFinished how pages section = record { front = end.front; end = end.end; lines = end.ends; last = end.is_end; no_end = end.no_end; whole = whole_section pages unread left asked [] r before.requests text more h } in
     let s = p.sections in (
       input_of lines,
-      read_is unread left asked [] r before.requests text more h ∙ ap (λ (z : List ℕ). z ++ left) (append-nil (input_of lines)),
+      read_is pages unread left asked [] r before.requests text more h ∙ ap (λ (z : List ℕ). z ++ left) (append-nil (input_of lines)),
       record {
         sections = s ++ section ∷ [];
         more = p.more ++ more;
         begins = ap (λ (z : Trail). z ++ more) p.begins ∙ append_assoc old p.more more;
-        each = All-append (IsFinished how) s (section ∷ []) p.each (All-cons (IsFinished how) section [] finished (All-nil (IsFinished how)));
+        each = All-append (IsFinished how pages) s (section ∷ []) p.each (All-cons (IsFinished how pages) section [] finished (All-nil (IsFinished how pages)));
         history = history_append p.more more ∙ (ap (λ (z : List Entry). z ++ history_of more) p.history ∙ sym (history_more s section));
         read = ap (λ t. t ++ input_of lines) p.read ∙ sym (input_append (lines_of s) lines) ∙ ap input_of (sym (lines_more s section));
-        written = written_more s lines before.requests output text p.written p.requests (text_is unread left asked [] r before.requests text more h) ∙ ap (output_of 1) (sym (lines_more s section));
+        written = written_more s lines before.requests output text p.written p.requests (text_is pages unread left asked [] r before.requests text more h) ∙ ap (output_of 1) (sym (lines_more s section));
         requests = let a = length-append (lines_of s) lines in let b : length (lines_of (s ++ section ∷ [])) ≡ length (lines_of s ++ lines) = ap length (lines_more s section) in
             let c = p.requests in let d = counts.requests in let e = are.long in omega (arith, a, b, c, d, e);
         malformed = let f : Line → ℕ = λ x. malformed_of x.answer in let a = sum_by-append f (lines_of s) lines in let b : sum_by f (lines_of (s ++ section ∷ [])) ≡ sum_by f (lines_of s ++ lines) = ap (sum_by f) (lines_more s section) in
@@ -146,32 +146,32 @@ open_text : (s : List Section) (lines : List Line) (rest text tail : List ℕ) (
 open_text s lines rest text tail n k e long is ends = ap (λ (z : List ℕ). z ++ tail) is ∙ (ap (λ (z : List ℕ). output_of (suc n) lines ++ z) ends
     ∙ (ap (λ (z : ℕ). output_of (suc z) lines ++ rest_text (n + k + 1) rest) e ∙ ap (λ (z : ℕ). output_of (suc (length (lines_of s))) lines ++ rest_text z rest) (let at : n + k + 1 ≡ suc (length (lines_of s)) + length lines = omega (arith, e, long) in at)))
 
-pub serves_end : (how : Sectioning) (first : List (Option Page)) (old now : Trail) (before totals : Totals) (input output unread left text rest : List ℕ) (asked : List (Option Request)) (more : Trail) (end : SectionEnd)
-    → Progress how old now before input output → ReadsLines unread left asked rest → AskNoEnd how asked → Held before.requests asked text more → CountsSection before totals asked end → EndsWith end rest → IsLinearizable first (now ++ more)
-    → (consumed : List ℕ) × (unread ≡ consumed ++ left) × (length asked + length rest ≤ length consumed) × ServedBy how first old (now ++ more) (input ++ consumed) (output ++ (text ++ end_text end (before.requests + length asked + 1))) totals
-serves_end how first old now before totals input output unread left text rest asked more end p r no_end h counts ends seen =
-    let lines : List Line = the_lines unread left asked rest r before.requests text more h in
-    let are = the_are unread left asked rest r before.requests text more h in
+pub serves_end : (how : Sectioning) (pages : ℕ) (first : List (Option Page)) (old now : Trail) (before totals : Totals) (input output unread left text rest : List ℕ) (asked : List (Option Request)) (more : Trail) (end : SectionEnd)
+    → Progress how pages old now before input output → ReadsLines unread left asked rest → AskNoEnd how asked → Held pages before.requests asked text more → CountsSection before totals asked end → EndsWith end rest → IsLinearizable first (now ++ more)
+    → (consumed : List ℕ) × (unread ≡ consumed ++ left) × (length asked + length rest ≤ length consumed) × ServedBy how pages first old (now ++ more) (input ++ consumed) (output ++ (text ++ end_text end (before.requests + length asked + 1))) totals
+serves_end how pages first old now before totals input output unread left text rest asked more end p r no_end h counts ends seen =
+    let lines : List Line = the_lines pages unread left asked rest r before.requests text more h in
+    let are = the_are pages unread left asked rest r before.requests text more h in
     let s = p.sections in let n : ℕ = before.requests + length asked + 1 in
     let at : n ≡ 1 + length (lines_of s ++ lines) = numbers_more s lines before.requests (length asked) p.requests are.long in
-    let serves : Served how (map_after first old) (input ++ (input_of lines ++ rest)) (output ++ (text ++ end_text end n)) totals = record {
+    let serves : Served how pages (map_after first old) (input ++ (input_of lines ++ rest)) (output ++ (text ++ end_text end n)) totals = record {
       sections = s;
       last = section_of lines more;
       rest = rest;
       each = p.each;
-      whole = whole_section unread left asked rest r before.requests text more h;
-      no_end = no_end_lines how asked r.texts h.answers r.each h.each no_end;
+      whole = whole_section pages unread left asked rest r before.requests text more h;
+      no_end = no_end_lines how pages asked r.texts h.answers r.each h.each no_end;
       cut = r.cut;
       legal = legal_on first old now more (served.history_of s) seen p.more p.begins p.history;
       read = ap (λ t. t ++ (input_of lines ++ rest)) p.read ∙ sym (append_assoc (input_of (lines_of s)) (input_of lines) rest) ∙ ap (λ t. t ++ rest) (sym (input_append (lines_of s) lines));
-      written = sym (append_assoc output text (end_text end n)) ∙ (ap (λ t. t ++ end_text end n) (written_more s lines before.requests output text p.written p.requests (text_is unread left asked rest r before.requests text more h))
+      written = sym (append_assoc output text (end_text end n)) ∙ (ap (λ t. t ++ end_text end n) (written_more s lines before.requests output text p.written p.requests (text_is pages unread left asked rest r before.requests text more h))
           ∙ (ap (λ t. output_of 1 (lines_of s ++ lines) ++ t) (ends.prints n) ∙ ap (λ (z : ℕ). output_of 1 (lines_of s ++ lines) ++ rest_text z rest) at));
       requests = let a = length-append (lines_of s) lines in let b = are.long in let c = p.requests in let d = counts.requests in let e = ends.one in omega (arith, a, b, c, d, e);
       malformed = let f : Line → ℕ = λ x. malformed_of x.answer in let a = sum_by-append f (lines_of s) lines in let b = are.malformed in let c = p.malformed in let d = counts.malformed in let e = ends.one in omega (arith, a, b, c, d, e);
       syncs = let f : Line → ℕ = λ x. syncs_of x.answer in let a = sum_by-append f (lines_of s) lines in let b = are.syncs in let c = p.syncs in let d = counts.sections in omega (arith, a, b, c, d);
     } in (
       input_of lines ++ rest,
-      read_is unread left asked rest r before.requests text more h,
+      read_is pages unread left asked rest r before.requests text more h,
       (let a = lines_short lines in let b = are.long in let c = length-append (input_of lines) rest in omega (arith, a, b, c)),
       record {
         served = serves;
@@ -190,9 +190,9 @@ serves_end how first old now before totals input output unread left text rest as
 -- ---- faults
 
 -- in the open section: nothing of it is written
-pub stops_inside : (how : Sectioning) (first : List (Option Page)) (old now : Trail) (before : Totals) (input output ahead : List ℕ) (fault : ServeFault) (ReaderFailed WriterFailed : Type 0) → (p : Progress how old now before input output) → IsLinearizable first now
-    → Leaves how fault (length (lines_of p.sections)) [] ahead [] → ComesFrom fault ReaderFailed WriterFailed → Stops how (map_after first old) (input ++ ahead) output fault ReaderFailed WriterFailed
-stops_inside how first old now before input output ahead fault ReaderFailed WriterFailed p seen leaves comes = (
+pub stops_inside : (how : Sectioning) (pages : ℕ) (first : List (Option Page)) (old now : Trail) (before : Totals) (input output ahead : List ℕ) (fault : ServeFault) (ReaderFailed WriterFailed : Type 0) → (p : Progress how pages old now before input output) → IsLinearizable first now
+    → Leaves how fault (length (lines_of p.sections)) [] ahead [] → ComesFrom fault ReaderFailed WriterFailed → Stops how pages (map_after first old) (input ++ ahead) output fault ReaderFailed WriterFailed
+stops_inside how pages first old now before input output ahead fault ReaderFailed WriterFailed p seen leaves comes = (
   record {
     sections = p.sections;
     last = record { lines = []; history = [] };
@@ -201,7 +201,7 @@ stops_inside how first old now before input output ahead fault ReaderFailed Writ
     begun = [];
     unwritten = [];
     each = p.each;
-    whole = record { lines = All-nil IsLine; history = Done [] (All-nil (λ (list : List Entry). list ≡ [])) };
+    whole = record { lines = All-nil (IsLine pages); history = Done [] (All-nil (λ (list : List Entry). list ≡ [])) };
     open_lines = no_end_any how [] (All-nil (λ line. ¬ Ends how line.answer));
     cut = All-nil (λ b. b ≢ 10);
     legal = subst (IsLegalFrom (map_after first old)) (sym (append-nil (served.history_of p.sections))) (legal_so_far first old now (served.history_of p.sections) seen p.more p.begins p.history);
@@ -227,11 +227,11 @@ interleaves_all [] = Done [] (All-nil (λ list. list ≡ []))
 interleaves_all (answer ∷ answers) = interleaves_front (entries answer) (map entries answers) (flat_map entries answers) (interleaves_all answers)
 
 -- the lines behind the finished sections were read, and a beginning of what would be their output is out
-stopped : (how : Sectioning) (first : List (Option Page)) (old now : Trail) (before : Totals) (input output unread left rest begun unwritten : List ℕ) (fault : ServeFault) (p : Progress how old now before input output) (last : Section) → IsSection last → HasNoEndInside how last.lines → HasNoLf rest
+stopped : (how : Sectioning) (pages : ℕ) (first : List (Option Page)) (old now : Trail) (before : Totals) (input output unread left rest begun unwritten : List ℕ) (fault : ServeFault) (p : Progress how pages old now before input output) (last : Section) → IsSection pages last → HasNoEndInside how last.lines → HasNoLf rest
     → IsLegalFrom (map_after first old) (served.history_of p.sections ++ last.history) → unread ≡ input_of last.lines ++ rest ++ left
     → text_of (suc (length (lines_of p.sections))) last.lines rest ≡ begun ++ unwritten → Leaves how fault (length (lines_of p.sections)) begun left last.lines
-    → Stopped how (map_after first old) (input ++ unread) (output ++ begun) fault
-stopped how first old now before input output unread left rest begun unwritten fault p last whole inside cut legal read is leaves = let s = p.sections in let lines : List Line = last.lines in record {
+    → Stopped how pages (map_after first old) (input ++ unread) (output ++ begun) fault
+stopped how pages first old now before input output unread left rest begun unwritten fault p last whole inside cut legal read is leaves = let s = p.sections in let lines : List Line = last.lines in record {
   sections = s;
   last = last;
   rest = rest;
@@ -251,19 +251,19 @@ stopped how first old now before input output unread left rest begun unwritten f
 }
 
 -- a read failed. The lines of the open section were not answered; they could have been so.
-pub stops_reading : (how : Sectioning) (first : List (Option Page)) (old now : Trail) (before : Totals) (input output unread left rest : List ℕ) (asked : List (Option Request)) (ReaderFailed WriterFailed : Type 0) → Progress how old now before input output → IsLinearizable first now
-    → ReadsLines unread left asked rest → AskNoEnd how asked → left ≡ [] → ReaderFailed → Stops how (map_after first old) (input ++ unread) output Read ReaderFailed WriterFailed
-stops_reading how first old now before input output unread left rest asked ReaderFailed WriterFailed p seen r no_end none failed =
+pub stops_reading : (how : Sectioning) (pages : ℕ) (first : List (Option Page)) (old now : Trail) (before : Totals) (input output unread left rest : List ℕ) (asked : List (Option Request)) (ReaderFailed WriterFailed : Type 0) → Progress how pages old now before input output → IsLinearizable first now
+    → ReadsLines unread left asked rest → AskNoEnd how asked → left ≡ [] → ReaderFailed → Stops how pages (map_after first old) (input ++ unread) output Read ReaderFailed WriterFailed
+stops_reading how pages first old now before input output unread left rest asked ReaderFailed WriterFailed p seen r no_end none failed =
     let s = p.sections in
     let so_far = legal_so_far first old now (served.history_of s) seen p.more p.begins p.history in
     let finite = finite_history (map_after first old) (served.history_of s) (finite_history (first_map first) (history_of old) (finite_rows (rows_in first))) in
-    let l = lawful (final_map (map_after first old) (served.history_of s)) finite asked r.texts r.each in
-    let are = are_lines asked r.texts l.answers r.each l.each in
+    let l = lawful pages (final_map (map_after first old) (served.history_of s)) finite asked r.texts r.each in
+    let are = are_lines pages asked r.texts l.answers r.each l.each in
     let lines : List Line = lines_with r.texts l.answers in
     let last : Section = record { lines = lines; history = flat_map entries l.answers } in
-    let quiet = no_end_lines how asked r.texts l.answers r.each l.each no_end in (
-      subst (λ o. Stopped how (map_after first old) (input ++ unread) o Read) (append-nil output)
-          (stopped how first old now before input output unread left rest [] _ Read p last
+    let quiet = no_end_lines how pages asked r.texts l.answers r.each l.each no_end in (
+      subst (λ o. Stopped how pages (map_after first old) (input ++ unread) o Read) (append-nil output)
+          (stopped how pages first old now before input output unread left rest [] _ Read p last
           (record { lines = are.good; history = subst (λ (z : List (List Entry)). Interleaves z (flat_map entries l.answers)) (sym are.entries_are) (interleaves_all l.answers) })
           (no_end_any how lines quiet) r.cut (legal_append (map_after first old) (served.history_of s) (flat_map entries l.answers) so_far l.legal)
           (r.read ∙ ap (λ (z : List ℕ). z ++ rest ++ left) (sym are.input)) refl (refl, none, quiet)),
@@ -271,25 +271,25 @@ stops_reading how first old now before input output unread left rest asked Reade
     )
 
 -- a write of the section's output failed
-pub stops_writing : (how : Sectioning) (first : List (Option Page)) (old now : Trail) (before : Totals) (input output unread left text rest out unwritten : List ℕ) (asked : List (Option Request)) (more : Trail) (end : SectionEnd) (ReaderFailed WriterFailed : Type 0)
-    → Progress how old now before input output → (r : ReadsLines unread left asked rest) → (h : Held before.requests asked text more) → HasNoEndInside how (lines_with r.texts h.answers) → ((n : ℕ) → end_text end n ≡ rest_text n rest) → IsLinearizable first (now ++ more)
-    → text ++ end_text end (before.requests + length asked + 1) ≡ out ++ unwritten → WriterFailed → Stops how (map_after first old) (input ++ unread) (output ++ out) Write ReaderFailed WriterFailed
-stops_writing how first old now before input output unread left text rest out unwritten asked more end ReaderFailed WriterFailed p r h inside prints seen split failed =
-    let s = p.sections in let lines : List Line = the_lines unread left asked rest r before.requests text more h in
-    let are = the_are unread left asked rest r before.requests text more h in (
-      stopped how first old now before input output unread left rest out unwritten Write p (section_of lines more) (whole_section unread left asked rest r before.requests text more h) inside r.cut
-          (legal_on first old now more (served.history_of s) seen p.more p.begins p.history) (read_is unread left asked rest r before.requests text more h)
-          (sym (open_text s lines rest text (end_text end (before.requests + length asked + 1)) before.requests (length asked) p.requests are.long (text_is unread left asked rest r before.requests text more h) (prints (before.requests + length asked + 1))) ∙ split)
+pub stops_writing : (how : Sectioning) (pages : ℕ) (first : List (Option Page)) (old now : Trail) (before : Totals) (input output unread left text rest out unwritten : List ℕ) (asked : List (Option Request)) (more : Trail) (end : SectionEnd) (ReaderFailed WriterFailed : Type 0)
+    → Progress how pages old now before input output → (r : ReadsLines unread left asked rest) → (h : Held pages before.requests asked text more) → HasNoEndInside how (lines_with r.texts h.answers) → ((n : ℕ) → end_text end n ≡ rest_text n rest) → IsLinearizable first (now ++ more)
+    → text ++ end_text end (before.requests + length asked + 1) ≡ out ++ unwritten → WriterFailed → Stops how pages (map_after first old) (input ++ unread) (output ++ out) Write ReaderFailed WriterFailed
+stops_writing how pages first old now before input output unread left text rest out unwritten asked more end ReaderFailed WriterFailed p r h inside prints seen split failed =
+    let s = p.sections in let lines : List Line = the_lines pages unread left asked rest r before.requests text more h in
+    let are = the_are pages unread left asked rest r before.requests text more h in (
+      stopped how pages first old now before input output unread left rest out unwritten Write p (section_of lines more) (whole_section pages unread left asked rest r before.requests text more h) inside r.cut
+          (legal_on first old now more (served.history_of s) seen p.more p.begins p.history) (read_is pages unread left asked rest r before.requests text more h)
+          (sym (open_text s lines rest text (end_text end (before.requests + length asked + 1)) before.requests (length asked) p.requests are.long (text_is pages unread left asked rest r before.requests text more h) (prints (before.requests + length asked + 1))) ∙ split)
           tt,
       failed,
     )
 
 -- no line before the last one ends a section
-pub inside_no_end : (how : Sectioning) (unread left rest : List ℕ) (asked : List (Option Request)) (r : ReadsLines unread left asked rest) (done : ℕ) (text : List ℕ) (more : Trail) (h : Held done asked text more) → AskNoEnd how asked → HasNoEndInside how (lines_with r.texts h.answers)
-inside_no_end how unread left rest asked r done text more h no_end = no_end_any how (lines_with r.texts h.answers) (no_end_lines how asked r.texts h.answers r.each h.each no_end)
+pub inside_no_end : (how : Sectioning) (pages : ℕ) (unread left rest : List ℕ) (asked : List (Option Request)) (r : ReadsLines unread left asked rest) (done : ℕ) (text : List ℕ) (more : Trail) (h : Held pages done asked text more) → AskNoEnd how asked → HasNoEndInside how (lines_with r.texts h.answers)
+inside_no_end how pages unread left rest asked r done text more h no_end = no_end_any how (lines_with r.texts h.answers) (no_end_lines how pages asked r.texts h.answers r.each h.each no_end)
 
-pub inside_end_last : (how : Sectioning) (unread left rest : List ℕ) (asked : List (Option Request)) (r : ReadsLines unread left asked rest) (done : ℕ) (text : List ℕ) (more : Trail) (h : Held done asked text more) → AskEndLast how asked → HasNoEndInside how (lines_with r.texts h.answers)
-inside_end_last how unread left rest asked r done text more h last = let e = end_lines how asked r.texts h.answers r.each h.each last in subst (HasNoEndInside how) (sym e.ends) (no_end_inside how e.front e.end e.no_end)
+pub inside_end_last : (how : Sectioning) (pages : ℕ) (unread left rest : List ℕ) (asked : List (Option Request)) (r : ReadsLines unread left asked rest) (done : ℕ) (text : List ℕ) (more : Trail) (h : Held pages done asked text more) → AskEndLast how asked → HasNoEndInside how (lines_with r.texts h.answers)
+inside_end_last how pages unread left rest asked r done text more h last = let e = end_lines how pages asked r.texts h.answers r.each h.each last in subst (HasNoEndInside how) (sym e.ends) (no_end_inside how e.front e.end e.no_end)
 
 lines_short : (lines : List Line) → length lines ≤ length (input_of lines)
 lines_short [] = omega arith
@@ -298,5 +298,5 @@ lines_short (line ∷ lines) = let e = ap length (flat_map-cons (λ (l : Line). 
     let d = lines_short lines in omega (arith, a, b, c, d, e)
 
 -- the input has a byte for each line
-pub input_long : (how : Sectioning) (old now : Trail) (totals : Totals) (input output : List ℕ) → Progress how old now totals input output → totals.requests ≤ length input
-input_long how old now totals input output p = let a = lines_short (lines_of p.sections) in let e : length input ≡ length (input_of (lines_of p.sections)) = ap length p.read in omega (arith, a, e, p.requests)
+pub input_long : (how : Sectioning) (pages : ℕ) (old now : Trail) (totals : Totals) (input output : List ℕ) → Progress how pages old now totals input output → totals.requests ≤ length input
+input_long how pages old now totals input output p = let a = lines_short (lines_of p.sections) in let e : length input ≡ length (input_of (lines_of p.sections)) = ap length p.read in omega (arith, a, e, p.requests)

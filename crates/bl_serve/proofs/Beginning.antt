@@ -14,7 +14,7 @@ use Rattle.bl_claims.specs.Trails.{Trail}
 use Rattle.bl_claims.specs.Seeing.{first_map}
 use Rattle.bl_index.specs.declared.index.Index.{Index}
 use Rattle.bl_index.specs.declared.index.Pass.{Pass}
-use Rattle.bl_index.specs.Calls.{first_of, IsPassOf, number_of, trail, map_after}
+use Rattle.bl_index.specs.Calls.{first_of, pages_of, IsPassOf, number_of, trail, map_after}
 use Rattle.bl_index.specs.Opened.{IsBegun, IsReopened}
 use Rattle.bl_serve.specs.declared.origin.Origin.{Origin}
 use Rattle.bl_serve.specs.declared.origin.Origin.TheVariants.{Empty, Image}
@@ -80,7 +80,7 @@ module _ (how : Sectioning) (origin : Origin) (among : ℕ) (index : Index) (old
   rows_seen = ap (map_after (first_of index)) b.unseen ∙ b.map
 
   pub served_from : (news : List Pass) (totals : Totals) (input output : List ℕ) → Serves how index olds news totals input output → ServedFrom how origin totals input output
-  served_from news totals input output s = record { rows = b.rows; are_rows = b.are_rows; served = subst (λ (m : Map). Served how m input output totals) rows_seen s.served.served }
+  served_from news totals input output s = record { rows = b.rows; are_rows = b.are_rows; served = subst (λ (z : ℕ × Map). Served how z.0 z.1 input output totals) (λ i. (b.pages i, rows_seen i)) s.served.served }
 
-  pub stops_from : (input output : List ℕ) (fault : ServeFault) (reader_failed writer_failed : Type 0) → Stops how (map_after (first_of index) (seen_by olds)) input output fault reader_failed writer_failed → StopsFrom how origin input output fault reader_failed writer_failed
-  stops_from input output fault reader_failed writer_failed s = Stopped b.rows b.are_rows (subst (λ (m : Map). Stops how m input output fault reader_failed writer_failed) rows_seen s)
+  pub stops_from : (input output : List ℕ) (fault : ServeFault) (reader_failed writer_failed : Type 0) → Stops how (pages_of index) (map_after (first_of index) (seen_by olds)) input output fault reader_failed writer_failed → StopsFrom how origin input output fault reader_failed writer_failed
+  stops_from input output fault reader_failed writer_failed s = Stopped b.rows b.are_rows (subst (λ (z : ℕ × Map). Stops how z.0 z.1 input output fault reader_failed writer_failed) (λ i. (b.pages i, rows_seen i)) s)

@@ -17,6 +17,7 @@ use Rattle.bl_serve_lines.specs.Served.Interleaves.{Done, Takes}
 use Rattle.bl_claims.specs.Trails.{Trail, history_of}
 use Rattle.bl_index.specs.declared.index.Index.{Index}
 use Rattle.bl_index.specs.declared.index.Pass.{Pass}
+use Rattle.bl_index.specs.Calls.{pages_of}
 use Rattle.bl_serve.specs.declared.section_reader.SectionEnd.{SectionEnd}
 use Rattle.bl_serve.specs.declared.section_reader.SectionEnd.TheVariants.{ByLine, Rest, Finished}
 use Rattle.bl_serve_worker.specs.Answering.{IsFor, answers_text}
@@ -96,12 +97,12 @@ interleaves_then (Takes before e list after h more) ys k b =
     subst (λ (z : List (List Entry)). Interleaves z (e ∷ (h ++ k))) (sym (append_assoc before ((e ∷ list) ∷ after) ys))
     (Takes before e list (after ++ ys) (h ++ k) (subst (λ (z : List (List Entry)). Interleaves z (h ++ k)) (append_assoc before (list ∷ after) ys) (interleaves_then more ys k b)))
 
-held_then : (done : ℕ) (xs ys : List (Option Request)) (text text' : List ℕ) (more more' : Trail) → Held done xs text more → Held (done + length xs) ys text' more' → Held done (xs ++ ys) (text ++ text') (more ++ more')
-held_then done xs ys text text' more more' a b = record {
+held_then : (pages done : ℕ) (xs ys : List (Option Request)) (text text' : List ℕ) (more more' : Trail) → Held pages done xs text more → Held pages (done + length xs) ys text' more' → Held pages done (xs ++ ys) (text ++ text') (more ++ more')
+held_then pages done xs ys text text' more more' a b = record {
   answers = a.answers ++ b.answers;
-  each = zip_append IsFor xs ys a.answers b.answers a.each b.each;
+  each = zip_append (IsFor pages) xs ys a.answers b.answers a.each b.each;
   prints = ap (λ (z : List ℕ). z ++ text') a.prints ∙ (ap (λ (z : List ℕ). answers_text (suc done) a.answers ++ z) b.prints
-      ∙ (ap (λ (n : ℕ). answers_text (suc done) a.answers ++ answers_text n b.answers) (let long = zip_length IsFor xs a.answers a.each in let e : suc (done + length xs) ≡ suc done + length a.answers = omega (arith, long) in e)
+      ∙ (ap (λ (n : ℕ). answers_text (suc done) a.answers ++ answers_text n b.answers) (let long = zip_length (IsFor pages) xs a.answers a.each in let e : suc (done + length xs) ≡ suc done + length a.answers = omega (arith, long) in e)
       ∙ sym (text_append (suc done) a.answers b.answers)));
   interleaves = subst (λ (z : List (List Entry) × List Entry). Interleaves z.0 z.1) (λ i. (sym (map-append entries a.answers b.answers) i, sym (history_append more more') i))
       (interleaves_then a.interleaves (map entries b.answers) (history_of more') b.interleaves);
@@ -124,7 +125,7 @@ serves_then index done now xs ys end text text' olds mids news at some a b' = le
   answers = a.answers ++ b.answers;
   holds = record {
     more = a.holds.more ++ b.holds.more;
-    held = held_then done xs ys a.answers b.answers a.holds.more b.holds.more a.holds.held b.holds.held;
+    held = held_then (pages_of index) done xs ys a.answers b.answers a.holds.more b.holds.more a.holds.held b.holds.held;
     together = subst (λ (z : Trail). AreTogether index z news)
         (ap (λ (z : Trail). z ++ b.holds.more) (first_seen index (seen_by olds ++ a.holds.more) mids some a.holds.together) ∙ append_assoc (seen_by olds) a.holds.more b.holds.more) b.holds.together;
   };

@@ -11,7 +11,7 @@ use Rattle.bl_claims.specs.Trails.{Trail}
 use Rattle.bl_claims.specs.Seeing.{IsLinearizable, AreWithin, own, GoesOnFrom}
 use Rattle.bl_index.specs.declared.index.Index.{Index}
 use Rattle.bl_index.specs.declared.index.Pass.{Pass}
-use Rattle.bl_index.specs.Calls.{first_of, IsPassOf, number_of, trail, passes_of}
+use Rattle.bl_index.specs.Calls.{first_of, pages_of, IsPassOf, number_of, trail, passes_of}
 use Rattle.bl_index.proofs.Taken.{same_of}
 use Rattle.bl_serve.specs.Chunks.{Taken, IsTaken, IsChunk}
 use Rattle.bl_map.specs.Meetings.{Comes}
@@ -78,7 +78,7 @@ zip_long R [] (y ∷ ys) h = absurd h
 zip_long R (x ∷ xs) [] h = absurd h
 zip_long R (x ∷ xs) (y ∷ ys) h = ap suc (zip_long R xs ys h.1)
 
-pub holds : (index : Index) (done : ℕ) (lines : List (Option Request)) (text : List ℕ) (olds news met : List Pass) → 0 < length olds → AreTogether index (seen_by olds) olds → IsChunk (first_of index) (suc done) lines text olds news → AllMeet (first_of index) news met → HoldsSection index done lines text olds met
+pub holds : (index : Index) (done : ℕ) (lines : List (Option Request)) (text : List ℕ) (olds news met : List Pass) → 0 < length olds → AreTogether index (seen_by olds) olds → IsChunk (first_of index) (pages_of index) (suc done) lines text olds news → AllMeet (first_of index) news met → HoldsSection index done lines text olds met
 holds index done lines text olds news met some t r m =
     let first : List (Option Page) = first_of index in
     let old : Trail = seen_by olds in
@@ -90,7 +90,7 @@ holds index done lines text olds news met some t r m =
     let seen : IsLinearizable first m.seen = m.may_be (subst (All (λ (p : Pass). IsLinearizable first (trail p))) r.new_are (all_seen first index old 0 r.taken t.may_be each r.each_taken)) in
     let on : GoesOnFrom old m.seen = goes_to first index old m.seen 0 r.taken met (omega (arith, count)) each r.each_taken come in
     let within : AreWithin (length r.taken) m.seen = subst (λ (z : ℕ). AreWithin z m.seen) (sym (count ∙ t.count)) (all_within index m.seen 0 met (omega (arith, long)) parts.0) in
-    let s = section first (suc done) lines text olds news old m.seen r on seen within parts.1 in record {
+    let s = section first (pages_of index) (suc done) lines text olds news old m.seen r on seen within parts.1 in record {
       more = s.more;
       held = record { answers = r.answers; each = r.each; prints = r.prints; interleaves = s.interleaves };
       together = subst (λ (z : Trail). AreTogether index z met) s.on (record { count = long ∙ t.count; each = parts.0; may_be = seen });

@@ -85,10 +85,10 @@ Leaves map history many closed = IfOk closed (λ quiet. HoldMapAfter map history
 
 -- new passes have served, and then they were closed
 pub served_image : (how : Sectioning) (origin : Origin) (among : ℕ) (index : Index) (olds : List Pass) (now : Trail) (totals : Totals) (closed : Result Quiet AllocError) (input output : List ℕ)
-    → IsBegunFrom origin among index olds → ServedBy how (first_of index) (seen_by olds) now input output totals → Leaves (first_map (first_of index)) (history_of now) (pages_of index) closed → DumpedFrom how origin totals closed input output
+    → IsBegunFrom origin among index olds → ServedBy how (pages_of index) (first_of index) (seen_by olds) now input output totals → Leaves (first_map (first_of index)) (history_of now) (pages_of index) closed → DumpedFrom how origin totals closed input output
 served_image how origin among index olds now totals closed input output b s left =
-    let t : ServedBy how (first_of index) [] now input output totals = subst (λ (z : Trail). ServedBy how (first_of index) z now input output totals) b.unseen s in
-    let is = subst (λ (m : Map). (served : Served how m input output totals) × (history_of t.more ≡ whole_history served)) b.map (t.served, t.history) in record {
+    let t : ServedBy how (pages_of index) (first_of index) [] now input output totals = subst (λ (z : Trail). ServedBy how (pages_of index) (first_of index) z now input output totals) b.unseen s in
+    let is = subst (λ (z : ℕ × Map). (served : Served how z.0 z.1 input output totals) × (history_of t.more ≡ whole_history served)) (λ i. (b.pages i, b.map i)) (t.served, t.history) in record {
       from = record { rows = b.rows; are_rows = b.are_rows; served = is.0 };
       holds = subst (λ (z : Map × List Entry × ℕ). Leaves z.0 z.1 z.2 closed) (λ i. (b.map i, (ap history_of t.begins ∙ is.1) i, b.pages i)) left;
     }

@@ -67,8 +67,8 @@ pub record GoesOnBy (first : List (Option Page)) (old new : Trail) (answers : Li
   pub interleaves : Interleaves (map entries answers) (history_of more)
   pub legal : IsLegalFrom (first_map first) (history_of new)
 
-pub section : (first : List (Option Page)) (number : ℕ) (lines : List (Option Request)) (text : List ℕ) (olds news : List _) (old new : Trail) (r : IsChunk first number lines text olds news) → GoesOnFrom old new → IsLinearizable first new → AreWithin (length r.taken) new → FitsFrom old new 0 r.taken → GoesOnBy first old new r.answers
-section first number lines text olds news old new r on seen within fits =
+pub section : (first : List (Option Page)) (pages number : ℕ) (lines : List (Option Request)) (text : List ℕ) (olds news : List _) (old new : Trail) (r : IsChunk first pages number lines text olds news) → GoesOnFrom old new → IsLinearizable first new → AreWithin (length r.taken) new → FitsFrom old new 0 r.taken → GoesOnBy first old new r.answers
+section first pages number lines text olds news old new r on seen within fits =
     let more : Trail = on.0 in
     let below = all_below (length r.taken) more (within_rest (length r.taken) old more (subst (AreWithin (length r.taken)) on.1 within)) in
     let a : Interleaves (parts 0 (length r.taken) (history_of more)) (history_of more) = by_part (length r.taken) (history_of more) below in

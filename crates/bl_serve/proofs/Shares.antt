@@ -18,7 +18,7 @@ use Rattle.bl_index.specs.declared.index.Pass.{Pass}
 use Rattle.bl_index.specs.Calls.{IsPassOf}
 use Rattle.bl_index.proofs.Taken.{same_of}
 use Rattle.bl_map.specs.declared.handle.Handle.{Handle}
-use Rattle.bl_map.specs.Handles.{first_map_of, number_of_seat, seat_of, seats_of, seen_by}
+use Rattle.bl_map.specs.Handles.{first_map_of, pages_of_map, number_of_seat, seat_of, seats_of, seen_by}
 use Rattle.bl_map.proofs.Elements.{take_set, next_is, drop_set, drop_one}
 use Rattle.bl_serve_worker.specs.declared.chunk.Slot.{Slot}
 use Rattle.bl_serve_worker.specs.declared.chunk.BatchOutput.{BatchOutput}
@@ -127,7 +127,7 @@ module _ (number : ℕ) (lines : List (Option Request)) where
   parted_ok (Ok x) place olds news some now slots theirs h k is = turns_parted place olds news some now slots theirs h k is
   parted_ok (Err e) place olds news some now slots theirs h k is = tt
 
-module _ (first : List (Option Page)) (number : ℕ) (lines : List (Option Request)) where
+module _ (first : List (Option Page)) (pages number : ℕ) (lines : List (Option Request)) where
   abbrev entries_in : Piece → List Entry
   entries_in p = flat_map entries p.answers
 
@@ -137,37 +137,38 @@ module _ (first : List (Option Page)) (number : ℕ) (lines : List (Option Reque
     old_are : map (λ t. t.old) taken ≡ seats_of olds
     new_are : map (λ t. t.new) taken ≡ seats_of news
     each_taken : All (IsTaken first) taken
-    each : All (IsPiece number lines) pieces
+    each : All (IsPiece pages number lines) pieces
     written : map (λ p. p.output) pieces ≡ flat_map (λ d. d.log.items) slots
     shares : flat_map (λ t. t.share) taken ≡ map entries_in pieces
 
-  spread : (olds news : List Handle) (slots : List Slot) → All (BeganWith first) olds → WorkOn number lines olds news slots → All (λ (d : Slot). d.failed ≡ false) slots → Spread olds news slots
-  spread [] [] [] began h ok = record { taken = []; pieces = []; old_are = refl; new_are = refl; each_taken = All-nil (IsTaken first); each = All-nil (IsPiece number lines); written = refl; shares = refl }
+  spread : (olds news : List Handle) (slots : List Slot) → All (BeganWith first pages) olds → WorkOn number lines olds news slots → All (λ (d : Slot). d.failed ≡ false) slots → Spread olds news slots
+  spread [] [] [] began h ok = record { taken = []; pieces = []; old_are = refl; new_are = refl; each_taken = All-nil (IsTaken first); each = All-nil (IsPiece pages number lines); written = refl; shares = refl }
   spread [] [] (d ∷ slots) began h ok = absurd h
   spread [] (n ∷ news) slots began h ok = absurd h
   spread (o ∷ olds) [] slots began h ok = absurd h
   spread (o ∷ olds) (n ∷ news) [] began h ok = absurd h
-  spread (o ∷ olds) (n ∷ news) (d ∷ slots) began h ok = let r = spread olds news slots (All-tail (BeganWith first) o olds began) h.1 (All-tail (λ (x : Slot). x.failed ≡ false) d slots ok) in
-      let own_logs : Logs (first_map_of o) number lines (number_of_seat o) (seen_by o) (seen_by n) [] d.log.items = h.0.1 (All-head (λ (x : Slot). x.failed ≡ false) d slots ok) in
-      let logs : Logs first number lines (number_of_seat o) (seen_by o) (seen_by n) [] d.log.items =
-      subst (λ (z : List (Option Page)). Logs z number lines (number_of_seat o) (seen_by o) (seen_by n) [] d.log.items) (All-head (BeganWith first) o olds began) own_logs in
+  spread (o ∷ olds) (n ∷ news) (d ∷ slots) began h ok = let r = spread olds news slots (All-tail (BeganWith first pages) o olds began) h.1 (All-tail (λ (x : Slot). x.failed ≡ false) d slots ok) in
+      let so = All-head (BeganWith first pages) o olds began in
+      let own_logs : Logs (first_map_of o) (pages_of_map o) number lines (number_of_seat o) (seen_by o) (seen_by n) [] d.log.items = h.0.1 (All-head (λ (x : Slot). x.failed ≡ false) d slots ok) in
+      let logs : Logs first pages number lines (number_of_seat o) (seen_by o) (seen_by n) [] d.log.items =
+      subst (λ (z : List (Option Page) × ℕ). Logs z.0 z.1 number lines (number_of_seat o) (seen_by o) (seen_by n) [] d.log.items) (λ i. (so.0 i, so.1 i)) own_logs in
       let one : Taken = record { old = seat_of o; new = seat_of n; share = map entries_in logs.pieces } in record {
         taken = one ∷ r.taken;
         pieces = logs.pieces ++ r.pieces;
         old_are = ap (λ (z : List Pass). seat_of o ∷ z) r.old_are;
         new_are = ap (λ (z : List Pass). seat_of n ∷ z) r.new_are;
         each_taken = All-cons (IsTaken first) one r.taken (record { same = h.0.0.1; begins = logs.begins; seen = logs.seen; mine = logs.mine ∙ ap (λ (z : List Entry). own (number_of_seat o) (seen_by o) ++ z) (sym (flat_id entries_in logs.pieces)) }) r.each_taken;
-        each = All-append (IsPiece number lines) logs.pieces r.pieces logs.each r.each;
+        each = All-append (IsPiece pages number lines) logs.pieces r.pieces logs.each r.each;
         written = map-append (λ (p : Piece). p.output) logs.pieces r.pieces ∙ (ap (λ (z : List BatchOutput). z ++ map (λ p. p.output) r.pieces) (sym logs.log) ∙ ap (λ (z : List BatchOutput). d.log.items ++ z) r.written);
         shares = ap (λ (z : List (List Entry)). map entries_in logs.pieces ++ z) r.shares ∙ sym (map-append entries_in logs.pieces r.pieces);
       }
 
   -- all batches that were written are the section's
-  pub collected_within : (olds news : List Handle) (slots : List Slot) (written : List BatchOutput) → All (BeganWith first) olds → WorkOn number lines olds news slots → Collects slots written → All (IsWithin (length lines)) written
+  pub collected_within : (olds news : List Handle) (slots : List Slot) (written : List BatchOutput) → All (BeganWith first pages) olds → WorkOn number lines olds news slots → Collects slots written → All (IsWithin (length lines)) written
   collected_within olds news slots written began turns g =
       let s = spread olds news slots began turns g.none_failed in
       subst (All (IsWithin (length lines))) (s.written ∙ sym g.outputs_are) (All-map (IsWithin (length lines)) (λ (p : Piece). p.output) s.pieces
-      (All-weaker (IsPiece number lines) (λ (p : Piece). IsWithin (length lines) p.output) (λ p h. record { order = h.order; within = h.within }) s.pieces s.each))
+      (All-weaker (IsPiece pages number lines) (λ (p : Piece). IsWithin (length lines) p.output) (λ p h. record { order = h.order; within = h.within }) s.pieces s.each))
 
   -- ---- batches that follow each other
 
@@ -176,17 +177,17 @@ module _ (first : List (Option Page)) (number : ℕ) (lines : List (Option Reque
 
   record Covers (from upto : ℕ) (pieces : List Piece) : Type 0 where
     order : from ≤ upto
-    each : AllZip IsFor (lines_in lines from upto) (answers_in pieces)
+    each : AllZip (IsFor pages) (lines_in lines from upto) (answers_in pieces)
     prints : joined_text (map (λ p. p.output) pieces) ≡ answers_text (number + from) (answers_in pieces)
 
-  chained : (from upto : ℕ) (pieces : List Piece) → All (IsPiece number lines) pieces → Chains from upto (map (λ p. p.output) pieces) → Covers from upto pieces
-  chained from upto [] all c = record { order = omega arith; each = subst (λ (k : ℕ). AllZip IsFor (take k (drop from lines)) []) (let z : 0 ≡ upto - from = omega arith in z) tt; prints = refl }
-  chained from upto (q ∷ qs) all c = let here = All-head (IsPiece number lines) q qs all in let w : BatchOutput = q.output in
-      let r = chained w.upto upto qs (All-tail (IsPiece number lines) q qs all) c.2 in let order = r.order in let within = here.within in let lt = here.order in let le : w.from ≤ w.upto = omega arith in
-      let long = zip_length IsFor (lines_in lines w.from w.upto) q.answers here.each in let short = cut_length lines w.from w.upto le within in
+  chained : (from upto : ℕ) (pieces : List Piece) → All (IsPiece pages number lines) pieces → Chains from upto (map (λ p. p.output) pieces) → Covers from upto pieces
+  chained from upto [] all c = record { order = omega arith; each = subst (λ (k : ℕ). AllZip (IsFor pages) (take k (drop from lines)) []) (let z : 0 ≡ upto - from = omega arith in z) tt; prints = refl }
+  chained from upto (q ∷ qs) all c = let here = All-head (IsPiece pages number lines) q qs all in let w : BatchOutput = q.output in
+      let r = chained w.upto upto qs (All-tail (IsPiece pages number lines) q qs all) c.2 in let order = r.order in let within = here.within in let lt = here.order in let le : w.from ≤ w.upto = omega arith in
+      let long = zip_length (IsFor pages) (lines_in lines w.from w.upto) q.answers here.each in let short = cut_length lines w.from w.upto le within in
       subst (λ (k : ℕ). Covers k upto (q ∷ qs)) c.0 (record {
         order = omega arith;
-        each = subst (λ (z : List (Option Request)). AllZip IsFor z (q.answers ++ answers_in qs)) (sym (cut lines w.from w.upto upto le order)) (zip_append IsFor (lines_in lines w.from w.upto) (lines_in lines w.upto upto) q.answers (answers_in qs) here.each r.each);
+        each = subst (λ (z : List (Option Request)). AllZip (IsFor pages) z (q.answers ++ answers_in qs)) (sym (cut lines w.from w.upto upto le order)) (zip_append (IsFor pages) (lines_in lines w.from w.upto) (lines_in lines w.upto upto) q.answers (answers_in qs) here.each r.each);
         prints = ap (λ (z : List ℕ). z ++ joined_text (map (λ p. p.output) qs)) here.prints
             ∙ (ap (λ (z : List ℕ). answers_text (number + w.from) q.answers ++ z) r.prints
             ∙ (ap (λ (k : ℕ). answers_text (number + w.from) q.answers ++ answers_text k (answers_in qs)) (let e : number + w.upto ≡ number + w.from + length q.answers = omega arith in e)
@@ -207,14 +208,14 @@ module _ (first : List (Option Page)) (number : ℕ) (lines : List (Option Reque
       let c : Interleaves (all_of groups) history = one_by_one b groups (joined_lists after) in
       subst (λ (z : List (List Entry)). Interleaves z history) (flat_id (λ (p : Piece). map entries p.answers) after ∙ sym (map_flat (λ (p : Piece). p.answers) entries after)) c
 
-  pub chunk : (text : List ℕ) (olds news : List Handle) (slots : List Slot) (written sorted : List BatchOutput) → All (BeganWith first) olds → WorkOn number lines olds news slots → Collects slots written
-      → IsPermutation written sorted → Chains 0 (length lines) sorted → text ≡ joined_text sorted → IsChunk first number lines text (seats_of olds) (seats_of news)
+  pub chunk : (text : List ℕ) (olds news : List Handle) (slots : List Slot) (written sorted : List BatchOutput) → All (BeganWith first pages) olds → WorkOn number lines olds news slots → Collects slots written
+      → IsPermutation written sorted → Chains 0 (length lines) sorted → text ≡ joined_text sorted → IsChunk first pages number lines text (seats_of olds) (seats_of news)
   chunk text olds news slots written sorted began turns g perm chains text_is =
       let s = spread olds news slots began turns g.none_failed in
       let l = lifted (λ (p : Piece). p.output) s.pieces sorted (subst (λ (z : List BatchOutput). IsPermutation z sorted) (g.outputs_are ∙ sym s.written) perm) in
-      let covers = chained 0 (length lines) l.0 (All-permutation (IsPiece number lines) s.pieces l.0 l.1 s.each) (subst (Chains 0 (length lines)) (sym l.2) chains) in record {
+      let covers = chained 0 (length lines) l.0 (All-permutation (IsPiece pages number lines) s.pieces l.0 l.1 s.each) (subst (Chains 0 (length lines)) (sym l.2) chains) in record {
         answers = answers_in l.0;
-        each = subst (λ (z : List (Option Request)). AllZip IsFor z (answers_in l.0)) (take_all (length lines - 0) lines (omega arith)) covers.each;
+        each = subst (λ (z : List (Option Request)). AllZip (IsFor pages) z (answers_in l.0)) (take_all (length lines - 0) lines (omega arith)) covers.each;
         prints = text_is ∙ (ap joined_text (sym l.2) ∙ (covers.prints ∙ ap (λ (k : ℕ). answers_text k (answers_in l.0)) (let e : number + 0 ≡ number = omega arith in e)));
         taken = s.taken;
         old_are = s.old_are;
@@ -223,8 +224,8 @@ module _ (first : List (Option Page)) (number : ℕ) (lines : List (Option Reque
         weaves = weaving s.taken s.pieces l.0 s.shares l.1;
       }
 
-pub chunk_own : (first : List (Option Page)) (index : Index) (number : ℕ) (lines : List (Option Request)) (text : List ℕ) (olds news : List Pass) → All (IsPassOf index) olds → IsChunk first number lines text olds news → All (IsPassOf index) news
-chunk_own first index number lines text olds news own_all r = subst (All (IsPassOf index)) r.new_are (go r.taken r.each_taken (subst (All (IsPassOf index)) (sym r.old_are) own_all))
+pub chunk_own : (first : List (Option Page)) (index : Index) (pages number : ℕ) (lines : List (Option Request)) (text : List ℕ) (olds news : List Pass) → All (IsPassOf index) olds → IsChunk first pages number lines text olds news → All (IsPassOf index) news
+chunk_own first index pages number lines text olds news own_all r = subst (All (IsPassOf index)) r.new_are (go r.taken r.each_taken (subst (All (IsPassOf index)) (sym r.old_are) own_all))
   where
     go : (taken : List Taken) → All (IsTaken first) taken → All (IsPassOf index) (map (λ t. t.old) taken) → All (IsPassOf index) (map (λ t. t.new) taken)
     go [] each h = All-nil (IsPassOf index)

@@ -13,18 +13,18 @@ use Rattle.bl_model.specs.declared.operation.Reply.{Reply}
 use Rattle.bl_model.specs.declared.operation.Next.TheVariants.{More, End}
 use Rattle.bl_model.specs.declared.operation.Reply.TheVariants.{Found, Absent, Present, Differs, Rows, NoRoom}
 use Rattle.bl_serve_lines.specs.declared.request.Request.{Request}
-use Rattle.bl_serve_lines.specs.declared.request.Request.TheVariants.{Ask, Scan, ScanFrom, ScanDown, Sync}
+use Rattle.bl_serve_lines.specs.declared.request.Request.TheVariants.{Ask, Scan, ScanFrom, ScanDown, Stat, Sync}
 use Rattle.bl_model.specs.Map.{Map, MayAnswer, ListsPairs, map_step}
 use Rattle.bl_model.specs.History.{IsLegalFrom, final_map}
 use Rattle.bl_model.specs.Rows.{HasRisingKeys}
 use Rattle.bl_model.proofs.Histories.{legal_append}
-use Rattle.bl_serve_lines.specs.Lines.{Line, IsLine, AreParts, ArePartsDown, Fits, Answer, Replied, Scanned, ScannedDown, Synced, Malformed, key_below, entries, answer_text, input_of, output_of}
+use Rattle.bl_serve_lines.specs.Lines.{Line, IsLine, AreParts, ArePartsDown, Fits, Answer, Replied, Scanned, ScannedDown, Stated, Synced, Malformed, key_below, entries, answer_text, input_of, output_of}
 use Rattle.bl_serve_lines.specs.Text.{Means, Spells, numbered}
 use Rattle.bl_serve_lines.specs.declared.serving.Sectioning.{Sectioning}
 use Rattle.bl_serve_lines.specs.declared.serving.Sectioning.TheVariants.{BySync, EachLine}
 use Rattle.bl_serve_lines.specs.Served.{Ends, HasNoEnd, malformed_of, syncs_of}
 use Rattle.bl_serve_worker.specs.Answering.{IsFor, answers_text}
-use Rattle.bl_serve_worker.specs.Answering.IsFor.{Replies, Scans, ScansFrom, ScansDown, Syncs, Refuses}
+use Rattle.bl_serve_worker.specs.Answering.IsFor.{Replies, Scans, ScansFrom, ScansDown, States, Syncs, Refuses}
 use Rattle.bl_serve.specs.Reading.{IsReadAs, bytes_of, AsksEnd, AskNoEnd, AskEndLast}
 use Rattle.bl_serve.specs.Sections.{is_sync}
 use Rattle.bl_serve.proofs.Finite.{IsFinite, finite_step, finite_history}
@@ -34,52 +34,57 @@ lines_with [] answers = []
 lines_with (text ∷ texts) [] = []
 lines_with (text ∷ texts) (answer ∷ answers) = record { bytes = text; answer = answer } ∷ lines_with texts answers
 
-fits_one : {asked : Option Request} {answer : Answer} → IsFor asked answer → (bytes : List ℕ) → Means bytes asked → Fits bytes answer
+fits_one : {pages : ℕ} {asked : Option Request} {answer : Answer} → IsFor pages asked answer → (bytes : List ℕ) → Means bytes asked → Fits pages bytes answer
 fits_one (Replies entry) bytes m = m
 fits_one (Scans low high parts are) bytes m = (m, are)
 fits_one (ScansFrom low parts are) bytes m = (m, are)
 fits_one (ScansDown low high parts are) bytes m = (m, are)
+fits_one (States all used free room) bytes m = (m, room)
 fits_one Syncs bytes m = m
 fits_one Refuses bytes m = m
 
-malformed_one : {asked : Option Request} {answer : Answer} → IsFor asked answer → malformed_of answer ≡ count_by is_none (asked ∷ [])
+malformed_one : {pages : ℕ} {asked : Option Request} {answer : Answer} → IsFor pages asked answer → malformed_of answer ≡ count_by is_none (asked ∷ [])
 malformed_one (Replies entry) = refl
 malformed_one (Scans low high parts are) = refl
 malformed_one (ScansFrom low parts are) = refl
 malformed_one (ScansDown low high parts are) = refl
+malformed_one (States all used free room) = refl
 malformed_one Syncs = refl
 malformed_one Refuses = refl
 
-not_synced : {asked : Option Request} {answer : Answer} → IsFor asked answer → asked ≢ Some Sync → answer ≢ Synced
+not_synced : {pages : ℕ} {asked : Option Request} {answer : Answer} → IsFor pages asked answer → asked ≢ Some Sync → answer ≢ Synced
 not_synced (Replies entry) other e = let no : ⊥ = cc in no
 not_synced (Scans low high parts are) other e = let no : ⊥ = cc in no
 not_synced (ScansFrom low parts are) other e = let no : ⊥ = cc in no
 not_synced (ScansDown low high parts are) other e = let no : ⊥ = cc in no
+not_synced (States all used free room) other e = let no : ⊥ = cc in no
 not_synced Syncs other e = other refl
 not_synced Refuses other e = let no : ⊥ = cc in no
 
-is_synced : {asked : Option Request} {answer : Answer} → IsFor asked answer → asked ≡ Some Sync → answer ≡ Synced
+is_synced : {pages : ℕ} {asked : Option Request} {answer : Answer} → IsFor pages asked answer → asked ≡ Some Sync → answer ≡ Synced
 is_synced (Replies entry) e = let no : ⊥ = cc in absurd no
 is_synced (Scans low high parts are) e = let no : ⊥ = cc in absurd no
 is_synced (ScansFrom low parts are) e = let no : ⊥ = cc in absurd no
 is_synced (ScansDown low high parts are) e = let no : ⊥ = cc in absurd no
+is_synced (States all used free room) e = let no : ⊥ = cc in absurd no
 is_synced Syncs e = refl
 is_synced Refuses e = let no : ⊥ = cc in absurd no
 
 -- a line ends a section as its request does
-answers_no_end : (how : Sectioning) {asked : Option Request} {answer : Answer} → IsFor asked answer → ¬ AsksEnd how asked → ¬ Ends how answer
+answers_no_end : (how : Sectioning) {pages : ℕ} {asked : Option Request} {answer : Answer} → IsFor pages asked answer → ¬ AsksEnd how asked → ¬ Ends how answer
 answers_no_end BySync f other = not_synced f other
 answers_no_end EachLine f other = other
 
-answers_end : (how : Sectioning) {asked : Option Request} {answer : Answer} → IsFor asked answer → AsksEnd how asked → Ends how answer
+answers_end : (how : Sectioning) {pages : ℕ} {asked : Option Request} {answer : Answer} → IsFor pages asked answer → AsksEnd how asked → Ends how answer
 answers_end BySync f is = is_synced f is
 answers_end EachLine f is = tt
 
-synced_one : {asked : Option Request} {answer : Answer} → IsFor asked answer → syncs_of answer ≡ count_by is_sync (asked ∷ [])
+synced_one : {pages : ℕ} {asked : Option Request} {answer : Answer} → IsFor pages asked answer → syncs_of answer ≡ count_by is_sync (asked ∷ [])
 synced_one (Replies entry) = refl
 synced_one (Scans low high parts are) = refl
 synced_one (ScansFrom low parts are) = refl
 synced_one (ScansDown low high parts are) = refl
+synced_one (States all used free room) = refl
 synced_one Syncs = refl
 synced_one Refuses = refl
 
@@ -87,8 +92,8 @@ count_cons : (test : Option Request → Bool) (a : Option Request) (l : List (Op
 count_cons test a l = grind (arith, common_steps)
 
 -- what is known of the lines that were read and answered
-pub record AreLines (asked : List (Option Request)) (texts : List (List ℕ)) (answers : List Answer) : Type 0 where
-  pub good : All IsLine (lines_with texts answers)
+pub record AreLines (pages : ℕ) (asked : List (Option Request)) (texts : List (List ℕ)) (answers : List Answer) : Type 0 where
+  pub good : All (IsLine pages) (lines_with texts answers)
   pub entries_are : map (λ line. entries line.answer) (lines_with texts answers) ≡ map entries answers
   pub input : input_of (lines_with texts answers) ≡ bytes_of texts
   pub output : (n : ℕ) → answers_text n answers ≡ output_of n (lines_with texts answers)
@@ -96,14 +101,14 @@ pub record AreLines (asked : List (Option Request)) (texts : List (List ℕ)) (a
   pub malformed : sum_by (λ line. malformed_of line.answer) (lines_with texts answers) ≡ count_by is_none asked
   pub syncs : sum_by (λ line. syncs_of line.answer) (lines_with texts answers) ≡ count_by is_sync asked
 
-pub are_lines : (asked : List (Option Request)) (texts : List (List ℕ)) (answers : List Answer) → AllZip IsReadAs asked texts → AllZip IsFor asked answers → AreLines asked texts answers
-are_lines [] [] [] h k = record { good = All-nil IsLine; entries_are = refl; input = refl; output = λ n. refl; long = refl; malformed = refl; syncs = refl }
-are_lines [] [] (answer ∷ answers) h k = absurd k
-are_lines [] (text ∷ texts) answers h k = absurd h
-are_lines (a ∷ asked) [] answers h k = absurd h
-are_lines (a ∷ asked) (text ∷ texts) [] h k = absurd k
-are_lines (a ∷ asked) (text ∷ texts) (answer ∷ answers) h k = let r = are_lines asked texts answers h.1 k.1 in let line : Line = record { bytes = text; answer = answer } in record {
-  good = All-cons IsLine line (lines_with texts answers) (record { cut = h.0.cut; fits = fits_one k.0 text h.0.means }) r.good;
+pub are_lines : (pages : ℕ) (asked : List (Option Request)) (texts : List (List ℕ)) (answers : List Answer) → AllZip IsReadAs asked texts → AllZip (IsFor pages) asked answers → AreLines pages asked texts answers
+are_lines pages [] [] [] h k = record { good = All-nil (IsLine pages); entries_are = refl; input = refl; output = λ n. refl; long = refl; malformed = refl; syncs = refl }
+are_lines pages [] [] (answer ∷ answers) h k = absurd k
+are_lines pages [] (text ∷ texts) answers h k = absurd h
+are_lines pages (a ∷ asked) [] answers h k = absurd h
+are_lines pages (a ∷ asked) (text ∷ texts) [] h k = absurd k
+are_lines pages (a ∷ asked) (text ∷ texts) (answer ∷ answers) h k = let r = are_lines pages asked texts answers h.1 k.1 in let line : Line = record { bytes = text; answer = answer } in record {
+  good = All-cons (IsLine pages) line (lines_with texts answers) (record { cut = h.0.cut; fits = fits_one k.0 text h.0.means }) r.good;
   entries_are = ap (λ (z : List (List Entry)). entries answer ∷ z) r.entries_are;
   input = flat_map-cons (λ (l : Line). l.bytes ++ 10 ∷ []) line (lines_with texts answers) ∙ (ap (λ (z : List ℕ). (text ++ 10 ∷ []) ++ z) r.input ∙ sym (flat_map-cons (λ (t : List ℕ). t ++ 10 ∷ []) text texts));
   output = λ n. ap (λ (z : List ℕ). numbered n (answer_text answer) ++ z) (r.output (suc n));
@@ -114,13 +119,13 @@ are_lines (a ∷ asked) (text ∷ texts) (answer ∷ answers) h k = let r = are_
       let s : sum_by f (line ∷ lines_with texts answers) ≡ f line + sum_by f (lines_with texts answers) = grind (arith, common_steps) in omega (arith, one, more, c, s);
 }
 
-pub no_end_lines : (how : Sectioning) (asked : List (Option Request)) (texts : List (List ℕ)) (answers : List Answer) → AllZip IsReadAs asked texts → AllZip IsFor asked answers → AskNoEnd how asked → HasNoEnd how (lines_with texts answers)
-no_end_lines how [] [] answers h k no_end = All-nil (λ line. ¬ Ends how line.answer)
-no_end_lines how [] (text ∷ texts) answers h k no_end = absurd h
-no_end_lines how (a ∷ asked) [] answers h k no_end = absurd h
-no_end_lines how (a ∷ asked) (text ∷ texts) [] h k no_end = absurd k
-no_end_lines how (a ∷ asked) (text ∷ texts) (answer ∷ answers) h k no_end = All-cons (λ line. ¬ Ends how line.answer) (record { bytes = text; answer = answer }) (lines_with texts answers)
-    (answers_no_end how k.0 (All-head (λ (z : Option Request). ¬ AsksEnd how z) a asked no_end)) (no_end_lines how asked texts answers h.1 k.1 (All-tail (λ (z : Option Request). ¬ AsksEnd how z) a asked no_end))
+pub no_end_lines : (how : Sectioning) (pages : ℕ) (asked : List (Option Request)) (texts : List (List ℕ)) (answers : List Answer) → AllZip IsReadAs asked texts → AllZip (IsFor pages) asked answers → AskNoEnd how asked → HasNoEnd how (lines_with texts answers)
+no_end_lines how pages [] [] answers h k no_end = All-nil (λ line. ¬ Ends how line.answer)
+no_end_lines how pages [] (text ∷ texts) answers h k no_end = absurd h
+no_end_lines how pages (a ∷ asked) [] answers h k no_end = absurd h
+no_end_lines how pages (a ∷ asked) (text ∷ texts) [] h k no_end = absurd k
+no_end_lines how pages (a ∷ asked) (text ∷ texts) (answer ∷ answers) h k no_end = All-cons (λ line. ¬ Ends how line.answer) (record { bytes = text; answer = answer }) (lines_with texts answers)
+    (answers_no_end how k.0 (All-head (λ (z : Option Request). ¬ AsksEnd how z) a asked no_end)) (no_end_lines how pages asked texts answers h.1 k.1 (All-tail (λ (z : Option Request). ¬ AsksEnd how z) a asked no_end))
 
 -- the last line ends a section, and no other does
 pub record EndsLast (how : Sectioning) (lines : List Line) : Type 0 where
@@ -130,15 +135,15 @@ pub record EndsLast (how : Sectioning) (lines : List Line) : Type 0 where
   pub is_end : Ends how end.answer
   pub no_end : HasNoEnd how front
 
-ends_last : (how : Sectioning) (front : List (Option Request)) (last : Option Request) (texts : List (List ℕ)) (answers : List Answer) → AllZip IsReadAs (front ++ last ∷ []) texts → AllZip IsFor (front ++ last ∷ []) answers → AskNoEnd how front → AsksEnd how last
+ends_last : (how : Sectioning) (pages : ℕ) (front : List (Option Request)) (last : Option Request) (texts : List (List ℕ)) (answers : List Answer) → AllZip IsReadAs (front ++ last ∷ []) texts → AllZip (IsFor pages) (front ++ last ∷ []) answers → AskNoEnd how front → AsksEnd how last
     → EndsLast how (lines_with texts answers)
-ends_last how [] last [] answers h k no_end is = absurd h
-ends_last how [] last (text ∷ texts) [] h k no_end is = absurd k
-ends_last how [] last (text ∷ []) (answer ∷ answers) h k no_end is = record { front = []; end = record { bytes = text; answer = answer }; ends = refl; is_end = answers_end how k.0 is; no_end = All-nil (λ line. ¬ Ends how line.answer) }
-ends_last how [] last (text ∷ next ∷ texts) (answer ∷ answers) h k no_end is = absurd h.1
-ends_last how (a ∷ front) last [] answers h k no_end is = absurd h
-ends_last how (a ∷ front) last (text ∷ texts) [] h k no_end is = absurd k
-ends_last how (a ∷ front) last (text ∷ texts) (answer ∷ answers) h k no_end is = let r = ends_last how front last texts answers h.1 k.1 (All-tail (λ (z : Option Request). ¬ AsksEnd how z) a front no_end) is in let line : Line = record { bytes = text; answer = answer } in record {
+ends_last how pages [] last [] answers h k no_end is = absurd h
+ends_last how pages [] last (text ∷ texts) [] h k no_end is = absurd k
+ends_last how pages [] last (text ∷ []) (answer ∷ answers) h k no_end is = record { front = []; end = record { bytes = text; answer = answer }; ends = refl; is_end = answers_end how k.0 is; no_end = All-nil (λ line. ¬ Ends how line.answer) }
+ends_last how pages [] last (text ∷ next ∷ texts) (answer ∷ answers) h k no_end is = absurd h.1
+ends_last how pages (a ∷ front) last [] answers h k no_end is = absurd h
+ends_last how pages (a ∷ front) last (text ∷ texts) [] h k no_end is = absurd k
+ends_last how pages (a ∷ front) last (text ∷ texts) (answer ∷ answers) h k no_end is = let r = ends_last how pages front last texts answers h.1 k.1 (All-tail (λ (z : Option Request). ¬ AsksEnd how z) a front no_end) is in let line : Line = record { bytes = text; answer = answer } in record {
   front = line ∷ r.front;
   end = r.end;
   ends = ap (λ (z : List Line). line ∷ z) r.ends;
@@ -146,8 +151,8 @@ ends_last how (a ∷ front) last (text ∷ texts) (answer ∷ answers) h k no_en
   no_end = All-cons (λ line. ¬ Ends how line.answer) line r.front (answers_no_end how k.0 (All-head (λ (z : Option Request). ¬ AsksEnd how z) a front no_end)) r.no_end;
 }
 
-pub end_lines : (how : Sectioning) (asked : List (Option Request)) (texts : List (List ℕ)) (answers : List Answer) → AllZip IsReadAs asked texts → AllZip IsFor asked answers → AskEndLast how asked → EndsLast how (lines_with texts answers)
-end_lines how asked texts answers h k s = ends_last how s.front s.last texts answers (subst (λ (z : List (Option Request)). AllZip IsReadAs z texts) s.ends h) (subst (λ (z : List (Option Request)). AllZip IsFor z answers) s.ends k) s.no_end s.is_end
+pub end_lines : (how : Sectioning) (pages : ℕ) (asked : List (Option Request)) (texts : List (List ℕ)) (answers : List Answer) → AllZip IsReadAs asked texts → AllZip (IsFor pages) asked answers → AskEndLast how asked → EndsLast how (lines_with texts answers)
+end_lines how pages asked texts answers h k s = ends_last how pages s.front s.last texts answers (subst (λ (z : List (Option Request)). AllZip IsReadAs z texts) s.ends h) (subst (λ (z : List (Option Request)). AllZip (IsFor pages) z answers) s.ends k) s.no_end s.is_end
 
 -- ---- answers that are lawful: lines that nobody answered have them too
 
@@ -298,21 +303,22 @@ some_parts_down : (m : Map) (from : Option ℕ) (low : ℕ) → LawfulPartsDown 
 some_parts_down m None low = record { parts = []; are = tt; legal = tt }
 some_parts_down m (Some from) low = parts_down m from low
 
-pub record Lawful (m : Map) (asked : List (Option Request)) : Type 0 where
+pub record Lawful (pages : ℕ) (m : Map) (asked : List (Option Request)) : Type 0 where
   pub answers : List Answer
-  pub each : AllZip IsFor asked answers
+  pub each : AllZip (IsFor pages) asked answers
   pub legal : IsLegalFrom m (flat_map entries answers)
 
-pub lawful : (m : Map) → IsFinite m → (asked : List (Option Request)) (texts : List (List ℕ)) → AllZip IsReadAs asked texts → Lawful m asked
-lawful m f [] texts h = record { answers = []; each = tt; legal = tt }
-lawful m f (a ∷ asked) [] h = absurd h
-lawful m f (None ∷ asked) (text ∷ texts) h = let r = lawful m f asked texts h.1 in record { answers = Malformed ∷ r.answers; each = (Refuses, r.each); legal = r.legal }
-lawful m f (Some Sync ∷ asked) (text ∷ texts) h = let r = lawful m f asked texts h.1 in record { answers = Synced ∷ r.answers; each = (Syncs, r.each); legal = r.legal }
-lawful m f (Some (Ask op) ∷ asked) (text ∷ texts) h = let one = some_reply m text op h.0.means in let e : Entry = record { pass = 0; op = op; reply = one.0 } in
-    let r = lawful (map_step op one.0 m) (finite_step op one.0 m f) asked texts h.1 in record { answers = Replied e ∷ r.answers; each = (Replies e, r.each); legal = (one.1, r.legal) }
-lawful m f (Some (Scan from to) ∷ asked) (text ∷ texts) h = let p = some_parts m to from to (omega arith) in let r = lawful (final_map m p.parts) (finite_history m p.parts f) asked texts h.1 in
+pub lawful : (pages : ℕ) (m : Map) → IsFinite m → (asked : List (Option Request)) (texts : List (List ℕ)) → AllZip IsReadAs asked texts → Lawful pages m asked
+lawful pages m f [] texts h = record { answers = []; each = tt; legal = tt }
+lawful pages m f (a ∷ asked) [] h = absurd h
+lawful pages m f (None ∷ asked) (text ∷ texts) h = let r = lawful pages m f asked texts h.1 in record { answers = Malformed ∷ r.answers; each = (Refuses, r.each); legal = r.legal }
+lawful pages m f (Some Stat ∷ asked) (text ∷ texts) h = let r = lawful pages m f asked texts h.1 in record { answers = Stated pages 0 0 ∷ r.answers; each = (States pages 0 0 (refl, omega arith), r.each); legal = r.legal }
+lawful pages m f (Some Sync ∷ asked) (text ∷ texts) h = let r = lawful pages m f asked texts h.1 in record { answers = Synced ∷ r.answers; each = (Syncs, r.each); legal = r.legal }
+lawful pages m f (Some (Ask op) ∷ asked) (text ∷ texts) h = let one = some_reply m text op h.0.means in let e : Entry = record { pass = 0; op = op; reply = one.0 } in
+    let r = lawful pages (map_step op one.0 m) (finite_step op one.0 m f) asked texts h.1 in record { answers = Replied e ∷ r.answers; each = (Replies e, r.each); legal = (one.1, r.legal) }
+lawful pages m f (Some (Scan from to) ∷ asked) (text ∷ texts) h = let p = some_parts m to from to (omega arith) in let r = lawful pages (final_map m p.parts) (finite_history m p.parts f) asked texts h.1 in
     record { answers = Scanned from (Some to) p.parts ∷ r.answers; each = (Scans from to p.parts p.are, r.each); legal = legal_append m p.parts (flat_map entries r.answers) p.legal r.legal }
-lawful m f (Some (ScanFrom from) ∷ asked) (text ∷ texts) h = let p = all_parts m f f.0 from (omega arith) in let r = lawful (final_map m p.parts) (finite_history m p.parts f) asked texts h.1 in
+lawful pages m f (Some (ScanFrom from) ∷ asked) (text ∷ texts) h = let p = all_parts m f f.0 from (omega arith) in let r = lawful pages (final_map m p.parts) (finite_history m p.parts f) asked texts h.1 in
     record { answers = Scanned from None p.parts ∷ r.answers; each = (ScansFrom from p.parts p.are, r.each); legal = legal_append m p.parts (flat_map entries r.answers) p.legal r.legal }
-lawful m f (Some (ScanDown from to) ∷ asked) (text ∷ texts) h = let p = some_parts_down m (key_below to) from in let r = lawful (final_map m p.parts) (finite_history m p.parts f) asked texts h.1 in
+lawful pages m f (Some (ScanDown from to) ∷ asked) (text ∷ texts) h = let p = some_parts_down m (key_below to) from in let r = lawful pages (final_map m p.parts) (finite_history m p.parts f) asked texts h.1 in
     record { answers = ScannedDown from to p.parts ∷ r.answers; each = (ScansDown from to p.parts p.are, r.each); legal = legal_append m p.parts (flat_map entries r.answers) p.legal r.legal }

@@ -1,17 +1,18 @@
 -- Handles that have met by their seats.
-use Rattle.std.proofs.Common.{◌≡◌, List, [], ◌∷◌, ◌++◌, length, sym, ◌∙◌, subst}
+use Rattle.std.proofs.Common.{◌≡◌, ℕ, List, [], ◌∷◌, ◌++◌, length, ap, sym, ◌∙◌, subst}
 use Rattle.std.specs.Prelude.{All, Option}
 use Rattle.std.specs.List.{AllZip}
 use Rattle.std.proofs.lemmas.List.{length-map}
 use Rattle.std.proofs.lemmas.List.Elements.{All-nil, All-cons, All-head, All-tail, AllZip-push}
 use Rattle.bl_page.specs.declared.page.Page.{Page}
+use Rattle.bl_layout.specs.declared.layout.Layout.{Layout}
 use Rattle.bl_claims.specs.Trails.{Trail}
 use Rattle.bl_claims.specs.Seeing.{IsLinearizable}
 use Rattle.bl_index.specs.declared.index.Index.{Index}
 use Rattle.bl_index.specs.declared.index.Pass.{Pass}
-use Rattle.bl_index.specs.Calls.{first_of, IsPassOf, trail}
+use Rattle.bl_index.specs.Calls.{first_of, pages_of, IsPassOf, trail}
 use Rattle.bl_map.specs.declared.handle.Handle.{Handle}
-use Rattle.bl_map.specs.Handles.{first_map_of, seat_of, seats_of}
+use Rattle.bl_map.specs.Handles.{first_map_of, pages_of_map, seat_of, seats_of}
 use Rattle.bl_map.specs.Meetings.{IsSeated, Comes, HasCome, HaveAllMet}
 use Rattle.bl_serve.specs.Meetings.{AllMeet}
 
@@ -24,16 +25,16 @@ pub all_seated : (index : Index) (handles : List Handle) → All (IsPassOf index
 all_seated index [] own = All-nil (IsSeated index)
 all_seated index (h ∷ hs) own = All-cons (IsSeated index) h hs (All-head (IsPassOf index) (seat_of h) (seats_of hs) own) (all_seated index hs (All-tail (IsPassOf index) (seat_of h) (seats_of hs) own))
 
--- each began with what the index did
-abbrev pub BeganWith : List (Option Page) → Handle → Type 0
-BeganWith first handle = first_map_of handle ≡ first
+-- each began with what the index did, and has as many pages
+abbrev pub BeganWith : List (Option Page) → ℕ → Handle → Type 0
+BeganWith first pages handle = (first_map_of handle ≡ first) × (pages_of_map handle ≡ pages)
 
-began_so : (index : Index) (h : Handle) → IsPassOf index (seat_of h) → BeganWith (first_of index) h
-began_so index h of = sym h.own.2 ∙ of.2
+began_so : (index : Index) (h : Handle) → IsPassOf index (seat_of h) → BeganWith (first_of index) (pages_of index) h
+began_so index h of = (sym h.own.2 ∙ of.2, ap (λ (z : Layout). z.pages) (sym h.own.1 ∙ of.1))
 
-pub all_began : (index : Index) (handles : List Handle) → All (IsPassOf index) (seats_of handles) → All (BeganWith (first_of index)) handles
-all_began index [] own = All-nil (BeganWith (first_of index))
-all_began index (h ∷ hs) own = All-cons (BeganWith (first_of index)) h hs (began_so index h (All-head (IsPassOf index) (seat_of h) (seats_of hs) own)) (all_began index hs (All-tail (IsPassOf index) (seat_of h) (seats_of hs) own))
+pub all_began : (index : Index) (handles : List Handle) → All (IsPassOf index) (seats_of handles) → All (BeganWith (first_of index) (pages_of index)) handles
+all_began index [] own = All-nil (BeganWith (first_of index) (pages_of index))
+all_began index (h ∷ hs) own = All-cons (BeganWith (first_of index) (pages_of index)) h hs (began_so index h (All-head (IsPassOf index) (seat_of h) (seats_of hs) own)) (all_began index hs (All-tail (IsPassOf index) (seat_of h) (seats_of hs) own))
 
 -- ---- they meet
 

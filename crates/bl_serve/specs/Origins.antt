@@ -30,15 +30,15 @@ abbrev pub HasRows : Origin → List (ℕ × ℕ) → Type 0
 HasRows (Empty pages) rows = rows ≡ []
 HasRows (Image quiet) rows = AreRowsOf quiet.image.pages.items rows
 
--- The input is served from the map of those rows on.
+-- The input is served from the map of those rows on, by an index of as many pages.
 pub record ServedFrom (how : Sectioning) (origin : Origin) (totals : Totals) (input output : List ℕ) : Type 0 where
   pub rows : List (ℕ × ℕ)
   pub are_rows : HasRows origin rows
-  pub served : Served how (map_of rows) input output totals
+  pub served : Served how (size_of origin) (map_of rows) input output totals
 
 -- Serving stopped: there was no memory for the index, and nothing was read or written; or it stopped as it served from the map
 -- of those rows on.
 pub data StopsFrom (how : Sectioning) (origin : Origin) (input output : List ℕ) (fault : ServeFault) (reader_failed writer_failed : Type 0) : Type 0 where
   Unopened : input ≡ [] → output ≡ [] → fault ≡ Memory → StopsFrom how origin input output fault reader_failed writer_failed
-  Stopped : (rows : List (ℕ × ℕ)) → HasRows origin rows → Stops how (map_of rows) input output fault reader_failed writer_failed
+  Stopped : (rows : List (ℕ × ℕ)) → HasRows origin rows → Stops how (size_of origin) (map_of rows) input output fault reader_failed writer_failed
       → StopsFrom how origin input output fault reader_failed writer_failed

@@ -29,11 +29,11 @@ end_text ByLine n = []
 end_text Rest n = numbered n (codes "malformed")
 end_text Finished n = []
 
--- The lines were answered after so many others, the text prints the answers, and more has their entries and no others: those of
+-- The lines were answered after so many others by an index of so many pages, the text prints the answers, and more has their entries and no others: those of
 -- one line in their order, in any order otherwise.
-pub record Held (done : ℕ) (asked : List (Option Request)) (text : List ℕ) (more : Trail) : Type 0 where
+pub record Held (pages done : ℕ) (asked : List (Option Request)) (text : List ℕ) (more : Trail) : Type 0 where
   pub answers : List Answer
-  pub each : AllZip IsFor asked answers
+  pub each : AllZip (IsFor pages) asked answers
   pub prints : text ≡ answers_text (suc done) answers
   pub interleaves : Interleaves (map entries answers) (history_of more)
 

@@ -13,7 +13,7 @@ use Rattle.bl_claims.specs.Trails.{Trail, history_of}
 use Rattle.bl_claims.specs.Seeing.{IsLinearizable}
 use Rattle.bl_index.specs.declared.index.Index.{Index}
 use Rattle.bl_index.specs.declared.index.Pass.{Pass}
-use Rattle.bl_index.specs.Calls.{first_of, IsPassOf, number_of, trail, passes_of, map_after}
+use Rattle.bl_index.specs.Calls.{first_of, pages_of, IsPassOf, number_of, trail, passes_of, map_after}
 use Rattle.bl_map.specs.declared.handle.Handle.{Handle}
 use Rattle.bl_map.specs.Handles.{seats_of}
 use Rattle.bl_serve.specs.declared.section_reader.SectionEnd.{SectionEnd}
@@ -43,7 +43,7 @@ AreMet index handles = AreTogether index (seen_by (seats_of handles)) (seats_of 
 -- A section was answered by the passes, which were together and are so again: since then they have seen its entries, and no others.
 pub record HoldsSection (index : Index) (done : ℕ) (asked : List (Option Request)) (text : List ℕ) (olds news : List Pass) : Type 0 where
   pub more : Trail
-  pub held : Held done asked text more
+  pub held : Held (pages_of index) done asked text more
   pub together : AreTogether index (seen_by olds ++ more) news
 
 -- The same, with one line more for bytes behind the last LF.
@@ -64,10 +64,10 @@ abbrev pub FailsSection : Sectioning → ServeFault → ℕ → ℕ → List (Op
 FailsSection how fault done most asked rest unread left at_end failed =
     EndsReading how (Err fault) most asked rest unread left at_end failed ⊎ (ReadsLines unread left asked rest × IsInside done (length asked) fault)
 
--- The input is served from the map after old on, and the trail now is old with the entries of what was served, in the order of
+-- The input is served by an index of so many pages from the map after old on, and the trail now is old with the entries of what was served, in the order of
 -- its history, and with no others.
-pub record ServedBy (how : Sectioning) (first : List (Option Page)) (old now : Trail) (input output : List ℕ) (totals : Totals) : Type 0 where
-  pub served : Served how (map_after first old) input output totals
+pub record ServedBy (how : Sectioning) (pages : ℕ) (first : List (Option Page)) (old now : Trail) (input output : List ℕ) (totals : Totals) : Type 0 where
+  pub served : Served how pages (map_after first old) input output totals
   pub more : Trail
   pub begins : now ≡ old ++ more
   pub history : history_of more ≡ whole_history served
@@ -75,7 +75,7 @@ pub record ServedBy (how : Sectioning) (first : List (Option Page)) (old now : T
 -- The passes have served: all have seen one trail, which is what they had seen with the entries of what was served.
 pub record Serves (how : Sectioning) (index : Index) (olds news : List Pass) (totals : Totals) (input output : List ℕ) : Type 0 where
   pub now : Trail
-  pub served : ServedBy how (first_of index) (seen_by olds) now input output totals
+  pub served : ServedBy how (pages_of index) (first_of index) (seen_by olds) now input output totals
   pub together : AreTogether index now news
 
 -- Serving has ended. The input was read, and more ahead of it; the output was written. Without a fault the input was served, up to

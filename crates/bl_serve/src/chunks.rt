@@ -1,7 +1,7 @@
 //! A chunk of a section is answered: its batches are given out, threads work on them, and all are joined.
 
 ghost use Rattle.std.specs.Prelude.{◌≡◌, ℕ, List, suc, ◌+◌, ◌<◌, ◌≤◌, ◌^◌, ◌++◌, true, false, length, All, IfOk, IfErr, OnOk, vec_len};
-ghost use Rattle.bl_index.specs.Calls.{first_of};
+ghost use Rattle.bl_index.specs.Calls.{first_of, pages_of};
 ghost use Rattle.bl_map.specs.Handles.{seats_of};
 ghost use Rattle.bl_map.specs.Meetings.{IsSeated};
 ghost use Rattle.bl_serve.specs.Meetings.{AllMeet};
@@ -245,7 +245,7 @@ fn answer_chunk<'a, 'b, R: Threads + Wait + Sync, G: Gate + Sync, I: Read>(
     ensures reads { OnOk result (ReadsOn service.now.sections ahead.old ahead.new (I.remaining reader.old.inner) (I.remaining reader.new.inner) (reader.new.failed ≡ true)) }
     ensures consumes { (more : List ℕ) × Consumes (I.remaining reader.old.inner) (I.remaining reader.new.inner) more }
     ensures chunk { IfOk result (λ back. (more : List ℕ) × (back.text.items ≡ session.entry.text.items ++ more)
-        × IsChunk (first_of service.now.index.now) (suc session.entry.totals.requests) lines.now more
+        × IsChunk (first_of service.now.index.now) (pages_of service.now.index.now) (suc session.entry.totals.requests) lines.now more
         (seats_of session.entry.handles.items) (seats_of back.handles.items)) }
 {
     let Session {

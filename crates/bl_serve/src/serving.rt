@@ -3,7 +3,7 @@
 ghost use Rattle.std.specs.Prelude.{◌≡◌, ℕ, ◌+◌, ◌-◌, ◌<◌, ◌≤◌, ◌^◌, ◌↔◌, IsTrue, List, [], ◌++◌, length, min, Option, Ok, true, count_by, is_none, vec_len, IfOk, IfErr, OnOk, MatchResult, false};
 ghost use Rattle.std.specs.Io.KnownBytes.{Appends, Consumes, IsAtEnd};
 ghost use Rattle.bl_serve_lines.specs.Served.{Stops};
-ghost use Rattle.bl_index.specs.Calls.{first_of, map_after};
+ghost use Rattle.bl_index.specs.Calls.{first_of, pages_of, map_after};
 ghost use Rattle.bl_map.specs.Handles.{seats_of};
 ghost use Rattle.bl_serve.specs.Reading.{EndsReading, ReadsOn};
 ghost use Rattle.bl_serve.specs.Sections.{CountsSection, rests};
@@ -178,7 +178,7 @@ fn serve_sections<'a, T: Threads + Wait + Sync, R: Read, W: Write, G: Gate + Syn
     requires met { AreMet service.now.index.now session.handles.items }
     requires first { (session.totals.requests ≡ 0) × (session.totals.malformed ≡ 0) × (session.totals.sections ≡ 0) }
     ensures serves { EndsServing (λ s. Serves service.now.sections service.now.index.now (seats_of session.entry.handles.items) (seats_of s.handles.items) s.totals)
-        (Stops service.now.sections (map_after (first_of service.now.index.now) (seen_by (seats_of session.entry.handles.items))))
+        (Stops service.now.sections (pages_of service.now.index.now) (map_after (first_of service.now.index.now) (seen_by (seats_of session.entry.handles.items))))
         (R.remaining reader.old.inner) (R.remaining reader.new.inner) (reader.new.failed ≡ true)
         (W.contents writer.old.inner) (W.contents writer.new.inner) (writer.new.failed ≡ true) result }
     ensures flushed { OnOk result (writer.new.pending ≡ false) }
@@ -250,7 +250,8 @@ pub fn serve<T: Threads + Wait + Sync, R: Read, W: Write, G: Gate + Sync>(
 ) -> Result<(Totals, Vec<Pass>), ServeFault>
     requires together { AreTogether index.now (seen_by passes.items) passes.items }
     requires workers { (1 ≤ workers) × (workers ≤ vec_len passes) }
-    ensures serves { EndsServing (λ t. Serves Sectioning.BySync index.now passes.items t.1.items t.0) (Stops Sectioning.BySync (map_after (first_of index.now) (seen_by passes.items)))
+    ensures serves { EndsServing (λ t. Serves Sectioning.BySync index.now passes.items t.1.items t.0)
+        (Stops Sectioning.BySync (pages_of index.now) (map_after (first_of index.now) (seen_by passes.items)))
         (R.remaining reader.old.inner) (R.remaining reader.new.inner) (reader.new.failed ≡ true)
         (W.contents writer.old.inner) (W.contents writer.new.inner) (writer.new.failed ≡ true) result }
     ensures flushed { OnOk result (writer.new.pending ≡ false) }
@@ -276,7 +277,8 @@ pub fn serve_with<T: Threads + Wait + Sync, R: Read, W: Write, G: Gate + Sync>(
 ) -> Result<(Totals, Vec<Pass>), ServeFault>
     requires together { AreTogether index.now (seen_by passes.items) passes.items }
     requires some { 0 < vec_len passes }
-    ensures serves { EndsServing (λ t. Serves plan.sections index.now passes.items t.1.items t.0) (Stops plan.sections (map_after (first_of index.now) (seen_by passes.items)))
+    ensures serves { EndsServing (λ t. Serves plan.sections index.now passes.items t.1.items t.0)
+        (Stops plan.sections (pages_of index.now) (map_after (first_of index.now) (seen_by passes.items)))
         (R.remaining reader.old.inner) (R.remaining reader.new.inner) (reader.new.failed ≡ true)
         (W.contents writer.old.inner) (W.contents writer.new.inner) (writer.new.failed ≡ true) result }
     ensures flushed { OnOk result (writer.new.pending ≡ false) }

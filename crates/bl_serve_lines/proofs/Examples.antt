@@ -10,7 +10,7 @@ use Rattle.bl_model.specs.Map.{empty}
 use Rattle.bl_model.specs.History.{IsLegalFrom}
 use Rattle.bl_serve_lines.specs.declared.request.Request.TheVariants.{Ask, Scan, Sync}
 use Rattle.bl_serve_lines.specs.Text.{Spells}
-use Rattle.bl_serve_lines.specs.Lines.{Line, AreParts, ArePartsDown, Fits, Replied, Scanned, ScannedDown, Synced, key_below, answer_text, input_of, output_of, rest_text, text_of}
+use Rattle.bl_serve_lines.specs.Lines.{Line, AreParts, ArePartsDown, Fits, Replied, Scanned, ScannedDown, Stated, Synced, key_below, answer_text, input_of, output_of, rest_text, text_of}
 use Rattle.bl_serve_lines.specs.Served.{Interleaves}
 use Rattle.bl_serve_lines.specs.Served.Interleaves.{Done, Takes}
 
@@ -62,6 +62,19 @@ change_back spells =
 
 sync_line : Spells (codes "sync") Sync
 sync_line = refl
+
+-- of four pages, one may be retired, and not one more than there are
+stat_fits : Fits 4 (codes "stat") (Stated 4 2 1)
+stat_fits = (refl, (refl, lit≤ tt))
+
+stat_of_five : Fits 4 (codes "stat") (Stated 5 2 1) → ⊥
+stat_of_five fits = let all = fits.1.0 in omega (arith, all)
+
+stat_of_too_many : Fits 4 (codes "stat") (Stated 4 3 2) → ⊥
+stat_of_too_many fits = let few = fits.1.1 in omega (arith, few)
+
+stat_written : answer_text (Stated 4 2 1) ≡ codes "pages 4 used 2 free 1"
+stat_written = simp (four, two, one)
 
 -- three lines with their answers, as they are read and written, and bytes with no LF behind them
 abbrev lines : List Line
@@ -119,7 +132,7 @@ scan_written : answer_text (Scanned 1 (Some 4) (first_part ∷ second_part ∷ [
 scan_written = simp (one, two, three)
 
 -- a scan from 1 on in the same parts lists all their rows
-scan_from_fits : Fits (codes "scanfrom 1") (Scanned 1 None (first_part ∷ second_part ∷ []))
+scan_from_fits : Fits 4 (codes "scanfrom 1") (Scanned 1 None (first_part ∷ second_part ∷ []))
 scan_from_fits = ((lit< tt, simp one), (tt, refl, (tt, refl, tt)))
 
 scan_from_written : answer_text (Scanned 1 None (first_part ∷ second_part ∷ [])) ≡ codes "rows 1=2 2=3 3=1 4=5"
@@ -136,7 +149,7 @@ abbrev low_part : Entry
 low_part = record { pass = 0; op = PartDown 2; reply = Rows (record { items = (2, 3) ∷ (1, 2) ∷ [] }) End }
 
 -- a scan from below 4 down to 2 in two parts, of which the second goes on past its end
-scan_down_fits : Fits (codes "scandown 2 4") (ScannedDown 2 4 (high_part ∷ low_part ∷ []))
+scan_down_fits : Fits 4 (codes "scandown 2 4") (ScannedDown 2 4 (high_part ∷ low_part ∷ []))
 scan_down_fits = ((lit< tt, lit< tt, simp (two, four)), (lit≤ tt, refl, (lit≤ tt, refl, tt)))
 
 scan_down_written : answer_text (ScannedDown 2 4 (high_part ∷ low_part ∷ [])) ≡ codes "rows 3=1 2=3"

@@ -4,7 +4,7 @@ use Rattle.std.proofs.lemmas.Fmt.{length-decimal-le}
 use Rattle.std.specs.Prelude.{Option, Some, None, IsNone}
 use Rattle.bl_model.specs.declared.operation.Op.TheVariants.{Find, Insert, Put, Delete, Change, Part, PartDown}
 use Rattle.bl_serve_lines.specs.declared.request.Request.{Request}
-use Rattle.bl_serve_lines.specs.declared.request.Request.TheVariants.{Ask, Scan, ScanFrom, ScanDown, Sync}
+use Rattle.bl_serve_lines.specs.declared.request.Request.TheVariants.{Ask, Scan, ScanFrom, ScanDown, Stat, Sync}
 use Rattle.bl_serve_lines.specs.Text.{Spells, IsMalformed, Means}
 
 short_number : (n : ℕ) → n < 2 ^ 64 → length (decimal n) ≤ 20
@@ -40,6 +40,7 @@ short_request line (ScanDown l h) (small, small_h, is) = let n = short_number l 
     let a = length-append (codes "scandown ") (decimal l) in let b = length-append (codes "scandown " ++ decimal l) (codes " ") in let c = length-append (codes "scandown " ++ decimal l ++ codes " ") (decimal h) in
     let w : length (codes "scandown ") ≡ 9 = refl in let x : length (codes " ") ≡ 1 = refl in
     let same : length line ≡ length (codes "scandown " ++ decimal l ++ codes " " ++ decimal h) = ap length is in omega (arith, n, m, a, b, c, w, x, same)
+short_request line Stat is = let same : length line ≡ 4 = ap length is in omega (arith, same)
 short_request line Sync is = let same : length line ≡ 4 = ap length is in omega (arith, same)
 
 pub long_line : (line : List ℕ) → 69 < length line → IsMalformed line

@@ -3,15 +3,17 @@ use Rattle.std.specs.Prelude.{◌≡◌, ◌≢◌, ℕ, zero, suc, ◌+◌, ◌
 use Rattle.bl_model.specs.declared.operation.Op.TheVariants.{Part, PartDown}
 use Rattle.bl_model.specs.Parts.{rows_of, ended_at}
 use Rattle.bl_model.specs.declared.operation.Entry.{Entry}
-use Rattle.bl_serve_lines.specs.declared.request.Request.TheVariants.{Ask, Scan, ScanFrom, ScanDown, Sync}
-use Rattle.bl_serve_lines.specs.Text.{Spells, IsMalformed, reply_text, row_text, numbered}
+use Rattle.bl_serve_lines.specs.declared.request.Request.TheVariants.{Ask, Scan, ScanFrom, ScanDown, Stat, Sync}
+use Rattle.bl_serve_lines.specs.Text.{Spells, IsMalformed, reply_text, row_text, room_text, numbered}
 
 -- what a line is answered: an operation's entry; a scan's first key, its end, if it has one, and its parts in order; the same bounds of a scan
--- downwards, and its parts; that a section ended; that it spells no request
+-- downwards, and its parts; how many pages the index has, how many are in use, and how many may be taken; that a section ended; that it
+-- spells no request
 pub data Answer : Type 0 where
   Replied : Entry → Answer
   Scanned : ℕ → Option ℕ → List Entry → Answer
   ScannedDown : ℕ → ℕ → List Entry → Answer
+  Stated : ℕ → ℕ → ℕ → Answer
   Synced : Answer
   Malformed : Answer
 
@@ -61,23 +63,29 @@ abbrev pub SpellsScan : List ℕ → ℕ → Option ℕ → Type 0
 SpellsScan bytes low None = Spells bytes (ScanFrom low)
 SpellsScan bytes low (Some high) = Spells bytes (Scan low high)
 
--- The answer is of the line's kind.
-abbrev pub Fits : List ℕ → Answer → Type 0
-Fits bytes (Replied entry) = Spells bytes (Ask entry.op)
-Fits bytes (Scanned low high parts) = SpellsScan bytes low high × AreParts (Some low) high parts
-Fits bytes (ScannedDown low high parts) = Spells bytes (ScanDown low high) × ArePartsDown (key_below high) low parts
-Fits bytes Synced = Spells bytes Sync
-Fits bytes Malformed = IsMalformed bytes
+-- These are all pages, pages in use and pages that may be taken of an index of so many pages.
+abbrev pub IsRoom : ℕ → ℕ → ℕ → ℕ → Type 0
+IsRoom pages all used free = (all ≡ pages) × (used + free ≤ all)
 
-pub record IsLine (line : Line) : Type 0 where
+-- The answer is of the line's kind, where the index has so many pages.
+abbrev pub Fits : ℕ → List ℕ → Answer → Type 0
+Fits pages bytes (Replied entry) = Spells bytes (Ask entry.op)
+Fits pages bytes (Scanned low high parts) = SpellsScan bytes low high × AreParts (Some low) high parts
+Fits pages bytes (ScannedDown low high parts) = Spells bytes (ScanDown low high) × ArePartsDown (key_below high) low parts
+Fits pages bytes (Stated all used free) = Spells bytes Stat × IsRoom pages all used free
+Fits pages bytes Synced = Spells bytes Sync
+Fits pages bytes Malformed = IsMalformed bytes
+
+pub record IsLine (pages : ℕ) (line : Line) : Type 0 where
   pub cut : HasNoLf line.bytes
-  pub fits : Fits line.bytes line.answer
+  pub fits : Fits pages line.bytes line.answer
 
 -- the entries that an answer has in the history
 abbrev pub entries : Answer → List Entry
 entries (Replied entry) = entry ∷ []
 entries (Scanned low high parts) = parts
 entries (ScannedDown low high parts) = parts
+entries (Stated all used free) = []
 entries Synced = []
 entries Malformed = []
 
@@ -98,6 +106,7 @@ abbrev pub answer_text : Answer → List ℕ
 answer_text (Replied entry) = reply_text entry.reply
 answer_text (Scanned low high parts) = codes "rows" ++ flat_map row_text (rows_below high (rows_in parts))
 answer_text (ScannedDown low high parts) = codes "rows" ++ flat_map row_text (rows_from low (rows_in parts))
+answer_text (Stated all used free) = room_text all used free
 answer_text Synced = codes "synced"
 answer_text Malformed = codes "malformed"
 

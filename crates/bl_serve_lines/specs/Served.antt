@@ -21,8 +21,8 @@ pub record Section : Type 0 where
   pub lines : List Line
   pub history : List Entry
 
-pub record IsSection (section : Section) : Type 0 where
-  pub lines : All IsLine section.lines
+pub record IsSection (pages : ℕ) (section : Section) : Type 0 where
+  pub lines : All (IsLine pages) section.lines
   pub history : Interleaves (map (λ line. entries line.answer) section.lines) section.history
 
 -- a line with that answer ends a section
@@ -39,13 +39,13 @@ abbrev pub HasNoEndInside : Sectioning → List Line → Type 0
 HasNoEndInside how lines = (front : List Line) (end : Line) → lines ≡ front ++ end ∷ [] → HasNoEnd how front
 
 -- a section that has ended: its last line, and no other, ends one
-pub record IsFinished (how : Sectioning) (section : Section) : Type 0 where
+pub record IsFinished (how : Sectioning) (pages : ℕ) (section : Section) : Type 0 where
   pub front : List Line
   pub end : Line
   pub lines : section.lines ≡ front ++ end ∷ []
   pub last : Ends how end.answer
   pub no_end : HasNoEnd how front
-  pub whole : IsSection section
+  pub whole : IsSection pages section
 
 abbrev pub lines_of : List Section → List Line
 lines_of sections = flat_map (λ section. section.lines) sections
@@ -68,15 +68,15 @@ abbrev pub one_if_any : List ℕ → ℕ
 one_if_any [] = 0
 one_if_any (b ∷ bytes) = 1
 
--- From the map at the start: the input is finished sections, an open one and bytes after the last LF; the history is
--- legal, with all entries of a section before those of the next; the output is one line for each line of the input, by
--- number; the totals count lines, those that are malformed, and syncs.
-pub record Served (how : Sectioning) (start : Map) (input output : List ℕ) (totals : Totals) : Type 0 where
+-- From the map at the start, by an index of so many pages: the input is finished sections, an open one and bytes after the
+-- last LF; the history is legal, with all entries of a section before those of the next; the output is one line for each
+-- line of the input, by number; the totals count lines, those that are malformed, and syncs.
+pub record Served (how : Sectioning) (pages : ℕ) (start : Map) (input output : List ℕ) (totals : Totals) : Type 0 where
   pub sections : List Section
   pub last : Section
   pub rest : List ℕ
-  pub each : All (IsFinished how) sections
-  pub whole : IsSection last
+  pub each : All (IsFinished how pages) sections
+  pub whole : IsSection pages last
   pub no_end : HasNoEnd how last.lines
   pub cut : HasNoLf rest
   pub legal : IsLegalFrom start (history_of sections ++ last.history)
@@ -100,15 +100,15 @@ Leaves how (Lost number) done begun ahead lines = (begun ≡ []) × (done < numb
 
 -- The server stopped by the fault: the output is one line for each line of the finished sections, by number, and no
 -- others but, after a failed write, a beginning of the output of the lines behind them. ahead was read and not cut.
-pub record Stopped (how : Sectioning) (start : Map) (input output : List ℕ) (fault : ServeFault) : Type 0 where
+pub record Stopped (how : Sectioning) (pages : ℕ) (start : Map) (input output : List ℕ) (fault : ServeFault) : Type 0 where
   pub sections : List Section
   pub last : Section
   pub rest : List ℕ
   pub ahead : List ℕ
   pub begun : List ℕ
   pub unwritten : List ℕ
-  pub each : All (IsFinished how) sections
-  pub whole : IsSection last
+  pub each : All (IsFinished how pages) sections
+  pub whole : IsSection pages last
   pub open_lines : HasNoEndInside how last.lines
   pub cut : HasNoLf rest
   pub legal : IsLegalFrom start (history_of sections ++ last.history)
@@ -118,7 +118,7 @@ pub record Stopped (how : Sectioning) (start : Map) (input output : List ℕ) (f
   pub leaves : Leaves how fault (length (lines_of sections)) begun ahead last.lines
 
 -- the entries of a served input, in the order of its history
-abbrev pub whole_history : {how : Sectioning} {start : Map} {input output : List ℕ} {totals : Totals} → Served how start input output totals → List Entry
+abbrev pub whole_history : {how : Sectioning} {pages : ℕ} {start : Map} {input output : List ℕ} {totals : Totals} → Served how pages start input output totals → List Entry
 whole_history served = history_of served.sections ++ served.last.history
 
 -- a read fault comes only from a reader that has failed, and a write fault from such a writer
@@ -129,5 +129,6 @@ ComesFrom Memory reader_failed writer_failed = Unit {0}
 ComesFrom (Lost number) reader_failed writer_failed = Unit {0}
 
 -- The server stopped by the fault, as far as its input and its output go, and with its reason.
-abbrev pub Stops : Sectioning → Map → List ℕ → List ℕ → ServeFault → Type 0 → Type 0 → Type 0
-Stops how start input output fault reader_failed writer_failed = Stopped how start input output fault × ComesFrom fault reader_failed writer_failed
+abbrev pub Stops : Sectioning → ℕ → Map → List ℕ → List ℕ → ServeFault → Type 0 → Type 0 → Type 0
+Stops how pages start input output fault reader_failed writer_failed =
+    Stopped how pages start input output fault × ComesFrom fault reader_failed writer_failed

@@ -6,9 +6,9 @@ use Rattle.bl_model.specs.declared.operation.Next.TheVariants.{More, End}
 use Rattle.bl_model.specs.declared.operation.Reply.{Reply}
 use Rattle.bl_model.specs.declared.operation.Reply.TheVariants.{Found, Absent, Inserted, Present, Replaced, Deleted, Changed, Differs, Rows, NoRoom}
 use Rattle.bl_serve_lines.specs.declared.request.Request.{Request}
-use Rattle.bl_serve_lines.specs.declared.request.Request.TheVariants.{Ask, Scan, ScanFrom, ScanDown, Sync}
+use Rattle.bl_serve_lines.specs.declared.request.Request.TheVariants.{Ask, Scan, ScanFrom, ScanDown, Stat, Sync}
 use Rattle.bl_serve_lines.specs.declared.print.Response.{Response}
-use Rattle.bl_serve_lines.specs.declared.print.Response.TheVariants.{Replied, Synced, Malformed}
+use Rattle.bl_serve_lines.specs.declared.print.Response.TheVariants.{Replied, Stated, Synced, Malformed}
 
 -- the line is a spelling of the request, whose numbers have 64 bits; no line asks for one part alone
 abbrev pub Spells : List ℕ → Request → Type 0
@@ -23,6 +23,7 @@ Spells line (Ask (PartDown from)) = ⊥
 Spells line (Scan low high) = (low < 2 ^ 64) × (high < 2 ^ 64) × (line ≡ codes "scan " ++ decimal low ++ codes " " ++ decimal high)
 Spells line (ScanFrom low) = (low < 2 ^ 64) × (line ≡ codes "scanfrom " ++ decimal low)
 Spells line (ScanDown low high) = (low < 2 ^ 64) × (high < 2 ^ 64) × (line ≡ codes "scandown " ++ decimal low ++ codes " " ++ decimal high)
+Spells line Stat = line ≡ codes "stat"
 Spells line Sync = line ≡ codes "sync"
 
 -- the line is a spelling of no request
@@ -56,9 +57,14 @@ reply_text (Differs value) = codes "differs " ++ decimal value
 reply_text (Rows rows next) = codes "rows" ++ flat_map row_text rows.items ++ next_text next
 reply_text NoRoom = codes "noroom"
 
+-- how the room of an index is printed: all pages, those in use, and those that may be taken
+abbrev pub room_text : ℕ → ℕ → ℕ → List ℕ
+room_text all used free = codes "pages " ++ decimal all ++ (codes " used " ++ decimal used) ++ (codes " free " ++ decimal free)
+
 -- what is printed behind a line's number
 abbrev pub response_text : Response → List ℕ
 response_text (Replied reply) = reply_text reply
+response_text (Stated all used free) = room_text all used free
 response_text Synced = codes "synced"
 response_text Malformed = codes "malformed"
 

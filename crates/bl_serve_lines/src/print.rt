@@ -2,7 +2,7 @@
 
 ghost use Rattle.std.specs.Prelude.{◌≡◌, ◌++◌, flat_map, OnOk, codes, decimal};
 ghost use Rattle.bl_model.specs.Replies.{reply_of};
-ghost use Rattle.bl_serve_lines.specs.Text.{row_text, next_text, reply_text, response_text, numbered};
+ghost use Rattle.bl_serve_lines.specs.Text.{row_text, next_text, reply_text, room_text, response_text, numbered};
 
 use bl_model::{KeyReply, Next, Reply};
 use itoa::Buffer;
@@ -13,6 +13,8 @@ use std::alloc::AllocError;
 pub enum Response {
     /// The reply to the line's operation.
     Replied(Reply),
+    /// How many pages the index has, how many are in use, and how many may be taken.
+    Stated(u32, u32, u32),
     /// The line ended a section.
     Synced,
     /// The line spells no request.
@@ -105,12 +107,22 @@ pub fn push_reply(out: &mut Vec<u8>, reply: &Reply) -> Result<(), AllocError>
     }
 }
 
+/// Appends how much room there is: all pages, those in use, and those that may be taken.
+fn push_room(out: &mut Vec<u8>, all: u32, used: u32, free: u32) -> Result<(), AllocError>
+    ensures { OnOk result (out.new.items ≡ out.old.items ++ room_text all used free) }
+{
+    push_number(out, b"pages ", u64::from(all))?;
+    push_number(out, b" used ", u64::from(used))?;
+    push_number(out, b" free ", u64::from(free))
+}
+
 /// Appends the response's text.
 fn push_response(out: &mut Vec<u8>, response: &Response) -> Result<(), AllocError>
     ensures { OnOk result (out.new.items ≡ out.old.items ++ response_text response.now) }
 {
     match response {
         Response::Replied(reply) => push_reply(out, reply),
+        Response::Stated(all, used, free) => push_room(out, *all, *used, *free),
         Response::Synced => out.extend_from_slice(b"synced"),
         Response::Malformed => out.extend_from_slice(b"malformed"),
     }

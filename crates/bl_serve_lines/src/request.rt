@@ -20,6 +20,8 @@ pub enum Request {
     ScanFrom(u64),
     /// The rows of a `Scan` with these keys, by falling keys.
     ScanDown(u64, u64),
+    /// How much room there is.
+    Stat,
     /// The end of a section.
     Sync,
 }
@@ -71,6 +73,7 @@ fn spelled(line: &[u8]) -> Option<Request>
             Some(Request::Ask(Op::Change(key, old, new)))
         }
         [b's', b'c', b'a', b'n', rest @ ..] => scan_spelled(rest),
+        [b's', b't', b'a', b't'] => Some(Request::Stat),
         [b's', b'y', b'n', b'c'] => Some(Request::Sync),
         _ => None,
     }

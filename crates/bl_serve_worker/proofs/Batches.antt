@@ -13,41 +13,41 @@ use Rattle.bl_claims.specs.Seeing.{own}
 use Rattle.bl_serve_worker.specs.declared.chunk.BatchOutput.{BatchOutput}
 use Rattle.bl_serve_worker.specs.declared.chunk.Slot.{Slot}
 use Rattle.bl_map.specs.declared.handle.Handle.{Handle}
-use Rattle.bl_map.specs.Handles.{IsSameHandle, HasKeptUp, first_map_of, number_of_seat, seen_by}
+use Rattle.bl_map.specs.Handles.{IsSameHandle, HasKeptUp, first_map_of, pages_of_map, number_of_seat, seen_by}
 use Rattle.bl_map_calls.specs.Works.{Adds}
 use Rattle.bl_map.proofs.AllMet.{same_again}
-use Rattle.bl_map.proofs.Same.{by_same, kept_as}
+use Rattle.bl_map.proofs.Same.{kept_as}
 use Rattle.bl_serve_worker.specs.Answering.{answers_text, AnswersLines}
 use Rattle.bl_serve_worker.specs.Batches.{Piece, IsPiece, Logs, WorksOn, lines_in}
-use Rattle.bl_serve_worker.proofs.Lines.{goes_on, stays}
+use Rattle.bl_serve_worker.proofs.Lines.{by_same_map, goes_on, stays}
 
-pub no_logs : (first : List (Option Page)) (number : ℕ) (lines : List (Option Request)) (pass : ℕ) (old : Trail) (log : List BatchOutput) → Logs first number lines pass old old log log
-no_logs first number lines pass old log = record { pieces = []; log = sym (append-nil log); each = All-nil (IsPiece number lines); begins = stays old; seen = λ s. s; mine = sym (append-nil (own pass old)) }
+pub no_logs : (first : List (Option Page)) (pages number : ℕ) (lines : List (Option Request)) (pass : ℕ) (old : Trail) (log : List BatchOutput) → Logs first pages number lines pass old old log log
+no_logs first pages number lines pass old log = record { pieces = []; log = sym (append-nil log); each = All-nil (IsPiece pages number lines); begins = stays old; seen = λ s. s; mine = sym (append-nil (own pass old)) }
 
-pub one_log : (first : List (Option Page)) (number n : ℕ) (lines : List (Option Request)) (pass : ℕ) (old new : Trail) (log log' : List BatchOutput) (w : BatchOutput) → w.from < w.upto → w.upto ≤ length lines → n ≡ number + w.from
-    → AnswersLines first pass n (lines_in lines w.from w.upto) w.text.items old new → log' ≡ log ++ w ∷ [] → Logs first number lines pass old new log log'
-one_log first number n lines pass old new log log' w order within at_number a is = let piece : Piece = record { output = w; answers = a.answers } in record {
+pub one_log : (first : List (Option Page)) (pages number n : ℕ) (lines : List (Option Request)) (pass : ℕ) (old new : Trail) (log log' : List BatchOutput) (w : BatchOutput) → w.from < w.upto → w.upto ≤ length lines → n ≡ number + w.from
+    → AnswersLines first pages pass n (lines_in lines w.from w.upto) w.text.items old new → log' ≡ log ++ w ∷ [] → Logs first pages number lines pass old new log log'
+one_log first pages number n lines pass old new log log' w order within at_number a is = let piece : Piece = record { output = w; answers = a.answers } in record {
   pieces = piece ∷ [];
   log = is;
-  each = All-cons (IsPiece number lines) piece [] (record { order = order; within = within; each = a.each; prints = a.prints ∙ ap (λ (z : ℕ). answers_text z a.answers) at_number }) (All-nil (IsPiece number lines));
+  each = All-cons (IsPiece pages number lines) piece [] (record { order = order; within = within; each = a.each; prints = a.prints ∙ ap (λ (z : ℕ). answers_text z a.answers) at_number }) (All-nil (IsPiece pages number lines));
   begins = a.begins;
   seen = a.seen;
   mine = a.mine ∙ ap (λ (z : List Entry). own pass old ++ z) (sym (append-nil (flat_map entries a.answers)));
 }
 
-pub then_logs : (one two : Handle) (number : ℕ) (lines : List (Option Request)) (old mid new : Trail) (a b c : List BatchOutput) → IsSameHandle one two → Logs (first_map_of one) number lines (number_of_seat one) old mid a b
-    → Logs (first_map_of two) number lines (number_of_seat two) mid new b c → Logs (first_map_of one) number lines (number_of_seat one) old new a c
-then_logs one two number lines old mid new a b c same x y' = let pass = number_of_seat one in let y = by_same (λ first pass. Logs first number lines pass mid new b c) one two same y' in let f : Piece → List Entry = λ p. flat_map entries p.answers in record {
+pub then_logs : (one two : Handle) (number : ℕ) (lines : List (Option Request)) (old mid new : Trail) (a b c : List BatchOutput) → IsSameHandle one two → Logs (first_map_of one) (pages_of_map one) number lines (number_of_seat one) old mid a b
+    → Logs (first_map_of two) (pages_of_map two) number lines (number_of_seat two) mid new b c → Logs (first_map_of one) (pages_of_map one) number lines (number_of_seat one) old new a c
+then_logs one two number lines old mid new a b c same x y' = let pass = number_of_seat one in let pages = pages_of_map one in let y = by_same_map (λ first pages pass. Logs first pages number lines pass mid new b c) one two same y' in let f : Piece → List Entry = λ p. flat_map entries p.answers in record {
   pieces = x.pieces ++ y.pieces;
   log = y.log ∙ (ap (λ (z : List BatchOutput). z ++ map (λ p. p.output) y.pieces) x.log ∙ (append_assoc a (map (λ p. p.output) x.pieces) (map (λ p. p.output) y.pieces) ∙ ap (λ (z : List BatchOutput). a ++ z) (sym (map-append (λ (p : Piece). p.output) x.pieces y.pieces))));
-  each = All-append (IsPiece number lines) x.pieces y.pieces x.each y.each;
+  each = All-append (IsPiece pages number lines) x.pieces y.pieces x.each y.each;
   begins = goes_on old mid new x.begins y.begins;
   seen = λ s. y.seen (x.seen s);
   mine = y.mine ∙ (ap (λ (z : List Entry). z ++ flat_map f y.pieces) x.mine ∙ (append_assoc (own pass old) (flat_map f x.pieces) (flat_map f y.pieces) ∙ ap (λ (z : List Entry). own pass old ++ z) (sym (flat_map-append f x.pieces y.pieces))));
 }
 
-pub idle_logs : (first : List (Option Page)) (number : ℕ) (lines : List (Option Request)) (pass : ℕ) (old new : Trail) (log : List BatchOutput) → log ≡ [] → Adds first pass old new → Logs first number lines pass old new [] log
-idle_logs first number lines pass old new log is a = record { pieces = []; log = is; each = All-nil (IsPiece number lines); begins = a.begins; seen = a.seen; mine = a.none ∙ sym (append-nil (own pass old)) }
+pub idle_logs : (first : List (Option Page)) (pages number : ℕ) (lines : List (Option Request)) (pass : ℕ) (old new : Trail) (log : List BatchOutput) → log ≡ [] → Adds first pass old new → Logs first pages number lines pass old new [] log
+idle_logs first pages number lines pass old new log is a = record { pieces = []; log = is; each = All-nil (IsPiece pages number lines); begins = a.begins; seen = a.seen; mine = a.none ∙ sym (append-nil (own pass old)) }
 
 -- a turn, and then what adds no entry
 pub turn_idle : (a b c : Handle) (number : ℕ) (lines : List (Option Request)) (slot : Slot) → WorksOn number lines a b slot → IsSameHandle b c → HasKeptUp b c → WorksOn number lines a c slot

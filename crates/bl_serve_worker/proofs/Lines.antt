@@ -7,17 +7,18 @@ use Rattle.bl_model.specs.declared.operation.Entry.{Entry}
 use Rattle.bl_model.specs.declared.operation.Op.{Op}
 use Rattle.bl_model.specs.declared.operation.Reply.{Reply}
 use Rattle.bl_serve_lines.specs.declared.request.Request.{Request}
-use Rattle.bl_serve_lines.specs.declared.request.Request.TheVariants.{Ask, Sync}
-use Rattle.bl_serve_lines.specs.Lines.{Answer, Replied, Synced, Malformed, entries, answer_text}
-use Rattle.bl_serve_lines.specs.Text.{numbered, reply_text, row_text}
+use Rattle.bl_serve_lines.specs.declared.request.Request.TheVariants.{Ask, Stat, Sync}
+use Rattle.bl_serve_lines.specs.Lines.{Answer, Replied, Stated, Synced, Malformed, IsRoom, entries, answer_text}
+use Rattle.bl_serve_lines.specs.Text.{numbered, reply_text, row_text, room_text}
 use Rattle.bl_page.specs.declared.page.Page.{Page}
 use Rattle.bl_claims.specs.Trails.{Trail, entries_at, history_of}
 use Rattle.bl_claims.specs.Seeing.{own, GoesOnFrom}
+use Rattle.bl_index.specs.Calls.{first_of, pages_of}
 use Rattle.bl_map.specs.declared.handle.Handle.{Handle}
-use Rattle.bl_map.specs.Handles.{IsSameHandle, HasKeptUp, first_map_of, number_of_seat, seen_by}
+use Rattle.bl_map.specs.Handles.{IsSameHandle, HasKeptUp, first_map_of, pages_of_map, number_of_seat, seen_by}
 use Rattle.bl_map_calls.specs.Works.{Works}
-use Rattle.bl_map.proofs.Same.{by_same, kept_as}
-use Rattle.bl_serve_worker.specs.Answering.IsFor.{Replies, Syncs, Refuses}
+use Rattle.bl_map.proofs.Same.{kept_as}
+use Rattle.bl_serve_worker.specs.Answering.IsFor.{Replies, States, Syncs, Refuses}
 use Rattle.bl_serve_worker.specs.Answering.{IsFor, answers_text, AnswersLine, AnswersLines, ListsRows}
 
 pub zip_append : {A B : Type 0} (R : A → B → Type 0) (xs us : List A) (ys vs : List B) → AllZip R xs ys → AllZip R us vs → AllZip R (xs ++ us) (ys ++ vs)
@@ -47,16 +48,20 @@ pub history_append : (xs ys : Trail) → history_of (xs ++ ys) ≡ history_of xs
 history_append [] ys = refl
 history_append (m ∷ ms) ys = ap (λ (z : List Entry). entries_at m.event.process m.said ++ z) (history_append ms ys) ∙ sym (append_assoc (entries_at m.event.process m.said) (history_of ms) (history_of ys))
 
--- nothing is answered yet
-pub no_lines : (first : List (Option Page)) (pass number : ℕ) (old : Trail) → AnswersLines first pass number [] [] old old
-no_lines first pass number old = record { answers = []; each = tt; prints = refl; begins = stays old; seen = λ s. s; mine = sym (append-nil (own pass old)) }
+-- what one handle tells of its map and its seat, told of the same handle as it was before
+pub by_same_map : (P : List (Option Page) → ℕ → ℕ → Type 0) (a b : Handle) → IsSameHandle a b → P (first_map_of b) (pages_of_map b) (number_of_seat b) → P (first_map_of a) (pages_of_map a) (number_of_seat a)
+by_same_map P a b same h = subst (λ (z : List (Option Page) × ℕ × ℕ). P z.0 z.1 z.2) (λ i. (first_of (same.0 i).now, pages_of (same.0 i).now, same.1.2 i)) h
 
-pub one_more : (first : List (Option Page)) (pass number n : ℕ) (lines : List (Option Request)) (asked : Option Request) (text more : List ℕ) (old mid new : Trail) → n ≡ number + length lines
-    → AnswersLines first pass number lines text old mid → AnswersLine first pass n asked text more mid new → AnswersLines first pass number (lines ++ asked ∷ []) more old new
-one_more first pass number n lines asked text more old mid new at a b = let long = zip_length IsFor lines a.answers a.each in
+-- nothing is answered yet
+pub no_lines : (first : List (Option Page)) (pages pass number : ℕ) (old : Trail) → AnswersLines first pages pass number [] [] old old
+no_lines first pages pass number old = record { answers = []; each = tt; prints = refl; begins = stays old; seen = λ s. s; mine = sym (append-nil (own pass old)) }
+
+pub one_more : (first : List (Option Page)) (pages pass number n : ℕ) (lines : List (Option Request)) (asked : Option Request) (text more : List ℕ) (old mid new : Trail) → n ≡ number + length lines
+    → AnswersLines first pages pass number lines text old mid → AnswersLine first pages pass n asked text more mid new → AnswersLines first pages pass number (lines ++ asked ∷ []) more old new
+one_more first pages pass number n lines asked text more old mid new at a b = let long = zip_length (IsFor pages) lines a.answers a.each in
     let at_number : n ≡ number + length a.answers = omega arith in record {
       answers = a.answers ++ b.answer ∷ [];
-      each = zip_append IsFor lines (asked ∷ []) a.answers (b.answer ∷ []) a.each (b.is_for, tt);
+      each = zip_append (IsFor pages) lines (asked ∷ []) a.answers (b.answer ∷ []) a.each (b.is_for, tt);
       prints = b.prints ∙ (ap (λ (z : List ℕ). z ++ numbered n (answer_text b.answer)) a.prints
           ∙ (ap (λ (z : ℕ). answers_text number a.answers ++ numbered z (answer_text b.answer)) at_number
           ∙ (ap (λ (z : List ℕ). answers_text number a.answers ++ z) (sym (append-nil (numbered (number + length a.answers) (answer_text b.answer))))
@@ -68,16 +73,16 @@ one_more first pass number n lines asked text more old mid new at a b = let long
 
 -- ---- single lines
 
-asked_line : (first : List (Option Page)) (pass n : ℕ) (op : Op) (reply : Reply) (before after : List ℕ) (old new : Trail) → Works first pass op reply old new → after ≡ before ++ numbered n (reply_text reply) → AnswersLine first pass n (Some (Ask op)) before after old new
-asked_line first pass n op reply before after old new w is = record { answer = Replied (record { pass = pass; op = op; reply = reply }); is_for = Replies (record { pass = pass; op = op; reply = reply }); prints = is; begins = w.begins; seen = λ s. w.seen; mine = w.once }
+asked_line : (first : List (Option Page)) (pages pass n : ℕ) (op : Op) (reply : Reply) (before after : List ℕ) (old new : Trail) → Works first pass op reply old new → after ≡ before ++ numbered n (reply_text reply) → AnswersLine first pages pass n (Some (Ask op)) before after old new
+asked_line first pages pass n op reply before after old new w is = record { answer = Replied (record { pass = pass; op = op; reply = reply }); is_for = Replies (record { pass = pass; op = op; reply = reply }); prints = is; begins = w.begins; seen = λ s. w.seen; mine = w.once }
 
-pub asked_as : (first : List (Option Page)) (pass n : ℕ) (asked : Option Request) (request : Request) (op : Op) (reply : Reply) (before after : List ℕ) (old new : Trail) → asked ≡ Some request → request ≡ Ask op → Works first pass op reply old new → after ≡ before ++ numbered n (reply_text reply)
-    → AnswersLine first pass n asked before after old new
-asked_as first pass n asked request op reply before after old new is ask w written = subst (λ (z : Option Request). AnswersLine first pass n z before after old new) (sym (is ∙ ap Some ask)) (asked_line first pass n op reply before after old new w written)
+pub asked_as : (first : List (Option Page)) (pages pass n : ℕ) (asked : Option Request) (request : Request) (op : Op) (reply : Reply) (before after : List ℕ) (old new : Trail) → asked ≡ Some request → request ≡ Ask op → Works first pass op reply old new → after ≡ before ++ numbered n (reply_text reply)
+    → AnswersLine first pages pass n asked before after old new
+asked_as first pages pass n asked request op reply before after old new is ask w written = subst (λ (z : Option Request). AnswersLine first pages pass n z before after old new) (sym (is ∙ ap Some ask)) (asked_line first pages pass n op reply before after old new w written)
 
-pub scanned_line : (first : List (Option Page)) (pass n : ℕ) (asked : Request) (listed : List (ℕ × ℕ)) (before head rows after : List ℕ) (old new : Trail) → head ≡ (before ++ decimal n) ++ codes " rows" → after ≡ rows ++ 10 ∷ []
-    → ListsRows first pass asked listed old new → rows ≡ head ++ flat_map row_text listed → AnswersLine first pass n (Some asked) before after old new
-scanned_line first pass n asked listed before head rows after old new headed is l prints =
+pub scanned_line : (first : List (Option Page)) (pages pass n : ℕ) (asked : Request) (listed : List (ℕ × ℕ)) (before head rows after : List ℕ) (old new : Trail) → head ≡ (before ++ decimal n) ++ codes " rows" → after ≡ rows ++ 10 ∷ []
+    → ListsRows first pages pass asked listed old new → rows ≡ head ++ flat_map row_text listed → AnswersLine first pages pass n (Some asked) before after old new
+scanned_line first pages pass n asked listed before head rows after old new headed is l prints =
     let text : List ℕ = flat_map row_text listed in record {
       answer = l.answer;
       is_for = l.is_for;
@@ -92,18 +97,21 @@ scanned_line first pass n asked listed before head rows after old new headed is 
         ∙ ap (λ (t : List ℕ). xs ++ t) (sym (append_assoc (ys ++ codes " ") (codes "rows" ++ zs) (10 ∷ []) ∙ append_assoc ys (codes " ") ((codes "rows" ++ zs) ++ 10 ∷ [])))))
 
 -- a line that has no entry
-word_line : (first : List (Option Page)) (pass n : ℕ) (asked : Option Request) (answer : Answer) (before after : List ℕ) (old : Trail) → IsFor asked answer → entries answer ≡ [] → after ≡ before ++ numbered n (answer_text answer) → AnswersLine first pass n asked before after old old
-word_line first pass n asked answer before after old for none is = record { answer = answer; is_for = for; prints = is; begins = stays old; seen = λ s. s; mine = sym (append-nil (own pass old)) ∙ ap (λ (z : List Entry). own pass old ++ z) (sym none) }
+word_line : (first : List (Option Page)) (pages pass n : ℕ) (asked : Option Request) (answer : Answer) (before after : List ℕ) (old : Trail) → IsFor pages asked answer → entries answer ≡ [] → after ≡ before ++ numbered n (answer_text answer) → AnswersLine first pages pass n asked before after old old
+word_line first pages pass n asked answer before after old for none is = record { answer = answer; is_for = for; prints = is; begins = stays old; seen = λ s. s; mine = sym (append-nil (own pass old)) ∙ ap (λ (z : List Entry). own pass old ++ z) (sym none) }
 
-pub synced_line : (first : List (Option Page)) (pass n : ℕ) (asked : Option Request) (before after : List ℕ) (old : Trail) → asked ≡ Some Sync → after ≡ before ++ numbered n (codes "synced") → AnswersLine first pass n asked before after old old
-synced_line first pass n asked before after old is written = subst (λ (z : Option Request). AnswersLine first pass n z before after old old) (sym is) (word_line first pass n (Some Sync) Synced before after old Syncs refl written)
+pub synced_line : (first : List (Option Page)) (pages pass n : ℕ) (asked : Option Request) (before after : List ℕ) (old : Trail) → asked ≡ Some Sync → after ≡ before ++ numbered n (codes "synced") → AnswersLine first pages pass n asked before after old old
+synced_line first pages pass n asked before after old is written = subst (λ (z : Option Request). AnswersLine first pages pass n z before after old old) (sym is) (word_line first pages pass n (Some Sync) Synced before after old Syncs refl written)
 
-pub malformed_line : (first : List (Option Page)) (pass n : ℕ) (asked : Option Request) (before after : List ℕ) (old : Trail) → asked ≡ None → after ≡ before ++ numbered n (codes "malformed") → AnswersLine first pass n asked before after old old
-malformed_line first pass n asked before after old is written = subst (λ (z : Option Request). AnswersLine first pass n z before after old old) (sym is) (word_line first pass n None Malformed before after old Refuses refl written)
+pub stated_line : (first : List (Option Page)) (pages pass n all used free : ℕ) (asked : Option Request) (before after : List ℕ) (old : Trail) → asked ≡ Some Stat → IsRoom pages all used free → after ≡ before ++ numbered n (room_text all used free) → AnswersLine first pages pass n asked before after old old
+stated_line first pages pass n all used free asked before after old is room written = subst (λ (z : Option Request). AnswersLine first pages pass n z before after old old) (sym is) (word_line first pages pass n (Some Stat) (Stated all used free) before after old (States all used free room) refl written)
+
+pub malformed_line : (first : List (Option Page)) (pages pass n : ℕ) (asked : Option Request) (before after : List ℕ) (old : Trail) → asked ≡ None → after ≡ before ++ numbered n (codes "malformed") → AnswersLine first pages pass n asked before after old old
+malformed_line first pages pass n asked before after old is written = subst (λ (z : Option Request). AnswersLine first pages pass n z before after old old) (sym is) (word_line first pages pass n None Malformed before after old Refuses refl written)
 
 -- a line, and then what adds no entry
-pub then_idle : (a b c : Handle) (n : ℕ) (asked : Option Request) (before after : List ℕ) → IsSameHandle a b → AnswersLine (first_map_of a) (number_of_seat a) n asked before after (seen_by a) (seen_by b) → HasKeptUp b c
-    → AnswersLine (first_map_of a) (number_of_seat a) n asked before after (seen_by a) (seen_by c)
+pub then_idle : (a b c : Handle) (n : ℕ) (asked : Option Request) (before after : List ℕ) → IsSameHandle a b → AnswersLine (first_map_of a) (pages_of_map a) (number_of_seat a) n asked before after (seen_by a) (seen_by b) → HasKeptUp b c
+    → AnswersLine (first_map_of a) (pages_of_map a) (number_of_seat a) n asked before after (seen_by a) (seen_by c)
 then_idle a b c n asked before after same l kept = let k = kept_as a b c same kept in record {
   answer = l.answer;
   is_for = l.is_for;
@@ -115,17 +123,17 @@ then_idle a b c n asked before after same l kept = let k = kept_as a b c same ke
 
 -- ---- in a loop
 
-pub no_text : (first : List (Option Page)) (pass number : ℕ) (text : List ℕ) (old : Trail) → text ≡ [] → AnswersLines first pass number [] text old old
-no_text first pass number text old is = subst (λ (z : List ℕ). AnswersLines first pass number [] z old old) (sym is) (no_lines first pass number old)
+pub no_text : (first : List (Option Page)) (pages pass number : ℕ) (text : List ℕ) (old : Trail) → text ≡ [] → AnswersLines first pages pass number [] text old old
+no_text first pages pass number text old is = subst (λ (z : List ℕ). AnswersLines first pages pass number [] z old old) (sym is) (no_lines first pages pass number old)
 
 pub next_line : (a b : Handle) (number n i : ℕ) (lines : List (Option Request)) (asked d : Option Request) (text more : List ℕ) (old mid new : Trail) → IsSameHandle a b → i < length lines → asked ≡ get_or lines i d → n ≡ number + i
-    → AnswersLines (first_map_of a) (number_of_seat a) number (take i lines) text old mid → AnswersLine (first_map_of b) (number_of_seat b) n asked text more mid new → AnswersLines (first_map_of a) (number_of_seat a) number (take (i + 1) lines) more old new
+    → AnswersLines (first_map_of a) (pages_of_map a) (number_of_seat a) number (take i lines) text old mid → AnswersLine (first_map_of b) (pages_of_map b) (number_of_seat b) n asked text more mid new → AnswersLines (first_map_of a) (pages_of_map a) (number_of_seat a) number (take (i + 1) lines) more old new
 next_line a b number n i lines asked d text more old mid new same low at at_number so_far one =
     let grown : take (i + 1) lines ≡ take i lines ++ asked ∷ [] = take_more lines i d low ∙ ap (λ (z : Option Request). take i lines ++ z ∷ []) (sym at) in
     let short : length (take i lines) ≡ i = length-take-le i lines (omega arith) in
-    let one' = by_same (λ first pass. AnswersLine first pass n asked text more mid new) a b same one in
-    subst (λ (z : List (Option Request)). AnswersLines (first_map_of a) (number_of_seat a) number z more old new) (sym grown)
-    (one_more (first_map_of a) (number_of_seat a) number n (take i lines) asked text more old mid new (omega arith) so_far one')
+    let one' = by_same_map (λ first pages pass. AnswersLine first pages pass n asked text more mid new) a b same one in
+    subst (λ (z : List (Option Request)). AnswersLines (first_map_of a) (pages_of_map a) (number_of_seat a) number z more old new) (sym grown)
+    (one_more (first_map_of a) (pages_of_map a) (number_of_seat a) number n (take i lines) asked text more old mid new (omega arith) so_far one')
 
-pub all_lines : (first : List (Option Page)) (pass number i : ℕ) (lines : List (Option Request)) (text : List ℕ) (old new : Trail) → i ≡ length lines → AnswersLines first pass number (take i lines) text old new → AnswersLines first pass number lines text old new
-all_lines first pass number i lines text old new is a = subst (λ (z : List (Option Request)). AnswersLines first pass number z text old new) (take_all i lines (omega arith)) a
+pub all_lines : (first : List (Option Page)) (pages pass number i : ℕ) (lines : List (Option Request)) (text : List ℕ) (old new : Trail) → i ≡ length lines → AnswersLines first pages pass number (take i lines) text old new → AnswersLines first pages pass number lines text old new
+all_lines first pages pass number i lines text old new is a = subst (λ (z : List (Option Request)). AnswersLines first pages pass number z text old new) (take_all i lines (omega arith)) a

@@ -18,7 +18,7 @@ use Rattle.bl_claims.specs.Seeing.{IsLinearizable, own}
 use Rattle.bl_index.specs.Scans.{AreParts as ArePartsUpTo, rows_below as rows_of_part}
 use Rattle.bl_map_calls.specs.Falling.{ArePartsDown as ArePartsDownTo, IsOverDown, TellsDown}
 use Rattle.bl_map.specs.declared.handle.Handle.{Handle}
-use Rattle.bl_map.specs.Handles.{first_map_of, number_of_seat, seen_by}
+use Rattle.bl_map.specs.Handles.{first_map_of, pages_of_map, number_of_seat, seen_by}
 use Rattle.bl_map_calls.specs.Scans.{TellsRows}
 use Rattle.bl_serve_worker.specs.Answering.{ListsRows, HasWrittenRows}
 use Rattle.bl_serve_worker.specs.Answering.IsFor.{Scans, ScansFrom, ScansDown}
@@ -42,7 +42,7 @@ module _ {F N E : Type 0} (leads : F → ℕ × ℕ → F → Type 0) (names : F
       (λ rows q row v so_far leads. let s = step q row v leads in (s.0 ∙ so_far.0, one_more (written q) (written v) (text p) (text q) (text v) rows row so_far.1 s.1))
       rows p q (refl, none_yet (written p) (text p)) told
 
-pub all_written : {E : Type 0} (result : Result (Unit {0}) E) (asked : Request) (before after : List ℕ) (old new : Handle) (rows : List (ℕ × ℕ)) → ListsRows (first_map_of old) (number_of_seat old) asked rows (seen_by old) (seen_by new)
+pub all_written : {E : Type 0} (result : Result (Unit {0}) E) (asked : Request) (before after : List ℕ) (old new : Handle) (rows : List (ℕ × ℕ)) → ListsRows (first_map_of old) (pages_of_map old) (number_of_seat old) asked rows (seen_by old) (seen_by new)
     → OnOk result (after ≡ before ++ flat_map row_text rows) → OnOk result (HasWrittenRows asked before after old new)
 all_written (Ok u) asked before after old new rows lists is = (rows, lists, is)
 all_written (Err e) asked before after old new rows lists is = tt
@@ -76,7 +76,7 @@ below_of_all (Some high) es = kept_of_all (λ row. nat_lt row.0 high) es
 
 module _ {F : Type 0} (leads : F → ℕ × ℕ → F → Type 0) (first : List (Option Page)) (pages pass : ℕ) (p q : F) (old new : Trail) where
   abbrev pub Lists : Request → Type 0
-  Lists asked = (rows : List (ℕ × ℕ)) × ListsRows first pass asked rows old new × FoldsTo leads p rows q
+  Lists asked = (rows : List (ℕ × ℕ)) × ListsRows first pages pass asked rows old new × FoldsTo leads p rows q
 
   pub lists_below : (low high : ℕ) (asked : Request) → asked ≡ Scan low high → TellsRows leads first pages pass low (Some high) p q old new → Lists asked
   lists_below low high asked is t = subst Lists (sym is) (let s = t.scanned in (

@@ -3,23 +3,24 @@ use Rattle.std.specs.Prelude.{◌≡◌, ℕ, suc, ◌++◌, List, [], ◌∷◌
 use Rattle.std.specs.List.{AllZip, FoldsTo}
 use Rattle.bl_model.specs.declared.operation.Entry.{Entry}
 use Rattle.bl_serve_lines.specs.declared.request.Request.{Request}
-use Rattle.bl_serve_lines.specs.declared.request.Request.TheVariants.{Ask, Scan, ScanFrom, ScanDown, Sync}
-use Rattle.bl_serve_lines.specs.Lines.{Answer, Replied, Scanned, ScannedDown, Synced, Malformed, AreParts, ArePartsDown, key_below, entries, answer_text}
+use Rattle.bl_serve_lines.specs.declared.request.Request.TheVariants.{Ask, Scan, ScanFrom, ScanDown, Stat, Sync}
+use Rattle.bl_serve_lines.specs.Lines.{Answer, Replied, Scanned, ScannedDown, Stated, Synced, Malformed, IsRoom, AreParts, ArePartsDown, key_below, entries, answer_text}
 use Rattle.bl_serve_lines.specs.Text.{numbered, row_text}
 use Rattle.bl_page.specs.declared.page.Page.{Page}
 use Rattle.bl_claims.specs.Trails.{Trail}
 use Rattle.bl_claims.specs.Seeing.{IsLinearizable, own, GoesOnFrom}
 use Rattle.bl_map.specs.declared.handle.Handle.{Handle}
-use Rattle.bl_map.specs.Handles.{first_map_of, number_of_seat, seen_by}
+use Rattle.bl_map.specs.Handles.{first_map_of, pages_of_map, number_of_seat, seen_by}
 
--- the answer is one to what was asked
-pub data IsFor : Option Request → Answer → Type 0 where
-  Replies : (entry : Entry) → IsFor (Some (Ask entry.op)) (Replied entry)
-  Scans : (low high : ℕ) (parts : List Entry) → AreParts (Some low) (Some high) parts → IsFor (Some (Scan low high)) (Scanned low (Some high) parts)
-  ScansFrom : (low : ℕ) (parts : List Entry) → AreParts (Some low) None parts → IsFor (Some (ScanFrom low)) (Scanned low None parts)
-  ScansDown : (low high : ℕ) (parts : List Entry) → ArePartsDown (key_below high) low parts → IsFor (Some (ScanDown low high)) (ScannedDown low high parts)
-  Syncs : IsFor (Some Sync) Synced
-  Refuses : IsFor None Malformed
+-- the answer is one to what was asked, of an index of so many pages
+pub data IsFor (pages : ℕ) : Option Request → Answer → Type 0 where
+  Replies : (entry : Entry) → IsFor pages (Some (Ask entry.op)) (Replied entry)
+  Scans : (low high : ℕ) (parts : List Entry) → AreParts (Some low) (Some high) parts → IsFor pages (Some (Scan low high)) (Scanned low (Some high) parts)
+  ScansFrom : (low : ℕ) (parts : List Entry) → AreParts (Some low) None parts → IsFor pages (Some (ScanFrom low)) (Scanned low None parts)
+  ScansDown : (low high : ℕ) (parts : List Entry) → ArePartsDown (key_below high) low parts → IsFor pages (Some (ScanDown low high)) (ScannedDown low high parts)
+  States : (all used free : ℕ) → IsRoom pages all used free → IsFor pages (Some Stat) (Stated all used free)
+  Syncs : IsFor pages (Some Sync) Synced
+  Refuses : IsFor pages None Malformed
 
 -- the answers as they are written, numbered from n on
 abbrev pub answers_text : ℕ → List Answer → List ℕ
@@ -34,27 +35,27 @@ IsScan (ScanDown low high) = Unit {0}
 IsScan other = ⊥
 
 -- A scan was answered, and its answer lists these rows: the new entries of the pass are those of the answer.
-pub record ListsRows (first : List (Option Page)) (pass : ℕ) (asked : Request) (rows : List (ℕ × ℕ)) (old new : Trail) : Type 0 where
+pub record ListsRows (first : List (Option Page)) (pages pass : ℕ) (asked : Request) (rows : List (ℕ × ℕ)) (old new : Trail) : Type 0 where
   pub answer : Answer
-  pub is_for : IsFor (Some asked) answer
+  pub is_for : IsFor pages (Some asked) answer
   pub lists : answer_text answer ≡ codes "rows" ++ flat_map row_text rows
   pub begins : GoesOnFrom old new
   pub seen : IsLinearizable first old → IsLinearizable first new
   pub mine : own pass new ≡ own pass old ++ entries answer
 
 -- The line of that number was answered, and its answer was written: the new entries of the pass are those of the answer.
-pub record AnswersLine (first : List (Option Page)) (pass number : ℕ) (asked : Option Request) (before after : List ℕ) (old new : Trail) : Type 0 where
+pub record AnswersLine (first : List (Option Page)) (pages pass number : ℕ) (asked : Option Request) (before after : List ℕ) (old new : Trail) : Type 0 where
   pub answer : Answer
-  pub is_for : IsFor asked answer
+  pub is_for : IsFor pages asked answer
   pub prints : after ≡ before ++ numbered number (answer_text answer)
   pub begins : GoesOnFrom old new
   pub seen : IsLinearizable first old → IsLinearizable first new
   pub mine : own pass new ≡ own pass old ++ entries answer
 
 -- The lines were answered one after another, and the text prints the answers, numbered from that number on.
-pub record AnswersLines (first : List (Option Page)) (pass number : ℕ) (lines : List (Option Request)) (text : List ℕ) (old new : Trail) : Type 0 where
+pub record AnswersLines (first : List (Option Page)) (pages pass number : ℕ) (lines : List (Option Request)) (text : List ℕ) (old new : Trail) : Type 0 where
   pub answers : List Answer
-  pub each : AllZip IsFor lines answers
+  pub each : AllZip (IsFor pages) lines answers
   pub prints : text ≡ answers_text number answers
   pub begins : GoesOnFrom old new
   pub seen : IsLinearizable first old → IsLinearizable first new
@@ -64,17 +65,17 @@ pub record AnswersLines (first : List (Option Page)) (pass number : ℕ) (lines 
 -- state to another one.
 abbrev pub HasToldRows : {F : Type 0} → (F → ℕ × ℕ → F → Type 0) → Request → F → F → Handle → Handle → Type 0
 HasToldRows leads asked before after old new =
-    (rows : List (ℕ × ℕ)) × ListsRows (first_map_of old) (number_of_seat old) asked rows (seen_by old) (seen_by new) × FoldsTo leads before rows after
+    (rows : List (ℕ × ℕ)) × ListsRows (first_map_of old) (pages_of_map old) (number_of_seat old) asked rows (seen_by old) (seen_by new) × FoldsTo leads before rows after
 
 -- It has answered a scan, and its rows were written.
 abbrev pub HasWrittenRows : Request → List ℕ → List ℕ → Handle → Handle → Type 0
 HasWrittenRows asked before after old new =
-    (rows : List (ℕ × ℕ)) × ListsRows (first_map_of old) (number_of_seat old) asked rows (seen_by old) (seen_by new) × (after ≡ before ++ flat_map row_text rows)
+    (rows : List (ℕ × ℕ)) × ListsRows (first_map_of old) (pages_of_map old) (number_of_seat old) asked rows (seen_by old) (seen_by new) × (after ≡ before ++ flat_map row_text rows)
 
 -- It has answered the line of that number.
 abbrev pub HasAnswered : ℕ → Option Request → List ℕ → List ℕ → Handle → Handle → Type 0
-HasAnswered number asked before after old new = AnswersLine (first_map_of old) (number_of_seat old) number asked before after (seen_by old) (seen_by new)
+HasAnswered number asked before after old new = AnswersLine (first_map_of old) (pages_of_map old) (number_of_seat old) number asked before after (seen_by old) (seen_by new)
 
 -- It has answered the lines, the first of them as that of that number.
 abbrev pub HasAnsweredAll : ℕ → List (Option Request) → List ℕ → Handle → Handle → Type 0
-HasAnsweredAll number lines text old new = AnswersLines (first_map_of old) (number_of_seat old) number lines text (seen_by old) (seen_by new)
+HasAnsweredAll number lines text old new = AnswersLines (first_map_of old) (pages_of_map old) (number_of_seat old) number lines text (seen_by old) (seen_by new)

@@ -151,6 +151,16 @@ fn list_down<R: Wait>(
     push_line(text, number, &Response::Replied(reply))
 }
 
+/// Answers how much room the index has, as one look over all its pages finds it. No entry of the history tells of that.
+#[inline(never)]
+fn state(handle: &Handle<'_>, number: u64, text: &mut Vec<u8>) -> Result<(), AllocError>
+    ensures { OnOk result (HasAnswered number (Some Request.Stat) text.old.items text.new.items handle.now handle.now) }
+{
+    let room = handle.room();
+    let response = Response::Stated(room.pages, room.used_pages, room.free_pages);
+    push_line(text, number, &response)
+}
+
 /// Carries a search or a part out, and answers it.
 fn look<R: Wait>(
     rt: &R,
@@ -212,6 +222,12 @@ fn answer<R: Wait, G: Gate>(
         Some(Request::Ask(op)) => {
             gate.before(number);
             let answered = operate(rt, hints, handle, number, op, text);
+            gate.after(number);
+            answered
+        }
+        Some(Request::Stat) => {
+            gate.before(number);
+            let answered = state(handle, number, text);
             gate.after(number);
             answered
         }

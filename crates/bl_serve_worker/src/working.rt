@@ -1,7 +1,7 @@
 //! What a thread does for a chunk: a worker takes batches of lines from a channel, a compressor follows hints.
 
 ghost use Rattle.std.specs.Prelude.{◌≡◌, suc, ◌+◌, ◌<◌, ◌^◌, [], length, OnOk};
-ghost use Rattle.bl_map.specs.Handles.{IsSameHandle, HasKeptUp, first_map_of, number_of_seat, seen_by};
+ghost use Rattle.bl_map.specs.Handles.{IsSameHandle, HasKeptUp, first_map_of, pages_of_map, number_of_seat, seen_by};
 ghost use Rattle.bl_serve_worker.specs.Batches.{Logs, WorksOn};
 
 use crate::answering::answer_lines;
@@ -21,7 +21,7 @@ fn serve_batch<R: Wait, G: Gate>(
     batch: Batch,
 ) -> Result<(), AllocError>
     ensures same { IsSameHandle handle.old handle.new }
-    ensures logs { OnOk result (Logs (first_map_of handle.old) (suc chunk.now.before) chunk.now.lines.now
+    ensures logs { OnOk result (Logs (first_map_of handle.old) (pages_of_map handle.old) (suc chunk.now.before) chunk.now.lines.now
         (number_of_seat handle.old) (seen_by handle.old) (seen_by handle.new) log.old.items log.new.items) }
 {
     let Batch { from, upto } = batch;
@@ -46,7 +46,7 @@ fn serve_batches<R: Wait, G: Gate>(
     log: &mut Vec<BatchOutput>,
 ) -> Result<(), AllocError>
     ensures same { IsSameHandle handle.old handle.new }
-    ensures logs { OnOk result (Logs (first_map_of handle.old) (suc chunk.now.before) chunk.now.lines.now
+    ensures logs { OnOk result (Logs (first_map_of handle.old) (pages_of_map handle.old) (suc chunk.now.before) chunk.now.lines.now
         (number_of_seat handle.old) (seen_by handle.old) (seen_by handle.new) log.old.items log.new.items) }
 {
     for _ in rt.forever() {

@@ -253,12 +253,12 @@ fn answers_from<R: Threads + Wait + Sync>(
     }
 }
 
-// A server that begins with an image answers from its rows, and changes them.
+// A server that begins with an image answers from its rows, and changes them. The anchor, two leaves and the page above them are in use.
 #[test]
 fn a_server_goes_on_from_an_image(rt: HostRuntime) -> Result<(), Fail> {
-    let input = b"find 12\ninsert 3 31\ndelete 15\nfind 15\nscan 14 20\nfind 16\n".as_slice();
+    let input = b"find 12\ninsert 3 31\ndelete 15\nfind 15\nscan 14 20\nfind 16\nstat\n".as_slice();
     let wanted =
-        b"1 found 120\n2 present 30\n3 deleted 150\n4 absent\n5 rows 14=140\n6 absent\n".as_slice();
+        b"1 found 120\n2 present 30\n3 deleted 150\n4 absent\n5 rows 14=140\n6 absent\n7 pages 8 used 4 free 4\n".as_slice();
     let quiet = split_quiet(rt.alloc())?;
     assert!(rt; answers_from(&rt, rt.alloc(), quiet, input, wanted));
     Ok(())

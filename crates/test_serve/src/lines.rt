@@ -51,14 +51,14 @@ fn answer<R: Threads + Wait + Sync>(
     }
 }
 
-// By however many workers, each line sees what those before it have done. Two of the six are malformed, and one is a sync.
+// By however many workers, each line sees what those before it have done. Two of the eight are malformed, and one is a sync.
 #[test]
 fn lines_are_answered_in_their_order(rt: HostRuntime) {
-    let input = b"insert 1 10\ndelete 1\nsync\nx\nput 1 11\nfind 1\nscan 0 9".as_slice();
+    let input = b"insert 1 10\ndelete 1\nsync\nx\nput 1 11\nfind 1\nstat\nscan 0 9".as_slice();
     let output =
-        b"1 inserted\n2 deleted 10\n3 synced\n4 malformed\n5 inserted\n6 found 11\n7 malformed\n".as_slice();
+        b"1 inserted\n2 deleted 10\n3 synced\n4 malformed\n5 inserted\n6 found 11\n7 pages 8 used 2 free 6\n8 malformed\n".as_slice();
     let totals = Totals {
-        requests: 7,
+        requests: 8,
         malformed: 2,
         sections: 1,
     };

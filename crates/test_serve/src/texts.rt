@@ -133,7 +133,7 @@ fn scans_list_rows_downwards_and_to_the_end(rt: HostRuntime) {
 
 // Each lacks a number, or has one too many, or is spelled otherwise.
 #[test]
-fn scans_are_spelled_in_one_way(rt: HostRuntime) -> Result<(), Fail> {
+fn requests_are_spelled_in_one_way(rt: HostRuntime) -> Result<(), Fail> {
     for line in [
         b"scandown 5".as_slice(),
         b"scandown 5 6 7".as_slice(),
@@ -148,6 +148,12 @@ fn scans_are_spelled_in_one_way(rt: HostRuntime) -> Result<(), Fail> {
         b"scanfrom 5 6".as_slice(),
         b"scanfrom 5 ".as_slice(),
         b"scanfrom -1".as_slice(),
+        b"stat 1".as_slice(),
+        b"stat ".as_slice(),
+        b" stat".as_slice(),
+        b"stats".as_slice(),
+        b"sta".as_slice(),
+        b"Stat".as_slice(),
     ] {
         let mut input = Vec::from_slice(rt.alloc(), line)?;
         input.push(b'\n')?;
@@ -168,6 +174,40 @@ fn scans_list_parts_downwards_and_to_the_end(rt: HostRuntime) -> Result<(), Fail
     let input = inserts_before(rt.alloc(), 15, more)?;
     let served = last_lines(&rt, rt.alloc(), 8, input.as_slice(), last, 2, 1);
     assert!(rt; matches!(served, Some((true, Totals { malformed: 0, .. }))));
+    Ok(())
+}
+
+// The anchor and a leaf are in use. A line that asks for room is a request, and ends no section.
+#[test]
+fn room_is_told_between_requests(rt: HostRuntime) {
+    let input = b"stat\ninsert 1 10\nstat\nsync\nfind 1\nstat".as_slice();
+    let output =
+        b"1 pages 8 used 2 free 6\n2 inserted\n3 pages 8 used 2 free 6\n4 synced\n5 found 10\n6 malformed\n".as_slice();
+    let totals = Totals {
+        requests: 6,
+        malformed: 1,
+        sections: 1,
+    };
+    assert_eq!(rt;
+        answer(&rt, rt.alloc(), input, output),
+        Some((true, totals))
+    );
+    let alone = both_answer(&rt, rt.alloc(), b"stat\n", b"1 pages 8 used 2 free 6\n");
+    assert_eq!(rt; alone, (true, true));
+}
+
+// Key 15 parts the leaf, and a page stands above both: of four pages none is left then.
+#[test]
+fn room_is_told_behind_a_split(rt: HostRuntime) -> Result<(), Fail> {
+    for (pages, keys, last) in [
+        (8, 14, b"15 pages 8 used 2 free 6\n".as_slice()),
+        (8, 15, b"16 pages 8 used 4 free 4\n".as_slice()),
+        (4, 15, b"16 pages 4 used 4 free 0\n".as_slice()),
+    ] {
+        let input = inserts_before(rt.alloc(), keys, b"stat\n")?;
+        let served = last_lines(&rt, rt.alloc(), pages, input.as_slice(), last, 1, 0);
+        assert!(rt; matches!(served, Some((true, Totals { malformed: 0, .. }))));
+    }
     Ok(())
 }
 

@@ -49,6 +49,7 @@ fn answers_are_printed_by_number(rt: HostRuntime) -> Result<(), Fail> {
         (Response::Replied(Reply::Changed), "7 changed\n"),
         (Response::Replied(Reply::Differs(60)), "7 differs 60\n"),
         (Response::Replied(Reply::NoRoom), "7 noroom\n"),
+        (Response::Stated(8, 4, 3), "7 pages 8 used 4 free 3\n"),
         (Response::Synced, "7 synced\n"),
         (Response::Malformed, "7 malformed\n"),
     ] {

@@ -1,7 +1,7 @@
 use Rattle.std.proofs.Common.{refl, sym, subst, suc, arith, ℕ, List}
 use Rattle.std.specs.Prelude.{All, Option}
 use Rattle.bl_serve_lines.specs.declared.request.Request.{Request}
-use Rattle.bl_index.specs.Calls.{first_of}
+use Rattle.bl_index.specs.Calls.{first_of, pages_of}
 use Rattle.bl_serve_worker.specs.declared.chunk.Slot.{Slot}
 use Rattle.bl_serve.specs.Chunks.{Collects, WorkOn}
 use Rattle.bl_serve.specs.Joining.{Chains, IsWithin, joined_text}
@@ -17,7 +17,7 @@ join_outputs-requires-clause-within g c =
     let slots = c.args.session.paired in
     let a = c.args.session.handles.ok in
     subst (λ (n : ℕ). All (IsWithin n) c.in_ok-outputs.outputs.items) (sym c.len-count.ensures)
-    (collected_within (first_of c.args.service.now.index.now) (suc c.args.session.totals.requests) c.args.lines.now c.args.session.handles.items c.work_abreast.new.handles.items c.work_abreast.new.slots c.in_ok-outputs.outputs.items
+    (collected_within (first_of c.args.service.now.index.now) (pages_of c.args.service.now.index.now) (suc c.args.session.totals.requests) c.args.lines.now c.args.session.handles.items c.work_abreast.new.handles.items c.work_abreast.new.slots c.in_ok-outputs.outputs.items
     (all_began c.args.service.now.index.now c.args.session.handles.items (own_together _ _ _ c.requires.met)) t
     (subst (λ (z : List Slot). Collects z c.in_ok-outputs.outputs.items) (lent _ _ c.work_abreast.new.slots (omega (arith, long, slots, a))) c.in_ok-outputs.ensures.collects))
 
@@ -27,7 +27,7 @@ returns-clause-chunk g c =
     let long = (turns_long _ _ _ _ _ t).1 in
     let slots = c.args.session.paired in
     let a = c.args.session.handles.ok in
-    let r = chunk (first_of c.args.service.now.index.now) (suc c.args.session.totals.requests) c.args.lines.now (joined_text c.in_ok-join_outputs.ensures.text.0) c.args.session.handles.items c.work_abreast.new.handles.items c.work_abreast.new.slots c.in_ok-outputs.outputs.items c.in_ok-join_outputs.ensures.text.0
+    let r = chunk (first_of c.args.service.now.index.now) (pages_of c.args.service.now.index.now) (suc c.args.session.totals.requests) c.args.lines.now (joined_text c.in_ok-join_outputs.ensures.text.0) c.args.session.handles.items c.work_abreast.new.handles.items c.work_abreast.new.slots c.in_ok-outputs.outputs.items c.in_ok-join_outputs.ensures.text.0
     (all_began c.args.service.now.index.now c.args.session.handles.items (own_together _ _ _ c.requires.met)) t
     (subst (λ (z : List Slot). Collects z c.in_ok-outputs.outputs.items) (lent _ _ c.work_abreast.new.slots (omega (arith, long, slots, a))) c.in_ok-outputs.ensures.collects)
     c.in_ok-join_outputs.ensures.text.1 (subst (λ (n : ℕ). Chains 0 n c.in_ok-join_outputs.ensures.text.0) c.len-count.ensures c.in_ok-join_outputs.ensures.text.2) refl in

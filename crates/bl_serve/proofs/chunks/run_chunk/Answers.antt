@@ -8,7 +8,7 @@ use Rattle.bl_serve.proofs.chunks.run_chunk.Goals as goal
 
 pub met-requires : goal.met-requires
 met-requires g c = all_seated c.args.service.now.index.now c.in_ok-session.session.handles.items
-    (chunk_own (first_of c.args.service.now.index.now) c.args.service.now.index.now _ _ _ (seats_of c.args.session.handles.items) (seats_of c.in_ok-session.session.handles.items) (own_together _ _ _ c.requires.met) c.in_ok-session.ensures.chunk.2)
+    (chunk_own (first_of c.args.service.now.index.now) c.args.service.now.index.now _ _ _ _ (seats_of c.args.session.handles.items) (seats_of c.in_ok-session.session.handles.items) (own_together _ _ _ c.requires.met) c.in_ok-session.ensures.chunk.2)
 
 pub returns-clause-held : goal.returns-clause-held
 returns-clause-held g c = let some = c.args.session.some in let d = c.args.session.handles.ok in let e = seats_long c.args.session.handles.items in

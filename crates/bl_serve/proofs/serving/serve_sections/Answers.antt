@@ -3,7 +3,7 @@ use Rattle.std.specs.Io.KnownBytes.{Consumes, Appends, IsAtEnd}
 use Rattle.std.proofs.lemmas.Result.{err_from_is_err_and}
 use Rattle.bl_serve_lines.specs.declared.serving.ServeFault.TheVariants.{Memory}
 use Rattle.bl_serve_lines.proofs.Known.{consumes_start, consumes_next, consumes_rest, appends_start, appends_more, appends_text}
-use Rattle.bl_index.specs.Calls.{first_of}
+use Rattle.bl_index.specs.Calls.{first_of, pages_of}
 use Rattle.bl_map.specs.Handles.{seats_of}
 use Rattle.bl_serve.specs.declared.section_reader.SectionEnd.TheVariants as section_end
 use Rattle.bl_serve.specs.Serving.{seen_by}
@@ -16,7 +16,7 @@ use Rattle.bl_serve.proofs.serving.serve_sections.Goals as goal
 -- no memory at the start
 pub returns-in_err-ahead-clause-serves : goal.returns-in_err-ahead-clause-serves
 returns-in_err-ahead-clause-serves g c = let p = err_from_is_err_and c.from_residual.result c.from_residual.ensures.1 in
-    rw (p.1, p.2) (record { input = []; ahead = []; output = []; consumed = consumes_start _; wrote = appends_start _; ok = tt; fault = stops_inside c.args.service.now.sections (first_of c.args.service.now.index.now) (seen_by (seats_of c.args.session.handles.items)) (seen_by (seats_of c.args.session.handles.items)) _ [] [] [] Memory (c.args.reader.now.failed ≡ true) (c.args.writer.now.failed ≡ true) (no_progress c.args.service.now.sections (seen_by (seats_of c.args.session.handles.items)) c.args.session.totals c.requires.first) c.requires.met.may_be refl tt })
+    rw (p.1, p.2) (record { input = []; ahead = []; output = []; consumed = consumes_start _; wrote = appends_start _; ok = tt; fault = stops_inside c.args.service.now.sections (pages_of c.args.service.now.index.now) (first_of c.args.service.now.index.now) (seen_by (seats_of c.args.session.handles.items)) (seen_by (seats_of c.args.session.handles.items)) _ [] [] [] Memory (c.args.reader.now.failed ≡ true) (c.args.writer.now.failed ≡ true) (no_progress c.args.service.now.sections (pages_of c.args.service.now.index.now) (seen_by (seats_of c.args.session.handles.items)) c.args.session.totals c.requires.first) c.requires.met.may_be refl tt })
 
 pub loop-section-init : goal.loop-section-init
 loop-section-init g c = record {
@@ -25,7 +25,7 @@ loop-section-init g c = record {
   seen = seen_by (seats_of c.args.session.handles.items);
   consumed = subst (λ t. Consumes (g.R.Read.remaining c.args.reader.now.inner) (g.R.Read.remaining c.args.reader.now.inner) t) (sym c.in_ok-ahead.ensures.0) (consumes_start _);
   wrote = appends_start _;
-  progress = no_progress c.args.service.now.sections _ _ c.requires.first;
+  progress = no_progress c.args.service.now.sections (pages_of c.args.service.now.index.now) _ _ c.requires.first;
   together = c.requires.met;
   some = (let a = c.args.session.some in let d = c.args.session.handles.ok in let e = seats_long c.args.session.handles.items in omega (arith, a, d, e));
   room = (let a = c.requires.first.0 in omega (arith, a));
@@ -43,7 +43,7 @@ returns-in_err-back-clause-serves g c = let i = c.loop-section.invariant in let 
       consumed = consumes_next _ _ _ i.input c.loop-section.ahead.source e.2 _ i.consumed e.3 refl;
       wrote = i.wrote;
       ok = tt;
-      fault = stops_at_section c.args.service.now.sections (first_of c.args.service.now.index.now) c.in_err-back.field-0.0 (seen_by (seats_of c.args.session.handles.items)) i.seen c.loop-section.session.totals i.input i.output (c.loop-section.ahead.source ++ e.2) e.4.0 e.1 e.0 (18446744073709551615 - c.loop-section.session.totals.requests)
+      fault = stops_at_section c.args.service.now.sections (pages_of c.args.service.now.index.now) (first_of c.args.service.now.index.now) c.in_err-back.field-0.0 (seen_by (seats_of c.args.session.handles.items)) i.seen c.loop-section.session.totals i.input i.output (c.loop-section.ahead.source ++ e.2) e.4.0 e.1 e.0 (18446744073709551615 - c.loop-section.session.totals.requests)
           (IsAtEnd (g.R.Read.remaining c.serve_section.new.reader.inner)) (c.serve_section.new.reader.failed ≡ true) (c.loop-section.writer.failed ≡ true) i.progress i.together.may_be e.4.1;
     })
 
@@ -99,7 +99,7 @@ loop-section-preserved g c = let i = c.loop-section.invariant in let e = c.in_ok
 -- as many sections as there are numbers
 pub returns-clause-serves : goal.returns-clause-serves
 returns-clause-serves g c = let i = c.loop-section.invariant in
-    let v = serves_no_more c.args.service.now.sections (first_of c.args.service.now.index.now) (seen_by (seats_of c.args.session.handles.items)) i.seen c.loop-section.session.totals i.input i.output c.loop-section.ahead.source (IsAtEnd (g.R.Read.remaining c.loop-section.reader.inner)) i.progress i.together.may_be (let a = i.number in let b = c.loop-section-test.false in omega (arith, a, b)) in record {
+    let v = serves_no_more c.args.service.now.sections (pages_of c.args.service.now.index.now) (first_of c.args.service.now.index.now) (seen_by (seats_of c.args.session.handles.items)) i.seen c.loop-section.session.totals i.input i.output c.loop-section.ahead.source (IsAtEnd (g.R.Read.remaining c.loop-section.reader.inner)) i.progress i.together.may_be (let a = i.number in let b = c.loop-section-test.false in omega (arith, a, b)) in record {
       input = i.input ++ v.consumed;
       ahead = c.loop-section.ahead.source;
       output = i.output ++ [];

@@ -1,6 +1,7 @@
 use Rattle.std.proofs.Common.{◌≡◌, ◌<◌, ◌≤◌, ◌^◌, ℕ, List, ◌++◌, length, false}
 use Rattle.std.specs.Io.KnownBytes.{Consumes, Appends}
 use Rattle.bl_claims.specs.Trails.{Trail}
+use Rattle.bl_index.specs.Calls.{pages_of}
 use Rattle.bl_map.specs.Handles.{seats_of}
 use Rattle.bl_serve.specs.Serving.{AreTogether, seen_by}
 use Rattle.bl_serve.proofs.Advance.{Progress}
@@ -13,7 +14,7 @@ invariant-loop-section g l = record {
   seen : Trail;
   consumed : Consumes (g.R.Read.remaining l.fn.reader.inner) (g.R.Read.remaining l.reader.inner) (input ++ l.ahead.source);
   wrote : Appends (g.W.Write.contents l.fn.writer.inner) (g.W.Write.contents l.writer.inner) output;
-  progress : Progress l.service.sections (seen_by (seats_of l.fn.session.handles.items)) seen l.session.totals input output;
+  progress : Progress l.service.sections (pages_of l.service.index.now) (seen_by (seats_of l.fn.session.handles.items)) seen l.session.totals input output;
   together : AreTogether l.service.index.now seen (seats_of l.session.handles.items);
   some : 0 < length (seats_of l.session.handles.items);
   room : l.session.totals.requests < 2 ^ 64;

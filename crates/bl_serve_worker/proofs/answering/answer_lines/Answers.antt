@@ -3,7 +3,7 @@ use Rattle.bl_serve_worker.proofs.Lines.{no_text, next_line, then_idle, all_line
 use Rattle.bl_serve_worker.proofs.answering.answer_lines.Goals as goal
 
 pub loop-request-init : goal.loop-request-init
-loop-request-init g c = record { number = omega arith; same = search rules; so_far = no_text _ _ _ _ _ c.in_ok-text.ensures.items }
+loop-request-init g c = record { number = omega arith; same = search rules; so_far = no_text _ _ _ _ _ _ c.in_ok-text.ensures.items }
 
 pub loop-request-preserved : goal.loop-request-preserved
 loop-request-preserved g c =
@@ -14,4 +14,4 @@ loop-request-preserved g c =
     }
 
 pub returns : goal.returns
-returns g c = record { same = c.loop-request.invariant.same; answers = all_lines _ _ _ _ c.args.lines.now _ _ _ (omega arith) c.loop-request.invariant.so_far }
+returns g c = record { same = c.loop-request.invariant.same; answers = all_lines _ _ _ _ _ c.args.lines.now _ _ _ (omega arith) c.loop-request.invariant.so_far }

@@ -5,4 +5,4 @@ use Rattle.bl_serve_worker.proofs.Lines.{asked_as}
 use Rattle.bl_serve_worker.proofs.answering.look.Goals as goal
 
 pub returns-in-Find-clause-answers : goal.returns-in-Find-clause-answers
-returns-in-Find-clause-answers g c = on_ok_weaker c.push_key_line.result (λ is. asked_as _ _ _ _ _ _ _ _ _ _ _ refl (ap Ask c.in-Find.is) c.find-reply.ensures.called is) c.push_key_line.ensures
+returns-in-Find-clause-answers g c = on_ok_weaker c.push_key_line.result (λ is. asked_as _ _ _ _ _ _ _ _ _ _ _ _ refl (ap Ask c.in-Find.is) c.find-reply.ensures.called is) c.push_key_line.ensures

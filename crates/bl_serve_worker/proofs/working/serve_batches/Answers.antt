@@ -3,7 +3,7 @@ use Rattle.bl_serve_worker.proofs.Batches.{no_logs, then_logs}
 use Rattle.bl_serve_worker.proofs.working.serve_batches.Goals as goal
 
 pub loop-init : goal.loop-init
-loop-init g c = record { same = search rules; logs = no_logs _ _ _ _ _ _ }
+loop-init g c = record { same = search rules; logs = no_logs _ _ _ _ _ _ _ }
 
 pub loop-preserved : goal.loop-preserved
 loop-preserved g c = record {
