@@ -98,9 +98,11 @@ impl Upkeep {
     fn take(&mut self) -> Option<Hint>
         ensures { MatchOption result ((hints_of self.old.waiting ≡ []) × (self.new ≡ self.old)) (λ hint. IsTakenUp hint self.old self.new) }
     {
-        let hint = self.waiting.take()?;
-        self.doing = Some(hint);
-        Some(hint)
+        let oldest = self.waiting.take();
+        if oldest.is_some() {
+            self.doing = oldest;
+        }
+        oldest
     }
 
     /// Notes what a process has left to do that has ended.

@@ -223,10 +223,6 @@ tried_more first pass it count next before waiting after old mid new same is t o
     let e : suc count ≡ next = omega (arith, is) in
     subst (λ (z : ℕ). AreTried first pass z before after old new) e (tried_then first pass it count before waiting after old mid new same t o)
 
-pub none_there : {A : Type 0} (xs : List A) → length xs ≡ 0 → xs ≡ []
-none_there [] is = refl
-none_there (x ∷ xs) is = absurd (omega (arith, is))
-
 -- ---- upkeep goes on
 
 -- by sweeps, as many as there were

@@ -1,5 +1,5 @@
 use Rattle.std.proofs.Common.{rules, refl, inl, inr, arith}
-use Rattle.bl_map_calls.proofs.Following.{tried_more, none_there}
+use Rattle.bl_map_calls.proofs.Following.{tried_more}
 use Rattle.bl_map_calls.proofs.writes.try_some.Goals as goal
 
 pub loop-hint-init : goal.loop-hint-init
@@ -14,7 +14,7 @@ loop-hint-preserved g c =
     }
 
 pub returns-then-is_empty-clause-tries : goal.returns-then-is_empty-clause-tries
-returns-then-is_empty-clause-tries g c = record { count = c.loop-hint._hint; are_tried = c.loop-hint.invariant.are_tried; few = omega arith; enough = inr (none_there _ (search rules)) }
+returns-then-is_empty-clause-tries g c = record { count = c.loop-hint._hint; are_tried = c.loop-hint.invariant.are_tried; few = omega arith; enough = inr (c.is_empty.ensures.0 c.if-is_empty.true) }
 
 pub returns-clause-tries : goal.returns-clause-tries
 returns-clause-tries g c = record { count = c.loop-hint._hint; are_tried = c.loop-hint.invariant.are_tried; few = omega arith; enough = inl (omega arith) }
