@@ -56,7 +56,7 @@ tends_swept t Swept.Never = t
 tends_swept t (Swept.Again w s) = Tends.Sweeps (tends_swept t w) s
 
 pub prepared_at_once : (old : Seat) → HasPrepared old old.upkeep
-prepared_at_once old = record { mid = old; count = 0; tends = Tends.Starts; few = omega arith; pieces = pieces_same _ _ refl }
+prepared_at_once old = record { mid = old; count = 0; tends = Tends.Starts; few = omega arith; pieces = (refl, refl, refl) }
 
 pub prepared_still : (old : Seat) (a b : Upkeep) → b ≡ a → HasPrepared old a → HasPrepared old b
 prepared_still old a b is p = subst (HasPrepared old) (sym is) p

@@ -1,12 +1,12 @@
 use Rattle.std.proofs.Common.{ℕ, ◌≢◌, ◌+◌, inl, inr, refl, sym, ap, ◌∙◌, arith}
 use Rattle.std.proofs.lemmas.Bool.{false≢true}
 use Rattle.bl_index_resume.specs.declared.stages.Stage.TheVariants as stage
-use Rattle.bl_ffi_seats.proofs.Tending.{seat_after, pieces_same}
+use Rattle.bl_ffi_seats.proofs.Tending.{seat_after}
 use Rattle.bl_ffi_seats.proofs.seat.Seat.may_begin.Goals as goal
 
 pub returns-then-not-is_at_rest-clause-prepared : goal.returns-then-not-is_at_rest-clause-prepared
 returns-then-not-is_at_rest-clause-prepared c =
-    let tended = c.tend.ensures.tended in record { mid = c.tend.new.self; count = tended.count; tends = tended.tends; few = tended.few; pieces = pieces_same _ _ refl }
+    let tended = c.tend.ensures.tended in record { mid = c.tend.new.self; count = tended.count; tends = tended.tends; few = tended.few; pieces = (refl, refl, refl) }
 
 pub returns-then-not-is_at_rest-clause-waits : goal.returns-then-not-is_at_rest-clause-waits
 returns-then-not-is_at_rest-clause-waits c =
