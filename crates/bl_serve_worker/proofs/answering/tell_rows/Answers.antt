@@ -16,4 +16,4 @@ returns-in-Some-clause-tells g c =
 pub returns-in_default-checked_sub-clause-tells : goal.returns-in_default-checked_sub-clause-tells
 returns-in_default-checked_sub-clause-tells g c =
     let none = c.in_default-checked_sub.ensures in
-    lists_none _ _ 0 _ _ _ _ _ c.in-ScanDown.low c.in-ScanDown.high _ c.in-ScanDown.is (omega (arith, none)) refl refl
+    lists_none _ _ _ _ _ _ _ _ c.in-ScanDown.low c.in-ScanDown.high _ c.in-ScanDown.is (omega (arith, none)) refl refl
