@@ -7,12 +7,12 @@ ghost use Rattle.std.specs.Prelude.{◌≡◌, ◌+◌, ◌*◌, ◌≤◌, ◌<
 ghost use Rattle.bl_index.specs.Calls.{IsPassOf};
 
 use bl_index::{Config, Index, KeyReply, Pass};
-use bl_proc::{Hint, Posted};
 use std::alloc::Global;
 use std::sync::Wait;
 use std::sync::atomic::{AtomicU64, Ordering};
 use std::thread;
 use std::thread::Threads;
+use test_following::follow;
 
 /// How large the index is, and what each thread does.
 #[derive(Clone, Copy)]
@@ -24,9 +24,6 @@ struct Load {
     scans: u64,
     ghost threads_within: { (1 ≤ threads) × (threads ≤ 16) },
 }
-
-/// How many levels a tree may have: a split is followed by at most one post on each.
-const LEVELS: u32 = 12;
 
 /// So many threads at most.
 const MOST_THREADS: u32 = 16;
@@ -112,30 +109,13 @@ fn sweep(index: &Index, pass: &mut Pass)
     }
 }
 
-// Makes the post again that met no room, and goes on with the hints that posting gives.
-fn post<R: Wait>(rt: &R, index: &Index, pass: &mut Pass, hint: Option<Hint>)
-    requires { IsPassOf index.now pass.old }
-    ensures { IsPassOf index.now pass.new }
-{
-    let mut hint = hint;
-    for _level in 0..LEVELS {
-        let Some(next) = hint else {
-            return;
-        };
-        match index.post(rt, pass, next) {
-            (Posted::Done, more) => hint = more,
-            _ => return,
-        }
-    }
-}
-
 // Inserts a row, with its posts and a sweep where one is due.
 fn insert<R: Wait>(rt: &R, index: &Index, pass: &mut Pass, key: u64, value: u64) -> KeyReply
     requires { IsPassOf index.now pass.old }
     ensures { IsPassOf index.now pass.new }
 {
     let (reply, _posted, hint) = index.insert_posting(rt, pass, key, value);
-    post(rt, index, pass, hint);
+    let _merged = follow(rt, index, pass, hint);
     sweep(index, pass);
     reply
 }

@@ -4,11 +4,11 @@ ghost use Rattle.std.specs.Prelude.{All};
 ghost use Rattle.bl_index.specs.Calls.{IsPassOf};
 
 use crate::calls::opened;
-use crate::scans::follow;
 use bl_index::{Index, KeyReply, Pass};
 use std::sync::Wait;
 use std::thread;
 use std::thread::Threads;
+use test_following::follow;
 
 /// How many threads insert keys.
 const THREADS: u64 = 8;
@@ -22,7 +22,7 @@ fn put<R: Wait>(rt: &R, index: &Index, pass: &mut Pass, key: u64)
     ensures { IsPassOf index.now pass.new }
 {
     let (_reply, hint) = index.insert(rt, pass, key, 1000 - key.min(1000));
-    follow(rt, index, pass, hint);
+    let _merged = follow(rt, index, pass, hint);
 }
 
 /// Inserts every eighth key, from the thread's own place on.

@@ -5,13 +5,13 @@ ghost use Rattle.bl_index.specs.Calls.{IsPassOf};
 
 use crate::calls::opened;
 use bl_index::{Index, Pass, ScanFault};
-use bl_proc::Hint;
 use std::alloc::Global;
 use std::sync::Wait;
 use std::sync::atomic::{AtomicU64, Ordering};
 use std::test::Fail;
 use std::thread;
 use std::thread::Threads;
+use test_following::follow;
 
 /// How many keys are written beside a scan, or are there from the beginning.
 pub const KEYS: u64 = 2_000;
@@ -27,9 +27,6 @@ pub const SCANS: u64 = 40;
 
 /// How many threads write.
 const WRITERS: u64 = 4;
-
-/// How many levels a tree may have.
-const LEVELS: u32 = 12;
 
 /// Keys 1 to 15 with ten times themselves are in two leaves. The upper one, from 9 on, is not listed yet: a search gets the
 /// anchor, the lower leaf and then the upper one.
@@ -89,23 +86,6 @@ pub fn kept(rows: &[(u64, u64)]) -> u64 {
         .count() as u64
 }
 
-/// Posts or compresses, and goes on with the hints that this gives.
-pub fn follow<R: Wait>(rt: &R, index: &Index, pass: &mut Pass, hint: Option<Hint>)
-    requires { IsPassOf index.now pass.old }
-    ensures { IsPassOf index.now pass.new }
-{
-    let mut hint = hint;
-    for _level in 0..LEVELS {
-        let Some(next) = hint else {
-            return;
-        };
-        hint = match next {
-            Hint::Post { .. } => index.post(rt, pass, next).1,
-            Hint::Thin { .. } => index.compress(rt, pass, next).1,
-        };
-    }
-}
-
 /// Inserts a key with itself, or takes it away.
 fn change<R: Wait>(rt: &R, index: &Index, pass: &mut Pass, key: u64, inserts: bool)
     requires { IsPassOf index.now pass.old }
@@ -116,7 +96,7 @@ fn change<R: Wait>(rt: &R, index: &Index, pass: &mut Pass, key: u64, inserts: bo
     } else {
         index.delete(rt, pass, key)
     };
-    follow(rt, index, pass, hint);
+    let _merged = follow(rt, index, pass, hint);
     index.sweep(pass);
 }
 

@@ -9,14 +9,14 @@
 ghost use Rattle.std.specs.Prelude.{All};
 ghost use Rattle.bl_index.specs.Calls.{IsPassOf};
 
-use bl_index::{Index, KeyReply, Pass};
-use bl_proc::{Hint, Squeezed};
+use bl_index::{Hint, Index, KeyReply, Pass};
 use bl_serve_lines::print::push_number;
 use std::alloc::{AllocError, Global};
 use std::sync::Wait;
 use std::sync::atomic::{AtomicU64, Ordering};
 use std::thread;
 use std::thread::Threads;
+use test_following::follow;
 
 /// How many keys each thread inserts.
 const ROWS: u64 = 20_000;
@@ -32,9 +32,6 @@ const KEPT: u64 = 10;
 
 /// How often the fifth thread scans the map.
 const SCANS: u32 = 30;
-
-/// How many levels a tree may have: a split or a merge is followed by at most one on each.
-const LEVELS: u32 = 12;
 
 /// What the threads have been answered so far.
 #[derive(Drop)]
@@ -106,32 +103,24 @@ fn fill<R: Wait>(rt: &R, index: &Index, pass: &mut Pass, place: usize, counts: &
             KeyReply::Present(value) if value == key + 1 && row % KEPT == 0 => {}
             _ => count(&counts.wrong),
         }
-        follow(rt, index, pass, hint, counts);
+        follow_counting(rt, index, pass, hint, counts);
         sweep(index, pass);
     }
 }
 
-// Follows a hint, and those that following it gives: a page that is not listed yet is posted, one with few pairs is merged or
-// evened out.
-fn follow<R: Wait>(rt: &R, index: &Index, pass: &mut Pass, hint: Option<Hint>, counts: &Counts)
+// Follows a hint, and those that following it gives, and counts the merges.
+fn follow_counting<R: Wait>(
+    rt: &R,
+    index: &Index,
+    pass: &mut Pass,
+    hint: Option<Hint>,
+    counts: &Counts,
+)
     requires { IsPassOf index.now pass.old }
     ensures { IsPassOf index.now pass.new }
 {
-    let mut hint = hint;
-    for _level in 0..LEVELS {
-        let Some(next) = hint else {
-            return;
-        };
-        if let Hint::Post { .. } = next {
-            hint = index.post(rt, pass, next).1;
-        } else {
-            let (squeezed, more) = index.compress(rt, pass, next);
-            if let Squeezed::Merged = squeezed {
-                count(&counts.merged);
-            }
-            hint = more;
-        }
-    }
+    let merged = follow(rt, index, pass, hint);
+    counts.merged.fetch_add(merged, Ordering::SeqCst);
 }
 
 // Deletes the thread's keys but every tenth, which it finds after each deletion.
@@ -148,7 +137,7 @@ fn shrink<R: Wait>(rt: &R, index: &Index, pass: &mut Pass, place: usize, counts:
                 KeyReply::Deleted(value) if value == key + 1 => count(&counts.deleted),
                 _ => count(&counts.wrong),
             }
-            follow(rt, index, pass, hint, counts);
+            follow_counting(rt, index, pass, hint, counts);
         }
         let kept = THREADS * (row - row % KEPT) + first;
         match find(rt, index, pass, kept) {
