@@ -7,14 +7,14 @@ use Rattle.bl_page.specs.Machine.Act.{Latch}
 use Rattle.bl_claims.specs.Trails.{Mark, Trail}
 use Rattle.bl_claims.specs.Latches.{KeepsPage}
 use Rattle.bl_rearrange.specs.declared.families.Family.{Family}
-use Rattle.bl_claims.specs.Squeezed.{AtParent}
+use Rattle.bl_claims.specs.Squeezed.{GotParent}
 
 -- It holds no page but the parent of that level, which covers the key, and of two children of it that stand side by side at the
 -- key the left one. It has latched the parent, and got it since.
 pub record HoldsFamily (level key : ℕ) (marks : Trail) : Type 0 where
   pub family : Family
   pub acts : List (Act Page Reply)
-  pub at : AtParent level key marks family.at.parent family.parent (Some family) acts
+  pub at : GotParent level key marks family.at.parent family.parent (Some family) acts
   pub no_more : (y : ℕ) → KeepsPage marks y → (y ≡ family.at.parent) ⊎ (y ≡ family.at.left)
 
 -- It holds no more than that when it latches a page.

@@ -52,7 +52,7 @@ AreBeside key parent (Some f) = (before after : List (ℕ × ℕ)) × (low : ℕ
 
 -- The parent of that level, which covers the key, was latched and got, and these are two children of it that stand side by
 -- side at the key; or it has no two.
-pub record AtParent (level key : ℕ) (marks : Trail) (x : ℕ) (parent : InnerPage) (children : Option Family) (acts : List (Act Page Reply)) : Type 0 where
+pub record GotParent (level key : ℕ) (marks : Trail) (x : ℕ) (parent : InnerPage) (children : Option Family) (acts : List (Act Page Reply)) : Type 0 where
   pub since : Since marks x acts
   pub got : HasGot since.during x (Inner parent)
   pub level_is : parent.level ≡ level
@@ -62,7 +62,7 @@ pub record AtParent (level key : ℕ) (marks : Trail) (x : ℕ) (parent : InnerP
 -- The left child was got, and these are all acts since the latch of the parent.
 pub record GotLeft (level key : ℕ) (marks : Trail) (acts : Siblings → List (Act Page Reply)) : Type 0 where
   pub family : Family
-  pub at : AtParent level key marks family.at.parent family.parent (Some family) (acts family.at)
+  pub at : GotParent level key marks family.at.parent family.parent (Some family) (acts family.at)
   pub left : Page
   pub got : HasGot at.since.during family.at.left left
 
@@ -159,7 +159,7 @@ pub record HasNoLevel (level : ℕ) (marks : Trail) : Type 0 where
   pub few : (a : AnchorPage) → anchor ≡ Anchor a → length a.leftmost.items ≤ level
 
 abbrev pub HasOneChild : ℕ → ℕ → Trail → Type 0
-HasOneChild level key marks = (x : ℕ) × (parent : InnerPage) × AtParent level key marks x parent None (Get x ∷ [])
+HasOneChild level key marks = (x : ℕ) × (parent : InnerPage) × GotParent level key marks x parent None (Get x ∷ [])
 
 -- NoRoom: both children were got, and are to be merged or evened out; and next a reservation was refused.
 pub record LacksPlace (level key : ℕ) (marks : Trail) : Type 0 where

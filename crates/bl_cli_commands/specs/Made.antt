@@ -1,7 +1,7 @@
 -- What the command `load` makes of the bytes that it read, and why it makes nothing.
 use Rattle.std.specs.Prelude.{◌≡◌, ℕ, List, Option}
 use Rattle.bl_page.specs.declared.page.Page.{Page}
-use Rattle.bl_load.specs.Loads.{Holds, IsFaultOf as IsImageFault}
+use Rattle.bl_load.specs.Loads.{HoldsRows, IsFaultOf as IsImageFault}
 use Rattle.bl_load.specs.declared.fault.LoadFault.TheVariants as load
 use Rattle.bl_row_lines.specs.RowLines.{rows_text, IsFaultOf as IsRowsFault}
 use Rattle.bl_row_lines.specs.declared.reading.RowsFault.TheVariants as rows
@@ -12,7 +12,7 @@ use Rattle.bl_cli_commands.specs.declared.making.MakeFault.TheVariants.{Rows, Im
 pub record Makes (fill : ℕ) (bytes : List ℕ) (pages : List (Option Page)) : Type 0 where
   pub rows : List (ℕ × ℕ)
   pub read : bytes ≡ rows_text rows
-  pub held : Holds fill rows pages
+  pub held : HoldsRows fill rows pages
 
 -- The bytes are lines of rows, of which no such image was made.
 pub record LacksImage (fault_of : List (ℕ × ℕ) → Type 0) (bytes : List ℕ) (at_end : Type 0) : Type 0 where

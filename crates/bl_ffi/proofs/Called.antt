@@ -10,7 +10,7 @@ use Rattle.bl_ffi_seats.specs.Calls.{IsSameSeat, HasGoneOn, HasNothingToDo, HasS
 use Rattle.bl_ffi_seats.specs.Tended.{SweepsOnce}
 use Rattle.bl_ffi_seats.proofs.Tending.{seat_after}
 use Rattle.bl_ffi_seats.specs.Accounts.{GoesTo}
-use Rattle.bl_ffi_seats.specs.Waits.{IsIdle}
+use Rattle.bl_ffi_seats.specs.Waits.{NothingWaits}
 use Rattle.bl_ffi.specs.declared.seat.SeatOfC.{SeatOfC}
 use Rattle.std.specs.Arc.{arc_value}
 use Rattle.bl_index_resume.specs.declared.stages.Stage.TheVariants as stage
@@ -80,7 +80,7 @@ tended s u v t answer is same gone kept told keeps swept count =
     let up : t.upkeep ≡ u.upkeep = keeps.1 ∙ ap (λ (z : Seat). z.upkeep) is in record {
       same = seat_after s u t same k;
       gone = subst (GoesTo (seat_number s) (account_of s)) (sym a) gone;
-      idle = λ n. (st ∙ n.0, subst IsIdle (sym up) n.1);
-      was_idle = λ n. (sym st ∙ n.0, subst IsIdle up n.1);
+      idle = λ n. (st ∙ n.0, subst NothingWaits (sym up) n.1);
+      was_idle = λ n. (sym st ∙ n.0, subst NothingWaits up n.1);
       swept = record { answer = answer; same = k; swept = subst (λ (z : Seat). HasSwept answer z t) is swept; count = subst (λ (z : Seat). released_by t ≡ released_by z + answer) is count; keeps = (st, up) };
     }

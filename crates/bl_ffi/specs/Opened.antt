@@ -2,7 +2,7 @@
 use Rattle.std.specs.Prelude.{◌≡◌, ◌⊎◌, ◌<◌, ◌^◌, ℕ, ℤ, pos, List, Option, length}
 use Rattle.bl_check.specs.Faults.{AreSoundImage}
 use Rattle.bl_ffi_seats.specs.declared.seat.Seat.{Seat}
-use Rattle.bl_ffi_seats.specs.Opened.{AreSeatsOpened, IsReopened}
+use Rattle.bl_ffi_seats.specs.Opened.{AreSeatsOpened, AreReopened}
 use Rattle.bl_ffi.specs.Places.{opened, closed, HasOpenSeat}
 
 -- Each place has its seat; or there was no memory, and the places are as they were.
@@ -34,5 +34,5 @@ IsNotReopened bytes places code = ((code ≡ pos 8) × (AreSoundImage bytes → 
 -- The same of a map that begins with the rows of the image that the bytes are.
 abbrev pub OpensImage : List ℕ → List (Option Seat) → List (Option Seat) → ℤ → Type 0
 OpensImage bytes old new code =
-    ((code ≡ pos 0) × (old ≡ closed (length old)) × ((seats : List Seat) × IsReopened bytes (length old) seats × (new ≡ opened seats)))
+    ((code ≡ pos 0) × (old ≡ closed (length old)) × ((seats : List Seat) × AreReopened bytes (length old) seats × (new ≡ opened seats)))
     ⊎ (IsNotReopened bytes old code × (new ≡ old))

@@ -3,7 +3,7 @@ use Rattle.std.specs.Prelude.{◌≡◌, ◌⊎◌, ◌+◌, ◌*◌, ◌<◌, �
 use Rattle.bl_page.specs.declared.page.Page.{Page}
 use Rattle.bl_image.specs.Images.{IsImage}
 use Rattle.bl_check.specs.Rules.{AreSound}
-use Rattle.bl_load.specs.Loads.{Holds, IsFaultOf}
+use Rattle.bl_load.specs.Loads.{HoldsRows, IsFaultOf}
 use Rattle.bl_load.specs.declared.fault.LoadFault.{LoadFault}
 use Rattle.bl_load.specs.declared.fault.LoadFault.TheVariants as fault
 use Rattle.bl_ffi.specs.declared.calls.Row.{Row}
@@ -20,7 +20,7 @@ pub record IsSaved (rows : List Row) (pages fill : ℕ) (old new : List ℕ) (lo
   pub image : List (Option Page)
   pub count : length image ≡ pages
   pub sound : AreSound image
-  pub holds : Holds fill (pairs_of rows) image
+  pub holds : HoldsRows fill (pairs_of rows) image
   pub spelled : IsImage image (take long new)
   pub rest : drop long new ≡ drop long old
 

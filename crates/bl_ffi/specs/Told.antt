@@ -110,8 +110,8 @@ Lists op rows rows' part code old new = KeepsUpkeep old new
 
 -- It has told what was underway, if that has ended, and no more; it has done so many pieces of upkeep, or all that there are, and then it has
 -- swept; and the code says whether anything is left to do.
-abbrev pub Tends : ℕ → SeatOfC → SeatOfC → ℤ → Type 0
-Tends most old new code =
+abbrev pub TendsAndSays : ℕ → SeatOfC → SeatOfC → ℤ → Type 0
+TendsAndSays most old new code =
     Calls old new code (λ s t. HasGoneOn s t × ((mid : Seat) × IsSameSeat s mid × HasTended most s mid × SweepsOnce mid t
     × (((code ≡ pos 0) × HasNothingToDo t) ⊎ ((code ≡ pos 4) × (HasNothingToDo t → ⊥) × HasDoneMost most s mid))))
 

@@ -4,7 +4,7 @@ ghost use Rattle.std.specs.Prelude.{◌≡◌, ◌≢◌, ◌<◌, ◌≤◌, po
 ghost use Rattle.bl_model.specs.declared.operation.Op.TheVariants as op;
 ghost use Rattle.bl_model.specs.Replies.{reply_of};
 ghost use Rattle.bl_model.specs.declared.deciding.KeyWrite.TheVariants as key_write;
-ghost use Rattle.bl_ffi.specs.Told.{IsCodeOf, Finds, TellsCode, Closes, Calls, IsRows, IsListed, Lists, next_behind, Tends, StaysAsItWas, Counts, waiting_of, dropped_of};
+ghost use Rattle.bl_ffi.specs.Told.{IsCodeOf, Finds, TellsCode, Closes, Calls, IsRows, IsListed, Lists, next_behind, TendsAndSays, StaysAsItWas, Counts, waiting_of, dropped_of};
 
 use crate::codes::{ABSENT, AGAIN, CLOSED, FEW_ROWS, NO_ROOM, OK, PRESENT};
 use crate::places::{put_back, taken};
@@ -296,7 +296,7 @@ pub extern "C" fn blink_try_rows_down(
 /// Does so many pieces of upkeep at most.
 #[unsafe(no_mangle)]
 pub extern "C" fn blink_tend(alloc: Global, seat: &mut SeatOfC, most: u32) -> i32
-    ensures { Tends most seat.old seat.new result }
+    ensures { TendsAndSays most seat.old seat.new result }
 {
     let Some(mut mine) = taken(alloc, seat) else {
         return CLOSED;

@@ -23,7 +23,7 @@ use Rattle.bl_ffi_seats.specs.declared.seat.Seat.{Seat}
 use Rattle.bl_ffi_seats.specs.declared.closing.Prepared.{Prepared}
 use Rattle.bl_ffi_seats.specs.Calls.{seat_number}
 use Rattle.bl_ffi_seats.specs.Meetings.{AreOfOne, HasSettled, HasRested}
-use Rattle.bl_ffi_seats.specs.Closed.{values, hand_of, AreAtOne, AreAll, HasSeat, IsAt, AllRest, HaveSettled, IsOneUnderway, LacksOne, IsFor, AreComplete}
+use Rattle.bl_ffi_seats.specs.Closed.{values, hand_of, AreAtOne, AreAll, HasSeat, IsAtIndex, AllRest, HaveSettled, IsOneUnderway, LacksOne, IsFor, AreComplete}
 
 abbrev pub Boxed : Type 0
 Boxed = Box Seat Global
@@ -193,11 +193,11 @@ all_cons P seat rest p all zero d lt = p
 all_cons P seat rest p all (suc k) d lt = all k d (omega (arith, lt))
 
 -- where the seats are at one index, so they are once they have settled
-pub still_at : (index : Index) (old now : List Seat) → HaveSettled old now → All (IsAt index) old → All (IsAt index) now
+pub still_at : (index : Index) (old now : List Seat) → HaveSettled old now → All (IsAtIndex index) old → All (IsAtIndex index) now
 still_at index [] [] h at = λ k d lt. absurd (omega (arith, lt))
 still_at index [] (y ∷ now) h at = absurd h
 still_at index (x ∷ old) [] h at = absurd h
-still_at index (x ∷ old) (y ∷ now) h at = all_cons (IsAt index) y now (ap arc_value h.0.same.0 ∙ at 0 x (omega arith)) (still_at index old now h.1 (λ k d lt. at (suc k) d (omega (arith, lt))))
+still_at index (x ∷ old) (y ∷ now) h at = all_cons (IsAtIndex index) y now (ap arc_value h.0.same.0 ∙ at 0 x (omega arith)) (still_at index old now h.1 (λ k d lt. at (suc k) d (omega (arith, lt))))
 
 -- and so all are there
 pub still_all : (index : Index) (old now : List Seat) → HaveSettled old now → AreAll index old → AreAll index now
@@ -217,10 +217,10 @@ pub record GivenSo (index : Index) (seats : List Seat) (rest : List Boxed) (hand
   pub all : seats ≡ taken ++ values rest
   pub given : hands ≡ map hand_of taken
   pub own : All (IsIdleOf index) hands
-  pub at : All (IsAt index) (values rest)
+  pub at : All (IsAtIndex index) (values rest)
   pub rests : AllRest (values rest)
 
-pub none_given : (index : Index) (boxes : List Boxed) (hands : List (Hand PassState)) → hands ≡ [] → All (IsAt index) (values boxes) → AllRest (values boxes) → GivenSo index (values boxes) boxes hands
+pub none_given : (index : Index) (boxes : List Boxed) (hands : List (Hand PassState)) → hands ≡ [] → All (IsAtIndex index) (values boxes) → AllRest (values boxes) → GivenSo index (values boxes) boxes hands
 none_given index boxes hands empty at rests = record {
   taken = [];
   all = refl;
@@ -244,8 +244,8 @@ all_tail : (P : Seat → Type 0) (seat : Seat) (rest : List Seat) → All P (sea
 all_tail P seat rest all = (all 0 seat (omega arith), λ k d lt. all (suc k) d (omega (arith, lt)))
 
 module _ (index : Index) (seats : List Seat) (boxes left : List Boxed) (box : Boxed) (hands now : List (Hand PassState)) (next : boxes ≡ box ∷ left) (g : GivenSo index seats boxes hands) where
-  pub first_at : IsAt index box.value
-  first_at = (all_tail (IsAt index) box.value (values left) (subst (λ (z : List Boxed). All (IsAt index) (values z)) next g.at)).0
+  pub first_at : IsAtIndex index box.value
+  first_at = (all_tail (IsAtIndex index) box.value (values left) (subst (λ (z : List Boxed). All (IsAtIndex index) (values z)) next g.at)).0
 
   pub first_rests : box.value.stage ≡ stage.Rests
   first_rests = (all_tail (λ (z : Seat). z.stage ≡ stage.Rests) box.value (values left) (subst (λ (z : List Boxed). AllRest (values z)) next g.rests)).0
@@ -256,7 +256,7 @@ module _ (index : Index) (seats : List Seat) (boxes left : List Boxed) (box : Bo
     all = g.all ∙ (ap (λ (z : List Boxed). g.taken ++ values z) next ∙ sym (append_assoc g.taken (box.value ∷ []) (values left)));
     given = pushed ∙ (ap (λ (z : List (Hand PassState)). z ++ box.value.hand ∷ []) g.given ∙ sym (map_push hand_of g.taken box.value));
     own = subst (All (IsIdleOf index)) (sym pushed) (all_push (IsIdleOf index) hands box.value.hand g.own idle);
-    at = (all_tail (IsAt index) box.value (values left) (subst (λ (z : List Boxed). All (IsAt index) (values z)) next g.at)).1;
+    at = (all_tail (IsAtIndex index) box.value (values left) (subst (λ (z : List Boxed). All (IsAtIndex index) (values z)) next g.at)).1;
     rests = (all_tail (λ (z : Seat). z.stage ≡ stage.Rests) box.value (values left) (subst (λ (z : List Boxed). AllRest (values z)) next g.rests)).1;
   }
 
@@ -278,7 +278,7 @@ whole len old new fits h =
     ap (λ (n : ℕ). take n (new ++ drop (length new) old)) same ∙ take-append_seam new (drop (length new) old)
 
 -- where one of them is at an index, all are
-pub at_one : (seats : List Seat) (k : ℕ) (one : Seat) → get_elem? seats k ≡ some one → AreAtOne seats → All (IsAt (arc_value one.index)) seats
+pub at_one : (seats : List Seat) (k : ℕ) (one : Seat) → get_elem? seats k ≡ some one → AreAtOne seats → All (IsAtIndex (arc_value one.index)) seats
 at_one seats k one at one_index = all_there (λ (z : Seat). All (AreOfOne z) seats) seats k one one_index at
 
 -- and so all lack what one of them lacks
@@ -288,7 +288,7 @@ all_lack seats k one at one_index lacks = λ i d lt.
     (lacks.0, subst (λ (z : Index). lacks.0 < passes_of z) (sym same) lacks.1, lacks.2)
 
 -- all of one index, of which each is there
-pub complete : (index : Index) (seats : List Seat) → All (IsAt index) seats → AreAll index seats → AreComplete seats
+pub complete : (index : Index) (seats : List Seat) → All (IsAtIndex index) seats → AreAll index seats → AreComplete seats
 complete index seats at all = λ k d lt. subst (λ (z : Index). AreAll z seats) (sym (at k d lt)) all
 
 pub count_of : (tree : Tree) (index : Index) (seat : Seat) (box : Boxed) → tree ≡ index → index ≡ arc_value seat.index → seat ≡ box.value → tree.passes ≡ passes_of (arc_value box.value.index)

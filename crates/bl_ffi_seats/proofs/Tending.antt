@@ -21,7 +21,7 @@ use Rattle.bl_ffi_seats.specs.Seats.{IsSameOne}
 use Rattle.bl_ffi_seats.specs.Accounts.{Ends}
 use Rattle.bl_waiting.specs.declared.waiting.Waiting.{Waiting}
 use Rattle.bl_waiting.specs.Queue.{IsKept}
-use Rattle.bl_ffi_seats.specs.Waits.{ArePieces, IsFound, IsLeft, lacked_in}
+use Rattle.bl_ffi_seats.specs.Waits.{ArePieces, IsFound, KeepsWhatIsLeft, lacked_in}
 use Rattle.bl_ffi_seats.specs.Calls.{IsSameSeat, HasCarriedOn, begun_by}
 use Rattle.bl_ffi_seats.specs.Tended.{IsAsItWas, LooksAbout, Swept, Tends, IsCarriedOn, HasPrepared}
 
@@ -87,7 +87,7 @@ is_op n op None a old new is e = absurd (let f = is in cc)
 is_op n op (Some o) (answers.Op reply hint) old new is e = (reply, hint, refl)
 is_op n op (Some o) a old new is e = absurd e
 
-pub left_row : (a : Option Answer) (old new : Upkeep) → IsLeft a old new → lacked_in new ≡ lacked_in old
+pub left_row : (a : Option Answer) (old new : Upkeep) → KeepsWhatIsLeft a old new → lacked_in new ≡ lacked_in old
 left_row None old new is = ap lacked_in is
 left_row (Some a) old new is = is.2
 
@@ -116,5 +116,5 @@ waits_still key write old mid new a none about before after one still worked =
     let busy = busy_still mid.stage new.stage (about_busy key write mid.stage about) (subst (λ (z : Option Answer). IfNone z ((mid.stage ≡ stage.Rests) ⊎ (new.stage ≢ stage.Rests))) none still) in
     carried_on old mid new before after one busy worked
 
-pub prepared_left : (old mid new : Seat) (a : Option Answer) → a ≡ None → IsLeft a mid.upkeep new.upkeep → HasPrepared old mid.upkeep → HasPrepared old new.upkeep
-prepared_left old mid new a none left p = prepared_still old mid.upkeep new.upkeep (subst (λ (z : Option Answer). IsLeft z mid.upkeep new.upkeep) none left) p
+pub prepared_left : (old mid new : Seat) (a : Option Answer) → a ≡ None → KeepsWhatIsLeft a mid.upkeep new.upkeep → HasPrepared old mid.upkeep → HasPrepared old new.upkeep
+prepared_left old mid new a none left p = prepared_still old mid.upkeep new.upkeep (subst (λ (z : Option Answer). KeepsWhatIsLeft z mid.upkeep new.upkeep) none left) p

@@ -15,7 +15,7 @@ use Rattle.bl_ffi_seats.specs.declared.seat.Seat.{Seat}
 use Rattle.bl_ffi_seats.specs.declared.seat.Upkeep.{Upkeep}
 use Rattle.bl_ffi_seats.specs.Seats.{IsSameOne, HasReplied, HasFollowed, HasReleased, HasWorked, begun_in}
 use Rattle.bl_ffi_seats.specs.Accounts.{Account, account, GoesTo, TellsReply, Begins}
-use Rattle.bl_ffi_seats.specs.Waits.{IsIdle, IsLeft, IsTakenUp, lacked_in}
+use Rattle.bl_ffi_seats.specs.Waits.{NothingWaits, KeepsWhatIsLeft, IsTakenUp, lacked_in}
 
 -- the number of its pass, which its entries have
 abbrev pub seat_number : Seat → ℕ
@@ -82,7 +82,7 @@ HasDoneMost most old new = (new.stage ≢ stage.Rests) ⊎ (begun_by old + most 
 
 -- Nothing is underway, and nothing waits to be done.
 abbrev pub HasNothingToDo : Seat → Type 0
-HasNothingToDo seat = (seat.stage ≡ stage.Rests) × IsIdle seat.upkeep
+HasNothingToDo seat = (seat.stage ≡ stage.Rests) × NothingWaits seat.upkeep
 
 -- It has swept, if nothing is underway, and was answered how many pages and frames are released.
 abbrev pub HasSwept : ℕ → Seat → Seat → Type 0
@@ -96,7 +96,7 @@ pub record HasDonePiece (old new : Seat) : Type 0 where
   pub rests : new.stage ≡ stage.Rests
   pub followed : HasFollowed new.hand hint answer
   pub taken : IsTakenUp hint old.upkeep mid
-  pub left : IsLeft (Some answer) mid new.upkeep
+  pub left : KeepsWhatIsLeft (Some answer) mid new.upkeep
 
 -- A piece of upkeep is underway that was due: a lowering where the top level may be one that is not needed, or the oldest that waited. Or
 -- that is done at once.

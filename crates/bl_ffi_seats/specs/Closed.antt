@@ -30,8 +30,8 @@ hand_of seat = seat.hand
 abbrev pub AreAtOne : List Seat → Type 0
 AreAtOne seats = All (λ one. All (AreOfOne one) seats) seats
 
-abbrev pub IsAt : Index → Seat → Type 0
-IsAt index seat = arc_value seat.index ≡ index
+abbrev pub IsAtIndex : Index → Seat → Type 0
+IsAtIndex index seat = arc_value seat.index ≡ index
 
 -- one of the seats has that number
 abbrev pub HasSeat : List Seat → ℕ → Type 0
@@ -61,7 +61,7 @@ IsOneUnderway seats = (k : ℕ) × (seat : Seat) × (get_elem? seats k ≡ some 
 -- The seats are all those of one index, which is closed by their hands.
 pub record AreShut (seats : List Seat) (pages : List (Option Page)) : Type 0 where
   pub index : Index
-  pub at : All (IsAt index) seats
+  pub at : All (IsAtIndex index) seats
   pub closes : ClosesHands index (map hand_of seats) pages
 
 -- All came to rest, and their index was closed then.
@@ -89,7 +89,7 @@ IsNotClosed old new fault.Lost = AreComplete old × (new ≡ [])
 
 -- a share of their index, which has a seat of each number among them, and room for a close by them
 pub record IsFor (seats : List Seat) (prepared : Prepared) : Type 0 where
-  pub at : All (IsAt (arc_value prepared.index)) seats
+  pub at : All (IsAtIndex (arc_value prepared.index)) seats
   pub all : AreAll (arc_value prepared.index) seats
   pub empty : prepared.hands.items ≡ []
   pub fits : length seats ≤ vec_capacity prepared.hands

@@ -32,7 +32,7 @@ pub record AreSeatsOpened (pages among : ℕ) (seats : List Seat) : Type 0 where
   pub each : AreSeatsOf index passes seats
 
 -- The same of an index that begins with the pages of an image, which the bytes spell, and so with its rows.
-pub record IsReopened (bytes : List ℕ) (among : ℕ) (seats : List Seat) : Type 0 where
+pub record AreReopened (bytes : List ℕ) (among : ℕ) (seats : List Seat) : Type 0 where
   pub image : List (Option Page)
   pub spelled : IsImage image bytes
   pub index : Index

@@ -16,7 +16,7 @@ use Rattle.bl_ffi_seats.specs.declared.seat.Upkeep.{Upkeep}
 use Rattle.bl_ffi_seats.specs.Seats.{HasWritten}
 use Rattle.bl_ffi_seats.specs.Accounts.{HasGone}
 use Rattle.bl_waiting.specs.Queue.{IsKept}
-use Rattle.bl_ffi_seats.specs.Waits.{ArePieces, IsFound, IsLeft, lacked_in}
+use Rattle.bl_ffi_seats.specs.Waits.{ArePieces, IsFound, KeepsWhatIsLeft, lacked_in}
 use Rattle.bl_ffi_seats.specs.Calls.{IsSameSeat, IsAbout, HasGoneOn, HasTold, HasBegun, HasCarriedOn, HasNothingToDo, HasBegunPiece, HasSwept, seat_number, account_of, released_by, begun_by}
 
 -- What was underway has gone on. What it leaves, if it has ended with that answer, waits behind what waited.
@@ -24,11 +24,11 @@ pub record GoesOn (answer : Option Answer) (old new : Seat) : Type 0 where
   pub same : IsSameSeat old new
   pub told : HasGone (seat_number old) (account_of old) answer (account_of new)
   pub worked : HasCarriedOn old new
-  pub left : IsLeft answer old.upkeep new.upkeep
+  pub left : KeepsWhatIsLeft answer old.upkeep new.upkeep
 
 -- The same of a seat at which nothing may be underway: its upkeep is as it was then.
 abbrev pub KeepsUpkeep : Seat → Seat → Type 0
-KeepsUpkeep old new = (answer : Option Answer) × IsLeft answer old.upkeep new.upkeep × (old.stage ≡ stage.Rests → new.upkeep ≡ old.upkeep)
+KeepsUpkeep old new = (answer : Option Answer) × KeepsWhatIsLeft answer old.upkeep new.upkeep × (old.stage ≡ stage.Rests → new.upkeep ≡ old.upkeep)
 
 -- It has done nothing.
 abbrev pub IsAsItWas : Seat → Seat → Type 0

@@ -10,8 +10,8 @@ use Rattle.bl_waiting.specs.Queue.{hints_of, IsKept, IsTaken}
 use Rattle.bl_ffi_seats.specs.declared.seat.Upkeep.{Upkeep}
 
 -- Nothing waits.
-abbrev pub IsIdle : Upkeep → Type 0
-IsIdle upkeep = (hints_of upkeep.waiting ≡ []) × (upkeep.may_fall ≡ false)
+abbrev pub NothingWaits : Upkeep → Type 0
+NothingWaits upkeep = (hints_of upkeep.waiting ≡ []) × (upkeep.may_fall ≡ false)
 
 -- how often in a row a change was refused for want of frames or pages
 abbrev pub lacked_in : Upkeep → ℕ
@@ -45,8 +45,8 @@ falls_after before (answers.Lower what) = false
 falls_after before other = before
 
 -- Without an answer the upkeep is as it was. Else what the process leaves that has ended waits behind the others, or is dropped.
-abbrev pub IsLeft : Option Answer → Upkeep → Upkeep → Type 0
-IsLeft answer old new = MatchOption answer (new ≡ old)
+abbrev pub KeepsWhatIsLeft : Option Answer → Upkeep → Upkeep → Type 0
+KeepsWhatIsLeft answer old new = MatchOption answer (new ≡ old)
     (λ a. IsKept (left_by old.doing a) old.waiting new.waiting × (new.may_fall ≡ falls_after old.may_fall a) × (lacked_in new ≡ lacked_in old))
 
 -- This was the oldest piece that waited. It was taken away, and is the one that is underway.

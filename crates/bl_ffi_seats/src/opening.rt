@@ -4,7 +4,7 @@ ghost use Rattle.std.specs.Prelude.{All, IfOk, IfErr};
 ghost use Rattle.std.specs.Arc.{arc_value};
 ghost use Rattle.bl_index.specs.Calls.{IsPassOf};
 ghost use Rattle.bl_index.specs.Opened.{IsLargeRefusal};
-ghost use Rattle.bl_ffi_seats.specs.Opened.{AreSeatsOf, AreSeatsOpened, IsReopened, IsImageFault, IsNewSeat};
+ghost use Rattle.bl_ffi_seats.specs.Opened.{AreSeatsOf, AreSeatsOpened, AreReopened, IsImageFault, IsNewSeat};
 
 use crate::seat::{Seat, Upkeep};
 use bl_check::{Fault, load};
@@ -46,7 +46,7 @@ pub fn open(alloc: Global, pages: u32, seats: u32) -> Result<Vec<Seat>, OpenFaul
 /// An index that begins with the rows of a sound image, with as many pages, and so many seats at it, 1 to 64. It fails with `Image`
 /// where the bytes are no sound image, with `Seats` where the number is another, and with `Memory` where there was none.
 pub fn open_image(alloc: Global, bytes: &[u8], seats: u32) -> Result<Vec<Seat>, ImageFault>
-    ensures ok { IfOk result (λ v. IsReopened bytes.now seats v.items) }
+    ensures ok { IfOk result (λ v. AreReopened bytes.now seats v.items) }
     ensures fault { IfErr result (IsImageFault bytes.now seats) }
 {
     let quiet = match load(alloc, bytes) {

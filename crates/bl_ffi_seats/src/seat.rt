@@ -68,10 +68,10 @@ pub(crate) struct Upkeep {
 impl Upkeep {
     ghost use Rattle.std.specs.Prelude.{◌+◌, ◌≤◌, MatchOption};
     ghost use Rattle.bl_waiting.specs.Queue.{hints_of, IsKept};
-    ghost use Rattle.bl_ffi_seats.specs.Waits.{lacked_in, ArePieces, IsIdle, IsTakenUp, left_by, falls_after};
+    ghost use Rattle.bl_ffi_seats.specs.Waits.{lacked_in, ArePieces, NothingWaits, IsTakenUp, left_by, falls_after};
 
     pub(crate) fn new() -> Upkeep
-        ensures { IsIdle result × (result.waiting.dropped ≡ 0) }
+        ensures { NothingWaits result × (result.waiting.dropped ≡ 0) }
     {
         Upkeep {
             waiting: Waiting::new(),
@@ -174,7 +174,7 @@ impl Seat {
     ghost use Rattle.bl_answers.specs.declared.answers.Hint.{Hint as HintIs};
     ghost use Rattle.bl_index_resume.specs.Stages.{IsAtRest};
     ghost use Rattle.bl_waiting.specs.Queue.{hints_of, IsKept};
-    ghost use Rattle.bl_ffi_seats.specs.Waits.{lacked_in, IsFound, IsLeft};
+    ghost use Rattle.bl_ffi_seats.specs.Waits.{lacked_in, IsFound, KeepsWhatIsLeft};
     ghost use Rattle.bl_ffi_seats.specs.Calls.{IsSameSeat, HasToldLast, HasTold, HasGoneOn, HasGoneOnOrBegun, HasSwept, HasNothingToDo, HasBegunPiece};
     ghost use Rattle.bl_ffi_seats.specs.Calls.{HasCarriedOn, HasDoneMost, count_underway};
     ghost use Rattle.bl_ffi_seats.specs.Calls.{IsAbout, seat_number, account_of, released_by, begun_by};
@@ -430,7 +430,7 @@ impl Seat {
         ensures worked { HasCarriedOn self.old self.new }
         ensures still { IfNone result ((self.old.stage ≡ stages.Rests) ⊎ (self.new.stage ≢ stages.Rests)) }
         ensures begun { begun_by self.new ≡ begun_by self.old }
-        ensures left { IsLeft result self.old.upkeep self.new.upkeep }
+        ensures left { KeepsWhatIsLeft result self.old.upkeep self.new.upkeep }
     {
         let answer = go_on(&self.index, &mut self.hand, &mut self.stage);
         if let Some(answer) = &answer {

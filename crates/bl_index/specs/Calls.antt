@@ -28,7 +28,7 @@ use Rattle.bl_index_rule.specs.Observed.{IsRelease}
 use Rattle.bl_index_events.specs.Refused.{LacksForPage, LacksForWrite, LacksForPost}
 use Rattle.bl_index.specs.declared.index.Index.{Index}
 use Rattle.bl_index.specs.declared.index.Pass.{Pass}
-use Rattle.bl_index_events.specs.Answered.{Answers, Adds, InCall}
+use Rattle.bl_index_events.specs.Answered.{Answers, SaysNothing, InCall}
 
 abbrev pub pages_of : Index → ℕ
 pages_of index = index.store.layout.pages
@@ -127,20 +127,20 @@ pub record Climbs (first : List (Option Page)) (pass : ℕ) (op : Op) (reply : R
 -- A post is answered: it says nothing of the map, and what its process has done is what its answer means with the hint beside it.
 -- It held no page when it latched one.
 pub record Posts (first : List (Option Page)) (pass level key : ℕ) (answer : Posted) (next : Option Hint) (old new : Trail) : Type 0 where
-  pub adds : Adds first pass old new
+  pub adds : SaysNothing first pass old new
   pub means : MeansPosted level key answer next (marks_of (name pass adds.number) new)
   pub latches : LatchesAlone (marks_of (name pass adds.number) new)
 
 -- A compression is answered: it says nothing of the map, and what its process has done is what its answer means with the hint
 -- beside it. When it latched a page it held the parent and the left child at most.
 pub record Compresses (first : List (Option Page)) (pass level key : ℕ) (answer : Squeezed) (next : Option Hint) (old new : Trail) : Type 0 where
-  pub adds : Adds first pass old new
+  pub adds : SaysNothing first pass old new
   pub means : MeansSqueezed level key answer next (marks_of (name pass adds.number) new)
   pub latches : LatchesBeside level key (marks_of (name pass adds.number) new)
 
 -- A lowering is answered: it says nothing of the map, and what its process has done is what its answer means. When it latched a
 -- page it held the anchor at most.
 pub record LowersTree (first : List (Option Page)) (pass : ℕ) (answer : Lowered) (old new : Trail) : Type 0 where
-  pub adds : Adds first pass old new
+  pub adds : SaysNothing first pass old new
   pub means : MeansLowered answer (marks_of (name pass adds.number) new)
   pub latches : LatchesBelowAnchor (marks_of (name pass adds.number) new)

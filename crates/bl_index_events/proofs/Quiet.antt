@@ -7,7 +7,7 @@ use Rattle.bl_proc_invariant.specs.Knowing.{Run, know, end_of_proc}
 use Rattle.bl_index_rule.specs.declared.known.PassState.{PassState}
 use Rattle.bl_claims.specs.Seeing.{own}
 use Rattle.bl_index_rule.specs.Observed.{Finishes}
-use Rattle.bl_index_events.specs.Answered.{Adds}
+use Rattle.bl_index_events.specs.Answered.{SaysNothing}
 use Rattle.bl_index_events.specs.Runs.{IsDone}
 use Rattle.bl_index_events.proofs.Calls.{since_end, since_said, end_seen}
 
@@ -18,7 +18,7 @@ first_of {a} {b} {c} {d} e = (let both : ◌≡◌ {A = ℕ × ℕ} (a, b) (c, d
 pub second_of : {a b c d : ℕ} → ◌≡◌ {A = Option (ℕ × ℕ)} (Some (a, b)) (Some (c, d)) → b ≡ d
 second_of {a} {b} {c} {d} e = (let both : ◌≡◌ {A = ℕ × ℕ} (a, b) (c, d) = cc in ap (λ (z : ℕ × ℕ). z.1) both)
 
-abbrev pub quiet_adds : (from : List (Option Page)) (pass : ℕ) (old e : PassState) (first last before : Proc) (d : IsDone pass old e first last) → old.first ≡ from → d.before ≡ before → end_of_proc before ≡ None → ((r : Run) → r.state ≡ before → (know r).said ≡ None) → Adds from pass old.trail e.trail
+abbrev pub quiet_adds : (from : List (Option Page)) (pass : ℕ) (old e : PassState) (first last before : Proc) (d : IsDone pass old e first last) → old.first ≡ from → d.before ≡ before → end_of_proc before ≡ None → ((r : Run) → r.state ≡ before → (know r).said ≡ None) → SaysNothing from pass old.trail e.trail
 quiet_adds from pass old e first last before d begins is end silent =
     let observed : Finishes None d.d e = subst (λ (z : Option Reply). Finishes z d.d e) (ap end_of_proc is ∙ end) d.observed in
     record {

@@ -6,7 +6,7 @@ use Rattle.bl_proc_steps.specs.declared.acts.Action.TheVariants as act
 use Rattle.bl_proc_steps.specs.declared.acts.Seen.{Seen}
 use Rattle.bl_proc.specs.declared.kinds.Proc.{Proc}
 use Rattle.bl_proc.specs.Processes.{next_of, needs_of}
-use Rattle.bl_proc_deterministic.specs.Frames.{frames_of, Wants, Leaves}
+use Rattle.bl_proc_deterministic.specs.Frames.{frames_wanted, Wants, Leaves}
 use Rattle.bl_proc_deterministic.specs.Retirements.{IsPutDone, RetiresAfter}
 use Rattle.bl_layout.specs.declared.layout.Layout.{Layout}
 use Rattle.bl_layout.specs.Words.{frame_count}
@@ -49,19 +49,19 @@ is_no_put (act.Put x page) what quiet put = quiet
 is_no_put action what quiet put = put
 
 -- without frames left, the stock is empty
-pub has_none : (h : H) (held : Option Stock) (p : Proc) (a : Action) → next_of p ≡ a → IsQuiet a → Wants (next_of p) (needs_of p) (frames_of p) → HasReserved h held p → HasNoStock h
+pub has_none : (h : H) (held : Option Stock) (p : Proc) (a : Action) → next_of p ≡ a → IsQuiet a → Wants (next_of p) (needs_of p) (frames_wanted p) → HasReserved h held p → HasNoStock h
 has_none h None p a next quiet wants has = has.1
-has_none h (Some stock) p a next quiet wants has = has.0.frames ∙ ap (drafts stock.frames) (has.1 ∙ had_none a (needs_of p) (frames_of p) quiet (subst (λ (o : Action). Wants o (needs_of p) (frames_of p)) next wants))
+has_none h (Some stock) p a next quiet wants has = has.0.frames ∙ ap (drafts stock.frames) (has.1 ∙ had_none a (needs_of p) (frames_wanted p) quiet (subst (λ (o : Action). Wants o (needs_of p) (frames_wanted p)) next wants))
 
-module _ (p q : Proc) (what : Seen) (a : Action) (next : next_of p ≡ a) (quiet : IsQuiet a) (leaves : Leaves (next_of p) (needs_of p) what (frames_of p) (frames_of q)) (retires : RetiresAfter (next_of p) what (next_of q)) where
-  none_after : frames_of q ≡ 0
-  none_after = leaves_none a (needs_of p) what (frames_of p) (frames_of q) quiet (subst (λ (o : Action). Leaves o (needs_of p) what (frames_of p) (frames_of q)) next leaves)
+module _ (p q : Proc) (what : Seen) (a : Action) (next : next_of p ≡ a) (quiet : IsQuiet a) (leaves : Leaves (next_of p) (needs_of p) what (frames_wanted p) (frames_wanted q)) (retires : RetiresAfter (next_of p) what (next_of q)) where
+  none_after : frames_wanted q ≡ 0
+  none_after = leaves_none a (needs_of p) what (frames_wanted p) (frames_wanted q) quiet (subst (λ (o : Action). Leaves o (needs_of p) what (frames_wanted p) (frames_wanted q)) next leaves)
 
   not_retiring : (x : ℕ) → next_of q ≢ act.Retire x
   not_retiring x is = is_no_put a what quiet (subst (λ (o : Action). IsPutDone o what) next (subst (λ (o : Action). RetiresAfter (next_of p) what o) is retires))
 
   -- what was reserved stays so
-  pub stays_reserved : (h h' : H) (held : Option Stock) → Wants (next_of p) (needs_of p) (frames_of p) → h'.me.0.layout ≡ h.me.0.layout → IsSameStock h h' → HasReserved h held p → HasReserved h' held q
+  pub stays_reserved : (h h' : H) (held : Option Stock) → Wants (next_of p) (needs_of p) (frames_wanted p) → h'.me.0.layout ≡ h.me.0.layout → IsSameStock h h' → HasReserved h held p → HasReserved h' held q
   stays_reserved h h' None wants layout same has = (none_after, same.0 ∙ has.1, not_retiring)
   stays_reserved h h' (Some stock) wants layout same has = (
     record {
@@ -70,7 +70,7 @@ module _ (p q : Proc) (what : Seen) (a : Action) (next : next_of p ≡ a) (quiet
       few = has.0.few;
       within = subst (λ (l : Layout). (k : ℕ) → k < stock.count → slice_index stock.frames k < frame_count l) (sym layout) has.0.within;
     },
-    has.1 ∙ (had_none a (needs_of p) (frames_of p) quiet (subst (λ (o : Action). Wants o (needs_of p) (frames_of p)) next wants) ∙ sym none_after),
+    has.1 ∙ (had_none a (needs_of p) (frames_wanted p) quiet (subst (λ (o : Action). Wants o (needs_of p) (frames_wanted p)) next wants) ∙ sym none_after),
     same.2 ∙ has.2,
   )
 

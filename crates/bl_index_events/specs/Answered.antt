@@ -22,7 +22,7 @@ pub record Answers (first : List (Option Page)) (pass : ℕ) (op : Op) (reply : 
   pub once : own pass new ≡ own pass old ++ record { pass = pass; op = op; reply = reply } ∷ []
 
 -- The same of a call that says nothing of the map.
-pub record Adds (first : List (Option Page)) (pass : ℕ) (old new : Trail) : Type 0 where
+pub record SaysNothing (first : List (Option Page)) (pass : ℕ) (old new : Trail) : Type 0 where
   pub number : ℕ
   pub holds : Holds (name pass number) None old new
   pub seen : IsLinearizable first new

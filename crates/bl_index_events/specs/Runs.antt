@@ -9,7 +9,7 @@ use Rattle.bl_proc_steps.specs.declared.acts.Action.TheVariants as act
 use Rattle.bl_proc_steps.specs.declared.acts.Seen.TheVariants as seen
 use Rattle.bl_proc_invariant.specs.Knowing.{end_of_proc}
 use Rattle.bl_proc_invariant.specs.Logs.{proc_log}
-use Rattle.bl_proc_deterministic.specs.Frames.{op_of, work_of, frames_of, Follows}
+use Rattle.bl_proc_deterministic.specs.Frames.{op_of, work_of, frames_wanted, Follows}
 use Rattle.bl_proc_steps.specs.declared.acts.Seen.{Seen}
 use Rattle.bl_store.specs.declared.store.Hand.{Hand}
 use Rattle.bl_store.specs.Owners.{IsHandOf}
@@ -83,8 +83,8 @@ Moves d e = (what : Seen) × Goes what d e
 -- The hand has reserved what this process has left: so many frames, in a stock if it has one, and with that leave to retire a
 -- page. A process that is to retire one has a stock.
 abbrev pub HasReserved : Seat (Unit {0}) (View PassState) → Option Stock → Proc → Type 0
-HasReserved h None p = (frames_of p ≡ 0) × HasNoStock h × ((x : ℕ) → next_of p ≢ act.Retire x)
-HasReserved h (Some stock) p = IsStockOf h stock × (stock.count ≡ frames_of p) × MayRetire h
+HasReserved h None p = (frames_wanted p ≡ 0) × HasNoStock h × ((x : ℕ) → next_of p ≢ act.Retire x)
+HasReserved h (Some stock) p = IsStockOf h stock × (stock.count ≡ frames_wanted p) × MayRetire h
 
 -- The process is to end, and is the last one then.
 pub record EndsAs (state last : Proc) : Type 0 where

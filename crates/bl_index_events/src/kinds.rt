@@ -12,7 +12,7 @@ pub trait Kind: Process + Reader {
     ghost use Rattle.bl_proc.specs.declared.kinds.Proc.{Proc};
     ghost use Rattle.bl_proc.specs.Processes.{next_of as next_in, needs_of as needs_in, answer_of as answer_in, Takes as TakesIn};
     ghost use Rattle.bl_proc_deterministic.specs.Courses.{GoesOn};
-    ghost use Rattle.bl_proc_deterministic.specs.Frames.{frames_of, Wants, Follows};
+    ghost use Rattle.bl_proc_deterministic.specs.Frames.{frames_wanted, Wants, Follows};
     ghost use Rattle.bl_proc_deterministic.specs.Retirements.{RetiresAfter};
 
     // The same process as one of any kind.
@@ -29,7 +29,7 @@ pub trait Kind: Process + Reader {
     ghost courses: { (p : Self) (what : Seen) → Self.Process.answer_of p ≡ None → Gives (Self.Process.next_of p) (Self.Process.needs_of p) what → GoesOn
         (proc_of p) what };
 
-    ghost wants: { (p : Self) → Wants (next_in (proc_of p)) (needs_in (proc_of p)) (frames_of (proc_of p)) };
+    ghost wants: { (p : Self) → Wants (next_in (proc_of p)) (needs_in (proc_of p)) (frames_wanted (proc_of p)) };
 
     ghost follows: { (p q : Self) (what : Seen) → Self.Process.Takes p what q → Follows (proc_of p) what (proc_of q) };
 

@@ -8,7 +8,7 @@ use Rattle.bl_proc_bounds.specs.Searches.{IsSearch}
 use Rattle.bl_index_rule.specs.declared.known.PassState.{PassState}
 use Rattle.bl_claims.specs.Seeing.{own}
 use Rattle.bl_index_rule.specs.Observed.{Finishes, MayGiveUp}
-use Rattle.bl_index_events.specs.Answered.{Adds}
+use Rattle.bl_index_events.specs.Answered.{SaysNothing}
 use Rattle.bl_index_events.specs.Runs.{IsSince}
 use Rattle.bl_index_events.proofs.Calls.{since_end, since_said, end_seen}
 
@@ -31,7 +31,7 @@ may_give_up state process is search silent = record {
     here : (r : Run) → r.state ≡ state → IsSilent (know_of r.got r.child r.time r.state)
     here r e = subst (λ (z : Proc). IsSilent (know_of r.got r.child r.time z)) (sym (e ∙ is)) (silent r.got r.child r.time)
 
-abbrev pub gives_up : (from : List (Option Page)) (pass : ℕ) (old d e : PassState) → old.first ≡ from → IsSince pass old d → MayGiveUp d.state → Finishes None d e → Adds from pass old.trail e.trail
+abbrev pub gives_up : (from : List (Option Page)) (pass : ℕ) (old d e : PassState) → old.first ≡ from → IsSince pass old d → MayGiveUp d.state → Finishes None d e → SaysNothing from pass old.trail e.trail
 gives_up from pass old d e begins s may t = record {
   number = old.number + 1;
   holds = since_end pass None old d e s t;

@@ -7,7 +7,7 @@ use Rattle.bl_claims.specs.Trails.{Trail, marks_of}
 use Rattle.bl_claims.specs.Bounds.{gets_of, puts_near, most_gets, IsWithinBound}
 use Rattle.bl_claims.specs.Latches.{OnlyLooks}
 use Rattle.bl_claims.specs.Seeing.{name}
-use Rattle.bl_index_events.specs.Answered.{Answers, Adds}
+use Rattle.bl_index_events.specs.Answered.{Answers, SaysNothing}
 use Rattle.bl_index_read.specs.declared.finding.OutOfTurns.{OutOfTurns}
 use Rattle.bl_model.specs.declared.operation.KeyReply.{KeyReply}
 use Rattle.bl_model.specs.Replies.{reply_of}
@@ -23,7 +23,7 @@ pub record Finds (first : List (Option Page)) (pages pass turns : ℕ) (op : Op)
 -- It ran out of so many turns and said nothing: it has got so many pages, which are fewer than its bound, and has latched and
 -- written nothing.
 pub record RunsOut (first : List (Option Page)) (pages pass turns : ℕ) (old new : Trail) : Type 0 where
-  pub adds : Adds first pass old new
+  pub adds : SaysNothing first pass old new
   pub bounded : IsWithinBound pages (name pass adds.number) new
   pub gets : gets_of (name pass adds.number) new ≡ turns
   pub below : gets_of (name pass adds.number) new < most_gets pages (puts_near (name pass adds.number) new)

@@ -29,7 +29,7 @@ use Rattle.bl_proc_writes.specs.declared.writing.WriteStage.TheVariants as write
 use Rattle.bl_proc.specs.Processes.{Takes}
 use Rattle.bl_proc_deterministic.proofs.WayCases.{ApproachCase, approach_case, EditCase, edit_case}
 use Rattle.bl_proc_deterministic.proofs.KindCases.{WriteCase, write_case, CompressCase, compress_case}
-use Rattle.bl_index_resume.specs.Holding.{HoldsNone, IsSlow, none_on_way, none_in_write, none_in_compress}
+use Rattle.bl_index_resume.specs.Holding.{HoldsNoPage, IsSlow, none_on_way, none_in_write, none_in_compress}
 use Rattle.bl_index_resume.specs.Stages.{Yields}
 use Rattle.bl_index_resume.proofs.Frees.{write_holds, compress_holds}
 
@@ -225,7 +225,7 @@ not_true : (b : Bool) → (b ≡ true → ⊥) → b ≡ false
 not_true true n = absurd (n refl)
 not_true false n = refl
 
-proc_nears : (p : Proc) (what : Seen) (q : Proc) → Takes p what q → IsBrief p → (HoldsNone p → ⊥) → HoldsNone q ⊎ (left_of q < left_of p)
+proc_nears : (p : Proc) (what : Seen) (q : Proc) → Takes p what q → IsBrief p → (HoldsNoPage p → ⊥) → HoldsNoPage q ⊎ (left_of q < left_of p)
 proc_nears (proc.Write p) what (proc.Write q) t brief not =
     let e = not_true (none_in_write p.stage) (λ is. not ((write_holds p).0 is)) in
     elim (write_nears (write_case p.key p.write p.stage what q.stage t.2) e) [ inl none ↦ inl ((write_holds q).0 none) | inr less ↦ inr less ]
@@ -261,9 +261,9 @@ brief_or_slow p = inr tt
 
 -- After so many events from the least on it holds none, or is soon to hold none.
 abbrev pub IsNear : Proc → ℕ → ℕ → Type 0
-IsNear p least event = IsBrief p → least < event → HoldsNone p ⊎ (left_of p + (event - least) < 12)
+IsNear p least event = IsBrief p → least < event → HoldsNoPage p ⊎ (left_of p + (event - least) < 12)
 
-pub near_on : (p q : Proc) (what : Seen) (least event : ℕ) → Takes p what q → IsNear p least event → (least ≤ event → HoldsNone p → ⊥) → IsNear q least (event + 1)
+pub near_on : (p q : Proc) (what : Seen) (least event : ℕ) → Takes p what q → IsNear p least event → (least ≤ event → HoldsNoPage p → ⊥) → IsNear q least (event + 1)
 near_on p q what least event t near not brief lt =
     let was = brief_before p what q t brief in
     let le : least ≤ event = omega arith in
@@ -274,7 +274,7 @@ near_on p q what least event t near not brief lt =
     elim (proc_nears p what q t was (not le)) [ inl none ↦ inl none | inr less ↦ inr (omega (arith, less, bound, le)) ]
 
 -- After 64 events it holds none.
-pub none_after : (p : Proc) (least event : ℕ) → event ≡ least + 64 → IsNear p least event → HoldsNone p ⊎ IsSlow p
+pub none_after : (p : Proc) (least event : ℕ) → event ≡ least + 64 → IsNear p least event → HoldsNoPage p ⊎ IsSlow p
 none_after p least event at near = elim (brief_or_slow p) [
   | inl brief ↦ elim (near brief (omega (arith, at))) [ inl none ↦ inl none | inr less ↦ absurd (omega (arith, at, less)) ]
   | inr slow ↦ inr slow

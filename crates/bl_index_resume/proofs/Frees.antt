@@ -32,7 +32,7 @@ use Rattle.bl_proc_invariant.specs.Compressing.{know_compression}
 use Rattle.bl_proc_invariant.specs.Knowing.{know_growth, write_aim, know_write, post_aim, know_post, know_compress, know_lower}
 use Rattle.bl_proc_invariant.specs.Lowering.{know_lowering}
 use Rattle.bl_proc_invariant.specs.Tables.{Aim, Carried, alone, unsaid, know_approach, know_edit}
-use Rattle.bl_index_resume.specs.Holding.{HoldsNone, none_on_way, none_in_growth, none_in_lowering, none_in_write, none_in_post, none_in_compress, none_in_lower}
+use Rattle.bl_index_resume.specs.Holding.{HoldsNoPage, none_on_way, none_in_growth, none_in_lowering, none_in_write, none_in_post, none_in_compress, none_in_lower}
 
 -- some page, as one that was got
 page : ℕ → Page
@@ -188,14 +188,14 @@ lower_free got (lower.Ending r) e = refl
 lower_free got (lower.Over r) e = refl
 
 -- each kind of process
-pub write_holds : (p : Write) → (none_in_write p.stage ≡ true) ↔ HoldsNone (proc.Write p)
+pub write_holds : (p : Write) → (none_in_write p.stage ≡ true) ↔ HoldsNoPage (proc.Write p)
 write_holds p = (λ e got child time. write_none [] p.key p.write got p.stage e, λ h. write_free [] p.key p.write page p.stage (h page 0 0))
 
-pub post_holds : (p : Post) → (none_in_post p.stage ≡ true) ↔ HoldsNone (proc.Post p)
+pub post_holds : (p : Post) → (none_in_post p.stage ≡ true) ↔ HoldsNoPage (proc.Post p)
 post_holds p = (λ e got child time. post_none p.level p.key got child p.stage e, λ h. post_free p.level p.key page 0 p.stage (h page 0 0))
 
-pub compress_holds : (p : Compress) → (none_in_compress p.stage ≡ true) ↔ HoldsNone (proc.Compress p)
+pub compress_holds : (p : Compress) → (none_in_compress p.stage ≡ true) ↔ HoldsNoPage (proc.Compress p)
 compress_holds p = (λ e got child time. compress_none p.level p.key got p.stage e, λ h. compress_free p.level p.key page p.stage (h page 0 0))
 
-pub lower_holds : (p : Lower) → (none_in_lower p.stage ≡ true) ↔ HoldsNone (proc.Lower p)
+pub lower_holds : (p : Lower) → (none_in_lower p.stage ≡ true) ↔ HoldsNoPage (proc.Lower p)
 lower_holds p = (λ e got child time. lower_none got p.stage e, λ h. lower_free page p.stage (h page 0 0))

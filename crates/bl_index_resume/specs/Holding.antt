@@ -20,8 +20,8 @@ use Rattle.bl_proc_writes.specs.declared.writing.WriteStage.TheVariants as write
 use Rattle.bl_proc_invariant.specs.Knowing.{know_of}
 
 -- it holds no page, whatever it has got
-abbrev pub HoldsNone : Proc → Type 0
-HoldsNone p = (got : ℕ → Page) (child time : ℕ) → (know_of got child time p).holds ≡ []
+abbrev pub HoldsNoPage : Proc → Type 0
+HoldsNoPage p = (got : ℕ → Page) (child time : ℕ) → (know_of got child time p).holds ≡ []
 
 -- It may hold a page for long: a post gets all pages between two that are listed while it holds their parent, and a lowering or a
 -- compression that waits tries a latch again. A write, and a compression that does not wait, hold none after 11 events at most.

@@ -20,7 +20,7 @@ use Rattle.bl_index_rule.specs.declared.known.PassState.{PassState}
 use Rattle.bl_index_events.specs.Held.{own_marks}
 use Rattle.bl_index_events.specs.declared.tree.Tree.{Tree}
 use Rattle.bl_index_events.specs.Runs.{Runs, Rests, IsSince, IsSameProcess, IsDone, HasReserved}
-use Rattle.bl_index_resume.specs.Holding.{HoldsNone, IsSlow}
+use Rattle.bl_index_resume.specs.Holding.{HoldsNoPage, IsSlow}
 use Rattle.bl_index_resume.specs.Rooms.{KnowsRoom, LacksRoom}
 use Rattle.bl_index_resume.specs.declared.stages.Stage.{Stage}
 use Rattle.bl_index_resume.specs.declared.stages.Stage.TheVariants as stage
@@ -117,7 +117,7 @@ pub record HasTurned (events : ℕ) (h h' : PassState) (process : Proc) : Type 0
   pub beside : ℕ
   pub most : beside ≤ 64
   pub made : length (own_marks h') ≡ length (own_marks h) + (events + beside)
-  pub free : HoldsNone process ⊎ (IsSlow process × (beside ≡ 64))
+  pub free : HoldsNoPage process ⊎ (IsSlow process × (beside ≡ 64))
 
 -- the same of what is underway, which is no compression that waits
 abbrev pub HasTurnedIn : ℕ → PassState → PassState → Stage → Type 0

@@ -1,7 +1,7 @@
 //! Whether a process holds a page, by how far it has come.
 
 ghost use Rattle.std.specs.Prelude.{◌≡◌, ◌↔◌, IsTrue};
-ghost use Rattle.bl_index_resume.specs.Holding.{HoldsNone, none_on_way, none_in_growth, none_in_lowering, none_in_write, none_in_post, none_in_compress, none_in_lower};
+ghost use Rattle.bl_index_resume.specs.Holding.{HoldsNoPage, none_on_way, none_in_growth, none_in_lowering, none_in_write, none_in_post, none_in_compress, none_in_lower};
 
 use bl_index_events::Kind;
 use bl_proc::{Compress, CompressStage, Lower, LowerStage};
@@ -11,11 +11,11 @@ use bl_proc_writes::{Post, PostStage, Write, WriteStage};
 /// A process of which can be told whether it holds a page.
 pub trait Holder: Kind {
     ghost use Rattle.std.specs.Prelude.{◌↔◌, IsTrue};
-    ghost use Rattle.bl_index_resume.specs.Holding.{HoldsNone};
+    ghost use Rattle.bl_index_resume.specs.Holding.{HoldsNoPage};
 
     /// Whether it holds no page: it is to begin or to end, or next gets a page without a latch, or latches one.
     fn holds_none(&self) -> bool
-        ensures { IsTrue result ↔ HoldsNone (Self.Kind.proc_of self.now) };
+        ensures { IsTrue result ↔ HoldsNoPage (Self.Kind.proc_of self.now) };
 }
 
 /// On its way.

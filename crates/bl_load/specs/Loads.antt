@@ -31,7 +31,7 @@ abbrev pub HasOneTop : List (Option Page) → Type 0
 HasOneTop pages = (level : ℕ) → level + 1 ≡ levels pages → IfSome (span_at pages (leftmost pages level)) (λ s. s.right ≡ 0)
 
 -- The pages have exactly these rows, whose keys rise, and are so full; one is the top.
-pub record Holds (fill : ℕ) (rows : List (ℕ × ℕ)) (pages : List (Option Page)) : Type 0 where
+pub record HoldsRows (fill : ℕ) (rows : List (ℕ × ℕ)) (pages : List (Option Page)) : Type 0 where
   pub rising : HasRisingKeys rows
   pub are_rows : AreRowsOf pages rows
   pub full : AllByRecursion (IsFull fill) pages

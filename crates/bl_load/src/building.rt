@@ -10,7 +10,7 @@ ghost use Rattle.bl_page.specs.Pages.{page_at};
 ghost use Rattle.bl_check.specs.Rules.{AreSound};
 ghost use Rattle.bl_check.specs.Rows.{AreRowsOf};
 ghost use Rattle.bl_page.specs.Pairs.{AreChildren};
-ghost use Rattle.bl_load.specs.Loads.{IsFull, Holds, HasOneTop, IsLoadable};
+ghost use Rattle.bl_load.specs.Loads.{IsFull, HoldsRows, HasOneTop, IsLoadable};
 ghost use Rattle.bl_model.specs.Rows.{HasRisingKeys};
 ghost use Rattle.bl_load.specs.Sizes.{pages_for, size_for, top_for};
 ghost use Rattle.bl_load.specs.Trees.{fan_for, MayList, IsPageAt, IsForest, AreListed, IsReady, IsLevel, IsCounted, HasRoomAbove, IsUnlinked, IsTree, IsPadded};
@@ -229,7 +229,7 @@ pub(crate) fn build(
     fill: usize,
 ) -> Result<Quiet, AllocError>
     requires { IsLoadable rows.now pages fill }
-    ensures holds { IfOk result (λ quiet. Holds fill rows.now quiet.image.pages.items) }
+    ensures holds { IfOk result (λ quiet. HoldsRows fill rows.now quiet.image.pages.items) }
     ensures pages { IfOk result (λ quiet. length quiet.image.pages.items ≡ pages) }
 {
     let mut tree = Tree::new(alloc, pages)?;

@@ -1,7 +1,7 @@
 //! The image of rows.
 
 ghost use Rattle.std.specs.Prelude.{◌≡◌, length, IfOk, IfErr};
-ghost use Rattle.bl_load.specs.Loads.{Holds, IsFaultOf};
+ghost use Rattle.bl_load.specs.Loads.{HoldsRows, IsFaultOf};
 
 use crate::building::build;
 use crate::fault::LoadFault;
@@ -20,7 +20,7 @@ pub fn image_of(
     pages: u32,
     fill: u32,
 ) -> Result<Quiet, LoadFault>
-    ensures rows { IfOk result (λ quiet. Holds fill rows.now quiet.image.pages.items) }
+    ensures rows { IfOk result (λ quiet. HoldsRows fill rows.now quiet.image.pages.items) }
     ensures pages { IfOk result (λ quiet. length quiet.image.pages.items ≡ pages) }
     ensures fault { IfErr result (IsFaultOf rows.now pages fill) }
 {

@@ -7,7 +7,7 @@ use Rattle.bl_index.specs.Closed.{AreOf, Closes, IsRefused}
 use Rattle.bl_index.specs.declared.config.CloseFault.{CloseFault}
 use Rattle.bl_index.specs.declared.config.OpenFault.{OpenFault}
 use Rattle.bl_index.specs.declared.index.Pass.{Pass}
-use Rattle.bl_load.specs.Loads.{Holds, IsFaultOf}
+use Rattle.bl_load.specs.Loads.{HoldsRows, IsFaultOf}
 use Rattle.bl_map.specs.declared.map.MapLoadFault.{MapLoadFault}
 use Rattle.bl_map.specs.declared.map.MapLoadFault.TheVariants as loading
 use Rattle.bl_map.specs.declared.handle.Handle.{Handle}
@@ -27,8 +27,8 @@ IsMapOpened pages among map seats = IsIndexOpened (record { pages = pages; passe
 abbrev pub IsOpenFault : ℕ → ℕ → OpenFault → Type 0
 IsOpenFault pages among why = IsLargeRefusal (record { pages = pages; passes = among }) why
 
-abbrev pub IsReopened : Quiet → ℕ → Map → List Pass → Type 0
-IsReopened quiet among map seats = IsIndexReopened quiet.image.pages.items among map.index seats
+abbrev pub IsMapReopened : Quiet → ℕ → Map → List Pass → Type 0
+IsMapReopened quiet among map seats = IsIndexReopened quiet.image.pages.items among map.index seats
 
 abbrev pub IsImageFault : ℕ → OpenFault → Type 0
 IsImageFault among why = IsImageRefusal among why
@@ -36,9 +36,9 @@ IsImageFault among why = IsImageRefusal among why
 -- The map is opened from a sound image of so many pages that has exactly these rows, and is so full.
 pub record IsLoaded (rows : List (ℕ × ℕ)) (pages fill among : ℕ) (map : Map) (seats : List Pass) : Type 0 where
   pub quiet : Quiet
-  pub held : Holds fill rows quiet.image.pages.items
+  pub held : HoldsRows fill rows quiet.image.pages.items
   pub count : length quiet.image.pages.items ≡ pages
-  pub opened : IsReopened quiet among map seats
+  pub opened : IsMapReopened quiet among map seats
 
 -- There is no such image, or the map was not opened from it.
 abbrev pub IsLoadFault : List (ℕ × ℕ) → ℕ → ℕ → ℕ → MapLoadFault → Type 0

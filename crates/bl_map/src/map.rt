@@ -1,7 +1,7 @@
 //! The map, which its threads share.
 
 ghost use Rattle.std.specs.Prelude.{◌≡◌, IfOk, IfErr};
-ghost use Rattle.bl_map.specs.Maps.{IsSeatOf, AreSeatsOf, IsNewHandle, IsMapOpened, IsOpenFault, IsReopened, IsImageFault, IsLoaded, IsLoadFault, IsClosed, IsBack};
+ghost use Rattle.bl_map.specs.Maps.{IsSeatOf, AreSeatsOf, IsNewHandle, IsMapOpened, IsOpenFault, IsMapReopened, IsImageFault, IsLoaded, IsLoadFault, IsClosed, IsBack};
 
 use crate::handle::Handle;
 use bl_check::Quiet;
@@ -46,7 +46,7 @@ impl Map {
         image: Quiet,
         seats: u32,
     ) -> Result<(Map, Vec<Pass>), (Quiet, OpenFault)>
-        ensures ok { IfOk result (λ t. IsReopened image seats t.0 t.1.items) }
+        ensures ok { IfOk result (λ t. IsMapReopened image seats t.0 t.1.items) }
         ensures seats { IfOk result (λ t. AreSeatsOf t.0 t.1.items) }
         ensures fault { IfErr result (λ t. (t.0 ≡ image) × IsImageFault seats t.1) }
     {

@@ -6,7 +6,7 @@ use Rattle.bl_model.specs.declared.operation.Entry.{Entry}
 use Rattle.bl_page.specs.declared.page.Page.{Page}
 use Rattle.bl_claims.specs.Trails.{Trail}
 use Rattle.bl_index.specs.Calls.{Sweeps}
-use Rattle.bl_index_events.specs.Answered.{Answers, Adds as AddsIn}
+use Rattle.bl_index_events.specs.Answered.{Answers, SaysNothing as AddsIn}
 use Rattle.bl_map_calls.specs.Works.{Works, Adds, Searches, Searched, NoneMade, OneLost, OneMade, Swept, Never, Again}
 use Rattle.bl_index_read.specs.Searching.{Finds, RunsOut}
 

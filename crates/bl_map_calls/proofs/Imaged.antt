@@ -5,7 +5,7 @@ use Rattle.std.specs.declared.alloc.AllocError.{AllocError}
 use Rattle.bl_page.specs.declared.page.Page.{Page}
 use Rattle.bl_check.specs.declared.quiet.Quiet.{Quiet}
 use Rattle.bl_claims.specs.Trails.{Trail}
-use Rattle.bl_load.specs.Loads.{Holds, IsFaultOf}
+use Rattle.bl_load.specs.Loads.{HoldsRows, IsFaultOf}
 use Rattle.bl_load.specs.declared.fault.LoadFault.{LoadFault}
 use Rattle.bl_load.specs.declared.fault.LoadFault.TheVariants as fault
 use Rattle.bl_map_calls.specs.Copies.{IsCopyOf, Copies}
@@ -13,7 +13,7 @@ use Rattle.bl_map_calls.specs.Scans.{Scanned}
 
 -- what is said of an image of all rows, of its pages and of its fault, is said together
 image_is : (rows : List (ℕ × ℕ)) (pages fill : ℕ) (done : Unit {0}) (result : Result Quiet LoadFault)
-    → IfOk result (λ quiet. Holds fill rows quiet.image.pages.items) → IfOk result (λ quiet. length quiet.image.pages.items ≡ pages)
+    → IfOk result (λ quiet. HoldsRows fill rows quiet.image.pages.items) → IfOk result (λ quiet. length quiet.image.pages.items ≡ pages)
     → IfErr result (IsFaultOf rows pages fill) → IsCopyOf {E = AllocError} rows pages fill (Ok done) result
 image_is rows pages fill done (Ok quiet) holds long wrong = ((holds, long), wrong)
 image_is rows pages fill done (Err e) holds long wrong = (holds, wrong)
@@ -30,7 +30,7 @@ module _ (first : List (Option Page)) (pages pass fill room : ℕ) (before rows 
   }
 
   pub copied_all : (done : Unit {0}) (given : List (ℕ × ℕ)) (count : ℕ) → listed ≡ Ok done → given ≡ rows → count ≡ pages
-      → IfOk result (λ quiet. Holds fill given quiet.image.pages.items) → IfOk result (λ quiet. length quiet.image.pages.items ≡ count)
+      → IfOk result (λ quiet. HoldsRows fill given quiet.image.pages.items) → IfOk result (λ quiet. length quiet.image.pages.items ≡ count)
       → IfErr result (IsFaultOf given count fill) → Copies first pages pass fill result old new
   copied_all done given count all same long holds sized wrong =
       let copy = image_is given count fill done result holds sized wrong in

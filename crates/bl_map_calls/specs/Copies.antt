@@ -4,7 +4,7 @@ use Rattle.std.specs.declared.alloc.AllocError.{AllocError}
 use Rattle.bl_page.specs.declared.page.Page.{Page}
 use Rattle.bl_check.specs.declared.quiet.Quiet.{Quiet}
 use Rattle.bl_claims.specs.Trails.{Trail}
-use Rattle.bl_load.specs.Loads.{Holds, IsFaultOf}
+use Rattle.bl_load.specs.Loads.{HoldsRows, IsFaultOf}
 use Rattle.bl_load.specs.declared.fault.LoadFault.{LoadFault}
 use Rattle.bl_load.specs.declared.fault.LoadFault.TheVariants as fault
 use Rattle.bl_map_calls.specs.Scans.{Scanned}
@@ -13,7 +13,7 @@ use Rattle.bl_map_calls.specs.Scans.{Scanned}
 -- image. Else there was no memory for the rows.
 abbrev pub IsCopyOf : {E : Type 0} → List (ℕ × ℕ) → ℕ → ℕ → Result (Unit {0}) E → Result Quiet LoadFault → Type 0
 IsCopyOf rows pages fill (Ok listed) result =
-    IfOk result (λ quiet. Holds fill rows quiet.image.pages.items × (length quiet.image.pages.items ≡ pages)) × IfErr result (IsFaultOf rows pages fill)
+    IfOk result (λ quiet. HoldsRows fill rows quiet.image.pages.items × (length quiet.image.pages.items ≡ pages)) × IfErr result (IsFaultOf rows pages fill)
 IsCopyOf rows pages fill (Err e) result = result ≡ Err fault.Memory
 
 -- The pass has scanned the whole map, and this is a copy of the rows that the scan listed.

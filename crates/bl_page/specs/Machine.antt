@@ -57,8 +57,8 @@ pub record IsAt {X A : Type 0} (x : X) (that : A) (old new : X → A) : Type 0 w
   pub at : new x ≡ that
   pub others : (y : X) → y ≢ x → new y ≡ old y
 
-abbrev pub IsRunning : {C : Type 0} → State C → Name → Type 0
-IsRunning s p = (since : ℕ) × (s.phase p ≡ Running since)
+abbrev pub IsUnderway : {C : Type 0} → State C → Name → Type 0
+IsUnderway s p = (since : ℕ) × (s.phase p ≡ Running since)
 
 abbrev pub HoldsNone : {C : Type 0} → State C → Name → Type 0
 HoldsNone s p = (x : ℕ) → s.owner x ≢ Held p
@@ -70,8 +70,8 @@ AllBeganAfter s time = (q : Name) (since : ℕ) → s.phase q ≡ Running since 
 -- When the event may happen: a look and a miss always.
 abbrev pub Enabled : {C A : Type 0} → State C → Name → Act C A → Type 0
 Enabled s p Begin = s.phase p ≡ Waiting
-Enabled s p (End answer) = IsRunning s p × HoldsNone s p
-Enabled s p (Get x) = IsRunning s p × (s.owner x ≢ Released)
+Enabled s p (End answer) = IsUnderway s p × HoldsNone s p
+Enabled s p (Get x) = IsUnderway s p × (s.owner x ≢ Released)
 Enabled s p (Put x c) = s.owner x ≡ Held p
 Enabled s p (Take x) = s.owner x ≡ Released
 Enabled s p (Latch x) = s.owner x ≡ Owner.Open

@@ -115,15 +115,15 @@ climb_frames (climb.Posting p) = post_frames p.stage
 climb_frames (climb.Ending r) = 0
 climb_frames (climb.Over r) = 0
 
-abbrev pub frames_of : Proc → ℕ
-frames_of (proc.Find p) = 0
-frames_of (proc.Write p) = write_frames p.stage
-frames_of (proc.Post p) = post_frames p.stage
-frames_of (proc.Part p) = 0
-frames_of (proc.Compress p) = compress_frames p.stage
-frames_of (proc.Reclaim p) = 0
-frames_of (proc.Lower p) = lower_frames p.stage
-frames_of (proc.InsertPost p) = climb_frames p.stage
+abbrev pub frames_wanted : Proc → ℕ
+frames_wanted (proc.Find p) = 0
+frames_wanted (proc.Write p) = write_frames p.stage
+frames_wanted (proc.Post p) = post_frames p.stage
+frames_wanted (proc.Part p) = 0
+frames_wanted (proc.Compress p) = compress_frames p.stage
+frames_wanted (proc.Reclaim p) = 0
+frames_wanted (proc.Lower p) = lower_frames p.stage
+frames_wanted (proc.InsertPost p) = climb_frames p.stage
 
 -- the operation that a process carries out, if it has one
 abbrev pub op_of : Proc → Option Op
@@ -185,7 +185,7 @@ Leaves (act.Release x) needs what before after = Unit {0}
 
 -- what follows when a process goes on
 pub record Follows (old : Proc) (what : Seen) (new : Proc) : Type 0 where
-  pub frames : Leaves (next_of old) (needs_of old) what (frames_of old) (frames_of new)
+  pub frames : Leaves (next_of old) (needs_of old) what (frames_wanted old) (frames_wanted new)
   pub begun : next_of new ≢ act.Begin
   pub op : op_of new ≡ op_of old
   pub work : work_of new ≡ work_of old

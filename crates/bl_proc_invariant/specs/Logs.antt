@@ -36,7 +36,7 @@ use Rattle.bl_proc_compress.specs.declared.compress.CompressReply.{CompressReply
 use Rattle.bl_proc_compress.specs.declared.compress.CompressReply.TheVariants as compressed
 use Rattle.bl_proc_compress.specs.declared.compress.CompressStage.{CompressStage}
 use Rattle.bl_proc_compress.specs.declared.compress.CompressStage.TheVariants as compress
-use Rattle.bl_claims.specs.Squeezed.{Since, AtParent, Once, HasMerged, HasEvened, HasEnough, HasUnposted, HasNoLevel, HasOneChild, LacksPlace}
+use Rattle.bl_claims.specs.Squeezed.{Since, GotParent, Once, HasMerged, HasEvened, HasEnough, HasUnposted, HasNoLevel, HasOneChild, LacksPlace}
 use Rattle.bl_proc_compress.specs.Compressions.{Decides, other}
 use Rattle.bl_model.specs.declared.deciding.KeyWrite.{KeyWrite}
 use Rattle.bl_model.specs.declared.deciding.Effect.{Effect}
@@ -231,7 +231,7 @@ to_last p = to_right p.at (put_act p.gains p ∷ Put p.at.parent p.parent ∷ pu
 
 -- these two children of its parent are compressed
 abbrev pub AtFamily : ℕ → ℕ → Trail → Family → List (Act Page Reply) → Type 0
-AtFamily level key marks f acts = AtParent level key marks f.at.parent f.parent (Some f) acts
+AtFamily level key marks f acts = GotParent level key marks f.at.parent f.parent (Some f) acts
 
 -- The left child was got, and was c; and the right one, which was d.
 pub record AtLeft (level key : ℕ) (marks : Trail) (f : Family) (c : Page) (acts : List (Act Page Reply)) : Type 0 where

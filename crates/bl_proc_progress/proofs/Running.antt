@@ -3,7 +3,7 @@ use Rattle.std.proofs.Common.{ℕ, ◌≡◌, ◌<◌, Some, None, List, [], ari
 use Rattle.std.proofs.lemmas.Bool.{cases_lt}
 use Rattle.bl_model.specs.declared.deciding.KeyWrite.{KeyWrite}
 use Rattle.bl_page.specs.declared.page.Page.{Page}
-use Rattle.bl_page.specs.Machine.{Name, IsRunning}
+use Rattle.bl_page.specs.Machine.{Name, IsUnderway}
 use Rattle.bl_page.specs.Machine.Owner.{Held}
 use Rattle.bl_tree_worlds.specs.Worlds.{Goes, Stage, World, IsStage, IsGood}
 use Rattle.bl_tree_worlds.specs.Worlds.Stage.{Busy}
@@ -138,7 +138,7 @@ busy_of got child time (proc.Compress a) some = compress_busy a.level a.key got 
 busy_of got child time (proc.Lower a) some = lower_busy got a.stage some
 busy_of got child time (proc.InsertPost a) some = climb_busy a.key a.placing a.path got child a.stage some
 
-pub holder_runs : (w : World Run) (p : Name) (x : ℕ) → IsGood know w → w.now.owner x ≡ Held p → IsRunning w.now p
+pub holder_runs : (w : World Run) (p : Name) (x : ℕ) → IsGood know w → w.now.owner x ≡ Held p → IsUnderway w.now p
 holder_runs w p x g held =
     let r = w.proc p in
     elim (cases_lt 0 (hold_of r.state)) [

@@ -2,7 +2,7 @@
 
 ghost use Rattle.std.specs.Prelude.{◌≡◌, ◌≢◌, ℕ, ◌<◌};
 ghost use Rattle.bl_page.specs.declared.page.Page.{Page as PageSpec};
-ghost use Rattle.bl_page.specs.Machine.{Name, IsRunning};
+ghost use Rattle.bl_page.specs.Machine.{Name, IsUnderway};
 ghost use Rattle.bl_page.specs.Machine.Owner.{Held};
 ghost use Rattle.bl_tree_worlds.specs.Worlds.{World, IsGood};
 ghost use Rattle.bl_proc_steps.specs.declared.acts.Action.TheVariants as act;
@@ -34,7 +34,7 @@ pub fn no_circle()
 /// latch of a child and a get by which a post walks on.
 pub fn holds_end()
     ensures none { (w : World Run) (p : Name) (x : ℕ) → IsGood know w → hold_of (w.proc p).state ≡ 0 → w.now.owner x ≢ Held p }
-    ensures runs { (w : World Run) (p : Name) (x : ℕ) → IsGood know w → w.now.owner x ≡ Held p → IsRunning w.now p }
+    ensures runs { (w : World Run) (p : Name) (x : ℕ) → IsGood know w → w.now.owner x ≡ Held p → IsUnderway w.now p }
     ensures nears { (old new : ProcSpec) (what : SeenSpec) → Takes old what new → 0 < hold_of old → Nears (hold_of old) what (hold_of new) }
 {}
 

@@ -5,7 +5,7 @@ use lib.ListN.{get_elem?}
 use Rattle.bl_index.specs.Calls.{pages_of, passes_of}
 use Rattle.bl_index.specs.Closed.{HasCapacity}
 use Rattle.bl_index.specs.declared.index.Index.{Index}
-use Rattle.bl_ffi_seats.specs.Closed.{values, IsAt}
+use Rattle.bl_ffi_seats.specs.Closed.{values, IsAtIndex}
 use Rattle.bl_ffi_seats.specs.declared.seat.Seat.{Seat}
 use Rattle.std.specs.Prelude.{All}
 use Rattle.bl_ffi_seats.proofs.Closings.{Boxed, at_one, all_lack, value_at, first_there, count_of, all_complete, map_length}
@@ -27,7 +27,7 @@ returns-in-Ok-try_clone-clause-ok c =
     let share : arc_value c.in-Ok-try_clone.index ≡ index = c.in-Ok-try_clone.ensures ∙ ap (λ (z : Seat). arc_value z.index) c.deref-6.ensures in
     let room : c.deref-5.result.now ≡ index = c.deref-5.ensures ∙ ap (λ (z : Seat). arc_value z.index) c.deref-4.ensures in
     record {
-      at = subst (λ (z : Index). All (IsAt z) (values seats)) (sym share) (at_one (values seats) 0 box.value there c.requires);
+      at = subst (λ (z : Index). All (IsAtIndex z) (values seats)) (sym share) (at_one (values seats) 0 box.value there c.requires);
       all = λ n lt. c.if-not-has_all.ensures.yes refl n (let low : n < passes_of index = subst (λ (z : Index). n < passes_of z) share lt in omega (arith, low, count));
       empty = c.in-Ok-with_capacity.ensures.items;
       fits = (let cap = c.in-Ok-with_capacity.ensures.capacity in let long = map_length (λ (z : Boxed). z.value) seats in omega (arith, cap, long));

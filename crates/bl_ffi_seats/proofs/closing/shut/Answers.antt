@@ -9,7 +9,7 @@ use Rattle.bl_index_events.specs.declared.tree.Tree.{Tree}
 use Rattle.bl_index_resume.specs.declared.stages.Stage.{Stage}
 use Rattle.bl_index_resume.specs.declared.stages.Stage.TheVariants as stage
 use Rattle.bl_index_resume.specs.Stages.{Stands, IsAtRest}
-use Rattle.bl_ffi_seats.specs.Closed.{values, IsAt, AreAll}
+use Rattle.bl_ffi_seats.specs.Closed.{values, IsAtIndex, AreAll}
 use Rattle.bl_ffi_seats.specs.declared.seat.Seat.{Seat}
 use Rattle.bl_ffi_seats.proofs.Closings.{one_given, first_rests, all_given, each_hand}
 use Rattle.bl_ffi_seats.proofs.Made.{first_taken}
@@ -44,6 +44,6 @@ returns-in-Ok-clause-ok c =
     let is = all_given (arc_value c.args.prepared.index) (values c.args.seats.items) c.loop-seats.seats.items c.loop-seats.hands.items none c.loop-seats.invariant.given in
     record {
       index = c.in-Ok.index;
-      at = subst (λ (z : Index). All (IsAt z) (values c.args.seats.items)) (sym c.in-Ok.ensures.ok) c.requires.prepared.at;
+      at = subst (λ (z : Index). All (IsAtIndex z) (values c.args.seats.items)) (sym c.in-Ok.ensures.ok) c.requires.prepared.at;
       closes = subst (λ (z : List (Hand PassState)). ClosesHands c.in-Ok.index z c.close_hands.result.image.pages.items) is c.close_hands.ensures;
     }

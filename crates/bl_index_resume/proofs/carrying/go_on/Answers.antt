@@ -10,7 +10,7 @@ use Rattle.bl_claims.specs.Seeing.{name}
 use Rattle.bl_index_events.specs.Runs.{IsSince}
 use Rattle.bl_index_events.proofs.Calls.{since_step}
 use Rattle.std.proofs.lemmas.Bool.{false≢true}
-use Rattle.bl_index_resume.specs.Holding.{HoldsNone}
+use Rattle.bl_index_resume.specs.Holding.{HoldsNoPage}
 use Rattle.bl_index_resume.proofs.Briefs.{near_on, none_after, yields_on}
 use Rattle.bl_index_resume.proofs.Marks.{more_marks}
 use Rattle.bl_proc_steps.specs.declared.acts.Seen.TheVariants as seen
@@ -30,7 +30,7 @@ loop-event-preserved g c =
     let inv = c.loop-event.invariant in
     let after = c.in-On.ensures.after in
     let follows = after.3.1 in
-    let held : c.from-least.result ≤ c.loop-event.event → HoldsNone (g.P.Kind.proc_of c.loop-event.process) → ⊥ = elim c.else-event-least.branch [
+    let held : c.from-least.result ≤ c.loop-event.event → HoldsNoPage (g.P.Kind.proc_of c.loop-event.process) → ⊥ = elim c.else-event-least.branch [
       | else-event-least-via-then-event-least+else-holds_none w ↦ (λ le none. false≢true (sym w.if-holds_none.false ∙ w.holds_none.ensures.1 none))
       | else-event-least-via-else-event-least w ↦ (λ le none. absurd (let lt = w.if-event-least.false in omega (arith, lt, le)))
     ] in

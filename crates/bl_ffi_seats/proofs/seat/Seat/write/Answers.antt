@@ -6,7 +6,7 @@ use Rattle.bl_answers.specs.declared.answers.Answer.{Answer}
 use Rattle.bl_answers.specs.declared.answers.Answer.TheVariants as answers
 use Rattle.bl_index_resume.specs.Stages.{op_in}
 use Rattle.bl_ffi_seats.specs.Seats.{HasAnswered, reply_in}
-use Rattle.bl_ffi_seats.specs.Waits.{IsLeft}
+use Rattle.bl_ffi_seats.specs.Waits.{KeepsWhatIsLeft}
 use Rattle.bl_ffi_seats.specs.Accounts.{HasGone}
 use Rattle.bl_ffi_seats.specs.Calls.{HasTold, HasGoneOnOrBegun, account_of, seat_number}
 use Rattle.bl_ffi_seats.specs.Tended.{HasToWait, HasPrepared, HasChanged}
@@ -40,7 +40,7 @@ returns-in-Some-clause-changed c =
     let so = is_op (seat_number mid) op (op_in mid.stage) c.in-Some.answer (account_of mid).told (account_of new).told about ends.1 in
     let whole : c.go_on.result ≡ Some (answers.Op so.0 so.1) = c.in-Some.is ∙ ap (λ (z : Answer). Some z) so.2 in
     let said : c.reply_in.result ≡ Some so.0 = c.reply_in.ensures ∙ ap reply_in so.2 in
-    let left : IsLeft (Some (answers.Op so.0 so.1)) mid.upkeep new.upkeep = subst (λ (z : Option Answer). IsLeft z mid.upkeep new.upkeep) whole c.go_on.ensures.left in
+    let left : KeepsWhatIsLeft (Some (answers.Op so.0 so.1)) mid.upkeep new.upkeep = subst (λ (z : Option Answer). KeepsWhatIsLeft z mid.upkeep new.upkeep) whole c.go_on.ensures.left in
     let changed : HasChanged c.args.key c.args.write so.0 old new = record {
       hint = so.1;
       written = written_of c.args.key c.args.write mid.stage new.hand so.0 so.1 came.0 (subst (HasAnswered new.hand mid.stage) whole c.go_on.ensures.answers);
