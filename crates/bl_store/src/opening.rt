@@ -134,6 +134,7 @@ impl<D> Hand<D> {
             gone: [0; RING],
             leaving: 0,
             puts: 0,
+            sweeps: 0,
             apart: [0; APART],
         }
     }
