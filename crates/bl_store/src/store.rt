@@ -8,9 +8,9 @@ ghost use Rattle.bl_store.specs.Hands.{known, read_words, IsIdle, IsRunning, IsS
 ghost use Rattle.bl_store_rule.specs.declared.view.Reading.TheVariants.{At};
 ghost use Rattle.bl_store_rule.specs.declared.view.Sealing.TheVariants.{Unsealed};
 
-use crate::room::Room;
 use atomic_table::{Seat, Table};
 use bl_layout::{Layout, PROCESS_CELLS};
+use bl_room::Room;
 use bl_store_rule::plays::{Clock, Copy, Enter, Leave, Look, Raise, Renew};
 use bl_store_rule::{Framed, Ground, PagePlay, PageRule, TimePlay, View};
 use std::alloc::{Allocator, Global};
