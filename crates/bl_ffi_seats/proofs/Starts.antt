@@ -7,9 +7,11 @@ use Rattle.bl_answers.specs.declared.answers.Hint.{Hint}
 use Rattle.bl_answers.specs.declared.answers.Hint.TheVariants as hint
 use Rattle.bl_store.specs.declared.store.Hand.{Hand}
 use Rattle.bl_store.specs.Hands.{known}
+use Rattle.bl_store.specs.Sweeps.{HasSweptOnce}
 use Rattle.bl_index_rule.specs.declared.known.PassState.{PassState}
 use Rattle.bl_index_rule.specs.Observed.{sweeps}
 use Rattle.bl_index_events.specs.Runs.{IsSince}
+use Rattle.bl_index.specs.Calls.{Sweeps}
 use Rattle.bl_index.proofs.Released.{sweep_tells}
 use Rattle.bl_index_resume.specs.declared.stages.Stage.{Stage}
 use Rattle.bl_index_resume.specs.declared.stages.Stage.TheVariants as stage
@@ -46,11 +48,11 @@ module _ (hand hand' : Hand PassState) (since : IsSince hand.number (known hand.
 
 module _ (hand hand' : Hand PassState) (num : hand'.number ≡ hand.number) (count among pages answer : ℕ) (next : (known hand.seat).number + 1 ≡ count) (few : pages ≤ answer)
     (does : sweeps hand.number count among (known hand.seat) pages (known hand'.seat)) where
-  released : HasReleased answer stage.Rests hand hand'
+  released : Sweeps (known hand.seat).first hand.number answer (known hand.seat).trail (known hand'.seat).trail
   released = sweep_tells (known hand.seat).first hand.number count among pages answer (known hand.seat) (known hand'.seat) refl next few does
 
-  pub swept : (s : Stage) → s ≡ stage.Rests → HasReleased answer s hand hand'
-  swept s rests = subst (λ (z : Stage). HasReleased answer z hand hand') (sym rests) released
+  pub swept : HasSweptOnce hand hand' → (s : Stage) → s ≡ stage.Rests → HasReleased answer s hand hand'
+  swept once s rests = subst (λ (z : Stage). HasReleased answer z hand hand') (sym rests) (released, once)
 
   pub sweep_goes : GoesOnFrom (known hand.seat).trail (known hand'.seat).trail
   sweep_goes = (released.more, released.begins)

@@ -17,6 +17,7 @@ use Rattle.bl_answers.specs.declared.answers.Posted.{Posted}
 use Rattle.bl_answers.specs.declared.answers.Posted.TheVariants as posted
 use Rattle.bl_store.specs.declared.store.Hand.{Hand}
 use Rattle.bl_store.specs.Hands.{known}
+use Rattle.bl_store.specs.Sweeps.{HasSweptOnce}
 use Rattle.bl_index_rule.specs.declared.known.PassState.{PassState}
 use Rattle.bl_index_read.specs.Searching.{RunsOut}
 use Rattle.bl_index_events.specs.Answered.{Answers}
@@ -96,7 +97,8 @@ abbrev pub HasAnswered : Hand PassState → Stage → Option Answer → Type 0
 HasAnswered hand (stage.Writes p held) answer = IfWritten hand p.key p.write answer
 HasAnswered hand other answer = Unit {0}
 
--- Something was underway, and nothing is done; or the hand has swept, and was answered how many pages and frames are released.
+-- Something was underway, and nothing is done; or the hand has swept once, and was answered how many pages and frames are released.
 abbrev pub HasReleased : ℕ → Stage → Hand PassState → Hand PassState → Type 0
-HasReleased answer stage.Rests old new = Sweeps (known old.seat).first old.number answer (known old.seat).trail (known new.seat).trail
+HasReleased answer stage.Rests old new =
+    Sweeps (known old.seat).first old.number answer (known old.seat).trail (known new.seat).trail × HasSweptOnce old new
 HasReleased answer other old new = (answer ≡ 0) × (new ≡ old)

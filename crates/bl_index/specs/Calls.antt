@@ -23,6 +23,7 @@ use Rattle.bl_claims.specs.Squeezed.{MeansSqueezed}
 use Rattle.bl_claims.specs.Lowered.{MeansLowered}
 use Rattle.bl_layout.specs.Words.{frame_count}
 use Rattle.bl_store.specs.Hands.{known, WasRefused}
+use Rattle.bl_store.specs.Sweeps.{IsAllSwept, HasSweptOnce}
 use Rattle.bl_claims.specs.Seeing.{first_map, IsLinearizable, own, name}
 use Rattle.bl_index_rule.specs.Observed.{IsRelease}
 use Rattle.bl_index_events.specs.Refused.{LacksForPage, LacksForWrite, LacksForPost}
@@ -103,6 +104,14 @@ pub record Sweeps (first : List (Option Page)) (pass answer : ℕ) (old new : Tr
   pub few : length (marks_of (name pass number) more) ≤ answer
   pub seen : IsLinearizable first old → IsLinearizable first new
   pub none : own pass new ≡ own pass old
+
+-- no frame that the pass has retired came after its last sweep
+abbrev pub AllSwept : Pass → Type 0
+AllSwept pass = IsAllSwept pass.hand
+
+-- It has swept once more, and has retired no frame since.
+abbrev pub SweptOnce : Pass → Pass → Type 0
+SweptOnce old new = HasSweptOnce old.hand new.hand
 
 -- An insertion, a put, a deletion or a change is answered, and its process has written what its reply means with the hint beside it. It
 -- held no page when it latched one.

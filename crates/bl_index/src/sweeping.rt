@@ -6,7 +6,7 @@ use crate::index::{Index, Pass};
 
 impl Index {
     ghost use Rattle.bl_claims.specs.Seeing.{IsSeen};
-    ghost use Rattle.bl_index.specs.Calls.{first_of, IsPassOf, IsSamePass, number_of, trail, released_by, Sweeps};
+    ghost use Rattle.bl_index.specs.Calls.{first_of, IsPassOf, IsSamePass, number_of, trail, released_by, Sweeps, SweptOnce};
 
     /// Releases pages and frames that no process can read any more: each was retired before every process began that still
     /// runs. Returns how many.
@@ -16,6 +16,7 @@ impl Index {
         ensures sweeps { Sweeps (first_of self.now) (number_of pass.old) result (trail pass.old) (trail pass.new) }
         ensures seen { ∥ IsSeen (first_of self.now) (trail pass.new) ∥₁ }
         ensures count { released_by pass.new ≡ released_by pass.old + result }
+        ensures swept { SweptOnce pass.old pass.new }
     {
         self.tree.sweep(&mut pass.hand)
     }

@@ -3,6 +3,7 @@
 ghost use Rattle.std.specs.Prelude.{◌≡◌, ℕ, ◌+◌, ◌≤◌, false};
 ghost use Rattle.bl_store.specs.Hands.{known};
 ghost use Rattle.bl_store.specs.Owners.{IsHandOf};
+ghost use Rattle.bl_store.specs.Sweeps.{HasSweptOnce};
 ghost use Rattle.bl_index_rule.specs.Observed.{sweeps};
 ghost use Rattle.bl_index_events.specs.Runs.{KeepsHand, IsWithin};
 
@@ -22,6 +23,7 @@ impl Tree {
         ensures observed { (pages : ℕ) × (pages ≤ result) × sweeps J.pass J.number J.passes (known hand.old.seat) pages (known hand.new.seat) }
         ensures within { IsWithin hand.new.seat }
         ensures count { hand.new.seat.me.0.releases ≡ hand.old.seat.me.0.releases + result }
+        ensures swept { HasSweptOnce hand.old hand.new }
     {
         self.store.sweep::<Swept<J>>(hand)
     }
@@ -36,6 +38,7 @@ impl Tree {
             (known hand.old.seat) pages (known hand.new.seat) }
         ensures within { IsWithin hand.new.seat }
         ensures count { hand.new.seat.me.0.releases ≡ hand.old.seat.me.0.releases + result }
+        ensures swept { HasSweptOnce hand.old hand.new }
     {
         self.release::<Brand>(hand)
     }

@@ -2,6 +2,7 @@
 
 ghost use Rattle.std.specs.Prelude.{◌≡◌, ℕ, ◌+◌, ◌≤◌};
 ghost use Rattle.bl_store.specs.Hands.{known, IsSameHand};
+ghost use Rattle.bl_store.specs.Sweeps.{HasSweptOnce};
 ghost use Rattle.bl_index_rule.specs.Observed.{sweeps};
 ghost use Rattle.bl_index_resume.specs.Stages.{IsAtRest};
 
@@ -17,6 +18,7 @@ pub fn sweep(tree: &Tree, hand: &mut Hand<PassState>) -> u32
     ensures observed { (pages : ℕ) × (pages ≤ result) × sweeps hand.old.number ((known hand.old.seat).number + 1) tree.now.store.layout.passes
         (known hand.old.seat) pages (known hand.new.seat) }
     ensures count { hand.new.seat.me.0.releases ≡ hand.old.seat.me.0.releases + result }
+    ensures swept { HasSweptOnce hand.old hand.new }
 {
     tree.sweep(hand)
 }

@@ -30,7 +30,8 @@ use Rattle.bl_proc_invariant.specs.Knowing.{Run, know}
 use Rattle.bl_proc_invariant.proofs.Middles.{KeepsLogs}
 use Rattle.bl_proc_bounds.proofs.Kept.{first_kept}
 use Rattle.bl_store_rule.specs.Pages.{Owner, Stage, Idle}
-use Rattle.bl_store.specs.Opening.{is_blank, first_owner, first_pages}
+use Rattle.bl_room.specs.Blanks.{is_blank}
+use Rattle.bl_store.specs.Opening.{first_owner, first_pages}
 use Rattle.bl_index_rule.specs.declared.known.PassState.{PassState}
 use Rattle.bl_claims.specs.Seeing.{first_map, BeginsFrom, IsSeen, name}
 use Rattle.bl_index_rule.specs.Simulation.{unborn, beginner, Shows, owner_in, IsHand, Simulates}

@@ -6,7 +6,7 @@ use Rattle.bl_model.specs.declared.operation.Op.{Op}
 use Rattle.bl_model.specs.declared.operation.Reply.{Reply}
 use Rattle.bl_page.specs.declared.page.Page.{Page}
 use Rattle.bl_claims.specs.Trails.{Trail}
-use Rattle.bl_index.specs.Calls.{first_of, pages_of, frames_of, IsPassOf, IsSamePass, number_of, trail, released_by}
+use Rattle.bl_index.specs.Calls.{first_of, pages_of, frames_of, IsPassOf, IsSamePass, number_of, trail, released_by, AllSwept, SweptOnce}
 use Rattle.bl_index.specs.Meetings.{Meet}
 use Rattle.bl_index.specs.declared.index.Index.{Index}
 use Rattle.bl_index.specs.declared.index.Pass.{Pass}
@@ -119,6 +119,14 @@ HasFollowed hint result old new = FollowsHint (first_map_of old) (number_of_seat
 -- It has swept, as often as it may be.
 abbrev pub HasSwept : Handle → Handle → Type 0
 HasSwept old new = Swept (first_map_of old) (number_of_seat old) (seen_by old) (seen_by new)
+
+-- No frame that it has retired came after its last sweep.
+abbrev pub IsAllSwept : Handle → Type 0
+IsAllSwept handle = AllSwept handle.pass
+
+-- It has swept once more, and has retired no frame since.
+abbrev pub HasSweptOnce : Handle → Handle → Type 0
+HasSweptOnce old new = SweptOnce old.pass new.pass
 
 -- The handle has made no call.
 abbrev pub HasKeptUp : Handle → Handle → Type 0

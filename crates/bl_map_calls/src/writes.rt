@@ -2,7 +2,7 @@
 
 ghost use Rattle.std.specs.Prelude.{◌≡◌};
 ghost use Rattle.bl_model.specs.declared.operation.KeyReply.TheVariants as replies;
-ghost use Rattle.bl_index.specs.Calls.{first_of, IsPassOf, IsSamePass, number_of, trail};
+ghost use Rattle.bl_index.specs.Calls.{first_of, IsPassOf, IsSamePass, number_of, trail, AllSwept};
 ghost use Rattle.bl_model.specs.Replies.{reply_of};
 ghost use Rattle.bl_model.specs.Writes.{write_op};
 ghost use Rattle.bl_map_calls.specs.Works.{FoundNoRoom};
@@ -93,6 +93,7 @@ pub fn try_again<R: Wait>(rt: &R, index: &Index, pass: &mut Pass, waiting: &mut 
     requires { IsPassOf index.now pass.old }
     ensures same { IsSamePass pass.old pass.new }
     ensures tries { TriesAgain (first_of index.now) (number_of pass.old) most waiting.old waiting.new (trail pass.old) (trail pass.new) }
+    ensures swept { AllSwept pass.new }
 {
     try_some(rt, index, pass, waiting, most);
     index.sweep(pass);

@@ -25,7 +25,8 @@ use mathlib.Core.Option.{some-ne-none}
 use Rattle.atomic_table.proofs.Lists.{at_snoc, at_map, at_longer, at_last}
 use Rattle.atomic_table.specs.Seated.{TableId}
 use Rattle.bl_store.specs.declared.store.Hand.{Hand}
-use Rattle.bl_store.specs.Opening.{is_blank, first_owner, first_pages, padded, Laid, IsDealt}
+use Rattle.bl_room.specs.Blanks.{is_blank}
+use Rattle.bl_store.specs.Opening.{first_owner, first_pages, padded, Laid, IsDealt}
 use Rattle.bl_store_rule.proofs.Putting.{first_put, shows_put}
 
 module _ {A : Type 0} where

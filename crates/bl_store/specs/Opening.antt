@@ -1,18 +1,14 @@
 -- A store at its start.
-use Rattle.std.specs.Prelude.{◌≡◌, ℕ, ◌+◌, ◌-◌, ◌++◌, ◌<◌, ◌≤◌, ◌==◌, Bool, if◌then◌else◌, List, length, map, replicate}
-use Rattle.std.specs.List.{list_all}
+use Rattle.std.specs.Prelude.{◌≡◌, ℕ, ◌+◌, ◌-◌, ◌++◌, ◌<◌, ◌≤◌, if◌then◌else◌, List, length, map, replicate}
 use mathlib.Core.Option.{some}
 use lib.ListN.{get_elem?}
 use Rattle.bl_layout.specs.declared.layout.Layout.{Layout}
 use Rattle.bl_layout.specs.Words.{frame_count}
+use Rattle.bl_room.specs.Blanks.{is_blank}
 use Rattle.bl_store_rule.specs.Pages.{Owner, Released, Open, Idle, Pages, IsOrderly}
 use Rattle.bl_store_rule.specs.Frames.{Frame, free, Shows, share}
 use Rattle.atomic_table.specs.Seated.{TableId}
 use Rattle.bl_store.specs.declared.store.Hand.{Hand}
-
--- whether a page has only zeros
-abbrev pub is_blank : List ℕ → Bool
-is_blank words = list_all (λ w. w == 0) words
 
 abbrev pub first_owner : List ℕ → Owner
 first_owner words = if is_blank words then Released else Open

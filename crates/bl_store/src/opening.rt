@@ -2,13 +2,14 @@
 ghost use Rattle.std.specs.Prelude.{◌≡◌, ℕ, ◌+◌, ◌<◌, ◌≤◌, ◌^◌, false, [], length, replicate, slice_index_or, IfOk};
 ghost use Rattle.bl_layout.specs.Cells.{cell_count};
 ghost use Rattle.bl_store_rule.specs.Frames.{share};
-ghost use Rattle.bl_store.specs.Opening.{first_pages, padded, is_blank, Laid, IsDealt};
+ghost use Rattle.bl_room.specs.Blanks.{is_blank};
+ghost use Rattle.bl_store.specs.Opening.{first_pages, padded, Laid, IsDealt};
 ghost use Rattle.bl_store_rule.specs.declared.view.Sealing.TheVariants.{Unsealed};
 
-use crate::room::{Room, first_frame};
 use crate::store::{APART, Hand, RING, Store};
 use atomic_table::{Seat, Split, Table};
 use bl_layout::Layout;
+use bl_room::{Room, first_frame, is_all_zeros};
 use bl_store_rule::{Ground, PageRule, View};
 use std::alloc::{AllocError, Global};
 use std::mem;
@@ -134,6 +135,7 @@ impl<D> Hand<D> {
             gone: [0; RING],
             leaving: 0,
             puts: 0,
+            sweeps: 0,
             apart: [0; APART],
         }
     }
@@ -166,10 +168,4 @@ fn lay_page(layout: Layout, first: &[[u64; 32]], page: u32, words: &mut [u64])
     }
     words[layout.page_cell(page)] = page as u64 + 1;
     words[layout.page_owner_cell(page)] = 1;
-}
-
-pub(crate) fn is_all_zeros(words: &[u64; 32]) -> bool
-    ensures { result ≡ is_blank words.now }
-{
-    words.iter().all(|word| *word == 0)
 }

@@ -6,10 +6,10 @@ ghost use Rattle.bl_store_rule.specs.Frames.{owner_at};
 ghost use Rattle.bl_store_rule.specs.Observed.{wanted};
 ghost use Rattle.bl_store.specs.Hands.{known, IsSameHand, IsSameReading, IsSameStamp, IsSameStock, IsQuiet, HasNoStock, IsStockOf, MayRetire, SawTaken, IsTried, IsWhy, WasRefused};
 
-use crate::room::end_near;
 use crate::stock::{NoRoom, Stock};
 use crate::store::{Hand, RING, Store};
 use bl_layout::held_by;
+use bl_room::end_near;
 use bl_store_rule::plays::{Allot, Ask, Note, Refuse, Reserve, Return, Take};
 use bl_store_rule::{PagePlay, PageRule, TimePlay};
 use std::alloc::Allocator;

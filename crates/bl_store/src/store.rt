@@ -8,9 +8,9 @@ ghost use Rattle.bl_store.specs.Hands.{known, read_words, IsIdle, IsRunning, IsS
 ghost use Rattle.bl_store_rule.specs.declared.view.Reading.TheVariants.{At};
 ghost use Rattle.bl_store_rule.specs.declared.view.Sealing.TheVariants.{Unsealed};
 
-use crate::room::Room;
 use atomic_table::{Seat, Table};
 use bl_layout::{Layout, PROCESS_CELLS};
+use bl_room::Room;
 use bl_store_rule::plays::{Clock, Copy, Enter, Leave, Look, Raise, Renew};
 use bl_store_rule::{Framed, Ground, PagePlay, PageRule, TimePlay, View};
 use std::alloc::{Allocator, Global};
@@ -51,6 +51,8 @@ pub struct Hand<D> {
     pub(crate) leaving: u32,
     // How many puts it has made.
     pub(crate) puts: u64,
+    // How many sweeps it has made, as far as the counter goes: a contract tells by it that there was one.
+    pub(crate) sweeps: u64,
     // It keeps two hands that stand beside each other apart: each put writes to the fields above, and each call reads the first ones.
     pub(crate) apart: [u64; APART],
     pub ghost own: { (number ≡ seat.me.0.number) × (number < seat.me.0.layout.passes) × (seat.me.0.sealing ≡ Unsealed) × (seat.me.1 ≡ []) },

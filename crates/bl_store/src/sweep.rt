@@ -61,6 +61,7 @@ impl<D> Hand<D> {
 
 impl<D, R: PageRule<D>, A: Allocator> Store<D, R, A> {
     ghost use Rattle.bl_store.specs.Owners.{IsHandOf};
+    ghost use Rattle.bl_store.specs.Sweeps.{HasSweptOnce};
 
     /// Releases pages and frames that were retired before each process began that still runs. Returns how many; so the pages
     /// of which the hand is told are no more.
@@ -73,8 +74,23 @@ impl<D, R: PageRule<D>, A: Allocator> Store<D, R, A> {
         ensures same { IsSameHand hand.old.seat hand.new.seat × IsSameStamp hand.old.seat hand.new.seat × IsSameStock hand.old.seat hand.new.seat }
         ensures observed { (pages : ℕ) × (pages ≤ result) × M.then (known hand.old.seat) pages (known hand.new.seat) }
         ensures count { hand.new.seat.me.0.releases ≡ hand.old.seat.me.0.releases + result }
+        ensures swept { HasSweptOnce hand.old hand.new }
     {
+        let sweeps = hand.sweeps;
+        let released = self.sweep_owners::<M>(hand);
+        hand.sweeps = sweeps.saturating_add(1);
         hand.unswept = 0;
+        released
+    }
+
+    // The same, which the hand does not count.
+    fn sweep_owners<M: SweepPlay<D>>(&self, hand: &mut Hand<D>) -> u32
+        requires own { IsHandOf self.now hand.old }
+        requires rule { ReleasesMany R.holds self.now.layout hand.old.number (known hand.old.seat) M.then }
+        ensures same { IsSameHand hand.old.seat hand.new.seat × IsSameStamp hand.old.seat hand.new.seat × IsSameStock hand.old.seat hand.new.seat }
+        ensures observed { (pages : ℕ) × (pages ≤ result) × M.then (known hand.old.seat) pages (known hand.new.seat) }
+        ensures count { hand.new.seat.me.0.releases ≡ hand.old.seat.me.0.releases + result }
+    {
         hand.owed = hand.owed.saturating_sub(1);
         let owners = self.layout.pages + self.layout.frames();
         let looks = owners.min(OWNERS_A_SWEEP);

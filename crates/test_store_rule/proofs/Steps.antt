@@ -7,7 +7,8 @@ use lib.ListN.{get_elem?}
 use Rattle.atomic_table.proofs.Lists.{at_set, set_here, set_else, at_last, at_longer}
 use Rattle.bl_layout.specs.declared.layout.Layout.{Layout}
 use Rattle.bl_store_rule.specs.Pages.{Owner, Released, Open, Held, Retired, Stage, Idle, Running, Pages, Stands, observed, owned, written, Begins, Ends, Gets, Puts, Takes, Latches, Misses, Opens, Retires, Refuses, Meets, ReleasesMany}
-use Rattle.bl_store.specs.Opening.{is_blank, first_owner, first_pages, IsDealt}
+use Rattle.bl_room.specs.Blanks.{is_blank}
+use Rattle.bl_store.specs.Opening.{first_owner, first_pages, IsDealt}
 use Rattle.test_store_rule.specs.declared.Mine.{Mine}
 use Rattle.std.proofs.lemmas.List.{get_or-replicate, length-replicate, length-append}
 use Rattle.std.proofs.lemmas.List.Elements.{All-nil, All-cons}

@@ -1,4 +1,4 @@
-//! Tests of values, texts and processes: watched streams, the layout of a store, images that are written and read again, refused memory in
+//! Tests of values, texts and processes: watched streams, the layout and the room of a store, images that are written and read again, refused memory in
 //! the checker; request lines and their replies, and scripts; compressions that meet a latch, processes that release a page, and hints that
 //! wait. Pages and what becomes of them, damaged images, the plain map, what processes read of a page and each other kind of process are
 //! calls of `test_worked_values`, which cost no proof.
@@ -24,6 +24,8 @@ mod model;
 mod pages;
 #[cfg(test)]
 mod releases;
+#[cfg(test)]
+mod room;
 #[cfg(test)]
 mod scripts;
 #[cfg(test)]

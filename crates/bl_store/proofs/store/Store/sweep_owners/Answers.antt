@@ -3,8 +3,8 @@ use Rattle.std.proofs.lemmas.Bool.{false≢true}
 use Rattle.bl_store_rule.specs.Pages.{Releases}
 use Rattle.bl_store.specs.Hands.{known}
 use Rattle.bl_store_rule.proofs.Sweeping.{counts_on}
-use Rattle.bl_store.proofs.store.Store.sweep.Goals as goal
-use Rattle.bl_store.proofs.store.Store.sweep.Goals.{then-state-eq3-2+then-state-oldest+then-release, then-state-eq3-2+then-state-oldest+else-release, else-state-eq3-2}
+use Rattle.bl_store.proofs.store.Store.sweep_owners.Goals as goal
+use Rattle.bl_store.proofs.store.Store.sweep_owners.Goals.{then-state-eq3-2+then-state-oldest+then-release, then-state-eq3-2+then-state-oldest+else-release, else-state-eq3-2}
 
 pub release-requires-clause-rule : goal.release-requires-clause-rule
 release-requires-clause-rule g c = let inv = c.loop-i-2.invariant in let number : c.args.hand.now.number ≡ c.loop-i-2.hand.number = c.args.hand.now.own.0 ∙ (sym inv.same.0.2 ∙ sym c.loop-i-2.hand.own.0) in

@@ -1,7 +1,7 @@
 use Rattle.std.proofs.Common.{◌≡◌, ℕ, ◌+◌, ◌≤◌, length}
 use Rattle.bl_store.specs.Hands.{IsSameHand, IsSameStamp, IsSameStock, known}
 use Rattle.bl_store_rule.specs.declared.view.Sweep.TheVariants.{Over}
-use Rattle.bl_store.proofs.store.Store.sweep.Given as goal
+use Rattle.bl_store.proofs.store.Store.sweep_owners.Given as goal
 
 abbrev pub invariant-loop-i : goal.invariant-loop-i
 invariant-loop-i g l = length l.states ≡ 64

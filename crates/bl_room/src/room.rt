@@ -1,10 +1,9 @@
-//! How much room there is and where, as the hands of a store count it together. No proof rests on it: who looks for a page or a frame looks
-//! first where this says, and then at all.
+//! The counts of pages and frames that all hands of a store share.
 
 ghost use Rattle.std.specs.Prelude.{◌<◌, ◌≤◌, ◌^◌};
 ghost use Rattle.bl_layout.specs.Words.{frame_count};
 
-use crate::opening::is_all_zeros;
+use crate::blank::is_all_zeros;
 use bl_layout::Layout;
 use std::alloc::{AllocError, Global};
 use std::sync::atomic::{AtomicU64, Ordering};
@@ -29,7 +28,7 @@ const FIRST_WALK: u64 = 2;
 
 /// What all hands of a store know of its room: how many pages are free, and whether a walk over all pages may find more.
 #[derive(Drop)]
-pub(crate) struct Room {
+pub struct Room {
     // How many pages are released, and may be taken.
     free: AtomicU64,
     // How many pages are retired, and not released yet.
@@ -50,7 +49,7 @@ pub(crate) struct Room {
 
 impl Room {
     /// A store of so many pages, of which the first have these words. Those with only zeros are free, and so are all others.
-    pub(crate) fn new(
+    pub fn new(
         alloc: Global,
         pages: u32,
         passes: u32,
@@ -89,22 +88,22 @@ impl Room {
 
     /// How many pages are free, about: others take and release some meanwhile.
     #[inline(always)]
-    pub(crate) fn free(&self) -> u64 {
+    pub fn free(&self) -> u64 {
         self.free.load(Ordering::SeqCst)
     }
 
     /// How many pages are retired and not released yet, about.
-    pub(crate) fn retiring(&self) -> u64 {
+    pub fn retiring(&self) -> u64 {
         self.retiring.load(Ordering::SeqCst)
     }
 
     /// A page is retired.
-    pub(crate) fn note_retired(&self) {
+    pub fn note_retired(&self) {
         self.retiring.fetch_add(1, Ordering::SeqCst);
     }
 
     /// A page was taken. Pages that splits have left are half full at least, so a walk is to look at them only where no page is left.
-    pub(crate) fn note_taken(&self, page: u32) {
+    pub fn note_taken(&self, page: u32) {
         self.least.store(u64::from(page) + 1, Ordering::SeqCst);
         if let Some(block) = self.blocks.get((page / BLOCK) as usize) {
             block.fetch_sub(1, Ordering::SeqCst);
@@ -115,7 +114,7 @@ impl Room {
     }
 
     /// A page was released.
-    pub(crate) fn note_released(&self, page: u32) {
+    pub fn note_released(&self, page: u32) {
         self.least.fetch_min(u64::from(page), Ordering::SeqCst);
         if let Some(block) = self.blocks.get((page / BLOCK) as usize) {
             block.fetch_add(1, Ordering::SeqCst);
@@ -126,7 +125,7 @@ impl Room {
 
     /// The pages in whose order the least free one stands, as one thread alone sees it: from the least that may be free to the end of its
     /// block. There are none where the block has no free page.
-    pub(crate) fn near(&self, pages: u32) -> (u32, u32)
+    pub fn near(&self, pages: u32) -> (u32, u32)
         requires { (0 < pages) × (pages ≤ 2 ^ 28) }
         ensures { (0 < result.0) × (result.0 ≤ result.1) × (result.1 ≤ pages) }
     {
@@ -142,7 +141,7 @@ impl Room {
     }
 
     /// The pages of the next block that has a free one, from the block of that page on and around. There are none where no block has one.
-    pub(crate) fn next_block(&self, page: u32, pages: u32) -> (u32, u32)
+    pub fn next_block(&self, page: u32, pages: u32) -> (u32, u32)
         requires { (0 < pages) × (pages ≤ 2 ^ 28) × (page ≤ pages) }
         ensures { (0 < result.0) × (result.0 ≤ result.1) × (result.1 ≤ pages) }
     {
@@ -166,7 +165,7 @@ impl Room {
     }
 
     /// The next frames that nobody has used yet, from the first to before the second.
-    pub(crate) fn take_chunk(&self, frames: u32) -> (u32, u32)
+    pub fn take_chunk(&self, frames: u32) -> (u32, u32)
         requires { frames ≤ 2 ^ 30 }
         ensures { (result.0 ≤ result.1) × (result.1 ≤ frames) }
     {
@@ -182,7 +181,7 @@ impl Room {
 
     /// Whether the hand of that number, which has made so many puts, is to look for frames.
     #[inline(always)]
-    pub(crate) fn is_to_look(&self, number: u32, puts: u64) -> bool {
+    pub fn is_to_look(&self, number: u32, puts: u64) -> bool {
         match self.looks_at.get(number as usize * LINE) {
             Some(next) => puts >= next.load(Ordering::SeqCst),
             None => true,
@@ -190,7 +189,7 @@ impl Room {
     }
 
     /// The hand of that number has seen enough frames for all, and looks again when it has made so many puts.
-    pub(crate) fn note_looked(&self, number: u32, puts: u64) {
+    pub fn note_looked(&self, number: u32, puts: u64) {
         if let Some(next) = self.looks_at.get(number as usize * LINE) {
             next.store(puts, Ordering::SeqCst);
         }
@@ -198,40 +197,40 @@ impl Room {
 
     /// A walk may find room that the last one did not.
     #[inline(always)]
-    pub(crate) fn note_change(&self) {
+    pub fn note_change(&self) {
         if self.last.load(Ordering::SeqCst) != UNKNOWN {
             self.last.store(UNKNOWN, Ordering::SeqCst);
         }
     }
 
     /// A walk begins. Its number.
-    pub(crate) fn begin_walk(&self) -> u64 {
+    pub fn begin_walk(&self) -> u64 {
         let number = self.walks.fetch_add(1, Ordering::SeqCst);
         self.last.store(number, Ordering::SeqCst);
         number
     }
 
     /// The walk of that number has found nothing. That counts where no room may have come and no other walk has begun since it did.
-    pub(crate) fn end_walk(&self, number: u64) {
+    pub fn end_walk(&self, number: u64) {
         let _ = self
             .last
             .compare_exchange(number, NONE, Ordering::SeqCst, Ordering::SeqCst);
     }
 
     /// Whether the last walk has found nothing, and no room may have come since.
-    pub(crate) fn has_none(&self) -> bool {
+    pub fn has_none(&self) -> bool {
         self.last.load(Ordering::SeqCst) == NONE
     }
 }
 
 /// The frame at which the hand of that number begins to look, in a large store.
-pub(crate) fn first_frame(number: u32) -> u32 {
+pub fn first_frame(number: u32) -> u32 {
     number.wrapping_mul(CHUNK)
 }
 
 /// The end of what a hand looks at from a frame on, before it takes frames that nobody has used. A small store keeps the frames in use close
 /// together, and all are looked at; in a large one it would take too long to pass by all that are in use.
-pub(crate) fn end_near(layout: Layout, frame: u32) -> u32
+pub fn end_near(layout: Layout, frame: u32) -> u32
     requires { frame ≤ frame_count layout }
     ensures { (frame ≤ result) × (result ≤ frame_count layout) }
 {
