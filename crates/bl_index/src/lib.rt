@@ -24,7 +24,6 @@ mod opening;
 mod posting;
 mod scanning;
 mod sweeping;
-mod telling;
 
 pub use bl_index_events::ABREAST;
 pub use bl_index_read::OutOfTurns;
@@ -34,5 +33,4 @@ pub use bl_store::RoomSeen;
 pub use closing::CloseRoom;
 pub use config::{CloseFault, Config, OpenFault};
 pub use index::{Index, Pass};
-pub use scanning::ScanFault;
-pub use telling::OutOfTurnsAt;
+pub use scanning::{OutOfTurnsAt, ScanFault};
