@@ -26,7 +26,7 @@ mod scanning;
 mod sweeping;
 
 pub use bl_index_events::ABREAST;
-pub use bl_index_read::OutOfTurns;
+pub use bl_index_read::{Appending, OutOfTurns, Sink, Telling};
 pub use bl_model::{KeyReply, KeyWrite, Next, Reply};
 pub use bl_proc::{Hint, Level, Lowered, Posted, Squeezed};
 pub use bl_store::RoomSeen;
