@@ -4,7 +4,7 @@ ghost use Rattle.std.specs.Prelude.{◌≡◌, ◌<◌, [], true, false};
 ghost use Rattle.std.specs.Arc.{arc_value};
 ghost use Rattle.bl_ffi_seats.specs.Seats.{IsSeated, reply_in};
 
-use crate::walk::{Walk, is_looked_through, may_enter, waits_for_pages};
+use crate::walk::{Walk, is_looked_through, may_enter};
 use crate::working::{
     begin_following, begin_lowering, find, go_on, meet, part, release, start_writing,
 };
@@ -604,7 +604,7 @@ impl Seat {
         ensures swept { (n : ℕ) × Swept n self.old self.new }
     {
         for _sweep in 0..SWEEPS_FOR_ROOM {
-            if !waits_for_pages(self.index.tree()) {
+            if !self.index.waits_for_pages() {
                 return;
             }
             self.sweep();

@@ -84,11 +84,6 @@ pub(crate) fn may_enter(write: KeyWrite) -> bool
     matches!(write, KeyWrite::Insert(_) | KeyWrite::Put(_))
 }
 
-/// Whether pages are scarce while some wait to be released.
-pub(crate) fn waits_for_pages(tree: &Tree) -> bool {
-    tree.store.lacks_pages() && tree.store.retiring_pages() > 0
-}
-
 /// Whether there is nothing to look for: pages are not scarce, or a walk has found none that can be merged, and none waits to be released.
 pub(crate) fn is_looked_through(tree: &Tree) -> bool {
     !tree.store.lacks_pages() || (tree.store.is_walked() && tree.store.retiring_pages() == 0)

@@ -1,5 +1,5 @@
 pub mod Hands
-pub mod Appended
+pub mod GivenParts
 pub mod Firsts
 pub mod Taken
 pub mod Alone
@@ -13,7 +13,6 @@ pub mod Learning
 pub mod Encounters
 pub mod Scanned
 pub mod PartByPart
-pub mod Callbacks
 pub mod Holders
 pub mod Gathered
 pub mod AtRest

@@ -1,6 +1,5 @@
 -- How a scan goes on by a part, and where it ends.
 use Rattle.std.proofs.Common.{◌≡◌, ℕ, ◌-◌, ◌^◌, ◌<◌, ◌≤◌, false, Option, Some, None, List, [], ◌∷◌, ◌++◌, refl, sym, ap, ◌∙◌, subst, append_assoc, append-nil, arith}
-use Rattle.std.specs.Prelude.{Result, Ok, Err}
 use Rattle.std.proofs.lemmas.Bool.Decides.{nat_tests}
 use Rattle.std.proofs.lemmas.List.{flat_map_more}
 use Rattle.std.proofs.lemmas.List.Elements.{All-nil}
@@ -16,7 +15,7 @@ use Rattle.bl_index_read.specs.Searching.{Finds}
 use Rattle.bl_index_read.specs.declared.leaf_rows.Behind.{Behind}
 use Rattle.bl_index_read.specs.declared.leaf_rows.Behind.TheVariants.{Part, Nothing}
 use Rattle.bl_index_read.specs.LeafRows.{IsBelow, is_below, IsOver, GoesOnWithin}
-use Rattle.bl_index.specs.Scans.{rows_below, AreParts, AreCalls, Scans, EndsScan, MayScan, AppendsPart, LeavesPart, StopsAt, StopsScan, left_from}
+use Rattle.bl_index.specs.Scans.{rows_below, AreParts, AreCalls, Scans, EndsScan, GivesPart, LeavesPart, StopsAt, StopsScan, left_from}
 use Rattle.bl_model.specs.Parts.{ended_at}
 use Rattle.bl_store.specs.Hands.{known, IsSameHand}
 use Rattle.bl_store.specs.declared.store.Hand.{Hand}
@@ -89,40 +88,19 @@ pub over : (to : Option ℕ) (at : ℕ) → is_below to at ≡ false → IsOver 
 over None at fails = let none : ⊥ = cc in absurd none
 over (Some end) at fails = grind (arith, nat_tests, fails)
 
-not_both : (to : Option ℕ) (at : ℕ) → IsOver to (Some at) → IsBelow to at → ⊥
-not_both None at is below = is
-not_both (Some end) at is below = omega arith
-
-no_parts : (pass : ℕ) (to : Option ℕ) (from : ℕ) (es : List Entry) (upto : Option ℕ) → AreParts pass to (Some from) es upto → IsOver to (Some from) → es ≡ []
-no_parts pass to from [] upto are is = refl
-no_parts pass to from (e ∷ es) upto are is = absurd (not_both to from is are.2)
-
--- where nothing is to be scanned, nothing happens
-pub nothing_done : (first : List (Option Page)) (pages pass turns from : ℕ) (to : Option ℕ) (room : ℕ) (result : Result (Unit {0}) ScanFault) (before after : List (ℕ × ℕ)) (old new : Trail)
-    → MayScan first pages pass turns from to room result before after old new → IsOver to (Some from) → new ≡ old
-nothing_done first pages pass turns from to room (Ok done) before after old new m is =
-    let s = m.ended.scans in
-    subst (λ (z : List Entry). AreCalls first pages pass turns z old new) (no_parts pass to from s.parts m.ended.upto s.are_parts is) s.calls
-nothing_done first pages pass turns from to room (Err fault) before after old new m is =
-    let s = m.stopped.scans in
-    let none : s.parts ≡ [] = no_parts pass to from s.parts (Some (left_from fault)) s.are_parts is in
-    let same : Some (left_from fault) ≡ Some from = subst (λ (z : List Entry). AreParts pass to (Some from) z (Some (left_from fault))) none s.are_parts in
-    let key : left_from fault ≡ from = cc in
-    absurd (not_both to from is (subst (IsBelow to) key m.stopped.left))
-
-module _ (first : List (Option Page)) (pages pass it turns from at : ℕ) (to : Option ℕ) (behind : Behind) (listed before after : List (ℕ × ℕ)) (old mid new : Trail) (same : it ≡ pass) (s : Scans first pages pass turns from to (Some at) listed old mid) (low : from ≤ at) (below : IsBelow to at) where
+module _ {S : Type 0} (takes : S → List (ℕ × ℕ) → S → Type 0) (first : List (Option Page)) (pages pass it turns from at : ℕ) (to : Option ℕ) (behind : Behind) (listed : List (ℕ × ℕ)) (before after : S) (old mid new : Trail) (same : it ≡ pass) (s : Scans first pages pass turns from to (Some at) listed old mid) (low : from ≤ at) (below : IsBelow to at) where
   abbrev Step : Option ℕ → Type 0
-  Step upto = (rows : List (ℕ × ℕ)) × (after ≡ before ++ rows) × Scans first pages pass turns from to upto (listed ++ rows) old new
+  Step upto = (rows : List (ℕ × ℕ)) × takes before rows after × Scans first pages pass turns from to upto (listed ++ rows) old new
 
-  by_part : (a : AppendsPart first pages it turns at to behind before after mid new) → Step (ended_at a.reply)
+  by_part : (a : GivesPart takes first pages it turns at to behind before after mid new) → Step (ended_at a.reply)
   by_part a = let finds : Finds first pages pass turns (OpPart at) a.reply mid new = subst (λ (z : ℕ). Finds first pages z turns (OpPart at) a.reply mid new) same a.finds in (
     rows_below to a.reply,
-    a.appended,
+    a.taken,
     scans_more first pages pass turns at a.reply mid new finds from to listed old s low below,
   )
 
   -- a scan that goes on behind a part
-  pub goes_on : (n link : ℕ) → behind ≡ Part n link → AppendsPart first pages it turns at to behind before after mid new → (at < n) × (n < 2 ^ 64) × IsBelow to n × Step (Some n)
+  pub goes_on : (n link : ℕ) → behind ≡ Part n link → GivesPart takes first pages it turns at to behind before after mid new → (at < n) × (n < 2 ^ 64) × IsBelow to n × Step (Some n)
   goes_on n link is a = let on = subst (GoesOnWithin to (ended_at a.reply)) is a.ends in (
     subst (IsBehind at) on.0 (ends_behind first pages it turns at a.reply mid new a.finds),
     on.1,
@@ -131,7 +109,7 @@ module _ (first : List (Option Page)) (pages pass it turns from at : ℕ) (to : 
   )
 
   -- a scan that is over behind it
-  pub ends_there : behind ≡ Nothing → AppendsPart first pages it turns at to behind before after mid new → (rows : List (ℕ × ℕ)) × (after ≡ before ++ rows) × EndsScan first pages pass turns from to (listed ++ rows) old new
+  pub ends_there : behind ≡ Nothing → GivesPart takes first pages it turns at to behind before after mid new → (rows : List (ℕ × ℕ)) × takes before rows after × EndsScan first pages pass turns from to (listed ++ rows) old new
   ends_there is a = let on = by_part a in (on.0, on.1, record { upto = ended_at a.reply; over = subst (GoesOnWithin to (ended_at a.reply)) is a.ends; scans = on.2 })
 
 -- ---- a scan that has come so far
@@ -147,29 +125,29 @@ left_behind (Part at link) = 2 ^ 64 - at
 left_behind Nothing = 0
 
 -- what a part more makes of it
-pub record HasGone (first : List (Option Page)) (pages pass turns from at : ℕ) (to : Option ℕ) (behind : Behind) (listed before after : List (ℕ × ℕ)) (old new : Trail) : Type 0 where
+pub record HasGone {S : Type 0} (takes : S → List (ℕ × ℕ) → S → Type 0) (first : List (Option Page)) (pages pass turns from at : ℕ) (to : Option ℕ) (behind : Behind) (listed : List (ℕ × ℕ)) (before after : S) (old new : Trail) : Type 0 where
   pub rows : List (ℕ × ℕ)
-  pub appended : after ≡ before ++ rows
+  pub taken : takes before rows after
   pub so_far : IsSoFar first pages pass turns from to behind (listed ++ rows) old new
   pub less : left_behind behind < 2 ^ 64 - at
 
-pub part_more : (first : List (Option Page)) (pages pass it turns from at link : ℕ) (to : Option ℕ) (behind : Behind) (listed before after : List (ℕ × ℕ)) (old mid new : Trail) → it ≡ pass
-    → IsSoFar first pages pass turns from to (Part at link) listed old mid → AppendsPart first pages it turns at to behind before after mid new → HasGone first pages pass turns from at to behind listed before after old new
-part_more first pages pass it turns from at link to (Part n more) listed before after old mid new same (low, fits, below, s) a =
-    let on = goes_on first pages pass it turns from at to (Part n more) listed before after old mid new same s low below n more refl a in
-    record { rows = on.3.0; appended = on.3.1; so_far = (omega (arith, on.0, low), on.1, on.2, on.3.2); less = omega (arith, on.0, on.1) }
-part_more first pages pass it turns from at link to Nothing listed before after old mid new same (low, fits, below, s) a =
-    let on = ends_there first pages pass it turns from at to Nothing listed before after old mid new same s low below refl a in
-    record { rows = on.0; appended = on.1; so_far = on.2; less = omega (arith, fits) }
+pub part_more : {S : Type 0} (takes : S → List (ℕ × ℕ) → S → Type 0) (first : List (Option Page)) (pages pass it turns from at link : ℕ) (to : Option ℕ) (behind : Behind) (listed : List (ℕ × ℕ)) (before after : S) (old mid new : Trail) → it ≡ pass
+    → IsSoFar first pages pass turns from to (Part at link) listed old mid → GivesPart takes first pages it turns at to behind before after mid new → HasGone takes first pages pass turns from at to behind listed before after old new
+part_more takes first pages pass it turns from at link to (Part n more) listed before after old mid new same (low, fits, below, s) a =
+    let on = goes_on takes first pages pass it turns from at to (Part n more) listed before after old mid new same s low below n more refl a in
+    record { rows = on.3.0; taken = on.3.1; so_far = (omega (arith, on.0, low), on.1, on.2, on.3.2); less = omega (arith, on.0, on.1) }
+part_more takes first pages pass it turns from at link to Nothing listed before after old mid new same (low, fits, below, s) a =
+    let on = ends_there takes first pages pass it turns from at to Nothing listed before after old mid new same s low below refl a in
+    record { rows = on.0; taken = on.1; so_far = on.2; less = omega (arith, fits) }
 
 -- where it stops
-pub stops_there : (first : List (Option Page)) (pages pass it turns from at link : ℕ) (to : Option ℕ) (room : ℕ) (fault : ScanFault) (listed before after : List (ℕ × ℕ)) (old mid new : Trail) → it ≡ pass
-    → IsSoFar first pages pass turns from to (Part at link) listed old mid → LeavesPart first pages it turns at to room fault before after mid new → StopsScan first pages pass turns from to room fault listed old new
-stops_there first pages pass it turns from at link to room fault listed before after old mid new same (low, fits, below, s) left = record {
+pub stops_there : {S : Type 0} (first : List (Option Page)) (pages pass it turns from at link : ℕ) (to : Option ℕ) (lacks : ℕ → Type 0) (fault : ScanFault) (listed : List (ℕ × ℕ)) (before after : S) (old mid new : Trail) → it ≡ pass
+    → IsSoFar first pages pass turns from to (Part at link) listed old mid → LeavesPart first pages it turns at to lacks fault before after mid new → StopsScan first pages pass turns from to lacks fault listed old new
+stops_there first pages pass it turns from at link to lacks fault listed before after old mid new same (low, fits, below, s) left = record {
   mid = mid;
   scans = subst (λ (z : ℕ). Scans first pages pass turns from to (Some z) listed old mid) (sym left.key) s;
   left = subst (IsBelow to) (sym left.key) below;
-  stops = subst (λ (z : ℕ). StopsAt first pages z turns to room fault mid new) same left.stops;
+  stops = subst (λ (z : ℕ). StopsAt first pages z turns to lacks fault mid new) same left.stops;
 }
 
 -- ---- a scan of which a hand makes the parts
@@ -178,14 +156,14 @@ stops_there first pages pass it turns from at link to room fault listed before a
 pub set_off_again : (tree : Tree) (old hand : Hand PassState) → IsSameHand old.seat hand.seat → (from : ℕ) (way : Descent) (mid : PassState) → HasSetOff tree hand old.number (sought.Rows Up) from way mid → HasSetOff tree hand hand.number (sought.Rows Up) from way mid
 set_off_again tree old hand same from way mid off = subst (λ (z : ℕ). HasSetOff tree hand z (sought.Rows Up) from way mid) (sym (same_number old hand same)) off
 
-module _ (old hand : Hand PassState) (mid : PassState) (pages turns from at link : ℕ) (to : Option ℕ) (listed before after : List (ℕ × ℕ)) (new : Trail) (same : IsSameHand old.seat hand.seat) (first : mid.first ≡ (known old.seat).first)
+module _ {S : Type 0} (old hand : Hand PassState) (mid : PassState) (pages turns from at link : ℕ) (to : Option ℕ) (listed : List (ℕ × ℕ)) (before after : S) (new : Trail) (same : IsSameHand old.seat hand.seat) (first : mid.first ≡ (known old.seat).first)
     (so_far : IsSoFar (known old.seat).first pages old.number turns from to (Part at link) listed (known old.seat).trail mid.trail) where
   -- what a part more makes of it
-  pub part_on : (behind : Behind) → AppendsPart mid.first pages hand.number turns at to behind before after mid.trail new → HasGone (known old.seat).first pages old.number turns from at to behind listed before after (known old.seat).trail new
-  part_on behind a = part_more (known old.seat).first pages old.number hand.number turns from at link to behind listed before after (known old.seat).trail mid.trail new (same_number old hand same) so_far
-      (subst (λ (z : List (Option Page)). AppendsPart z pages hand.number turns at to behind before after mid.trail new) first a)
+  pub part_on : (takes : S → List (ℕ × ℕ) → S → Type 0) (behind : Behind) → GivesPart takes mid.first pages hand.number turns at to behind before after mid.trail new → HasGone takes (known old.seat).first pages old.number turns from at to behind listed before after (known old.seat).trail new
+  part_on takes behind a = part_more takes (known old.seat).first pages old.number hand.number turns from at link to behind listed before after (known old.seat).trail mid.trail new (same_number old hand same) so_far
+      (subst (λ (z : List (Option Page)). GivesPart takes z pages hand.number turns at to behind before after mid.trail new) first a)
 
   -- where it stops
-  pub stops_at : (room : ℕ) (fault : ScanFault) → LeavesPart mid.first pages hand.number turns at to room fault before after mid.trail new → StopsScan (known old.seat).first pages old.number turns from to room fault listed (known old.seat).trail new
-  stops_at room fault left = stops_there (known old.seat).first pages old.number hand.number turns from at link to room fault listed before after (known old.seat).trail mid.trail new (same_number old hand same) so_far
-      (subst (λ (z : List (Option Page)). LeavesPart z pages hand.number turns at to room fault before after mid.trail new) first left)
+  pub stops_at : (lacks : ℕ → Type 0) (fault : ScanFault) → LeavesPart mid.first pages hand.number turns at to lacks fault before after mid.trail new → StopsScan (known old.seat).first pages old.number turns from to lacks fault listed (known old.seat).trail new
+  stops_at lacks fault left = stops_there (known old.seat).first pages old.number hand.number turns from at link to lacks fault listed before after (known old.seat).trail mid.trail new (same_number old hand same) so_far
+      (subst (λ (z : List (Option Page)). LeavesPart z pages hand.number turns at to lacks fault before after mid.trail new) first left)

@@ -1,6 +1,5 @@
 -- What a scan tells the pass that makes it: parts, each from where the last one ended, and the rows that they list together.
-use Rattle.std.specs.Prelude.{◌≡◌, ℕ, ◌<◌, ◌≤◌, ◌++◌, ◌↔◌, List, [], ◌∷◌, Option, Some, None, Result, All, Contains, filter, flat_map, length, OnOk, IfErr}
-use Rattle.std.specs.List.{FoldsTo}
+use Rattle.std.specs.Prelude.{◌≡◌, ℕ, ◌<◌, ◌≤◌, ◌++◌, ◌↔◌, List, [], ◌∷◌, Option, Some, None, Result, Ok, Err, All, Contains, filter, flat_map, length, OnOk, IfErr}
 use Rattle.bl_page.specs.declared.page.Page.{Page}
 use Rattle.bl_model.specs.History.{final_map}
 use Rattle.bl_model.specs.Rows.{HasRisingKeys}
@@ -14,7 +13,7 @@ use Rattle.bl_index_read.specs.Searching.{Finds, RunsOut}
 use Rattle.bl_index_read.specs.declared.leaf_rows.Behind.{Behind}
 use Rattle.bl_index.specs.declared.scanning.ScanFault.{ScanFault}
 use Rattle.bl_index.specs.declared.scanning.ScanFault.TheVariants.{Memory, OutOfTurns}
-use Rattle.bl_index.specs.declared.telling.OutOfTurnsAt.{OutOfTurnsAt}
+use Rattle.bl_index.specs.declared.scanning.OutOfTurnsAt.{OutOfTurnsAt}
 use Rattle.bl_index_read.specs.LeafRows.{is_below, IsBelow, IsOver, GoesOnWithin}
 
 -- the rows of a part that lie below the end of a scan
@@ -69,68 +68,50 @@ abbrev pub left_from : ScanFault → ℕ
 left_from (Memory from) = from
 left_from (OutOfTurns from) = from
 
--- A part was answered, and of its rows more lie below the scan's end than there is room for.
-pub record FindsNoRoom (first : List (Option Page)) (pages pass turns from : ℕ) (to : Option ℕ) (room : ℕ) (old new : Trail) : Type 0 where
+-- A part was answered, and of its rows so many lie below the scan's end that there is no room for them.
+pub record FindsNoRoom (first : List (Option Page)) (pages pass turns from : ℕ) (to : Option ℕ) (lacks : ℕ → Type 0) (old new : Trail) : Type 0 where
   pub reply : Reply
   pub finds : Finds first pages pass turns (Part from) reply old new
-  pub more : room < length (rows_below to reply)
+  pub more : lacks (length (rows_below to reply))
 
 -- why a scan stopped at a part: its rows had no room, or it ran out of turns
-abbrev pub StopsAt : List (Option Page) → ℕ → ℕ → ℕ → Option ℕ → ℕ → ScanFault → Trail → Trail → Type 0
-StopsAt first pages pass turns to room (Memory from) old new = FindsNoRoom first pages pass turns from to room old new
-StopsAt first pages pass turns to room (OutOfTurns from) old new = RunsOut first pages pass turns old new
+abbrev pub StopsAt : List (Option Page) → ℕ → ℕ → ℕ → Option ℕ → (ℕ → Type 0) → ScanFault → Trail → Trail → Type 0
+StopsAt first pages pass turns to lacks (Memory from) old new = FindsNoRoom first pages pass turns from to lacks old new
+StopsAt first pages pass turns to lacks (OutOfTurns from) old new = RunsOut first pages pass turns old new
 
 -- A scan has stopped at a part below its end. Up to there it has scanned, and nothing of that part is among its rows.
-pub record StopsScan (first : List (Option Page)) (pages pass turns from : ℕ) (to : Option ℕ) (room : ℕ) (fault : ScanFault) (rows : List (ℕ × ℕ))
-    (old new : Trail) : Type 0 where
+pub record StopsScan (first : List (Option Page)) (pages pass turns from : ℕ) (to : Option ℕ) (lacks : ℕ → Type 0) (fault : ScanFault)
+    (rows : List (ℕ × ℕ)) (old new : Trail) : Type 0 where
   pub mid : Trail
   pub scans : Scans first pages pass turns from to (Some (left_from fault)) rows old mid
   pub left : IsBelow to (left_from fault)
-  pub stops : StopsAt first pages pass turns to room fault mid new
+  pub stops : StopsAt first pages pass turns to lacks fault mid new
 
--- A scan has ended or stopped, and its rows stand behind those of before. There is room for so many more.
-pub record MayScan (first : List (Option Page)) (pages pass turns from : ℕ) (to : Option ℕ) (room : ℕ) (result : Result (Unit {0}) ScanFault)
-    (before after : List (ℕ × ℕ)) (old new : Trail) : Type 0 where
+-- A scan has ended or stopped, and its rows have gone where it was to give them: they led from one state there to another, and where it
+-- stopped for want of room there was none for so many.
+pub record MayScan {S : Type 0} (takes : S → List (ℕ × ℕ) → S → Type 0) (lacks : ℕ → Type 0) (first : List (Option Page)) (pages pass turns from : ℕ)
+    (to : Option ℕ) (result : Result (Unit {0}) ScanFault) (before after : S) (old new : Trail) : Type 0 where
   pub rows : List (ℕ × ℕ)
-  pub appended : after ≡ before ++ rows
+  pub taken : takes before rows after
   pub ended : OnOk result (EndsScan first pages pass turns from to rows old new)
-  pub stopped : IfErr result (λ fault. StopsScan first pages pass turns from to room fault rows old new)
+  pub stopped : IfErr result (λ fault. StopsScan first pages pass turns from to lacks fault rows old new)
 
--- One part of a scan was answered, and its rows below the scan's end stand behind those of before.
-pub record AppendsPart (first : List (Option Page)) (pages pass turns from : ℕ) (to : Option ℕ) (behind : Behind) (before after : List (ℕ × ℕ))
-    (old new : Trail) : Type 0 where
+-- what a scan answers that cannot lack room
+abbrev pub roomy : Result (Unit {0}) OutOfTurnsAt → Result (Unit {0}) ScanFault
+roomy (Ok done) = Ok done
+roomy (Err out) = Err (OutOfTurns out.key)
+
+-- One part of a scan was answered, and its rows below the scan's end have gone there.
+pub record GivesPart {S : Type 0} (takes : S → List (ℕ × ℕ) → S → Type 0) (first : List (Option Page)) (pages pass turns from : ℕ) (to : Option ℕ)
+    (behind : Behind) (before after : S) (old new : Trail) : Type 0 where
   pub reply : Reply
   pub finds : Finds first pages pass turns (Part from) reply old new
   pub ends : GoesOnWithin to (ended_at reply) behind
-  pub appended : after ≡ before ++ rows_below to reply
+  pub taken : takes before (rows_below to reply) after
 
--- The scan stops at that part, and the rows are those of before.
-pub record LeavesPart (first : List (Option Page)) (pages pass turns from : ℕ) (to : Option ℕ) (room : ℕ) (fault : ScanFault) (before after : List (ℕ × ℕ))
-    (old new : Trail) : Type 0 where
+-- The scan stops at that part, and nothing of it has gone there.
+pub record LeavesPart {S : Type 0} (first : List (Option Page)) (pages pass turns from : ℕ) (to : Option ℕ) (lacks : ℕ → Type 0) (fault : ScanFault)
+    (before after : S) (old new : Trail) : Type 0 where
   pub key : left_from fault ≡ from
   pub kept : after ≡ before
-  pub stops : StopsAt first pages pass turns to room fault old new
-
--- A callback was told the rows of a scan that has ended, or that has stopped at a part that ran out of turns: each once, one after
--- another, and no other row. A call of it with a row leads from one state to another one.
-pub record TellsScan {F : Type 0} (leads : F → ℕ × ℕ → F → Type 0) (first : List (Option Page)) (pages pass turns from : ℕ) (to : Option ℕ)
-    (result : Result (Unit {0}) OutOfTurnsAt) (before after : F) (old new : Trail) : Type 0 where
-  pub rows : List (ℕ × ℕ)
-  pub told : FoldsTo leads before rows after
-  pub ended : OnOk result (EndsScan first pages pass turns from to rows old new)
-  pub stopped : IfErr result (λ out. StopsScan first pages pass turns from to 0 (OutOfTurns out.key) rows old new)
-
--- One part of a scan was answered, and the callback was told its rows below the scan's end.
-pub record TellsPart {F : Type 0} (leads : F → ℕ × ℕ → F → Type 0) (first : List (Option Page)) (pages pass turns from : ℕ) (to : Option ℕ)
-    (behind : Behind) (before after : F) (old new : Trail) : Type 0 where
-  pub reply : Reply
-  pub finds : Finds first pages pass turns (Part from) reply old new
-  pub ends : GoesOnWithin to (ended_at reply) behind
-  pub told : FoldsTo leads before (rows_below to reply) after
-
--- The part ran out of turns, and the callback was told nothing.
-pub record TellsNothing {F : Type 0} (first : List (Option Page)) (pages pass turns from : ℕ) (out : OutOfTurnsAt) (before after : F) (old new : Trail) : Type 0
-  where
-    pub key : out.key ≡ from
-    pub kept : after ≡ before
-    pub runs_out : RunsOut first pages pass turns old new
+  pub stops : StopsAt first pages pass turns to lacks fault old new

@@ -24,15 +24,13 @@ mod opening;
 mod posting;
 mod scanning;
 mod sweeping;
-mod telling;
 
 pub use bl_index_events::ABREAST;
-pub use bl_index_read::OutOfTurns;
+pub use bl_index_read::{Appending, OutOfTurns, Sink, Telling};
 pub use bl_model::{KeyReply, KeyWrite, Next, Reply};
 pub use bl_proc::{Hint, Level, Lowered, Posted, Squeezed};
 pub use bl_store::RoomSeen;
 pub use closing::CloseRoom;
 pub use config::{CloseFault, Config, OpenFault};
 pub use index::{Index, Pass};
-pub use scanning::ScanFault;
-pub use telling::OutOfTurnsAt;
+pub use scanning::{OutOfTurnsAt, ScanFault};

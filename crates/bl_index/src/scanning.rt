@@ -1,6 +1,7 @@
 //! Scans: parts of the map, each from where the last one ended.
 
-ghost use Rattle.std.specs.Prelude.{◌≡◌, ℕ, ◌-◌, Some, vec_len};
+ghost use Rattle.std.specs.Prelude.{◌≡◌, ℕ, ◌-◌, ◌<◌, Some, vec_len};
+ghost use Rattle.std.specs.List.{FoldsTo};
 ghost use Rattle.std.specs.Vec.{vec_capacity};
 ghost use Rattle.bl_store.specs.Hands.{known, IsIdle, IsSameHand, IsSameStock};
 ghost use Rattle.bl_store.specs.Owners.{IsHandOf};
@@ -11,14 +12,15 @@ ghost use Rattle.bl_proc.specs.declared.parts.Direction.TheVariants as direction
 ghost use Rattle.bl_index_read.specs.declared.sought.Sought.TheVariants as sought;
 ghost use Rattle.bl_index_read.specs.LeafWays.{HasSetOff};
 ghost use Rattle.bl_index_read.specs.LeafRows.{is_below as below, IsBelow, IsOver};
-ghost use Rattle.bl_index.specs.Scans.{AppendsPart, LeavesPart, MayScan};
+ghost use Rattle.bl_index_read.specs.Sinks.{Appends};
+ghost use Rattle.bl_index.specs.Scans.{GivesPart, LeavesPart, MayScan, roomy};
 ghost use Rattle.bl_index.specs.Within.{GoesOrStops};
 
 use crate::index::{Index, Pass};
 use bl_index_events::{FrameView, Tree};
 use bl_index_read::{
-    Behind, Sought, append_rows, descend_to_leaf, end_at_leaf, fetch_behind, go_behind, portion_in,
-    set_off,
+    Appending, Behind, Sink, Sought, Telling, descend_to_leaf, end_at_leaf, fetch_behind,
+    give_rows, go_behind, portion_in, set_off,
 };
 use bl_index_rule::PassState;
 use bl_proc::Direction;
@@ -35,8 +37,15 @@ pub enum ScanFault {
     OutOfTurns(u64),
 }
 
+/// A part of a scan got as many pages as it was allowed, and has answered nothing.
+#[derive(Clone, Copy, Debug, PartialEq, Eq)]
+pub struct OutOfTurnsAt {
+    /// The scan goes on from this key.
+    pub key: u64,
+}
+
 /// Whether the key is below the end, if there is one.
-pub(crate) fn is_below(to: Option<u64>, key: u64) -> bool
+fn is_below(to: Option<u64>, key: u64) -> bool
     ensures { result ≡ below to key }
 {
     match to {
@@ -64,98 +73,134 @@ impl Index {
     ) -> Result<(), ScanFault>
         requires { IsPassOf self.now pass.old }
         ensures same { IsSamePass pass.old pass.new }
-        ensures scans { MayScan (first_of self.now) (pages_of self.now) (number_of pass.old) turns from to (vec_capacity rows.new - vec_len rows.new) result
-            rows.old.items rows.new.items (trail pass.old) (trail pass.new) }
+        ensures scans { MayScan Appends (λ many. vec_capacity rows.new - vec_len rows.new < many) (first_of self.now) (pages_of self.now)
+            (number_of pass.old) turns from to result rows.old.items rows.new.items (trail pass.old) (trail pass.new) }
         ensures nothing { IsOver to (Some from) → trail pass.new ≡ trail pass.old }
     {
         if !is_below(to, from) {
             return Ok(());
         }
+        // Behind the reference its fields would be read again after each word of a leaf.
         let none = Vec::new(*rows.allocator());
-        let before = mem::replace(rows, none);
-        let (all, scanned) = self.scan(pass, from, to, turns, before);
+        let mut all = mem::replace(rows, none);
+        let scanned = self.scan::<_, Appending>(pass, from, to, turns, &mut all);
         *rows = all;
         scanned
     }
 
-    /// The same from a key below the end, with the rows by value.
-    #[inline(always)]
-    fn scan(
+    /// Tells a callback the rows that [`Index::scan_into`] would append, one after another, as it reads them of the leaves. Where a
+    /// part runs out of turns it stops: the rows of all keys below the fault's were told, and none from there on.
+    ///
+    /// The callback is called while a part is under way, and until that ends nothing is given back that was swapped out since it
+    /// began. So it should not wait.
+    pub fn scan_with<F: FnMut((u64, u64))>(
         &self,
         pass: &mut Pass,
         from: u64,
         to: Option<u64>,
         turns: u32,
-        rows: Vec<(u64, u64)>,
-    ) -> (Vec<(u64, u64)>, Result<(), ScanFault>)
+        visit: &mut F,
+    ) -> Result<(), OutOfTurnsAt>
+        requires own { IsPassOf self.now pass.old }
+        requires callable { F.IsAlwaysCallable visit.old }
+        ensures same { IsSamePass pass.old pass.new }
+        ensures callable { F.IsAlwaysCallable visit.new }
+        ensures tells { MayScan (FoldsTo (λ p x q. F.step p x tt q)) (λ many. ⊥) (first_of self.now) (pages_of self.now)
+            (number_of pass.old) turns from to (roomy result) visit.old visit.new (trail pass.old) (trail pass.new) }
+    {
+        if !is_below(to, from) {
+            return Ok(());
+        }
+        match self.scan::<F, Telling>(pass, from, to, turns, visit) {
+            Ok(()) => Ok(()),
+            Err(ScanFault::OutOfTurns(key)) => Err(OutOfTurnsAt { key }),
+            Err(ScanFault::Memory(_)) => unreachable!(),
+        }
+    }
+
+    /// Gives the rows from a key below the end.
+    #[inline(always)]
+    fn scan<S, K: Sink<S>>(
+        &self,
+        pass: &mut Pass,
+        from: u64,
+        to: Option<u64>,
+        turns: u32,
+        state: &mut S,
+    ) -> Result<(), ScanFault>
         requires own { IsPassOf self.now pass.old }
         requires below { IsBelow to from }
+        requires ready { K.IsReady state.old }
         ensures same { IsSamePass pass.old pass.new }
-        ensures scans { MayScan (first_of self.now) (pages_of self.now) (number_of pass.old) turns from to (vec_capacity result.0 - vec_len result.0) result.1
-            rows.items result.0.items (trail pass.old) (trail pass.new) }
+        ensures ready { K.IsReady state.new }
+        ensures scans { MayScan K.Takes (K.Lacks state.new) (first_of self.now) (pages_of self.now) (number_of pass.old) turns from to result
+            (K.held state.old) (K.held state.new) (trail pass.old) (trail pass.new) }
     {
-        append_parts(&self.tree, &mut pass.hand, from, to, turns, rows)
+        give_parts::<S, K>(&self.tree, &mut pass.hand, from, to, turns, state)
     }
 }
 
 /// The parts of a scan, one after another: behind each, the next one has set off.
-fn append_parts(
+#[inline(always)]
+fn give_parts<S, K: Sink<S>>(
     tree: &Tree,
     hand: &mut Hand<PassState>,
     from: u64,
     to: Option<u64>,
     turns: u32,
-    rows: Vec<(u64, u64)>,
-) -> (Vec<(u64, u64)>, Result<(), ScanFault>)
+    state: &mut S,
+) -> Result<(), ScanFault>
     requires own { IsHandOf tree.now.store hand.old }
     requires idle { IsIdle hand.old.seat }
     requires below { IsBelow to from }
+    requires ready { K.IsReady state.old }
     ensures same { IsSameHand hand.old.seat hand.new.seat × IsSameStock hand.old.seat hand.new.seat }
     ensures rests { Rests hand.new.seat }
     ensures first { (known hand.new.seat).first ≡ (known hand.old.seat).first }
     ensures seen { IsSeen (known hand.new.seat).first (known hand.new.seat).trail }
-    ensures scans { MayScan (known hand.old.seat).first tree.now.store.layout.pages hand.old.number turns from to
-        (vec_capacity result.0 - vec_len result.0) result.1 rows.items result.0.items (known hand.old.seat).trail (known hand.new.seat).trail }
+    ensures ready { K.IsReady state.new }
+    ensures scans { MayScan K.Takes (K.Lacks state.new) (known hand.old.seat).first tree.now.store.layout.pages hand.old.number turns from to
+        result (K.held state.old) (K.held state.new) (known hand.old.seat).trail (known hand.new.seat).trail }
 {
-    let mut rows = rows;
     let mut way = set_off(tree, hand, Sought::Rows(Direction::Up), from, None);
     let mut behind = Behind::Part(from, 0);
     while let Behind::Part(at, _) = behind {
-        let (more, part) = append_part(tree, hand, at, way, to, turns, rows);
-        rows = more;
-        match part {
+        match give_part::<S, K>(tree, hand, at, way, to, turns, state) {
             Ok((next, on)) => {
                 behind = next;
                 way = on;
             }
-            Err(fault) => return (rows, Err(fault)),
+            Err(fault) => return Err(fault),
         }
     }
-    (rows, Ok(()))
+    Ok(())
 }
 
-/// Appends the rows of one part, which has set off, that lie below the end, and says how the scan goes on.
+/// Gives the rows of one part, which has set off, that lie below the end, and says how the scan goes on.
 #[inline(always)]
-fn append_part(
+fn give_part<S, K: Sink<S>>(
     tree: &Tree,
     hand: &mut Hand<PassState>,
     from: u64,
     way: Descent,
     to: Option<u64>,
     turns: u32,
-    rows: Vec<(u64, u64)>,
-) -> (Vec<(u64, u64)>, Result<(Behind, Descent), ScanFault>)
+    state: &mut S,
+) -> Result<(Behind, Descent), ScanFault>
     requires off { (old : Knows) × (pass : ℕ) × HasSetOff tree.now hand.old pass (sought.Rows direction.Up) from way old }
     requires below { IsBelow to from }
+    requires ready { K.IsReady state.old }
     ensures same { IsSameHand hand.old.seat hand.new.seat × IsSameStock hand.old.seat hand.new.seat }
-    ensures appends { (old : Knows) → HasSetOff tree.now hand.old hand.old.number (sought.Rows direction.Up) from way old → GoesOrStops tree.now hand.new hand.old.number
-        (λ behind. AppendsPart old.first tree.now.store.layout.pages hand.old.number turns from to behind rows.items result.0.items)
-        (λ fault. LeavesPart old.first tree.now.store.layout.pages hand.old.number turns from to
-        (vec_capacity result.0 - vec_len result.0) fault rows.items result.0.items) old result.1 }
+    ensures ready { K.IsReady state.new }
+    ensures gives { (old : Knows) → HasSetOff tree.now hand.old hand.old.number (sought.Rows direction.Up) from way old → GoesOrStops tree.now hand.new hand.old.number
+        (λ behind. GivesPart K.Takes old.first tree.now.store.layout.pages hand.old.number turns from to behind
+        (K.held state.old) (K.held state.new))
+        (λ fault. LeavesPart old.first tree.now.store.layout.pages hand.old.number turns from to (K.Lacks state.new) fault
+        (K.held state.old) (K.held state.new)) old result }
 {
     let Some(glance) = descend_to_leaf(tree, hand, Sought::Rows(Direction::Up), from, way, turns)
     else {
-        return (rows, Err(ScanFault::OutOfTurns(from)));
+        return Err(ScanFault::OutOfTurns(from));
     };
     let shown = FrameView {
         store: &tree.store,
@@ -163,15 +208,14 @@ fn append_part(
     };
     let portion = portion_in(&shown, hand, from, to);
     fetch_behind(tree, portion.behind);
-    let (rows, appended) = append_rows(&shown, hand, portion.first, portion.last, rows);
-    match appended {
+    match give_rows::<_, S, K>(&shown, hand, portion.first, portion.last, state) {
         Ok(()) => {
             let on = go_behind(tree, hand, portion.behind);
-            (rows, Ok((portion.behind, on)))
+            Ok((portion.behind, on))
         }
         Err(_) => {
             end_at_leaf(tree, hand);
-            (rows, Err(ScanFault::Memory(from)))
+            Err(ScanFault::Memory(from))
         }
     }
 }

@@ -25,4 +25,9 @@ impl Index {
     pub fn lacks_frames(&self, pass: &Pass) -> bool {
         self.tree.store.lacks_frames(&pass.hand)
     }
+
+    /// Whether pages are scarce while some wait to be released. It is a hint as well.
+    pub fn waits_for_pages(&self) -> bool {
+        self.tree.store.lacks_pages() && self.tree.store.retiring_pages() > 0
+    }
 }

@@ -7,5 +7,5 @@ pub mod Ranges
 pub mod Picked
 pub mod Portions
 pub mod Leaves
-pub mod Told
+pub mod Given
 pub mod Together

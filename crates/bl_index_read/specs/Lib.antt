@@ -3,4 +3,5 @@ pub mod Turns
 pub mod LeafRows
 pub mod LeafWays
 pub mod Parts
+pub mod Sinks
 pub mod Together

@@ -1,8 +1,6 @@
 //! The rows of a leaf from a key on, upwards or downwards, by the leaf's words.
 
-ghost use Rattle.std.specs.Prelude.{◌≡◌, ◌+◌, ◌-◌, ◌<◌, ◌≤◌, ◌++◌, Some, IsTrue, OnOk, OnErr, length, slice_index_or, take, drop, reverse, vec_len};
-ghost use Rattle.std.specs.List.{FoldsTo};
-ghost use Rattle.std.specs.Vec.{vec_capacity};
+ghost use Rattle.std.specs.Prelude.{◌≡◌, ◌+◌, ◌-◌, ◌<◌, ◌≤◌, Some, IsTrue, OnOk, OnErr, length, slice_index_or, take, drop, reverse};
 ghost use Rattle.bl_model.proofs.Parts.{IsPlaceOf};
 ghost use Rattle.bl_model.proofs.Falling.{IsCountTo};
 ghost use Rattle.bl_model.specs.Map.{ListsPairs};
@@ -20,6 +18,7 @@ ghost use Rattle.bl_proc_steps.specs.Descents.{Descends};
 ghost use Rattle.bl_proc.specs.Parts.{GoesOnAt, GoesOnBelow};
 ghost use Rattle.bl_index_read.specs.LeafRows.{IsBelow, GoesOnWithin, rows_from, EndsBefore, IsLastBelow};
 
+use crate::sinks::Sink;
 use arrayvec::ArrayVec;
 use bl_model::Next;
 use bl_page::{
@@ -222,122 +221,65 @@ pub fn portion_in<W: Words>(source: &W, hand: &mut W::Hand, from: u64, to: Optio
     }
 }
 
-/// Makes room for so many rows more, or gives the rows back without it.
-#[inline(never)]
-fn grown(rows: Vec<(u64, u64)>, more: usize) -> (Vec<(u64, u64)>, Result<(), AllocError>)
-    ensures rows { result.0.items ≡ rows.items }
-    ensures ok { OnOk result.1 (vec_len result.0 + more ≤ vec_capacity result.0) }
-    ensures full { OnErr result.1 (vec_capacity result.0 < vec_len result.0 + more) }
-{
-    let mut rows = rows;
-    let done = rows.reserve(more);
-    (rows, done)
-}
-
-/// The same, without a call where there is room.
+/// Gives the leaf's rows from one place up to another, two at a time, for which there is room.
 #[inline(always)]
-fn with_room(rows: Vec<(u64, u64)>, more: usize) -> (Vec<(u64, u64)>, Result<(), AllocError>)
-    ensures rows { result.0.items ≡ rows.items }
-    ensures ok { OnOk result.1 (vec_len result.0 + more ≤ vec_capacity result.0) }
-    ensures full { OnErr result.1 (vec_capacity result.0 < vec_len result.0 + more) }
-{
-    if more <= rows.capacity() - rows.len() {
-        (rows, Ok(()))
-    } else {
-        grown(rows, more)
-    }
-}
-
-/// Appends the leaf's rows from one place up to another, two at a time, for which there is room.
-#[inline(always)]
-fn append_between<W: Words>(
+fn give_between<W: Words, S, K: Sink<S>>(
     source: &W,
     hand: &mut W::Hand,
     first: usize,
     last: usize,
-    rows: Vec<(u64, u64)>,
-) -> Vec<(u64, u64)>
-    requires sees { W.Sees source.now hand.old }
-    requires pairs { HasPairs (W.shown source.now hand.old) }
-    requires order { first ≤ last }
-    requires within { last ≤ length (pairs_of (W.shown source.now hand.old)) }
-    requires room { vec_len rows + (last - first) ≤ vec_capacity rows }
-    ensures same { hand.new ≡ hand.old }
-    ensures rows { result.items ≡ rows.items ++ take (last - first) (drop first (pairs_of (W.shown source.now hand.old))) }
-{
-    let mut rows = rows;
-    let many = last - first;
-    for pair in 0..many / 2 {
-        let place = first + 2 * pair;
-        let row = row_at(source, hand, place);
-        let next = row_at(source, hand, place + 1);
-        rows.push_reserved(row);
-        rows.push_reserved(next);
-    }
-    if many % 2 == 1 {
-        let row = row_at(source, hand, last - 1);
-        rows.push_reserved(row);
-    }
-    rows
-}
-
-/// Appends the leaf's rows from one place up to another; or none of them, where there is no room. The rows come and go by value, so that
-/// they are not read again behind each word of the leaf.
-#[inline(always)]
-pub fn append_rows<W: Words>(
-    source: &W,
-    hand: &mut W::Hand,
-    first: usize,
-    last: usize,
-    rows: Vec<(u64, u64)>,
-) -> (Vec<(u64, u64)>, Result<(), AllocError>)
-    requires sees { W.Sees source.now hand.old }
-    requires pairs { HasPairs (W.shown source.now hand.old) }
-    requires order { first ≤ last }
-    requires within { last ≤ length (pairs_of (W.shown source.now hand.old)) }
-    ensures same { hand.new ≡ hand.old }
-    ensures all { OnOk result.1 (result.0.items ≡ rows.items ++ take (last - first) (drop first (pairs_of (W.shown source.now hand.old)))) }
-    ensures none { OnErr result.1 (result.0.items ≡ rows.items) }
-    ensures more { OnErr result.1 (vec_capacity result.0 - vec_len result.0 < last - first) }
-{
-    let (rows, room) = with_room(rows, last - first);
-    match room {
-        Ok(()) => (append_between(source, hand, first, last, rows), Ok(())),
-        Err(full) => (rows, Err(full)),
-    }
-}
-
-/// Tells a callback a row.
-#[inline(always)]
-fn tell_row<F: FnMut((u64, u64))>(row: (u64, u64), visit: &mut F)
-    requires { F.IsAlwaysCallable visit.old }
-    ensures callable { F.IsAlwaysCallable visit.new }
-    ensures told { F.step visit.old row tt visit.new }
-{
-    visit(row);
-}
-
-/// Tells a callback the leaf's rows from one place up to another, one after another.
-#[inline(always)]
-pub fn tell_rows<W: Words, F: FnMut((u64, u64))>(
-    source: &W,
-    hand: &mut W::Hand,
-    first: usize,
-    last: usize,
-    visit: &mut F,
+    state: &mut S,
 )
     requires sees { W.Sees source.now hand.old }
     requires pairs { HasPairs (W.shown source.now hand.old) }
     requires order { first ≤ last }
     requires within { last ≤ length (pairs_of (W.shown source.now hand.old)) }
-    requires callable { F.IsAlwaysCallable visit.old }
+    requires ready { K.IsReady state.old }
+    requires room { K.HasRoom state.old (last - first) }
     ensures same { hand.new ≡ hand.old }
-    ensures callable { F.IsAlwaysCallable visit.new }
-    ensures told { FoldsTo (λ p x q. F.step p x tt q) visit.old (take (last - first) (drop first (pairs_of (W.shown source.now hand.old)))) visit.new }
+    ensures ready { K.IsReady state.new }
+    ensures takes { K.Takes (K.held state.old) (take (last - first) (drop first (pairs_of (W.shown source.now hand.old)))) (K.held state.new) }
 {
-    for place in first..last {
+    let many = last - first;
+    for pair in 0..many / 2 {
+        let place = first + 2 * pair;
         let row = row_at(source, hand, place);
-        tell_row(row, visit);
+        let next = row_at(source, hand, place + 1);
+        K::accept(state, row);
+        K::accept(state, next);
+    }
+    if many % 2 == 1 {
+        let row = row_at(source, hand, last - 1);
+        K::accept(state, row);
+    }
+}
+
+/// Gives the leaf's rows from one place up to another; or none of them, where there is no room.
+#[inline(always)]
+pub fn give_rows<W: Words, S, K: Sink<S>>(
+    source: &W,
+    hand: &mut W::Hand,
+    first: usize,
+    last: usize,
+    state: &mut S,
+) -> Result<(), AllocError>
+    requires sees { W.Sees source.now hand.old }
+    requires pairs { HasPairs (W.shown source.now hand.old) }
+    requires order { first ≤ last }
+    requires within { last ≤ length (pairs_of (W.shown source.now hand.old)) }
+    requires ready { K.IsReady state.old }
+    ensures same { hand.new ≡ hand.old }
+    ensures ready { K.IsReady state.new }
+    ensures takes { OnOk result (K.Takes (K.held state.old) (take (last - first) (drop first (pairs_of (W.shown source.now hand.old)))) (K.held state.new)) }
+    ensures kept { OnErr result (K.held state.new ≡ K.held state.old) }
+    ensures lacks { OnErr result (K.Lacks state.new (last - first)) }
+{
+    match K::make_room(state, last - first) {
+        Ok(()) => {
+            give_between::<_, _, K>(source, hand, first, last, state);
+            Ok(())
+        }
+        Err(full) => Err(full),
     }
 }
 

@@ -9,10 +9,12 @@ mod finding;
 mod leaf_rows;
 mod leaf_ways;
 mod listing;
+mod sinks;
 mod sought;
 
 pub use finding::{OutOfTurns, find_from, find_key, find_keys};
-pub use leaf_rows::{Behind, Portion, append_rows, portion_in, tell_rows};
+pub use leaf_rows::{Behind, Portion, give_rows, portion_in};
 pub use leaf_ways::{descend_to_leaf, end_at_leaf, set_off};
 pub use listing::{fetch_behind, go_behind, list_part, list_part_down};
+pub use sinks::{Appending, Sink, Telling};
 pub use sought::Sought;

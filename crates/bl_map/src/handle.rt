@@ -1,6 +1,7 @@
 //! What a thread works with.
 
-ghost use Rattle.std.specs.Prelude.{◌≡◌, ℕ, ◌<◌, ◌≤◌, ◌+◌, ◌-◌, ◌^◌, None, length, take, vec_len};
+ghost use Rattle.std.specs.Prelude.{◌≡◌, ℕ, ◌<◌, ◌≤◌, ◌+◌, ◌-◌, ◌^◌, None, Ok, length, take, vec_len};
+ghost use Rattle.std.specs.List.{FoldsTo};
 ghost use Rattle.std.specs.Vec.{vec_capacity};
 ghost use Rattle.bl_model.specs.declared.operation.Op.TheVariants as op;
 ghost use Rattle.bl_model.specs.declared.deciding.KeyWrite.TheVariants as key_write;
@@ -12,7 +13,7 @@ ghost use Rattle.bl_map.specs.Seats.{IsPassOf-prop};
 ghost use Rattle.bl_map_calls.specs.declared.updating.Updated.TheVariants as updated;
 
 use bl_check::Quiet;
-use bl_index::{Hint, Index, KeyReply, KeyWrite, Pass, Reply, RoomSeen};
+use bl_index::{Appending, Hint, Index, KeyReply, KeyWrite, Pass, Reply, RoomSeen};
 use bl_load::LoadFault;
 use bl_map_calls::many::{Deletions, Insertions, Puts};
 use bl_map_calls::updating::{self, Updated};
@@ -51,7 +52,8 @@ impl<'a> Handle<'a> {
     ghost use Rattle.bl_map.specs.Handles.{first_map_of, pages_of_map, frames_of_map, number_of_seat, seat_of, seen_by, waiting_of, dropped_of};
     ghost use Rattle.bl_map_calls.specs.Scans.{Scanned, TellsRows};
     ghost use Rattle.bl_map_calls.specs.Limits.{ScannedAtMost};
-    ghost use Rattle.bl_map_calls.specs.Falling.{ScannedDown, TellsDown};
+    ghost use Rattle.bl_map_calls.specs.Falling.{ScannedDown};
+    ghost use Rattle.bl_index_read.specs.Sinks.{Appends};
 
     /// The handle that works on an index from a seat of it. For a map see [`crate::Map::handle`].
     pub fn over(index: &'a Index, seat: Pass) -> Handle<'a>
@@ -347,15 +349,15 @@ impl<'a> Handle<'a> {
         rows: &mut Vec<(u64, u64)>,
     ) -> Result<(), AllocError>
         ensures same { IsSameHandle self.old self.new }
-        ensures scanned { low ≤ from → ScannedDown (first_map_of self.old) (pages_of_map self.old) (number_of_seat self.old) from low
-            (vec_capacity rows.new - vec_len rows.new) result rows.old.items rows.new.items (seen_by self.old) (seen_by self.new) }
+        ensures scanned { low ≤ from → ScannedDown Appends (λ many. vec_capacity rows.new - vec_len rows.new < many) (first_map_of self.old)
+            (pages_of_map self.old) (number_of_seat self.old) from low result rows.old.items rows.new.items (seen_by self.old) (seen_by self.new) }
         ensures none { from < low → (rows.new.items ≡ rows.old.items) × (seen_by self.new ≡ seen_by self.old) }
         ensures keeps { KeepsHints self.old self.new }
     {
         if from < low {
             return Ok(());
         }
-        falling::scan_down(rt, self.index, &mut self.pass, from, low, rows)
+        falling::scan_down::<_, _, Appending>(rt, self.index, &mut self.pass, from, low, rows)
     }
 
     /// Tells a callback the rows from a key on downwards to another one, both included, by falling keys: the rows of [`Handle::scan_down`],
@@ -369,8 +371,8 @@ impl<'a> Handle<'a> {
     )
         requires { F.IsAlwaysCallable visit.old }
         ensures same { IsSameHandle self.old self.new }
-        ensures tells { low ≤ from → TellsDown (λ p x q. F.step p x tt q) (first_map_of self.old) (pages_of_map self.old) (number_of_seat self.old) from low
-            visit.old visit.new (seen_by self.old) (seen_by self.new) }
+        ensures tells { low ≤ from → ScannedDown (FoldsTo (λ p x q. F.step p x tt q)) (λ many. ⊥) (first_map_of self.old) (pages_of_map self.old)
+            (number_of_seat self.old) from low (Ok tt) visit.old visit.new (seen_by self.old) (seen_by self.new) }
         ensures none { from < low → (visit.new ≡ visit.old) × (seen_by self.new ≡ seen_by self.old) }
         ensures keeps { KeepsHints self.old self.new }
     {

@@ -1,6 +1,7 @@
 -- A scan downwards goes on by a part.
 use Rattle.std.proofs.Common.{◌≡◌, ⊎_elim, ℕ, suc, ◌+◌, ◌-◌, ◌<◌, ◌≤◌, Bool, true, false, Option, Some, None, List, [], ◌∷◌, ◌++◌, length, get_or, reverse, refl, sym, ap, ◌∙◌, subst, append_assoc, append-nil, arith}
-use Rattle.std.specs.Prelude.{◌↔◌, All, AllPairs, Contains, Ok, Err, filter, nat_le}
+use Rattle.std.specs.Prelude.{◌↔◌, All, AllPairs, Contains, Result, Ok, Err, filter, nat_le}
+use Rattle.std.specs.declared.alloc.AllocError.{AllocError}
 use Rattle.std.proofs.lemmas.Bool.{cases_lt}
 use Rattle.std.proofs.lemmas.Bool.Decides.{nat_tests}
 use Rattle.std.proofs.lemmas.List.{get_or_default, flat_map_more, length-reverse, get_or-reverse, reverse-reverse}
@@ -308,12 +309,12 @@ module _ (first : List (Option Page)) (pages pass it from at : ℕ) (reply : Rep
 
 -- ---- where a scan downwards ends
 
-module _ {E : Type 0} (first : List (Option Page)) (pages pass from low room : ℕ) (listed before after : List (ℕ × ℕ)) (old new : Trail) (grown : after ≡ before ++ listed) where
+module _ {S : Type 0} (takes : S → List (ℕ × ℕ) → S → Type 0) (lacks : ℕ → Type 0) (first : List (Option Page)) (pages pass from low : ℕ) (listed : List (ℕ × ℕ)) (before after : S) (old new : Trail) (taken : takes before listed after) where
   -- it is over
-  pub scan_ends : (upto : Option ℕ) → HasSearchedDown first pages pass from low upto listed old new → IsOverDown low upto → ScannedDown {E = E} first pages pass from low room (Ok tt) before after old new
+  pub scan_ends : (upto : Option ℕ) → HasSearchedDown first pages pass from low upto listed old new → IsOverDown low upto → ScannedDown takes lacks first pages pass from low (Ok tt) before after old new
   scan_ends upto s over = record {
     rows = listed;
-    appended = grown;
+    taken = taken;
     upto = upto;
     mid = new;
     scanned = s.scanned;
@@ -323,10 +324,10 @@ module _ {E : Type 0} (first : List (Option Page)) (pages pass from low room : �
   }
 
   -- the rows of a part had no room
-  pub scan_stops : (it turns at : ℕ) (reply : Reply) (mid : Trail) (why : E) → it ≡ pass → turns ≡ pages → HasSearchedDown first pages pass from low (Some at) listed old mid → Finds first pages it turns (PartDown at) reply mid new → room < length (rows_to low reply) → ScannedDown {E = E} first pages pass from low room (Err why) before after old new
+  pub scan_stops : (it turns at : ℕ) (reply : Reply) (mid : Trail) (why : AllocError) → it ≡ pass → turns ≡ pages → HasSearchedDown first pages pass from low (Some at) listed old mid → Finds first pages it turns (PartDown at) reply mid new → lacks (length (rows_to low reply)) → ScannedDown takes lacks first pages pass from low (Err why) before after old new
   scan_stops it turns at reply mid why same is_turns s finds full = record {
     rows = listed;
-    appended = grown;
+    taken = taken;
     upto = Some at;
     mid = mid;
     scanned = s.scanned;
@@ -335,32 +336,34 @@ module _ {E : Type 0} (first : List (Option Page)) (pages pass from low room : �
     stopped = (at, reply, refl, subst (λ (z : ℕ). Finds first pages pass z (PartDown at) reply mid new) is_turns (subst (λ (z : ℕ). Finds first pages z turns (PartDown at) reply mid new) same finds), full);
   }
 
+-- where there is room for all rows it does not stop
+pub never_stops : {S : Type 0} (takes : S → List (ℕ × ℕ) → S → Type 0) (first : List (Option Page)) (pages pass from low : ℕ) (result : Result (Unit {0}) AllocError) (before after : S) (old new : Trail) → ScannedDown takes (λ many. ⊥) first pages pass from low result before after old new → ScannedDown takes (λ many. ⊥) first pages pass from low (Ok tt) before after old new
+never_stops takes first pages pass from low (Ok done) before after old new s = s
+never_stops takes first pages pass from low (Err why) before after old new s = absurd s.stopped.4
+
 -- ---- what becomes of a scan downwards by a part that was answered
 
-module _ (first : List (Option Page)) (pages pass it turns from at low : ℕ) (reply : Reply) (listed before middle after : List (ℕ × ℕ)) (old mid new : Trail) (same : it ≡ pass) (is_turns : turns ≡ pages)
-    (s : HasSearchedDown first pages pass from low (Some at) listed old mid) (high : at ≤ from) (least : low ≤ at) (finds : Finds first pages it turns (PartDown at) reply mid new) (grown : middle ≡ before ++ listed) where
+module _ (first : List (Option Page)) (pages pass it turns from at low : ℕ) (reply : Reply) (listed : List (ℕ × ℕ)) (old mid new : Trail) (same : it ≡ pass) (is_turns : turns ≡ pages)
+    (s : HasSearchedDown first pages pass from low (Some at) listed old mid) (high : at ≤ from) (least : low ≤ at) (finds : Finds first pages it turns (PartDown at) reply mid new) where
   by_part : HasSearchedDown first pages pass from low (ended_at reply) (listed ++ rows_to low reply) old new × IsUnder at (ended_at reply)
   by_part = searched_down_more first pages pass it from at low reply listed old mid new same s high least (call_works first it it (PartDown at) reply mid new refl finds.answers)
       (made_one first pages it it turns (PartDown at) reply mid mid new refl is_turns Searches.NoneMade finds)
 
-  -- its rows had no room
-  pub stops_at_part : {E : Type 0} (room : ℕ) (why : E) → after ≡ middle → room < length (rows_to low reply) → ScannedDown {E = E} first pages pass from low room (Err why) before after old new
-  stops_at_part room why kept full = scan_stops first pages pass from low room listed before after old new (kept ∙ grown) it turns at reply mid why same is_turns s finds full
+  -- it goes on
+  pub goes_below : (next : ℕ) → ended_at reply ≡ Some next → (next ≤ from) × HasSearchedDown first pages pass from low (Some next) (listed ++ rows_to low reply) old new
+  goes_below next is =
+      let on = subst (λ (z : Option ℕ). HasSearchedDown first pages pass from low z (listed ++ rows_to low reply) old new × IsUnder at z) is by_part in
+      (let further : next < at = on.1 in omega arith, on.0)
 
-  module _ (appended : after ≡ middle ++ rows_to low reply) where
-    all_grown : after ≡ before ++ (listed ++ rows_to low reply)
-    all_grown = appended ∙ (ap (λ (z : List (ℕ × ℕ)). z ++ rows_to low reply) grown ∙ append_assoc before listed (rows_to low reply))
-
-    -- it goes on
-    pub goes_below : (next : ℕ) → ended_at reply ≡ Some next → (next ≤ from) × (after ≡ before ++ (listed ++ rows_to low reply)) × HasSearchedDown first pages pass from low (Some next) (listed ++ rows_to low reply) old new
-    goes_below next is =
-        let on = subst (λ (z : Option ℕ). HasSearchedDown first pages pass from low z (listed ++ rows_to low reply) old new × IsUnder at z) is by_part in
-        (let further : next < at = on.1 in omega arith, all_grown, on.0)
+  module _ {S : Type 0} (takes : S → List (ℕ × ℕ) → S → Type 0) (lacks : ℕ → Type 0) (before after : S) where
+    -- its rows had no room
+    pub stops_at_part : (why : AllocError) → takes before listed after → lacks (length (rows_to low reply)) → ScannedDown takes lacks first pages pass from low (Err why) before after old new
+    stops_at_part why taken full = scan_stops takes lacks first pages pass from low listed before after old new taken it turns at reply mid why same is_turns s finds full
 
     -- it has come to its last key
-    pub ends_at_key : {E : Type 0} (room next : ℕ) → ended_at reply ≡ Some next → next < low → ScannedDown {E = E} first pages pass from low room (Ok tt) before after old new
-    ends_at_key room next is under = scan_ends first pages pass from low room (listed ++ rows_to low reply) before after old new all_grown (ended_at reply) by_part.0 (subst (IsOverDown low) (sym is) under)
+    pub ends_at_key : (next : ℕ) → takes before (listed ++ rows_to low reply) after → ended_at reply ≡ Some next → next < low → ScannedDown takes lacks first pages pass from low (Ok tt) before after old new
+    ends_at_key next taken is under = scan_ends takes lacks first pages pass from low (listed ++ rows_to low reply) before after old new taken (ended_at reply) by_part.0 (subst (IsOverDown low) (sym is) under)
 
     -- or to the end of the map
-    pub ends_with_map : {E : Type 0} (room : ℕ) → ended_at reply ≡ None → ScannedDown {E = E} first pages pass from low room (Ok tt) before after old new
-    ends_with_map room is = scan_ends first pages pass from low room (listed ++ rows_to low reply) before after old new all_grown (ended_at reply) by_part.0 (subst (IsOverDown low) (sym is) tt)
+    pub ends_with_map : takes before (listed ++ rows_to low reply) after → ended_at reply ≡ None → ScannedDown takes lacks first pages pass from low (Ok tt) before after old new
+    ends_with_map taken is = scan_ends takes lacks first pages pass from low (listed ++ rows_to low reply) before after old new taken (ended_at reply) by_part.0 (subst (IsOverDown low) (sym is) tt)

@@ -10,5 +10,6 @@ pub mod Limited
 pub mod TryByTry
 pub mod Imaged
 pub mod Told
+pub mod GivenDown
 pub mod Groups
 pub mod Downwards

@@ -241,11 +241,11 @@ module _ (first : List (Option Page)) (pages pass it turns from at : ℕ) (to : 
     seen = λ x. x;
   }
 
-  pub ran_out : (fault : ScanFault) (key : ℕ) → fault ≡ OutOfTurns key → StopsScan first pages it turns at to room fault rows mid new
+  pub ran_out : (lacks : ℕ → Type 0) (fault : ScanFault) (key : ℕ) → fault ≡ OutOfTurns key → StopsScan first pages it turns at to lacks fault rows mid new
       → (from ≤ key) × HasSearched first pages pass from to (Some key) (listed ++ rows) old new
   unfolding scanned_adds
-  ran_out fault key is c =
-      let stop : StopsScan first pages it turns at to room (OutOfTurns key) rows mid new = subst (λ (z : ScanFault). StopsScan first pages it turns at to room z rows mid new) is c in
+  ran_out lacks fault key is c =
+      let stop : StopsScan first pages it turns at to lacks (OutOfTurns key) rows mid new = subst (λ (z : ScanFault). StopsScan first pages it turns at to lacks z rows mid new) is c in
       let by = by_call (Some key) stop.mid stop.scans in (
         let f : at ≤ key = by.1 in omega arith,
         record {
@@ -254,11 +254,11 @@ module _ (first : List (Option Page)) (pages pass it turns from at : ℕ) (to : 
         },
       )
 
-  pub had_no_room : {E : Type 0} (why : E) (fault : ScanFault) (key : ℕ) → fault ≡ Memory key → StopsScan first pages it turns at to room fault rows mid new
+  pub had_no_room : {E : Type 0} (why : E) (fault : ScanFault) (key : ℕ) → fault ≡ Memory key → StopsScan first pages it turns at to (λ many. room < many) fault rows mid new
       → Scanned {E = E} first pages pass from to room (Err why) before after old new
   had_no_room why fault key is c =
-      let stop : StopsScan first pages it turns at to room (Memory key) rows mid new = subst (λ (z : ScanFault). StopsScan first pages it turns at to room z rows mid new) is c in
-      let f : FindsNoRoom first pages it turns key to room stop.mid new = stop.stops in
+      let stop : StopsScan first pages it turns at to (λ many. room < many) (Memory key) rows mid new = subst (λ (z : ScanFault). StopsScan first pages it turns at to (λ many. room < many) z rows mid new) is c in
+      let f : FindsNoRoom first pages it turns key to (λ many. room < many) stop.mid new = stop.stops in
       record {
         rows = listed ++ rows;
         appended = all_rows listed rows before middle after grown appended;
@@ -267,7 +267,7 @@ module _ (first : List (Option Page)) (pages pass it turns from at : ℕ) (to : 
         scanned = (by_call (Some key) stop.mid stop.scans).0.scanned;
         searches = (by_call (Some key) stop.mid stop.scans).0.searches;
         over = tt;
-        stopped = (key, refl, subst (λ (z : ℕ). FindsNoRoom first pages pass z key to room stop.mid new) is_turns (subst (λ (z : ℕ). FindsNoRoom first pages z turns key to room stop.mid new) same f));
+        stopped = (key, refl, subst (λ (z : ℕ). FindsNoRoom first pages pass z key to (λ many. room < many) stop.mid new) is_turns (subst (λ (z : ℕ). FindsNoRoom first pages z turns key to (λ many. room < many) stop.mid new) same f));
         begins = (_, f.finds.answers.holds.begins);
         seen = λ _. f.finds.answers.seen;
       }

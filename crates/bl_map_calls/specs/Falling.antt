@@ -1,6 +1,6 @@
 -- What a scan downwards of a handle promises, and a call that looks for the greatest row up to a key.
 use Rattle.std.specs.Prelude.{◌≡◌, ◌↔◌, ℕ, ◌<◌, ◌≤◌, ◌++◌, List, [], ◌∷◌, Option, Some, None, Result, All, OnOk, OnErr, MatchOption, filter, flat_map, length, nat_le}
-use Rattle.std.specs.List.{FoldsTo}
+use Rattle.std.specs.declared.alloc.AllocError.{AllocError}
 use Rattle.bl_page.specs.declared.page.Page.{Page}
 use Rattle.bl_model.specs.Parts.{rows_of, ended_at}
 use Rattle.bl_model.specs.Rows.{key_at}
@@ -55,30 +55,20 @@ pub record HasScannedDown (first : List (Option Page)) (pass from low : ℕ) (up
   pub within : All (λ row. (row.0 ≤ from) × IsAbove upto row.0) rows
   pub right : (key : ℕ) → key ≤ from → IsAbove upto key → low ≤ key → IsRight first pass (history_of old) (history_of new) rows key
 
--- The rows of a scan downwards stand behind those of before, and it has done nothing but search for its parts. Without a fault it has come to
--- its last key or to the end of the map. Else it has come to some key, and more rows of the part from there belong to it than there is room for.
-pub record ScannedDown {E : Type 0} (first : List (Option Page)) (pages pass from low room : ℕ) (result : Result (Unit {0}) E) (before after : List (ℕ × ℕ))
-    (old new : Trail) : Type 0 where
+-- The rows of a scan downwards have gone where it was to give them: they led from one state there to another. It has done nothing but search
+-- for its parts. Without a fault it has come to its last key or to the end of the map. Else it has come to some key, and so many rows of the
+-- part from there belong to it that there is no room for them.
+pub record ScannedDown {S : Type 0} (takes : S → List (ℕ × ℕ) → S → Type 0) (lacks : ℕ → Type 0) (first : List (Option Page)) (pages pass from low : ℕ)
+    (result : Result (Unit {0}) AllocError) (before after : S) (old new : Trail) : Type 0 where
   pub rows : List (ℕ × ℕ)
-  pub appended : after ≡ before ++ rows
+  pub taken : takes before rows after
   pub upto : Option ℕ
   pub mid : Trail
   pub scanned : HasScannedDown first pass from low upto rows old mid
   pub searches : Searches first pages pass scanned.parts old mid
   pub over : OnOk result (IsOverDown low upto × (new ≡ mid))
   pub stopped : OnErr result ((key : ℕ) × (reply : Reply) × (upto ≡ Some key) × Finds first pages pass pages (PartDown key) reply mid new
-      × (room < length (rows_to low reply)))
-
--- A callback was told the rows of a scan downwards that came to its last key or to the end of the map: each once, one after another, and no
--- other row. A call of it with a row leads from one state to another one. Beside that the scan has done nothing but search for its parts.
-pub record TellsDown {F : Type 0} (leads : F → ℕ × ℕ → F → Type 0) (first : List (Option Page)) (pages pass from low : ℕ) (before after : F)
-    (old new : Trail) : Type 0 where
-  pub rows : List (ℕ × ℕ)
-  pub upto : Option ℕ
-  pub told : FoldsTo leads before rows after
-  pub scanned : HasScannedDown first pass from low upto rows old new
-  pub searches : Searches first pages pass scanned.parts old new
-  pub over : IsOverDown low upto
+      × lacks (length (rows_to low reply)))
 
 -- The pass has scanned from a key on downwards until a part had a row, which is the answer; or to the end of the map, and there was none.
 pub record FindsGreatest (first : List (Option Page)) (pages pass from : ℕ) (answer : Option (ℕ × ℕ)) (old new : Trail) : Type 0 where

@@ -1,5 +1,5 @@
 -- What a scan of a handle promises.
-use Rattle.std.specs.Prelude.{◌≡◌, ℕ, ◌≤◌, ◌++◌, List, Option, Some, Result, All, OnOk, OnErr, flat_map}
+use Rattle.std.specs.Prelude.{◌≡◌, ℕ, ◌<◌, ◌≤◌, ◌++◌, List, Option, Some, Result, All, OnOk, OnErr, flat_map}
 use Rattle.std.specs.List.{FoldsTo}
 use Rattle.bl_page.specs.declared.page.Page.{Page}
 use Rattle.bl_model.specs.Rows.{HasRisingKeys}
@@ -34,7 +34,7 @@ pub record Scanned {E : Type 0} (first : List (Option Page)) (pages pass from : 
   pub scanned : HasScanned first pass from to upto rows old mid
   pub searches : Searches first pages pass scanned.parts old mid
   pub over : OnOk result (IsOver to upto × (new ≡ mid))
-  pub stopped : OnErr result ((key : ℕ) × (upto ≡ Some key) × FindsNoRoom first pages pass pages key to room mid new)
+  pub stopped : OnErr result ((key : ℕ) × (upto ≡ Some key) × FindsNoRoom first pages pass pages key to (λ many. room < many) mid new)
   pub begins : GoesOnFrom mid new
   pub seen : IsLinearizable first mid → IsLinearizable first new
 

@@ -40,11 +40,10 @@ pub(crate) enum Want {
 
 /// Whether the pass lacks what it wants, and some of that waits to be released.
 fn lacks(index: &Index, pass: &Pass, want: Want) -> bool {
-    let store = &index.tree().store;
     match want {
         Want::Frames => index.lacks_frames(pass),
-        Want::Pages => store.lacks_pages() && store.retiring_pages() > 0,
-        Want::Nothing => store.retiring_pages() > 0,
+        Want::Pages => index.waits_for_pages(),
+        Want::Nothing => index.tree().store.retiring_pages() > 0,
     }
 }
 

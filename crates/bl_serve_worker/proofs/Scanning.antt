@@ -16,7 +16,7 @@ use Rattle.bl_page.specs.declared.page.Page.{Page}
 use Rattle.bl_claims.specs.Trails.{Trail}
 use Rattle.bl_claims.specs.Seeing.{IsLinearizable, own}
 use Rattle.bl_index.specs.Scans.{AreParts as ArePartsUpTo, rows_below as rows_of_part}
-use Rattle.bl_map_calls.specs.Falling.{ArePartsDown as ArePartsDownTo, IsOverDown, TellsDown}
+use Rattle.bl_map_calls.specs.Falling.{ArePartsDown as ArePartsDownTo, IsOverDown, HasScannedDown, ScannedDown as HasGoneDown}
 use Rattle.bl_map.specs.declared.handle.Handle.{Handle}
 use Rattle.bl_map.specs.Handles.{first_map_of, pages_of_map, number_of_seat, seen_by}
 use Rattle.bl_map_calls.specs.Scans.{TellsRows}
@@ -106,18 +106,18 @@ module _ {F : Type 0} (leads : F → ℕ × ℕ → F → Type 0) (first : List 
     t.told,
   ))
 
-  lists_down : (low high from : ℕ) (asked : Request) → asked ≡ ScanDown low high → key_below high ≡ Some from → TellsDown leads first pages pass from low p q old new → Lists asked
-  lists_down low high from asked is below t = subst Lists (sym is) (let s = t.scanned in (
+  lists_down : (low high from : ℕ) (asked : Request) → asked ≡ ScanDown low high → key_below high ≡ Some from → HasGoneDown (FoldsTo leads) (λ many. ⊥) first pages pass from low (Ok tt) p q old new → Lists asked
+  lists_down low high from asked is below t = subst Lists (sym is) (let s = subst (λ (z : Trail). HasScannedDown first pass from low t.upto t.rows old z) (sym t.over.1) t.scanned in (
     t.rows,
     record {
       answer = ScannedDown low high s.parts;
-      is_for = ScansDown low high s.parts (subst (λ (z : Option ℕ). ArePartsDown z low s.parts) (sym below) (are_parts_down pass low (Some from) t.upto s.parts s.are_parts t.over));
+      is_for = ScansDown low high s.parts (subst (λ (z : Option ℕ). ArePartsDown z low s.parts) (sym below) (are_parts_down pass low (Some from) t.upto s.parts s.are_parts t.over.0));
       lists = ap (λ (z : List (ℕ × ℕ)). codes "rows" ++ flat_map row_text z) (sym (s.listed ∙ kept_of_all (λ row. nat_le low row.0) s.parts));
       begins = s.begins;
       seen = s.seen;
       mine = s.mine;
     },
-    t.told,
+    t.taken,
   ))
 
   -- no key lies within its bounds, and nothing was looked for
@@ -140,7 +140,7 @@ module _ {F : Type 0} (leads : F → ℕ × ℕ → F → Type 0) (first : List 
       over (suc from) none = omega (arith, none)
 
   -- the key from which it goes is the one below its end
-  pub lists_downwards : (low high from : ℕ) (asked : Request) → asked ≡ ScanDown low high → 1 ≤ high → from ≡ high - 1 → (low ≤ from → TellsDown leads first pages pass from low p q old new) → (from < low → (q ≡ p) × (new ≡ old)) → Lists asked
+  pub lists_downwards : (low high from : ℕ) (asked : Request) → asked ≡ ScanDown low high → 1 ≤ high → from ≡ high - 1 → (low ≤ from → HasGoneDown (FoldsTo leads) (λ many. ⊥) first pages pass from low (Ok tt) p q old new) → (from < low → (q ≡ p) × (new ≡ old)) → Lists asked
   lists_downwards low high from asked is some at tells none = ⊎_elim
       (λ (under : from < low). lists_none low high asked is (omega (arith, some, at)) (none under).0 (none under).1)
       (λ (le : low ≤ from). lists_down low high from asked is (below high some at) (tells le))

@@ -9,18 +9,18 @@ pub returns-in-Ok-clause-scanned : goal.returns-in-Ok-clause-scanned
 returns-in-Ok-clause-scanned g c =
     let inv = c.loop.invariant in
     let m = c.in-Ok.ensures.scans in
-    has_ended _ _ _ _ _ _ _ _ _ _ m.rows _ _ _ _ _ _ inv.same.2 c.patience-turns.ensures inv.so_far inv.low inv.grown m.appended m.ended
+    has_ended _ _ _ _ _ _ _ _ _ _ m.rows _ _ _ _ _ _ inv.same.2 c.patience-turns.ensures inv.so_far inv.low inv.grown m.taken m.ended
 
 pub loop-preserved : goal.loop-preserved
 loop-preserved g c =
     let inv = c.loop.invariant in
     let m = c.in-Err-OutOfTurns.ensures.scans in
-    let on = ran_out _ _ _ _ _ _ _ _ _ _ m.rows _ _ _ _ _ _ inv.same.2 c.patience-turns.ensures inv.so_far inv.low inv.grown m.appended _ _ c.in-Err-OutOfTurns.field-0-is m.stopped in
+    let on = ran_out _ _ _ _ _ _ _ _ _ _ m.rows _ _ _ _ _ _ inv.same.2 c.patience-turns.ensures inv.so_far inv.low inv.grown m.taken _ _ _ c.in-Err-OutOfTurns.field-0-is m.stopped in
     record {
       same = search rules;
       low = on.0;
       listed = inv.listed ++ m.rows;
-      grown = all_rows inv.listed m.rows _ _ _ inv.grown m.appended;
+      grown = all_rows inv.listed m.rows _ _ _ inv.grown m.taken;
       so_far = on.1;
     }
 
@@ -28,4 +28,4 @@ pub returns-in-Err-Memory-clause-scanned : goal.returns-in-Err-Memory-clause-sca
 returns-in-Err-Memory-clause-scanned g c =
     let inv = c.loop.invariant in
     let m = c.in-Err-Memory.ensures.scans in
-    had_no_room _ _ _ _ _ _ _ _ _ _ m.rows _ _ _ _ _ _ inv.same.2 c.patience-turns.ensures inv.so_far inv.low inv.grown m.appended _ _ _ c.in-Err-Memory.field-0-is m.stopped
+    had_no_room _ _ _ _ _ _ _ _ _ _ m.rows _ _ _ _ _ _ inv.same.2 c.patience-turns.ensures inv.so_far inv.low inv.grown m.taken _ _ _ c.in-Err-Memory.field-0-is m.stopped

@@ -5,7 +5,10 @@ use Rattle.bl_index.proofs.index.Index.scan_with.Goals as goal
 pub returns-then-not-is_below-clause-tells : goal.returns-then-not-is_below-clause-tells
 returns-then-not-is_below-clause-tells g c = record {
   rows = [];
-  told = refl;
+  taken = refl;
   ended = record { upto = Some c.args.from; over = over c.args.to c.args.from (sym c.is_below.ensures ∙ c.if-not-is_below.true); scans = scans_none _ _ _ _ _ _ _ };
   stopped = tt;
 }
+
+pub unreachable-requires : goal.unreachable-requires
+unreachable-requires g c = (rw c.in-Err-Memory.is at c.scan.ensures.scans).stopped.stops.more
