@@ -121,12 +121,12 @@ abbrev pub HasSwept : Handle → Handle → Type 0
 HasSwept old new = Swept (first_map_of old) (number_of_seat old) (seen_by old) (seen_by new)
 
 -- No frame that it has retired came after its last sweep.
-abbrev pub IsAllSwept : Handle → Type 0
-IsAllSwept handle = AllSwept handle.pass
+abbrev pub NoneUnswept : Handle → Type 0
+NoneUnswept handle = AllSwept handle.pass
 
 -- It has swept once more, and has retired no frame since.
-abbrev pub HasSweptOnce : Handle → Handle → Type 0
-HasSweptOnce old new = SweptOnce old.pass new.pass
+abbrev pub HasSweptAgain : Handle → Handle → Type 0
+HasSweptAgain old new = SweptOnce old.pass new.pass
 
 -- The handle has made no call.
 abbrev pub HasKeptUp : Handle → Handle → Type 0

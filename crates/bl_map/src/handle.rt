@@ -48,7 +48,7 @@ impl<'a> Handle<'a> {
     ghost use Rattle.bl_map.specs.Handles.{HasWrittenMany, HasStoppedFull};
     ghost use Rattle.bl_map_calls.specs.Many.{insertion_of, put_of, deletion_of};
     ghost use Rattle.bl_map.specs.Handles.{HasUpdated, HasCopied};
-    ghost use Rattle.bl_map.specs.Handles.{HaveMet, KeepsHints, AreOfOne, IsHandleOver, released_in, IsAllSwept, HasSweptOnce};
+    ghost use Rattle.bl_map.specs.Handles.{HaveMet, KeepsHints, AreOfOne, IsHandleOver, released_in, NoneUnswept, HasSweptAgain};
     ghost use Rattle.bl_map.specs.Handles.{first_map_of, pages_of_map, frames_of_map, number_of_seat, seat_of, seen_by, waiting_of, dropped_of};
     ghost use Rattle.bl_map_calls.specs.Scans.{Scanned, TellsRows};
     ghost use Rattle.bl_map_calls.specs.Limits.{ScannedAtMost};
@@ -439,7 +439,7 @@ impl<'a> Handle<'a> {
         ensures same { IsSameHandle self.old self.new }
         ensures kept { HasKeptUp self.old self.new }
         ensures tried { HasTriedAgain most self.old self.new }
-        ensures swept { IsAllSwept self.new }
+        ensures swept { NoneUnswept self.new }
         ensures waits { (result.waiting ≡ waiting_of self.new) × (result.dropped ≡ dropped_of self.new) }
     {
         writes::try_again(rt, self.index, &mut self.pass, &mut self.waiting, most);
@@ -506,7 +506,7 @@ impl<'a> Handle<'a> {
         ensures kept { HasKeptUp self.old self.new }
         ensures sweeps { Sweeps (first_map_of self.old) (number_of_seat self.old) result (seen_by self.old) (seen_by self.new) }
         ensures count { released_in self.new ≡ released_in self.old + result }
-        ensures swept { HasSweptOnce self.old self.new }
+        ensures swept { HasSweptAgain self.old self.new }
         ensures keeps { KeepsHints self.old self.new }
     {
         self.index.sweep(&mut self.pass)
