@@ -1,6 +1,6 @@
 //! The rows of a leaf from a key on, upwards or downwards, by the leaf's words.
 
-ghost use Rattle.std.specs.Prelude.{◌≡◌, ◌+◌, ◌-◌, ◌<◌, ◌≤◌, Some, IsTrue, OnOk, OnErr, length, slice_index_or, take, drop, reverse};
+ghost use Rattle.std.specs.Prelude.{◌≡◌, ◌-◌, ◌<◌, ◌≤◌, Some, IsTrue, OnOk, OnErr, length, slice_index_or, take, drop, reverse};
 ghost use Rattle.bl_model.proofs.Parts.{IsPlaceOf};
 ghost use Rattle.bl_model.proofs.Falling.{IsCountTo};
 ghost use Rattle.bl_model.specs.Map.{ListsPairs};

@@ -49,14 +49,14 @@ pub trait Sink<S> {
 pub struct Appending;
 
 impl Sink<Vec<(u64, u64)>> for Appending {
-    ghost use Rattle.std.specs.Prelude.{ℕ, ◌+◌, ◌-◌, ◌<◌, ◌≤◌, ◌++◌, List, vec_items, vec_len};
+    ghost use Rattle.std.specs.Prelude.{ℕ, ◌+◌, ◌-◌, ◌<◌, ◌≤◌, ◌++◌, List, vec_len};
     ghost use Rattle.std.specs.Vec.{vec_capacity};
     ghost use Rattle.std.proofs.Common.{sym, ap, ◌∙◌, append-nil, append_assoc};
     ghost use Rattle.bl_index_read.specs.Sinks.{Appends};
 
     ghost Held = { List (ℕ × ℕ) };
 
-    ghost held = { vec_items };
+    ghost held = { λ rows. rows.items };
 
     ghost Takes = { Appends };
 
@@ -117,7 +117,7 @@ impl<F: FnMut((u64, u64))> Sink<F> for Telling {
 
     ghost Takes = { FoldsTo (λ p x q. F.step p x tt q) };
 
-    ghost IsReady = { F.IsAlwaysCallable };
+    ghost IsReady = { λ visit. F.IsAlwaysCallable visit };
 
     ghost HasRoom = { λ visit many. Unit {0} };
 

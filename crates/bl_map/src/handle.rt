@@ -50,7 +50,7 @@ impl<'a> Handle<'a> {
     ghost use Rattle.bl_map.specs.Handles.{HasUpdated, HasCopied};
     ghost use Rattle.bl_map.specs.Handles.{HaveMet, KeepsHints, AreOfOne, IsHandleOver, released_in, NoneUnswept, HasSweptAgain};
     ghost use Rattle.bl_map.specs.Handles.{first_map_of, pages_of_map, frames_of_map, number_of_seat, seat_of, seen_by, waiting_of, dropped_of};
-    ghost use Rattle.bl_map_calls.specs.Scans.{Scanned, TellsRows};
+    ghost use Rattle.bl_map_calls.specs.Scans.{Scanned};
     ghost use Rattle.bl_map_calls.specs.Limits.{ScannedAtMost};
     ghost use Rattle.bl_map_calls.specs.Falling.{ScannedDown};
     ghost use Rattle.bl_index_read.specs.Sinks.{Appends};
@@ -259,8 +259,8 @@ impl<'a> Handle<'a> {
         rows: &mut Vec<(u64, u64)>,
     ) -> Result<(), AllocError>
         ensures same { IsSameHandle self.old self.new }
-        ensures scanned { Scanned (first_map_of self.old) (pages_of_map self.old) (number_of_seat self.old) from to (vec_capacity rows.new - vec_len rows.new)
-            result rows.old.items rows.new.items (seen_by self.old) (seen_by self.new) }
+        ensures scanned { Scanned Appends (λ many. vec_capacity rows.new - vec_len rows.new < many) (first_map_of self.old) (pages_of_map self.old)
+            (number_of_seat self.old) from to result rows.old.items rows.new.items (seen_by self.old) (seen_by self.new) }
         ensures keeps { KeepsHints self.old self.new }
     {
         calls::scan(rt, self.index, &mut self.pass, from, to, rows)
@@ -298,8 +298,8 @@ impl<'a> Handle<'a> {
     )
         requires { F.IsAlwaysCallable visit.old }
         ensures same { IsSameHandle self.old self.new }
-        ensures tells { TellsRows (λ p x q. F.step p x tt q) (first_map_of self.old) (pages_of_map self.old) (number_of_seat self.old) from to visit.old visit.new
-            (seen_by self.old) (seen_by self.new) }
+        ensures tells { Scanned (FoldsTo (λ p x q. F.step p x tt q)) (λ many. ⊥) (first_map_of self.old) (pages_of_map self.old)
+            (number_of_seat self.old) from to (Ok tt) visit.old visit.new (seen_by self.old) (seen_by self.new) }
         ensures keeps { KeepsHints self.old self.new }
     {
         telling::tell(rt, self.index, &mut self.pass, from, to, visit);

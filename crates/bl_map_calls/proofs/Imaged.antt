@@ -1,10 +1,11 @@
 -- The rows that a scan has listed stand in the image that is made of them.
-use Rattle.std.proofs.Common.{◌≡◌, ℕ, Option, None, List, [], Result, length, sym, ap, ◌∙◌, subst}
+use Rattle.std.proofs.Common.{◌≡◌, ℕ, ◌<◌, Option, None, List, [], Result, length, sym, ap, ◌∙◌, subst}
 use Rattle.std.specs.Prelude.{Ok, Err, IfOk, IfErr}
 use Rattle.std.specs.declared.alloc.AllocError.{AllocError}
 use Rattle.bl_page.specs.declared.page.Page.{Page}
 use Rattle.bl_check.specs.declared.quiet.Quiet.{Quiet}
 use Rattle.bl_claims.specs.Trails.{Trail}
+use Rattle.bl_index_read.specs.Sinks.{Appends}
 use Rattle.bl_load.specs.Loads.{HoldsRows, IsFaultOf}
 use Rattle.bl_load.specs.declared.fault.LoadFault.{LoadFault}
 use Rattle.bl_load.specs.declared.fault.LoadFault.TheVariants as fault
@@ -19,13 +20,13 @@ image_is rows pages fill done (Ok quiet) holds long wrong = ((holds, long), wron
 image_is rows pages fill done (Err e) holds long wrong = (holds, wrong)
 
 module _ (first : List (Option Page)) (pages pass fill room : ℕ) (before rows : List (ℕ × ℕ)) (listed : Result (Unit {0}) AllocError) (result : Result Quiet LoadFault)
-    (old new : Trail) (none : before ≡ []) (s : Scanned first pages pass 0 None room listed before rows old new) where
+    (old new : Trail) (none : before ≡ []) (s : Scanned Appends (λ many. room < many) first pages pass 0 None listed before rows old new) where
   copied : IsCopyOf rows pages fill listed result → Copies first pages pass fill result old new
   copied copy = record {
     rows = rows;
     room = room;
     listed = listed;
-    scanned = subst (λ (z : List (ℕ × ℕ)). Scanned first pages pass 0 None room listed z rows old new) none s;
+    scanned = subst (λ (z : List (ℕ × ℕ)). Scanned Appends (λ many. room < many) first pages pass 0 None listed z rows old new) none s;
     copy = copy;
   }
 

@@ -9,7 +9,6 @@ pub mod Looking
 pub mod Limited
 pub mod TryByTry
 pub mod Imaged
-pub mod Told
 pub mod GivenDown
 pub mod Groups
 pub mod Downwards

@@ -22,7 +22,7 @@ module _ (first : List (Option Page)) (pages pass it turns from : ℕ) (to : Opt
       → HasSearched first pages pass from to (ended_at reply) (listed ++ rows_below to reply) old new × IsFurther (Some at) (ended_at reply)
   part_more at reply s low below finds =
       let one : Scans first pages it turns at to (ended_at reply) (rows_below to reply) mid new = scans_more first pages it turns at reply mid new finds at to [] mid (scans_none first pages it turns at to mid) (omega arith) below in
-      by_call first pages pass it turns from at to 0 listed (rows_below to reply) [] listed (listed ++ rows_below to reply) old mid new same is_turns s low refl refl (ended_at reply) new one
+      by_call first pages pass it turns from at to listed (rows_below to reply) old mid new same is_turns s low (ended_at reply) new one
 
 all_below : (rows : List (ℕ × ℕ)) → filter (λ row. is_below None row.0) rows ≡ rows
 all_below [] = refl

@@ -1,6 +1,7 @@
 -- A scan goes on from where it stopped.
 use Rattle.std.proofs.Common.{◌≡◌, ⊎_elim, ℕ, ◌<◌, ◌≤◌, Option, Some, None, List, [], ◌∷◌, ◌++◌, refl, sym, ap, ◌∙◌, subst, append_assoc, append-nil, arith}
 use Rattle.std.specs.Prelude.{Contains, Ok, Err, flat_map}
+use Rattle.std.specs.declared.alloc.AllocError.{AllocError}
 use Rattle.std.proofs.lemmas.Bool.{cases_lt}
 use Rattle.std.proofs.lemmas.Grind.{flat_map-append}
 use Rattle.std.proofs.lemmas.List.Elements.{All-append, All-nil, All-contains, All-weaker, Contains-append_left, Contains-append_right, Contains-append_cases}
@@ -213,8 +214,8 @@ searched_lost first pages pass it turns from to upto rows old mid new same is_tu
   searches = lost_more first pages pass it turns s.scanned.parts old mid new same is_turns s.searches lost;
 }
 
-module _ (first : List (Option Page)) (pages pass it turns from at : ℕ) (to : Option ℕ) (room : ℕ) (listed rows before middle after : List (ℕ × ℕ)) (old mid new : Trail)
-    (same : it ≡ pass) (is_turns : turns ≡ pages) (s : HasSearched first pages pass from to (Some at) listed old mid) (low : from ≤ at) (grown : middle ≡ before ++ listed) (appended : after ≡ middle ++ rows) where
+module _ (first : List (Option Page)) (pages pass it turns from at : ℕ) (to : Option ℕ) (listed rows : List (ℕ × ℕ)) (old mid new : Trail)
+    (same : it ≡ pass) (is_turns : turns ≡ pages) (s : HasSearched first pages pass from to (Some at) listed old mid) (low : from ≤ at) where
   pub by_call : (upto : Option ℕ) (end : Trail) → Scans first pages it turns at to upto rows mid end → HasSearched first pages pass from to upto (listed ++ rows) old end × IsFurther (Some at) upto
   unfolding scanned_then scanned_of
   by_call upto end c =
@@ -226,20 +227,6 @@ module _ (first : List (Option Page)) (pages pass it turns from at : ℕ) (to : 
         },
         further,
       )
-
-  pub has_ended : {E : Type 0} → EndsScan first pages it turns at to rows mid new → Scanned {E = E} first pages pass from to room (Ok tt) before after old new
-  has_ended e = record {
-    rows = listed ++ rows;
-    appended = all_rows listed rows before middle after grown appended;
-    upto = e.upto;
-    mid = new;
-    scanned = (by_call e.upto new e.scans).0.scanned;
-    searches = (by_call e.upto new e.scans).0.searches;
-    over = (e.over, refl);
-    stopped = tt;
-    begins = ([], sym (append-nil new));
-    seen = λ x. x;
-  }
 
   pub ran_out : (lacks : ℕ → Type 0) (fault : ScanFault) (key : ℕ) → fault ≡ OutOfTurns key → StopsScan first pages it turns at to lacks fault rows mid new
       → (from ≤ key) × HasSearched first pages pass from to (Some key) (listed ++ rows) old new
@@ -254,20 +241,35 @@ module _ (first : List (Option Page)) (pages pass it turns from at : ℕ) (to : 
         },
       )
 
-  pub had_no_room : {E : Type 0} (why : E) (fault : ScanFault) (key : ℕ) → fault ≡ Memory key → StopsScan first pages it turns at to (λ many. room < many) fault rows mid new
-      → Scanned {E = E} first pages pass from to room (Err why) before after old new
-  had_no_room why fault key is c =
-      let stop : StopsScan first pages it turns at to (λ many. room < many) (Memory key) rows mid new = subst (λ (z : ScanFault). StopsScan first pages it turns at to (λ many. room < many) z rows mid new) is c in
-      let f : FindsNoRoom first pages it turns key to (λ many. room < many) stop.mid new = stop.stops in
-      record {
-        rows = listed ++ rows;
-        appended = all_rows listed rows before middle after grown appended;
-        upto = Some key;
-        mid = stop.mid;
-        scanned = (by_call (Some key) stop.mid stop.scans).0.scanned;
-        searches = (by_call (Some key) stop.mid stop.scans).0.searches;
-        over = tt;
-        stopped = (key, refl, subst (λ (z : ℕ). FindsNoRoom first pages pass z key to (λ many. room < many) stop.mid new) is_turns (subst (λ (z : ℕ). FindsNoRoom first pages z turns key to (λ many. room < many) stop.mid new) same f));
-        begins = (_, f.finds.answers.holds.begins);
-        seen = λ _. f.finds.answers.seen;
-      }
+  module _ {S : Type 0} (takes : S → List (ℕ × ℕ) → S → Type 0) (lacks : ℕ → Type 0) (before after : S) (taken : takes before (listed ++ rows) after) where
+    pub has_ended : EndsScan first pages it turns at to rows mid new → Scanned takes lacks first pages pass from to (Ok tt) before after old new
+    has_ended e = record {
+      rows = listed ++ rows;
+      taken = taken;
+      upto = e.upto;
+      mid = new;
+      scanned = (by_call e.upto new e.scans).0.scanned;
+      searches = (by_call e.upto new e.scans).0.searches;
+      over = (e.over, refl);
+      stopped = tt;
+      begins = ([], sym (append-nil new));
+      seen = λ x. x;
+    }
+
+    pub had_no_room : (why : AllocError) (fault : ScanFault) (key : ℕ) → fault ≡ Memory key → StopsScan first pages it turns at to lacks fault rows mid new
+        → Scanned takes lacks first pages pass from to (Err why) before after old new
+    had_no_room why fault key is c =
+        let stop : StopsScan first pages it turns at to lacks (Memory key) rows mid new = subst (λ (z : ScanFault). StopsScan first pages it turns at to lacks z rows mid new) is c in
+        let f : FindsNoRoom first pages it turns key to lacks stop.mid new = stop.stops in
+        record {
+          rows = listed ++ rows;
+          taken = taken;
+          upto = Some key;
+          mid = stop.mid;
+          scanned = (by_call (Some key) stop.mid stop.scans).0.scanned;
+          searches = (by_call (Some key) stop.mid stop.scans).0.searches;
+          over = tt;
+          stopped = (key, refl, subst (λ (z : ℕ). FindsNoRoom first pages pass z key to lacks stop.mid new) is_turns (subst (λ (z : ℕ). FindsNoRoom first pages z turns key to lacks stop.mid new) same f));
+          begins = (_, f.finds.answers.holds.begins);
+          seen = λ _. f.finds.answers.seen;
+        }

@@ -1,9 +1,10 @@
 -- What a call promises that copies a map which is in use.
-use Rattle.std.specs.Prelude.{◌≡◌, ℕ, List, [], Option, None, Result, Ok, Err, IfOk, IfErr, length}
+use Rattle.std.specs.Prelude.{◌≡◌, ℕ, ◌<◌, List, [], Option, None, Result, Ok, Err, IfOk, IfErr, length}
 use Rattle.std.specs.declared.alloc.AllocError.{AllocError}
 use Rattle.bl_page.specs.declared.page.Page.{Page}
 use Rattle.bl_check.specs.declared.quiet.Quiet.{Quiet}
 use Rattle.bl_claims.specs.Trails.{Trail}
+use Rattle.bl_index_read.specs.Sinks.{Appends}
 use Rattle.bl_load.specs.Loads.{HoldsRows, IsFaultOf}
 use Rattle.bl_load.specs.declared.fault.LoadFault.{LoadFault}
 use Rattle.bl_load.specs.declared.fault.LoadFault.TheVariants as fault
@@ -21,5 +22,5 @@ pub record Copies (first : List (Option Page)) (pages pass fill : ℕ) (result :
   pub rows : List (ℕ × ℕ)
   pub room : ℕ
   pub listed : Result (Unit {0}) AllocError
-  pub scanned : Scanned first pages pass 0 None room listed [] rows old new
+  pub scanned : Scanned Appends (λ many. room < many) first pages pass 0 None listed [] rows old new
   pub copy : IsCopyOf rows pages fill listed result

@@ -1,6 +1,6 @@
 -- What a scan of a handle promises.
-use Rattle.std.specs.Prelude.{◌≡◌, ℕ, ◌<◌, ◌≤◌, ◌++◌, List, Option, Some, Result, All, OnOk, OnErr, flat_map}
-use Rattle.std.specs.List.{FoldsTo}
+use Rattle.std.specs.Prelude.{◌≡◌, ℕ, ◌≤◌, ◌++◌, List, Option, Some, Result, All, OnOk, OnErr, flat_map}
+use Rattle.std.specs.declared.alloc.AllocError.{AllocError}
 use Rattle.bl_page.specs.declared.page.Page.{Page}
 use Rattle.bl_model.specs.Rows.{HasRisingKeys}
 use Rattle.bl_model.specs.declared.operation.Entry.{Entry}
@@ -23,28 +23,18 @@ pub record HasScanned (first : List (Option Page)) (pass from : ℕ) (to upto : 
   pub within : All (λ row. (from ≤ row.0) × IsBelow upto row.0) rows
   pub right : (key : ℕ) → from ≤ key → IsBelow upto key → IsBelow to key → IsRight first pass (history_of old) (history_of new) rows key
 
--- The rows of a scan stand behind those of before, and it has done nothing but search for its parts. Without a fault it has come to its
--- end or to that of the map. Else it has come to some key, and the part from there was answered and has more rows than there is room for.
-pub record Scanned {E : Type 0} (first : List (Option Page)) (pages pass from : ℕ) (to : Option ℕ) (room : ℕ)
-    (result : Result (Unit {0}) E) (before after : List (ℕ × ℕ)) (old new : Trail) : Type 0 where
+-- The rows of a scan have gone where it was to give them: they led from one state there to another. It has done nothing but search for its
+-- parts. Without a fault it has come to its end or to that of the map. Else it has come to some key, and the part from there was answered and
+-- has so many rows that there is no room for them.
+pub record Scanned {S : Type 0} (takes : S → List (ℕ × ℕ) → S → Type 0) (lacks : ℕ → Type 0) (first : List (Option Page)) (pages pass from : ℕ)
+    (to : Option ℕ) (result : Result (Unit {0}) AllocError) (before after : S) (old new : Trail) : Type 0 where
   pub rows : List (ℕ × ℕ)
-  pub appended : after ≡ before ++ rows
+  pub taken : takes before rows after
   pub upto : Option ℕ
   pub mid : Trail
   pub scanned : HasScanned first pass from to upto rows old mid
   pub searches : Searches first pages pass scanned.parts old mid
   pub over : OnOk result (IsOver to upto × (new ≡ mid))
-  pub stopped : OnErr result ((key : ℕ) × (upto ≡ Some key) × FindsNoRoom first pages pass pages key to (λ many. room < many) mid new)
+  pub stopped : OnErr result ((key : ℕ) × (upto ≡ Some key) × FindsNoRoom first pages pass pages key to lacks mid new)
   pub begins : GoesOnFrom mid new
   pub seen : IsLinearizable first mid → IsLinearizable first new
-
--- A callback was told the rows of a scan that came to its end or to that of the map: each once, one after another, and no other row.
--- A call of it with a row leads from one state to another one. Beside that the scan has done nothing but search for its parts.
-pub record TellsRows {F : Type 0} (leads : F → ℕ × ℕ → F → Type 0) (first : List (Option Page)) (pages pass from : ℕ) (to : Option ℕ)
-    (before after : F) (old new : Trail) : Type 0 where
-  pub rows : List (ℕ × ℕ)
-  pub upto : Option ℕ
-  pub told : FoldsTo leads before rows after
-  pub scanned : HasScanned first pass from to upto rows old new
-  pub searches : Searches first pages pass scanned.parts old new
-  pub over : IsOver to upto

@@ -7,6 +7,7 @@ ghost use Rattle.bl_model.specs.declared.operation.KeyReply.TheVariants as repli
 ghost use Rattle.bl_index.specs.Calls.{first_of, pages_of, IsPassOf, IsSamePass, number_of, trail};
 ghost use Rattle.bl_model.specs.Replies.{reply_of};
 ghost use Rattle.bl_model.specs.Writes.{write_op};
+ghost use Rattle.bl_index_read.specs.Sinks.{Appends};
 ghost use Rattle.bl_map_calls.specs.Works.{Works, Searched, FoundNoRoom};
 ghost use Rattle.bl_map_calls.specs.Finds.{FindsMany};
 ghost use Rattle.bl_map_calls.specs.Follows.{Written};
@@ -199,8 +200,8 @@ pub fn scan<R: Wait>(
 ) -> Result<(), AllocError>
     requires { IsPassOf index.now pass.old }
     ensures same { IsSamePass pass.old pass.new }
-    ensures scanned { Scanned (first_of index.now) (pages_of index.now) (number_of pass.old) from to (vec_capacity rows.new - vec_len rows.new)
-        result rows.old.items rows.new.items (trail pass.old) (trail pass.new) }
+    ensures scanned { Scanned Appends (λ many. vec_capacity rows.new - vec_len rows.new < many) (first_of index.now) (pages_of index.now)
+        (number_of pass.old) from to result rows.old.items rows.new.items (trail pass.old) (trail pass.new) }
 {
     let turns = index.patience();
     let mut at = from;

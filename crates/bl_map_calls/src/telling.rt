@@ -1,7 +1,9 @@
 //! Scans that tell a callback each row.
 
+ghost use Rattle.std.specs.Prelude.{Ok};
+ghost use Rattle.std.specs.List.{FoldsTo};
 ghost use Rattle.bl_index.specs.Calls.{first_of, pages_of, IsPassOf, IsSamePass, number_of, trail};
-ghost use Rattle.bl_map_calls.specs.Scans.{TellsRows};
+ghost use Rattle.bl_map_calls.specs.Scans.{Scanned};
 
 use bl_index::{Index, Pass};
 use std::sync::Wait;
@@ -18,8 +20,8 @@ pub fn tell<R: Wait, F: FnMut((u64, u64))>(
     requires own { IsPassOf index.now pass.old }
     requires callable { F.IsAlwaysCallable visit.old }
     ensures same { IsSamePass pass.old pass.new }
-    ensures tells { TellsRows (λ p x q. F.step p x tt q) (first_of index.now) (pages_of index.now) (number_of pass.old) from to visit.old visit.new
-        (trail pass.old) (trail pass.new) }
+    ensures tells { Scanned (FoldsTo (λ p x q. F.step p x tt q)) (λ many. ⊥) (first_of index.now) (pages_of index.now) (number_of pass.old)
+        from to (Ok tt) visit.old visit.new (trail pass.old) (trail pass.new) }
 {
     let turns = index.patience();
     let mut at = from;

@@ -19,7 +19,7 @@ use Rattle.bl_index.specs.Scans.{AreParts as ArePartsUpTo, rows_below as rows_of
 use Rattle.bl_map_calls.specs.Falling.{ArePartsDown as ArePartsDownTo, IsOverDown, HasScannedDown, ScannedDown as HasGoneDown}
 use Rattle.bl_map.specs.declared.handle.Handle.{Handle}
 use Rattle.bl_map.specs.Handles.{first_map_of, pages_of_map, number_of_seat, seen_by}
-use Rattle.bl_map_calls.specs.Scans.{TellsRows}
+use Rattle.bl_map_calls.specs.Scans.{HasScanned, Scanned as HasGone}
 use Rattle.bl_serve_worker.specs.Answering.{ListsRows, HasWrittenRows}
 use Rattle.bl_serve_worker.specs.Answering.IsFor.{Scans, ScansFrom, ScansDown}
 
@@ -78,32 +78,32 @@ module _ {F : Type 0} (leads : F → ℕ × ℕ → F → Type 0) (first : List 
   abbrev pub Lists : Request → Type 0
   Lists asked = (rows : List (ℕ × ℕ)) × ListsRows first pages pass asked rows old new × FoldsTo leads p rows q
 
-  pub lists_below : (low high : ℕ) (asked : Request) → asked ≡ Scan low high → TellsRows leads first pages pass low (Some high) p q old new → Lists asked
-  lists_below low high asked is t = subst Lists (sym is) (let s = t.scanned in (
+  pub lists_below : (low high : ℕ) (asked : Request) → asked ≡ Scan low high → HasGone (FoldsTo leads) (λ many. ⊥) first pages pass low (Some high) (Ok tt) p q old new → Lists asked
+  lists_below low high asked is t = subst Lists (sym is) (let s = subst (λ (z : Trail). HasScanned first pass low (Some high) t.upto t.rows old z) (sym t.over.1) t.scanned in (
     t.rows,
     record {
       answer = Scanned low (Some high) s.parts;
-      is_for = Scans low high s.parts (are_parts pass (Some high) (Some low) t.upto s.parts s.are_parts (λ at is. rw is at t.over));
+      is_for = Scans low high s.parts (are_parts pass (Some high) (Some low) t.upto s.parts s.are_parts (λ at is. rw is at t.over.0));
       lists = ap (λ (z : List (ℕ × ℕ)). codes "rows" ++ flat_map row_text z) (sym (s.listed ∙ below_of_all (Some high) s.parts));
       begins = s.begins;
       seen = s.seen;
       mine = s.mine;
     },
-    t.told,
+    t.taken,
   ))
 
-  pub lists_from : (low : ℕ) (asked : Request) → asked ≡ ScanFrom low → TellsRows leads first pages pass low None p q old new → Lists asked
-  lists_from low asked is t = subst Lists (sym is) (let s = t.scanned in (
+  pub lists_from : (low : ℕ) (asked : Request) → asked ≡ ScanFrom low → HasGone (FoldsTo leads) (λ many. ⊥) first pages pass low None (Ok tt) p q old new → Lists asked
+  lists_from low asked is t = subst Lists (sym is) (let s = subst (λ (z : Trail). HasScanned first pass low None t.upto t.rows old z) (sym t.over.1) t.scanned in (
     t.rows,
     record {
       answer = Scanned low None s.parts;
-      is_for = ScansFrom low s.parts (are_parts pass None (Some low) t.upto s.parts s.are_parts (λ at is. rw is at t.over));
+      is_for = ScansFrom low s.parts (are_parts pass None (Some low) t.upto s.parts s.are_parts (λ at is. rw is at t.over.0));
       lists = ap (λ (z : List (ℕ × ℕ)). codes "rows" ++ flat_map row_text z) (sym (s.listed ∙ below_of_all None s.parts));
       begins = s.begins;
       seen = s.seen;
       mine = s.mine;
     },
-    t.told,
+    t.taken,
   ))
 
   lists_down : (low high from : ℕ) (asked : Request) → asked ≡ ScanDown low high → key_below high ≡ Some from → HasGoneDown (FoldsTo leads) (λ many. ⊥) first pages pass from low (Ok tt) p q old new → Lists asked

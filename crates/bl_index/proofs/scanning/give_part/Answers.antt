@@ -1,4 +1,4 @@
-use Rattle.std.proofs.Common.{rules, ℕ, List, ◌-◌, length, take, drop, refl, sym, subst, ◌∙◌}
+use Rattle.std.proofs.Common.{rules, ℕ, List, ◌-◌, take, drop, refl, sym, subst, ◌∙◌}
 use Rattle.bl_page.specs.Faults.{HasPairs, pairs_of}
 use Rattle.bl_store.specs.Hands.{known, read_words}
 use Rattle.bl_store.specs.declared.store.Hand.{Hand}

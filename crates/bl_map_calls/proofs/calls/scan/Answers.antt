@@ -1,4 +1,5 @@
 use Rattle.std.proofs.Common.{rules, ◌++◌, [], sym, append-nil, arith}
+use Rattle.bl_index_read.specs.Sinks.{Appends}
 use Rattle.bl_map_calls.proofs.Scanning.{searched_none, all_rows, has_ended, ran_out, had_no_room}
 use Rattle.bl_map_calls.proofs.calls.scan.Goals as goal
 
@@ -9,13 +10,13 @@ pub returns-in-Ok-clause-scanned : goal.returns-in-Ok-clause-scanned
 returns-in-Ok-clause-scanned g c =
     let inv = c.loop.invariant in
     let m = c.in-Ok.ensures.scans in
-    has_ended _ _ _ _ _ _ _ _ _ _ m.rows _ _ _ _ _ _ inv.same.2 c.patience-turns.ensures inv.so_far inv.low inv.grown m.taken m.ended
+    has_ended _ _ _ _ _ _ _ _ _ m.rows _ _ _ inv.same.2 c.patience-turns.ensures inv.so_far inv.low Appends _ _ _ (all_rows inv.listed m.rows _ _ _ inv.grown m.taken) m.ended
 
 pub loop-preserved : goal.loop-preserved
 loop-preserved g c =
     let inv = c.loop.invariant in
     let m = c.in-Err-OutOfTurns.ensures.scans in
-    let on = ran_out _ _ _ _ _ _ _ _ _ _ m.rows _ _ _ _ _ _ inv.same.2 c.patience-turns.ensures inv.so_far inv.low inv.grown m.taken _ _ _ c.in-Err-OutOfTurns.field-0-is m.stopped in
+    let on = ran_out _ _ _ _ _ _ _ _ _ m.rows _ _ _ inv.same.2 c.patience-turns.ensures inv.so_far inv.low _ _ _ c.in-Err-OutOfTurns.field-0-is m.stopped in
     record {
       same = search rules;
       low = on.0;
@@ -28,4 +29,4 @@ pub returns-in-Err-Memory-clause-scanned : goal.returns-in-Err-Memory-clause-sca
 returns-in-Err-Memory-clause-scanned g c =
     let inv = c.loop.invariant in
     let m = c.in-Err-Memory.ensures.scans in
-    had_no_room _ _ _ _ _ _ _ _ _ _ m.rows _ _ _ _ _ _ inv.same.2 c.patience-turns.ensures inv.so_far inv.low inv.grown m.taken _ _ _ c.in-Err-Memory.field-0-is m.stopped
+    had_no_room _ _ _ _ _ _ _ _ _ m.rows _ _ _ inv.same.2 c.patience-turns.ensures inv.so_far inv.low Appends _ _ _ (all_rows inv.listed m.rows _ _ _ inv.grown m.taken) _ _ _ c.in-Err-Memory.field-0-is m.stopped

@@ -1,10 +1,15 @@
+use Rattle.std.proofs.Common.{ℕ, ◌≤◌, List, Some}
+use Rattle.std.specs.List.{FoldsTo}
 use Rattle.bl_index.specs.Calls.{first_of, pages_of, IsSamePass, number_of, trail}
-use Rattle.bl_map_calls.proofs.Told.{HasTold}
+use Rattle.bl_map_calls.proofs.Scanning.{HasSearched}
 use Rattle.bl_map_calls.proofs.telling.tell.Given as goal
 
 abbrev pub invariant-loop : goal.invariant-loop
 invariant-loop g l = record {
   same : IsSamePass l.fn.pass l.pass;
   callable : goal.F-IsAlwaysCallable g l.visit;
-  so_far : HasTold (λ p x q. goal.F-step g p x tt q) (first_of l.index) (pages_of l.index) (number_of l.fn.pass) l.from l.to l.at l.fn.visit l.visit (trail l.fn.pass) (trail l.pass);
+  low : l.from ≤ l.at;
+  listed : List (ℕ × ℕ);
+  told : FoldsTo (λ p x q. goal.F-step g p x tt q) l.fn.visit listed l.visit;
+  so_far : HasSearched (first_of l.index) (pages_of l.index) (number_of l.fn.pass) l.from l.to (Some l.at) listed (trail l.fn.pass) (trail l.pass);
 }
