@@ -1,5 +1,5 @@
 -- A write that found no room has left nothing.
-use Rattle.std.proofs.Common.{ℕ, ◌≡◌, ◌≢◌, Option, None, Some, List, [], refl, subst, sym}
+use Rattle.std.proofs.Common.{ℕ, ◌≡◌, ◌≢◌, Option, None, Some, List, refl, subst, sym}
 use Rattle.bl_model.specs.declared.deciding.KeyWrite.{KeyWrite}
 use Rattle.bl_model.specs.declared.deciding.KeyWrite.TheVariants.{Insert}
 use Rattle.bl_model.specs.declared.operation.Op.{Op}
@@ -13,7 +13,7 @@ use Rattle.bl_index.specs.Calls.{InsertLacks, WriteLacks}
 use Rattle.bl_index.specs.declared.index.Pass.{Pass}
 use Rattle.bl_answers.specs.declared.answers.Hint.{Hint}
 use Rattle.bl_answers.specs.declared.answers.Posted.{Posted}
-use Rattle.bl_map_calls.specs.Follows.{Makes, Written, FollowsHints, WritesLeaving}
+use Rattle.bl_map_calls.specs.Follows.{Makes, Written, NoneLeft, WritesLeaving}
 use Rattle.bl_map_calls.specs.Waits.{WritesKey}
 use Rattle.bl_map_calls.specs.Works.{Swept}
 use Rattle.bl_waiting.specs.declared.waiting.Waiting.{Waiting}
@@ -44,19 +44,14 @@ written_none first pass o said next old new is w =
     let made = subst (λ (z : Reply). Makes first pass o z next w.mid new) is w.makes in
     subst (λ (z : Option Hint). Written first pass o said z old new) (makes_none first pass o next w.mid new made) w
 
-nothing_to_follow : (first : List (Option Page)) (pass : ℕ) (old : Trail) → FollowsHints first pass None None old old
-nothing_to_follow first pass old = record { hints = []; mid = old; are_done = (refl, refl); stops = refl }
-
 pub refused_changes : (first : List (Option Page)) (pass : ℕ) (o : Op) (said : Reply) (next : Option Hint) (waiting : Waiting) (old new : Trail) → said ≡ reply.NoRoom
     → Written first pass o said next old new → WritesKey first pass o said waiting waiting old new
 refused_changes first pass o said next waiting old new is w = record {
   hint = None;
-  left = None;
   behind = new;
   mid = new;
   written = written_none first pass o said next old new is w;
-  follows = nothing_to_follow first pass new;
-  kept = refl;
+  upkeep = (None, NoneLeft, refl);
   sweeps = Swept.Never;
 }
 
@@ -66,5 +61,5 @@ refused_leaves first pass o said next old new is w = record {
   hint = None;
   mid = new;
   written = written_none first pass o said next old new is w;
-  follows = nothing_to_follow first pass new;
+  follows = NoneLeft;
 }

@@ -1,10 +1,11 @@
 //! What keeps a tree in order: a pass looks for room before a change, and follows the hint that a change has left behind.
 
 ghost use Rattle.std.specs.Prelude.{◌≡◌};
+ghost use Rattle.bl_answers.specs.Hints.{level_of, key_of};
+ghost use Rattle.bl_answers.specs.declared.answers.Hint.TheVariants as hints;
 ghost use Rattle.bl_index.specs.Calls.{first_of, IsPassOf, IsSamePass, number_of, trail};
 ghost use Rattle.bl_map_calls.specs.Works.{Adds, Swept};
-ghost use Rattle.bl_map_calls.specs.Follows.{Tries, TriesPost, TriesCompression, TriesHint, has_fallen, Lowers, FollowsHint, FollowsOnce, FollowsHints, FollowsSplit};
-ghost use Rattle.bl_answers.specs.Hints.{level_of, key_of};
+ghost use Rattle.bl_map_calls.specs.Follows.{may_fall, Lowers, FollowsHint, FollowsHints, FollowsSplit};
 
 use bl_index::{Hint, Index, Lowered, Pass, Posted, Squeezed};
 use std::sync::Wait;
@@ -76,12 +77,40 @@ pub fn sweep_if_due(index: &Index, pass: &mut Pass)
     }
 }
 
-/// Posts.
+/// How many top levels a compression may have left that are not needed: all but one, where the top page had too few children to compress,
+/// or has one fewer now.
+fn may_fall(squeezed: Squeezed) -> u32
+    ensures { result ≡ may_fall squeezed }
+{
+    match squeezed {
+        Squeezed::Merged | Squeezed::Alone => LEVELS - 1,
+        Squeezed::Evened | Squeezed::Enough | Squeezed::Unposted | Squeezed::NoRoom => 0,
+    }
+}
+
+/// Takes top levels away that are not needed, so many at most, one after another. Before each it waits for frames.
+fn lower<R: Wait>(rt: &R, index: &Index, pass: &mut Pass, most: u32)
+    requires { IsPassOf index.now pass.old }
+    ensures same { IsSamePass pass.old pass.new }
+    ensures lowers { Lowers (first_of index.now) (number_of pass.old) most (trail pass.old) (trail pass.new) }
+{
+    for _level in 0..most {
+        wait_for(index, pass, Want::Frames);
+        match index.lower(rt, pass) {
+            Lowered::Lowered => {}
+            _ => return,
+        }
+    }
+}
+
+/// Waits for frames, and posts.
 fn post<R: Wait>(rt: &R, index: &Index, pass: &mut Pass, hint: Hint) -> Followed
     requires { IsPassOf index.now pass.old }
     ensures same { IsSamePass pass.old pass.new }
-    ensures tries { TriesPost (first_of index.now) (number_of pass.old) (level_of hint) (key_of hint) result (trail pass.old) (trail pass.new) }
+    ensures follows { FollowsHint (first_of index.now) (number_of pass.old) (hints.Post (level_of hint) (key_of hint)) result
+        (trail pass.old) (trail pass.new) }
 {
+    wait_for(index, pass, Want::Frames);
     let (posted, more) = index.post(rt, pass, hint);
     match posted {
         Posted::NoRoom => Followed::NoRoom,
@@ -89,95 +118,31 @@ fn post<R: Wait>(rt: &R, index: &Index, pass: &mut Pass, hint: Hint) -> Followed
     }
 }
 
-/// Compresses. Says too whether the top level may be one that is not needed: it had too few children to compress, or has one fewer now.
-fn compress<R: Wait>(rt: &R, index: &Index, pass: &mut Pass, hint: Hint) -> (Followed, bool)
+/// Waits for frames, compresses, and takes the top level away where it is not needed any more.
+fn compress<R: Wait>(rt: &R, index: &Index, pass: &mut Pass, hint: Hint) -> Followed
     requires { IsPassOf index.now pass.old }
     ensures same { IsSamePass pass.old pass.new }
-    ensures tries { TriesCompression (first_of index.now) (number_of pass.old) (level_of hint) (key_of hint) result (trail pass.old) (trail pass.new) }
-{
-    let (squeezed, more) = index.compress(rt, pass, hint);
-    match squeezed {
-        Squeezed::NoRoom => (Followed::NoRoom, false),
-        Squeezed::Merged | Squeezed::Alone => (Followed::Done(more), true),
-        _ => (Followed::Done(more), false),
-    }
-}
-
-/// Posts or compresses. Says too whether the top level may be one that is not needed.
-fn post_or_compress<R: Wait>(rt: &R, index: &Index, pass: &mut Pass, hint: Hint) -> (Followed, bool)
-    requires { IsPassOf index.now pass.old }
-    ensures same { IsSamePass pass.old pass.new }
-    ensures tries { Tries (first_of index.now) (number_of pass.old) hint result (trail pass.old) (trail pass.new) }
-{
-    match hint {
-        Hint::Post { .. } => (post(rt, index, pass, hint), false),
-        Hint::Thin { .. } => compress(rt, index, pass, hint),
-    }
-}
-
-/// Waits for frames, and posts or compresses, as the hint asks. Says too whether [`lower`] is due then.
-pub(crate) fn try_hint<R: Wait>(
-    rt: &R,
-    index: &Index,
-    pass: &mut Pass,
-    hint: Hint,
-) -> (Followed, bool)
-    requires { IsPassOf index.now pass.old }
-    ensures same { IsSamePass pass.old pass.new }
-    ensures tries { TriesHint (first_of index.now) (number_of pass.old) hint result (trail pass.old) (trail pass.new) }
+    ensures follows { FollowsHint (first_of index.now) (number_of pass.old) (hints.Thin (level_of hint) (key_of hint)) result
+        (trail pass.old) (trail pass.new) }
 {
     wait_for(index, pass, Want::Frames);
-    post_or_compress(rt, index, pass, hint)
-}
-
-/// Whether a top level was taken away.
-fn has_fallen(lowered: Lowered) -> bool
-    ensures { result ≡ has_fallen lowered }
-{
-    match lowered {
-        Lowered::Lowered => true,
-        Lowered::Needed | Lowered::NoRoom => false,
+    let (squeezed, more) = index.compress(rt, pass, hint);
+    lower(rt, index, pass, may_fall(squeezed));
+    match squeezed {
+        Squeezed::NoRoom => Followed::NoRoom,
+        _ => Followed::Done(more),
     }
 }
 
-/// Takes top levels away that are not needed, one after another. Before each it waits for frames.
-pub(crate) fn lower<R: Wait>(rt: &R, index: &Index, pass: &mut Pass, may_fall: bool)
-    requires { IsPassOf index.now pass.old }
-    ensures same { IsSamePass pass.old pass.new }
-    ensures adds { Adds (first_of index.now) (number_of pass.old) (trail pass.old) (trail pass.new) }
-    ensures lowers { Lowers (first_of index.now) (number_of pass.old) 11 may_fall (trail pass.old) (trail pass.new) }
-{
-    let mut may_fall = may_fall;
-    for _level in 1..LEVELS {
-        if !may_fall {
-            return;
-        }
-        wait_for(index, pass, Want::Frames);
-        may_fall = has_fallen(index.lower(rt, pass));
-    }
-}
-
-/// Follows a hint: posts or compresses, and takes the top level away where it is not needed any more.
+/// Follows a hint: posts or compresses, as it asks.
 pub fn follow_hint<R: Wait>(rt: &R, index: &Index, pass: &mut Pass, hint: Hint) -> Followed
     requires { IsPassOf index.now pass.old }
     ensures same { IsSamePass pass.old pass.new }
     ensures follows { FollowsHint (first_of index.now) (number_of pass.old) hint result (trail pass.old) (trail pass.new) }
 {
-    let (followed, may_fall) = try_hint(rt, index, pass, hint);
-    lower(rt, index, pass, may_fall);
-    followed
-}
-
-/// The same. Gives back what doing it has left, and that there was room; or the hint, and that there was none.
-fn follow_once<R: Wait>(rt: &R, index: &Index, pass: &mut Pass, hint: Hint) -> (Option<Hint>, bool)
-    requires { IsPassOf index.now pass.old }
-    ensures same { IsSamePass pass.old pass.new }
-    ensures follows { FollowsOnce (first_of index.now) (number_of pass.old) hint result.0 result.1 (trail pass.old) (trail pass.new) }
-{
-    let again = hint;
-    match follow_hint(rt, index, pass, hint) {
-        Followed::Done(next) => (next, true),
-        Followed::NoRoom => (Some(again), false),
+    match hint {
+        Hint::Post { .. } => post(rt, index, pass, hint),
+        Hint::Thin { .. } => compress(rt, index, pass, hint),
     }
 }
 
@@ -191,17 +156,16 @@ pub(crate) fn follow<R: Wait>(
 ) -> Option<Hint>
     requires { IsPassOf index.now pass.old }
     ensures same { IsSamePass pass.old pass.new }
-    ensures follows { FollowsHints (first_of index.now) (number_of pass.old) hint result (trail pass.old) (trail pass.new) }
+    ensures follows { FollowsHints (first_of index.now) (number_of pass.old) 12 hint result (trail pass.old) (trail pass.new) }
 {
     let mut hint = hint;
     for _level in 0..LEVELS {
         let Some(next) = hint else {
             return None;
         };
-        let (left, had_room) = follow_once(rt, index, pass, next);
-        hint = left;
-        if !had_room {
-            return hint;
+        match follow_hint(rt, index, pass, next) {
+            Followed::Done(left) => hint = left,
+            Followed::NoRoom => return Some(next),
         }
     }
     hint

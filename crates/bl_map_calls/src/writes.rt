@@ -7,7 +7,7 @@ ghost use Rattle.bl_model.specs.Replies.{reply_of};
 ghost use Rattle.bl_model.specs.Writes.{write_op};
 ghost use Rattle.bl_map_calls.specs.Works.{FoundNoRoom};
 ghost use Rattle.bl_map_calls.specs.Follows.{WritesLeaving};
-ghost use Rattle.bl_map_calls.specs.Waits.{WritesKey, TriesOldest, TriesAgain, HasTried};
+ghost use Rattle.bl_map_calls.specs.Waits.{WritesKey, TriesOldest, AreTried, TriesAgain};
 
 use crate::calls;
 use crate::upkeep::{follow, follow_split, sweep_if_due};
@@ -78,7 +78,7 @@ fn try_oldest<R: Wait>(rt: &R, index: &Index, pass: &mut Pass, waiting: &mut Wai
 fn try_some<R: Wait>(rt: &R, index: &Index, pass: &mut Pass, waiting: &mut Waiting, most: u32)
     requires { IsPassOf index.now pass.old }
     ensures same { IsSamePass pass.old pass.new }
-    ensures tries { HasTried (first_of index.now) (number_of pass.old) most waiting.old waiting.new (trail pass.old) (trail pass.new) }
+    ensures tries { AreTried (first_of index.now) (number_of pass.old) most waiting.old waiting.new (trail pass.old) (trail pass.new) }
 {
     for _hint in 0..most {
         if waiting.is_empty() {

@@ -10,4 +10,6 @@ mod limits;
 mod room;
 mod scans;
 mod seats;
+mod tables;
+mod trials;
 mod updates;

@@ -20,34 +20,46 @@ fn opened(alloc: Global, pages: u32) -> Option<Seat> {
     seats.pop()
 }
 
-/// A seat alone is answered at once.
-fn replies(seat: &mut Seat) -> [Option<Reply>; 8] {
-    [
-        seat.write(5, KeyWrite::Insert(50)),
-        seat.write(5, KeyWrite::Insert(60)),
-        seat.write(5, KeyWrite::Change(50, 70)),
-        seat.write(5, KeyWrite::Change(50, 80)),
-        seat.write(5, KeyWrite::Put(90)),
-        seat.write(5, KeyWrite::Delete),
-        seat.write(5, KeyWrite::Delete),
-        seat.write(6, KeyWrite::Put(60)),
-    ]
+/// Whether a write is answered so.
+fn is_written(seat: &mut Seat, key: u64, write: KeyWrite, wanted: KeyReply) -> bool {
+    seat.write(key, write) == Some(wanted.reply())
+}
+
+/// Writes of keys, and what a seat alone answers to each at once.
+const ROW: [(u64, KeyWrite, KeyReply); 8] = [
+    (5, KeyWrite::Insert(50), KeyReply::Inserted),
+    (5, KeyWrite::Insert(60), KeyReply::Present(50)),
+    (5, KeyWrite::Change(50, 70), KeyReply::Changed),
+    (5, KeyWrite::Change(50, 80), KeyReply::Differs(70)),
+    (5, KeyWrite::Put(90), KeyReply::Replaced(70)),
+    (5, KeyWrite::Delete, KeyReply::Deleted(90)),
+    (5, KeyWrite::Delete, KeyReply::Absent),
+    (6, KeyWrite::Put(60), KeyReply::Inserted),
+];
+
+/// Makes the writes up to the first that is not answered as it must be. Says how many are.
+fn count_right(seat: &mut Seat, writes: &[(u64, KeyWrite, KeyReply)]) -> u64 {
+    let mut count = 0u64;
+    for write in writes {
+        if !is_written(seat, write.0, write.1, write.2) {
+            return count;
+        }
+        count = count.saturating_add(1);
+    }
+    count
+}
+
+/// Whether a row is there neither before it comes nor when it has gone.
+fn row_comes_and_goes(seat: &mut Seat) -> bool {
+    seat.find(5) == Some(KeyReply::Absent)
+        && count_right(seat, &ROW) == 8
+        && seat.find(5) == Some(KeyReply::Absent)
 }
 
 #[test]
 fn a_row_comes_and_goes(rt: HostRuntime) {
     let mut seat = opened(rt.alloc(), 64).expect(&rt, "it is opened");
-    assert_eq!(rt; seat.find(5), Some(KeyReply::Absent));
-    let [one, two, three, four, put, five, six, entered] = replies(&mut seat);
-    assert!(rt; one == Some(Reply::Inserted));
-    assert!(rt; two == Some(Reply::Present(50)));
-    assert!(rt; three == Some(Reply::Changed));
-    assert!(rt; four == Some(Reply::Differs(70)));
-    assert!(rt; put == Some(Reply::Replaced(70)));
-    assert!(rt; five == Some(Reply::Deleted(90)));
-    assert!(rt; six == Some(Reply::Absent));
-    assert!(rt; entered == Some(Reply::Inserted));
-    assert_eq!(rt; seat.find(5), Some(KeyReply::Absent));
+    assert!(rt; row_comes_and_goes(&mut seat));
 }
 
 /// How many of so many rising keys are inserted.
@@ -79,61 +91,75 @@ fn count_rows(seat: &mut Seat) -> u64 {
     0
 }
 
+/// Whether parts tell all rows that were inserted, and nothing is left to do.
+fn parts_tell_all(seat: &mut Seat) -> bool {
+    insert_many(seat, MANY) == MANY
+        && count_rows(seat) == MANY
+        && seat.tend(64)
+        && seat.waiting() == 0
+        && seat.dropped() == 0
+}
+
 #[test]
 fn parts_tell_all_rows(rt: HostRuntime) {
     let mut seat = opened(rt.alloc(), 1_024).expect(&rt, "it is opened");
-    assert_eq!(rt; insert_many(&mut seat, MANY), MANY);
-    assert_eq!(rt; count_rows(&mut seat), MANY);
-    assert!(rt; seat.tend(64));
-    assert_eq!(rt; seat.waiting(), 0);
-    assert_eq!(rt; seat.dropped(), 0);
+    assert!(rt; parts_tell_all(&mut seat));
     seat.sweep();
+}
+
+/// Whether there is nothing to do in an empty index, nor when what many rows left was done.
+fn upkeep_ends(seat: &mut Seat) -> bool {
+    if !seat.tend(0) || insert_many(seat, MANY) != MANY {
+        return false;
+    }
+    seat.tend(1_024);
+    seat.tend(0) && seat.waiting() == 0
 }
 
 #[test]
 fn upkeep_comes_to_its_end(rt: HostRuntime) {
     let mut seat = opened(rt.alloc(), 1_024).expect(&rt, "it is opened");
-    assert!(rt; seat.tend(0));
-    assert_eq!(rt; insert_many(&mut seat, MANY), MANY);
-    seat.tend(1_024);
-    assert!(rt; seat.tend(0));
-    assert_eq!(rt; seat.waiting(), 0);
+    assert!(rt; upkeep_ends(&mut seat));
+}
+
+/// Whether a sweep releases what a write has swapped out, once.
+fn sweeps_once(seat: &mut Seat) -> bool {
+    seat.sweep() == 0
+        && is_written(seat, 1, KeyWrite::Insert(10), KeyReply::Inserted)
+        && seat.sweep() == 1
+        && seat.sweep() == 0
 }
 
 #[test]
 fn a_seat_releases_what_was_swapped_out(rt: HostRuntime) {
     let mut seat = opened(rt.alloc(), 64).expect(&rt, "it is opened");
-    assert_eq!(rt; seat.sweep(), 0);
-    assert!(rt; seat.write(1, KeyWrite::Insert(10)) == Some(Reply::Inserted));
-    assert_eq!(rt; seat.sweep(), 1);
-    assert_eq!(rt; seat.sweep(), 0);
+    assert!(rt; sweeps_once(&mut seat));
+}
+
+/// Whether a part has these rows, and goes to the end of the map.
+fn is_last(part: Option<Reply>, wanted: &[(u64, u64)]) -> bool {
+    match part {
+        Some(Reply::Rows(rows, next)) => rows.as_slice() == wanted && next == Next::End,
+        _ => false,
+    }
 }
 
 #[test]
 fn a_part_has_the_rows_from_its_key_on(rt: HostRuntime) {
     let mut seat = opened(rt.alloc(), 64).expect(&rt, "it is opened");
-    assert_eq!(rt; insert_many(&mut seat, 5), 5);
-    let Some(Reply::Rows(rows, next)) = seat.part(3, &mut None) else {
-        panic!(rt; "it is answered");
-    };
-    assert_eq!(rt; rows.as_slice(), [(3, 3), (4, 4)].as_slice());
-    assert!(rt; next == Next::End);
+    let count = insert_many(&mut seat, 5);
+    let part = seat.part(3, &mut None);
+    assert!(rt; count == 5 && is_last(part, &[(3, 3), (4, 4)]));
 }
 
 #[test]
 fn a_part_downwards_has_the_rows_up_to_its_key(rt: HostRuntime) {
     let mut seat = opened(rt.alloc(), 64).expect(&rt, "it is opened");
-    assert_eq!(rt; insert_many(&mut seat, 5), 5);
-    let Some(Reply::Rows(rows, next)) = seat.part_down(3) else {
-        panic!(rt; "it is answered");
-    };
-    assert_eq!(rt;
-        rows.as_slice(),
-        [(3, 3), (2, 2), (1, 1), (0, 0)].as_slice()
-    );
-    assert!(rt; next == Next::End);
+    let count = insert_many(&mut seat, 5);
+    let part = seat.part_down(3);
+    assert!(rt; count == 5 && is_last(part, &[(3, 3), (2, 2), (1, 1), (0, 0)]));
     // The anchor and one leaf are not free.
-    assert_eq!(rt; seat.free_pages(), 62);
+    assert!(rt; seat.free_pages() == 62);
 }
 
 /// How many rows the parts downwards have together, from a key on.
@@ -153,31 +179,36 @@ fn count_rows_down(seat: &mut Seat, from: u64) -> u64 {
     0
 }
 
-#[test]
-fn parts_downwards_tell_all_rows(rt: HostRuntime) {
-    let mut seat = opened(rt.alloc(), 1_024).expect(&rt, "it is opened");
-    assert_eq!(rt; insert_many(&mut seat, MANY), MANY);
-    assert_eq!(rt; count_rows_down(&mut seat, u64::MAX), MANY);
-    assert_eq!(rt; count_rows_down(&mut seat, MANY / 2), MANY / 2 + 1);
+/// Whether parts downwards tell all rows that were inserted, and half of them.
+fn parts_tell_all_down(seat: &mut Seat) -> bool {
+    insert_many(seat, MANY) == MANY
+        && count_rows_down(seat, u64::MAX) == MANY
+        && count_rows_down(seat, MANY / 2) == MANY / 2 + 1
 }
 
 #[test]
-fn two_seats_see_one_index(rt: HostRuntime) {
-    let mut seats = open(rt.alloc(), 64, 2).ok().expect(&rt, "it is opened");
-    let mut one = seats.pop().expect(&rt, "there are two");
-    let mut two = seats.pop().expect(&rt, "there are two");
-    assert!(rt; one.write(1, KeyWrite::Insert(10)) == Some(Reply::Inserted));
-    drop(one);
-    assert_eq!(rt; two.find(1), Some(KeyReply::Found(10)));
+fn parts_downwards_tell_all_rows(rt: HostRuntime) {
+    let mut seat = opened(rt.alloc(), 1_024).expect(&rt, "it is opened");
+    assert!(rt; parts_tell_all_down(&mut seat));
+}
+
+/// Why no index of so many pages and seats is opened.
+fn refusal(alloc: Global, pages: u32, seats: u32) -> Option<OpenFault> {
+    open(alloc, pages, seats).err()
 }
 
 #[test]
 fn what_is_not_opened_says_why(rt: HostRuntime) {
     let alloc = rt.alloc();
-    assert!(rt; open(alloc, 3, 1).err() == Some(OpenFault::Pages));
-    assert!(rt; open(alloc, 4, 0).err() == Some(OpenFault::Passes));
-    assert!(rt; open(alloc, 4, 65).err() == Some(OpenFault::Passes));
-    assert!(rt; open_image(alloc, b"no image", 1).err() == Some(ImageFault::Image));
+    assert!(rt; refusal(alloc, 3, 1) == Some(OpenFault::Pages));
+    assert!(rt; refusal(alloc, 4, 0) == Some(OpenFault::Passes));
+    assert!(rt; refusal(alloc, 4, 65) == Some(OpenFault::Passes));
+}
+
+#[test]
+fn what_is_no_image_is_not_opened(rt: HostRuntime) {
+    let fault = open_image(rt.alloc(), b"no image", 1).err();
+    assert!(rt; fault == Some(ImageFault::Image));
 }
 
 /// Two seats of one index.
@@ -203,45 +234,70 @@ fn boxed(alloc: Global, seat: Seat) -> Option<Vec<Box<Seat, Global>>>
 }
 
 #[test]
+fn two_seats_see_one_index(rt: HostRuntime) {
+    let (mut one, mut two) = two_of_one(rt.alloc()).expect(&rt, "there are two");
+    let is_there = is_written(&mut one, 1, KeyWrite::Insert(10), KeyReply::Inserted);
+    drop(one);
+    assert!(rt; is_there && two.find(1) == Some(KeyReply::Found(10)));
+}
+
+#[test]
 fn seats_meet(rt: HostRuntime) {
     let (mut one, mut two) = two_of_one(rt.alloc()).expect(&rt, "there are two");
-    assert!(rt; one.write(1, KeyWrite::Insert(10)) == Some(Reply::Inserted));
-    assert!(rt; one.meet(&mut two));
-    assert_eq!(rt; two.find(1), Some(KeyReply::Found(10)));
-    assert_eq!(rt; one.pages(), 64);
+    let reply = one.write(1, KeyWrite::Insert(10));
+    let have_met = one.meet(&mut two);
+    let found = two.find(1);
+    assert!(rt; reply == Some(Reply::Inserted) && have_met && found == Some(KeyReply::Found(10)));
+    assert!(rt; one.pages() == 64);
+}
+
+/// The image of an index of 64 pages and a hundred rows that is closed; nothing, where it is not.
+fn spelled(alloc: Global) -> Option<[u8; 32 + 256 * 64]> {
+    let mut seats = open(alloc, 64, 1).ok()?;
+    let mut seat = seats.pop()?;
+    if insert_many(&mut seat, 100) != 100 {
+        return None;
+    }
+    let seats = boxed(alloc, seat)?;
+    let quiet = close(alloc, seats).ok()?;
+    if quiet.image().pages.len() != 64 {
+        return None;
+    }
+    let mut bytes = [0; 32 + 256 * 64];
+    quiet.image().spell(&mut bytes);
+    Some(bytes)
+}
+
+/// How many rows an image has, and what is found at key 7; nothing, where it is none.
+fn found_in(alloc: Global, image: &[u8]) -> Option<(u64, Option<KeyReply>)> {
+    let mut seats = open_image(alloc, image, 1).ok()?;
+    let mut seat = seats.pop()?;
+    Some((count_rows(&mut seat), seat.find(7)))
 }
 
 #[test]
 fn seats_close_to_an_image_that_opens_again(rt: HostRuntime) {
     let alloc = rt.alloc();
-    let mut seats = open(alloc, 64, 1).ok().expect(&rt, "it is opened");
-    let mut seat = seats.pop().expect(&rt, "there is one");
-    assert_eq!(rt; insert_many(&mut seat, 100), 100);
-    let seats = boxed(alloc, seat).expect(&rt, "there is memory");
-    let quiet = close(alloc, seats).ok().expect(&rt, "it is closed");
-    assert_eq!(rt; image_length(64), 32 + 256 * 64);
-    let mut bytes = [0; 32 + 256 * 64];
-    assert_eq!(rt; quiet.image().pages.len(), 64);
-    quiet.image().spell(&mut bytes);
-    let mut again = open_image(alloc, &bytes, 1)
-        .ok()
-        .expect(&rt, "it is an image");
-    let mut seat = again.pop().expect(&rt, "there is one");
-    assert_eq!(rt; count_rows(&mut seat), 100);
-    assert_eq!(rt; seat.find(7), Some(KeyReply::Found(7)));
+    assert!(rt; image_length(64) == 32 + 256 * 64);
+    let bytes = spelled(alloc).expect(&rt, "it is closed");
+    assert!(rt; found_in(alloc, &bytes) == Some((100, Some(KeyReply::Found(7)))));
+}
+
+/// Why an index of two seats is not closed by one of them, how many come back, and what the one finds then.
+fn refused(alloc: Global) -> Option<(CloseFault, usize, Option<KeyReply>)> {
+    let mut seats = open(alloc, 64, 2).ok()?;
+    let seat = seats.pop()?;
+    let boxes = boxed(alloc, seat)?;
+    let (mut back, why) = close(alloc, boxes).err()?;
+    let count = back.len();
+    let mut seat = back.pop()?;
+    Some((why, count, seat.find(1)))
 }
 
 #[test]
 fn a_close_without_all_seats_is_refused(rt: HostRuntime) {
-    let alloc = rt.alloc();
-    let mut seats = open(alloc, 64, 2).ok().expect(&rt, "it is opened");
-    let seat = seats.pop().expect(&rt, "there are two");
-    let boxes = boxed(alloc, seat).expect(&rt, "there is memory");
-    let (mut back, why) = close(alloc, boxes).err().expect(&rt, "one is missing");
-    assert!(rt; why == CloseFault::Missing);
-    assert_eq!(rt; back.len(), 1);
-    let mut seat = back.pop().expect(&rt, "it is back");
-    assert_eq!(rt; seat.find(1), Some(KeyReply::Absent));
+    let seen = refused(rt.alloc()).expect(&rt, "one is missing");
+    assert!(rt; seen == (CloseFault::Missing, 1, Some(KeyReply::Absent)));
 }
 
 /// A window of so many living rows moves over so many insertions, with 256 pages.
@@ -286,10 +342,13 @@ fn filled(seat: &mut Seat) -> u64 {
     inserted
 }
 
+/// Whether a window moves, leaves nothing to do, and room for the rows that surely fit.
+fn window_moves(seat: &mut Seat) -> bool {
+    moved_in_vain(seat) == 0 && seat.tend(4_096) && seat.waiting() == 0 && filled(seat) == 1_528
+}
+
 #[test]
 fn a_window_moves_and_leaves_nothing_to_do(rt: HostRuntime) {
     let mut seat = opened(rt.alloc(), 256).expect(&rt, "it is opened");
-    assert_eq!(rt; moved_in_vain(&mut seat), 0);
-    assert!(rt; seat.tend(4_096) && seat.waiting() == 0);
-    assert_eq!(rt; filled(&mut seat), 1_528);
+    assert!(rt; window_moves(&mut seat));
 }

@@ -3,6 +3,8 @@
 ghost use Rattle.std.specs.Prelude.{IfSome};
 ghost use Rattle.bl_map.specs.Maps.{IsSeatOf};
 
+use crate::maps::tables::{Answer, Call, right_of};
+use crate::maps::trials::{Trial, holds_in};
 use bl_map::{Backlog, Handle, KeyReply, Map, OpenFault, Seat};
 use std::alloc::Global;
 use std::sync::Wait;
@@ -15,6 +17,9 @@ const MANY: u64 = 5_000;
 
 /// How many of them are deleted.
 const GONE: u64 = 4_990;
+
+/// The rows below 4,993 that are left.
+const LEFT: [(u64, u64); 3] = [(4_990, 49_900), (4_991, 49_910), (4_992, 49_920)];
 
 /// A map of so many pages with one seat.
 pub(crate) fn opened(alloc: Global, pages: u32) -> Option<(Map, Seat)>
@@ -35,42 +40,24 @@ pub(crate) fn shared(alloc: Global, pages: u32) -> Option<(Map, Seat, Seat)>
     Some((map, one, two))
 }
 
-fn row_replies<R: Wait>(rt: &R, handle: &mut Handle<'_>) -> [KeyReply; 11] {
-    [
-        handle.find(rt, 5),
-        handle.insert(rt, 5, 50),
-        handle.insert(rt, 5, 60),
-        handle.find(rt, 5),
-        handle.change(rt, 5, 50, 70),
-        handle.change(rt, 5, 50, 80),
-        handle.put(rt, 5, 90),
-        handle.delete(rt, 5),
-        handle.delete(rt, 5),
-        handle.change(rt, 5, 70, 80),
-        handle.put(rt, 5, 60),
-    ]
-}
+/// A row comes and goes.
+const ROW: [(Call, Answer); 11] = [
+    (Call::Find(5), Answer::Key(KeyReply::Absent)),
+    (Call::Insert(5, 50), Answer::Key(KeyReply::Inserted)),
+    (Call::Insert(5, 60), Answer::Key(KeyReply::Present(50))),
+    (Call::Find(5), Answer::Key(KeyReply::Found(50))),
+    (Call::Change(5, 50, 70), Answer::Key(KeyReply::Changed)),
+    (Call::Change(5, 50, 80), Answer::Key(KeyReply::Differs(70))),
+    (Call::Put(5, 90), Answer::Key(KeyReply::Replaced(70))),
+    (Call::Delete(5), Answer::Key(KeyReply::Deleted(90))),
+    (Call::Delete(5), Answer::Key(KeyReply::Absent)),
+    (Call::Change(5, 70, 80), Answer::Key(KeyReply::Absent)),
+    (Call::Put(5, 60), Answer::Key(KeyReply::Inserted)),
+];
 
 #[test]
-fn a_row_comes_and_goes(rt: HostRuntime) -> Result<(), Fail> {
-    let (map, seat) = opened(rt.alloc(), 4).ok_or("no map")?;
-    let mut handle = map.handle(seat);
-    let replies = row_replies(&rt, &mut handle);
-    let wanted = [
-        KeyReply::Absent,
-        KeyReply::Inserted,
-        KeyReply::Present(50),
-        KeyReply::Found(50),
-        KeyReply::Changed,
-        KeyReply::Differs(70),
-        KeyReply::Replaced(70),
-        KeyReply::Deleted(90),
-        KeyReply::Absent,
-        KeyReply::Absent,
-        KeyReply::Inserted,
-    ];
-    assert!(rt; replies == wanted);
-    Ok(())
+fn a_row_comes_and_goes(rt: HostRuntime) {
+    assert_eq!(rt; right_of(&rt, rt.alloc(), 4, &ROW), Some(11));
 }
 
 /// Inserts the keys from one on and below another. Says how many were inserted.
@@ -84,9 +71,10 @@ pub(crate) fn fill<R: Wait>(rt: &R, handle: &mut Handle<'_>, from: u64, to: u64)
     inserted
 }
 
-fn shrink<R: Wait>(rt: &R, handle: &mut Handle<'_>) -> u64 {
+/// Deletes these rows. Says how many were deleted.
+pub(crate) fn empty<R: Wait>(rt: &R, handle: &mut Handle<'_>, from: u64, to: u64) -> u64 {
     let mut deleted = 0u64;
-    for key in 0..GONE {
+    for key in from..to {
         if handle.delete(rt, key) == KeyReply::Deleted(key.wrapping_mul(10)) {
             deleted = deleted.wrapping_add(1);
         }
@@ -94,22 +82,25 @@ fn shrink<R: Wait>(rt: &R, handle: &mut Handle<'_>) -> u64 {
     deleted
 }
 
-#[test]
-fn many_rows_come_and_go(rt: HostRuntime) -> Result<(), Fail> {
-    let (map, seat) = opened(rt.alloc(), 1_024).ok_or("no map")?;
-    let mut handle = map.handle(seat);
-    assert!(rt; fill(&rt, &mut handle, 0, MANY) == MANY);
-    assert!(rt; shrink(&rt, &mut handle) == GONE);
-    let backlog = handle.upkeep(&rt, 100);
+/// Many rows come, and most of them go. Nothing is left to do, and the last ones are there.
+pub(crate) fn many_come_and_go<R: Wait>(rt: &R, alloc: Global, handle: &mut Handle<'_>) -> bool {
+    if fill(rt, handle, 0, MANY) != MANY || empty(rt, handle, 0, GONE) != GONE {
+        return false;
+    }
     let none = Backlog {
         waiting: 0,
         dropped: 0,
     };
-    assert!(rt; backlog == none);
-    let mut rows = Vec::new(rt.alloc());
-    assert!(rt; handle.scan(&rt, 3, Some(4_993), &mut rows).is_ok());
-    assert!(rt; rows.as_slice() == [(4_990, 49_900), (4_991, 49_910), (4_992, 49_920)].as_slice());
-    Ok(())
+    if handle.upkeep(rt, 100) != none {
+        return false;
+    }
+    let mut rows = Vec::new(alloc);
+    handle.scan(rt, 3, Some(4_993), &mut rows).is_ok() && rows.as_slice() == LEFT.as_slice()
+}
+
+#[test]
+fn many_rows_come_and_go(rt: HostRuntime) {
+    assert!(rt; holds_in(&rt, rt.alloc(), 1_024, Trial::ManyRows) == Some(true));
 }
 
 /// The rows of a range, as a callback is told them.
@@ -126,16 +117,20 @@ fn told<R: Wait>(rt: &R, handle: &mut Handle<'_>, from: u64, to: Option<u64>) ->
     (count, last, are_rising)
 }
 
+/// A callback is told each row of a range once: of all, of some, and of none.
+pub(crate) fn callback_is_told<R: Wait>(rt: &R, handle: &mut Handle<'_>) -> bool {
+    if fill(rt, handle, 0, MANY) != MANY {
+        return false;
+    }
+    let all = told(rt, handle, 0, None);
+    let some = told(rt, handle, 100, Some(150));
+    let none = told(rt, handle, 150, Some(150));
+    all == (MANY, 4_999, true) && some == (50, 149, true) && none == (0, 0, true)
+}
+
 #[test]
-fn a_callback_is_told_each_row_once(rt: HostRuntime) -> Result<(), Fail> {
-    let (map, seat) = opened(rt.alloc(), 1_024).ok_or("no map")?;
-    let mut handle = map.handle(seat);
-    assert!(rt; fill(&rt, &mut handle, 0, MANY) == MANY);
-    let all = told(&rt, &mut handle, 0, None);
-    let some = told(&rt, &mut handle, 100, Some(150));
-    let none = told(&rt, &mut handle, 150, Some(150));
-    assert!(rt; all == (MANY, 4_999, true) && some == (50, 149, true) && none == (0, 0, true));
-    Ok(())
+fn a_callback_is_told_each_row_once(rt: HostRuntime) {
+    assert!(rt; holds_in(&rt, rt.alloc(), 1_024, Trial::Callback) == Some(true));
 }
 
 fn fill_all<R: Threads + Wait + Sync>(rt: &R, handles: &mut [Handle<'_>]) {
@@ -150,14 +145,19 @@ fn fill_all<R: Threads + Wait + Sync>(rt: &R, handles: &mut [Handle<'_>]) {
     );
 }
 
+/// How many rows a scan of the whole map lists; nothing, where memory is refused.
+fn count_listed<R: Wait>(rt: &R, alloc: Global, handle: &mut Handle<'_>) -> Option<usize> {
+    let mut rows = Vec::new(alloc);
+    handle.scan(rt, 0, None, &mut rows).ok()?;
+    Some(rows.len())
+}
+
 #[test]
 fn two_threads_share_a_map(rt: HostRuntime) -> Result<(), Fail> {
     let (map, one, two) = shared(rt.alloc(), 1_024).ok_or("no map")?;
     let mut handles = [map.handle(one), map.handle(two)];
     fill_all(&rt, &mut handles);
-    let mut rows = Vec::new(rt.alloc());
-    assert!(rt; handles[0].scan(&rt, 0, None, &mut rows).is_ok());
-    assert!(rt; rows.len() == MANY as usize);
+    assert!(rt; count_listed(&rt, rt.alloc(), &mut handles[0]) == Some(MANY as usize));
     Ok(())
 }
 

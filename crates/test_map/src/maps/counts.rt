@@ -1,74 +1,115 @@
 //! The least row from a key on, and how many rows there are.
 
-use crate::maps::calls::{fill, opened};
+use crate::maps::calls::{empty, fill};
+use crate::maps::tables::{Answer, Call, right_of};
+use crate::maps::trials::{Trial, holds_in};
 use bl_map::{Handle, KeyReply};
 use std::alloc::Global;
 use std::sync::Wait;
-use std::test::Fail;
 
 /// How many rows there are, each with ten times its key.
 const ROWS: u64 = 3_000;
 
-// At the front, behind a hundred emptied leaves, at the end, and where there is none.
+/// At the front, behind a hundred emptied leaves, at the end, and where there is none.
+const LEAST: [(Call, Answer); 12] = [
+    (Call::First, Answer::NoRow),
+    (Call::Fill(0, ROWS), Answer::Number(ROWS)),
+    (Call::Insert(u64::MAX, 1), Answer::Key(KeyReply::Inserted)),
+    (Call::First, Answer::Row(0, 0)),
+    (Call::FirstFrom(17), Answer::Row(17, 170)),
+    (Call::Next(17), Answer::Row(18, 180)),
+    (Call::Empty(0, 1_000), Answer::Number(1_000)),
+    (Call::First, Answer::Row(1_000, 10_000)),
+    (Call::Next(17), Answer::Row(1_000, 10_000)),
+    (Call::Next(2_999), Answer::Row(u64::MAX, 1)),
+    (Call::FirstFrom(u64::MAX), Answer::Row(u64::MAX, 1)),
+    (Call::Next(u64::MAX), Answer::NoRow),
+];
+
 #[test]
-fn the_least_row_from_a_key_on_is_found(rt: HostRuntime) -> Result<(), Fail> {
-    let (map, seat) = opened(rt.alloc(), 1_024).ok_or("no map")?;
-    let mut handle = map.handle(seat);
-    assert_eq!(rt; handle.first(&rt), None);
-    assert!(rt; fill(&rt, &mut handle, 0, ROWS) == ROWS);
-    assert!(rt; handle.insert(&rt, u64::MAX, 1) == KeyReply::Inserted);
-    assert_eq!(rt; handle.first(&rt), Some((0, 0)));
-    assert_eq!(rt; handle.first_from(&rt, 17), Some((17, 170)));
-    assert_eq!(rt; handle.next(&rt, 17), Some((18, 180)));
-    for key in 0..1_000 {
-        assert!(rt; handle.delete(&rt, key) == KeyReply::Deleted(key * 10));
-    }
-    assert_eq!(rt; handle.first(&rt), Some((1_000, 10_000)));
-    assert_eq!(rt; handle.next(&rt, 17), Some((1_000, 10_000)));
-    assert_eq!(rt; handle.next(&rt, 2_999), Some((u64::MAX, 1)));
-    assert_eq!(rt; handle.first_from(&rt, u64::MAX), Some((u64::MAX, 1)));
-    assert_eq!(rt; handle.next(&rt, u64::MAX), None);
-    Ok(())
+fn the_least_row_from_a_key_on_is_found(rt: HostRuntime) {
+    assert_eq!(rt; right_of(&rt, rt.alloc(), 1_024, &LEAST), Some(12));
 }
 
-// The same from the back.
+/// The same from the back.
+const GREATEST: [(Call, Answer); 9] = [
+    (Call::Last, Answer::NoRow),
+    (Call::Fill(1, ROWS), Answer::Number(2_999)),
+    (Call::Last, Answer::Row(2_999, 29_990)),
+    (Call::LastTo(17), Answer::Row(17, 170)),
+    (Call::Previous(17), Answer::Row(16, 160)),
+    (Call::Empty(1_000, 2_999), Answer::Number(1_999)),
+    (Call::Previous(2_999), Answer::Row(999, 9_990)),
+    (Call::Previous(1), Answer::NoRow),
+    (Call::Previous(0), Answer::NoRow),
+];
+
 #[test]
-fn the_greatest_row_up_to_a_key_is_found(rt: HostRuntime) -> Result<(), Fail> {
-    let (map, seat) = opened(rt.alloc(), 1_024).ok_or("no map")?;
-    let mut handle = map.handle(seat);
-    assert_eq!(rt; handle.last(&rt), None);
-    assert!(rt; fill(&rt, &mut handle, 1, ROWS) == ROWS - 1);
-    assert_eq!(rt; handle.last(&rt), Some((2_999, 29_990)));
-    assert_eq!(rt; handle.last_to(&rt, 17), Some((17, 170)));
-    assert_eq!(rt; handle.previous(&rt, 17), Some((16, 160)));
-    for key in 1_000..2_999 {
-        assert!(rt; handle.delete(&rt, key) == KeyReply::Deleted(key * 10));
-    }
-    assert_eq!(rt; handle.previous(&rt, 2_999), Some((999, 9_990)));
-    assert_eq!(rt; handle.previous(&rt, 1), None);
-    assert_eq!(rt; handle.previous(&rt, 0), None);
-    Ok(())
+fn the_greatest_row_up_to_a_key_is_found(rt: HostRuntime) {
+    assert_eq!(rt; right_of(&rt, rt.alloc(), 1_024, &GREATEST), Some(9));
 }
 
-// In falling order, over emptied leaves, to a key that is listed, and to one that is not.
+/// All, all but the greatest key, those up to an end, some, and none.
+const COUNTED: [(Call, Answer); 9] = [
+    (Call::Count(0, None), Answer::Number(0)),
+    (Call::Fill(0, ROWS), Answer::Number(ROWS)),
+    (Call::Insert(u64::MAX, 1), Answer::Key(KeyReply::Inserted)),
+    (Call::Count(0, None), Answer::Number(3_001)),
+    (Call::Count(0, Some(u64::MAX)), Answer::Number(3_000)),
+    (Call::Count(2_990, Some(5_000)), Answer::Number(10)),
+    (Call::Count(100, Some(150)), Answer::Number(50)),
+    (Call::Count(150, Some(150)), Answer::Number(0)),
+    (Call::Count(150, Some(3)), Answer::Number(0)),
+];
+
 #[test]
-fn rows_are_listed_downwards(rt: HostRuntime) -> Result<(), Fail> {
-    let (map, seat) = opened(rt.alloc(), 1_024).ok_or("no map")?;
-    let mut handle = map.handle(seat);
-    assert!(rt; fill(&rt, &mut handle, 0, ROWS) == ROWS);
-    for key in 20..2_990 {
-        assert!(rt; handle.delete(&rt, key) == KeyReply::Deleted(key * 10));
-    }
-    let mut rows = Vec::new(rt.alloc());
-    assert!(rt; handle.scan_down(&rt, 2_991, 18, &mut rows).is_ok());
-    assert!(rt;
-        rows.as_slice() == [(2_991, 29_910), (2_990, 29_900), (19, 190), (18, 180)].as_slice()
-    );
-    let mut few = Vec::new(rt.alloc());
-    assert!(rt; handle.scan_down(&rt, 1, 0, &mut few).is_ok());
-    assert!(rt; few.as_slice() == [(1, 10), (0, 0)].as_slice());
-    assert!(rt; handle.scan_down(&rt, 0, 1, &mut few).is_ok() && few.len() == 2);
-    Ok(())
+fn rows_are_counted(rt: HostRuntime) {
+    assert_eq!(rt; right_of(&rt, rt.alloc(), 1_024, &COUNTED), Some(9));
+}
+
+/// Rows downwards over emptied leaves.
+const OVER_EMPTIED: [(u64, u64); 4] = [(2_991, 29_910), (2_990, 29_900), (19, 190), (18, 180)];
+
+/// The rows of the first two keys, downwards.
+const LOWEST: [(u64, u64); 2] = [(1, 10), (0, 0)];
+
+/// The rows of the last two keys, downwards.
+const HIGHEST: [(u64, u64); 2] = [(u64::MAX, 1), (2_999, 29_990)];
+
+/// Rows come, those of the keys 20 to 2,989 go, and the greatest key comes. Says whether they all did.
+fn is_emptied<R: Wait>(rt: &R, handle: &mut Handle<'_>) -> bool {
+    fill(rt, handle, 0, ROWS) == ROWS
+        && empty(rt, handle, 20, 2_990) == 2_970
+        && handle.insert(rt, u64::MAX, 1) == KeyReply::Inserted
+}
+
+/// Whether a scan lists just these rows, from a key on downwards to another one.
+fn is_listed<R: Wait>(
+    rt: &R,
+    alloc: Global,
+    handle: &mut Handle<'_>,
+    bounds: (u64, u64),
+    wanted: &[(u64, u64)],
+) -> bool {
+    let mut rows = Vec::new(alloc);
+    handle.scan_down(rt, bounds.0, bounds.1, &mut rows).is_ok() && rows.as_slice() == wanted
+}
+
+/// Rows are listed in falling order, over emptied leaves, to a key that is listed, and to one that is not.
+pub(crate) fn are_listed_downwards<R: Wait>(
+    rt: &R,
+    alloc: Global,
+    handle: &mut Handle<'_>,
+) -> bool {
+    is_emptied(rt, handle)
+        && is_listed(rt, alloc, handle, (2_991, 18), OVER_EMPTIED.as_slice())
+        && is_listed(rt, alloc, handle, (1, 0), LOWEST.as_slice())
+        && is_listed(rt, alloc, handle, (0, 1), &[])
+}
+
+#[test]
+fn rows_are_listed_downwards(rt: HostRuntime) {
+    assert!(rt; holds_in(&rt, rt.alloc(), 1_024, Trial::Downwards) == Some(true));
 }
 
 /// The rows from a key on downwards to another one, as a callback is told them.
@@ -88,7 +129,7 @@ fn told_down<R: Wait>(
     if has_room { Some(rows) } else { None }
 }
 
-/// A callback is told just these rows.
+/// Whether a callback is told just these rows.
 fn is_told<R: Wait>(
     rt: &R,
     alloc: Global,
@@ -102,48 +143,18 @@ fn is_told<R: Wait>(
     }
 }
 
-// The same rows, each once, to the greatest key and to none.
-#[test]
-fn a_callback_is_told_rows_downwards(rt: HostRuntime) -> Result<(), Fail> {
-    let (map, seat) = opened(rt.alloc(), 1_024).ok_or("no map")?;
-    let mut handle = map.handle(seat);
-    assert!(rt; fill(&rt, &mut handle, 0, ROWS) == ROWS);
-    assert!(rt; handle.insert(&rt, u64::MAX, 1) == KeyReply::Inserted);
-    for key in 20..2_990 {
-        assert!(rt; handle.delete(&rt, key) == KeyReply::Deleted(key * 10));
-    }
-    let alloc = rt.alloc();
-    let emptied = [(2_991, 29_910), (2_990, 29_900), (19, 190), (18, 180)];
-    assert!(rt; is_told(&rt, alloc, &mut handle, (2_991, 18), emptied.as_slice()));
-    assert!(rt;
-        is_told(
-            &rt,
-            alloc,
-            &mut handle,
-            (1, 0),
-            [(1, 10), (0, 0)].as_slice()
-        )
-    );
-    assert!(rt; is_told(&rt, alloc, &mut handle, (5, 5), [(5, 50)].as_slice()));
-    let last = [(u64::MAX, 1), (2_999, 29_990)];
-    assert!(rt; is_told(&rt, alloc, &mut handle, (u64::MAX, 2_999), last.as_slice()));
-    assert!(rt; is_told(&rt, alloc, &mut handle, (100, 50), [].as_slice()));
-    assert!(rt; is_told(&rt, alloc, &mut handle, (0, 1), [].as_slice()));
-    Ok(())
+/// A callback is told the same rows, each once, to the greatest key and to none.
+pub(crate) fn are_told_downwards<R: Wait>(rt: &R, alloc: Global, handle: &mut Handle<'_>) -> bool {
+    is_emptied(rt, handle)
+        && is_told(rt, alloc, handle, (2_991, 18), OVER_EMPTIED.as_slice())
+        && is_told(rt, alloc, handle, (1, 0), LOWEST.as_slice())
+        && is_told(rt, alloc, handle, (5, 5), &[(5, 50)])
+        && is_told(rt, alloc, handle, (u64::MAX, 2_999), HIGHEST.as_slice())
+        && is_told(rt, alloc, handle, (100, 50), &[])
+        && is_told(rt, alloc, handle, (0, 1), &[])
 }
 
 #[test]
-fn rows_are_counted(rt: HostRuntime) -> Result<(), Fail> {
-    let (map, seat) = opened(rt.alloc(), 1_024).ok_or("no map")?;
-    let mut handle = map.handle(seat);
-    assert_eq!(rt; handle.count(&rt, 0, None), 0);
-    assert!(rt; fill(&rt, &mut handle, 0, ROWS) == ROWS);
-    assert!(rt; handle.insert(&rt, u64::MAX, 1) == KeyReply::Inserted);
-    assert_eq!(rt; handle.count(&rt, 0, None), 3_001);
-    assert_eq!(rt; handle.count(&rt, 0, Some(u64::MAX)), 3_000);
-    assert_eq!(rt; handle.count(&rt, 2_990, Some(5_000)), 10);
-    assert_eq!(rt; handle.count(&rt, 100, Some(150)), 50);
-    assert_eq!(rt; handle.count(&rt, 150, Some(150)), 0);
-    assert_eq!(rt; handle.count(&rt, 150, Some(3)), 0);
-    Ok(())
+fn a_callback_is_told_rows_downwards(rt: HostRuntime) {
+    assert!(rt; holds_in(&rt, rt.alloc(), 1_024, Trial::CallbackDownwards) == Some(true));
 }

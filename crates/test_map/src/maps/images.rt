@@ -1,24 +1,36 @@
 //! A map is closed, and another one opened from its image.
 
 use crate::maps::calls::opened;
+use bl_check::Quiet;
 use bl_map::{KeyReply, LoadFault, Map, MapLoadFault, OpenFault};
 use std::alloc::Global;
 use std::sync::Wait;
 
-/// The values of two keys, one before and one behind a close and an opening from the image; none where memory is refused.
-fn values<R: Wait>(rt: &R, alloc: Global) -> Option<(KeyReply, KeyReply)> {
+/// A find of a key, and the image of the map when it is closed; nothing, where memory is refused.
+fn closed<R: Wait>(rt: &R, alloc: Global) -> Option<(KeyReply, Quiet)> {
     let (map, seat) = opened(alloc, 64)?;
     let mut handle = map.handle(seat);
     handle.insert(rt, 11, 33);
     handle.insert(rt, 99, 297);
-    let before = handle.find(rt, 11);
+    let found = handle.find(rt, 11);
     let mut seats = Vec::new(alloc);
     seats.push(handle.into_seat()).ok()?;
     let image = map.close(alloc, seats).ok()?;
+    Some((found, image))
+}
+
+/// What a map of this image answers to a find of a key; nothing, where none is opened.
+fn found_in<R: Wait>(rt: &R, alloc: Global, image: Quiet, key: u64) -> Option<KeyReply> {
     let (map, mut seats) = Map::open_image(alloc, image, 1).ok()?;
     let seat = seats.pop()?;
     let mut handle = map.handle(seat);
-    Some((before, handle.find(rt, 99)))
+    Some(handle.find(rt, key))
+}
+
+/// The values of two keys, one before and one behind a close and an opening from the image; nothing, where memory is refused.
+fn values<R: Wait>(rt: &R, alloc: Global) -> Option<(KeyReply, KeyReply)> {
+    let (before, image) = closed(rt, alloc)?;
+    Some((before, found_in(rt, alloc, image, 99)?))
 }
 
 #[test]
@@ -51,43 +63,28 @@ fn refusal(alloc: Global, rows: &[(u64, u64)], sizes: (u32, u32, u32)) -> Option
     Map::load(alloc, rows, pages, fill, seats).err()
 }
 
+const RISING: [(u64, u64); 3] = [(11, 33), (12, 36), (99, 297)];
+
+#[test]
+fn rows_that_do_not_rise_are_not_loaded(rt: HostRuntime) {
+    let twice = [(11, 33), (12, 36), (12, 37)];
+    let wanted = Some(MapLoadFault::Rows(LoadFault::Order(2)));
+    assert!(rt; refusal(rt.alloc(), &twice, (64, 14, 1)) == wanted);
+}
+
+/// Pages, rows a leaf and seats with which rows that rise are not loaded, and why.
+const REFUSED: [((u32, u32, u32), MapLoadFault); 5] = [
+    ((3, 14, 1), MapLoadFault::Rows(LoadFault::Pages)),
+    ((64, 0, 1), MapLoadFault::Rows(LoadFault::Fill)),
+    ((64, 15, 1), MapLoadFault::Rows(LoadFault::Fill)),
+    ((4, 1, 1), MapLoadFault::Rows(LoadFault::Room)),
+    ((64, 14, 0), MapLoadFault::Open(OpenFault::Passes)),
+];
+
 #[test]
 fn a_map_is_not_loaded(rt: HostRuntime) {
-    let rising = [(11, 33), (12, 36), (99, 297)];
-    let twice = [(11, 33), (12, 36), (12, 37)];
-    let cases: [(&[(u64, u64)], (u32, u32, u32), MapLoadFault); 6] = [
-        (
-            twice.as_slice(),
-            (64, 14, 1),
-            MapLoadFault::Rows(LoadFault::Order(2)),
-        ),
-        (
-            rising.as_slice(),
-            (3, 14, 1),
-            MapLoadFault::Rows(LoadFault::Pages),
-        ),
-        (
-            rising.as_slice(),
-            (64, 0, 1),
-            MapLoadFault::Rows(LoadFault::Fill),
-        ),
-        (
-            rising.as_slice(),
-            (64, 15, 1),
-            MapLoadFault::Rows(LoadFault::Fill),
-        ),
-        (
-            rising.as_slice(),
-            (4, 1, 1),
-            MapLoadFault::Rows(LoadFault::Room),
-        ),
-        (
-            rising.as_slice(),
-            (64, 14, 0),
-            MapLoadFault::Open(OpenFault::Passes),
-        ),
-    ];
-    for (rows, sizes, fault) in cases {
-        assert!(rt; refusal(rt.alloc(), rows, sizes) == Some(fault));
+    let alloc = rt.alloc();
+    for (sizes, fault) in REFUSED {
+        assert!(rt; refusal(alloc, &RISING, sizes) == Some(fault));
     }
 }

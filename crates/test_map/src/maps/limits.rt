@@ -1,35 +1,39 @@
 //! Rows by pages: so many at most, and from where the next ones begin.
 
-use crate::maps::calls::{fill, opened};
+use crate::maps::calls::fill;
+use crate::maps::trials::{Trial, holds_in};
 use bl_map::{Handle, KeyReply};
 use std::alloc::Global;
 use std::sync::Wait;
-use std::test::Fail;
 
 /// How many rows there are, each with ten times its key.
 const ROWS: u64 = 40;
 
-/// Lists rows by one call after another, each behind those of the calls before: from a key on, below an end, if there is one, and so many at
-/// most. Gives the rows, and where the next ones begin behind each call, if they do; or nothing, where memory is refused.
-fn listed<R: Wait>(
+/// A call: from a key on, below an end, if there is one, so many rows at most, and where the next ones begin behind it, if they do.
+type Page = (u64, Option<u64>, usize, Option<u64>);
+
+/// Lists rows by one call after another, each behind those of the calls before. Says whether the next ones begin where they must.
+fn list_by<R: Wait>(
     rt: &R,
-    alloc: Global,
     handle: &mut Handle<'_>,
-    calls: &[(u64, Option<u64>, usize)],
-) -> Option<(Vec<(u64, u64)>, Vec<Option<u64>>)> {
-    let mut rows = Vec::new(alloc);
-    let mut nexts = Vec::new(alloc);
-    for call in calls {
-        let next = handle
-            .scan_at_most(rt, call.0, call.1, call.2, &mut rows)
-            .ok()?;
-        nexts.push(next).ok()?;
+    pages: &[Page],
+    rows: &mut Vec<(u64, u64)>,
+) -> bool {
+    for page in pages {
+        match handle.scan_at_most(rt, page.0, page.1, page.2, rows) {
+            Ok(next) => {
+                if next != page.3 {
+                    return false;
+                }
+            }
+            Err(_) => return false,
+        }
     }
-    Some((rows, nexts))
+    true
 }
 
-/// Whether the rows are those of the keys from that one on, each with ten times its key.
-fn are_tens(rows: &[(u64, u64)], from: u64) -> bool {
+/// Whether the rows are so many, of the keys from that one on, each with ten times its key.
+fn are_tens(rows: &[(u64, u64)], from: u64, count: usize) -> bool {
     let mut key = from;
     for row in rows {
         if row.0 != key || row.1 != key.saturating_mul(10) {
@@ -37,60 +41,79 @@ fn are_tens(rows: &[(u64, u64)], from: u64) -> bool {
         }
         key = key.saturating_add(1);
     }
-    true
+    rows.len() == count
 }
 
-// Seven at a time from 5 on, up to an end behind the fourth of a page.
-#[test]
-fn rows_are_listed_seven_at_a_time(rt: HostRuntime) -> Result<(), Fail> {
-    let (map, seat) = opened(rt.alloc(), 64).ok_or("no map")?;
-    let mut handle = map.handle(seat);
-    let filled = fill(&rt, &mut handle, 0, ROWS);
-    let end = Some(30);
-    let calls = [(5, end, 7), (12, end, 7), (19, end, 7), (26, end, 7)];
-    let (rows, nexts) = listed(&rt, rt.alloc(), &mut handle, calls.as_slice()).ok_or("no memory")?;
-    let wanted = [Some(12), Some(19), Some(26), None];
-    assert!(rt; filled == ROWS && nexts.as_slice() == wanted.as_slice());
-    assert!(rt; rows.len() == 25 && are_tens(rows.as_slice(), 5));
-    Ok(())
+/// Seven at a time from 5 on, up to an end behind the fourth of a page.
+const SEVENS: [Page; 4] = [
+    (5, Some(30), 7, Some(12)),
+    (12, Some(30), 7, Some(19)),
+    (19, Some(30), 7, Some(26)),
+    (26, Some(30), 7, None),
+];
+
+pub(crate) fn are_listed_by_pages<R: Wait>(rt: &R, alloc: Global, handle: &mut Handle<'_>) -> bool {
+    let mut rows = Vec::new(alloc);
+    fill(rt, handle, 0, ROWS) == ROWS
+        && list_by(rt, handle, &SEVENS, &mut rows)
+        && are_tens(rows.as_slice(), 5, 25)
 }
 
-// As many as are left, to an end and to that of the map; all; none; and below no key.
 #[test]
-fn nothing_is_left_behind_the_last_row(rt: HostRuntime) -> Result<(), Fail> {
-    let (map, seat) = opened(rt.alloc(), 64).ok_or("no map")?;
-    let mut handle = map.handle(seat);
-    let filled = fill(&rt, &mut handle, 0, ROWS);
-    let calls = [
-        (23, Some(30), 7),
-        (33, None, 7),
-        (0, None, usize::MAX),
-        (5, None, 0),
-        (5, Some(5), 0),
-        (5, Some(3), 7),
-    ];
-    let (rows, nexts) = listed(&rt, rt.alloc(), &mut handle, calls.as_slice()).ok_or("no memory")?;
-    let wanted = [None, None, None, Some(5), None, None];
-    assert!(rt; filled == ROWS && nexts.as_slice() == wanted.as_slice());
-    assert!(rt; rows.len() == 54);
-    Ok(())
+fn rows_are_listed_seven_at_a_time(rt: HostRuntime) {
+    assert!(rt; holds_in(&rt, rt.alloc(), 64, Trial::Pages) == Some(true));
 }
 
-// The greatest key, in a map that had no row before.
+/// As many as are left, to an end and to that of the map; all; none; and below no key.
+const LAST: [Page; 6] = [
+    (23, Some(30), 7, None),
+    (33, None, 7, None),
+    (0, None, usize::MAX, None),
+    (5, None, 0, Some(5)),
+    (5, Some(5), 0, None),
+    (5, Some(3), 7, None),
+];
+
+pub(crate) fn last_pages_are_listed<R: Wait>(
+    rt: &R,
+    alloc: Global,
+    handle: &mut Handle<'_>,
+) -> bool {
+    let mut rows = Vec::new(alloc);
+    fill(rt, handle, 0, ROWS) == ROWS && list_by(rt, handle, &LAST, &mut rows) && rows.len() == 54
+}
+
 #[test]
-fn the_greatest_key_is_listed_last(rt: HostRuntime) -> Result<(), Fail> {
-    let (map, seat) = opened(rt.alloc(), 64).ok_or("no map")?;
-    let mut handle = map.handle(seat);
-    let (none, over) = listed(&rt, rt.alloc(), &mut handle, [(0, None, 7)].as_slice()).ok_or(
-        "no memory",
-    )?;
-    let first = handle.insert(&rt, 3, 30);
-    let last = handle.insert(&rt, u64::MAX, 1);
-    assert!(rt; none.is_empty() && over.as_slice() == [None].as_slice());
-    assert!(rt; first == KeyReply::Inserted && last == KeyReply::Inserted);
-    let calls = [(0, None, 1), (u64::MAX, None, 1), (4, Some(u64::MAX), 1)];
-    let (rows, nexts) = listed(&rt, rt.alloc(), &mut handle, calls.as_slice()).ok_or("no memory")?;
-    assert!(rt; rows.as_slice() == [(3, 30), (u64::MAX, 1)].as_slice());
-    assert!(rt; nexts.as_slice() == [Some(u64::MAX), None, None].as_slice());
-    Ok(())
+fn nothing_is_left_behind_the_last_row(rt: HostRuntime) {
+    assert!(rt; holds_in(&rt, rt.alloc(), 64, Trial::LastPages) == Some(true));
+}
+
+/// A map that has no row.
+const NONE: [Page; 1] = [(0, None, 7, None)];
+
+/// A map that has a row of the greatest key and one before it.
+const GREATEST: [Page; 3] = [
+    (0, None, 1, Some(u64::MAX)),
+    (u64::MAX, None, 1, None),
+    (4, Some(u64::MAX), 1, None),
+];
+
+/// The greatest key is listed last, in a map that had no row before.
+pub(crate) fn greatest_key_is_listed<R: Wait>(
+    rt: &R,
+    alloc: Global,
+    handle: &mut Handle<'_>,
+) -> bool {
+    let mut rows = Vec::new(alloc);
+    list_by(rt, handle, &NONE, &mut rows)
+        && rows.is_empty()
+        && handle.insert(rt, 3, 30) == KeyReply::Inserted
+        && handle.insert(rt, u64::MAX, 1) == KeyReply::Inserted
+        && list_by(rt, handle, &GREATEST, &mut rows)
+        && rows.as_slice() == [(3, 30), (u64::MAX, 1)].as_slice()
+}
+
+#[test]
+fn the_greatest_key_is_listed_last(rt: HostRuntime) {
+    assert!(rt; holds_in(&rt, rt.alloc(), 64, Trial::GreatestKey) == Some(true));
 }

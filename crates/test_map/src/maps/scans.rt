@@ -28,14 +28,17 @@ fn scan_beside_changes<R: Wait>(rt: &R, one: &mut Handle<'_>, two: &mut Handle<'
 
 /// Each change takes a frame and swaps another one out, so there is room for so many only where frames are given back while the scan
 /// runs.
+fn frames_suffice<R: Wait>(rt: &R, one: &mut Handle<'_>, two: &mut Handle<'_>) -> bool {
+    fill(rt, one, 0, ROWS) == ROWS
+        && scan_beside_changes(rt, one, two) == (ROWS, ROWS)
+        && two.find(rt, 0) == KeyReply::Found(ROWS)
+}
+
 #[test]
 fn frames_are_given_back_while_a_scan_runs(rt: HostRuntime) -> Result<(), Fail> {
     let (map, one, two) = shared(rt.alloc(), PAGES).ok_or("no map")?;
     let mut one = map.handle(one);
     let mut two = map.handle(two);
-    assert!(rt; fill(&rt, &mut one, 0, ROWS) == ROWS);
-    let (told, changed) = scan_beside_changes(&rt, &mut one, &mut two);
-    assert!(rt; told == ROWS && changed == ROWS);
-    assert!(rt; two.find(&rt, 0) == KeyReply::Found(ROWS));
+    assert!(rt; frames_suffice(&rt, &mut one, &mut two));
     Ok(())
 }

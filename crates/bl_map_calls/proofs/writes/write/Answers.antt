@@ -14,11 +14,9 @@ returns-clause-changes g c =
     let number = c.follow-left.ensures.same.2 ∙ c.write-reply.ensures.same.2 in
     record {
       hint = c.write-reply.result.1;
-      left = c.follow-left.result;
       behind = trail c.write-reply.new.pass;
       mid = trail c.follow-left.new.pass;
       written = c.write-reply.ensures.written;
-      follows = follows_as _ _ _ _ _ _ _ c.write-reply.ensures.same.2 c.follow-left.ensures.follows;
-      kept = c.keep.ensures;
+      upkeep = (c.follow-left.result, follows_as _ _ _ _ _ _ _ c.write-reply.ensures.same.2 c.follow-left.ensures.follows, c.keep.ensures);
       sweeps = swept_as _ _ _ _ _ number c.sweep_if_due.ensures.swept;
     }
