@@ -96,7 +96,7 @@ returns-then-many-eq1-clause-takes g c =
     let more = given_more g.K.Sink.Takes g.met.K.Sink.more rows first i c.row_at-row-then-many-eq1.result _ _ _ (omega (arith, at)) (omega (arith, c.requires.within, c.requires.order, c.if-many-eq1.true)) row given c.accept-then-many-eq1.ensures.takes in
     subst (λ (z : ℕ). g.K.Sink.Takes held (take (z - first) (drop first rows)) (g.K.Sink.held c.accept-then-many-eq1.new.state)) last more
 
-pub returns-clause-takes : goal.returns-clause-takes
-returns-clause-takes g c =
+pub returns-else-many-eq1-clause-takes : goal.returns-else-many-eq1-clause-takes
+returns-else-many-eq1-clause-takes g c =
     let all : c.args.first + 2 * c.loop-pair.pair - c.args.first ≡ c.args.last - c.args.first = omega (arith, c.requires.order, c.loop-pair-test.false, c.loop-pair.auto.pair-end, c.if-many-eq1.false) in
     rw all at c.loop-pair.invariant.given
