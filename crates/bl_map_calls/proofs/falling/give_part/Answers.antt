@@ -21,9 +21,10 @@ loop-row-init g c =
 pub accept-requires-clause-room : goal.accept-requires-clause-room
 accept-requires-clause-room g c =
     let list = c.as_slice-list.result.now in
-    let i = c.loop-row.row-index in
-    (length (rows_from c.args.low (drop (i + 1) list)),
-    subst (g.K.Sink.HasRoom c.loop-row.state) (row_fewer c.args.low list i (get_or list i (0, 0)) (0, 0) c.loop-row-test.true refl (omega (arith, c.if-low-row.true))) c.loop-row.invariant.room)
+    let i = c.loop-row.row-index in (
+      length (rows_from c.args.low (drop (i + 1) list)),
+      subst (g.K.Sink.HasRoom c.loop-row.state) (row_fewer c.args.low list i (get_or list i (0, 0)) (0, 0) c.loop-row-test.true refl (omega (arith, c.if-low-row.true))) c.loop-row.invariant.room,
+    )
 
 pub loop-row-preserved : goal.loop-row-preserved
 loop-row-preserved g c =
