@@ -9,7 +9,7 @@ use Rattle.bl_model.specs.declared.operation.Reply.{Reply}
 use Rattle.bl_model.specs.declared.operation.Reply.TheVariants.{Rows}
 use Rattle.bl_map_calls.specs.Falling.{rows_from, rows_to}
 
-drop_here : (rows : List (ℕ × ℕ)) (i : ℕ) (d : ℕ × ℕ) → i < length rows → drop i rows ≡ get_or rows i d ∷ drop (i + 1) rows
+drop_here : (rows : List (ℕ × ℕ)) (i : ℕ) (d : ℕ × ℕ) → i < length rows → drop i rows ≡ get_or rows i d ∷ drop (suc i) rows
 drop_here [] i d lt = absurd (omega arith)
 drop_here (x ∷ xs) zero d lt = refl
 drop_here (x ∷ xs) (suc i) d lt = drop_here xs i d (omega arith)
@@ -19,7 +19,7 @@ module _ (low : ℕ) (rows : List (ℕ × ℕ)) (i : ℕ) (row d : ℕ × ℕ) (
   so_many = ap (rows_from low) (take_more rows i d lt ∙ ap (λ (z : ℕ × ℕ). take i rows ++ z ∷ []) (sym is)) ∙ filter-append (λ (z : ℕ × ℕ). nat_le low z.0) (take i rows) (row ∷ [])
 
   here : drop i rows ≡ row ∷ drop (i + 1) rows
-  here = drop_here rows i d lt ∙ ap (λ (z : ℕ × ℕ). z ∷ drop (i + 1) rows) (sym is)
+  here = let next : suc i ≡ i + 1 = omega arith in drop_here rows i d lt ∙ (ap (λ (z : ℕ × ℕ). z ∷ drop (suc i) rows) (sym is) ∙ ap (λ (z : ℕ). row ∷ drop z rows) next)
 
   -- a row more is given
   pub row_more : low ≤ row.0 → rows_from low (take i rows) ++ row ∷ [] ≡ rows_from low (take (i + 1) rows)

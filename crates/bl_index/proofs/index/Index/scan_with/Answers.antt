@@ -9,6 +9,3 @@ returns-then-not-is_below-clause-tells g c = record {
   ended = record { upto = Some c.args.from; over = over c.args.to c.args.from (sym c.is_below.ensures ∙ c.if-not-is_below.true); scans = scans_none _ _ _ _ _ _ _ };
   stopped = tt;
 }
-
-pub unreachable-requires : goal.unreachable-requires
-unreachable-requires g c = (rw c.in-Err-Memory.is at c.scan.ensures.scans).stopped.stops.more
