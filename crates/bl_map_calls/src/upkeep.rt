@@ -163,9 +163,10 @@ pub(crate) fn follow<R: Wait>(
         let Some(next) = hint else {
             return None;
         };
+        let again = next;
         match follow_hint(rt, index, pass, next) {
             Followed::Done(left) => hint = left,
-            Followed::NoRoom => return Some(next),
+            Followed::NoRoom => return Some(again),
         }
     }
     hint
