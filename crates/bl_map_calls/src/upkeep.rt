@@ -8,11 +8,12 @@ ghost use Rattle.bl_map_calls.specs.Works.{Adds, Swept};
 ghost use Rattle.bl_map_calls.specs.Follows.{may_fall, Lowers, FollowsHint, FollowsHints, FollowsSplit};
 
 use bl_index::{Hint, Index, Lowered, Pass, Posted, Squeezed};
+use bl_model::limits::MOST_LEVELS;
 use std::sync::Wait;
 use std::thread;
 
 /// How many levels a tree may have: a split is followed by at most one post on each.
-pub(crate) const LEVELS: u32 = 12;
+pub(crate) const LEVELS: u32 = MOST_LEVELS as u32;
 
 /// How often a pass looks at most for what it lacks, before a change, a post or a compression. With 1,024 pages so many looks take a tenth of a
 /// second, by estimate, and longer with more: longer than a thread waits for a processor that it has lost within a process, even where
