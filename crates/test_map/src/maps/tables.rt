@@ -7,7 +7,7 @@ use std::alloc::Global;
 use std::sync::Wait;
 
 /// A call.
-#[derive(Clone, Copy, Debug, PartialEq, Eq)]
+#[derive(Clone, Copy)]
 pub(crate) enum Call {
     Find(u64),
     Insert(u64, u64),
@@ -28,7 +28,7 @@ pub(crate) enum Call {
 }
 
 /// What a call has answered.
-#[derive(Clone, Copy, Debug, PartialEq, Eq)]
+#[derive(Clone, Copy, PartialEq, Eq)]
 pub(crate) enum Answer {
     Key(KeyReply),
     /// How many rows there are, or of how many keys the row was inserted or deleted.
