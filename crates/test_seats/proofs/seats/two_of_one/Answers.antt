@@ -1,8 +1,8 @@
 use Rattle.std.proofs.Common.{◌∙◌, sym, subst}
 use Rattle.std.specs.List.{AllZip}
 use Rattle.bl_ffi_seats.specs.Opened.{IsNewSeat}
-use Rattle.test_map.proofs.Pairs.{last_at, rest_at}
-use Rattle.test_map.proofs.seats.two_of_one.Goals as goal
+use Rattle.test_seats.proofs.Pairs.{last_at, rest_at}
+use Rattle.test_seats.proofs.seats.two_of_one.Goals as goal
 
 pub returns : goal.returns
 returns c =

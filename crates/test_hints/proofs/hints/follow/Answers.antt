@@ -2,7 +2,7 @@ use Rattle.std.proofs.Common.{sym, subst}
 use Rattle.bl_index.specs.Calls.{IsPassOf}
 use Rattle.bl_index.specs.declared.index.Pass.{Pass}
 use Rattle.bl_index.proofs.Taken.{same_of}
-use Rattle.test_serve.proofs.hints.follow.Goals as goal
+use Rattle.test_hints.proofs.hints.follow.Goals as goal
 
 pub returns : goal.returns
 returns g c =
