@@ -70,6 +70,7 @@ impl Upkeep {
     ghost use Rattle.bl_waiting.specs.Queue.{hints_of, IsKept};
     ghost use Rattle.bl_ffi_seats.specs.Waits.{lacked_in, ArePieces, NothingWaits, IsTakenUp, left_by, falls_after};
 
+    /// Nothing is to be kept up yet.
     pub(crate) fn new() -> Upkeep
         ensures { NothingWaits result × (result.waiting.dropped ≡ 0) }
     {
@@ -352,6 +353,7 @@ impl Seat {
         self.upkeep.waiting.dropped
     }
 
+    /// Whether no call is underway at the seat.
     pub(crate) fn is_at_rest(&self) -> bool
         ensures { result ≡ true ↔ self.now.stage ≡ stages.Rests }
     {

@@ -29,6 +29,7 @@ impl Walk {
         }
     }
 
+    /// Whether the walk has begun and is not over.
     pub(crate) fn is_underway(&self) -> bool {
         self.next > 0
     }

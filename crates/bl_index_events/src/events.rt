@@ -92,6 +92,7 @@ impl Tree {
         }
     }
 
+    /// Others may have frames to release: they get the processor some times, until there are enough.
     #[inline(never)]
     fn let_others_run(&self, hand: &Hand<PassState>) {
         for _ in 0..YIELDS {

@@ -35,6 +35,7 @@ struct Head {
 }
 
 impl Head {
+    /// Reads the head of a page.
     fn of(word: u64) -> Head {
         Head {
             kind: word / KIND_UNIT,
@@ -43,6 +44,7 @@ impl Head {
         }
     }
 
+    /// Whether it is a leaf or an inner page with half of its entries at most.
     fn is_half_full_at_most(self) -> bool {
         (self.kind == LEAF || self.kind == INNER) && self.count <= HALF
     }
