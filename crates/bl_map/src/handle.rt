@@ -462,7 +462,7 @@ impl<'a> Handle<'a> {
 
     /// How many pages of the map are free, about: others take and release some meanwhile.
     pub fn free_pages(&self) -> u64 {
-        self.index.tree().store.free_pages()
+        self.index.tree().store.room.free()
     }
 
     /// How full the map is, as one look over all its pages and frames finds it: see [`RoomSeen`]. It takes time with each of them, and is
@@ -476,7 +476,7 @@ impl<'a> Handle<'a> {
 
     /// Whether so few are free that changes by all handles at once may want more.
     pub fn lacks_pages(&self) -> bool {
-        self.index.tree().store.lacks_pages()
+        self.index.tree().store.room.lacks_pages()
     }
 
     /// What waits, and what was dropped.

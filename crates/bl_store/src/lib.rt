@@ -21,14 +21,9 @@ mod meeting;
 mod opening;
 mod owner;
 mod put;
-mod reserve;
-mod scarce;
 mod stock;
 mod store;
-mod sweep;
-mod usage;
 
-pub use bl_room::RoomSeen;
 pub use put::Splice;
 pub use stock::{NoRoom, Stock};
 pub use store::{Glance, Hand, Peek, Store};
