@@ -251,7 +251,8 @@ pub(crate) fn begin_walk<P: Poster>(
     Some(first_child(parent, poster.level(), key))
 }
 
-/// At the parent that it holds, which covers the key.
+/// Posts at the parent that it holds, which covers the key. What it replies; or `None` where it has lost its walk to the child: then it
+/// holds no page any more, and its way begins anew.
 pub fn post_there<P: Poster, R: Wait>(
     tree: &Tree,
     rt: &R,

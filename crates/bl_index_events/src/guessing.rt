@@ -69,6 +69,7 @@ impl Tree {
     /// The hint to follow for a page that seems to be less than half full, or half full beside one to its right that is no fuller: the
     /// two fit one page.
     pub fn thin_at(&self, page: u32) -> Option<Hint> {
+        // A released page has words of before, and a hint of it would be followed for nothing.
         if !is_in_use(&self.store, page) {
             return None;
         }

@@ -173,6 +173,7 @@ fn post_until<R: Wait>(
         match reach(tree, rt, hand, &target, &mut (), Approach::Start) {
             Reached::Parent(at, glance) => {
                 tree.await_frames(hand);
+                // Where its walk to the child was lost, it holds no page, and begins anew.
                 if let Some(reply) = post_there(tree, rt, hand, &target, at, glance) {
                     return end_post(tree, hand, target, reply);
                 }
