@@ -1,7 +1,7 @@
 //! Insertions and puts that post what they split: from the page that they have noted for each level on their way down, as Lehman and Yao's
 //! inserter does.
 
-ghost use Rattle.std.specs.Prelude.{◌≡◌, ◌<◌, ◌≤◌, ℕ, Option, Some, None, MatchOption};
+ghost use Rattle.std.specs.Prelude.{◌≡◌, ◌<◌, ◌≤◌, ℕ, Option, Some, MatchOption};
 ghost use Rattle.bl_model.specs.declared.operation.KeyReply.TheVariants as replies;
 ghost use Rattle.bl_model.specs.declared.operation.Reply.TheVariants as reply;
 ghost use Rattle.bl_model.specs.Replies.{reply_of};

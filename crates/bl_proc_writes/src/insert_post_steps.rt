@@ -1,6 +1,6 @@
 //! The steps of a write that posts what it splits.
 
-ghost use Rattle.std.specs.Prelude.{◌≡◌, ◌<◌, ◌≤◌, ℕ, Option, None, MatchOption};
+ghost use Rattle.std.specs.Prelude.{◌≡◌, ◌<◌, ◌≤◌, ℕ, Option, MatchOption};
 ghost use Rattle.bl_proc_steps.specs.declared.acts.Seen.{Seen};
 ghost use Rattle.bl_answers.specs.declared.answers.Hint.TheVariants as hint;
 ghost use Rattle.bl_proc_steps.specs.Given.{Gives};

@@ -1,6 +1,6 @@
 //! The listing of a child in its parent.
 
-ghost use Rattle.std.specs.Prelude.{◌≡◌, ◌≤◌, ◌<◌};
+ghost use Rattle.std.specs.Prelude.{◌≤◌, ◌<◌};
 ghost use Rattle.bl_proc_writes.specs.Levels.{IsBelowTop, IsBelowTop-prop};
 
 use crate::walking::Walk;
