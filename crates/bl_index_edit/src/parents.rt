@@ -1,6 +1,6 @@
 //! At a parent that who posts holds, by the words of pages.
 
-ghost use Rattle.std.specs.Prelude.{◌≡◌, ◌≢◌, ◌<◌, ◌-◌, Some, None, MatchOption, IfOk, IfErr};
+ghost use Rattle.std.specs.Prelude.{◌≡◌, ◌≢◌, ◌<◌, ◌-◌, MatchOption, IfOk, IfErr};
 ghost use Rattle.bl_page.specs.declared.page.Page.{Page};
 ghost use Rattle.bl_page.specs.Words.{words_of};
 ghost use Rattle.bl_page.specs.Nodes.{node_of, IsTreePage};
