@@ -188,6 +188,7 @@ fn climb<R: Wait>(
                 };
                 tree.await_frames(hand);
                 let Some(reply) = post_there(tree, rt, hand, &riser, at, glance) else {
+                    // Its walk to the child was lost, and it holds nothing.
                     from = Approach::Start;
                     continue;
                 };
