@@ -7,7 +7,7 @@ use Rattle.bl_answers.specs.declared.answers.Hint.{Hint}
 use Rattle.bl_answers.specs.declared.answers.Hint.TheVariants as hint
 use Rattle.bl_store.specs.declared.store.Hand.{Hand}
 use Rattle.bl_store.specs.Hands.{known}
-use Rattle.bl_reclaim.specs.Sweeps.{HasSweptOnce}
+use Rattle.bl_store.specs.Sweeps.{HasSweptOnce}
 use Rattle.bl_index_rule.specs.declared.known.PassState.{PassState}
 use Rattle.bl_index_rule.specs.Observed.{sweeps}
 use Rattle.bl_index_events.specs.Runs.{IsSince}

@@ -17,7 +17,7 @@ use Rattle.bl_answers.specs.declared.answers.Posted.{Posted}
 use Rattle.bl_answers.specs.declared.answers.Posted.TheVariants as posted
 use Rattle.bl_store.specs.declared.store.Hand.{Hand}
 use Rattle.bl_store.specs.Hands.{known}
-use Rattle.bl_reclaim.specs.Sweeps.{HasSweptOnce}
+use Rattle.bl_store.specs.Sweeps.{HasSweptOnce}
 use Rattle.bl_index_rule.specs.declared.known.PassState.{PassState}
 use Rattle.bl_index_read.specs.Searching.{RunsOut}
 use Rattle.bl_index_events.specs.Answered.{Answers}

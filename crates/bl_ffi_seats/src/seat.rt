@@ -13,7 +13,7 @@ use bl_index_events::Tree;
 use bl_index_resume::{Stage, stands};
 use bl_index_rule::PassState;
 use bl_proc::{Answer, Direction, Hint, Lowered, Posted, Squeezed};
-use bl_reclaim::lacks_frames;
+use bl_reserve::lacks_frames;
 use bl_store::Hand;
 use bl_waiting::Waiting;
 use std::alloc::Global;

@@ -23,7 +23,7 @@ use Rattle.bl_claims.specs.Squeezed.{MeansSqueezed}
 use Rattle.bl_claims.specs.Lowered.{MeansLowered}
 use Rattle.bl_layout.specs.Words.{frame_count}
 use Rattle.bl_store.specs.Hands.{known, WasRefused}
-use Rattle.bl_reclaim.specs.Sweeps.{IsAllSwept, HasSweptOnce}
+use Rattle.bl_store.specs.Sweeps.{IsAllSwept, HasSweptOnce}
 use Rattle.bl_claims.specs.Seeing.{first_map, IsLinearizable, own, name}
 use Rattle.bl_index_rule.specs.Observed.{IsRelease}
 use Rattle.bl_index_events.specs.Refused.{LacksForPage, LacksForWrite, LacksForPost}

@@ -7,7 +7,7 @@ ghost use Rattle.bl_index_events.specs.Runs.{IsWithin};
 
 use bl_index_events::Tree;
 use bl_index_rule::PassState;
-use bl_reclaim::{RoomSeen, room};
+use bl_reserve::{RoomSeen, room};
 use bl_store::Hand;
 use std::marker::Model;
 
@@ -72,7 +72,7 @@ impl Model for Pass {
 impl Pass {
     /// Whether a sweep is worth its time now. It is a hint: a sweep does its whole work whatever this says.
     pub fn is_due(&self) -> bool {
-        self.hand.sight.is_due()
+        self.hand.is_due()
     }
 
     /// How many puts it has made, for who wants to know whether it has changed something. Nothing is promised of it.

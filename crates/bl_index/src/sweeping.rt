@@ -3,7 +3,7 @@
 ghost use Rattle.std.specs.Prelude.{◌≡◌, ◌+◌};
 
 use crate::index::{Index, Pass};
-use bl_reclaim::lacks_frames;
+use bl_reserve::lacks_frames;
 
 impl Index {
     ghost use Rattle.bl_claims.specs.Seeing.{IsSeen};

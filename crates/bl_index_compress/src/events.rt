@@ -15,7 +15,7 @@ ghost use Rattle.bl_index_events.specs.Runs.{Runs, KeepsHand, IsOn, IsSameProces
 use bl_index_events::{FrameView, Tree};
 use bl_index_rule::{PassState, Put, Refused, Retired, Took};
 use bl_page::words_from;
-use bl_reclaim::reserve;
+use bl_reserve::reserve;
 use bl_store::{Hand, Stock};
 use crossbeam_utils::Backoff;
 use std::sync::Wait;

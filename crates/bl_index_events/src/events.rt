@@ -19,7 +19,7 @@ ghost use Rattle.bl_index_events.specs.Runs.{Runs, KeepsHand, Rests, IsSince, Is
 
 use crate::tree::Tree;
 use bl_index_rule::{Ended, Got, Opened, PassState, Probed, Put, Refused, Took, Tried};
-use bl_reclaim::{finds_frames, reserve};
+use bl_reserve::{finds_frames, reserve};
 use bl_store::{Glance, Hand, Splice, Stock};
 use std::thread;
 

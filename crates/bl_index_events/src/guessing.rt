@@ -6,7 +6,7 @@ use bl_model::KeyWrite;
 use bl_model::limits::{MOST_LEVELS, MOST_PAIRS};
 use bl_page::{FIRST_KEY, FIRST_WORD, HEAD, HIGH, KIND_UNIT, LEVEL_BEFORE, LEVEL_UNIT, LOW, RIGHT};
 use bl_proc_steps::{Hint, Level};
-use bl_reclaim::is_in_use;
+use bl_reserve::is_in_use;
 
 /// How many pairs a page has that is half full: two such pages fit one.
 const HALF: u64 = MOST_PAIRS as u64 / 2;

@@ -14,7 +14,7 @@ use crate::tree::Tree;
 use bl_index_rule::{Opened, PassState, Put, Refused, Retired, Took, Tried};
 use bl_page::Page;
 use bl_proc::{Action, Seen};
-use bl_reclaim::reserve;
+use bl_reserve::reserve;
 use bl_store::{Hand, Stock};
 
 /// What a step came to.

@@ -3,13 +3,12 @@
 ghost use Rattle.std.specs.Prelude.{◌≡◌, ℕ, ◌+◌, ◌≤◌, false};
 ghost use Rattle.bl_store.specs.Hands.{known};
 ghost use Rattle.bl_store.specs.Owners.{IsHandOf};
-ghost use Rattle.bl_reclaim.specs.Sweeps.{HasSweptOnce};
+ghost use Rattle.bl_store.specs.Sweeps.{HasSweptOnce};
 ghost use Rattle.bl_index_rule.specs.Observed.{sweeps};
 ghost use Rattle.bl_index_events.specs.Runs.{KeepsHand, IsWithin};
 
 use crate::tree::Tree;
 use bl_index_rule::{PassState, Sweeper, Swept};
-use bl_reclaim::sweep;
 use bl_store::Hand;
 use std::marker::Brand;
 
@@ -26,7 +25,7 @@ impl Tree {
         ensures count { hand.new.seat.me.0.releases ≡ hand.old.seat.me.0.releases + result }
         ensures swept { HasSweptOnce hand.old hand.new }
     {
-        sweep::<_, _, _, Swept<J>>(&self.store, hand)
+        self.store.sweep::<Swept<J>>(hand)
     }
 
     /// A hand that runs no process releases pages and frames that no process can read any more. Returns how many.

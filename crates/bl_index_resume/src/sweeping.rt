@@ -2,7 +2,7 @@
 
 ghost use Rattle.std.specs.Prelude.{◌≡◌, ℕ, ◌+◌, ◌≤◌};
 ghost use Rattle.bl_store.specs.Hands.{known, IsSameHand};
-ghost use Rattle.bl_reclaim.specs.Sweeps.{HasSweptOnce};
+ghost use Rattle.bl_store.specs.Sweeps.{HasSweptOnce};
 ghost use Rattle.bl_index_rule.specs.Observed.{sweeps};
 ghost use Rattle.bl_index_resume.specs.Stages.{IsAtRest};
 

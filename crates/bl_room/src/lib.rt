@@ -1,8 +1,7 @@
 //! How much room a store has and where: what its hands count together, and what each keeps in sight.
 //!
-//! Promised to `bl_store` and `bl_reclaim`: the pages and frames to which it leads a hand are pages and frames of the store, and a sweep is
-//! counted. Of all other counts nothing is promised, and no proof rests on them: who looks for a page or a frame looks first where they
-//! say, and then at all.
+//! Promised to `bl_store` and `bl_reserve`: the pages and frames to which it leads a hand are pages and frames of the store. Of the counts
+//! nothing is promised, and no proof rests on them: who looks for a page or a frame looks first where they say, and then at all.
 #![tactic(auto)]
 
 mod blank;

@@ -1,6 +1,6 @@
 //! What one hand keeps in sight: frames and pages that it has retired and released, and how many puts and sweeps it has made.
 
-ghost use Rattle.std.specs.Prelude.{◌≡◌, ◌+◌, ◌-◌, ◌^◌, ◌<◌, ◌≤◌, min};
+ghost use Rattle.std.specs.Prelude.{◌≡◌, ◌<◌, ◌≤◌};
 
 use crate::room::first_frame;
 use bl_layout::Layout;
@@ -23,8 +23,7 @@ const PUTS_BETWEEN: u32 = 8;
 /// A hand that has retired so many frames tries to release them. It looks at every process then, which takes some time.
 const RETIRED_TO_TRY: u32 = 64;
 
-/// What a hand keeps in sight. What it has lost sight of is found by sweeps over all owner words, so no proof rests on it but that a sweep
-/// is counted.
+/// What a hand keeps in sight. What it has lost sight of is found by sweeps over all owner words, so no proof rests on it.
 #[derive(Drop)]
 pub struct Sight {
     // The frame that its next reservation tries first.
@@ -39,8 +38,7 @@ pub struct Sight {
     ready: u32,
     // How many frames it has retired since it last tried to release them.
     untried: u32,
-    // How many it has retired since its last sweep, and how many sweeps it owes.
-    unswept: u32,
+    // How many sweeps it owes.
     owed: u32,
     // How many puts lie between two sweeps, where it owes several.
     between: u32,
@@ -49,8 +47,6 @@ pub struct Sight {
     leaving: u32,
     // How many puts it has made.
     puts: u64,
-    // How many sweeps it has made, as far as the counter goes: a contract tells by it that there was one.
-    sweeps: u64,
 }
 
 impl Sight {
@@ -72,21 +68,19 @@ impl Sight {
             released: [0; RING],
             ready: 0,
             untried: 0,
-            unswept: 0,
             owed: 0,
             between: if is_large { PUTS_BETWEEN } else { 0 },
             gone: [0; RING],
             leaving: 0,
             puts: 0,
-            sweeps: 0,
         }
     }
 
-    /// Whether a sweep is worth its time now: some puts have passed since the last one, or the hand has lost sight of frames
-    /// that it has retired. It is a hint, and a sweep does its whole work whatever this says.
+    /// Whether a sweep is worth its time now, where so many frames were retired since the last one: some puts have passed, or the hand has
+    /// lost sight of frames that it has retired. It is a hint, and a sweep does its whole work whatever this says.
     #[inline(always)]
-    pub fn is_due(&self) -> bool {
-        self.owed == 1 || (self.owed > 1 && self.unswept >= self.between)
+    pub fn is_due(&self, unswept: u32) -> bool {
+        self.owed == 1 || (self.owed > 1 && unswept >= self.between)
     }
 
     /// How many puts it has made since the store was made. It counts for who wants to know whether something was changed, and nothing is
@@ -108,12 +102,12 @@ impl Sight {
         self.frame = frame;
     }
 
-    /// A put has retired the frame. Where there is no room for it, sweeps over all owner words find it again.
+    /// A put has retired the frame, one of so many since the last sweep. Where there is no room for it, sweeps over all owner words find it
+    /// again.
     #[inline(always)]
-    pub fn note_retired(&mut self, frame: u32, layout: Layout) {
+    pub fn note_retired(&mut self, frame: u32, unswept: u32, layout: Layout) {
         self.puts = self.puts.wrapping_add(1);
         self.untried = self.untried.saturating_add(1);
-        self.unswept = self.unswept.saturating_add(1);
         if self.waiting < RING as u32 {
             self.retired[self.waiting as usize] = frame;
             self.waiting += 1;
@@ -126,7 +120,7 @@ impl Sight {
         } else {
             1
         };
-        if self.unswept >= puts_to_sweep && self.owed == 0 {
+        if unswept >= puts_to_sweep && self.owed == 0 {
             self.owed = 1;
         }
     }
@@ -243,23 +237,5 @@ impl Sight {
         if page.is_none() {
             self.owner = owner;
         }
-    }
-
-    /// How many sweeps it has made, as far as the counter goes.
-    #[inline(always)]
-    pub fn sweeps(&self) -> u64
-        ensures { result ≡ self.now.sweeps }
-    {
-        self.sweeps
-    }
-
-    /// A sweep has ended, before which it had made so many.
-    #[inline(always)]
-    pub fn end_sweep(&mut self, before: u64)
-        ensures sweeps { self.new.sweeps ≡ min (before + 1) (2 ^ 64 - 1) }
-        ensures unswept { self.new.unswept ≡ 0 }
-    {
-        self.sweeps = before.saturating_add(1);
-        self.unswept = 0;
     }
 }

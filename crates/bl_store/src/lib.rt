@@ -12,8 +12,8 @@
 //! store is made. A hand may learn of another that it meets ([`MeetPlay`]), and at the end all hands come
 //! back for the words of all pages.
 //!
-//! These are the calls that begin and end, read, latch and put. Those that reserve what is put, and release what
-//! nobody can read any more, are of `bl_reclaim`, which stands on this crate's public fields.
+//! These are the calls that begin and end, read, latch and put, and release what nobody can read any more. Those that reserve what
+//! is put are of `bl_reserve`, which stands on this crate's public fields.
 //!
 //! The latches and right links that such pages serve are those of Lehman and Yao, "Efficient locking for
 //! concurrent operations on B-trees" (1981). Stamps, frames and their release are this project's own.
@@ -26,6 +26,7 @@ mod owner;
 mod put;
 mod stock;
 mod store;
+mod sweep;
 
 pub use put::Splice;
 pub use stock::{NoRoom, Stock};

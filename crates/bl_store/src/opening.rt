@@ -112,6 +112,8 @@ impl<D> Hand<D> {
             number,
             stamp: 0,
             sight: Sight::of(number, layout),
+            unswept: 0,
+            sweeps: 0,
             apart: [0; APART],
         }
     }

@@ -282,6 +282,8 @@ impl<D, R: PageRule<D>, A: Allocator> Store<D, R, A> {
         self.table
             .shared
             .store::<Settle>(&mut hand.seat, at, retired_at(time));
-        hand.sight.note_retired(frame, self.layout);
+        hand.unswept = hand.unswept.saturating_add(1);
+        hand.sight
+            .note_retired(frame, hand.unswept, self.layout);
     }
 }

@@ -21,7 +21,7 @@ pub(crate) const APART: usize = 16;
 
 /// One who reads and writes pages. Hands are numbered from 0, and no two of a store share a number.
 ///
-/// Its public fields are for crates that add calls to a store, as `bl_reclaim` does: each event of the seat keeps the user's rule, whoever
+/// Its public fields are for crates that add calls to a store, as `bl_reserve` does: each event of the seat keeps the user's rule, whoever
 /// calls for it.
 #[derive(Drop)]
 pub struct Hand<D> {
@@ -29,8 +29,12 @@ pub struct Hand<D> {
     pub number: u32,
     // The word that it stored last for a process of its own. No proof rests on it.
     pub(crate) stamp: u64,
-    /// For all: whether a sweep is due, and how many puts there were.
+    /// For all: how many puts there were, and what it keeps in sight. No proof rests on it.
     pub sight: Sight,
+    // How many frames it has retired since its last sweep.
+    pub(crate) unswept: u32,
+    // How many sweeps it has made, as far as the counter goes: a contract tells by it that there was one.
+    pub(crate) sweeps: u64,
     // It keeps two hands that stand beside each other apart: each put writes to what is in sight, and each call reads the first fields.
     pub(crate) apart: [u64; APART],
     pub ghost own: { (number ≡ seat.me.0.number) × (number < seat.me.0.layout.passes) × (seat.me.0.sealing ≡ Unsealed) × (seat.me.1 ≡ []) },
@@ -45,7 +49,7 @@ pub struct Glance {
 }
 
 /// Pages that threads share. D is what a hand knows, and R the user's rule. The table and the layout are public for crates that add calls,
-/// as `bl_reclaim` does.
+/// as `bl_reserve` does.
 #[derive(Drop)]
 pub struct Store<D, R: PageRule<D>, A: Allocator = Global> {
     pub table: Table<(), View<D>, Ground<D>, Framed<R>, A>,
@@ -99,6 +103,12 @@ impl Glance {
 }
 
 impl<D> Hand<D> {
+    /// Whether a sweep is worth its time now: some puts have passed since the last one, or the hand has lost sight of frames
+    /// that it has retired. It is a hint, and a sweep does its whole work whatever this says.
+    pub fn is_due(&self) -> bool {
+        self.sight.is_due(self.unswept)
+    }
+
     /// The number of the hand, by which a rule and an owner name it.
     pub fn number(&self) -> u32
         ensures { result ≡ self.now.seat.me.0.number }

@@ -13,7 +13,7 @@ ghost use Rattle.bl_store.specs.Hands.{known, IsOf, IsIdle, IsRunning, IsSameHan
 ghost use Rattle.bl_store_rule.specs.Pages.{Pages};
 ghost use Rattle.test_store_rule.specs.Holding.{AllSame, Fits, IsApart, IsFresh, holding, same_apart, same_at_time, saw, took, tried, lost, lost_at_time, same_after};
 
-use bl_reclaim::NoRoom;
+use bl_reserve::NoRoom;
 use bl_store::{Glance, Hand, Stock, Store};
 use bl_store_rule::{MeetPlay, PagePlay, PageRule, SweepPlay, TimePlay};
 use std::alloc::{AllocError, Global};
@@ -228,7 +228,7 @@ pub fn reserve(
         × (known hand.new.seat ≡ holding (Some x))) }
     ensures refused { IfErr result (λ _. HasNoStock hand.new.seat × (known hand.new.seat ≡ known hand.old.seat)) }
 {
-    bl_reclaim::reserve::<_, _, _, Took, Still>(store, hand, pages, frames)
+    bl_reserve::reserve::<_, _, _, Took, Still>(store, hand, pages, frames)
 }
 
 /// Gives the page that the hand holds one word, 32 times.
@@ -263,7 +263,7 @@ pub fn sweep(store: &Held, hand: &mut Hand<Mine>) -> u32
     ensures same { IsSameHand hand.old.seat hand.new.seat × IsSameStamp hand.old.seat hand.new.seat
         × IsSameStock hand.old.seat hand.new.seat × (known hand.new.seat ≡ known hand.old.seat) }
 {
-    bl_reclaim::sweep::<_, _, _, Still>(store, hand)
+    store.sweep::<Still>(hand)
 }
 
 /// Gives page 0 or 1 one word, 32 times, where it can be latched and a frame is free. Returns whether it did.

@@ -82,8 +82,8 @@ fn hands_begin_apart(rt: HostRuntime) {
 #[test]
 fn retired_frames_stay_in_sight(rt: HostRuntime) {
     let mut sight = Sight::of(0, Layout::of(100, 2));
-    sight.note_retired(7, Layout::of(100, 2));
-    assert!(rt; sight.puts() == 1 && sight.is_due() && !sight.is_to_recycle(1));
+    sight.note_retired(7, 1, Layout::of(100, 2));
+    assert!(rt; sight.puts() == 1 && sight.is_due(1) && !sight.is_to_recycle(1));
     assert!(rt; sight.begin_recycling() == 1 && sight.retired(0) == 7);
     sight.keep_retired(0, 8);
     assert!(rt; sight.retired(0) == 8);
@@ -97,13 +97,12 @@ fn retired_frames_stay_in_sight(rt: HostRuntime) {
 
 // Page 9 is retired. The first sweep goes from it, and leads the next one nowhere; the second has no such page, and leads it on.
 #[test]
-fn sweeps_are_counted(rt: HostRuntime) {
+fn sweeps_go_on(rt: HostRuntime) {
     let mut sight = Sight::of(0, Layout::of(100, 2));
     sight.note_gone(9);
     let first = sight.begin_sweep();
     sight.go_on_from(first, 73);
-    sight.end_sweep(sight.sweeps());
-    assert!(rt; first == Some(9) && sight.owner() == 0 && sight.sweeps() == 1 && !sight.is_due());
+    assert!(rt; first == Some(9) && sight.owner() == 0 && !sight.is_due(0));
     let second = sight.begin_sweep();
     sight.go_on_from(second, 64);
     assert!(rt; second.is_none() && sight.owner() == 64);
