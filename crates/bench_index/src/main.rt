@@ -252,6 +252,7 @@ fn opened(alloc: Global, load: Load) -> Option<(Index, Vec<Pass>)>
     }
 }
 
+/// Reads what to measure, and prints a line for each.
 fn main(rt: HostRuntime) -> anyhow::Result<()> {
     let words: Vec<String> = std::env::args(&rt)?.collect(rt.alloc())?;
     let Some(load) = Load::read(words.as_slice()) else {

@@ -28,6 +28,7 @@ pub(crate) fn handles_of<'a>(
     Some(handles)
 }
 
+/// Reads what to measure, and prints a line for each.
 fn main(rt: HostRuntime) -> anyhow::Result<()> {
     let words: Vec<String> = std::env::args(&rt)?.collect(rt.alloc())?;
     let words = words.as_slice();

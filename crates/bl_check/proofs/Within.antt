@@ -1,14 +1,12 @@
 -- The pages of a sound image name pages of the image.
 use Rattle.std.proofs.Common.{◌≡◌, ◌≢◌, ℕ, zero, suc, ◌+◌, ◌-◌, ◌<◌, ◌≤◌, ◌^◌, List, [], ◌∷◌, length, get_or, Option, Some, None, true, false, refl, ap, sym, subst, ◌∙◌, inl, inr, arith}
-use Rattle.std.specs.Prelude.{nat_lt, if◌then◌else◌, IfSome, IsSomeAnd, IsTrue, slice_index_or}
+use Rattle.std.specs.Prelude.{IfSome, IsSomeAnd, IsTrue, slice_index_or}
 use Rattle.std.specs.List.{AllByRecursion}
 use Rattle.std.proofs.lemmas.Bool.{cases_lt, cases_eq, false≢true}
 use Rattle.bl_page.specs.declared.page.Page.{Page}
 use Rattle.bl_page.specs.declared.page.Page.TheVariants.{Anchor, Leaf, Inner, Dead}
 use Rattle.bl_page.specs.Pages.{page_at}
-use Rattle.bl_page.specs.Pairs.{IsNumber, AreNumbers, NameNumbers}
-use Rattle.bl_page.specs.Words.{IsBelow}
-use Rattle.bl_page.proofs.FaultLemmas.{is_below}
+use Rattle.bl_page.specs.Pairs.{AreNumbers, NameNumbers}
 use Rattle.bl_image.specs.Images.{IsCount, bound_of, NamesBelow, AreWithin}
 use Rattle.bl_check.specs.declared.span.Span.{Span}
 use Rattle.bl_check.specs.Spans.{span_of, span_at, StandsAt, leftmost_of}

@@ -7,6 +7,7 @@ ghost use Rattle.bl_check.specs.Rules.{IsFirst, Rule, is_anchor as the_is_anchor
 use crate::span::stands_at;
 use bl_page::Page;
 
+/// Whether an anchor stands there.
 fn is_anchor(page: &Option<Page>) -> bool
     ensures { result ≡ the_is_anchor page.now }
 {

@@ -19,6 +19,7 @@ enum Link {
     Wrong,
 }
 
+/// The page to which a page links: none behind the last of its level, and a wrong one where no page of the level begins at its bound.
 fn link_of(pages: &[Option<Page>], span: &Span) -> Link
     ensures { GoesOn result pages.now span.now }
 {
@@ -58,6 +59,7 @@ fn walk(pages: &[Option<Page>], marks: &mut [bool], first: u32) -> Option<u32>
     None
 }
 
+/// The lesser of two numbers that may be missing.
 fn lesser(a: Option<u32>, b: Option<u32>) -> Option<u32>
     ensures { IsLesser a b result }
 {

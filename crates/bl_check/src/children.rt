@@ -20,6 +20,7 @@ fn pairs_fit(pages: &[Option<Page>], level: u32, pairs: &[(u64, u64)]) -> bool
     true
 }
 
+/// Whether each child that a page lists is a page one level lower that begins at its key. A page of another kind lists none.
 fn children_fit(pages: &[Option<Page>], page: &Option<Page>) -> bool
     ensures { IsTrue result ↔ ChildrenFit pages.now page.now }
 {

@@ -21,12 +21,14 @@ fn rows_in(page: &Option<Page>) -> u32
     }
 }
 
+/// Whether a leaf stands there.
 fn is_leaf(page: &Option<Page>) -> bool
     ensures { result ≡ the_is_leaf page.now }
 {
     matches!(page, Some(Page::Leaf(_)))
 }
 
+/// Whether an inner page stands there.
 fn is_inner(page: &Option<Page>) -> bool
     ensures { result ≡ the_is_inner page.now }
 {
@@ -112,6 +114,7 @@ fn rows(pages: &[Option<Page>]) -> u32
     rows
 }
 
+/// How many leaves there are.
 fn leaves(pages: &[Option<Page>]) -> u32
     requires { length pages.now ≤ 2 ^ 28 }
     ensures { result ≡ count_by the_is_leaf pages.now }
@@ -119,6 +122,7 @@ fn leaves(pages: &[Option<Page>]) -> u32
     pages.iter().filter(|page| is_leaf(page)).count() as u32
 }
 
+/// How many inner pages there are.
 fn inners(pages: &[Option<Page>]) -> u32
     requires { length pages.now ≤ 2 ^ 28 }
     ensures { result ≡ count_by the_is_inner pages.now }
@@ -126,6 +130,7 @@ fn inners(pages: &[Option<Page>]) -> u32
     pages.iter().filter(|page| is_inner(page)).count() as u32
 }
 
+/// How many pages have so few entries that they are to be compressed.
 fn thin(pages: &[Option<Page>]) -> u32
     requires { length pages.now ≤ 2 ^ 28 }
     ensures { result ≡ count_by the_is_thin pages.now }

@@ -5,6 +5,7 @@ ghost use Rattle.bl_check.specs.Rules.{IsFirst, Rule, is_dead as the_is_dead};
 
 use bl_page::Page;
 
+/// Whether a dead page stands there.
 fn is_dead(page: &Option<Page>) -> bool
     ensures { result ≡ the_is_dead page.now }
 {

@@ -27,6 +27,7 @@ use std::sync::Wait;
 use std::thread::Threads;
 use std::{io, process};
 
+/// Carries the command out, and says what went wrong on standard error.
 fn main(rt: HostRuntime) -> anyhow::Result<ExitCode> {
     match carry_out(&rt, &rt) {
         Ok(code) => Ok(code),

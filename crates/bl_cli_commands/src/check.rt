@@ -73,6 +73,7 @@ fn shape_text(alloc: Global, levels: u32, unposted: u32, thin: u32) -> Result<St
     format!(in alloc; " levels {levels} unposted {unposted} thin {thin}\n")
 }
 
+/// The line that a check prints of a sound image.
 fn report_line(alloc: Global, report: &Report) -> Result<String, AllocError>
     ensures { IfOk result (λ line. string_bytes line ≡ report_text report.now) }
 {
@@ -82,6 +83,7 @@ fn report_line(alloc: Global, report: &Report) -> Result<String, AllocError>
     Ok(line)
 }
 
+/// The line that a check prints of a fault: which rule the page breaks.
 fn fault_line(alloc: Global, rule: u32, page: u32) -> Result<String, AllocError>
     ensures { IfOk result (λ line. string_bytes line ≡ fault_text rule page) }
 {

@@ -22,6 +22,7 @@ pub struct Counting<W> {
 }
 
 impl<W> Counting<W> {
+    /// Nothing was written yet.
     pub fn new(inner: W) -> Counting<W>
         ensures { result.inner ≡ inner }
     {

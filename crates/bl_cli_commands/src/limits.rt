@@ -14,6 +14,7 @@ pub struct ScriptFile<R> {
 }
 
 impl<R> ScriptFile<R> {
+    /// The script of a reader, of which nothing was read yet.
     pub fn new(inner: R) -> ScriptFile<R> {
         ScriptFile { inner, open: 0 }
     }

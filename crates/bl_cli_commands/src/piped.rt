@@ -16,6 +16,7 @@ pub struct Piped<W> {
 }
 
 impl<W> Piped<W> {
+    /// The reader of the pipe is there as far as is known.
     pub fn new(inner: W) -> Piped<W>
         ensures inner { result.inner ≡ inner }
     {

@@ -6,6 +6,7 @@ use crate::tree::Level;
 /// How many pages have so many entries: 0 to 14.
 pub(crate) type Fill = [u64; 15];
 
+/// Counts the pages by how many entries they have.
 fn add(fill: &mut Fill, nodes: &[Node]) {
     for node in nodes {
         if node.count < 15 {

@@ -52,6 +52,7 @@ fn longest_span(alloc: Global, levels: &[Level]) -> Result<u64, AllocError> {
     Ok(longest)
 }
 
+/// How many bytes the longest span of a page takes as text.
 fn longest_of(alloc: Global, nodes: &[Node]) -> Result<u64, AllocError> {
     let mut longest = 0;
     for node in nodes {
@@ -96,6 +97,7 @@ impl Sheet {
         spot.y.saturating_add(HIGH).saturating_add(BELOW)
     }
 
+    /// Notes where a page is drawn.
     fn put(&mut self, page: u32, spot: Spot) {
         let page = page as usize;
         if page < self.spots.len() {

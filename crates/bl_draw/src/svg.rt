@@ -36,6 +36,7 @@ fn spot_of(sheet: &Sheet, page: u64) -> Option<Spot> {
     }
 }
 
+/// Writes words there.
 fn push_words(
     alloc: Global,
     out: &mut String,
@@ -65,6 +66,7 @@ fn push_path(
     out.push_str(end.as_str())
 }
 
+/// Writes a box of that size there.
 fn push_rect(
     alloc: Global,
     out: &mut String,
@@ -191,6 +193,7 @@ fn push_link(
     push_words(alloc, out, above, "r", words.as_str())
 }
 
+/// Writes the box of a page, what stands in it, and the arrow to the page to which it links.
 fn push_node(
     alloc: Global,
     out: &mut String,
@@ -256,6 +259,7 @@ fn push_chart(alloc: Global, out: &mut String, fill: &Fill, at: Spot) -> Result<
     Ok(())
 }
 
+/// Writes a level: its heading, and then its pages, or a chart where they are too many.
 fn push_level(
     alloc: Global,
     out: &mut String,

@@ -135,6 +135,7 @@ fn push_chart(alloc: Global, lines: &mut Lines, level: &Level) -> Result<(), All
     Ok(())
 }
 
+/// Writes a level: its heading, and then its pages, or a chart where they are too many.
 fn push_level(alloc: Global, lines: &mut Lines, level: &Level) -> Result<(), AllocError> {
     let head = level_text(alloc, level)?;
     lines.push_line(head.as_str())?;
@@ -166,6 +167,7 @@ fn push_numbers(
     lines.end_line()
 }
 
+/// Writes the whole tree: a heading, the levels from the top, and the pages that are dead or cannot be read.
 fn push_tree(alloc: Global, lines: &mut Lines, tree: &Tree) -> Result<(), AllocError> {
     let used = used_in(tree.pages.as_slice());
     let head = head_text(alloc, tree.pages.len(), used)?;

@@ -13,6 +13,7 @@ use bl_index_events::Tree;
 use bl_index_resume::{Stage, stands};
 use bl_index_rule::PassState;
 use bl_proc::{Answer, Direction, Hint, Lowered, Posted, Squeezed};
+use bl_reserve::lacks_frames;
 use bl_store::Hand;
 use bl_waiting::Waiting;
 use std::alloc::Global;
@@ -70,6 +71,7 @@ impl Upkeep {
     ghost use Rattle.bl_waiting.specs.Queue.{hints_of, IsKept};
     ghost use Rattle.bl_ffi_seats.specs.Waits.{lacked_in, ArePieces, NothingWaits, IsTakenUp, left_by, falls_after};
 
+    /// Nothing is to be kept up yet.
     pub(crate) fn new() -> Upkeep
         ensures { NothingWaits result × (result.waiting.dropped ≡ 0) }
     {
@@ -322,7 +324,7 @@ impl Seat {
 
     /// How many of them are free, about: others take and release some meanwhile.
     pub fn free_pages(&self) -> u64 {
-        self.index.tree().store.free_pages()
+        self.index.tree().store.room.free()
     }
 
     /// How full its index is, as one look over all its pages and frames finds it: see [`RoomSeen`].
@@ -352,6 +354,7 @@ impl Seat {
         self.upkeep.waiting.dropped
     }
 
+    /// Whether no call is underway at the seat.
     pub(crate) fn is_at_rest(&self) -> bool
         ensures { result ≡ true ↔ self.now.stage ≡ stages.Rests }
     {
@@ -569,7 +572,7 @@ impl Seat {
 
     /// Whether too few frames are free now while some wait to be released.
     fn lacks_frames(&self) -> bool {
-        self.index.tree().store.lacks_frames(&self.hand)
+        lacks_frames(&self.index.tree().store, &self.hand)
     }
 
     /// Whether an insertion or a put finds a page for a split, or may begin since none is to be found: a walk has looked at all pages. Else the hint
@@ -639,7 +642,7 @@ fn reply_in(answer: Answer) -> Option<Reply>
 /// A row that goes leaves its page with less than before, so a walk may find room again.
 fn note_change(index: &Index, reply: &Reply) {
     if let Reply::Deleted(_) = reply {
-        index.tree().store.note_change();
+        index.tree().store.room.note_change();
     }
 }
 

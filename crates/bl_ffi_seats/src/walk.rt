@@ -29,6 +29,7 @@ impl Walk {
         }
     }
 
+    /// Whether the walk has begun and is not over.
     pub(crate) fn is_underway(&self) -> bool {
         self.next > 0
     }
@@ -36,8 +37,8 @@ impl Walk {
     /// Begins at the first page behind the anchor.
     pub(crate) fn begin(&mut self, tree: &Tree, hand: &Hand<PassState>) {
         self.next = 1;
-        self.number = tree.store.begin_walk();
-        self.puts = hand.puts();
+        self.number = tree.store.room.begin_walk();
+        self.puts = hand.sight.puts();
     }
 
     /// The hint of the next page that seems half full at most. Where there is none the walk begins again, if the hand has put pages since
@@ -47,7 +48,7 @@ impl Walk {
         if hint.is_some() {
             return hint;
         }
-        if self.puts != hand.puts() {
+        if self.puts != hand.sight.puts() {
             self.begin(tree, hand);
             let again = self.go_on(tree);
             if again.is_some() {
@@ -60,7 +61,7 @@ impl Walk {
 
     // The last round has found nothing.
     fn end(&mut self, tree: &Tree) {
-        tree.store.end_walk(self.number);
+        tree.store.room.end_walk(self.number);
         self.next = 0;
     }
 
@@ -86,5 +87,6 @@ pub(crate) fn may_enter(write: KeyWrite) -> bool
 
 /// Whether there is nothing to look for: pages are not scarce, or a walk has found none that can be merged, and none waits to be released.
 pub(crate) fn is_looked_through(tree: &Tree) -> bool {
-    !tree.store.lacks_pages() || (tree.store.is_walked() && tree.store.retiring_pages() == 0)
+    !tree.store.room.lacks_pages()
+        || (tree.store.room.has_none() && tree.store.room.retiring() == 0)
 }

@@ -50,6 +50,7 @@ pub fn bytes_of(words: &[u64; 32]) -> [u8; 256]
     bytes
 }
 
+/// Whether a page has only zeros, which stand for none.
 fn is_zero(words: &[u64; 32]) -> bool
     ensures { IsTrue result ↔ (words.now ≡ replicate 32 0) }
 {

@@ -15,7 +15,7 @@ use Rattle.bl_index_read.specs.Searching.{Finds}
 use Rattle.bl_index_read.specs.declared.leaf_rows.Behind.{Behind}
 use Rattle.bl_index_read.specs.declared.leaf_rows.Behind.TheVariants.{Part, Nothing}
 use Rattle.bl_index_read.specs.LeafRows.{IsBelow, is_below, IsOver, GoesOnWithin}
-use Rattle.bl_index.specs.Scans.{rows_below, AreParts, AreCalls, Scans, EndsScan, GivesPart, LeavesPart, StopsAt, StopsScan, left_from}
+use Rattle.bl_index.specs.Scans.{rows_below, AreCalls, Scans, EndsScan, GivesPart, LeavesPart, StopsAt, StopsScan}
 use Rattle.bl_model.specs.Parts.{ended_at}
 use Rattle.bl_store.specs.Hands.{known, IsSameHand}
 use Rattle.bl_store.specs.declared.store.Hand.{Hand}

@@ -1,5 +1,5 @@
 -- What a scan tells the pass that makes it: parts, each from where the last one ended, and the rows that they list together.
-use Rattle.std.specs.Prelude.{◌≡◌, ℕ, ◌<◌, ◌≤◌, ◌++◌, ◌↔◌, List, [], ◌∷◌, Option, Some, None, Result, Ok, Err, All, Contains, filter, flat_map, length, OnOk, IfErr}
+use Rattle.std.specs.Prelude.{◌≡◌, ℕ, ◌≤◌, ◌++◌, ◌↔◌, List, [], ◌∷◌, Option, Some, None, Result, Ok, Err, All, Contains, filter, flat_map, length, OnOk, IfErr}
 use Rattle.bl_page.specs.declared.page.Page.{Page}
 use Rattle.bl_model.specs.History.{final_map}
 use Rattle.bl_model.specs.Rows.{HasRisingKeys}

@@ -22,6 +22,7 @@ pub struct CloseRoom {
 }
 
 impl CloseRoom {
+    /// Room for so many pages.
     fn of(alloc: Global, pages: usize) -> Result<CloseRoom, AllocError>
         ensures { IfOk result (HasCapacity pages) }
     {

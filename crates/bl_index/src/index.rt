@@ -7,7 +7,8 @@ ghost use Rattle.bl_index_events.specs.Runs.{IsWithin};
 
 use bl_index_events::Tree;
 use bl_index_rule::PassState;
-use bl_store::{Hand, RoomSeen};
+use bl_reserve::{RoomSeen, room};
+use bl_store::Hand;
 use std::marker::Model;
 
 /// Pages of a tree that threads share.
@@ -76,7 +77,7 @@ impl Pass {
 
     /// How many puts it has made, for who wants to know whether it has changed something. Nothing is promised of it.
     pub fn puts(&self) -> u64 {
-        self.hand.puts()
+        self.hand.sight.puts()
     }
 
     /// The hand by which it works, for one who runs a process event by event.
@@ -102,7 +103,7 @@ impl Index {
         ensures pages { (result.pages ≡ pages_of self.now) × (result.used_pages + result.free_pages ≤ result.pages) }
         ensures frames { (result.frames ≡ frames_of self.now) × (result.free_frames ≤ result.frames) }
     {
-        self.tree.store.room()
+        room(&self.tree.store)
     }
 
     /// The tree that its passes share, for one who runs a process event by event.

@@ -98,6 +98,7 @@ impl Index {
     }
 }
 
+/// The hand learns what the other one knows: its trail goes on to the end of the world's.
 fn learn_by<J: Meeting>(tree: &Tree, hand: &mut Hand<PassState>, other: &mut Hand<PassState>)
     requires own { IsHandOf tree.now.store hand.old × IsHandOf tree.now.store other.old }
     requires idle { IsIdle other.old.seat × HasNoStock other.old.seat }
@@ -110,6 +111,7 @@ fn learn_by<J: Meeting>(tree: &Tree, hand: &mut Hand<PassState>, other: &mut Han
     tree.store.meet::<Learned<J>>(hand, other);
 }
 
+/// The hand is told what the other one knows.
 fn tell_by<J: Meeting>(tree: &Tree, hand: &mut Hand<PassState>, other: &mut Hand<PassState>)
     requires own { IsHandOf tree.now.store hand.old × IsHandOf tree.now.store other.old }
     requires idle { IsIdle other.old.seat × HasNoStock other.old.seat }

@@ -132,6 +132,7 @@ impl Index {
         Self::open_within(alloc, config, MOST_LARGE_PAGES)
     }
 
+    /// Opens an empty index with so many pages at most, or says which limit is not kept.
     fn open_within(
         alloc: Global,
         config: Config,
@@ -153,6 +154,7 @@ impl Index {
         }
     }
 
+    /// An empty index: an anchor and one leaf.
     fn made(alloc: Global, config: Config) -> Result<(Index, Vec<Pass>), AllocError>
         requires pages { (4 ≤ config.pages) × (config.pages ≤ 2 ^ 28) }
         requires passes { (1 ≤ config.passes) × (config.passes ≤ 64) }
@@ -211,6 +213,7 @@ impl Index {
         }
     }
 
+    /// An index with the pages of a checked image.
     fn made_from(
         alloc: Global,
         quiet: &Quiet,

@@ -3,6 +3,7 @@
 ghost use Rattle.std.specs.Prelude.{◌≡◌, ◌+◌};
 
 use crate::index::{Index, Pass};
+use bl_reserve::lacks_frames;
 
 impl Index {
     ghost use Rattle.bl_claims.specs.Seeing.{IsSeen};
@@ -23,11 +24,11 @@ impl Index {
 
     /// Whether a change may find too few frames now, while some wait to be released. It is a hint of which nothing is promised.
     pub fn lacks_frames(&self, pass: &Pass) -> bool {
-        self.tree.store.lacks_frames(&pass.hand)
+        lacks_frames(&self.tree.store, &pass.hand)
     }
 
     /// Whether pages are scarce while some wait to be released. It is a hint as well.
     pub fn waits_for_pages(&self) -> bool {
-        self.tree.store.lacks_pages() && self.tree.store.retiring_pages() > 0
+        self.tree.store.room.lacks_pages() && self.tree.store.room.retiring() > 0
     }
 }

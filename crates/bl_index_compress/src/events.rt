@@ -15,6 +15,7 @@ ghost use Rattle.bl_index_events.specs.Runs.{Runs, KeepsHand, IsOn, IsSameProces
 use bl_index_events::{FrameView, Tree};
 use bl_index_rule::{PassState, Put, Refused, Retired, Took};
 use bl_page::words_from;
+use bl_reserve::reserve;
 use bl_store::{Hand, Stock};
 use crossbeam_utils::Backoff;
 use std::sync::Wait;
@@ -72,7 +73,7 @@ pub(crate) fn put_first(
     ensures asked { IfNone result (WasRefused hand.new.seat 0 3) }
 {
     tree.await_frames(hand);
-    match tree.store.reserve::<Took, Refused>(hand, 0, 3) {
+    match reserve::<_, _, _, Took, Refused>(&tree.store, hand, 0, 3) {
         Ok(stock) => {
             let mut stock = stock;
             tree.store.put::<Put>(hand, page, words, &mut stock);

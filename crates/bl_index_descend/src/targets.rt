@@ -2,7 +2,9 @@
 
 use bl_proc_routes::Step;
 
-/// What a writer comes to a page for. There is a process with this target, of which there is no value.
+/// What a writer comes to a page for: a leaf to write, a parent to list a child in, or a parent to compress below. A value has the numbers
+/// alone. For which process it stands is said by ghost members, and those from `acts` to `goes` are what is proved of that process, so that
+/// `descend` may carry it out.
 pub trait Target {
     ghost use Rattle.std.specs.Prelude.{◌≡◌, ℕ, None};
     ghost use Rattle.bl_page.specs.Nodes.{node_of};
@@ -38,9 +40,11 @@ pub trait Target {
     // What is noted of a page with that number, which was got without a latch and leads it so.
     ghost Notes: { Self → ℕ → Page → StepIs → Self.Path → Self.Path → Type 0 };
 
+    /// The level of the page that it comes to.
     fn level(&self) -> u32
         ensures { result ≡ level_of self.now };
 
+    /// The key that the page is to cover.
     fn key(&self) -> u64
         ensures { result ≡ key_of self.now };
 

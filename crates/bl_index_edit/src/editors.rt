@@ -12,7 +12,6 @@ pub(crate) trait Editor {
     ghost use Rattle.std.specs.Prelude.{◌≡◌, ℕ};
     ghost use Rattle.bl_proc_steps.specs.declared.acts.Seen.{Seen};
     ghost use Rattle.bl_proc_steps.specs.declared.edit.Edit.{Edit};
-    ghost use Rattle.bl_proc_steps.specs.declared.edit.Edit.TheVariants as edit;
     ghost use Rattle.bl_proc_steps.specs.declared.edit.Edited.TheVariants as changed;
     ghost use Rattle.bl_proc_steps.specs.Edits.{edit_next, edit_needs, Changes};
     ghost use Rattle.bl_proc_steps.specs.Given.{Gives};

@@ -1,6 +1,6 @@
 //! At a parent that who posts holds, by the words of pages.
 
-ghost use Rattle.std.specs.Prelude.{◌≡◌, ◌≢◌, ◌<◌, ◌-◌, Some, None, MatchOption, IfOk, IfErr};
+ghost use Rattle.std.specs.Prelude.{◌≡◌, ◌≢◌, ◌<◌, ◌-◌, MatchOption, IfOk, IfErr};
 ghost use Rattle.bl_page.specs.declared.page.Page.{Page};
 ghost use Rattle.bl_page.specs.Words.{words_of};
 ghost use Rattle.bl_page.specs.Nodes.{node_of, IsTreePage};
@@ -251,7 +251,8 @@ pub(crate) fn begin_walk<P: Poster>(
     Some(first_child(parent, poster.level(), key))
 }
 
-/// At the parent that it holds, which covers the key.
+/// Posts at the parent that it holds, which covers the key. What it replies; or `None` where it has lost its walk to the child: then it
+/// holds no page any more, and its way begins anew.
 pub fn post_there<P: Poster, R: Wait>(
     tree: &Tree,
     rt: &R,

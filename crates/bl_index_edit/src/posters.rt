@@ -18,9 +18,11 @@ pub trait Poster {
 
     ghost posts: { (p : Self) → IsPoster (level_of p) (key_of p) (staged p) (opened p) };
 
+    /// The level of the parent. Its children are of the one below, by which a walk knows its child.
     fn level(&self) -> u32
         ensures { result ≡ level_of self.now };
 
+    /// The least key of the child that is to be listed.
     fn key(&self) -> u64
         ensures { result ≡ key_of self.now };
 }

@@ -1,8 +1,6 @@
 //! A post at its parent that may not wait: where its walk is long, it hands the walk over as it stands.
 
 ghost use Rattle.std.specs.Prelude.{◌≡◌, IfOk, IfErr};
-ghost use Rattle.bl_page.specs.declared.page.Page.TheVariants as page;
-ghost use Rattle.bl_page.specs.Words.{words_of};
 ghost use Rattle.bl_proc_steps.specs.declared.approach.Approach.TheVariants as approach;
 ghost use Rattle.bl_proc_writes.specs.declared.post.PostStage.TheVariants as post;
 ghost use Rattle.bl_proc_writes.specs.declared.walking.Walk.{Walk as WalkIs};

@@ -83,9 +83,11 @@ pub trait Writer {
 
     ghost writes: { (w : Self) → IsWriter (key_of w) (write_of w) (staged w) (opened w) };
 
+    /// The key that it writes.
     fn key(&self) -> u64
         ensures { result ≡ key_of self.now };
 
+    /// What it writes there.
     fn write(&self) -> KeyWrite
         ensures { result ≡ write_of self.now };
 }

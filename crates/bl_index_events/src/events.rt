@@ -19,6 +19,7 @@ ghost use Rattle.bl_index_events.specs.Runs.{Runs, KeepsHand, Rests, IsSince, Is
 
 use crate::tree::Tree;
 use bl_index_rule::{Ended, Got, Opened, PassState, Probed, Put, Refused, Took, Tried};
+use bl_reserve::{finds_frames, reserve};
 use bl_store::{Glance, Hand, Splice, Stock};
 use std::thread;
 
@@ -87,15 +88,16 @@ impl Tree {
     /// waits.
     #[inline(always)]
     pub fn await_frames(&self, hand: &Hand<PassState>) {
-        if !self.store.finds_frames(hand) {
+        if !finds_frames(&self.store, hand) {
             self.let_others_run(hand);
         }
     }
 
+    /// Others may have frames to release: they get the processor some times, until there are enough.
     #[inline(never)]
     fn let_others_run(&self, hand: &Hand<PassState>) {
         for _ in 0..YIELDS {
-            if self.store.finds_frames(hand) {
+            if finds_frames(&self.store, hand) {
                 return;
             }
             thread::yield_now();
@@ -115,7 +117,7 @@ impl Tree {
         ensures refused { result ≡ false → Goes seen.Refused (known hand.old.seat) (known hand.new.seat) }
         ensures asked { result ≡ false → WasRefused hand.new.seat 0 1 }
     {
-        match self.store.reserve::<Took, Refused>(hand, 0, 1) {
+        match reserve::<_, _, _, Took, Refused>(&self.store, hand, 0, 1) {
             Ok(stock) => {
                 let mut stock = stock;
                 self.store.put::<Put>(hand, page, words, &mut stock);
@@ -146,7 +148,7 @@ impl Tree {
         ensures refused { result ≡ false → Goes seen.Refused (known hand.old.seat) (known hand.new.seat) }
         ensures asked { result ≡ false → WasRefused hand.new.seat 0 1 }
     {
-        match self.store.reserve::<Took, Refused>(hand, 0, 1) {
+        match reserve::<_, _, _, Took, Refused>(&self.store, hand, 0, 1) {
             Ok(stock) => {
                 let mut stock = stock;
                 self.store
@@ -168,7 +170,7 @@ impl Tree {
             × IsStockOf hand.new.seat t.1 × (t.1.count ≡ 2) × Goes (seen.Took t.0) (known hand.old.seat) (known hand.new.seat)) }
         ensures asked { IfNone result (WasRefused hand.new.seat 1 2) }
     {
-        match self.store.reserve::<Took, Refused>(hand, 1, 2) {
+        match reserve::<_, _, _, Took, Refused>(&self.store, hand, 1, 2) {
             Ok(stock) => match stock.page() {
                 Some(page) => Some((page, stock)),
                 None => unreachable!(),

@@ -6,6 +6,7 @@ use bl_model::KeyWrite;
 use bl_model::limits::{MOST_LEVELS, MOST_PAIRS};
 use bl_page::{FIRST_KEY, FIRST_WORD, HEAD, HIGH, KIND_UNIT, LEVEL_BEFORE, LEVEL_UNIT, LOW, RIGHT};
 use bl_proc_steps::{Hint, Level};
+use bl_reserve::is_in_use;
 
 /// How many pairs a page has that is half full: two such pages fit one.
 const HALF: u64 = MOST_PAIRS as u64 / 2;
@@ -35,6 +36,7 @@ struct Head {
 }
 
 impl Head {
+    /// Reads the head of a page.
     fn of(word: u64) -> Head {
         Head {
             kind: word / KIND_UNIT,
@@ -43,6 +45,7 @@ impl Head {
         }
     }
 
+    /// Whether it is a leaf or an inner page with half of its entries at most.
     fn is_half_full_at_most(self) -> bool {
         (self.kind == LEAF || self.kind == INNER) && self.count <= HALF
     }
@@ -66,7 +69,8 @@ impl Tree {
     /// The hint to follow for a page that seems to be less than half full, or half full beside one to its right that is no fuller: the
     /// two fit one page.
     pub fn thin_at(&self, page: u32) -> Option<Hint> {
-        if !self.store.is_in_use(page) {
+        // A released page has words of before, and a hint of it would be followed for nothing.
+        if !is_in_use(&self.store, page) {
             return None;
         }
         let head = Head::of(self.store.peek(page, HEAD));
@@ -88,7 +92,7 @@ impl Tree {
     /// Whether a write may split a leaf while pages are scarce.
     pub fn may_lack_pages(&self, key: u64, write: KeyWrite) -> bool {
         match write {
-            KeyWrite::Insert(_) | KeyWrite::Put(_) => self.store.lacks_pages()
+            KeyWrite::Insert(_) | KeyWrite::Put(_) => self.store.room.lacks_pages()
                 && self.may_split(key),
             KeyWrite::Delete | KeyWrite::Change(..) => false,
         }

@@ -14,6 +14,7 @@ use crate::tree::Tree;
 use bl_index_rule::{Opened, PassState, Put, Refused, Retired, Took, Tried};
 use bl_page::Page;
 use bl_proc::{Action, Seen};
+use bl_reserve::reserve;
 use bl_store::{Hand, Stock};
 
 /// What a step came to.
@@ -127,7 +128,7 @@ impl Tree {
         ensures takes { (what : SeenIs) × P.Takes process.old what process.new × TellsRoom hand.old.seat hand.new.seat (P.proc_of process.old) what }
         ensures stock { HasReserved hand.new.seat result (P.proc_of process.new) }
     {
-        match self.store.reserve::<Took, Refused>(hand, 0, frames) {
+        match reserve::<_, _, _, Took, Refused>(&self.store, hand, 0, frames) {
             Ok(stock) => Some(self.put_with(hand, process, page, contents, stock)),
             Err(_) => {
                 process.took(Seen::Refused);
@@ -149,7 +150,7 @@ impl Tree {
         ensures takes { (what : SeenIs) × P.Takes process.old what process.new × TellsRoom hand.old.seat hand.new.seat (P.proc_of process.old) what }
         ensures stock { HasReserved hand.new.seat result (P.proc_of process.new) }
     {
-        match self.store.reserve::<Took, Refused>(hand, 1, 2) {
+        match reserve::<_, _, _, Took, Refused>(&self.store, hand, 1, 2) {
             Ok(stock) => match stock.page() {
                 Some(page) => {
                     process.took(Seen::Took(page));

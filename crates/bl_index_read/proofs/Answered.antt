@@ -1,5 +1,5 @@
 -- What a search or a part tells its caller that has ended at its leaf.
-use Rattle.std.proofs.Common.{ℕ, ◌≡◌, ◌+◌, ◌≤◌, Option, None, Some, List, [], refl, sym, subst, ap}
+use Rattle.std.proofs.Common.{ℕ, ◌≡◌, ◌+◌, Option, None, Some, [], refl, sym, subst, ap}
 use Rattle.atomic_table.specs.declared.shared.Seat.{Seat}
 use Rattle.bl_layout.specs.declared.layout.Layout.{Layout}
 use Rattle.bl_model.specs.declared.operation.Op.{Op as Operation}
@@ -33,7 +33,6 @@ use Rattle.bl_store_rule.specs.declared.view.View.{View}
 use Rattle.bl_store.specs.Hands.{known}
 use Rattle.bl_index_rule.specs.declared.known.PassState.{PassState}
 use Rattle.bl_index_rule.specs.Observed.{ends}
-use Rattle.bl_index_events.specs.Runs.{IsDone}
 use Rattle.bl_index_events.proofs.Ends.{op_answered}
 use Rattle.bl_index_events.proofs.Standing.{is_over}
 use Rattle.bl_index_read.specs.declared.sought.Sought.{Sought}

@@ -1,5 +1,5 @@
 -- A search or a part that sets off, near a page or at the anchor, and goes on.
-use Rattle.std.proofs.Common.{ℕ, ◌≡◌, ◌+◌, Option, None, Some, refl, sym, subst, ◌∙◌}
+use Rattle.std.proofs.Common.{ℕ, ◌≡◌, Option, None, Some, refl, sym, subst, ◌∙◌}
 use Rattle.std.specs.Prelude.{MatchOption}
 use Rattle.atomic_table.specs.declared.shared.Seat.{Seat}
 use Rattle.bl_layout.specs.declared.layout.Layout.{Layout}
@@ -23,7 +23,7 @@ use Rattle.bl_store.specs.Hands.{known, read_words, IsSameHand, ReadsFrom}
 use Rattle.bl_index_rule.specs.declared.known.PassState.{PassState}
 use Rattle.bl_index_rule.specs.Observed.{Begins, Steps, Goes}
 use Rattle.bl_index_events.specs.declared.tree.Tree.{Tree}
-use Rattle.bl_index_events.specs.Runs.{IsOn, IsSince, Runs}
+use Rattle.bl_index_events.specs.Runs.{IsOn, Runs}
 use Rattle.bl_index_events.proofs.Calls.{since_begin, since_step}
 use Rattle.bl_index_events.proofs.Held.{begins_held}
 use Rattle.bl_index_events.proofs.Standing.{on_goes, on_after}
@@ -31,8 +31,7 @@ use Rattle.bl_index_read.specs.declared.leaf_ways.Reached.{Reached}
 use Rattle.bl_index_read.specs.declared.leaf_ways.Reached.TheVariants as reached
 use Rattle.bl_index_read.specs.declared.sought.Sought.{Sought}
 use Rattle.bl_index_read.specs.LeafWays.{fresh, probing, going, EndsWith, HasReached, HasSetOff}
-use Rattle.bl_index_read.specs.Turns.{IsAtTurn}
-use Rattle.bl_index_read.proofs.Ways.{begins, starts_far, starts_near, probing_is_search, probing_under_way, going_is_search, going_under_way, goes_further, arrives}
+use Rattle.bl_index_read.proofs.Ways.{begins, starts_near, probing_is_search, probing_under_way, going_is_search, going_under_way, goes_further, arrives}
 use Rattle.bl_index_read.proofs.Paces.{at_begin, at_look}
 
 module _ (l : Layout) (pass : ℕ) (s : Sought) (key : ℕ) (near : Option ℕ) (old d : PassState) (begun : Begins pass l.pages l.passes (fresh s key near) old d) where

@@ -42,6 +42,7 @@ fn none_in_lowering(lowering: &Lowering) -> bool
     matches!(lowering, Lowering::Looking | Lowering::LatchingAnchor)
 }
 
+/// As it writes a key.
 fn none_in_write(stage: &WriteStage) -> bool
     ensures { result ≡ none_in_write stage.now }
 {
@@ -52,6 +53,7 @@ fn none_in_write(stage: &WriteStage) -> bool
     }
 }
 
+/// As it posts.
 fn none_in_post(stage: &PostStage) -> bool
     ensures { result ≡ none_in_post stage.now }
 {
@@ -63,6 +65,7 @@ fn none_in_post(stage: &PostStage) -> bool
     }
 }
 
+/// As it compresses.
 fn none_in_compress(stage: &CompressStage) -> bool
     ensures { result ≡ none_in_compress stage.now }
 {
@@ -73,6 +76,7 @@ fn none_in_compress(stage: &CompressStage) -> bool
     }
 }
 
+/// As it lowers the tree.
 fn none_in_lower(stage: &LowerStage) -> bool
     ensures { result ≡ none_in_lower stage.now }
 {

@@ -130,10 +130,10 @@ from_free (suc page) = tt
 
 -- There is one way on from the anchor.
 pub rises_on : (j : Rising) (path : Path) (what : Seen) → Gives (approach_next way.Start) None what → GoesOn (rises j path (post.Coming way.Start) tt tt) what
-rises_on j path what given = climb_goes (record { key = j.key; placing = j.placing; path = path; stage = climb.Posting (record { level = j.level; key = j.separator; stage = post.Coming way.Start; least = j.least; most = j.most; below = tt }); stands = tt }) what refl given
+rises_on j path what given = climb_goes (record { key = j.insertion.key; placing = j.insertion.placing; path = path; stage = climb.Posting (record { level = j.level; key = j.separator; stage = post.Coming way.Start; least = j.least; most = j.most; below = tt }); stands = tt }) what refl given
 
 -- One that has opened its last parent ends.
-pub rose_last : (j : Rising) (path : Path) (r : PostReply) (may : MayReply j.level r) → IsLast r → rose j path r may ≡ climbing j.key j.placing path (climb.Ending (climbed.Posted j.level j.separator r)) tt
+pub rose_last : (j : Rising) (path : Path) (r : PostReply) (may : MayReply j.level r) → IsLast r → rose j path r may ≡ climbing j.insertion.key j.insertion.placing path (climb.Ending (climbed.Posted j.level j.separator r)) tt
 rose_last j path (listed.Done None) may last = refl
 rose_last j path (listed.Done (Some next)) may last = absurd last
 rose_last j path listed.Already may last = refl

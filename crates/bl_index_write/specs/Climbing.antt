@@ -30,10 +30,10 @@ use Rattle.bl_index_edit.specs.Insertions.{climb_posting, climb_posted}
 
 -- one that posts, and one that has opened the parent to which it posted
 abbrev pub rises : (j : Rising) → Path → (s : PostStage) → IsBelowTop j.level s → IsPosting s → Proc
-rises j path = climb_posting j.key j.placing j.level j.separator j.least j.most path
+rises j path = climb_posting j.insertion.key j.insertion.placing j.level j.separator j.least j.most path
 
 abbrev pub rose : (j : Rising) → Path → (r : PostReply) → MayReply j.level r → Proc
-rose j path = climb_posted j.key j.placing j.level j.separator path
+rose j path = climb_posted j.insertion.key j.insertion.placing j.level j.separator path
 
 -- The write with its posts has ended, and has answered that.
 pub record HasClimbed (pass : ℕ) (old e : PassState) (key : ℕ) (placing : Placing) (said : Reply) (last : Option Posted) (left : Option Hint) : Type 0 where

@@ -1,7 +1,7 @@
 //! Insertions and puts that post what they split: from the page that they have noted for each level on their way down, as Lehman and Yao's
 //! inserter does.
 
-ghost use Rattle.std.specs.Prelude.{◌≡◌, ◌<◌, ◌≤◌, ℕ, Option, Some, None, MatchOption};
+ghost use Rattle.std.specs.Prelude.{◌≡◌, ◌<◌, ◌≤◌, ℕ, Option, Some, MatchOption};
 ghost use Rattle.bl_model.specs.declared.operation.KeyReply.TheVariants as replies;
 ghost use Rattle.bl_model.specs.declared.operation.Reply.TheVariants as reply;
 ghost use Rattle.bl_model.specs.Replies.{reply_of};
@@ -13,7 +13,6 @@ ghost use Rattle.bl_proc_writes.specs.declared.post.PostStage.TheVariants as pos
 ghost use Rattle.bl_proc_writes.specs.InsertPosts.{IsLast, posted_as};
 ghost use Rattle.bl_answers.specs.Hints.{left_hint};
 ghost use Rattle.bl_proc_writes.specs.Levels.{MayReply};
-ghost use Rattle.bl_proc_writes.specs.Paths.{IsBlank as IsBlankPath};
 ghost use Rattle.bl_proc_writes.specs.Placings.{write_of};
 ghost use Rattle.bl_store.specs.Hands.{known, read_words, IsIdle, IsSameHand, HasNoStock, ReadsFrom};
 ghost use Rattle.bl_store.specs.Owners.{IsHandOf};
@@ -28,141 +27,18 @@ ghost use Rattle.bl_index_write.specs.Kinds.{IsOfInsertion, IsClimbAnswer};
 
 use crate::posting::posted_by;
 use crate::rising::{Riser, Rising};
+use crate::targets::{AtLeaf, Insertion};
 use crate::writing::answer_of;
-use bl_index_descend::{Reached, Target, Unborn, begin_descent, descend, reach};
-use bl_index_edit::{Left, Writer, post_there, write_there};
+use bl_index_descend::{Reached, begin_descent, descend, reach};
+use bl_index_edit::{Left, post_there, write_there};
 use bl_index_events::{FrameView, Tree};
 use bl_index_rule::PassState;
-use bl_model::{KeyReply, KeyWrite, Reply};
+use bl_model::{KeyReply, Reply};
 use bl_proc::{Answer, Hint, Posted, Process, Reader};
-use bl_proc_routes::Step;
 use bl_proc_steps::{Approach, Level};
 use bl_proc_writes::{ClimbStage, InsertPost, Path, Placing, Post, PostReply, PostStage};
 use bl_store::{Glance, Hand};
 use std::sync::Wait;
-
-/// The write of a pair that notes its way.
-#[derive(Clone, Copy)]
-pub(crate) struct Climbing {
-    pub(crate) key: u64,
-    pub(crate) placing: Placing,
-}
-
-impl Target for Climbing {
-    ghost use Rattle.std.specs.Prelude.{refl};
-    ghost use Rattle.bl_proc_writes.specs.declared.insert_post.ClimbStage.TheVariants as stages;
-    ghost use Rattle.bl_proc_writes.specs.declared.writing.WriteStage.TheVariants as write;
-    ghost use Rattle.bl_proc_writes.specs.Paths.{NotesBy};
-    ghost use Rattle.bl_proc_writes.specs.Placings.{write_of};
-    ghost use Rattle.bl_proc_deterministic.proofs.Climbs.{climb_goes};
-    ghost use Rattle.bl_index_edit.specs.Insertions.{climb_coming};
-    ghost use Rattle.bl_index_edit.proofs.AtLeaf.{unnoted};
-
-    type Path = Path;
-
-    ghost at = { λ j n a. climb_coming j.key j.placing n a };
-
-    ghost level_of = { λ j. 0 };
-
-    ghost key_of = { λ j. j.key };
-
-    ghost IsLedBy = { λ j c. Unit {0} };
-
-    ghost Notes = { λ j x c o n m. NotesBy x c o n m };
-
-    #[inline(always)]
-    fn level(&self) -> u32 {
-        0
-    }
-
-    #[inline(always)]
-    fn key(&self) -> u64 {
-        self.key
-    }
-
-    #[inline(always)]
-    fn note(&self, path: &mut Path, page: u32, own: u32, way: Step) {
-        if let Step::Down(_child) = way {
-            path.note(own, page);
-        }
-    }
-
-    ghost acts = { λ j n a. refl };
-
-    ghost courses = { λ j n a what g.
-        climb_goes (record {
-          key = j.key;
-          placing = j.placing;
-          path = n;
-          stage = stages.Writing (record { key = j.key; write = write_of j.placing; stage = write.Coming a });
-          stands = (refl, refl, tt, tt);
-        }) what refl g };
-
-    ghost enters = { λ j n a c led t. (refl, refl, refl, ((refl, refl, t), tt)) };
-
-    ghost turns = { λ j n m x c o a leads turns noted. (refl, refl, (o, leads, noted), ((refl, refl, (o, leads, turns)), tt)) };
-
-    ghost goes = { λ j n a b what hold t. (refl, refl, unnoted 0 j.key a what n hold, ((refl, refl, t), tt)) };
-}
-
-/// The same before it begins: it has noted no page.
-#[derive(Drop)]
-pub(crate) struct Unnoted {
-    pub(crate) key: u64,
-    pub(crate) placing: Placing,
-    pub(crate) path: Path,
-    pub(crate) ghost blank: { IsBlankPath path },
-}
-
-impl Unborn for Unnoted {
-    ghost use Rattle.std.specs.Prelude.{refl};
-    ghost use Rattle.bl_index_edit.specs.Insertions.{climb_unborn, climb_coming};
-    ghost use Rattle.bl_index_edit.proofs.AtLeaf.{unborn_goes, unborn_starts};
-
-    ghost unborn = { λ j. climb_unborn j.key j.placing j.path j.blank };
-
-    ghost begun = { λ j. climb_coming j.key j.placing j.path approach.Start };
-
-    ghost begins = { λ j. refl };
-
-    ghost starts = { λ j. unborn_goes j.key j.placing j.path j.blank };
-
-    ghost started = { λ j. unborn_starts j.key j.placing j.path j.blank };
-}
-
-/// The same, at its leaf.
-#[derive(Drop)]
-pub(crate) struct Climber {
-    pub(crate) key: u64,
-    pub(crate) placing: Placing,
-    pub(crate) path: Path,
-}
-
-impl Writer for Climber {
-    ghost use Rattle.bl_proc_writes.specs.Placings.{write_of as placed};
-    ghost use Rattle.bl_index_edit.specs.Insertions.{climb_staged, climb_opened};
-    ghost use Rattle.bl_index_edit.proofs.AtLeaf.{writes_climbing};
-
-    ghost key_of = { λ w. w.key };
-
-    ghost write_of = { λ w. placed w.placing };
-
-    ghost staged = { λ w stage. climb_staged w.key w.placing w.path stage };
-
-    ghost opened = { λ w left. climb_opened w.key w.placing w.path left };
-
-    #[inline(always)]
-    fn key(&self) -> u64 {
-        self.key
-    }
-
-    #[inline(always)]
-    fn write(&self) -> KeyWrite {
-        self.placing.write()
-    }
-
-    ghost writes = { λ w. writes_climbing w.key w.placing w.path };
-}
 
 /// The reply of an insertion or a put.
 fn inserted(reply: Reply) -> KeyReply
@@ -232,7 +108,7 @@ fn end_climb(
         × Runs tree.now hand.old (rose rising.now path.now reply may) }
     requires no_room { reply ≡ listed.NoRoom → LacksPost rising.now.level rising.now.separator hand.old.seat }
     ensures same { IsSameHand hand.old.seat hand.new.seat }
-    ensures over { IsClimbOver rising.now.key rising.now.placing (known hand.old.seat) hand.new.seat (reply_of result.0) result.1 result.2 }
+    ensures over { IsClimbOver rising.now.insertion.key rising.now.insertion.placing (known hand.old.seat) hand.new.seat (reply_of result.0) result.1 result.2 }
 {
     let _ = path;
     tree.conclude(hand);
@@ -256,7 +132,7 @@ fn climb_above<R: Wait>(
     requires since { (pass : ℕ) × (old : Knows) × IsSince pass old (known hand.old.seat) }
     requires anchor { HasGotAnchor (rises rising.now path.now (post.Coming approach.Start) tt tt) (read_words hand.old.seat) (known hand.old.seat) }
     ensures same { IsSameHand hand.old.seat hand.new.seat }
-    ensures over { IsClimbOver rising.now.key rising.now.placing (known hand.old.seat) hand.new.seat (reply_of result.0) result.1 result.2 }
+    ensures over { IsClimbOver rising.now.insertion.key rising.now.insertion.placing (known hand.old.seat) hand.new.seat (reply_of result.0) result.1 result.2 }
 {
     let shown = FrameView {
         store: &tree.store,
@@ -268,8 +144,8 @@ fn climb_above<R: Wait>(
         stage: PostStage::Coming(Approach::Start),
     };
     let mut insertion = InsertPost {
-        key: rising.key,
-        placing: rising.placing,
+        key: rising.insertion.key,
+        placing: rising.insertion.placing,
         path: Path { pages: path.pages },
         stage: ClimbStage::Posting(post),
     };
@@ -284,24 +160,23 @@ fn climb<R: Wait>(
     tree: &Tree,
     rt: &R,
     hand: &mut Hand<PassState>,
-    climber: Climber,
+    insertion: Insertion,
+    path: Path,
     separator: u64,
 ) -> (KeyReply, Option<Posted>, Option<Hint>)
-    requires runs { (there : Option ℕ) × Runs tree.now hand.old (climb_opened climber.key climber.placing climber.path (lefts.Split there separator)) }
+    requires runs { (there : Option ℕ) × Runs tree.now hand.old (climb_opened insertion.key insertion.placing path (lefts.Split there separator)) }
     requires empty { HasNoStock hand.old.seat }
     requires since { (pass : ℕ) × (old : Knows) × IsSince pass old (known hand.old.seat) }
     ensures same { IsSameHand hand.old.seat hand.new.seat }
-    ensures over { IsClimbOver climber.key climber.placing (known hand.old.seat) hand.new.seat (reply_of result.0) result.1 result.2 }
+    ensures over { IsClimbOver insertion.key insertion.placing (known hand.old.seat) hand.new.seat (reply_of result.0) result.1 result.2 }
 {
-    let Climber { key, placing, path } = climber;
     let mut path = path;
     let mut level = 1;
     let mut separator = separator;
     let mut from = path.way(1);
     for _ in rt.forever() {
         let rising = Rising {
-            key,
-            placing,
+            insertion,
             level,
             separator,
         };
@@ -313,6 +188,7 @@ fn climb<R: Wait>(
                 };
                 tree.await_frames(hand);
                 let Some(reply) = post_there(tree, rt, hand, &riser, at, glance) else {
+                    // Its walk to the child was lost, and it holds nothing.
                     from = Approach::Start;
                     continue;
                 };
@@ -351,19 +227,18 @@ pub fn write_key_posting<R: Wait>(
     ensures entered { (level : ℕ) → (separator : ℕ) → result.2 ≡ Some (hints.Post level separator) → reply_of result.0 ≡ reply.Inserted }
     ensures left { (level : ℕ) → (separator : ℕ) → result.2 ≡ Some (hints.Post level separator) → LacksPost level separator hand.new.seat }
 {
-    let unborn = Unnoted {
-        key,
-        placing,
-        path: Path::new(),
-    };
-    begin_descent(tree, hand, &unborn);
-    let mut path = unborn.path;
-    let (at, glance) = descend(tree, rt, hand, &Climbing { key, placing }, &mut path);
-    let climber = Climber { key, placing, path };
+    let insertion = Insertion { key, placing };
+    let mut path = Path::new();
+    begin_descent(tree, hand, &insertion);
+    let (at, glance) = descend(tree, rt, hand, &insertion, &mut path);
     tree.await_frames(hand);
-    let left = write_there(tree, hand, at, &climber, glance);
+    let writer = AtLeaf {
+        insertion: &insertion,
+        path: &path,
+    };
+    let left = write_there(tree, hand, at, &writer, glance);
     match left {
-        Left::Split(_there, separator) => climb(tree, rt, hand, climber, separator),
+        Left::Split(_there, separator) => climb(tree, rt, hand, insertion, path, separator),
         _ => {
             tree.conclude(hand);
             let (reply, _) = answer_of(placing.write(), left.reply());

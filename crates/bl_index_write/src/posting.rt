@@ -1,6 +1,6 @@
 //! Posts, by the words of pages.
 
-ghost use Rattle.std.specs.Prelude.{◌≡◌, ◌<◌, ◌≤◌, ◌-◌, ℕ, Some, None, IfOk, IfErr};
+ghost use Rattle.std.specs.Prelude.{◌≡◌, ◌<◌, ◌≤◌, ℕ, Some, IfOk, IfErr};
 ghost use Rattle.bl_page.specs.declared.page.Page.{Page};
 ghost use Rattle.bl_page.specs.Words.{words_of};
 ghost use Rattle.bl_proc_steps.specs.declared.acts.Seen.TheVariants as seen;
@@ -173,6 +173,7 @@ fn post_until<R: Wait>(
         match reach(tree, rt, hand, &target, &mut (), Approach::Start) {
             Reached::Parent(at, glance) => {
                 tree.await_frames(hand);
+                // Where its walk to the child was lost, it holds no page, and begins anew.
                 if let Some(reply) = post_there(tree, rt, hand, &target, at, glance) {
                     return end_post(tree, hand, target, reply);
                 }

@@ -1,17 +1,17 @@
-//! The posts of a write.
+//! The posts of an insertion.
 
 ghost use Rattle.std.specs.Prelude.{◌<◌, ◌≤◌};
 
+use crate::targets::Insertion;
 use bl_index_descend::Target;
 use bl_index_edit::Poster;
 use bl_proc_routes::Step;
-use bl_proc_writes::{Path, Placing};
+use bl_proc_writes::Path;
 
-/// The post of a write to a level.
+/// The post of an insertion to a level.
 #[derive(Clone, Copy)]
 pub(crate) struct Rising {
-    pub(crate) key: u64,
-    pub(crate) placing: Placing,
+    pub(crate) insertion: Insertion,
     /// The level of the parent, 1 to 12.
     pub(crate) level: u32,
     /// The key that is to be listed there.
@@ -69,8 +69,8 @@ impl Target for Rising {
 
     ghost courses = { λ j n a what g.
         climb_goes (record {
-          key = j.key;
-          placing = j.placing;
+          key = j.insertion.key;
+          placing = j.insertion.placing;
           path = n;
           stage = stages.Posting (record {
             level = j.level;
@@ -121,6 +121,6 @@ impl<'a> Poster for Riser<'a> {
         self.rising.separator
     }
 
-    ghost posts = { λ p. posts_rising p.rising.now.key p.rising.now.placing p.rising.now.level p.rising.now.separator p.rising.now.least p.rising.now.most
-        p.path.now };
+    ghost posts = { λ p. posts_rising p.rising.now.insertion.key p.rising.now.insertion.placing p.rising.now.level p.rising.now.separator
+        p.rising.now.least p.rising.now.most p.path.now };
 }

@@ -1,6 +1,6 @@
 //! Writes of one key, by the words of pages: a leaf that is not split gets its new words from those that were read.
 
-ghost use Rattle.std.specs.Prelude.{◌≡◌, ℕ, ◌<◌, None, IfOk, IfErr};
+ghost use Rattle.std.specs.Prelude.{◌≡◌, ℕ, IfOk, IfErr};
 ghost use Rattle.bl_model.specs.declared.operation.KeyReply.TheVariants as replies;
 ghost use Rattle.bl_model.specs.Replies.{reply_of};
 ghost use Rattle.bl_answers.specs.declared.answers.Answer.TheVariants as answers;

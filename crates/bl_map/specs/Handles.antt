@@ -67,8 +67,8 @@ abbrev pub HasCalled : Op → Reply → Handle → Handle → Type 0
 HasCalled op reply old new = Works (first_map_of old) (number_of_seat old) op reply (seen_by old) (seen_by new)
 
 -- It has done nothing but search: searches that ran out of turns, and then one that was answered so.
-abbrev pub HasSearched : Op → Reply → Handle → Handle → Type 0
-HasSearched op reply old new = Searched (first_map_of old) (pages_of_map old) (number_of_seat old) op reply (seen_by old) (seen_by new)
+abbrev pub HasOnlySearched : Op → Reply → Handle → Handle → Type 0
+HasOnlySearched op reply old new = Searched (first_map_of old) (pages_of_map old) (number_of_seat old) op reply (seen_by old) (seen_by new)
 
 -- It has looked these keys up, one after another, each with its reply, and has done nothing but search.
 abbrev pub HasFoundMany : List ℕ → List KeyReply → Handle → Handle → Type 0

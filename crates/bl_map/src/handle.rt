@@ -44,7 +44,7 @@ pub struct Handle<'a> {
 }
 
 impl<'a> Handle<'a> {
-    ghost use Rattle.bl_map.specs.Handles.{IsSameHandle, HasCalled, HasSearched, HasFoundMany, HasChanged, HasWritten, HasFoundNoRoom, HasFoundLeast, HasFoundGreatest, HasCounted, HasKeptUp, HasFollowed, HasSwept, HasTriedAgain, HasTidied};
+    ghost use Rattle.bl_map.specs.Handles.{IsSameHandle, HasCalled, HasOnlySearched, HasFoundMany, HasChanged, HasWritten, HasFoundNoRoom, HasFoundLeast, HasFoundGreatest, HasCounted, HasKeptUp, HasFollowed, HasSwept, HasTriedAgain, HasTidied};
     ghost use Rattle.bl_map.specs.Handles.{HasWrittenMany, HasStoppedFull};
     ghost use Rattle.bl_map_calls.specs.Many.{insertion_of, put_of, deletion_of};
     ghost use Rattle.bl_map.specs.Handles.{HasUpdated, HasCopied};
@@ -71,7 +71,7 @@ impl<'a> Handle<'a> {
     pub fn find<R: Wait>(&mut self, rt: &R, key: u64) -> KeyReply
         ensures same { IsSameHandle self.old self.new }
         ensures called { HasCalled (op.Find key) (reply_of result) self.old self.new }
-        ensures searched { HasSearched (op.Find key) (reply_of result) self.old self.new }
+        ensures searched { HasOnlySearched (op.Find key) (reply_of result) self.old self.new }
         ensures keeps { KeepsHints self.old self.new }
     {
         calls::find(rt, self.index, &mut self.pass, key, None)
@@ -99,7 +99,7 @@ impl<'a> Handle<'a> {
     pub fn part<R: Wait>(&mut self, rt: &R, from: u64, near: &mut Option<u32>) -> Reply
         ensures same { IsSameHandle self.old self.new }
         ensures called { HasCalled (op.Part from) result self.old self.new }
-        ensures searched { HasSearched (op.Part from) result self.old self.new }
+        ensures searched { HasOnlySearched (op.Part from) result self.old self.new }
         ensures keeps { KeepsHints self.old self.new }
     {
         calls::part(rt, self.index, &mut self.pass, from, near)
@@ -109,7 +109,7 @@ impl<'a> Handle<'a> {
     pub fn part_down<R: Wait>(&mut self, rt: &R, from: u64) -> Reply
         ensures same { IsSameHandle self.old self.new }
         ensures called { HasCalled (op.PartDown from) result self.old self.new }
-        ensures searched { HasSearched (op.PartDown from) result self.old self.new }
+        ensures searched { HasOnlySearched (op.PartDown from) result self.old self.new }
         ensures keeps { KeepsHints self.old self.new }
     {
         calls::part_down(rt, self.index, &mut self.pass, from)
@@ -462,7 +462,7 @@ impl<'a> Handle<'a> {
 
     /// How many pages of the map are free, about: others take and release some meanwhile.
     pub fn free_pages(&self) -> u64 {
-        self.index.tree().store.free_pages()
+        self.index.tree().store.room.free()
     }
 
     /// How full the map is, as one look over all its pages and frames finds it: see [`RoomSeen`]. It takes time with each of them, and is
@@ -476,7 +476,7 @@ impl<'a> Handle<'a> {
 
     /// Whether so few are free that changes by all handles at once may want more.
     pub fn lacks_pages(&self) -> bool {
-        self.index.tree().store.lacks_pages()
+        self.index.tree().store.room.lacks_pages()
     }
 
     /// What waits, and what was dropped.

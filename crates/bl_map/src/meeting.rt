@@ -33,7 +33,7 @@ fn tell(index: &Index, one: &mut Handle<'_>, other: &mut Handle<'_>)
     index.tell(&mut one.pass, &mut other.pass);
 }
 
-/// The first handle learns all that has happened, and so what the others know.
+/// The first handle learns all that has happened, and so what the others know. They have seen no more than before.
 fn learn_all(index: &Index, first: &mut Handle<'_>, others: &mut [Handle<'_>])
     requires own { IsSeated index.now first.old × All (IsSeated index.now) others.old }
     ensures learns { LearnsAll (first_of index.now) first.old first.new others.old others.new }

@@ -1,5 +1,5 @@
 -- One key more is looked up.
-use Rattle.std.proofs.Common.{ℕ, ◌≡◌, ◌++◌, ◌+◌, List, [], ◌∷◌, Option, refl, sym, ap, ◌∙◌, subst, append-nil, append_assoc, length, length-append}
+use Rattle.std.proofs.Common.{ℕ, ◌≡◌, ◌++◌, ◌+◌, List, [], ◌∷◌, Option, refl, sym, ap, ◌∙◌, subst, append-nil, append_assoc, length-append}
 use Rattle.bl_model.specs.declared.operation.Op.TheVariants as op
 use Rattle.bl_model.specs.declared.operation.KeyReply.{KeyReply}
 use Rattle.bl_model.specs.declared.operation.Entry.{Entry}

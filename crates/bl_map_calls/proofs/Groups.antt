@@ -1,5 +1,5 @@
 -- Lists in parts, each behind those before it.
-use Rattle.std.proofs.Common.{ℕ, ◌≡◌, ◌++◌, ◌+◌, ◌-◌, ◌<◌, ◌≤◌, List, min, sym, ap, ◌∙◌, length, take, drop, arith}
+use Rattle.std.proofs.Common.{ℕ, ◌≡◌, ◌++◌, ◌+◌, ◌-◌, ◌≤◌, List, min, sym, ap, ◌∙◌, length, take, drop, arith}
 use Rattle.std.proofs.Math.Seq.{take-add}
 use Rattle.std.proofs.lemmas.List.{take_all, take_min, take-append-le, append_assoc, length-append, length-drop, length-take-le}
 

@@ -1,6 +1,5 @@
 -- A write that found no room has left nothing.
 use Rattle.std.proofs.Common.{ℕ, ◌≡◌, ◌≢◌, Option, None, Some, List, refl, subst, sym}
-use Rattle.bl_model.specs.declared.deciding.KeyWrite.{KeyWrite}
 use Rattle.bl_model.specs.declared.deciding.KeyWrite.TheVariants.{Insert}
 use Rattle.bl_model.specs.declared.operation.Op.{Op}
 use Rattle.bl_model.specs.declared.operation.Op.TheVariants as op

@@ -6,7 +6,6 @@ use lib.ListN.{get_elem?}
 use Rattle.bl_index.proofs.Gathered.{item_at}
 use Rattle.bl_model.specs.declared.operation.KeyReply.TheVariants as reply
 use Rattle.bl_model.specs.declared.deciding.KeyWrite.{KeyWrite}
-use Rattle.bl_model.specs.declared.operation.Op.{Op}
 use Rattle.bl_model.specs.declared.operation.KeyReply.{KeyReply}
 use Rattle.bl_model.specs.declared.operation.Entry.{Entry}
 use Rattle.bl_model.specs.Replies.{reply_of}

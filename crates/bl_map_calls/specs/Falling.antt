@@ -1,5 +1,5 @@
 -- What a scan downwards of a handle promises, and a call that looks for the greatest row up to a key.
-use Rattle.std.specs.Prelude.{◌≡◌, ◌↔◌, ℕ, ◌<◌, ◌≤◌, ◌++◌, List, [], ◌∷◌, Option, Some, None, Result, All, OnOk, OnErr, MatchOption, filter, flat_map, length, nat_le}
+use Rattle.std.specs.Prelude.{◌≡◌, ℕ, ◌<◌, ◌≤◌, ◌++◌, List, [], ◌∷◌, Option, Some, None, Result, All, OnOk, OnErr, MatchOption, filter, flat_map, length, nat_le}
 use Rattle.std.specs.declared.alloc.AllocError.{AllocError}
 use Rattle.bl_page.specs.declared.page.Page.{Page}
 use Rattle.bl_model.specs.Parts.{rows_of, ended_at}

@@ -23,7 +23,7 @@ fn next_of(reply: &Reply) -> Option<u64>
     }
 }
 
-/// How many of the rows have keys that are not below that one.
+/// How many of the rows have keys that are not below that one: `give_part` takes the same ones.
 fn count_from(list: &[(u64, u64)], low: u64) -> usize
     ensures { result ≡ length (rows_from low list.now) }
 {

@@ -17,6 +17,7 @@ pub(crate) enum Found {
     Nothing,
 }
 
+/// What a part of a scan has found: its first row, or where to go on.
 pub(crate) fn found_in(reply: &Reply) -> Found
     ensures { IsFoundIn reply.now result }
 {

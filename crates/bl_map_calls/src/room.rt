@@ -36,13 +36,13 @@ enum Extent {
 /// Whether a walk over all pages is to be made for an insertion: not each hand may find a page, and it is not known that a walk would find
 /// nothing.
 fn wants_walk(index: &Index) -> bool {
-    let store = &index.tree().store;
-    store.is_short_of_pages() && !store.is_walked()
+    let room = &index.tree().store.room;
+    room.is_short_of_pages() && !room.has_none()
 }
 
 /// Whether a walk has come as far as it is to go.
 fn is_enough(index: &Index, extent: Extent) -> bool {
-    extent == Extent::Enough && index.tree().store.is_freeing_enough()
+    extent == Extent::Enough && index.tree().store.room.is_freeing_enough()
 }
 
 /// Looks for frames before a write. Where it may split a leaf while pages are scarce, thin pages are merged before, and what is retired is
@@ -82,8 +82,8 @@ fn walk_piece<R: Wait>(rt: &R, index: &Index, pass: &mut Pass)
     ensures same { IsSamePass pass.old pass.new }
     ensures readies { KeptUp (first_of index.now) (number_of pass.old) (trail pass.old) (trail pass.new) }
 {
-    let store = &index.tree().store;
-    if store.is_walked() || !store.lacks_pages() {
+    let room = &index.tree().store.room;
+    if room.has_none() || !room.lacks_pages() {
         return;
     }
     let pages = index.patience();
@@ -139,14 +139,14 @@ fn walk_all<R: Wait>(rt: &R, index: &Index, pass: &mut Pass, extent: Extent) -> 
     ensures same { IsSamePass pass.old pass.new }
     ensures readies { KeptUp (first_of index.now) (number_of pass.old) (trail pass.old) (trail pass.new) }
 {
-    let store = &index.tree().store;
-    let number = store.begin_walk();
+    let room = &index.tree().store.room;
+    let number = room.begin_walk();
     let puts = pass.puts();
     let ended = walk(rt, index, pass, 1, index.patience(), extent);
     if !ended || pass.puts() != puts {
         return true;
     }
-    store.end_walk(number);
+    room.end_walk(number);
     false
 }
 

@@ -45,7 +45,7 @@ fn lacks(index: &Index, pass: &Pass, want: Want) -> bool {
     match want {
         Want::Frames => index.lacks_frames(pass),
         Want::Pages => index.waits_for_pages(),
-        Want::Nothing => index.tree().store.retiring_pages() > 0,
+        Want::Nothing => index.tree().store.room.retiring() > 0,
     }
 }
 

@@ -6,6 +6,7 @@ use crate::page::{Anchor, Dead, Inner, Leaf, Page, Pairs};
 use arrayvec::ArrayVec;
 use bl_model::limits::MOST_LEVELS;
 
+/// A copy of the entries.
 fn copied_pairs(pairs: &Pairs) -> Pairs
     ensures { result ≡ pairs.now }
 {
@@ -15,6 +16,7 @@ fn copied_pairs(pairs: &Pairs) -> Pairs
     }
 }
 
+/// A copy of the page numbers.
 fn copied_pages(pages: &ArrayVec<u32, MOST_LEVELS>) -> ArrayVec<u32, MOST_LEVELS>
     ensures { result ≡ pages.now }
 {
@@ -24,6 +26,7 @@ fn copied_pages(pages: &ArrayVec<u32, MOST_LEVELS>) -> ArrayVec<u32, MOST_LEVELS
     }
 }
 
+/// A copy of an anchor.
 fn copied_anchor(anchor: &Anchor) -> Anchor
     ensures { result ≡ anchor.now }
 {
@@ -32,6 +35,7 @@ fn copied_anchor(anchor: &Anchor) -> Anchor
     }
 }
 
+/// A copy of a leaf.
 fn copied_leaf(leaf: &Leaf) -> Leaf
     ensures { result ≡ leaf.now }
 {
@@ -43,6 +47,7 @@ fn copied_leaf(leaf: &Leaf) -> Leaf
     }
 }
 
+/// A copy of an inner page.
 fn copied_inner(inner: &Inner) -> Inner
     ensures { result ≡ inner.now }
 {
@@ -55,6 +60,7 @@ fn copied_inner(inner: &Inner) -> Inner
     }
 }
 
+/// A copy of a dead page.
 fn copied_dead(dead: &Dead) -> Dead
     ensures { result ≡ dead.now }
 {

@@ -86,12 +86,14 @@ fn begins_with(low: u64, pairs: &[(u64, u64)]) -> bool
     }
 }
 
+/// The level in the head of a page.
 fn level_at(words: &[u64; 32]) -> u64
     ensures { result ≡ level_in words.now }
 {
     words[HEAD] / LEVEL_UNIT % LEVEL_UNIT
 }
 
+/// How many entries a page has by its head.
 fn count_at(words: &[u64; 32]) -> usize
     ensures { result ≡ count_in words.now }
 {
@@ -124,6 +126,7 @@ fn leftmost_at(words: &[u64; 32], count: usize, most: u64) -> Option<ArrayVec<u3
     Some(leftmost)
 }
 
+/// Reads an anchor from the words of a page.
 fn anchor_in(words: &[u64; 32], most: u64) -> Result<Anchor, WordFault>
     requires kind { IsOf Kind.Anchor words.now }
     requires most { most ≤ 2 ^ 32 }
@@ -150,6 +153,7 @@ fn anchor_in(words: &[u64; 32], most: u64) -> Result<Anchor, WordFault>
     Ok(Anchor { leftmost })
 }
 
+/// Reads a leaf from the words of a page.
 fn leaf_in(words: &[u64; 32], most: u64) -> Result<Leaf, WordFault>
     requires kind { IsOf Kind.Leaf words.now }
     requires most { most ≤ 2 ^ 32 }
@@ -197,6 +201,7 @@ fn children_fit(words: &[u64; 32], children: &[(u64, u64)], most: u64) -> bool
         && pairs_name_pages(children, most)
 }
 
+/// Reads an inner page from the words of a page.
 fn inner_in(words: &[u64; 32], most: u64) -> Result<Inner, WordFault>
     requires kind { IsOf Kind.Inner words.now }
     requires most { most ≤ 2 ^ 32 }
@@ -234,6 +239,7 @@ fn inner_in(words: &[u64; 32], most: u64) -> Result<Inner, WordFault>
     })
 }
 
+/// Reads a dead page from the words of a page.
 fn dead_in(words: &[u64; 32], most: u64) -> Result<Dead, WordFault>
     requires kind { IsOf Kind.Dead words.now }
     requires most { most ≤ 2 ^ 32 }

@@ -27,6 +27,7 @@ pub enum LowerStage {
     Over(Lowered),
 }
 
+/// A lowering goes on by what its last event has shown: it looks whether the top level is needed, takes it away, and ends.
 fn went(stage: LowerStage, seen: Seen) -> LowerStage
     requires running { lower_answer_in stage ≡ None }
     requires given { Gives (lower_next_in stage) (lower_needs_in stage) seen }

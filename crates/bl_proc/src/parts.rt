@@ -175,6 +175,8 @@ pub fn first_way(page: u32, free: bool) -> Descent
     }
 }
 
+/// A part of a scan goes on by what its last event has shown: it comes down to the leaf that covers its key, or probes a page that is
+/// near, and ends with the rows.
 fn went(from: PartStart, stage: PartStage, seen: &Seen) -> PartStage
     requires running { part_answer_in stage ≡ None }
     requires given { Gives (part_next_in stage) None seen.now }

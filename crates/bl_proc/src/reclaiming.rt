@@ -60,6 +60,8 @@ fn gone_past(last: usize, started: usize, own: usize) -> ReclaimStage
     })
 }
 
+/// A release goes on by what its last event has shown: it sees that the page is retired, looks at each process in turn, and releases the
+/// page or keeps it.
 fn went(page: u32, stage: ReclaimStage, seen: &Seen) -> ReclaimStage
     requires running { reclaim_answer_in stage ≡ None }
     requires given { Gives (reclaim_next_in page stage) None seen.now }

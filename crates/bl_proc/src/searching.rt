@@ -35,6 +35,8 @@ pub enum FindStage {
     Over(Option<u64>),
 }
 
+/// A search goes on by what its last event has shown: it comes down to the leaf that covers its key, or probes a page that is near, and
+/// ends with the value.
 #[inline(always)]
 fn went(key: u64, stage: FindStage, seen: &Seen) -> FindStage
     requires running { find_answer_in stage ≡ None }

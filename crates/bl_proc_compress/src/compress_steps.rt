@@ -71,6 +71,8 @@ fn on_with_children(
     }
 }
 
+/// A compression goes on by what its last event has shown: it comes to the parent and holds it, compresses two children or lets them stay,
+/// and ends.
 fn went(level: u32, key: u64, waits: bool, stage: CompressStage, seen: Seen) -> CompressStage
     requires above_leaves { 0 < level }
     requires running { compress_answer_in stage ≡ None }

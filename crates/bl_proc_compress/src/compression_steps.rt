@@ -202,6 +202,7 @@ fn put_of(side: Side, puts: &Puts) -> Action
     }
 }
 
+/// The other one of two children.
 fn other(side: Side) -> Side
     ensures { result ≡ other side }
 {

@@ -1,5 +1,5 @@
 -- A part goes on, and in one way.
-use Rattle.std.proofs.Common.{ℕ, ◌≡◌, None, ap, sym, ◌∙◌, refl, Some}
+use Rattle.std.proofs.Common.{◌≡◌, None, ap, sym, ◌∙◌, refl, Some}
 use Rattle.bl_page.specs.declared.page.Page.{Page}
 use Rattle.bl_proc_steps.specs.declared.acts.Seen.{Seen}
 use Rattle.bl_proc_steps.specs.declared.acts.Seen.TheVariants as seen

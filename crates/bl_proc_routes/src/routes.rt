@@ -18,6 +18,7 @@ pub enum Step {
     Here,
 }
 
+/// Where a leaf leads.
 fn way_from_leaf(leaf: &Leaf, key: u64, level: u32) -> Step
     ensures { Leads (page.Leaf leaf.now) key level result }
 {
@@ -32,6 +33,7 @@ fn way_from_leaf(leaf: &Leaf, key: u64, level: u32) -> Step
     }
 }
 
+/// Where an inner page leads.
 fn way_from_inner(inner: &Inner, key: u64, level: u32) -> Step
     ensures { Leads (page.Inner inner.now) key level result }
 {

@@ -71,6 +71,7 @@ fn entered(level: u32, anchor: &Page) -> Approach
     }
 }
 
+/// From a page that was got without a latch.
 fn turned_by(level: u32, key: u64, at: u32, page: &Page) -> Approach
     ensures { Approaches level key (approach.At at) (seen.Words page.now) (approached.On result) }
 {

@@ -1,4 +1,5 @@
 pub mod Arrivals
 pub mod Below
+pub mod Blank
 pub mod Named
 pub mod Stepping

@@ -1,5 +1,5 @@
 -- The pages by which a process has come down.
-use Rattle.std.specs.Prelude.{◌≡◌, ℕ, zero, suc, ◌-◌, slice_index, slice_set}
+use Rattle.std.specs.Prelude.{◌≡◌, ℕ, zero, suc, ◌-◌, replicate, slice_index, slice_set}
 use Rattle.bl_page.specs.declared.page.Page.{Page}
 use Rattle.bl_page.specs.Nodes.{node_of}
 use Rattle.bl_proc_steps.specs.declared.acts.Seen.{Seen}
@@ -18,6 +18,10 @@ page_at path level = slice_index path.pages (level - 1)
 -- none is noted
 abbrev pub IsBlank : Path → Type 0
 IsBlank path = (level : ℕ) → page_at path level ≡ 0
+
+-- the path by which none is noted
+abbrev pub blank : Path
+blank = record { pages = replicate 11 0 }
 
 -- page x is noted for a level above the leaves, and the rest stays
 abbrev pub noted : ℕ → ℕ → Path → Path

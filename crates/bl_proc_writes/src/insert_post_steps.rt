@@ -149,6 +149,8 @@ fn climbed(path: &Path, post: Post, seen: Seen) -> ClimbStage
     after_post(path, post)
 }
 
+/// An insertion that posts goes on by what its last event has shown: it writes at its leaf, posts what it has split level by level, and
+/// ends.
 fn went(path: &Path, stage: ClimbStage, seen: Seen) -> ClimbStage
     requires climbing { IsClimbing stage }
     requires given { Gives (climb_next_in stage) (climb_needs_in stage) seen }

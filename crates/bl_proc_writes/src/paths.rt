@@ -3,7 +3,7 @@
 ghost use Rattle.std.specs.Prelude.{◌≡◌, ◌<◌, ◌≤◌};
 ghost use Rattle.bl_proc_steps.specs.declared.acts.Seen.TheVariants as seen;
 ghost use Rattle.bl_proc_steps.specs.declared.approach.Approach.TheVariants as approach;
-ghost use Rattle.bl_proc_writes.specs.Paths.{page_at, noted, from_page, IsBlank, Notes};
+ghost use Rattle.bl_proc_writes.specs.Paths.{page_at, noted, from_page, blank, IsBlank, Notes};
 
 use bl_page::Page;
 use bl_proc_routes::{Step, level_of, way_from};
@@ -19,7 +19,8 @@ pub struct Path {
 impl Path {
     /// A path with no page noted.
     pub fn new() -> Path
-        ensures { IsBlank result }
+        ensures path { result ≡ blank }
+        ensures none { IsBlank result }
     {
         Path { pages: [0; 11] }
     }

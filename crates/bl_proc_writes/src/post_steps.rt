@@ -161,6 +161,8 @@ fn changed(level: u32, key: u64, edit: Edit, seen: Seen) -> PostStage
     }
 }
 
+/// A post goes on by what its last event has shown: it comes to the parent and holds it, walks one level lower to the child that is to be
+/// listed, changes the parent or lets it stay, and ends. Where the tree has no such level it adds one first.
 fn went(level: u32, key: u64, stage: PostStage, seen: Seen) -> PostStage
     requires above_leaves { 0 < level }
     requires running { post_answer_in level stage ≡ None }

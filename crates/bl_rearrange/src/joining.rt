@@ -8,7 +8,7 @@ use crate::pairs::collected;
 use crate::sides::Side;
 use bl_page::Pairs;
 
-/// Pairs and then those of a slice, if there is room.
+/// Pairs and then those of a slice, if a page has room for all: a merge joins two pages so, and evening out fills the one that gains.
 fn extended(pairs: Pairs, slice: &[(u64, u64)]) -> Option<Pairs>
     ensures { MatchOption result (14 < length pairs.items + length slice.now)
         (λ all. (length pairs.items + length slice.now ≤ 14) × (all.items ≡ pairs.items ++ slice.now)) }

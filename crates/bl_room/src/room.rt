@@ -26,6 +26,9 @@ const NONE: u64 = 1;
 /// The first walk has this number: the two above are none of a walk.
 const FIRST_WALK: u64 = 2;
 
+/// Pages are scarce where fewer are free than so many for each hand: one for a leaf, and one for each of two levels above it.
+const PAGES_A_HAND: u64 = 3;
+
 /// What all hands of a store know of its room: how many pages are free, and whether a walk over all pages may find more.
 #[derive(Drop)]
 pub struct Room {
@@ -33,6 +36,9 @@ pub struct Room {
     free: AtomicU64,
     // How many pages are retired, and not released yet.
     retiring: AtomicU64,
+    // How many hands share it, and below how many free pages these are scarce.
+    hands: u64,
+    scarce: u64,
     // The walks that have begun.
     walks: AtomicU64,
     // `UNKNOWN`, `NONE`, or the number of the last walk that has begun. It is written where pages are scarce, and read elsewhere.
@@ -77,6 +83,8 @@ impl Room {
         Ok(Room {
             free: AtomicU64::new(free),
             retiring: AtomicU64::new(0),
+            hands: u64::from(passes),
+            scarce: PAGES_A_HAND * u64::from(passes),
             walks: AtomicU64::new(FIRST_WALK),
             last: AtomicU64::new(UNKNOWN),
             least: AtomicU64::new(1),
@@ -95,6 +103,22 @@ impl Room {
     /// How many pages are retired and not released yet, about.
     pub fn retiring(&self) -> u64 {
         self.retiring.load(Ordering::SeqCst)
+    }
+
+    /// Whether pages are scarce: so few are free that changes by all hands at once may want more.
+    #[inline(always)]
+    pub fn lacks_pages(&self) -> bool {
+        self.free() < self.scarce
+    }
+
+    /// Whether pages are not scarce any more, once those are released that are retired.
+    pub fn is_freeing_enough(&self) -> bool {
+        self.free().saturating_add(self.retiring()) >= self.scarce
+    }
+
+    /// Whether they are so scarce that not each hand finds one.
+    pub fn is_short_of_pages(&self) -> bool {
+        self.free() < self.hands
     }
 
     /// A page is retired.
@@ -223,8 +247,8 @@ impl Room {
     }
 }
 
-/// The frame at which the hand of that number begins to look, in a large store.
-pub fn first_frame(number: u32) -> u32 {
+// The frame at which the hand of that number begins to look, in a large store.
+pub(crate) fn first_frame(number: u32) -> u32 {
     number.wrapping_mul(CHUNK)
 }
 

@@ -1,8 +1,8 @@
 -- What is left and begins with no row.
-use Rattle.std.proofs.Common.{◌≡◌, ◌≢◌, ℕ, ◌+◌, ◌^◌, ◌<◌, List, [], ◌∷◌, ◌++◌, length, ap, sym, subst, ◌∙◌, append-nil, append_assoc, length-append, Option, Some, None, inl, inr, arith}
+use Rattle.std.proofs.Common.{◌≡◌, ℕ, ◌+◌, ◌<◌, List, [], ◌∷◌, ◌++◌, length, ap, sym, subst, ◌∙◌, append-nil, append_assoc, length-append, inl, inr, arith}
 use Rattle.bl_serve_lines.specs.Lines.{HasNoLf}
 use Rattle.bl_serve_lines.specs.Streams.{EndsRead}
-use Rattle.bl_row_lines.specs.RowLines.{row_text, line_text, IsRow, IsRowOrNone, BeginsBadly}
+use Rattle.bl_row_lines.specs.RowLines.{row_text, line_text, IsRow, BeginsBadly}
 use Rattle.bl_row_lines.specs.RowLines.BeginsBadly.{Long, Cut, NoSense}
 
 some_unread : (unread bytes left : List ℕ) → 0 < length bytes → unread ≡ bytes ++ left → 0 < length unread

@@ -1,5 +1,5 @@
 -- Rows as lines, and the first line that is bad.
-use Rattle.std.specs.Prelude.{◌≡◌, ◌≢◌, ℕ, ◌+◌, ◌-◌, ◌^◌, ◌<◌, ◌≤◌, List, [], ◌∷◌, ◌++◌, length, flat_map, codes, decimal, Option, Some, None}
+use Rattle.std.specs.Prelude.{◌≡◌, ℕ, ◌+◌, ◌-◌, ◌^◌, ◌<◌, ◌≤◌, List, [], ◌∷◌, ◌++◌, length, flat_map, codes, decimal, Option, Some, None}
 use Rattle.bl_model.specs.Rows.{key_at, HasRisingKeys}
 use Rattle.bl_serve_lines.specs.Lines.{HasNoLf}
 use Rattle.bl_row_lines.specs.declared.reading.RowsFault.{RowsFault}

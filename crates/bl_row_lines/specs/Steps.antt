@@ -1,5 +1,5 @@
 -- What reading one line gave. Private functions cite this, and no public clause does.
-use Rattle.std.specs.Prelude.{◌≡◌, ℕ, ◌<◌, List, [], ◌∷◌, ◌++◌, length, Result, Ok, Err}
+use Rattle.std.specs.Prelude.{◌≡◌, ℕ, ◌<◌, List, [], ◌++◌, length, Result, Ok, Err}
 use Rattle.bl_row_lines.specs.declared.row.Said.{Said}
 use Rattle.bl_row_lines.specs.declared.row.Said.TheVariants as said
 use Rattle.bl_row_lines.specs.RowLines.{line_text, BeginsBadly}

@@ -17,7 +17,7 @@ use Rattle.bl_serve.specs.declared.section_reader.SectionEnd.TheVariants as sect
 use Rattle.bl_model.specs.History.{IsLegalFrom, final_map}
 use Rattle.bl_model.proofs.Histories.{legal_append, legal_rest}
 use Rattle.bl_serve_lines.specs.Lines.{Line, IsLine, Answer, entries, input_of, output_of, rest_text, text_of, HasNoLf}
-use Rattle.bl_serve_lines.specs.Served.{Section, IsSection, Ends, IsFinished, HasNoEndInside, Interleaves, lines_of, malformed_of, syncs_of, one_if_any, whole_history, Served, Stopped, Stops, Leaves, ComesFrom}
+use Rattle.bl_serve_lines.specs.Served.{Section, IsSection, Ends, IsFinished, HasNoEndInside, Interleaves, lines_of, malformed_of, syncs_of, one_if_any, Served, Stopped, Stops, Leaves, ComesFrom}
 use Rattle.bl_serve_lines.specs.Served.Interleaves.{Done, Takes}
 use Rattle.bl_serve_lines.specs.Served as served
 use Rattle.bl_serve.specs.Reading.{AskNoEnd, AskEndLast, ReadsLines}

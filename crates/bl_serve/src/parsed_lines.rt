@@ -76,12 +76,14 @@ impl ParsedLines {
         self.deletions = 0;
     }
 
+    /// What the lines ask for, in their order: none where a line is malformed.
     pub fn as_slice(&self) -> &[Option<Request>]
         ensures { result.now ≡ self.now }
     {
         self.requests.as_slice()
     }
 
+    /// How many lines there are.
     pub fn len(&self) -> usize
         ensures { result ≡ length self.now }
     {

@@ -31,6 +31,7 @@ pub struct ReadAhead {
     pub source: Source,
     /// How many lines are to be read at most.
     pub most: u64,
+    /// What was read of them so far: the requests that are to be answered next.
     pub lines: ParsedLines,
     /// How reading of them ended.
     pub end: Result<SectionEnd, ServeFault>,

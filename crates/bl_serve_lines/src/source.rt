@@ -1,4 +1,4 @@
-//! The lines of a reader, in constant memory.
+//! The lines of a reader, in constant memory: of requests, of rows that are loaded, and of scripts that are replayed.
 
 ghost use Rattle.std.specs.Prelude.{◌≡◌, ℕ, ◌+◌, ◌-◌, ◌≤◌, ◌↔◌, length, List, [], ◌∷◌, ◌++◌, take, drop, true, IsTrue, IfOk, IfSome, OnErr, MatchResult};
 ghost use Rattle.std.specs.Bool.{MatchBool};
@@ -34,7 +34,7 @@ pub enum Cut {
     End,
 }
 
-/// Bytes of a reader that were read ahead.
+/// Bytes that were read ahead, of requests, rows or a script alike.
 #[derive(Drop)]
 pub struct Source {
     bytes: Vec<u8>,

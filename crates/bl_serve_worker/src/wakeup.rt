@@ -26,6 +26,7 @@ impl Wakeup {
         }
     }
 
+    /// Wakes the compressors that rest.
     fn ring(&self) {
         self.bell.fetch_add(1, Ordering::SeqCst);
         self.bell.wake_all();

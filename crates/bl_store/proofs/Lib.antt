@@ -1,6 +1,5 @@
-mod Living
-mod StockLemmas
-mod Written
+pub mod Living
+pub mod Written
 mod Dealing
 mod Ending
 mod Examples

@@ -1,5 +1,5 @@
 -- What a hand has written into the frame that it reserved last, and what it has left of its stock.
-use Rattle.std.proofs.Common.{◌≡◌, ℕ, ◌+◌, ◌-◌, ◌*◌, ◌<◌, ◌≤◌, List, [], ◌∷◌, ◌++◌, length, get_or, sym, refl, ap, ◌∙◌, subst, inl, inr, arith, ext_get_or}
+use Rattle.std.proofs.Common.{◌≡◌, ℕ, zero, suc, ◌+◌, ◌-◌, ◌<◌, ◌≤◌, List, [], ◌∷◌, ◌++◌, length, get_or, sym, refl, ap, ◌∙◌, subst, inl, inr, arith, ext_get_or}
 use Rattle.std.proofs.lemmas.Bool.{cases_lt, cases_eq}
 use Rattle.std.proofs.lemmas.List.{get_or_append_left, length-append}
 use Rattle.atomic_table.specs.declared.shared.Seat.{Seat}
@@ -13,6 +13,11 @@ use Rattle.bl_store.specs.declared.stock.Stock.{Stock}
 use Rattle.bl_store_rule.specs.declared.view.Draft.{Draft}
 use Rattle.bl_store_rule.specs.declared.view.Reading.{Reading}
 use Rattle.bl_store_rule.specs.declared.view.View.{View}
+
+-- a stock of one frame less
+pub drafts_pop : (fs : List ℕ) (n : ℕ) → 0 < n → drafts fs n ≡ draft (get_or fs (n - 1) 0) [] ∷ drafts fs (n - 1)
+drafts_pop fs zero some_frame = absurd (omega arith)
+drafts_pop fs (suc n) some_frame = let e : n ≡ suc n - 1 = omega arith in λ i. draft (get_or fs (e i) 0) [] ∷ drafts fs (e i)
 
 -- the frame that is written, by its words
 pub has_draft : (s : List Draft) (f n : ℕ) (xs : List ℕ) (ds : List Draft) → s ≡ draft f xs ∷ ds → length xs ≡ n → (s ≡ draft f (first_words s) ∷ behind_first s) × (length (first_words s) ≡ n)

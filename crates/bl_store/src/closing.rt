@@ -1,11 +1,11 @@
 //! The end of a store: its hands come back, and its pages are read once more.
-ghost use Rattle.std.specs.Prelude.{◌≡◌, ◌≢◌, ◌⊎◌, ℕ, ◌+◌, ◌-◌, ◌%◌, ◌<◌, ◌≤◌, [], length, slice_index, replicate, vec_capacity};
+ghost use Rattle.std.specs.Prelude.{◌≡◌, ℕ, ◌+◌, ◌-◌, ◌%◌, ◌<◌, ◌≤◌, [], slice_index, replicate, vec_capacity};
 ghost use Rattle.std.specs.Slots.{slots_items, slots_len, IsFull};
 ghost use mathlib.Core.Option.{some};
 ghost use lib.ListN.{get_elem?};
 ghost use Rattle.bl_layout.specs.Words.{frame_count};
 ghost use Rattle.bl_layout.specs.Cells.{cell_count};
-ghost use Rattle.bl_store_rule.specs.Frames.{page_at, owner_at, place_at};
+ghost use Rattle.bl_store_rule.specs.Frames.{page_at, place_at};
 ghost use Rattle.bl_store.specs.Hands.{IsIdle};
 ghost use Rattle.bl_store.specs.Closing.{HasEach, IsClosed, IsGone};
 

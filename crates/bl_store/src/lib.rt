@@ -12,6 +12,9 @@
 //! store is made. A hand may learn of another that it meets ([`MeetPlay`]), and at the end all hands come
 //! back for the words of all pages.
 //!
+//! These are the calls that begin and end, read, latch and put, and release what nobody can read any more. Those that reserve what
+//! is put are of `bl_reserve`, which stands on this crate's public fields.
+//!
 //! The latches and right links that such pages serve are those of Lehman and Yao, "Efficient locking for
 //! concurrent operations on B-trees" (1981). Stamps, frames and their release are this project's own.
 #![tactic(auto)]
@@ -21,14 +24,10 @@ mod meeting;
 mod opening;
 mod owner;
 mod put;
-mod reserve;
-mod scarce;
 mod stock;
 mod store;
 mod sweep;
-mod usage;
 
-pub use bl_room::RoomSeen;
 pub use put::Splice;
 pub use stock::{NoRoom, Stock};
 pub use store::{Glance, Hand, Peek, Store};

@@ -1,22 +1,19 @@
 //! A store is made, and its hands are dealt out.
-ghost use Rattle.std.specs.Prelude.{◌≡◌, ℕ, ◌+◌, ◌<◌, ◌≤◌, ◌^◌, false, [], length, replicate, slice_index_or, IfOk};
+ghost use Rattle.std.specs.Prelude.{◌≡◌, ◌+◌, ◌<◌, ◌≤◌, ◌^◌, false, [], length, replicate, slice_index_or, IfOk};
 ghost use Rattle.bl_layout.specs.Cells.{cell_count};
 ghost use Rattle.bl_store_rule.specs.Frames.{share};
 ghost use Rattle.bl_room.specs.Blanks.{is_blank};
 ghost use Rattle.bl_store.specs.Opening.{first_pages, padded, Laid, IsDealt};
 ghost use Rattle.bl_store_rule.specs.declared.view.Sealing.TheVariants.{Unsealed};
 
-use crate::store::{APART, Hand, RING, Store};
+use crate::store::{APART, Hand, Store};
 use atomic_table::{Seat, Split, Table};
 use bl_layout::Layout;
-use bl_room::{Room, first_frame, is_all_zeros};
+use bl_room::{Room, Sight, is_all_zeros};
 use bl_store_rule::{Ground, PageRule, View};
 use std::alloc::{AllocError, Global};
 use std::mem;
 use std::snapshot::Snapshot;
-
-/// In a large store so many puts lie between two sweeps of many that are owed: all of them take a while.
-const PUTS_BETWEEN: u32 = 8;
 
 // The numbers that a hand has to deal out, but its own, go to the next hand.
 pub(crate) struct Deal;
@@ -105,36 +102,17 @@ impl<D, R: PageRule<D>> Store<D, R, Global> {
 }
 
 impl<D> Hand<D> {
-    // Hands begin far apart in the frames and in the owners, so that two threads seldom write to one cache line. In a large store each
-    // begins with a chunk of frames that nobody has used.
+    // The hand of a seat, which has that number.
     fn of(seat: Seat<(), View<D>>, number: u32, layout: Layout) -> Hand<D>
         requires { (number ≡ seat.me.0.number) × (number < seat.me.0.layout.passes) × (seat.me.0.sealing ≡ Unsealed) × (seat.me.1 ≡ []) }
         ensures { (result.number ≡ number) × (result.seat ≡ seat) }
     {
-        let frames = layout.frames();
-        let is_large = layout.is_large();
-        let frame = if is_large {
-            first_frame(number)
-        } else {
-            number.wrapping_mul(frames / layout.passes)
-        };
         Hand {
             seat,
             number,
             stamp: 0,
-            frame,
-            owner: number.wrapping_mul((layout.pages + frames) / layout.passes),
-            retired: [0; RING],
-            waiting: 0,
-            released: [0; RING],
-            ready: 0,
-            untried: 0,
+            sight: Sight::of(number, layout),
             unswept: 0,
-            owed: 0,
-            between: if is_large { PUTS_BETWEEN } else { 0 },
-            gone: [0; RING],
-            leaving: 0,
-            puts: 0,
             sweeps: 0,
             apart: [0; APART],
         }

@@ -1,5 +1,5 @@
 //! Latches, and the retirement of a page.
-ghost use Rattle.std.specs.Prelude.{◌≡◌, ℕ, ◌+◌, ◌<◌, ◌≤◌, ◌↔◌, List, [], IsTrue};
+ghost use Rattle.std.specs.Prelude.{◌≡◌, ℕ, ◌<◌, ◌↔◌, List, [], IsTrue};
 ghost use Rattle.bl_store_rule.specs.Pages.{Owner, Open, Held, Latches, Misses, Probes, Opens, Retires};
 ghost use Rattle.bl_store.specs.Hands.{known, IsOf, IsSameHand, IsSameStamp, IsSameStock, IsSameRefusal, MayRetire};
 ghost use Rattle.bl_store_rule.specs.declared.view.Sealing.TheVariants.{Unsealed, Sealed};
@@ -77,7 +77,7 @@ impl<D, R: PageRule<D>, A: Allocator> Store<D, R, A> {
             .shared
             .store::<Publish>(&mut hand.seat, at, retired_at(time));
         self.room.note_retired();
-        hand.note_gone(page);
+        hand.sight.note_gone(page);
     }
 
     // The tick by which the page is retired.

@@ -1,5 +1,5 @@
 //! Puts.
-ghost use Rattle.std.specs.Prelude.{◌≡◌, ℕ, ◌+◌, ◌*◌, ◌-◌, ◌<◌, ◌≤◌, List, [], ◌∷◌, length, slice_index};
+ghost use Rattle.std.specs.Prelude.{◌≡◌, ℕ, ◌+◌, ◌*◌, ◌-◌, ◌<◌, ◌≤◌, List, [], ◌∷◌, slice_index};
 ghost use Rattle.bl_layout.specs.Words.{frame_count};
 ghost use Rattle.bl_store.specs.Drafts.{draft_words, other_drafts, HasDraft, IsSplice};
 ghost use Rattle.bl_store_rule.specs.Frames.{place_at};
@@ -10,8 +10,7 @@ ghost use Rattle.bl_store_rule.specs.declared.view.Draft.{Draft};
 ghost use Rattle.bl_store_rule.specs.declared.view.Dropping.TheVariants.{Dropped};
 
 use crate::stock::Stock;
-use crate::store::{Glance, Hand, RING, Store};
-use crate::sweep::OWNERS_A_SWEEP;
+use crate::store::{Glance, Hand, Store};
 use bl_layout::retired_at;
 use bl_store_rule::plays::{Confirm, Settle, Swap, Tick, Write};
 use bl_store_rule::{PagePlay, PageRule};
@@ -26,12 +25,6 @@ pub struct Splice {
     pub at: usize,
     pub words: [u64; 2],
 }
-
-/// After so many puts a sweep is due.
-const PUTS_TO_SWEEP: u32 = 64;
-
-/// With so many frames to spare for each hand, all hands may leave a ring of retired frames behind them, and frames are left.
-const SPARE_FRAMES: u32 = 256;
 
 impl<D, R: PageRule<D>, A: Allocator> Store<D, R, A> {
     ghost use Rattle.bl_store.specs.Owners.{IsHandOf};
@@ -289,33 +282,8 @@ impl<D, R: PageRule<D>, A: Allocator> Store<D, R, A> {
         self.table
             .shared
             .store::<Settle>(&mut hand.seat, at, retired_at(time));
-        self.note_retired(hand, frame);
-    }
-
-    // The hand keeps the frame in sight, which it has retired. Where it has no room for it, sweeps over all owner words find it
-    // again.
-    #[inline(always)]
-    fn note_retired(&self, hand: &mut Hand<D>, frame: u32)
-        requires own { IsHandOf self.now hand.old }
-        ensures same { hand.new.seat ≡ hand.old.seat }
-    {
-        hand.puts = hand.puts.wrapping_add(1);
-        hand.untried = hand.untried.saturating_add(1);
         hand.unswept = hand.unswept.saturating_add(1);
-        if hand.waiting < RING as u32 {
-            hand.retired[hand.waiting as usize] = frame;
-            hand.waiting += 1;
-        } else {
-            hand.owed = (self.layout.pages + self.layout.frames()) / OWNERS_A_SWEEP + 1;
-        }
-        // With few frames to spare none may wait for long.
-        let puts_to_sweep = if self.layout.spare / SPARE_FRAMES >= self.layout.passes {
-            PUTS_TO_SWEEP
-        } else {
-            1
-        };
-        if hand.unswept >= puts_to_sweep && hand.owed == 0 {
-            hand.owed = 1;
-        }
+        hand.sight
+            .note_retired(frame, hand.unswept, self.layout);
     }
 }

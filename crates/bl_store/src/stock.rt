@@ -1,11 +1,14 @@
 //! What a hand has reserved, and why a reservation is refused.
 
 /// Frames, and at most one page, that a hand has reserved. It serves for as many puts as it has frames.
+///
+/// Its fields are public for who reserves. A put asks that they are what the hand has reserved, by `IsStockOf`.
 #[derive(Drop)]
 pub struct Stock {
-    pub(crate) page: Option<u32>,
-    pub(crate) frames: [u32; 3],
-    pub(crate) count: u32,
+    pub page: Option<u32>,
+    /// The last of so many is used first.
+    pub frames: [u32; 3],
+    pub count: u32,
 }
 
 /// Why a reservation is refused. What was reserved for it has been given back.

@@ -1,5 +1,5 @@
 //! The store, and the calls that begin and end a process and read pages.
-ghost use Rattle.std.specs.Prelude.{◌≡◌, ◌≢◌, ℕ, ◌+◌, ◌*◌, ◌<◌, ◌≤◌, true, false, List, [], length, slice_index, Some, None, IfSome};
+ghost use Rattle.std.specs.Prelude.{◌≡◌, ℕ, ◌+◌, ◌*◌, ◌<◌, List, [], length, slice_index, Some, None, IfSome};
 ghost use Rattle.bl_layout.specs.Words.{frame_count};
 ghost use Rattle.bl_layout.specs.Cells.{cell_count};
 ghost use Rattle.bl_store_rule.specs.Frames.{process_at, page_at, place_at};
@@ -10,50 +10,32 @@ ghost use Rattle.bl_store_rule.specs.declared.view.Sealing.TheVariants.{Unsealed
 
 use atomic_table::{Seat, Table};
 use bl_layout::{Layout, PROCESS_CELLS};
-use bl_room::Room;
+use bl_room::{Room, Sight};
 use bl_store_rule::plays::{Clock, Copy, Enter, Leave, Look, Raise, Renew};
 use bl_store_rule::{Framed, Ground, PagePlay, PageRule, TimePlay, View};
 use std::alloc::{Allocator, Global};
-
-/// How many frames a hand keeps in sight that it has retired, and that it has released.
-pub(crate) const RING: usize = 128;
 
 /// So many words keep what one thread writes out of the cache lines of others: two lines of 64 bytes, since processors fetch lines in
 /// pairs.
 pub(crate) const APART: usize = 16;
 
 /// One who reads and writes pages. Hands are numbered from 0, and no two of a store share a number.
+///
+/// Its public fields are for crates that add calls to a store, as `bl_reserve` does: each event of the seat keeps the user's rule, whoever
+/// calls for it.
 #[derive(Drop)]
 pub struct Hand<D> {
-    pub(crate) seat: Seat<(), View<D>>,
-    pub(crate) number: u32,
+    pub seat: Seat<(), View<D>>,
+    pub number: u32,
     // The word that it stored last for a process of its own. No proof rests on it.
     pub(crate) stamp: u64,
-    // The frame that its next reservation tries first.
-    pub(crate) frame: u32,
-    // The owner word at which its next sweep begins, counted from page 0.
-    pub(crate) owner: u32,
-    // Frames that its puts have retired, the oldest first, and how many. No proof rests on them, nor on the fields below.
-    pub(crate) retired: [u32; RING],
-    pub(crate) waiting: u32,
-    // Frames that it has released since, and how many.
-    pub(crate) released: [u32; RING],
-    pub(crate) ready: u32,
-    // How many frames it has retired since it last tried to release them.
-    pub(crate) untried: u32,
-    // How many it has retired since its last sweep, and how many sweeps it owes.
+    /// For all: how many puts there were, and what it keeps in sight. No proof rests on it.
+    pub sight: Sight,
+    // How many frames it has retired since its last sweep.
     pub(crate) unswept: u32,
-    pub(crate) owed: u32,
-    // How many puts lie between two sweeps, where it owes several.
-    pub(crate) between: u32,
-    // Pages that it has retired, at which its next sweeps look first, and how many.
-    pub(crate) gone: [u32; RING],
-    pub(crate) leaving: u32,
-    // How many puts it has made.
-    pub(crate) puts: u64,
     // How many sweeps it has made, as far as the counter goes: a contract tells by it that there was one.
     pub(crate) sweeps: u64,
-    // It keeps two hands that stand beside each other apart: each put writes to the fields above, and each call reads the first ones.
+    // It keeps two hands that stand beside each other apart: each put writes to what is in sight, and each call reads the first fields.
     pub(crate) apart: [u64; APART],
     pub ghost own: { (number ≡ seat.me.0.number) × (number < seat.me.0.layout.passes) × (seat.me.0.sealing ≡ Unsealed) × (seat.me.1 ≡ []) },
 }
@@ -66,18 +48,20 @@ pub struct Glance {
     pub(crate) used: u32,
 }
 
-/// Pages that threads share. D is what a hand knows, and R the user's rule.
+/// Pages that threads share. D is what a hand knows, and R the user's rule. The table and the layout are public for crates that add calls,
+/// as `bl_reserve` does.
 #[derive(Drop)]
 pub struct Store<D, R: PageRule<D>, A: Allocator = Global> {
-    pub(crate) table: Table<(), View<D>, Ground<D>, Framed<R>, A>,
-    pub(crate) layout: Layout,
+    pub table: Table<(), View<D>, Ground<D>, Framed<R>, A>,
+    pub layout: Layout,
     // The cells of the word of page 0, of the first word of frame 0, and of the process word of hand 0.
     pub(crate) heads: usize,
     pub(crate) firsts: usize,
     pub(crate) stamps: usize,
     // It keeps what each take writes apart from the fields above, which each call reads.
     pub(crate) apart: [u64; APART],
-    pub(crate) room: Room,
+    /// For all: how many pages are free, whether they are scarce, and what a walk over all of them has found. All of it is a hint.
+    pub room: Room,
     // And apart from what stands behind the store.
     pub(crate) behind: [u64; APART],
     pub ghost key: { table.shared.key.layout ≡ layout },
@@ -122,13 +106,7 @@ impl<D> Hand<D> {
     /// Whether a sweep is worth its time now: some puts have passed since the last one, or the hand has lost sight of frames
     /// that it has retired. It is a hint, and a sweep does its whole work whatever this says.
     pub fn is_due(&self) -> bool {
-        self.owed == 1 || (self.owed > 1 && self.unswept >= self.between)
-    }
-
-    /// How many puts it has made since the store was made. It counts for who wants to know whether something was changed, and nothing is
-    /// promised of it.
-    pub fn puts(&self) -> u64 {
-        self.puts
+        self.sight.is_due(self.unswept)
     }
 
     /// The number of the hand, by which a rule and an owner name it.
@@ -244,6 +222,18 @@ impl<D, R: PageRule<D>, A: Allocator> Store<D, R, A> {
         requires place { place < 32 }
     {
         self.table.shared.peek(peek.first + place)
+    }
+
+    /// A word of a page as it stands now, which is no event and tells nothing: the next one may be of another put. 0 where there is
+    /// none such.
+    pub fn peek(&self, page: u32, place: usize) -> u64 {
+        if place >= 32 {
+            return 0;
+        }
+        match self.peek_page(page) {
+            Some(peek) => self.peek_word(peek, place),
+            None => 0,
+        }
     }
 
     /// Fetches all of a page ahead of a look at it, and its owner's word. It is no event and tells nothing.

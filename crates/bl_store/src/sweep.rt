@@ -1,17 +1,15 @@
 //! Sweeps: pages and frames that no process can read any more are released.
-ghost use Rattle.std.specs.Prelude.{◌≡◌, ◌⊎◌, ℕ, ◌+◌, ◌*◌, ◌/◌, ◌%◌, ◌^◌, ◌<◌, ◌≤◌, true, false, List, length};
+ghost use Rattle.std.specs.Prelude.{◌≡◌, ◌⊎◌, ℕ, ◌+◌, ◌/◌, ◌%◌, ◌^◌, ◌<◌, ◌≤◌, true, false};
 ghost use Rattle.bl_layout.specs.Words.{frame_count};
 ghost use Rattle.bl_store_rule.specs.Pages.{Releases, ReleasesMany};
 ghost use Rattle.bl_store.specs.Hands.{known, IsSameHand, IsSameReading, IsSameStamp, IsSameStock};
 ghost use Rattle.bl_store_rule.specs.declared.view.Sweep.TheVariants.{Over};
 
-use crate::store::{Hand, RING, Store};
+use crate::store::{Hand, Store};
+use bl_room::{OWNERS_A_SWEEP, RING};
 use bl_store_rule::plays::{Free, Horizon, Pass, Release};
 use bl_store_rule::{PageRule, SweepPlay};
 use std::alloc::Allocator;
-
-/// How many owner words a sweep looks at, or all where there are fewer.
-pub(crate) const OWNERS_A_SWEEP: u32 = 64;
 
 /// The number that lies so many behind another one, where the last is followed by 0. A remainder takes longer.
 #[inline(always)]
@@ -24,38 +22,6 @@ fn behind(first: u32, steps: u32, many: u32) -> u32
         first + steps
     } else {
         first + steps - many
-    }
-}
-
-impl<D> Hand<D> {
-    // It keeps a page in sight that it has retired. Where it has no room for it, sweeps over all owner words find it again.
-    pub(crate) fn note_gone(&mut self, page: u32)
-        ensures same { self.new.seat ≡ self.old.seat }
-    {
-        if self.leaving < RING as u32 {
-            self.gone[self.leaving as usize] = page;
-            self.leaving += 1;
-        }
-    }
-
-    // Takes the page out of sight that it has retired last.
-    fn take_gone(&mut self) -> Option<u32>
-        ensures same { self.new.seat ≡ self.old.seat }
-    {
-        if self.leaving == 0 || self.leaving > RING as u32 {
-            return None;
-        }
-        self.leaving -= 1;
-        Some(self.gone[self.leaving as usize])
-    }
-
-    // A sweep that went from no page of its own leads the next such one on.
-    fn go_on_from(&mut self, page: Option<u32>, owner: u32)
-        ensures same { self.new.seat ≡ self.old.seat }
-    {
-        if page.is_none() {
-            self.owner = owner;
-        }
     }
 }
 
@@ -91,11 +57,10 @@ impl<D, R: PageRule<D>, A: Allocator> Store<D, R, A> {
         ensures observed { (pages : ℕ) × (pages ≤ result) × M.then (known hand.old.seat) pages (known hand.new.seat) }
         ensures count { hand.new.seat.me.0.releases ≡ hand.old.seat.me.0.releases + result }
     {
-        hand.owed = hand.owed.saturating_sub(1);
         let owners = self.layout.pages + self.layout.frames();
         let looks = owners.min(OWNERS_A_SWEEP);
-        let mine = hand.take_gone();
-        let first = mine.unwrap_or(hand.owner) % owners;
+        let mine = hand.sight.begin_sweep();
+        let first = mine.unwrap_or(hand.sight.owner()) % owners;
         let mut states = [0u64; OWNERS_A_SWEEP as usize];
         let mut any = false;
         for i in 0..looks {
@@ -107,7 +72,7 @@ impl<D, R: PageRule<D>, A: Allocator> Store<D, R, A> {
                 any = true;
             }
         }
-        hand.go_on_from(mine, behind(first, looks, owners));
+        hand.sight.go_on_from(mine, behind(first, looks, owners));
         if !any {
             return 0;
         }
@@ -137,7 +102,7 @@ impl<D, R: PageRule<D>, A: Allocator> Store<D, R, A> {
             return;
         }
         if self.table.shared.peek(self.layout.page_owner_cell(page)) % 4 == 3 {
-            hand.note_gone(page);
+            hand.sight.note_gone(page);
         }
     }
 
@@ -165,21 +130,20 @@ impl<D, R: PageRule<D>, A: Allocator> Store<D, R, A> {
         oldest
     }
 
-    // Releases those of the frames in the ring that no process can read any more, and keeps the others.
+    /// Releases those of the frames in sight that no process can read any more, and keeps the others there.
     #[inline(never)]
-    pub(crate) fn recycle(&self, hand: &mut Hand<D>)
+    pub fn recycle(&self, hand: &mut Hand<D>)
         requires own { IsHandOf self.now hand.old }
         ensures same { IsSameHand hand.old.seat hand.new.seat × IsSameStamp hand.old.seat hand.new.seat × IsSameStock hand.old.seat hand.new.seat
             × (known hand.new.seat ≡ known hand.old.seat) }
         ensures reads { IsSameReading hand.old.seat hand.new.seat }
     {
-        hand.untried = 0;
+        let many = hand.sight.begin_recycling();
         let oldest = self.oldest(hand);
         let total = self.layout.frames();
-        let many = hand.waiting.min(RING as u32);
         let mut kept = 0u32;
         for i in 0..many {
-            let frame = hand.retired[i as usize];
+            let frame = hand.sight.retired(i);
             if frame >= total {
                 continue;
             }
@@ -191,11 +155,11 @@ impl<D, R: PageRule<D>, A: Allocator> Store<D, R, A> {
             if state / 4 < oldest {
                 self.release_frame(hand, frame, state, oldest, RING as u32);
             } else {
-                hand.retired[kept as usize] = frame;
+                hand.sight.keep_retired(kept, frame);
                 kept += 1;
             }
         }
-        hand.waiting = kept;
+        hand.sight.end_recycling(kept);
     }
 
     // Releases a frame, where it is still in that state of retirement. The hand keeps it in sight, where it has fewer than so many there.
@@ -213,7 +177,7 @@ impl<D, R: PageRule<D>, A: Allocator> Store<D, R, A> {
         requires swept { hand.old.seat.me.0.sweep ≡ Over oldest self.now.layout.passes }
         ensures same { IsSameHand hand.old.seat hand.new.seat × IsSameStamp hand.old.seat hand.new.seat × IsSameStock hand.old.seat hand.new.seat
             × (known hand.new.seat ≡ known hand.old.seat) × (hand.new.seat.me.0.sweep ≡ hand.old.seat.me.0.sweep) }
-        ensures kept { (hand.new.retired ≡ hand.old.retired) × (hand.new.waiting ≡ hand.old.waiting) }
+        ensures kept { (hand.new.sight.retired ≡ hand.old.sight.retired) × (hand.new.sight.waiting ≡ hand.old.sight.waiting) }
         ensures reads { IsSameReading hand.old.seat hand.new.seat }
         ensures yes { result ≡ true → hand.new.seat.me.0.releases ≡ hand.old.seat.me.0.releases + 1 }
         ensures no { result ≡ false → hand.new.seat.me.0.releases ≡ hand.old.seat.me.0.releases }
@@ -226,10 +190,7 @@ impl<D, R: PageRule<D>, A: Allocator> Store<D, R, A> {
         if found != state {
             return false;
         }
-        if hand.ready < most.min(RING as u32) {
-            hand.released[hand.ready as usize] = frame;
-            hand.ready += 1;
-        }
+        hand.sight.note_released(frame, most);
         true
     }
 
@@ -258,12 +219,12 @@ impl<D, R: PageRule<D>, A: Allocator> Store<D, R, A> {
             self.room.note_released(at);
             return true;
         }
-        self.release_frame(hand, at - self.layout.pages, state, oldest, self.sight())
+        self.release_frame(hand, at - self.layout.pages, state, oldest, self.most_in_sight())
     }
 
     // How many frames a hand has in sight at most where it takes one there that another hand has retired, as those of a sweep mostly are.
     // Another processor has their words at hand, which costs more than the way to a free frame, but in a large store.
-    fn sight(&self) -> u32 {
+    fn most_in_sight(&self) -> u32 {
         if self.layout.is_large() {
             RING as u32
         } else {

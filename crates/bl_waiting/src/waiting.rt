@@ -20,6 +20,7 @@ impl Waiting {
     ghost use Rattle.std.specs.Prelude.{◌==◌, ◌↔◌, [], length};
     ghost use Rattle.bl_waiting.specs.Queue.{hints_of, IsNone, IsKept, IsTaken};
 
+    /// No hint waits.
     pub fn new() -> Waiting
         ensures { IsNone result }
     {

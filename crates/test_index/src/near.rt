@@ -16,7 +16,7 @@ fn is_found(index: &Index, pass: &mut Pass, key: u64, near: Option<u32>, turns: 
 }
 
 // Any page will do: the leaf itself, one to its left, one to its right, the parent, the anchor, one that is not in use, one that there
-// is not, and none.
+// is not, and none. The last number says how many pages it takes.
 #[test]
 fn a_search_begins_at_any_page(rt: HostRuntime) -> Result<(), Fail> {
     let (index, mut pass, _second, _third) = opened(rt.alloc()).ok_or("no index")?;

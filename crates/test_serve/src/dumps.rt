@@ -161,7 +161,7 @@ fn is_split(alloc: Global, bytes: &[u8]) -> Result<bool, Fail> {
     Ok(bytes == wanted.as_slice())
 }
 
-/// A dump of a server that begins with an empty index.
+/// What a server of an empty index writes for these lines, and the bytes of the image that it leaves.
 fn dumped_empty<R: Threads + Wait + Sync>(
     rt: &R,
     alloc: Global,

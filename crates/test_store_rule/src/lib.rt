@@ -13,7 +13,8 @@ ghost use Rattle.bl_store.specs.Hands.{known, IsOf, IsIdle, IsRunning, IsSameHan
 ghost use Rattle.bl_store_rule.specs.Pages.{Pages};
 ghost use Rattle.test_store_rule.specs.Holding.{AllSame, Fits, IsApart, IsFresh, holding, same_apart, same_at_time, saw, took, tried, lost, lost_at_time, same_after};
 
-use bl_store::{Glance, Hand, NoRoom, Stock, Store};
+use bl_reserve::NoRoom;
+use bl_store::{Glance, Hand, Stock, Store};
 use bl_store_rule::{MeetPlay, PagePlay, PageRule, SweepPlay, TimePlay};
 use std::alloc::{AllocError, Global};
 
@@ -227,7 +228,7 @@ pub fn reserve(
         × (known hand.new.seat ≡ holding (Some x))) }
     ensures refused { IfErr result (λ _. HasNoStock hand.new.seat × (known hand.new.seat ≡ known hand.old.seat)) }
 {
-    store.reserve::<Took, Still>(hand, pages, frames)
+    bl_reserve::reserve::<_, _, _, Took, Still>(store, hand, pages, frames)
 }
 
 /// Gives the page that the hand holds one word, 32 times.

@@ -1,6 +1,7 @@
-//! How much room a store has and where.
+//! How much room a store has and where, and what a hand keeps in sight.
 
-use bl_room::{Room, is_all_zeros};
+use bl_layout::Layout;
+use bl_room::{Room, Sight, is_all_zeros};
 use std::test::Fail;
 
 // Of 5,000 pages the first three have words, and all others are free. Pages 0 to 4,095 are counted together, and so are those behind them.
@@ -51,6 +52,60 @@ fn walks_tell_that_there_is_none(rt: HostRuntime) -> Result<(), Fail> {
     room.note_change();
     assert!(rt; !room.has_none());
     Ok(())
+}
+
+// Two hands want six free pages. With two free ones pages are scarce, and with four retired ones they are not for long; with one free page
+// not each hand finds one.
+#[test]
+fn pages_are_scarce(rt: HostRuntime) -> Result<(), Fail> {
+    let room = Room::new(rt.alloc(), 5, 2, &[[1; 32]; 3])?;
+    assert!(rt; room.lacks_pages() && !room.is_freeing_enough() && !room.is_short_of_pages());
+    for _ in 0..4 {
+        room.note_retired();
+    }
+    assert!(rt; room.is_freeing_enough());
+    room.note_taken(3);
+    assert!(rt; room.is_short_of_pages());
+    Ok(())
+}
+
+// 100 pages and two hands have 216 frames, and 316 owners. In a large store each hand begins with 1,024 frames of its own.
+#[test]
+fn hands_begin_apart(rt: HostRuntime) {
+    let second = Sight::of(1, Layout::of(100, 2));
+    assert!(rt; second.frame() == 108 && second.owner() == 158);
+    let third = Sight::of(2, Layout::of(70_000, 4));
+    assert!(rt; third.frame() == 2_048);
+}
+
+// Frame 7 is retired and released, and taken again. With few frames to spare a sweep is due after each put.
+#[test]
+fn retired_frames_stay_in_sight(rt: HostRuntime) {
+    let mut sight = Sight::of(0, Layout::of(100, 2));
+    sight.note_retired(7, 1, Layout::of(100, 2));
+    assert!(rt; sight.puts() == 1 && sight.is_due(1) && !sight.is_to_recycle(1));
+    assert!(rt; sight.begin_recycling() == 1 && sight.retired(0) == 7);
+    sight.keep_retired(0, 8);
+    assert!(rt; sight.retired(0) == 8);
+    sight.end_recycling(0);
+    sight.note_released(7, 128);
+    assert!(rt; sight.has_released(1) && sight.ready() == 1 && sight.released(0) == 7);
+    assert!(rt; sight.take_released() == Some(7) && sight.take_released().is_none());
+    sight.go_on_at(9);
+    assert!(rt; sight.frame() == 9 && sight.begin_recycling() == 0);
+}
+
+// Page 9 is retired. The first sweep goes from it, and leads the next one nowhere; the second has no such page, and leads it on.
+#[test]
+fn sweeps_go_on(rt: HostRuntime) {
+    let mut sight = Sight::of(0, Layout::of(100, 2));
+    sight.note_gone(9);
+    let first = sight.begin_sweep();
+    sight.go_on_from(first, 73);
+    assert!(rt; first == Some(9) && sight.owner() == 0 && !sight.is_due(0));
+    let second = sight.begin_sweep();
+    sight.go_on_from(second, 64);
+    assert!(rt; second.is_none() && sight.owner() == 64);
 }
 
 #[test]

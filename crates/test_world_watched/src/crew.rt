@@ -258,8 +258,8 @@ impl Crew {
         true
     }
 
-    /// Who latches a page holds none, or compresses and holds two at most, or takes the top level away and holds the anchor at
-    /// most.
+    /// A plain law, beside what is proved by kind: who latches a page holds none, or compresses and holds two at most, or takes the top
+    /// level away and holds the anchor at most.
     pub fn latches(&self, number: usize, before: &[Owner]) -> Result<(), Law> {
         let held = held_by(number, before);
         for running in self.list.as_slice() {

@@ -2,7 +2,7 @@ use Rattle.std.proofs.Common.{◌≡◌, ℕ, ◌+◌, ◌*◌, length, take, dr
 use Rattle.std.specs.List.{AllByRecursion}
 use Rattle.std.proofs.lemmas.Bool.{cases_eq}
 use Rattle.std.proofs.lemmas.List.{length_push}
-use Rattle.bl_image.specs.Images.{ArePage, NamesBelow, AreWithin, bound_of, Fits64, page_words, chunk}
+use Rattle.bl_image.specs.Images.{ArePage, NamesBelow, bound_of, Fits64, page_words, chunk}
 use Rattle.bl_image.proofs.Chunks.{fit_more, below_more, bytes_more, image_is}
 use Rattle.bl_image.proofs.reading.pages_in.Goals as goal
 

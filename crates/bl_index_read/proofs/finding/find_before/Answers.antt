@@ -1,4 +1,4 @@
-use Rattle.std.proofs.Common.{rules, ℕ, ◌≡◌, ◌∙◌, List, sym, subst}
+use Rattle.std.proofs.Common.{rules, ℕ, ◌∙◌, List, sym, subst}
 use Rattle.bl_model.specs.declared.operation.Op.TheVariants as op
 use Rattle.bl_model.specs.declared.operation.Reply.{Reply}
 use Rattle.bl_proc_invariant.specs.Knowing.{found_reply}

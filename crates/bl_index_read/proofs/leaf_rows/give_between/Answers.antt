@@ -1,4 +1,4 @@
-use Rattle.std.proofs.Common.{ℕ, ◌≡◌, ◌+◌, ◌-◌, ◌*◌, ◌<◌, List, [], ◌∷◌, get_or, take, drop, refl, sym, subst, ap, ◌∙◌, arith}
+use Rattle.std.proofs.Common.{ℕ, ◌≡◌, ◌+◌, ◌-◌, ◌*◌, ◌<◌, get_or, take, drop, refl, sym, subst, ap, ◌∙◌, arith}
 use Rattle.bl_page.specs.Faults.{pairs_of, count_in}
 use Rattle.bl_index_read.proofs.Picked.{count_is}
 use Rattle.bl_index_read.proofs.Given.{given_more}

@@ -12,13 +12,13 @@ use Rattle.bl_index_write.proofs.climbing.climb.Goals as goal
 
 pub loop-init : goal.loop-init
 loop-init g c =
-    let k = c.args.climber in let runs = c.requires.runs in
+    let k = c.args.insertion in let runs = c.requires.runs in
     record {
       same = (refl, refl, refl);
       empty = c.requires.empty;
       least = omega arith;
       most = omega arith;
-      stands = (omega arith, omega arith, subst (λ (z : Proc). Runs c.args.tree.now c.args.hand.now z) (goes_with k.key k.placing k.path runs.0 c.args.separator _ tt refl refl (ap (λ (a : Approach). post.Coming a) c.way-from.ensures)) runs.1);
+      stands = (omega arith, omega arith, subst (λ (z : Proc). Runs c.args.tree.now c.args.hand.now z) (goes_with k.key k.placing c.args.path runs.0 c.args.separator _ tt refl refl (ap (λ (a : Approach). post.Coming a) c.way-from.ensures)) runs.1);
       free = subst (λ (a : Approach). HoldsNone a) (sym c.way-from.ensures) (from_free _);
       since = λ pass old since. since;
     }
@@ -26,7 +26,7 @@ loop-init g c =
 pub reach-requires-clause-runs : goal.reach-requires-clause-runs
 reach-requires-clause-runs g c =
     let s = c.loop.invariant.stands in
-    subst (λ (z : Proc). Runs c.args.tree.now c.loop.hand z) (posting_alike c.args.climber.key c.args.climber.placing c.loop.level c.loop.separator c.loop.path s.0 _ s.1 _ c.loop.from) s.2
+    subst (λ (z : Proc). Runs c.args.tree.now c.loop.hand z) (posting_alike c.args.insertion.key c.args.insertion.placing c.loop.level c.loop.separator c.loop.path s.0 _ s.1 _ c.loop.from) s.2
 
 pub loop-preserved-in_default : goal.loop-preserved-in_default
 loop-preserved-in_default g c =
@@ -44,12 +44,12 @@ loop-preserved-in_default g c =
 
 pub returns-in_default-split_by-clause-over : goal.returns-in_default-split_by-clause-over
 returns-in_default-split_by-clause-over g c =
-    climb_since c.args.climber.key c.args.climber.placing (known c.args.hand.now.seat) (known c.post_there.new.hand.seat) c.end_climb.new.hand.seat _ _ _
+    climb_since c.args.insertion.key c.args.insertion.placing (known c.args.hand.now.seat) (known c.post_there.new.hand.seat) c.end_climb.new.hand.seat _ _ _
     (same_all _ _ _ c.loop.invariant.since (same_all _ _ _ c.reach.ensures.since c.post_there.ensures.since)) c.end_climb.ensures.over
 
 pub loop-preserved-in-Parent : goal.loop-preserved-in-Parent
 loop-preserved-in-Parent g c =
-    let left = c.post_there.ensures in let k = c.args.climber in let level = c.loop.level in
+    let left = c.post_there.ensures in let k = c.args.insertion in let level = c.loop.level in
     let one = c.loop.invariant.same in let two = c.reach.ensures.same.0 in let three = left.same in
     let went = leaves_opened _ _ _ _ _ _ _ _ _ left (c.in-Some-post_there.is ∙ ap Some c.in-Some-split_by.ensures) in
     let below : level < 12 = went.0 in
@@ -86,5 +86,5 @@ climb_above-requires-clause-since g c = (let begun = c.requires.since in (begun.
 
 pub returns-in-NoLevel-clause-over : goal.returns-in-NoLevel-clause-over
 returns-in-NoLevel-clause-over g c =
-    climb_since c.args.climber.key c.args.climber.placing (known c.args.hand.now.seat) (known c.reach.new.hand.seat) c.climb_above.new.hand.seat _ _ _
+    climb_since c.args.insertion.key c.args.insertion.placing (known c.args.hand.now.seat) (known c.reach.new.hand.seat) c.climb_above.new.hand.seat _ _ _
     (same_all _ _ _ c.loop.invariant.since c.reach.ensures.since) c.climb_above.ensures.over

@@ -12,7 +12,7 @@ invariant-loop g l = record {
   empty : HasNoStock l.hand.seat;
   least : 0 < l.level;
   most : l.level ≤ 12;
-  stands : (first : 0 < l.level) × (last : l.level ≤ 12) × Runs l.tree l.hand (climb_posting l.fn.climber.key l.fn.climber.placing l.level l.separator first last l.path (post.Coming l.from) tt tt);
+  stands : (first : 0 < l.level) × (last : l.level ≤ 12) × Runs l.tree l.hand (climb_posting l.fn.insertion.key l.fn.insertion.placing l.level l.separator first last l.path (post.Coming l.from) tt tt);
   free : HoldsNone l.from;
   since : IsSameProcess (known l.fn.hand.seat) (known l.hand.seat);
 }

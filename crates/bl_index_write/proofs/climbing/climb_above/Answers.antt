@@ -47,7 +47,7 @@ climbed-requires g c =
     let j = c.args.rising.now in let anchor = c.requires.anchor in let begun = c.requires.since in let q = c.carry_on-process.result in
     let takes = c.took_words.ensures.takes anchor.page anchor.is in
     let since = subst (λ (h : Hand PassState). IsSince begun.0 begun.1 (known h.seat)) (sym c.took_words.ensures.same) begun.2 in
-    has_answer q j.key j.placing _ (ended _ _ _ _ q j.key j.placing (c.carry_on-process.ensures.done begun.0 begun.1 since) (λ i. Some (write_op (takes.0 i) (write_of (takes.1 i))))) c.answer.ensures
+    has_answer q j.insertion.key j.insertion.placing _ (ended _ _ _ _ q j.insertion.key j.insertion.placing (c.carry_on-process.ensures.done begun.0 begun.1 since) (λ i. Some (write_op (takes.0 i) (write_of (takes.1 i))))) c.answer.ensures
 
 pub returns-clause-over : goal.returns-clause-over
 returns-clause-over g c =
@@ -56,8 +56,8 @@ returns-clause-over g c =
     let takes = c.took_words.ensures.takes anchor.page anchor.is in
     let same = sym c.took_words.ensures.same in
     let since = subst (λ (z : Hand PassState). IsSince begun.0 begun.1 (known z.seat)) same begun.2 in
-    let inserts : Some (write_op c.took_words.new.self.key (write_of c.took_words.new.self.placing)) ≡ Some (write_op j.key (write_of j.placing)) = λ i. Some (write_op (takes.0 i) (write_of (takes.1 i))) in
-    let is = ended _ _ _ _ q j.key j.placing (out.done begun.0 begun.1 since) inserts in
+    let inserts : Some (write_op c.took_words.new.self.key (write_of c.took_words.new.self.placing)) ≡ Some (write_op j.insertion.key (write_of j.insertion.placing)) = λ i. Some (write_op (takes.0 i) (write_of (takes.1 i))) in
+    let is = ended _ _ _ _ q j.insertion.key j.insertion.placing (out.done begun.0 begun.1 since) inserts in
     let told : climb_answer_in q.placing q.stage ≡ Some (Answered said last left) = sym c.answer.ensures ∙ c.climbed.ensures in
     record {
       rests = out.rests;
@@ -71,11 +71,11 @@ returns-clause-over g c =
       };
       no_room = λ none.
           let answer : climb_answer_in q.placing q.stage ≡ Some (Answered reply.NoRoom last left) = told ∙ ap (λ z. Some (Answered z last left)) none in
-          subst (λ (z : ℕ × Placing). LacksWrite z.0 (write_of z.1) h) (λ i. (is.key_is i, is.placing_is i)) (no_room_page h q.key q.placing is.end last left (said_by q j.key j.placing _ is answer) (lacks_climb h q is.end is.stage (out.no_room _ answer tt)));
+          subst (λ (z : ℕ × Placing). LacksWrite z.0 (write_of z.1) h) (λ i. (is.key_is i, is.placing_is i)) (no_room_page h q.key q.placing is.end last left (said_by q j.insertion.key j.insertion.placing _ is answer) (lacks_climb h q is.end is.stage (out.no_room _ answer tt)));
       entered = λ level separator there.
-          (left_post h q.key q.placing is.end said last level separator (said_by q j.key j.placing _ is (told ∙ ap (λ z. Some (Answered said last z)) there))).said_is;
+          (left_post h q.key q.placing is.end said last level separator (said_by q j.insertion.key j.insertion.placing _ is (told ∙ ap (λ z. Some (Answered said last z)) there))).said_is;
       lacks = λ level separator there.
-          let is_left = left_post h q.key q.placing is.end said last level separator (said_by q j.key j.placing _ is (told ∙ ap (λ z. Some (Answered said last z)) there)) in
+          let is_left = left_post h q.key q.placing is.end said last level separator (said_by q j.insertion.key j.insertion.placing _ is (told ∙ ap (λ z. Some (Answered said last z)) there)) in
           let answer : climb_answer_in q.placing q.stage ≡ Some (Answered reply.Inserted (Some posted.NoRoom) (Some (hint.Post level separator))) = told ∙ (λ i. Some (Answered (is_left.said_is i) (is_left.last_is i) (there i))) in
           is_left.lacks (lacks_climb h q is.end is.stage (out.no_room _ answer tt));
     }

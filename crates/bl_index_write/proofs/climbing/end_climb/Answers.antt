@@ -15,7 +15,7 @@ conclude-requires c =
     let j = c.args.rising.now in let r = c.args.reply in let runs = c.requires.process.1 in
     record {
       runs = record { own = runs.own; running = runs.running; on = on_itself _ _ _ runs.on };
-      ends = (_, ends_climb j.key j.placing c.args.path.now (climbed.Posted j.level j.separator r) _ (runs.on.state ∙ rose_last j c.args.path.now r c.requires.process.0 c.requires.last));
+      ends = (_, ends_climb j.insertion.key j.insertion.placing c.args.path.now (climbed.Posted j.level j.separator r) _ (runs.on.state ∙ rose_last j c.args.path.now r c.requires.process.0 c.requires.last));
     }
 
 pub returns-clause-over : goal.returns-clause-over
@@ -26,10 +26,10 @@ returns-clause-over c =
       rests = c.conclude.ensures.rests;
       empty = c.conclude.ensures.same.1.0 ∙ c.requires.empty;
       is_climbed = λ pass old since. record {
-        first = climbing j.key j.placing path (climb.Ending (climbed.Posted j.level j.separator r)) tt;
+        first = climbing j.insertion.key j.insertion.placing path (climb.Ending (climbed.Posted j.level j.separator r)) tt;
         op_is = refl;
-        over = record { key = j.key; placing = j.placing; path = path; stage = climb.Over (climbed.Posted j.level j.separator r); stands = tt };
-        done = c.conclude.ensures.done pass old _ _ since (ends_climb j.key j.placing path (climbed.Posted j.level j.separator r) _ is) (ap op_of is) (ap work_of is);
+        over = record { key = j.insertion.key; placing = j.insertion.placing; path = path; stage = climb.Over (climbed.Posted j.level j.separator r); stands = tt };
+        done = c.conclude.ensures.done pass old _ _ since (ends_climb j.insertion.key j.insertion.placing path (climbed.Posted j.level j.separator r) _ is) (ap op_of is) (ap work_of is);
         answer = (λ i. Some (Answered reply.Inserted (sym c.last_posted-posted.ensures.0 i) (sym c.last_posted-posted.ensures.1 i)));
       };
       no_room = λ e. absurd (let f : reply.Inserted ≡ reply.NoRoom = e in cc);

@@ -1,4 +1,4 @@
-use Rattle.std.proofs.Common.{rules, ◌≤◌, [], arith}
+use Rattle.std.proofs.Common.{rules, [], arith}
 use Rattle.bl_map_calls.proofs.Scanning.{searched_none, searched_lost}
 use Rattle.bl_map_calls.proofs.Looking.{counted_on, counted_all, counted_up_to}
 use Rattle.bl_map_calls.proofs.counting.count.Goals as goal

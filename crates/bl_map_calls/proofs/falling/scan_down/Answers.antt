@@ -1,4 +1,4 @@
-use Rattle.std.proofs.Common.{rules, ◌++◌, Some, [], Result, sym, subst, ◌∙◌, arith}
+use Rattle.std.proofs.Common.{rules, ◌++◌, [], Result, sym, subst, ◌∙◌, arith}
 use Rattle.std.proofs.lemmas.Result.{err_from_is_err_and}
 use Rattle.std.specs.declared.alloc.AllocError.{AllocError}
 use Rattle.bl_index.specs.Calls.{first_of, pages_of, number_of, trail}

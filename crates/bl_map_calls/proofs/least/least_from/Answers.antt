@@ -1,4 +1,4 @@
-use Rattle.std.proofs.Common.{rules, ◌≤◌, arith}
+use Rattle.std.proofs.Common.{rules, arith}
 use Rattle.bl_map_calls.proofs.Scanning.{searched_none, searched_lost}
 use Rattle.bl_map_calls.proofs.Looking.{row_there, none_there, none_yet}
 use Rattle.bl_map_calls.proofs.least.least_from.Goals as goal

@@ -1,4 +1,4 @@
-use Rattle.std.proofs.Common.{◌≡◌, ℕ, length, reverse, ap, ◌∙◌, arith}
+use Rattle.std.proofs.Common.{◌≡◌, length, reverse, ap, ◌∙◌, arith}
 use Rattle.std.proofs.lemmas.Grind.{common_steps}
 use Rattle.std.proofs.lemmas.List.{get_or-reverse, length-reverse, length-take-le}
 use Rattle.bl_model.proofs.plain.part_down.Goals as goal

@@ -1,5 +1,4 @@
 use Rattle.std.proofs.Common.{◌≡◌, ℕ, ◌+◌, ◌-◌, ◌<◌, ◌≤◌, List, [], ◌∷◌, ◌++◌, length, refl, ap, sym, subst, length-append, arith}
-use Rattle.std.specs.Io.KnownBytes.{Consumes}
 use Rattle.bl_model.specs.Rows.{key_at, HasRisingKeys}
 use Rattle.bl_serve_lines.proofs.Known.{consumes_next}
 use Rattle.bl_row_lines.specs.RowLines.{rows_text, IsAbove, BeginsBelow}

@@ -1,4 +1,4 @@
-use Rattle.std.proofs.Common.{◌≡◌, ◌++◌, ◌∷◌, sym, subst, ◌∙◌, arith}
+use Rattle.std.proofs.Common.{◌≡◌, sym, subst, ◌∙◌, arith}
 use Rattle.std.proofs.lemmas.List.{take_all}
 use Rattle.bl_row_lines.proofs.Endings.{long_bad, rest_bad, senseless, row_read}
 use Rattle.bl_row_lines.proofs.row.read_row.Goals as goal

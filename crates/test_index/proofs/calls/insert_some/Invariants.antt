@@ -1,4 +1,4 @@
-use Rattle.std.proofs.Common.{◌≡◌, ◌+◌, ◌≤◌}
+use Rattle.std.proofs.Common.{◌+◌, ◌≤◌}
 use Rattle.bl_index.specs.Calls.{IsPassOf}
 use Rattle.test_index.proofs.calls.insert_some.Given as goal
 

@@ -2,8 +2,7 @@ use Rattle.std.proofs.Common.{rules, arith, ◌≡◌, ℕ, ◌-◌, List, lengt
 use Rattle.bl_store.specs.Drafts.{draft_words, first_words, behind_first}
 use Rattle.bl_store_rule.specs.Pages.{Held, Puts}
 use Rattle.bl_store.specs.Hands.{drafts}
-use Rattle.bl_store.proofs.StockLemmas.{drafts_pop}
-use Rattle.bl_store.proofs.Written.{has_draft, stock_after}
+use Rattle.bl_store.proofs.Written.{drafts_pop, has_draft, stock_after}
 use Rattle.bl_store.proofs.store.Store.put.Goals as goal
 
 pub name_frame-requires-clause-draft : goal.name_frame-requires-clause-draft

@@ -2,8 +2,7 @@ use Rattle.std.proofs.Common.{arith, ◌≡◌, ℕ, ◌-◌, List, [], get_or, 
 use Rattle.bl_store.specs.Drafts.{draft_words, behind_first}
 use Rattle.bl_store_rule.specs.Pages.{Held, Puts}
 use Rattle.bl_store.specs.Hands.{drafts}
-use Rattle.bl_store.proofs.StockLemmas.{drafts_pop}
-use Rattle.bl_store.proofs.Written.{has_draft, stock_after, splice_one}
+use Rattle.bl_store.proofs.Written.{drafts_pop, has_draft, stock_after, splice_one}
 use Rattle.bl_store.proofs.store.Store.put_splice.Goals as goal
 
 pub write_splice-requires-clause-draft : goal.write_splice-requires-clause-draft

@@ -1,0 +1,152 @@
+//! Whether frames are scarce. All of it is a hint, of which nothing is promised: others take and release meanwhile.
+
+ghost use Rattle.std.specs.Prelude.{◌≤◌};
+ghost use Rattle.bl_layout.specs.Words.{frame_count};
+
+use bl_store::{Hand, Store};
+use bl_store_rule::PageRule;
+use std::alloc::Allocator;
+
+/// How many frames a reservation asks for at most.
+const MOST: u32 = 3;
+
+/// So many frames a process may take from its begin to its end: an insertion takes one or two for its leaf, and as many for each level to
+/// which it posts. The layout has so many to spare for each hand beside those of pages.
+const FRAMES_A_HAND: u32 = 8;
+
+/// So many puts a hand makes at most between two looks for frames.
+const PUTS_A_LOOK: u32 = 64;
+
+/// With so many frames to spare for each hand they are ample: the rings of all hands are full before frames are scarce. With fewer some find
+/// frames in their rings, and take them, which others have counted.
+const AMPLE: u32 = 1_024;
+
+/// Whether a process that begins now may find too few frames while some wait to be released: fewer are free than all hands together
+/// may take before they look again, and some are retired. So whoever has looked finds what it takes, though it loses its processor
+/// and others go on meanwhile. It looks at the frames that the hand would try first, and no further than it has to; a hand that has
+/// seen enough looks again some puts later. It is a hint of which nothing is promised: others reserve and release meanwhile.
+pub fn lacks_frames<D, R: PageRule<D>, A: Allocator>(
+    store: &Store<D, R, A>,
+    hand: &Hand<D>,
+) -> bool {
+    if !store.room.is_to_look(hand.number, hand.sight.puts()) || has_ready(store, hand) {
+        return false;
+    }
+    let puts = puts_a_look(store);
+    let (free, retired) = look_around(store, hand, (FRAMES_A_HAND + puts) * store.layout.passes);
+    if free < (FRAMES_A_HAND + puts) * store.layout.passes {
+        return retired;
+    }
+    store.room.note_looked(
+        hand.number,
+        hand.sight.puts().saturating_add(u64::from(puts)),
+    );
+    false
+}
+
+// How many puts a hand makes between two looks. All hands together may take so many frames, and are to see them free: so it is what half
+// of the frames to spare is for each. Where frames are ample the ring of a hand mostly tells enough, and those in use lie close
+// together, so that a look for many would go over thousands.
+fn puts_a_look<D, R: PageRule<D>, A: Allocator>(store: &Store<D, R, A>) -> u32
+    ensures { result ≤ 64 }
+{
+    if is_ample(store) {
+        return 0;
+    }
+    let half = store.layout.spare / 2 / store.layout.passes;
+    half.saturating_sub(FRAMES_A_HAND).min(PUTS_A_LOOK)
+}
+
+// How many frames are free, so many at most, from those that the hand would try first on and around; and whether one that it looked at
+// is retired.
+fn look_around<D, R: PageRule<D>, A: Allocator>(
+    store: &Store<D, R, A>,
+    hand: &Hand<D>,
+    most: u32,
+) -> (u32, bool)
+    ensures few { result.0 ≤ most }
+{
+    let total = store.layout.frames();
+    let first = hand.sight.frame().min(total);
+    let (free, retired) = look_over(store, first, total, most);
+    let (more, others) = look_over(store, 0, first, most - free);
+    (free + more, retired || others)
+}
+
+/// Whether a reservation that begins now finds its frames, as far as is seen. It is a hint as well.
+///
+/// Where frames are ample a hand that has released as many as a reservation asks for is taken at its word: to look whether others have
+/// taken them would cost each change, and such a look is a hint at best.
+#[inline(always)]
+pub fn finds_frames<D, R: PageRule<D>, A: Allocator>(
+    store: &Store<D, R, A>,
+    hand: &Hand<D>,
+) -> bool {
+    (hand.sight.has_released(MOST) && is_ample(store)) || sees_frames(store, hand)
+}
+
+// Whether so many frames are to spare that those which a hand has released stand for all.
+#[inline(always)]
+fn is_ample<D, R: PageRule<D>, A: Allocator>(store: &Store<D, R, A>) -> bool {
+    store.layout.spare / AMPLE >= store.layout.passes
+}
+
+// Whether as many frames are free as a reservation asks for at most, from those that the hand would try first on.
+fn sees_frames<D, R: PageRule<D>, A: Allocator>(store: &Store<D, R, A>, hand: &Hand<D>) -> bool {
+    look_around(store, hand, MOST).0 >= MOST
+}
+
+// Whether frames are ample, and the hand has released as many as a reservation asks for, of which nobody has taken those that it would
+// try first.
+fn has_ready<D, R: PageRule<D>, A: Allocator>(store: &Store<D, R, A>, hand: &Hand<D>) -> bool {
+    let ready = hand.sight.ready();
+    if ready < MOST || !is_ample(store) {
+        return false;
+    }
+    for place in ready - MOST..ready {
+        if !is_free(store, hand.sight.released(place)) {
+            return false;
+        }
+    }
+    true
+}
+
+// Whether the number is that of a free frame.
+fn is_free<D, R: PageRule<D>, A: Allocator>(store: &Store<D, R, A>, frame: u32) -> bool {
+    if frame >= store.layout.frames() {
+        return false;
+    }
+    store
+        .table
+        .shared
+        .peek(store.layout.frame_owner_cell(frame))
+        == 0
+}
+
+// How many of the frames of a range are free, so many at most, and whether one that it looked at is retired.
+pub(crate) fn look_over<D, R: PageRule<D>, A: Allocator>(
+    store: &Store<D, R, A>,
+    from: u32,
+    to: u32,
+    wanted: u32,
+) -> (u32, bool)
+    requires range { (from ≤ to) × (to ≤ frame_count store.now.layout) }
+    ensures few { result.0 ≤ wanted }
+{
+    let mut free = 0;
+    let mut retired = false;
+    for frame in from..to {
+        if free == wanted {
+            return (free, retired);
+        }
+        let state = store
+            .table
+            .shared
+            .peek(store.layout.frame_owner_cell(frame));
+        if state == 0 {
+            free += 1;
+        }
+        retired = retired || state % 4 == 3;
+    }
+    (free, retired)
+}

@@ -1,4 +1,0 @@
-use Rattle.bl_store.proofs.store.Store.reserve.Given as goal
-
-abbrev pub ghosts-refuse : goal.ghosts-refuse
-ghosts-refuse g a = record { pages = a.pages; frames = a.frames }
