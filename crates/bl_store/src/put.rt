@@ -283,7 +283,6 @@ impl<D, R: PageRule<D>, A: Allocator> Store<D, R, A> {
             .shared
             .store::<Settle>(&mut hand.seat, at, retired_at(time));
         hand.unswept = hand.unswept.saturating_add(1);
-        hand.sight
-            .note_retired(frame, hand.unswept, self.layout);
+        hand.sight.note_retired(frame, hand.unswept, self.layout);
     }
 }

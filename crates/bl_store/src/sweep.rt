@@ -219,7 +219,13 @@ impl<D, R: PageRule<D>, A: Allocator> Store<D, R, A> {
             self.room.note_released(at);
             return true;
         }
-        self.release_frame(hand, at - self.layout.pages, state, oldest, self.most_in_sight())
+        self.release_frame(
+            hand,
+            at - self.layout.pages,
+            state,
+            oldest,
+            self.most_in_sight(),
+        )
     }
 
     // How many frames a hand has in sight at most where it takes one there that another hand has retired, as those of a sweep mostly are.

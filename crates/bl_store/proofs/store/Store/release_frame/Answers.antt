@@ -12,7 +12,7 @@ compare_exchange-found-requires g c = let st = c.args.self.now in let wide = st.
 pub returns-then-found-state : goal.returns-then-found-state
 returns-then-found-state g c = let f = c.compare_exchange-found.ensures in record {
   same = ((f.0, f.2.0.0.0, f.2.0.0.1), f.2.0.1, f.2.0.2, f.2.0.3, f.2.1);
-  kept = c.note_released.ensures;
+  kept = (refl, refl);
   reads = f.2.4;
   yes = λ e. cc;
   no = λ _. f.2.3 c.if-found-state.true;
