@@ -13,8 +13,8 @@ use Rattle.bl_ffi_seats.specs.Accounts.{GoesTo}
 use Rattle.bl_ffi_seats.specs.Waits.{NothingWaits}
 use Rattle.bl_ffi.specs.declared.seat.SeatOfC.{SeatOfC}
 use Rattle.std.specs.Arc.{arc_value}
-use Rattle.bl_index_resume.specs.declared.stages.Stage.TheVariants as stage
-use Rattle.bl_index_resume.specs.Stages.{IsAtRest}
+use Rattle.bl_index_resume.specs.declared.running.Running.TheVariants as at_seat
+use Rattle.bl_index_resume.specs.Running.{IsAtRest}
 use Rattle.bl_ffi_seats.specs.Meetings.{HasSettled}
 use Rattle.bl_ffi.specs.Told.{IsCodeOf, Calls, Closes, Counts}
 
@@ -28,7 +28,7 @@ closed old new code Comes was is none =
 
 -- what a close of an open one has come to
 abbrev ClosesTo : Seat → Seat → SeatOfC → ℤ → Type 0
-ClosesTo s t new code = ((code ≡ pos 0) × (new.seat ≡ None) × IsAtRest (arc_value t.index) t.hand) ⊎ ((code ≡ pos 4) × (new.seat ≡ Some t) × (t.stage ≢ stage.Rests))
+ClosesTo s t new code = ((code ≡ pos 0) × (new.seat ≡ None) × IsAtRest (arc_value t.index) t.hand) ⊎ ((code ≡ pos 4) × (new.seat ≡ Some t) × (t.running ≢ at_seat.Rests))
 
 pub closes : (old new : SeatOfC) (code : ℤ) (s t : Seat) → old.seat ≡ Some s → HasSettled s t → ClosesTo s t new code → Closes old new code
 closes old new code s t was settled so =
@@ -71,12 +71,12 @@ pub record IsTendedSo (s u t : Seat) : Type 0 where
   pub was_idle : HasNothingToDo t → HasNothingToDo u
   pub swept : SweepsOnce u t
 
-pub tended : (s u v t : Seat) (answer : ℕ) → v ≡ u → IsSameSeat s u → HasGoneOn s u → IsSameSeat v t → account_of t ≡ account_of v → (t.stage ≡ v.stage) × (t.upkeep ≡ v.upkeep) → HasSwept answer v t
+pub tended : (s u v t : Seat) (answer : ℕ) → v ≡ u → IsSameSeat s u → HasGoneOn s u → IsSameSeat v t → account_of t ≡ account_of v → (t.running ≡ v.running) × (t.upkeep ≡ v.upkeep) → HasSwept answer v t
     → released_by t ≡ released_by v + answer → IsTendedSo s u t
 tended s u v t answer is same gone kept told keeps swept count =
     let k : IsSameSeat u t = subst (λ (z : Seat). IsSameSeat z t) is kept in
     let a : account_of t ≡ account_of u = subst (λ (z : Seat). account_of t ≡ account_of z) is told in
-    let st : t.stage ≡ u.stage = keeps.0 ∙ ap (λ (z : Seat). z.stage) is in
+    let st : t.running ≡ u.running = keeps.0 ∙ ap (λ (z : Seat). z.running) is in
     let up : t.upkeep ≡ u.upkeep = keeps.1 ∙ ap (λ (z : Seat). z.upkeep) is in record {
       same = seat_after s u t same k;
       gone = subst (GoesTo (seat_number s) (account_of s)) (sym a) gone;

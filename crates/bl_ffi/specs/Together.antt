@@ -6,7 +6,7 @@ use lib.ListN.{get_elem?}
 use Rattle.bl_page.specs.declared.page.Page.{Page}
 use Rattle.bl_image.specs.Images.{IsImage}
 use Rattle.bl_index.specs.Calls.{pages_of}
-use Rattle.bl_index_resume.specs.declared.stages.Stage.TheVariants as stage
+use Rattle.bl_index_resume.specs.declared.running.Running.TheVariants as at_seat
 use Rattle.bl_ffi_seats.specs.declared.closing.CloseFault.{CloseFault}
 use Rattle.bl_ffi_seats.specs.declared.closing.CloseFault.TheVariants as fault
 use Rattle.bl_ffi_seats.specs.declared.seat.Seat.{Seat}
@@ -27,7 +27,7 @@ AreAtOneMap places = (i j : ℕ) (s t : Seat) → get_elem? places i ≡ some (S
 -- Both have gone on, and something is underway at one of them still. They lose no upkeep.
 abbrev pub WaitToMeet : Seat → Seat → Seat → Seat → Type 0
 WaitToMeet s t s' t' = (HasGoneOn s s' × HasGoneOn t t') × (HasCarriedOn s s' × HasCarriedOn t t') × (KeepsUpkeep s s' × KeepsUpkeep t t')
-    × ((s'.stage ≢ stage.Rests) ⊎ (t'.stage ≢ stage.Rests))
+    × ((s'.running ≢ at_seat.Rests) ⊎ (t'.running ≢ at_seat.Rests))
 
 -- Two open places have the same seats then, which have met, or are to try again.
 pub record ComeTogether (one two one' two' : Option Seat) (code : ℤ) : Type 0 where

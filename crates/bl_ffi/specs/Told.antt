@@ -12,8 +12,8 @@ use Rattle.bl_ffi_seats.specs.declared.seat.Seat.{Seat}
 use Rattle.bl_model.specs.declared.deciding.KeyWrite.{KeyWrite}
 use Rattle.bl_model.specs.Writes.{write_op}
 use Rattle.std.specs.Arc.{arc_value}
-use Rattle.bl_index_resume.specs.declared.stages.Stage.TheVariants as stage
-use Rattle.bl_index_resume.specs.Stages.{IsAtRest}
+use Rattle.bl_index_resume.specs.declared.running.Running.TheVariants as at_seat
+use Rattle.bl_index_resume.specs.Running.{IsAtRest}
 use Rattle.bl_ffi_seats.specs.Calls.{IsSameSeat, HasToldLast, HasTold, HasGoneOn, HasGoneOnOrBegun, HasNothingToDo, HasCarriedOn, HasDoneMost}
 use Rattle.bl_ffi_seats.specs.Tended.{KeepsUpkeep, HasTended, HasPrepared, HasToWait, HasChanged, SweepsOnce}
 use Rattle.bl_ffi_seats.specs.Meetings.{HasSettled, HasNoAnswer}
@@ -119,7 +119,7 @@ TendsAndSays most old new code =
 -- still, which was carried on, and it is open.
 abbrev pub Closes : SeatOfC → SeatOfC → ℤ → Type 0
 Closes old new code = MatchOption old.seat ((code ≡ pos 9) × (new.seat ≡ None)) (λ s. (t : Seat) × HasSettled s t
-    × (((code ≡ pos 0) × (new.seat ≡ None) × IsAtRest (arc_value t.index) t.hand) ⊎ ((code ≡ pos 4) × (new.seat ≡ Some t) × (t.stage ≢ stage.Rests))))
+    × (((code ≡ pos 0) × (new.seat ≡ None) × IsAtRest (arc_value t.index) t.hand) ⊎ ((code ≡ pos 4) × (new.seat ≡ Some t) × (t.running ≢ at_seat.Rests))))
 
 -- Nothing is done. The code says whether the seat is closed.
 abbrev pub StaysAsItWas : SeatOfC → SeatOfC → ℤ → Type 0

@@ -37,9 +37,9 @@ use Rattle.bl_index.proofs.Posts.{post_answered}
 use Rattle.bl_index.proofs.CompressEnds.{compress_answered}
 use Rattle.bl_ffi_seats.proofs.CompressEnds.{IsCompressAnswer, compress_has_answer}
 use Rattle.bl_index.proofs.Lowerings.{lower_has_answer, lower_answered}
-use Rattle.bl_index_resume.specs.declared.stages.Stage.{Stage}
-use Rattle.bl_index_resume.specs.declared.stages.Stage.TheVariants as stage
-use Rattle.bl_index_resume.specs.Stages.{Stands, HasAdvanced, HasTurnedIn, IsStill, EndsOrGoesOn, IsSameKind, IsSameWork, op_in, LacksIn}
+use Rattle.bl_index_resume.specs.declared.running.Running.{Running}
+use Rattle.bl_index_resume.specs.declared.running.Running.TheVariants as at_seat
+use Rattle.bl_index_resume.specs.Running.{Stands, HasAdvanced, HasTurnedIn, IsStill, EndsOrGoesOn, IsSameKind, IsSameWork, op_in, LacksIn}
 use Rattle.bl_proc_deterministic.specs.Refusals.{IsNoRoom}
 use Rattle.bl_index_events.specs.Rooms.{LacksWrite}
 use Rattle.bl_ffi_seats.specs.Seats.{IfWritten, HasAnswered}
@@ -128,44 +128,44 @@ module _ (events : ℕ) (tree : Tree) (hand hand' : Hand PassState) (num : hand'
   past_same : (old : PassState) → IsSince hand.number old d → IsSameProcess d e → e.past ≡ d.past
   past_same old since same = (same hand.number old since).past ∙ sym since.past
 
-  still_told : (old : PassState) (s s' : Stage) → IsSince hand.number old d → IsSameProcess d e → IsSameWork s s' → account hand' s' ≡ account hand s
-  still_told old (stage.Writes p held) (stage.Writes q held') since same work = account_is _ _ _ _ work (past_same old since same)
-  still_told old (stage.Posts p held) (stage.Posts q held') since same work = account_is _ _ _ _ refl (past_same old since same)
-  still_told old (stage.Compresses p held) (stage.Compresses q held') since same work = account_is _ _ _ _ refl (past_same old since same)
-  still_told old (stage.Lowers p held) (stage.Lowers q held') since same work = account_is _ _ _ _ refl (past_same old since same)
+  still_told : (old : PassState) (s s' : Running) → IsSince hand.number old d → IsSameProcess d e → IsSameWork s s' → account hand' s' ≡ account hand s
+  still_told old (at_seat.Writes p held) (at_seat.Writes q held') since same work = account_is _ _ _ _ work (past_same old since same)
+  still_told old (at_seat.Posts p held) (at_seat.Posts q held') since same work = account_is _ _ _ _ refl (past_same old since same)
+  still_told old (at_seat.Compresses p held) (at_seat.Compresses q held') since same work = account_is _ _ _ _ refl (past_same old since same)
+  still_told old (at_seat.Lowers p held) (at_seat.Lowers q held') since same work = account_is _ _ _ _ refl (past_same old since same)
   still_told old s s' since same work = absurd work
 
-  still_gone : (old : PassState) (s : Stage) (a : Option Answer) (s' : Stage) → IsSince hand.number old d → IsStill events d e s a s' → HasGone hand.number (account hand s) a (account hand' s')
+  still_gone : (old : PassState) (s : Running) (a : Option Answer) (s' : Running) → IsSince hand.number old d → IsStill events d e s a s' → HasGone hand.number (account hand s) a (account hand' s')
   still_gone old s a s' since still = subst (λ (z : Option Answer). HasGone hand.number (account hand s) z (account hand' s')) (sym still.none) (still_told old s s' since still.since still.work)
 
   -- the hand rests then, and its entries are all that it has told
-  told_at_rest : (s' : Stage) → s' ≡ stage.Rests → told_in hand' s' ≡ own hand.number e.trail
+  told_at_rest : (s' : Running) → s' ≡ at_seat.Rests → told_in hand' s' ≡ own hand.number e.trail
   told_at_rest s' rests = ap (told_in hand') rests ∙ ap (λ (z : ℕ). own z e.trail) num
 
-  write_gone : (old : PassState) (op : Op) (told : List Entry) (a : Option Answer) (s' : Stage) → told ≡ own hand.number old.trail → s' ≡ stage.Rests → WriteEnds hand.number old e op a
+  write_gone : (old : PassState) (op : Op) (told : List Entry) (a : Option Answer) (s' : Running) → told ≡ own hand.number old.trail → s' ≡ at_seat.Rests → WriteEnds hand.number old e op a
       → HasGone hand.number (record { underway = Some op; told = told }) a (account hand' s')
   write_gone old op told a s' past rests w =
       let entry : Entry = record { pass = hand.number; op = op; reply = w.reply } in
       let now : told_in hand' s' ≡ told ++ entry ∷ [] = told_at_rest s' rests ∙ (w.writes.answers.once ∙ ap (λ (z : List Entry). z ++ entry ∷ []) (sym past)) in
       subst (λ (z : Option Answer). HasGone hand.number (record { underway = Some op; told = told }) z (account hand' s')) (sym w.is) (ap op_in rests, now)
 
-  quiet_gone : (old : PassState) (told : List Entry) (a : Option Answer) (s' : Stage) → told ≡ own hand.number old.trail → s' ≡ stage.Rests → QuietlyEnds hand.number old e a
+  quiet_gone : (old : PassState) (told : List Entry) (a : Option Answer) (s' : Running) → told ≡ own hand.number old.trail → s' ≡ at_seat.Rests → QuietlyEnds hand.number old e a
       → HasGone hand.number (record { underway = None; told = told }) a (account hand' s')
   quiet_gone old told a s' past rests q =
       subst (λ (z : Option Answer). HasGone hand.number (record { underway = None; told = told }) z (account hand' s')) (sym q.is) (ap op_in rests, told_at_rest s' rests ∙ (q.none ∙ sym past))
 
-  pub gone : (s : Stage) (a : Option Answer) (s' : Stage) → Stands tree hand s → HasAdvanced events d e s a s' → HasGone hand.number (account hand s) a (account hand' s')
-  gone stage.Rests a s' st adv =
-      let same : account hand' stage.Rests ≡ account hand stage.Rests = account_is _ _ _ _ refl (λ i. own (num i) (adv.1 i).trail) in
-      subst (λ (z : Option Answer). HasGone hand.number (account hand stage.Rests) z (account hand' s')) (sym adv.0) (ap (account hand') adv.2 ∙ same)
-  gone (stage.Writes p held) a s' st (inl end) = write_gone st.old _ _ a s' st.since.past end.rests (write_ends hand.number st.old e p end.last a end.kind end.answers (end.done hand.number st.old st.since))
-  gone (stage.Posts p held) a s' st (inl end) = quiet_gone st.old _ a s' st.since.past end.rests (post_ends hand.number st.old e p end.last a end.kind end.answers (end.done hand.number st.old st.since))
-  gone (stage.Compresses p held) a s' st (inl end) = quiet_gone st.old _ a s' st.since.past end.rests (compress_ends hand.number st.old e p end.last a end.kind end.answers (end.done hand.number st.old st.since))
-  gone (stage.Lowers p held) a s' st (inl end) = quiet_gone st.old _ a s' st.since.past end.rests (lower_ends hand.number st.old e p end.last a end.kind end.answers (end.done hand.number st.old st.since))
-  gone (stage.Writes p held) a s' st (inr still) = still_gone st.old _ a s' st.since still
-  gone (stage.Posts p held) a s' st (inr still) = still_gone st.old _ a s' st.since still
-  gone (stage.Compresses p held) a s' st (inr still) = still_gone st.old _ a s' st.since still
-  gone (stage.Lowers p held) a s' st (inr still) = still_gone st.old _ a s' st.since still
+  pub gone : (s : Running) (a : Option Answer) (s' : Running) → Stands tree hand s → HasAdvanced events d e s a s' → HasGone hand.number (account hand s) a (account hand' s')
+  gone at_seat.Rests a s' st adv =
+      let same : account hand' at_seat.Rests ≡ account hand at_seat.Rests = account_is _ _ _ _ refl (λ i. own (num i) (adv.1 i).trail) in
+      subst (λ (z : Option Answer). HasGone hand.number (account hand at_seat.Rests) z (account hand' s')) (sym adv.0) (ap (account hand') adv.2 ∙ same)
+  gone (at_seat.Writes p held) a s' st (inl end) = write_gone st.old _ _ a s' st.since.past end.rests (write_ends hand.number st.old e p end.last a end.kind end.answers (end.done hand.number st.old st.since))
+  gone (at_seat.Posts p held) a s' st (inl end) = quiet_gone st.old _ a s' st.since.past end.rests (post_ends hand.number st.old e p end.last a end.kind end.answers (end.done hand.number st.old st.since))
+  gone (at_seat.Compresses p held) a s' st (inl end) = quiet_gone st.old _ a s' st.since.past end.rests (compress_ends hand.number st.old e p end.last a end.kind end.answers (end.done hand.number st.old st.since))
+  gone (at_seat.Lowers p held) a s' st (inl end) = quiet_gone st.old _ a s' st.since.past end.rests (lower_ends hand.number st.old e p end.last a end.kind end.answers (end.done hand.number st.old st.since))
+  gone (at_seat.Writes p held) a s' st (inr still) = still_gone st.old _ a s' st.since still
+  gone (at_seat.Posts p held) a s' st (inr still) = still_gone st.old _ a s' st.since still
+  gone (at_seat.Compresses p held) a s' st (inr still) = still_gone st.old _ a s' st.since still
+  gone (at_seat.Lowers p held) a s' st (inr still) = still_gone st.old _ a s' st.since still
 
   -- ---- a write that was underway
 
@@ -178,89 +178,89 @@ module _ (events : ℕ) (tree : Tree) (hand hand' : Hand PassState) (num : hand'
         no_room = λ none. said (subst (λ (z : Reply). IsNoRoom (answers.Op z w.hint)) (sym none) tt);
       })
 
-  pub replied : (s : Stage) (a : Option Answer) (s' : Stage) → Stands tree hand s → HasAdvanced events d e s a s' → IfSome a (λ x. IsNoRoom x → LacksIn s hand'.seat) → HasAnswered hand' s a
-  replied stage.Rests a s' st adv lacks = tt
-  replied (stage.Writes p held) a s' st (inl end) lacks = wrote st.old p.key p.write a (write_ends hand.number st.old e p end.last a end.kind end.answers (end.done hand.number st.old st.since)) lacks
-  replied (stage.Writes p held) a s' st (inr still) lacks = subst (IfWritten hand' p.key p.write) (sym still.none) tt
-  replied (stage.Posts p held) a s' st adv lacks = tt
-  replied (stage.Compresses p held) a s' st adv lacks = tt
-  replied (stage.Lowers p held) a s' st adv lacks = tt
+  pub replied : (s : Running) (a : Option Answer) (s' : Running) → Stands tree hand s → HasAdvanced events d e s a s' → IfSome a (λ x. IsNoRoom x → LacksIn s hand'.seat) → HasAnswered hand' s a
+  replied at_seat.Rests a s' st adv lacks = tt
+  replied (at_seat.Writes p held) a s' st (inl end) lacks = wrote st.old p.key p.write a (write_ends hand.number st.old e p end.last a end.kind end.answers (end.done hand.number st.old st.since)) lacks
+  replied (at_seat.Writes p held) a s' st (inr still) lacks = subst (IfWritten hand' p.key p.write) (sym still.none) tt
+  replied (at_seat.Posts p held) a s' st adv lacks = tt
+  replied (at_seat.Compresses p held) a s' st adv lacks = tt
+  replied (at_seat.Lowers p held) a s' st adv lacks = tt
 
   -- ---- where the process has ended, the hand rests
 
-  rests_or : (p : Proc) (s : Stage) (a : Option Answer) (s' : Stage) → EndsOrGoesOn events d e p s a s' → IfSome a (λ _. s' ≡ stage.Rests)
+  rests_or : (p : Proc) (s : Running) (a : Option Answer) (s' : Running) → EndsOrGoesOn events d e p s a s' → IfSome a (λ _. s' ≡ at_seat.Rests)
   rests_or p s None s' h = tt
   rests_or p s (Some x) s' (inl end) = end.rests
   rests_or p s (Some x) s' (inr still) = absurd (let f = still.none in cc)
 
-  pub rests_after : (s : Stage) (a : Option Answer) (s' : Stage) → HasAdvanced events d e s a s' → IfSome a (λ _. s' ≡ stage.Rests)
-  rests_after stage.Rests None s' adv = tt
-  rests_after stage.Rests (Some x) s' adv = absurd (let f = adv.0 in cc)
-  rests_after (stage.Writes p held) a s' adv = rests_or _ _ a s' adv
-  rests_after (stage.Posts p held) a s' adv = rests_or _ _ a s' adv
-  rests_after (stage.Compresses p held) a s' adv = rests_or _ _ a s' adv
-  rests_after (stage.Lowers p held) a s' adv = rests_or _ _ a s' adv
+  pub rests_after : (s : Running) (a : Option Answer) (s' : Running) → HasAdvanced events d e s a s' → IfSome a (λ _. s' ≡ at_seat.Rests)
+  rests_after at_seat.Rests None s' adv = tt
+  rests_after at_seat.Rests (Some x) s' adv = absurd (let f = adv.0 in cc)
+  rests_after (at_seat.Writes p held) a s' adv = rests_or _ _ a s' adv
+  rests_after (at_seat.Posts p held) a s' adv = rests_or _ _ a s' adv
+  rests_after (at_seat.Compresses p held) a s' adv = rests_or _ _ a s' adv
+  rests_after (at_seat.Lowers p held) a s' adv = rests_or _ _ a s' adv
 
   -- ---- and it is of the same index
 
-  first_or : (old : PassState) (p : Proc) (s : Stage) (a : Option Answer) (s' : Stage) → IsSince hand.number old d → EndsOrGoesOn events d e p s a s' → e.first ≡ d.first
+  first_or : (old : PassState) (p : Proc) (s : Running) (a : Option Answer) (s' : Running) → IsSince hand.number old d → EndsOrGoesOn events d e p s a s' → e.first ≡ d.first
   first_or old p s a s' since (inl end) = done_first hand.number old e p end.last (end.done hand.number old since) ∙ sym since.beginning
   first_or old p s a s' since (inr still) = (still.since hand.number old since).beginning ∙ sym since.beginning
 
-  pub first_after : (s : Stage) (a : Option Answer) (s' : Stage) → Stands tree hand s → HasAdvanced events d e s a s' → e.first ≡ d.first
-  first_after stage.Rests a s' st adv = ap (λ (z : PassState). z.first) adv.1
-  first_after (stage.Writes p held) a s' st adv = first_or st.old _ _ a s' st.since adv
-  first_after (stage.Posts p held) a s' st adv = first_or st.old _ _ a s' st.since adv
-  first_after (stage.Compresses p held) a s' st adv = first_or st.old _ _ a s' st.since adv
-  first_after (stage.Lowers p held) a s' st adv = first_or st.old _ _ a s' st.since adv
+  pub first_after : (s : Running) (a : Option Answer) (s' : Running) → Stands tree hand s → HasAdvanced events d e s a s' → e.first ≡ d.first
+  first_after at_seat.Rests a s' st adv = ap (λ (z : PassState). z.first) adv.1
+  first_after (at_seat.Writes p held) a s' st adv = first_or st.old _ _ a s' st.since adv
+  first_after (at_seat.Posts p held) a s' st adv = first_or st.old _ _ a s' st.since adv
+  first_after (at_seat.Compresses p held) a s' st adv = first_or st.old _ _ a s' st.since adv
+  first_after (at_seat.Lowers p held) a s' st adv = first_or st.old _ _ a s' st.since adv
 
   -- ---- how far it has gone
 
-  worked_or : (p : Proc) (s : Stage) (a : Option Answer) (s' : Stage) → EndsOrGoesOn events d e p s a s' → (s' ≡ stage.Rests) ⊎ HasTurnedIn events d e s'
+  worked_or : (p : Proc) (s : Running) (a : Option Answer) (s' : Running) → EndsOrGoesOn events d e p s a s' → (s' ≡ at_seat.Rests) ⊎ HasTurnedIn events d e s'
   worked_or p s a s' (inl end) = inl end.rests
   worked_or p s a s' (inr still) = inr still.turns
 
-  pub worked_after : (s : Stage) (a : Option Answer) (s' : Stage) → HasAdvanced events d e s a s' → (s' ≡ stage.Rests) ⊎ HasTurnedIn events d e s'
-  worked_after stage.Rests a s' adv = inl adv.2
-  worked_after (stage.Writes p held) a s' adv = worked_or _ _ a s' adv
-  worked_after (stage.Posts p held) a s' adv = worked_or _ _ a s' adv
-  worked_after (stage.Compresses p held) a s' adv = worked_or _ _ a s' adv
-  worked_after (stage.Lowers p held) a s' adv = worked_or _ _ a s' adv
+  pub worked_after : (s : Running) (a : Option Answer) (s' : Running) → HasAdvanced events d e s a s' → (s' ≡ at_seat.Rests) ⊎ HasTurnedIn events d e s'
+  worked_after at_seat.Rests a s' adv = inl adv.2
+  worked_after (at_seat.Writes p held) a s' adv = worked_or _ _ a s' adv
+  worked_after (at_seat.Posts p held) a s' adv = worked_or _ _ a s' adv
+  worked_after (at_seat.Compresses p held) a s' adv = worked_or _ _ a s' adv
+  worked_after (at_seat.Lowers p held) a s' adv = worked_or _ _ a s' adv
 
-  busy_after : (s s' : Stage) → IsSameWork s s' → s' ≢ stage.Rests
-  busy_after (stage.Writes p held) (stage.Writes q held') work = λ z. cc
-  busy_after (stage.Posts p held) (stage.Posts q held') work = λ z. cc
-  busy_after (stage.Compresses p held) (stage.Compresses q held') work = λ z. cc
-  busy_after (stage.Lowers p held) (stage.Lowers q held') work = λ z. cc
+  busy_after : (s s' : Running) → IsSameWork s s' → s' ≢ at_seat.Rests
+  busy_after (at_seat.Writes p held) (at_seat.Writes q held') work = λ z. cc
+  busy_after (at_seat.Posts p held) (at_seat.Posts q held') work = λ z. cc
+  busy_after (at_seat.Compresses p held) (at_seat.Compresses q held') work = λ z. cc
+  busy_after (at_seat.Lowers p held) (at_seat.Lowers q held') work = λ z. cc
   busy_after s s' work = absurd work
 
-  abbrev Unanswered : Stage → Option Answer → Stage → Type 0
-  Unanswered s a s' = IfNone a ((s ≡ stage.Rests) ⊎ (s' ≢ stage.Rests))
+  abbrev Unanswered : Running → Option Answer → Running → Type 0
+  Unanswered s a s' = IfNone a ((s ≡ at_seat.Rests) ⊎ (s' ≢ at_seat.Rests))
 
-  answered_end : (s : Stage) (a : Option Answer) (s' : Stage) (x : Answer) → a ≡ Some x → Unanswered s a s'
+  answered_end : (s : Running) (a : Option Answer) (s' : Running) (x : Answer) → a ≡ Some x → Unanswered s a s'
   answered_end s a s' x is = subst (λ (z : Option Answer). Unanswered s z s') (sym is) tt
 
-  still_busy : (s : Stage) (a : Option Answer) (s' : Stage) → IsStill events d e s a s' → Unanswered s a s'
+  still_busy : (s : Running) (a : Option Answer) (s' : Running) → IsStill events d e s a s' → Unanswered s a s'
   still_busy s a s' still = subst (λ (z : Option Answer). Unanswered s z s') (sym still.none) (inr (busy_after s s' still.work))
 
-  pub still_after : (s : Stage) (a : Option Answer) (s' : Stage) → Stands tree hand s → HasAdvanced events d e s a s' → Unanswered s a s'
-  still_after stage.Rests a s' st adv = subst (λ (z : Option Answer). Unanswered stage.Rests z s') (sym adv.0) (inl refl)
-  still_after (stage.Writes p held) a s' st (inl end) = answered_end _ a s' _ (write_ends hand.number st.old e p end.last a end.kind end.answers (end.done hand.number st.old st.since)).is
-  still_after (stage.Posts p held) a s' st (inl end) = answered_end _ a s' _ (post_ends hand.number st.old e p end.last a end.kind end.answers (end.done hand.number st.old st.since)).is
-  still_after (stage.Compresses p held) a s' st (inl end) = answered_end _ a s' _ (compress_ends hand.number st.old e p end.last a end.kind end.answers (end.done hand.number st.old st.since)).is
-  still_after (stage.Lowers p held) a s' st (inl end) = answered_end _ a s' _ (lower_ends hand.number st.old e p end.last a end.kind end.answers (end.done hand.number st.old st.since)).is
-  still_after (stage.Writes p held) a s' st (inr still) = still_busy _ a s' still
-  still_after (stage.Posts p held) a s' st (inr still) = still_busy _ a s' still
-  still_after (stage.Compresses p held) a s' st (inr still) = still_busy _ a s' still
-  still_after (stage.Lowers p held) a s' st (inr still) = still_busy _ a s' still
+  pub still_after : (s : Running) (a : Option Answer) (s' : Running) → Stands tree hand s → HasAdvanced events d e s a s' → Unanswered s a s'
+  still_after at_seat.Rests a s' st adv = subst (λ (z : Option Answer). Unanswered at_seat.Rests z s') (sym adv.0) (inl refl)
+  still_after (at_seat.Writes p held) a s' st (inl end) = answered_end _ a s' _ (write_ends hand.number st.old e p end.last a end.kind end.answers (end.done hand.number st.old st.since)).is
+  still_after (at_seat.Posts p held) a s' st (inl end) = answered_end _ a s' _ (post_ends hand.number st.old e p end.last a end.kind end.answers (end.done hand.number st.old st.since)).is
+  still_after (at_seat.Compresses p held) a s' st (inl end) = answered_end _ a s' _ (compress_ends hand.number st.old e p end.last a end.kind end.answers (end.done hand.number st.old st.since)).is
+  still_after (at_seat.Lowers p held) a s' st (inl end) = answered_end _ a s' _ (lower_ends hand.number st.old e p end.last a end.kind end.answers (end.done hand.number st.old st.since)).is
+  still_after (at_seat.Writes p held) a s' st (inr still) = still_busy _ a s' still
+  still_after (at_seat.Posts p held) a s' st (inr still) = still_busy _ a s' still
+  still_after (at_seat.Compresses p held) a s' st (inr still) = still_busy _ a s' still
+  still_after (at_seat.Lowers p held) a s' st (inr still) = still_busy _ a s' still
 
-  begun_or : (old : PassState) (p : Proc) (s : Stage) (a : Option Answer) (s' : Stage) → IsSince hand.number old d → EndsOrGoesOn events d e p s a s' → e.number ≡ d.number
+  begun_or : (old : PassState) (p : Proc) (s : Running) (a : Option Answer) (s' : Running) → IsSince hand.number old d → EndsOrGoesOn events d e p s a s' → e.number ≡ d.number
   begun_or old p s a s' since (inl end) = let done = end.done hand.number old since in done.observed.notes.number ∙ (done.since.number ∙ sym since.number)
   begun_or old p s a s' since (inr still) = (still.since hand.number old since).number ∙ sym since.number
 
-  pub begun_after : (s : Stage) (a : Option Answer) (s' : Stage) → Stands tree hand s → HasAdvanced events d e s a s' → e.number ≡ d.number
-  begun_after stage.Rests a s' st adv = ap (λ (z : PassState). z.number) adv.1
-  begun_after (stage.Writes p held) a s' st adv = begun_or st.old _ _ a s' st.since adv
-  begun_after (stage.Posts p held) a s' st adv = begun_or st.old _ _ a s' st.since adv
-  begun_after (stage.Compresses p held) a s' st adv = begun_or st.old _ _ a s' st.since adv
-  begun_after (stage.Lowers p held) a s' st adv = begun_or st.old _ _ a s' st.since adv
+  pub begun_after : (s : Running) (a : Option Answer) (s' : Running) → Stands tree hand s → HasAdvanced events d e s a s' → e.number ≡ d.number
+  begun_after at_seat.Rests a s' st adv = ap (λ (z : PassState). z.number) adv.1
+  begun_after (at_seat.Writes p held) a s' st adv = begun_or st.old _ _ a s' st.since adv
+  begun_after (at_seat.Posts p held) a s' st adv = begun_or st.old _ _ a s' st.since adv
+  begun_after (at_seat.Compresses p held) a s' st adv = begun_or st.old _ _ a s' st.since adv
+  begun_after (at_seat.Lowers p held) a s' st adv = begun_or st.old _ _ a s' st.since adv

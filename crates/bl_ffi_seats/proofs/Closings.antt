@@ -18,7 +18,7 @@ use Rattle.bl_index.specs.Calls.{passes_of}
 use Rattle.bl_index.specs.Closed.{IsIdleOf}
 use Rattle.bl_index.specs.declared.index.Index.{Index}
 use Rattle.bl_index_events.specs.declared.tree.Tree.{Tree}
-use Rattle.bl_index_resume.specs.declared.stages.Stage.TheVariants as stage
+use Rattle.bl_index_resume.specs.declared.running.Running.TheVariants as at_seat
 use Rattle.bl_ffi_seats.specs.declared.seat.Seat.{Seat}
 use Rattle.bl_ffi_seats.specs.declared.closing.Prepared.{Prepared}
 use Rattle.bl_ffi_seats.specs.Calls.{seat_number}
@@ -100,8 +100,8 @@ pub record SettleUpTo (old now : List Boxed) (i : ℕ) (rest : Bool) : Type 0 wh
   pub long : length now ≡ length old
   pub done : (k : ℕ) (a b : Boxed) → k < i → get_elem? old k ≡ some a → get_elem? now k ≡ some b → HasSettled a.value b.value
   pub to_do : (k : ℕ) → i ≤ k → get_elem? now k ≡ get_elem? old k
-  pub rests : rest ≡ true → (k : ℕ) (b : Boxed) → k < i → get_elem? now k ≡ some b → b.value.stage ≡ stage.Rests
-  pub not : rest ≡ false → (k : ℕ) × (b : Boxed) × (k < i) × (get_elem? now k ≡ some b) × (b.value.stage ≢ stage.Rests)
+  pub rests : rest ≡ true → (k : ℕ) (b : Boxed) → k < i → get_elem? now k ≡ some b → b.value.running ≡ at_seat.Rests
+  pub not : rest ≡ false → (k : ℕ) × (b : Boxed) × (k < i) × (get_elem? now k ≡ some b) × (b.value.running ≢ at_seat.Rests)
 
 pub none_settled : (old : List Boxed) → SettleUpTo old old 0 true
 none_settled old = record {
@@ -135,13 +135,13 @@ module _ (old now : List Boxed) (i : ℕ) (rest : Bool) (was is : Boxed) (lt : i
   to_do_more : (k : ℕ) → i + 1 ≤ k → get_elem? after k ≡ get_elem? old k
   to_do_more k le = at_set_other now i k is (λ e. absurd (omega (arith, le, e))) ∙ s.to_do k (omega (arith, le))
 
-  rests_more : is.value.stage ≡ stage.Rests → rest ≡ true → (k : ℕ) (b : Boxed) → k < i + 1 → get_elem? after k ≡ some b → b.value.stage ≡ stage.Rests
+  rests_more : is.value.running ≡ at_seat.Rests → rest ≡ true → (k : ℕ) (b : Boxed) → k < i + 1 → get_elem? after k ≡ some b → b.value.running ≡ at_seat.Rests
   rests_more rests all k b low at_new = elim (cases_eq k i) [
-    | inl same ↦ subst (λ (z : Boxed). z.value.stage ≡ stage.Rests) (here b (subst (λ (z : ℕ). get_elem? after z ≡ some b) same at_new)) rests
+    | inl same ↦ subst (λ (z : Boxed). z.value.running ≡ at_seat.Rests) (here b (subst (λ (z : ℕ). get_elem? after z ≡ some b) same at_new)) rests
     | inr ne ↦ s.rests all k b (omega (arith, low, ne)) (before k b ne at_new)
   ]
 
-  pub settles_on : is.value.stage ≡ stage.Rests → SettleUpTo old after (i + 1) rest
+  pub settles_on : is.value.running ≡ at_seat.Rests → SettleUpTo old after (i + 1) rest
   settles_on rests = record {
     long = set_length now i is ∙ s.long;
     done = done_more;
@@ -150,7 +150,7 @@ module _ (old now : List Boxed) (i : ℕ) (rest : Bool) (was is : Boxed) (lt : i
     not = λ none. let n = s.not none in (n.0, n.1, (let low = n.2 in omega (arith, low)), at_set_other now i n.0 is (λ e. (let low = n.2 in absurd (omega (arith, low, e)))) ∙ n.3, n.4);
   }
 
-  pub settles_off : is.value.stage ≢ stage.Rests → SettleUpTo old after (i + 1) false
+  pub settles_off : is.value.running ≢ at_seat.Rests → SettleUpTo old after (i + 1) false
   settles_off busy = record {
     long = set_length now i is ∙ s.long;
     done = done_more;
@@ -172,9 +172,9 @@ module _ (old now : List Boxed) (i : ℕ) (rest : Bool) (past : length now ≤ i
       subst (λ (z : Seat × Seat). HasSettled z.0 z.1) (λ j. (x.2 j, y.2 j)) (s.done k x.0 y.0 (let low = at_below now k y.0 y.1 in omega (arith, low, past)) x.1 y.1))
 
   pub all_rest : rest ≡ true → AllRest (values now)
-  all_rest all = all_of (λ (z : Seat). z.stage ≡ stage.Rests) (values now) (λ k b at_new.
+  all_rest all = all_of (λ (z : Seat). z.running ≡ at_seat.Rests) (values now) (λ k b at_new.
       let y = map_back (λ (z : Boxed). z.value) now k b at_new in
-      subst (λ (z : Seat). z.stage ≡ stage.Rests) y.2 (s.rests all k y.0 (let low = at_below now k y.0 y.1 in omega (arith, low, past)) y.1))
+      subst (λ (z : Seat). z.running ≡ at_seat.Rests) y.2 (s.rests all k y.0 (let low = at_below now k y.0 y.1 in omega (arith, low, past)) y.1))
 
   pub one_underway : rest ≡ false → IsOneUnderway (values now)
   one_underway none = let n = s.not none in (n.0, n.1.value, value_at now n.0 n.1 n.3, n.4)
@@ -247,8 +247,8 @@ module _ (index : Index) (seats : List Seat) (boxes left : List Boxed) (box : Bo
   pub first_at : IsAtIndex index box.value
   first_at = (all_tail (IsAtIndex index) box.value (values left) (subst (λ (z : List Boxed). All (IsAtIndex index) (values z)) next g.at)).0
 
-  pub first_rests : box.value.stage ≡ stage.Rests
-  first_rests = (all_tail (λ (z : Seat). z.stage ≡ stage.Rests) box.value (values left) (subst (λ (z : List Boxed). AllRest (values z)) next g.rests)).0
+  pub first_rests : box.value.running ≡ at_seat.Rests
+  first_rests = (all_tail (λ (z : Seat). z.running ≡ at_seat.Rests) box.value (values left) (subst (λ (z : List Boxed). AllRest (values z)) next g.rests)).0
 
   pub one_given : now ≡ hands ++ box.value.hand ∷ [] → IsIdleOf index box.value.hand → GivenSo index seats left now
   one_given pushed idle = record {
@@ -257,7 +257,7 @@ module _ (index : Index) (seats : List Seat) (boxes left : List Boxed) (box : Bo
     given = pushed ∙ (ap (λ (z : List (Hand PassState)). z ++ box.value.hand ∷ []) g.given ∙ sym (map_push hand_of g.taken box.value));
     own = subst (All (IsIdleOf index)) (sym pushed) (all_push (IsIdleOf index) hands box.value.hand g.own idle);
     at = (all_tail (IsAtIndex index) box.value (values left) (subst (λ (z : List Boxed). All (IsAtIndex index) (values z)) next g.at)).1;
-    rests = (all_tail (λ (z : Seat). z.stage ≡ stage.Rests) box.value (values left) (subst (λ (z : List Boxed). AllRest (values z)) next g.rests)).1;
+    rests = (all_tail (λ (z : Seat). z.running ≡ at_seat.Rests) box.value (values left) (subst (λ (z : List Boxed). AllRest (values z)) next g.rests)).1;
   }
 
 -- all have given them

@@ -17,21 +17,21 @@ use Rattle.bl_index_events.proofs.Ends.{done_first}
 use Rattle.bl_index_write.specs.Events.{HasPosted as HasPostedKey}
 use Rattle.bl_index.specs.Calls.{Posts}
 use Rattle.bl_index.proofs.Posts.{post_answered}
-use Rattle.bl_index_resume.specs.declared.stages.Stage.{Stage}
-use Rattle.bl_index_resume.specs.declared.stages.Stage.TheVariants as stage
-use Rattle.bl_index_resume.specs.Stages.{IsFor}
+use Rattle.bl_index_resume.specs.declared.running.Running.{Running}
+use Rattle.bl_index_resume.specs.declared.running.Running.TheVariants as at_seat
+use Rattle.bl_index_resume.specs.Running.{IsFor}
 use Rattle.bl_ffi_seats.specs.Seats.{HasPosted}
 use Rattle.bl_ffi_seats.specs.Accounts.{account}
 use Rattle.bl_ffi_seats.proofs.Accounts.{account_is}
 use Rattle.bl_ffi_seats.proofs.Goes.{since_goes, done_goes}
 use Rattle.bl_ffi_seats.proofs.Starts.{piece_starts}
 
-module _ (hand hand' : Hand PassState) (num : hand'.number ≡ hand.number) (level key : ℕ) (s s' : Stage) (rests : s ≡ stage.Rests) where
+module _ (hand hand' : Hand PassState) (num : hand'.number ≡ hand.number) (level key : ℕ) (s s' : Running) (rests : s ≡ at_seat.Rests) where
   abbrev Begun : Type 0
   Begun = IsFor (hint.Post level key) s' × IsSince hand.number (known hand.seat) (known hand'.seat)
 
   abbrev Ended : Posted × Option Hint → Type 0
-  Ended said = (s' ≡ stage.Rests) × ((first : Proc) × (work_of first ≡ Some (level, key)) × HasPostedKey hand.number (known hand.seat) (known hand'.seat) first said.0 said.1)
+  Ended said = (s' ≡ at_seat.Rests) × ((first : Proc) × (work_of first ≡ Some (level, key)) × HasPostedKey hand.number (known hand.seat) (known hand'.seat) first said.0 said.1)
 
   abbrev Lacks : Posted × Option Hint → Type 0
   Lacks said = said.0 ≡ posted.NoRoom → LacksPost level key hand'.seat
@@ -68,6 +68,6 @@ module _ (hand hand' : Hand PassState) (num : hand'.number ≡ hand.number) (lev
     no_room = lacks;
   }
 
-  pub ended_posted : (r : Option (Posted × Option Hint)) → IfSome r Ended → IfSome r Lacks → IfSome r (λ (said : Posted × Option Hint). (s' ≡ stage.Rests) × HasPosted hand' level key said.0 said.1)
+  pub ended_posted : (r : Option (Posted × Option Hint)) → IfSome r Ended → IfSome r Lacks → IfSome r (λ (said : Posted × Option Hint). (s' ≡ at_seat.Rests) × HasPosted hand' level key said.0 said.1)
   ended_posted None ended lacks = tt
   ended_posted (Some said) ended lacks = (ended.0, followed_posted said ended lacks)

@@ -8,9 +8,9 @@ use Rattle.bl_model.specs.declared.deciding.KeyWrite.{KeyWrite}
 use Rattle.bl_model.specs.Writes.{write_op}
 use Rattle.bl_answers.specs.declared.answers.Answer.TheVariants as answers
 use Rattle.bl_answers.specs.declared.answers.Hint.{Hint}
-use Rattle.bl_index_resume.specs.declared.stages.Stage.{Stage}
-use Rattle.bl_index_resume.specs.declared.stages.Stage.TheVariants as stage
-use Rattle.bl_index_resume.specs.Stages.{IsWriteOf, op_in}
+use Rattle.bl_index_resume.specs.declared.running.Running.{Running}
+use Rattle.bl_index_resume.specs.declared.running.Running.TheVariants as at_seat
+use Rattle.bl_index_resume.specs.Running.{IsWriteOf, op_in}
 use Rattle.bl_ffi_seats.specs.declared.seat.Seat.{Seat}
 use Rattle.bl_ffi_seats.specs.Accounts.{Account, HasGone, GoesTo, Ends, AddsEntry, TellsReply, Begins}
 use Rattle.bl_store.specs.declared.store.Hand.{Hand}
@@ -48,19 +48,19 @@ goes_goes pass old mid new goes (a, gone) = goes_on pass old mid new a goes gone
 
 -- ---- a write that is underway
 
-pub about_op : (key : ℕ) (write : KeyWrite) (s : Stage) → IsWriteOf key write s → op_in s ≡ Some (write_op key write)
-about_op key write stage.Rests about = absurd about
-about_op key write (stage.Writes p held) about = λ i. Some (write_op (about.0 i) (about.1 i))
-about_op key write (stage.Posts p held) about = absurd about
-about_op key write (stage.Compresses p held) about = absurd about
-about_op key write (stage.Lowers p held) about = absurd about
+pub about_op : (key : ℕ) (write : KeyWrite) (s : Running) → IsWriteOf key write s → op_in s ≡ Some (write_op key write)
+about_op key write at_seat.Rests about = absurd about
+about_op key write (at_seat.Writes p held) about = λ i. Some (write_op (about.0 i) (about.1 i))
+about_op key write (at_seat.Posts p held) about = absurd about
+about_op key write (at_seat.Compresses p held) about = absurd about
+about_op key write (at_seat.Lowers p held) about = absurd about
 
-pub written_of : (key : ℕ) (write : KeyWrite) (s : Stage) (hand : Hand PassState) (reply : Reply) (hint : Option Hint) → IsWriteOf key write s → HasAnswered hand s (Some (answers.Op reply hint)) → HasWritten hand key write reply hint
-written_of key write stage.Rests hand reply hint about h = absurd about
-written_of key write (stage.Writes p held) hand reply hint about h = subst (λ (z : ℕ × KeyWrite). HasWritten hand z.0 z.1 reply hint) (λ i. (about.0 i, about.1 i)) h
-written_of key write (stage.Posts p held) hand reply hint about h = absurd about
-written_of key write (stage.Compresses p held) hand reply hint about h = absurd about
-written_of key write (stage.Lowers p held) hand reply hint about h = absurd about
+pub written_of : (key : ℕ) (write : KeyWrite) (s : Running) (hand : Hand PassState) (reply : Reply) (hint : Option Hint) → IsWriteOf key write s → HasAnswered hand s (Some (answers.Op reply hint)) → HasWritten hand key write reply hint
+written_of key write at_seat.Rests hand reply hint about h = absurd about
+written_of key write (at_seat.Writes p held) hand reply hint about h = subst (λ (z : ℕ × KeyWrite). HasWritten hand z.0 z.1 reply hint) (λ i. (about.0 i, about.1 i)) h
+written_of key write (at_seat.Posts p held) hand reply hint about h = absurd about
+written_of key write (at_seat.Compresses p held) hand reply hint about h = absurd about
+written_of key write (at_seat.Lowers p held) hand reply hint about h = absurd about
 
 -- its end tells its reply
 ends_op : (n : ℕ) (op : Op) (mid new : Account) (reply : Reply) (hint : Option Hint) → mid.underway ≡ Some op → HasGone n mid (Some (answers.Op reply hint)) new → AddsEntry n op reply mid new
@@ -89,14 +89,14 @@ as_accounts old mid op (inr began) = inr began
 
 -- ---- why a search is not answered
 
-pub no_answer : {X : Type 0} (r : Option X) (index : Index) (old mid : Seat) (hand : Hand PassState) → index ≡ arc_value mid.index → HasSettled old mid → IfNone r (HasNotFound index mid.stage mid.hand hand)
-    → IfNone r ((m : Seat) × HasSettled old m × HasNotFound (arc_value mid.index) mid.stage m.hand hand)
-no_answer None index old mid hand at settled missed = (mid, settled, subst (λ (z : Index). HasNotFound z mid.stage mid.hand hand) at missed)
+pub no_answer : {X : Type 0} (r : Option X) (index : Index) (old mid : Seat) (hand : Hand PassState) → index ≡ arc_value mid.index → HasSettled old mid → IfNone r (HasNotFound index mid.running mid.hand hand)
+    → IfNone r ((m : Seat) × HasSettled old m × HasNotFound (arc_value mid.index) mid.running m.hand hand)
+no_answer None index old mid hand at settled missed = (mid, settled, subst (λ (z : Index). HasNotFound z mid.running mid.hand hand) at missed)
 no_answer (Some x) index old mid hand at settled missed = tt
 
-pub worked_still : (old mid new : Hand PassState) (s : Stage) → HasWorked old s mid → (s ≢ stage.Rests → new ≡ mid) → HasWorked old s new
-worked_still old mid new stage.Rests worked kept = inl refl
-worked_still old mid new (stage.Writes p held) worked kept = subst (HasWorked old (stage.Writes p held)) (sym (kept (λ z. cc))) worked
-worked_still old mid new (stage.Posts p held) worked kept = subst (HasWorked old (stage.Posts p held)) (sym (kept (λ z. cc))) worked
-worked_still old mid new (stage.Compresses p held) worked kept = subst (HasWorked old (stage.Compresses p held)) (sym (kept (λ z. cc))) worked
-worked_still old mid new (stage.Lowers p held) worked kept = subst (HasWorked old (stage.Lowers p held)) (sym (kept (λ z. cc))) worked
+pub worked_still : (old mid new : Hand PassState) (s : Running) → HasWorked old s mid → (s ≢ at_seat.Rests → new ≡ mid) → HasWorked old s new
+worked_still old mid new at_seat.Rests worked kept = inl refl
+worked_still old mid new (at_seat.Writes p held) worked kept = subst (HasWorked old (at_seat.Writes p held)) (sym (kept (λ z. cc))) worked
+worked_still old mid new (at_seat.Posts p held) worked kept = subst (HasWorked old (at_seat.Posts p held)) (sym (kept (λ z. cc))) worked
+worked_still old mid new (at_seat.Compresses p held) worked kept = subst (HasWorked old (at_seat.Compresses p held)) (sym (kept (λ z. cc))) worked
+worked_still old mid new (at_seat.Lowers p held) worked kept = subst (HasWorked old (at_seat.Lowers p held)) (sym (kept (λ z. cc))) worked

@@ -11,8 +11,8 @@ use Rattle.bl_index_rule.specs.declared.known.PassState.{PassState}
 use Rattle.bl_index_events.specs.Answered.{Answers}
 use Rattle.bl_index_read.specs.declared.finding.OutOfTurns.{OutOfTurns}
 use Rattle.bl_index_read.specs.Searching.{Finds, RunsOut, AnswersOrRunsOut}
-use Rattle.bl_index_resume.specs.declared.stages.Stage.{Stage}
-use Rattle.bl_index_resume.specs.declared.stages.Stage.TheVariants as stage
+use Rattle.bl_index_resume.specs.declared.running.Running.{Running}
+use Rattle.bl_index_resume.specs.declared.running.Running.TheVariants as at_seat
 use Rattle.bl_ffi_seats.specs.Seats.{HasReplied}
 use Rattle.bl_ffi_seats.specs.Accounts.{account, AddsEntry}
 use Rattle.bl_ffi_seats.proofs.Accounts.{account_is}
@@ -33,10 +33,10 @@ module _ (hand hand' : Hand PassState) (num : hand'.number ≡ hand.number) (fir
     answers = subst (λ (z : List (Option Page) × ℕ). Answers z.0 z.1 op reply (known hand.seat).trail (known hand'.seat).trail) (λ i. (sym first i, sym num i)) (finds r reply is tells).answers;
   }
 
-  pub search_told : (s : Stage) (r : Result Reply OutOfTurns) (reply : Reply) → s ≡ stage.Rests → r ≡ Ok reply → Tells r → AddsEntry hand.number op reply (account hand s) (account hand' s)
-  search_told s r reply rests is tells = subst (λ (z : Stage). AddsEntry hand.number op reply (account hand z) (account hand' z)) (sym rests)
+  pub search_told : (s : Running) (r : Result Reply OutOfTurns) (reply : Reply) → s ≡ at_seat.Rests → r ≡ Ok reply → Tells r → AddsEntry hand.number op reply (account hand s) (account hand' s)
+  search_told s r reply rests is tells = subst (λ (z : Running). AddsEntry hand.number op reply (account hand z) (account hand' z)) (sym rests)
       (account_is _ _ _ _ refl (ap (λ (z : ℕ). own z (known hand'.seat).trail) num ∙ (finds r reply is tells).answers.once))
 
-  pub search_untold : (s : Stage) (r : Result Reply OutOfTurns) (e : OutOfTurns) → s ≡ stage.Rests → r ≡ Err e → Tells r → account hand' s ≡ account hand s
-  search_untold s r e rests is tells = subst (λ (z : Stage). account hand' z ≡ account hand z) (sym rests)
+  pub search_untold : (s : Running) (r : Result Reply OutOfTurns) (e : OutOfTurns) → s ≡ at_seat.Rests → r ≡ Err e → Tells r → account hand' s ≡ account hand s
+  search_untold s r e rests is tells = subst (λ (z : Running). account hand' z ≡ account hand z) (sym rests)
       (account_is _ _ _ _ refl (ap (λ (z : ℕ). own z (known hand'.seat).trail) num ∙ (runs_out r e is tells).adds.none))

@@ -19,9 +19,9 @@ use Rattle.bl_index_events.specs.Runs.{IsSince}
 use Rattle.bl_index_events.proofs.Ends.{op_answered, op_beside, done_first}
 use Rattle.bl_index_write.specs.Events.{HasWritten as HasWrittenKey}
 use Rattle.bl_index.specs.Calls.{Writes}
-use Rattle.bl_index_resume.specs.declared.stages.Stage.{Stage}
-use Rattle.bl_index_resume.specs.declared.stages.Stage.TheVariants as stage
-use Rattle.bl_index_resume.specs.Stages.{IsWriteOf}
+use Rattle.bl_index_resume.specs.declared.running.Running.{Running}
+use Rattle.bl_index_resume.specs.declared.running.Running.TheVariants as at_seat
+use Rattle.bl_index_resume.specs.Running.{IsWriteOf}
 use Rattle.bl_ffi_seats.specs.Seats.{HasWritten}
 use Rattle.bl_ffi_seats.specs.Accounts.{account, AddsEntry, Starts}
 use Rattle.bl_ffi_seats.proofs.Accounts.{account_is}
@@ -38,12 +38,12 @@ no_room_said (key_reply.Replaced v) e = absurd (let f = e in cc)
 no_room_said (key_reply.Deleted v) e = absurd (let f = e in cc)
 no_room_said (key_reply.Differs v) e = absurd (let f = e in cc)
 
-module _ (hand hand' : Hand PassState) (num : hand'.number ≡ hand.number) (key : ℕ) (does : KeyWrite) (s s' : Stage) (rests : s ≡ stage.Rests) where
+module _ (hand hand' : Hand PassState) (num : hand'.number ≡ hand.number) (key : ℕ) (does : KeyWrite) (s s' : Running) (rests : s ≡ at_seat.Rests) where
   abbrev Begun : Type 0
   Begun = IsWriteOf key does s' × IsSince hand.number (known hand.seat) (known hand'.seat)
 
   abbrev Ended : KeyReply × Option Hint → Type 0
-  Ended said = (s' ≡ stage.Rests) × HasWrittenKey hand.number (known hand.seat) (known hand'.seat) key does (answers.Op (reply_of said.0) said.1)
+  Ended said = (s' ≡ at_seat.Rests) × HasWrittenKey hand.number (known hand.seat) (known hand'.seat) key does (answers.Op (reply_of said.0) said.1)
 
   abbrev Says : KeyReply × Option Hint → Type 0
   Says said = Writes (known hand'.seat).first hand.number (write_op key does) (reply_of said.0) said.1 (known hand.seat).trail (known hand'.seat).trail
@@ -79,10 +79,10 @@ module _ (hand hand' : Hand PassState) (num : hand'.number ≡ hand.number) (key
   }
 
   told : (said : KeyReply × Option Hint) → Ended said → AddsEntry hand.number (write_op key does) (reply_of said.0) (account hand s) (account hand' s')
-  told said ended = subst (λ (z : Stage × Stage). AddsEntry hand.number (write_op key does) (reply_of said.0) (account hand z.0) (account hand' z.1)) (λ i. (sym rests i, sym ended.0 i))
+  told said ended = subst (λ (z : Running × Running). AddsEntry hand.number (write_op key does) (reply_of said.0) (account hand z.0) (account hand' z.1)) (λ i. (sym rests i, sym ended.0 i))
       (account_is _ _ _ _ refl (ap (λ (z : ℕ). own z (known hand'.seat).trail) num ∙ (says said ended).answers.once))
 
   pub answered_started : (r : Option (KeyReply × Option Hint)) → IfSome r Ended → IfSome r Lacks
-      → IfSome r (λ said. (s' ≡ stage.Rests) × HasWritten hand' key does (reply_of said.0) said.1 × AddsEntry hand.number (write_op key does) (reply_of said.0) (account hand s) (account hand' s'))
+      → IfSome r (λ said. (s' ≡ at_seat.Rests) × HasWritten hand' key does (reply_of said.0) said.1 × AddsEntry hand.number (write_op key does) (reply_of said.0) (account hand s) (account hand' s'))
   answered_started None ended lacks = tt
   answered_started (Some said) ended lacks = (ended.0, wrote said ended lacks, told said ended)

@@ -10,9 +10,9 @@ use Rattle.bl_answers.specs.declared.answers.Answer.TheVariants as answers
 use Rattle.bl_store.specs.declared.store.Hand.{Hand}
 use Rattle.bl_store.specs.Hands.{known}
 use Rattle.bl_index_rule.specs.declared.known.PassState.{PassState}
-use Rattle.bl_index_resume.specs.declared.stages.Stage.{Stage}
-use Rattle.bl_index_resume.specs.declared.stages.Stage.TheVariants as stage
-use Rattle.bl_index_resume.specs.Stages.{IsWriteOf, HasTurnedIn}
+use Rattle.bl_index_resume.specs.declared.running.Running.{Running}
+use Rattle.bl_index_resume.specs.declared.running.Running.TheVariants as at_seat
+use Rattle.bl_index_resume.specs.Running.{IsWriteOf, HasTurnedIn}
 use Rattle.bl_index_resume.proofs.Goes.{goes_nowhere, goes_further}
 use Rattle.bl_ffi_seats.specs.declared.seat.Seat.{Seat}
 use Rattle.bl_ffi_seats.specs.declared.seat.Upkeep.{Upkeep}
@@ -63,21 +63,21 @@ prepared_still old a b is p = subst (HasPrepared old) (sym is) p
 
 -- ---- what is underway is carried on
 
-pub turned : (mid new : Seat) → new.stage ≢ stage.Rests → HasCarriedOn mid new → HasTurnedIn 256 (known mid.hand.seat) (known new.hand.seat) new.stage
+pub turned : (mid new : Seat) → new.running ≢ at_seat.Rests → HasCarriedOn mid new → HasTurnedIn 256 (known mid.hand.seat) (known new.hand.seat) new.running
 turned mid new busy (inl rests) = absurd (busy rests)
 turned mid new busy (inr turns) = turns
 
-pub carried_on : (old mid new : Seat) → IsSameSeat old mid → IsSameSeat mid new → begun_by new ≡ begun_by mid → new.stage ≢ stage.Rests → HasCarriedOn mid new → IsCarriedOn old new
+pub carried_on : (old mid new : Seat) → IsSameSeat old mid → IsSameSeat mid new → begun_by new ≡ begun_by mid → new.running ≢ at_seat.Rests → HasCarriedOn mid new → IsCarriedOn old new
 carried_on old mid new before after one busy worked = record { mid = mid; before = before; after = after; one = one; turned = turned mid new busy worked }
 
-pub about_busy : (key : ℕ) (write : KeyWrite) (s : Stage) → IsWriteOf key write s → s ≢ stage.Rests
-about_busy key write stage.Rests about e = about
-about_busy key write (stage.Writes p held) about e = (let f = e in cc)
-about_busy key write (stage.Posts p held) about e = about
-about_busy key write (stage.Compresses p held) about e = about
-about_busy key write (stage.Lowers p held) about e = about
+pub about_busy : (key : ℕ) (write : KeyWrite) (s : Running) → IsWriteOf key write s → s ≢ at_seat.Rests
+about_busy key write at_seat.Rests about e = about
+about_busy key write (at_seat.Writes p held) about e = (let f = e in cc)
+about_busy key write (at_seat.Posts p held) about e = about
+about_busy key write (at_seat.Compresses p held) about e = about
+about_busy key write (at_seat.Lowers p held) about e = about
 
-pub busy_still : (s s' : Stage) → s ≢ stage.Rests → (s ≡ stage.Rests) ⊎ (s' ≢ stage.Rests) → s' ≢ stage.Rests
+pub busy_still : (s s' : Running) → s ≢ at_seat.Rests → (s ≡ at_seat.Rests) ⊎ (s' ≢ at_seat.Rests) → s' ≢ at_seat.Rests
 busy_still s s' busy (inl rests) = absurd (busy rests)
 busy_still s s' busy (inr still) = still
 
@@ -104,16 +104,16 @@ pub looks_still : (a b c : Seat) → LooksAbout a b → IsAsItWas b c → LooksA
 looks_still a b c looks was = record {
   index = was.0 ∙ looks.index;
   hand = was.1 ∙ looks.hand;
-  stage = was.2 ∙ looks.stage;
+  running = was.2 ∙ looks.running;
   found = (looks.found.0, subst (IsFound looks.found.0 a.upkeep) (sym was.3) looks.found.1);
 }
 
 -- ---- why a write that is underway waits
 
-pub waits_still : (key : ℕ) (write : KeyWrite) (old mid new : Seat) (a : Option Answer) → a ≡ None → IsWriteOf key write mid.stage → IsSameSeat old mid → IsSameSeat mid new → begun_by new ≡ begun_by mid
-    → IfNone a ((mid.stage ≡ stage.Rests) ⊎ (new.stage ≢ stage.Rests)) → HasCarriedOn mid new → IsCarriedOn old new
+pub waits_still : (key : ℕ) (write : KeyWrite) (old mid new : Seat) (a : Option Answer) → a ≡ None → IsWriteOf key write mid.running → IsSameSeat old mid → IsSameSeat mid new → begun_by new ≡ begun_by mid
+    → IfNone a ((mid.running ≡ at_seat.Rests) ⊎ (new.running ≢ at_seat.Rests)) → HasCarriedOn mid new → IsCarriedOn old new
 waits_still key write old mid new a none about before after one still worked =
-    let busy = busy_still mid.stage new.stage (about_busy key write mid.stage about) (subst (λ (z : Option Answer). IfNone z ((mid.stage ≡ stage.Rests) ⊎ (new.stage ≢ stage.Rests))) none still) in
+    let busy = busy_still mid.running new.running (about_busy key write mid.running about) (subst (λ (z : Option Answer). IfNone z ((mid.running ≡ at_seat.Rests) ⊎ (new.running ≢ at_seat.Rests))) none still) in
     carried_on old mid new before after one busy worked
 
 pub prepared_left : (old mid new : Seat) (a : Option Answer) → a ≡ None → KeepsWhatIsLeft a mid.upkeep new.upkeep → HasPrepared old mid.upkeep → HasPrepared old new.upkeep

@@ -9,25 +9,25 @@ use Rattle.bl_answers.specs.declared.answers.Answer.TheVariants as answers
 use Rattle.bl_store.specs.declared.store.Hand.{Hand}
 use Rattle.bl_store.specs.Hands.{known}
 use Rattle.bl_index_rule.specs.declared.known.PassState.{PassState}
-use Rattle.bl_index_resume.specs.declared.stages.Stage.{Stage}
-use Rattle.bl_index_resume.specs.declared.stages.Stage.TheVariants as stage
-use Rattle.bl_index_resume.specs.Stages.{op_in}
+use Rattle.bl_index_resume.specs.declared.running.Running.{Running}
+use Rattle.bl_index_resume.specs.declared.running.Running.TheVariants as at_seat
+use Rattle.bl_index_resume.specs.Running.{op_in}
 
 -- The entries of a hand's own that it has told: those in all that it has seen; while a process is underway, those of before it.
-abbrev pub told_in : Hand PassState → Stage → List Entry
-told_in hand stage.Rests = own hand.number (known hand.seat).trail
-told_in hand (stage.Writes p held) = (known hand.seat).past
-told_in hand (stage.Posts p held) = (known hand.seat).past
-told_in hand (stage.Compresses p held) = (known hand.seat).past
-told_in hand (stage.Lowers p held) = (known hand.seat).past
+abbrev pub told_in : Hand PassState → Running → List Entry
+told_in hand at_seat.Rests = own hand.number (known hand.seat).trail
+told_in hand (at_seat.Writes p held) = (known hand.seat).past
+told_in hand (at_seat.Posts p held) = (known hand.seat).past
+told_in hand (at_seat.Compresses p held) = (known hand.seat).past
+told_in hand (at_seat.Lowers p held) = (known hand.seat).past
 
 -- the operation of the map that is underway, and the entries that are told
 pub record Account : Type 0 where
   pub underway : Option Op
   pub told : List Entry
 
-abbrev pub account : Hand PassState → Stage → Account
-account hand stage = record { underway = op_in stage; told = told_in hand stage }
+abbrev pub account : Hand PassState → Running → Account
+account hand running = record { underway = op_in running; told = told_in hand running }
 
 -- what an end tells: its reply, if it was an operation of the map
 abbrev pub Ends : ℕ → Option Op → Answer → List Entry → List Entry → Type 0

@@ -11,7 +11,7 @@ use Rattle.bl_index_rule.specs.declared.known.PassState.{PassState}
 use Rattle.bl_index.specs.declared.index.Index.{Index}
 use Rattle.bl_index.specs.Calls.{pages_of, passes_of}
 use Rattle.bl_index.specs.Closed.{HasCapacity, ClosesHands}
-use Rattle.bl_index_resume.specs.declared.stages.Stage.TheVariants as stage
+use Rattle.bl_index_resume.specs.declared.running.Running.TheVariants as at_seat
 use Rattle.bl_ffi_seats.specs.declared.seat.Seat.{Seat}
 use Rattle.bl_ffi_seats.specs.declared.closing.Prepared.{Prepared}
 use Rattle.bl_ffi_seats.specs.declared.closing.CloseFault.{CloseFault}
@@ -52,11 +52,11 @@ abbrev pub HaveSettled : List Seat → List Seat → Type 0
 HaveSettled old new = AllZip HasSettled old new
 
 abbrev pub AllRest : List Seat → Type 0
-AllRest seats = All (λ seat. seat.stage ≡ stage.Rests) seats
+AllRest seats = All (λ seat. seat.running ≡ at_seat.Rests) seats
 
 -- something is underway at one of them
 abbrev pub IsOneUnderway : List Seat → Type 0
-IsOneUnderway seats = (k : ℕ) × (seat : Seat) × (get_elem? seats k ≡ some seat) × (seat.stage ≢ stage.Rests)
+IsOneUnderway seats = (k : ℕ) × (seat : Seat) × (get_elem? seats k ≡ some seat) × (seat.running ≢ at_seat.Rests)
 
 -- The seats are all those of one index, which is closed by their hands.
 pub record AreShut (seats : List Seat) (pages : List (Option Page)) : Type 0 where

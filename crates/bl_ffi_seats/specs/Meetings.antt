@@ -2,7 +2,7 @@
 use Rattle.std.specs.Arc.{arc_value}
 use Rattle.std.specs.Prelude.{◌≡◌}
 use Rattle.bl_index.specs.Meetings.{Meet}
-use Rattle.bl_index_resume.specs.declared.stages.Stage.TheVariants as stage
+use Rattle.bl_index_resume.specs.declared.running.Running.TheVariants as at_seat
 use Rattle.bl_ffi_seats.specs.declared.seat.Seat.{Seat}
 use Rattle.bl_ffi_seats.specs.Seats.{HasNotFound}
 use Rattle.bl_ffi_seats.specs.Tended.{KeepsUpkeep}
@@ -18,19 +18,19 @@ pub record HasSettled (old new : Seat) : Type 0 where
   pub told : HasGoneOn old new
   pub worked : HasCarriedOn old new
   pub upkeep : KeepsUpkeep old new
-  pub kept : old.stage ≡ stage.Rests → new ≡ old
+  pub kept : old.running ≡ at_seat.Rests → new ≡ old
 
 -- Why a search or a part is not answered: the seat has settled, and something is underway still; or a search ran out of turns then.
 abbrev pub HasNoAnswer : Seat → Seat → Type 0
-HasNoAnswer old new = (mid : Seat) × HasSettled old mid × HasNotFound (arc_value new.index) new.stage mid.hand new.hand
+HasNoAnswer old new = (mid : Seat) × HasSettled old mid × HasNotFound (arc_value new.index) new.running mid.hand new.hand
 
 -- The seat has settled, and rests.
 abbrev pub HasRested : Seat → Seat → Type 0
-HasRested old new = HasSettled old new × (new.stage ≡ stage.Rests)
+HasRested old new = HasSettled old new × (new.running ≡ at_seat.Rests)
 
 -- the same upkeep waits, and nothing is underway
 abbrev pub RestsAs : Seat → Seat → Type 0
-RestsAs old new = (new.stage ≡ stage.Rests) × (new.upkeep ≡ old.upkeep)
+RestsAs old new = (new.running ≡ at_seat.Rests) × (new.upkeep ≡ old.upkeep)
 
 -- Both came to rest, and have met then: both have seen one trail, which begins with what each had seen when it rested.
 pub record HaveMet (one two one' two' : Seat) : Type 0 where

@@ -24,13 +24,13 @@ use Rattle.bl_index_events.specs.Answered.{Answers}
 use Rattle.bl_index_events.specs.Rooms.{LacksPost}
 use Rattle.bl_index.specs.declared.index.Index.{Index}
 use Rattle.bl_index.specs.Calls.{pages_of, Writes, Posts, Sweeps}
-use Rattle.bl_index_resume.specs.declared.stages.Stage.{Stage}
-use Rattle.bl_index_resume.specs.declared.stages.Stage.TheVariants as stage
-use Rattle.bl_index_resume.specs.Stages.{Stands, HasTurnedIn}
+use Rattle.bl_index_resume.specs.declared.running.Running.{Running}
+use Rattle.bl_index_resume.specs.declared.running.Running.TheVariants as at_seat
+use Rattle.bl_index_resume.specs.Running.{Stands, HasTurnedIn}
 
 -- the hand is one of the index's, and runs no process, or the one that it is about
-abbrev pub IsSeated : Index → Hand PassState → Stage → Type 0
-IsSeated index hand stage = Stands index hand stage
+abbrev pub IsSeated : Index → Hand PassState → Running → Type 0
+IsSeated index hand running = Stands index hand running
 
 -- the same hand, of the same index, as far as it tells; and what it has seen goes on from what it had seen
 abbrev pub IsSameOne : Hand PassState → Hand PassState → Type 0
@@ -71,8 +71,8 @@ abbrev pub HasRunOut : Index → Hand PassState → Hand PassState → Type 0
 HasRunOut index old new = RunsOut (known old.seat).first (pages_of index) old.number (pages_of index) (known old.seat).trail (known new.seat).trail
 
 -- Something is underway, and nothing was done; or a search ran out of turns.
-abbrev pub HasNotFound : Index → Stage → Hand PassState → Hand PassState → Type 0
-HasNotFound index s old new = ((s ≢ stage.Rests) × (new ≡ old)) ⊎ HasRunOut index old new
+abbrev pub HasNotFound : Index → Running → Hand PassState → Hand PassState → Type 0
+HasNotFound index s old new = ((s ≢ at_seat.Rests) × (new ≡ old)) ⊎ HasRunOut index old new
 
 -- how many processes the hand has begun
 abbrev pub begun_in : Hand PassState → ℕ
@@ -80,8 +80,8 @@ begun_in hand = (known hand.seat).number
 
 -- The hand rests; or what was underway is so still, after 256 more events of it and at most 64 beside until it holds no page. A post or a
 -- lowering may hold one then, after all 64.
-abbrev pub HasWorked : Hand PassState → Stage → Hand PassState → Type 0
-HasWorked old s new = (s ≡ stage.Rests) ⊎ HasTurnedIn 256 (known old.seat) (known new.seat) s
+abbrev pub HasWorked : Hand PassState → Running → Hand PassState → Type 0
+HasWorked old s new = (s ≡ at_seat.Rests) ⊎ HasTurnedIn 256 (known old.seat) (known new.seat) s
 
 -- the reply of an operation of the map
 abbrev pub reply_in : Answer → Option Reply
@@ -93,12 +93,12 @@ abbrev pub IfWritten : Hand PassState → ℕ → KeyWrite → Option Answer →
 IfWritten hand key write (Some (answers.Op reply hint)) = HasWritten hand key write reply hint
 IfWritten hand key write other = Unit {0}
 
-abbrev pub HasAnswered : Hand PassState → Stage → Option Answer → Type 0
-HasAnswered hand (stage.Writes p held) answer = IfWritten hand p.key p.write answer
+abbrev pub HasAnswered : Hand PassState → Running → Option Answer → Type 0
+HasAnswered hand (at_seat.Writes p held) answer = IfWritten hand p.key p.write answer
 HasAnswered hand other answer = Unit {0}
 
 -- Something was underway, and nothing is done; or the hand has swept once, and was answered how many pages and frames are released.
-abbrev pub HasReleased : ℕ → Stage → Hand PassState → Hand PassState → Type 0
-HasReleased answer stage.Rests old new =
+abbrev pub HasReleased : ℕ → Running → Hand PassState → Hand PassState → Type 0
+HasReleased answer at_seat.Rests old new =
     Sweeps (known old.seat).first old.number answer (known old.seat).trail (known new.seat).trail × HasSweptOnce old new
 HasReleased answer other old new = (answer ≡ 0) × (new ≡ old)

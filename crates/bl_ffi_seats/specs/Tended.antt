@@ -7,8 +7,8 @@ use Rattle.bl_model.specs.Writes.{write_op}
 use Rattle.bl_answers.specs.declared.answers.Answer.{Answer}
 use Rattle.bl_answers.specs.declared.answers.Hint.{Hint}
 use Rattle.bl_store.specs.Hands.{known}
-use Rattle.bl_index_resume.specs.declared.stages.Stage.TheVariants as stage
-use Rattle.bl_index_resume.specs.Stages.{HasTurnedIn}
+use Rattle.bl_index_resume.specs.declared.running.Running.TheVariants as at_seat
+use Rattle.bl_index_resume.specs.Running.{HasTurnedIn}
 use Rattle.bl_ffi_seats.specs.declared.seat.Come.{Come}
 use Rattle.bl_ffi_seats.specs.declared.seat.Come.TheVariants.{Waits, Underway, Answered}
 use Rattle.bl_ffi_seats.specs.declared.seat.Seat.{Seat}
@@ -28,17 +28,17 @@ pub record GoesOn (answer : Option Answer) (old new : Seat) : Type 0 where
 
 -- The same of a seat at which nothing may be underway: its upkeep is as it was then.
 abbrev pub KeepsUpkeep : Seat → Seat → Type 0
-KeepsUpkeep old new = (answer : Option Answer) × KeepsWhatIsLeft answer old.upkeep new.upkeep × (old.stage ≡ stage.Rests → new.upkeep ≡ old.upkeep)
+KeepsUpkeep old new = (answer : Option Answer) × KeepsWhatIsLeft answer old.upkeep new.upkeep × (old.running ≡ at_seat.Rests → new.upkeep ≡ old.upkeep)
 
 -- It has done nothing.
 abbrev pub IsAsItWas : Seat → Seat → Type 0
-IsAsItWas old new = (new.index ≡ old.index) × (new.hand ≡ old.hand) × (new.stage ≡ old.stage) × (new.upkeep ≡ old.upkeep)
+IsAsItWas old new = (new.index ≡ old.index) × (new.hand ≡ old.hand) × (new.running ≡ old.running) × (new.upkeep ≡ old.upkeep)
 
 -- It has looked at pages, and has done nothing else. A piece that it has found waits.
 pub record LooksAbout (old new : Seat) : Type 0 where
   pub index : new.index ≡ old.index
   pub hand : new.hand ≡ old.hand
-  pub stage : new.stage ≡ old.stage
+  pub running : new.running ≡ old.running
   pub found : (piece : Option Hint) × IsFound piece old.upkeep new.upkeep
 
 -- It has swept once, and has done nothing else.
@@ -47,7 +47,7 @@ pub record SweepsOnce (old new : Seat) : Type 0 where
   pub same : IsSameSeat old new
   pub swept : HasSwept answer old new
   pub count : released_by new ≡ released_by old + answer
-  pub keeps : (new.stage ≡ old.stage) × (new.upkeep ≡ old.upkeep)
+  pub keeps : (new.running ≡ old.running) × (new.upkeep ≡ old.upkeep)
 
 -- It has swept so many times.
 pub data Swept : ℕ → Seat → Seat → Type 0 where
@@ -58,7 +58,7 @@ pub data Swept : ℕ → Seat → Seat → Type 0 where
 pub record TakesUp (old new : Seat) : Type 0 where
   pub same : IsSameSeat old new
   pub told : account_of new ≡ account_of old
-  pub begun : ((old.stage ≢ stage.Rests) × (new ≡ old)) ⊎ ((old.stage ≡ stage.Rests) × HasBegunPiece old new)
+  pub begun : ((old.running ≢ at_seat.Rests) × (new ≡ old)) ⊎ ((old.running ≡ at_seat.Rests) × HasBegunPiece old new)
 
 -- It has done so many pieces of upkeep one after another, the one that was underway among them, and has looked about and swept between them.
 pub data Tends : ℕ → Seat → Seat → Type 0 where
@@ -77,7 +77,7 @@ pub record IsCarriedOn (old new : Seat) : Type 0 where
   pub before : IsSameSeat old mid
   pub after : IsSameSeat mid new
   pub one : begun_by new ≡ begun_by mid
-  pub turned : HasTurnedIn 256 (known mid.hand.seat) (known new.hand.seat) new.stage
+  pub turned : HasTurnedIn 256 (known mid.hand.seat) (known new.hand.seat) new.running
 
 -- It has done so many pieces at most; and as many, where something is left to do and nothing is underway. Where something is, it was carried
 -- on, unless it was to do none.
@@ -85,8 +85,8 @@ pub record HasTended (most : ℕ) (old new : Seat) : Type 0 where
   pub count : ℕ
   pub tends : Tends count old new
   pub few : count ≤ most
-  pub enough : HasNothingToDo new ⊎ (new.stage ≢ stage.Rests) ⊎ (count ≡ most)
-  pub carried : 0 < most → new.stage ≢ stage.Rests → IsCarriedOn old new
+  pub enough : HasNothingToDo new ⊎ (new.running ≢ at_seat.Rests) ⊎ (count ≡ most)
+  pub carried : 0 < most → new.running ≢ at_seat.Rests → IsCarriedOn old new
 
 -- Before a change upkeep was done, 16 pieces at most, and then these pieces wait.
 pub record HasPrepared (old : Seat) (upkeep : Upkeep) : Type 0 where
@@ -107,10 +107,10 @@ MayEnter other = ⊥
 pub record HasFoundNoRoom (write : KeyWrite) (old new : Seat) : Type 0 where
   pub tended : Seat
   pub upkeep : HasTended 16 old tended
-  pub rests : tended.stage ≡ stage.Rests
+  pub rests : tended.running ≡ at_seat.Rests
   pub looked : Seat
   pub looks : Swept 8 tended looked ⊎ (MayEnter write × Tends 0 tended looked)
-  pub now : (new.hand ≡ looked.hand) × (new.stage ≡ looked.stage)
+  pub now : (new.hand ≡ looked.hand) × (new.running ≡ looked.running)
   pub counted : (lacked_in new.upkeep ≡ lacked_in old.upkeep + 1) × (lacked_in new.upkeep ≤ 65536)
 
 -- Why a write is not answered: what is underway, this very write or another process, was carried on; or there was no room.

@@ -124,7 +124,7 @@ fn shut(seats: Vec<Box<Seat, Global>>, prepared: Prepared) -> Result<Quiet, Clos
     let mut seats = seats;
     while !seats.is_empty() {
         let seat = Box::into_inner(seats.remove(0));
-        stands(index.tree(), &seat.hand, &seat.stage);
+        stands(index.tree(), &seat.hand, &seat.running);
         let Seat { hand, .. } = seat;
         hands.push_reserved(hand);
     }

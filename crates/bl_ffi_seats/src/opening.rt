@@ -9,7 +9,7 @@ ghost use Rattle.bl_ffi_seats.specs.Opened.{AreSeatsOf, AreSeatsOpened, AreReope
 use crate::seat::{Seat, Upkeep};
 use bl_check::{Fault, load};
 use bl_index::{Config, Index, OpenFault, Pass};
-use bl_index_resume::Stage;
+use bl_index_resume::Running;
 use std::alloc::{AllocError, Global};
 use std::sync::Arc;
 
@@ -102,7 +102,7 @@ fn seat_of(index: Arc<Index, Global>, pass: Pass) -> Seat
     Seat {
         index,
         hand: pass.into_hand(),
-        stage: Stage::Rests,
+        running: Running::Rests,
         upkeep: Upkeep::new(),
     }
 }

@@ -10,7 +10,7 @@ use crate::working::{
 };
 use bl_index::{Index, KeyReply, KeyWrite, Reply, RoomSeen};
 use bl_index_events::Tree;
-use bl_index_resume::{Stage, stands};
+use bl_index_resume::{Running, stands};
 use bl_index_rule::PassState;
 use bl_proc::{Answer, Direction, Hint, Lowered, Posted, Squeezed};
 use bl_reserve::lacks_frames;
@@ -34,9 +34,9 @@ const TRIES_WITHOUT_ROOM: u32 = 65_536;
 pub struct Seat {
     pub(crate) index: Arc<Index, Global>,
     pub(crate) hand: Hand<PassState>,
-    pub(crate) stage: Stage,
+    pub(crate) running: Running,
     pub(crate) upkeep: Upkeep,
-    pub ghost own: { ∥ IsSeated (arc_value index) hand stage ∥₁ },
+    pub ghost own: { ∥ IsSeated (arc_value index) hand running ∥₁ },
 }
 
 /// How far a write of a seat has come.
@@ -166,7 +166,7 @@ impl Upkeep {
 impl Seat {
     ghost use Rattle.std.specs.Prelude.{◌≡◌, ◌≢◌, ◌↔◌, ◌⊎◌, ◌+◌, ◌<◌, ◌≤◌, IfSome, IfNone, MatchOption, MatchBool, length, true, false};
     ghost use Rattle.bl_model.specs.declared.operation.Op.TheVariants as op;
-    ghost use Rattle.bl_index_resume.specs.declared.stages.Stage.TheVariants as stages;
+    ghost use Rattle.bl_index_resume.specs.declared.running.Running.TheVariants as at_seat;
     ghost use Rattle.bl_model.specs.Replies.{reply_of};
     ghost use Rattle.bl_model.specs.Writes.{write_op};
     ghost use Rattle.bl_proc.specs.Parts.{op_toward};
@@ -174,7 +174,7 @@ impl Seat {
     ghost use Rattle.bl_ffi_seats.specs.Accounts.{AddsEntry, HasGone, Starts};
     ghost use Rattle.std.specs.Prelude.{ℕ, Option};
     ghost use Rattle.bl_answers.specs.declared.answers.Hint.{Hint as HintIs};
-    ghost use Rattle.bl_index_resume.specs.Stages.{IsAtRest};
+    ghost use Rattle.bl_index_resume.specs.Running.{IsAtRest};
     ghost use Rattle.bl_waiting.specs.Queue.{hints_of, IsKept};
     ghost use Rattle.bl_ffi_seats.specs.Waits.{lacked_in, IsFound, KeepsWhatIsLeft};
     ghost use Rattle.bl_ffi_seats.specs.Calls.{IsSameSeat, HasToldLast, HasTold, HasGoneOn, HasGoneOnOrBegun, HasSwept, HasNothingToDo, HasBegunPiece};
@@ -194,7 +194,7 @@ impl Seat {
         ensures told { MatchOption result (HasGoneOn self.old self.new) (λ reply. HasTold (op.Find key) (reply_of reply) self.old self.new) }
     {
         self.settle();
-        find(&self.index, &mut self.hand, &self.stage, key)
+        find(&self.index, &mut self.hand, &self.running, key)
     }
 
     /// Fetches from memory, side by side, the pages that calls about these keys will read, 8 keys at most, so that they are near when the calls
@@ -277,9 +277,9 @@ impl Seat {
         ensures swept { HasSwept result self.old self.new }
         ensures count { released_by self.new ≡ released_by self.old + result }
         ensures told { account_of self.new ≡ account_of self.old }
-        ensures keeps { (self.new.stage ≡ self.old.stage) × (self.new.upkeep ≡ self.old.upkeep) }
+        ensures keeps { (self.new.running ≡ self.old.running) × (self.new.upkeep ≡ self.old.upkeep) }
     {
-        release(&self.index, &mut self.hand, &self.stage)
+        release(&self.index, &mut self.hand, &self.running)
     }
 
     /// The seats meet: each then has seen all that has happened in the index, and so all that the other one had. Says whether they have. Where
@@ -290,7 +290,7 @@ impl Seat {
         ensures told { HasGoneOn self.old self.new × HasGoneOn other.old other.new }
         ensures worked { HasCarriedOn self.old self.new × HasCarriedOn other.old other.new }
         ensures upkeep { KeepsUpkeep self.old self.new × KeepsUpkeep other.old other.new }
-        ensures waits { result ≡ false → (self.new.stage ≢ stages.Rests) ⊎ (other.new.stage ≢ stages.Rests) }
+        ensures waits { result ≡ false → (self.new.running ≢ at_seat.Rests) ⊎ (other.new.running ≢ at_seat.Rests) }
         ensures met { result ≡ true → HaveMet self.old other.old self.new other.new }
     {
         self.settle();
@@ -298,9 +298,9 @@ impl Seat {
         meet(
             &self.index,
             &mut self.hand,
-            &self.stage,
+            &self.running,
             &mut other.hand,
-            &other.stage,
+            &other.running,
         )
     }
 
@@ -308,7 +308,7 @@ impl Seat {
     /// that is dropped before keeps all others from releasing what was swapped out, and may leave a page latched.
     pub fn rest(&mut self) -> bool
         ensures settled { HasSettled self.old self.new }
-        ensures rests { result ≡ true ↔ self.new.stage ≡ stages.Rests }
+        ensures rests { result ≡ true ↔ self.new.running ≡ at_seat.Rests }
         ensures idle { result ≡ true → IsAtRest (arc_value self.new.index) self.new.hand }
     {
         self.settle();
@@ -356,20 +356,20 @@ impl Seat {
 
     /// Whether no call is underway at the seat.
     pub(crate) fn is_at_rest(&self) -> bool
-        ensures { result ≡ true ↔ self.now.stage ≡ stages.Rests }
+        ensures { result ≡ true ↔ self.now.running ≡ at_seat.Rests }
     {
-        match self.stage {
-            Stage::Rests => true,
+        match self.running {
+            Running::Rests => true,
             _ => false,
         }
     }
 
     /// Whether its hand runs no process, and holds no page.
     fn is_idle(&self) -> bool
-        ensures rests { result ≡ true ↔ self.now.stage ≡ stages.Rests }
+        ensures rests { result ≡ true ↔ self.now.running ≡ at_seat.Rests }
         ensures idle { result ≡ true → IsAtRest (arc_value self.now.index) self.now.hand }
     {
-        stands(self.index.tree(), &self.hand, &self.stage);
+        stands(self.index.tree(), &self.hand, &self.running);
         self.is_at_rest()
     }
 
@@ -384,8 +384,8 @@ impl Seat {
     fn is_writing(&self, key: u64, write: KeyWrite) -> bool
         ensures { result ≡ true → IsAbout key write self.now }
     {
-        match &self.stage {
-            Stage::Writes(process, _) => process.key == key && process.write == write,
+        match &self.running {
+            Running::Writes(process, _) => process.key == key && process.write == write,
             _ => false,
         }
     }
@@ -403,7 +403,7 @@ impl Seat {
         part(
             &self.index,
             &mut self.hand,
-            &self.stage,
+            &self.running,
             direction,
             from,
             near,
@@ -416,7 +416,7 @@ impl Seat {
         ensures told { HasGoneOn self.old self.new }
         ensures worked { HasCarriedOn self.old self.new }
         ensures upkeep { KeepsUpkeep self.old self.new }
-        ensures kept { self.old.stage ≡ stages.Rests → self.new ≡ self.old }
+        ensures kept { self.old.running ≡ at_seat.Rests → self.new ≡ self.old }
     {
         if self.is_at_rest() {
             return;
@@ -427,15 +427,15 @@ impl Seat {
     /// What is underway goes on. What it leaves to do waits. Gives its answer, where it has ended.
     fn go_on(&mut self) -> Option<Answer>
         ensures same { IsSameSeat self.old self.new }
-        ensures answers { HasAnswered self.new.hand self.old.stage result }
+        ensures answers { HasAnswered self.new.hand self.old.running result }
         ensures gone { HasGone (seat_number self.old) (account_of self.old) result (account_of self.new) }
-        ensures rests { IfSome result (λ _. self.new.stage ≡ stages.Rests) }
+        ensures rests { IfSome result (λ _. self.new.running ≡ at_seat.Rests) }
         ensures worked { HasCarriedOn self.old self.new }
-        ensures still { IfNone result ((self.old.stage ≡ stages.Rests) ⊎ (self.new.stage ≢ stages.Rests)) }
+        ensures still { IfNone result ((self.old.running ≡ at_seat.Rests) ⊎ (self.new.running ≢ at_seat.Rests)) }
         ensures begun { begun_by self.new ≡ begun_by self.old }
         ensures left { KeepsWhatIsLeft result self.old.upkeep self.new.upkeep }
     {
-        let answer = go_on(&self.index, &mut self.hand, &mut self.stage);
+        let answer = go_on(&self.index, &mut self.hand, &mut self.running);
         if let Some(answer) = &answer {
             self.upkeep.note(answer);
             note_answer(&self.index, answer);
@@ -445,7 +445,7 @@ impl Seat {
 
     /// Begins a piece of upkeep. Says whether there was one. A post is mostly done at once: what it leaves to do waits then.
     fn begin_piece(&mut self) -> bool
-        requires { self.old.stage ≡ stages.Rests }
+        requires { self.old.running ≡ at_seat.Rests }
         ensures same { IsSameSeat self.old self.new }
         ensures told { account_of self.new ≡ account_of self.old }
         ensures piece { MatchBool result (HasBegunPiece self.old self.new) (HasNothingToDo self.new × IsAsItWas self.old self.new) }
@@ -454,13 +454,13 @@ impl Seat {
     {
         if self.upkeep.may_fall {
             self.upkeep.may_fall = false;
-            begin_lowering(&self.index, &mut self.hand, &mut self.stage);
+            begin_lowering(&self.index, &mut self.hand, &mut self.running);
             return true;
         }
         let Some(piece) = self.upkeep.take() else {
             return false;
         };
-        let answer = begin_following(&self.index, &mut self.hand, &mut self.stage, piece);
+        let answer = begin_following(&self.index, &mut self.hand, &mut self.running, piece);
         if let Some(answer) = &answer {
             self.upkeep.note(answer);
         }
@@ -472,9 +472,9 @@ impl Seat {
         ensures same { IsSameSeat self.old self.new }
         ensures told { account_of self.new ≡ account_of self.old }
         ensures none { result ≡ false → HasNothingToDo self.new × IsAsItWas self.old self.new }
-        ensures piece { result ≡ true → ((self.old.stage ≢ stages.Rests) × (self.new ≡ self.old)) ⊎ ((self.old.stage ≡ stages.Rests) × HasBegunPiece self.old self.new) }
+        ensures piece { result ≡ true → ((self.old.running ≢ at_seat.Rests) × (self.new ≡ self.old)) ⊎ ((self.old.running ≡ at_seat.Rests) × HasBegunPiece self.old self.new) }
         ensures row { lacked_in self.new.upkeep ≡ lacked_in self.old.upkeep }
-        ensures begun { result ≡ true → begun_by self.new + count_underway self.old.stage ≡ begun_by self.old + 1 }
+        ensures begun { result ≡ true → begun_by self.new + count_underway self.old.running ≡ begun_by self.old + 1 }
     {
         if !self.is_at_rest() {
             return true;
@@ -503,7 +503,7 @@ impl Seat {
     fn may_begin(&mut self, key: u64, write: KeyWrite) -> bool
         ensures same { IsSameSeat self.old self.new }
         ensures told { HasGoneOn self.old self.new }
-        ensures rests { result ≡ true → self.new.stage ≡ stages.Rests }
+        ensures rests { result ≡ true → self.new.running ≡ at_seat.Rests }
         ensures prepared { HasPrepared self.old self.new.upkeep }
         ensures waits { result ≡ false → HasToWait write self.old self.new }
     {
@@ -521,7 +521,7 @@ impl Seat {
     /// The write begins, and goes on by the words of pages. Its reply, where it is answered at once: what it leaves to do waits then. Else it
     /// is underway.
     fn start(&mut self, key: u64, write: KeyWrite) -> Option<Reply>
-        requires { self.old.stage ≡ stages.Rests }
+        requires { self.old.running ≡ at_seat.Rests }
         ensures same { IsSameSeat self.old self.new }
         ensures underway { IfNone result (IsAbout key write self.new × Starts (write_op key write) (account_of self.old) (account_of self.new)
             × (self.new.upkeep ≡ self.old.upkeep)) }
@@ -529,7 +529,7 @@ impl Seat {
             × IsKept hint self.old.upkeep.waiting self.new.upkeep.waiting)
             × AddsEntry (seat_number self.old) (write_op key write) reply (account_of self.old) (account_of self.new)) }
     {
-        match start_writing(&self.index, &mut self.hand, &mut self.stage, key, write) {
+        match start_writing(&self.index, &mut self.hand, &mut self.running, key, write) {
             Some((reply, hint)) => {
                 self.upkeep.keep(hint);
                 let reply = reply.reply();
@@ -544,7 +544,7 @@ impl Seat {
     fn finds_room(&mut self, key: u64, write: KeyWrite) -> bool
         ensures same { IsSameSeat self.old self.new }
         ensures told { account_of self.new ≡ account_of self.old }
-        ensures keeps { (self.new.stage ≡ self.old.stage) × (lacked_in self.new.upkeep ≡ lacked_in self.old.upkeep) }
+        ensures keeps { (self.new.running ≡ self.old.running) × (lacked_in self.new.upkeep ≡ lacked_in self.old.upkeep) }
         ensures looked { DoesNoPiece self.old self.new }
         ensures none { result ≡ false → Swept 8 self.old self.new ⊎ (MayEnter write × Tends 0 self.old self.new) }
     {
@@ -558,7 +558,7 @@ impl Seat {
     fn has_frames(&mut self) -> bool
         ensures same { IsSameSeat self.old self.new }
         ensures told { account_of self.new ≡ account_of self.old }
-        ensures keeps { (self.new.stage ≡ self.old.stage) × (self.new.upkeep ≡ self.old.upkeep) }
+        ensures keeps { (self.new.running ≡ self.old.running) × (self.new.upkeep ≡ self.old.upkeep) }
         ensures swept { (n : ℕ) × Swept n self.old self.new × (result ≡ false → n ≡ 8) }
     {
         for _look in 0..SWEEPS_FOR_ROOM {
@@ -580,7 +580,7 @@ impl Seat {
     fn has_pages(&mut self, key: u64, write: KeyWrite) -> bool
         ensures same { IsSameSeat self.old self.new }
         ensures told { account_of self.new ≡ account_of self.old }
-        ensures keeps { (self.new.stage ≡ self.old.stage) × (lacked_in self.new.upkeep ≡ lacked_in self.old.upkeep) }
+        ensures keeps { (self.new.running ≡ self.old.running) × (lacked_in self.new.upkeep ≡ lacked_in self.old.upkeep) }
         ensures looked { DoesNoPiece self.old self.new }
         ensures only { result ≡ false → MayEnter write }
     {
@@ -603,7 +603,7 @@ impl Seat {
     fn release_pages(&mut self)
         ensures same { IsSameSeat self.old self.new }
         ensures told { account_of self.new ≡ account_of self.old }
-        ensures keeps { (self.new.stage ≡ self.old.stage) × (self.new.upkeep ≡ self.old.upkeep) }
+        ensures keeps { (self.new.running ≡ self.old.running) × (self.new.upkeep ≡ self.old.upkeep) }
         ensures swept { (n : ℕ) × Swept n self.old self.new }
     {
         for _sweep in 0..SWEEPS_FOR_ROOM {
@@ -617,7 +617,7 @@ impl Seat {
     /// Where pieces were dropped or pages are scarce, and nothing waits, it looks at pages until it comes to one that is half full at most.
     /// The hint of that waits then.
     fn look_about(&mut self)
-        ensures same { (self.new.index ≡ self.old.index) × (self.new.hand ≡ self.old.hand) × (self.new.stage ≡ self.old.stage) }
+        ensures same { (self.new.index ≡ self.old.index) × (self.new.hand ≡ self.old.hand) × (self.new.running ≡ self.old.running) }
         ensures found { (piece : Option HintIs) × IsFound piece self.old.upkeep self.new.upkeep }
     {
         if !self.has_nothing_to_do() {

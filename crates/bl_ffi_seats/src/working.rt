@@ -7,7 +7,7 @@ ghost use Rattle.bl_answers.specs.declared.answers.Hint.TheVariants as hints;
 ghost use Rattle.bl_model.specs.Writes.{write_op};
 ghost use Rattle.bl_ffi_seats.specs.Seats.{IsSeated, IsSameOne, HasAnswered, HasFound, HasReplied, HasReleased, HasNotFound, HasWorked, HasWritten, HasFollowed, HasPosted, begun_in};
 ghost use Rattle.bl_ffi_seats.specs.Accounts.{account, HasGone, AddsEntry, Starts};
-ghost use Rattle.bl_index_resume.specs.Stages.{IsWriteOf, IsFor, IsLowering};
+ghost use Rattle.bl_index_resume.specs.Running.{IsWriteOf, IsFor, IsLowering};
 ghost use Rattle.bl_proc.specs.Parts.{op_toward};
 ghost use Rattle.bl_store.specs.Hands.{known, IsIdle, IsSameHand, IsSameStock};
 ghost use Rattle.bl_store.specs.Owners.{IsHandOf};
@@ -15,13 +15,13 @@ ghost use Rattle.bl_claims.specs.Seeing.{IsSeen};
 ghost use Rattle.bl_index_events.specs.Runs.{Rests};
 ghost use Rattle.bl_index_read.specs.Searching.{AnswersOrRunsOut};
 ghost use Rattle.bl_index.specs.Meetings.{Meet};
-ghost use Rattle.bl_index_resume.specs.declared.stages.Stage.TheVariants as stages;
+ghost use Rattle.bl_index_resume.specs.declared.running.Running.TheVariants as at_seat;
 
 use bl_index::{Hint, Index, KeyReply, KeyWrite, Reply};
 use bl_index_events::Tree;
 use bl_index_read::{OutOfTurns, find_key, list_part, list_part_down};
 use bl_index_resume::{
-    Stage, advance, begin_hint, begin_lower, stands, start_post, start_write, sweep,
+    Running, advance, begin_hint, begin_lower, stands, start_post, start_write, sweep,
 };
 use bl_index_rule::PassState;
 use bl_proc::{Answer, Direction, Posted};
@@ -34,21 +34,21 @@ const EVENTS: u32 = 256;
 pub(crate) fn find(
     index: &Index,
     hand: &mut Hand<PassState>,
-    stage: &Stage,
+    running: &Running,
     key: u64,
 ) -> Option<KeyReply>
-    requires { ∥ IsSeated index.now hand.old stage.now ∥₁ }
+    requires { ∥ IsSeated index.now hand.old running.now ∥₁ }
     ensures same { IsSameOne hand.old hand.new }
-    ensures stands { IsSeated index.now hand.new stage.now }
-    ensures kept { stage.now ≢ stages.Rests → hand.new ≡ hand.old }
-    ensures missed { IfNone result (HasNotFound index.now stage.now hand.old hand.new) }
+    ensures stands { IsSeated index.now hand.new running.now }
+    ensures kept { running.now ≢ at_seat.Rests → hand.new ≡ hand.old }
+    ensures missed { IfNone result (HasNotFound index.now running.now hand.old hand.new) }
     ensures found { IfSome result (λ reply. HasFound hand.new key (reply_of reply)) }
-    ensures told { MatchOption result (account hand.new stage.now ≡ account hand.old stage.now)
-        (λ reply. AddsEntry hand.old.number (op.Find key) (reply_of reply) (account hand.old stage.now) (account hand.new stage.now)) }
+    ensures told { MatchOption result (account hand.new running.now ≡ account hand.old running.now)
+        (λ reply. AddsEntry hand.old.number (op.Find key) (reply_of reply) (account hand.old running.now) (account hand.new running.now)) }
 {
-    stands(index.tree(), hand, stage);
-    match stage {
-        Stage::Rests => match find_key(index.tree(), hand, key, None, index.patience()) {
+    stands(index.tree(), hand, running);
+    match running {
+        Running::Rests => match find_key(index.tree(), hand, key, None, index.patience()) {
             Ok(found) => Some(found),
             Err(_) => None,
         },
@@ -85,23 +85,23 @@ fn list(
 pub(crate) fn part(
     index: &Index,
     hand: &mut Hand<PassState>,
-    stage: &Stage,
+    running: &Running,
     direction: Direction,
     from: u64,
     near: &mut Option<u32>,
 ) -> Option<Reply>
-    requires { ∥ IsSeated index.now hand.old stage.now ∥₁ }
+    requires { ∥ IsSeated index.now hand.old running.now ∥₁ }
     ensures same { IsSameOne hand.old hand.new }
-    ensures stands { IsSeated index.now hand.new stage.now }
-    ensures kept { stage.now ≢ stages.Rests → hand.new ≡ hand.old }
-    ensures missed { IfNone result (HasNotFound index.now stage.now hand.old hand.new) }
+    ensures stands { IsSeated index.now hand.new running.now }
+    ensures kept { running.now ≢ at_seat.Rests → hand.new ≡ hand.old }
+    ensures missed { IfNone result (HasNotFound index.now running.now hand.old hand.new) }
     ensures listed { IfSome result (λ reply. HasReplied hand.new (op_toward direction from) reply) }
-    ensures told { MatchOption result (account hand.new stage.now ≡ account hand.old stage.now)
-        (λ reply. AddsEntry hand.old.number (op_toward direction from) reply (account hand.old stage.now) (account hand.new stage.now)) }
+    ensures told { MatchOption result (account hand.new running.now ≡ account hand.old running.now)
+        (λ reply. AddsEntry hand.old.number (op_toward direction from) reply (account hand.old running.now) (account hand.new running.now)) }
 {
-    stands(index.tree(), hand, stage);
-    match stage {
-        Stage::Rests => match list(index.tree(), hand, direction, from, near, index.patience()) {
+    stands(index.tree(), hand, running);
+    match running {
+        Running::Rests => match list(index.tree(), hand, direction, from, near, index.patience()) {
             Ok(rows) => Some(rows),
             Err(_) => None,
         },
@@ -110,35 +110,39 @@ pub(crate) fn part(
 }
 
 /// Releases what no call can read any more, unless a process is underway. Returns how many pages and frames.
-pub(crate) fn release(index: &Index, hand: &mut Hand<PassState>, stage: &Stage) -> u32
-    requires { ∥ IsSeated index.now hand.old stage.now ∥₁ }
+pub(crate) fn release(index: &Index, hand: &mut Hand<PassState>, running: &Running) -> u32
+    requires { ∥ IsSeated index.now hand.old running.now ∥₁ }
     ensures same { IsSameOne hand.old hand.new }
-    ensures stands { IsSeated index.now hand.new stage.now }
-    ensures swept { HasReleased result stage.now hand.old hand.new }
+    ensures stands { IsSeated index.now hand.new running.now }
+    ensures swept { HasReleased result running.now hand.old hand.new }
     ensures count { hand.new.seat.me.0.releases ≡ hand.old.seat.me.0.releases + result }
-    ensures told { account hand.new stage.now ≡ account hand.old stage.now }
+    ensures told { account hand.new running.now ≡ account hand.old running.now }
 {
-    stands(index.tree(), hand, stage);
-    match stage {
-        Stage::Rests => sweep(index.tree(), hand),
+    stands(index.tree(), hand, running);
+    match running {
+        Running::Rests => sweep(index.tree(), hand),
         _ => 0,
     }
 }
 
 /// What is underway goes on. Gives its answer, where it has ended.
-pub(crate) fn go_on(index: &Index, hand: &mut Hand<PassState>, stage: &mut Stage) -> Option<Answer>
-    requires { ∥ IsSeated index.now hand.old stage.old ∥₁ }
+pub(crate) fn go_on(
+    index: &Index,
+    hand: &mut Hand<PassState>,
+    running: &mut Running,
+) -> Option<Answer>
+    requires { ∥ IsSeated index.now hand.old running.old ∥₁ }
     ensures same { IsSameOne hand.old hand.new }
-    ensures stands { IsSeated index.now hand.new stage.new }
-    ensures answers { HasAnswered hand.new stage.old result }
-    ensures gone { HasGone hand.old.number (account hand.old stage.old) result (account hand.new stage.new) }
-    ensures rests { IfSome result (λ _. stage.new ≡ stages.Rests) }
-    ensures worked { HasWorked hand.old stage.new hand.new }
-    ensures still { IfNone result ((stage.old ≡ stages.Rests) ⊎ (stage.new ≢ stages.Rests)) }
+    ensures stands { IsSeated index.now hand.new running.new }
+    ensures answers { HasAnswered hand.new running.old result }
+    ensures gone { HasGone hand.old.number (account hand.old running.old) result (account hand.new running.new) }
+    ensures rests { IfSome result (λ _. running.new ≡ at_seat.Rests) }
+    ensures worked { HasWorked hand.old running.new hand.new }
+    ensures still { IfNone result ((running.old ≡ at_seat.Rests) ⊎ (running.new ≢ at_seat.Rests)) }
     ensures begun { begun_in hand.new ≡ begun_in hand.old }
 {
-    stands(index.tree(), hand, stage);
-    advance(index.tree(), hand, stage, EVENTS)
+    stands(index.tree(), hand, running);
+    advance(index.tree(), hand, running, EVENTS)
 }
 
 /// A write begins where no process is underway, and goes on by the words of pages. Its reply, with its hint, where it has ended; else it
@@ -146,20 +150,20 @@ pub(crate) fn go_on(index: &Index, hand: &mut Hand<PassState>, stage: &mut Stage
 pub(crate) fn start_writing(
     index: &Index,
     hand: &mut Hand<PassState>,
-    stage: &mut Stage,
+    running: &mut Running,
     key: u64,
     write: KeyWrite,
 ) -> Option<(KeyReply, Option<Hint>)>
-    requires seated { ∥ IsSeated index.now hand.old stage.old ∥₁ }
-    requires rests { stage.old ≡ stages.Rests }
+    requires seated { ∥ IsSeated index.now hand.old running.old ∥₁ }
+    requires rests { running.old ≡ at_seat.Rests }
     ensures same { IsSameOne hand.old hand.new }
-    ensures stands { IsSeated index.now hand.new stage.new }
-    ensures underway { IfNone result (IsWriteOf key write stage.new × Starts (write_op key write) (account hand.old stage.old) (account hand.new stage.new)) }
-    ensures answered { IfSome result (λ said. (stage.new ≡ stages.Rests) × HasWritten hand.new key write (reply_of said.0) said.1
-        × AddsEntry hand.old.number (write_op key write) (reply_of said.0) (account hand.old stage.old) (account hand.new stage.new)) }
+    ensures stands { IsSeated index.now hand.new running.new }
+    ensures underway { IfNone result (IsWriteOf key write running.new × Starts (write_op key write) (account hand.old running.old) (account hand.new running.new)) }
+    ensures answered { IfSome result (λ said. (running.new ≡ at_seat.Rests) × HasWritten hand.new key write (reply_of said.0) said.1
+        × AddsEntry hand.old.number (write_op key write) (reply_of said.0) (account hand.old running.old) (account hand.new running.new)) }
 {
-    stands(index.tree(), hand, stage);
-    start_write(index.tree(), hand, stage, key, write, EVENTS)
+    stands(index.tree(), hand, running);
+    start_write(index.tree(), hand, running, key, write, EVENTS)
 }
 
 /// A post begins where no process is underway, and goes on by the words of pages. What became of it, with its hint, where it has ended; else
@@ -167,36 +171,36 @@ pub(crate) fn start_writing(
 fn start_posting(
     index: &Index,
     hand: &mut Hand<PassState>,
-    stage: &mut Stage,
+    running: &mut Running,
     level: u32,
     key: u64,
 ) -> Option<(Posted, Option<Hint>)>
-    requires seated { ∥ IsSeated index.now hand.old stage.old ∥₁ }
-    requires rests { stage.old ≡ stages.Rests }
+    requires seated { ∥ IsSeated index.now hand.old running.old ∥₁ }
+    requires rests { running.old ≡ at_seat.Rests }
     requires least { 0 < level }
     requires most { level ≤ 12 }
     ensures same { IsSameOne hand.old hand.new }
-    ensures stands { IsSeated index.now hand.new stage.new }
-    ensures began { IfNone result (IsFor (hints.Post level key) stage.new) }
-    ensures ended { IfSome result (λ said. (stage.new ≡ stages.Rests) × HasPosted hand.new level key said.0 said.1) }
+    ensures stands { IsSeated index.now hand.new running.new }
+    ensures began { IfNone result (IsFor (hints.Post level key) running.new) }
+    ensures ended { IfSome result (λ said. (running.new ≡ at_seat.Rests) × HasPosted hand.new level key said.0 said.1) }
     ensures begun { begun_in hand.new ≡ begun_in hand.old + 1 }
-    ensures told { account hand.new stage.new ≡ account hand.old stage.old }
+    ensures told { account hand.new running.new ≡ account hand.old running.old }
 {
-    stands(index.tree(), hand, stage);
-    start_post(index.tree(), hand, stage, level, key, EVENTS)
+    stands(index.tree(), hand, running);
+    start_post(index.tree(), hand, running, level, key, EVENTS)
 }
 
 /// What the hint asks for begins where no process is underway.
-fn begin_hinted(index: &Index, hand: &mut Hand<PassState>, stage: &mut Stage, hint: Hint)
-    requires seated { ∥ IsSeated index.now hand.old stage.old ∥₁ }
-    requires rests { stage.old ≡ stages.Rests }
+fn begin_hinted(index: &Index, hand: &mut Hand<PassState>, running: &mut Running, hint: Hint)
+    requires seated { ∥ IsSeated index.now hand.old running.old ∥₁ }
+    requires rests { running.old ≡ at_seat.Rests }
     ensures same { IsSameOne hand.old hand.new }
-    ensures stands { IsSeated index.now hand.new stage.new }
-    ensures began { IsFor hint stage.new × (begun_in hand.new ≡ begun_in hand.old + 1) }
-    ensures told { account hand.new stage.new ≡ account hand.old stage.old }
+    ensures stands { IsSeated index.now hand.new running.new }
+    ensures began { IsFor hint running.new × (begun_in hand.new ≡ begun_in hand.old + 1) }
+    ensures told { account hand.new running.new ≡ account hand.old running.old }
 {
-    stands(index.tree(), hand, stage);
-    *stage = begin_hint(index.tree(), hand, hint);
+    stands(index.tree(), hand, running);
+    *running = begin_hint(index.tree(), hand, hint);
 }
 
 /// What the hint asks for begins where no process is underway. A post goes on by the words of pages: its answer, where it has ended. Else
@@ -204,65 +208,65 @@ fn begin_hinted(index: &Index, hand: &mut Hand<PassState>, stage: &mut Stage, hi
 pub(crate) fn begin_following(
     index: &Index,
     hand: &mut Hand<PassState>,
-    stage: &mut Stage,
+    running: &mut Running,
     hint: Hint,
 ) -> Option<Answer>
-    requires seated { ∥ IsSeated index.now hand.old stage.old ∥₁ }
-    requires rests { stage.old ≡ stages.Rests }
+    requires seated { ∥ IsSeated index.now hand.old running.old ∥₁ }
+    requires rests { running.old ≡ at_seat.Rests }
     ensures same { IsSameOne hand.old hand.new }
-    ensures stands { IsSeated index.now hand.new stage.new }
-    ensures began { IfNone result (IsFor hint stage.new) }
-    ensures ended { IfSome result (λ answer. (stage.new ≡ stages.Rests) × HasFollowed hand.new hint answer) }
+    ensures stands { IsSeated index.now hand.new running.new }
+    ensures began { IfNone result (IsFor hint running.new) }
+    ensures ended { IfSome result (λ answer. (running.new ≡ at_seat.Rests) × HasFollowed hand.new hint answer) }
     ensures begun { begun_in hand.new ≡ begun_in hand.old + 1 }
-    ensures told { account hand.new stage.new ≡ account hand.old stage.old }
+    ensures told { account hand.new running.new ≡ account hand.old running.old }
 {
     match hint {
         Hint::Post { .. } => {
-            let said = start_posting(index, hand, stage, hint.level(), hint.key());
+            let said = start_posting(index, hand, running, hint.level(), hint.key());
             said.map(|(posted, more)| Answer::Post(posted, more))
         }
         Hint::Thin { .. } => {
-            begin_hinted(index, hand, stage, hint);
+            begin_hinted(index, hand, running, hint);
             None
         }
     }
 }
 
 /// A lowering begins where no process is underway.
-pub(crate) fn begin_lowering(index: &Index, hand: &mut Hand<PassState>, stage: &mut Stage)
-    requires seated { ∥ IsSeated index.now hand.old stage.old ∥₁ }
-    requires rests { stage.old ≡ stages.Rests }
+pub(crate) fn begin_lowering(index: &Index, hand: &mut Hand<PassState>, running: &mut Running)
+    requires seated { ∥ IsSeated index.now hand.old running.old ∥₁ }
+    requires rests { running.old ≡ at_seat.Rests }
     ensures same { IsSameOne hand.old hand.new }
-    ensures stands { IsSeated index.now hand.new stage.new }
-    ensures began { IsLowering stage.new × (begun_in hand.new ≡ begun_in hand.old + 1) }
-    ensures told { account hand.new stage.new ≡ account hand.old stage.old }
+    ensures stands { IsSeated index.now hand.new running.new }
+    ensures began { IsLowering running.new × (begun_in hand.new ≡ begun_in hand.old + 1) }
+    ensures told { account hand.new running.new ≡ account hand.old running.old }
 {
-    stands(index.tree(), hand, stage);
-    *stage = begin_lower(index.tree(), hand);
+    stands(index.tree(), hand, running);
+    *running = begin_lower(index.tree(), hand);
 }
 
 /// Two hands meet, unless a process is underway at one of them. Says whether they have.
 pub(crate) fn meet(
     index: &Index,
     one: &mut Hand<PassState>,
-    one_stage: &Stage,
+    one_running: &Running,
     two: &mut Hand<PassState>,
-    two_stage: &Stage,
+    two_running: &Running,
 ) -> bool
-    requires one { ∥ IsSeated index.now one.old one_stage.now ∥₁ }
-    requires two { ∥ IsSeated index.now two.old two_stage.now ∥₁ }
+    requires one { ∥ IsSeated index.now one.old one_running.now ∥₁ }
+    requires two { ∥ IsSeated index.now two.old two_running.now ∥₁ }
     ensures same { IsSameOne one.old one.new × IsSameOne two.old two.new }
-    ensures stands { IsSeated index.now one.new one_stage.now × IsSeated index.now two.new two_stage.now }
-    ensures told { (account one.new one_stage.now ≡ account one.old one_stage.now) × (account two.new two_stage.now ≡ account two.old two_stage.now) }
-    ensures rest { result ≡ true → (one_stage.now ≡ stages.Rests) × (two_stage.now ≡ stages.Rests) }
+    ensures stands { IsSeated index.now one.new one_running.now × IsSeated index.now two.new two_running.now }
+    ensures told { (account one.new one_running.now ≡ account one.old one_running.now) × (account two.new two_running.now ≡ account two.old two_running.now) }
+    ensures rest { result ≡ true → (one_running.now ≡ at_seat.Rests) × (two_running.now ≡ at_seat.Rests) }
     ensures met { result ≡ true → Meet (known one.old.seat).first one.old.number two.old.number (known one.old.seat).trail (known two.old.seat).trail
         (known one.new.seat).trail (known two.new.seat).trail }
-    ensures not { result ≡ false → ((one_stage.now ≢ stages.Rests) ⊎ (two_stage.now ≢ stages.Rests)) × (one.new ≡ one.old) × (two.new ≡ two.old) }
+    ensures not { result ≡ false → ((one_running.now ≢ at_seat.Rests) ⊎ (two_running.now ≢ at_seat.Rests)) × (one.new ≡ one.old) × (two.new ≡ two.old) }
 {
-    stands(index.tree(), one, one_stage);
-    stands(index.tree(), two, two_stage);
-    match (one_stage, two_stage) {
-        (Stage::Rests, Stage::Rests) => {
+    stands(index.tree(), one, one_running);
+    stands(index.tree(), two, two_running);
+    match (one_running, two_running) {
+        (Running::Rests, Running::Rests) => {
             index.meet_hands(one, two);
             true
         }

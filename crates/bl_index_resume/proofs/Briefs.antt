@@ -30,7 +30,7 @@ use Rattle.bl_proc.specs.Processes.{Takes}
 use Rattle.bl_proc_deterministic.proofs.WayCases.{ApproachCase, approach_case, EditCase, edit_case}
 use Rattle.bl_proc_deterministic.proofs.KindCases.{WriteCase, write_case, CompressCase, compress_case}
 use Rattle.bl_index_resume.specs.Holding.{HoldsNoPage, IsSlow, none_on_way, none_in_write, none_in_compress}
-use Rattle.bl_index_resume.specs.Stages.{Yields}
+use Rattle.bl_index_resume.specs.Running.{Yields}
 use Rattle.bl_index_resume.proofs.Frees.{write_holds, compress_holds}
 
 -- it is one of those

@@ -29,8 +29,8 @@ use Rattle.bl_index_events.proofs.Held.{goes_keeps}
 use Rattle.bl_index_events.proofs.Asked.{asks_on, asks_keep, asks_observed}
 use Rattle.bl_index_events.proofs.Rooms.{refused_on, done_not_refused, lacks_asked, lacks_two, lacks_write}
 use Rattle.bl_index_resume.specs.Rooms.{LacksRoom, KnowsRoom}
-use Rattle.bl_index_resume.specs.declared.stages.Stage.{Stage}
-use Rattle.bl_index_resume.specs.Stages.{LacksIn}
+use Rattle.bl_index_resume.specs.declared.running.Running.{Running}
+use Rattle.bl_index_resume.specs.Running.{LacksIn}
 
 abbrev H : Type 0
 H = Seat (Unit {0}) (View PassState)
@@ -114,6 +114,6 @@ pub lower_begun : (h : H) (p q : Lower) → p.stage ≡ lower.New → Takes (pro
 lower_begun h p q is t = knows_new h (proc.Lower p) (proc.Lower q) (λ r. subst LowerRefused is r) (λ r. r) t
 
 -- what the answer says, if it says that there was no room
-pub room_said : (answer : Option Answer) (s : Stage) (h : H) → ((a : Answer) → answer ≡ Some a → IsNoRoom a → LacksIn s h) → IfSome answer (λ a. IsNoRoom a → LacksIn s h)
+pub room_said : (answer : Option Answer) (s : Running) (h : H) → ((a : Answer) → answer ≡ Some a → IsNoRoom a → LacksIn s h) → IfSome answer (λ a. IsNoRoom a → LacksIn s h)
 room_said None s h lacks = tt
 room_said (Some a) s h lacks = λ none. lacks a refl none

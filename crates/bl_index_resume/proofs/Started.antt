@@ -13,7 +13,7 @@ use Rattle.bl_index_rule.specs.declared.known.PassState.{PassState}
 use Rattle.bl_index_events.specs.declared.tree.Tree.{Tree}
 use Rattle.bl_index_events.specs.Runs.{Runs, IsSince}
 use Rattle.bl_index_write.specs.Events.{writing}
-use Rattle.bl_index_resume.specs.Stages.{CanGoOn}
+use Rattle.bl_index_resume.specs.Running.{CanGoOn}
 use Rattle.bl_index_resume.proofs.Advancing.{since_new}
 
 not_retire : (a : Approach) (x : ℕ) → approach_next a ≢ act.Retire x

@@ -1,3 +1,3 @@
 pub mod Holding
 pub mod Rooms
-pub mod Stages
+pub mod Running

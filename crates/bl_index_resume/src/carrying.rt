@@ -10,7 +10,7 @@ ghost use Rattle.bl_claims.specs.Seeing.{GoesOnFrom};
 ghost use Rattle.bl_answers.specs.declared.answers.Answer.{Answer as AnswerIs};
 ghost use Rattle.bl_proc_deterministic.specs.Refusals.{IsNoRoom};
 ghost use Rattle.bl_index_resume.specs.Rooms.{KnowsRoom, LacksRoom};
-ghost use Rattle.bl_index_resume.specs.Stages.{HasTurned, Yields};
+ghost use Rattle.bl_index_resume.specs.Running.{HasTurned, Yields};
 
 use crate::holding::Holder;
 use crate::spinning::Spinning;

@@ -10,12 +10,12 @@
 mod carrying;
 mod holding;
 mod posting;
+mod running;
 mod spinning;
-mod stages;
 mod sweeping;
 
 pub use carrying::go_on;
 pub use holding::Holder;
 pub use posting::start_post;
-pub use stages::{Stage, advance, begin_hint, begin_lower, stands, start_write};
+pub use running::{Running, advance, begin_hint, begin_lower, stands, start_write};
 pub use sweeping::sweep;

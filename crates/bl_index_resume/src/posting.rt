@@ -9,10 +9,10 @@ ghost use Rattle.bl_store.specs.Hands.{known, IsSameHand};
 ghost use Rattle.bl_index_events.specs.Rooms.{LacksPost};
 ghost use Rattle.bl_index_events.specs.Runs.{IsSince};
 ghost use Rattle.bl_index_write.specs.Events.{HasPosted};
-ghost use Rattle.bl_index_resume.specs.declared.stages.Stage.TheVariants as stages;
-ghost use Rattle.bl_index_resume.specs.Stages.{IsAtRest, Stands, IsFor};
+ghost use Rattle.bl_index_resume.specs.declared.running.Running.TheVariants as at_seat;
+ghost use Rattle.bl_index_resume.specs.Running.{IsAtRest, Stands, IsFor};
 
-use crate::stages::Stage;
+use crate::running::Running;
 use bl_index_events::Tree;
 use bl_index_rule::PassState;
 use bl_index_write::post_within;
@@ -25,25 +25,25 @@ use bl_store::Hand;
 pub fn start_post(
     tree: &Tree,
     hand: &mut Hand<PassState>,
-    stage: &mut Stage,
+    running: &mut Running,
     level: u32,
     key: u64,
     turns: u32,
 ) -> Option<(Posted, Option<Hint>)>
-    requires rests { IsAtRest tree.now hand.old × (stage.old ≡ stages.Rests) }
+    requires rests { IsAtRest tree.now hand.old × (running.old ≡ at_seat.Rests) }
     requires least { 0 < level }
     requires most { level ≤ 12 }
     ensures same { IsSameHand hand.old.seat hand.new.seat }
-    ensures stands { Stands tree.now hand.new stage.new }
-    ensures underway { IfNone result (IsFor (hints.Post level key) stage.new × IsSince hand.old.number (known hand.old.seat) (known hand.new.seat)) }
-    ensures ended { IfSome result (λ said. (stage.new ≡ stages.Rests) × ((first : Proc) × (work_of first ≡ Some (level, key))
+    ensures stands { Stands tree.now hand.new running.new }
+    ensures underway { IfNone result (IsFor (hints.Post level key) running.new × IsSince hand.old.number (known hand.old.seat) (known hand.new.seat)) }
+    ensures ended { IfSome result (λ said. (running.new ≡ at_seat.Rests) × ((first : Proc) × (work_of first ≡ Some (level, key))
         × HasPosted hand.old.number (known hand.old.seat) (known hand.new.seat) first said.0 said.1)) }
     ensures no_room { IfSome result (λ said. said.0 ≡ postings.NoRoom → LacksPost level key hand.new.seat) }
 {
     match post_within(tree, hand, level, key, turns) {
         Ok(said) => Some(said),
         Err(process) => {
-            *stage = Stage::Posts(process, None);
+            *running = Running::Posts(process, None);
             None
         }
     }

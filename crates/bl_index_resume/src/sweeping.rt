@@ -4,7 +4,7 @@ ghost use Rattle.std.specs.Prelude.{◌≡◌, ℕ, ◌+◌, ◌≤◌};
 ghost use Rattle.bl_store.specs.Hands.{known, IsSameHand};
 ghost use Rattle.bl_store.specs.Sweeps.{HasSweptOnce};
 ghost use Rattle.bl_index_rule.specs.Observed.{sweeps};
-ghost use Rattle.bl_index_resume.specs.Stages.{IsAtRest};
+ghost use Rattle.bl_index_resume.specs.Running.{IsAtRest};
 
 use bl_index_events::Tree;
 use bl_index_rule::PassState;

@@ -2,7 +2,7 @@
 
 ghost use Rattle.std.specs.Prelude.{IfSome};
 ghost use Rattle.bl_index.specs.Calls.{IsPassOf};
-ghost use Rattle.bl_index_resume.specs.Stages.{IsAtRest};
+ghost use Rattle.bl_index_resume.specs.Running.{IsAtRest};
 
 use bl_index::{Config, Index, KeyReply, Pass};
 use bl_index_rule::PassState;

@@ -1,7 +1,7 @@
 //! Writes of one leaf on one thread: each ends as it starts, or goes on in turns and opens the leaf before it comes back.
 
 use crate::stops::begun::{hand_of, opened};
-use bl_index_resume::{Stage, advance, start_write};
+use bl_index_resume::{Running, advance, start_write};
 use bl_index_write::{begin_write, end_write};
 use bl_model::{KeyReply, KeyWrite, Reply};
 use bl_proc::Answer;
@@ -14,8 +14,8 @@ fn a_write_opens_its_leaf_before_it_comes_back(rt: HostRuntime) -> Result<(), Fa
     let tree = index.tree();
     let mut one = hand_of(&index, first);
     let mut other = hand_of(&index, second);
-    let mut insertion = Stage::Rests;
-    let mut deletion = Stage::Rests;
+    let mut insertion = Running::Rests;
+    let mut deletion = Running::Rests;
     let insert = KeyWrite::Insert(50);
     assert!(rt; start_write(tree, &mut one, &mut insertion, 5, insert, 0).is_none());
     assert!(rt; start_write(tree, &mut other, &mut deletion, 5, KeyWrite::Delete, 0).is_none());
@@ -34,7 +34,7 @@ fn a_write_makes_all_events_of_a_hold_in_one_call(rt: HostRuntime) -> Result<(),
     let (index, first, _, _) = opened(rt.alloc()).ok_or("no index")?;
     let tree = index.tree();
     let mut hand = hand_of(&index, first);
-    let mut insertion = Stage::Rests;
+    let mut insertion = Running::Rests;
     let insert = KeyWrite::Insert(50);
     assert!(rt; start_write(tree, &mut hand, &mut insertion, 5, insert, 0).is_none());
     assert!(rt; advance(tree, &mut hand, &mut insertion, 0).is_none());
@@ -49,10 +49,10 @@ fn a_write_that_meets_nobody_ends_as_it_starts(rt: HostRuntime) -> Result<(), Fa
     let (index, first, _, _) = opened(rt.alloc()).ok_or("no index")?;
     let tree = index.tree();
     let mut hand = hand_of(&index, first);
-    let mut stage = Stage::Rests;
-    let inserted = start_write(tree, &mut hand, &mut stage, 5, KeyWrite::Insert(50), 1);
+    let mut running = Running::Rests;
+    let inserted = start_write(tree, &mut hand, &mut running, 5, KeyWrite::Insert(50), 1);
     assert!(rt; inserted == Some((KeyReply::Inserted, None)));
-    assert!(rt; advance(tree, &mut hand, &mut stage, 1).is_none());
+    assert!(rt; advance(tree, &mut hand, &mut running, 1).is_none());
     Ok(())
 }
 
@@ -65,7 +65,7 @@ fn a_write_gives_up_where_another_one_holds_its_leaf(rt: HostRuntime) -> Result<
     let mut other = hand_of(&index, second);
     let insert = KeyWrite::Insert(50);
     let (at, glance) = begin_write(tree, &rt, &mut one, 5, insert);
-    let mut deletion = Stage::Rests;
+    let mut deletion = Running::Rests;
     assert!(rt; start_write(tree, &mut other, &mut deletion, 5, KeyWrite::Delete, 256).is_none());
     assert!(rt; advance(tree, &mut other, &mut deletion, 4).is_none());
     let inserted = end_write(tree, &mut one, at, 5, insert, glance);

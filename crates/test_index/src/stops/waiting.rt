@@ -4,12 +4,12 @@
 
 ghost use Rattle.std.specs.Prelude.{IfSome};
 ghost use Rattle.bl_index.specs.Calls.{IsPassOf};
-ghost use Rattle.bl_index_resume.specs.Stages.{IsAtRest};
+ghost use Rattle.bl_index_resume.specs.Running.{IsAtRest};
 ghost use Rattle.test_index.specs.Stopped.{IsHeld};
 
 use crate::stops::begun::{fill, hand_of, opened};
 use bl_index::{Index, KeyReply, Pass};
-use bl_index_resume::{Stage, start_write};
+use bl_index_resume::{Running, start_write};
 use bl_index_rule::PassState;
 use bl_index_write::{begin_write, end_write};
 use bl_map::Handle;
@@ -131,8 +131,8 @@ fn write_in_turns(index: &Index, hand: &mut Hand<PassState>, write: KeyWrite) ->
     requires { IsAtRest index.now hand.old }
     ensures { IfSome result (λ reply. IsAtRest index.now hand.new) }
 {
-    let mut stage = Stage::Rests;
-    let (reply, _hint) = start_write(index.tree(), hand, &mut stage, 19, write, 256)?;
+    let mut running = Running::Rests;
+    let (reply, _hint) = start_write(index.tree(), hand, &mut running, 19, write, 256)?;
     Some(reply)
 }
 

@@ -20,10 +20,10 @@ loop-number-preserved c =
     let e = c.settle.ensures in
     let settled : HasSettled was.value is.value = subst (λ (z : Seat). HasSettled z c.settle.new.self) (c.deref_mut.ensures.value ∙ ap (λ (z : Boxed). z.value) (sym c.index-seats-number.is)) (record { same = e.same; told = e.told; worked = e.worked; upkeep = e.upkeep; kept = e.kept }) in
     let at = item_at now i was lt c.index-seats-number.is in
-    let stage = ap (λ (z : Seat). z.stage) c.deref.ensures in
+    let running = ap (λ (z : Seat). z.running) c.deref.ensures in
     elim c.if-not-is_at_rest.branch [
-      | then-not-is_at_rest w ↦ subst (λ (z : Bool). SettleUpTo old (slice_set now i is) (i + 1) z) (sym w.rest-is) (settles_off old now i rest was is lt at settled inv (λ rests. absurd (let f = w.if-not-is_at_rest.true in let g = c.is_at_rest.ensures.1 (stage ∙ rests) in cc)))
-      | else-not-is_at_rest w ↦ subst (λ (z : Bool). SettleUpTo old (slice_set now i is) (i + 1) z) (sym w.rest-is) (settles_on old now i rest was is lt at settled inv (let f = w.if-not-is_at_rest.false in sym stage ∙ c.is_at_rest.ensures.0 f))
+      | then-not-is_at_rest w ↦ subst (λ (z : Bool). SettleUpTo old (slice_set now i is) (i + 1) z) (sym w.rest-is) (settles_off old now i rest was is lt at settled inv (λ rests. absurd (let f = w.if-not-is_at_rest.true in let g = c.is_at_rest.ensures.1 (running ∙ rests) in cc)))
+      | else-not-is_at_rest w ↦ subst (λ (z : Bool). SettleUpTo old (slice_set now i is) (i + 1) z) (sym w.rest-is) (settles_on old now i rest was is lt at settled inv (let f = w.if-not-is_at_rest.false in sym running ∙ c.is_at_rest.ensures.0 f))
     ]
 
 pub returns-clause-settled : goal.returns-clause-settled

@@ -6,9 +6,9 @@ use Rattle.bl_index_rule.specs.declared.known.PassState.{PassState}
 use Rattle.bl_index.specs.Closed.{ClosesHands}
 use Rattle.bl_index.specs.declared.index.Index.{Index}
 use Rattle.bl_index_events.specs.declared.tree.Tree.{Tree}
-use Rattle.bl_index_resume.specs.declared.stages.Stage.{Stage}
-use Rattle.bl_index_resume.specs.declared.stages.Stage.TheVariants as stage
-use Rattle.bl_index_resume.specs.Stages.{Stands, IsAtRest}
+use Rattle.bl_index_resume.specs.declared.running.Running.{Running}
+use Rattle.bl_index_resume.specs.declared.running.Running.TheVariants as at_seat
+use Rattle.bl_index_resume.specs.Running.{Stands, IsAtRest}
 use Rattle.bl_ffi_seats.specs.Closed.{values, IsAtIndex, AreAll}
 use Rattle.bl_ffi_seats.specs.declared.seat.Seat.{Seat}
 use Rattle.bl_ffi_seats.proofs.Closings.{one_given, first_rests, all_given, each_hand}
@@ -25,8 +25,8 @@ loop-seats-preserved c =
     let inner : c.into_inner-seat.result ≡ box.value = c.into_inner-seat.ensures in
     let pushed = c.push_reserved.ensures.items ∙ ap (λ (z : Seat). hands ++ z.hand ∷ []) inner in
     let tree_is : c.tree.result.now ≡ index = c.tree.ensures ∙ c.deref.ensures in
-    let stage_is : c.into_inner-seat.result.stage ≡ stage.Rests = ap (λ (z : Seat). z.stage) inner ∙ first_rests index (values c.args.seats.items) boxes left box hands now next inv.given in
-    let rests : IsAtRest index box.value.hand = subst (λ (z : Tree × (Seat × Stage)). Stands z.0 z.1.0.hand z.1.1) (λ i. (tree_is i, (inner i, stage_is i))) c.stands.ensures in
+    let running_is : c.into_inner-seat.result.running ≡ at_seat.Rests = ap (λ (z : Seat). z.running) inner ∙ first_rests index (values c.args.seats.items) boxes left box hands now next inv.given in
+    let rests : IsAtRest index box.value.hand = subst (λ (z : Tree × (Seat × Running)). Stands z.0 z.1.0.hand z.1.1) (λ i. (tree_is i, (inner i, running_is i))) c.stands.ensures in
     record {
       given = one_given index (values c.args.seats.items) boxes left box hands now next inv.given pushed (rests.own, rests.rests.idle);
       fits = (let a = ap length next in let b = ap length pushed ∙ length_push hands box.value.hand in let cap = c.push_reserved.ensures.capacity in let fits = inv.fits in omega (arith, a, b, cap, fits));

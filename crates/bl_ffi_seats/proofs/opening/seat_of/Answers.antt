@@ -2,7 +2,7 @@ use Rattle.std.proofs.Common.{sym, subst}
 use Rattle.std.specs.Arc.{arc_value}
 use Rattle.bl_store.specs.declared.store.Hand.{Hand}
 use Rattle.bl_index_rule.specs.declared.known.PassState.{PassState}
-use Rattle.bl_index_resume.specs.Stages.{IsAtRest}
+use Rattle.bl_index_resume.specs.Running.{IsAtRest}
 use Rattle.bl_ffi_seats.proofs.opening.seat_of.Goals as goal
 
 pub invariant_of-result : goal.invariant_of-result

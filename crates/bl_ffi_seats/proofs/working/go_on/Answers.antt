@@ -5,34 +5,34 @@ use Rattle.bl_ffi_seats.proofs.working.go_on.Goals as goal
 pub returns-clause-same : goal.returns-clause-same
 returns-clause-same c =
     let num = same_number c.args.hand.now c.advance.new.hand c.advance.ensures.same in
-    (num, first_after 256 _ c.args.hand.now c.advance.new.hand num c.args.stage.now c.advance.result c.advance.new.stage c.stands.ensures c.advance.ensures.answers, c.advance.ensures.on)
+    (num, first_after 256 _ c.args.hand.now c.advance.new.hand num c.args.running.now c.advance.result c.advance.new.running c.stands.ensures c.advance.ensures.answers, c.advance.ensures.on)
 
 pub returns-clause-answers : goal.returns-clause-answers
 returns-clause-answers c =
     let num = same_number c.args.hand.now c.advance.new.hand c.advance.ensures.same in
-    replied 256 _ c.args.hand.now c.advance.new.hand num c.args.stage.now c.advance.result c.advance.new.stage c.stands.ensures c.advance.ensures.answers c.advance.ensures.no_room
+    replied 256 _ c.args.hand.now c.advance.new.hand num c.args.running.now c.advance.result c.advance.new.running c.stands.ensures c.advance.ensures.answers c.advance.ensures.no_room
 
 pub returns-clause-gone : goal.returns-clause-gone
 returns-clause-gone c =
     let num = same_number c.args.hand.now c.advance.new.hand c.advance.ensures.same in
-    gone 256 _ c.args.hand.now c.advance.new.hand num c.args.stage.now c.advance.result c.advance.new.stage c.stands.ensures c.advance.ensures.answers
+    gone 256 _ c.args.hand.now c.advance.new.hand num c.args.running.now c.advance.result c.advance.new.running c.stands.ensures c.advance.ensures.answers
 
 pub returns-clause-rests : goal.returns-clause-rests
 returns-clause-rests c =
     let num = same_number c.args.hand.now c.advance.new.hand c.advance.ensures.same in
-    rests_after 256 c.args.index.now c.args.hand.now c.advance.new.hand num c.args.stage.now c.advance.result c.advance.new.stage c.advance.ensures.answers
+    rests_after 256 c.args.index.now c.args.hand.now c.advance.new.hand num c.args.running.now c.advance.result c.advance.new.running c.advance.ensures.answers
 
 pub returns-clause-worked : goal.returns-clause-worked
 returns-clause-worked c =
     let num = same_number c.args.hand.now c.advance.new.hand c.advance.ensures.same in
-    worked_after 256 c.args.index.now c.args.hand.now c.advance.new.hand num c.args.stage.now c.advance.result c.advance.new.stage c.advance.ensures.answers
+    worked_after 256 c.args.index.now c.args.hand.now c.advance.new.hand num c.args.running.now c.advance.result c.advance.new.running c.advance.ensures.answers
 
 pub returns-clause-still : goal.returns-clause-still
 returns-clause-still c =
     let num = same_number c.args.hand.now c.advance.new.hand c.advance.ensures.same in
-    still_after 256 _ c.args.hand.now c.advance.new.hand num c.args.stage.now c.advance.result c.advance.new.stage c.stands.ensures c.advance.ensures.answers
+    still_after 256 _ c.args.hand.now c.advance.new.hand num c.args.running.now c.advance.result c.advance.new.running c.stands.ensures c.advance.ensures.answers
 
 pub returns-clause-begun : goal.returns-clause-begun
 returns-clause-begun c =
     let num = same_number c.args.hand.now c.advance.new.hand c.advance.ensures.same in
-    begun_after 256 _ c.args.hand.now c.advance.new.hand num c.args.stage.now c.advance.result c.advance.new.stage c.stands.ensures c.advance.ensures.answers
+    begun_after 256 _ c.args.hand.now c.advance.new.hand num c.args.running.now c.advance.result c.advance.new.running c.stands.ensures c.advance.ensures.answers

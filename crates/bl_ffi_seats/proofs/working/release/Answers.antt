@@ -7,7 +7,7 @@ use Rattle.bl_ffi_seats.proofs.working.release.Goals as goal
 pub returns-in-Rests-clause-swept : goal.returns-in-Rests-clause-swept
 returns-in-Rests-clause-swept c =
     let e = c.sweep.ensures in
-    swept c.args.hand.now c.sweep.new.hand (same_number c.args.hand.now c.sweep.new.hand e.same) _ _ e.observed.0 c.sweep.result refl e.observed.1 e.observed.2 e.swept c.args.stage.now c.in-Rests.is
+    swept c.args.hand.now c.sweep.new.hand (same_number c.args.hand.now c.sweep.new.hand e.same) _ _ e.observed.0 c.sweep.result refl e.observed.1 e.observed.2 e.swept c.args.running.now c.in-Rests.is
 
 pub returns-in-Rests-clause-same : goal.returns-in-Rests-clause-same
 returns-in-Rests-clause-same c =

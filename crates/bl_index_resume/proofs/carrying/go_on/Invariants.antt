@@ -9,7 +9,7 @@ use Rattle.bl_store_rule.specs.declared.view.View.{View}
 use Rattle.bl_claims.specs.Seeing.{GoesOnFrom}
 use Rattle.bl_index_rule.specs.declared.known.PassState.{PassState}
 use Rattle.bl_index_resume.specs.Rooms.{KnowsRoom, LacksRoom}
-use Rattle.bl_index_resume.specs.Stages.{Yields}
+use Rattle.bl_index_resume.specs.Running.{Yields}
 use Rattle.bl_index_resume.proofs.Briefs.{IsNear}
 use Rattle.bl_index_resume.proofs.carrying.go_on.Given as goal
 

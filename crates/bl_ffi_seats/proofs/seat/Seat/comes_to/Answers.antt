@@ -1,5 +1,5 @@
 use Rattle.std.proofs.Common.{ℕ, inl, inr, refl, ap, subst}
-use Rattle.bl_index_resume.specs.Stages.{op_in}
+use Rattle.bl_index_resume.specs.Running.{op_in}
 use Rattle.bl_model.specs.Writes.{write_op}
 use Rattle.bl_ffi_seats.specs.Accounts.{AddsEntry}
 use Rattle.bl_ffi_seats.specs.Calls.{account_of}

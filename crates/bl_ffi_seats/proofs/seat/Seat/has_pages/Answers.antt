@@ -35,7 +35,7 @@ returns-clause-looked c =
     let looks : LooksAbout c.release_pages.new.self c.look_about.new.self = record {
       index = e.same.0;
       hand = e.same.1;
-      stage = e.same.2;
+      running = e.same.2;
       found = (e.found.0, found_from e.found.0 c.release_pages.new.self.upkeep c.is_to_look.new.self c.look_about.new.self.upkeep c.is_to_look.ensures.0 c.is_to_look.ensures.1 e.found.1);
     } in
     λ n from t. Tends.Looks (tends_swept t c.release_pages.ensures.swept.1) looks

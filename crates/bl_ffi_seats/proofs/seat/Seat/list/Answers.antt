@@ -6,7 +6,7 @@ pub returns-clause-same : goal.returns-clause-same
 returns-clause-same c = (c.settle.ensures.same.0, one_after c.args.self.now.hand c.settle.new.self.hand c.part.new.hand c.settle.ensures.same.1 c.part.ensures.same)
 
 pub returns-clause-worked : goal.returns-clause-worked
-returns-clause-worked c = worked_still c.args.self.now.hand c.settle.new.self.hand c.part.new.hand c.settle.new.self.stage c.settle.ensures.worked c.part.ensures.kept
+returns-clause-worked c = worked_still c.args.self.now.hand c.settle.new.self.hand c.part.new.hand c.settle.new.self.running c.settle.ensures.worked c.part.ensures.kept
 
 pub returns-clause-missed : goal.returns-clause-missed
 returns-clause-missed c =

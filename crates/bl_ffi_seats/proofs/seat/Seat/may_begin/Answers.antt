@@ -1,6 +1,6 @@
 use Rattle.std.proofs.Common.{ℕ, ◌≢◌, ◌+◌, inl, inr, refl, sym, ap, ◌∙◌, arith}
 use Rattle.std.proofs.lemmas.Bool.{false≢true}
-use Rattle.bl_index_resume.specs.declared.stages.Stage.TheVariants as stage
+use Rattle.bl_index_resume.specs.declared.running.Running.TheVariants as at_seat
 use Rattle.bl_ffi_seats.proofs.Tending.{seat_after}
 use Rattle.bl_ffi_seats.proofs.seat.Seat.may_begin.Goals as goal
 
@@ -10,7 +10,7 @@ returns-then-not-is_at_rest-clause-prepared c =
 
 pub returns-then-not-is_at_rest-clause-waits : goal.returns-then-not-is_at_rest-clause-waits
 returns-then-not-is_at_rest-clause-waits c =
-    let busy : c.tend.new.self.stage ≢ stage.Rests = λ rests. false≢true (sym c.if-not-is_at_rest.true ∙ c.is_at_rest.ensures.1 rests) in
+    let busy : c.tend.new.self.running ≢ at_seat.Rests = λ rests. false≢true (sym c.if-not-is_at_rest.true ∙ c.is_at_rest.ensures.1 rests) in
     λ _. inl (c.tend.ensures.tended.carried (omega arith) busy)
 
 pub returns-then-finds_room-clause-same : goal.returns-then-finds_room-clause-same

@@ -7,6 +7,6 @@ abbrev pub invariant-loop-sweep : goal.invariant-loop-sweep
 invariant-loop-sweep l = record {
   same : IsSameSeat l.fn.self l.self;
   told : account_of l.self ≡ account_of l.fn.self;
-  keeps : (l.self.stage ≡ l.fn.self.stage) × (l.self.upkeep ≡ l.fn.self.upkeep);
+  keeps : (l.self.running ≡ l.fn.self.running) × (l.self.upkeep ≡ l.fn.self.upkeep);
   swept : Swept l._sweep l.fn.self l.self;
 }

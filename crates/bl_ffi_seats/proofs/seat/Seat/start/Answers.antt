@@ -8,12 +8,12 @@ use Rattle.bl_ffi_seats.proofs.seat.Seat.start.Goals as goal
 
 pub returns-in-Some-clause-answered : goal.returns-in-Some-clause-answered
 returns-in-Some-clause-answered c =
-    let old = c.args.self.now in let hand = c.start_writing.new.hand in let stage = c.start_writing.new.stage in
+    let old = c.args.self.now in let hand = c.start_writing.new.hand in let running = c.start_writing.new.running in
     let op = write_op c.args.key c.args.write in
     let is = sym c.reply-reply.ensures in
     let said = c.in-Some.ensures.answered in (
       (c.in-Some.hint, subst (λ (z : Reply). HasWritten hand c.args.key c.args.write z c.in-Some.hint) is said.1, c.keep.ensures.kept),
-      subst (λ (z : Reply). AddsEntry (seat_number old) op z (account_of old) (account hand stage)) is said.2,
+      subst (λ (z : Reply). AddsEntry (seat_number old) op z (account_of old) (account hand running)) is said.2,
     )
 
 pub returns-in-Some-clause-same : goal.returns-in-Some-clause-same

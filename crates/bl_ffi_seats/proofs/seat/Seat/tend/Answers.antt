@@ -1,6 +1,6 @@
 use Rattle.std.proofs.Common.{rules, ℕ, subst, ◌≡◌, ◌≢◌, ◌+◌, inl, inr, refl, sym, ◌∙◌, arith}
 use Rattle.std.proofs.lemmas.Bool.{false≢true}
-use Rattle.bl_index_resume.specs.declared.stages.Stage.TheVariants as stage
+use Rattle.bl_index_resume.specs.declared.running.Running.TheVariants as at_seat
 use Rattle.bl_ffi_seats.specs.Tended.{LooksAbout, TakesUp, GoesOn, Tends}
 use Rattle.bl_ffi_seats.proofs.Tending.{seat_same, seat_after, seat_still, carried_on, left_row, looks_still}
 use Rattle.bl_ffi_seats.specs.Calls.{seat_number, account_of}
@@ -14,7 +14,7 @@ loop-piece-init c = let old = c.args.self.now in record { same = seat_same old; 
 pub loop-piece-preserved : goal.loop-piece-preserved
 loop-piece-preserved c =
     let inv = c.loop-piece.invariant in let e = c.look_about.ensures in let t = c.takes_up.ensures in let g = c.go_on.ensures in
-    let looks : LooksAbout c.loop-piece.self c.look_about.new.self = record { index = e.same.0; hand = e.same.1; stage = e.same.2; found = e.found } in
+    let looks : LooksAbout c.loop-piece.self c.look_about.new.self = record { index = e.same.0; hand = e.same.1; running = e.same.2; found = e.found } in
     let takes : TakesUp c.look_about.new.self c.takes_up.new.self = record { same = t.same; told = t.told; begun = t.piece c.if-not-takes_up.false } in
     let goes : GoesOn c.go_on.result c.takes_up.new.self c.go_on.new.self = record { same = g.same; told = g.gone; worked = g.worked; left = g.left } in
     let old = c.args.self.now in
@@ -41,7 +41,7 @@ returns-then-not-takes_up-clause-done c = ((λ _. (c.takes_up.ensures.none c.if-
 pub returns-then-not-takes_up-clause-tended : goal.returns-then-not-takes_up-clause-tended
 returns-then-not-takes_up-clause-tended c =
     let inv = c.loop-piece.invariant in let e = c.look_about.ensures in let none = c.takes_up.ensures.none c.if-not-takes_up.true in
-    let looks : LooksAbout c.loop-piece.self c.look_about.new.self = record { index = e.same.0; hand = e.same.1; stage = e.same.2; found = e.found } in
+    let looks : LooksAbout c.loop-piece.self c.look_about.new.self = record { index = e.same.0; hand = e.same.1; running = e.same.2; found = e.found } in
     record {
       count = c.loop-piece._piece;
       tends = Tends.Looks inv.tends (looks_still c.loop-piece.self c.look_about.new.self c.takes_up.new.self looks none.1);
@@ -61,10 +61,10 @@ returns-then-not-is_at_rest-clause-same c =
 pub returns-then-not-is_at_rest-clause-tended : goal.returns-then-not-is_at_rest-clause-tended
 returns-then-not-is_at_rest-clause-tended c =
     let inv = c.loop-piece.invariant in let e = c.look_about.ensures in let t = c.takes_up.ensures in let g = c.go_on.ensures in
-    let looks : LooksAbout c.loop-piece.self c.look_about.new.self = record { index = e.same.0; hand = e.same.1; stage = e.same.2; found = e.found } in
+    let looks : LooksAbout c.loop-piece.self c.look_about.new.self = record { index = e.same.0; hand = e.same.1; running = e.same.2; found = e.found } in
     let takes : TakesUp c.look_about.new.self c.takes_up.new.self = record { same = t.same; told = t.told; begun = t.piece c.if-not-takes_up.false } in
     let goes : GoesOn c.go_on.result c.takes_up.new.self c.go_on.new.self = record { same = g.same; told = g.gone; worked = g.worked; left = g.left } in
-    let busy : c.go_on.new.self.stage ≢ stage.Rests = λ rests. false≢true (sym c.if-not-is_at_rest.true ∙ c.is_at_rest.ensures.1 rests) in
+    let busy : c.go_on.new.self.running ≢ at_seat.Rests = λ rests. false≢true (sym c.if-not-is_at_rest.true ∙ c.is_at_rest.ensures.1 rests) in
     record {
       count = c.loop-piece._piece + 1;
       tends = Tends.Does (Tends.Looks inv.tends looks) takes goes;
@@ -84,7 +84,7 @@ returns-clause-same c = let e = c.look_about-2.ensures in seat_still c.args.self
 pub returns-clause-tended : goal.returns-clause-tended
 returns-clause-tended c =
     let inv = c.loop-piece.invariant in let e = c.look_about-2.ensures in
-    let looks : LooksAbout c.loop-piece.self c.look_about-2.new.self = record { index = e.same.0; hand = e.same.1; stage = e.same.2; found = e.found } in
+    let looks : LooksAbout c.loop-piece.self c.look_about-2.new.self = record { index = e.same.0; hand = e.same.1; running = e.same.2; found = e.found } in
     let all : c.loop-piece._piece ≡ c.args.most = search rules in
     record {
       count = c.loop-piece._piece;

@@ -1,5 +1,5 @@
 use Rattle.std.proofs.Common.{◌≡◌, ◌⊎◌, ◌+◌, ◌≤◌}
-use Rattle.bl_index_resume.specs.declared.stages.Stage.TheVariants as stage
+use Rattle.bl_index_resume.specs.declared.running.Running.TheVariants as at_seat
 use Rattle.bl_ffi_seats.specs.Calls.{IsSameSeat, HasGoneOn, begun_by, count_underway}
 use Rattle.bl_ffi_seats.specs.Tended.{Tends}
 use Rattle.bl_ffi_seats.specs.Waits.{lacked_in}
@@ -9,8 +9,8 @@ abbrev pub invariant-loop-piece : goal.invariant-loop-piece
 invariant-loop-piece l = record {
   same : IsSameSeat l.fn.self l.self;
   told : HasGoneOn l.fn.self l.self;
-  rests : (l.self.stage ≡ stage.Rests) ⊎ ((l._piece ≡ 0) × (l.self ≡ l.fn.self));
-  done : begun_by l.fn.self + l._piece ≤ begun_by l.self + count_underway l.fn.self.stage;
+  rests : (l.self.running ≡ at_seat.Rests) ⊎ ((l._piece ≡ 0) × (l.self ≡ l.fn.self));
+  done : begun_by l.fn.self + l._piece ≤ begun_by l.self + count_underway l.fn.self.running;
   tends : Tends l._piece l.fn.self l.self;
   row : lacked_in l.self.upkeep ≡ lacked_in l.fn.self.upkeep;
 }

@@ -1,7 +1,7 @@
 use Rattle.std.proofs.Common.{sym, subst}
 use Rattle.bl_store.specs.declared.store.Hand.{Hand}
 use Rattle.bl_index_rule.specs.declared.known.PassState.{PassState}
-use Rattle.bl_index_resume.specs.Stages.{IsAtRest}
+use Rattle.bl_index_resume.specs.Running.{IsAtRest}
 use Rattle.test_index.proofs.stops.begun.hand_of.Goals as goal
 
 pub returns : goal.returns

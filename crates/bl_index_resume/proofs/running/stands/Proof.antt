@@ -20,11 +20,11 @@ use Rattle.std.proofs.raw_atomic.Walks.{proved, leaves}
 use Rattle.bl_index_rule.specs.contracts.known.PassState as state
 use Rattle.bl_index_events.specs.contracts.tree.Tree as tree
 use Rattle.bl_store.specs.contracts.store.Hand as hand
-use Rattle.bl_index_resume.specs.contracts.stages.Stage as stage
-use Rattle.bl_index_resume.specs.Stages.{Stands}
-use Rattle.bl_index_resume.specs.contracts.stages.stands as f
-use Rattle.bl_index_resume.proofs.stages.stands.Statement.{statement}
-use Rattle.bl_index_resume.proofs.stages.stands.Code as code
+use Rattle.bl_index_resume.specs.contracts.running.Running as running
+use Rattle.bl_index_resume.specs.Running.{Stands}
+use Rattle.bl_index_resume.specs.contracts.running.stands as f
+use Rattle.bl_index_resume.proofs.running.stands.Statement.{statement}
+use Rattle.bl_index_resume.proofs.running.stands.Code as code
 
 abbrev T : Slot 3
 T = RefOf (0 ∷ []) tt (plain (λ _. tree.the_row)) (λ _. tt)
@@ -33,7 +33,7 @@ abbrev H : Slot 3
 H = RefOf (1 ∷ []) tt (plain (λ _. hand.the_row state.the_row)) (λ _. tt)
 
 abbrev S : Slot 3
-S = RefOf (2 ∷ []) tt (plain (λ _. stage.the_row)) (λ _. tt)
+S = RefOf (2 ∷ []) tt (plain (λ _. running.the_row)) (λ _. tt)
 
 abbrev stayed : Stays f.ended.signature.params f.ended.kept
 stayed = (stay_dropped T yes, (stay_dropped H yes, (stay_dropped S yes, tt)))
@@ -43,7 +43,7 @@ stands_spec 𝓤 𝓛 𝓜 𝓡 wired =
     let c = f.clauses 𝓛 𝓜.mem 𝓡.returns in let W = walk_of 𝓛 f.ended stayed c in
     proved 𝓛 f.ended stayed c 𝓜 𝓡 (Goes-dropped 𝓛 3 T yes (λ κs x w. refl), (Goes-dropped 𝓛 3 H yes (λ κs x w. refl), (Goes-dropped 𝓛 3 S yes (λ κs x w. refl), tt)))
     f.Key.name code.function (code.unfolded 𝓤 𝓛.H 𝓜 𝓡 wired)
-    (λ κs. (shr_vals, (shr_vals, (shr_vals, tt)))) (λ κs. (shr_Tells (named 0) κs.0 tree.the_row, (shr_Tells (named 1) κs.1.0 (hand.the_row state.the_row), (shr_Tells (named 2) κs.1.1.0 stage.the_row, tt))))
+    (λ κs. (shr_vals, (shr_vals, (shr_vals, tt)))) (λ κs. (shr_Tells (named 0) κs.0 tree.the_row, (shr_Tells (named 1) κs.1.0 (hand.the_row state.the_row), (shr_Tells (named 2) κs.1.1.0 running.the_row, tt))))
     (λ κs qs bounds a g are.
     let y : W.Ghost = ((κs, qs, bounds, a, (shr_vals a.0, (shr_vals a.1.0, (shr_vals a.1.1.0, tt)))), g) in
     let X : Type 0 = Stands a.0.now a.1.0.now a.1.1.0.now in

@@ -1,7 +1,7 @@
 use Rattle.std.proofs.Common.{rules}
 use Rattle.bl_store.specs.Hands.{known}
 use Rattle.bl_index_resume.proofs.Rooms.{lower_begun}
-use Rattle.bl_index_resume.proofs.stages.begin_lower.Goals as goal
+use Rattle.bl_index_resume.proofs.running.begin_lower.Goals as goal
 
 pub returns-clause-stands : goal.returns-clause-stands
 returns-clause-stands c = record {

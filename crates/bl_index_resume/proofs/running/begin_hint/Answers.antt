@@ -1,7 +1,7 @@
 use Rattle.std.proofs.Common.{rules}
 use Rattle.bl_store.specs.Hands.{known}
 use Rattle.bl_index_resume.proofs.Rooms.{post_begun, compress_begun}
-use Rattle.bl_index_resume.proofs.stages.begin_hint.Goals as goal
+use Rattle.bl_index_resume.proofs.running.begin_hint.Goals as goal
 
 pub returns-in-Post-clause-stands : goal.returns-in-Post-clause-stands
 returns-in-Post-clause-stands c = record {

@@ -8,10 +8,10 @@ ghost use Rattle.bl_store.specs.Hands.{known, IsSameHand};
 ghost use Rattle.bl_index_events.specs.Rooms.{LacksWrite};
 ghost use Rattle.bl_index_events.specs.Runs.{IsSince};
 ghost use Rattle.bl_index_write.specs.Events.{HasWritten};
-ghost use Rattle.bl_index_resume.specs.declared.stages.Stage.TheVariants as stages;
+ghost use Rattle.bl_index_resume.specs.declared.running.Running.TheVariants as at_seat;
 ghost use Rattle.bl_claims.specs.Seeing.{GoesOnFrom};
 ghost use Rattle.bl_proc_deterministic.specs.Refusals.{IsNoRoom};
-ghost use Rattle.bl_index_resume.specs.Stages.{IsAtRest, Stands, HasAdvanced, IsWriteOf, IsFor, IsLowering, LacksIn};
+ghost use Rattle.bl_index_resume.specs.Running.{IsAtRest, Stands, HasAdvanced, IsWriteOf, IsFor, IsLowering, LacksIn};
 
 use crate::carrying::go_on;
 use bl_index_events::Tree;
@@ -24,7 +24,7 @@ use bl_store::{Hand, Stock};
 
 /// What a hand is about: it runs no process, or one that is underway, with what it has reserved.
 #[derive(Drop)]
-pub enum Stage {
+pub enum Running {
     /// It runs none.
     Rests,
     /// A write of one key.
@@ -42,16 +42,16 @@ pub enum Stage {
 pub fn start_write(
     tree: &Tree,
     hand: &mut Hand<PassState>,
-    stage: &mut Stage,
+    running: &mut Running,
     key: u64,
     write: KeyWrite,
     turns: u32,
 ) -> Option<(KeyReply, Option<Hint>)>
-    requires { IsAtRest tree.now hand.old × (stage.old ≡ stages.Rests) }
+    requires { IsAtRest tree.now hand.old × (running.old ≡ at_seat.Rests) }
     ensures same { IsSameHand hand.old.seat hand.new.seat }
-    ensures stands { Stands tree.now hand.new stage.new }
-    ensures underway { IfNone result (IsWriteOf key write stage.new × IsSince hand.old.number (known hand.old.seat) (known hand.new.seat)) }
-    ensures ended { IfSome result (λ said. (stage.new ≡ stages.Rests)
+    ensures stands { Stands tree.now hand.new running.new }
+    ensures underway { IfNone result (IsWriteOf key write running.new × IsSince hand.old.number (known hand.old.seat) (known hand.new.seat)) }
+    ensures ended { IfSome result (λ said. (running.new ≡ at_seat.Rests)
         × HasWritten hand.old.number (known hand.old.seat) (known hand.new.seat) key write (answers.Op (reply_of said.0) said.1)) }
     ensures no_room { IfSome result (λ said. said.0 ≡ replies.NoRoom → LacksWrite key write hand.new.seat) }
 {
@@ -63,7 +63,7 @@ pub fn start_write(
                 write,
                 stage: WriteStage::Coming(way),
             };
-            *stage = Stage::Writes(process, None);
+            *running = Running::Writes(process, None);
             None
         }
     }
@@ -71,7 +71,7 @@ pub fn start_write(
 
 /// A hand that rests begins what the hint asks for: a post, or a compression. That does not wait for a child while it holds the parent:
 /// the process that holds the child may be one of the same thread, which goes on by other calls.
-pub fn begin_hint(tree: &Tree, hand: &mut Hand<PassState>, hint: Hint) -> Stage
+pub fn begin_hint(tree: &Tree, hand: &mut Hand<PassState>, hint: Hint) -> Running
     requires { IsAtRest tree.now hand.old }
     ensures same { IsSameHand hand.old.seat hand.new.seat }
     ensures stands { Stands tree.now hand.new result }
@@ -82,18 +82,18 @@ pub fn begin_hint(tree: &Tree, hand: &mut Hand<PassState>, hint: Hint) -> Stage
         Hint::Post { .. } => {
             let mut process = Post::new(hint.level(), hint.key());
             tree.begin(hand, &mut process);
-            Stage::Posts(process, None)
+            Running::Posts(process, None)
         }
         Hint::Thin { .. } => {
             let mut process = Compress::yielding(hint.level(), hint.key());
             tree.begin(hand, &mut process);
-            Stage::Compresses(process, None)
+            Running::Compresses(process, None)
         }
     }
 }
 
 /// A hand that rests begins a lowering.
-pub fn begin_lower(tree: &Tree, hand: &mut Hand<PassState>) -> Stage
+pub fn begin_lower(tree: &Tree, hand: &mut Hand<PassState>) -> Running
     requires { IsAtRest tree.now hand.old }
     ensures same { IsSameHand hand.old.seat hand.new.seat }
     ensures stands { Stands tree.now hand.new result }
@@ -102,62 +102,62 @@ pub fn begin_lower(tree: &Tree, hand: &mut Hand<PassState>) -> Stage
 {
     let mut process = Lower::new();
     tree.begin(hand, &mut process);
-    Stage::Lowers(process, None)
+    Running::Lowers(process, None)
 }
 
 /// What is underway goes on by so many events at most. Gives its answer, where it has ended.
 pub fn advance(
     tree: &Tree,
     hand: &mut Hand<PassState>,
-    stage: &mut Stage,
+    running: &mut Running,
     events: u32,
 ) -> Option<Answer>
-    requires { Stands tree.now hand.old stage.old }
+    requires { Stands tree.now hand.old running.old }
     ensures same { IsSameHand hand.old.seat hand.new.seat }
-    ensures stands { Stands tree.now hand.new stage.new }
+    ensures stands { Stands tree.now hand.new running.new }
     ensures on { GoesOnFrom (known hand.old.seat).trail (known hand.new.seat).trail }
-    ensures no_room { IfSome result (λ answer. IsNoRoom answer → LacksIn stage.old hand.new.seat) }
-    ensures answers { HasAdvanced events (known hand.old.seat) (known hand.new.seat) stage.old result stage.new }
+    ensures no_room { IfSome result (λ answer. IsNoRoom answer → LacksIn running.old hand.new.seat) }
+    ensures answers { HasAdvanced events (known hand.old.seat) (known hand.new.seat) running.old result running.new }
 {
-    match stage {
-        Stage::Rests => None,
-        Stage::Writes(process, held) => {
+    match running {
+        Running::Rests => None,
+        Running::Writes(process, held) => {
             if !go_on(tree, hand, process, held, events) {
                 return None;
             }
             let answer = process.answer();
-            *stage = Stage::Rests;
+            *running = Running::Rests;
             answer
         }
-        Stage::Posts(process, held) => {
+        Running::Posts(process, held) => {
             if !go_on(tree, hand, process, held, events) {
                 return None;
             }
             let answer = process.answer();
-            *stage = Stage::Rests;
+            *running = Running::Rests;
             answer
         }
-        Stage::Compresses(process, held) => {
+        Running::Compresses(process, held) => {
             if !go_on(tree, hand, process, held, events) {
                 return None;
             }
             let answer = process.answer();
-            *stage = Stage::Rests;
+            *running = Running::Rests;
             answer
         }
-        Stage::Lowers(process, held) => {
+        Running::Lowers(process, held) => {
             if !go_on(tree, hand, process, held, events) {
                 return None;
             }
             let answer = process.answer();
-            *stage = Stage::Rests;
+            *running = Running::Rests;
             answer
         }
     }
 }
 
 /// Where it is known that it stands so, as the invariant of a type that keeps it says, it does.
-pub fn stands(tree: &Tree, hand: &Hand<PassState>, stage: &Stage)
-    requires { ∥ Stands tree.now hand.now stage.now ∥₁ }
-    ensures { Stands tree.now hand.now stage.now }
+pub fn stands(tree: &Tree, hand: &Hand<PassState>, running: &Running)
+    requires { ∥ Stands tree.now hand.now running.now ∥₁ }
+    ensures { Stands tree.now hand.now running.now }
 {}

@@ -1,5 +1,5 @@
 use Rattle.bl_index_resume.proofs.Started.{goes_on_way}
-use Rattle.bl_index_resume.proofs.stages.start_write.Goals as goal
+use Rattle.bl_index_resume.proofs.running.start_write.Goals as goal
 
 pub returns-in-Err-clause-stands : goal.returns-in-Err-clause-stands
 returns-in-Err-clause-stands c =
