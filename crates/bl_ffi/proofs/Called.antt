@@ -34,15 +34,8 @@ pub closes : (old new : SeatOfC) (code : ℤ) (s t : Seat) → old.seat ≡ Some
 closes old new code s t was settled so =
     subst (λ (z : Option Seat). MatchOption z ((code ≡ pos 9) × (new.seat ≡ None)) (λ u. (t : Seat) × HasSettled u t × ClosesTo u t new code)) (sym was) (t, settled, so)
 
-pub closes_not : (old new : SeatOfC) (code : ℤ) → old.seat ≡ None → code ≡ pos 9 → new.seat ≡ None → Closes old new code
-closes_not old new code was is none =
-    subst (λ (z : Option Seat). MatchOption z ((code ≡ pos 9) × (new.seat ≡ None)) (λ u. (t : Seat) × HasSettled u t × ClosesTo u t new code)) (sym was) (is, none)
-
 pub counted : (count : Seat → ℕ) (old new : SeatOfC) (result : ℕ) (s : Seat) → old.seat ≡ Some s → result ≡ count s → new.seat ≡ Some s → Counts count old new result
 counted count old new result s was is same = subst (λ (z : Option Seat). MatchOption z ((result ≡ 0) × (new.seat ≡ None)) (λ u. (result ≡ count u) × (new.seat ≡ Some u))) (sym was) (is, same)
-
-pub uncounted : (count : Seat → ℕ) (old new : SeatOfC) (result : ℕ) → old.seat ≡ None → result ≡ 0 → new.seat ≡ None → Counts count old new result
-uncounted count old new result was is none = subst (λ (z : Option Seat). MatchOption z ((result ≡ 0) × (new.seat ≡ None)) (λ u. (result ≡ count u) × (new.seat ≡ Some u))) (sym was) (is, none)
 
 -- A code is as it was after it was told.
 again : (code n : ℤ) → code ≡ n → to_z w32 (of_z w32 n) ≡ n → to_z w32 (of_z w32 code) ≡ n

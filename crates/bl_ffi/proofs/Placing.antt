@@ -16,9 +16,9 @@ use Rattle.bl_ffi_seats.proofs.Closings.{Boxed, map_at, map_length}
 use Rattle.bl_ffi.specs.declared.seat.SeatOfC.{SeatOfC}
 use Rattle.std.specs.Arc.{arc_value}
 use Rattle.std.specs.List.{AllZip}
-use Rattle.std.specs.Prelude.{All, slice_get, ◌⊎◌}
+use Rattle.std.specs.Prelude.{All, slice_get}
 use Rattle.bl_ffi.specs.Together.{AreAtOneMap}
-use Rattle.bl_ffi.specs.Places.{seats_in, opened, closed, placed, IsOpen, HasOpenSeat, AreTaken}
+use Rattle.bl_ffi.specs.Places.{seats_in, opened, closed, IsOpen, HasOpenSeat, AreTaken}
 
 abbrev pub seat_in : SeatOfC → Option Seat
 seat_in place = place.seat
@@ -269,28 +269,10 @@ take_drop [] (suc n) = refl
 take_drop (x ∷ l) zero = refl
 take_drop (x ∷ l) (suc n) = ap (λ (z : _). x ∷ z) (take_drop l n)
 
--- put back, they are where they were
-pub back_again : (old mid new : List (Option Seat)) (boxes : List Boxed) → AreTaken old mid (values boxes) → new ≡ opened (values boxes) ++ drop (length boxes) mid → new ≡ old
-back_again old mid new boxes t put =
-    let n = length (values boxes) in
-    put ∙ ((λ j. t.taken j ++ drop (sym (value_length boxes) j) (t.left j)) ∙ (ap (λ (z : List (Option Seat)). take n old ++ z) (drop_front n (drop n old)) ∙ take_drop old n))
-
--- one was closed
-pub one_closed : (old mid : List (Option Seat)) (seats : List Seat) → length seats < length old → AreTaken old mid seats → (k : ℕ) × (get_elem? old k ≡ some None)
-one_closed old mid seats few t = go t.stops
-  where
-    go : (length seats ≡ length old) ⊎ (get_elem? old (length seats) ≡ some None) → (k : ℕ) × (get_elem? old k ≡ some None)
-    go (inl all) = absurd (omega (arith, all, few))
-    go (inr at) = (length seats, at)
-
 -- where all open places are of one map, so are the seats in them
 pub at_one_map : (old : List (Option Seat)) (seats : List Seat) → old ≡ opened seats → AreAtOneMap old → AreAtOne seats
 at_one_map old seats is one = all_of (λ (z : Seat). All (AreOfOne z) seats) seats (λ i s at. all_of (AreOfOne s) seats (λ j t at_t.
     one i j s t (ap (λ (z : List (Option Seat)). get_elem? z i) is ∙ map_at (λ (z : Seat). Some z) seats i s at) (ap (λ (z : List (Option Seat)). get_elem? z j) is ∙ map_at (λ (z : Seat). Some z) seats j t at_t)))
-
--- put back into closed places, they are in them all
-pub put_whole : (mid new : List (Option Seat)) (boxes : List Boxed) (n : ℕ) → mid ≡ closed n → new ≡ opened (values boxes) ++ drop (length boxes) mid → new ≡ placed (values boxes) n
-put_whole mid new boxes n empty put = put ∙ (λ j. opened (values boxes) ++ drop (sym (value_length boxes) j) (empty j))
 
 pub put_full : (mid new : List (Option Seat)) (boxes : List Boxed) (n : ℕ) → length boxes ≡ n → mid ≡ closed n → new ≡ opened (values boxes) ++ drop (length boxes) mid → new ≡ opened (values boxes)
 put_full mid new boxes n long empty put = put ∙ (ap (λ (z : List (Option Seat)). opened (values boxes) ++ drop (length boxes) z) empty ∙ drop_closed (opened (values boxes)) n (length boxes) (omega (arith, long)))

@@ -12,7 +12,6 @@ use Rattle.bl_model.specs.declared.operation.Reply.{Reply}
 use Rattle.bl_page.specs.declared.page.Page.{Page}
 use Rattle.bl_index_read.specs.declared.finding.OutOfTurns.{OutOfTurns}
 use Rattle.bl_index_read.specs.Searching.{AnswersOrRunsOut}
-use Rattle.bl_index.specs.Meetings.{Meet}
 
 pub since_goes : (pass : ℕ) (old d : PassState) → IsSince pass old d → GoesOnFrom old.trail d.trail
 since_goes pass old d since = (_, since.begins)
@@ -23,6 +22,3 @@ done_goes pass old e p q done = goes_further old.trail done.d.trail e.trail (_, 
 pub search_goes : (first : List (Option Page)) (pages pass turns : ℕ) (op : Op) (r : Result Reply OutOfTurns) (old new : Trail) → AnswersOrRunsOut first pages pass turns op r old new → GoesOnFrom old new
 search_goes first pages pass turns op (Ok reply) old new h = (_, h.answered.answers.holds.begins)
 search_goes first pages pass turns op (Err fault) old new h = (_, h.refused.adds.holds.begins)
-
-pub meet_goes : (first : List (Option Page)) (one two : ℕ) (old_one old_two new_one new_two : Trail) → Meet first one two old_one old_two new_one new_two → GoesOnFrom old_one new_one × GoesOnFrom old_two new_two
-meet_goes first one two old_one old_two new_one new_two m = (m.begins_one, subst (GoesOnFrom old_two) (sym m.same) m.begins_two)

@@ -43,9 +43,6 @@ goes_on pass old mid new (Some b) (Some a, gone) next =
 pub goes_same : (pass : ℕ) (old mid new : Account) → GoesTo pass old mid → new ≡ mid → GoesTo pass old new
 goes_same pass old mid new goes is = subst (GoesTo pass old) (sym is) goes
 
-pub goes_goes : (pass : ℕ) (old mid new : Account) → GoesTo pass old mid → GoesTo pass mid new → GoesTo pass old new
-goes_goes pass old mid new goes (a, gone) = goes_on pass old mid new a goes gone
-
 -- ---- a write that is underway
 
 pub about_op : (key : ℕ) (write : KeyWrite) (s : Running) → IsWriteOf key write s → op_in s ≡ Some (write_op key write)

@@ -1,5 +1,5 @@
 -- Seats that are made for passes one after another.
-use Rattle.std.proofs.Common.{◌≡◌, ◌+◌, ◌<◌, List, [], ◌∷◌, ◌++◌, length, take, drop, get_or, sym, ap, ◌∙◌, subst, append_assoc, append-nil, arith}
+use Rattle.std.proofs.Common.{◌≡◌, ◌+◌, ◌<◌, List, [], ◌∷◌, ◌++◌, length, take, drop, get_or, sym, ap, ◌∙◌, subst, append_assoc, arith}
 use Rattle.std.specs.Prelude.{All}
 use Rattle.std.specs.List.{AllZip}
 use Rattle.std.proofs.lemmas.List.Elements.{All-head, All-tail}
@@ -33,10 +33,6 @@ one_made index passes rest left pass seats now seat next over is s = record {
   all = s.all ∙ (ap (λ (z : List Pass). s.taken ++ z) next ∙ sym (append_assoc s.taken (pass ∷ []) left));
   over = subst (AreSeatsOf index (s.taken ++ pass ∷ [])) (sym is) (zip_push (IsNewSeat index) s.taken seats pass seat s.over over);
 }
-
-pub all_made : (index : Index) (passes rest : List Pass) (seats : List Seat) → length rest ≡ 0 → AreMadeSo index passes rest seats → AreSeatsOf index passes seats
-all_made index passes [] seats e s = subst (λ (z : List Pass). AreSeatsOf index z seats) (sym (s.all ∙ append-nil s.taken)) s.over
-all_made index passes (x ∷ rest) seats e s = absurd (omega arith)
 
 -- what is left of an index's passes is its
 pub left_own : (index : Index) (rest left : List Pass) (pass : Pass) → rest ≡ pass ∷ left → All (IsPassOf index) rest → IsPassOf index pass × All (IsPassOf index) left

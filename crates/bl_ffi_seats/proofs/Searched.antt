@@ -4,7 +4,6 @@ use Rattle.std.specs.Prelude.{Result, Ok, Err}
 use Rattle.bl_model.specs.declared.operation.Op.{Op}
 use Rattle.bl_model.specs.declared.operation.Reply.{Reply}
 use Rattle.bl_page.specs.declared.page.Page.{Page}
-use Rattle.bl_claims.specs.Seeing.{own}
 use Rattle.bl_store.specs.declared.store.Hand.{Hand}
 use Rattle.bl_store.specs.Hands.{known}
 use Rattle.bl_index_rule.specs.declared.known.PassState.{PassState}
@@ -14,8 +13,6 @@ use Rattle.bl_index_read.specs.Searching.{Finds, RunsOut, AnswersOrRunsOut}
 use Rattle.bl_index_resume.specs.declared.running.Running.{Running}
 use Rattle.bl_index_resume.specs.declared.running.Running.TheVariants as at_seat
 use Rattle.bl_ffi_seats.specs.Seats.{HasReplied}
-use Rattle.bl_ffi_seats.specs.Accounts.{account, AddsEntry}
-use Rattle.bl_ffi_seats.proofs.Accounts.{account_is}
 
 module _ (hand hand' : Hand PassState) (num : hand'.number ≡ hand.number) (first : (known hand'.seat).first ≡ (known hand.seat).first) (pages turns : ℕ) (op : Op) where
   abbrev Tells : Result Reply OutOfTurns → Type 0
@@ -32,11 +29,3 @@ module _ (hand hand' : Hand PassState) (num : hand'.number ≡ hand.number) (fir
     before = (known hand.seat).trail;
     answers = subst (λ (z : List (Option Page) × ℕ). Answers z.0 z.1 op reply (known hand.seat).trail (known hand'.seat).trail) (λ i. (sym first i, sym num i)) (finds r reply is tells).answers;
   }
-
-  pub search_told : (s : Running) (r : Result Reply OutOfTurns) (reply : Reply) → s ≡ at_seat.Rests → r ≡ Ok reply → Tells r → AddsEntry hand.number op reply (account hand s) (account hand' s)
-  search_told s r reply rests is tells = subst (λ (z : Running). AddsEntry hand.number op reply (account hand z) (account hand' z)) (sym rests)
-      (account_is _ _ _ _ refl (ap (λ (z : ℕ). own z (known hand'.seat).trail) num ∙ (finds r reply is tells).answers.once))
-
-  pub search_untold : (s : Running) (r : Result Reply OutOfTurns) (e : OutOfTurns) → s ≡ at_seat.Rests → r ≡ Err e → Tells r → account hand' s ≡ account hand s
-  search_untold s r e rests is tells = subst (λ (z : Running). account hand' z ≡ account hand z) (sym rests)
-      (account_is _ _ _ _ refl (ap (λ (z : ℕ). own z (known hand'.seat).trail) num ∙ (runs_out r e is tells).adds.none))

@@ -43,9 +43,6 @@ module _ (hand hand' : Hand PassState) (since : IsSince hand.number (known hand.
   lowering_is (at_seat.Lowers p held) about = account_is _ _ _ _ refl since.past
   lowering_is s' about = absurd about
 
-  pub lowering_starts : (s s' : Running) → s ≡ at_seat.Rests → IsLowering s' → account hand' s' ≡ account hand s
-  lowering_starts s s' rests about = lowering_is s' about ∙ ap (account hand) (sym rests)
-
 module _ (hand hand' : Hand PassState) (num : hand'.number ≡ hand.number) (count among pages answer : ℕ) (next : (known hand.seat).number + 1 ≡ count) (few : pages ≤ answer)
     (does : sweeps hand.number count among (known hand.seat) pages (known hand'.seat)) where
   released : Sweeps (known hand.seat).first hand.number answer (known hand.seat).trail (known hand'.seat).trail
@@ -62,9 +59,6 @@ module _ (hand hand' : Hand PassState) (num : hand'.number ≡ hand.number) (cou
     | inl is ↦ ap (λ (z : PassState). z.first) is.0
     | inr t ↦ t.first
   ]
-
-  pub sweep_told : (s : Running) → s ≡ at_seat.Rests → account hand' s ≡ account hand s
-  sweep_told s rests = subst (λ (z : Running). account hand' z ≡ account hand z) (sym rests) (account_is _ _ _ _ refl (ap (λ (z : ℕ). own z (known hand'.seat).trail) num ∙ released.none))
 
 pub unswept : (s : Running) (hand : Hand PassState) → (s ≡ at_seat.Rests → ⊥) → HasReleased 0 s hand hand
 unswept at_seat.Rests hand busy = absurd (busy refl)

@@ -43,9 +43,6 @@ seat_after a b c p q = (q.0 ∙ p.0, one_after a.hand b.hand c.hand p.1 q.1)
 pub seat_still : (a b c : Seat) → IsSameSeat a b → c.index ≡ b.index → c.hand ≡ b.hand → IsSameSeat a c
 seat_still a b c p index hand = (index ∙ p.0, subst (IsSameOne a.hand) (sym hand) p.1)
 
-pub seat_only : (a c : Seat) → c.index ≡ a.index → c.hand ≡ a.hand → IsSameSeat a c
-seat_only a c index hand = seat_still a a c (seat_same a) index hand
-
 -- ---- pieces
 
 pub pieces_same : (a b : Upkeep) → b ≡ a → ArePieces a b
