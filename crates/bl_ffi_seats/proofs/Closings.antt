@@ -244,7 +244,6 @@ all_tail : (P : Seat → Type 0) (seat : Seat) (rest : List Seat) → All P (sea
 all_tail P seat rest all = (all 0 seat (omega arith), λ k d lt. all (suc k) d (omega (arith, lt)))
 
 module _ (index : Index) (seats : List Seat) (boxes left : List Boxed) (box : Boxed) (hands now : List (Hand PassState)) (next : boxes ≡ box ∷ left) (g : GivenSo index seats boxes hands) where
-
   pub first_rests : box.value.running ≡ at_seat.Rests
   first_rests = (all_tail (λ (z : Seat). z.running ≡ at_seat.Rests) box.value (values left) (subst (λ (z : List Boxed). AllRest (values z)) next g.rests)).0
 
