@@ -2,7 +2,7 @@
 
 ghost use Rattle.test_store_rule.specs.Holding.{IsFresh};
 
-use bl_reserve::NoRoom;
+use bl_store::NoRoom;
 use bl_store_events::tied;
 use std::test::Fail;
 use std::thread;
