@@ -1,5 +1,5 @@
 -- The one lemma of all events: a turn of a process of a hand, where the pages go on as the store's do.
-use Rattle.std.proofs.Common.{ℕ, Bool, true, ◌≡◌, ◌≢◌, ◌≤◌, ◌++◌, Option, List, [], ◌∷◌, length, set, refl, sym, ap, ◌∙◌, subst, ⊎_elim, append_assoc}
+use Rattle.std.proofs.Common.{ℕ, Bool, true, ◌≡◌, ◌≢◌, ◌≤◌, ◌+◌, ◌++◌, Option, List, [], ◌∷◌, length, set, refl, sym, ap, ◌∙◌, subst, ⊎_elim, append_assoc}
 use mathlib.Core.Option.{some}
 use lib.ListN.{get_elem?}
 use Rattle.std.proofs.Math.ListN.{length-set}
@@ -23,7 +23,9 @@ use Rattle.bl_proc_bounds.specs.Searches.{IsSearch, IsUnderWay}
 use Rattle.bl_proc_bounds.specs.Latches.{IsTidy}
 use Rattle.bl_proc_bounds.specs.Paces.{AllKept}
 use Rattle.bl_proc_bounds.proofs.Bounded.{search_within, search_below}
-use Rattle.bl_store_rule.specs.Pages.{Owner, Stage, Running, Pages, Stands}
+use Rattle.bl_one_moment.specs.Moments.{put_of, puts_at}
+use Rattle.bl_one_moment.proofs.Counting.{puts_push}
+use Rattle.bl_store_rule.specs.Pages.{Owner, Stage, Running, Pages, Stands, HasVersion}
 use Rattle.bl_index_rule.specs.declared.known.PassState.{PassState}
 use Rattle.bl_claims.specs.Seeing.{first_map, BeginsFrom, IsSeen, AreWithin, own, name}
 use Rattle.bl_index_rule.specs.Simulation.{Shows, owner_in, IsAtStage, IsHand, IsRun, Simulates}
@@ -56,9 +58,10 @@ module _ (s : Pages PassState) (f : Simulates s) (n m : ℕ) (st : Stage) (d : P
       → ((x : ℕ) (o : Owner) → get_elem? s'.owners x ≡ some o → s1.owner x ≡ owner_in s'.hands o)
       → IsAtStage t.next n st' next_known
       → ((since : ℕ) → st ≡ Running since → m ≡ d.number)
-      → ((since : ℕ) → s1.phase (name n m) ≡ machine.Running since → st' ≡ Running since)
+      → ((since : ℕ) → s1.phase (name n m) ≡ machine.Running since → (from : ℕ) × (from ≤ since) × (st' ≡ Running from))
+      → ((x version : ℕ) → HasVersion s' x version → version ≡ puts_at x f.world.trail + put_of x a)
       → Simulates s'
-  advance logs all_kept s' st' hands size le clock others kept pages owners stage current on = record {
+  advance logs all_kept s' st' hands size le clock others kept pages owners stage current on versions = record {
     world = t.next;
     good = t.good;
     kept = all_kept;
@@ -84,6 +87,7 @@ module _ (s : Pages PassState) (f : Simulates s) (n m : ℕ) (st : Stage) (d : P
         (λ (z : (k ≢ n) × (get_elem? s.hands k ≡ some (sg, g))). f.firsts k sg g z.1)
         (at_set s.hands n k (st', next_known) (sg, g) (ap (λ (z : List (Stage × PassState)). get_elem? z k) (sym hands) ∙ at_k));
     busy = λ p since runs. subst (λ (z : List (Stage × PassState)). IsRun z p since) (sym hands) (runs_after s.hands n m st st' d next_known at refl f.world.now.phase s1.phase others f.busy current on p since (ap (λ (z : State Page). z.phase p) (sym t.now) ∙ runs));
+    versions = λ x version e. versions x version e ∙ sym (ap (puts_at x) t.extends.trail ∙ puts_push x f.world.trail (turn_mark f.world f.good n m a s1 b t));
   }
 
   pub next_seen : KeepsLogs t.next → IsSeen d.first next_known.trail
@@ -131,11 +135,11 @@ module _ (s : Pages PassState) (f : Simulates s) (n m : ℕ) (st : Stage) (d : P
   }
 
   -- where it runs on
-  pub next_stage : (since : ℕ) → runs ≡ true → m ≢ 0 → s1.phase (name n m) ≡ machine.Running since → own n f.world.trail ≡ past ++ entries_at (name n m) (know (f.world.proc (name n m))).said → proc_log b.state (marks_of (name n m) t.next.trail) → IsAtStage t.next n (Running since) next_known
-  next_stage since on begun phase was log = (
+  pub next_stage : (since start : ℕ) → since ≤ start → runs ≡ true → m ≢ 0 → s1.phase (name n m) ≡ machine.Running start → own n f.world.trail ≡ past ++ entries_at (name n m) (know (f.world.proc (name n m))).said → proc_log b.state (marks_of (name n m) t.next.trail) → IsAtStage t.next n (Running since) next_known
+  next_stage since start le on begun phase was log = (
     on,
     begun,
-    ap (λ (z : State Page). z.phase (name n m)) t.now ∙ phase,
+    (start, le, ap (λ (z : State Page). z.phase (name n m)) t.now ∙ phase),
     ap (λ (r : Run). r.state) t.extends.proc.at,
     own_after f.world f.good n m a s1 b t past was,
     log,

@@ -1,5 +1,5 @@
 -- A process begins, and ends: each keeps the rule, and the pass knows it.
-use Rattle.std.proofs.Common.{ℕ, ◌≡◌, ◌≢◌, ◌+◌, ◌≤◌, ◌++◌, true, false, Option, Some, None, List, [], ◌∷◌, length, refl, sym, ap, ◌∙◌, subst, inl, inr, arith, append-nil}
+use Rattle.std.proofs.Common.{ℕ, ◌≡◌, ◌≢◌, ◌+◌, ◌≤◌, ◌++◌, true, false, Option, Some, None, List, [], ◌∷◌, length, refl, sym, ap, ◌∙◌, subst, inl, inr, arith, append-nil, le_refl, zero, suc, set}
 use mathlib.Core.Option.{some, some-injective}
 use mathlib.Core.Option as lists
 use lib.ListN.{get_elem?}
@@ -39,16 +39,17 @@ use Rattle.bl_proc_bounds.proofs.Latching.{none_up}
 use Rattle.bl_proc_bounds.proofs.Kept.{left_kept, enter_kept}
 use Rattle.bl_proc_deterministic.specs.Courses.{GoesOn}
 use Rattle.bl_layout.specs.declared.layout.Layout.{Layout}
-use Rattle.bl_store_rule.specs.Pages.{Held, Stage, Idle, Running, Pages, Stands, IsOrderly, HoldsNone, observed, Begins as BeginsIn, Ends}
+use Rattle.bl_store_rule.specs.Pages.{Held, Stage, Idle, Running, Pages, Stands, IsOrderly, HoldsNone, observed, Begins as BeginsIn, Ends, Relays}
 use Rattle.bl_index_rule.specs.declared.known.PassState.{PassState}
 use Rattle.bl_claims.specs.Seeing.{own, name}
 use Rattle.bl_index_rule.specs.Simulation.{owner_in, IsAtStage, IsHand, Simulates}
-use Rattle.bl_index_rule.specs.Observed.{MayGiveUp, IsUnborn, Notes, Finishes, begins, ends, gives_up}
+use Rattle.bl_index_rule.specs.Observed.{MayGiveUp, IsUnborn, Notes, Finishes, begins, ends, relays, gives_up}
 use Rattle.bl_index_rule.proofs.Entries.{own-mine}
 use Rattle.bl_index_rule.proofs.Marks.{each_append, no_marks}
 use Rattle.bl_index_rule.proofs.Stages.{pass_of, number_of, turn_mark}
 use Rattle.bl_index_rule.proofs.Doings.{log_after}
-use Rattle.bl_index_rule.proofs.Shown.{same_owner, other_owner, held_by}
+use Rattle.std.proofs.Math.ListN.{length-set}
+use Rattle.bl_index_rule.proofs.Shown.{set_there, same_owner, other_owner, held_by}
 use Rattle.bl_index_rule.proofs.Logs.{next_logs}
 use Rattle.bl_index_rule.proofs.Advance.{next_known, advance, next_notes, next_near, next_own, next_stage}
 use Rattle.bl_index_rule.proofs.Turns.{turn_of, standing, is_named, turned, then_log, then_kept}
@@ -123,6 +124,7 @@ module _ (s : Pages PassState) (f : Simulates s) (n : ℕ) (d : PassState) (at :
     counts = f.counts;
     firsts = f.firsts;
     busy = f.busy;
+    versions = f.versions;
   }
 
 -- the anchor of a tree whose one page is page 1
@@ -133,9 +135,11 @@ first_anchor = Anchor (record { leftmost = record { items = 1 ∷ [] }; some = o
 abbrev pub fresh_run : Proc → Run
 fresh_run process = record { state = process; got = λ x. first_anchor; child = 0; time = 0 }
 
-pub begins_process : (l : Layout) (n : ℕ) (d : PassState) (process : Proc) → next_of process ≡ act.Begin → IsUnborn process → GoesOn process seen.Done → BeginsIn Simulates l n d (begins n l.pages l.passes process)
+-- it begins now, and counts for the store from that time on, or from an earlier one
+begins_from : (l : Layout) (n : ℕ) (d : PassState) (process : Proc) → next_of process ≡ act.Begin → IsUnborn process → GoesOn process seen.Done → (s : Pages PassState) → Simulates s → length s.contents ≡ l.pages → length s.hands ≡ l.passes → Stands s n Idle d → (from : ℕ) → from ≤ s.clock
+    → (e : PassState) × Simulates (observed s n (Running from) e) × begins n l.pages l.passes process d s.clock e
 unfolding entered
-begins_process l n d process next unborn course s g o at =
+begins_from l n d process next unborn course s g many among at from le =
     let b = fresh_run process in
     let blank : IsBlank (know b) = unborn b refl in
     let f = entered s g n d at b blank in
@@ -159,17 +163,18 @@ begins_process l n d process next unborn course s g o at =
     let logs : KeepsLogs t.next = next_logs s f n m Act.Begin s1 b' t (λ z runs. log) in
     let notes : Notes n m Act.Begin d e = next_notes s f n m Idle d at Act.Begin s1 b' t true past logs kept in (
       e,
-      advance s f n m Idle d at Act.Begin s1 b' t true past logs kept (observed s n (Running s.clock) e) (Running s.clock) refl refl (omega arith) (omega arith)
+      advance s f n m Idle d at Act.Begin s1 b' t true past logs kept (observed s n (Running from) e) (Running from) refl refl (omega arith) (omega arith)
           (λ q ne. phase.others q ne) (λ x q ne z. z) g.pages
-          (λ x own_ z. g.owners x own_ z ∙ sym (other_owner s.hands n (Running s.clock, e) own_ (λ is. h.stage.1 x (g.owners x own_ z ∙ (ap (owner_in s.hands) is ∙ held_by s.hands n (Idle, d) at)))))
-          (next_stage s f n m Idle d at Act.Begin s1 b' t true past s.clock refl (λ z. omega arith) phase.at was log)
+          (λ x own_ z. g.owners x own_ z ∙ sym (other_owner s.hands n (Running from, e) own_ (λ is. h.stage.1 x (g.owners x own_ z ∙ (ap (owner_in s.hands) is ∙ held_by s.hands n (Idle, d) at)))))
+          (next_stage s f n m Idle d at Act.Begin s1 b' t true past from s.clock le refl (λ z. omega arith) phase.at was log)
           (λ z i. absurd (let both : Idle ≡ Running z = i in cc))
-          (λ z i. (let both : machine.Running s.clock ≡ machine.Running z = sym phase.at ∙ i in let same : s.clock ≡ z = cc in ap Running same)),
+          (λ z i. (from, (let both : machine.Running s.clock ≡ machine.Running z = sym phase.at ∙ i in let same : s.clock ≡ z = cc in subst (λ (v : ℕ). from ≤ v) same le), refl))
+          (λ x version z. let was = g.versions x version z in omega arith),
       record {
         notes = notes;
         runs = refl;
-        pages = g.size ∙ o.contents;
-        passes = o.hands;
+        pages = g.size ∙ many;
+        passes = among;
         past = refl;
         fresh = h.counted;
         own = next_own s f n m Idle d at Act.Begin s1 b' t true past was;
@@ -178,6 +183,9 @@ begins_process l n d process next unborn course s g o at =
         state = refl;
       },
     )
+
+pub begins_process : (l : Layout) (n : ℕ) (d : PassState) (process : Proc) → next_of process ≡ act.Begin → IsUnborn process → GoesOn process seen.Done → BeginsIn Simulates l n d (begins n l.pages l.passes process)
+begins_process l n d process next unborn course s g o at = begins_from l n d process next unborn course s g o.contents o.hands at s.clock (le_refl s.clock)
 
 -- nothing is said at an end
 end_silent : (trail : Trail) (m : Mark) (answer : Option Reply) → m.event.act ≡ Act.End answer → IsMarked (trail ++ m ∷ []) → (s : Option Said) → m.said ≡ s → s ≡ None
@@ -211,7 +219,8 @@ module _ (l : Layout) (n : ℕ) (d : PassState) (s : Pages PassState) (since : �
             (λ x own_ z. f.owners x own_ z ∙ sym (same_owner s.hands n (Running since, d) (Idle, e) own_ at refl))
             (refl, λ x z. can.1 x (ap (λ (y : State Page). y.owner x) (sym t.now) ∙ z))
             (λ z i. refl)
-            (λ z i. absurd (let both : machine.Ended ≡ machine.Running z = sym phase.at ∙ i in cc)),
+            (λ z i. absurd (let both : machine.Ended ≡ machine.Running z = sym phase.at ∙ i in cc))
+            (λ x version z. let was = f.versions x version z in omega arith),
         record {
           notes = subst (λ (z : ℕ). Notes z d.number (Act.End answer) d e) (sym named.0) notes;
           runs = refl;
@@ -237,6 +246,19 @@ ends_process l n d next course s since f o at =
       z.2,
       (z.3, record { course = course; state = z.5; log = subst (proc_log course.new) (λ i. marks_of (name (sym named.0 i) d.number) (sym z.4 i)) log }),
     )
+
+set_twice : {A : Type 0} (l : List A) (i : ℕ) (a b : A) → set (set l i a) i b ≡ set l i b
+set_twice [] i a b = refl
+set_twice (x ∷ xs) zero a b = refl
+set_twice (x ∷ xs) (suc i) a b = ap (λ z. x ∷ z) (set_twice xs i a b)
+
+-- a process ends, and the next one begins, which for the store counts from where the first one did
+pub relays_process : (l : Layout) (n : ℕ) (d : PassState) (process : Proc) → next_of d.state ≡ act.End → GoesOn d.state seen.Done → next_of process ≡ act.Begin → IsUnborn process → GoesOn process seen.Done → Relays Simulates l n d (relays n l.pages l.passes process)
+relays_process l n d process ended done next unborn course s since f o at =
+    let e = ends_process l n d ended done s since f o at in
+    let rests : Pages PassState = observed s n Idle e.1 in
+    let b = begins_from l n e.1 process next unborn course rests e.2 o.contents (length-set s.hands n (Idle, e.1) ∙ o.hands) (set_there s.hands n (Running since, d) (Idle, e.1) at) since (o.begun n since d at) in
+    (e.0, b.0, subst (λ (hands : List (Stage × PassState)). Simulates (record s { hands = hands })) (set_twice s.hands n (Idle, e.1) (Running since, b.0)) b.1, (e.1, e.3, b.2))
 
 end_latches : (x : ℕ) → ◌≢◌ {A = Act Page Reply} (Act.End None) (Act.Latch x)
 end_latches x e = cc

@@ -35,7 +35,7 @@ fits_logs : (s : Pages PassState) (f : Simulates s) → KeepsLogs f.world
 fits_logs s f p since runs =
     let r = f.busy p since runs in
     let d : PassState = r.0 in
-    let at = (f.hands p.pass (Running since) d r.1).stage in
+    let at = (f.hands p.pass (Running r.1.0) d r.1.2).stage in
     let is : p ≡ name p.pass d.number = λ i. name p.pass (r.2 i) in
     let log : proc_log (f.world.proc (name p.pass d.number)).state (marks_of (name p.pass d.number) f.world.trail) = subst (λ (z : Proc). proc_log z (marks_of (name p.pass d.number) f.world.trail)) (sym at.3) at.5 in
     subst (λ (z : Name). proc_log (f.world.proc z).state (marks_of z f.world.trail)) (sym is) log

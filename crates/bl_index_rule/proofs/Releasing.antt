@@ -55,7 +55,7 @@ module _ (s : Pages PassState) (f : Simulates s) (n m : ℕ) (d : PassState) (at
     does = record { changes = (λ z. refl, is_put_at x machine.Released f.world.now.owner, λ q. refl); on = omega arith }
 
     can : (z : ℕ) × (f.world.now.owner x ≡ machine.Retired z) × AllBeganAfterIn f.world.now z
-    can = (time, f.owners x (Retired time) page.1, λ q since runs. (let r = f.busy q since runs in all q.pass since r.0 r.1))
+    can = (time, f.owners x (Retired time) page.1, λ q since runs. (let r = f.busy q since runs in let began = all q.pass r.1.0 r.0 r.1.2 in let before = r.1.1 in omega (arith, began, before)))
 
     abbrev turned : Turned know f.world p (Act.Release x) freed (f.world.proc p)
     turned = (release f.world p x freed f.good can does).0
@@ -88,8 +88,8 @@ module _ (s : Pages PassState) (f : Simulates s) (n m : ℕ) (d : PassState) (at
     idle : (z : ℕ) → f.world.now.phase p ≢ machine.Running z
     idle z runs = (
         let r = f.busy p z runs in
-        let one : ◌≡◌ {A = Stage × PassState} (Idle, d) (Running z, r.0) = one_hand s.hands n (Idle, d) (Running z, r.0) at r.1 in
-        let both : Idle ≡ Running z = ap (λ (v : Stage × PassState). v.0) one in
+        let one : ◌≡◌ {A = Stage × PassState} (Idle, d) (Running r.1.0, r.0) = one_hand s.hands n (Idle, d) (Running r.1.0, r.0) at r.1.2 in
+        let both : Idle ≡ Running r.1.0 = ap (λ (v : Stage × PassState). v.0) one in
         cc)
 
     then_logs : KeepsLogs turned.next
@@ -100,7 +100,8 @@ module _ (s : Pages PassState) (f : Simulates s) (n m : ℕ) (d : PassState) (at
         (λ q ne. refl) (λ y q ne e. held_before y q e) f.pages owners_after
         (refl, λ y z. empty y (held_before y p (ap (λ (v : State Page). v.owner y) (sym turned.now) ∙ z)))
         (λ z i. absurd (let both : Idle ≡ Running z = i in cc))
-        (λ z runs. (let r = f.busy p z runs in let one : ◌≡◌ {A = Stage × PassState} (Idle, d) (Running z, r.0) = one_hand s.hands n (Idle, d) (Running z, r.0) at r.1 in ap (λ (v : Stage × PassState). v.0) one))
+        (λ z runs. absurd (idle z runs))
+        (λ y v e. let was = f.versions y v e in omega arith)
 
     then_sweeps : ReleasesPages n m (length s.hands) 1 d then_known
     then_sweeps =

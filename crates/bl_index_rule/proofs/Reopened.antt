@@ -180,4 +180,5 @@ module _ (pages : List (Option Page)) (bytes : List ℕ) (image : IsImage pages 
     counts = λ n st d e begun. absurd (begun (ap (λ (z : Stage × PassState). z.1.number) (sym (of_all passes (Idle, beginner pages) n (st, d) e))));
     firsts = λ n st d e. ap (λ (z : Stage × PassState). z.1.first) (sym (of_all passes (Idle, beginner pages) n (st, d) e));
     busy = λ p since e. absurd (let both : machine.Waiting ≡ machine.Running since = e in cc);
+    versions = λ x version e. sym (of_all (length (map page_words pages)) 0 x version e);
   }

@@ -71,7 +71,7 @@ module _ (w : World Run) (good : IsGood know w) (n m : ℕ) (a : Act Page Reply)
         let same = t.extends.proc.others p other in (
           h.0,
           h.1,
-          phase_else p other ∙ h.2,
+          (h.2.0, h.2.1, phase_else p other ∙ h.2.2),
           ap (λ (r : Run). r.state) same ∙ h.3,
           own_else k ne ∙ (h.4 ∙ ap (λ (r : Run). d.past ++ entries_at p (know r).said) (sym same)),
           log_else w (name n m) p a s b t other d.state h.5,

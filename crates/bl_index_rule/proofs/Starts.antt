@@ -139,4 +139,5 @@ module _ (contents : List (List ℕ)) (o : AreOpening contents) where
     counts = λ n st d e begun. absurd (begun (ap (λ (z : Stage × PassState). z.1.number) (sym (of_all passes (Idle, newcomer) n (st, d) e))));
     firsts = λ n st d e. ap (λ (z : Stage × PassState). z.1.first) (sym (of_all passes (Idle, newcomer) n (st, d) e));
     busy = λ p since e. absurd (let both : machine.Waiting ≡ machine.Running since = e in cc);
+    versions = λ x version e. sym (of_all (length contents) 0 x version e);
   }

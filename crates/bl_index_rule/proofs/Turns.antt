@@ -1,5 +1,5 @@
 -- A turn of the process that a hand runs, told truly what its next action gave.
-use Rattle.std.proofs.Common.{ℕ, ◌≡◌, ◌≢◌, ◌≤◌, true, Some, List, length, set, refl, sym, ap, ◌∙◌, subst, arith}
+use Rattle.std.proofs.Common.{ℕ, ◌≡◌, ◌≢◌, ◌≤◌, ◌+◌, true, Some, List, length, set, refl, sym, ap, ◌∙◌, subst, arith}
 use Rattle.std.proofs.lemmas.Bool.{false≢true}
 use mathlib.Core.Option.{some}
 use lib.ListN.{get_elem?}
@@ -22,7 +22,8 @@ use Rattle.bl_proc_invariant.proofs.Logged.{saw_words}
 use Rattle.bl_proc_bounds.specs.Paces.{AllKept}
 use Rattle.bl_proc_bounds.proofs.Turns.{state_kept}
 use Rattle.bl_proc_deterministic.specs.Courses.{GoesOn}
-use Rattle.bl_store_rule.specs.Pages.{Owner, Stage, Idle, Running, Pages, Stands, observed}
+use Rattle.bl_one_moment.specs.Moments.{put_of, puts_at}
+use Rattle.bl_store_rule.specs.Pages.{Owner, Stage, Idle, Running, Pages, Stands, HasVersion, observed}
 use Rattle.bl_index_rule.specs.declared.known.PassState.{PassState}
 use Rattle.bl_claims.specs.Seeing.{name}
 use Rattle.bl_index_rule.specs.Simulation.{Shows, owner_in, IsAtStage, Simulates}
@@ -100,16 +101,18 @@ module _ (s : Pages PassState) (f : Simulates s) (n since : ℕ) (d : PassState)
         → ((x : ℕ) (q : Name) → q ≢ mine → s1.owner x ≡ machine.Held q → f.world.now.owner x ≡ machine.Held q)
         → ((x : ℕ) (words : List ℕ) → get_elem? s2.contents x ≡ some words → Shows x words (s1.contents x))
         → ((x : ℕ) (o : Owner) → get_elem? s2.owners x ≡ some o → s1.owner x ≡ owner_in s.hands o)
+        → ((x version : ℕ) → HasVersion s2 x version → version ≡ puts_at x f.world.trail + put_of x (event_of (end_of_proc d.state) a what))
         → Simulates (observed s2 n (Running since) then_known)
-    then_fits s2 hands size clock phases kept pages owners =
+    then_fits s2 hands size clock phases kept pages owners versions =
         let act = event_of (end_of_proc d.state) a what in
         let b = run_next f.world.now (f.world.proc mine) what course.new in
         let set_is : set s2.hands n (Running since, then_known) ≡ set s.hands n (Running since, then_known) = ap (λ (z : List (Stage × PassState)). set z n (Running since, then_known)) hands in
         advance s f n d.number (Running since) d at act s1 b turned true d.past then_logs then_kept (observed s2 n (Running since) then_known) (Running since) set_is size (omega arith) clock (λ q ne. phases q) kept pages
         (λ x o e. owners x o e ∙ sym (ap (λ (z : List (Stage × PassState)). owner_in z o) set_is ∙ same_owner s.hands n (Running since, d) (Running since, then_known) o at refl))
-        (next_stage s f n d.number (Running since) d at act s1 b turned true d.past since refl standing.1 (phases mine ∙ standing.2) standing.4 then_log)
+        (next_stage s f n d.number (Running since) d at act s1 b turned true d.past since standing.2.0 standing.2.1 refl standing.1 (phases mine ∙ standing.2.2) standing.4 then_log)
         (λ z e. refl)
-        (λ z e. (let both : machine.Running since ≡ machine.Running z = sym (phases mine ∙ standing.2) ∙ e in let same : since ≡ z = cc in ap Running same))
+        (λ z e. (since, (let both : machine.Running standing.2.0 ≡ machine.Running z = sym (phases mine ∙ standing.2.2) ∙ e in let same : standing.2.0 ≡ z = cc in subst (λ (v : ℕ). since ≤ v) same standing.2.1), refl))
+        versions
 
 -- a hand that knows that it runs a process
 pub runs_on : (s : Pages PassState) (f : Simulates s) (n : ℕ) (st : Stage) (d : PassState) → Stands s n st d → d.runs ≡ true → (since : ℕ) × (st ≡ Running since)

@@ -20,6 +20,7 @@ use Rattle.bl_claims.specs.Latches.{OnlyLooks}
 use Rattle.bl_proc_bounds.specs.Latches.{IsTidy}
 use Rattle.bl_tree_worlds.specs.Worlds.{Stage}
 use Rattle.bl_claims.specs.Walks.{Each}
+use Rattle.bl_one_moment.specs.Moments.{PutsNone, puts_at}
 use Rattle.bl_tree_worlds.specs.Blank.{IsBlank}
 use Rattle.bl_proc_deterministic.specs.Courses.{GoesOn}
 use Rattle.bl_store_rule.specs.Pages.{Owner, Open}
@@ -140,6 +141,18 @@ pub record HasDone (d e : PassState) : Type 0 where
 
 abbrev pub ends : PassState → ℕ → PassState → Type 0
 ends d now e = Finishes (end_of_proc d.state) d e × HasDone d e
+
+-- it got a page, and is told how often that was put by then
+abbrev pub gets_kept : PassState → ℕ → ℕ → Owner → List ℕ → PassState → Type 0
+gets_kept d x version owner words e = gets d x owner words e × (version ≡ puts_at x e.trail)
+
+-- In all that the pass has seen the page was not put since a get of it, if it had been put so often by then.
+abbrev pub is_unput : PassState → ℕ → ℕ → Type 0
+is_unput d x version = (before since : Trail) (get : Mark) → d.trail ≡ before ++ get ∷ since → puts_at x (before ++ get ∷ []) ≡ version → PutsNone x since
+
+-- the process has ended, and the next one has begun
+abbrev pub relays : ℕ → ℕ → ℕ → Proc → PassState → ℕ → PassState → Type 0
+relays pass pages passes process d now e = (between : PassState) × ends d now between × begins pass pages passes process between now e
 
 abbrev pub gives_up : PassState → ℕ → PassState → Type 0
 gives_up d now e = Finishes None d e × OnlyLooks (marks_of (name d.pass d.number) e.trail)

@@ -18,7 +18,8 @@ use Rattle.bl_proc.specs.declared.searching.FindStage.TheVariants as find
 use Rattle.bl_proc_invariant.specs.Knowing.{Run, know}
 use Rattle.bl_proc_invariant.specs.Logs.{proc_log}
 use Rattle.bl_proc_bounds.specs.Paces.{AllKept}
-use Rattle.bl_store_rule.specs.Pages.{Owner, Released, Open, Held, Retired, Stage, Idle, Running, Pages, Stands}
+use Rattle.bl_one_moment.specs.Moments.{puts_at}
+use Rattle.bl_store_rule.specs.Pages.{Owner, Released, Open, Held, Retired, Stage, Idle, Running, Pages, Stands, HasVersion}
 use Rattle.bl_index_rule.specs.declared.known.PassState.{PassState}
 use Rattle.bl_claims.specs.Seeing.{name, first_map, BeginsFrom, own, AreWithin, AreElse}
 
@@ -56,13 +57,13 @@ owner_in hands Open = machine.Owner.Open
 owner_in hands (Held n) = machine.Held (name n (number_in (get_elem? hands n)))
 owner_in hands (Retired time) = machine.Retired time
 
--- Where a hand runs a process, it is the last that it has begun, which stands as the pass knows and has done what it needs
+-- Where a hand runs a process, it is the last that it has begun, at that time or later, which stands as the pass knows and has done what it needs
 -- to mean what it will answer, and what it has said is all that the pass has said since the entries of before. Where it runs
 -- none, the last one holds no page any more.
 abbrev pub IsAtStage : World Run → ℕ → Stage → PassState → Type 0
 IsAtStage w n Idle d = (d.runs ≡ false) × ((x : ℕ) → w.now.owner x ≢ machine.Held (name n d.number))
 IsAtStage w n (Running since) d =
-    (d.runs ≡ true) × (d.number ≢ 0) × (w.now.phase (name n d.number) ≡ machine.Running since) × ((w.proc (name n d.number)).state ≡ d.state)
+    (d.runs ≡ true) × (d.number ≢ 0) × ((start : ℕ) × (since ≤ start) × (w.now.phase (name n d.number) ≡ machine.Running start)) × ((w.proc (name n d.number)).state ≡ d.state)
     × (own n w.trail ≡ d.past ++ entries_at (name n d.number) (know (w.proc (name n d.number))).said) × proc_log d.state (marks_of (name n d.number) w.trail)
 
 -- the processes of that pass among these events have numbers up to that one
@@ -78,13 +79,14 @@ pub record IsHand (w : World Run) (n : ℕ) (st : Stage) (d : PassState) : Type 
   pub counted : AreUpTo n d.number d.trail
   pub mine : own n w.trail ≡ own n d.trail
 
--- the hand that the process names runs it, since that time
+-- The hand that the process names runs it, since that time. For the store it may count from an earlier one on, that of a process of the
+-- hand behind which this one began without a rest.
 abbrev pub IsRun : List (Stage × PassState) → Name → ℕ → Type 0
-IsRun hands p since = (d : PassState) × (get_elem? hands p.pass ≡ some (Running since, d)) × (p.number ≡ d.number)
+IsRun hands p since = (d : PassState) × ((from : ℕ) × (from ≤ since) × (get_elem? hands p.pass ≡ some (Running from, d))) × (p.number ≡ d.number)
 
 -- One good world that began with an image or empty, and had the laws of the tree in every state since, has the pages and owners
 -- of the store, and knows each hand, which knows what it began with. Each search keeps its bound there, and each process holds
--- what it may as it latches. No process runs there but those that hands run.
+-- what it may as it latches. No process runs there but those that hands run. And each page was put there as often as in the store.
 pub record Simulates (s : Pages PassState) : Type 0 where
   pub world : World Run
   pub good : IsGood know world
@@ -102,3 +104,4 @@ pub record Simulates (s : Pages PassState) : Type 0 where
   pub counts : (n : ℕ) (st : Stage) (d : PassState) → Stands s n st d → d.number ≢ 0 → d.passes ≡ length s.hands
   pub firsts : (n : ℕ) (st : Stage) (d : PassState) → Stands s n st d → d.first ≡ image
   pub busy : (p : Name) (since : ℕ) → world.now.phase p ≡ machine.Running since → IsRun s.hands p since
+  pub versions : (x version : ℕ) → HasVersion s x version → version ≡ puts_at x world.trail

@@ -1,10 +1,10 @@
 //! What each event tells the pass that makes it.
 
 ghost use Rattle.std.specs.Prelude.{ℕ};
-ghost use Rattle.bl_index_rule.specs.Observed.{begins, ends, gives_up, gets, puts, takes, tries, probes, opens, retires, refuses, sweeps};
+ghost use Rattle.bl_index_rule.specs.Observed.{begins, ends, gives_up, gets, gets_kept, is_unput, puts, relays, takes, tries, probes, opens, retires, refuses, sweeps};
 
 use crate::known::PassState;
-use bl_store_rule::{PagePlay, SweepPlay, TimePlay};
+use bl_store_rule::{KeepPlay, PagePlay, SweepPlay, TellPlay, TimePlay};
 use std::marker::{Brand, PhantomData};
 
 /// Which pass begins a process, in a store of how many pages and passes, and which process.
@@ -60,6 +60,29 @@ pub struct Got;
 
 impl PagePlay<PassState> for Got {
     ghost then = { gets };
+}
+
+/// A page was read, and is kept in mind.
+pub struct GotKept;
+
+impl KeepPlay<PassState> for GotKept {
+    ghost then = { gets_kept };
+}
+
+/// A page that was got was not put since.
+pub struct Unput;
+
+impl TellPlay<PassState> for Unput {
+    ghost tells = { is_unput };
+}
+
+/// The process ends, and has answered, and the next one begins.
+pub struct Relayed<J> {
+    launch: PhantomData<J>,
+}
+
+impl<J: Launch> TimePlay<PassState> for Relayed<J> {
+    ghost then = { relays J.pass J.pages J.passes J.process };
 }
 
 /// A page was put.

@@ -30,6 +30,7 @@ impl PageRule<PassState> for Passes {
           f.busy;
       counts = f.counts;
       firsts = f.firsts;
+      versions = f.versions;
     } };
 
     ghost gone = { newcomer };

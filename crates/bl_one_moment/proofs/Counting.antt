@@ -1,5 +1,5 @@
 -- A page that was put as often later on was not put in between.
-use Rattle.std.proofs.Common.{ℕ, ◌≡◌, ◌+◌, ◌++◌, [], ◌∷◌, ap, ◌∙◌, arith}
+use Rattle.std.proofs.Common.{ℕ, ◌≡◌, ◌≢◌, ◌+◌, ◌++◌, [], ◌∷◌, ap, sym, ◌∙◌, arith}
 use Rattle.std.specs.Prelude.{◌==◌, if◌then◌else◌}
 use Rattle.bl_model.specs.declared.operation.Reply.{Reply}
 use Rattle.bl_page.specs.declared.page.Page.{Page}
@@ -11,7 +11,18 @@ puts_append : (x : ℕ) (ms ns : Trail) → puts_at x (ms ++ ns) ≡ puts_at x m
 puts_append x [] ns = omega arith
 puts_append x (m ∷ ms) ns = let rest = puts_append x ms ns in omega arith
 
-one_put : (x : ℕ) (a : Act Page Reply) (c : Page) → a ≡ Act.Put x c → put_of x a ≡ 1
+-- one event more
+pub puts_push : (x : ℕ) (ms : Trail) (m : Mark) → puts_at x (ms ++ m ∷ []) ≡ puts_at x ms + put_of x m.event.act
+puts_push x ms m = let both = puts_append x ms (m ∷ []) in omega arith
+
+-- a put of another page
+pub other_put : (x y : ℕ) (c : Page) → y ≢ x → put_of y (Act.Put x c) ≡ 0
+other_put x y c ne = away x y (λ e. ne (sym e))
+  where
+    away : (x y : ℕ) → x ≢ y → ◌≡◌ {A = ℕ} (if x == y then 1 else 0) 0
+    away x y ne = grind arith
+
+pub one_put : (x : ℕ) (a : Act Page Reply) (c : Page) → a ≡ Act.Put x c → put_of x a ≡ 1
 one_put x a c e = ap (put_of x) e ∙ same x
   where
     same : (x : ℕ) → ◌≡◌ {A = ℕ} (if x == x then 1 else 0) 1
