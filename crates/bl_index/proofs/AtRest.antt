@@ -79,7 +79,7 @@ module _ (l : Layout) (hands : List (Hand PassState)) (result : List (List ℕ))
   none_held x p e =
       let s = c.kept.good.sure p in
       let runs = held_busy (w.proc p) x (w.now.phase p) s.stage (c.kept.good.owned.held x p e) in
-      let r = c.kept.busy p runs.0 runs.1 in none_runs p.pass runs.0 r.0 r.1
+      let r = c.kept.busy p runs.0 runs.1 in none_runs p.pass r.1.0 r.0 r.1.2
 
   shown_open : (x : ℕ) (words : List ℕ) → w.now.owner x ≡ machine.Owner.Open → Shows x words (w.now.contents x) → words ≡ words_of (w.now.contents x)
   shown_open zero words o s = s

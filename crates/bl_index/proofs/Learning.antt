@@ -57,13 +57,13 @@ module _ (s : Pages PassState) (f : Simulates s) (n : ℕ) (st : Stage) (d : Pas
   runs_in : (p : Name) (since : ℕ) → IsRun s.hands p since → IsRun after p since
   runs_in p since r = elim (cases_eq p.pass n) [
     | inl e ↦
-        let one : ◌≡◌ {A = Stage × PassState} (st, d) (Running since, r.0) = one_hand s.hands n (st, d) (Running since, r.0) at (ap (get_elem? s.hands) (sym e) ∙ r.1) in
+        let one : ◌≡◌ {A = Stage × PassState} (st, d) (Running r.1.0, r.0) = one_hand s.hands n (st, d) (Running r.1.0, r.0) at (ap (get_elem? s.hands) (sym e) ∙ r.1.2) in
         let here : get_elem? after n ≡ some (st, d') = set_there s.hands n (st, d) (st, d') at in (
           d',
-          ap (get_elem? after) e ∙ (here ∙ ap (λ (z : Stage × PassState). some (z.0, d')) one),
+          (r.1.0, r.1.1, ap (get_elem? after) e ∙ (here ∙ ap (λ (z : Stage × PassState). some (z.0, d')) one)),
           r.2 ∙ (ap (λ (z : Stage × PassState). z.1.number) (sym one) ∙ sym number),
         )
-    | inr ne ↦ (r.0, set_else s.hands n p.pass (st, d') ne ∙ r.1, r.2)
+    | inr ne ↦ (r.0, (r.1.0, r.1.1, set_else s.hands n p.pass (st, d') ne ∙ r.1.2), r.2)
   ]
 
   pub knows_more : Simulates (observed s n st d')
@@ -94,6 +94,7 @@ module _ (s : Pages PassState) (f : Simulates s) (n : ℕ) (st : Stage) (d : Pas
         (λ (z : (k ≢ n) × (get_elem? s.hands k ≡ some (sg, g))). f.firsts k sg g z.1)
         (at_set s.hands n k (st, d') (sg, g) at_k);
     busy = λ p since runs. runs_in p since (f.busy p since runs);
+    versions = f.versions;
   }
 
 -- a hand that knows the trail up to a place behind which no event is of its pass

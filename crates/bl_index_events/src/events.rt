@@ -1,6 +1,7 @@
 //! The events of a process of which there is no value: the hand's pass knows where it stands.
 
-ghost use Rattle.std.specs.Prelude.{◌≡◌, ◌≤◌, ◌<◌, ◌+◌, ℕ, Bool, true, false, MatchOption, IfNone};
+ghost use Rattle.std.specs.Prelude.{◌≡◌, ◌≤◌, ◌<◌, ◌+◌, ℕ, Bool, true, false, MatchOption, IfNone, IsTrue};
+ghost use Rattle.bl_one_moment.specs.Moments.{puts_at};
 ghost use Rattle.bl_page.specs.declared.page.Page.{Page};
 ghost use Rattle.bl_page.specs.Pairs.{IsChild};
 ghost use Rattle.bl_page.specs.Words.{words_of};
@@ -11,14 +12,16 @@ ghost use Rattle.bl_proc.specs.Processes.{next_of};
 ghost use Rattle.bl_proc_deterministic.specs.Courses.{GoesOn};
 ghost use Rattle.bl_proc_deterministic.specs.Frames.{op_of, work_of};
 ghost use Rattle.bl_store.specs.Drafts.{IsSplice};
-ghost use Rattle.bl_store.specs.Hands.{known, read_words, IsSameHand, IsSameStamp, IsSameStock, HasNoStock, IsStockOf, ReadsFrom, WasRefused, IsSameRefusal};
+ghost use Rattle.bl_store.specs.Hands.{known, read_words, IsSameHand, IsSameStamp, IsSameStock, HasNoStock, IsStockOf, ReadsFrom, WasRefused, IsSameRefusal, Keeps, KeepsNow};
 ghost use Rattle.bl_index_rule.specs.declared.known.PassState.{PassState as Knows};
-ghost use Rattle.bl_index_rule.specs.Observed.{Goes};
+ghost use Rattle.bl_index_rule.specs.Observed.{Goes, is_unput as unput_since};
 ghost use Rattle.bl_index_events.specs.Held.{KeepsLatch};
 ghost use Rattle.bl_index_events.specs.Runs.{Runs, KeepsHand, Rests, IsSince, IsDone, EndsAs};
 
 use crate::tree::Tree;
-use bl_index_rule::{Ended, Got, Opened, PassState, Probed, Put, Refused, Took, Tried};
+use bl_index_rule::{
+    Ended, Got, GotKept, Opened, PassState, Probed, Put, Refused, Took, Tried, Unput,
+};
 use bl_reserve::{finds_frames, reserve};
 use bl_store::{Glance, Hand, Splice, Stock};
 use std::thread;
@@ -41,6 +44,34 @@ impl Tree {
             Some(glance) => glance,
             None => unreachable!(),
         }
+    }
+
+    /// The process gets the page, and keeps it in mind: see [`Tree::is_unput`].
+    #[inline(always)]
+    pub fn look_keeping(&self, hand: &mut Hand<PassState>, page: u32) -> Glance
+        requires runs { Runs self.now hand.old (known hand.old.seat).state }
+        requires next { next_of (known hand.old.seat).state ≡ act.Get page }
+        requires course { (c : Page) → GoesOn (known hand.old.seat).state (seen.Words c) }
+        ensures same { KeepsHand hand.old.seat hand.new.seat }
+        ensures reads { ReadsFrom hand.new.seat result }
+        ensures goes { (c : Page) × (read_words hand.new.seat ≡ words_of c) × Goes (seen.Words c) (known hand.old.seat) (known hand.new.seat) }
+        ensures keeps { KeepsNow hand.old.seat hand.new.seat page (puts_at page (known hand.new.seat).trail) result }
+    {
+        match self.store.glance_keeping::<GotKept>(hand, page) {
+            Some(glance) => glance,
+            None => unreachable!(),
+        }
+    }
+
+    /// Whether nobody has put the page since the process kept that look at it in mind. It is no event.
+    #[inline(always)]
+    pub fn is_unput(&self, hand: &mut Hand<PassState>, page: u32, glance: Glance) -> bool
+        requires runs { Runs self.now hand.old (known hand.old.seat).state }
+        requires page { page < self.now.store.layout.pages }
+        ensures same { hand.new ≡ hand.old }
+        ensures unput { IsTrue result → (version : ℕ) → Keeps hand.old.seat page version glance → unput_since (known hand.old.seat) page version }
+    {
+        self.store.is_kept::<Unput>(hand, page, glance)
     }
 
     /// The process tries to latch the page.
