@@ -95,6 +95,7 @@ module _ (s : Pages PassState) (f : Simulates s) (n : ℕ) (st : Stage) (d : Pas
         (at_set s.hands n k (st, d') (sg, g) at_k);
     busy = λ p since runs. runs_in p since (f.busy p since runs);
     versions = f.versions;
+    firm = f.firm;
   }
 
 -- a hand that knows the trail up to a place behind which no event is of its pass

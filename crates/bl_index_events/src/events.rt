@@ -14,7 +14,7 @@ ghost use Rattle.bl_proc_deterministic.specs.Frames.{op_of, work_of};
 ghost use Rattle.bl_store.specs.Drafts.{IsSplice};
 ghost use Rattle.bl_store.specs.Hands.{known, read_words, IsSameHand, IsSameStamp, IsSameStock, HasNoStock, IsStockOf, ReadsFrom, WasRefused, IsSameRefusal, Keeps, KeepsNow};
 ghost use Rattle.bl_index_rule.specs.declared.known.PassState.{PassState as Knows};
-ghost use Rattle.bl_index_rule.specs.Observed.{Goes, is_unput as unput_since};
+ghost use Rattle.bl_index_rule.specs.Observed.{Goes, HasFirmTrail, is_unput as unput_since};
 ghost use Rattle.bl_index_events.specs.Held.{KeepsLatch};
 ghost use Rattle.bl_index_events.specs.Runs.{Runs, KeepsHand, Rests, IsSince, IsDone, EndsAs};
 
@@ -56,6 +56,7 @@ impl Tree {
         ensures reads { ReadsFrom hand.new.seat result }
         ensures goes { (c : Page) × (read_words hand.new.seat ≡ words_of c) × Goes (seen.Words c) (known hand.old.seat) (known hand.new.seat) }
         ensures keeps { KeepsNow hand.old.seat hand.new.seat page (puts_at page (known hand.new.seat).trail) result }
+        ensures firm { HasFirmTrail (known hand.new.seat) }
     {
         match self.store.glance_keeping::<GotKept>(hand, page) {
             Some(glance) => glance,

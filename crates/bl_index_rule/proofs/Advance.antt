@@ -1,5 +1,5 @@
 -- The one lemma of all events: a turn of a process of a hand, where the pages go on as the store's do.
-use Rattle.std.proofs.Common.{ℕ, Bool, true, ◌≡◌, ◌≢◌, ◌≤◌, ◌+◌, ◌++◌, Option, List, [], ◌∷◌, length, set, refl, sym, ap, ◌∙◌, subst, ⊎_elim, append_assoc}
+use Rattle.std.proofs.Common.{ℕ, Bool, true, ◌≡◌, ◌≢◌, ◌⊎◌, ◌≤◌, ◌+◌, ◌++◌, Option, List, [], ◌∷◌, length, set, refl, sym, ap, ◌∙◌, subst, ⊎_elim, append_assoc}
 use mathlib.Core.Option.{some}
 use lib.ListN.{get_elem?}
 use Rattle.std.proofs.Math.ListN.{length-set}
@@ -25,13 +25,15 @@ use Rattle.bl_proc_bounds.specs.Paces.{AllKept}
 use Rattle.bl_proc_bounds.proofs.Bounded.{search_within, search_below}
 use Rattle.bl_one_moment.specs.Moments.{put_of, puts_at}
 use Rattle.bl_one_moment.proofs.Counting.{puts_push}
+use Rattle.bl_one_moment.proofs.Worlds.{firm_push, firm_on}
+use Rattle.bl_tree_worlds.specs.Worlds.{MayGet}
 use Rattle.bl_store_rule.specs.Pages.{Owner, Stage, Running, Pages, Stands, HasVersion}
 use Rattle.bl_index_rule.specs.declared.known.PassState.{PassState}
 use Rattle.bl_claims.specs.Seeing.{first_map, BeginsFrom, IsSeen, AreWithin, own, name}
 use Rattle.bl_index_rule.specs.Simulation.{Shows, owner_in, IsAtStage, IsHand, IsRun, Simulates}
 use Rattle.bl_index_rule.specs.Observed.{IsNear, HasOwn, Notes}
 use Rattle.bl_index_rule.proofs.Stages.{turn_mark, after, own_after, hand_self, hand_else}
-use Rattle.bl_index_rule.proofs.Sights.{world_moment, world_seen, near_pages}
+use Rattle.bl_index_rule.proofs.Sights.{world_moment, firm_moment, world_seen, near_pages}
 use Rattle.bl_index_rule.proofs.Shown.{at_below}
 use Rattle.bl_index_rule.proofs.Within.{within_push}
 use Rattle.bl_index_rule.proofs.Runners.{runs_after}
@@ -60,8 +62,9 @@ module _ (s : Pages PassState) (f : Simulates s) (n m : ℕ) (st : Stage) (d : P
       → ((since : ℕ) → st ≡ Running since → m ≡ d.number)
       → ((since : ℕ) → s1.phase (name n m) ≡ machine.Running since → (from : ℕ) × (from ≤ since) × (st' ≡ Running from))
       → ((x version : ℕ) → HasVersion s' x version → version ≡ puts_at x f.world.trail + put_of x a)
+      → ((x : ℕ) → a ≡ Act.Get x → (x ≡ 0) ⊎ MayGet f.world (name n m) x)
       → Simulates s'
-  advance logs all_kept s' st' hands size le clock others kept pages owners stage current on versions = record {
+  advance logs all_kept s' st' hands size le clock others kept pages owners stage current on versions may = record {
     world = t.next;
     good = t.good;
     kept = all_kept;
@@ -88,6 +91,8 @@ module _ (s : Pages PassState) (f : Simulates s) (n m : ℕ) (st : Stage) (d : P
         (at_set s.hands n k (st', next_known) (sg, g) (ap (λ (z : List (Stage × PassState)). get_elem? z k) (sym hands) ∙ at_k));
     busy = λ p since runs. subst (λ (z : List (Stage × PassState)). IsRun z p since) (sym hands) (runs_after s.hands n m st st' d next_known at refl f.world.now.phase s1.phase others f.busy current on p since (ap (λ (z : State Page). z.phase p) (sym t.now) ∙ runs));
     versions = λ x version e. versions x version e ∙ sym (ap (puts_at x) t.extends.trail ∙ puts_push x f.world.trail (turn_mark f.world f.good n m a s1 b t));
+    firm = firm_on (first_map f.image) f.world.start t.next.start f.world.trail t.next.trail (turn_mark f.world f.good n m a s1 b t) t.extends.start t.extends.trail f.firm
+        (firm_moment t.next f.image t.good logs (t.extends.first ∙ f.first) (firm_push know f.world t.next (turn_mark f.world f.good n m a s1 b t) f.good t.good t.extends.steps t.extends.trail may));
   }
 
   pub next_seen : KeepsLogs t.next → IsSeen d.first next_known.trail

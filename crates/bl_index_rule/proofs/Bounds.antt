@@ -125,6 +125,7 @@ module _ (s : Pages PassState) (f : Simulates s) (n : ℕ) (d : PassState) (at :
     firsts = f.firsts;
     busy = f.busy;
     versions = f.versions;
+    firm = f.firm;
   }
 
 -- the anchor of a tree whose one page is page 1
@@ -169,7 +170,8 @@ begins_from l n d process next unborn course s g many among at from le =
           (next_stage s f n m Idle d at Act.Begin s1 b' t true past from s.clock le refl (λ z. omega arith) phase.at was log)
           (λ z i. absurd (let both : Idle ≡ Running z = i in cc))
           (λ z i. (from, (let both : machine.Running s.clock ≡ machine.Running z = sym phase.at ∙ i in let same : s.clock ≡ z = cc in subst (λ (v : ℕ). from ≤ v) same le), refl))
-          (λ x version z. let was = g.versions x version z in omega arith),
+          (λ x version z. let was = g.versions x version z in omega arith)
+          (λ x e. absurd cc),
       record {
         notes = notes;
         runs = refl;
@@ -220,7 +222,8 @@ module _ (l : Layout) (n : ℕ) (d : PassState) (s : Pages PassState) (since : �
             (refl, λ x z. can.1 x (ap (λ (y : State Page). y.owner x) (sym t.now) ∙ z))
             (λ z i. refl)
             (λ z i. absurd (let both : machine.Ended ≡ machine.Running z = sym phase.at ∙ i in cc))
-            (λ x version z. let was = f.versions x version z in omega arith),
+            (λ x version z. let was = f.versions x version z in omega arith)
+            (λ x e. absurd cc),
         record {
           notes = subst (λ (z : ℕ). Notes z d.number (Act.End answer) d e) (sym named.0) notes;
           runs = refl;

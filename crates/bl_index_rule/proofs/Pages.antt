@@ -1,10 +1,12 @@
 -- Each event of a running process, on pages: it keeps the rule, and the pass knows it.
-use Rattle.std.proofs.Common.{ℕ, ◌≡◌, ◌≢◌, ◌⊎◌, ◌+◌, ◌<◌, ◌≤◌, Bool, true, false, List, length, set, slice_index, refl, sym, ap, ◌∙◌, subst, ⊎_elim, inl, inr, arith, zero, suc, ◌++◌, ◌∷◌, []}
+use Rattle.std.proofs.Common.{ℕ, ◌≡◌, ◌≢◌, ◌⊎◌, ◌+◌, ◌<◌, ◌≤◌, Bool, true, false, List, length, set, slice_index, refl, sym, ap, ◌∙◌, subst, ⊎_elim, inl, inr, arith, zero, suc, ◌++◌, ◌∷◌, [], append_assoc}
 use Rattle.std.proofs.Math.ListN.{length-set}
 use mathlib.Core.Option.{some}
+use Rattle.std.specs.Prelude.{Option as Optional}
 use lib.ListN.{get_elem?}
 use Rattle.atomic_table.proofs.Lists.{at_set}
 use Rattle.bl_page.specs.declared.machine.Missed.TheVariants as missed
+use Rattle.bl_model.specs.declared.operation.Reply.{Reply}
 use Rattle.bl_page.specs.declared.page.Page.{Page}
 use Rattle.bl_page.specs.Words.{words_of}
 use Rattle.bl_page.specs.Pairs.{IsChild}
@@ -24,28 +26,39 @@ use Rattle.bl_proc_invariant.specs.Knowing.{know, end_of_proc, run_next}
 use Rattle.bl_proc_invariant.proofs.Gets.{IsGot, got_next_is}
 use Rattle.bl_proc_deterministic.specs.Courses.{GoesOn}
 use Rattle.bl_layout.specs.declared.layout.Layout.{Layout}
-use Rattle.bl_one_moment.specs.Moments.{put_of, puts_at}
+use Rattle.bl_one_moment.specs.Moments.{HasFirmMoments, put_of, puts_at}
 use Rattle.bl_one_moment.proofs.Counting.{one_put, other_put, puts_push, unput_by_count}
 use Rattle.bl_store_rule.proofs.Lists.{index_there}
 use Rattle.bl_store_rule.specs.Pages.{Owner, Released, Open, Held, Retired, Stage, Running, Pages, Stands, IsOrderly, IsPage, HasVersion, later, observed, owned, written, Gets, GetsAs, Implies, Puts, Takes, Latches, Misses, Probes, Opens, Retires, Refuses}
 use Rattle.bl_index_rule.specs.declared.known.PassState.{PassState}
-use Rattle.bl_claims.specs.Seeing.{name}
+use Rattle.bl_claims.specs.Seeing.{first_map, BeginsFrom, name}
 use Rattle.bl_claims.specs.Trails.{Trail}
 use Rattle.bl_index_rule.specs.Simulation.{Shows, owner_in, Simulates}
-use Rattle.bl_index_rule.specs.Observed.{Goes, gets, gets_kept, is_unput, puts, opens, retires, takes, tries, probes, refuses}
-use Rattle.bl_index_rule.proofs.Shown.{at_below, shows_words, got_words, is_held, is_released, held_by}
+use Rattle.bl_index_rule.specs.Observed.{HasFirmTrail, Goes, gets, gets_kept, is_unput, puts, opens, retires, takes, tries, probes, refuses}
+use Rattle.bl_index_rule.proofs.Shown.{at_below, set_there, shows_words, got_words, is_held, is_released, held_by}
 use Rattle.bl_index_rule.proofs.Stages.{turn_mark}
 use Rattle.bl_index_rule.proofs.Turns.{standing, turned, then_known, then_goes, then_fits, runs_on}
+
+-- what a hand's pass has seen is a beginning of what has happened
+firm_trail : (s : Pages PassState) (f : Simulates s) (n : ℕ) (st : Stage) (d : PassState) → Stands s n st d → HasFirmTrail d
+firm_trail s f n st d at =
+    let h = f.hands n st d at in
+    let same : f.image ≡ d.first = sym (f.firsts n st d at) in
+    let seen : HasFirmMoments (first_map f.image) f.world.start d.trail = λ before after split. f.firm before (after ++ h.begins.0) (h.begins.1 ∙ (ap (λ (trail : Trail). trail ++ h.begins.0) split ∙ append_assoc before after h.begins.0)) in record {
+      start = f.world.start;
+      opening = subst (λ (image : List (Optional Page)). BeginsFrom image f.world.start) same f.opening;
+      firm = subst (λ (image : List (Optional Page)). HasFirmMoments (first_map image) f.world.start d.trail) same seen;
+    }
 
 -- an event that puts no page
 as_often : (s : Pages PassState) (f : Simulates s) (x version more : ℕ) → HasVersion s x version → more ≡ 0 → version ≡ puts_at x f.world.trail + more
 as_often s f x version more e quiet = let was = f.versions x version e in omega arith
 
 -- an event that leaves all pages and owners as they are
-unmoved : (s : Pages PassState) (f : Simulates s) (n since : ℕ) (d : PassState) → Stands s n (Running since) d → (what : Seen) → GoesOn d.state what → (a : Action) → next_of d.state ≡ a → IsObserved f.world.now f.world.size a what → IsShown f.world.now (name n d.number) (f.world.proc (name n d.number)).time a what → Does f.world.now (name n d.number) (event_of (end_of_proc d.state) a what) f.world.now → ((x : ℕ) → put_of x (event_of (end_of_proc d.state) a what) ≡ 0) → (e : PassState) × Simulates (observed s n (Running since) e) × Goes what d e × ((x : ℕ) → puts_at x e.trail ≡ puts_at x f.world.trail)
-unmoved s f n since d at what c a next said shown does quiet = (
+unmoved : (s : Pages PassState) (f : Simulates s) (n since : ℕ) (d : PassState) → Stands s n (Running since) d → (what : Seen) → GoesOn d.state what → (a : Action) → next_of d.state ≡ a → IsObserved f.world.now f.world.size a what → IsShown f.world.now (name n d.number) (f.world.proc (name n d.number)).time a what → Does f.world.now (name n d.number) (event_of (end_of_proc d.state) a what) f.world.now → ((x : ℕ) → put_of x (event_of (end_of_proc d.state) a what) ≡ 0) → ((x : ℕ) → event_of (end_of_proc d.state) a what ≡ Act.Get x → (x ≡ 0) ⊎ MayGet f.world (name n d.number) x) → (e : PassState) × Simulates (observed s n (Running since) e) × Goes what d e × ((x : ℕ) → puts_at x e.trail ≡ puts_at x f.world.trail)
+unmoved s f n since d at what c a next said shown does quiet may = (
   then_known s f n since d at what c a next f.world.now said shown does,
-  then_fits s f n since d at what c a next f.world.now said shown does s refl refl f.clock (λ q. refl) (λ x q ne e. e) f.pages f.owners (λ x version e. as_often s f x version (put_of x (event_of (end_of_proc d.state) a what)) e (quiet x)),
+  then_fits s f n since d at what c a next f.world.now said shown does s refl refl f.clock (λ q. refl) (λ x q ne e. e) f.pages f.owners (λ x version e. as_often s f x version (put_of x (event_of (end_of_proc d.state) a what)) e (quiet x)) may,
   then_goes s f n since d at what c a next f.world.now said shown does,
   λ x.
       let t = turned s f n since d at what c a next f.world.now said shown does in
@@ -57,9 +70,9 @@ unmoved s f n since d at what c a next said shown does quiet = (
 -- an event by which a page gets another owner, and the time may pass
 moved_by : (s : Pages PassState) (f : Simulates s) (n since : ℕ) (d : PassState) → Stands s n (Running since) d → (what : Seen) → GoesOn d.state what → (a : Action) → next_of d.state ≡ a → (x : ℕ) (was o : Owner) → get_elem? s.owners x ≡ some was → (o' : machine.Owner) → o' ≡ owner_in s.hands o → ((q : Name) → q ≢ name n d.number → o' ≢ machine.Held q) → (time then : ℕ) → time ≤ then → IsObserved f.world.now f.world.size a what → IsShown f.world.now (name n d.number) (f.world.proc (name n d.number)).time a what
     → Does f.world.now (name n d.number) (event_of (end_of_proc d.state) a what) (record f.world.now { owner = put_at x o' f.world.now.owner; clock = time })
-    → ((y : ℕ) → put_of y (event_of (end_of_proc d.state) a what) ≡ 0)
+    → ((y : ℕ) → put_of y (event_of (end_of_proc d.state) a what) ≡ 0) → ((y : ℕ) → event_of (end_of_proc d.state) a what ≡ Act.Get y → (y ≡ 0) ⊎ MayGet f.world (name n d.number) y)
     → (e : PassState) × Simulates (observed (record (owned s x o) { clock = then }) n (Running since) e) × Goes what d e
-moved_by s f n since d at what c a next x was o here o' is else time then le said shown does quiet =
+moved_by s f n since d at what c a next x was o here o' is else time then le said shown does quiet may =
     let s1 : State Page = record f.world.now { owner = put_at x o' f.world.now.owner; clock = time } in
     let put = is_put_at x o' f.world.now.owner in (
       then_known s f n since d at what c a next s1 said shown does,
@@ -73,7 +86,8 @@ moved_by s f n since d at what c a next x was o here o' is else time then le sai
           (λ (z : (y ≡ x) × (o ≡ p)). ap (put_at x o' f.world.now.owner) z.0 ∙ (put.at ∙ (is ∙ ap (owner_in s.hands) z.1)))
           (λ (z : (y ≢ x) × (get_elem? s.owners y ≡ some p)). put.others y z.0 ∙ f.owners y p z.1)
           (at_set s.owners x y o p e))
-          (λ y version e. as_often s f y version (put_of y (event_of (end_of_proc d.state) a what)) e (quiet y)),
+          (λ y version e. as_often s f y version (put_of y (event_of (end_of_proc d.state) a what)) e (quiet y))
+          may,
       then_goes s f n since d at what c a next s1 said shown does,
     )
   where
@@ -85,9 +99,9 @@ moved_by s f n since d at what c a next x was o here o' is else time then le sai
 
 moved : (s : Pages PassState) (f : Simulates s) (n since : ℕ) (d : PassState) → Stands s n (Running since) d → (what : Seen) → GoesOn d.state what → (a : Action) → next_of d.state ≡ a → (x : ℕ) (was o : Owner) → get_elem? s.owners x ≡ some was → (o' : machine.Owner) → o' ≡ owner_in s.hands o → ((q : Name) → q ≢ name n d.number → o' ≢ machine.Held q) → IsObserved f.world.now f.world.size a what → IsShown f.world.now (name n d.number) (f.world.proc (name n d.number)).time a what
     → Does f.world.now (name n d.number) (event_of (end_of_proc d.state) a what) (record f.world.now { owner = put_at x o' f.world.now.owner })
-    → ((y : ℕ) → put_of y (event_of (end_of_proc d.state) a what) ≡ 0)
+    → ((y : ℕ) → put_of y (event_of (end_of_proc d.state) a what) ≡ 0) → ((y : ℕ) → event_of (end_of_proc d.state) a what ≡ Act.Get y → (y ≡ 0) ⊎ MayGet f.world (name n d.number) y)
     → (e : PassState) × Simulates (observed (owned s x o) n (Running since) e) × Goes what d e
-moved s f n since d at what c a next x was o here o' is else said shown does quiet = moved_by s f n since d at what c a next x was o here o' is else f.world.now.clock s.clock f.clock said shown does quiet
+moved s f n since d at what c a next x was o here o' is else said shown does quiet may = moved_by s f n since d at what c a next x was o here o' is else f.world.now.clock s.clock f.clock said shown does quiet may
 
 -- where the hand runs its process
 running : (R : Stage → Type 0) (s : Pages PassState) (f : Simulates s) (n : ℕ) (st : Stage) (d : PassState) → d.runs ≡ true → Stands s n st d → ((since : ℕ) → Stands s n (Running since) d → R (Running since)) → R st
@@ -121,7 +135,7 @@ module _ (l : Layout) (n : ℕ) (d : PassState) (runs : d.runs ≡ true) where
       let does : Does w.now p (Act.Get x) w.now = record { changes = (λ z. refl, λ z. refl, λ q. refl); on = omega arith } in
       let t = turned s f n since d at (seen.Words c) (course c) (act.Get x) next w.now refl tt does in
       let can : ((b : ℕ) × (w.now.phase p ≡ machine.Running b)) × (w.now.owner x ≢ machine.Released) = t.extends.steps.enabled in
-      let u = unmoved s f n since d at (seen.Words c) (course c) (act.Get x) next refl tt does (λ y. refl) in
+      let u = unmoved s f n since d at (seen.Words c) (course c) (act.Get x) next refl tt does (λ y. refl) (λ y e. (let both : ◌≡◌ {A = Act Page Reply} (Act.Get x) (Act.Get y) = e in let same : x ≡ y = cc in subst (λ (z : ℕ). (z ≡ 0) ⊎ MayGet w p z) same may)) in
       (λ e. can.1 (f.owners x owner page.1 ∙ is_released s.hands owner e), u.0, u.1, (c, words_are, u.2), u.3)
 
   pub gets_page : (x : ℕ) → next_of d.state ≡ act.Get x → ((c : Page) → GoesOn d.state (seen.Words c)) → Gets Simulates l n d x gets
@@ -133,7 +147,7 @@ module _ (l : Layout) (n : ℕ) (d : PassState) (runs : d.runs ≡ true) where
   pub gets_kept_page : (x : ℕ) → next_of d.state ≡ act.Get x → ((c : Page) → GoesOn d.state (seen.Words c)) → GetsAs Simulates l n d x gets_kept
   gets_kept_page x next course s since version words owner f o at page counted =
       let got = got_page x next course s since words owner f o at page in
-      (got.0, got.1, got.2, (got.3, f.versions x version counted ∙ sym (got.4 x)))
+      (got.0, got.1, got.2, (got.3, f.versions x version counted ∙ sym (got.4 x), firm_trail (observed s n (Running since) got.1) got.2 n (Running since) got.1 (set_there s.hands n (Running since, d) (Running since, got.1) at)))
 
   pub puts_page : (x : ℕ) (new : List ℕ) (c : Page) → next_of d.state ≡ act.Put x c → new ≡ words_of c → GoesOn d.state seen.Done → Puts Simulates l n d x new puts
   puts_page x new c next is course s st words owner f o at page =
@@ -153,7 +167,8 @@ module _ (l : Layout) (n : ℕ) (d : PassState) (runs : d.runs ≡ true) where
             (λ (z : (y ≢ x) × (get_elem? s.contents y ≡ some ws)). subst (Shows y ws) (sym (put.others y z.0)) (f.pages y ws z.1))
             (at_set s.contents x y new ws e))
             f.owners
-            (λ y version e. put_once s f o x c y version e (at_below s.contents x words page.0)),
+            (λ y version e. put_once s f o x c y version e (at_below s.contents x words page.0))
+            (λ y e. absurd cc),
         then_goes s f n since d at' seen.Done course (act.Put x c) next s1 tt tt does,
       ))
 
@@ -165,7 +180,7 @@ module _ (l : Layout) (n : ℕ) (d : PassState) (runs : d.runs ≡ true) where
       let does : Does w.now p (Act.Open x) (record w.now { owner = put_at x machine.Owner.Open w.now.owner }) = record { changes = (λ z. refl, is_put_at x machine.Owner.Open w.now.owner, λ q. refl); on = omega arith } in
       let t = turned s f n since d at' seen.Done course (act.Open x) next (record w.now { owner = put_at x machine.Owner.Open w.now.owner }) tt tt does in
       let can : w.now.owner x ≡ machine.Held p = t.extends.steps.enabled in
-      let u = moved s f n since d at' seen.Done course (act.Open x) next x owner Open page.1 machine.Owner.Open refl (λ q ne e. let z : machine.Owner.Open ≡ machine.Held q = e in cc) tt tt does (λ y. refl) in
+      let u = moved s f n since d at' seen.Done course (act.Open x) next x owner Open page.1 machine.Owner.Open refl (λ q ne e. let z : machine.Owner.Open ≡ machine.Held q = e in cc) tt tt does (λ y. refl) (λ y e. absurd cc) in
       (is_held s.hands n d.number owner (sym (f.owners x owner page.1) ∙ can), u.0, u.1, u.2))
 
   -- it is retired at the time of the store's clock, which the world's has not passed
@@ -182,7 +197,7 @@ module _ (l : Layout) (n : ℕ) (d : PassState) (runs : d.runs ≡ true) where
       } in
       let t = turned s f n since d at' seen.Done course (act.Retire x) next s1 tt tt does in
       let can : w.now.owner x ≡ machine.Held p = t.extends.steps.enabled in
-      let u = moved_by s f n since d at' seen.Done course (act.Retire x) next x owner (Retired s.clock) page.1 (machine.Retired s.clock) refl (λ q ne e. let z : machine.Retired s.clock ≡ machine.Held q = e in cc) (s.clock + 1) (s.clock + 1) (omega arith) tt tt does (λ y. refl) in
+      let u = moved_by s f n since d at' seen.Done course (act.Retire x) next x owner (Retired s.clock) page.1 (machine.Retired s.clock) refl (λ q ne e. let z : machine.Retired s.clock ≡ machine.Held q = e in cc) (s.clock + 1) (s.clock + 1) (omega arith) tt tt does (λ y. refl) (λ y e. absurd cc) in
       (is_held s.hands n d.number owner (sym (f.owners x owner page.1) ∙ can), u.0, u.1, u.2))
 
   pub latches_page : (x : ℕ) → next_of d.state ≡ act.Latch x → GoesOn d.state seen.Done → Latches Simulates l n d x tries
@@ -192,7 +207,7 @@ module _ (l : Layout) (n : ℕ) (d : PassState) (runs : d.runs ≡ true) where
       let p = name n d.number in
       let free : w.now.owner x ≡ machine.Owner.Open = f.owners x Open page.1 in
       let does : Does w.now p (Act.Latch x) (record w.now { owner = put_at x (machine.Held p) w.now.owner }) = record { changes = (λ z. refl, is_put_at x (machine.Held p) w.now.owner, λ q. refl); on = omega arith } in
-      let u = moved s f n since d at' seen.Done course (act.Latch x) next x Open (Held n) page.1 (machine.Held p) (sym (held_by s.hands n (Running since, d) at')) (λ q ne e. let z : p ≡ q = cc in ne (sym z)) free tt does (λ y. refl) in
+      let u = moved s f n since d at' seen.Done course (act.Latch x) next x Open (Held n) page.1 (machine.Held p) (sym (held_by s.hands n (Running since, d) at')) (λ q ne e. let z : p ≡ q = cc in ne (sym z)) free tt does (λ y. refl) (λ y e. absurd cc) in
       (u.0, u.1, ((λ e. u.2), λ ne. absurd (ne refl))))
 
   -- what it is told of the page is true
@@ -201,7 +216,7 @@ module _ (l : Layout) (n : ℕ) (d : PassState) (runs : d.runs ≡ true) where
       running (λ sg. (e : PassState) × Simulates (observed s n sg e) × Goes (seen.Probed free) d e) s f n st d runs at (λ since at'.
       let w = f.world in
       let does : Does w.now (name n d.number) (Act.Look (OfPage x)) w.now = record { changes = (λ z. refl, λ z. refl, λ q. refl); on = omega arith } in
-      let u = unmoved s f n since d at' (seen.Probed free) course (act.Probe x) next observed_it tt does (λ y. refl) in
+      let u = unmoved s f n since d at' (seen.Probed free) course (act.Probe x) next observed_it tt does (λ y. refl) (λ y e. absurd cc) in
       (u.0, u.1, u.2))
 
   pub probes_page : (x : ℕ) → next_of d.state ≡ act.Probe x → ((free : Bool) → GoesOn d.state (seen.Probed free)) → Probes Simulates l n d x probes
@@ -223,7 +238,7 @@ module _ (l : Layout) (n : ℕ) (d : PassState) (runs : d.runs ≡ true) where
       running (λ sg. (e : PassState) × Simulates (observed s n sg e) × tries d x owner words e) s f n st d runs at (λ since at'.
       let w = f.world in
       let does : Does w.now (name n d.number) (Act.Miss (missed.Latch x)) w.now = record { changes = (λ z. refl, λ z. refl, λ q. refl); on = omega arith } in
-      let u = unmoved s f n since d at' seen.Missed course (act.Latch x) next tt tt does (λ y. refl) in
+      let u = unmoved s f n since d at' seen.Missed course (act.Latch x) next tt tt does (λ y. refl) (λ y e. absurd cc) in
       (u.0, u.1, ((λ e. absurd (shut e)), λ ne. u.2)))
 
   pub takes_page : (x : ℕ) → next_of d.state ≡ act.Take → ((y : ℕ) → IsChild y → GoesOn d.state (seen.Took y)) → Takes Simulates l n d x takes
@@ -239,7 +254,7 @@ module _ (l : Layout) (n : ℕ) (d : PassState) (runs : d.runs ≡ true) where
       let child : IsChild x = (low, omega arith) in
       let sized : x < w.size = rw f.size within in
       let does : Does w.now p (Act.Take x) (record w.now { owner = put_at x (machine.Held p) w.now.owner }) = record { changes = (λ z. refl, is_put_at x (machine.Held p) w.now.owner, λ q. refl); on = omega arith } in
-      let u = moved s f n since d at' (seen.Took x) (course x child) act.Take next x Released (Held n) page.1 (machine.Held p) (sym (held_by s.hands n (Running since, d) at')) (λ q ne e. let z : p ≡ q = cc in ne (sym z)) (free, sized) tt does (λ y. refl) in
+      let u = moved s f n since d at' (seen.Took x) (course x child) act.Take next x Released (Held n) page.1 (machine.Held p) (sym (held_by s.hands n (Running since, d) at')) (λ q ne e. let z : p ≡ q = cc in ne (sym z)) (free, sized) tt does (λ y. refl) (λ y e. absurd cc) in
       (u.0, u.1, u.2))
     where
       above : (x : ℕ) → f.world.now.owner x ≡ machine.Released → 0 < x
@@ -251,7 +266,7 @@ module _ (l : Layout) (n : ℕ) (d : PassState) (runs : d.runs ≡ true) where
       running (λ sg. (e : PassState) × Simulates (observed s n sg e) × refuses d s.clock e) s f n st d runs at (λ since at'.
       let w = f.world in
       let does : Does w.now (name n d.number) (Act.Miss missed.Reservation) w.now = record { changes = (λ z. refl, λ z. refl, λ q. refl); on = omega arith } in
-      let u = unmoved s f n since d at' seen.Refused course act.Take next tt tt does (λ y. refl) in
+      let u = unmoved s f n since d at' seen.Refused course act.Take next tt tt does (λ y. refl) (λ y e. absurd cc) in
       (u.0, u.1, u.2))
 
   pub refuses_put : (x : ℕ) (c : Page) → next_of d.state ≡ act.Put x c → GoesOn d.state seen.Refused → Refuses Simulates l n d refuses
@@ -259,7 +274,7 @@ module _ (l : Layout) (n : ℕ) (d : PassState) (runs : d.runs ≡ true) where
       running (λ sg. (e : PassState) × Simulates (observed s n sg e) × refuses d s.clock e) s f n st d runs at (λ since at'.
       let w = f.world in
       let does : Does w.now (name n d.number) (Act.Miss missed.Reservation) w.now = record { changes = (λ z. refl, λ z. refl, λ q. refl); on = omega arith } in
-      let u = unmoved s f n since d at' seen.Refused course (act.Put x c) next tt tt does (λ y. refl) in
+      let u = unmoved s f n since d at' seen.Refused course (act.Put x c) next tt tt does (λ y. refl) (λ y e. absurd cc) in
       (u.0, u.1, u.2))
 
 -- A page that was put as often as at a get of it was not put since, in all that the hand's pass has seen.

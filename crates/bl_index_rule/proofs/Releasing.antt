@@ -102,6 +102,7 @@ module _ (s : Pages PassState) (f : Simulates s) (n m : ℕ) (d : PassState) (at
         (λ z i. absurd (let both : Idle ≡ Running z = i in cc))
         (λ z runs. absurd (idle z runs))
         (λ y v e. let was = f.versions y v e in omega arith)
+        (λ y e. absurd cc)
 
     then_sweeps : ReleasesPages n m (length s.hands) 1 d then_known
     then_sweeps =

@@ -19,6 +19,7 @@ use Rattle.bl_tree.specs.Starts.{start_map}
 use Rattle.bl_tree.proofs.SoundStarts.{bool_cases}
 use Rattle.bl_claims.specs.States.{HasMoments}
 use Rattle.bl_tree_worlds.proofs.States.{moments_first}
+use Rattle.bl_one_moment.proofs.Worlds.{firm_first, firm_alone}
 use Rattle.bl_tree_worlds.specs.Worlds.{World, IsGood}
 use Rattle.bl_tree_worlds.proofs.Starts.{sound_world, sound_good}
 use Rattle.bl_claims.specs.Opening.{node_in, roots_in, IsStored, IsOpened}
@@ -36,7 +37,7 @@ use Rattle.bl_index_rule.specs.declared.known.PassState.{PassState}
 use Rattle.bl_claims.specs.Seeing.{first_map, BeginsFrom, IsSeen, name}
 use Rattle.bl_index_rule.specs.Simulation.{unborn, beginner, Shows, owner_in, IsHand, Simulates}
 use Rattle.bl_index_rule.proofs.Within.{none_within}
-use Rattle.bl_index_rule.proofs.Sights.{world_moment, world_seen}
+use Rattle.bl_index_rule.proofs.Sights.{firm_moment, world_moment, world_seen}
 use Rattle.bl_index_rule.proofs.Bounds.{first_anchor, fresh_run}
 use Rattle.bl_index_rule.proofs.Starts.{blank_is, of_all, of_map}
 
@@ -181,4 +182,5 @@ module _ (pages : List (Option Page)) (bytes : List ℕ) (image : IsImage pages 
     firsts = λ n st d e. ap (λ (z : Stage × PassState). z.1.first) (sym (of_all passes (Idle, beginner pages) n (st, d) e));
     busy = λ p since e. absurd (let both : machine.Waiting ≡ machine.Running since = e in cc);
     versions = λ x version e. sym (of_all (length (map page_words pages)) 0 x version e);
+    firm = firm_alone (first_map pages) start (firm_moment world pages good logs first (firm_first know world good refl));
   }

@@ -15,6 +15,7 @@ use Rattle.bl_proc_invariant.specs.Knowing.{Run, know}
 use Rattle.bl_proc_invariant.proofs.Middles.{KeepsLogs}
 use Rattle.bl_proc_invariant.proofs.Starting.{run_laws}
 use Rattle.bl_proc_invariant.proofs.Near.{IsNear as IsNearIn}
+use Rattle.bl_one_moment.specs.Moments.{IsFirm, FirmMoment}
 use Rattle.bl_claims.specs.Seeing.{first_map, BeginsFrom, IsSeen}
 use Rattle.bl_index_rule.specs.Observed.{IsNear}
 
@@ -26,6 +27,9 @@ laws_now w image good logs first =
 
 pub world_moment : (w : World Run) (image : List (Option Page)) → IsGood know w → KeepsLogs w → w.first ≡ first_map image → Moment (first_map image) w.start w.trail
 world_moment w image good logs first = record { now = w.now; leads = good.recorded.leads; laws = laws_now w image good logs first }
+
+pub firm_moment : (w : World Run) (image : List (Option Page)) → IsGood know w → KeepsLogs w → w.first ≡ first_map image → IsFirm w.now w.trail → FirmMoment (first_map image) w.start w.trail
+firm_moment w image good logs first firm = record { moment = record { now = w.now; leads = good.recorded.leads; laws = laws_now w image good logs first }; firm = firm }
 
 -- the trail of a good world that began so
 pub world_seen : (w : World Run) (image : List (Option Page)) → IsGood know w → BeginsFrom image w.start → w.first ≡ first_map image → HasMoments (first_map image) w.start w.trail → IsSeen image w.trail

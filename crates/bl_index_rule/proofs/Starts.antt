@@ -10,6 +10,8 @@ use Rattle.bl_page.specs.Machine.{Name, State}
 use Rattle.bl_page.specs.Machine as machine
 use Rattle.bl_claims.specs.States.{HasMoments}
 use Rattle.bl_tree_worlds.proofs.States.{moments_first}
+use Rattle.bl_one_moment.specs.Moments.{HasFirmMoments}
+use Rattle.bl_one_moment.proofs.Worlds.{firm_first, firm_alone}
 use Rattle.bl_tree_worlds.specs.Worlds.{World, IsGood}
 use Rattle.bl_tree_worlds.specs.Blank.{IsBlank}
 use Rattle.bl_claims.specs.Opening.{Opening}
@@ -24,7 +26,7 @@ use Rattle.bl_claims.specs.Seeing.{IsSeen, name}
 use Rattle.bl_index_rule.specs.Simulation.{unborn, newcomer, Shows, owner_in, IsHand, Simulates}
 use Rattle.bl_index_rule.proofs.Shown.{at_below}
 use Rattle.bl_index_rule.proofs.Within.{none_within}
-use Rattle.bl_index_rule.proofs.Sights.{world_moment, world_seen}
+use Rattle.bl_index_rule.proofs.Sights.{firm_moment, world_moment, world_seen}
 use Rattle.bl_index_rule.proofs.Bounds.{first_anchor, fresh_run}
 
 -- an empty leaf
@@ -78,6 +80,9 @@ first_logs size p since runs = absurd (let both : machine.Waiting ≡ machine.Ru
 
 first_moments : (size : ℕ) → 1 < size → HasMoments empty opening_state []
 first_moments size wide = moments_first empty opening_state (world_moment (first_world size) [] (first_good size wide) (first_logs size) refl)
+
+first_firm : (size : ℕ) → 1 < size → HasFirmMoments empty opening_state []
+first_firm size wide = firm_alone empty opening_state (firm_moment (first_world size) [] (first_good size wide) (first_logs size) refl (firm_first know (first_world size) (first_good size wide) refl))
 
 -- a pass that has done nothing has seen the opening index
 pub newcomer_seen : IsSeen [] []
@@ -140,4 +145,5 @@ module _ (contents : List (List ℕ)) (o : AreOpening contents) where
     firsts = λ n st d e. ap (λ (z : Stage × PassState). z.1.first) (sym (of_all passes (Idle, newcomer) n (st, d) e));
     busy = λ p since e. absurd (let both : machine.Waiting ≡ machine.Running since = e in cc);
     versions = λ x version e. sym (of_all (length contents) 0 x version e);
+    firm = let many = o.many in first_firm (length contents) (omega arith);
   }

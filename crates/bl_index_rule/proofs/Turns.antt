@@ -1,12 +1,12 @@
 -- A turn of the process that a hand runs, told truly what its next action gave.
-use Rattle.std.proofs.Common.{ℕ, ◌≡◌, ◌≢◌, ◌≤◌, ◌+◌, true, Some, List, length, set, refl, sym, ap, ◌∙◌, subst, arith}
+use Rattle.std.proofs.Common.{ℕ, ◌≡◌, ◌≢◌, ◌⊎◌, ◌≤◌, ◌+◌, true, Some, List, length, set, refl, sym, ap, ◌∙◌, subst, arith}
 use Rattle.std.proofs.lemmas.Bool.{false≢true}
 use mathlib.Core.Option.{some}
 use lib.ListN.{get_elem?}
 use Rattle.bl_page.specs.declared.page.Page.{Page}
 use Rattle.bl_page.specs.Machine.{Name, State, Act}
 use Rattle.bl_page.specs.Machine as machine
-use Rattle.bl_tree_worlds.specs.Worlds.{World, IsGood}
+use Rattle.bl_tree_worlds.specs.Worlds.{World, MayGet, IsGood}
 use Rattle.bl_proc_steps.specs.declared.acts.Action.{Action}
 use Rattle.bl_proc_steps.specs.declared.acts.Seen.{Seen}
 use Rattle.bl_proc_steps.specs.declared.acts.Seen.TheVariants as seen
@@ -102,8 +102,9 @@ module _ (s : Pages PassState) (f : Simulates s) (n since : ℕ) (d : PassState)
         → ((x : ℕ) (words : List ℕ) → get_elem? s2.contents x ≡ some words → Shows x words (s1.contents x))
         → ((x : ℕ) (o : Owner) → get_elem? s2.owners x ≡ some o → s1.owner x ≡ owner_in s.hands o)
         → ((x version : ℕ) → HasVersion s2 x version → version ≡ puts_at x f.world.trail + put_of x (event_of (end_of_proc d.state) a what))
+        → ((x : ℕ) → event_of (end_of_proc d.state) a what ≡ Act.Get x → (x ≡ 0) ⊎ MayGet f.world mine x)
         → Simulates (observed s2 n (Running since) then_known)
-    then_fits s2 hands size clock phases kept pages owners versions =
+    then_fits s2 hands size clock phases kept pages owners versions may =
         let act = event_of (end_of_proc d.state) a what in
         let b = run_next f.world.now (f.world.proc mine) what course.new in
         let set_is : set s2.hands n (Running since, then_known) ≡ set s.hands n (Running since, then_known) = ap (λ (z : List (Stage × PassState)). set z n (Running since, then_known)) hands in
@@ -113,6 +114,7 @@ module _ (s : Pages PassState) (f : Simulates s) (n since : ℕ) (d : PassState)
         (λ z e. refl)
         (λ z e. (since, (let both : machine.Running standing.2.0 ≡ machine.Running z = sym (phases mine ∙ standing.2.2) ∙ e in let same : standing.2.0 ≡ z = cc in subst (λ (v : ℕ). since ≤ v) same standing.2.1), refl))
         versions
+        may
 
 -- a hand that knows that it runs a process
 pub runs_on : (s : Pages PassState) (f : Simulates s) (n : ℕ) (st : Stage) (d : PassState) → Stands s n st d → d.runs ≡ true → (since : ℕ) × (st ≡ Running since)

@@ -3,7 +3,7 @@ use Rattle.std.specs.Prelude.{true, false, ◌≡◌, ◌≢◌, ◌⊎◌, ℕ,
 use Rattle.bl_model.specs.declared.operation.Reply.{Reply}
 use Rattle.bl_page.specs.declared.page.Page.{Page}
 use Rattle.bl_page.specs.Words.{words_of}
-use Rattle.bl_page.specs.Machine.{Name, Act}
+use Rattle.bl_page.specs.Machine.{Name, State, Act}
 use Rattle.bl_claims.specs.Trails.{Mark, Trail, entries_at, marks_of}
 use Rattle.bl_proc_steps.specs.declared.acts.Action.{Action}
 use Rattle.bl_proc_steps.specs.declared.acts.Action.TheVariants as action
@@ -20,12 +20,12 @@ use Rattle.bl_claims.specs.Latches.{OnlyLooks}
 use Rattle.bl_proc_bounds.specs.Latches.{IsTidy}
 use Rattle.bl_tree_worlds.specs.Worlds.{Stage}
 use Rattle.bl_claims.specs.Walks.{Each}
-use Rattle.bl_one_moment.specs.Moments.{PutsNone, puts_at}
+use Rattle.bl_one_moment.specs.Moments.{HasFirmMoments, PutsNone, puts_at}
 use Rattle.bl_tree_worlds.specs.Blank.{IsBlank}
 use Rattle.bl_proc_deterministic.specs.Courses.{GoesOn}
 use Rattle.bl_store_rule.specs.Pages.{Owner, Open}
 use Rattle.bl_index_rule.specs.declared.known.PassState.{PassState}
-use Rattle.bl_claims.specs.Seeing.{IsSeen, AreWithin, AreElse, own, name}
+use Rattle.bl_claims.specs.Seeing.{first_map, BeginsFrom, IsSeen, AreWithin, AreElse, own, name}
 use Rattle.bl_index_rule.specs.Simulation.{AreUpTo}
 
 -- the page that a process is to get, latch, put, open or retire is one of so many
@@ -142,9 +142,15 @@ pub record HasDone (d e : PassState) : Type 0 where
 abbrev pub ends : PassState → ℕ → PassState → Type 0
 ends d now e = Finishes (end_of_proc d.state) d e × HasDone d e
 
+-- All moments that the pass has seen are firm, from a first state that is as the index began.
+pub record HasFirmTrail (d : PassState) : Type 0 where
+  pub start : State Page
+  pub opening : BeginsFrom d.first start
+  pub firm : HasFirmMoments (first_map d.first) start d.trail
+
 -- it got a page, and is told how often that was put by then
 abbrev pub gets_kept : PassState → ℕ → ℕ → Owner → List ℕ → PassState → Type 0
-gets_kept d x version owner words e = gets d x owner words e × (version ≡ puts_at x e.trail)
+gets_kept d x version owner words e = gets d x owner words e × (version ≡ puts_at x e.trail) × HasFirmTrail e
 
 -- In all that the pass has seen the page was not put since a get of it, if it had been put so often by then.
 abbrev pub is_unput : PassState → ℕ → ℕ → Type 0

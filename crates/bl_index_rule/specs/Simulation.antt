@@ -18,7 +18,7 @@ use Rattle.bl_proc.specs.declared.searching.FindStage.TheVariants as find
 use Rattle.bl_proc_invariant.specs.Knowing.{Run, know}
 use Rattle.bl_proc_invariant.specs.Logs.{proc_log}
 use Rattle.bl_proc_bounds.specs.Paces.{AllKept}
-use Rattle.bl_one_moment.specs.Moments.{puts_at}
+use Rattle.bl_one_moment.specs.Moments.{HasFirmMoments, puts_at}
 use Rattle.bl_store_rule.specs.Pages.{Owner, Released, Open, Held, Retired, Stage, Idle, Running, Pages, Stands, HasVersion}
 use Rattle.bl_index_rule.specs.declared.known.PassState.{PassState}
 use Rattle.bl_claims.specs.Seeing.{name, first_map, BeginsFrom, own, AreWithin, AreElse}
@@ -105,3 +105,4 @@ pub record Simulates (s : Pages PassState) : Type 0 where
   pub firsts : (n : ℕ) (st : Stage) (d : PassState) → Stands s n st d → d.first ≡ image
   pub busy : (p : Name) (since : ℕ) → world.now.phase p ≡ machine.Running since → IsRun s.hands p since
   pub versions : (x version : ℕ) → HasVersion s x version → version ≡ puts_at x world.trail
+  pub firm : HasFirmMoments (first_map image) world.start world.trail

@@ -31,6 +31,7 @@ impl PageRule<PassState> for Passes {
       counts = f.counts;
       firsts = f.firsts;
       versions = f.versions;
+      firm = f.firm;
     } };
 
     ghost gone = { newcomer };

@@ -68,7 +68,7 @@ owned_step p a s t x (Opened e) never o = inl e
 owned_step p a s t x (Retiring time e) never o = absurd (never time e)
 
 -- what was not fresh is not fresh
-fresh_step : (s t : State Page) (trail : Trail) (m : Mark) (x : ℕ) → m.event.act ≢ Act.Take x → Becomes m.event.process m.event.act (s.owner x) (t.owner x) x → IsFresh t (trail ++ m ∷ []) x → IsFresh s trail x
+pub fresh_step : (s t : State Page) (trail : Trail) (m : Mark) (x : ℕ) → m.event.act ≢ Act.Take x → Becomes m.event.process m.event.act (s.owner x) (t.owner x) x → IsFresh t (trail ++ m ∷ []) x → IsFresh s trail x
 fresh_step s t trail m x no_take become f = elim (name_cases m.event.process f.holder) [
   | inl i ↦
       let b = fresh_back (marks_of f.holder trail) m x no_take (rw (marks_of-own f.holder trail m i) at f.by) in

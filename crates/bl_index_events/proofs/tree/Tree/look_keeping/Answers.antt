@@ -10,6 +10,9 @@ glance_keeping-requires-clause-rule c = gets_kept_page _ _ (known c.args.hand.no
 pub returns-clause-goes : goal.returns-clause-goes
 returns-clause-goes c = let observed = c.in-Some.ensures.observed in let page = observed.4.0 in (page.0, sym observed.3.1 ∙ page.1, page.2)
 
+pub returns-clause-firm : goal.returns-clause-firm
+returns-clause-firm c = c.in-Some.ensures.observed.4.2
+
 pub returns-clause-keeps : goal.returns-clause-keeps
 returns-clause-keeps c =
     let observed = c.in-Some.ensures.observed in
