@@ -96,6 +96,7 @@ impl Tree {
         requires next { next_of (known hand.old.seat).state ≡ act.Probe page }
         requires course { (free : Bool) → GoesOn (known hand.old.seat).state (seen.Probed free) }
         ensures same { KeepsHand hand.old.seat hand.new.seat }
+        ensures kept { hand.new.seat.me.0.kept ≡ hand.old.seat.me.0.kept }
         ensures goes { Goes (seen.Probed result) (known hand.old.seat) (known hand.new.seat) }
     {
         self.store.probe::<Probed>(hand, page)

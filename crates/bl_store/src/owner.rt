@@ -41,6 +41,7 @@ impl<D, R: PageRule<D>, A: Allocator> Store<D, R, A> {
         requires page { page < self.now.layout.pages }
         requires rule { Probes R.holds self.now.layout hand.old.number (known hand.old.seat) page M.then }
         ensures same { IsSameHand hand.old.seat hand.new.seat × IsSameStamp hand.old.seat hand.new.seat × IsSameStock hand.old.seat hand.new.seat }
+        ensures kept { hand.new.seat.me.0.kept ≡ hand.old.seat.me.0.kept }
         ensures observed { (owner : Owner) × (words : List ℕ) × (IsTrue result ↔ (owner ≡ Owner.Open))
             × M.then (known hand.old.seat) page owner words (known hand.new.seat) }
     {

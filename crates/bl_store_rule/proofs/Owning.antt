@@ -127,7 +127,7 @@ module _ {D : Type 0} (l : Layout) (first : D) (holds : Pages D → Type 0) wher
         keeps,
         tt,
         owner_step st r i n id me.1 me.0 x me.0.releases own.0 (Held me.0.number) t.0 at live i_is own.1 n_is (λ u e. cc) (λ j u e _. absurd (omega arith)) t.1,
-        ((refl, refl, refl, refl), refl, (refl, refl, refl), λ y equal. let back : x ≡ y = omega arith in (Open, page.0, (λ _. refl), (λ miss. absurd (miss hit)), subst (λ (z : ℕ). then' me.0.known z Open page.0 t.0) back t.2)),
+        ((refl, refl, refl, refl), refl, (refl, refl, refl), λ y equal. let back : x ≡ y = omega arith in (Open, page.0, (λ _. refl), (λ miss. absurd (miss hit)), subst (λ (z : ℕ). then' me.0.known z Open page.0 t.0) back t.2), refl),
       ))
       (λ miss. let not : own.0 ≢ Open = (λ e. miss (subst (OwnerIs (get_or st.words i 0)) e own.2)) in
       let t = else s (stage_of me.0.stamp) page.0 own.0 r.kept r.orderly mine.stands (page.1, own.1) not in (
@@ -135,7 +135,7 @@ module _ {D : Type 0} (l : Layout) (first : D) (holds : Pages D → Type 0) wher
         keeps,
         tt,
         observed_load l first holds st r i id me.1 me.0 me.0.reading me.0.refused t.0 at live mine.reads t.1,
-        ((refl, refl, refl, refl), refl, (refl, refl, refl), λ y equal. let back : x ≡ y = omega arith in (own.0, page.0, (λ hit. absurd (miss hit)), (λ _. not), subst (λ (z : ℕ). then' me.0.known z own.0 page.0 t.0) back t.2)),
+        ((refl, refl, refl, refl), refl, (refl, refl, refl), λ y equal. let back : x ≡ y = omega arith in (own.0, page.0, (λ hit. absurd (miss hit)), (λ _. not), subst (λ (z : ℕ). then' me.0.known z own.0 page.0 t.0) back t.2), refl),
       ))
 
   pub probes : (then' : D → ℕ → Owner → List ℕ → D → Type 0) (slots id i x : ℕ) (me : M) → i ≡ owner_at l x → x < l.pages → me.0.layout ≡ l → Probes holds l me.0.number me.0.known x then'
@@ -147,7 +147,7 @@ module _ {D : Type 0} (l : Layout) (first : D) (holds : Pages D → Type 0) wher
         keeps,
         tt,
         observed_load l first holds st r i id me.1 me.0 me.0.reading me.0.refused t.0 at live mine.reads t.1,
-        ((refl, refl, refl, refl), refl, (refl, refl, refl), λ y equal. let back : x ≡ y = omega arith in (own.0, page.0, (λ hit. was_open own.0 (get_or st.words i 0) own.2 hit), (λ miss e. miss (subst (OwnerIs (get_or st.words i 0)) e own.2)), subst (λ (z : ℕ). then' me.0.known z own.0 page.0 t.0) back t.2)),
+        ((refl, refl, refl, refl), refl, (refl, refl, refl), λ y equal. let back : x ≡ y = omega arith in (own.0, page.0, (λ hit. was_open own.0 (get_or st.words i 0) own.2 hit), (λ miss e. miss (subst (OwnerIs (get_or st.words i 0)) e own.2)), subst (λ (z : ℕ). then' me.0.known z own.0 page.0 t.0) back t.2), refl),
       )
 
   pub opens : (then' : D → ℕ → Owner → List ℕ → D → Type 0) (slots id i x : ℕ) (me : M) → i ≡ owner_at l x → x < l.pages → me.0.layout ≡ l → Opens holds l me.0.number me.0.known x then' → IsLive me.0 → Allows Rule slots id me i (λ _. 1) (λ _. opened then' (step slots i 1 0 none) me 1)

@@ -165,7 +165,7 @@ module _ {D : Type 0} where
   -- the event of a latch, or of one that is missed
   abbrev pub tried : (D → ℕ → Owner → List ℕ → D → Type 0) → Play → Sat D → ℕ → Sat D → Type 0
   tried then st m r m' = IsThere m m' × (m'.0.stamp ≡ m.0.stamp) × IsStocked m.0 m'.0
-      × ((x : ℕ) → st.word ≡ owner_at m.0.layout x → (o : Owner) × (xs : List ℕ) × (r ≡ 1 → o ≡ Open) × (r ≢ 1 → o ≢ Open) × then m.0.known x o xs m'.0.known)
+      × ((x : ℕ) → st.word ≡ owner_at m.0.layout x → (o : Owner) × (xs : List ℕ) × (r ≡ 1 → o ≡ Open) × (r ≢ 1 → o ≢ Open) × then m.0.known x o xs m'.0.known) × (m'.0.kept ≡ m.0.kept)
 
   abbrev pub opened : (D → ℕ → Owner → List ℕ → D → Type 0) → Play → Sat D → ℕ → Sat D → Type 0
   opened then st m r m' = IsThere m m' × (m'.0.stamp ≡ m.0.stamp) × IsStocked m.0 m'.0
