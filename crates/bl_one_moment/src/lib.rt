@@ -1,4 +1,12 @@
-//! What was read of leaves that were not put since is what the map has at one moment.
+//! Leaves that are read one after another, at one moment of the map.
+//!
+//! Each leaf is read at a moment of its own. But what was read of a leaf that nobody has put since is what the map has at any later moment up
+//! to the next put; so where none of several leaves was put up to the last look at them, what was read of all of them is the map's at one
+//! moment. Whether a page was put is told by how often: a page's word that names the same frame names the same put of it, as long as
+//! nothing is given back that was swapped out since the first look.
+//!
+//! Promised to `bl_index_rule`, whose passes are told how often a page was put: [`law`], and that every moment of good worlds has the two
+//! facts on which it rests. The crate has no other code.
 #![tactic(auto)]
 
 ghost use Rattle.std.specs.Prelude.{◌≡◌, ◌++◌, ℕ, List, [], ◌∷◌};
