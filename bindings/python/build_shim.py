@@ -36,6 +36,7 @@ int32_t shim_rows(shim_map *map, bool is_falling, size_t most, uint64_t *keys, u
 int32_t shim_get_many(shim_map *map, const uint64_t *keys, size_t count, uint64_t *values, uint8_t *found);
 int32_t shim_put_many(shim_map *map, const uint64_t *keys, const uint64_t *values, size_t count, size_t *done);
 int64_t shim_length(const shim_map *map);
+int64_t shim_free_pages(shim_map *map);
 uint64_t blink_image_length(uint32_t pages);
 const char *blink_text(int32_t code);
 const char *blink_version(void);

@@ -6,18 +6,29 @@
  *     CREATE VIRTUAL TABLE w USING blink(image='w.image');
  *
  * A table is (k INTEGER PRIMARY KEY, v INTEGER NOT NULL), both signed 64-bit; k is the rowid too. The rows are in memory.
+ * The map has unsigned keys: those from 0 to 2^63 - 1 are the same in both, and a negative k is the key of the same 64 bits, k + 2^64.
  *
- *   pages=N     how much room there is, 4 to 2^28, by default 4096: six rows a page surely fit. A full map is SQLITE_FULL.
+ *   pages=N     how much room there is, 4 to 2^28, by default 4096: 6 N - 10 rows surely fit. A full map is SQLITE_FULL.
  *   name=NAME   one map for all tables of this name in the process, of whatever connection and thread
  *   seats=N     how many tables may share a map with a name, 1 to 64, by default 16
- *   image=FILE  the table begins with the rows of an image, where the file is there, and with as many pages
+ *   image=FILE  the table begins with the rows of an image, and with as many pages where pages=N does not say otherwise
+ *   create=1    where there is no file of image=, the table begins without rows
  *
- *   blink_save(TABLE [, FILE])  writes the image of the table's map to a file, by default that of image=; answers its length
- *   blink_open(TABLE, FILE)     the rows of an image take the place of the table's; answers how many they are
+ *   blink_save(TABLE [, FILE])        writes the image of the table's map to a file, by default that of image=; answers its length
+ *   blink_open(TABLE, FILE)           the rows of an image take the place of the table's; answers how many they are
+ *   blink_add(TABLE, K, D)            adds D to the value at K, a K that is absent counting as 0; answers the sum
+ *   blink_change(TABLE, K, OLD, NEW)  puts NEW at K where OLD is: answers 1, or 0 where another value is, or NULL where none is
+ *   blink_rows(TABLE)                 how many rows there are, by going along them
+ *   blink_pages(TABLE)                how many pages the map has
+ *   blink_free_pages(TABLE)           how many of them are free, about
+ *   blink_version()                   the version of the library
  *
- * Equality, ranges, ORDER BY k and ORDER BY k DESC go to the map. A statement that fails, ROLLBACK and ROLLBACK TO are undone
- * by writing back what was there. That is right for the connection's own changes; tables that share a map see each other's
- * changes before they are committed. An image has what was written, committed or not.
+ * Equality, ranges, ORDER BY k and ORDER BY k DESC go to the map. Tables that share a map see each other's changes at once, before
+ * they are committed, and each row as it stood when it was read. No update is lost: a row is written only if its value is still the one
+ * that the statement has read, and else the statement fails with SQLITE_BUSY, and may be tried again. The hidden column `was` has that
+ * value. A DELETE takes the row away whatever its value is by then. A statement that fails, ROLLBACK and ROLLBACK TO put back what was
+ * there, but for rows that another connection has written since, which stay. blink_add and blink_change are one step each and take
+ * effect at once, and no ROLLBACK takes them back.
  *
  * SQLite's own ways with virtual tables differ from ordinary ones in this: a value of a wrong type undoes a whole statement
  * OR FAIL or OR IGNORE; UPDATE OR REPLACE of keys reads all rows before it changes the first; and an insertion without a key
@@ -37,6 +48,10 @@ SQLITE_EXTENSION_INIT1
 #include <unistd.h>
 
 enum { MOST_SEATS = 64, DEFAULT_SEATS = 16, DEFAULT_PAGES = 4096, ROWS_AT_ONCE = 128, FIRST_ROWS = 32 };
+enum { COLUMN_K, COLUMN_V, COLUMN_WAS };
+
+/* How often, and after what time, what wants all transactions to be over looks again whether they are. */
+enum { TRIES = 1000, TRY_MICROSECONDS = 1000 };
 
 struct Table;
 
@@ -54,10 +69,10 @@ typedef struct Map {
     uint64_t kept_length;
 } Map;
 
-/* What was at a key before a change. */
+/* A change at a key: what was there before it, and what since. A value is 0 where there is no row. */
 typedef struct Undo {
-    uint64_t key, value;
-    bool had;
+    uint64_t key, before, since;
+    bool had, has;
 } Undo;
 
 /* A table of a connection. It stands until it is dropped or the connection is closed: SQLite may let go of a virtual table and
@@ -74,6 +89,7 @@ typedef struct Table {
     size_t place; /* of the seat */
     Undo *undo;
     size_t undos, room;
+    size_t undos_as_read; /* how many there were when a cursor last began */
     size_t *marks; /* how many undos there were at each savepoint */
     int mark_count;
 } Table;
@@ -91,12 +107,18 @@ typedef struct Home {
     Table *tables;
 } Home;
 
+/* Keys of the map from one to another, both included. */
+typedef struct Keys {
+    uint64_t low, high;
+} Keys;
+
 typedef struct Cursor {
     sqlite3_vtab_cursor base;
     blink_row rows[ROWS_AT_ONCE];
     size_t at, count, most;
-    uint64_t next, low, high; /* where further rows begin, and the bounds of those wanted */
-    bool more, is_falling, is_over;
+    uint64_t next; /* where further rows begin */
+    Keys wanted, later; /* those that are read now, and those behind them: negative keys and others are apart in the map */
+    bool more, has_later, is_falling, is_over;
 } Cursor;
 
 /* What stands in the lists of maps and connections, and which seats are taken. */
@@ -106,9 +128,9 @@ static Home *homes;
 
 static Table *table_of(sqlite3_vtab *base) { return ((Shown *)base)->table; }
 
-/* Signed order to unsigned order, and back. */
-static uint64_t key_of(sqlite3_int64 k) { return (uint64_t)k ^ 0x8000000000000000u; }
-static sqlite3_int64 int_of(uint64_t key) { return (sqlite3_int64)(key ^ 0x8000000000000000u); }
+/* A key of the map has the bits of the table's, so that an image has the keys that the table shows, and back. */
+static uint64_t key_of(sqlite3_int64 k) { return (uint64_t)k; }
+static sqlite3_int64 int_of(uint64_t key) { return (sqlite3_int64)key; }
 
 /* The table's seat for the time of a call. */
 static blink_seat *hold(Table *t) {
@@ -255,35 +277,46 @@ static void drop_table(Home *home, Table *t) {
     if (t->shown == 0) free_table(t);
 }
 
-/* Writes one thing back that was there before a change, under the seat's lock. */
+/* Takes a key away that has this value, while all seats are held, so that nobody writes between the look and the deletion: else
+ * BLINK_PRESENT, with the value that is there, or BLINK_ABSENT. */
+static int32_t delete_if(blink_seat *seat, uint64_t key, uint64_t value, uint64_t *there) {
+    int32_t answer = blink_find(seat, key, there);
+    if (answer == BLINK_OK && *there != value) return BLINK_PRESENT;
+    return answer == BLINK_OK ? blink_delete(seat, key, there) : answer;
+}
+
+/* Writes back what was there before a change, while all seats are held. What another connection has written there since stays. */
 static int32_t write_back(Map *map, blink_seat *seat, const Undo *undo) {
-    uint64_t old = 0;
+    uint64_t there = 0;
     int32_t answer;
-    if (!undo->had) {
-        answer = blink_delete(seat, undo->key, &old);
+    if (undo->had && undo->has) {
+        answer = blink_change(seat, undo->key, undo->since, undo->before, &there);
+    } else if (undo->had) {
+        answer = blink_insert(seat, undo->key, undo->before, &there);
+        if (answer == BLINK_OK) __atomic_add_fetch(&map->rows, 1, __ATOMIC_RELAXED);
+    } else {
+        answer = delete_if(seat, undo->key, undo->since, &there);
         if (answer == BLINK_OK) __atomic_sub_fetch(&map->rows, 1, __ATOMIC_RELAXED);
-        return answer == BLINK_ABSENT ? BLINK_OK : answer;
     }
-    answer = blink_put(seat, undo->key, undo->value, &old);
-    if (answer == BLINK_OK) __atomic_add_fetch(&map->rows, 1, __ATOMIC_RELAXED);
-    return answer == BLINK_PRESENT ? BLINK_OK : answer;
+    return answer == BLINK_PRESENT || answer == BLINK_ABSENT ? BLINK_OK : answer;
 }
 
 /* Writes back what was there, down to so many undos. What was deleted may find no room, where others have filled the map since. */
 static int32_t undo_to(Table *t, size_t count) {
     int32_t answer = BLINK_OK;
-    blink_seat *seat = hold(t);
+    if (t->undos <= count) return BLINK_OK;
+    hold_all(t->map);
     while (answer == BLINK_OK && t->undos > count) {
-        answer = write_back(t->map, seat, &t->undo[t->undos - 1]);
+        answer = write_back(t->map, &t->map->seat[t->place], &t->undo[t->undos - 1]);
         if (answer == BLINK_OK) t->undos--;
     }
-    let_go(t);
+    let_all_go(t->map);
     return answer;
 }
 
 /* What a table is made with. Numbers are 0 where they are not said. */
 typedef struct Wish {
-    sqlite3_int64 pages, seats;
+    sqlite3_int64 pages, seats, create;
     char *name, *image;
 } Wish;
 
@@ -318,12 +351,15 @@ static char *read_word(const char *word, Wish *wish) {
     } else if (is && length == 5 && !strncmp(word, "seats", 5)) {
         wish->seats = number_of(is);
         if (wish->seats == 0) return sqlite3_mprintf("blink: seats=N has a number of 1 to 64, not %s", is);
+    } else if (is && length == 6 && !strncmp(word, "create", 6)) {
+        wish->create = number_of(is);
+        if (wish->create != 1) return sqlite3_mprintf("blink: create=1 is known, not create=%s", is);
     } else if (is && length == 4 && !strncmp(word, "name", 4) && !wish->name) {
         wish->name = unquoted(is);
     } else if (is && length == 5 && !strncmp(word, "image", 5) && !wish->image) {
         wish->image = unquoted(is);
     } else {
-        return sqlite3_mprintf("blink: pages=N, seats=N, name=NAME and image=FILE are known, once each, not %s", word);
+        return sqlite3_mprintf("blink: pages=N, seats=N, name=NAME, image=FILE and create=1 are known, once each, not %s", word);
     }
     return NULL;
 }
@@ -334,6 +370,43 @@ static int refused(char **error, int code, char *why) {
     return why ? code : SQLITE_NOMEM;
 }
 
+/* The rows of a map that only its first seat has, in an image of so many pages: the image is the caller's to free. */
+static int32_t image_with_pages(blink_seat *seat, uint32_t pages, uint8_t **made, size_t *length) {
+    uint64_t rows = 0, needed = blink_image_length(pages), next = 0;
+    size_t count = 0;
+    bool more = false;
+    int32_t answer = blink_count(seat, 0, UINT64_MAX, &rows);
+    blink_row *row = malloc(((size_t)rows + 1) * sizeof *row);
+    uint8_t *bytes = malloc((size_t)needed);
+    if (answer == BLINK_OK && (!row || !bytes)) answer = BLINK_NO_MEMORY;
+    if (answer == BLINK_OK) answer = blink_scan(seat, 0, row, (size_t)rows + 1, &count, &next, &more);
+    if (answer == BLINK_OK) answer = blink_image_of(row, count, pages, BLINK_LEAF_ROWS, bytes, (size_t)needed, &needed);
+    free(row);
+    if (answer != BLINK_OK) {
+        free(bytes);
+        return answer;
+    }
+    *made = bytes;
+    *length = (size_t)needed;
+    return BLINK_OK;
+}
+
+/* Takes the rows of an image in place of the map's, with so many pages where that is not 0, and else with as many as the image. */
+static int32_t take_image_as(Map *map, const uint8_t *bytes, size_t length, uint32_t pages) {
+    blink_seat seat = BLINK_SEAT_INIT;
+    uint8_t *sized = NULL;
+    size_t sized_length = 0;
+    int32_t answer;
+    if (pages == 0 || blink_image_length(pages) == length) return take_image(map, bytes, length);
+    answer = blink_open_image(bytes, length, &seat, 1);
+    if (answer != BLINK_OK) return answer;
+    answer = image_with_pages(&seat, pages, &sized, &sized_length);
+    blink_close(&seat);
+    if (answer == BLINK_OK) answer = take_image(map, sized, sized_length);
+    free(sized);
+    return answer;
+}
+
 /* Makes a map as it is wished. */
 static int make_map(const Wish *wish, Map **made, char **error) {
     Map *map = calloc(1, sizeof *map);
@@ -342,8 +415,13 @@ static int make_map(const Wish *wish, Map **made, char **error) {
     char *why = NULL;
     uint8_t *bytes = wish->image ? read_file(wish->image, &length, &is_there, &why) : NULL;
     int32_t answer;
-    if (is_there && !bytes) {
+    if (wish->image && !bytes && (is_there || !wish->create)) {
         free(map);
+        if (!is_there && why) {
+            char *reason = why;
+            why = sqlite3_mprintf("%s; with create=1 the table begins without rows", reason);
+            sqlite3_free(reason);
+        }
         return refused(error, SQLITE_CANTOPEN, why);
     }
     sqlite3_free(why);
@@ -354,7 +432,7 @@ static int make_map(const Wish *wish, Map **made, char **error) {
     map->pages = wish->pages ? (uint32_t)(wish->pages > UINT32_MAX ? UINT32_MAX : wish->pages) : DEFAULT_PAGES;
     map->seats = wish->seats ? (size_t)wish->seats : wish->name ? DEFAULT_SEATS : 1;
     answer = map->seats > MOST_SEATS ? BLINK_BAD_SEATS
-             : bytes                 ? take_image(map, bytes, length)
+             : bytes                 ? take_image_as(map, bytes, length, wish->pages ? map->pages : 0)
                                      : blink_open(map->pages, map->seat, map->seats);
     free(bytes);
     if (answer != BLINK_OK) {
@@ -431,7 +509,7 @@ static Table *find_renamed(const Home *home, const char *schema, const char *nam
 
 /* A new table as the words wish it. */
 static int make_table(Home *home, int count, const char *const *words, Table **made, char **error) {
-    Wish wish = { 0, 0, NULL, NULL };
+    Wish wish = { 0, 0, 0, NULL, NULL };
     Table *t = calloc(1, sizeof *t);
     int code = t ? SQLITE_OK : SQLITE_NOMEM;
     for (int i = 3; i < count && code == SQLITE_OK; i++) {
@@ -463,7 +541,7 @@ static int make_table(Home *home, int count, const char *const *words, Table **m
 
 static int show_table(sqlite3 *db, Table *t, sqlite3_vtab **made) {
     Shown *shown = sqlite3_malloc(sizeof *shown);
-    int code = shown ? sqlite3_declare_vtab(db, "CREATE TABLE x(k INTEGER PRIMARY KEY, v INTEGER NOT NULL)") : SQLITE_NOMEM;
+    int code = shown ? sqlite3_declare_vtab(db, "CREATE TABLE x(k INTEGER PRIMARY KEY, v INTEGER NOT NULL, was INTEGER HIDDEN)") : SQLITE_NOMEM;
     if (code == SQLITE_OK) code = sqlite3_vtab_config(db, SQLITE_VTAB_CONSTRAINT_SUPPORT, 1);
     if (code != SQLITE_OK) {
         sqlite3_free(shown);
@@ -604,17 +682,28 @@ static int close_cursor(sqlite3_vtab_cursor *base) {
     return SQLITE_OK;
 }
 
+/* The rows of these keys are to be read next. */
+static void read_keys(Cursor *c, Keys keys) {
+    c->wanted = keys;
+    c->next = c->is_falling ? keys.high : keys.low;
+    c->more = true;
+}
+
 /* Reads further rows until one stands or none is left. */
 static int fill(Cursor *c) {
     Table *t = table_of(c->base.pVtab);
     while (!c->is_over && c->at == c->count) {
+        if (!c->more && c->has_later) {
+            c->has_later = false;
+            read_keys(c, c->later);
+        }
         if (!c->more) {
             c->is_over = true;
             return SQLITE_OK;
         }
         blink_seat *seat = hold(t);
-        int32_t answer = c->is_falling ? blink_scan_down_to(seat, c->next, c->low, c->rows, c->most, &c->count, &c->next, &c->more)
-                                       : blink_scan_to(seat, c->next, c->high, c->rows, c->most, &c->count, &c->next, &c->more);
+        int32_t answer = c->is_falling ? blink_scan_down_to(seat, c->next, c->wanted.low, c->rows, c->most, &c->count, &c->next, &c->more)
+                                       : blink_scan_to(seat, c->next, c->wanted.high, c->rows, c->most, &c->count, &c->next, &c->more);
         let_go(t);
         c->at = 0;
         /* Few at first, since many queries want few rows. */
@@ -656,9 +745,18 @@ static int find_row(Cursor *c, uint64_t key) {
     c->rows[0] = (blink_row){ key, value };
     c->at = 0;
     c->count = answer == BLINK_OK;
-    c->more = false;
+    c->more = c->has_later = false;
     c->is_over = answer != BLINK_OK;
     return answer == BLINK_ABSENT ? SQLITE_OK : told(c->base.pVtab, answer);
+}
+
+/* The keys from one to another in the table's order: the negative ones are behind the others in the map, and come first here. */
+static void choose_keys(Cursor *c, sqlite3_int64 low, sqlite3_int64 high) {
+    Keys negative = { key_of(low), key_of(high < 0 ? high : -1) }, other = { key_of(low < 0 ? 0 : low), key_of(high) };
+    c->has_later = low < 0 && high >= 0;
+    c->later = c->is_falling ? negative : other;
+    if (c->has_later) read_keys(c, c->is_falling ? other : negative);
+    else read_keys(c, low < 0 ? negative : other);
 }
 
 static int filter_rows(sqlite3_vtab_cursor *base, int plan, const char *text, int count, sqlite3_value **values) {
@@ -671,15 +769,13 @@ static int filter_rows(sqlite3_vtab_cursor *base, int plan, const char *text, in
     if (plan & EQUAL) can_fit = read_bound(values[0], true, &low) && read_bound(values[0], false, &high);
     if (plan & LOWER) can_fit = read_bound(values[at++], true, &low);
     if (plan & UPPER) can_fit = read_bound(values[at++], false, &high) && can_fit;
-    c->low = key_of(low);
-    c->high = key_of(high);
-    if ((plan & EQUAL) && can_fit && low == high) return find_row(c, c->low);
+    table_of(base->pVtab)->undos_as_read = table_of(base->pVtab)->undos;
+    if ((plan & EQUAL) && can_fit && low == high) return find_row(c, key_of(low));
     c->is_falling = (plan & FALLING) != 0;
-    c->next = c->is_falling ? c->high : c->low;
     c->at = c->count = 0;
     c->most = FIRST_ROWS;
-    c->more = true;
     c->is_over = !can_fit || low > high;
+    if (!c->is_over) choose_keys(c, low, high);
     return fill(c);
 }
 
@@ -693,7 +789,7 @@ static int is_at_end(sqlite3_vtab_cursor *base) { return ((Cursor *)base)->is_ov
 
 static int read_column(sqlite3_vtab_cursor *base, sqlite3_context *context, int number) {
     const blink_row *row = &((Cursor *)base)->rows[((Cursor *)base)->at];
-    sqlite3_result_int64(context, number == 0 ? int_of(row->key) : (sqlite3_int64)row->value);
+    sqlite3_result_int64(context, number == COLUMN_K ? int_of(row->key) : (sqlite3_int64)row->value);
     return SQLITE_OK;
 }
 
@@ -715,45 +811,73 @@ static int make_room_for_undo(Table *t, size_t more) {
     return SQLITE_OK;
 }
 
-/* Notes what a key had before a change, under the seat's lock. */
-static void note(Table *t, uint64_t key, bool had, uint64_t value) {
-    t->undo[t->undos++] = (Undo){ key, value, had };
-    if (!had) __atomic_add_fetch(&t->map->rows, 1, __ATOMIC_RELAXED);
+/* Notes a change, under the seat's lock. */
+static void note(Table *t, Undo change) {
+    t->undo[t->undos++] = change;
+    if (change.had != change.has) __atomic_add_fetch(&t->map->rows, change.has ? 1 : -1, __ATOMIC_RELAXED);
 }
 
-/* Puts a value at a key that is there. */
-static int32_t replace(blink_seat *seat, uint64_t key, uint64_t value, uint64_t *old) {
-    int32_t answer = blink_find(seat, key, old);
-    while (answer == BLINK_OK) {
-        uint64_t there = 0;
-        answer = blink_change(seat, key, *old, value, &there);
-        if (answer != BLINK_PRESENT) return answer;
-        *old = there;
-        answer = BLINK_OK;
-    }
-    return answer;
+/* The last change at a key since this connection last began to read the table, or null: what it then read first is no longer there. */
+static const Undo *own_change(const Table *t, uint64_t key) {
+    for (size_t i = t->undos; i > t->undos_as_read; i--)
+        if (t->undo[i - 1].key == key) return &t->undo[i - 1];
+    return NULL;
 }
 
+/* Whether a row that is not as it was read is as the statement itself has left it. */
+static bool is_own(const Table *t, uint64_t key, uint64_t there) {
+    const Undo *own = own_change(t, key);
+    return own && own->has && own->since == there;
+}
+
+/* A row was not as it was read: where the statement itself has taken it away there is nothing to do, and else another was first. */
+static int told_stale(sqlite3_vtab *base, uint64_t key) {
+    const Undo *own = own_change(table_of(base), key);
+    if (own && !own->has) return SQLITE_OK;
+    return fail(base, SQLITE_BUSY, "blink: another connection has changed the row since it was read; try the statement again");
+}
+
+/* Takes a row away, whatever its value is. */
 static int take_away(sqlite3_vtab *base, uint64_t key) {
     Table *t = table_of(base);
     uint64_t old = 0;
     int32_t answer = blink_delete(hold(t), key, &old);
-    if (answer == BLINK_OK) {
-        note(t, key, true, old);
-        __atomic_sub_fetch(&t->map->rows, 1, __ATOMIC_RELAXED);
-    }
+    if (answer == BLINK_OK) note(t, (Undo){ key, old, 0, true, false });
     let_go(t);
     /* Where it is not there another connection was first. */
     return answer == BLINK_ABSENT ? SQLITE_OK : told(base, answer);
 }
 
-static int set_value(sqlite3_vtab *base, uint64_t key, uint64_t value) {
+/* Takes a row away that was read with this value. */
+static int take_away_as_read(sqlite3_vtab *base, uint64_t key, uint64_t was) {
     Table *t = table_of(base);
-    uint64_t old = 0;
-    int32_t answer = replace(hold(t), key, value, &old);
-    if (answer == BLINK_OK) note(t, key, true, old);
+    blink_seat *seat = &t->map->seat[t->place];
+    uint64_t there = 0;
+    int32_t answer;
+    hold_all(t->map);
+    answer = delete_if(seat, key, was, &there);
+    if (answer == BLINK_PRESENT && is_own(t, key, there)) {
+        was = there;
+        answer = delete_if(seat, key, was, &there);
+    }
+    if (answer == BLINK_OK) note(t, (Undo){ key, was, 0, true, false });
+    let_all_go(t->map);
+    return answer == BLINK_PRESENT || answer == BLINK_ABSENT ? told_stale(base, key) : told(base, answer);
+}
+
+/* Puts a value at a row that was read with another one. */
+static int set_value(sqlite3_vtab *base, uint64_t key, uint64_t was, uint64_t value) {
+    Table *t = table_of(base);
+    blink_seat *seat = hold(t);
+    uint64_t there = 0;
+    int32_t answer = blink_change(seat, key, was, value, &there);
+    if (answer == BLINK_PRESENT && is_own(t, key, there)) {
+        was = there;
+        answer = blink_change(seat, key, was, value, &there);
+    }
+    if (answer == BLINK_OK) note(t, (Undo){ key, was, value, true, true });
     let_go(t);
-    return answer == BLINK_ABSENT ? SQLITE_OK : told(base, answer);
+    return answer == BLINK_PRESENT || answer == BLINK_ABSENT ? told_stale(base, key) : told(base, answer);
 }
 
 static int put_row(sqlite3_vtab *base, uint64_t key, uint64_t value, bool is_replacing) {
@@ -763,7 +887,7 @@ static int put_row(sqlite3_vtab *base, uint64_t key, uint64_t value, bool is_rep
     int32_t answer = is_replacing ? blink_put(seat, key, value, &old) : blink_insert(seat, key, value, &old);
     bool had = is_replacing && answer == BLINK_PRESENT;
     if (had) answer = BLINK_OK;
-    if (answer == BLINK_OK) note(t, key, had, old);
+    if (answer == BLINK_OK) note(t, (Undo){ key, old, value, had, true });
     let_go(t);
     return told(base, answer);
 }
@@ -788,11 +912,13 @@ static int read_integer(sqlite3_vtab *base, sqlite3_value *value, sqlite3_int64 
     return code;
 }
 
-/* The key of an insertion that names none: the one behind the greatest. */
+/* The key of an insertion that names none: the one behind the greatest. Negative ones are behind the others in the map. */
 static int next_key(sqlite3_vtab *base, sqlite3_int64 *k) {
     Table *t = table_of(base);
+    blink_seat *seat = hold(t);
     blink_row last;
-    int32_t answer = blink_last(hold(t), &last);
+    int32_t answer = blink_previous(seat, key_of(INT64_MIN), &last);
+    if (answer == BLINK_ABSENT) answer = blink_last(seat, &last);
     let_go(t);
     *k = 1;
     if (answer == BLINK_ABSENT) return SQLITE_OK;
@@ -802,27 +928,29 @@ static int next_key(sqlite3_vtab *base, sqlite3_int64 *k) {
     return SQLITE_OK;
 }
 
-/* An insertion has null as its first value, a deletion one value alone; an update may change the key. */
+/* An insertion has null as its first value, a deletion one value alone; an update may change the key. Behind the row's old and new ids
+ * stand the columns, of which `was` is as the statement's cursor read it. */
 static int update_row(sqlite3_vtab *base, int count, sqlite3_value **values, sqlite3_int64 *id) {
     sqlite3 *db = table_of(base)->home->db;
     bool is_new = sqlite3_value_type(values[0]) == SQLITE_NULL;
-    sqlite3_int64 k = 0, v = 0, was = sqlite3_value_int64(values[0]);
+    sqlite3_int64 k = 0, v = 0, was = 0, id_before = sqlite3_value_int64(values[0]);
     int code = make_room_for_undo(table_of(base), 2);
     if (code != SQLITE_OK) return code;
-    if (count == 1) return take_away(base, key_of(was));
+    if (count == 1) return take_away(base, key_of(id_before));
     if (is_new && sqlite3_value_type(values[2]) == SQLITE_NULL && sqlite3_value_type(values[1]) == SQLITE_NULL) {
         code = next_key(base, &k);
     } else {
         /* UPDATE .. SET rowid = .. comes as the second value, SET k = .. as the third one. */
-        bool is_by_id = sqlite3_value_type(values[2]) == SQLITE_NULL || (!is_new && sqlite3_value_int64(values[1]) != was);
+        bool is_by_id = sqlite3_value_type(values[2]) == SQLITE_NULL || (!is_new && sqlite3_value_int64(values[1]) != id_before);
         code = read_integer(base, values[is_by_id ? 1 : 2], &k, "k");
     }
-    if (code == SQLITE_OK) code = read_integer(base, values[3], &v, "v");
+    if (code == SQLITE_OK) code = read_integer(base, values[2 + COLUMN_V], &v, "v");
+    if (code == SQLITE_OK && !is_new) code = read_integer(base, values[2 + COLUMN_WAS], &was, "was");
     if (code != SQLITE_OK) return code;
     *id = k;
-    if (!is_new && k == was) return set_value(base, key_of(k), (uint64_t)v);
+    if (!is_new && k == id_before) return set_value(base, key_of(k), (uint64_t)was, (uint64_t)v);
     code = put_row(base, key_of(k), (uint64_t)v, sqlite3_vtab_on_conflict(db) == SQLITE_REPLACE);
-    return code == SQLITE_OK && !is_new ? take_away(base, key_of(was)) : code;
+    return code == SQLITE_OK && !is_new ? take_away_as_read(base, key_of(id_before), (uint64_t)was) : code;
 }
 
 /* ---- Transactions. ---- */
@@ -882,7 +1010,7 @@ static int rename_table(sqlite3_vtab *base, const char *name) {
     return SQLITE_OK;
 }
 
-/* ---- blink_save and blink_open. ---- */
+/* ---- Functions. ---- */
 
 /* The table that the first argument names, perhaps with its schema before it; else the call has failed. */
 static Table *named_table(sqlite3_context *context, sqlite3_value **values) {
@@ -926,6 +1054,27 @@ static int32_t make_image(Map *map, bool *is_open) {
     return BLINK_OK;
 }
 
+/* Whether a table of the map is in a transaction that has changed something: of the connection, or of any where that is null. */
+static bool has_changes(const Map *map, const Home *home) {
+    for (size_t i = 0; i < map->seats; i++)
+        if (map->table[i] && map->table[i]->undos > 0 && (!home || map->table[i]->home == home)) return true;
+    return false;
+}
+
+/* Holds all seats while no transaction has changed the map: it waits a while for those of other connections. Else the call has failed. */
+static bool hold_all_committed(sqlite3_context *context, Table *t) {
+    for (int tries = 0; tries < TRIES; tries++) {
+        hold_all(t->map);
+        if (!has_changes(t->map, NULL)) return true;
+        if (has_changes(t->map, t->home)) tries = TRIES;
+        let_all_go(t->map);
+        if (tries < TRIES) usleep(TRY_MICROSECONDS);
+    }
+    sqlite3_result_error(context, "blink: a transaction has changed the map: commit it first", -1);
+    sqlite3_result_error_code(context, SQLITE_BUSY);
+    return false;
+}
+
 static void save_table(sqlite3_context *context, int count, sqlite3_value **values) {
     Table *t = named_table(context, values);
     const char *file;
@@ -938,7 +1087,7 @@ static void save_table(sqlite3_context *context, int count, sqlite3_value **valu
         sqlite3_result_error(context, "blink: blink_save(TABLE, FILE) wants a file, where the table has no image=FILE", -1);
         return;
     }
-    hold_all(t->map);
+    if (!hold_all_committed(context, t)) return;
     if (!t->map->kept) answer = make_image(t->map, &is_open);
     else is_open = false;
     if (answer == BLINK_OK) {
@@ -953,13 +1102,6 @@ static void save_table(sqlite3_context *context, int count, sqlite3_value **valu
     let_all_go(t->map);
     if (answer != BLINK_OK) sqlite3_result_error(context, blink_text(answer), -1);
     else if (why) result_why(context, why);
-}
-
-/* Whether a table of the map is in a transaction that has changed something. */
-static bool has_changes(const Map *map) {
-    for (size_t i = 0; i < map->seats; i++)
-        if (map->table[i] && map->table[i]->undos > 0) return true;
-    return false;
 }
 
 static void open_table(sqlite3_context *context, int count, sqlite3_value **values) {
@@ -981,15 +1123,107 @@ static void open_table(sqlite3_context *context, int count, sqlite3_value **valu
         result_why(context, why);
         return;
     }
-    hold_all(t->map);
-    if (has_changes(t->map)) why = sqlite3_mprintf("blink: a transaction has changed the map: commit it before blink_open");
-    else answer = take_image(t->map, bytes, length);
-    if (!why && answer == BLINK_OK) sqlite3_result_int64(context, t->map->rows);
+    if (!hold_all_committed(context, t)) {
+        free(bytes);
+        return;
+    }
+    answer = take_image(t->map, bytes, length);
+    if (answer == BLINK_OK) sqlite3_result_int64(context, t->map->rows);
     let_all_go(t->map);
     free(bytes);
     if (answer != BLINK_OK) why = sqlite3_mprintf("blink: %s: %s", file, blink_text(answer));
     if (why) result_why(context, why);
 }
+
+/* The table's answer to a function of its own, else why there is none. */
+static void result_answer(sqlite3_context *context, int32_t answer, sqlite3_int64 value) {
+    if (answer == BLINK_OK) sqlite3_result_int64(context, value);
+    else if (answer == BLINK_ABSENT) sqlite3_result_null(context);
+    else if (answer == BLINK_NO_ROOM) sqlite3_result_error_code(context, SQLITE_FULL);
+    else sqlite3_result_error(context, blink_text(answer), -1);
+}
+
+/* Whether these arguments are integers; else the call has failed. */
+static bool are_integers(sqlite3_context *context, int count, sqlite3_value **values) {
+    for (int i = 1; i < count; i++)
+        if (sqlite3_value_numeric_type(values[i]) != SQLITE_INTEGER) {
+            sqlite3_result_error(context, "blink: keys and values are integers", -1);
+            return false;
+        }
+    return true;
+}
+
+static void add_to_value(sqlite3_context *context, int count, sqlite3_value **values) {
+    Table *t = named_table(context, values);
+    uint64_t now = 0;
+    int32_t answer;
+    if (!t || !are_integers(context, count, values)) return;
+    answer = blink_add(hold(t), key_of(sqlite3_value_int64(values[1])), (uint64_t)sqlite3_value_int64(values[2]), &now);
+    let_go(t);
+    if (answer == BLINK_OK) __atomic_add_fetch(&t->map->rows, 1, __ATOMIC_RELAXED);
+    result_answer(context, answer == BLINK_PRESENT ? BLINK_OK : answer, (sqlite3_int64)now);
+}
+
+static void change_value(sqlite3_context *context, int count, sqlite3_value **values) {
+    Table *t = named_table(context, values);
+    uint64_t there = 0;
+    int32_t answer;
+    if (!t || !are_integers(context, count, values)) return;
+    answer = blink_change(hold(t), key_of(sqlite3_value_int64(values[1])), (uint64_t)sqlite3_value_int64(values[2]),
+                          (uint64_t)sqlite3_value_int64(values[3]), &there);
+    let_go(t);
+    result_answer(context, answer == BLINK_PRESENT ? BLINK_OK : answer, answer == BLINK_OK);
+}
+
+static void count_table(sqlite3_context *context, int count, sqlite3_value **values) {
+    Table *t = named_table(context, values);
+    uint64_t rows = 0;
+    int32_t answer;
+    (void)count;
+    if (!t) return;
+    answer = blink_count(hold(t), 0, UINT64_MAX, &rows);
+    let_go(t);
+    result_answer(context, answer, (sqlite3_int64)rows);
+}
+
+static void tell_pages(sqlite3_context *context, sqlite3_value **values, bool are_free) {
+    Table *t = named_table(context, values);
+    blink_stats stats = { 0, 0, 0, 0 };
+    int32_t answer;
+    if (!t) return;
+    answer = blink_stat(hold(t), &stats);
+    let_go(t);
+    result_answer(context, answer, (sqlite3_int64)(are_free ? stats.free_pages : stats.pages));
+}
+
+static void count_pages(sqlite3_context *context, int count, sqlite3_value **values) {
+    (void)count;
+    tell_pages(context, values, false);
+}
+
+static void count_free_pages(sqlite3_context *context, int count, sqlite3_value **values) {
+    (void)count;
+    tell_pages(context, values, true);
+}
+
+static void tell_version(sqlite3_context *context, int count, sqlite3_value **values) {
+    (void)count;
+    (void)values;
+    sqlite3_result_text(context, blink_version(), -1, SQLITE_STATIC);
+}
+
+/* What statements may call, with how many arguments. */
+static const struct {
+    const char *name;
+    int count;
+    void (*call)(sqlite3_context *, int, sqlite3_value **);
+} functions[] = {
+    { "blink_save", 1, save_table },       { "blink_save", 2, save_table },
+    { "blink_open", 2, open_table },       { "blink_add", 3, add_to_value },
+    { "blink_change", 4, change_value },   { "blink_rows", 1, count_table },
+    { "blink_pages", 1, count_pages },     { "blink_free_pages", 1, count_free_pages },
+    { "blink_version", 0, tell_version },
+};
 
 static sqlite3_module module = {
     .iVersion = 2,
@@ -1045,8 +1279,7 @@ __attribute__((visibility("default"))) int sqlite3_blink_init(sqlite3 *db, char 
     /* Loaded once more, the connection keeps its tables. */
     if (!is_new) return SQLITE_OK;
     code = sqlite3_create_module_v2(db, "blink", &module, home, free_home);
-    if (code == SQLITE_OK) code = sqlite3_create_function(db, "blink_save", 1, flags, home, save_table, NULL, NULL);
-    if (code == SQLITE_OK) code = sqlite3_create_function(db, "blink_save", 2, flags, home, save_table, NULL, NULL);
-    if (code == SQLITE_OK) code = sqlite3_create_function(db, "blink_open", 2, flags, home, open_table, NULL, NULL);
+    for (size_t i = 0; i < sizeof functions / sizeof functions[0] && code == SQLITE_OK; i++)
+        code = sqlite3_create_function(db, functions[i].name, functions[i].count, flags, home, functions[i].call, NULL, NULL);
     return code;
 }

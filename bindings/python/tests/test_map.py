@@ -1,10 +1,12 @@
 """The package by itself, beside a dict, by threads, and by the mapping tests that Python brings along for its own types."""
 
 import array
+import copy
 import doctest
 import gc
 import os
 import pathlib
+import pickle
 import random
 import tempfile
 import threading
@@ -174,7 +176,7 @@ class Rows(unittest.TestCase):
         with self.assertRaisesRegex(NoRoom, "no room"):
             m.add(n)
         self.assertEqual((len(m), m.add(n - 1)), (n, n))
-        with self.assertRaisesRegex(NoRoom, f"no room; {n} pairs were put") as raised:
+        with self.assertRaisesRegex(NoRoom, f"no room in 8 pages; {n} pairs were put") as raised:
             Map(pages=8).put_many(array.array("Q", range(1000)), array.array("Q", range(1000)))
         self.assertIsInstance(raised.exception, (MemoryError, blink.Error))
 
@@ -193,7 +195,7 @@ class Rows(unittest.TestCase):
             self.assertFalse(m.closed)
         m.close()
         self.assertTrue(m.closed)
-        for call in (lambda: m[1], lambda: m.get(1), lambda: m.__setitem__(1, 1), lambda: m.pop(1), lambda: list(m), m.peekitem, lambda: m.insert(1, 1), lambda: m.change(1, 1, 1), lambda: m.add(1), lambda: m.update_value(1, abs), lambda: m.peekitem(0), lambda: list(reversed(m)), m.image, lambda: m.get_many(array.array("Q", [1]))):
+        for call in (lambda: m[1], lambda: m.get(1), lambda: m.__setitem__(1, 1), lambda: m.pop(1), lambda: list(m), m.peekitem, lambda: m.insert(1, 1), lambda: m.change(1, 1, 1), lambda: m.add(1), lambda: m.update_value(1, abs), lambda: m.peekitem(0), lambda: list(reversed(m)), m.image, lambda: m.get_many(array.array("Q", [1])), lambda: len(m), lambda: bool(m), lambda: m.free_pages):
             with self.assertRaisesRegex(Closed, "the map is closed"):
                 call()
         self.assertEqual(repr(m), "<Map, closed>")
@@ -228,8 +230,24 @@ class Images(unittest.TestCase):
         self.assertEqual((list(again.items()), len(again), again.pages), (list(m.items()), 1000, 512))
         self.assertEqual(m[999 * 999], 999)
 
+    def test_pickle(self):
+        m = Map({1: 10, TOP: 20}, pages=32, seats=3)
+        for again in (pickle.loads(pickle.dumps(m)), copy.deepcopy(m), copy.copy(m)):
+            again[2] = 5
+            self.assertEqual((list(again.items()), again.pages, again.seats), ([(1, 10), (2, 5), (TOP, 20)], 32, 3))
+        self.assertEqual(list(m), [1, TOP])
+
+    def test_pages_for_the_rows(self):
+        self.assertEqual((Map().pages, Map({1: 1}).pages), (4096, 4096))
+        for rows in ({k * SPREAD % 2**64: k for k in range(100_000)}, ((k * SPREAD % 2**64, k) for k in range(100_000))):
+            m = Map(rows)
+            self.assertEqual((len(m), m.pages), (100_000, 25_000))
+            self.assertTrue(0 < m.free_pages < 25_000)
+
     def test_path(self):
-        with Map(pages=512, path=self.path) as m:
+        with self.assertRaises(FileNotFoundError):
+            Map(pages=512, path=self.path)
+        with Map(pages=512, path=self.path, create=True) as m:
             self.assertFalse(self.path.exists())
             m.update((k, k + 1) for k in range(1000))
             m.save()
@@ -237,8 +255,12 @@ class Images(unittest.TestCase):
         self.assertTrue(m.closed)
         with Map.open(self.path) as m:
             self.assertEqual((len(m), m[4], m[5], m.pages), (1000, 5, 7, 512))
-        with Map(path=str(self.path)) as m:
-            self.assertEqual(len(m), 1000)
+        with Map(path=str(self.path), create=True) as m:
+            self.assertEqual((len(m), m.pages), (1000, 512))
+        with Map({1: 5}, path=self.path, pages=2000) as m:
+            self.assertEqual((len(m), m.pages, m[1], m[2]), (1000, 2000, 5, 3))
+        with self.assertRaisesRegex(NoRoom, "in 16 pages"):
+            Map(path=self.path, pages=16)
         self.assertEqual(os.listdir(self.folder.name), ["rows.image"])
         with self.assertRaises(FileNotFoundError):
             Map.open(self.path.with_name("none"))
@@ -255,7 +277,7 @@ class Images(unittest.TestCase):
         self.assertEqual(len(Map.open(self.path)), 2)
 
     def test_file_that_cannot_be_written(self):
-        m = Map({1: 10}, pages=16, path=self.path.with_name("no") / "such")
+        m = Map({1: 10}, pages=16, path=self.path.with_name("no") / "such", create=True)
         for name in ("save", "close"):
             with self.assertRaises(FileNotFoundError):
                 getattr(m, name)()
@@ -285,10 +307,21 @@ class Many(unittest.TestCase):
         self.assertEqual(list(out), [5, 7, 6])
         self.assertEqual(list(m.get_many(array.array("Q"))), [])
 
+    def test_lists_and_signed(self):
+        m = Map(pages=16)
+        m.put_many([3, 1, 2], (30, 10, 20))
+        m.put_many(array.array("q", [7]), array.array("q", [70]))
+        for keys in ([7, 2, 5], (7, 2, 5), array.array("q", [7, 2, 5])):
+            self.assertEqual(list(m.get_many(keys)), [70, 20, 0])
+        self.assertEqual(list(m), [1, 2, 3, 7])
+
     def test_refused(self):
         m, keys = Map(pages=16), array.array("Q", [1, 2])
-        for wrong in ([1], array.array("q", [1]), array.array("I", [1]), memoryview(array.array("Q", range(4)))[::2]):
+        for wrong in (5, array.array("I", [1]), memoryview(array.array("Q", range(4)))[::2], ["a"]):
             with self.assertRaises(TypeError):
+                m.get_many(wrong)
+        for wrong in ([-1], array.array("q", [5, -1])):
+            with self.assertRaises(OverflowError):
                 m.get_many(wrong)
         with self.assertRaisesRegex(ValueError, "out has 1 places, and there are 2 keys"):
             m.get_many(keys, out=array.array("Q", [0]))
@@ -310,8 +343,9 @@ class Many(unittest.TestCase):
         self.assertTrue((found == (asked % 3 == 0)).all())
         self.assertTrue((out[found] == asked[found] + 1).all() and (out[~found] == 0).all())
         self.assertTrue((numpy.asarray(m.get_many(keys)) == keys + numpy.uint64(1)).all())
+        self.assertEqual(list(m.get_many(numpy.arange(5))), [1, 0, 0, 4, 0])
         with self.assertRaises(TypeError):
-            m.get_many(numpy.arange(5))
+            m.get_many(numpy.arange(5, dtype=numpy.float64))
         self.assertEqual(m[numpy.uint64(3)], 4)
 
 

@@ -1,7 +1,8 @@
 """Several connections, each of its own thread, over one map, and one that saves it all the while: threads.py EXTENSION [TIMES].
 
 Each thread inserts a few rows that all share, puts rows of its own and takes some away, undoes changes, and lists its rows
-both ways. At the end nothing is lost, and each image that was saved has the shared rows that were there before."""
+both ways. At the end nothing is lost, and each image that was saved has the shared rows that were there before. Then eight connections
+count up the same ten rows, by UPDATE and by blink_add, and the sums are exact; and a ROLLBACK leaves what others have written since."""
 
 import os
 import sqlite3
@@ -10,13 +11,14 @@ import tempfile
 import threading
 
 THREADS, SHARED = 4, 3
+COUNTERS, COUNTED = 8, 10
 
 
-def connect(extension):
+def connect(extension, table="t USING blink(pages=8192, name=counted, seats=8)"):
     db = sqlite3.connect(":memory:", isolation_level=None, check_same_thread=False)
     db.enable_load_extension(True)
     db.load_extension(extension)
-    db.execute("CREATE VIRTUAL TABLE t USING blink(pages=8192, name=counted, seats=8)")
+    db.execute(f"CREATE VIRTUAL TABLE {table}")
     return db
 
 
@@ -64,6 +66,58 @@ def save(extension, path, running, failed, saved):
         failed.append(error)
 
 
+def again(db, *words):
+    """Makes a statement, once more where another connection has changed the row meanwhile; how often it was made."""
+    for count in range(1, 1_000_000):
+        try:
+            db.execute(*words).fetchall()
+            return count
+        except sqlite3.OperationalError as error:
+            if "another connection has changed the row" not in str(error):
+                raise
+    raise AssertionError("a statement was busy a million times")
+
+
+def count_up(db, times, tries, failed):
+    try:
+        for n in range(times):
+            tries.append(again(db, "UPDATE c SET v = v + 1 WHERE k = ?", (n % COUNTED,)))
+            db.execute("SELECT blink_add('c', ?, 1)", (-1 - n % COUNTED,)).fetchone()
+    except BaseException as error:
+        failed.append(error)
+
+
+def counted(extension, times):
+    """Counts by several connections, and says how often a statement was made once more."""
+    connections, failed, tries = [connect(extension, "c USING blink(pages=64, name=counters)") for _ in range(COUNTERS)], [], []
+    connections[0].executemany("INSERT INTO c VALUES(?, 0)", [(k,) for k in range(COUNTED)])
+    running = [threading.Thread(target=count_up, args=(db, times, tries, failed)) for db in connections]
+    for thread in running:
+        thread.start()
+    for thread in running:
+        thread.join()
+    if failed:
+        raise failed[0]
+    sums = [connections[0].execute(f"SELECT sum(v) FROM c WHERE k {side} 0").fetchone()[0] for side in (">=", "<")]
+    if sums != [COUNTERS * times, COUNTERS * times]:
+        raise AssertionError(f"the sums are {sums}, and wanted is {COUNTERS * times} twice")
+    one, other = connections[:2]
+    one.execute("BEGIN")
+    one.execute("UPDATE c SET v = 1 WHERE k IN (1, 2)")
+    one.execute("INSERT INTO c VALUES(500, 1), (501, 1)")
+    one.execute("DELETE FROM c WHERE k IN (3, 4)")
+    other.execute("UPDATE c SET v = 777 WHERE k IN (1, 500)")
+    other.execute("INSERT INTO c VALUES(3, 777)")
+    one.execute("ROLLBACK")
+    before = times * COUNTERS // COUNTED
+    rows = other.execute("SELECT k, v FROM c WHERE k BETWEEN 1 AND 4 OR k >= 500").fetchall()
+    if rows != [(1, 777), (2, before), (3, 777), (4, before), (500, 777)]:
+        raise AssertionError(f"after a rollback there are {rows}")
+    for db in connections:
+        db.close()
+    return sum(tries) - len(tries)
+
+
 def main(extension, times="2000"):
     times, failed, saved = int(times), [], []
     extension, kept = os.path.abspath(extension), connect(os.path.abspath(extension))
@@ -80,7 +134,8 @@ def main(extension, times="2000"):
     wanted = SHARED + THREADS * sum(1 for n in range(times) if n % 3)
     if rows != wanted:
         sys.exit(f"{rows} rows, and wanted are {wanted}")
-    print(f"{THREADS} connections, {rows} rows as wanted, {len(saved)} images saved meanwhile")
+    repeated = counted(extension, times)
+    print(f"{THREADS} connections, {rows} rows as wanted, {len(saved)} images saved meanwhile; {COUNTERS} count exactly, {repeated} times once more")
 
 
 if __name__ == "__main__":

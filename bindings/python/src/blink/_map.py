@@ -21,6 +21,8 @@ _UNSURE = lib.SHIM_UNSURE
 _find = lib.shim_find
 _new = ffi.new
 _NOTHING: Any = object()
+# The pages of a map that nobody has sized, and rows a page where only the rows are known: six surely fit, and some are to come.
+_PAGES, _ROWS_A_PAGE = 4096, 4
 
 
 class Error(Exception):
@@ -93,6 +95,14 @@ def _words(values: Iterable[Any], what: str) -> array[int]:
         return array("Q", [_word(value, what) for value in values])
 
 
+def _given(numbers: Any, what: str) -> Any:
+    """The numbers as a buffer of unsigned ones: a copy of what is a list, a tuple or a buffer of signed ones."""
+    if isinstance(numbers, (list, tuple)):
+        return _words(numbers, what)
+    view = memoryview(numbers)
+    return _words(view.tolist(), what) if view.ndim == 1 and view.format in ("q", "l") else view
+
+
 def _numbers(buffer: Any, what: str, count: int | None = None, *, is_written: bool = False) -> Any:
     """A buffer of unsigned 64-bit numbers for C, of so many."""
     view = memoryview(buffer)
@@ -122,9 +132,10 @@ class Map(MutableMapping[int, int]):
     Threads may share a map: each call of one key is one step of one plain map. An iteration is many calls: it is right
     whatever others change meanwhile, and no snapshot. len() is exact while no other thread writes.
 
-    `pages` is how much room there is, 4 to 2**28, which does not change: six rows a page surely fit, and NoRoom is raised
-    behind that. `seats` is how many calls may be underway at once, 1 to 64; others wait for their turn. With `path` the
-    map begins with the image in that file, where there is one, and save() and close() write it there.
+    `pages` is how much room there is, 4 to 2**28, which does not change: 6 * pages - 10 rows surely fit, and NoRoom is raised
+    behind that. Where it is not given there is room for the rows that are, and as many as the image has where there is one.
+    `seats` is how many calls may be underway at once, 1 to 64; others wait for their turn. With `path` the map begins with the
+    image in that file, and save() and close() write it there; with `create` the file need not be there.
 
     In the child of a fork a map is closed, if the program had threads: the library cannot be used there.
     """
@@ -135,15 +146,25 @@ class Map(MutableMapping[int, int]):
         self,
         rows: Mapping[int, int] | Iterable[tuple[int, int]] = (),
         *,
-        pages: int = 4096,
+        pages: int | None = None,
         path: str | os.PathLike[str] | None = None,
         seats: int = 8,
+        create: bool = False,
     ) -> None:
         image = None
-        if path is not None and os.path.exists(path):
+        if path is not None and (os.path.exists(path) or not create):
             with open(path, "rb") as file:
                 image = file.read()
-        self._begin(pages, seats, image, path)
+        if pages is None and image is None:
+            if not hasattr(rows, "__len__"):
+                rows = list(rows)
+            pages = max(_PAGES, len(rows) // _ROWS_A_PAGE)
+        if pages is None or image is None or lib.blink_image_length(pages) == len(image):
+            self._begin(pages or _PAGES, seats, image, path)
+        else:
+            with Map.from_image(image, seats=1) as old:
+                self._begin(pages, seats, None, path)
+                self.update(old)
         self.update(rows)
 
     def _begin(self, pages: int, seats: int, image: Any, path: Any) -> None:
@@ -163,9 +184,7 @@ class Map(MutableMapping[int, int]):
 
     @classmethod
     def open(cls, path: str | os.PathLike[str], *, seats: int = 8) -> Map:
-        """The map of the image in a file, which is there, and where save() and close() write it again."""
-        if not os.path.exists(path):
-            raise FileNotFoundError(2, "there is no image", os.fspath(path))
+        """The map of the image in a file, where save() and close() write it again."""
         return cls(path=path, seats=seats)
 
     @classmethod
@@ -316,11 +335,12 @@ class Map(MutableMapping[int, int]):
         """The values of many keys, by one call in C that fetches their pages side by side: an array('Q'), with `default` for keys
         that are not there.
 
-        `keys` is array('Q'), numpy.uint64 or another buffer of unsigned 64-bit numbers. With `out`, another such buffer of as
-        many places, the values are written there and it is the answer; what stands at the place of an absent key stays.
-        `found`, a buffer of as many bytes, gets 1 where the key is there and else 0. Each key is one step of its own.
+        `keys` is array('Q'), numpy.uint64 or another buffer of unsigned 64-bit numbers; a list or signed numbers are copied into
+        one first. With `out`, a buffer of unsigned numbers of as many places, the values are written there and it is the answer;
+        what stands at the place of an absent key stays. `found`, a buffer of as many bytes, gets 1 where the key is there and
+        else 0. Each key is one step of its own.
         """
-        asked = _numbers(keys, "keys")
+        asked = _numbers(_given(keys, "key"), "keys")
         count = len(asked)
         if out is None:
             out = array("Q", [_word(default, "default")]) * count
@@ -332,9 +352,9 @@ class Map(MutableMapping[int, int]):
         return out
 
     def put_many(self, keys: Any, values: Any) -> None:
-        """Sets the values of many keys in their order, by one call in C; both are buffers as in get_many. NoRoom says how
+        """Sets the values of many keys in their order, by one call in C; both are given as in get_many. NoRoom says how
         many were set before."""
-        self._put_part(keys, values, 0)
+        self._put_part(_given(keys, "key"), _given(values, "value"), 0)
 
     def _put_part(self, keys: Any, values: Any, before: int) -> int:
         """Sets values, behind so many others: how many these are together."""
@@ -343,7 +363,7 @@ class Map(MutableMapping[int, int]):
         done = _new("size_t *")
         code = lib.shim_put_many(self._at, asked, given, len(asked), done)
         if code != _OK:
-            _refuse(code, f"; {before + done[0]} pairs were put" if code == _NO_ROOM else "")
+            _refuse(code, f" in {self.pages} pages; {before + done[0]} pairs were put" if code == _NO_ROOM else "")
         return before + len(asked)
 
     def update(self, rows: Any = (), /, **names: Any) -> None:
@@ -450,7 +470,8 @@ class Map(MutableMapping[int, int]):
                 return key, gone
 
     def __len__(self) -> int:
-        return int(lib.shim_length(self._at))
+        rows = int(lib.shim_length(self._at))
+        return rows if rows >= 0 else _refuse(lib.BLINK_CLOSED)
 
     def __repr__(self) -> str:
         if self.closed:
@@ -465,6 +486,13 @@ class Map(MutableMapping[int, int]):
         return type(self)(self, pages=self.pages, seats=self.seats)
 
     __copy__ = copy
+
+    def __deepcopy__(self, memo: dict[int, Any]) -> Map:
+        return self.copy()
+
+    def __reduce__(self) -> tuple[Any, ...]:
+        """Pickles the map's image, as image() makes it: what is read again has the same rows and pages, and no path."""
+        return _of_image, (type(self), self.image(), self.seats)
 
     def __or__(self, other: Mapping[int, int]) -> Map:
         if not isinstance(other, Mapping):
@@ -537,6 +565,12 @@ class Map(MutableMapping[int, int]):
         return int(self._at.pages)
 
     @property
+    def free_pages(self) -> int:
+        """How many pages are free, about: others take and free some. Six rows surely fit into each but for the last two."""
+        free = int(lib.shim_free_pages(self._at))
+        return free if free >= 0 else _refuse(lib.BLINK_CLOSED)
+
+    @property
     def seats(self) -> int:
         """How many calls may be underway at once."""
         return int(self._at.count)
@@ -578,6 +612,10 @@ class _Values(ValuesView[int]):
 
     def __reversed__(self) -> Iterator[int]:
         return (value for _, value in self._mapping._items(0, _MOST, True))  # type: ignore[attr-defined]
+
+
+def _of_image(kind: type[Map], image: bytes, seats: int) -> Map:
+    return kind.from_image(image, seats=seats)
 
 
 def _lost(image: bytearray, text: str) -> NoReturn:

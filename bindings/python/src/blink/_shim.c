@@ -9,12 +9,15 @@
 /* What find answers where there is no value to tell: the key may be absent, or have just this value. */
 #define SHIM_UNSURE 0x8F3A61C5D27E90B4u
 
+/* What a closed map has in place of the number of its rows. */
+#define SHIM_CLOSED INT64_MIN
+
 typedef struct shim_map {
     blink_seat *seats;
     uint64_t free;    /* a bit for each seat that is in no call */
     uint32_t waiting; /* how many threads wait for a seat */
     uint32_t pages, count;
-    int64_t rows; /* how many rows there are: the library would go along them */
+    int64_t rows; /* how many rows there are: the library would go along them; SHIM_CLOSED where the map is closed */
     pthread_mutex_t lock;
     pthread_cond_t given;
 } shim_map;
@@ -123,7 +126,7 @@ static void shim_close(shim_map *map) {
     uint32_t at;
     shim_take_all(map);
     for (at = 0; at < map->count; at++) blink_close(&map->seats[at]);
-    map->rows = 0;
+    map->rows = SHIM_CLOSED;
     shim_give(map, shim_all(map));
 }
 
@@ -144,7 +147,7 @@ static int32_t shim_image(shim_map *map, uint8_t *bytes, size_t room, bool *goes
     answer = blink_close_image(map->seats, map->count, bytes, room, &length);
     if (answer == BLINK_OK && *goes_on)
         *goes_on = blink_open_image(bytes, (size_t)length, map->seats, map->count) == BLINK_OK;
-    if (answer == BLINK_OK && !*goes_on) map->rows = 0;
+    if (answer == BLINK_OK && !*goes_on) map->rows = SHIM_CLOSED;
     shim_give(map, shim_all(map));
     return answer;
 }
@@ -268,7 +271,15 @@ static int32_t shim_put_many(shim_map *map, const uint64_t *keys, const uint64_t
     return answer == BLINK_PRESENT ? BLINK_OK : answer;
 }
 
+/* How many rows there are, or -1 where the map is closed. */
 static int64_t shim_length(const shim_map *map) {
     int64_t rows = __atomic_load_n(&map->rows, __ATOMIC_RELAXED);
-    return rows < 0 ? 0 : rows;
+    return rows == SHIM_CLOSED ? -1 : rows < 0 ? 0 : rows;
+}
+
+/* How many pages are free, about, or -1 where the map is closed. */
+static int64_t shim_free_pages(shim_map *map) {
+    blink_stats stats = { 0, 0, 0, 0 };
+    SHIM_CALL(map, answer = blink_stat(seat, &stats))
+    return answer == BLINK_OK ? (int64_t)stats.free_pages : -1;
 }

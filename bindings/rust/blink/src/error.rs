@@ -66,6 +66,21 @@ impl fmt::Display for NoRoom {
 
 impl Error for NoRoom {}
 
+/// No page or frame was free behind so many rows, which were put.
+#[derive(Clone, Copy, Debug, PartialEq, Eq)]
+pub struct NoRoomAfter {
+    /// How many rows were put.
+    pub put: usize,
+}
+
+impl fmt::Display for NoRoomAfter {
+    fn fmt(&self, f: &mut fmt::Formatter<'_>) -> fmt::Result {
+        write!(f, "no room; {} rows were put", self.put)
+    }
+}
+
+impl Error for NoRoomAfter {}
+
 /// What keeps [`Handle::compare_exchange`](crate::Handle::compare_exchange) from its change.
 #[derive(Clone, Copy, Debug, PartialEq, Eq)]
 pub enum ExchangeError {

@@ -26,19 +26,25 @@
 #![deny(unsafe_op_in_unsafe_fn)]
 
 mod error;
+mod files;
 mod range;
 mod update;
 
 pub use blink_sys::blink_room as Room;
-pub use error::{CloseError, ExchangeError, NoRoom, OpenError};
+pub use error::{CloseError, ExchangeError, NoRoom, NoRoomAfter, OpenError};
 pub use range::Range;
 
 use blink_sys::*;
 use std::cell::UnsafeCell;
 use std::ffi::CStr;
 use std::fmt;
+use std::io;
 use std::ops::{Bound, RangeBounds};
+use std::path::Path;
 use std::sync::{Arc, Mutex, MutexGuard, PoisonError};
+
+/// The most rows of one leaf.
+const LEAF_ROWS: usize = 14;
 
 /// A seat that is closed when it is dropped.
 #[repr(transparent)]
@@ -131,6 +137,26 @@ impl Map {
         // SAFETY: as above, and the image is a slice.
         let code = unsafe { blink_open_image(image.as_ptr(), image.len(), seats.as_mut_ptr(), seats.len()) };
         opened(code, seats)
+    }
+
+    /// A map that begins with the rows of the image in a file, as [`Map::save`] and `blink dump` make it.
+    ///
+    /// # Errors
+    ///
+    /// Where the file cannot be read; where the map cannot be opened the [`OpenError`] is the source of this one.
+    pub fn open(path: impl AsRef<Path>, handles: usize) -> io::Result<Map> {
+        Map::from_image(&std::fs::read(path)?, handles).map_err(|why| io::Error::new(io::ErrorKind::InvalidData, why))
+    }
+
+    /// Writes an image of the map's rows to a file while others work, through a handle that is free: to a new file first, which takes
+    /// its place. Each key is as the map stood at one moment of it; it is no snapshot.
+    ///
+    /// # Errors
+    ///
+    /// Where no handle is free, there is no memory, or the file cannot be written, which then is as it was.
+    pub fn save(&self, path: impl AsRef<Path>) -> io::Result<()> {
+        let handle = self.handle().ok_or_else(|| io::Error::other("no handle of the map is free"))?;
+        files::replace(path.as_ref(), &handle.image()?)
     }
 
     /// A handle, if one is free.
@@ -269,6 +295,31 @@ impl Handle {
         }
     }
 
+    /// Puts the rows in their order, whatever is there.
+    ///
+    /// # Errors
+    ///
+    /// Where no page or frame was free: the error says how many rows were put before.
+    pub fn put_many(&self, rows: impl IntoIterator<Item = (u64, u64)>) -> Result<(), NoRoomAfter> {
+        for (put, (key, value)) in rows.into_iter().enumerate() {
+            self.put(key, value).map_err(|NoRoom| NoRoomAfter { put })?;
+        }
+        Ok(())
+    }
+
+    /// Takes all rows away, one by one: how many. Rows that others put meanwhile may stay.
+    ///
+    /// # Errors
+    ///
+    /// Where no frame was free; the rows before are gone then.
+    pub fn clear(&self) -> Result<u64, NoRoom> {
+        let mut taken = 0;
+        for (key, _) in self {
+            taken += u64::from(self.remove(key)?.is_some());
+        }
+        Ok(taken)
+    }
+
     /// Takes the key away: the value that it had.
     ///
     /// # Errors
@@ -372,6 +423,35 @@ impl Handle {
         match unsafe { blink_count(self.at(), low, high, &mut rows) } {
             BLINK_OK => rows,
             code => error::unexpected(code),
+        }
+    }
+
+    /// An image of the map's rows while others work, for [`Map::from_image`] or a file: each key as the map stood at one moment of
+    /// it. It is no snapshot.
+    ///
+    /// # Errors
+    ///
+    /// Where there is no memory.
+    pub fn image(&self) -> io::Result<Vec<u8>> {
+        // SAFETY: the function takes any number.
+        let mut bytes = vec![0; unsafe { blink_image_length(self.shared.pages) } as usize];
+        loop {
+            // Some more, since others may insert; and a leaf's, by which the scan reads.
+            let mut rows = vec![blink_row::default(); self.count(..) as usize * 9 / 8 + LEAF_ROWS];
+            let mut length = 0;
+            // SAFETY: the seat is this handle's alone, and each other pointer is of a vector, with its length behind it, or a variable.
+            let code = unsafe {
+                let (row, byte) = (rows.as_mut_ptr(), bytes.as_mut_ptr());
+                blink_save(self.at(), LEAF_ROWS as u32, row, rows.len(), byte, bytes.len(), &mut length)
+            };
+            match code {
+                BLINK_OK => {
+                    bytes.truncate(length as usize);
+                    return Ok(bytes);
+                }
+                BLINK_FEW_ROWS => {}
+                code => return Err(io::Error::new(io::ErrorKind::OutOfMemory, error::text(code))),
+            }
         }
     }
 

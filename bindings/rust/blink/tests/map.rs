@@ -1,4 +1,4 @@
-use blink::{CloseError, ExchangeError, Handle, Map, NoRoom, OpenError};
+use blink::{CloseError, ExchangeError, Handle, Map, NoRoom, NoRoomAfter, OpenError};
 use std::collections::BTreeMap;
 use std::ops::Bound;
 
@@ -222,4 +222,41 @@ fn handles_move() {
     drop(map);
     std::thread::spawn(move || assert_eq!(handle.get(1), Some(10))).join().unwrap();
     assert!(!blink::library_version().is_empty());
+}
+
+#[test]
+fn many_rows_and_none() {
+    let map = Map::new(64, 1).unwrap();
+    let handle = map.handle().unwrap();
+    handle.put_many((0..100).map(|n| (n * 3, n))).unwrap();
+    handle.put_many([(3, 7), (5, 8)]).unwrap();
+    assert_eq!((handle.count(..), handle.get(3), handle.get(5)), (101, Some(7), Some(8)));
+    assert_eq!(handle.clear(), Ok(101));
+    assert_eq!((handle.first(), handle.clear()), (None, Ok(0)));
+    let small = Map::new(4, 1).unwrap();
+    let NoRoomAfter { put } = small.handle().unwrap().put_many((0..1000).map(|n| (n, n))).unwrap_err();
+    assert_eq!(small.handle().unwrap().count(..), put as u64);
+}
+
+#[test]
+fn saved_and_opened() {
+    let folder = std::env::temp_dir().join(format!("blink-map-{}", std::process::id()));
+    std::fs::create_dir(&folder).unwrap();
+    let path = folder.join("rows.image");
+    let map = Map::new(64, 2).unwrap();
+    let handle = map.handle().unwrap();
+    handle.put_many([(1, 10), (u64::MAX, 20)]).unwrap();
+    map.save(&path).unwrap();
+    handle.put(2, 30).unwrap();
+    map.save(&path).unwrap();
+    let again = Map::open(&path, 1).unwrap();
+    let rows: Vec<(u64, u64)> = again.handle().unwrap().iter().collect();
+    assert_eq!((rows, again.pages()), (vec![(1, 10), (2, 30), (u64::MAX, 20)], 64));
+    assert_eq!(std::fs::read_dir(&folder).unwrap().count(), 1);
+    let _second = map.handle().unwrap();
+    assert!(map.save(&path).unwrap_err().to_string().contains("no handle"));
+    assert!(Map::open(folder.join("none"), 1).is_err());
+    std::fs::write(&path, b"no image").unwrap();
+    assert_eq!(Map::open(&path, 1).unwrap_err().to_string(), OpenError::Image.to_string());
+    std::fs::remove_dir_all(&folder).unwrap();
 }
