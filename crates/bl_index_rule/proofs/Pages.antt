@@ -113,11 +113,11 @@ running R s f n st d runs at go =
 put_once : {l : Layout} (s : Pages PassState) (f : Simulates s) → IsOrderly l s → (x : ℕ) (c : Page) (y version : ℕ) → get_elem? (set s.versions x (slice_index s.versions x + 1)) y ≡ some version → x < length s.contents → version ≡ puts_at y f.world.trail + put_of y (Act.Put x c)
 put_once s f o x c y version e low = ⊎_elim
     (λ (z : (y ≡ x) × (slice_index s.versions x + 1 ≡ version)).
-        let all = o.contents in
-        let counted = o.versions in
-        let was : slice_index s.versions x ≡ puts_at x f.world.trail = f.versions x (slice_index s.versions x) (index_there s.versions x 0 (omega arith)) in
-        let one : put_of x (Act.Put x c) ≡ 1 = one_put x (Act.Put x c) c refl in
-        subst (λ (k : ℕ). version ≡ puts_at k f.world.trail + put_of k (Act.Put x c)) (sym z.0) (let now = z.1 in omega arith))
+    let all = o.contents in
+    let counted = o.versions in
+    let was : slice_index s.versions x ≡ puts_at x f.world.trail = f.versions x (slice_index s.versions x) (index_there s.versions x 0 (omega arith)) in
+    let one : put_of x (Act.Put x c) ≡ 1 = one_put x (Act.Put x c) c refl in
+    subst (λ (k : ℕ). version ≡ puts_at k f.world.trail + put_of k (Act.Put x c)) (sym z.0) (let now = z.1 in omega arith))
     (λ (z : (y ≢ x) × (get_elem? s.versions y ≡ some version)). as_often s f y version (put_of y (Act.Put x c)) z.1 (other_put x y c z.0))
     (at_set s.versions x y (slice_index s.versions x + 1) version e)
 
