@@ -1,5 +1,5 @@
-//! The load of `bench_index` on a plain Rust `RwLock<BTreeMap>`, for comparison. `index_twin ROWS THREADS FINDS MIXED SCANS`
-//! prints what `bench_index` prints. `index_twin large ROWS THREADS CALLS rising|random` does the load of `bench_map`, and prints what that
+//! The load of `bench_map index` on a plain Rust `RwLock<BTreeMap>`, for comparison. `index_twin ROWS THREADS FINDS MIXED SCANS`
+//! prints what `bench_map index` prints. `index_twin large ROWS THREADS CALLS rising|random` does the load of `bench_map`, and prints what that
 //! prints of rows, finds and scans.
 
 use std::collections::BTreeMap;

@@ -1,6 +1,6 @@
 //! Decides whether recorded calls of a map are linearizable, for `checks/linearizable`. It knows nothing of the index or its proof.
 //!
-//!   linearizable < LINES          lines of `record_calls`: THREAD BEGIN END KEY ASKED REPLY, and `round` behind each round; the
+//!   linearizable < LINES          lines of `bench_map record`: THREAD BEGIN END KEY ASKED REPLY, and `round` behind each round; the
 //!                                 reply is `Unknown` of a call that was given up, whose end is when it was settled
 //!   linearizable plant FAULT      plants a fault once in 10,000 calls of a map under a lock, and says whether it is seen:
 //!                                 `none`, `stale` (a search of an old copy), `twice` (an insertion in two steps), `lost` (a

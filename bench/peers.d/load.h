@@ -1,4 +1,4 @@
-// The load of `bench_index` on another map: PEER ROWS THREADS FINDS MIXED SCANS prints what `bench_index` prints. A peer has insert, find, erase
+// The load of `bench_map index` on another map: PEER ROWS THREADS FINDS MIXED SCANS prints what `bench_map index` prints. A peer has insert, find, erase
 // and list, each of which any thread may call.
 #pragma once
 #include <atomic>

@@ -1,4 +1,4 @@
-/* Writes down calls of maps through blink.h, as `record_calls` does for the library in Rattle, for the checker of checks/linearizable:
+/* Writes down calls of maps through blink.h, as `bench_map record` does for the library in Rattle, for the checker of checks/linearizable:
  * record SECONDS PAGES THREADS KEYS CALLS SEED OFTEN. One map after the other is opened, for so many seconds, and one at least. In each of the
  * three rounds of a map so many threads make so many calls each, on few keys: searches, insertions, puts, deletions, changes, and scans of
  * some keys side by side, which tell of each key that they pass; and blink_add and blink_update, of which what they have done is written

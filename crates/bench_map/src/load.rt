@@ -54,7 +54,7 @@ enum Part {
 
 impl Load {
     fn read(words: &[String]) -> Option<Load> {
-        let [_, pages, rows, threads, calls, order, group @ ..] = words else {
+        let [pages, rows, threads, calls, order, group @ ..] = words else {
             return None;
         };
         let group = match group {

@@ -24,7 +24,7 @@ struct Load {
 
 impl Load {
     fn read(words: &[String]) -> Option<Load> {
-        let [_, _, rows, living, step] = words else {
+        let [_, rows, living, step] = words else {
             return None;
         };
         Some(Load {

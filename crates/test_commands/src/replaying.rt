@@ -1,5 +1,5 @@
 //! The command `replay` over streams that fail or have no end, and where memory is refused; paths that are no file, and arguments that are
-//! no text. What `replay` prints for scripts is compared by `test_worked_scripts`.
+//! no text. What `replay` prints for scripts is compared by `test_worked`.
 
 use crate::streams::Full;
 use bl_cli_commands::{

@@ -1,6 +1,6 @@
 //! Tests of the calls of an index that need threads or want of memory: two threads that search and insert, eight whose passes meet, a scan
 //! beside four that write and a close after it, a scan whose memory is refused, writers that stop half-way. Calls of one thread are lines
-//! of `test_worked_calls`.
+//! of `test_worked`.
 //!
 //! They stand apart from what they test, and nothing else uses them: whatever is built on the index need not wait until these tests
 //! are proved. What a process on its way holds back is tested with the hands of a store, in `test_store_rule`. What stands on the index

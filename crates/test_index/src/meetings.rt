@@ -8,7 +8,6 @@ use bl_index::{Index, KeyReply, Pass};
 use std::sync::Wait;
 use std::thread;
 use std::thread::Threads;
-use test_following::follow;
 
 /// How many threads insert keys.
 const THREADS: u64 = 8;
@@ -21,8 +20,7 @@ fn put<R: Wait>(rt: &R, index: &Index, pass: &mut Pass, key: u64)
     requires { IsPassOf index.now pass.old }
     ensures { IsPassOf index.now pass.new }
 {
-    let (_reply, hint) = index.insert(rt, pass, key, 1000 - key.min(1000));
-    let _merged = follow(rt, index, pass, hint);
+    let (_reply, _posted, _hint) = index.insert_posting(rt, pass, key, 1000 - key.min(1000));
 }
 
 /// Inserts every eighth key, from the thread's own place on.

@@ -4,14 +4,14 @@ ghost use Rattle.std.specs.Prelude.{All};
 ghost use Rattle.bl_index.specs.Calls.{IsPassOf};
 
 use crate::calls::opened;
-use bl_index::{Index, Pass, ScanFault};
+use bl_index::{Hint, Index, Pass, ScanFault};
+use bl_model::limits::MOST_LEVELS;
 use std::alloc::Global;
 use std::sync::Wait;
 use std::sync::atomic::{AtomicU64, Ordering};
 use std::test::Fail;
 use std::thread;
 use std::thread::Threads;
-use test_following::follow;
 
 /// How many keys are written beside a scan, or are there from the beginning.
 pub const KEYS: u64 = 2_000;
@@ -86,6 +86,21 @@ pub fn kept(rows: &[(u64, u64)]) -> u64 {
         .count() as u64
 }
 
+/// Posts or compresses as the hint asks, and goes on with the hints that this gives, one for each level at most.
+fn follow<R: Wait>(rt: &R, index: &Index, pass: &mut Pass, hint: Option<Hint>)
+    requires { IsPassOf index.now pass.old }
+    ensures { IsPassOf index.now pass.new }
+{
+    let mut hint = hint;
+    for _level in 0..MOST_LEVELS {
+        hint = match hint {
+            None => return,
+            Some(post @ Hint::Post { .. }) => index.post(rt, pass, post).1,
+            Some(thin) => index.compress(rt, pass, thin).1,
+        };
+    }
+}
+
 /// Inserts a key with itself, or takes it away.
 fn change<R: Wait>(rt: &R, index: &Index, pass: &mut Pass, key: u64, inserts: bool)
     requires { IsPassOf index.now pass.old }
@@ -96,7 +111,7 @@ fn change<R: Wait>(rt: &R, index: &Index, pass: &mut Pass, key: u64, inserts: bo
     } else {
         index.delete(rt, pass, key)
     };
-    let _merged = follow(rt, index, pass, hint);
+    follow(rt, index, pass, hint);
     index.sweep(pass);
 }
 

@@ -1,4 +1,4 @@
-//! Scripts in pieces, kinds that are not there, and reads that fail. What each line means stands in `test_worked_scripts`.
+//! Scripts in pieces, kinds that are not there, and reads that fail. What each line means stands in `test_worked`.
 
 use bl_model::Watched;
 use bl_replay_script::{Kinds, Script, ScriptFault, has_one_reading, read_script};

@@ -1,10 +1,11 @@
 //! Answers in words.
 
+use crate::saying::{count, said};
+use crate::words::shown_words;
 use bl_check::{Fault, Report};
 use bl_page::Page;
 use bl_serve_lines::print::push_number;
 use std::alloc::{AllocError, Global};
-use test_worked_lines::{count, said, shown_words};
 
 pub fn yes(alloc: Global, is_so: bool) -> Result<Vec<u8>, AllocError> {
     said(alloc, if is_so { "yes" } else { "no" })

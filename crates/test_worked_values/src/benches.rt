@@ -1,8 +1,8 @@
 //! The calls on values, and behind a line of their own those on processes.
 
+use crate::saying::said;
 use crate::{calls, processes};
 use std::alloc::{AllocError, Global};
-use test_worked_lines::said;
 
 /// What the calls on values and those on processes are made on, and which of them are made now.
 #[derive(Drop)]

@@ -3,10 +3,11 @@
 use crate::checks::Draft;
 use crate::maps::{applied, op_of};
 use crate::pages::{child, covers, drop_row, even, merge, read, row, with};
+use crate::saying::said;
 use crate::ways::way;
+use crate::words::numbers_in;
 use bl_model::PlainMap;
 use std::alloc::{AllocError, Global};
-use test_worked_lines::{numbers_in, said};
 
 /// The image in the making, and the map.
 #[derive(Drop)]

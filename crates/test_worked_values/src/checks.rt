@@ -1,12 +1,13 @@
 //! Images in the making, and what the checker finds in them.
 
 use crate::answers::verdict;
+use crate::saying::{count, said};
+use crate::words::{page_words, shown_words};
 use bl_check::{Fault, check, load};
 use bl_image::{ImageFault, read};
 use bl_page::Page;
 use bl_serve_lines::print::push_number;
 use std::alloc::{AllocError, Global};
-use test_worked_lines::{count, page_words, said, shown_words};
 
 /// An image of which each page is given by its words.
 #[derive(Drop)]

@@ -1,10 +1,11 @@
 //! Calls on pages.
 
 use crate::answers::{maybe, page as page_text, two_pages, yes};
+use crate::saying::said;
+use crate::words::page_words;
 use bl_page::{Page, from_words, is_within, listed_with, words_from};
 use bl_rearrange::{Evened, Fitted, Side, evened, merged, with_pair, without};
 use std::alloc::{AllocError, Global};
-use test_worked_lines::{page_words, said};
 
 /// The page that a pair is moved to where a page is split.
 const NEW: u32 = 2;

@@ -1,9 +1,10 @@
 //! Calls on processes, by their words.
 
+use crate::saying::said;
 use crate::trees::{Tree, miss, refuse};
+use crate::words::numbers_in;
 use bl_proc::{Find, Proc};
 use std::alloc::{AllocError, Global};
-use test_worked_lines::{numbers_in, said};
 
 /// More turns than any process of a small tree has.
 const ENOUGH: u64 = 99;

@@ -1,10 +1,11 @@
 //! Pages of a tree, and processes that run over them.
 
+use crate::saying::{observed, said};
+use crate::words::{page_words, shown_words};
 use bl_page::{Page, from_words};
 use bl_proc::{Action, Find, Process, Reader, Seen};
 use bl_serve_lines::print::push_number;
 use std::alloc::{AllocError, Global};
-use test_worked_lines::{observed, page_words, said, shown_words};
 
 /// How many pages there are.
 const PAGES: u32 = 8;

@@ -1,11 +1,12 @@
 //! What processes read of a page in its words.
 
 use crate::answers::{maybe, numbered};
+use crate::saying::{count, said};
+use crate::words::page_words;
 use bl_page::{Page, from_words};
 use bl_proc_routes::{Step, count_of, level_in, levels_in, row_in, step_in, top_in};
 use bl_proc_steps::Approach;
 use std::alloc::{AllocError, Global};
-use test_worked_lines::{count, page_words, said};
 
 fn page_of(front: &[u64]) -> Option<Page> {
     from_words(&page_words(front)).ok()

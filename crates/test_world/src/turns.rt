@@ -1,5 +1,5 @@
 //! Faults, turns that are chosen, and turns that are not fit and that no script can give. Whole runs, event by event, are scripts
-//! of `test_worked_scripts`.
+//! of `test_worked`.
 
 use crate::worlds::{filled, find, opened, run, step};
 use bl_world::{Act, Turn, WorldFault};

@@ -1,5 +1,5 @@
-//! The load of `bench_index` on concread's `BptreeMap`, a B+-tree of versions: readers see a snapshot, one writer at a time copies the nodes on
-//! its way. `concread_load ROWS THREADS FINDS MIXED SCANS` prints what `bench_index` prints.
+//! The load of `bench_map index` on concread's `BptreeMap`, a B+-tree of versions: readers see a snapshot, one writer at a time copies the nodes on
+//! its way. `concread_load ROWS THREADS FINDS MIXED SCANS` prints what `bench_map index` prints.
 
 use concread::bptree::BptreeMap;
 use std::env;

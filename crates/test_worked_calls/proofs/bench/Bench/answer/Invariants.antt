@@ -1,5 +1,0 @@
-use Rattle.test_worked_calls.specs.Owning.{IsFit}
-use Rattle.test_worked_calls.proofs.bench.Bench.answer.Given as goal
-
-abbrev pub invariant-loop-round : goal.invariant-loop-round
-invariant-loop-round g l = IsFit l.self

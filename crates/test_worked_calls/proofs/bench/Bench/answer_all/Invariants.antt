@@ -1,5 +1,0 @@
-use Rattle.test_worked_calls.specs.Owning.{IsFit}
-use Rattle.test_worked_calls.proofs.bench.Bench.answer_all.Given as goal
-
-abbrev pub invariant-loop-call : goal.invariant-loop-call
-invariant-loop-call g l = IsFit l.self
