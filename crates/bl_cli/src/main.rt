@@ -59,7 +59,17 @@ fn carry_out<T: Threads + Wait + Sync>(
         Ok(Invocation::Draw(file, svg)) => Ok(draw(rt, file.as_str(), svg)),
         Ok(Invocation::Replay(file)) => Ok(replay(rt, file.as_str())),
         Ok(Invocation::Nothing) => Ok(ExitCode::from(2)),
-        Err(error) => refuse(rt, error),
+        Err(error) => {
+            let is_of_pages = error.kind() == ErrorKind::ValueValidation
+                && words.iter().any(|word| word.starts_with("--pages"));
+            let ended = refuse(rt, error);
+            if is_of_pages {
+                let _ = eprintln!(rt;
+                    "  tip: an index of more than 65536 pages is opened by --large N"
+                );
+            }
+            ended
+        }
     }
 }
 

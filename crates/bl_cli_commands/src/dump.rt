@@ -4,6 +4,7 @@ ghost use Rattle.std.specs.Prelude.{◌≡◌};
 ghost use Rattle.bl_cli_commands.specs.Statuses.{status_of_dump};
 
 use crate::kinds::kind_of;
+use crate::piped::Piped;
 use bl_image::Image;
 use bl_model::Watched;
 use std::alloc::{AllocError, Global};
@@ -188,22 +189,29 @@ fn keep_rights<R: Files>(rt: &R, file: &R::File, new: &str, old: &Metadata) -> i
     file.set_permissions(old.permissions())
 }
 
-/// Writes the image to a file, and waits until the system says that it is kept: whether all went well.
-fn fill<F: Write + OpenFile + Drop>(file: F, image: &Image) -> bool {
-    let mut writer = Watched::new(file);
-    if image.write(&mut writer).is_err() {
-        return false;
+/// Writes the image to a file, and waits until the system says that it is kept.
+fn fill<F: Write + OpenFile + Drop>(file: F, image: &Image) -> io::Result<()> {
+    let mut writer = Watched::new(Piped::new(file));
+    let written = image.write(&mut writer);
+    let piped = writer.into_inner();
+    if written.is_err() {
+        return Err(piped.why());
     }
-    writer.into_inner().sync_all().is_ok()
+    piped.into_inner().sync_all()
 }
 
-/// Whether the new file has come to hold the image, with the rights of the old file.
-fn complete<R: Files>(rt: &R, file: R::File, new: &str, target: &Target, image: &Image) -> bool {
-    let has_rights = match &target.old {
-        Some(old) => keep_rights(rt, &file, new, old).is_ok(),
-        None => true,
-    };
-    has_rights && fill(file, image)
+/// Has the new file hold the image, with the rights of the old file.
+fn complete<R: Files>(
+    rt: &R,
+    file: R::File,
+    new: &str,
+    target: &Target,
+    image: &Image,
+) -> io::Result<()> {
+    if let Some(old) = &target.old {
+        keep_rights(rt, &file, new, old)?;
+    }
+    fill(file, image)
 }
 
 /// The folder of a file.
@@ -256,10 +264,10 @@ pub fn replace_file<R: Files + AllocGlobal>(
     let alloc = rt.alloc();
     let target = target_of(rt, path)?;
     let (file, new) = make_beside(rt, &target, process)?;
-    if !complete(rt, file, new.as_str(), &target, image) {
+    if let Err(error) = complete(rt, file, new.as_str(), &target, image) {
         // Where it cannot be removed either, it is left.
         let _ = fs::remove_file(rt, new.as_str());
-        return Err(DumpFault::Fill(new));
+        return Err(DumpFault::Fill(observed(alloc, new.as_str(), &error)?));
     }
     if let Err(error) = fs::rename(rt, new.as_str(), target.path.as_str()) {
         let _ = fs::remove_file(rt, new.as_str());

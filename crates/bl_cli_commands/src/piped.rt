@@ -1,4 +1,4 @@
-//! A writer that keeps whether its reader has gone.
+//! A writer that keeps why it failed, and whether its reader has gone.
 
 ghost use Rattle.std.specs.Prelude.{◌≡◌};
 ghost use Rattle.std.specs.Io.{WritesAtMost};
@@ -7,12 +7,14 @@ ghost use Rattle.std.specs.Io.KnownBytes.{Keeps, WriteAppends};
 use std::io;
 use std::io::{ErrorKind, Write};
 
-/// Hands on each call, and keeps whether one failed since nobody reads any more what is written, as at a closed pipe. That it hands
-/// on each byte is promised, and what it keeps is tested.
+/// Hands on each call, and keeps why the first one failed, and whether one failed since nobody reads any more what is written, as at a
+/// closed pipe. That it hands on each byte is promised, and what it keeps is tested.
 #[derive(Drop)]
 pub struct Piped<W> {
     inner: W,
     is_gone: bool,
+    /// The system's number of the first failure.
+    code: Option<i32>,
 }
 
 impl<W> Piped<W> {
@@ -23,6 +25,23 @@ impl<W> Piped<W> {
         Piped {
             inner,
             is_gone: false,
+            code: None,
+        }
+    }
+
+    /// What it writes to.
+    pub fn into_inner(self) -> W
+        ensures { result ≡ self.inner }
+    {
+        let Piped { inner, .. } = self;
+        inner
+    }
+
+    /// Why the first call that failed did so, as far as the system has said.
+    pub fn why(&self) -> io::Error {
+        match self.code {
+            Some(code) => io::Error::from_raw_os_error(code),
+            None => io::Error::from(ErrorKind::WriteZero),
         }
     }
 
@@ -32,6 +51,14 @@ impl<W> Piped<W> {
     {
         let Piped { is_gone, .. } = self;
         *is_gone
+    }
+}
+
+/// The system's number of a failure, where the call failed and it has one.
+fn code_of<T>(answer: &io::Result<T>) -> Option<i32> {
+    match answer {
+        Ok(_) => None,
+        Err(error) => error.raw_os_error(),
     }
 }
 
@@ -52,6 +79,7 @@ impl<W: Write> Write for Piped<W> {
     {
         let result = self.inner.write(buf);
         self.is_gone = self.is_gone || tells_it(&result);
+        self.code = self.code.or(code_of(&result));
         result
     }
 
@@ -60,6 +88,7 @@ impl<W: Write> Write for Piped<W> {
     {
         let result = self.inner.flush();
         self.is_gone = self.is_gone || tells_it(&result);
+        self.code = self.code.or(code_of(&result));
         result
     }
 }
