@@ -7,14 +7,14 @@ _blink() {
         words='serve dump load rows check draw replay help --help --version'
     else
         case $before in
-            --pages | --large | --workers | --compressors | --fill) return ;;
+            --pages | --large | --workers | --compressors | --section | --fill) return ;;
             --image)
                 mapfile -t COMPREPLY < <(compgen -f -- "$word")
                 return
                 ;;
         esac
         case $command in
-            serve | dump) words='--pages --large --workers --compressors --image --interactive --stats --help' ;;
+            serve | dump) words='--pages --large --workers --compressors --image --section --interactive --stats --help' ;;
             load) words='--pages --large --fill --help' ;;
             draw) words='--svg --help' ;;
             rows | check | replay) words='--help' ;;

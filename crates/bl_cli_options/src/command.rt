@@ -105,12 +105,21 @@ fn image_option<'a>(alloc: Global) -> Result<Arg<'a>, AllocError> {
         .conflicts_with("large")
 }
 
-/// Whether each line is a section.
+/// Whether each line is a section, whatever `--section` says.
 fn interactive_option<'a>(alloc: Global) -> Arg<'a> {
     Arg::new(alloc, "interactive")
         .long("interactive")
         .action(ArgAction::SetTrue)
         .help("Answer each line before the next one is read")
+}
+
+/// How many lines a section has at most.
+fn section_option<'a>(alloc: Global) -> Arg<'a> {
+    Arg::new(alloc, "section")
+        .long("section")
+        .value_name("N")
+        .help("Write replies behind so many lines, if no sync comes before")
+        .value_parser(value_parser!(u32).range(1..=4294967295))
 }
 
 /// Whether the server says at its end what it has counted.
@@ -147,6 +156,7 @@ fn with_options<'a>(alloc: Global, command: Command<'a>) -> Result<Command<'a>, 
     let command = with_pages_and_workers(alloc, command)?;
     let command = with_compressors_and_image(alloc, command)?;
     command
+        .arg(section_option(alloc))?
         .arg(interactive_option(alloc))?
         .arg(stats_option(alloc))
 }
@@ -183,9 +193,11 @@ fn dump_command<'a>(alloc: Global) -> Result<Command<'a>, AllocError> {
 /// Which lines end a section, as clap has found.
 fn sections_of(found: &ArgMatches) -> Sectioning {
     if found.get_flag("interactive") {
-        Sectioning::EachLine
-    } else {
-        Sectioning::BySync
+        return Sectioning::AtMost(1);
+    }
+    match found.get_one::<u32>("section") {
+        Some(lines) => Sectioning::AtMost(u64::from(lines)),
+        None => Sectioning::BySync,
     }
 }
 

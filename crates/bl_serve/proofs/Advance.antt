@@ -17,7 +17,7 @@ use Rattle.bl_serve.specs.declared.section_reader.SectionEnd.TheVariants as sect
 use Rattle.bl_model.specs.History.{IsLegalFrom, final_map}
 use Rattle.bl_model.proofs.Histories.{legal_append, legal_rest}
 use Rattle.bl_serve_lines.specs.Lines.{Line, IsLine, Answer, entries, input_of, output_of, rest_text, text_of, HasNoLf}
-use Rattle.bl_serve_lines.specs.Served.{Section, IsSection, Ends, IsFinished, HasNoEndInside, Interleaves, lines_of, malformed_of, syncs_of, one_if_any, Served, Stopped, Stops, Leaves, ComesFrom}
+use Rattle.bl_serve_lines.specs.Served.{Section, IsSection, IsFinished, HasNoEndInside, Interleaves, lines_of, malformed_of, syncs_of, one_if_any, Served, Stopped, Stops, Leaves, ComesFrom}
 use Rattle.bl_serve_lines.specs.Served.Interleaves.{Done, Takes}
 use Rattle.bl_serve_lines.specs.Served as served
 use Rattle.bl_serve.specs.Reading.{AskNoEnd, AskEndLast, ReadsLines}
@@ -27,7 +27,7 @@ use Rattle.bl_page.specs.declared.page.Page.{Page}
 use Rattle.bl_claims.specs.Trails.{Trail, history_of}
 use Rattle.bl_claims.specs.Seeing.{first_map, rows_in, IsLinearizable}
 use Rattle.bl_index.specs.Calls.{map_after}
-use Rattle.bl_serve_lines.proofs.Sections.{output_append, no_end_inside, no_end_any}
+use Rattle.bl_serve_lines.proofs.Sections.{output_append, no_end_inside, no_end_any, no_end_none}
 use Rattle.bl_serve.proofs.Finite.{finite_rows, finite_history}
 use Rattle.bl_serve.proofs.Spelled.{lines_with, AreLines, are_lines, no_end_lines, end_lines, lawful}
 
@@ -202,7 +202,7 @@ stops_inside how pages first old now before input output ahead fault ReaderFaile
     unwritten = [];
     each = p.each;
     whole = record { lines = All-nil (IsLine pages); history = Done [] (All-nil (λ (list : List Entry). list ≡ [])) };
-    open_lines = no_end_any how [] (All-nil (λ line. ¬ Ends how line.answer));
+    open_lines = no_end_any how [] (no_end_none how);
     cut = All-nil (λ b. b ≢ 10);
     legal = subst (IsLegalFrom (map_after first old)) (sym (append-nil (served.history_of p.sections))) (legal_so_far first old now (served.history_of p.sections) seen p.more p.begins p.history);
     read = ap (λ t. t ++ ahead) (p.read ∙ (ap input_of (sym (append-nil (lines_of p.sections))) ∙ sym (append-nil (input_of (lines_of p.sections ++ [])))));

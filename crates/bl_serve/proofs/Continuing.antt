@@ -1,18 +1,21 @@
 -- A section that is read and answered in chunks: two chunks that follow each other are one.
 use Rattle.std.proofs.Common.{◌≡◌, ◌≢◌, ℕ, suc, ◌+◌, ◌≤◌, ◌<◌, ◌^◌, ◌-◌, List, [], ◌∷◌, ◌++◌, length, map, refl, sym, ap, ◌∙◌, subst, append_assoc, append-nil, arith, length-append, inl, inr}
-use Rattle.std.specs.Prelude.{All, Option, Result, Ok, Err, is_none, cond, min}
+use Rattle.std.specs.Prelude.{All, Option, Some, Result, Ok, Err, is_none, cond, min}
 use Rattle.std.proofs.lemmas.List.{map-append}
 use Rattle.std.proofs.lemmas.List.Concat.{flat_map-append}
 use Rattle.std.proofs.lemmas.List.Sums.{sum_by-append}
 use Rattle.std.proofs.lemmas.List.Elements.{All-nil, All-head, All-tail, All-append}
 use Rattle.bl_model.specs.declared.operation.Entry.{Entry}
 use Rattle.bl_serve_lines.specs.declared.request.Request.{Request}
+use Rattle.bl_serve_lines.specs.declared.request.Request.TheVariants.{Sync}
 use Rattle.bl_serve_lines.specs.declared.serving.Sectioning.{Sectioning}
+use Rattle.bl_serve_lines.specs.declared.serving.Sectioning.TheVariants.{BySync, AtMost}
 use Rattle.bl_serve_lines.specs.declared.serving.ServeFault.{ServeFault}
 use Rattle.bl_serve_lines.specs.declared.serving.ServeFault.TheVariants.{Read, Write, Memory, Lost}
 use Rattle.bl_serve_lines.specs.declared.serving.Totals.{Totals}
 use Rattle.bl_serve_lines.specs.Lines.{entries}
-use Rattle.bl_serve_lines.specs.Served.{Interleaves}
+use Rattle.bl_serve_lines.specs.Served.{Interleaves, IsShort, after_lines}
+use Rattle.bl_serve_lines.proofs.Sections.{short_then}
 use Rattle.bl_serve_lines.specs.Served.Interleaves.{Done, Takes}
 use Rattle.bl_claims.specs.Trails.{Trail, history_of}
 use Rattle.bl_index.specs.declared.index.Index.{Index}
@@ -51,21 +54,26 @@ reads_then unread mid left xs ys rest r s = record {
       ∙ ap (λ (z : List ℕ). (z ++ rest) ++ left) (sym (flat_map-append (λ (t : List ℕ). t ++ 10 ∷ []) r.texts s.texts))))));
 }
 
-no_end_then : (how : Sectioning) (xs ys : List (Option Request)) → AskNoEnd how xs → AskNoEnd how ys → AskNoEnd how (xs ++ ys)
-no_end_then how xs ys a b = All-append (λ z. ¬ AsksEnd how z) xs ys a b
+no_end_then : (how : Sectioning) (xs ys : List (Option Request)) → AskNoEnd how xs → AskNoEnd (after_lines how (length xs)) ys → AskNoEnd how (xs ++ ys)
+no_end_then how xs ys a b = (All-append (λ z. z ≢ Some Sync) xs ys a.0 b.0, subst (IsShort how) (sym (length-append xs ys)) (short_then how (length xs) (length ys) a.1 b.1))
 
-end_last_then : (how : Sectioning) (xs ys : List (Option Request)) → AskNoEnd how xs → AskEndLast how ys → AskEndLast how (xs ++ ys)
+asks_end_then : (how : Sectioning) (n m k : ℕ) (asked : Option Request) → k ≡ n + m → AsksEnd (after_lines how n) m asked → AsksEnd how k asked
+asks_end_then BySync n m k asked is a = a
+asks_end_then (AtMost most) n m k asked is (inl a) = inl a
+asks_end_then (AtMost most) n m k asked is (inr many) = inr (omega (arith, is, many))
+
+end_last_then : (how : Sectioning) (xs ys : List (Option Request)) → AskNoEnd how xs → AskEndLast (after_lines how (length xs)) ys → AskEndLast how (xs ++ ys)
 end_last_then how xs ys a b = record {
   front = xs ++ b.front;
   last = b.last;
   ends = ap (λ (z : List (Option Request)). xs ++ z) b.ends ∙ sym (append_assoc xs b.front (b.last ∷ []));
-  is_end = b.is_end;
+  is_end = asks_end_then how (length xs) (length ys) (length (xs ++ ys)) b.last (length-append xs ys) b.is_end;
   no_end = no_end_then how xs b.front a b.no_end;
 }
 
 -- lines that end no section, and how the reading of those behind them ended
 pub ends_then : (how : Sectioning) (ended : Result SectionEnd ServeFault) (most few : ℕ) (unread mid left : List ℕ) (xs ys : List (Option Request)) (rest : List ℕ) (AtEnd Failed : Type 0) → ReadsLines unread mid xs [] → AskNoEnd how xs → length xs + few ≤ most → (ended ≡ Ok Finished → few ≤ length ys → most ≤ length xs + length ys)
-    → EndsReading how ended few ys rest mid left AtEnd Failed → EndsReading how ended most (xs ++ ys) rest unread left AtEnd Failed
+    → EndsReading (after_lines how (length xs)) ended few ys rest mid left AtEnd Failed → EndsReading how ended most (xs ++ ys) rest unread left AtEnd Failed
 ends_then how (Ok ByLine) most few unread mid left xs ys rest AtEnd Failed r none within full e = let long = length-append xs ys in let b = e.1 in
     (reads_then unread mid left xs ys rest r e.0, omega (arith, long, within, b), e.2, end_last_then how xs ys none e.3)
 ends_then how (Ok Rest) most few unread mid left xs ys rest AtEnd Failed r none within full e = let long = length-append xs ys in let b = e.1 in
@@ -176,7 +184,7 @@ module _ (how : Sectioning) (index : Index) (olds passes : List Pass) (start now
   now_is = let a = h.counts.requests in omega (arith, a)
 
   -- the section's last lines
-  pub ends_section : (ended : Result SectionEnd ServeFault) (few : ℕ) (lines : List (Option Request)) (rest left : List ℕ) (AtEnd Failed : Type 0) → (ended ≡ Ok Finished → length lines < few) → EndsReading how ended (min few (2 ^ 64 - 1 - now.requests)) lines rest mid left AtEnd Failed
+  pub ends_section : (ended : Result SectionEnd ServeFault) (few : ℕ) (lines : List (Option Request)) (rest left : List ℕ) (AtEnd Failed : Type 0) → (ended ≡ Ok Finished → length lines < few) → EndsReading (after_lines how (length asked)) ended (min few (2 ^ 64 - 1 - now.requests)) lines rest mid left AtEnd Failed
       → EndsReading how ended (2 ^ 64 - 1 - start.requests) (asked ++ lines) rest unread left AtEnd Failed
   ends_section ended few lines rest left AtEnd Failed last e = let a = now_is in let b = h.room in
       ends_then how ended (2 ^ 64 - 1 - start.requests) (min few (2 ^ 64 - 1 - now.requests)) unread mid left asked lines rest AtEnd Failed h.front h.no_end (omega (arith, a, b)) (λ is full. let c = last is in omega (arith, a, b, c, full)) e
@@ -188,18 +196,18 @@ module _ (how : Sectioning) (index : Index) (olds passes : List Pass) (start now
   serves_all lines end text' news s = serves_then index start.requests now.requests asked lines end text text' olds passes news now_is h.some h.serves s
 
   -- its next lines could not be answered, while more was read
-  pub fails_answering : (fault : ServeFault) (end : SectionEnd) (few most : ℕ) (lines : List (Option Request)) (rest left more : List ℕ) (AtEnd Failed AtEnd' Failed' : Type 0) → EndsReading how (Ok end) few lines rest mid left AtEnd Failed → IsInside now.requests (length lines) fault
+  pub fails_answering : (fault : ServeFault) (end : SectionEnd) (few most : ℕ) (lines : List (Option Request)) (rest left more : List ℕ) (AtEnd Failed AtEnd' Failed' : Type 0) → EndsReading (after_lines how (length asked)) (Ok end) few lines rest mid left AtEnd Failed → IsInside now.requests (length lines) fault
       → FailsSection how fault start.requests most (asked ++ lines) rest (unread ++ more) (left ++ more) AtEnd' Failed'
   fails_answering fault end few most lines rest left more AtEnd Failed AtEnd' Failed' e inside = inr (
-    reads_ahead unread left more (asked ++ lines) rest (reads_then unread mid left asked lines rest h.front (reads_of how end few lines rest mid left AtEnd Failed e)),
+    reads_ahead unread left more (asked ++ lines) rest (reads_then unread mid left asked lines rest h.front (reads_of (after_lines how (length asked)) end few lines rest mid left AtEnd Failed e)),
     inside_then start.requests now.requests asked lines fault now_is inside,
   )
 
   -- they were answered, while more was read, and it goes on
-  pub goes_on : (new : Totals) (end : SectionEnd) (few : ℕ) (lines : List (Option Request)) (rest left more text' : List ℕ) (news : List Pass) (AtEnd Failed : Type 0) → end ≡ Finished → EndsReading how (Ok end) few lines rest mid left AtEnd Failed → few ≤ 2 ^ 64 - 1 - now.requests
+  pub goes_on : (new : Totals) (end : SectionEnd) (few : ℕ) (lines : List (Option Request)) (rest left more text' : List ℕ) (news : List Pass) (AtEnd Failed : Type 0) → end ≡ Finished → EndsReading (after_lines how (length asked)) (Ok end) few lines rest mid left AtEnd Failed → few ≤ 2 ^ 64 - 1 - now.requests
       → CountsSection now new lines end → ServesSection index now.requests lines end text' passes news → HasServed how index olds news start new (unread ++ more) (left ++ more) (asked ++ lines) (text ++ text')
   goes_on new end few lines rest left more text' news AtEnd Failed is e' low c' s' =
-      let e = subst (λ (z : SectionEnd). EndsReading how (Ok z) few lines rest mid left AtEnd Failed) is e' in let c = subst (CountsSection now new lines) is c' in
+      let e = subst (λ (z : SectionEnd). EndsReading (after_lines how (length asked)) (Ok z) few lines rest mid left AtEnd Failed) is e' in let c = subst (CountsSection now new lines) is c' in
       let s = subst (λ (z : SectionEnd). ServesSection index now.requests lines z text' passes news) is s' in record {
         front = reads_ahead unread left more (asked ++ lines) [] (reads_then unread mid left asked lines [] h.front (subst (ReadsLines mid left lines) e.2 e.0));
         no_end = no_end_then how asked lines h.no_end e.3;

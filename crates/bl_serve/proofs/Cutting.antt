@@ -1,10 +1,14 @@
 -- How far a section was read.
-use Rattle.std.proofs.Common.{◌≡◌, ◌≢◌, ℕ, zero, suc, ◌+◌, List, [], ◌∷◌, ◌++◌, length, drop, refl, sym, ap, ◌∙◌, subst, append_assoc, append-nil, arith}
-use Rattle.std.specs.Prelude.{Option}
+use Rattle.std.proofs.Common.{◌≡◌, ◌≢◌, ℕ, zero, suc, ◌+◌, List, [], ◌∷◌, ◌++◌, length, drop, refl, sym, ap, ◌∙◌, subst, append_assoc, append-nil, arith, ◌<◌, ◌≤◌, inl, inr, ⊎_elim}
+use Rattle.std.specs.Prelude.{All, Option, Some}
+use Rattle.std.proofs.lemmas.Bool.{cases_lt}
 use Rattle.std.proofs.lemmas.List.{flat_map_more}
 use Rattle.std.proofs.lemmas.List.Elements.{All-nil, All-push}
 use Rattle.bl_serve_lines.specs.declared.request.Request.{Request}
+use Rattle.bl_serve_lines.specs.declared.request.Request.TheVariants.{Sync}
 use Rattle.bl_serve_lines.specs.declared.serving.Sectioning.{Sectioning}
+use Rattle.bl_serve_lines.specs.declared.serving.Sectioning.TheVariants.{BySync, AtMost}
+use Rattle.bl_serve_lines.proofs.Sections.{short_none}
 use Rattle.bl_serve_lines.specs.Lines.{HasNoLf}
 use Rattle.bl_serve.specs.Reading.{IsReadAs, bytes_of, AsksEnd, AskNoEnd, AskEndLast, ReadsLines}
 use Rattle.bl_serve_worker.proofs.Lines.{zip_append}
@@ -13,12 +17,16 @@ no_lf : HasNoLf []
 no_lf = All-nil (λ b. b ≢ 10)
 
 pub asks_none : (how : Sectioning) → AskNoEnd how []
-asks_none how = All-nil (λ a. ¬ AsksEnd how a)
+asks_none how = (All-nil (λ a. a ≢ Some Sync), short_none how)
 
-pub asks_more : (how : Sectioning) (asked : List (Option Request)) (a : Option Request) → AskNoEnd how asked → ¬ AsksEnd how a → AskNoEnd how (asked ++ a ∷ [])
-asks_more how asked a h other = All-push (λ z. ¬ AsksEnd how z) asked a h other
+pub asks_more : (how : Sectioning) (asked new : List (Option Request)) (a : Option Request) → AskNoEnd how asked → new ≡ asked ++ a ∷ [] → ¬ AsksEnd how (length new) a → AskNoEnd how new
+asks_more BySync asked new a h is other = (subst (All (λ z. z ≢ Some Sync)) (sym is) (All-push (λ z. z ≢ Some Sync) asked a h.0 other), tt)
+asks_more (AtMost most) asked new a h is other = (
+  subst (All (λ z. z ≢ Some Sync)) (sym is) (All-push (λ z. z ≢ Some Sync) asked a h.0 (λ e. other (inl e))),
+  ⊎_elim (λ (low : length new < most). omega (arith, low)) (λ (high : most ≤ length new). absurd (other (inr high))) (cases_lt (length new) most),
+)
 
-pub asks_end : (how : Sectioning) (asked new : List (Option Request)) (a : Option Request) → AskNoEnd how asked → new ≡ asked ++ a ∷ [] → AsksEnd how a → AskEndLast how new
+pub asks_end : (how : Sectioning) (asked new : List (Option Request)) (a : Option Request) → AskNoEnd how asked → new ≡ asked ++ a ∷ [] → AsksEnd how (length new) a → AskEndLast how new
 asks_end how asked new a h is end = record { front = asked; last = a; ends = is; is_end = end; no_end = h }
 
 pub reads_none : (source : List ℕ) (lines : List (Option Request)) → lines ≡ [] → ReadsLines (source ++ []) source lines []

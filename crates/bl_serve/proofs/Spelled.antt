@@ -21,8 +21,8 @@ use Rattle.bl_model.proofs.Histories.{legal_append}
 use Rattle.bl_serve_lines.specs.Lines.{Line, IsLine, AreParts, ArePartsDown, Fits, Answer, Replied, Scanned, ScannedDown, Stated, Synced, Malformed, key_below, entries, answer_text, input_of, output_of}
 use Rattle.bl_serve_lines.specs.Text.{Means, Spells, numbered}
 use Rattle.bl_serve_lines.specs.declared.serving.Sectioning.{Sectioning}
-use Rattle.bl_serve_lines.specs.declared.serving.Sectioning.TheVariants.{BySync, EachLine}
-use Rattle.bl_serve_lines.specs.Served.{Ends, HasNoEnd, malformed_of, syncs_of}
+use Rattle.bl_serve_lines.specs.declared.serving.Sectioning.TheVariants.{BySync, AtMost}
+use Rattle.bl_serve_lines.specs.Served.{Ends, IsShort, HasNoEnd, malformed_of, syncs_of}
 use Rattle.bl_serve_worker.specs.Answering.{IsFor, answers_text}
 use Rattle.bl_serve_worker.specs.Answering.IsFor.{Replies, Scans, ScansFrom, ScansDown, States, Syncs, Refuses}
 use Rattle.bl_serve.specs.Reading.{IsReadAs, bytes_of, AsksEnd, AskNoEnd, AskEndLast}
@@ -71,13 +71,10 @@ is_synced Syncs e = refl
 is_synced Refuses e = let no : ⊥ = cc in absurd no
 
 -- a line ends a section as its request does
-answers_no_end : (how : Sectioning) {pages : ℕ} {asked : Option Request} {answer : Answer} → IsFor pages asked answer → ¬ AsksEnd how asked → ¬ Ends how answer
-answers_no_end BySync f other = not_synced f other
-answers_no_end EachLine f other = other
-
-answers_end : (how : Sectioning) {pages : ℕ} {asked : Option Request} {answer : Answer} → IsFor pages asked answer → AsksEnd how asked → Ends how answer
-answers_end BySync f is = is_synced f is
-answers_end EachLine f is = tt
+answers_end : (how : Sectioning) (count : ℕ) {pages : ℕ} {asked : Option Request} {answer : Answer} → IsFor pages asked answer → AsksEnd how count asked → Ends how count answer
+answers_end BySync count f is = is_synced f is
+answers_end (AtMost most) count f (inl is) = inl (is_synced f is)
+answers_end (AtMost most) count f (inr many) = inr many
 
 synced_one : {pages : ℕ} {asked : Option Request} {answer : Answer} → IsFor pages asked answer → syncs_of answer ≡ count_by is_sync (asked ∷ [])
 synced_one (Replies entry) = refl
@@ -119,40 +116,60 @@ are_lines pages (a ∷ asked) (text ∷ texts) (answer ∷ answers) h k = let r 
       let s : sum_by f (line ∷ lines_with texts answers) ≡ f line + sum_by f (lines_with texts answers) = grind (arith, common_steps) in omega (arith, one, more, c, s);
 }
 
+no_sync_lines : (pages : ℕ) (asked : List (Option Request)) (texts : List (List ℕ)) (answers : List Answer) → AllZip IsReadAs asked texts → AllZip (IsFor pages) asked answers → All (λ a. a ≢ Some Sync) asked → All (λ line. line.answer ≢ Synced) (lines_with texts answers)
+no_sync_lines pages [] [] answers h k none = All-nil (λ line. line.answer ≢ Synced)
+no_sync_lines pages [] (text ∷ texts) answers h k none = absurd h
+no_sync_lines pages (a ∷ asked) [] answers h k none = absurd h
+no_sync_lines pages (a ∷ asked) (text ∷ texts) [] h k none = absurd k
+no_sync_lines pages (a ∷ asked) (text ∷ texts) (answer ∷ answers) h k none = All-cons (λ line. line.answer ≢ Synced) (record { bytes = text; answer = answer }) (lines_with texts answers)
+    (not_synced k.0 (All-head (λ (z : Option Request). z ≢ Some Sync) a asked none)) (no_sync_lines pages asked texts answers h.1 k.1 (All-tail (λ (z : Option Request). z ≢ Some Sync) a asked none))
+
 pub no_end_lines : (how : Sectioning) (pages : ℕ) (asked : List (Option Request)) (texts : List (List ℕ)) (answers : List Answer) → AllZip IsReadAs asked texts → AllZip (IsFor pages) asked answers → AskNoEnd how asked → HasNoEnd how (lines_with texts answers)
-no_end_lines how pages [] [] answers h k no_end = All-nil (λ line. ¬ Ends how line.answer)
-no_end_lines how pages [] (text ∷ texts) answers h k no_end = absurd h
-no_end_lines how pages (a ∷ asked) [] answers h k no_end = absurd h
-no_end_lines how pages (a ∷ asked) (text ∷ texts) [] h k no_end = absurd k
-no_end_lines how pages (a ∷ asked) (text ∷ texts) (answer ∷ answers) h k no_end = All-cons (λ line. ¬ Ends how line.answer) (record { bytes = text; answer = answer }) (lines_with texts answers)
-    (answers_no_end how k.0 (All-head (λ (z : Option Request). ¬ AsksEnd how z) a asked no_end)) (no_end_lines how pages asked texts answers h.1 k.1 (All-tail (λ (z : Option Request). ¬ AsksEnd how z) a asked no_end))
+no_end_lines how pages asked texts answers h k no_end = (no_sync_lines pages asked texts answers h k no_end.0, subst (IsShort how) (sym (are_lines pages asked texts answers h k).long) no_end.1)
 
 -- the last line ends a section, and no other does
 pub record EndsLast (how : Sectioning) (lines : List Line) : Type 0 where
   pub front : List Line
   pub end : Line
   pub ends : lines ≡ front ++ end ∷ []
-  pub is_end : Ends how end.answer
+  pub is_end : Ends how (length lines) end.answer
   pub no_end : HasNoEnd how front
 
-ends_last : (how : Sectioning) (pages : ℕ) (front : List (Option Request)) (last : Option Request) (texts : List (List ℕ)) (answers : List Answer) → AllZip IsReadAs (front ++ last ∷ []) texts → AllZip (IsFor pages) (front ++ last ∷ []) answers → AskNoEnd how front → AsksEnd how last
-    → EndsLast how (lines_with texts answers)
-ends_last how pages [] last [] answers h k no_end is = absurd h
-ends_last how pages [] last (text ∷ texts) [] h k no_end is = absurd k
-ends_last how pages [] last (text ∷ []) (answer ∷ answers) h k no_end is = record { front = []; end = record { bytes = text; answer = answer }; ends = refl; is_end = answers_end how k.0 is; no_end = All-nil (λ line. ¬ Ends how line.answer) }
-ends_last how pages [] last (text ∷ next ∷ texts) (answer ∷ answers) h k no_end is = absurd h.1
-ends_last how pages (a ∷ front) last [] answers h k no_end is = absurd h
-ends_last how pages (a ∷ front) last (text ∷ texts) [] h k no_end is = absurd k
-ends_last how pages (a ∷ front) last (text ∷ texts) (answer ∷ answers) h k no_end is = let r = ends_last how pages front last texts answers h.1 k.1 (All-tail (λ (z : Option Request). ¬ AsksEnd how z) a front no_end) is in let line : Line = record { bytes = text; answer = answer } in record {
-  front = line ∷ r.front;
+-- the last line, and the others
+record Parted (pages : ℕ) (front : List (Option Request)) (last : Option Request) (lines : List Line) : Type 0 where
+  first : List Line
+  end : Line
+  ends : lines ≡ first ++ end ∷ []
+  long : length first ≡ length front
+  fits : IsFor pages last end.answer
+  none : All (λ a. a ≢ Some Sync) front → All (λ line. line.answer ≢ Synced) first
+
+parted : (pages : ℕ) (front : List (Option Request)) (last : Option Request) (texts : List (List ℕ)) (answers : List Answer) → AllZip IsReadAs (front ++ last ∷ []) texts → AllZip (IsFor pages) (front ++ last ∷ []) answers → Parted pages front last (lines_with texts answers)
+parted pages [] last [] answers h k = absurd h
+parted pages [] last (text ∷ texts) [] h k = absurd k
+parted pages [] last (text ∷ []) (answer ∷ answers) h k = record { first = []; end = record { bytes = text; answer = answer }; ends = refl; long = refl; fits = k.0; none = λ _. All-nil (λ line. line.answer ≢ Synced) }
+parted pages [] last (text ∷ next ∷ texts) (answer ∷ answers) h k = absurd h.1
+parted pages (a ∷ front) last [] answers h k = absurd h
+parted pages (a ∷ front) last (text ∷ texts) [] h k = absurd k
+parted pages (a ∷ front) last (text ∷ texts) (answer ∷ answers) h k = let r = parted pages front last texts answers h.1 k.1 in let line : Line = record { bytes = text; answer = answer } in record {
+  first = line ∷ r.first;
   end = r.end;
   ends = ap (λ (z : List Line). line ∷ z) r.ends;
-  is_end = r.is_end;
-  no_end = All-cons (λ line. ¬ Ends how line.answer) line r.front (answers_no_end how k.0 (All-head (λ (z : Option Request). ¬ AsksEnd how z) a front no_end)) r.no_end;
+  long = ap suc r.long;
+  fits = r.fits;
+  none = λ none. All-cons (λ line. line.answer ≢ Synced) line r.first (not_synced k.0 (All-head (λ (z : Option Request). z ≢ Some Sync) a front none)) (r.none (All-tail (λ (z : Option Request). z ≢ Some Sync) a front none));
 }
 
 pub end_lines : (how : Sectioning) (pages : ℕ) (asked : List (Option Request)) (texts : List (List ℕ)) (answers : List Answer) → AllZip IsReadAs asked texts → AllZip (IsFor pages) asked answers → AskEndLast how asked → EndsLast how (lines_with texts answers)
-end_lines how pages asked texts answers h k s = ends_last how pages s.front s.last texts answers (subst (λ (z : List (Option Request)). AllZip IsReadAs z texts) s.ends h) (subst (λ (z : List (Option Request)). AllZip (IsFor pages) z answers) s.ends k) s.no_end s.is_end
+end_lines how pages asked texts answers h k s =
+    let p = parted pages s.front s.last texts answers (subst (λ (z : List (Option Request)). AllZip IsReadAs z texts) s.ends h) (subst (λ (z : List (Option Request)). AllZip (IsFor pages) z answers) s.ends k) in
+    let long = (are_lines pages asked texts answers h k).long in record {
+      front = p.first;
+      end = p.end;
+      ends = p.ends;
+      is_end = answers_end how (length (lines_with texts answers)) p.fits (subst (λ (n : ℕ). AsksEnd how n s.last) (sym long) s.is_end);
+      no_end = (p.none s.no_end.0, subst (IsShort how) (sym p.long) s.no_end.1);
+    }
 
 -- ---- answers that are lawful: lines that nobody answered have them too
 

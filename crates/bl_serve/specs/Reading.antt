@@ -1,11 +1,11 @@
 -- The lines of a section, as they are read.
-use Rattle.std.specs.Prelude.{◌≡◌, ℕ, ◌<◌, ◌≤◌, ◌⊎◌, List, [], ◌∷◌, ◌++◌, All, Option, Some, Result, Ok, Err, flat_map, length}
+use Rattle.std.specs.Prelude.{◌≡◌, ◌≢◌, ℕ, ◌<◌, ◌≤◌, ◌⊎◌, List, [], ◌∷◌, ◌++◌, All, Option, Some, Result, Ok, Err, flat_map, length}
 use Rattle.std.specs.List.{AllZip}
 use Rattle.std.specs.Io.KnownBytes.{Consumes, IsAtEnd}
 use Rattle.bl_serve_lines.specs.declared.request.Request.{Request}
 use Rattle.bl_serve_lines.specs.declared.request.Request.TheVariants.{Sync}
 use Rattle.bl_serve_lines.specs.declared.serving.Sectioning.{Sectioning}
-use Rattle.bl_serve_lines.specs.declared.serving.Sectioning.TheVariants.{BySync, EachLine}
+use Rattle.bl_serve_lines.specs.declared.serving.Sectioning.TheVariants.{BySync, AtMost}
 use Rattle.bl_serve_lines.specs.declared.serving.ServeFault.{ServeFault}
 use Rattle.bl_serve_lines.specs.declared.serving.ServeFault.TheVariants.{Read, Write, Memory, Lost}
 use Rattle.bl_serve.specs.declared.section_reader.Reading.{Reading}
@@ -15,6 +15,7 @@ use Rattle.bl_serve.specs.declared.section_reader.SectionEnd.{SectionEnd}
 use Rattle.bl_serve.specs.declared.section_reader.SectionEnd.TheVariants.{ByLine, Rest, Finished}
 use Rattle.bl_serve_lines.specs.Text.{Means}
 use Rattle.bl_serve_lines.specs.Lines.{HasNoLf}
+use Rattle.bl_serve_lines.specs.Served.{IsShort}
 use Rattle.bl_serve_lines.specs.Streams.{EndsRead}
 
 -- the bytes are a line that asks for this, or for nothing
@@ -26,21 +27,21 @@ pub record IsReadAs (asked : Option Request) (bytes : List ℕ) : Type 0 where
 abbrev pub bytes_of : List (List ℕ) → List ℕ
 bytes_of texts = flat_map (λ bytes. bytes ++ 10 ∷ []) texts
 
--- a line that asks for this ends a section
-abbrev pub AsksEnd : Sectioning → Option Request → Type 0
-AsksEnd BySync asked = asked ≡ Some Sync
-AsksEnd EachLine asked = Unit {0}
+-- a line that asks for this, the last one of so many in a section, ends it
+abbrev pub AsksEnd : Sectioning → ℕ → Option Request → Type 0
+AsksEnd BySync count asked = asked ≡ Some Sync
+AsksEnd (AtMost most) count asked = (asked ≡ Some Sync) ⊎ (most ≤ count)
 
 -- none of the lines does
 abbrev pub AskNoEnd : Sectioning → List (Option Request) → Type 0
-AskNoEnd how asked = All (λ a. ¬ AsksEnd how a) asked
+AskNoEnd how asked = All (λ a. a ≢ Some Sync) asked × IsShort how (length asked)
 
 -- the last line does, and no other
 pub record AskEndLast (how : Sectioning) (asked : List (Option Request)) : Type 0 where
   pub front : List (Option Request)
   pub last : Option Request
   pub ends : asked ≡ front ++ last ∷ []
-  pub is_end : AsksEnd how last
+  pub is_end : AsksEnd how (length asked) last
   pub no_end : AskNoEnd how front
 
 -- what reading of the next line gave
@@ -70,9 +71,10 @@ EndsReading how (Err Memory) most asked rest unread left at_end failed = Unit {0
 EndsReading how (Err (Lost number)) most asked rest unread left at_end failed = ⊥
 
 -- At most so many lines were read on as are wanted; where none are, nothing was read.
-pub record ReadsOn (how : Sectioning) (old new : ReadAhead) (before after : Option (List ℕ)) (failed : Type 0) : Type 0 where
+pub record ReadsOn (old new : ReadAhead) (before after : Option (List ℕ)) (failed : Type 0) : Type 0 where
   pub rest : List ℕ
   pub more : List ℕ
   pub consumed : Consumes before after more
-  pub reads : EndsReading how new.end old.most new.lines rest (old.source ++ more) new.source (IsAtEnd after) failed
+  pub reads : EndsReading old.sections new.end old.most new.lines rest (old.source ++ more) new.source (IsAtEnd after) failed
+  pub same : new.sections ≡ old.sections
   pub idle : old.most ≡ 0 → (after ≡ before) × (new.source ≡ old.source)

@@ -145,9 +145,9 @@ fn work_alone<R: Wait, G: Gate, I: Read>(
 )
     requires { length slots.old ≡ length handles.old }
     ensures turns { WorkOn (suc chunk.now.before) chunk.now.lines.now handles.old handles.new slots.new }
-    ensures reads { ReadsOn chunk.now.service.now.sections ahead.old ahead.new (I.remaining reader.old.inner) (I.remaining reader.new.inner) (reader.new.failed ≡ true) }
+    ensures reads { ReadsOn ahead.old ahead.new (I.remaining reader.old.inner) (I.remaining reader.new.inner) (reader.new.failed ≡ true) }
 {
-    read_on(reader, ahead, chunk.service.sections);
+    read_on(reader, ahead);
     work_in_turn(rt, chunk, handles, slots);
 }
 
@@ -167,7 +167,7 @@ fn work_abreast<R: Threads + Wait + Sync, G: Gate + Sync, I: Read>(
 ) -> Result<(), AllocError>
     requires { length slots.old ≡ vec_len handles.old }
     ensures turns { OnOk result (WorkOn (suc chunk.now.before) chunk.now.lines.now handles.old.items handles.new.items slots.new) }
-    ensures reads { ReadsOn chunk.now.service.now.sections ahead.old ahead.new (I.remaining reader.old.inner) (I.remaining reader.new.inner) (reader.new.failed ≡ true) }
+    ensures reads { ReadsOn ahead.old ahead.new (I.remaining reader.old.inner) (I.remaining reader.new.inner) (reader.new.failed ≡ true) }
 {
     let place = last_share(slots.len(), threads);
     if place == 0 || handles.len() <= place {
@@ -189,7 +189,7 @@ fn work_abreast<R: Threads + Wait + Sync, G: Gate + Sync, I: Read>(
             requires { IsSync R.row × IsSync G.row × (length rest.now ≡ vec_len handles.now) }
             ensures turns { OnOk result (WorkOn (suc chunk.entry.now.before) chunk.entry.now.lines.now
                 handles.entry.now.items handles.exit.now.items rest.exit.now) }
-            ensures reads { ReadsOn chunk.entry.now.service.now.sections ahead.entry.now ahead.exit.now (I.remaining reader.entry.now.inner) (I.remaining reader.exit.now.inner)
+            ensures reads { ReadsOn ahead.entry.now ahead.exit.now (I.remaining reader.entry.now.inner) (I.remaining reader.exit.now.inner)
                 (reader.exit.now.failed ≡ true) }
         {
             work_abreast(
@@ -242,7 +242,7 @@ fn answer_chunk<'a, 'b, R: Threads + Wait + Sync, G: Gate + Sync, I: Read>(
     requires room { session.totals.requests + length lines.now < 2 ^ 64 }
     ensures totals { IfOk result (λ back. back.totals ≡ session.entry.totals) }
     ensures fault { IfErr result (IsInside session.entry.totals.requests (length lines.now)) }
-    ensures reads { OnOk result (ReadsOn service.now.sections ahead.old ahead.new (I.remaining reader.old.inner) (I.remaining reader.new.inner) (reader.new.failed ≡ true)) }
+    ensures reads { OnOk result (ReadsOn ahead.old ahead.new (I.remaining reader.old.inner) (I.remaining reader.new.inner) (reader.new.failed ≡ true)) }
     ensures consumes { (more : List ℕ) × Consumes (I.remaining reader.old.inner) (I.remaining reader.new.inner) more }
     ensures chunk { IfOk result (λ back. (more : List ℕ) × (back.text.items ≡ session.entry.text.items ++ more)
         × IsChunk (first_of service.now.index.now) (pages_of service.now.index.now) (suc session.entry.totals.requests) lines.now more
@@ -316,7 +316,7 @@ pub fn run_chunk<'a, R: Threads + Wait + Sync, G: Gate + Sync, I: Read>(
     requires met { AreMet service.now.index.now session.handles.items }
     requires room { session.totals.requests + length lines.now < 2 ^ 64 }
     ensures totals { IfOk result (λ back. back.totals ≡ session.entry.totals) }
-    ensures reads { OnOk result (ReadsOn service.now.sections ahead.old ahead.new (I.remaining reader.old.inner) (I.remaining reader.new.inner) (reader.new.failed ≡ true)) }
+    ensures reads { OnOk result (ReadsOn ahead.old ahead.new (I.remaining reader.old.inner) (I.remaining reader.new.inner) (reader.new.failed ≡ true)) }
     ensures consumes { (more : List ℕ) × Consumes (I.remaining reader.old.inner) (I.remaining reader.new.inner) more }
     ensures held { IfOk result (λ back. (more : List ℕ) × (back.text.items ≡ session.entry.text.items ++ more)
         × HoldsSection service.now.index.now session.entry.totals.requests lines.now more

@@ -1,7 +1,8 @@
 //! Sections are read.
 
-ghost use Rattle.std.specs.Prelude.{◌≡◌, ℕ, ◌+◌, ◌≤◌, List, [], ◌∷◌, ◌++◌, ◌↔◌, IsTrue, true, IfOk, OnOk};
+ghost use Rattle.std.specs.Prelude.{◌≡◌, ℕ, ◌+◌, ◌≤◌, List, [], ◌∷◌, ◌++◌, ◌↔◌, IsTrue, Some, true, IfOk, OnOk};
 ghost use Rattle.std.specs.Io.KnownBytes.{Consumes, IsAtEnd};
+ghost use Rattle.bl_serve_lines.specs.declared.request.Request.TheVariants.{Sync};
 ghost use Rattle.bl_serve.specs.Reading.{AsksEnd, EndsReading, ReadsLine, ReadsOn};
 
 use crate::parsed_lines::ParsedLines;
@@ -16,7 +17,7 @@ use std::io::Read;
 /// How a section ended.
 #[derive(Clone, Copy, Debug, PartialEq, Eq)]
 pub enum SectionEnd {
-    /// By the line that ends it.
+    /// By the line that ends it: a `sync`, or the last one of as many as there may be.
     ByLine,
     /// With bytes after the last LF.
     Rest,
@@ -31,6 +32,8 @@ pub struct ReadAhead {
     pub source: Source,
     /// How many lines are to be read at most.
     pub most: u64,
+    /// Which of them ends their section.
+    pub sections: Sectioning,
     /// What was read of them so far: the requests that are to be answered next.
     pub lines: ParsedLines,
     /// How reading of them ended.
@@ -76,13 +79,20 @@ fn read_line<R: Read>(
     }
 }
 
-/// Whether a line that asks for this ends a section.
-fn ends_section(sections: Sectioning, asked: Option<Request>) -> bool
-    ensures { IsTrue result ↔ AsksEnd sections asked }
+/// Whether a line is a `sync`.
+fn is_sync(asked: Option<Request>) -> bool
+    ensures { IsTrue result ↔ (asked ≡ Some Sync) }
+{
+    matches!(asked, Some(Request::Sync))
+}
+
+/// Whether a line that asks for this, the last one of so many, ends their section.
+fn ends_section(sections: Sectioning, count: u64, asked: Option<Request>) -> bool
+    ensures { IsTrue result ↔ AsksEnd sections count asked }
 {
     match sections {
-        Sectioning::BySync => matches!(asked, Some(Request::Sync)),
-        Sectioning::EachLine => true,
+        Sectioning::BySync => is_sync(asked),
+        Sectioning::AtMost(most) => is_sync(asked) || most <= count,
     }
 }
 
@@ -106,7 +116,7 @@ pub fn read_section<R: Read>(
         match read_line(source, reader, &mut line) {
             Ok(Reading::Line(request)) => {
                 lines.push(request)?;
-                let ended = ends_section(sections, request);
+                let ended = ends_section(sections, lines.len() as u64, request);
                 if ended {
                     return Ok(SectionEnd::ByLine);
                 }
@@ -127,6 +137,7 @@ impl ReadAhead {
         Ok(ReadAhead {
             source: Source::new(alloc)?,
             most: 0,
+            sections: Sectioning::BySync,
             lines: ParsedLines::new(alloc),
             end: Ok(SectionEnd::Finished),
             is_last: false,
@@ -135,13 +146,13 @@ impl ReadAhead {
 }
 
 /// Reads the next lines of a section, as many as are wanted; where none are, nothing is read.
-pub fn read_on<R: Read>(reader: &mut Watched<R>, ahead: &mut ReadAhead, sections: Sectioning)
-    ensures { ReadsOn sections ahead.old ahead.new (R.remaining reader.old.inner) (R.remaining reader.new.inner) (reader.new.failed ≡ true) }
+pub fn read_on<R: Read>(reader: &mut Watched<R>, ahead: &mut ReadAhead)
+    ensures { ReadsOn ahead.old ahead.new (R.remaining reader.old.inner) (R.remaining reader.new.inner) (reader.new.failed ≡ true) }
 {
     ahead.lines.clear();
     ahead.end = Ok(SectionEnd::Finished);
     if ahead.most > 0 {
         let (source, lines) = (&mut ahead.source, &mut ahead.lines);
-        ahead.end = read_section(source, reader, lines, sections, ahead.most);
+        ahead.end = read_section(source, reader, lines, ahead.sections, ahead.most);
     }
 }

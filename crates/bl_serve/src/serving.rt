@@ -93,7 +93,7 @@ fn serve_chunk<'a, T: Threads + Wait + Sync, R: Read, G: Gate + Sync>(
     ensures serves { IfOk result (λ back. (more : List ℕ) × (back.text.items ≡ session.entry.text.items ++ more)
         × ServesSection service.now.index.now session.entry.totals.requests lines.now end more
         (seats_of session.entry.handles.items) (seats_of back.handles.items)) }
-    ensures reads { OnOk result (ReadsOn service.now.sections ahead.old ahead.new (R.remaining reader.old.inner) (R.remaining reader.new.inner) (reader.new.failed ≡ true)) }
+    ensures reads { OnOk result (ReadsOn ahead.old ahead.new (R.remaining reader.old.inner) (R.remaining reader.new.inner) (reader.new.failed ≡ true)) }
     ensures consumes { (more : List ℕ) × Consumes (R.remaining reader.old.inner) (R.remaining reader.new.inner) more }
     ensures fault { IfErr result (IsInside session.entry.totals.requests (length lines.now)) }
 {
@@ -145,7 +145,8 @@ fn serve_section<'a, T: Threads + Wait + Sync, R: Read, G: Gate + Sync>(
     let mut chunk = FIRST_CHUNK;
     let first = session.totals.requests;
     ahead.most = most_behind(first, chunk);
-    read_on(reader, ahead, service.sections);
+    ahead.sections = service.sections;
+    read_on(reader, ahead);
     for _ in rt.forever() {
         let end = ahead.end?;
         mem::swap(lines, &mut ahead.lines);
@@ -158,6 +159,7 @@ fn serve_section<'a, T: Threads + Wait + Sync, R: Read, G: Gate + Sync>(
         } else {
             0
         };
+        ahead.sections = ahead.sections.behind(lines.len() as u64);
         let back = serve_chunk(rt, service, session, lines, end, reader, ahead)?;
         session = back;
         if !open {

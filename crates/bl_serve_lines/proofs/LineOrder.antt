@@ -6,7 +6,7 @@ use Rattle.std.proofs.lemmas.List.Concat.{flat_map-append, flat_map-cons}
 use Rattle.std.proofs.lemmas.List.Elements.{All-head, All-tail}
 use Rattle.bl_model.specs.declared.operation.Entry.{Entry}
 use Rattle.bl_model.specs.Map.{Map}
-use Rattle.bl_serve_lines.specs.declared.serving.Sectioning.TheVariants.{BySync, EachLine}
+use Rattle.bl_serve_lines.specs.declared.serving.Sectioning.TheVariants.{BySync, AtMost}
 use Rattle.bl_serve_lines.specs.declared.serving.Totals.{Totals}
 use Rattle.bl_serve_lines.specs.Lines.{Answer, Line, Replied, Scanned, ScannedDown, Stated, Synced, Malformed, entries}
 use Rattle.bl_serve_lines.specs.Served.{Interleaves, Section, HasNoEnd, IsFinished, Served, lines_of, history_of, syncs_of, whole_history}
@@ -28,28 +28,28 @@ of_none (Done lists none) is = refl
 of_none (Takes before e rest after history more) is = let long = length-append before ((e ∷ rest) ∷ after) in let same = ap length is in absurd (omega (arith, long, same))
 
 -- no line stands where none may
-no_lines : (lines : List Line) → HasNoEnd EachLine lines → lines ≡ []
+no_lines : (lines : List Line) → HasNoEnd (AtMost 1) lines → lines ≡ []
 no_lines [] h = refl
-no_lines (line ∷ lines) h = absurd (All-head (λ (l : Line). ¬ Unit {0}) line lines h tt)
+no_lines (line ∷ lines) h = let short = h.1 in absurd (omega (arith, short))
 
 abbrev entries_in : List Line → List Entry
 entries_in lines = flat_map (λ line. entries line.answer) lines
 
-one_section : (pages : ℕ) (section : Section) → IsFinished EachLine pages section → section.history ≡ entries_in section.lines
+one_section : (pages : ℕ) (section : Section) → IsFinished (AtMost 1) pages section → section.history ≡ entries_in section.lines
 one_section pages section f =
     let alone : section.lines ≡ f.end ∷ [] = f.lines ∙ ap (λ (z : List Line). z ++ f.end ∷ []) (no_lines f.front f.no_end) in
     of_one f.whole.history (entries f.end.answer) (ap (map (λ (l : Line). entries l.answer)) alone)
     ∙ (sym (append-nil (entries f.end.answer)) ∙ ap entries_in (sym alone))
 
-all_sections : (pages : ℕ) (sections : List Section) → All (IsFinished EachLine pages) sections → history_of sections ≡ entries_in (lines_of sections)
+all_sections : (pages : ℕ) (sections : List Section) → All (IsFinished (AtMost 1) pages) sections → history_of sections ≡ entries_in (lines_of sections)
 all_sections pages [] each = refl
 all_sections pages (s ∷ ss) each = flat_map-cons (λ (x : Section). x.history) s ss
-    ∙ (ap (λ (z : List Entry). z ++ history_of ss) (one_section pages s (All-head (IsFinished EachLine pages) s ss each))
-    ∙ (ap (λ (z : List Entry). entries_in s.lines ++ z) (all_sections pages ss (All-tail (IsFinished EachLine pages) s ss each))
+    ∙ (ap (λ (z : List Entry). z ++ history_of ss) (one_section pages s (All-head (IsFinished (AtMost 1) pages) s ss each))
+    ∙ (ap (λ (z : List Entry). entries_in s.lines ++ z) (all_sections pages ss (All-tail (IsFinished (AtMost 1) pages) s ss each))
     ∙ (sym (flat_map-append (λ (l : Line). entries l.answer) s.lines (lines_of ss)) ∙ ap entries_in (sym (flat_map-cons (λ (x : Section). x.lines) s ss)))))
 
 -- the history has the entries of the lines in their order
-pub in_line_order : {pages : ℕ} {start : Map} {input output : List ℕ} {totals : Totals} (s : Served EachLine pages start input output totals) → whole_history s ≡ entries_in (lines_of s.sections ++ s.last.lines)
+pub in_line_order : {pages : ℕ} {start : Map} {input output : List ℕ} {totals : Totals} (s : Served (AtMost 1) pages start input output totals) → whole_history s ≡ entries_in (lines_of s.sections ++ s.last.lines)
 in_line_order {pages} s =
     let none = no_lines s.last.lines s.no_end in
     ap (λ (z : List Entry). history_of s.sections ++ z) (of_none s.whole.history (ap (map (λ (l : Line). entries l.answer)) none))
@@ -68,8 +68,8 @@ not_one Malformed other = refl
 no_syncs : (lines : List Line) → HasNoEnd BySync lines → sum_by (λ line. syncs_of line.answer) lines ≡ 0
 no_syncs [] h = refl
 no_syncs (line ∷ lines) h = let f : Line → ℕ = λ x. syncs_of x.answer in
-    let more = no_syncs lines (All-tail (λ (l : Line). ¬ (l.answer ≡ Synced)) line lines h) in
-    let one = not_one line.answer (All-head (λ (l : Line). ¬ (l.answer ≡ Synced)) line lines h) in
+    let more = no_syncs lines (All-tail (λ (l : Line). ¬ (l.answer ≡ Synced)) line lines h.0, tt) in
+    let one = not_one line.answer (All-head (λ (l : Line). ¬ (l.answer ≡ Synced)) line lines h.0) in
     let front = sum_by-append f (line ∷ []) lines in let alone : sum_by f (line ∷ []) ≡ 0 + syncs_of line.answer = refl in omega (arith, more, one, front, alone)
 
 one_sync : (pages : ℕ) (section : Section) → IsFinished BySync pages section → sum_by (λ line. syncs_of line.answer) section.lines ≡ 1

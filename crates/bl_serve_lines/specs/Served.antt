@@ -1,10 +1,10 @@
 -- What is written for what is read.
-use Rattle.std.specs.Prelude.{◌≡◌, ◌==◌, ℕ, ◌+◌, ◌<◌, ◌≤◌, suc, List, [], ◌∷◌, ◌++◌, All, flat_map, map, length, sum_by, count_by}
+use Rattle.std.specs.Prelude.{◌≡◌, ◌≢◌, ◌==◌, ◌⊎◌, ℕ, ◌+◌, ◌-◌, ◌<◌, ◌≤◌, suc, List, [], ◌∷◌, ◌++◌, All, flat_map, map, length, sum_by, count_by}
 use Rattle.bl_model.specs.declared.operation.Entry.{Entry}
 use Rattle.bl_model.specs.Map.{Map}
 use Rattle.bl_model.specs.History.{IsLegalFrom}
 use Rattle.bl_serve_lines.specs.declared.serving.Sectioning.{Sectioning}
-use Rattle.bl_serve_lines.specs.declared.serving.Sectioning.TheVariants.{BySync, EachLine}
+use Rattle.bl_serve_lines.specs.declared.serving.Sectioning.TheVariants.{BySync, AtMost}
 use Rattle.bl_serve_lines.specs.declared.serving.ServeFault.{ServeFault}
 use Rattle.bl_serve_lines.specs.declared.serving.ServeFault.TheVariants.{Read, Write, Memory, Lost}
 use Rattle.bl_serve_lines.specs.declared.serving.Totals.{Totals}
@@ -25,14 +25,24 @@ pub record IsSection (pages : ℕ) (section : Section) : Type 0 where
   pub lines : All (IsLine pages) section.lines
   pub history : Interleaves (map (λ line. entries line.answer) section.lines) section.history
 
--- a line with that answer ends a section
-abbrev pub Ends : Sectioning → Answer → Type 0
-Ends BySync answer = answer ≡ Synced
-Ends EachLine answer = Unit {0}
+-- a line with that answer, the last one of so many in a section, ends it: a sync does, and the last one of as many as there may be
+abbrev pub Ends : Sectioning → ℕ → Answer → Type 0
+Ends BySync count answer = answer ≡ Synced
+Ends (AtMost most) count answer = (answer ≡ Synced) ⊎ (most ≤ count)
+
+-- so many lines of a section are fewer than there may be
+abbrev pub IsShort : Sectioning → ℕ → Type 0
+IsShort BySync count = Unit {0}
+IsShort (AtMost most) count = count ≤ most - 1
+
+-- which lines end a section behind so many lines of it
+abbrev pub after_lines : Sectioning → ℕ → Sectioning
+after_lines BySync count = BySync
+after_lines (AtMost most) count = AtMost (most - count)
 
 -- none of the lines ends a section
 abbrev pub HasNoEnd : Sectioning → List Line → Type 0
-HasNoEnd how lines = All (λ line. ¬ Ends how line.answer) lines
+HasNoEnd how lines = All (λ line. line.answer ≢ Synced) lines × IsShort how (length lines)
 
 -- none of the lines before the last one does
 abbrev pub HasNoEndInside : Sectioning → List Line → Type 0
@@ -43,7 +53,7 @@ pub record IsFinished (how : Sectioning) (pages : ℕ) (section : Section) : Typ
   pub front : List Line
   pub end : Line
   pub lines : section.lines ≡ front ++ end ∷ []
-  pub last : Ends how end.answer
+  pub last : Ends how (length section.lines) end.answer
   pub no_end : HasNoEnd how front
   pub whole : IsSection pages section
 

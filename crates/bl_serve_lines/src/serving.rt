@@ -1,6 +1,7 @@
 //! Which lines a server answers together, what it counts, and why it stops.
 
 ghost use Rattle.std.specs.Prelude.{◌≡◌};
+ghost use Rattle.bl_serve_lines.specs.Served.{after_lines};
 ghost use Rattle.bl_serve_lines.specs.declared.serving.ServeFault.TheVariants.{Memory};
 
 use std::alloc::AllocError;
@@ -11,8 +12,20 @@ use thiserror::Error;
 pub enum Sectioning {
     /// A `sync`.
     BySync,
-    /// Each line: it is a section of its own.
-    EachLine,
+    /// A `sync`, and the last one of so many lines, at least one: with 1 each line is a section of its own.
+    AtMost(u64),
+}
+
+impl Sectioning {
+    /// Which lines end a section of which so many are there already, and none of them has ended it.
+    pub fn behind(self, lines: u64) -> Sectioning
+        ensures { result ≡ after_lines self lines }
+    {
+        match self {
+            Sectioning::BySync => Sectioning::BySync,
+            Sectioning::AtMost(most) => Sectioning::AtMost(most.saturating_sub(lines)),
+        }
+    }
 }
 
 /// What was served.

@@ -74,11 +74,21 @@ fn ends_sections(alloc: Global, text: &str) -> Result<Option<Sectioning>, Fail> 
 fn words_that_ask_for_a_reply_at_once(rt: HostRuntime) -> Result<(), Fail> {
     for (text, wanted) in [
         ("blink serve", Some(Sectioning::BySync)),
-        ("blink serve --interactive", Some(Sectioning::EachLine)),
+        ("blink serve --interactive", Some(Sectioning::AtMost(1))),
         (
             "blink dump index.image --interactive",
-            Some(Sectioning::EachLine),
+            Some(Sectioning::AtMost(1)),
         ),
+        (
+            "blink serve --section 10000",
+            Some(Sectioning::AtMost(10000)),
+        ),
+        (
+            "blink serve --section 7 --interactive",
+            Some(Sectioning::AtMost(1)),
+        ),
+        ("blink serve --section 0", None),
+        ("blink rows --section 7 index.image", None),
         ("blink rows --interactive index.image", None),
         ("blink serve --interactive yes", None),
     ] {

@@ -43,7 +43,7 @@ fn answer<R: Threads + Wait + Sync>(
     let plan = ServePlan {
         workers,
         compressors,
-        sections: Sectioning::EachLine,
+        sections: Sectioning::AtMost(1),
     };
     match end(rt, alloc, plan, input, Vec::new(alloc)) {
         (Ok(totals), text) => Some((text.as_slice() == output, totals)),
@@ -156,14 +156,40 @@ fn asks_early<R: Threads + Wait + Sync>(
     )
 }
 
-// The reply to a line is out before the next one is asked for. Where a sync ends a section that is not so.
+// The reply to a line is out before the next one is asked for. Where a sync ends a section, or the second of two lines does, that is
+// not so.
 #[test]
 fn a_line_is_asked_for_behind_the_reply_to_the_last(rt: HostRuntime) {
     for workers in [1, 4] {
-        let at_once = asks_early(&rt, rt.alloc(), workers, Sectioning::EachLine);
+        let at_once = asks_early(&rt, rt.alloc(), workers, Sectioning::AtMost(1));
         assert_eq!(rt; at_once, (false, 4));
+        let by_two = asks_early(&rt, rt.alloc(), workers, Sectioning::AtMost(2));
+        assert_eq!(rt; by_two, (true, 4));
         let by_sync = asks_early(&rt, rt.alloc(), workers, Sectioning::BySync);
         assert_eq!(rt; by_sync, (true, 4));
+    }
+}
+
+// A section ends behind two lines, and behind a sync: the third line sees what the first two have done, and so does the sixth.
+#[test]
+fn sections_of_two_lines(rt: HostRuntime) {
+    let input = b"insert 1 10\ninsert 2 20\nfind 1\nsync\ndelete 2\nfind 1\nfind 2\n".as_slice();
+    let output =
+        b"1 inserted\n2 inserted\n3 found 10\n4 synced\n5 deleted 20\n6 found 10\n7 absent\n".as_slice();
+    let totals = Totals {
+        requests: 7,
+        malformed: 0,
+        sections: 1,
+    };
+    for workers in [1, 4] {
+        let plan = ServePlan {
+            workers,
+            compressors: 1,
+            sections: Sectioning::AtMost(2),
+        };
+        let (ended, text) = end(&rt, rt.alloc(), plan, input, Vec::new(rt.alloc()));
+        assert_eq!(rt; ended, Ok(totals));
+        assert!(rt; text.as_slice() == output, "{workers} workers");
     }
 }
 
@@ -172,7 +198,7 @@ fn rows_left<R: Threads + Wait + Sync>(rt: &R, alloc: Global, input: &[u8]) -> O
     let plan = ServePlan {
         workers: 2,
         compressors: 1,
-        sections: Sectioning::EachLine,
+        sections: Sectioning::AtMost(1),
     };
     let mut reader = Watched::new(input);
     let mut writer = Watched::new(Vec::new(alloc));

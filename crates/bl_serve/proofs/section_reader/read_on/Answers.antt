@@ -10,6 +10,7 @@ returns-else-ahead-gt0 g c = let none = c.clear.ensures in let empty = ap length
   rest = [];
   more = [];
   consumed = consumes_start _;
-  reads = (reads_none c.args.ahead.now.source c.clear.new.self none, omega (arith, empty), refl, subst (AskNoEnd c.args.sections) (sym none) (asks_none c.args.sections), inr (let few = c.if-ahead-gt0.false in omega (arith, empty, few)));
+  reads = (reads_none c.args.ahead.now.source c.clear.new.self none, omega (arith, empty), refl, subst (AskNoEnd c.args.ahead.now.sections) (sym none) (asks_none c.args.ahead.now.sections), inr (let few = c.if-ahead-gt0.false in omega (arith, empty, few)));
+  same = refl;
   idle = λ _. (refl, refl);
 }

@@ -1,4 +1,4 @@
-use Rattle.std.proofs.Common.{◌≡◌, ◌++◌, ◌∷◌, [], refl, ap, sym, subst, length, arith, inl, inr, length-append}
+use Rattle.std.proofs.Common.{◌≡◌, ℕ, ◌++◌, ◌∷◌, [], refl, ap, sym, subst, length, arith, inl, inr, length-append}
 use Rattle.std.proofs.lemmas.Result.{err_from_is_err_and}
 use Rattle.bl_serve_lines.proofs.Known.{consumes_more, consumes_start}
 use Rattle.bl_serve.specs.Reading.{AsksEnd, AskNoEnd}
@@ -30,7 +30,8 @@ returns-then-ended g c = let i = c.loop-taken.invariant in let e = rw c.in-Ok-Li
         reads_more _ _ _ _ _ e.0 _ _ c.in-Ok-Line.request i.reads e.3.0 e.3.1 grown,
         (let n = i.number in let t = c.loop-taken-test.true in let a = ap length grown in let b = length-append c.loop-taken.lines (c.in-Ok-Line.request ∷ []) in let d : length (c.in-Ok-Line.request ∷ []) ≡ 1 = refl in omega (arith, n, t, a, b, d)),
         refl,
-        asks_end c.args.sections c.loop-taken.lines _ c.in-Ok-Line.request i.no_end grown (c.ends_section-ended.ensures.0 c.if-ended.true),
+        asks_end c.args.sections c.loop-taken.lines _ c.in-Ok-Line.request i.no_end grown
+            (subst (λ (n : ℕ). AsksEnd c.args.sections n c.in-Ok-Line.request) c.len.ensures (c.ends_section-ended.ensures.0 c.if-ended.true)),
       ),
     )
 
@@ -61,11 +62,11 @@ returns-in-Err g c = let i = c.loop-taken.invariant in let e = c.in-Err.ensures 
 pub loop-taken-preserved : goal.loop-taken-preserved
 loop-taken-preserved g c = let i = c.loop-taken.invariant in let e = rw c.in-Ok-Line.field-0-is at c.in-Ok-Line.ensures in
     let grown = c.in_ok-push-in-Ok-Line.ensures in
-    let other : ¬ AsksEnd c.args.sections c.in-Ok-Line.request = λ is. let t = c.ends_section-ended.ensures.1 is in let f = c.if-ended.false in cc in record {
+    let other : ¬ AsksEnd c.args.sections c.len.result c.in-Ok-Line.request = λ is. let t = c.ends_section-ended.ensures.1 is in let f = c.if-ended.false in cc in record {
       more = i.more ++ e.1;
       consumed = consumes_more _ _ _ _ _ i.consumed e.2;
       reads = reads_more _ _ _ _ _ e.0 _ _ c.in-Ok-Line.request i.reads e.3.0 e.3.1 grown;
-      no_end = subst (AskNoEnd c.args.sections) (sym grown) (asks_more c.args.sections c.loop-taken.lines c.in-Ok-Line.request i.no_end other);
+      no_end = asks_more c.args.sections c.loop-taken.lines _ c.in-Ok-Line.request i.no_end grown (subst (λ (n : ℕ). ¬ AsksEnd c.args.sections n c.in-Ok-Line.request) c.len.ensures other);
       number = (let n = i.number in let a = ap length grown in let b = length-append c.loop-taken.lines (c.in-Ok-Line.request ∷ []) in let d : length (c.in-Ok-Line.request ∷ []) ≡ 1 = refl in omega (arith, n, a, b, d));
     }
 

@@ -1,10 +1,13 @@
-use Rattle.std.proofs.Common.{rules, ◌≡◌, ◌-◌, ◌++◌, ℕ, List, [], length, sym, ap, ◌∙◌, ◌<◌, ◌+◌, ◌≤◌, subst, arith, append_assoc, true, inl, inr}
+use Rattle.std.proofs.Common.{rules, ◌≡◌, ◌-◌, ◌++◌, ℕ, List, [], length, sym, ap, ◌∙◌, ◌<◌, ◌+◌, ◌≤◌, subst, arith, append_assoc, length-append, true, inl, inr}
 use Rattle.std.specs.Prelude.{Option, Ok, Err, min}
 use Rattle.std.specs.Io.KnownBytes.{Consumes, IsAtEnd}
 use Rattle.std.proofs.lemmas.Bool.{cases_lt}
 use Rattle.std.proofs.lemmas.Result.{err_from_is_err_and}
 use Rattle.bl_serve_lines.specs.declared.request.Request.{Request}
+use Rattle.bl_serve_lines.specs.declared.serving.Sectioning.{Sectioning}
 use Rattle.bl_serve_lines.specs.declared.serving.Totals.{Totals}
+use Rattle.bl_serve_lines.specs.Served.{after_lines}
+use Rattle.bl_serve_lines.proofs.Sections.{behind_none, behind_both}
 use Rattle.bl_serve_lines.proofs.Known.{consumes_more}
 use Rattle.bl_index.specs.declared.index.Pass.{Pass}
 use Rattle.bl_map.specs.Handles.{seats_of}
@@ -27,7 +30,8 @@ loop-init g c = let r = c.read_on.ensures in record {
   served = subst (λ (z : List Pass × Totals). HasServed c.args.service.now.sections c.args.service.now.index.now (seats_of c.args.session.handles.items) z.0 c.args.session.totals z.1 (c.args.ahead.now.source ++ r.more) (c.args.ahead.now.source ++ r.more) [] c.emptied-session.result.text.items)
       (λ i. (sym (ap seats_of c.emptied-session.ensures.handles) i, sym c.emptied-session.ensures.totals i))
       (served_nothing c.args.service.now.sections c.args.service.now.index.now (seats_of c.args.session.handles.items) c.args.session.totals (c.args.ahead.now.source ++ r.more) c.emptied-session.result.text.items c.emptied-session.ensures.text c.requires.met (let a = c.args.session.some in let d = c.args.session.handles.ok in let e = seats_long c.args.session.handles.items in omega (arith, a, d, e)) c.requires.requests);
-  reads = subst (λ (n : ℕ). EndsReading c.args.service.now.sections c.read_on.new.ahead.end n c.read_on.new.ahead.lines r.rest (c.args.ahead.now.source ++ r.more) c.read_on.new.ahead.source (IsAtEnd (g.R.Read.remaining c.read_on.new.reader.inner)) (c.read_on.new.reader.failed ≡ true)) c.most_behind-ahead.ensures r.reads;
+  sections = r.same ∙ sym (behind_none c.args.service.now.sections);
+  reads = subst (λ (n : Sectioning × ℕ). EndsReading n.0 c.read_on.new.ahead.end n.1 c.read_on.new.ahead.lines r.rest (c.args.ahead.now.source ++ r.more) c.read_on.new.ahead.source (IsAtEnd (g.R.Read.remaining c.read_on.new.reader.inner)) (c.read_on.new.reader.failed ≡ true)) (λ i. (sym (behind_none c.args.service.now.sections) i, c.most_behind-ahead.ensures i)) r.reads;
 }
 
 -- the section could not be read whole
@@ -54,8 +58,8 @@ pub returns-in_err-back : goal.returns-in_err-back
 returns-in_err-back g c = let i = c.loop.invariant in let p = err_from_is_err_and c.from_residual-in_err-back.result c.from_residual-in_err-back.ensures.1 in let m = c.in_err-back.ensures.consumes in
     let was : c.loop.ahead.end ≡ Ok c.in_ok-end.end = search rules in
     let lines : c.loop.ahead.lines ≡ c.swap.new.x = search rules in
-    let e : EndsReading c.args.service.now.sections (Ok c.in_ok-end.end) (min c.loop.chunk (18446744073709551615 - c.loop.session.totals.requests)) c.swap.new.x i.rest i.mid c.loop.ahead.source (IsAtEnd (g.R.Read.remaining c.loop.reader.inner)) (c.loop.reader.failed ≡ true)
-    = subst (λ (z : List (Option Request)). EndsReading c.args.service.now.sections (Ok c.in_ok-end.end) (min c.loop.chunk (18446744073709551615 - c.loop.session.totals.requests)) z i.rest i.mid c.loop.ahead.source (IsAtEnd (g.R.Read.remaining c.loop.reader.inner)) (c.loop.reader.failed ≡ true)) lines (rw was at i.reads) in
+    let e : EndsReading (after_lines c.args.service.now.sections (length i.asked)) (Ok c.in_ok-end.end) (min c.loop.chunk (18446744073709551615 - c.loop.session.totals.requests)) c.swap.new.x i.rest i.mid c.loop.ahead.source (IsAtEnd (g.R.Read.remaining c.loop.reader.inner)) (c.loop.reader.failed ≡ true)
+    = subst (λ (z : List (Option Request)). EndsReading (after_lines c.args.service.now.sections (length i.asked)) (Ok c.in_ok-end.end) (min c.loop.chunk (18446744073709551615 - c.loop.session.totals.requests)) z i.rest i.mid c.loop.ahead.source (IsAtEnd (g.R.Read.remaining c.loop.reader.inner)) (c.loop.reader.failed ≡ true)) lines (rw was at i.reads) in
     rw (p.1, p.2) (
       i.asked ++ c.swap.new.x,
       i.rest,
@@ -75,8 +79,8 @@ pub returns-then-not-open : goal.returns-then-not-open
 returns-then-not-open g c = let i = c.loop.invariant in let r = c.in_ok-back.ensures.reads in
     let was : c.loop.ahead.end ≡ Ok c.in_ok-end.end = search rules in
     let lines : c.loop.ahead.lines ≡ c.swap.new.x = search rules in
-    let e : EndsReading c.args.service.now.sections (Ok c.in_ok-end.end) (min c.loop.chunk (18446744073709551615 - c.loop.session.totals.requests)) c.swap.new.x i.rest i.mid c.loop.ahead.source (IsAtEnd (g.R.Read.remaining c.loop.reader.inner)) (c.loop.reader.failed ≡ true)
-    = subst (λ (z : List (Option Request)). EndsReading c.args.service.now.sections (Ok c.in_ok-end.end) (min c.loop.chunk (18446744073709551615 - c.loop.session.totals.requests)) z i.rest i.mid c.loop.ahead.source (IsAtEnd (g.R.Read.remaining c.loop.reader.inner)) (c.loop.reader.failed ≡ true)) lines (rw was at i.reads) in
+    let e : EndsReading (after_lines c.args.service.now.sections (length i.asked)) (Ok c.in_ok-end.end) (min c.loop.chunk (18446744073709551615 - c.loop.session.totals.requests)) c.swap.new.x i.rest i.mid c.loop.ahead.source (IsAtEnd (g.R.Read.remaining c.loop.reader.inner)) (c.loop.reader.failed ≡ true)
+    = subst (λ (z : List (Option Request)). EndsReading (after_lines c.args.service.now.sections (length i.asked)) (Ok c.in_ok-end.end) (min c.loop.chunk (18446744073709551615 - c.loop.session.totals.requests)) z i.rest i.mid c.loop.ahead.source (IsAtEnd (g.R.Read.remaining c.loop.reader.inner)) (c.loop.reader.failed ≡ true)) lines (rw was at i.reads) in
     let none : c.if-open.ahead ≡ 0 = elim c.if-open.branch [ then-open w ↦ search rules | else-open w ↦ w.ahead-is ] in
     let last : Ok c.in_ok-end.end ≡ Ok section_end.Finished → length c.swap.new.x < c.loop.chunk = λ is. elim (cases_lt (length c.swap.new.x) c.loop.chunk) [
       | inl low ↦ low
@@ -104,13 +108,16 @@ pub loop-preserved : goal.loop-preserved
 loop-preserved g c = let i = c.loop.invariant in let r = c.in_ok-back.ensures.reads in
     let was : c.loop.ahead.end ≡ Ok c.in_ok-end.end = search rules in
     let lines : c.loop.ahead.lines ≡ c.swap.new.x = search rules in
-    let e : EndsReading c.args.service.now.sections (Ok c.in_ok-end.end) (min c.loop.chunk (18446744073709551615 - c.loop.session.totals.requests)) c.swap.new.x i.rest i.mid c.loop.ahead.source (IsAtEnd (g.R.Read.remaining c.loop.reader.inner)) (c.loop.reader.failed ≡ true)
-    = subst (λ (z : List (Option Request)). EndsReading c.args.service.now.sections (Ok c.in_ok-end.end) (min c.loop.chunk (18446744073709551615 - c.loop.session.totals.requests)) z i.rest i.mid c.loop.ahead.source (IsAtEnd (g.R.Read.remaining c.loop.reader.inner)) (c.loop.reader.failed ≡ true)) lines (rw was at i.reads) in
+    let e : EndsReading (after_lines c.args.service.now.sections (length i.asked)) (Ok c.in_ok-end.end) (min c.loop.chunk (18446744073709551615 - c.loop.session.totals.requests)) c.swap.new.x i.rest i.mid c.loop.ahead.source (IsAtEnd (g.R.Read.remaining c.loop.reader.inner)) (c.loop.reader.failed ≡ true)
+    = subst (λ (z : List (Option Request)). EndsReading (after_lines c.args.service.now.sections (length i.asked)) (Ok c.in_ok-end.end) (min c.loop.chunk (18446744073709551615 - c.loop.session.totals.requests)) z i.rest i.mid c.loop.ahead.source (IsAtEnd (g.R.Read.remaining c.loop.reader.inner)) (c.loop.reader.failed ≡ true)) lines (rw was at i.reads) in
     let is : c.in_ok-end.end ≡ section_end.Finished = (c.goes_on-open.ensures.0 (search rules)).0 in
     let few : c.if-open.ahead ≡ min c.chunk_behind-chunk.result (18446744073709551615 - c.in_ok-back.back.totals.requests) = elim c.if-open.branch [
       | then-open w ↦ w.ahead-is ∙ (w.most_behind-ahead-then-open.ensures ∙ (let a = c.in_ok-back.ensures.counts.requests in let b = finished_none c.in_ok-end.end is in let long : w.len-then-open.result ≡ length c.swap.new.x = search rules in ap (λ (n : ℕ). min c.chunk_behind-chunk.result (18446744073709551615 - n)) (let same : c.loop.session.totals.requests + w.len-then-open.result ≡ c.in_ok-back.back.totals.requests = omega (arith, a, b, long) in same)))
       | else-open w ↦ search rules
     ] in
+    let left : c.behind-ahead.result ≡ after_lines c.args.service.now.sections (length (i.asked ++ c.swap.new.x))
+    = (let is : c.behind-ahead.result ≡ after_lines c.loop.ahead.sections (length c.swap.new.x) = search rules in is) ∙ (ap (λ (z : Sectioning). after_lines z (length c.swap.new.x)) i.sections
+    ∙ (behind_both c.args.service.now.sections (length i.asked) (length c.swap.new.x) ∙ ap (after_lines c.args.service.now.sections) (sym (length-append i.asked c.swap.new.x)))) in
     let grown : c.in_ok-back.back.text.items ≡ c.loop.session.text.items ++ c.in_ok-back.ensures.serves.0 = c.in_ok-back.ensures.serves.1 in record {
       asked = i.asked ++ c.swap.new.x;
       rest = r.rest;
@@ -121,5 +128,6 @@ loop-preserved g c = let i = c.loop.invariant in let r = c.in_ok-back.ensures.re
           (λ j. (append_assoc c.args.ahead.now.source i.more r.more j, sym grown j))
           (goes_on c.args.service.now.sections c.args.service.now.index.now (seats_of c.args.session.handles.items) (seats_of c.loop.session.handles.items) c.args.session.totals c.loop.session.totals (c.args.ahead.now.source ++ i.more) i.mid i.asked c.loop.session.text.items i.served c.in_ok-back.back.totals c.in_ok-end.end (min c.loop.chunk (18446744073709551615 - c.loop.session.totals.requests)) c.swap.new.x i.rest c.loop.ahead.source r.more c.in_ok-back.ensures.serves.0 (seats_of c.in_ok-back.back.handles.items) (IsAtEnd (g.R.Read.remaining c.loop.reader.inner)) (c.loop.reader.failed ≡ true) is e (omega arith)
           c.in_ok-back.ensures.counts c.in_ok-back.ensures.serves.2);
-      reads = subst (λ (n : ℕ). EndsReading c.args.service.now.sections c.serve_chunk.new.ahead.end n c.serve_chunk.new.ahead.lines r.rest (c.loop.ahead.source ++ r.more) c.serve_chunk.new.ahead.source (IsAtEnd (g.R.Read.remaining c.serve_chunk.new.reader.inner)) (c.serve_chunk.new.reader.failed ≡ true)) few r.reads;
+      sections = r.same ∙ left;
+      reads = subst (λ (n : Sectioning × ℕ). EndsReading n.0 c.serve_chunk.new.ahead.end n.1 c.serve_chunk.new.ahead.lines r.rest (c.loop.ahead.source ++ r.more) c.serve_chunk.new.ahead.source (IsAtEnd (g.R.Read.remaining c.serve_chunk.new.reader.inner)) (c.serve_chunk.new.reader.failed ≡ true)) (λ j. (left j, few j)) r.reads;
     }

@@ -1,7 +1,8 @@
-use Rattle.std.proofs.Common.{◌≡◌, ◌-◌, ◌^◌, ℕ, List, ◌++◌}
+use Rattle.std.proofs.Common.{◌≡◌, ◌-◌, ◌^◌, ℕ, List, ◌++◌, length}
 use Rattle.std.specs.Prelude.{Option, min, true}
 use Rattle.std.specs.Io.KnownBytes.{Consumes, IsAtEnd}
 use Rattle.bl_serve_lines.specs.declared.request.Request.{Request}
+use Rattle.bl_serve_lines.specs.Served.{after_lines}
 use Rattle.bl_map.specs.Handles.{seats_of}
 use Rattle.bl_serve.specs.Reading.{EndsReading}
 use Rattle.bl_serve.proofs.Continuing.{HasServed}
@@ -16,5 +17,6 @@ invariant-loop g l = record {
   mid : List ℕ;
   consumed : Consumes (g.R.Read.remaining l.fn.reader.inner) (g.R.Read.remaining l.reader.inner) more;
   served : HasServed l.service.sections l.service.index.now (seats_of l.fn.session.handles.items) (seats_of l.session.handles.items) l.fn.session.totals l.session.totals (l.fn.ahead.source ++ more) mid asked l.session.text.items;
-  reads : EndsReading l.service.sections l.ahead.end (min l.chunk (2 ^ 64 - 1 - l.session.totals.requests)) l.ahead.lines rest mid l.ahead.source (IsAtEnd (g.R.Read.remaining l.reader.inner)) (l.reader.failed ≡ true);
+  sections : l.ahead.sections ≡ after_lines l.service.sections (length asked);
+  reads : EndsReading (after_lines l.service.sections (length asked)) l.ahead.end (min l.chunk (2 ^ 64 - 1 - l.session.totals.requests)) l.ahead.lines rest mid l.ahead.source (IsAtEnd (g.R.Read.remaining l.reader.inner)) (l.reader.failed ≡ true);
 }
