@@ -23,6 +23,7 @@ const WAITS_FOR_ROOM: u32 = 32_768;
 
 /// So many times it only lets others run, and then it sleeps for so many microseconds.
 const YIELDS: u32 = 4_096;
+
 const NAP: u64 = 50;
 
 /// What became of a hint that was followed.
