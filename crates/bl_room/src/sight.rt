@@ -162,17 +162,14 @@ impl Sight {
         self.waiting = kept;
     }
 
-    /// The frame was released. It stays in sight where there are fewer than so many. Says whether it does.
+    /// The frame was released. It stays in sight where there are fewer than so many.
     #[inline(always)]
-    pub fn note_released(&mut self, frame: u32, most: u32) -> bool
+    pub fn note_released(&mut self, frame: u32, most: u32)
         ensures { (self.new.retired ≡ self.old.retired) × (self.new.waiting ≡ self.old.waiting) }
     {
         if self.ready < most.min(RING as u32) {
             self.released[self.ready as usize] = frame;
             self.ready += 1;
-            true
-        } else {
-            false
         }
     }
 
