@@ -243,6 +243,10 @@ all_push P (x ∷ xs) a all p (suc k) d lt = all_push P xs a (λ j e low. all (s
 all_tail : (P : Seat → Type 0) (seat : Seat) (rest : List Seat) → All P (seat ∷ rest) → P seat × All P rest
 all_tail P seat rest all = (all 0 seat (omega arith), λ k d lt. all (suc k) d (omega (arith, lt)))
 
+-- the first seat is at the index
+pub first_at : (index : Index) (seats : List Seat) (boxes left : List Boxed) (box : Boxed) (hands : List (Hand PassState)) → boxes ≡ box ∷ left → GivenSo index seats boxes hands → arc_value box.value.index ≡ index
+first_at index seats boxes left box hands next g = (all_tail (IsAtIndex index) box.value (values left) (subst (λ (z : List Boxed). All (IsAtIndex index) (values z)) next g.at)).0
+
 module _ (index : Index) (seats : List Seat) (boxes left : List Boxed) (box : Boxed) (hands now : List (Hand PassState)) (next : boxes ≡ box ∷ left) (g : GivenSo index seats boxes hands) where
   pub first_rests : box.value.running ≡ at_seat.Rests
   first_rests = (all_tail (λ (z : Seat). z.running ≡ at_seat.Rests) box.value (values left) (subst (λ (z : List Boxed). AllRest (values z)) next g.rests)).0

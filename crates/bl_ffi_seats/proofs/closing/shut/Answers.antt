@@ -1,4 +1,5 @@
 use Rattle.std.proofs.Common.{rules, ◌≡◌, ◌<◌, List, All, ◌++◌, [], ◌∷◌, length, sym, ap, ◌∙◌, subst, arith}
+use Prim.{∥◌∥₁}
 use Rattle.std.specs.Arc.{arc_value}
 use Rattle.std.proofs.lemmas.List.{length_push}
 use Rattle.bl_store.specs.declared.store.Hand.{Hand}
@@ -11,9 +12,20 @@ use Rattle.bl_index_resume.specs.declared.running.Running.TheVariants as at_seat
 use Rattle.bl_index_resume.specs.Running.{Stands, IsAtRest}
 use Rattle.bl_ffi_seats.specs.Closed.{values, IsAtIndex, AreAll}
 use Rattle.bl_ffi_seats.specs.declared.seat.Seat.{Seat}
-use Rattle.bl_ffi_seats.proofs.Closings.{one_given, first_rests, all_given, each_hand}
+use Rattle.bl_ffi_seats.proofs.Closings.{one_given, first_rests, first_at, all_given, each_hand}
 use Rattle.bl_ffi_seats.proofs.Made.{first_taken}
 use Rattle.bl_ffi_seats.proofs.closing.shut.Goals as goal
+
+pub stands-requires : goal.stands-requires
+stands-requires c =
+    let index = arc_value c.args.prepared.index in let boxes = c.loop-seats.seats.items in let left = c.remove.new.self.items in let box = c.remove.result in
+    let some_left : 0 < length boxes = search rules in
+    let next = first_taken boxes left box some_left c.remove.ensures.value c.remove.ensures.by_index.2 in
+    let seat = c.into_inner-seat.result in
+    let inner : seat ≡ box.value = c.into_inner-seat.ensures in
+    let at : arc_value seat.index ≡ index = ap (λ (z : Seat). arc_value z.index) inner ∙ first_at index (values c.args.seats.items) boxes left box c.loop-seats.hands.items next c.loop-seats.invariant.given in
+    let tree_is : c.tree.result.now ≡ index = c.tree.ensures ∙ c.deref.ensures in
+    subst (λ (z : Tree). ∥ Stands z seat.hand seat.running ∥₁) (at ∙ sym tree_is) seat.own
 
 pub loop-seats-preserved : goal.loop-seats-preserved
 loop-seats-preserved c =
