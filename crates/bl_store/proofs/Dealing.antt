@@ -7,11 +7,11 @@ use lib.ListN.{get_elem?}
 use Rattle.std.proofs.lemmas.Grind.{get_or-set_at}
 use Rattle.std.proofs.lemmas.List.{get_or_append_left, get_or-append_right, length-append}
 use Rattle.atomic_table.specs.Table.{State, opening, Splits}
-use Rattle.atomic_table.proofs.Lists.{at_set, set_else}
+use Rattle.atomic_table.proofs.Lists.{at_set, set_else, set_again}
 use Rattle.bl_layout.specs.declared.layout.Layout.{Layout}
 use Rattle.bl_layout.specs.Words.{frame_count}
 use Rattle.bl_layout.specs.Cells.{cell_count}
-use Rattle.bl_store_rule.specs.Pages.{Owner, Released, Open, Retired, Stage, Idle, Running, Pages, IsOrderly, owned, written}
+use Rattle.bl_store_rule.specs.Pages.{Owner, Released, Open, Retired, Stage, Idle, Running, Pages, IsOrderly, owned, written_as}
 use Rattle.bl_store_rule.specs.Frames.{process_at, page_at, owner_at, state_at, place_at, drafted, shown, Frame, free, used, FrameIs, OwnerIs, ProcessIs, Knows, total_of, Shows, IsLive, Kept, share, starting}
 use Rattle.bl_store_rule.specs.declared.view.View.{View}
 use Rattle.bl_store_rule.specs.declared.view.Joined.{Joined}
@@ -94,11 +94,12 @@ module _ (l : Layout) (cs : List (List ℕ)) where
   -- all words are 0, and no page is laid
   pub laid_none : Laid l cs (replicate (cell_count l) 0) 0
   laid_none = let zeros = zero_at (cell_count l) in record {
-    pages = record { contents = replicate l.pages (replicate 32 0); owners = replicate l.pages Released; clock = 0; hands = replicate l.passes (Idle, tt) };
+    pages = record { contents = replicate l.pages (replicate 32 0); owners = replicate l.pages Released; versions = replicate l.pages 0; clock = 0; hands = replicate l.passes (Idle, tt) };
     frames = replicate (frame_count l) free;
     orderly = record {
       contents = length-replicate l.pages (replicate 32 0);
       owners = length-replicate l.pages Released;
+      versions = length-replicate l.pages 0;
       hands = length-replicate l.passes (Idle, tt);
       begun = λ n since d at. let no : Idle ≡ Running since = ap (λ (z : Stage × Unit {0}). z.0) (of_all l.passes (Idle, tt) n (Running since, d) at) in cc;
     };
@@ -107,11 +108,12 @@ module _ (l : Layout) (cs : List (List ℕ)) where
       frame_total = length-replicate (frame_count l) free;
       clock = zeros 0;
       process = λ q st d low at. subst (ProcessIs (get_or (replicate (cell_count l) 0) (process_at l q) 0)) (ap (λ (z : Stage × Unit {0}). z.0) (of_all l.passes (Idle, tt) q (st, d) at)) (zeros (process_at l q));
-      page = λ x xs e. inl (zeros (page_at l x), sym (of_all l.pages (replicate 32 0) x xs e));
+      page = λ x v xs e ev. inl (zeros (page_at l x), sym (of_all l.pages (replicate 32 0) x xs e));
       owner = λ x o e. subst (OwnerIs (get_or (replicate (cell_count l) 0) (owner_at l x) 0)) (of_all l.pages Released x o e) (zeros (owner_at l x));
       frame = λ f st e. subst (FrameIs l (replicate (cell_count l) 0) f) (of_all (frame_count l) free f st e) (zeros (state_at l f));
     };
     hands = refl;
+    versions = refl;
     clock = refl;
     done = λ y words low at. absurd (omega arith);
     rest = λ y low high. (at_all l.pages (replicate 32 0) y high, at_all l.pages Released y high);
@@ -126,6 +128,7 @@ module _ (l : Layout) (cs : List (List ℕ)) where
     orderly = r.orderly;
     shows = r.shows;
     hands = r.hands;
+    versions = r.versions;
     clock = r.clock;
     done = λ y words low at. dite (ℕ_discrete y x)
         (λ e. let same : xs ≡ words = one_there cs x xs words here (ap (get_elem? cs) (sym e) ∙ at) in let zeros : xs ≡ replicate 32 0 = blank_words xs 32 size is in let was = r.rest x (le_refl x) inside in
@@ -143,6 +146,7 @@ module _ (l : Layout) (cs : List (List ℕ)) where
     pub orderly : IsOrderly l pages
     pub shows : Shows l ws pages frames
     pub hands : pages.hands ≡ replicate l.passes (Idle, tt)
+    pub versions : pages.versions ≡ replicate l.pages 0
     pub clock : pages.clock ≡ 0
     pub done : (y : ℕ) (words : List ℕ) → y < x → get_elem? cs y ≡ some words → (get_elem? pages.contents y ≡ some words) × (get_elem? pages.owners y ≡ some (first_owner words))
     pub rest : (y : ℕ) → x ≤ y → y < l.pages → (get_elem? pages.contents y ≡ some (replicate 32 0)) × (get_elem? pages.owners y ≡ some Released)
@@ -154,8 +158,9 @@ module _ (l : Layout) (cs : List (List ℕ)) where
     pages = r.pages;
     frames = set r.frames x new;
     orderly = r.orderly;
-    shows = shows_frame l ws r.pages r.frames x i 2 free new r.orderly r.shows was (inl i_is) (get_or-set_at ws i (state_at l x) 2 0 (sym i_is) (omega arith), tt, omega arith, λ k low. absurd (omega arith)) (λ y ys e. cc);
+    shows = shows_frame l ws r.pages r.frames x i 2 free new r.orderly r.shows was (inl i_is) (get_or-set_at ws i (state_at l x) 2 0 (sym i_is) (omega arith), tt, omega arith, λ k low. absurd (omega arith)) (λ y w ys e. cc);
     hands = r.hands;
+    versions = r.versions;
     clock = r.clock;
     done = r.done;
     rest = r.rest;
@@ -178,8 +183,9 @@ module _ (l : Layout) (cs : List (List ℕ)) where
               (λ e. get_or-set_at ws i (place_at l x j) n 0 (omega arith) (omega arith) ∙ (sym (get_or-append_right (take k xs) (n ∷ []) k k 0 so_far (le_refl k) ∙ last n k) ∙ ap (λ (z : ℕ). get_or (take k xs ++ n ∷ []) z 0) (sym e)))
               (λ ne. get_or-set_other ws i (place_at l x j) n 0 (λ e. ne (omega arith)) ∙ (was.3 j (omega arith) ∙ sym (get_or_append_left (take k xs) (n ∷ []) 0 j (omega arith)))),
         )
-            (λ y ys e. cc);
+            (λ y w ys e. cc);
         hands = r.hands;
+        versions = r.versions;
         clock = r.clock;
         done = r.done;
         rest = r.rest;
@@ -192,11 +198,11 @@ module _ (l : Layout) (cs : List (List ℕ)) where
 
   -- the page's word names the frame, and the page is open
   pub laid_open : (ws : List ℕ) (x i j n : ℕ) (xs : List ℕ) → x < l.pages → i ≡ page_at l x → j ≡ owner_at l x → n ≡ x + 1 → get_elem? cs x ≡ some xs → length xs ≡ 32 → is_blank xs ≡ false → Drafting ws x 32 xs → Laid l cs (set (set ws i n) j 1) (x + 1)
-  laid_open ws x i j n xs inside i_is j_is n_is here size is r = let new : Frame = used (shown x) xs in let s1 : Pages (Unit {0}) = written r.pages x xs in let s2 : Pages (Unit {0}) = owned s1 x Open in
+  laid_open ws x i j n xs inside i_is j_is n_is here size is r = let new : Frame = used (shown x 0) xs in let s1 : Pages (Unit {0}) = written_as r.pages x xs 0 in let s2 : Pages (Unit {0}) = owned s1 x Open in
       let draft_here : get_elem? r.frames x ≡ some (used (drafted 0 0) xs) = r.here ∙ ap (λ (z : List ℕ). some (used (drafted 0 0) z)) (take_all 32 xs (omega arith)) in
-      let none : Unit {0} = tt in let yes : Pages (Unit {0}) → Type 0 = λ _. Unit {0} in let passing = first_put l none yes ws r.frames r.shows.frame 0 x x xs [] draft_here size tt in
-      let orderly1 = orderly_written l r.pages x xs r.orderly in
-      let shows1 = shows_put l none yes ws r.pages r.frames (set r.frames x new) 0 x x i n xs [] i_is n_is inside r.orderly r.shows passing in
+      let none : Unit {0} = tt in let yes : Pages (Unit {0}) → Type 0 = λ _. Unit {0} in let passing = first_put l none yes ws r.frames r.shows.frame 0 x 0 x xs [] draft_here size tt in
+      let orderly1 = orderly_written l r.pages x 0 xs r.orderly in
+      let shows1 = shows_put l none yes ws r.pages r.frames (set r.frames x new) 0 x 0 x i n xs [] i_is n_is inside r.orderly r.shows passing in
       let shows2 : Shows l (set (set ws i n) (owner_at l x) 1) s2 (set r.frames x new) = shows_owner l (set ws i n) s1 (set r.frames x new) x 1 Open orderly1 inside refl shows1 in
       let was = r.rest x (le_refl x) inside in record {
         pages = s2;
@@ -204,6 +210,7 @@ module _ (l : Layout) (cs : List (List ℕ)) where
         orderly = orderly_owned l s1 x Open orderly1;
         shows = subst (λ (z : ℕ). Shows l (set (set ws i n) z 1) s2 (set r.frames x new)) (sym j_is) shows2;
         hands = r.hands;
+        versions = ap (λ (z : List ℕ). set z x 0) r.versions ∙ set_again (replicate l.pages 0) x 0 (at_all l.pages 0 x inside);
         clock = r.clock;
         done = λ y words low at. dite (ℕ_discrete y x)
             (λ e. let same : xs ≡ words = one_there cs x xs words here (ap (get_elem? cs) (sym e) ∙ at) in let open_now : Open ≡ first_owner words = ap (λ (b : Bool). if b then Released else Open) (sym is) ∙ ap first_owner same in
@@ -221,6 +228,7 @@ module _ (l : Layout) (cs : List (List ℕ)) where
     orderly = r.orderly;
     shows = r.shows;
     hands = r.hands;
+    versions = r.versions;
     clock = r.clock;
     done = λ y words low at. ⊎_elim (λ (h : (y < length cs) × (get_elem? cs y ≡ some words)). r.done y words h.0 h.1) (λ (h : (length cs ≤ y) × (j : ℕ) × (get_elem? (replicate (l.pages - length cs) (replicate 32 0)) j ≡ some words)). behind y words low h.0 h.1 h.2) (at_append cs (replicate (l.pages - length cs) (replicate 32 0)) y words at);
     rest = λ y low high. absurd (omega arith);
@@ -242,7 +250,7 @@ module _ (l : Layout) (cs : List (List ℕ)) where
         frame_total = r.shows.frame_total;
         clock = r.shows.clock ∙ r.clock;
         process = λ q st e low at. subst (ProcessIs (get_or ws (process_at l q) 0)) (ap (λ (z : Stage × D). z.0) (of_all l.passes (Idle, d) q (st, e) at)) (r.shows.process q Idle tt low (ap (λ (z : List (Stage × Unit {0})). get_elem? z q) r.hands ∙ at_all l.passes (Idle, tt) q low));
-        page = λ x xs e. r.shows.page x xs (ap (λ (z : List (List ℕ)). get_elem? z x) contents ∙ e);
+        page = λ x v xs e ev. r.shows.page x v xs (ap (λ (z : List (List ℕ)). get_elem? z x) contents ∙ e) (ap (λ (z : List ℕ). get_elem? z x) (r.versions ∙ ap (λ (m : ℕ). replicate m 0) (sym size)) ∙ ev);
         owner = λ x o e. r.shows.owner x o (ap (λ (z : List Owner). get_elem? z x) owners ∙ e);
         frame = r.shows.frame;
       } in
@@ -254,7 +262,7 @@ module _ (l : Layout) (cs : List (List ℕ)) where
         stands = hands 0 (omega arith);
         undealt = λ k low high. (hands k high, at_all l.passes 0 k high);
         clocked = tt;
-        reads = tt;
+        reads = (tt, tt);
         stocks = tt;
         drops = tt;
         seals = tt;
@@ -268,6 +276,7 @@ module _ (l : Layout) (cs : List (List ℕ)) where
         orderly = record {
           contents = size;
           owners = length-map cs first_owner ∙ size;
+          versions = length-replicate (length cs) 0 ∙ size;
           hands = length-replicate l.passes (Idle, d);
           begun = λ n since e at. let no : Idle ≡ Running since = ap (λ (z : Stage × D). z.0) (of_all l.passes (Idle, d) n (Running since, e) at) in cc;
         };
@@ -303,7 +312,7 @@ module _ {D : Type 0} (l : Layout) (first : D) (holds : Pages D → Type 0) wher
         stands = mine.stands;
         undealt = λ k low high. absurd (omega arith);
         clocked = tt;
-        reads = tt;
+        reads = (tt, tt);
         stocks = tt;
         drops = tt;
         seals = tt;
@@ -318,7 +327,7 @@ module _ {D : Type 0} (l : Layout) (first : D) (holds : Pages D → Type 0) wher
         stands = next.0;
         undealt = λ k low high. mine.undealt k (omega arith) high;
         clocked = tt;
-        reads = tt;
+        reads = (tt, tt);
         stocks = tt;
         drops = tt;
         seals = tt;

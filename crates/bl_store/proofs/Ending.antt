@@ -66,11 +66,11 @@ module _ {D : Type 0} where
 
     -- a page's word names a frame, or none
     pub framed : (id : ℕ) (v : View D) (ws : List ℕ) (xs : List (Unit {0})) → Final (Seen Rule id v) ws xs → (x : ℕ) → x < l.pages → get_or ws (page_at l x) 0 ≤ frame_count l
-    framed id v ws xs f x low = let r = f.1.0 in let orderly = r.orderly in let counts = orderly.contents in let total = r.shows.frame_total in let page = there r.pages.contents x (omega arith) in
+    framed id v ws xs f x low = let r = f.1.0 in let orderly = r.orderly in let counts = orderly.contents in let total = r.shows.frame_total in let counted = orderly.versions in let page = there r.pages.contents x (omega arith) in let put = there r.pages.versions x (omega arith) in
         subst (λ (z : List ℕ). get_or z (page_at l x) 0 ≤ frame_count l) f.2
         (⊎_elim (λ (e : (get_or f.0.words (page_at l x) 0 ≡ 0) × (page.0 ≡ replicate 32 0)). let none = e.0 in omega arith)
-        (λ (e : (g : ℕ) × (get_or f.0.words (page_at l x) 0 ≡ g + 1) × (get_elem? r.frames g ≡ some (used (shown x) page.0))). let is = e.1 in let inside = at_below r.frames e.0 (used (shown x) page.0) e.2 in omega arith)
-        (r.shows.page x page.0 page.1))
+        (λ (e : (g : ℕ) × (get_or f.0.words (page_at l x) 0 ≡ g + 1) × (get_elem? r.frames g ≡ some (used (shown x put.0) page.0))). let is = e.1 in let inside = at_below r.frames e.0 (used (shown x put.0) page.0) e.2 in omega arith)
+        (r.shows.page x put.0 page.0 page.1 put.1))
 
     -- no page is retired but by its word
     shown_retired : (s : State (Unit {0}) (View D)) (r : Rule s) (id : ℕ) (v : View D) (hands : List (Hand D)) → get_elem? s.views id ≡ some v → IsLive v → v.sealing ≡ Unsealed → HasEach l.passes hands → ((k : ℕ) (h : Hand D) → get_elem? hands k ≡ some h → IsWith v h.number (known h.seat))
@@ -86,12 +86,12 @@ module _ {D : Type 0} where
         (r.sealing x t e)
 
     in_use : (s : State (Unit {0}) (View D)) (r : Rule s) (x : ℕ) (words xs : List ℕ) → get_elem? r.pages.contents x ≡ some words → (get_or s.words (owner_at l x) 0 ≢ 0) → (get_or s.words (owner_at l x) 0 % 4 ≢ 3) → IsLeft s.words l x xs → xs ≡ words
-    in_use s r x words xs here some_owner unretired left = let n : ℕ = get_or s.words (page_at l x) 0 in let size = left.long in ⊎_elim
+    in_use s r x words xs here some_owner unretired left = let orderly = r.orderly in let counts = orderly.contents in let counted = orderly.versions in let inside = at_below r.pages.contents x words here in let put = there r.pages.versions x (omega arith) in let n : ℕ = get_or s.words (page_at l x) 0 in let size = left.long in ⊎_elim
         (λ (e : (n ≡ 0) × (words ≡ replicate 32 0)). left.gone (inr (inr e.0)) ∙ sym e.1)
-        (λ (e : (f : ℕ) × (n ≡ f + 1) × (get_elem? r.frames f ≡ some (used (shown x) words))). let up = e.1 in let was = r.shows.frame e.0 (used (shown x) words) e.2 in let back : n - 1 ≡ e.0 = omega arith in let full = was.1 in
+        (λ (e : (f : ℕ) × (n ≡ f + 1) × (get_elem? r.frames f ≡ some (used (shown x put.0) words))). let up = e.1 in let was = r.shows.frame e.0 (used (shown x put.0) words) e.2 in let back : n - 1 ≡ e.0 = omega arith in let full = was.1 in
         ext_get_or 0 xs words (size ∙ sym full)
         (λ k low. left.here (⊎_elim some_owner (⊎_elim unretired (λ (z : n ≡ 0). omega arith))) k (omega arith) ∙ (ap (λ (z : ℕ). get_or s.words (place_at l z k) 0) back ∙ was.3 k (omega arith))))
-        (r.shows.page x words here)
+        (r.shows.page x put.0 words here put.1)
 
     pub closes : (id : ℕ) (v : View D) (ws : List ℕ) (xs : List (Unit {0})) (hands : List (Hand D)) (result : List (List ℕ)) → IsLive v → v.stamp ≡ Out → v.sealing ≡ Unsealed → Final (Seen Rule id v) ws xs → HasEach l.passes hands
         → ((k : ℕ) (h : Hand D) → get_elem? hands k ≡ some h → IsWith v h.number (known h.seat)) → length result ≡ l.pages → ((x : ℕ) (words : List ℕ) → get_elem? result x ≡ some words → IsLeft ws l x words) → IsClosed holds l hands result

@@ -13,7 +13,7 @@ use Rattle.bl_store_rule.specs.declared.view.View.{View}
 abbrev start : Pages ℕ
 start = first_pages ((5 ∷ 0 ∷ []) ∷ (0 ∷ 0 ∷ []) ∷ []) 2 7
 
-opens : start ≡ record { contents = (5 ∷ 0 ∷ []) ∷ (0 ∷ 0 ∷ []) ∷ []; owners = Open ∷ Released ∷ []; clock = 0; hands = (Idle, 7) ∷ (Idle, 7) ∷ [] }
+opens : start ≡ record { contents = (5 ∷ 0 ∷ []) ∷ (0 ∷ 0 ∷ []) ∷ []; owners = Open ∷ Released ∷ []; versions = 0 ∷ 0 ∷ []; clock = 0; hands = (Idle, 7) ∷ (Idle, 7) ∷ [] }
 opens = refl
 
 -- Hand 1 begins, and is told 8.

@@ -5,7 +5,9 @@ use Rattle.atomic_table.specs.declared.shared.Seat.{Seat}
 use Rattle.bl_layout.specs.declared.layout.Layout.{Layout}
 use Rattle.bl_layout.specs.Words.{frame_count}
 use Rattle.bl_store_rule.specs.Frames.{owner_at, state_at, place_at}
-use Rattle.bl_store_rule.specs.Observed.{draft, KeepsRefusal}
+use mathlib.Core.Option.{some}
+use lib.ListN.{get_elem?}
+use Rattle.bl_store_rule.specs.Observed.{draft, look, KeepsRefusal}
 use Rattle.bl_store.specs.declared.stock.Stock.{Stock}
 use Rattle.bl_store.specs.declared.stock.NoRoom.{NoRoom}
 use Rattle.bl_store.specs.declared.stock.NoRoom.TheVariants.{Pages, Frames, Clock}
@@ -96,6 +98,14 @@ module _ {D : Type 0} where
   abbrev pub HasSeen : Option Glance → Seat (Unit {0}) (View D) → List ℕ → Type 0
   HasSeen None h words = words ≡ replicate 32 0
   HasSeen (Some glance) h words = ReadsFrom h glance × (words ≡ read_words h)
+
+  -- the hand keeps in mind that it looked there at the page, which was put so often
+  abbrev pub Keeps : Seat (Unit {0}) (View D) → ℕ → ℕ → Glance → Type 0
+  Keeps h page version glance = (k : ℕ) × (f : ℕ) × (get_elem? h.me.0.kept k ≡ some (look page f version)) × (glance.first ≡ place_at h.me.0.layout f 0)
+
+  -- it does so from now on, and keeps all else that it kept
+  abbrev pub KeepsNow : Seat (Unit {0}) (View D) → Seat (Unit {0}) (View D) → ℕ → ℕ → Glance → Type 0
+  KeepsNow h h' page version glance = (f : ℕ) × (h'.me.0.kept ≡ look page f version ∷ h.me.0.kept) × (glance.first ≡ place_at h.me.0.layout f 0)
 
   -- the hand has nothing reserved
   abbrev pub HasNoStock : Seat (Unit {0}) (View D) → Type 0

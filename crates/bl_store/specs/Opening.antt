@@ -13,9 +13,9 @@ use Rattle.bl_store.specs.declared.store.Hand.{Hand}
 abbrev pub first_owner : List ℕ → Owner
 first_owner words = if is_blank words then Released else Open
 
--- The pages at the start: each has its first words, those with only zeros are released and the others open, and no hand has begun.
+-- The pages at the start: each has its first words, those with only zeros are released and the others open, none was put, and no hand has begun.
 abbrev pub first_pages : {D : Type 0} → List (List ℕ) → ℕ → D → Pages D
-first_pages contents passes d = record { contents = contents; owners = map first_owner contents; clock = 0; hands = replicate passes (Idle, d) }
+first_pages contents passes d = record { contents = contents; owners = map first_owner contents; versions = replicate (length contents) 0; clock = 0; hands = replicate passes (Idle, d) }
 
 -- the words of so many pages, of which these are the first, and all others have only zeros
 abbrev pub padded : ℕ → List (List ℕ) → List (List ℕ)
@@ -28,6 +28,7 @@ pub record Laid (l : Layout) (contents : List (List ℕ)) (ws : List ℕ) (x : �
   pub orderly : IsOrderly l pages
   pub shows : Shows l ws pages frames
   pub hands : pages.hands ≡ replicate l.passes (Idle, tt)
+  pub versions : pages.versions ≡ replicate l.pages 0
   pub clock : pages.clock ≡ 0
   pub done : (y : ℕ) (words : List ℕ) → y < x → get_elem? contents y ≡ some words
       → (get_elem? pages.contents y ≡ some words) × (get_elem? pages.owners y ≡ some (first_owner words))

@@ -1,18 +1,20 @@
 //! The store, and the calls that begin and end a process and read pages.
-ghost use Rattle.std.specs.Prelude.{◌≡◌, ℕ, ◌+◌, ◌*◌, ◌<◌, List, [], length, slice_index, Some, None, IfSome};
+ghost use Rattle.std.specs.Prelude.{◌≡◌, ℕ, ◌+◌, ◌*◌, ◌<◌, List, [], length, slice_index, Some, None, IfSome, IsTrue};
 ghost use Rattle.bl_layout.specs.Words.{frame_count};
 ghost use Rattle.bl_layout.specs.Cells.{cell_count};
 ghost use Rattle.bl_store_rule.specs.Frames.{process_at, page_at, place_at};
-ghost use Rattle.bl_store_rule.specs.Pages.{Owner, Begins, Ends, Gets};
-ghost use Rattle.bl_store.specs.Hands.{known, read_words, IsIdle, IsRunning, IsSameHand, IsSameStamp, IsSameStock, IsSameRefusal, IsSameLook, ReadsFrom, HasSeen};
+ghost use Rattle.bl_store_rule.specs.Pages.{Owner, Begins, Ends, Gets, GetsAs, Relays, Implies};
+ghost use Rattle.bl_store.specs.Hands.{known, read_words, IsIdle, IsRunning, IsSameHand, IsSameStamp, IsSameStock, IsSameRefusal, IsSameLook, ReadsFrom, HasSeen, Keeps, KeepsNow};
 ghost use Rattle.bl_store_rule.specs.declared.view.Reading.TheVariants.{At};
 ghost use Rattle.bl_store_rule.specs.declared.view.Sealing.TheVariants.{Unsealed};
 
 use atomic_table::{Seat, Table};
 use bl_layout::{Layout, PROCESS_CELLS};
 use bl_room::{Room, Sight};
-use bl_store_rule::plays::{Clock, Copy, Enter, Leave, Look, Raise, Renew};
-use bl_store_rule::{Framed, Ground, PagePlay, PageRule, TimePlay, View};
+use bl_store_rule::plays::{
+    Clock, Compare, Copy, Enter, Leave, Look, LookKept, Raise, Relay, Renew,
+};
+use bl_store_rule::{Framed, Ground, KeepPlay, PagePlay, PageRule, TellPlay, TimePlay, View};
 use std::alloc::{Allocator, Global};
 
 /// So many words keep what one thread writes out of the cache lines of others: two lines of 64 bytes, since processors fetch lines in
@@ -182,6 +184,69 @@ impl<D, R: PageRule<D>, A: Allocator> Store<D, R, A> {
                 .shared
                 .store::<Raise>(&mut hand.seat, process, clock + 1);
         }
+    }
+
+    /// The same at one event, for which the time of the first process counts: what was swapped out since that began is not given back. So each
+    /// page that the hand keeps in mind was not put since it looked at it, if [`Store::is_kept`] says so.
+    #[inline(always)]
+    pub fn relay<M: TimePlay<D>>(&self, hand: &mut Hand<D>)
+        requires own { IsHandOf self.now hand.old }
+        requires running { IsRunning hand.old.seat }
+        requires rule { Relays R.holds self.now.layout hand.old.number (known hand.old.seat) M.then }
+        ensures same { IsSameHand hand.old.seat hand.new.seat × IsSameStamp hand.old.seat hand.new.seat × IsSameStock hand.old.seat hand.new.seat }
+        ensures none { hand.new.seat.me.0.refused ≡ None }
+        ensures kept { hand.new.seat.me.0.kept ≡ hand.old.seat.me.0.kept }
+        ensures observed { (now : ℕ) × M.then (known hand.old.seat) now (known hand.new.seat) }
+    {
+        self.table
+            .shared
+            .load::<Relay<M>>(&mut hand.seat, self.layout.clock_cell());
+    }
+
+    /// Looks at a page, as [`Store::glance`] does, and keeps it in mind until the hand's process ends.
+    #[inline(always)]
+    pub fn glance_keeping<M: KeepPlay<D>>(&self, hand: &mut Hand<D>, page: u32) -> Option<Glance>
+        requires own { IsHandOf self.now hand.old }
+        requires running { IsRunning hand.old.seat }
+        requires page { page < self.now.layout.pages }
+        requires rule { GetsAs R.holds self.now.layout hand.old.number (known hand.old.seat) page M.then }
+        ensures same { IsSameHand hand.old.seat hand.new.seat × IsSameStamp hand.old.seat hand.new.seat × IsSameStock hand.old.seat hand.new.seat }
+        ensures observed { (owner : Owner) × (words : List ℕ) × (version : ℕ) × HasSeen result hand.new.seat words
+            × M.then (known hand.old.seat) page version owner words (known hand.new.seat)
+            × ((glance : Glance) → result ≡ Some glance → KeepsNow (hand.old.seat) (hand.new.seat) page version glance) }
+        ensures unread { (glance : Glance) → result ≡ Some glance → glance.used ≡ 0 }
+    {
+        let found = self
+            .table
+            .shared
+            .load::<LookKept<M>>(&mut hand.seat, self.heads + page as usize);
+        if found == 0 {
+            None
+        } else {
+            let first = self.firsts + 32 * (found - 1) as usize;
+            Some(Glance { first, used: 0 })
+        }
+    }
+
+    /// Whether the page names the frame now that the hand saw at that look, which it keeps in mind: then it was put as often as it was then.
+    #[inline(always)]
+    pub fn is_kept<M: TellPlay<D>>(&self, hand: &mut Hand<D>, page: u32, glance: Glance) -> bool
+        requires own { IsHandOf self.now hand.old }
+        requires running { IsRunning hand.old.seat }
+        requires page { page < self.now.layout.pages }
+        requires rule { (version : ℕ) → Implies R.holds self.now.layout hand.old.number (known hand.old.seat) page version M.tells }
+        ensures same { hand.new ≡ hand.old }
+        ensures tells { IsTrue result → (version : ℕ) → Keeps hand.old.seat page version glance → M.tells (known hand.old.seat) page version }
+    {
+        let found = self
+            .table
+            .shared
+            .load::<Compare<M>>(&mut hand.seat, self.heads + page as usize);
+        if found == 0 {
+            return false;
+        }
+        let frame = found - 1;
+        frame < self.layout.frames() as u64 && self.firsts + 32 * frame as usize == glance.first
     }
 
     /// Fetches a page ahead of a look at it: its owner's word, its own, and the first of its frame, so that they are near when it comes.

@@ -216,7 +216,7 @@ module _ {D : Type 0} (l : Layout) (first : D) (holds : Pages D → Type 0) wher
         stands = old.0;
         undealt = λ k above below. absurd (omega arith);
         clocked = tt;
-        reads = tt;
+        reads = (tt, tt);
         stocks = tt;
         drops = tt;
         seals = tt;

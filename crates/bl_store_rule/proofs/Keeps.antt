@@ -10,8 +10,8 @@ use Rattle.atomic_table.specs.Table.{State, keeps, stepped}
 use Rattle.atomic_table.proofs.Lists.{at_set, set_else}
 use Rattle.bl_layout.specs.declared.layout.Layout.{Layout}
 use Rattle.bl_layout.specs.Cells.{front, behind}
-use Rattle.bl_store_rule.specs.Pages.{Owner, Retired, Stage, Running, Pages, Stands, IsOrderly, observed, owned, written, later}
-use Rattle.bl_store_rule.specs.Frames.{process_at, page_at, owner_at, state_at, place_at, Use, drafted, shown, dropped, timed, Frame, free, used, StateIs, FrameIs, PageIs, OwnerIs, ProcessIs, stage_of, IsRead, MayRead, Readable, Reads, Stocks, Drops, Seals, Swept, SweepIs, Knows, Budgeted, Shows, IsLive, IsApart, IsSealing, Kept}
+use Rattle.bl_store_rule.specs.Pages.{Owner, Retired, Stage, Running, Pages, Stands, IsOrderly, observed, owned, written_as, later}
+use Rattle.bl_store_rule.specs.Frames.{process_at, page_at, owner_at, state_at, place_at, Use, drafted, shown, dropped, timed, Frame, free, used, StateIs, FrameIs, PageIs, OwnerIs, ProcessIs, stage_of, IsRead, MayRead, ReadableAs, Readable, Reads, AreKept, Stocks, Drops, Seals, Swept, SweepIs, Knows, Budgeted, Shows, IsLive, IsApart, IsSealing, Kept}
 use Rattle.bl_store_rule.specs.declared.view.View.{View}
 use Rattle.bl_store_rule.specs.declared.view.Joined.{Joined}
 use Rattle.bl_store_rule.specs.declared.view.Stamp.{Stamp}
@@ -19,6 +19,7 @@ use Rattle.bl_store_rule.specs.declared.view.Stamp.TheVariants.{Out, Clocked, In
 use Rattle.bl_store_rule.specs.declared.view.Reading.{Reading}
 use Rattle.bl_store_rule.specs.declared.view.Reading.TheVariants.{Nowhere, At}
 use Rattle.bl_store_rule.specs.declared.view.Draft.{Draft}
+use Rattle.bl_store_rule.specs.declared.view.Look.{Look}
 use Rattle.bl_store_rule.specs.declared.view.Dropping.{Dropping}
 use Rattle.bl_store_rule.specs.declared.view.Dropping.TheVariants.{Empty, Dropped, Timed}
 use Rattle.bl_store_rule.specs.declared.view.Sealing.{Sealing}
@@ -37,12 +38,12 @@ frame_same l ws ws' f state places (used u xs) is = let short = is.2 in (subst (
 pub frame_kept : (fs : List Frame) (f g : ℕ) (old new st : Frame) → get_elem? fs f ≡ some old → get_elem? fs g ≡ some st → st ≢ old → get_elem? (set fs f new) g ≡ some st
 frame_kept fs f g old new st here at other = dite (ℕ_discrete g f) (λ e. absurd (other (some-injective st old (sym at ∙ (ap (get_elem? fs) e ∙ here))))) (λ ne. set_else fs f g new ne ∙ at)
 
-pub page_kept : (fs : List Frame) (f : ℕ) (old new : Frame) (x n : ℕ) (xs : List ℕ) → get_elem? fs f ≡ some old → ((ys : List ℕ) → used (shown x) ys ≢ old) → PageIs fs x n xs → PageIs (set fs f new) x n xs
-page_kept fs f old new x n xs here not = ⊎_elim inl (λ (t : (g : ℕ) × (n ≡ g + 1) × (get_elem? fs g ≡ some (used (shown x) xs))). inr (t.0, t.1, frame_kept fs f t.0 old new (used (shown x) xs) here t.2 (not xs)))
+pub page_kept : (fs : List Frame) (f : ℕ) (old new : Frame) (x v n : ℕ) (xs : List ℕ) → get_elem? fs f ≡ some old → ((w : ℕ) (ys : List ℕ) → used (shown x w) ys ≢ old) → PageIs fs x v n xs → PageIs (set fs f new) x v n xs
+page_kept fs f old new x v n xs here not = ⊎_elim inl (λ (t : (g : ℕ) × (n ≡ g + 1) × (get_elem? fs g ≡ some (used (shown x v) xs))). inr (t.0, t.1, frame_kept fs f t.0 old new (used (shown x v) xs) here t.2 (not v xs)))
 
-pub reads_kept : (fs : List Frame) (f : ℕ) (old new : Frame) (b g : ℕ) (xs : List ℕ) → get_elem? fs f ≡ some old
-    → ((u : Use) → old ≡ used u xs → MayRead b u → (u' : Use) × (new ≡ used u' xs) × MayRead b u') → Readable fs b g xs → Readable (set fs f new) b g xs
-reads_kept fs f old new b g xs here go k = dite (ℕ_discrete g f)
+pub reads_kept : (fs : List Frame) (f : ℕ) (old new : Frame) (b x v g : ℕ) (xs : List ℕ) → get_elem? fs f ≡ some old
+    → ((u : Use) → old ≡ used u xs → MayRead b x v u → (u' : Use) × (new ≡ used u' xs) × MayRead b x v u') → ReadableAs fs b x v g xs → ReadableAs (set fs f new) b x v g xs
+reads_kept fs f old new b x v g xs here go k = dite (ℕ_discrete g f)
     (λ e. let n = go k.0 (one_there fs f old (used k.0 xs) here (ap (get_elem? fs) (sym e) ∙ k.1)) k.2 in (n.0, ap (get_elem? (set fs f new)) e ∙ (set_there fs f old new here ∙ ap (λ (z : Frame). some z) n.1), n.2))
     (λ ne. (k.0, set_else fs f g new ne ∙ k.1, k.2))
 
@@ -73,7 +74,7 @@ module _ {D : Type 0} where
 
   -- a frame's state changes, and its owner word or one of its words
   pub shows_frame : (l : Layout) (ws : List ℕ) (s : Pages D) (fs : List Frame) (f i n : ℕ) (old new : Frame) → IsOrderly l s → Shows l ws s fs → get_elem? fs f ≡ some old → (i ≡ state_at l f) ⊎ ((place_at l f 0 ≤ i) × (i < place_at l f 32))
-      → FrameIs l (set ws i n) f new → ((x : ℕ) (ys : List ℕ) → used (shown x) ys ≢ old) → Shows l (set ws i n) s (set fs f new)
+      → FrameIs l (set ws i n) f new → ((x w : ℕ) (ys : List ℕ) → used (shown x w) ys ≢ old) → Shows l (set ws i n) s (set fs f new)
   shows_frame l ws s fs f i n old new o r here where_i is no_page = let total = r.frame_total in let inside = at_below fs f old here in let counts = o.contents in let owned' = o.owners in
       let high : front l + 2 * l.pages ≤ i = ⊎_elim (λ (e : i ≡ state_at l f). omega arith) (λ (e : (place_at l f 0 ≤ i) × (i < place_at l f 32)). let low = e.0 in omega arith) where_i in
       let low : i < behind l = ⊎_elim (λ (e : i ≡ state_at l f). omega arith) (λ (e : (place_at l f 0 ≤ i) × (i < place_at l f 32)). let below = e.1 in omega arith) where_i in record {
@@ -81,8 +82,8 @@ module _ {D : Type 0} where
         frame_total = length-set fs f new ∙ r.frame_total;
         clock = get_or-set_other ws i 0 n 0 (λ z. omega arith) ∙ r.clock;
         process = λ q st d low at. subst (λ (z : ℕ). ProcessIs z st) (sym (get_or-set_other ws i (process_at l q) n 0 (λ z. omega arith))) (r.process q st d low at);
-        page = λ x xs e. let low = at_below s.contents x xs e in subst (λ (z : ℕ). PageIs (set fs f new) x z xs) (sym (get_or-set_other ws i (page_at l x) n 0 (λ z. omega arith)))
-            (page_kept fs f old new x (get_or ws (page_at l x) 0) xs here (no_page x) (r.page x xs e));
+        page = λ x v xs e ev. let low = at_below s.contents x xs e in subst (λ (z : ℕ). PageIs (set fs f new) x v z xs) (sym (get_or-set_other ws i (page_at l x) n 0 (λ z. omega arith)))
+            (page_kept fs f old new x v (get_or ws (page_at l x) 0) xs here (no_page x) (r.page x v xs e ev));
         owner = λ x ow e. let low = at_below s.owners x ow e in subst (λ (z : ℕ). OwnerIs z ow) (sym (get_or-set_other ws i (owner_at l x) n 0 (λ z. omega arith))) (r.owner x ow e);
         frame = λ g st e. ⊎_elim (λ (t : (g ≡ f) × (new ≡ st)). subst (λ (z : ℕ × Frame). FrameIs l (set ws i n) z.0 z.1) (λ k. (sym t.0 k, t.1 k)) is)
             (λ (t : (g ≢ f) × (get_elem? fs g ≡ some st)). let other = t.0 in let low = at_below fs g st t.1 in
@@ -93,14 +94,14 @@ module _ {D : Type 0} where
       }
 
   -- the state of a frame changes, and no word
-  pub shows_state : (l : Layout) (ws : List ℕ) (s : Pages D) (fs : List Frame) (f : ℕ) (old new : Frame) → Shows l ws s fs → get_elem? fs f ≡ some old → FrameIs l ws f new → ((x : ℕ) (ys : List ℕ) → used (shown x) ys ≢ old)
+  pub shows_state : (l : Layout) (ws : List ℕ) (s : Pages D) (fs : List Frame) (f : ℕ) (old new : Frame) → Shows l ws s fs → get_elem? fs f ≡ some old → FrameIs l ws f new → ((x w : ℕ) (ys : List ℕ) → used (shown x w) ys ≢ old)
       → Shows l ws s (set fs f new)
   shows_state l ws s fs f old new r here is no_page = record {
     wide = r.wide;
     frame_total = length-set fs f new ∙ r.frame_total;
     clock = r.clock;
     process = r.process;
-    page = λ x xs e. page_kept fs f old new x (get_or ws (page_at l x) 0) xs here (no_page x) (r.page x xs e);
+    page = λ x v xs e ev. page_kept fs f old new x v (get_or ws (page_at l x) 0) xs here (no_page x) (r.page x v xs e ev);
     owner = r.owner;
     frame = λ g st e. ⊎_elim (λ (t : (g ≡ f) × (new ≡ st)). subst (λ (z : ℕ × Frame). FrameIs l ws z.0 z.1) (λ k. (sym t.0 k, t.1 k)) is) (λ (t : (g ≢ f) × (get_elem? fs g ≡ some st)). r.frame g st t.1) (at_set fs f g new st e);
   }
@@ -115,7 +116,7 @@ module _ {D : Type 0} where
         (λ (t : (j ≡ q) × ((st, d) ≡ (st', d'))). let same = t.0 in subst (λ (z : ℕ × Stage). ProcessIs z.0 z.1) (λ k. (sym (get_or-set_at ws i (process_at l j) n 0 (omega arith) (omega arith)) k, (t.1 k).0)) is)
         (λ (t : (j ≢ q) × (get_elem? s.hands j ≡ some (st', d'))). let other = t.0 in subst (λ (z : ℕ). ProcessIs z st') (sym (get_or-set_other ws i (process_at l j) n 0 (λ z. other (omega arith)))) (r.process j st' d' below t.1))
         (at_set s.hands q j (st, d) (st', d') at);
-    page = λ x xs e. let below = at_below s.contents x xs e in subst (λ (z : ℕ). PageIs fs x z xs) (sym (get_or-set_other ws i (page_at l x) n 0 (λ z. omega arith))) (r.page x xs e);
+    page = λ x v xs e ev. let below = at_below s.contents x xs e in subst (λ (z : ℕ). PageIs fs x v z xs) (sym (get_or-set_other ws i (page_at l x) n 0 (λ z. omega arith))) (r.page x v xs e ev);
     owner = λ x ow e. let below = at_below s.owners x ow e in subst (λ (z : ℕ). OwnerIs z ow) (sym (get_or-set_other ws i (owner_at l x) n 0 (λ z. omega arith))) (r.owner x ow e);
     frame = λ g fr e. let below = at_below fs g fr e in frame_same l ws (set ws i n) g (get_or-set_other ws i (state_at l g) n 0 (λ z. omega arith)) (λ k small. get_or-set_other ws i (place_at l g k) n 0 (λ z. omega arith)) fr (r.frame g fr e);
   }
@@ -127,7 +128,7 @@ module _ {D : Type 0} where
     frame_total = r.frame_total;
     clock = get_or-set_other ws i 0 n 0 (λ z. omega arith) ∙ r.clock;
     process = λ q st d below at. subst (λ (z : ℕ). ProcessIs z st) (sym (get_or-set_other ws i (process_at l q) n 0 (λ z. omega arith))) (r.process q st d below at);
-    page = λ y xs e. let below = at_below s.contents y xs e in subst (λ (z : ℕ). PageIs fs y z xs) (sym (get_or-set_other ws i (page_at l y) n 0 (λ z. omega arith))) (r.page y xs e);
+    page = λ y v xs e ev. let below = at_below s.contents y xs e in subst (λ (z : ℕ). PageIs fs y v z xs) (sym (get_or-set_other ws i (page_at l y) n 0 (λ z. omega arith))) (r.page y v xs e ev);
     owner = λ y ow e. ⊎_elim
         (λ (t : (y ≡ x) × (o ≡ ow)). let same = t.0 in subst (λ (z : ℕ × Owner). OwnerIs z.0 z.1) (λ k. (sym (get_or-set_at ws i (owner_at l y) n 0 (omega arith) (omega arith)) k, t.1 k)) is)
         (λ (t : (y ≢ x) × (get_elem? s.owners y ≡ some ow)). let other = t.0 in subst (λ (z : ℕ). OwnerIs z ow) (sym (get_or-set_other ws i (owner_at l y) n 0 (λ z. other (omega arith)))) (r.owner y ow t.1)) (at_set s.owners x y o ow e);
@@ -141,7 +142,7 @@ module _ {D : Type 0} where
     frame_total = r.frame_total;
     clock = get_or-set_same ws 0 n 0 (omega arith) ∙ up;
     process = λ q st d below at. subst (λ (z : ℕ). ProcessIs z st) (sym (get_or-set_other ws 0 (process_at l q) n 0 (λ z. omega arith))) (r.process q st d below at);
-    page = λ x xs e. subst (λ (z : ℕ). PageIs fs x z xs) (sym (get_or-set_other ws 0 (page_at l x) n 0 (λ z. omega arith))) (r.page x xs e);
+    page = λ x v xs e ev. subst (λ (z : ℕ). PageIs fs x v z xs) (sym (get_or-set_other ws 0 (page_at l x) n 0 (λ z. omega arith))) (r.page x v xs e ev);
     owner = λ x ow e. subst (λ (z : ℕ). OwnerIs z ow) (sym (get_or-set_other ws 0 (owner_at l x) n 0 (λ z. omega arith))) (r.owner x ow e);
     frame = λ g fr e. frame_same l ws (set ws 0 n) g (get_or-set_other ws 0 (state_at l g) n 0 (λ z. omega arith)) (λ k small. get_or-set_other ws 0 (place_at l g k) n 0 (λ z. omega arith)) fr (r.frame g fr e);
   }
@@ -150,18 +151,19 @@ module _ {D : Type 0} where
   orderly_observed l s q st d low r = record {
     contents = r.contents;
     owners = r.owners;
+    versions = r.versions;
     hands = length-set s.hands q (st, d) ∙ r.hands;
     begun = λ n since e at. ⊎_elim (λ (t : (n ≡ q) × ((st, d) ≡ (Running since, e))). low since (ap (λ (z : Stage × D). z.0) t.1)) (λ (t : (n ≢ q) × (get_elem? s.hands n ≡ some (Running since, e))). r.begun n since e t.1) (at_set s.hands q n (st, d) (Running since, e) at);
   }
 
   pub orderly_owned : (l : Layout) (s : Pages D) (x : ℕ) (o : Owner) → IsOrderly l s → IsOrderly l (owned s x o)
-  orderly_owned l s x o r = record { contents = r.contents; owners = length-set s.owners x o ∙ r.owners; hands = r.hands; begun = r.begun }
+  orderly_owned l s x o r = record { contents = r.contents; owners = length-set s.owners x o ∙ r.owners; versions = r.versions; hands = r.hands; begun = r.begun }
 
-  pub orderly_written : (l : Layout) (s : Pages D) (x : ℕ) (xs : List ℕ) → IsOrderly l s → IsOrderly l (written s x xs)
-  orderly_written l s x xs r = record { contents = length-set s.contents x xs ∙ r.contents; owners = r.owners; hands = r.hands; begun = r.begun }
+  pub orderly_written : (l : Layout) (s : Pages D) (x w : ℕ) (xs : List ℕ) → IsOrderly l s → IsOrderly l (written_as s x xs w)
+  orderly_written l s x w xs r = record { contents = length-set s.contents x xs ∙ r.contents; owners = r.owners; versions = length-set s.versions x w ∙ r.versions; hands = r.hands; begun = r.begun }
 
   pub orderly_later : (l : Layout) (s : Pages D) → IsOrderly l s → IsOrderly l (later s)
-  orderly_later l s r = record { contents = r.contents; owners = r.owners; hands = r.hands; begun = λ n since e at. let low = r.begun n since e at in omega arith }
+  orderly_later l s r = record { contents = r.contents; owners = r.owners; versions = r.versions; hands = r.hands; begun = λ n since e at. let low = r.begun n since e at in omega arith }
 
   -- what a sweep knows stays: the hand q goes on with its process, ends it, or begins one by now
   pub swept_observed : (s s' : Pages D) (q : ℕ) (st0 st : Stage) (d0 d : D) (m k : ℕ) → s.clock ≤ s'.clock → Stands s q st0 d0 → s'.hands ≡ set s.hands q (st, d) → ((b : ℕ) → st ≡ Running b → (st0 ≡ Running b) ⊎ (s.clock ≤ b))
@@ -185,7 +187,7 @@ pub record Goes {D : Type 0} (l : Layout) (ws ws' : List ℕ) (s s' : Pages D) (
   pub clock : s.clock ≤ s'.clock
   pub hands : (k : ℕ) → k ≢ q → get_elem? s'.hands k ≡ get_elem? s.hands k
   pub budgets : (k : ℕ) → k ≢ q → get_elem? bs' k ≡ get_elem? bs k
-  pub reads : (j b f : ℕ) (d : D) (xs : List ℕ) → Stands s j (Running b) d → j < l.passes → Readable fs b f xs → Readable fs' b f xs
+  pub reads : (j b x v f : ℕ) (d : D) (xs : List ℕ) → Stands s j (Running b) d → j < l.passes → ReadableAs fs b x v f xs → ReadableAs fs' b x v f xs
   pub stocks : (j : ℕ) (ds : List Draft) → j ≢ q → Stocks fs j ds → Stocks fs' j ds
   pub drops : (j : ℕ) (d : Dropping) → j ≢ q → Drops fs j d → Drops fs' j d
   pub seals : (j : ℕ) (x : Sealing) → j ≢ q → Seals l ws s.owners j x → Seals l ws' s'.owners j x
@@ -197,10 +199,20 @@ read_later clock clock' (Clocked c) more k = omega arith
 read_later clock clock' (In b) more k = tt
 
 module _ {D : Type 0} where
-  pub reads_stay : {l : Layout} {ws ws' : List ℕ} {s s' : Pages D} {fs fs' : List Frame} {bs bs' : List ℕ} {q : ℕ} → Goes l ws ws' s s' fs fs' bs bs' q → (j : ℕ) (st : Stamp) (d : D) (rd : Reading) → j < l.passes → Stands s j (stage_of st) d
+  reading_stays : {l : Layout} {ws ws' : List ℕ} {s s' : Pages D} {fs fs' : List Frame} {bs bs' : List ℕ} {q : ℕ} → Goes l ws ws' s s' fs fs' bs bs' q → (j : ℕ) (st : Stamp) (d : D) (rd : Reading) → j < l.passes → Stands s j (stage_of st) d
       → Reads fs st rd → Reads fs' st rd
-  reads_stay go j st d Nowhere low stands is = tt
-  reads_stay {s = s} go j st d (At f xs) low stands is = (is.0, is.1, go.reads j is.0 f d xs (subst (λ (z : Stamp). Stands s j (stage_of z) d) is.1 stands) low is.2)
+  reading_stays go j st d Nowhere low stands is = tt
+  reading_stays {s = s} go j st d (At f xs) low stands is = let r = is.2 in (is.0, is.1, (r.0, r.1, go.reads j is.0 r.0 r.1 f d xs (subst (λ (z : Stamp). Stands s j (stage_of z) d) is.1 stands) low r.2))
+
+  kept_stay : {l : Layout} {ws ws' : List ℕ} {s s' : Pages D} {fs fs' : List Frame} {bs bs' : List ℕ} {q : ℕ} → Goes l ws ws' s s' fs fs' bs bs' q → (j : ℕ) (st : Stamp) (d : D) (ks : List Look) → j < l.passes → Stands s j (stage_of st) d
+      → AreKept fs st ks → AreKept fs' st ks
+  kept_stay go j st d [] low stands is = tt
+  kept_stay {s = s} go j st d (k ∷ ks) low stands is = let h = is.0 in
+      ((h.0, h.1, h.2, go.reads j h.0 k.page k.version k.frame d h.2 (subst (λ (z : Stamp). Stands s j (stage_of z) d) h.1 stands) low h.3), kept_stay go j st d ks low stands is.1)
+
+  pub reads_stay : {l : Layout} {ws ws' : List ℕ} {s s' : Pages D} {fs fs' : List Frame} {bs bs' : List ℕ} {q : ℕ} → Goes l ws ws' s s' fs fs' bs bs' q → (j : ℕ) (st : Stamp) (d : D) (rd : Reading) (ks : List Look) → j < l.passes → Stands s j (stage_of st) d
+      → Reads fs st rd × AreKept fs st ks → Reads fs' st rd × AreKept fs' st ks
+  reads_stay go j st d rd ks low stands is = (reading_stays go j st d rd low stands is.0, kept_stay go j st d ks low stands is.1)
 
   pub sweeps_stay : {l : Layout} {ws ws' : List ℕ} {s s' : Pages D} {fs fs' : List Frame} {bs bs' : List ℕ} {q : ℕ} → Goes l ws ws' s s' fs fs' bs bs' q → (sw : Sweep) → SweepIs s sw → SweepIs s' sw
   sweeps_stay go Still is = tt
@@ -215,7 +227,7 @@ module _ {D : Type 0} where
     stands = go.hands v.number other ∙ k.stands;
     undealt = λ j low high. let was = k.undealt j low high in (go.hands j (apart j low high) ∙ was.0, go.budgets j (apart j low high) ∙ was.1);
     clocked = read_later s.clock s'.clock v.stamp go.clock k.clocked;
-    reads = reads_stay go v.number v.stamp v.known v.reading (omega arith) k.stands k.reads;
+    reads = reads_stay go v.number v.stamp v.known v.reading v.kept (omega arith) k.stands k.reads;
     stocks = go.stocks v.number v.stock other k.stocks;
     drops = go.drops v.number v.dropping other k.drops;
     seals = go.seals v.number v.sealing other k.seals;
@@ -231,7 +243,7 @@ module _ {D : Type 0} where
     pub upto : w.upto ≡ v.upto
     pub stands : Stands s v.number (stage_of w.stamp) w.known
     pub clocked : IsRead s.clock w.stamp
-    pub reads : Reads fs w.stamp w.reading
+    pub reads : Reads fs w.stamp w.reading × AreKept fs w.stamp w.kept
     pub stocks : Stocks fs v.number w.stock
     pub drops : Drops fs v.number w.dropping
     pub seals : Seals l ws s.owners v.number w.sealing

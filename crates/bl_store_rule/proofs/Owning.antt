@@ -45,7 +45,7 @@ module _ {D : Type 0} (l : Layout) (first : D) (holds : Pages D → Type 0) wher
         clock = le_refl s.clock;
         hands = λ k other. set_else s.hands q k (sg, d) other;
         budgets = λ k other. refl;
-        reads = λ j b f e xs stands below k. k;
+        reads = λ j b y w f e xs stands below k. k;
         stocks = λ j ds other k. k;
         drops = λ j y other k. k;
         seals = λ j y other k. seals j y k;

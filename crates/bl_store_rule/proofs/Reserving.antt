@@ -74,8 +74,8 @@ module _ {D : Type 0} (l : Layout) (first : D) (holds : Pages D → Type 0) wher
 
   -- a step on a word of a frame that no page names, after which the hand has another stock, or another frame to retire
   frame_step : (st : St) (r : Rule st) (f i n id : ℕ) (cs : List (ℕ × Unit {0})) (v : View D) (ds : List Draft) (dr : Dropping) (rl : ℕ) (gt : List ℕ) (old new : Frame) → get_elem? st.views id ≡ some v → IsLive v → get_elem? r.frames f ≡ some old
-      → (i ≡ state_at l f) ⊎ ((place_at l f 0 ≤ i) × (i < place_at l f 32)) → FrameIs l (set st.words i n) f new → ((x : ℕ) (ys : List ℕ) → used (shown x) ys ≢ old)
-      → ((j b : ℕ) (d : D) (u : Use) (xs : List ℕ) → Stands r.pages j (Running b) d → j < l.passes → old ≡ used u xs → MayRead b u → (u' : Use) × (new ≡ used u' xs) × MayRead b u')
+      → (i ≡ state_at l f) ⊎ ((place_at l f 0 ≤ i) × (i < place_at l f 32)) → FrameIs l (set st.words i n) f new → ((x w : ℕ) (ys : List ℕ) → used (shown x w) ys ≢ old)
+      → ((j b x v : ℕ) (d : D) (u : Use) (xs : List ℕ) → Stands r.pages j (Running b) d → j < l.passes → old ≡ used u xs → MayRead b x v u → (u' : Use) × (new ≡ used u' xs) × MayRead b x v u')
       → ((j k : ℕ) (ys : List ℕ) → j ≢ v.number → used (drafted j k) ys ≢ old) → ((j : ℕ) (ys : List ℕ) → j ≢ v.number → used (dropped j) ys ≢ old) → ((j t : ℕ) (ys : List ℕ) → j ≢ v.number → used (timed j t) ys ≢ old)
       → Stocks (set r.frames f new) v.number ds → Drops (set r.frames f new) v.number dr → Rule (stepped st i n id cs (record v { stock = ds; dropping = dr; releases = rl; got = gt }) keeps)
   frame_step st r f i n id cs v ds dr rl gt old new at live here where_i is no_page readers no_stock no_drop no_time stocks drops =
@@ -87,7 +87,7 @@ module _ {D : Type 0} (l : Layout) (first : D) (holds : Pages D → Type 0) wher
         clock = le_refl s.clock;
         hands = λ k _. refl;
         budgets = λ k _. refl;
-        reads = λ j b g d xs stands low reads. reads_kept r.frames f old new b g xs here (λ u e may. readers j b d u xs stands low e may) reads;
+        reads = λ j b y w g d xs stands low reads. reads_kept r.frames f old new b y w g xs here (λ u e may. readers j b y w d u xs stands low e may) reads;
         stocks = λ j es other k. stocks_kept r.frames f old new j es here (λ m ys _. no_stock j m ys other) k;
         drops = λ j d other k. drops_kept r.frames f old new j d here (λ ys. no_drop j ys other) (λ t ys. no_time j t ys other) k;
         seals = λ j x other k. seal_same l st.words ws s.owners j x owners k;
@@ -100,7 +100,7 @@ module _ {D : Type 0} (l : Layout) (first : D) (holds : Pages D → Type 0) wher
         upto = refl;
         stands = mine.stands;
         clocked = mine.clocked;
-        reads = reads_stay go v.number v.stamp v.known v.reading (omega arith) mine.stands mine.reads;
+        reads = reads_stay go v.number v.stamp v.known v.reading v.kept (omega arith) mine.stands mine.reads;
         stocks = stocks;
         drops = drops;
         seals = seal_same l st.words ws s.owners v.number v.sealing owners mine.seals;
@@ -141,8 +141,8 @@ module _ {D : Type 0} (l : Layout) (first : D) (holds : Pages D → Type 0) wher
         keeps,
         tt,
         frame_step st r f i n id me.1 me.0 (draft f [] ∷ me.0.stock) me.0.dropping me.0.releases (f ∷ me.0.got) free new at live is (inl i_is)
-            (get_or-set_at st.words i (state_at l f) n 0 (sym i_is) (omega arith) ∙ n_is, tt, omega arith, λ k low. absurd (omega arith)) (λ x ys e. cc)
-            (λ j b d u xs stands low e may. cc) (λ j k ys other e. cc) (λ j ys other e. cc) (λ j t ys other e. cc)
+            (get_or-set_at st.words i (state_at l f) n 0 (sym i_is) (omega arith) ∙ n_is, tt, omega arith, λ k low. absurd (omega arith)) (λ x w ys e. cc)
+            (λ j b y w d u xs stands low e may. cc) (λ j k ys other e. cc) (λ j ys other e. cc) (λ j t ys other e. cc)
             (set_there r.frames f free new is, stocks_kept r.frames f free new q me.0.stock is (λ k ys _ e. cc) mine.stocks) (drops_kept r.frames f free new q me.0.dropping is (λ ys e. cc) (λ t ys e. cc) mine.drops),
         ((refl, refl, refl, refl), refl, refl, (refl, refl), (λ g e. let is_f : f ≡ g = omega arith in ((λ _. (ap (λ (z : ℕ). draft z [] ∷ me.0.stock) is_f, refl, ap (λ (z : ℕ). z ∷ me.0.got) is_f)), λ miss. absurd (miss hit))), refl),
       ))
@@ -151,7 +151,7 @@ module _ {D : Type 0} (l : Layout) (first : D) (holds : Pages D → Type 0) wher
       was_free : (st : St) (r : Rule st) (fr : Frame) → get_elem? r.frames f ≡ some fr → FrameIs l st.words f fr → get_or st.words (state_at l f) 0 ≡ 0 → get_elem? r.frames f ≡ some free
       was_free st r free at_f fact empty = at_f
       was_free st r (used (drafted j k) xs) at_f fact empty = absurd (omega arith)
-      was_free st r (used (shown x) xs) at_f fact empty = let taken = fact.0.1 in absurd (omega arith)
+      was_free st r (used (shown x v) xs) at_f fact empty = let taken = fact.0.1 in absurd (omega arith)
       was_free st r (used (dropped j) xs) at_f fact empty = let taken = fact.0.1 in absurd (omega arith)
       was_free st r (used (timed j t) xs) at_f fact empty = let taken = fact.0.1 in absurd (omega arith)
       was_free st r (used (retired t) xs) at_f fact empty = absurd (omega arith)
@@ -165,8 +165,8 @@ module _ {D : Type 0} (l : Layout) (first : D) (holds : Pages D → Type 0) wher
         record me.0 { stock = ds },
         keeps,
         tt,
-        frame_step st r f i 0 id me.1 me.0 ds me.0.dropping me.0.releases me.0.got old free at live here (inl i_is) (get_or-set_at st.words i (state_at l f) 0 0 (sym i_is) (omega arith)) (λ x ys e. cc)
-            (λ j b d u ys stands low e may. let as_used : drafted q (length ds) ≡ u = cc in absurd (subst (MayRead b) (sym as_used) may)) (λ j k ys other e. other cc) (λ j ys other e. cc) (λ j t ys other e. cc)
+        frame_step st r f i 0 id me.1 me.0 ds me.0.dropping me.0.releases me.0.got old free at live here (inl i_is) (get_or-set_at st.words i (state_at l f) 0 0 (sym i_is) (omega arith)) (λ x w ys e. cc)
+            (λ j b y w d u ys stands low e may. let as_used : drafted q (length ds) ≡ u = cc in absurd (subst (MayRead b y w) (sym as_used) may)) (λ j k ys other e. other cc) (λ j ys other e. cc) (λ j t ys other e. cc)
             (stocks_kept r.frames f old free q ds here (λ k ys low e. let place : k ≡ length ds = cc in absurd (omega arith)) known.1) (drops_kept r.frames f old free q me.0.dropping here (λ ys e. cc) (λ t ys e. cc) mine.drops),
         ((refl, refl, refl, refl), refl, refl, (refl, refl), refl, refl, λ g ys es e _. ap tail_of (sym has ∙ e)),
       ))
@@ -188,7 +188,7 @@ module _ {D : Type 0} (l : Layout) (first : D) (holds : Pages D → Type 0) wher
               (λ e. get_or-set_at st.words i (place_at l f j) n 0 (omega arith) (omega arith) ∙ (sym (get_or-append_right xs (n ∷ []) k k 0 so_far (le_refl k) ∙ last n k) ∙ ap (λ (z : ℕ). get_or (xs ++ n ∷ []) z 0) (sym e)))
               (λ ne. get_or-set_other st.words i (place_at l f j) n 0 (λ e. ne (omega arith)) ∙ (was.3 j (omega arith) ∙ sym (get_or_append_left xs (n ∷ []) 0 j (omega arith)))),
         )
-            (λ x ys e. cc) (λ j b d u ys stands low e may. let as_used : drafted q (length ds) ≡ u = cc in absurd (subst (MayRead b) (sym as_used) may)) (λ j m ys other e. other cc) (λ j ys other e. cc) (λ j t ys other e. cc)
+            (λ x w ys e. cc) (λ j b y w d u ys stands low e may. let as_used : drafted q (length ds) ≡ u = cc in absurd (subst (MayRead b y w) (sym as_used) may)) (λ j m ys other e. other cc) (λ j ys other e. cc) (λ j t ys other e. cc)
             (set_there r.frames f old new here, stocks_kept r.frames f old new q ds here (λ m ys low e. let place : m ≡ length ds = cc in absurd (omega arith)) known.1) (drops_kept r.frames f old new q me.0.dropping here (λ ys e. cc) (λ t ys e. cc) mine.drops),
         ((refl, refl, refl, refl), refl, refl, (refl, refl), (λ g ys es e. ap (λ (z : List Draft). put_on z n) (sym has ∙ e)), refl),
       )
@@ -218,8 +218,8 @@ module _ {D : Type 0} (l : Layout) (first : D) (holds : Pages D → Type 0) wher
         tt,
         frame_step st r f i n id me.1 me.0 me.0.stock Empty me.0.releases me.0.got old new at live here (inl i_is)
             (get_or-set_at st.words i (state_at l f) n 0 (sym i_is) (omega arith) ∙ n_is, was.1, was.2, λ k low. let small = was.2 in get_or-set_other st.words i (place_at l f k) n 0 (λ z. omega arith) ∙ was.3 k low)
-            (λ x ys e. cc)
-            (λ j b d u ys stands low e may. let words : xs ≡ ys = cc in let as_used : timed q t ≡ u = cc in (retired t, ap (λ (z : List ℕ). used (retired t) z) words, subst (MayRead b) (sym as_used) may))
+            (λ x w ys e. cc)
+            (λ j b y w d u ys stands low e may. let words : xs ≡ ys = cc in let as_used : timed q t ≡ u = cc in (retired t, ap (λ (z : List ℕ). used (retired t) z) words, subst (MayRead b y w) (sym as_used) may))
             (λ j k ys other e. cc) (λ j ys other e. cc) (λ j u ys other e. other cc)
             (stocks_kept r.frames f old new q me.0.stock here (λ k ys _ e. cc) mine.stocks) tt,
         (((refl, refl, refl, refl), refl, (refl, refl, refl), refl), refl),
@@ -234,8 +234,8 @@ module _ {D : Type 0} (l : Layout) (first : D) (holds : Pages D → Type 0) wher
         record me.0 { releases = me.0.releases + 1 },
         keeps,
         tt,
-        frame_step st r f i 0 id me.1 me.0 me.0.stock me.0.dropping (me.0.releases + 1) me.0.got old free at live was.1 (inl i_is) (get_or-set_at st.words i (state_at l f) 0 0 (sym i_is) (omega arith)) (λ x ys e. cc)
-            (λ j b d u ys stands low e may. let after : m ≤ b = swept.later j b d stands low in let one : retired t ≡ u = cc in let soon : b ≤ t = subst (MayRead b) (sym one) may in absurd (omega arith))
+        frame_step st r f i 0 id me.1 me.0 me.0.stock me.0.dropping (me.0.releases + 1) me.0.got old free at live was.1 (inl i_is) (get_or-set_at st.words i (state_at l f) 0 0 (sym i_is) (omega arith)) (λ x w ys e. cc)
+            (λ j b y w d u ys stands low e may. let after : m ≤ b = swept.later j b d stands low in let one : retired t ≡ u = cc in let soon : b ≤ t = subst (MayRead b y w) (sym one) may in absurd (omega arith))
             (λ j k ys other e. cc) (λ j ys other e. cc) (λ j u ys other e. cc)
             (stocks_kept r.frames f old free q me.0.stock was.1 (λ k ys _ e. cc) mine.stocks) (drops_kept r.frames f old free q me.0.dropping was.1 (λ ys e. cc) (λ u ys e. cc) mine.drops),
         (((refl, refl, refl, refl), refl, (refl, refl, refl), refl), refl, (λ _. refl), (λ miss. absurd (miss hit)), refl),
@@ -245,7 +245,7 @@ module _ {D : Type 0} (l : Layout) (first : D) (holds : Pages D → Type 0) wher
       was_retired : (st : St) (r : Rule st) (fr : Frame) → get_elem? r.frames f ≡ some fr → FrameIs l st.words f fr → get_or st.words (state_at l f) 0 ≡ 4 * t + 3 → (xs : List ℕ) × (get_elem? r.frames f ≡ some (used (retired t) xs))
       was_retired st r free at_f fact now = absurd (omega arith)
       was_retired st r (used (drafted j k) xs) at_f fact now = absurd (omega arith)
-      was_retired st r (used (shown x) xs) at_f fact now = let taken = fact.0.1 in absurd (omega arith)
+      was_retired st r (used (shown x v) xs) at_f fact now = let taken = fact.0.1 in absurd (omega arith)
       was_retired st r (used (dropped j) xs) at_f fact now = let taken = fact.0.1 in absurd (omega arith)
       was_retired st r (used (timed j u) xs) at_f fact now = let taken = fact.0.1 in absurd (omega arith)
       was_retired st r (used (retired u) xs) at_f fact now = let state = fact.0 in let same : u ≡ t = omega arith in (xs, at_f ∙ ap (λ (z : ℕ). some (used (retired z) xs)) same)

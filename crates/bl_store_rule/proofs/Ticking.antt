@@ -52,12 +52,12 @@ module _ {D : Type 0} (l : Layout) (first : D) (holds : Pages D → Type 0) wher
       let was = r.shows.frame f old here in let wide = r.shows.wide in let orderly = r.orderly in let owned' = orderly.owners in let counted = mine.counted in let dealt = mine.dealt in
       let gs : List Frame = set r.frames f new in let bs' : List ℕ = set r.budgets q (k + me.0.retires) in let ws : List ℕ = set st.words i (n + 1) in let w : View D = record me.0 { dropping = Timed f n; puts = k } in
       let owners : (x : ℕ) → x < length s.owners → get_or ws (owner_at l x) 0 ≡ get_or st.words (owner_at l x) 0 = (λ x below. get_or-set_other st.words i (owner_at l x) (n + 1) 0 (λ z. omega arith)) in
-      let shows : Shows l ws (later s) gs = subst (λ (z : ℕ). Shows l (set st.words z (n + 1)) (later s) gs) (sym i_is) (shows_later l st.words s gs (n + 1) (omega arith) (shows_state l st.words s r.frames f old new r.shows here was (λ x ys e. cc))) in
+      let shows : Shows l ws (later s) gs = subst (λ (z : ℕ). Shows l (set st.words z (n + 1)) (later s) gs) (sym i_is) (shows_later l st.words s gs (n + 1) (omega arith) (shows_state l st.words s r.frames f old new r.shows here was (λ x w ys e. cc))) in
       let go : Goes l st.words ws s (later s) r.frames gs r.budgets bs' q = record {
         clock = omega arith;
         hands = λ j other. refl;
         budgets = λ j other. set_else r.budgets q j (k + me.0.retires) other;
-        reads = λ j b g d ys stands low rd. reads_kept r.frames f old new b g ys here (λ u e may. let words : xs ≡ ys = cc in let soon : b ≤ s.clock = orderly.begun j b d stands in (timed q s.clock, ap (λ (z : List ℕ). used (timed q s.clock) z) words, soon)) rd;
+        reads = λ j b y w g d ys stands low rd. reads_kept r.frames f old new b y w g ys here (λ u e may. let words : xs ≡ ys = cc in let soon : b ≤ s.clock = orderly.begun j b d stands in (timed q s.clock, ap (λ (z : List ℕ). used (timed q s.clock) z) words, soon)) rd;
         stocks = λ j ds other a. stocks_kept r.frames f old new j ds here (λ m ys _ e. cc) a;
         drops = λ j d other a. drops_kept r.frames f old new j d here (λ ys e. other cc) (λ t ys e. cc) a;
         seals = λ j x other a. seal_same l st.words ws s.owners j x owners a;
@@ -74,7 +74,7 @@ module _ {D : Type 0} (l : Layout) (first : D) (holds : Pages D → Type 0) wher
               upto = refl;
               stands = mine.stands;
               clocked = read_by s.clock me.0.stamp mine.clocked;
-              reads = reads_stay go q me.0.stamp me.0.known me.0.reading (omega arith) mine.stands mine.reads;
+              reads = reads_stay go q me.0.stamp me.0.known me.0.reading me.0.kept (omega arith) mine.stands mine.reads;
               stocks = stocks_kept r.frames f old new q me.0.stock here (λ m ys _ e. cc) mine.stocks;
               drops = (xs, set_there r.frames f old new here ∙ ap (λ (z : ℕ). some (used (timed q z) xs)) (sym now));
               seals = seal_same l st.words ws s.owners q me.0.sealing owners mine.seals;
@@ -116,7 +116,7 @@ module _ {D : Type 0} (l : Layout) (first : D) (holds : Pages D → Type 0) wher
         clock = omega arith;
         hands = λ j other. set_else s.hands q j (sg, t.1) other;
         budgets = λ j other. set_else r.budgets q j (me.0.puts + k) other;
-        reads = λ j b g d ys stands low a. a;
+        reads = λ j b y w g d ys stands low a. a;
         stocks = λ j ds other a. a;
         drops = λ j d other a. a;
         seals = λ j y other a. others j y a;
@@ -175,7 +175,7 @@ module _ {D : Type 0} (l : Layout) (first : D) (holds : Pages D → Type 0) wher
         clock = le_refl s.clock;
         hands = λ k other. refl;
         budgets = λ k other. refl;
-        reads = λ j b f e xs stands below k. k;
+        reads = λ j b y w f e xs stands below k. k;
         stocks = λ j ds other k. k;
         drops = λ j y other k. k;
         seals = λ j y other k. sealed_else s.owners st.words i n x q j i_is other known.0 y k;

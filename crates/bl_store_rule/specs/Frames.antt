@@ -16,6 +16,7 @@ use Rattle.bl_store_rule.specs.declared.view.Stamp.TheVariants.{Out, Clocked, In
 use Rattle.bl_store_rule.specs.declared.view.Reading.{Reading}
 use Rattle.bl_store_rule.specs.declared.view.Reading.TheVariants.{Nowhere, At}
 use Rattle.bl_store_rule.specs.declared.view.Draft.{Draft}
+use Rattle.bl_store_rule.specs.declared.view.Look.{Look}
 use Rattle.bl_store_rule.specs.declared.view.Dropping.{Dropping}
 use Rattle.bl_store_rule.specs.declared.view.Dropping.TheVariants.{Empty, Dropped, Timed}
 use Rattle.bl_store_rule.specs.declared.view.Sealing.{Sealing}
@@ -39,11 +40,11 @@ state_at l f = front l + 2 * l.pages + f
 abbrev pub place_at : Layout → ℕ → ℕ → ℕ
 place_at l f k = front l + 2 * l.pages + frame_count l + 32 * f + k
 
--- What a frame with words is used for: reserved by the hand q as the k-th of its stock, the contents of the page x, taken from
+-- What a frame with words is used for: reserved by the hand q as the k-th of its stock, the contents of the page x since its put of that number, taken from
 -- a page by the hand q, the same since the hand drew the time t, or retired at t.
 pub data Use : Type 0 where
   drafted : ℕ → ℕ → Use
-  shown : ℕ → Use
+  shown : ℕ → ℕ → Use
   dropped : ℕ → Use
   timed : ℕ → ℕ → Use
   retired : ℕ → Use
@@ -58,14 +59,14 @@ IsTaken n = (q : ℕ) × (n ≡ 4 * q + 2)
 
 abbrev pub StateIs : ℕ → Use → Type 0
 StateIs n (drafted q k) = n ≡ 4 * q + 2
-StateIs n (shown x) = IsTaken n
+StateIs n (shown x v) = IsTaken n
 StateIs n (dropped q) = IsTaken n
 StateIs n (timed q t) = IsTaken n
 StateIs n (retired t) = n ≡ 4 * t + 3
 
 abbrev pub Full : Use → List ℕ → Type 0
 Full (drafted q k) xs = Unit {0}
-Full (shown x) xs = length xs ≡ 32
+Full (shown x v) xs = length xs ≡ 32
 Full (dropped q) xs = length xs ≡ 32
 Full (timed q t) xs = length xs ≡ 32
 Full (retired t) xs = length xs ≡ 32
@@ -75,9 +76,9 @@ FrameIs l ws f free = slice_index ws (state_at l f) ≡ 0
 FrameIs l ws f (used u xs) =
     StateIs (slice_index ws (state_at l f)) u × Full u xs × (length xs ≤ 32) × ((k : ℕ) → k < length xs → slice_index ws (place_at l f k) ≡ slice_index xs k)
 
--- The page x has these words, where its word is n. A page that was never put has zeros.
-abbrev pub PageIs : List Frame → ℕ → ℕ → List ℕ → Type 0
-PageIs fs x n xs = ((n ≡ 0) × (xs ≡ replicate 32 0)) ⊎ ((f : ℕ) × (n ≡ f + 1) × (get_elem? fs f ≡ some (used (shown x) xs)))
+-- The page x has these words since its put of number v, where its word is n. A page that was never put has zeros.
+abbrev pub PageIs : List Frame → ℕ → ℕ → ℕ → List ℕ → Type 0
+PageIs fs x v n xs = ((n ≡ 0) × (xs ≡ replicate 32 0)) ⊎ ((f : ℕ) × (n ≡ f + 1) × (get_elem? fs f ≡ some (used (shown x v) xs)))
 
 -- A page that is retired may still have the owner word of the hand that retired it.
 abbrev pub OwnerIs : ℕ → Owner → Type 0
@@ -101,20 +102,29 @@ IsRead clock Out = Unit {0}
 IsRead clock (Clocked c) = c ≤ clock
 IsRead clock (In b) = Unit {0}
 
--- a hand whose process began at b may read such a frame
-abbrev pub MayRead : ℕ → Use → Type 0
-MayRead b (drafted q k) = ⊥
-MayRead b (shown x) = Unit {0}
-MayRead b (dropped q) = Unit {0}
-MayRead b (timed q t) = b ≤ t
-MayRead b (retired t) = b ≤ t
+-- a hand whose process began at b may read such a frame, which it saw as the contents of the page x since its put of number v: it is
+-- that still, or will not be given back before the process ends
+abbrev pub MayRead : ℕ → ℕ → ℕ → Use → Type 0
+MayRead b x v (drafted q k) = ⊥
+MayRead b x v (shown y w) = (y ≡ x) × (w ≡ v)
+MayRead b x v (dropped q) = Unit {0}
+MayRead b x v (timed q t) = b ≤ t
+MayRead b x v (retired t) = b ≤ t
+
+abbrev pub ReadableAs : List Frame → ℕ → ℕ → ℕ → ℕ → List ℕ → Type 0
+ReadableAs fs b x v f xs = (u : Use) × (get_elem? fs f ≡ some (used u xs)) × MayRead b x v u
 
 abbrev pub Readable : List Frame → ℕ → ℕ → List ℕ → Type 0
-Readable fs b f xs = (u : Use) × (get_elem? fs f ≡ some (used u xs)) × MayRead b u
+Readable fs b f xs = (x : ℕ) × (v : ℕ) × ReadableAs fs b x v f xs
 
 abbrev pub Reads : List Frame → Stamp → Reading → Type 0
 Reads fs st Nowhere = Unit {0}
 Reads fs st (At f xs) = (b : ℕ) × (st ≡ In b) × Readable fs b f xs
+
+-- each of these frames is one that the hand saw as the contents of that page since that put, and may read
+abbrev pub AreKept : List Frame → Stamp → List Look → Type 0
+AreKept fs st [] = Unit {0}
+AreKept fs st (k ∷ ks) = ((b : ℕ) × (st ≡ In b) × (xs : List ℕ) × ReadableAs fs b k.page k.version k.frame xs) × AreKept fs st ks
 
 abbrev pub Stocks : List Frame → ℕ → List Draft → Type 0
 Stocks fs q [] = Unit {0}
@@ -159,7 +169,7 @@ module _ {D : Type 0} where
     pub stands : Stands s v.number (stage_of v.stamp) v.known
     pub undealt : (k : ℕ) → v.number < k → k < v.upto → Stands s k Idle first × (get_elem? bs k ≡ some 0)
     pub clocked : IsRead s.clock v.stamp
-    pub reads : Reads fs v.stamp v.reading
+    pub reads : Reads fs v.stamp v.reading × AreKept fs v.stamp v.kept
     pub stocks : Stocks fs v.number v.stock
     pub drops : Drops fs v.number v.dropping
     pub seals : Seals l ws s.owners v.number v.sealing
@@ -175,6 +185,7 @@ module _ {D : Type 0} where
     upto = m;
     stamp = Out;
     reading = Nowhere;
+    kept = [];
     stock = [];
     dropping = Empty;
     sealing = Unsealed;
@@ -215,6 +226,7 @@ module _ {D : Type 0} where
     upto = 0;
     stamp = Out;
     reading = Nowhere;
+    kept = [];
     stock = [];
     dropping = Empty;
     sealing = Unsealed;
@@ -263,7 +275,7 @@ pub record Shows {D : Type 0} (l : Layout) (ws : List ℕ) (s : Pages D) (fs : L
   pub frame_total : length fs ≡ frame_count l
   pub clock : slice_index ws 0 ≡ s.clock
   pub process : (q : ℕ) (st : Stage) (d : D) → q < l.passes → Stands s q st d → ProcessIs (slice_index ws (process_at l q)) st
-  pub page : (x : ℕ) (xs : List ℕ) → get_elem? s.contents x ≡ some xs → PageIs fs x (slice_index ws (page_at l x)) xs
+  pub page : (x v : ℕ) (xs : List ℕ) → get_elem? s.contents x ≡ some xs → get_elem? s.versions x ≡ some v → PageIs fs x v (slice_index ws (page_at l x)) xs
   pub owner : (x : ℕ) (o : Owner) → get_elem? s.owners x ≡ some o → OwnerIs (slice_index ws (owner_at l x)) o
   pub frame : (f : ℕ) (st : Frame) → get_elem? fs f ≡ some st → FrameIs l ws f st
 

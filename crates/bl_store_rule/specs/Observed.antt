@@ -9,6 +9,9 @@ use Rattle.bl_store_rule.specs.declared.view.Joined.{Joined}
 use Rattle.bl_store_rule.specs.declared.view.Stamp.TheVariants.{Out, Clocked, In}
 use Rattle.bl_store_rule.specs.declared.view.Reading.TheVariants.{At}
 use Rattle.bl_store_rule.specs.declared.view.Draft.{Draft}
+use Rattle.bl_store_rule.specs.declared.view.Look.{Look}
+use mathlib.Core.Option.{some}
+use lib.ListN.{get_elem?}
 use Rattle.bl_store_rule.specs.declared.view.Wanted.{Wanted}
 use Rattle.bl_store_rule.specs.declared.view.Dropping.TheVariants.{Empty, Dropped, Timed}
 use Rattle.bl_store_rule.specs.declared.view.Sealing.TheVariants.{Unsealed, Sealed}
@@ -26,6 +29,9 @@ wanted pages frames = record { pages = pages; frames = frames }
 
 abbrev pub draft : ℕ → List ℕ → Draft
 draft f xs = record { frame = f; words = xs }
+
+abbrev pub look : ℕ → ℕ → ℕ → Look
+look x f v = record { page = x; frame = f; version = v }
 
 -- the lower of m and the clock that a hand with the process word n read, where it is in a process
 abbrev pub lower : ℕ → ℕ → ℕ
@@ -82,6 +88,21 @@ module _ {D : Type 0} where
   abbrev pub looked : (D → ℕ → Owner → List ℕ → D → Type 0) → Play → Sat D → ℕ → Sat D → Type 0
   looked then st m r m' = IsThere m m' × (m'.0.stamp ≡ m.0.stamp) × IsStocked m.0 m'.0
       × ((x : ℕ) → st.word ≡ page_at m.0.layout x → (o : Owner) × (xs : List ℕ) × Found m'.0 r xs × then m.0.known x o xs m'.0.known)
+
+  -- the same, and the hand keeps in mind what it saw, where the page had words
+  abbrev pub looked_kept : (D → ℕ → ℕ → Owner → List ℕ → D → Type 0) → Play → Sat D → ℕ → Sat D → Type 0
+  looked_kept then st m r m' = IsThere m m' × (m'.0.stamp ≡ m.0.stamp) × IsStocked m.0 m'.0
+      × ((x : ℕ) → st.word ≡ page_at m.0.layout x → (o : Owner) × (xs : List ℕ) × (v : ℕ) × Found m'.0 r xs × then m.0.known x v o xs m'.0.known
+      × ((f : ℕ) → r ≡ f + 1 → m'.0.kept ≡ look x f v ∷ m.0.kept))
+
+  -- a look whether a page still names the frame that the hand keeps in mind: then it was put as often as it was then
+  abbrev pub compared : (D → ℕ → ℕ → Type 0) → Play → Sat D → ℕ → Sat D → Type 0
+  compared tells st m r m' = (m' ≡ m) × ((k : ℕ) (s : Look) → get_elem? m.0.kept k ≡ some s → st.word ≡ page_at m.0.layout s.page → r ≡ s.frame + 1 → tells m.0.known s.page s.version)
+
+  -- a load at which a process ends and the next one begins, and all that the hand has looked at is kept
+  abbrev pub relayed : (D → ℕ → D → Type 0) → Play → Sat D → ℕ → Sat D → Type 0
+  relayed then st m r m' = IsThere m m' × IsStocked m.0 m'.0 × (m'.0.refused ≡ None) × (m'.0.stamp ≡ m.0.stamp) × (m'.0.kept ≡ m.0.kept)
+      × ((now : ℕ) × then m.0.known now m'.0.known)
 
   abbrev pub copied : Play → Sat D → ℕ → Sat D → Type 0
   copied st m r m' = (m' ≡ m) × ((f : ℕ) (xs : List ℕ) (k : ℕ) → m.0.reading ≡ At f xs → st.word ≡ place_at m.0.layout f k → k < 32 → r ≡ slice_index xs k)

@@ -1,7 +1,7 @@
 -- The pages as a user of the store sees them, and what each call asks of the user's rule.
 -- Each demand is of one shape: whatever the pages are when the event happens, if the rule holds of them and the hand n knows d,
 -- then the event is one that may happen, and the hand can be given new data with which the rule holds after it.
-use Rattle.std.specs.Prelude.{◌≡◌, ◌≢◌, ℕ, ◌+◌, ◌<◌, ◌≤◌, List, length, slice_set}
+use Rattle.std.specs.Prelude.{◌≡◌, ◌≢◌, ℕ, ◌+◌, ◌<◌, ◌≤◌, List, length, slice_set, slice_index}
 use mathlib.Core.Option.{some}
 use lib.ListN.{get_elem?}
 use Rattle.bl_layout.specs.declared.layout.Layout.{Layout}
@@ -18,10 +18,11 @@ pub data Stage : Type 0 where
   Idle : Stage
   Running : ℕ → Stage
 
--- The words and the owner of each page, the time, and by number where each hand stands and what it knows.
+-- The words and the owner of each page, how often it was put, the time, and by number where each hand stands and what it knows.
 pub record Pages (D : Type 0) : Type 0 where
   pub contents : List (List ℕ)
   pub owners : List Owner
+  pub versions : List ℕ
   pub clock : ℕ
   pub hands : List (Stage × D)
 
@@ -41,8 +42,17 @@ module _ {D : Type 0} where
   abbrev pub owned : Pages D → ℕ → Owner → Pages D
   owned s x owner = record s { owners = slice_set s.owners x owner }
 
+  -- the page x was put so often
+  abbrev pub HasVersion : Pages D → ℕ → ℕ → Type 0
+  HasVersion s x v = get_elem? s.versions x ≡ some v
+
+  -- the page x has these words, and that number of puts
+  abbrev pub written_as : Pages D → ℕ → List ℕ → ℕ → Pages D
+  written_as s x words version = record s { contents = slice_set s.contents x words; versions = slice_set s.versions x version }
+
+  -- it was put once more
   abbrev pub written : Pages D → ℕ → List ℕ → Pages D
-  written s x words = record s { contents = slice_set s.contents x words }
+  written s x words = written_as s x words (slice_index s.versions x + 1)
 
   -- time has passed
   abbrev pub later : Pages D → Pages D
@@ -52,6 +62,7 @@ module _ {D : Type 0} where
   pub record IsOrderly (l : Layout) (s : Pages D) : Type 0 where
     pub contents : length s.contents ≡ l.pages
     pub owners : length s.owners ≡ l.pages
+    pub versions : length s.versions ≡ l.pages
     pub hands : length s.hands ≡ l.passes
     pub begun : (n since : ℕ) (d : D) → Stands s n (Running since) d → since ≤ s.clock
 
@@ -78,6 +89,21 @@ module _ {D : Type 0} (holds : Pages D → Type 0) (l : Layout) (n : ℕ) (d : D
   abbrev pub Gets : ℕ → (D → ℕ → Owner → List ℕ → D → Type 0) → Type 0
   Gets x then = (s : Pages D) (since : ℕ) (words : List ℕ) (owner : Owner) → holds s → IsOrderly l s → Stands s n (Running since) d → IsPage s x words owner
       → (owner ≢ Released) × (d' : D) × holds (observed s n (Running since) d') × then d x owner words d'
+
+  -- the same, and the hand is told how often it was put
+  abbrev pub GetsAs : ℕ → (D → ℕ → ℕ → Owner → List ℕ → D → Type 0) → Type 0
+  GetsAs x then = (s : Pages D) (since version : ℕ) (words : List ℕ) (owner : Owner) → holds s → IsOrderly l s → Stands s n (Running since) d → IsPage s x words owner
+      → HasVersion s x version → (owner ≢ Released) × (d' : D) × holds (observed s n (Running since) d') × then d x version owner words d'
+
+  -- a process of the hand ends, and has no page, and the next one begins, for which the time of the first one counts: what was swapped out
+  -- since then is not given back
+  abbrev pub Relays : (D → ℕ → D → Type 0) → Type 0
+  Relays then = (s : Pages D) (since : ℕ) → holds s → IsOrderly l s → Stands s n (Running since) d
+      → HoldsNone s n × (d' : D) × holds (observed s n (Running since) d') × then d s.clock d'
+
+  -- what follows from the rule, for what the hand knows, where the page x was put so often: nothing happens
+  abbrev pub Implies : ℕ → ℕ → (D → ℕ → ℕ → Type 0) → Type 0
+  Implies x version tells = (s : Pages D) (st : Stage) → holds s → IsOrderly l s → Stands s n st d → HasVersion s x version → tells d x version
 
   -- the page x, which the hand holds, becomes `new`
   abbrev pub Puts : ℕ → List ℕ → (D → ℕ → Owner → List ℕ → D → Type 0) → Type 0

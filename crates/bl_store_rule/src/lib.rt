@@ -10,5 +10,7 @@ pub mod plays;
 mod rule;
 mod view;
 
-pub use rule::{MeetPlay, PagePlay, PageRule, SweepPlay, TimePlay};
-pub use view::{Draft, Dropping, Framed, Ground, Reading, Sealing, Stamp, Sweep, View, Wanted};
+pub use rule::{KeepPlay, MeetPlay, PagePlay, PageRule, SweepPlay, TellPlay, TimePlay};
+pub use view::{
+    Draft, Dropping, Framed, Ground, Look, Reading, Sealing, Stamp, Sweep, View, Wanted,
+};

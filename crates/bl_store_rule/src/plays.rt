@@ -1,8 +1,8 @@
 //! What each step on the table tells its seat.
-ghost use Rattle.bl_store_rule.specs.Observed.{allotted, clocked, confirmed, copied, drew, ended, freed, horizoned, looked, met, noted, opened, passed, published, raised, refused, released, renewed, reserved, returned, sealed, settled, stamped, swapped, took, tried, wrote};
+ghost use Rattle.bl_store_rule.specs.Observed.{allotted, clocked, compared, confirmed, copied, drew, ended, freed, horizoned, looked, looked_kept, met, noted, opened, passed, published, raised, refused, relayed, released, renewed, reserved, returned, sealed, settled, stamped, swapped, took, tried, wrote};
 ghost use Rattle.std.specs.Prelude.{ℕ};
 
-use crate::rule::{MeetPlay, PagePlay, SweepPlay, TimePlay};
+use crate::rule::{KeepPlay, MeetPlay, PagePlay, SweepPlay, TellPlay, TimePlay};
 use crate::view::View;
 use atomic_table::Play;
 use std::marker::{Brand, PhantomData};
@@ -187,6 +187,33 @@ pub struct Look<M> {
 
 impl<D, M: PagePlay<D>> Play<(), View<D>> for Look<M> {
     ghost then = { looked M.then };
+}
+
+/// A look at a page's word, which the hand keeps in mind.
+pub struct LookKept<M> {
+    play: PhantomData<M>,
+}
+
+impl<D, M: KeepPlay<D>> Play<(), View<D>> for LookKept<M> {
+    ghost then = { looked_kept M.then };
+}
+
+/// A look whether a page's word is the one that the hand keeps in mind.
+pub struct Compare<M> {
+    play: PhantomData<M>,
+}
+
+impl<D, M: TellPlay<D>> Play<(), View<D>> for Compare<M> {
+    ghost then = { compared M.tells };
+}
+
+/// A process ends and the next one begins, and all that the hand has looked at is kept.
+pub struct Relay<M> {
+    play: PhantomData<M>,
+}
+
+impl<D, M: TimePlay<D>> Play<(), View<D>> for Relay<M> {
+    ghost then = { relayed M.then };
 }
 
 /// A put: the page's word names the frame that was reserved last.

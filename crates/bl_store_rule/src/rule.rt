@@ -26,6 +26,18 @@ pub trait PagePlay<D> {
     ghost then: { D → ℕ → Owner → List ℕ → D → Type 0 };
 }
 
+/// What a look at a page tells its hand that keeps it in mind.
+pub trait KeepPlay<D> {
+    // Of what the hand knew, the page, how often it was put, its owner and its words, and what the hand knows after.
+    ghost then: { D → ℕ → ℕ → Owner → List ℕ → D → Type 0 };
+}
+
+/// What a hand may conclude of a page that was put so often.
+pub trait TellPlay<D> {
+    // Of what the hand knows, the page, and how often it was put.
+    ghost tells: { D → ℕ → ℕ → Type 0 };
+}
+
 /// What a hand learns of another that it meets.
 pub trait MeetPlay<D> {
     // Of what the hand knew, what the other knows, and what the hand knows after.

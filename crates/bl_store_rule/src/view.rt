@@ -21,6 +21,13 @@ pub enum Reading {
     At(u32, LinkedList<u64>),
 }
 
+/// A frame that a hand keeps in mind, which it saw as the contents of a page since that put of it.
+pub struct Look {
+    pub page: u32,
+    pub frame: u32,
+    pub version: u64,
+}
+
 /// A frame that a hand has reserved, and the words that it has written there so far.
 pub struct Draft {
     pub frame: u32,
@@ -66,6 +73,8 @@ pub struct View<D> {
     pub upto: u32,
     pub stamp: Stamp,
     pub reading: Reading,
+    /// What it keeps in mind, the last one first.
+    pub kept: LinkedList<Look>,
     /// The frames that it has reserved, the last one first.
     pub stock: LinkedList<Draft>,
     pub dropping: Dropping,
