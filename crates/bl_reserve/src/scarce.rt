@@ -3,6 +3,7 @@
 ghost use Rattle.std.specs.Prelude.{◌≤◌};
 ghost use Rattle.bl_layout.specs.Words.{frame_count};
 
+use bl_room::{RING, end_near};
 use bl_store::{Hand, Store};
 use bl_store_rule::PageRule;
 use std::alloc::Allocator;
@@ -17,6 +18,9 @@ const FRAMES_A_HAND: u32 = 8;
 /// So many puts a hand makes at most between two looks for frames.
 const PUTS_A_LOOK: u32 = 64;
 
+/// So many chunks of frames a hand looks at before it takes the others as they are counted.
+const CHUNKS_A_LOOK: u32 = 4;
+
 /// With so many frames to spare for each hand they are ample: the rings of all hands are full before frames are scarce. With fewer some find
 /// frames in their rings, and take them, which others have counted.
 const AMPLE: u32 = 1_024;
@@ -25,6 +29,9 @@ const AMPLE: u32 = 1_024;
 /// may take before they look again, and some are retired. So whoever has looked finds what it takes, though it loses its processor
 /// and others go on meanwhile. It looks at the frames that the hand would try first, and no further than it has to; a hand that has
 /// seen enough looks again some puts later. It is a hint of which nothing is promised: others reserve and release meanwhile.
+///
+/// Where frames are ample a look takes no longer in a longer table, though another thread has lost its processor within a process and
+/// holds all back that was retired since: it goes by counts.
 pub fn lacks_frames<D, R: PageRule<D>, A: Allocator>(
     store: &Store<D, R, A>,
     hand: &Hand<D>,
@@ -33,9 +40,16 @@ pub fn lacks_frames<D, R: PageRule<D>, A: Allocator>(
         return false;
     }
     let puts = puts_a_look(store);
-    let (free, retired) = look_around(store, hand, (FRAMES_A_HAND + puts) * store.layout.passes);
-    if free < (FRAMES_A_HAND + puts) * store.layout.passes {
-        return retired;
+    let wanted = (FRAMES_A_HAND + puts) * store.layout.passes;
+    if is_ample(store) {
+        if !counts_enough(store, hand, wanted) {
+            return true;
+        }
+    } else {
+        let (free, retired) = look_around(store, hand, wanted);
+        if free < wanted {
+            return retired;
+        }
     }
     store.room.note_looked(
         hand.number,
@@ -45,16 +59,54 @@ pub fn lacks_frames<D, R: PageRule<D>, A: Allocator>(
 }
 
 // How many puts a hand makes between two looks. All hands together may take so many frames, and are to see them free: so it is what half
-// of the frames to spare is for each. Where frames are ample the ring of a hand mostly tells enough, and those in use lie close
-// together, so that a look for many would go over thousands.
+// of the frames to spare is for each.
 fn puts_a_look<D, R: PageRule<D>, A: Allocator>(store: &Store<D, R, A>) -> u32
     ensures { result ≤ 64 }
 {
-    if is_ample(store) {
-        return 0;
-    }
     let half = store.layout.spare / 2 / store.layout.passes;
     half.saturating_sub(FRAMES_A_HAND).min(PUTS_A_LOOK)
+}
+
+// Whether so many frames are free where they are ample: some that the hand finds at once, and the others as they are counted. Among these
+// may be some that others keep in sight, and take, so they are to be as many more. Where they are not, it counts one more chunk, so that
+// what nobody keeps in mind is found in the end. As there are more frames to spare than all hands keep in sight, some are retired then.
+#[inline(never)]
+fn counts_enough<D, R: PageRule<D>, A: Allocator>(
+    store: &Store<D, R, A>,
+    hand: &Hand<D>,
+    wanted: u32,
+) -> bool {
+    if store.room.has_fresh(store.layout) {
+        return true;
+    }
+    let frames = store.layout.frames();
+    let mut frame = hand.sight.frame();
+    for _ in 0..CHUNKS_A_LOOK {
+        let (from, to) = store.room.next_spare(frame, frames);
+        if count_chunk(store, from, to) >= MOST {
+            let in_sight = RING as u32 * store.layout.passes;
+            return store
+                .room
+                .has_spare(from, frames, wanted.saturating_add(in_sight));
+        }
+        frame = to;
+    }
+    let (from, to) = store.room.next_to_count(hand.number, frames);
+    count_chunk(store, from, to);
+    false
+}
+
+// How many frames of a chunk are free. All know it then.
+fn count_chunk<D, R: PageRule<D>, A: Allocator>(store: &Store<D, R, A>, from: u32, to: u32) -> u32
+    requires { (from ≤ to) × (to ≤ frame_count store.now.layout) }
+{
+    if from == to {
+        return 0;
+    }
+    let mark = store.room.mark(from);
+    let (free, _) = look_over(store, from, to, to - from);
+    store.room.note_counted(from, mark, free);
+    free
 }
 
 // How many frames are free, so many at most, from those that the hand would try first on and around; and whether one that it looked at
@@ -91,9 +143,33 @@ fn is_ample<D, R: PageRule<D>, A: Allocator>(store: &Store<D, R, A>) -> bool {
     store.layout.spare / AMPLE >= store.layout.passes
 }
 
-// Whether as many frames are free as a reservation asks for at most, from those that the hand would try first on.
+// Whether as many frames are free as a reservation asks for at most: those that the hand would try first, some that nobody has used yet,
+// or some of a chunk that has as many as it is counted. Else it looks at all.
 fn sees_frames<D, R: PageRule<D>, A: Allocator>(store: &Store<D, R, A>, hand: &Hand<D>) -> bool {
-    look_around(store, hand, MOST).0 >= MOST
+    sees_frames_near(store, hand)
+        || store.room.has_fresh(store.layout)
+        || sees_frames_counted(store, hand)
+        || look_around(store, hand, MOST).0 >= MOST
+}
+
+// Whether as many are free of those that the hand would try first.
+fn sees_frames_near<D, R: PageRule<D>, A: Allocator>(
+    store: &Store<D, R, A>,
+    hand: &Hand<D>,
+) -> bool {
+    let first = hand.sight.frame().min(store.layout.frames());
+    look_over(store, first, end_near(store.layout, first), MOST).0 >= MOST
+}
+
+// Whether as many are free in a chunk that has some, as it is counted.
+fn sees_frames_counted<D, R: PageRule<D>, A: Allocator>(
+    store: &Store<D, R, A>,
+    hand: &Hand<D>,
+) -> bool {
+    let (from, to) = store
+        .room
+        .next_spare(hand.sight.frame(), store.layout.frames());
+    look_over(store, from, to, MOST).0 >= MOST
 }
 
 // Whether frames are ample, and the hand has released as many as a reservation asks for, of which nobody has taken those that it would

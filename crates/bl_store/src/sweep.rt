@@ -60,7 +60,7 @@ impl<D, R: PageRule<D>, A: Allocator> Store<D, R, A> {
         let owners = self.layout.pages + self.layout.frames();
         let looks = owners.min(OWNERS_A_SWEEP);
         let mine = hand.sight.begin_sweep();
-        let first = mine.unwrap_or(hand.sight.owner()) % owners;
+        let first = mine.unwrap_or(self.next_owner(hand)) % owners;
         let mut states = [0u64; OWNERS_A_SWEEP as usize];
         let mut any = false;
         for i in 0..looks {
@@ -89,6 +89,16 @@ impl<D, R: PageRule<D>, A: Allocator> Store<D, R, A> {
         }
         self.keep_gone(hand, mine);
         released
+    }
+
+    // The owner word at which a sweep begins that goes from no page of the hand's own. It passes by those of pages where none is retired.
+    fn next_owner(&self, hand: &Hand<D>) -> u32 {
+        let owner = hand.sight.owner();
+        if self.room.retiring() == 0 {
+            owner.max(self.layout.pages)
+        } else {
+            owner
+        }
     }
 
     // The hand keeps a page in sight, which it has retired, where it is not released yet.
@@ -190,7 +200,9 @@ impl<D, R: PageRule<D>, A: Allocator> Store<D, R, A> {
         if found != state {
             return false;
         }
-        hand.sight.note_released(frame, most);
+        if !hand.sight.note_released(frame, most) {
+            self.room.note_spare(frame);
+        }
         true
     }
 
