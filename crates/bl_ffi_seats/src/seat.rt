@@ -595,7 +595,7 @@ impl Seat {
             return true;
         }
         self.upkeep.is_to_look();
-        self.look_about();
+        self.look_on();
         false
     }
 
@@ -620,9 +620,16 @@ impl Seat {
         ensures same { (self.new.index ≡ self.old.index) × (self.new.hand ≡ self.old.hand) × (self.new.running ≡ self.old.running) }
         ensures found { (piece : Option HintIs) × IsFound piece self.old.upkeep self.new.upkeep }
     {
-        if !self.has_nothing_to_do() {
-            return;
+        if self.has_nothing_to_do() {
+            self.look_on();
         }
+    }
+
+    /// The same, whatever waits: a piece that found no room itself keeps no page from being found.
+    fn look_on(&mut self)
+        ensures same { (self.new.index ≡ self.old.index) × (self.new.hand ≡ self.old.hand) × (self.new.running ≡ self.old.running) }
+        ensures found { (piece : Option HintIs) × IsFound piece self.old.upkeep self.new.upkeep }
+    {
         let tree = self.index.tree();
         let hint = self.upkeep.seek(tree, &self.hand);
         self.upkeep.keep(hint);

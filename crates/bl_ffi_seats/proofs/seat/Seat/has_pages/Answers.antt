@@ -23,20 +23,20 @@ pub returns-then-is_looked_through-clause-looked : goal.returns-then-is_looked_t
 returns-then-is_looked_through-clause-looked c = λ n from t. tends_swept t c.release_pages.ensures.swept.1
 
 pub returns-clause-same : goal.returns-clause-same
-returns-clause-same c = let e = c.look_about.ensures in seat_still c.args.self.now c.release_pages.new.self c.look_about.new.self c.release_pages.ensures.same e.same.0 e.same.1
+returns-clause-same c = let e = c.look_on.ensures in seat_still c.args.self.now c.release_pages.new.self c.look_on.new.self c.release_pages.ensures.same e.same.0 e.same.1
 
 pub returns-clause-keeps : goal.returns-clause-keeps
 returns-clause-keeps c =
-    let e = c.look_about.ensures in let r = c.release_pages.ensures.keeps in (e.same.2 ∙ r.0, e.found.1.3 ∙ (c.is_to_look.ensures.1 ∙ ap lacked_in r.1))
+    let e = c.look_on.ensures in let r = c.release_pages.ensures.keeps in (e.same.2 ∙ r.0, e.found.1.3 ∙ (c.is_to_look.ensures.1 ∙ ap lacked_in r.1))
 
 pub returns-clause-looked : goal.returns-clause-looked
 returns-clause-looked c =
-    let e = c.look_about.ensures in
-    let looks : LooksAbout c.release_pages.new.self c.look_about.new.self = record {
+    let e = c.look_on.ensures in
+    let looks : LooksAbout c.release_pages.new.self c.look_on.new.self = record {
       index = e.same.0;
       hand = e.same.1;
       running = e.same.2;
-      found = (e.found.0, found_from e.found.0 c.release_pages.new.self.upkeep c.is_to_look.new.self c.look_about.new.self.upkeep c.is_to_look.ensures.0 c.is_to_look.ensures.1 e.found.1);
+      found = (e.found.0, found_from e.found.0 c.release_pages.new.self.upkeep c.is_to_look.new.self c.look_on.new.self.upkeep c.is_to_look.ensures.0 c.is_to_look.ensures.1 e.found.1);
     } in
     λ n from t. Tends.Looks (tends_swept t c.release_pages.ensures.swept.1) looks
 
