@@ -21,10 +21,9 @@ pub(crate) const LEVELS: u32 = MOST_LEVELS as u32;
 /// longer than a thread waits for a processor that it has lost within a process, even where there are ten threads for each.
 const WAITS_FOR_ROOM: u32 = 32_768;
 
-/// So many times it only lets others run, and then it sleeps for so long.
+/// So many times it only lets others run, and then it sleeps for so many microseconds.
 const YIELDS: u32 = 4_096;
-
-const NAP: Duration = Duration::from_micros(50);
+const NAP: u64 = 50;
 
 /// What became of a hint that was followed.
 #[derive(Clone, Copy, Debug, PartialEq, Eq)]
@@ -78,7 +77,7 @@ fn let_others_run<R: Wait>(rt: &R, waits: u32) {
     if waits < YIELDS {
         thread::yield_now();
     } else {
-        AtomicU64::new(0).park_timeout(rt, 0, NAP);
+        AtomicU64::new(0).park_timeout(rt, 0, Duration::from_micros(NAP));
     }
 }
 

@@ -200,10 +200,15 @@ impl<D, R: PageRule<D>, A: Allocator> Store<D, R, A> {
         if found != state {
             return false;
         }
-        if !hand.sight.note_released(frame, most) {
+        self.count_released(frame, hand.sight.note_released(frame, most));
+        true
+    }
+
+    // A frame was released. One that no hand keeps in sight is counted.
+    fn count_released(&self, frame: u32, is_in_sight: bool) {
+        if !is_in_sight {
             self.room.note_spare(frame);
         }
-        true
     }
 
     // Releases the page or the frame that has the owner word, where it is still in that state of retirement.
