@@ -3,7 +3,7 @@
 ghost use Rattle.std.specs.Prelude.{◌≤◌};
 ghost use Rattle.bl_layout.specs.Words.{frame_count};
 
-use bl_room::{RING, end_near};
+use bl_room::RING;
 use bl_store::{Hand, Store};
 use bl_store_rule::PageRule;
 use std::alloc::Allocator;
@@ -18,7 +18,10 @@ const FRAMES_A_HAND: u32 = 8;
 /// So many puts a hand makes at most between two looks for frames.
 const PUTS_A_LOOK: u32 = 64;
 
-/// So many chunks of frames a hand looks at before it takes the others as they are counted.
+/// So many frames stand near that which the hand would try first.
+const FRAMES_NEAR: u32 = 1_024;
+
+/// So many chunks of frames a hand looks at, where it finds none near, before it takes the others as they are counted.
 const CHUNKS_A_LOOK: u32 = 4;
 
 /// With so many frames to spare for each hand they are ample: the rings of all hands are full before frames are scarce. With fewer some find
@@ -67,7 +70,7 @@ fn puts_a_look<D, R: PageRule<D>, A: Allocator>(store: &Store<D, R, A>) -> u32
     half.saturating_sub(FRAMES_A_HAND).min(PUTS_A_LOOK)
 }
 
-// Whether so many frames are free where they are ample: some that the hand finds at once, and the others as they are counted. Among these
+// Whether so many frames are free where they are ample: some that the hand finds near or in a chunk, and the others as they are counted. Among these
 // may be some that others keep in sight, and take, so they are to be as many more. Where they are not, it counts one more chunk, so that
 // what nobody keeps in mind is found in the end. As there are more frames to spare than all hands keep in sight, some are retired then.
 #[inline(never)]
@@ -80,14 +83,15 @@ fn counts_enough<D, R: PageRule<D>, A: Allocator>(
         return true;
     }
     let frames = store.layout.frames();
+    let all = wanted.saturating_add(RING as u32 * store.layout.passes);
     let mut frame = hand.sight.frame();
+    if sees_frames_near(store, hand) && store.room.has_spare(frame, frames, all) {
+        return true;
+    }
     for _ in 0..CHUNKS_A_LOOK {
         let (from, to) = store.room.next_spare(frame, frames);
         if count_chunk(store, from, to) >= MOST {
-            let in_sight = RING as u32 * store.layout.passes;
-            return store
-                .room
-                .has_spare(from, frames, wanted.saturating_add(in_sight));
+            return store.room.has_spare(from, frames, all);
         }
         frame = to;
     }
@@ -157,8 +161,9 @@ fn sees_frames_near<D, R: PageRule<D>, A: Allocator>(
     store: &Store<D, R, A>,
     hand: &Hand<D>,
 ) -> bool {
-    let first = hand.sight.frame().min(store.layout.frames());
-    look_over(store, first, end_near(store.layout, first), MOST).0 >= MOST
+    let total = store.layout.frames();
+    let first = hand.sight.frame().min(total);
+    look_over(store, first, total.min(first + FRAMES_NEAR), MOST).0 >= MOST
 }
 
 // Whether as many are free in a chunk that has some, as it is counted.
