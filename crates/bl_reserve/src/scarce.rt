@@ -18,11 +18,11 @@ const FRAMES_A_HAND: u32 = 8;
 /// So many puts a hand makes at most between two looks for frames.
 const PUTS_A_LOOK: u32 = 64;
 
-/// So many frames stand near that which the hand would try first.
+/// So many frames are counted together, and so many stand near that which the hand would try first.
 const FRAMES_NEAR: u32 = 1_024;
 
-/// So many chunks of frames a hand looks at, where it finds none near, before it takes the others as they are counted.
-const CHUNKS_A_LOOK: u32 = 4;
+/// So many chunks of frames a hand looks at for as many as all hands may take.
+const CHUNKS_A_LOOK: u32 = 64;
 
 /// With so many frames to spare for each hand they are ample: the rings of all hands are full before frames are scarce. With fewer some find
 /// frames in their rings, and take them, which others have counted.
@@ -70,9 +70,9 @@ fn puts_a_look<D, R: PageRule<D>, A: Allocator>(store: &Store<D, R, A>) -> u32
     half.saturating_sub(FRAMES_A_HAND).min(PUTS_A_LOOK)
 }
 
-// Whether so many frames are free where they are ample: some that the hand finds near or in a chunk, and the others as they are counted. Among these
-// may be some that others keep in sight, and take, so they are to be as many more. Where they are not, it counts one more chunk, so that
-// what nobody keeps in mind is found in the end. As there are more frames to spare than all hands keep in sight, some are retired then.
+// Whether so many frames are free where they are ample, and as many more as all hands keep in sight, which others take without a look. It looks
+// at chunks that have some as they are counted, so many at most, and counts them anew. Where it finds too few it counts one more, so
+// that what nobody keeps in mind is found in the end. As there are more frames to spare than all hands keep in sight, some are retired then.
 #[inline(never)]
 fn counts_enough<D, R: PageRule<D>, A: Allocator>(
     store: &Store<D, R, A>,
@@ -83,33 +83,53 @@ fn counts_enough<D, R: PageRule<D>, A: Allocator>(
         return true;
     }
     let frames = store.layout.frames();
-    let all = wanted.saturating_add(RING as u32 * store.layout.passes);
-    let mut frame = hand.sight.frame();
-    if sees_frames_near(store, hand) && store.room.has_spare(frame, frames, all) {
-        return true;
-    }
+    let mut missing = wanted.saturating_add(RING as u32 * store.layout.passes);
+    let mut frame = hand.sight.frame() / FRAMES_NEAR * FRAMES_NEAR;
+    let mut passed = 0u32;
     for _ in 0..CHUNKS_A_LOOK {
         let (from, to) = store.room.next_spare(frame, frames);
-        if count_chunk(store, from, to) >= MOST {
-            return store.room.has_spare(from, frames, all);
+        passed = passed.saturating_add(way(frame, to, frames));
+        // It has come around to where it began.
+        if from == to || passed > frames {
+            break;
         }
-        frame = to;
+        missing = missing.saturating_sub(count_chunk(store, from, to, missing));
+        if missing == 0 {
+            return true;
+        }
+        frame = if to == frames { 0 } else { to };
     }
     let (from, to) = store.room.next_to_count(hand.number, frames);
-    count_chunk(store, from, to);
+    count_chunk(store, from, to, frames);
     false
 }
 
-// How many frames of a chunk are free. All know it then.
-fn count_chunk<D, R: PageRule<D>, A: Allocator>(store: &Store<D, R, A>, from: u32, to: u32) -> u32
+// How far it is from one frame to another, where the first follows the last.
+fn way(from: u32, to: u32, frames: u32) -> u32 {
+    if to >= from {
+        to.saturating_sub(from)
+    } else {
+        to.saturating_add(frames).saturating_sub(from)
+    }
+}
+
+// How many frames of a chunk are free, so many at most. Where there are fewer, all know it then.
+fn count_chunk<D, R: PageRule<D>, A: Allocator>(
+    store: &Store<D, R, A>,
+    from: u32,
+    to: u32,
+    most: u32,
+) -> u32
     requires { (from ≤ to) × (to ≤ frame_count store.now.layout) }
 {
     if from == to {
         return 0;
     }
     let mark = store.room.mark(from);
-    let (free, _) = look_over(store, from, to, to - from);
-    store.room.note_counted(from, mark, free);
+    let (free, _) = look_over(store, from, to, most);
+    if free < most {
+        store.room.note_counted(from, mark, free);
+    }
     free
 }
 
