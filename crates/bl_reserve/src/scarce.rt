@@ -70,9 +70,9 @@ fn puts_a_look<D, R: PageRule<D>, A: Allocator>(store: &Store<D, R, A>) -> u32
     half.saturating_sub(FRAMES_A_HAND).min(PUTS_A_LOOK)
 }
 
-// Whether so many frames are free where they are ample, and as many more as all hands keep in sight, which others take without a look. It looks
-// at chunks that have some as they are counted, so many at most, and counts them anew. Where it finds too few it counts one more, so
-// that what nobody keeps in mind is found in the end. As there are more frames to spare than all hands keep in sight, some are retired then.
+// Whether so many frames are free where they are ample, and as many more as all hands keep in sight, which others take without a look: as they
+// are counted, and then as they are seen. Where too few are counted it counts one more chunk, so that what nobody keeps in mind is found in
+// the end. As there are more frames to spare than all hands keep in sight, some are retired then.
 #[inline(never)]
 fn counts_enough<D, R: PageRule<D>, A: Allocator>(
     store: &Store<D, R, A>,
@@ -82,8 +82,24 @@ fn counts_enough<D, R: PageRule<D>, A: Allocator>(
     if store.room.has_fresh(store.layout) {
         return true;
     }
+    let all = wanted.saturating_add(RING as u32 * store.layout.passes);
     let frames = store.layout.frames();
-    let mut missing = wanted.saturating_add(RING as u32 * store.layout.passes);
+    if store.room.has_spare(hand.sight.frame(), frames, all) {
+        return sees_counted(store, hand, all);
+    }
+    let (from, to) = store.room.next_to_count(hand.number, frames);
+    count_chunk(store, from, to, frames);
+    false
+}
+
+// Whether so many frames are free in the chunks that have some as they are counted, so many chunks at most. It counts them anew.
+fn sees_counted<D, R: PageRule<D>, A: Allocator>(
+    store: &Store<D, R, A>,
+    hand: &Hand<D>,
+    wanted: u32,
+) -> bool {
+    let frames = store.layout.frames();
+    let mut missing = wanted;
     let mut frame = hand.sight.frame() / FRAMES_NEAR * FRAMES_NEAR;
     let mut passed = 0u32;
     for _ in 0..CHUNKS_A_LOOK {
@@ -91,7 +107,7 @@ fn counts_enough<D, R: PageRule<D>, A: Allocator>(
         passed = passed.saturating_add(way(frame, to, frames));
         // It has come around to where it began.
         if from == to || passed > frames {
-            break;
+            return false;
         }
         missing = missing.saturating_sub(count_chunk(store, from, to, missing));
         if missing == 0 {
@@ -99,8 +115,6 @@ fn counts_enough<D, R: PageRule<D>, A: Allocator>(
         }
         frame = if to == frames { 0 } else { to };
     }
-    let (from, to) = store.room.next_to_count(hand.number, frames);
-    count_chunk(store, from, to, frames);
     false
 }
 
