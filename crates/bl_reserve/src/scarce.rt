@@ -70,8 +70,8 @@ fn puts_a_look<D, R: PageRule<D>, A: Allocator>(store: &Store<D, R, A>) -> u32
     half.saturating_sub(FRAMES_A_HAND).min(PUTS_A_LOOK)
 }
 
-// Whether so many frames are free where they are ample: as they are seen where so many are counted, and as many more as all hands keep in sight,
-// which may be among them. Where too few are counted it counts one more chunk, so that what nobody keeps in mind is found in
+// Whether so many frames are free where they are ample, and as many more as all hands keep in sight, which these take without a look: as they
+// are counted, and then as they are seen. Where too few are counted it counts one more chunk, so that what nobody keeps in mind is found in
 // the end. As there are more frames to spare than all hands keep in sight, some are retired then.
 #[inline(never)]
 fn counts_enough<D, R: PageRule<D>, A: Allocator>(
@@ -85,7 +85,7 @@ fn counts_enough<D, R: PageRule<D>, A: Allocator>(
     let all = wanted.saturating_add(RING as u32 * store.layout.passes);
     let frames = store.layout.frames();
     if store.room.has_spare(hand.sight.frame(), frames, all) {
-        return sees_counted(store, hand, wanted);
+        return sees_counted(store, hand, all);
     }
     let (from, to) = store.room.next_to_count(hand.number, frames);
     count_chunk(store, from, to, frames);
