@@ -92,17 +92,27 @@ fn counts_enough<D, R: PageRule<D>, A: Allocator>(
     false
 }
 
-// Whether so many frames are free in the chunks that have some as they are counted, so many chunks at most. It counts them anew.
+// Whether so many frames are free: those near that which the hand would try first, and those in the chunks behind that have some as they
+// are counted, so many chunks at most. It counts these anew.
 fn sees_counted<D, R: PageRule<D>, A: Allocator>(
     store: &Store<D, R, A>,
     hand: &Hand<D>,
     wanted: u32,
 ) -> bool {
     let frames = store.layout.frames();
-    let mut missing = wanted;
-    let mut frame = hand.sight.frame() / FRAMES_NEAR * FRAMES_NEAR;
-    let mut passed = 0u32;
+    let first = hand.sight.frame().min(frames);
+    let end = frames.min(first + FRAMES_NEAR);
+    let mut missing = wanted - look_over(store, first, end, wanted).0;
+    if missing == 0 {
+        return true;
+    }
+    let mut frame = end / FRAMES_NEAR * FRAMES_NEAR + FRAMES_NEAR;
+    // Those of the two chunks in which the first ones stand are not looked at again.
+    let mut passed = 2 * FRAMES_NEAR;
     for _ in 0..CHUNKS_A_LOOK {
+        if frame >= frames {
+            frame = 0;
+        }
         let (from, to) = store.room.next_spare(frame, frames);
         passed = passed.saturating_add(way(frame, to, frames));
         // It has come around to where it began.
@@ -113,7 +123,7 @@ fn sees_counted<D, R: PageRule<D>, A: Allocator>(
         if missing == 0 {
             return true;
         }
-        frame = if to == frames { 0 } else { to };
+        frame = to;
     }
     false
 }
