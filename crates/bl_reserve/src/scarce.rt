@@ -70,8 +70,8 @@ fn puts_a_look<D, R: PageRule<D>, A: Allocator>(store: &Store<D, R, A>) -> u32
     half.saturating_sub(FRAMES_A_HAND).min(PUTS_A_LOOK)
 }
 
-// Whether so many frames are free where they are ample, and as many more as all hands keep in sight, which these take without a look: as they
-// are counted, and then as they are seen. Where too few are counted it counts one more chunk, so that what nobody keeps in mind is found in
+// Whether so many frames are free where they are ample, and as many more as all hands keep in sight, which others take without a look: as it
+// sees them near by, or as they are counted, and then as it sees them. Where too few are counted it counts one more chunk, so that what nobody keeps in mind is found in
 // the end. As there are more frames to spare than all hands keep in sight, some are retired then.
 #[inline(never)]
 fn counts_enough<D, R: PageRule<D>, A: Allocator>(
@@ -84,6 +84,9 @@ fn counts_enough<D, R: PageRule<D>, A: Allocator>(
     }
     let all = wanted.saturating_add(RING as u32 * store.layout.passes);
     let frames = store.layout.frames();
+    if sees_frames_near(store, hand, all) {
+        return true;
+    }
     if store.room.has_spare(hand.sight.frame(), frames, all) {
         return sees_counted(store, hand, all);
     }
@@ -92,27 +95,17 @@ fn counts_enough<D, R: PageRule<D>, A: Allocator>(
     false
 }
 
-// Whether so many frames are free: those near that which the hand would try first, and those in the chunks behind that have some as they
-// are counted, so many chunks at most. It counts these anew.
+// Whether so many frames are free in the chunks that have some as they are counted, so many chunks at most. It counts them anew.
 fn sees_counted<D, R: PageRule<D>, A: Allocator>(
     store: &Store<D, R, A>,
     hand: &Hand<D>,
     wanted: u32,
 ) -> bool {
     let frames = store.layout.frames();
-    let first = hand.sight.frame().min(frames);
-    let end = frames.min(first + FRAMES_NEAR);
-    let mut missing = wanted - look_over(store, first, end, wanted).0;
-    if missing == 0 {
-        return true;
-    }
-    let mut frame = end / FRAMES_NEAR * FRAMES_NEAR + FRAMES_NEAR;
-    // Those of the two chunks in which the first ones stand are not looked at again.
-    let mut passed = 2 * FRAMES_NEAR;
+    let mut missing = wanted;
+    let mut frame = hand.sight.frame() / FRAMES_NEAR * FRAMES_NEAR;
+    let mut passed = 0u32;
     for _ in 0..CHUNKS_A_LOOK {
-        if frame >= frames {
-            frame = 0;
-        }
         let (from, to) = store.room.next_spare(frame, frames);
         passed = passed.saturating_add(way(frame, to, frames));
         // It has come around to where it began.
@@ -123,7 +116,7 @@ fn sees_counted<D, R: PageRule<D>, A: Allocator>(
         if missing == 0 {
             return true;
         }
-        frame = to;
+        frame = if to == frames { 0 } else { to };
     }
     false
 }
@@ -194,20 +187,21 @@ fn is_ample<D, R: PageRule<D>, A: Allocator>(store: &Store<D, R, A>) -> bool {
 // Whether as many frames are free as a reservation asks for at most: those that the hand would try first, some that nobody has used yet,
 // or some of a chunk that has as many as it is counted. Else it looks at all.
 fn sees_frames<D, R: PageRule<D>, A: Allocator>(store: &Store<D, R, A>, hand: &Hand<D>) -> bool {
-    sees_frames_near(store, hand)
+    sees_frames_near(store, hand, MOST)
         || store.room.has_fresh(store.layout)
         || sees_frames_counted(store, hand)
         || look_around(store, hand, MOST).0 >= MOST
 }
 
-// Whether as many are free of those that the hand would try first.
+// Whether so many are free of those that the hand would try first.
 fn sees_frames_near<D, R: PageRule<D>, A: Allocator>(
     store: &Store<D, R, A>,
     hand: &Hand<D>,
+    wanted: u32,
 ) -> bool {
     let total = store.layout.frames();
     let first = hand.sight.frame().min(total);
-    look_over(store, first, total.min(first + FRAMES_NEAR), MOST).0 >= MOST
+    look_over(store, first, total.min(first + FRAMES_NEAR), wanted).0 >= wanted
 }
 
 // Whether as many are free in a chunk that has some, as it is counted.
