@@ -1,5 +1,5 @@
 -- What a hand has seen goes on from what it had seen.
-use Rattle.std.proofs.Common.{ℕ, List, Option, sym, subst}
+use Rattle.std.proofs.Common.{ℕ, List, Option}
 use Rattle.bl_model.specs.declared.operation.Op.{Op}
 use Rattle.bl_claims.specs.Trails.{Trail}
 use Rattle.bl_claims.specs.Seeing.{GoesOnFrom}

@@ -1,5 +1,5 @@
 -- What a hand that rests has told after a search, and after a sweep.
-use Rattle.std.proofs.Common.{ℕ, ◌≡◌, Option, List, refl, sym, ap, ◌∙◌, subst}
+use Rattle.std.proofs.Common.{ℕ, ◌≡◌, Option, List, sym, subst}
 use Rattle.std.specs.Prelude.{Result, Ok, Err}
 use Rattle.bl_model.specs.declared.operation.Op.{Op}
 use Rattle.bl_model.specs.declared.operation.Reply.{Reply}
@@ -10,8 +10,6 @@ use Rattle.bl_index_rule.specs.declared.known.PassState.{PassState}
 use Rattle.bl_index_events.specs.Answered.{Answers}
 use Rattle.bl_index_read.specs.declared.finding.OutOfTurns.{OutOfTurns}
 use Rattle.bl_index_read.specs.Searching.{Finds, RunsOut, AnswersOrRunsOut}
-use Rattle.bl_index_resume.specs.declared.running.Running.{Running}
-use Rattle.bl_index_resume.specs.declared.running.Running.TheVariants as at_seat
 use Rattle.bl_ffi_seats.specs.Seats.{HasReplied}
 
 module _ (hand hand' : Hand PassState) (num : hand'.number ≡ hand.number) (first : (known hand'.seat).first ≡ (known hand.seat).first) (pages turns : ℕ) (op : Op) where
