@@ -209,8 +209,14 @@ impl Room {
     }
 
     /// So many frames were taken that no hand kept in sight, the last of them this one. What another hand counts at the same moment may be
-    /// lost, but no count goes below none.
+    /// lost, but no count goes below none. All frames of its chunk may be in use by now, so those that nobody has used begin behind it.
     pub fn note_spent(&self, frame: u32, many: u32) {
+        let end = u64::from(frame / CHUNK)
+            .saturating_add(1)
+            .saturating_mul(u64::from(CHUNK));
+        if end > self.fresh.load(Ordering::SeqCst) {
+            self.fresh.fetch_max(end, Ordering::SeqCst);
+        }
         if let Some(spare) = self.spare.get((frame / CHUNK) as usize) {
             let before = spare.load(Ordering::SeqCst);
             let free = (before % ONCE_TAKEN).saturating_sub(u64::from(many));

@@ -71,6 +71,9 @@ fn fresh_frames_are_left(rt: HostRuntime) -> Result<(), Fail> {
     let layout = Layout::of(70_000, 2);
     let room = Room::new(rt.alloc(), layout, &[])?;
     assert!(rt; room.has_fresh(layout) && !room.has_spare(0, layout.frames(), 1));
+    // A hand that has gone on into them leaves its chunk behind.
+    room.note_spent(5_000, 1);
+    assert!(rt; room.take_chunk(layout.frames()) == (5_120, 6_144));
     for _ in 0..1_000 {
         if room.take_chunk(layout.frames()).0 >= 132_096 {
             break;
