@@ -17,14 +17,16 @@ use std::time::Duration;
 /// How many levels a tree may have: a split is followed by at most one post on each.
 pub(crate) const LEVELS: u32 = MOST_LEVELS as u32;
 
-/// How often a pass looks at most for what it lacks, before a change, a post or a compression. With its sleep so many looks take some seconds:
-/// longer than a thread waits for a processor that it has lost within a process, even where there are ten threads for each.
+/// How often a pass looks at most for what it lacks, before a change, a post or a compression. With its naps so many looks take half a minute:
+/// longer than a thread waits for a processor that it has lost within a process, on a machine with a hundred threads for each.
 const WAITS_FOR_ROOM: u32 = 32_768;
 
-/// So many times it only lets others run, and then it sleeps for so many microseconds.
-const YIELDS: u32 = 4_096;
+/// So many times it only lets others run, and as often it naps shortly. All naps behind these are long.
+const WAITS_OF_A_KIND: u32 = 4_096;
 
-const NAP: u64 = 50;
+/// How many microseconds a short nap takes, and a long one.
+const SHORT_NAP: u64 = 50;
+const LONG_NAP: u64 = 1_000;
 
 /// What became of a hint that was followed.
 #[derive(Clone, Copy, Debug, PartialEq, Eq)]
@@ -73,13 +75,18 @@ pub(crate) fn wait_for<R: Wait>(rt: &R, index: &Index, pass: &mut Pass, want: Wa
     }
 }
 
-/// Lets others run, where it has waited so often already. Behind many waits it sleeps, so that it takes no time from whom it waits for.
+/// Lets others run, where it has waited so often already. Behind many waits it naps, so that it takes no time from whom it waits for.
 fn let_others_run<R: Wait>(rt: &R, waits: u32) {
-    if waits < YIELDS {
+    if waits < WAITS_OF_A_KIND {
         thread::yield_now();
-    } else {
-        AtomicU64::new(0).park_timeout(rt, 0, Duration::from_micros(NAP));
+        return;
     }
+    let nap = if waits < 2 * WAITS_OF_A_KIND {
+        SHORT_NAP
+    } else {
+        LONG_NAP
+    };
+    AtomicU64::new(0).park_timeout(rt, 0, Duration::from_micros(nap));
 }
 
 /// Gives back what was swapped out, where that is due.
