@@ -3,9 +3,9 @@
  * A map is a B-link tree over a fixed number of pages. Each thread works through a seat
  * of its own, and all seats of a map are made when it is opened. Each answer is that of a
  * plain map. There is one order of all calls, which keeps the order of calls that did not
- * overlap. It is proved for the calls of one seat and for seats that have met
- * (blink_meet); between others it is tested. A scan is many calls, each of which answers
- * the rows of one leaf.
+ * overlap. It is proved for the calls of one seat, and for those of two seats that meet
+ * (blink_meet) in between; for others it is tested. A scan is many calls, each of which
+ * answers the rows of one leaf.
  *
  * Behind this header stands a library whose functions are proved: whatever a caller does
  * that keeps the rules below, no call reads or writes memory that is not its own, and
@@ -228,7 +228,8 @@ int32_t blink_image_of(const blink_row *rows, size_t count, uint32_t pages, uint
  *   BLINK_OK          the first `*length` bytes are the image
  *   BLINK_FEW_ROWS    the map has more rows than `most`
  *   BLINK_BAD_FILL    as above, and so the following three
- *   BLINK_NO_ROOM, BLINK_FEW_BYTES, BLINK_NO_MEMORY  nothing is written
+ *   BLINK_NO_ROOM, BLINK_FEW_BYTES, BLINK_NO_MEMORY
+ *                     no byte of the image is written, and `rows` has the rows
  *   BLINK_CLOSED      the seat is closed */
 BLINK_INLINE int32_t blink_save(blink_seat *seat, uint32_t fill, blink_row *rows,
                                 size_t most, uint8_t *bytes, size_t room,
@@ -461,10 +462,11 @@ const char *blink_version(void);
 /* ---- Calls that come back at once. ---- */
 
 /* What the functions above call. None of these waits, and no guard looks at their rules.
- * Told BLINK_AGAIN, a page is latched by another thread, or others hold back what was
- * replaced: let another thread run and make the same call again. A write that was told
- * BLINK_AGAIN is underway; the next call of the seat, whatever it is, goes on with it
- * first, so a caller who makes another call does not learn whether it takes effect. */
+ * Told BLINK_AGAIN, a page is latched by another thread, others hold back what was
+ * replaced, or put pages while a search reads: let another thread run and make the same
+ * call again. A write that was told BLINK_AGAIN is underway; the next call of the seat,
+ * call again. A write that was told BLINK_AGAIN is underway; the next call of the seat,
+ * whether it takes effect. */
 
 /* Closes a seat, which settles first.
  *   BLINK_OK          it is closed; it holds no page, and nothing is underway at it

@@ -1,6 +1,6 @@
 //! The command `check`.
 
-ghost use Rattle.std.specs.Prelude.{◌≡◌, ◌↔◌, ◌++◌, ℕ, List, true, IfOk, IfErr, IsTrue, codes, decimal, string_bytes, false, OnOk};
+ghost use Rattle.std.specs.Prelude.{◌≡◌, ◌↔◌, ◌++◌, ℕ, List, Bool, true, IfOk, IfErr, IsTrue, codes, decimal, string_bytes, false, OnOk};
 ghost use Rattle.std.specs.Io.KnownBytes.{Appends};
 ghost use Rattle.bl_check.specs.Faults.{AreSoundImage};
 ghost use Rattle.bl_cli_commands.specs.Checks.{report_text, fault_text, IsVerdict, ReadsAll, HasLength, CannotRead, ComesFrom, Leaves};
@@ -123,9 +123,11 @@ pub fn check_image<R: Read, W: Write>(
     ensures fault { IfErr result (λ fault. ComesFrom fault
         (CannotRead length (R.remaining reader.old.inner) (R.remaining reader.new.inner) (reader.new.failed ≡ true))
         (writer.new.failed ≡ true)) }
-    // What is written then.
+    // What is written then: of such a line a beginning at most.
     ensures left { IfErr result (λ fault. (line : List ℕ)
-        × Leaves fault (W.contents writer.old.inner) (W.contents writer.new.inner) line) }
+        × Leaves fault (W.contents writer.old.inner) (W.contents writer.new.inner) line
+        × (fault ≡ command.Write → (sound : Bool) × (bytes : List ℕ)
+        × ReadsAll (R.remaining reader.old.inner) (R.remaining reader.new.inner) bytes × IsVerdict sound bytes line)) }
 {
     let bytes = read_observed(alloc, reader, length)?;
     let (sound, line) = verdict(alloc, bytes.as_slice())?;

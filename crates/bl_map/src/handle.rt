@@ -46,7 +46,7 @@ pub struct Handle<'a> {
 impl<'a> Handle<'a> {
     ghost use Rattle.bl_map.specs.Handles.{IsSameHandle, HasCalled, HasOnlySearched, HasFoundMany, HasChanged, HasWritten, HasFoundNoRoom, HasFoundLeast, HasFoundGreatest, HasCounted, HasKeptUp, HasFollowed, HasSwept, HasTriedAgain, HasTidied};
     ghost use Rattle.bl_map.specs.Handles.{HasWrittenMany, HasStoppedFull};
-    ghost use Rattle.bl_map_calls.specs.Many.{insertion_of, put_of, deletion_of};
+    ghost use Rattle.bl_map_calls.specs.Many.{insertion_of, put_of, deletion_of, HadRoomBefore};
     ghost use Rattle.bl_map.specs.Handles.{HasUpdated, HasCopied};
     ghost use Rattle.bl_map.specs.Handles.{HaveMet, KeepsHints, AreOfOne, IsHandleOver, released_in, NoneUnswept, HasSweptAgain};
     ghost use Rattle.bl_map.specs.Handles.{first_map_of, pages_of_map, frames_of_map, number_of_seat, seat_of, seen_by, waiting_of, dropped_of};
@@ -214,6 +214,7 @@ impl<'a> Handle<'a> {
         ensures same { IsSameHandle self.old self.new }
         ensures most { result ≤ length rows.now }
         ensures written { HasWrittenMany insertion_of (take result rows.now) (take result replies.new) self.old self.new }
+        ensures first { HadRoomBefore result replies.new }
         ensures stops { result < length rows.now → HasStoppedFull insertion_of rows.now replies.new result self.old self.new }
     {
         let index = self.index;
@@ -231,6 +232,7 @@ impl<'a> Handle<'a> {
         ensures same { IsSameHandle self.old self.new }
         ensures most { result ≤ length rows.now }
         ensures written { HasWrittenMany put_of (take result rows.now) (take result replies.new) self.old self.new }
+        ensures first { HadRoomBefore result replies.new }
         ensures stops { result < length rows.now → HasStoppedFull put_of rows.now replies.new result self.old self.new }
     {
         let index = self.index;
@@ -243,6 +245,7 @@ impl<'a> Handle<'a> {
         ensures same { IsSameHandle self.old self.new }
         ensures most { result ≤ length keys.now }
         ensures written { HasWrittenMany deletion_of (take result keys.now) (take result replies.new) self.old self.new }
+        ensures first { HadRoomBefore result replies.new }
         ensures stops { result < length keys.now → HasStoppedFull deletion_of keys.now replies.new result self.old self.new }
     {
         let index = self.index;
@@ -351,7 +354,7 @@ impl<'a> Handle<'a> {
         ensures same { IsSameHandle self.old self.new }
         ensures scanned { low ≤ from → ScannedDown Appends (λ many. vec_capacity rows.new - vec_len rows.new < many) (first_map_of self.old)
             (pages_of_map self.old) (number_of_seat self.old) from low result rows.old.items rows.new.items (seen_by self.old) (seen_by self.new) }
-        ensures none { from < low → (rows.new.items ≡ rows.old.items) × (seen_by self.new ≡ seen_by self.old) }
+        ensures none { from < low → (result ≡ Ok tt) × (rows.new.items ≡ rows.old.items) × (seen_by self.new ≡ seen_by self.old) }
         ensures keeps { KeepsHints self.old self.new }
     {
         if from < low {
@@ -423,8 +426,8 @@ impl<'a> Handle<'a> {
 
     /// A copy of the map while other threads go on: a sound image with as many pages, whose leaves have `fill` rows each, 1 to 14. Its rows are
     /// those of [`Handle::scan`], and no snapshot either: each key is answered as the map stood at some moment of the call. It takes memory for
-    /// the rows and for the image. `Room` says that the rows need more pages at this fill, which 14 makes least, and `Memory` that there was
-    /// none for the rows of a part, or for an image that the map has room for: see [`LoadFault`] for what is not promised then.
+    /// the rows and for the image. `Room` says that the rows need more pages at this fill, which 14 makes least, and `Memory` that memory was
+    /// refused, for the rows or for an image that the map has room for: no clause says that it was, see [`LoadFault`].
     pub fn copy<R: Wait>(&mut self, rt: &R, alloc: Global, fill: u32) -> Result<Quiet, LoadFault>
         ensures same { IsSameHandle self.old self.new }
         ensures copied { HasCopied fill result self.old self.new }

@@ -1,5 +1,5 @@
 -- What a call promises that writes many keys.
-use Rattle.std.specs.Prelude.{◌≡◌, ℕ, ◌+◌, ◌++◌, List, [], ◌∷◌, Option, length}
+use Rattle.std.specs.Prelude.{◌≡◌, ◌≢◌, ℕ, ◌+◌, ◌<◌, ◌++◌, List, [], ◌∷◌, Option, length}
 use mathlib.Core.Option.{some}
 use lib.ListN.{get_elem?}
 use Rattle.bl_model.specs.declared.deciding.KeyWrite.{KeyWrite}
@@ -48,6 +48,10 @@ pub record WritesMany {A : Type 0} (first : List (Option Page)) (pass : ℕ) (as
   pub seen : IsLinearizable first old → IsLinearizable first new
   pub mine : own pass new ≡ own pass old ++ entries_of pass (λ a. op_at (ask a)) list replies
   pub changes : WritesKeys first pass ask list replies before after old new
+
+-- of so many replies each but the last says that there was room
+abbrev pub HadRoomBefore : ℕ → List KeyReply → Type 0
+HadRoomBefore count replies = (place : ℕ) → place + 1 < count → get_elem? replies place ≢ some reply.NoRoom
 
 -- So many were answered, and the last of them found no room, which is the last that the pass has done.
 pub record StopsFull {A : Type 0} (ask : A → ℕ × KeyWrite) (list : List A) (replies : List KeyReply) (count : ℕ) (old new : Pass) : Type 0 where

@@ -4,7 +4,7 @@ ghost use Rattle.std.specs.Prelude.{◌≡◌, ◌<◌, ◌≤◌, ℕ, length, 
 ghost use Rattle.bl_model.specs.declared.deciding.KeyWrite.{KeyWrite as Does};
 ghost use Rattle.bl_model.specs.declared.deciding.KeyWrite.TheVariants as key_write;
 ghost use Rattle.bl_index.specs.Calls.{first_of, IsPassOf, IsSamePass, number_of, trail};
-ghost use Rattle.bl_map_calls.specs.Many.{WritesMany, StopsFull};
+ghost use Rattle.bl_map_calls.specs.Many.{WritesMany, HadRoomBefore, StopsFull};
 
 use crate::calls::FETCHED;
 use crate::writes;
@@ -92,6 +92,7 @@ pub fn write<R: Wait, E: Copy, A: Asks<E>>(
     ensures most { result ≤ length list.now }
     ensures writes { WritesMany (first_of index.now) (number_of pass.old) A.asked (take result list.now) (take result replies.new)
         waiting.old waiting.new (trail pass.old) (trail pass.new) }
+    ensures first { HadRoomBefore result replies.new }
     ensures stops { result < length list.now → StopsFull A.asked list.now replies.new result pass.old pass.new }
 {
     for i in 0..list.len() {
