@@ -465,8 +465,8 @@ const char *blink_version(void);
  * Told BLINK_AGAIN, a page is latched by another thread, others hold back what was
  * replaced, or put pages while a search reads: let another thread run and make the same
  * call again. A write that was told BLINK_AGAIN is underway; the next call of the seat,
- * call again. A write that was told BLINK_AGAIN is underway; the next call of the seat,
- * whether it takes effect. */
+ * whatever it is, goes on with it first, so a caller who makes another call does not
+ * learn whether it takes effect. */
 
 /* Closes a seat, which settles first.
  *   BLINK_OK          it is closed; it holds no page, and nothing is underway at it
