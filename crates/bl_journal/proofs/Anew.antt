@@ -1,0 +1,28 @@
+-- A log that is written anew.
+use Rattle.std.proofs.Common.{◌≡◌, ℕ, ◌+◌, ◌*◌, ◌≤◌, List, [], ◌∷◌, ◌++◌, length, Option, refl, sym, ◌∙◌, ap, subst, arith}
+use Rattle.std.specs.Prelude.{replicate}
+use Rattle.bl_journal.specs.Records.{word_bytes, Fits64, mark, Begins, body_words}
+use Rattle.bl_journal.specs.Rows.{IsLeft}
+use Rattle.bl_journal.specs.Logs.{IsLogOf, HasRoom}
+use Rattle.bl_journal.specs.Parts.{IsNewLog}
+use Rattle.bl_journal.proofs.Spelling.{word_bytes-append, length-word_bytes, zero_bytes}
+use Rattle.bl_journal.proofs.Bodies.{left_of_rows}
+use Rattle.bl_journal.proofs.Filling.{log_of_room}
+
+pub new_room : (salt : ℕ) (rows : List (ℕ × ℕ)) (bytes : List ℕ) (m : ℕ → Option ℕ) (zeros k : ℕ) → IsNewLog salt rows bytes → IsLeft rows [] m → zeros ≡ 8 * k
+    → HasRoom (bytes ++ replicate zeros 0) salt (length bytes) (length bytes + zeros) m
+new_room salt rows bytes m zeros k new left is = record {
+  front = new.words;
+  zeros = k;
+  bodies = body_words rows [] ∷ [];
+  file_is = ap (λ (n : ℕ). bytes ++ replicate n 0) is ∙ ap (λ (l : List ℕ). bytes ++ l) (zero_bytes k) ∙ ap (λ (l : List ℕ). l ++ word_bytes (replicate k 0)) new.spelled
+      ∙ sym (word_bytes-append (mark ∷ salt ∷ new.words) (replicate k 0));
+  fits = new.fits;
+  spells = ([], new.begins, refl);
+  ends = omega (arith, ap length new.spelled, length-word_bytes (mark ∷ salt ∷ new.words));
+  sized = omega (arith, is);
+  left = left_of_rows rows m left;
+}
+
+pub new_long : (salt : ℕ) (rows : List (ℕ × ℕ)) (bytes : List ℕ) → (new : IsNewLog salt rows bytes) → length bytes ≡ 8 * (2 + length new.words)
+new_long salt rows bytes new = omega (arith, ap length new.spelled, length-word_bytes (mark ∷ salt ∷ new.words))
