@@ -6,7 +6,7 @@ use Rattle.std.proofs.Math.Seq.{drop-append-add}
 use Rattle.bl_journal.specs.Files.{AreZeros, IsFilled, Fills}
 use Rattle.bl_journal.specs.Records.{word_bytes, Fits64, mark, Begins, Tells, HasRecords, body_words, came_in, went_in}
 use Rattle.bl_journal.specs.Rows.{IsLeft, Leads}
-use Rattle.bl_journal.specs.Logs.{IsLogOf, Spells, HasRoom}
+use Rattle.bl_journal.specs.Logs.{IsLogOf, EndsIn, Spells, HasRoom}
 use Rattle.bl_journal.proofs.Spelling.{word_bytes-append, length-word_bytes, zero_bytes, fits-append, fits-zeros, left_of, LeftOf}
 use Rattle.bl_journal.proofs.Torn.{length_at_most}
 use Rattle.bl_journal.proofs.Telling.{torn_tells, spells_then_tells, spells_push, at_rest, no_zeros}
@@ -89,11 +89,22 @@ module _ (file : List ℕ) (salt end size : ℕ) (m : ℕ → Option ℕ) (r : H
       ∙ ap (λ (l : List ℕ). head ++ l) (sym (word_bytes-append words (replicate (r.zeros - length words) 0)))
       ∙ sym (parts salt r.front (words ++ replicate (r.zeros - length words) 0))
 
-  module _ (words : List ℕ) (came went : List (ℕ × ℕ)) (new : ℕ → Option ℕ) (begins : Begins salt words (body_words came went) []) (fits : Fits64 words)
-      (leads : Leads came went m new) where
+  module _ (words : List ℕ) (came went : List (ℕ × ℕ)) (begins : Begins salt words (body_words came went) []) where
     with_it : Spells salt (r.front ++ words) (r.bodies ++ body_words came went ∷ [])
     with_it = spells_push salt r.bodies r.front words (body_words came went) r.spells begins
 
+    pub fill_ends : (after : List ℕ) → Fits64 words → IsFilled file end (word_bytes words) after → EndsIn after (body_words came went)
+    fill_ends after fits is = record {
+      words = log salt (r.front ++ words) (replicate (r.zeros - length words) 0);
+      bodies = r.bodies ++ body_words came went ∷ [];
+      spelled = filled words after is ∙ ap (λ (l : List ℕ). word_bytes (mark ∷ salt ∷ l)) (sym (append_assoc r.front words (replicate (r.zeros - length words) 0)));
+      fits = fits_log salt (r.front ++ words) (replicate (r.zeros - length words) 0) (r.fits.0, fits-append r.front words r.fits.1 fits) (fits-zeros (r.zeros - length words));
+      records = (refl, at_rest salt (r.bodies ++ body_words came went ∷ []) (r.front ++ words) (r.zeros - length words) with_it);
+      end = inr (r.bodies, refl);
+    }
+
+  module _ (words : List ℕ) (came went : List (ℕ × ℕ)) (new : ℕ → Option ℕ) (begins : Begins salt words (body_words came went) []) (fits : Fits64 words)
+      (leads : Leads came went m new) where
     left_new : IsLeft (flat_map came_in (r.bodies ++ body_words came went ∷ [])) (flat_map went_in (r.bodies ++ body_words came went ∷ [])) new
     left_new = left_more r.bodies came went m new r.left leads
 
@@ -110,7 +121,7 @@ module _ (file : List ℕ) (salt end size : ℕ) (m : ℕ → Option ℕ) (r : H
           | inr whole ↦
               let same : c ≡ word_bytes (log salt (r.front ++ words) rest) =
               is ∙ ap (λ (l : List ℕ). word_bytes (log salt r.front (l ++ rest))) whole ∙ ap (λ (l : List ℕ). word_bytes (mark ∷ salt ∷ l)) (sym (append_assoc r.front words rest)) in
-              inr (log_of salt (r.front ++ words) rest c (r.bodies ++ body_words came went ∷ []) new same (r.fits.0, fits-append r.front words r.fits.1 fits) others with_it
+              inr (log_of salt (r.front ++ words) rest c (r.bodies ++ body_words came went ∷ []) new same (r.fits.0, fits-append r.front words r.fits.1 fits) others (with_it words came went begins)
               (no_zeros salt (r.zeros - length some.left)) left_new)
         ]
 
@@ -121,7 +132,7 @@ module _ (file : List ℕ) (salt end size : ℕ) (m : ℕ → Option ℕ) (r : H
       bodies = r.bodies ++ body_words came went ∷ [];
       file_is = filled words after is ∙ ap (λ (l : List ℕ). word_bytes (mark ∷ salt ∷ l)) (sym (append_assoc r.front words (replicate (r.zeros - length words) 0)));
       fits = (r.fits.0, fits-append r.front words r.fits.1 fits);
-      spells = with_it;
+      spells = with_it words came went begins;
       ends = omega (arith, r.ends, length-append r.front words);
       sized = omega (arith, r.sized, short);
       left = left_new;

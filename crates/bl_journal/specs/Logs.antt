@@ -1,5 +1,5 @@
 -- What a log stands for, and a journal between two calls.
-use Rattle.std.specs.Prelude.{◌≡◌, ℕ, ◌+◌, ◌*◌, ◌<◌, List, [], ◌∷◌, ◌++◌, length, replicate, flat_map, Option}
+use Rattle.std.specs.Prelude.{◌≡◌, ◌⊎◌, ℕ, ◌+◌, ◌*◌, ◌<◌, List, [], ◌∷◌, ◌++◌, length, replicate, flat_map, Option}
 use Rattle.bl_journal.specs.Files.{Only}
 use Rattle.bl_journal.specs.Records.{word_bytes, Fits64, mark, came_in, went_in, Begins, HasRecords}
 use Rattle.bl_journal.specs.Rows.{IsLeft}
@@ -13,6 +13,15 @@ pub record IsLogOf (bytes : List ℕ) (m : ℕ → Option ℕ) : Type 0 where
   pub bodies : List (List ℕ)
   pub records : HasRecords words bodies
   pub left : IsLeft (flat_map came_in bodies) (flat_map went_in bodies) m
+
+-- The bytes are a log whose last record has that body, or one that has one record alone.
+pub record EndsIn (bytes last : List ℕ) : Type 0 where
+  pub words : List ℕ
+  pub bodies : List (List ℕ)
+  pub spelled : bytes ≡ word_bytes words
+  pub fits : Fits64 words
+  pub records : HasRecords words bodies
+  pub end : ((body : List ℕ) × (bodies ≡ body ∷ [])) ⊎ ((front : List (List ℕ)) × (bodies ≡ front ++ last ∷ []))
 
 -- the words are records with these bodies, and nothing else
 abbrev pub Spells : ℕ → List ℕ → List (List ℕ) → Type 0

@@ -4,7 +4,7 @@ ghost use Rattle.std.specs.Prelude.{◌≡◌, ◌⊎◌, ◌+◌, ◌*◌, ◌%
 ghost use Rattle.bl_journal.specs.Files.{LeavesOnly, Only};
 ghost use Rattle.bl_journal.specs.Records.{Begins, body_words};
 ghost use Rattle.bl_journal.specs.Rows.{IsLeft, Leads};
-ghost use Rattle.bl_journal.specs.Logs.{IsLogOf, KeepsMap};
+ghost use Rattle.bl_journal.specs.Logs.{IsLogOf, EndsIn, KeepsMap};
 ghost use Rattle.bl_journal.specs.Parts.{IsNewLog};
 
 use crate::device::Device;
@@ -97,6 +97,7 @@ impl<D: Device + Drop> Journal<D> {
     fn begin_anew(&mut self, alloc: Global, rows: &[(u64, u64)]) -> Result<(), LogFault>
         ensures modelled { D.is_modelled self.old.device → D.is_modelled self.new.device }
         ensures kept { D.is_modelled self.old.device → (m : ℕ → Option ℕ) → IsLeft rows.now [] m → OnOk result (KeepsMap D.seen D.moment D.leaves m self.new) }
+        ensures ends { D.is_modelled self.old.device → (last : List ℕ) → OnOk result (EndsIn (D.seen self.new.device) last) }
         ensures any_moment { D.is_modelled self.old.device → (m : ℕ → Option ℕ) → IsLeft rows.now [] m
             → LeavesOnly D.moment D.leaves self.old.device self.new.device (λ c. D.leaves self.old.device (D.moment self.old.device) c ⊎ IsLogOf c m) }
     {
@@ -116,6 +117,8 @@ impl<D: Device + Drop> Journal<D> {
         ensures modelled { D.is_modelled self.old.device → D.is_modelled self.new.device }
         ensures kept { D.is_modelled self.old.device → (old new : ℕ → Option ℕ) (came went : List (ℕ × ℕ)) → KeepsMap D.seen D.moment D.leaves old self.old
             → Begins self.old.salt words.now (body_words came went) [] → Leads came went old new → OnOk result (KeepsMap D.seen D.moment D.leaves new self.new) }
+        ensures ends { D.is_modelled self.old.device → (came went : List (ℕ × ℕ)) → Begins self.old.salt words.now (body_words came went) []
+            → OnOk result (EndsIn (D.seen self.new.device) (body_words came went)) }
         ensures any_moment { D.is_modelled self.old.device → (old new : ℕ → Option ℕ) (came went : List (ℕ × ℕ)) → KeepsMap D.seen D.moment D.leaves old self.old
             → Begins self.old.salt words.now (body_words came went) [] → Leads came went old new
             → LeavesOnly D.moment D.leaves self.old.device self.new.device (λ c. IsLogOf c old ⊎ IsLogOf c new) }
@@ -138,6 +141,7 @@ impl<D: Device + Drop> Journal<D> {
         ensures modelled { D.is_modelled self.old.device → D.is_modelled self.new.device }
         ensures kept { D.is_modelled self.old.device → (old new : ℕ → Option ℕ) → KeepsMap D.seen D.moment D.leaves old self.old
             → Leads came.now went.now old new → OnOk result (KeepsMap D.seen D.moment D.leaves new self.new) }
+        ensures ends { D.is_modelled self.old.device → (last : List ℕ) → OnOk result (EndsIn (D.seen self.new.device) last) }
         ensures any_moment { D.is_modelled self.old.device → (old new : ℕ → Option ℕ) → KeepsMap D.seen D.moment D.leaves old self.old
             → Leads came.now went.now old new → LeavesOnly D.moment D.leaves self.old.device self.new.device (λ c. IsLogOf c old ⊎ IsLogOf c new) }
     {
@@ -157,6 +161,7 @@ impl<D: Device + Drop> Journal<D> {
         ensures modelled { D.is_modelled self.old.device → D.is_modelled self.new.device }
         ensures kept { D.is_modelled self.old.device → (old new : ℕ → Option ℕ) → KeepsMap D.seen D.moment D.leaves old self.old
             → Leads came.now went.now old new → OnOk result (KeepsMap D.seen D.moment D.leaves new self.new) }
+        ensures ends { D.is_modelled self.old.device → OnOk result (EndsIn (D.seen self.new.device) (body_words came.now went.now)) }
         ensures any_moment { D.is_modelled self.old.device → (old new : ℕ → Option ℕ) → KeepsMap D.seen D.moment D.leaves old self.old
             → Leads came.now went.now old new → LeavesOnly D.moment D.leaves self.old.device self.new.device (λ c. IsLogOf c old ⊎ IsLogOf c new) }
     {
@@ -196,6 +201,7 @@ impl<D: Device + Drop> Journal<D> {
         ensures modelled { D.is_modelled self.old.device → D.is_modelled self.new.device }
         ensures kept { D.is_modelled self.old.device → (m : ℕ → Option ℕ) → KeepsMap D.seen D.moment D.leaves m self.old
             → OnOk result (KeepsMap D.seen D.moment D.leaves m self.new) }
+        ensures ends { D.is_modelled self.old.device → OnOk result (EndsIn (D.seen self.new.device) (body_words [] [])) }
         ensures any_moment { D.is_modelled self.old.device → (m : ℕ → Option ℕ) → KeepsMap D.seen D.moment D.leaves m self.old
             → LeavesOnly D.moment D.leaves self.old.device self.new.device (λ c. IsLogOf c m) }
     {

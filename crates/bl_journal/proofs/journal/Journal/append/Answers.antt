@@ -1,10 +1,10 @@
 use Rattle.std.proofs.Common.{◌≡◌, ◌⊎◌, inl, inr, ℕ, ◌+◌, ◌*◌, ◌≤◌, ◌<◌, length, List, [], Option, refl, sym, ◌∙◌, ap, subst, arith}
 use Rattle.bl_journal.specs.Files.{AreZeros, IsFilled, Fills, Only}
 use Rattle.bl_journal.specs.Records.{word_bytes, Fits64, Begins, body_words}
-use Rattle.bl_journal.specs.Logs.{IsLogOf, HasRoom, KeepsMap}
+use Rattle.bl_journal.specs.Logs.{IsLogOf, EndsIn, HasRoom, KeepsMap}
 use Rattle.bl_journal.proofs.Spelling.{length-word_bytes}
 use Rattle.bl_journal.proofs.Moments.{started, goes_on, by_call}
-use Rattle.bl_journal.proofs.Filling.{are_zeros, fill_crash, fill_room, room_as}
+use Rattle.bl_journal.proofs.Filling.{are_zeros, fill_crash, fill_room, fill_ends, room_as}
 use Rattle.bl_journal.proofs.Keeping.{leaves_log, keeps_room}
 use Rattle.bl_journal.proofs.journal.Journal.append.Goals as goal
 
@@ -75,3 +75,14 @@ returns-clause-kept g c = λ modelled old new came went keeps begins leads.
     keeps_room g.D.Device.seen g.D.Device.moment g.D.Device.leaves new _
     (room_as after (g.D.Device.seen c.sync.new.self) c.args.self.now.salt _ _ c.args.self.now.size c.args.self.now.size new (c.in_ok-sync.ensures.seen same) is_end refl room)
     (subst (λ (l : List ℕ). Only l (g.D.Device.leaves c.sync.new.self (g.D.Device.moment c.sync.new.self))) (sym (c.in_ok-sync.ensures.seen same)) (c.in_ok-sync.ensures.durable same))
+
+pub returns-clause-ends : goal.returns-clause-ends
+returns-clause-ends g c = λ modelled came went begins.
+    let is : c.as_slice.result.now ≡ word_bytes c.args.words.now = c.as_slice.ensures.value ∙ c.in_ok-bytes.ensures.bytes in
+    let some = c.requires.kept modelled in
+    let seen : List ℕ = g.D.Device.seen c.args.self.now.device in
+    let r = some.1.room (omega (arith, c.requires.room.0, c.requires.some)) in
+    let after : List ℕ = g.D.Device.seen c.fill.new.self in
+    let filled : IsFilled seen c.args.self.now.end (word_bytes c.args.words.now) after = subst (λ (l : List ℕ). IsFilled seen c.args.self.now.end l after) is (c.in_ok-fill.ensures.filled modelled) in
+    subst (λ (l : List ℕ). EndsIn l (body_words came went)) (sym (c.in_ok-sync.ensures.seen (c.fill.ensures.same modelled)))
+    (fill_ends seen c.args.self.now.salt c.args.self.now.end c.args.self.now.size some.0 r c.args.words.now came went begins after c.in_ok-bytes.ensures.fits filled)

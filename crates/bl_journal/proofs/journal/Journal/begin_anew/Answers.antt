@@ -2,11 +2,11 @@ use Rattle.std.proofs.Common.{◌≡◌, ◌⊎◌, inl, inr, ⊎_elim, ℕ, ◌
 use Rattle.std.specs.Prelude.{replicate}
 use Rattle.bl_journal.specs.Files.{Only}
 use Rattle.bl_journal.specs.Rows.{IsLeft}
-use Rattle.bl_journal.specs.Logs.{IsLogOf, HasRoom}
+use Rattle.bl_journal.specs.Logs.{IsLogOf, EndsIn, HasRoom}
 use Rattle.bl_journal.specs.Parts.{IsNewLog}
 use Rattle.bl_journal.proofs.Moments.{started, by_call}
 use Rattle.bl_journal.proofs.Filling.{log_of_room, room_as}
-use Rattle.bl_journal.proofs.Anew.{new_room, new_long}
+use Rattle.bl_journal.proofs.Anew.{new_room, new_long, new_ends}
 use Rattle.bl_journal.proofs.Keeping.{keeps_room}
 use Rattle.bl_journal.proofs.journal.Journal.begin_anew.Goals as goal
 
@@ -63,3 +63,12 @@ returns-clause-kept g c = λ modelled m left.
     seen is_end is_size (new_is_log salt c.args.rows.now bytes m zeros new left c.room_behind-zeros.ensures.0) in
     let only = subst (λ (l : List ℕ). Only l (g.D.Device.leaves c.replace.new.self (g.D.Device.moment c.replace.new.self))) (sym seen) (c.in_ok-replace.ensures.durable modelled) in
     keeps_room g.D.Device.seen g.D.Device.moment g.D.Device.leaves m _ room only
+
+pub returns-clause-ends : goal.returns-clause-ends
+returns-clause-ends g c = λ modelled last.
+    let bytes : List ℕ = c.as_slice.result.now in
+    let salt : ℕ = c.args.self.now.salt in
+    let zeros : ℕ = c.room_behind-zeros.result in
+    let new : IsNewLog salt c.args.rows.now bytes = subst (λ (l : List ℕ). IsNewLog salt c.args.rows.now l) (sym c.as_slice.ensures.value) c.in_ok-bytes.ensures in
+    let even = c.room_behind-zeros.ensures.0 in
+    subst (λ (l : List ℕ). EndsIn l last) (sym (c.in_ok-replace.ensures.replaced modelled)) (new_ends salt c.args.rows.now bytes last zeros (zeros / 8) new (omega (arith, even)))
