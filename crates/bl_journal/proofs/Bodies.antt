@@ -30,8 +30,7 @@ same_body salt words body rest body' rest' one other =
     let is : (4 + length body) ∷ one.low ∷ one.high ∷ salt ∷ (body ++ rest) ≡ (4 + length body') ∷ other.low ∷ other.high ∷ salt ∷ (body' ++ rest') = sym one.words_are ∙ other.words_are in
     let count : 4 + length body ≡ 4 + length body' = cc in
     let behind : body ++ rest ≡ body' ++ rest' = cc in
-    let long : length body' ≡ length body = omega arith in
-    (
+    let long : length body' ≡ length body = omega arith in (
       sym (take_at body rest (length body) refl) ∙ ap (λ (l : List ℕ). take (length body) l) behind ∙ take_at body' rest' (length body) long,
       sym (drop_at body rest (length body) refl) ∙ ap (λ (l : List ℕ). drop (length body) l) behind ∙ drop_at body' rest' (length body) long,
     )

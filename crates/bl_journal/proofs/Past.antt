@@ -50,10 +50,14 @@ pub goes_to : (past later : Contents) (v : Vec ℕ Global) (old new : List ℕ) 
 goes_to past later v old new does is same none done =
     subst (λ (l : Contents). Goes (length past) (length l) (Leaves past old) (Leaves l new) does) (sym same) (record {
       later = omega (arith, length-append past (v ∷ []));
-      since = λ t c from upto left. (old, sym (at_now past old (length past) (omega arith)), elim (cases_eq t (length past)) [
-        | inl here ↦ subst (λ (l : List ℕ). does old l) (sym (left ∙ at_last past v new t here ∙ is)) none
-        | inr after ↦ subst (λ (l : List ℕ). does old l) (sym (left ∙ at_now (past ++ v ∷ []) new t (omega (arith, from, after, length-append past (v ∷ []))))) done
-      ]);
+      since = λ t c from upto left. (
+        old,
+        sym (at_now past old (length past) (omega arith)),
+        elim (cases_eq t (length past)) [
+          | inl here ↦ subst (λ (l : List ℕ). does old l) (sym (left ∙ at_last past v new t here ∙ is)) none
+          | inr after ↦ subst (λ (l : List ℕ). does old l) (sym (left ∙ at_now (past ++ v ∷ []) new t (omega (arith, from, after, length-append past (v ∷ []))))) done
+        ],
+      );
       past = λ t c before left. left ∙ before_last past v new t before old;
     })
 

@@ -17,7 +17,7 @@ pub record HasRead (salt : ℕ) (words rest : List ℕ) (came went : List (ℕ �
 -- words that a record is read from
 pub reads : (salt : ℕ) (words : List ℕ) → 4 ≤ length words → slice_index_or words 3 0 ≡ salt → 4 < slice_index_or words 0 0 → slice_index_or words 0 0 - 4 ≤ length words - 4
     → (let body = take (slice_index_or words 0 0 - 4) (take (length words - 4) (drop 4 words)) in
-      slice_index_or words 0 0 + salt + sum body + slice_index_or words 1 0 + 2 ^ 64 * slice_index_or words 2 0 + 1 ≡ 2 ^ 128 → (x : List ℕ) × Begins salt words body x)
+    slice_index_or words 0 0 + salt + sum body + slice_index_or words 1 0 + 2 ^ 64 * slice_index_or words 2 0 + 1 ≡ 2 ^ 128 → (x : List ℕ) × Begins salt words body x)
 reads salt [] long salted some fits completes = absurd (omega arith)
 reads salt (n ∷ []) long salted some fits completes = absurd (omega arith)
 reads salt (n ∷ low ∷ []) long salted some fits completes = absurd (omega arith)
@@ -28,8 +28,7 @@ reads salt (n ∷ low ∷ high ∷ s ∷ rest) long salted some fits completes =
     let is_body : body ≡ take (n - 4) rest = ap (λ (l : List ℕ). take (n - 4) l) all in
     let size : length body ≡ n - 4 = ap length is_body ∙ omega (arith, length-take (n - 4) rest) in
     let count : n ≡ 4 + length body = omega arith in
-    let whole : rest ≡ body ++ drop (n - 4) rest = sym (take-append-drop (n - 4) rest) ∙ ap (λ (l : List ℕ). l ++ drop (n - 4) rest) (sym is_body) in
-    (
+    let whole : rest ≡ body ++ drop (n - 4) rest = sym (take-append-drop (n - 4) rest) ∙ ap (λ (l : List ℕ). l ++ drop (n - 4) rest) (sym is_body) in (
       drop (n - 4) rest,
       record {
         low = low;

@@ -43,11 +43,7 @@ fn push_rows(words: &mut Vec<u64>, rows: &[(u64, u64)]) -> Result<(), AllocError
 }
 
 /// The body of a record of rows that came and rows that went.
-fn body_of(
-    alloc: Global,
-    came: &[(u64, u64)],
-    went: &[(u64, u64)],
-) -> Result<Vec<u64>, AllocError>
+fn body_of(alloc: Global, came: &[(u64, u64)], went: &[(u64, u64)]) -> Result<Vec<u64>, AllocError>
     ensures { IfOk result (λ body. body.items ≡ body_words came.now went.now) }
 {
     let mut body = Vec::new(alloc);
@@ -67,7 +63,12 @@ fn sealed(
 ) -> Result<Vec<u64>, AllocError>
     ensures { IfOk result (λ words. words.items ≡ count ∷ (wanting % 2 ^ 64) ∷ (wanting / 2 ^ 64) ∷ salt ∷ body.now) }
 {
-    let head = [count, (wanting % UNIT) as u64, (wanting / UNIT) as u64, salt];
+    let head = [
+        count,
+        (wanting % UNIT) as u64,
+        (wanting / UNIT) as u64,
+        salt,
+    ];
     let mut words = Vec::with_capacity(alloc, head.len() + body.len())?;
     words.extend_from_slice(&head)?;
     words.extend_from_slice(body)?;
