@@ -1,0 +1,11 @@
+pub mod Spelling
+pub mod Torn
+pub mod Telling
+pub mod Told
+pub mod Leaving
+pub mod Bodies
+pub mod Moments
+pub mod Filling
+pub mod Anew
+pub mod Keeping
+pub mod Past
