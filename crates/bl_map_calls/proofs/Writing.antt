@@ -1,5 +1,5 @@
 -- One key more is written.
-use Rattle.std.proofs.Common.{ℕ, zero, suc, ◌≡◌, ◌<◌, ◌++◌, ◌+◌, List, [], ◌∷◌, Option, refl, sym, ap, ◌∙◌, subst, append-nil, append_assoc, length, get_or, set, take, arith}
+use Rattle.std.proofs.Common.{ℕ, zero, suc, ◌≡◌, ◌≢◌, inl, inr, ◌<◌, ◌++◌, ◌+◌, List, [], ◌∷◌, Option, refl, sym, ap, ◌∙◌, subst, append-nil, append_assoc, length, get_or, set, take, arith}
 use Rattle.std.proofs.lemmas.List.{length_push, take_more, take_more_set}
 use mathlib.Core.Option.{some}
 use lib.ListN.{get_elem?}
@@ -16,7 +16,8 @@ use Rattle.bl_index.specs.Calls.{number_of, trail}
 use Rattle.bl_index.specs.declared.index.Pass.{Pass}
 use Rattle.bl_waiting.specs.declared.waiting.Waiting.{Waiting}
 use Rattle.bl_map_calls.specs.Entries.{entries_of}
-use Rattle.bl_map_calls.specs.Many.{op_at, WritesKeys, WritesMany, StopsFull}
+use Rattle.std.proofs.lemmas.Bool.{cases_lt}
+use Rattle.bl_map_calls.specs.Many.{op_at, WritesKeys, WritesMany, HadRoomBefore, StopsFull}
 use Rattle.bl_map_calls.specs.Waits.{WritesKey}
 use Rattle.bl_map_calls.specs.Works.{FoundNoRoom}
 use Rattle.bl_map_calls.proofs.Following.{changes_works}
@@ -86,3 +87,26 @@ stops_there ask i list replies a asked said old mid new is here below long refus
   refused = set_there replies i said (omega (arith, below, long)) ∙ ap some refused;
   lacks = found_since (ask a).0 (ask a).1 old mid new same on (subst (λ (z : ℕ × KeyWrite). FoundNoRoom z.0 z.1 mid new) is (lacks refused));
 }
+
+-- of so many replies each says that there was room
+abbrev pub AllHadRoom : ℕ → List KeyReply → Type 0
+AllHadRoom count replies = (place : ℕ) → place < count → get_elem? replies place ≢ some reply.NoRoom
+
+-- another reply, at another place
+elsewhere : (replies : List KeyReply) (i place : ℕ) (said : KeyReply) → place < i → get_elem? (set replies i said) place ≡ get_elem? replies place
+elsewhere [] i place said lt = refl
+elsewhere (r ∷ replies) zero place said lt = absurd (omega (arith, lt))
+elsewhere (r ∷ replies) (suc i) zero said lt = refl
+elsewhere (r ∷ replies) (suc i) (suc place) said lt = elsewhere replies i place said (omega (arith, lt))
+
+pub room_on : (replies : List KeyReply) (i : ℕ) (said : KeyReply) → i < length replies → AllHadRoom i replies → said ≢ reply.NoRoom → AllHadRoom (i + 1) (set replies i said)
+room_on replies i said within had other place lt = elim (cases_lt place i) [
+  | inl before ↦ λ is. had place before (sym (elsewhere replies i place said before) ∙ is)
+  | inr here ↦ λ is. other (some_same (sym (set_there replies i said within) ∙ ap (λ (n : ℕ). get_elem? (set replies i said) n) (let e : i ≡ place = omega (arith, lt, here) in e) ∙ is))
+]
+  where
+    some_same : some said ≡ some reply.NoRoom → said ≡ reply.NoRoom
+    some_same is = cc is
+
+pub had_room_before : (replies : List KeyReply) (i : ℕ) (said : KeyReply) → AllHadRoom i replies → HadRoomBefore (i + 1) (set replies i said)
+had_room_before replies i said had place lt = λ is. had place (omega (arith, lt)) (sym (elsewhere replies i place said (omega (arith, lt))) ∙ is)

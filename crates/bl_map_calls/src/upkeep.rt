@@ -26,6 +26,7 @@ const WAITS_OF_A_KIND: u32 = 4_096;
 
 /// How many microseconds a short nap takes, and a long one.
 const SHORT_NAP: u64 = 50;
+
 const LONG_NAP: u64 = 1_000;
 
 /// What became of a hint that was followed.

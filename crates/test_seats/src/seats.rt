@@ -122,12 +122,21 @@ fn upkeep_comes_to_its_end(rt: HostRuntime) {
     assert!(rt; upkeep_ends(&mut seat));
 }
 
-/// Whether a sweep releases what a write has swapped out, once.
+/// How many pages and frames four sweeps release. With 64 pages a seat has 136 frames, and so many sweeps look at all of them.
+fn released_by_sweeps(seat: &mut Seat) -> u32 {
+    let mut released = 0u32;
+    for _ in 0..4 {
+        released = released.saturating_add(seat.sweep());
+    }
+    released
+}
+
+/// Whether sweeps release what a write has swapped out, once.
 fn sweeps_once(seat: &mut Seat) -> bool {
-    seat.sweep() == 0
+    released_by_sweeps(seat) == 0
         && is_written(seat, 1, KeyWrite::Insert(10), KeyReply::Inserted)
-        && seat.sweep() == 1
-        && seat.sweep() == 0
+        && released_by_sweeps(seat) == 1
+        && released_by_sweeps(seat) == 0
 }
 
 #[test]

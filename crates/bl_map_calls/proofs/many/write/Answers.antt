@@ -2,11 +2,11 @@ use Rattle.std.proofs.Common.{rules, ℕ, ◌∙◌, ◌≡◌, subst, length, t
 use Rattle.std.proofs.lemmas.List.{length-set}
 use Rattle.bl_index.specs.Calls.{first_of, number_of, trail}
 use Rattle.bl_map_calls.specs.Many.{WritesMany}
-use Rattle.bl_map_calls.proofs.Writing.{writes_none, writes_on, stops_there}
+use Rattle.bl_map_calls.proofs.Writing.{writes_none, writes_on, stops_there, room_on, had_room_before}
 use Rattle.bl_map_calls.proofs.many.write.Goals as goal
 
 pub loop-i-init : goal.loop-i-init
-loop-i-init g c = record { same = search rules; long = search rules; writes = writes_none _ _ _ _ _ }
+loop-i-init g c = record { same = search rules; long = search rules; room = λ place lt. absurd (omega (arith, lt)); writes = writes_none _ _ _ _ _ }
 
 pub loop-i-preserved : goal.loop-i-preserved
 loop-i-preserved g c =
@@ -14,6 +14,7 @@ loop-i-preserved g c =
     record {
       same = search rules;
       long = length-set c.loop-i.replies c.loop-i.i c.write-reply.result ∙ inv.long;
+      room = room_on c.loop-i.replies c.loop-i.i c.write-reply.result (omega (arith, inv.long)) inv.room c.in_default.not-NoRoom;
       writes = writes_on _ _ _ _ c.loop-i.i c.args.list.now c.loop-i.replies c.index-list-i.result c.ask-key.result c.write-reply.result _ _ _ _ _ _
           inv.same.2 c.ask-key.ensures c.index-list-i.is (omega arith) inv.long inv.writes c.write-reply.ensures.changes;
     }
@@ -23,6 +24,12 @@ returns-in-NoRoom-clause-writes g c =
     let inv = c.loop-i.invariant in
     writes_on _ _ _ _ c.loop-i.i c.args.list.now c.loop-i.replies c.index-list-i.result c.ask-key.result c.write-reply.result _ _ _ _ _ _
     inv.same.2 c.ask-key.ensures c.index-list-i.is (omega arith) inv.long inv.writes c.write-reply.ensures.changes
+
+pub returns-in-NoRoom-clause-first : goal.returns-in-NoRoom-clause-first
+returns-in-NoRoom-clause-first g c = had_room_before c.loop-i.replies c.loop-i.i c.write-reply.result c.loop-i.invariant.room
+
+pub returns-clause-first : goal.returns-clause-first
+returns-clause-first g c = λ place lt. c.loop-i.invariant.room place (omega (arith, lt))
 
 pub returns-in-NoRoom-clause-stops : goal.returns-in-NoRoom-clause-stops
 returns-in-NoRoom-clause-stops g c = λ more.
