@@ -1,7 +1,6 @@
-use Rattle.std.proofs.Common.{rules, ℕ, refl, subst, ap, ◌+◌, ◌≡◌, ◌≤◌, ◌∙◌, None, arith}
+use Rattle.std.proofs.Common.{rules, ℕ, refl, subst, ◌+◌, ◌≡◌, ◌≤◌, ◌∙◌, None, arith}
 use Rattle.bl_store.specs.Hands.{known}
 use Rattle.bl_index_read.specs.Turns.{IsAtTurn}
-use Rattle.bl_index_read.specs.Keeping.{IsKeptLeaf}
 use Rattle.bl_index_events.proofs.Calls.{since_step, own_looks}
 use Rattle.bl_index_read.proofs.Silent.{gives_up}
 use Rattle.bl_index_read.proofs.Ways.{going_under_way, going_is_search, ending_is_search, going_may_give_up}
@@ -50,16 +49,17 @@ returns-in-Leaf-clause-came c = λ old pass off.
     let got = c.in-Leaf.ensures.got in
     let went = got.2.0 in
     let at = c.in-Leaf.ensures.reached in
-    let l = c.args.tree.now.store.layout in
-    (record {
-      running = search rules;
-      reads = at.0;
-      leaf = at.1;
-      process = at.2;
-      since = since_step _ _ _ _ _ on went;
-      last = at_last _ _ _ _ _ on.named on.number (inv.turn old pass 0 off.since off.turn) _ _ at.2.pages went (ending_is_search c.args.sought c.args.key at.1.page _ at.1.ends) c.args.turns (let le : 0 + c.loop-got._got + 1 ≤ c.args.turns = omega arith in le);
-    },
-    rw c.page-page.ensures (kept_leaf l pass c.args.sought c.args.key c.loop-got.way old _ c.go_on_keeping.new.hand.seat c.in-Leaf.glance on inv.process got.0 got.1 went got.2.1 c.in-Leaf.ensures.keeps))
+    let l = c.args.tree.now.store.layout in (
+      record {
+        running = search rules;
+        reads = at.0;
+        leaf = at.1;
+        process = at.2;
+        since = since_step _ _ _ _ _ on went;
+        last = at_last _ _ _ _ _ on.named on.number (inv.turn old pass 0 off.since off.turn) _ _ at.2.pages went (ending_is_search c.args.sought c.args.key at.1.page _ at.1.ends) c.args.turns (let le : 0 + c.loop-got._got + 1 ≤ c.args.turns = omega arith in le);
+      },
+      rw c.page-page.ensures (kept_leaf l pass c.args.sought c.args.key c.loop-got.way old _ c.go_on_keeping.new.hand.seat c.in-Leaf.glance on inv.process got.0 got.1 went got.2.1 c.in-Leaf.ensures.keeps),
+    )
 
 pub give_up-requires-clause-may : goal.give_up-requires-clause-may
 give_up-requires-clause-may c = going_may_give_up c.args.sought c.args.key c.loop-got.way _ c.loop-got.invariant.process.state

@@ -10,7 +10,7 @@ use Rattle.bl_store.specs.declared.store.Hand.{Hand}
 use Rattle.bl_index_rule.specs.declared.known.PassState.{PassState}
 use Rattle.bl_index_rule.specs.Observed.{Steps}
 use Rattle.bl_index_read.specs.LeafWays.{HasReached}
-use Rattle.bl_index_read.specs.Keeping.{KeepsStill, KeepsLeaf, KeepsPage}
+use Rattle.bl_index_read.specs.Keeping.{KeepsStill, KeepsPage}
 use Rattle.bl_index_read.proofs.Ways.{gets, going_course}
 use Rattle.bl_index_read.proofs.Setting.{reached_by, page_reached}
 use Rattle.bl_index_read.proofs.Keeping.{notes_on, still_more, keeps_now, got_page}

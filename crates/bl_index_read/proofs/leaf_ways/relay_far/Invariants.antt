@@ -1,4 +1,3 @@
-use Rattle.std.proofs.Common.{None}
 use Rattle.bl_index_read.specs.LeafWays.{fresh}
 use Rattle.bl_index_read.proofs.leaf_ways.relay_far.Given as goal
 

@@ -1,4 +1,3 @@
-use Rattle.std.proofs.Common.{Some}
 use Rattle.bl_index_read.specs.LeafWays.{fresh}
 use Rattle.bl_index_read.proofs.leaf_ways.relay_near.Given as goal
 
