@@ -32,7 +32,7 @@ pub history_append : (xs ys : Trail) → history_of (xs ++ ys) ≡ history_of xs
 history_append [] ys = refl
 history_append (m ∷ ms) ys = ap (λ (z : List Entry). entries_at m.event.process m.said ++ z) (history_append ms ys) ∙ sym (append_assoc (entries_at m.event.process m.said) (history_of ms) (history_of ys))
 
-calls_push : (first : List (Option Page)) (pages pass turns : ℕ) (es : List Entry) (e : Entry) (old mid new : Trail) → AreCalls first pages pass turns es old mid → Finds first pages pass turns e.op e.reply mid new → AreCalls first pages pass turns (es ++ e ∷ []) old new
+pub calls_push : (first : List (Option Page)) (pages pass turns : ℕ) (es : List Entry) (e : Entry) (old mid new : Trail) → AreCalls first pages pass turns es old mid → Finds first pages pass turns e.op e.reply mid new → AreCalls first pages pass turns (es ++ e ∷ []) old new
 calls_push first pages pass turns [] e old mid new calls finds = (new, subst (λ (z : Trail). Finds first pages pass turns e.op e.reply z new) calls finds, refl)
 calls_push first pages pass turns (x ∷ xs) e old mid new calls finds = (calls.0, calls.1, calls_push first pages pass turns xs e calls.0 mid new calls.2 finds)
 

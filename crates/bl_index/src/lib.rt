@@ -22,6 +22,7 @@ mod lowering;
 mod meeting;
 mod opening;
 mod posting;
+mod ranging;
 mod scanning;
 mod sweeping;
 
@@ -33,4 +34,5 @@ pub use bl_reserve::RoomSeen;
 pub use closing::CloseRoom;
 pub use config::{CloseFault, Config, OpenFault};
 pub use index::{Index, Pass};
+pub use ranging::{Kept, RangeFault, RangeLimits};
 pub use scanning::{OutOfTurnsAt, ScanFault};

@@ -2,6 +2,7 @@ pub mod Silent
 pub mod Paces
 pub mod Ways
 pub mod Setting
+pub mod Keeping
 pub mod Answered
 pub mod Ranges
 pub mod Picked

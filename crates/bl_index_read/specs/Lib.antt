@@ -2,6 +2,7 @@ pub mod Searching
 pub mod Turns
 pub mod LeafRows
 pub mod LeafWays
+pub mod Keeping
 pub mod Parts
 pub mod Sinks
 pub mod Together

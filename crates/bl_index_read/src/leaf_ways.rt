@@ -11,7 +11,7 @@ ghost use Rattle.bl_proc_steps.specs.declared.descent.Descent.TheVariants as des
 ghost use Rattle.bl_proc_steps.specs.Descents.{descent_page, Descends};
 ghost use Rattle.bl_proc.specs.Processes.{next_of};
 ghost use Rattle.bl_proc_deterministic.specs.Courses.{GoesOn};
-ghost use Rattle.bl_store.specs.Hands.{known, IsIdle, IsRunning, IsSameHand, IsSameStock, ReadsFrom};
+ghost use Rattle.bl_store.specs.Hands.{known, read_words, IsIdle, IsRunning, IsSameHand, IsSameStock, ReadsFrom};
 ghost use Rattle.bl_store.specs.Owners.{IsHandOf};
 ghost use Rattle.bl_index_rule.specs.declared.known.PassState.{PassState as Knows};
 ghost use Rattle.bl_index_rule.specs.Observed.{Begins, Steps, ends, IsUnborn};
@@ -19,11 +19,12 @@ ghost use Rattle.bl_index_events.specs.Runs.{Runs, KeepsHand, IsSince, IsWithin}
 ghost use Rattle.bl_index_read.specs.Turns.{IsAtTurn};
 ghost use Rattle.bl_index_read.specs.declared.sought.Sought.{Sought as Seeks};
 ghost use Rattle.bl_index_read.specs.LeafWays.{fresh, probing, going, IsAtLeaf, HasReached, HasLeaf, HasGivenUp, HasSetOff};
+ghost use Rattle.bl_index_read.specs.Keeping.{KeepsStill, KeepsLeaf, IsKeptLeaf};
 
 use crate::leaf_rows::descended;
 use crate::sought::Sought;
 use bl_index_events::{FrameView, Tree};
-use bl_index_rule::{Began, Ended, Launch, PassState};
+use bl_index_rule::{Began, Ended, Launch, PassState, Relayed};
 use bl_page::Words;
 use bl_proc::first_way;
 use bl_proc_steps::{Descended, Descent};
@@ -71,6 +72,7 @@ fn probe(tree: &Tree, hand: &mut Hand<PassState>, sought: Sought, key: u64, page
     requires runs { Runs tree.now hand.old (probing sought key page) }
     requires page { page < tree.now.store.layout.pages }
     ensures same { KeepsHand hand.old.seat hand.new.seat }
+    ensures still { KeepsStill hand.old.seat hand.new.seat }
     ensures runs { Runs tree.now hand.new (going sought key result) }
     ensures looked { Steps (Look (OfPage page)) (known hand.old.seat) (known hand.new.seat) }
 {
@@ -274,5 +276,146 @@ pub(crate) fn set_off_behind(
     }
     end_at_leaf(tree, hand);
     begin_far(tree, hand, sought, key);
+    Descent::AtAnchor
+}
+
+/// It gets the page that is next, keeps it in mind, and goes on by its words.
+#[inline(always)]
+fn go_on_keeping(
+    tree: &Tree,
+    hand: &mut Hand<PassState>,
+    sought: Sought,
+    key: u64,
+    way: Descent,
+) -> Reached
+    requires runs { Runs tree.now hand.old (going sought key way) }
+    ensures same { KeepsHand hand.old.seat hand.new.seat }
+    ensures still { KeepsStill hand.old.seat hand.new.seat }
+    ensures reached { HasReached sought key tree.now.store.layout hand.new.seat result }
+    ensures got { (c : Page) × (read_words hand.new.seat ≡ words_of c)
+        × ((steps : Steps (Get (descent_page way)) (known hand.old.seat) (known hand.new.seat)) × (steps.notes.last.saw ≡ Some c)) }
+    ensures keeps { KeepsLeaf (descent_page way) hand.new.seat result }
+{
+    let glance = tree.look_keeping(hand, way.page());
+    let shown = FrameView {
+        store: &tree.store,
+        glance,
+    };
+    match went(sought, way, &shown, hand, key) {
+        Descended::On(next) => Reached::Further(next),
+        Descended::Here => Reached::Leaf(glance),
+    }
+}
+
+/// The same as [`descend_to_leaf`], with the page of the leaf. Each page that it got is kept in mind, the leaf too, and what was kept before.
+#[inline(always)]
+pub fn descend_to_page(
+    tree: &Tree,
+    hand: &mut Hand<PassState>,
+    sought: Sought,
+    key: u64,
+    way: Descent,
+    turns: u32,
+) -> Option<(u32, Glance)>
+    requires off { (old : Knows) × (pass : ℕ) × HasSetOff tree.now hand.old pass sought key way old }
+    ensures same { IsSameHand hand.old.seat hand.new.seat × IsSameStock hand.old.seat hand.new.seat }
+    ensures reads { IfSome result (λ at. ReadsFrom hand.new.seat at.1 × Runs tree.now hand.new (known hand.new.seat).state) }
+    ensures still { IfSome result (λ at. KeepsStill hand.old.seat hand.new.seat) }
+    ensures came { (old : Knows) (pass : ℕ) → HasSetOff tree.now hand.old pass sought key way old
+        → MatchOption result (HasGivenUp tree.now.store.layout pass turns old hand.new.seat)
+        (λ at. HasLeaf tree.now.store.layout pass sought key turns old hand.new.seat at.1
+        × IsKeptLeaf tree.now.store.layout.pages pass old at.0 hand.new.seat at.1) }
+{
+    let mut way = way;
+    for _got in 0..turns {
+        let page = way.page();
+        match go_on_keeping(tree, hand, sought, key, way) {
+            Reached::Further(next) => way = next,
+            Reached::Leaf(glance) => return Some((page, glance)),
+        }
+    }
+    tree.give_up(hand);
+    None
+}
+
+// It ends, and it has its leaf; and the next one begins, for which the time of the first one counts, so what is kept in mind stays so. The
+// bound names it beside its pass.
+#[inline(always)]
+fn relaunch_keeping<J: Launch>(
+    tree: &Tree,
+    hand: &mut Hand<PassState>,
+    sought: Sought,
+    key: u64,
+    near: Option<u32>,
+)
+    requires runs { Runs tree.now hand.old (known hand.old.seat).state }
+    requires leaf { (kind : Seeks) × (at : ℕ) × (words : List ℕ) × IsAtLeaf kind at words (known hand.old.seat) }
+    requires names { (hand.old.number ≡ J.pass) × (tree.now.store.layout.pages ≡ J.pages) × (tree.now.store.layout.passes ≡ J.passes)
+        × (fresh sought key near ≡ J.process) }
+    requires next { next_of J.process ≡ act.Begin }
+    requires unborn { IsUnborn J.process }
+    requires course { GoesOn J.process seen.Done }
+    ensures same { IsSameHand hand.old.seat hand.new.seat × IsSameStock hand.old.seat hand.new.seat }
+    ensures running { IsRunning hand.new.seat }
+    ensures still { KeepsStill hand.old.seat hand.new.seat }
+    ensures observed { (between : Knows) × ends (known hand.old.seat) 0 between
+        × Begins J.pass J.pages J.passes J.process between (known hand.new.seat) }
+{
+    let _ = sought;
+    let _ = key;
+    let _ = near;
+    tree.store.relay::<Relayed<J>>(hand);
+}
+
+/// It ends, and it has its leaf; and at the same event the next one begins, which has that page in mind. What is kept in mind stays so.
+#[inline(always)]
+fn relay_near(tree: &Tree, hand: &mut Hand<PassState>, sought: Sought, key: u64, page: u32)
+    requires runs { Runs tree.now hand.old (known hand.old.seat).state }
+    requires leaf { (kind : Seeks) × (at : ℕ) × (words : List ℕ) × IsAtLeaf kind at words (known hand.old.seat) }
+    ensures same { IsSameHand hand.old.seat hand.new.seat × IsSameStock hand.old.seat hand.new.seat }
+    ensures runs { Runs tree.now hand.new (probing sought key page) }
+    ensures still { KeepsStill hand.old.seat hand.new.seat }
+    ensures observed { (between : Knows) × ends (known hand.old.seat) 0 between
+        × Begins hand.old.number tree.now.store.layout.pages tree.now.store.layout.passes (fresh sought key (Some page)) between
+        (known hand.new.seat) }
+{
+    relaunch_keeping::<Brand>(tree, hand, sought, key, Some(page));
+}
+
+/// The same of one that is to get the anchor.
+#[inline(always)]
+fn relay_far(tree: &Tree, hand: &mut Hand<PassState>, sought: Sought, key: u64)
+    requires runs { Runs tree.now hand.old (known hand.old.seat).state }
+    requires leaf { (kind : Seeks) × (at : ℕ) × (words : List ℕ) × IsAtLeaf kind at words (known hand.old.seat) }
+    ensures same { IsSameHand hand.old.seat hand.new.seat × IsSameStock hand.old.seat hand.new.seat }
+    ensures runs { Runs tree.now hand.new (going sought key descent.AtAnchor) }
+    ensures still { KeepsStill hand.old.seat hand.new.seat }
+    ensures observed { (between : Knows) × ends (known hand.old.seat) 0 between
+        × Begins hand.old.number tree.now.store.layout.pages tree.now.store.layout.passes (fresh sought key None) between (known hand.new.seat) }
+{
+    relaunch_keeping::<Brand>(tree, hand, sought, key, None);
+}
+
+/// It ends, and it has its leaf; and at the same event the next one sets off, which looks at that page first, if there is such a page. What
+/// is kept in mind stays so.
+#[inline(always)]
+pub fn set_off_keeping(
+    tree: &Tree,
+    hand: &mut Hand<PassState>,
+    sought: Sought,
+    key: u64,
+    near: u32,
+) -> Descent
+    requires runs { Runs tree.now hand.old (known hand.old.seat).state }
+    requires leaf { (kind : Seeks) × (at : ℕ) × (words : List ℕ) × IsAtLeaf kind at words (known hand.old.seat) }
+    ensures same { IsSameHand hand.old.seat hand.new.seat × IsSameStock hand.old.seat hand.new.seat }
+    ensures still { KeepsStill hand.old.seat hand.new.seat }
+    ensures set_off { (between : Knows) × ends (known hand.old.seat) 0 between × HasSetOff tree.now hand.new hand.old.number sought key result between }
+{
+    if near < tree.pages {
+        relay_near(tree, hand, sought, key, near);
+        return probe(tree, hand, sought, key, near);
+    }
+    relay_far(tree, hand, sought, key);
     Descent::AtAnchor
 }

@@ -22,13 +22,10 @@ pub(crate) fn opened(alloc: Global, pages: u32, passes: u32) -> Option<(Index, V
     }
 }
 
-fn two_passes(alloc: Global) -> Option<(Index, Pass, Pass)>
+pub(crate) fn two_passes(alloc: Global, pages: u32) -> Option<(Index, Pass, Pass)>
     ensures { IfSome result (λ t. IsPassOf t.0 t.1 × IsPassOf t.0 t.2) }
 {
-    let config = Config {
-        pages: 8,
-        passes: 2,
-    };
+    let config = Config { pages, passes: 2 };
     match Index::open(alloc, config) {
         Ok((index, mut passes)) => {
             let two = passes.pop()?;
@@ -49,7 +46,7 @@ fn is_absent(index: &Index, pass: Pass, key: u64) -> bool
 // In an index without rows, two threads find nothing.
 #[test]
 fn two_threads_find_nothing(rt: HostRuntime) -> Result<(), Fail> {
-    let (index, one, two) = two_passes(rt.alloc()).ok_or("no index")?;
+    let (index, one, two) = two_passes(rt.alloc(), 8).ok_or("no index")?;
     assert!(rt; index.patience() == 8);
     let (x, y) = join(
         &rt,
@@ -83,7 +80,7 @@ fn insert_some<R: Wait>(rt: &R, index: &Index, pass: Pass, first: u64) -> u64
 // Two threads insert other keys at once, and each is inserted.
 #[test]
 fn two_threads_insert(rt: HostRuntime) -> Result<(), Fail> {
-    let (index, one, two) = two_passes(rt.alloc()).ok_or("no index")?;
+    let (index, one, two) = two_passes(rt.alloc(), 8).ok_or("no index")?;
     let (x, y) = join(
         &rt,
         || -> u64
@@ -100,7 +97,7 @@ fn two_threads_insert(rt: HostRuntime) -> Result<(), Fail> {
 // A change puts its new value only where the key has the old one.
 #[test]
 fn a_change_looks_at_the_old_value(rt: HostRuntime) -> Result<(), Fail> {
-    let (index, pass, _other) = two_passes(rt.alloc()).ok_or("no index")?;
+    let (index, pass, _other) = two_passes(rt.alloc(), 8).ok_or("no index")?;
     let mut pass = pass;
     let (inserted, _hint) = index.insert(&rt, &mut pass, 5, 50);
     assert!(rt; inserted == KeyReply::Inserted);

@@ -1,5 +1,5 @@
 //! Tests of the calls of an index that need threads or want of memory: two threads that search and insert, eight whose passes meet, a scan
-//! beside four that write and a close after it, a scan whose memory is refused, writers that stop half-way. Calls of one thread are lines
+//! beside four that write and a close after it, a scan whose memory is refused, ranges, writers that stop half-way. Calls of one thread are lines
 //! of `test_worked`.
 //!
 //! They stand apart from what they test, and nothing else uses them: whatever is built on the index need not wait until these tests
@@ -17,6 +17,8 @@ mod large;
 mod meetings;
 #[cfg(test)]
 mod near;
+#[cfg(test)]
+mod ranges;
 #[cfg(test)]
 mod scans;
 #[cfg(test)]

@@ -30,7 +30,7 @@ const WRITERS: u64 = 4;
 
 /// Keys 1 to 15 with ten times themselves are in two leaves. The upper one, from 9 on, is not listed yet: a search gets the
 /// anchor, the lower leaf and then the upper one.
-fn fifteen_rows<R: Wait>(rt: &R, index: &Index, pass: &mut Pass)
+pub(crate) fn fifteen_rows<R: Wait>(rt: &R, index: &Index, pass: &mut Pass)
     requires { IsPassOf index.now pass.old }
     ensures { IsPassOf index.now pass.new }
 {

@@ -3,6 +3,7 @@ use Rattle.bl_proc_steps.specs.declared.acts.Seen.TheVariants as seen
 use Rattle.bl_index_read.specs.LeafWays.{probing, going}
 use Rattle.bl_index_read.proofs.Ways.{probes, probing_course, probing_takes, probing_steps}
 use Rattle.bl_index_events.proofs.Standing.{on_itself, on_goes}
+use Rattle.bl_index_read.proofs.Keeping.{notes_on, still_same}
 use Rattle.bl_index_read.proofs.leaf_ways.probe.Goals as goal
 
 pub is_open-free-requires-clause-runs : goal.is_open-free-requires-clause-runs
@@ -28,3 +29,6 @@ returns-clause-runs c = record {
 
 pub returns-clause-looked : goal.returns-clause-looked
 returns-clause-looked c = probing_steps c.args.sought c.args.key c.args.page c.is_open-free.result _ _ c.requires.runs.on.state c.is_open-free.ensures.goes
+
+pub returns-clause-still : goal.returns-clause-still
+returns-clause-still c = still_same c.args.hand.now.seat c.is_open-free.new.hand.seat c.is_open-free.ensures.same.0.1 (notes_on _ _ _ _ _ c.is_open-free.ensures.goes.steps.notes) c.is_open-free.ensures.kept
