@@ -1,7 +1,7 @@
 pub mod Weaving
 pub mod Pieces
-pub mod Losing
-pub mod Chaining
+pub mod Merging
+pub mod Hands
 pub mod Shares
 pub mod Sections
 pub mod Together
