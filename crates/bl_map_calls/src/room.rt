@@ -52,7 +52,7 @@ pub(crate) fn make_room<R: Wait>(rt: &R, index: &Index, pass: &mut Pass, key: u6
     ensures same { IsSamePass pass.old pass.new }
     ensures readies { KeptUp (first_of index.now) (number_of pass.old) (trail pass.old) (trail pass.new) }
 {
-    wait_for(index, pass, Want::Frames);
+    wait_for(rt, index, pass, Want::Frames);
     if index.tree().may_lack_pages(key, write) {
         find_pages(rt, index, pass);
     }
@@ -65,14 +65,14 @@ fn find_pages<R: Wait>(rt: &R, index: &Index, pass: &mut Pass)
     ensures same { IsSamePass pass.old pass.new }
     ensures readies { KeptUp (first_of index.now) (number_of pass.old) (trail pass.old) (trail pass.new) }
 {
-    wait_for(index, pass, Want::Pages);
+    wait_for(rt, index, pass, Want::Pages);
     for _walk in 0..WALKS {
         if !wants_walk(index) {
             walk_piece(rt, index, pass);
             return;
         }
         walk_all(rt, index, pass, Extent::Enough);
-        wait_for(index, pass, Want::Pages);
+        wait_for(rt, index, pass, Want::Pages);
     }
 }
 
@@ -116,7 +116,7 @@ fn merge_all<R: Wait>(rt: &R, index: &Index, pass: &mut Pass)
     ensures readies { KeptUp (first_of index.now) (number_of pass.old) (trail pass.old) (trail pass.new) }
 {
     merge_in_rounds(rt, index, pass);
-    wait_for(index, pass, Want::Nothing);
+    wait_for(rt, index, pass, Want::Nothing);
 }
 
 /// Walks over all pages until nothing changes any more.

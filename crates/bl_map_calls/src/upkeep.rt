@@ -10,15 +10,23 @@ ghost use Rattle.bl_map_calls.specs.Follows.{may_fall, Lowers, FollowsHint, Foll
 use bl_index::{Hint, Index, Lowered, Pass, Posted, Squeezed};
 use bl_model::limits::MOST_LEVELS;
 use std::sync::Wait;
+use std::sync::atomic::AtomicU64;
 use std::thread;
+use std::time::Duration;
 
 /// How many levels a tree may have: a split is followed by at most one post on each.
 pub(crate) const LEVELS: u32 = MOST_LEVELS as u32;
 
-/// How often a pass looks at most for what it lacks, before a change, a post or a compression. With 1,024 pages so many looks take a tenth of a
-/// second, by estimate, and longer with more: longer than a thread waits for a processor that it has lost within a process, even where
-/// there are ten threads for each.
+/// How often a pass looks at most for what it lacks, before a change, a post or a compression. With its naps so many looks take half a minute:
+/// longer than a thread waits for a processor that it has lost within a process, on a machine with a hundred threads for each.
 const WAITS_FOR_ROOM: u32 = 32_768;
+
+/// So many times it only lets others run, and as often it naps shortly. All naps behind these are long.
+const WAITS_OF_A_KIND: u32 = 4_096;
+
+/// How many microseconds a short nap takes, and a long one.
+const SHORT_NAP: u64 = 50;
+const LONG_NAP: u64 = 1_000;
 
 /// What became of a hint that was followed.
 #[derive(Clone, Copy, Debug, PartialEq, Eq)]
@@ -50,20 +58,35 @@ fn lacks(index: &Index, pass: &Pass, want: Want) -> bool {
 }
 
 /// Waits while the pass lacks what it wants and some of that waits to be released: others may hold back what is retired, for as long as
-/// they run a process. The pass runs none meanwhile. It sweeps and lets others run, so many times at most.
-pub(crate) fn wait_for(index: &Index, pass: &mut Pass, want: Want)
+/// they run a process. The pass runs none meanwhile. It sweeps, and lets others run where that has released nothing, so many times at most.
+pub(crate) fn wait_for<R: Wait>(rt: &R, index: &Index, pass: &mut Pass, want: Want)
     requires { IsPassOf index.now pass.old }
     ensures same { IsSamePass pass.old pass.new }
     ensures adds { Adds (first_of index.now) (number_of pass.old) (trail pass.old) (trail pass.new) }
     ensures swept { Swept (first_of index.now) (number_of pass.old) (trail pass.old) (trail pass.new) }
 {
-    for _ in 0..WAITS_FOR_ROOM {
+    for wait in 0..WAITS_FOR_ROOM {
         if !lacks(index, pass, want) {
             return;
         }
-        index.sweep(pass);
-        thread::yield_now();
+        if index.sweep(pass) == 0 {
+            let_others_run(rt, wait);
+        }
     }
+}
+
+/// Lets others run, where it has waited so often already. Behind many waits it naps, so that it takes no time from whom it waits for.
+fn let_others_run<R: Wait>(rt: &R, waits: u32) {
+    if waits < WAITS_OF_A_KIND {
+        thread::yield_now();
+        return;
+    }
+    let nap = if waits < 2 * WAITS_OF_A_KIND {
+        SHORT_NAP
+    } else {
+        LONG_NAP
+    };
+    AtomicU64::new(0).park_timeout(rt, 0, Duration::from_micros(nap));
 }
 
 /// Gives back what was swapped out, where that is due.
@@ -96,7 +119,7 @@ fn lower<R: Wait>(rt: &R, index: &Index, pass: &mut Pass, most: u32)
     ensures lowers { Lowers (first_of index.now) (number_of pass.old) most (trail pass.old) (trail pass.new) }
 {
     for _level in 0..most {
-        wait_for(index, pass, Want::Frames);
+        wait_for(rt, index, pass, Want::Frames);
         match index.lower(rt, pass) {
             Lowered::Lowered => {}
             _ => return,
@@ -111,7 +134,7 @@ fn post<R: Wait>(rt: &R, index: &Index, pass: &mut Pass, hint: Hint) -> Followed
     ensures follows { FollowsHint (first_of index.now) (number_of pass.old) (hints.Post (level_of hint) (key_of hint)) result
         (trail pass.old) (trail pass.new) }
 {
-    wait_for(index, pass, Want::Frames);
+    wait_for(rt, index, pass, Want::Frames);
     let (posted, more) = index.post(rt, pass, hint);
     match posted {
         Posted::NoRoom => Followed::NoRoom,
@@ -126,7 +149,7 @@ fn compress<R: Wait>(rt: &R, index: &Index, pass: &mut Pass, hint: Hint) -> Foll
     ensures follows { FollowsHint (first_of index.now) (number_of pass.old) (hints.Thin (level_of hint) (key_of hint)) result
         (trail pass.old) (trail pass.new) }
 {
-    wait_for(index, pass, Want::Frames);
+    wait_for(rt, index, pass, Want::Frames);
     let (squeezed, more) = index.compress(rt, pass, hint);
     lower(rt, index, pass, may_fall(squeezed));
     match squeezed {

@@ -18,6 +18,9 @@ use std::marker::Brand;
 /// At this time and later no reservation is given.
 const END_OF_TIME: u64 = 1 << 60;
 
+/// A reservation tries so many chunks that have free frames as they are counted, before it tries each frame.
+const CHUNKS_A_SEARCH: u32 = 16;
+
 /// Reserves as many frames, and as many pages. It is refused where each frame, or each page from 1 upward, was tried. A refused
 /// reservation is one event, and leaves nothing reserved.
 pub fn reserve<D, R: PageRule<D>, A: Allocator, T: PagePlay<D>, M: TimePlay<D>>(
@@ -59,6 +62,7 @@ pub fn reserve<D, R: PageRule<D>, A: Allocator, T: PagePlay<D>, M: TimePlay<D>>(
     reserve_frames(store, hand, &mut stock, frames);
     if stock.count < frames {
         give_back(store, hand, &mut stock);
+        store.room.note_looked(hand.number, 0);
         refuse::<_, _, _, M, Brand>(store, hand, pages, frames);
         return Err(NoRoom::Frames);
     }
@@ -118,8 +122,9 @@ fn reserve_frames<D, R: PageRule<D>, A: Allocator>(
     }
 }
 
-// Tries frames from the hand's cursor on until there are enough, in a large store some of them and then such as nobody has used yet, and
-// at last each one. Frames of the ring leave the cursor where it is, as most of those around them are in use.
+// Tries frames from the hand's cursor on until there are enough, in a large store some of them and then such as nobody has used yet, then
+// those of chunks that have some as they are counted, and at last each one. Frames of the ring leave the cursor where it is, as most of
+// those around them are in use.
 #[inline(never)]
 fn search_frames<D, R: PageRule<D>, A: Allocator>(
     store: &Store<D, R, A>,
@@ -143,9 +148,47 @@ fn search_frames<D, R: PageRule<D>, A: Allocator>(
     try_frames(store, hand, stock, first, end, wanted);
     let (from, to) = fresh_frames(store, stock.count < wanted);
     try_frames(store, hand, stock, from, to, wanted);
+    try_counted(store, hand, stock, first, wanted);
+    try_frames(store, hand, stock, first, total, wanted);
     try_frames(store, hand, stock, 0, total, wanted);
     if stock.count > ready {
-        hand.sight.go_on_at(stock.frames[stock.count as usize - 1]);
+        let last = stock.frames[stock.count as usize - 1];
+        hand.sight.go_on_at(last);
+        store.room.note_spent(last, stock.count - ready);
+    }
+}
+
+// Tries the frames of the chunks that have some as they are counted, from that frame on and around, until there are enough, and of so many
+// chunks at most. A chunk that has fewer has none any more.
+fn try_counted<D, R: PageRule<D>, A: Allocator>(
+    store: &Store<D, R, A>,
+    hand: &mut Hand<D>,
+    stock: &mut Stock,
+    first: u32,
+    wanted: u32,
+)
+    requires own { IsHandOf store.now hand.old }
+    requires wanted { (wanted ≤ 3) × (wanted ≤ hand.old.seat.me.0.puts) }
+    requires stock { IsStockOf hand.old.seat stock.old × (stock.old.count ≤ wanted) }
+    ensures same { IsQuiet hand.old.seat hand.new.seat × (stock.new.page ≡ stock.old.page) }
+    ensures stock { IsStockOf hand.new.seat stock.new × (stock.new.count ≤ wanted) }
+    ensures got { length hand.new.seat.me.0.got + stock.old.count ≡ length hand.old.seat.me.0.got + stock.new.count }
+    ensures more { stock.old.count ≤ stock.new.count }
+    ensures reads { IsSameReading hand.old.seat hand.new.seat }
+{
+    for _ in 0..CHUNKS_A_SEARCH {
+        if stock.count == wanted {
+            return;
+        }
+        let (from, to) = store.room.next_spare(first, store.layout.frames());
+        if from == to {
+            return;
+        }
+        let mark = store.room.mark(from);
+        try_frames(store, hand, stock, from, to, wanted);
+        if stock.count < wanted {
+            store.room.note_counted(from, mark, 0);
+        }
     }
 }
 
@@ -288,6 +331,7 @@ fn give_back<D, R: PageRule<D>, A: Allocator>(
             mine,
             0,
         );
+        store.room.note_spare(frame);
     }
 }
 

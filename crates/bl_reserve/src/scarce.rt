@@ -3,6 +3,7 @@
 ghost use Rattle.std.specs.Prelude.{◌≤◌};
 ghost use Rattle.bl_layout.specs.Words.{frame_count};
 
+use bl_room::RING;
 use bl_store::{Hand, Store};
 use bl_store_rule::PageRule;
 use std::alloc::Allocator;
@@ -17,6 +18,12 @@ const FRAMES_A_HAND: u32 = 8;
 /// So many puts a hand makes at most between two looks for frames.
 const PUTS_A_LOOK: u32 = 64;
 
+/// So many frames are counted together, and so many stand near that which the hand would try first.
+const FRAMES_NEAR: u32 = 1_024;
+
+/// So many chunks of frames a hand looks at for as many as all hands may take.
+const CHUNKS_A_LOOK: u32 = 64;
+
 /// With so many frames to spare for each hand they are ample: the rings of all hands are full before frames are scarce. With fewer some find
 /// frames in their rings, and take them, which others have counted.
 const AMPLE: u32 = 1_024;
@@ -25,6 +32,9 @@ const AMPLE: u32 = 1_024;
 /// may take before they look again, and some are retired. So whoever has looked finds what it takes, though it loses its processor
 /// and others go on meanwhile. It looks at the frames that the hand would try first, and no further than it has to; a hand that has
 /// seen enough looks again some puts later. It is a hint of which nothing is promised: others reserve and release meanwhile.
+///
+/// Where frames are ample a look takes no longer in a longer table, though another thread has lost its processor within a process and
+/// holds all back that was retired since: it goes by counts.
 pub fn lacks_frames<D, R: PageRule<D>, A: Allocator>(
     store: &Store<D, R, A>,
     hand: &Hand<D>,
@@ -33,9 +43,16 @@ pub fn lacks_frames<D, R: PageRule<D>, A: Allocator>(
         return false;
     }
     let puts = puts_a_look(store);
-    let (free, retired) = look_around(store, hand, (FRAMES_A_HAND + puts) * store.layout.passes);
-    if free < (FRAMES_A_HAND + puts) * store.layout.passes {
-        return retired;
+    let wanted = (FRAMES_A_HAND + puts) * store.layout.passes;
+    if is_ample(store) {
+        if !counts_enough(store, hand, wanted) {
+            return true;
+        }
+    } else {
+        let (free, retired) = look_around(store, hand, wanted);
+        if free < wanted {
+            return retired;
+        }
     }
     store.room.note_looked(
         hand.number,
@@ -45,16 +62,92 @@ pub fn lacks_frames<D, R: PageRule<D>, A: Allocator>(
 }
 
 // How many puts a hand makes between two looks. All hands together may take so many frames, and are to see them free: so it is what half
-// of the frames to spare is for each. Where frames are ample the ring of a hand mostly tells enough, and those in use lie close
-// together, so that a look for many would go over thousands.
+// of the frames to spare is for each.
 fn puts_a_look<D, R: PageRule<D>, A: Allocator>(store: &Store<D, R, A>) -> u32
     ensures { result ≤ 64 }
 {
-    if is_ample(store) {
-        return 0;
-    }
     let half = store.layout.spare / 2 / store.layout.passes;
     half.saturating_sub(FRAMES_A_HAND).min(PUTS_A_LOOK)
+}
+
+// Whether so many frames are free where they are ample, and as many more as all hands keep in sight, which others take without a look: as it
+// sees them near by, or as they are counted, and then as it sees them. Where too few are counted it counts one more chunk, so that what nobody keeps in mind is found in
+// the end. As there are more frames to spare than all hands keep in sight, some are retired then.
+#[inline(never)]
+fn counts_enough<D, R: PageRule<D>, A: Allocator>(
+    store: &Store<D, R, A>,
+    hand: &Hand<D>,
+    wanted: u32,
+) -> bool {
+    if store.room.has_fresh(store.layout) {
+        return true;
+    }
+    let all = wanted.saturating_add(RING as u32 * store.layout.passes);
+    let frames = store.layout.frames();
+    if sees_frames_near(store, hand, all) {
+        return true;
+    }
+    if store.room.has_spare(hand.sight.frame(), frames, all) {
+        return sees_counted(store, hand, all);
+    }
+    let (from, to) = store.room.next_to_count(hand.number, frames);
+    count_chunk(store, from, to, frames);
+    false
+}
+
+// Whether so many frames are free in the chunks that have some as they are counted, so many chunks at most. It counts them anew.
+fn sees_counted<D, R: PageRule<D>, A: Allocator>(
+    store: &Store<D, R, A>,
+    hand: &Hand<D>,
+    wanted: u32,
+) -> bool {
+    let frames = store.layout.frames();
+    let mut missing = wanted;
+    let mut frame = hand.sight.frame() / FRAMES_NEAR * FRAMES_NEAR;
+    let mut passed = 0u32;
+    for _ in 0..CHUNKS_A_LOOK {
+        let (from, to) = store.room.next_spare(frame, frames);
+        passed = passed.saturating_add(way(frame, to, frames));
+        // It has come around to where it began.
+        if from == to || passed > frames {
+            return false;
+        }
+        missing = missing.saturating_sub(count_chunk(store, from, to, missing));
+        if missing == 0 {
+            return true;
+        }
+        frame = if to == frames { 0 } else { to };
+    }
+    false
+}
+
+// How far it is from one frame to another, where the first follows the last.
+fn way(from: u32, to: u32, frames: u32) -> u32 {
+    if to >= from {
+        to.saturating_sub(from)
+    } else {
+        to.saturating_add(frames).saturating_sub(from)
+    }
+}
+
+// How many frames of a chunk are free, so many at most. Where there are fewer, all know it then.
+fn count_chunk<D, R: PageRule<D>, A: Allocator>(
+    store: &Store<D, R, A>,
+    from: u32,
+    to: u32,
+    most: u32,
+) -> u32
+    requires { (from ≤ to) × (to ≤ frame_count store.now.layout) }
+{
+    if from == to {
+        return 0;
+    }
+    let mark = store.room.mark(from);
+    let (free, _) = look_over(store, from, to, most);
+    if free < most {
+        store.room.note_counted(from, mark, free);
+    }
+    free
 }
 
 // How many frames are free, so many at most, from those that the hand would try first on and around; and whether one that it looked at
@@ -91,9 +184,35 @@ fn is_ample<D, R: PageRule<D>, A: Allocator>(store: &Store<D, R, A>) -> bool {
     store.layout.spare / AMPLE >= store.layout.passes
 }
 
-// Whether as many frames are free as a reservation asks for at most, from those that the hand would try first on.
+// Whether as many frames are free as a reservation asks for at most: those that the hand would try first, some that nobody has used yet,
+// or some of a chunk that has as many as it is counted. Else it looks at all.
 fn sees_frames<D, R: PageRule<D>, A: Allocator>(store: &Store<D, R, A>, hand: &Hand<D>) -> bool {
-    look_around(store, hand, MOST).0 >= MOST
+    sees_frames_near(store, hand, MOST)
+        || store.room.has_fresh(store.layout)
+        || sees_frames_counted(store, hand)
+        || look_around(store, hand, MOST).0 >= MOST
+}
+
+// Whether so many are free of those that the hand would try first.
+fn sees_frames_near<D, R: PageRule<D>, A: Allocator>(
+    store: &Store<D, R, A>,
+    hand: &Hand<D>,
+    wanted: u32,
+) -> bool {
+    let total = store.layout.frames();
+    let first = hand.sight.frame().min(total);
+    look_over(store, first, total.min(first + FRAMES_NEAR), wanted).0 >= wanted
+}
+
+// Whether as many are free in a chunk that has some, as it is counted.
+fn sees_frames_counted<D, R: PageRule<D>, A: Allocator>(
+    store: &Store<D, R, A>,
+    hand: &Hand<D>,
+) -> bool {
+    let (from, to) = store
+        .room
+        .next_spare(hand.sight.frame(), store.layout.frames());
+    look_over(store, from, to, MOST).0 >= MOST
 }
 
 // Whether frames are ample, and the hand has released as many as a reservation asks for, of which nobody has taken those that it would

@@ -11,8 +11,11 @@ use std::sync::atomic::{AtomicU64, Ordering};
 /// So many pages are counted together: to find the least free one is to look at a count for each such block, and then at one block.
 const BLOCK: u32 = 4_096;
 
-/// So many frames that nobody has used yet a hand takes at once, and it looks at so many before it does.
+/// So many frames that nobody has used yet a hand takes at once, and it looks at so many before it does. As many are counted together.
 const CHUNK: u32 = 1_024;
+
+/// A count of free frames has in its upper half how often some were taken.
+const ONCE_TAKEN: u64 = 1 << 32;
 
 /// Words of two hands lie so many apart, so that no two stand in one line of a cache.
 const LINE: usize = 16;
@@ -49,32 +52,19 @@ pub struct Room {
     blocks: Vec<AtomicU64>,
     // The least frame that nobody has used yet, of a large store.
     fresh: AtomicU64,
-    // How many puts each hand has made when it looks for frames next, in a line of its own.
+    // How many frames of each chunk are free, of those that no hand keeps in sight. A put that finds its frame in sight writes to none of
+    // these words.
+    spare: Vec<AtomicU64>,
+    // How many puts each hand has made when it looks for frames next, and the chunk that it counts next, in a line of its own.
     looks_at: Vec<AtomicU64>,
 }
 
 impl Room {
-    /// A store of so many pages, of which the first have these words. Those with only zeros are free, and so are all others.
-    pub fn new(
-        alloc: Global,
-        pages: u32,
-        passes: u32,
-        first: &[[u64; 32]],
-    ) -> Result<Room, AllocError>
-        requires { pages ≤ 2 ^ 28 }
-    {
-        let count = pages / BLOCK + 1;
-        let mut blocks = Vec::with_capacity(alloc, count as usize)?;
-        let mut free = 0u64;
-        for block in 0..count {
-            let blank = blanks(
-                first,
-                (block * BLOCK).max(1),
-                pages.min(block * BLOCK + BLOCK),
-            );
-            free = free.wrapping_add(blank);
-            blocks.push(AtomicU64::new(blank))?;
-        }
+    /// A store of that layout, of which the first pages have these words. Those with only zeros are free, and so are all others.
+    pub fn new(alloc: Global, layout: Layout, first: &[[u64; 32]]) -> Result<Room, AllocError> {
+        let (free, blocks) = free_in_blocks(alloc, layout.pages, first)?;
+        let passes = layout.passes;
+        let spare = spare_in_chunks(alloc, layout, first.len() as u64)?;
         let words = passes as usize * LINE;
         let mut looks_at = Vec::with_capacity(alloc, words)?;
         for _ in 0..words {
@@ -90,6 +80,7 @@ impl Room {
             least: AtomicU64::new(1),
             blocks,
             fresh: AtomicU64::new((first.len() as u64).max(u64::from(first_frame(passes)))),
+            spare,
             looks_at,
         })
     }
@@ -203,6 +194,108 @@ impl Room {
         (first as u32, frames.min(first as u32 + CHUNK))
     }
 
+    /// Whether each hand finds a chunk of frames that nobody has used yet.
+    pub fn has_fresh(&self, layout: Layout) -> bool {
+        let all = self.hands.saturating_mul(u64::from(CHUNK));
+        layout.is_large()
+            && self.fresh.load(Ordering::SeqCst).saturating_add(all) <= u64::from(layout.frames())
+    }
+
+    /// A frame was released that no hand keeps in sight.
+    pub fn note_spare(&self, frame: u32) {
+        if let Some(spare) = self.spare.get((frame / CHUNK) as usize) {
+            spare.fetch_add(1, Ordering::SeqCst);
+        }
+    }
+
+    /// So many frames were taken that no hand kept in sight, the last of them this one. What another hand counts at the same moment may be
+    /// lost, but no count goes below none. All frames of its chunk may be in use by now, so those that nobody has used begin behind it.
+    pub fn note_spent(&self, frame: u32, many: u32) {
+        let end = u64::from(frame / CHUNK)
+            .saturating_add(1)
+            .saturating_mul(u64::from(CHUNK));
+        if end > self.fresh.load(Ordering::SeqCst) {
+            self.fresh.fetch_max(end, Ordering::SeqCst);
+        }
+        if let Some(spare) = self.spare.get((frame / CHUNK) as usize) {
+            let before = spare.load(Ordering::SeqCst);
+            let free = (before % ONCE_TAKEN).saturating_sub(u64::from(many));
+            let taken = (before / ONCE_TAKEN).wrapping_add(1);
+            let after = taken.wrapping_mul(ONCE_TAKEN).wrapping_add(free);
+            let _ = spare.compare_exchange(before, after, Ordering::SeqCst, Ordering::SeqCst);
+        }
+    }
+
+    /// Somebody has looked at all frames of the chunk in which this one stands, of which so many were free; before that its mark was this one.
+    /// Where others have counted some meanwhile it is not to be known how many are free now, and their count stands.
+    pub fn note_counted(&self, frame: u32, mark: u64, free: u32) {
+        if let Some(spare) = self.spare.get((frame / CHUNK) as usize) {
+            let taken = mark / ONCE_TAKEN;
+            let after = taken.wrapping_mul(ONCE_TAKEN).wrapping_add(u64::from(free));
+            let _ = spare.compare_exchange(mark, after, Ordering::SeqCst, Ordering::SeqCst);
+        }
+    }
+
+    /// The mark of the chunk in which this frame stands. It changes where some are released or taken.
+    pub fn mark(&self, frame: u32) -> u64 {
+        match self.spare.get((frame / CHUNK) as usize) {
+            Some(spare) => spare.load(Ordering::SeqCst),
+            None => 0,
+        }
+    }
+
+    /// Whether so many frames are free, as they are counted, from the chunk of that frame on and around.
+    pub fn has_spare(&self, frame: u32, frames: u32, wanted: u32) -> bool
+        requires { frames ≤ 2 ^ 30 }
+    {
+        let count = frames / CHUNK + 1;
+        let mut free = 0u64;
+        for step in 0..count {
+            free = free.saturating_add(self.spare_at(around(frame / CHUNK, step, count)));
+            if free >= u64::from(wanted) {
+                return true;
+            }
+        }
+        false
+    }
+
+    /// The frames of the next chunk that has a free one, as they are counted, from the chunk of that frame on and around. There are none where
+    /// no chunk has one.
+    pub fn next_spare(&self, frame: u32, frames: u32) -> (u32, u32)
+        requires { frames ≤ 2 ^ 30 }
+        ensures { (result.0 ≤ result.1) × (result.1 ≤ frames) }
+    {
+        let count = frames / CHUNK + 1;
+        for step in 0..count {
+            let chunk = around(frame / CHUNK, step, count);
+            if self.spare_at(chunk) > 0 {
+                return chunk_of(chunk, frames);
+            }
+        }
+        (0, 0)
+    }
+
+    /// The frames of the chunk that the hand of that number is to count next, where it knows of none that is free.
+    pub fn next_to_count(&self, number: u32, frames: u32) -> (u32, u32)
+        requires { frames ≤ 2 ^ 30 }
+        ensures { (result.0 ≤ result.1) × (result.1 ≤ frames) }
+    {
+        let Some(next) = self.looks_at.get(number as usize * LINE + 1) else {
+            return (0, 0);
+        };
+        let count = frames / CHUNK + 1;
+        let step = next.fetch_add(1, Ordering::SeqCst) % u64::from(count);
+        chunk_of(around(number, step as u32, count), frames)
+    }
+
+    // How many free frames a chunk has, as they are counted.
+    fn spare_at(&self, chunk: u32) -> u64 {
+        match self.spare.get(chunk as usize) {
+            Some(spare) => spare.load(Ordering::SeqCst) % ONCE_TAKEN,
+            None => 0,
+        }
+    }
+
     /// Whether the hand of that number, which has made so many puts, is to look for frames.
     #[inline(always)]
     pub fn is_to_look(&self, number: u32, puts: u64) -> bool {
@@ -212,7 +305,8 @@ impl Room {
         }
     }
 
-    /// The hand of that number has seen enough frames for all, and looks again when it has made so many puts.
+    /// The hand of that number has seen enough frames for all, and looks again when it has made so many puts; or it was refused, and looks
+    /// at once.
     pub fn note_looked(&self, number: u32, puts: u64) {
         if let Some(next) = self.looks_at.get(number as usize * LINE) {
             next.store(puts, Ordering::SeqCst);
@@ -263,6 +357,60 @@ pub fn end_near(layout: Layout, frame: u32) -> u32
     } else {
         layout.frames()
     }
+}
+
+// How many pages are free, and how many of each block.
+fn free_in_blocks(
+    alloc: Global,
+    pages: u32,
+    first: &[[u64; 32]],
+) -> Result<(u64, Vec<AtomicU64>), AllocError>
+    requires { pages ≤ 2 ^ 28 }
+{
+    let count = pages / BLOCK + 1;
+    let mut blocks = Vec::with_capacity(alloc, count as usize)?;
+    let mut free = 0u64;
+    for block in 0..count {
+        let from = (block * BLOCK).max(1);
+        let blank = blanks(first, from, pages.min(block * BLOCK + BLOCK));
+        free = free.wrapping_add(blank);
+        blocks.push(AtomicU64::new(blank))?;
+    }
+    Ok((free, blocks))
+}
+
+// How many frames of each chunk are free: those behind so many, and in a large store none, as hands begin with frames that nobody has used.
+fn spare_in_chunks(
+    alloc: Global,
+    layout: Layout,
+    first: u64,
+) -> Result<Vec<AtomicU64>, AllocError> {
+    let frames = layout.frames();
+    let mut spare = Vec::with_capacity(alloc, frames as usize / CHUNK as usize + 1)?;
+    for chunk in 0..frames / CHUNK + 1 {
+        let (from, to) = chunk_of(chunk, frames);
+        let free = if layout.is_large() {
+            0
+        } else {
+            u64::from(to).saturating_sub(first.max(u64::from(from)))
+        };
+        spare.push(AtomicU64::new(free))?;
+    }
+    Ok(spare)
+}
+
+// The chunk so many behind that one, where the first follows the last.
+fn around(chunk: u32, steps: u32, count: u32) -> u32 {
+    chunk.wrapping_add(steps).checked_rem(count).unwrap_or(0)
+}
+
+// The frames of a chunk.
+fn chunk_of(chunk: u32, frames: u32) -> (u32, u32)
+    requires { frames ≤ 2 ^ 30 }
+    ensures { (result.0 ≤ result.1) × (result.1 ≤ frames) }
+{
+    let from = chunk.saturating_mul(CHUNK).min(frames);
+    (from, frames.min(from + CHUNK))
 }
 
 // How many of the pages of a range have only zeros.

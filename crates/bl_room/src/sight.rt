@@ -162,14 +162,17 @@ impl Sight {
         self.waiting = kept;
     }
 
-    /// The frame was released. It stays in sight where there are fewer than so many.
+    /// The frame was released. It stays in sight where there are fewer than so many. Says whether it does.
     #[inline(always)]
-    pub fn note_released(&mut self, frame: u32, most: u32)
+    pub fn note_released(&mut self, frame: u32, most: u32) -> bool
         ensures { (self.new.retired ≡ self.old.retired) × (self.new.waiting ≡ self.old.waiting) }
     {
         if self.ready < most.min(RING as u32) {
             self.released[self.ready as usize] = frame;
             self.ready += 1;
+            true
+        } else {
+            false
         }
     }
 

@@ -75,7 +75,7 @@ impl<D, R: PageRule<D>> Store<D, R, Global> {
             firsts: layout.frame_word_cell(0, 0),
             stamps: layout.process_cell(0),
             apart: [0; APART],
-            room: Room::new(alloc, layout.pages, layout.passes, first)?,
+            room: Room::new(alloc, layout, first)?,
             behind: [0; APART],
         };
         let hands = store.deal(alloc, seat)?;

@@ -60,7 +60,7 @@ impl<D, R: PageRule<D>, A: Allocator> Store<D, R, A> {
         let owners = self.layout.pages + self.layout.frames();
         let looks = owners.min(OWNERS_A_SWEEP);
         let mine = hand.sight.begin_sweep();
-        let first = mine.unwrap_or(hand.sight.owner()) % owners;
+        let first = mine.unwrap_or(self.next_owner(hand)) % owners;
         let mut states = [0u64; OWNERS_A_SWEEP as usize];
         let mut any = false;
         for i in 0..looks {
@@ -89,6 +89,16 @@ impl<D, R: PageRule<D>, A: Allocator> Store<D, R, A> {
         }
         self.keep_gone(hand, mine);
         released
+    }
+
+    // The owner word at which a sweep begins that goes from no page of the hand's own. It passes by those of pages where none is retired.
+    fn next_owner(&self, hand: &Hand<D>) -> u32 {
+        let owner = hand.sight.owner();
+        if self.room.retiring() == 0 {
+            owner.max(self.layout.pages)
+        } else {
+            owner
+        }
     }
 
     // The hand keeps a page in sight, which it has retired, where it is not released yet.
@@ -190,8 +200,15 @@ impl<D, R: PageRule<D>, A: Allocator> Store<D, R, A> {
         if found != state {
             return false;
         }
-        hand.sight.note_released(frame, most);
+        self.count_released(frame, hand.sight.note_released(frame, most));
         true
+    }
+
+    // A frame was released. One that no hand keeps in sight is counted.
+    fn count_released(&self, frame: u32, is_in_sight: bool) {
+        if !is_in_sight {
+            self.room.note_spare(frame);
+        }
     }
 
     // Releases the page or the frame that has the owner word, where it is still in that state of retirement.

@@ -7,7 +7,7 @@ use std::test::Fail;
 // Of 5,000 pages the first three have words, and all others are free. Pages 0 to 4,095 are counted together, and so are those behind them.
 #[test]
 fn free_pages_stand_in_two_blocks(rt: HostRuntime) -> Result<(), Fail> {
-    let room = Room::new(rt.alloc(), 5_000, 2, &[[1; 32]; 3])?;
+    let room = Room::new(rt.alloc(), Layout::of(5_000, 2), &[[1; 32]; 3])?;
     assert!(rt; room.free() == 4_997 && room.retiring() == 0);
     assert!(rt; room.near(5_000) == (1, 4_096));
     assert!(rt; room.next_block(4_096, 5_000) == (4_096, 5_000));
@@ -18,7 +18,7 @@ fn free_pages_stand_in_two_blocks(rt: HostRuntime) -> Result<(), Fail> {
 // A page that is taken is the last one of which the next hand thinks, and one that is released the first.
 #[test]
 fn released_page_is_the_least(rt: HostRuntime) -> Result<(), Fail> {
-    let room = Room::new(rt.alloc(), 5_000, 2, &[[1; 32]; 3])?;
+    let room = Room::new(rt.alloc(), Layout::of(5_000, 2), &[[1; 32]; 3])?;
     room.note_taken(3);
     assert!(rt; room.free() == 4_996 && room.near(5_000) == (4, 4_096));
     room.note_retired();
@@ -32,17 +32,64 @@ fn released_page_is_the_least(rt: HostRuntime) -> Result<(), Fail> {
 // Each of two hands begins with 1,024 frames of its own. What is taken then stands behind these, as many frames at once, or those that are left.
 #[test]
 fn chunks_follow_each_other(rt: HostRuntime) -> Result<(), Fail> {
-    let room = Room::new(rt.alloc(), 5_000, 2, &[[1; 32]; 3])?;
+    let room = Room::new(rt.alloc(), Layout::of(5_000, 2), &[[1; 32]; 3])?;
     assert!(rt; room.take_chunk(4_000) == (2_048, 3_072));
     assert!(rt; room.take_chunk(4_000) == (3_072, 4_000));
     assert!(rt; room.take_chunk(4_000) == (4_000, 4_000));
     Ok(())
 }
 
+// 5,000 pages and two hands have 10,016 frames: nine chunks of 1,024, and one of 800. The first three are in use. Of those in a chunk that are
+// released or taken each is counted, and whoever has looked at a chunk says how many it has.
+#[test]
+fn spare_frames_are_counted(rt: HostRuntime) -> Result<(), Fail> {
+    let room = Room::new(rt.alloc(), Layout::of(5_000, 2), &[[1; 32]; 3])?;
+    assert!(rt; room.has_spare(0, 10_016, 10_013) && !room.has_spare(0, 10_016, 10_014));
+    assert!(rt; room.next_spare(9_300, 10_016) == (9_216, 10_016));
+    room.note_counted(9_300, 801, 2);
+    assert!(rt; room.has_spare(0, 10_016, 10_013));
+    let mark = room.mark(9_300);
+    room.note_counted(9_300, mark, 2);
+    assert!(rt; room.has_spare(0, 10_016, 9_215) && !room.has_spare(0, 10_016, 9_216));
+    room.note_spent(9_216, 3);
+    assert!(rt; room.next_spare(9_300, 10_016) == (0, 1_024));
+    room.note_spent(9_216, 1);
+    room.note_spare(10_015);
+    assert!(rt; room.next_spare(9_300, 10_016) == (9_216, 10_016));
+    assert!(rt; room.has_spare(0, 10_016, 9_214) && !room.has_spare(0, 10_016, 9_215));
+    // Who has looked before some were taken and released says nothing any more.
+    room.note_counted(9_300, mark, 700);
+    assert!(rt; !room.has_spare(0, 10_016, 9_215));
+    assert!(rt; room.next_to_count(1, 10_016) == (1_024, 2_048));
+    assert!(rt; room.next_to_count(1, 10_016) == (2_048, 3_072));
+    Ok(())
+}
+
+// Of a large store no frame is counted that nobody has used: as long as each hand finds a chunk of them, it is told so.
+#[test]
+fn fresh_frames_are_left(rt: HostRuntime) -> Result<(), Fail> {
+    let layout = Layout::of(70_000, 2);
+    let room = Room::new(rt.alloc(), layout, &[])?;
+    assert!(rt; room.has_fresh(layout) && !room.has_spare(0, layout.frames(), 1));
+    // A hand that has gone on into them leaves its chunk behind.
+    room.note_spent(5_000, 1);
+    assert!(rt; room.take_chunk(layout.frames()) == (5_120, 6_144));
+    for _ in 0..1_000 {
+        if room.take_chunk(layout.frames()).0 >= 132_096 {
+            break;
+        }
+    }
+    assert!(rt; room.has_fresh(layout));
+    room.take_chunk(layout.frames());
+    assert!(rt; !room.has_fresh(layout));
+    assert!(rt; !Room::new(rt.alloc(), Layout::of(5_000, 2), &[])?.has_fresh(Layout::of(5_000, 2)));
+    Ok(())
+}
+
 // A walk that found nothing counts until something comes, and where no other one has begun meanwhile.
 #[test]
 fn walks_tell_that_there_is_none(rt: HostRuntime) -> Result<(), Fail> {
-    let room = Room::new(rt.alloc(), 5_000, 2, &[[0; 32]])?;
+    let room = Room::new(rt.alloc(), Layout::of(5_000, 2), &[[0; 32]])?;
     let first = room.begin_walk();
     let second = room.begin_walk();
     room.end_walk(first);
@@ -58,7 +105,7 @@ fn walks_tell_that_there_is_none(rt: HostRuntime) -> Result<(), Fail> {
 // not each hand finds one.
 #[test]
 fn pages_are_scarce(rt: HostRuntime) -> Result<(), Fail> {
-    let room = Room::new(rt.alloc(), 5, 2, &[[1; 32]; 3])?;
+    let room = Room::new(rt.alloc(), Layout::of(5, 2), &[[1; 32]; 3])?;
     assert!(rt; room.lacks_pages() && !room.is_freeing_enough() && !room.is_short_of_pages());
     for _ in 0..4 {
         room.note_retired();
