@@ -12,8 +12,7 @@ use Rattle.bl_serve_lines.specs.declared.request.Request.{Request}
 use Rattle.bl_serve_lines.specs.Lines.{Answer, entries}
 use Rattle.bl_serve_lines.specs.Served.{Interleaves, on_key}
 use Rattle.bl_serve_lines.specs.Dealt.{dealt, numbers}
-use Rattle.bl_serve_lines.proofs.Dealing.{regathers, all_pairs, shares_of, all_shares}
-use Rattle.bl_serve_lines.proofs.Keys.{from_one}
+use Rattle.bl_serve_lines.proofs.Dealing.{regathers, all_pairs, all_shares, numbers_long}
 use Rattle.bl_page.specs.declared.page.Page.{Page}
 use Rattle.bl_claims.specs.Seeing.{own}
 use Rattle.bl_index.specs.declared.index.Index.{Index}
@@ -29,12 +28,11 @@ use Rattle.bl_serve_worker.specs.Answering.{IsFor, joined_text, replies}
 use Rattle.bl_serve_worker.specs.Shares.{Piece, IsPiece, Logs, WorksOn}
 use Rattle.bl_serve.specs.Joining.{IsOutputOf, IsWhole}
 use Rattle.bl_serve.specs.Dealing.{AreDealt}
-use Rattle.bl_serve.specs.Chunks.{Taken, IsTaken, Weaves, KeepsOrder, IsChunk, Collects, WorkOn}
+use Rattle.bl_serve.specs.Chunks.{Taken, IsTaken, IsChunk, Collects, WorkOn}
 use Rattle.bl_serve_worker.proofs.Lines.{zip_length, replies_long}
-use Rattle.bl_serve_worker.proofs.Dealt.{numbers_long}
-use Rattle.bl_serve.proofs.Hands.{hand_at, split_at, whole_piece, each_hand, all_hands, all_low, all_there, not_there, front_none, behind_none, outputs_of, joined_replies}
-use Rattle.bl_serve.proofs.Pieces.{lifted, flat_id, map_flat}
-use Rattle.bl_serve.proofs.Weaving.{joined, all_of, in_any_order, one_by_one}
+use Rattle.bl_serve.proofs.Hands.{hand_at, whole_piece, each_hand, all_hands, outputs_of, joined_replies}
+use Rattle.bl_serve.proofs.Keeping.{all_low, entries_in, answers_in, weaving, keeping}
+use Rattle.bl_serve.proofs.Pieces.{lifted, flat_id}
 use Rattle.bl_serve.proofs.Together.{BeganWith}
 
 -- what was lent comes back
@@ -134,9 +132,6 @@ module _ (number : ℕ) (deals : List ℕ) (lines : List (Option Request)) where
   parted_ok (Err e) place olds news some now slots theirs h k is = tt
 
 module _ (first : List (Option Page)) (pages number : ℕ) (deals : List ℕ) (lines : List (Option Request)) where
-  abbrev entries_in : Piece → List Entry
-  entries_in p = flat_map entries p.answers
-
   record Spread (olds news : List Handle) (slots : List Slot) : Type 0 where
     taken : List Taken
     pieces : List Piece
@@ -169,45 +164,41 @@ module _ (first : List (Option Page)) (pages number : ℕ) (deals : List ℕ) (l
         shares = ap (λ (z : List (List Entry)). map entries_in logs.pieces ++ z) r.shares ∙ sym (map-append entries_in logs.pieces r.pieces);
       }
 
-  abbrev answers_in : List Piece → List Answer
-  answers_in pieces = flat_map (λ p. p.answers) pieces
-
   -- each output has a reply for each line of its share
   pub collected_whole : (olds news : List Handle) (slots : List Slot) (written : List ShareOutput) → length lines ≡ length deals → All (BeganWith first pages) olds → WorkOn number deals lines olds news slots → Collects slots written → All (IsWhole deals) written
   collected_whole olds news slots written as_many began turns g =
       let s = spread olds news slots began turns g.none_failed in
       subst (All (IsWhole deals)) (s.written ∙ sym g.outputs_are) (All-map (IsWhole deals) (λ (p : Piece). p.output) s.pieces
-      (All-weaker (IsPiece pages number deals lines) (λ (p : Piece). IsWhole deals p.output) (λ p h. whole_piece pages number deals lines as_many p h) s.pieces s.each))
+      (All-weaker (IsPiece pages number deals lines) (λ (p : Piece). IsWhole deals p.output) (whole_piece pages number deals lines as_many) s.pieces s.each))
 
   -- ---- all together
 
-  joined_lists : (pieces : List Piece) → map joined (map (λ p. map entries p.answers) pieces) ≡ map entries_in pieces
-  joined_lists [] = refl
-  joined_lists (p ∷ pieces) = ap (λ (z : List Entry). z ∷ map joined (map (λ p. map entries p.answers) pieces)) (flat_id entries p.answers) ∙ ap (λ (z : List (List Entry)). entries_in p ∷ z) (joined_lists pieces)
+  -- the answers to all lines, as the pieces have them
+  record Answered (count : ℕ) (pieces : List Piece) : Type 0 where
+    all : List Answer
+    long : length all ≡ length lines
+    fits : AllZip (IsFor pages) lines all
+    hands : (k : ℕ) → dealt k deals all ≡ hand_at pieces k
+    same : IsPermutation (answers_in pieces) all
 
-  weaving : (count : ℕ) (taken : List Taken) (before after : List Piece) (all : List Answer) → flat_map (λ t. t.share) taken ≡ map entries_in before → IsPermutation before after → IsPermutation (answers_in after) all → Weaves taken all
-  weaving count taken before after all shares perm perm_all history w =
-      let a : Interleaves (map entries_in before) history = subst (λ (z : List (List Entry)). Interleaves z history) shares w in
-      let b : Interleaves (map entries_in after) history = in_any_order a (map entries_in after) (IsPermutation-map entries_in before after perm) in
-      let groups : List (List (List Entry)) = map (λ p. map entries p.answers) after in
-      let c : Interleaves (all_of groups) history = one_by_one b groups (joined_lists after) in
-      let d : Interleaves (map entries (answers_in after)) history = subst (λ (z : List (List Entry)). Interleaves z history) (flat_id (λ (p : Piece). map entries p.answers) after ∙ sym (map_flat (λ (p : Piece). p.answers) entries after)) c in
-      in_any_order d (map entries all) (IsPermutation-map entries (answers_in after) all perm_all)
+  answered : (count : ℕ) (pieces : List Piece) → length lines ≡ length deals → All (λ s. s < count) deals → map (λ p. p.output.share) pieces ≡ numbers 0 count → All (IsPiece pages number deals lines) pieces → Answered count pieces
+  answered count pieces as_many low are each =
+      let many : length pieces ≡ count = sym (length-map pieces (λ (p : Piece). p.output.share)) ∙ (ap length are ∙ numbers_long 0 count) in
+      let for : (k : ℕ) → AllZip (IsFor pages) (dealt k deals lines) (hand_at pieces k) = each_hand pages number deals lines count pieces are each low in
+      let r = regathers deals lines (hand_at pieces) as_many (λ k. zip_length (IsFor pages) (dealt k deals lines) (hand_at pieces k) (for k)) in record {
+        all = r.all;
+        long = r.long ∙ sym as_many;
+        fits = all_pairs (IsFor pages) deals lines r.all as_many r.long (λ k. subst (AllZip (IsFor pages) (dealt k deals lines)) (sym (r.each k)) (for k));
+        hands = r.each;
+        same = subst (λ (z : List Answer). IsPermutation z r.all) (sym (all_hands count deals r.all pieces many r.each)) (all_shares count deals r.all r.long low);
+      }
 
-  keeping : (count : ℕ) (taken : List Taken) (before after : List Piece) (all : List Answer) → AreDealt count lines deals → length lines ≡ length deals → length all ≡ length deals → AllZip (IsFor pages) lines all → flat_map (λ t. t.share) taken ≡ map entries_in before → IsPermutation before after
-      → length after ≡ count → ((k : ℕ) → dealt k deals all ≡ hand_at after k) → KeepsOrder taken all
-  keeping count taken before after all d as_many long each shares perm many hands history w key =
-      let a : Interleaves (map entries_in before) history = subst (λ (z : List (List Entry)). Interleaves z history) shares w in
-      let b : Interleaves (map entries_in after) history = in_any_order a (map entries_in after) (IsPermutation-map entries_in before after perm) in
-      let t : ℕ = d.share_of key in
-      let s = split_at after t (let low = d.low key in omega (arith, low, many)) in
-      let lists : map entries_in after ≡ map entries_in s.front ++ entries_in s.there ∷ map entries_in s.behind = ap (map entries_in) s.is ∙ map-append entries_in s.front (s.there ∷ s.behind) in
-      let others : (k : ℕ) → k ≢ t → on_key key (flat_map entries (hand_at after k)) ≡ [] = λ k other. subst (λ (z : List Answer). on_key key (flat_map entries z) ≡ []) (hands k) (not_there pages count key deals lines all d.share_of d.each each k other) in
-      let mine : hand_at after t ≡ s.there.answers = s.at in
-      from_one key b (map entries_in s.front) (entries_in s.there) (map entries_in s.behind) lists
-      (All-map (λ (z : List Entry). on_key key z ≡ []) entries_in s.front (front_none key after s.front s.there s.behind t s.is s.long others))
-      (All-map (λ (z : List Entry). on_key key z ≡ []) entries_in s.behind (behind_none key after s.front s.there s.behind t s.is s.long others))
-      ∙ (ap (λ (z : List Answer). on_key key (flat_map entries z)) (sym mine ∙ sym (hands t)) ∙ all_there pages count key deals lines all d.share_of d.each each)
+  -- the replies to all lines
+  texts_of : List Answer → List (List ℕ)
+  texts_of all = replies (numbers number (length lines)) all
+
+  texts_long : (all : List Answer) → length lines ≡ length deals → length all ≡ length lines → length (texts_of all) ≡ length deals
+  texts_long all as_many long = replies_long (numbers number (length lines)) all (long ∙ sym (numbers_long number (length lines))) ∙ (numbers_long number (length lines) ∙ as_many)
 
   pub chunk : (count : ℕ) (text old : List ℕ) (olds news : List Handle) (slots : List Slot) (written sorted : List ShareOutput) → length lines ≡ length deals → AreDealt count lines deals → All (BeganWith first pages) olds → WorkOn number deals lines olds news slots → Collects slots written
       → IsPermutation written sorted → map (λ w. w.share) sorted ≡ numbers 0 count → ((texts : List (List ℕ)) → length texts ≡ length deals → All (IsOutputOf deals texts) sorted → text ≡ old ++ joined_text texts)
@@ -217,37 +208,29 @@ module _ (first : List (Option Page)) (pages number : ℕ) (deals : List ℕ) (l
       let l = lifted (λ (p : Piece). p.output) s.pieces sorted (subst (λ (z : List ShareOutput). IsPermutation z sorted) (g.outputs_are ∙ sym s.written) perm) in
       let pieces : List Piece = l.0 in
       let each : All (IsPiece pages number deals lines) pieces = All-permutation (IsPiece pages number deals lines) s.pieces pieces l.1 s.each in
-      let numbered_so : map (λ p. p.output.share) pieces ≡ numbers 0 count = sym (map_map pieces) ∙ (ap (map (λ (w : ShareOutput). w.share)) l.2 ∙ are_all) in
-      let many : length pieces ≡ count = sym (length-map pieces (λ (p : Piece). p.output.share)) ∙ (ap length numbered_so ∙ numbers_long 0 count) in
-      let low : All (λ share. share < count) deals = all_low count deals lines d.share_of d.each in
-      let hands_for : (k : ℕ) → AllZip (IsFor pages) (dealt k deals lines) (hand_at pieces k) = λ k. each_hand pages number count deals lines pieces 0 numbered_so each low k in
-      let r = regathers deals lines (hand_at pieces) as_many (λ k. zip_length (IsFor pages) (dealt k deals lines) (hand_at pieces k) (hands_for k)) in
-      let fits : AllZip (IsFor pages) lines r.all = all_pairs (IsFor pages) deals lines r.all as_many r.long (λ k. subst (λ (z : List Answer). AllZip (IsFor pages) (dealt k deals lines) z) (sym (r.each k)) (hands_for k)) in
-      let all_long : length r.all ≡ length lines = r.long ∙ sym as_many in
-      let texts : List (List ℕ) = replies (numbers number (length lines)) r.all in
-      let texts_long : length texts ≡ length deals = replies_long (numbers number (length lines)) r.all (all_long ∙ sym (numbers_long number (length lines))) ∙ (numbers_long number (length lines) ∙ as_many) in
-      let outputs : All (IsOutputOf deals texts) sorted = subst (All (IsOutputOf deals texts)) l.2 (All-map (IsOutputOf deals texts) (λ (p : Piece). p.output) pieces
-      (outputs_of pages number count deals lines r.all pieces numbered_so each r.each as_many all_long)) in
-      let answers_are : answers_in pieces ≡ shares_of 0 count deals r.all = all_hands count deals r.all pieces many r.each in
-      let perm_all : IsPermutation (answers_in pieces) r.all = subst (λ (z : List Answer). IsPermutation z r.all) (sym answers_are) (all_shares count deals r.all r.long low) in (
-        joined_text texts,
-        text_is texts texts_long outputs,
+      let are : map (λ p. p.output.share) pieces ≡ numbers 0 count = shares_are pieces ∙ (ap (map (λ (w : ShareOutput). w.share)) l.2 ∙ are_all) in
+      let many : length pieces ≡ count = sym (length-map pieces (λ (p : Piece). p.output.share)) ∙ (ap length are ∙ numbers_long 0 count) in
+      let a = answered count pieces as_many (all_low count d.share_of deals lines d.each) are each in
+      let outputs : All (IsOutputOf deals (texts_of a.all)) sorted = subst (All (IsOutputOf deals (texts_of a.all))) l.2 (All-map (IsOutputOf deals (texts_of a.all)) (λ (p : Piece). p.output) pieces
+      (outputs_of pages number deals lines as_many count a.all pieces are each a.hands a.long)) in (
+        joined_text (texts_of a.all),
+        text_is (texts_of a.all) (texts_long a.all as_many a.long) outputs,
         record {
-          answers = r.all;
-          each = fits;
-          prints = joined_replies number r.all (length lines) all_long;
+          answers = a.all;
+          each = a.fits;
+          prints = joined_replies number a.all (length lines) a.long;
           taken = s.taken;
           old_are = s.old_are;
           new_are = s.new_are;
           each_taken = s.each_taken;
-          weaves = weaving count s.taken s.pieces pieces r.all s.shares l.1 perm_all;
-          keeps = keeping count s.taken s.pieces pieces r.all d as_many r.long fits s.shares l.1 many (λ k. r.each k);
+          weaves = λ history w. weaving (flat_map (λ t. t.share) s.taken) s.pieces pieces s.shares l.1 history w a.all a.same;
+          keeps = λ history w. keeping (flat_map (λ t. t.share) s.taken) s.pieces pieces s.shares l.1 history w pages count deals lines a.all d a.fits many a.hands;
         },
       )
     where
-      map_map : (ps : List Piece) → map (λ (w : ShareOutput). w.share) (map (λ p. p.output) ps) ≡ map (λ p. p.output.share) ps
-      map_map [] = refl
-      map_map (p ∷ ps) = ap (λ (z : List ℕ). p.output.share ∷ z) (map_map ps)
+      shares_are : (ps : List Piece) → map (λ p. p.output.share) ps ≡ map (λ (w : ShareOutput). w.share) (map (λ p. p.output) ps)
+      shares_are [] = refl
+      shares_are (p ∷ ps) = ap (λ (z : List ℕ). p.output.share ∷ z) (shares_are ps)
 
 pub chunk_own : (first : List (Option Page)) (index : Index) (pages number : ℕ) (lines : List (Option Request)) (text : List ℕ) (olds news : List Pass) → All (IsPassOf index) olds → IsChunk first pages number lines text olds news → All (IsPassOf index) news
 chunk_own first index pages number lines text olds news own_all r = subst (All (IsPassOf index)) r.new_are (go r.taken r.each_taken (subst (All (IsPassOf index)) (sym r.old_are) own_all))

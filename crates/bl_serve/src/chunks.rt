@@ -228,10 +228,11 @@ fn answer_chunk<'a, 'b, R: Threads + Wait + Sync, G: Gate + Sync, I: Read>(
         totals,
         mut text,
     } = session;
+    let (alloc, before) = (service.alloc, totals.requests);
     let threads = threads_for(lines, plan, handles.len());
     let shares = shares_for(lines.len(), threads.min(plan.workers));
-    let deals = deal(service.alloc, lines.as_slice(), shares)?;
-    let receiver = given_out(rt, service.alloc, shares)?;
+    let deals = deal(alloc, lines.as_slice(), shares)?;
+    let receiver = given_out(rt, alloc, shares)?;
     let wakeup = Wakeup::new(plan.workers as u64);
     // Lent anew, for as long as the chunk is there.
     let chunk = Chunk {
@@ -240,21 +241,14 @@ fn answer_chunk<'a, 'b, R: Threads + Wait + Sync, G: Gate + Sync, I: Read>(
         shares: &receiver,
         lines: lines.as_slice(),
         deals: deals.as_slice(),
-        before: totals.requests,
+        before,
         last: ahead.is_last,
     };
     let places = slots.as_mut_slice();
     work_abreast(rt, &chunk, threads, &mut handles, places, reader, ahead)?;
-    let outputs = collect_outputs(service.alloc, &mut slots)?;
-    let joined = deals.as_slice();
-    join_outputs(
-        service.alloc,
-        outputs,
-        joined,
-        shares,
-        totals.requests,
-        &mut text,
-    )?;
+    let outputs = collect_outputs(alloc, &mut slots)?;
+    let dealt = deals.as_slice();
+    join_outputs(alloc, outputs, dealt, shares, before, &mut text)?;
     Ok(Session {
         plan,
         handles,

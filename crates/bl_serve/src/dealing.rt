@@ -10,23 +10,25 @@ use std::alloc::{AllocError, Global};
 /// There are no more shares.
 const MOST_SHARES: usize = 256;
 
-/// How many lines a share has, about.
+/// A worker has no more shares, about: enough for all workers to end together. For each share one looks for its lines among all.
+const SHARES_A_WORKER: usize = 16;
+
+/// A share has so many lines or more, where each worker has one.
 const LINES_A_SHARE: usize = 48;
 
 /// An odd number whose bits are mixed, so that the keys of a series are spread.
 const SPREAD: u64 = 0x9e37_79b9_7f4a_7c15;
 
-/// How many shares so many lines are dealt into for so many workers: at least one for each, and more where there are many, so that all
-/// workers end together.
+/// How many shares so many lines are dealt into for so many workers: one for each, and more where there are many lines.
 pub fn shares_for(count: usize, workers: usize) -> usize
     ensures low { 1 ≤ result }
     ensures high { result ≤ 256 }
 {
     if workers <= 1 {
-        1
-    } else {
-        (count / LINES_A_SHARE).max(workers).min(MOST_SHARES)
+        return 1;
     }
+    let most = workers.saturating_mul(SHARES_A_WORKER).min(MOST_SHARES);
+    (count / LINES_A_SHARE).max(workers).min(most)
 }
 
 /// The share of a key, of so many.

@@ -52,7 +52,7 @@ history_append (m ∷ ms) ys = ap (λ (z : List Entry). entries_at m.event.proce
 pub by_same_map : (P : List (Option Page) → ℕ → ℕ → Type 0) (a b : Handle) → IsSameHandle a b → P (first_map_of b) (pages_of_map b) (number_of_seat b) → P (first_map_of a) (pages_of_map a) (number_of_seat a)
 by_same_map P a b same h = subst (λ (z : List (Option Page) × ℕ × ℕ). P z.0 z.1 z.2) (λ i. (first_of (same.0 i).now, pages_of (same.0 i).now, same.1.2 i)) h
 
-replies_long : (numbers : List ℕ) (answers : List Answer) → length answers ≡ length numbers → length (replies numbers answers) ≡ length numbers
+pub replies_long : (numbers : List ℕ) (answers : List Answer) → length answers ≡ length numbers → length (replies numbers answers) ≡ length numbers
 replies_long [] answers same = refl
 replies_long (n ∷ numbers) [] same = absurd (omega (arith, same))
 replies_long (n ∷ numbers) (answer ∷ answers) same = ap suc (replies_long numbers answers (omega (arith, same)))
