@@ -194,7 +194,7 @@ module _ (first : List (Option Page)) (pages number : ℕ) (deals : List ℕ) (l
       }
 
   -- the replies to all lines
-  texts_of : List Answer → List (List ℕ)
+  abbrev texts_of : List Answer → List (List ℕ)
   texts_of all = replies (numbers number (length lines)) all
 
   texts_long : (all : List Answer) → length lines ≡ length deals → length all ≡ length lines → length (texts_of all) ≡ length deals
