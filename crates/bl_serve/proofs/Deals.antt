@@ -13,9 +13,6 @@ IsSpread shares share asked = (share < shares) × ((key : ℕ) → IsOn key aske
 abbrev pub DealsUpto : ℕ → ℕ → List (Option Request) → List ℕ → Type 0
 DealsUpto shares place lines deals = AllZip (IsSpread shares) deals (take place lines)
 
-pub deals_none : (shares : ℕ) (lines : List (Option Request)) (deals : List ℕ) → deals ≡ [] → DealsUpto shares 0 lines deals
-deals_none shares lines deals is = subst (λ (z : List ℕ). AllZip (IsSpread shares) z []) (sym is) tt
-
 pub deals_more : (shares place share : ℕ) (lines : List (Option Request)) (deals more : List ℕ) (asked : Option Request) → place < length lines → DealsUpto shares place lines deals → asked ≡ get_or lines place None → share < shares → ((key : ℕ) → IsOn key asked → share ≡ spread key shares) → more ≡ deals ++ share ∷ []
     → DealsUpto shares (place + 1) lines more
 deals_more shares place share lines deals more asked low so_far at few same is =

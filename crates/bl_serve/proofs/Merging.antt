@@ -2,7 +2,7 @@
 use Rattle.std.proofs.Common.{◌≡◌, ◌≢◌, ℕ, zero, suc, ◌+◌, ◌-◌, ◌<◌, ◌≤◌, List, [], ◌∷◌, ◌++◌, length, take, drop, get_or, set, map, refl, sym, ap, ◌∙◌, subst, append_assoc, arith, ⊎_elim, length-append}
 use Rattle.std.specs.Prelude.{All, flat_map, sum, cond, slice_index, ◌==◌, IsPermutation}
 use Rattle.std.proofs.lemmas.Bool.{cases_eq}
-use Rattle.std.proofs.lemmas.List.{flat_map_more, take_more, take_all, get_or-set_same, get_or-set_other, get_or_default, get_or-map, length-set, length-map, map-append}
+use Rattle.std.proofs.lemmas.List.{flat_map_more, take_more, get_or-set_same, get_or-set_other, get_or_default, get_or-map, length-set, length-map, map-append}
 use Rattle.std.proofs.lemmas.List.Sums.{sum_by_more, sum_by-take-le}
 use Rattle.std.proofs.lemmas.List.Sorted.{sum_by-IsPermutation}
 use Rattle.std.proofs.lemmas.List.Elements.{All-get_or}
@@ -139,9 +139,6 @@ module _ (deals : List ℕ) (outputs : List ShareOutput) (joined : List Joined) 
         let few : state.bytes + bytes - state.bytes ≡ bytes = omega arith in
         grown ∙ ((λ i. text ++ take (few i) (drop state.bytes (is i))) ∙ ((λ i. so_far texts long each i ++ reply_there texts long its i)
         ∙ (flat_map_more (λ (t : List ℕ). t) old (take place texts) (get_or texts place []) ∙ ap (λ (z : List (List ℕ)). old ++ joined_text z) (sym (take_more texts place [] (let low = h.low in omega (arith, low, long)))))))
-
-pub all_texts : (place : ℕ) (texts : List (List ℕ)) (old text : List ℕ) → length texts ≤ place → text ≡ old ++ joined_text (take place texts) → text ≡ old ++ joined_text texts
-all_texts place texts old text end is = is ∙ ap (λ (z : List (List ℕ)). old ++ joined_text z) (take_all place texts end)
 
 -- ---- sorted outputs
 
