@@ -35,12 +35,12 @@ Any other line is malformed; standard error says at the end how many were, and
 which was the first. Each reply begins with the number of its line.
 Replies are written at each sync and at the end of the input. All requests
 before a sync are carried out before those after it; those between two syncs in
-any order, and by one worker in theirs. With --section N replies are written
-behind so many lines too: without it, and without a sync, all are in memory
-until the input ends, some 20 bytes a line. With --interactive each line is
-answered before the next one is read, and no sync is needed: for a program that
-writes a line and waits for its reply. At a terminal serve and dump do so by
-themselves, with a prompt, which has the words help and quit.
+any order, but those of one key in the order of their lines. With --section N
+replies are written behind so many lines too: without it, and without a sync,
+all are in memory until the input ends, some 20 bytes a line. With --interactive
+each line is answered before the next one is read, and no sync is needed: for a
+program that writes a line and waits for its reply. At a terminal serve and dump
+do so by themselves, with a prompt, which has the words help and quit.
 
 Sizes. The number of pages is fixed at the start, and a page has room for 14
 rows. Rows in an empty index before the first noroom, by the order of the keys,
@@ -58,7 +58,7 @@ it, and has as many pages; the file stays as it is.
 
 Examples:
   printf 'insert 5 50\\nsync\\nfind 5\\n' | blink serve
-  printf 'insert 5 50\\nfind 5\\n' | blink serve --workers 1
+  printf 'insert 5 50\\nfind 5\\n' | blink serve
   blink serve --pages 65536 --workers 8 --stats <requests >replies
   blink serve --section 10000 <requests >replies
   blink serve --image index.image <requests >replies

@@ -17,7 +17,7 @@ use Rattle.bl_serve.specs.declared.section_reader.SectionEnd.TheVariants as sect
 use Rattle.bl_model.specs.History.{IsLegalFrom, final_map}
 use Rattle.bl_model.proofs.Histories.{legal_append, legal_rest}
 use Rattle.bl_serve_lines.specs.Lines.{Line, IsLine, Answer, entries, input_of, output_of, rest_text, text_of, HasNoLf}
-use Rattle.bl_serve_lines.specs.Served.{Section, IsSection, IsFinished, HasNoEndInside, Interleaves, lines_of, malformed_of, syncs_of, one_if_any, Served, Stopped, Stops, Leaves, ComesFrom}
+use Rattle.bl_serve_lines.specs.Served.{Section, IsSection, IsFinished, HasNoEndInside, Interleaves, on_key, lines_of, malformed_of, syncs_of, one_if_any, Served, Stopped, Stops, Leaves, ComesFrom}
 use Rattle.bl_serve_lines.specs.Served.Interleaves.{Done, Takes}
 use Rattle.bl_serve_lines.specs.Served as served
 use Rattle.bl_serve.specs.Reading.{AskNoEnd, AskEndLast, ReadsLines}
@@ -81,7 +81,7 @@ module _ (pages : ℕ) (unread left : List ℕ) (asked : List (Option Request)) 
   the_are = are_lines pages asked r.texts h.answers r.each h.each
 
   whole_section : IsSection pages (section_of the_lines more)
-  whole_section = record { lines = the_are.good; history = subst (λ (z : List (List Entry)). Interleaves z (history_of more)) (sym the_are.entries_are) h.interleaves }
+  whole_section = record { lines = the_are.good; history = subst (λ (z : List (List Entry)). Interleaves z (history_of more)) (sym the_are.entries_are) h.interleaves; order = λ key. h.order key ∙ ap (on_key key) (sym the_are.all_entries) }
 
   read_is : unread ≡ input_of the_lines ++ rest ++ left
   read_is = r.read ∙ ap (λ (z : List ℕ). z ++ rest ++ left) (sym the_are.input)
@@ -201,7 +201,7 @@ stops_inside how pages first old now before input output ahead fault ReaderFaile
     begun = [];
     unwritten = [];
     each = p.each;
-    whole = record { lines = All-nil (IsLine pages); history = Done [] (All-nil (λ (list : List Entry). list ≡ [])) };
+    whole = record { lines = All-nil (IsLine pages); history = Done [] (All-nil (λ (list : List Entry). list ≡ [])); order = λ key. refl };
     open_lines = no_end_any how [] (no_end_none how);
     cut = All-nil (λ b. b ≢ 10);
     legal = subst (IsLegalFrom (map_after first old)) (sym (append-nil (served.history_of p.sections))) (legal_so_far first old now (served.history_of p.sections) seen p.more p.begins p.history);
@@ -264,7 +264,7 @@ stops_reading how pages first old now before input output unread left rest asked
     let quiet = no_end_lines how pages asked r.texts l.answers r.each l.each no_end in (
       subst (λ o. Stopped how pages (map_after first old) (input ++ unread) o Read) (append-nil output)
           (stopped how pages first old now before input output unread left rest [] _ Read p last
-          (record { lines = are.good; history = subst (λ (z : List (List Entry)). Interleaves z (flat_map entries l.answers)) (sym are.entries_are) (interleaves_all l.answers) })
+          (record { lines = are.good; history = subst (λ (z : List (List Entry)). Interleaves z (flat_map entries l.answers)) (sym are.entries_are) (interleaves_all l.answers); order = λ key. ap (on_key key) (sym are.all_entries) })
           (no_end_any how lines quiet) r.cut (legal_append (map_after first old) (served.history_of s) (flat_map entries l.answers) so_far l.legal)
           (r.read ∙ ap (λ (z : List ℕ). z ++ rest ++ left) (sym are.input)) refl (refl, none, quiet)),
       failed,

@@ -1,6 +1,6 @@
 -- A section that is read and answered in chunks: two chunks that follow each other are one.
 use Rattle.std.proofs.Common.{◌≡◌, ◌≢◌, ℕ, suc, ◌+◌, ◌≤◌, ◌<◌, ◌^◌, ◌-◌, List, [], ◌∷◌, ◌++◌, length, map, refl, sym, ap, ◌∙◌, subst, append_assoc, append-nil, arith, length-append, inl, inr}
-use Rattle.std.specs.Prelude.{All, Option, Some, Result, Ok, Err, is_none, cond, min}
+use Rattle.std.specs.Prelude.{All, flat_map, Option, Some, Result, Ok, Err, is_none, cond, min}
 use Rattle.std.proofs.lemmas.List.{map-append}
 use Rattle.std.proofs.lemmas.List.Concat.{flat_map-append}
 use Rattle.std.proofs.lemmas.List.Sums.{sum_by-append}
@@ -14,7 +14,8 @@ use Rattle.bl_serve_lines.specs.declared.serving.ServeFault.{ServeFault}
 use Rattle.bl_serve_lines.specs.declared.serving.ServeFault.TheVariants.{Read, Write, Memory, Lost}
 use Rattle.bl_serve_lines.specs.declared.serving.Totals.{Totals}
 use Rattle.bl_serve_lines.specs.Lines.{entries}
-use Rattle.bl_serve_lines.specs.Served.{Interleaves, IsShort, after_lines}
+use Rattle.bl_serve_lines.specs.Served.{Interleaves, IsShort, after_lines, on_key}
+use Rattle.bl_serve_lines.proofs.Keys.{on_key_append}
 use Rattle.bl_serve_lines.proofs.Sections.{short_then}
 use Rattle.bl_serve_lines.specs.Served.Interleaves.{Done, Takes}
 use Rattle.bl_claims.specs.Trails.{Trail, history_of}
@@ -114,6 +115,8 @@ held_then pages done xs ys text text' more more' a b = record {
       ∙ sym (text_append (suc done) a.answers b.answers)));
   interleaves = subst (λ (z : List (List Entry) × List Entry). Interleaves z.0 z.1) (λ i. (sym (map-append entries a.answers b.answers) i, sym (history_append more more') i))
       (interleaves_then a.interleaves (map entries b.answers) (history_of more') b.interleaves);
+  order = λ key. ap (on_key key) (history_append more more') ∙ (on_key_append key (history_of more) (history_of more') ∙ ((λ i. a.order key i ++ b.order key i)
+      ∙ (sym (on_key_append key (flat_map entries a.answers) (flat_map entries b.answers)) ∙ ap (on_key key) (sym (flat_map-append entries a.answers b.answers)))));
 }
 
 pub serves_nothing : (index : Index) (done : ℕ) (olds : List Pass) → AreTogether index (seen_by olds) olds → ServesSection index done [] Finished [] olds olds
@@ -121,7 +124,7 @@ serves_nothing index done olds t = record {
   answers = [];
   holds = record {
     more = [];
-    held = record { answers = []; each = tt; prints = refl; interleaves = Done [] (All-nil (λ (list : List Entry). list ≡ [])) };
+    held = record { answers = []; each = tt; prints = refl; interleaves = Done [] (All-nil (λ (list : List Entry). list ≡ [])); order = λ key. refl };
     together = subst (λ (z : Trail). AreTogether index z olds) (sym (append-nil (seen_by olds))) t;
   };
   ends = refl;

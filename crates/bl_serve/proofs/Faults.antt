@@ -179,7 +179,7 @@ module _ (how : Sectioning) (index : Index) (seen : Trail) (before : Totals) (as
 
 pub serves_no_more : (how : Sectioning) (pages : ℕ) (first : List (Option Page)) (old now : Trail) (totals : Totals) (input output left : List ℕ) (AtEnd : Type 0) → Progress how pages old now totals input output → IsLinearizable first now → 2 ^ 64 - 1 ≤ totals.requests → AtLast how pages first old now input output left left [] totals AtEnd
 serves_no_more how pages first old now totals input output left AtEnd p seen many =
-    let none : Held pages totals.requests [] [] [] = record { answers = []; each = tt; prints = refl; interleaves = Done [] (All-nil (λ (list : List Entry). list ≡ [])) } in
+    let none : Held pages totals.requests [] [] [] = record { answers = []; each = tt; prints = refl; interleaves = Done [] (All-nil (λ (list : List Entry). list ≡ [])); order = λ key. refl } in
     let r : ReadsLines left left [] [] = record { texts = []; each = tt; cut = All-nil (λ b. b ≢ 10); read = refl } in
     let counts : CountsSection totals totals [] section_end.Finished = record { requests = omega arith; malformed = omega arith; sections = omega arith } in
     let v = serves_end how pages first old now totals totals input output left left [] [] [] [] section_end.Finished p r (asks_none how) none counts (ends_finished [] refl) (subst (IsLinearizable first) (sym (append-nil now)) seen) in record {

@@ -92,7 +92,7 @@ holds index done lines text olds news met some t r m =
     let within : AreWithin (length r.taken) m.seen = subst (λ (z : ℕ). AreWithin z m.seen) (sym (count ∙ t.count)) (all_within index m.seen 0 met (omega (arith, long)) parts.0) in
     let s = section first (pages_of index) (suc done) lines text olds news old m.seen r on seen within parts.1 in record {
       more = s.more;
-      held = record { answers = r.answers; each = r.each; prints = r.prints; interleaves = s.interleaves };
+      held = record { answers = r.answers; each = r.each; prints = r.prints; interleaves = s.interleaves; order = s.order };
       together = subst (λ (z : Trail). AreTogether index z met) s.on (record { count = long ∙ t.count; each = parts.0; may_be = seen });
     }
 

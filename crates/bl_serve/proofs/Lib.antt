@@ -1,7 +1,9 @@
 pub mod Weaving
 pub mod Pieces
-pub mod Losing
-pub mod Chaining
+pub mod Deals
+pub mod Merging
+pub mod Hands
+pub mod Keeping
 pub mod Shares
 pub mod Sections
 pub mod Together

@@ -8,7 +8,7 @@ use Rattle.bl_model.specs.History.{IsLegalFrom, entries_of_pass}
 use Rattle.bl_model.proofs.Histories.{entries_of_pass-append}
 use Rattle.bl_serve_lines.specs.declared.request.Request.{Request}
 use Rattle.bl_serve_lines.specs.Lines.{Answer, entries}
-use Rattle.bl_serve_lines.specs.Served.{Interleaves}
+use Rattle.bl_serve_lines.specs.Served.{Interleaves, on_key}
 use Rattle.bl_page.specs.declared.page.Page.{Page}
 use Rattle.bl_page.specs.Machine.{Name}
 use Rattle.bl_claims.specs.Trails.{Said, Trail, entries_at, history_of}
@@ -65,6 +65,7 @@ pub record GoesOnBy (first : List (Option Page)) (old new : Trail) (answers : Li
   pub on : new ≡ old ++ more
   pub history : history_of new ≡ history_of old ++ history_of more
   pub interleaves : Interleaves (map entries answers) (history_of more)
+  pub order : (key : ℕ) → on_key key (history_of more) ≡ on_key key (flat_map entries answers)
   pub legal : IsLegalFrom (first_map first) (history_of new)
 
 pub section : (first : List (Option Page)) (pages number : ℕ) (lines : List (Option Request)) (text : List ℕ) (olds news : List _) (old new : Trail) (r : IsChunk first pages number lines text olds news) → GoesOnFrom old new → IsLinearizable first new → AreWithin (length r.taken) new → FitsFrom old new 0 r.taken → GoesOnBy first old new r.answers
@@ -78,5 +79,6 @@ section first pages number lines text olds news old new r on seen within fits =
       on = on.1;
       history = ap history_of on.1 ∙ history_append old more;
       interleaves = r.weaves (history_of more) c;
+      order = r.keeps (history_of more) c;
       legal = seen.legal;
     }

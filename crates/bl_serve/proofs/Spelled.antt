@@ -92,6 +92,7 @@ count_cons test a l = grind (arith, common_steps)
 pub record AreLines (pages : ℕ) (asked : List (Option Request)) (texts : List (List ℕ)) (answers : List Answer) : Type 0 where
   pub good : All (IsLine pages) (lines_with texts answers)
   pub entries_are : map (λ line. entries line.answer) (lines_with texts answers) ≡ map entries answers
+  pub all_entries : flat_map (λ line. entries line.answer) (lines_with texts answers) ≡ flat_map entries answers
   pub input : input_of (lines_with texts answers) ≡ bytes_of texts
   pub output : (n : ℕ) → answers_text n answers ≡ output_of n (lines_with texts answers)
   pub long : length (lines_with texts answers) ≡ length asked
@@ -99,7 +100,7 @@ pub record AreLines (pages : ℕ) (asked : List (Option Request)) (texts : List 
   pub syncs : sum_by (λ line. syncs_of line.answer) (lines_with texts answers) ≡ count_by is_sync asked
 
 pub are_lines : (pages : ℕ) (asked : List (Option Request)) (texts : List (List ℕ)) (answers : List Answer) → AllZip IsReadAs asked texts → AllZip (IsFor pages) asked answers → AreLines pages asked texts answers
-are_lines pages [] [] [] h k = record { good = All-nil (IsLine pages); entries_are = refl; input = refl; output = λ n. refl; long = refl; malformed = refl; syncs = refl }
+are_lines pages [] [] [] h k = record { good = All-nil (IsLine pages); entries_are = refl; all_entries = refl; input = refl; output = λ n. refl; long = refl; malformed = refl; syncs = refl }
 are_lines pages [] [] (answer ∷ answers) h k = absurd k
 are_lines pages [] (text ∷ texts) answers h k = absurd h
 are_lines pages (a ∷ asked) [] answers h k = absurd h
@@ -107,6 +108,7 @@ are_lines pages (a ∷ asked) (text ∷ texts) [] h k = absurd k
 are_lines pages (a ∷ asked) (text ∷ texts) (answer ∷ answers) h k = let r = are_lines pages asked texts answers h.1 k.1 in let line : Line = record { bytes = text; answer = answer } in record {
   good = All-cons (IsLine pages) line (lines_with texts answers) (record { cut = h.0.cut; fits = fits_one k.0 text h.0.means }) r.good;
   entries_are = ap (λ (z : List (List Entry)). entries answer ∷ z) r.entries_are;
+  all_entries = flat_map-cons (λ (l : Line). entries l.answer) line (lines_with texts answers) ∙ (ap (λ (z : List Entry). entries answer ++ z) r.all_entries ∙ sym (flat_map-cons entries answer answers));
   input = flat_map-cons (λ (l : Line). l.bytes ++ 10 ∷ []) line (lines_with texts answers) ∙ (ap (λ (z : List ℕ). (text ++ 10 ∷ []) ++ z) r.input ∙ sym (flat_map-cons (λ (t : List ℕ). t ++ 10 ∷ []) text texts));
   output = λ n. ap (λ (z : List ℕ). numbered n (answer_text answer) ++ z) (r.output (suc n));
   long = ap suc r.long;

@@ -1,42 +1,36 @@
--- The output of batches that follow each other.
-use Rattle.std.specs.Prelude.{◌≡◌, ◌≢◌, ℕ, ◌+◌, ◌<◌, ◌≤◌, ◌&&◌, Bool, leb, ltb, List, [], ◌∷◌, flat_map, count_by}
+-- The outputs of shares, and the replies in the order of the lines.
+use Rattle.std.specs.Prelude.{◌≡◌, ◌≢◌, ℕ, ◌+◌, ◌<◌, ◌==◌, List, map, length, sum, slice_index, count_by}
 use Rattle.bl_serve_lines.specs.declared.serving.ServeFault.{ServeFault}
 use Rattle.bl_serve_lines.specs.declared.serving.ServeFault.TheVariants.{Read, Write, Memory, Lost}
-use Rattle.bl_serve_worker.specs.declared.chunk.BatchOutput.{BatchOutput}
+use Rattle.bl_serve_lines.specs.Dealt.{dealt}
+use Rattle.bl_serve_worker.specs.declared.chunk.ShareOutput.{ShareOutput}
+use Rattle.bl_serve_worker.specs.Answering.{joined_text}
 
--- each begins where the one before it ends, the first at from, and the last ends at upto; none is empty
-abbrev pub Chains : ℕ → ℕ → List BatchOutput → Type 0
-Chains from upto [] = from ≡ upto
-Chains from upto (w ∷ ws) = (w.from ≡ from) × (w.from < w.upto) × Chains w.upto upto ws
+-- it has a reply for each line of its share, and these are all of its text
+pub record IsWhole (deals : List ℕ) (w : ShareOutput) : Type 0 where
+  pub many : length w.lengths.items ≡ length (dealt w.share deals deals)
+  pub bytes : sum w.lengths.items ≡ length w.text.items
 
--- their outputs, put together
-abbrev pub joined_text : List BatchOutput → List ℕ
-joined_text ws = flat_map (λ w. w.text.items) ws
+-- of the replies to all lines it has those of its share
+pub record IsOutputOf (deals : List ℕ) (texts : List (List ℕ)) (w : ShareOutput) : Type 0 where
+  pub text : w.text.items ≡ joined_text (dealt w.share deals texts)
+  pub cuts : w.lengths.items ≡ map length (dealt w.share deals texts)
 
--- the batch has a line, and is one of the first so many lines
-pub record IsWithin (count : ℕ) (w : BatchOutput) : Type 0 where
-  pub order : w.from < w.upto
-  pub within : w.upto ≤ count
+-- how many of the outputs are of that share
+abbrev pub times : ℕ → List ShareOutput → ℕ
+times share outputs = count_by (λ w. w.share == share) outputs
 
--- the batch has the line at that place
-abbrev pub has : ℕ → BatchOutput → Bool
-has place w = leb w.from place && ltb place w.upto
-
--- how many of the batches have it
-abbrev pub times : ℕ → List BatchOutput → ℕ
-times place ws = count_by (has place) ws
-
--- The number is that of the least line that the batches do not have exactly once, of so many lines behind those that are done.
-pub record IsLeastLost (ws : List BatchOutput) (done count number : ℕ) : Type 0 where
+-- The number is that of the first line whose share the outputs do not have exactly once, behind so many lines that are done.
+pub record IsLeastLost (outputs : List ShareOutput) (deals : List ℕ) (done number : ℕ) : Type 0 where
   pub place : ℕ
   pub is : number ≡ done + 1 + place
-  pub within : place < count
-  pub once : (i : ℕ) → i < place → times i ws ≡ 1
-  pub not_once : times place ws ≢ 1
+  pub within : place < length deals
+  pub once : (i : ℕ) → i < place → times (slice_index deals i) outputs ≡ 1
+  pub not_once : times (slice_index deals place) outputs ≢ 1
 
 -- where the fault says that a line was lost, it names that line
-abbrev pub NamesLost : List BatchOutput → ℕ → ℕ → ServeFault → Type 0
-NamesLost ws done count Read = Unit {0}
-NamesLost ws done count Write = Unit {0}
-NamesLost ws done count Memory = Unit {0}
-NamesLost ws done count (Lost number) = IsLeastLost ws done count number
+abbrev pub NamesLost : List ShareOutput → List ℕ → ℕ → ServeFault → Type 0
+NamesLost outputs deals done Read = Unit {0}
+NamesLost outputs deals done Write = Unit {0}
+NamesLost outputs deals done Memory = Unit {0}
+NamesLost outputs deals done (Lost number) = IsLeastLost outputs deals done number

@@ -1,3 +1,4 @@
+pub mod Dealing
 pub mod Joining
 pub mod Chunks
 pub mod Meetings

@@ -1,5 +1,5 @@
 -- Sections that are answered and counted.
-use Rattle.std.specs.Prelude.{◌≡◌, ℕ, suc, ◌+◌, map, List, [], Bool, true, false, Option, Some, length, is_none, count_by, codes}
+use Rattle.std.specs.Prelude.{◌≡◌, ℕ, suc, ◌+◌, map, flat_map, List, [], Bool, true, false, Option, Some, length, is_none, count_by, codes}
 use Rattle.std.specs.List.{AllZip}
 use Rattle.bl_serve_lines.specs.declared.request.Request.{Request}
 use Rattle.bl_serve_lines.specs.declared.request.Request.TheVariants.{Sync}
@@ -8,7 +8,7 @@ use Rattle.bl_serve.specs.declared.section_reader.SectionEnd.{SectionEnd}
 use Rattle.bl_serve.specs.declared.section_reader.SectionEnd.TheVariants.{ByLine, Rest, Finished}
 use Rattle.bl_serve_lines.specs.Text.{numbered}
 use Rattle.bl_serve_lines.specs.Lines.{Answer, entries}
-use Rattle.bl_serve_lines.specs.Served.{Interleaves}
+use Rattle.bl_serve_lines.specs.Served.{Interleaves, on_key}
 use Rattle.bl_claims.specs.Trails.{Trail, history_of}
 use Rattle.bl_serve_worker.specs.Answering.{IsFor, answers_text}
 
@@ -30,12 +30,13 @@ end_text Rest n = numbered n (codes "malformed")
 end_text Finished n = []
 
 -- The lines were answered after so many others by an index of so many pages, the text prints the answers, and more has their entries and no others: those of
--- one line in their order, in any order otherwise.
+-- one line in their order, the operations on one key in the order of the lines, in any order otherwise.
 pub record Held (pages done : ℕ) (asked : List (Option Request)) (text : List ℕ) (more : Trail) : Type 0 where
   pub answers : List Answer
   pub each : AllZip (IsFor pages) asked answers
   pub prints : text ≡ answers_text (suc done) answers
   pub interleaves : Interleaves (map entries answers) (history_of more)
+  pub order : (key : ℕ) → on_key key (history_of more) ≡ on_key key (flat_map entries answers)
 
 -- new is old with the lines of a section
 pub record CountsSection (old new : Totals) (asked : List (Option Request)) (end : SectionEnd) : Type 0 where

@@ -1,4 +1,4 @@
-//! A chunk of a section is answered: its batches are given out, threads work on them, and all are joined.
+//! A chunk of a section is answered: its lines are dealt into shares, threads work on them, and all are joined.
 
 ghost use Rattle.std.specs.Prelude.{◌≡◌, ℕ, List, suc, ◌+◌, ◌<◌, ◌≤◌, ◌^◌, ◌++◌, true, false, length, All, IfOk, IfErr, OnOk, vec_len};
 ghost use Rattle.bl_index.specs.Calls.{first_of, pages_of};
@@ -11,6 +11,7 @@ ghost use Rattle.bl_serve.specs.Reading.{ReadsOn};
 ghost use Rattle.bl_serve.specs.Chunks.{IsChunk, Collects, WorkOn};
 ghost use Rattle.bl_serve.specs.Serving.{AreMet, HoldsSection, IsInside};
 
+use crate::dealing::{deal, shares_for};
 use crate::joining::join_outputs;
 use crate::meeting::meet_all;
 use crate::parsed_lines::ParsedLines;
@@ -20,18 +21,12 @@ use bl_index::Index;
 use bl_map::Handle;
 use bl_model::Watched;
 use bl_serve_lines::ServeFault;
-use bl_serve_worker::{Batch, BatchOutput, Chunk, Gate, Role, Service, Slot, Wakeup, work_on};
+use bl_serve_worker::{Chunk, Gate, Role, Service, ShareOutput, Slot, Wakeup, work_on};
 use crossbeam_channel::{Receiver, unbounded};
 use std::alloc::{AllocError, Global};
 use std::io::Read;
 use std::sync::Wait;
 use std::thread::{Threads, join_mut};
-
-/// How many lines a batch has at most.
-const LONGEST: usize = 256;
-
-/// How many lines it has at least, but for the first batches and the last one.
-const SHORTEST: usize = 16;
 
 /// A thread takes as long to start and to join as so many requests take, about.
 const REQUESTS_A_THREAD: usize = 512;
@@ -39,37 +34,15 @@ const REQUESTS_A_THREAD: usize = 512;
 /// With so many requests, deletions among them, compressors work beside the workers.
 const MANY: usize = 4096;
 
-/// How many lines the next batch has, of so many that are left. The first batches have one line each, so that each worker has one
-/// soon; the others become shorter towards the end, so that all workers end together.
-fn size_of(from: usize, left: usize, workers: usize) -> usize
-    ensures { result ≤ left }
+/// Shares of so many lines, one after another, in a channel that takes no more.
+fn given_out<R: Wait>(rt: &R, alloc: Global, shares: usize) -> Result<Receiver<u8>, AllocError>
+    requires { shares ≤ 256 }
 {
-    let size = if from < workers {
-        1
-    } else {
-        (left / 2 / workers.max(1)).max(SHORTEST).min(LONGEST)
-    };
-    size.min(left)
-}
-
-/// Batches of so many lines for so many workers, in a channel that takes no more.
-fn batches<R: Wait>(
-    rt: &R,
-    alloc: Global,
-    count: usize,
-    workers: usize,
-) -> Result<Receiver<Batch>, AllocError> {
     let (sender, receiver) = unbounded(alloc)?;
-    let mut from = 0;
-    for _ in 0..count {
-        if from >= count {
-            break;
-        }
-        let upto = from + size_of(from, count - from, workers);
-        if sender.send(rt, Batch { from, upto }).is_err() {
+    for share in 0..shares {
+        if sender.send(rt, share as u8).is_err() {
             return Err(AllocError);
         }
-        from = upto;
     }
     Ok(receiver)
 }
@@ -127,7 +100,7 @@ fn work_in_turn<R: Wait, G: Gate>(
     slots: &mut [Slot],
 )
     requires { length slots.old ≡ length handles.old }
-    ensures { WorkOn (suc chunk.now.before) chunk.now.lines.now handles.old handles.new slots.new }
+    ensures { WorkOn (suc chunk.now.before) chunk.now.deals.now chunk.now.lines.now handles.old handles.new slots.new }
 {
     for number in 0..handles.len() {
         work_on(rt, chunk, &mut handles[number], &mut slots[number]);
@@ -144,7 +117,7 @@ fn work_alone<R: Wait, G: Gate, I: Read>(
     ahead: &mut ReadAhead,
 )
     requires { length slots.old ≡ length handles.old }
-    ensures turns { WorkOn (suc chunk.now.before) chunk.now.lines.now handles.old handles.new slots.new }
+    ensures turns { WorkOn (suc chunk.now.before) chunk.now.deals.now chunk.now.lines.now handles.old handles.new slots.new }
     ensures reads { ReadsOn ahead.old ahead.new (I.remaining reader.old.inner) (I.remaining reader.new.inner) (reader.new.failed ≡ true) }
 {
     read_on(reader, ahead);
@@ -166,7 +139,7 @@ fn work_abreast<R: Threads + Wait + Sync, G: Gate + Sync, I: Read>(
     ahead: &mut ReadAhead,
 ) -> Result<(), AllocError>
     requires { length slots.old ≡ vec_len handles.old }
-    ensures turns { OnOk result (WorkOn (suc chunk.now.before) chunk.now.lines.now handles.old.items handles.new.items slots.new) }
+    ensures turns { OnOk result (WorkOn (suc chunk.now.before) chunk.now.deals.now chunk.now.lines.now handles.old.items handles.new.items slots.new) }
     ensures reads { ReadsOn ahead.old ahead.new (I.remaining reader.old.inner) (I.remaining reader.new.inner) (reader.new.failed ≡ true) }
 {
     let place = last_share(slots.len(), threads);
@@ -183,11 +156,11 @@ fn work_abreast<R: Threads + Wait + Sync, G: Gate + Sync, I: Read>(
         rt,
         &mut ||
             requires { length theirs.now ≡ vec_len some }
-            ensures { WorkOn (suc chunk.entry.now.before) chunk.entry.now.lines.now some.entry.items some.exit.items theirs.exit.now }
+            ensures { WorkOn (suc chunk.entry.now.before) chunk.entry.now.deals.now chunk.entry.now.lines.now some.entry.items some.exit.items theirs.exit.now }
         { work_in_turn(rt, chunk, some.as_mut_slice(), theirs) },
         &mut ||
             requires { IsSync R.row × IsSync G.row × (length rest.now ≡ vec_len handles.now) }
-            ensures turns { OnOk result (WorkOn (suc chunk.entry.now.before) chunk.entry.now.lines.now
+            ensures turns { OnOk result (WorkOn (suc chunk.entry.now.before) chunk.entry.now.deals.now chunk.entry.now.lines.now
                 handles.entry.now.items handles.exit.now.items rest.exit.now) }
             ensures reads { ReadsOn ahead.entry.now ahead.exit.now (I.remaining reader.entry.now.inner) (I.remaining reader.exit.now.inner)
                 (reader.exit.now.failed ≡ true) }
@@ -208,7 +181,7 @@ fn work_abreast<R: Threads + Wait + Sync, G: Gate + Sync, I: Read>(
 }
 
 /// The outputs in a slot go behind the rest, if there was memory for all of them.
-fn take_outputs(slot: &mut Slot, outputs: &mut Vec<BatchOutput>) -> Result<(), AllocError>
+fn take_outputs(slot: &mut Slot, outputs: &mut Vec<ShareOutput>) -> Result<(), AllocError>
     ensures { OnOk result ((slot.old.failed ≡ false) × (outputs.new.items ≡ outputs.old.items ++ slot.old.log.items)) }
 {
     if slot.failed {
@@ -218,7 +191,7 @@ fn take_outputs(slot: &mut Slot, outputs: &mut Vec<BatchOutput>) -> Result<(), A
 }
 
 /// The outputs in all slots.
-fn collect_outputs(alloc: Global, slots: &mut Vec<Slot>) -> Result<Vec<BatchOutput>, AllocError>
+fn collect_outputs(alloc: Global, slots: &mut Vec<Slot>) -> Result<Vec<ShareOutput>, AllocError>
     ensures len { vec_len slots.new ≡ vec_len slots.old }
     ensures collects { IfOk result (λ outputs. Collects slots.old.items outputs.items) }
 {
@@ -255,23 +228,27 @@ fn answer_chunk<'a, 'b, R: Threads + Wait + Sync, G: Gate + Sync, I: Read>(
         totals,
         mut text,
     } = session;
-    let count = lines.len();
-    let batches = batches(rt, service.alloc, count, plan.workers)?;
+    let (alloc, before) = (service.alloc, totals.requests);
+    let threads = threads_for(lines, plan, handles.len());
+    let shares = shares_for(lines.len(), threads.min(plan.workers));
+    let deals = deal(alloc, lines.as_slice(), shares)?;
+    let receiver = given_out(rt, alloc, shares)?;
     let wakeup = Wakeup::new(plan.workers as u64);
     // Lent anew, for as long as the chunk is there.
     let chunk = Chunk {
         service: &*service,
         wakeup: &wakeup,
-        batches: &batches,
+        shares: &receiver,
         lines: lines.as_slice(),
-        before: totals.requests,
+        deals: deals.as_slice(),
+        before,
         last: ahead.is_last,
     };
-    let threads = threads_for(lines, plan, handles.len());
     let places = slots.as_mut_slice();
     work_abreast(rt, &chunk, threads, &mut handles, places, reader, ahead)?;
-    let outputs = collect_outputs(service.alloc, &mut slots)?;
-    join_outputs(outputs, totals.requests, count, &mut text)?;
+    let outputs = collect_outputs(alloc, &mut slots)?;
+    let dealt = deals.as_slice();
+    join_outputs(alloc, outputs, dealt, shares, before, &mut text)?;
     Ok(Session {
         plan,
         handles,

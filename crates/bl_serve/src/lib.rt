@@ -1,13 +1,14 @@
 //! The server with workers and compressors.
 //!
 //! The input is read section by section, up to each `sync` or line by line, as is wanted, and a section in chunks of some thousand
-//! lines. A chunk's lines are shared by threads that each have a handle of the index (`bl_serve_worker`): workers take batches of lines
-//! from a channel and answer them, and compressors follow the hints that the workers leave. One of the threads first reads the lines of
+//! lines. A chunk's lines are shared by threads that each have a handle of the index (`bl_serve_worker`): workers take shares of them
+//! from a channel, each with all lines of its keys, and answer them, and compressors follow the hints that the workers leave. One of the threads first reads the lines of
 //! the next chunk. When all have ended, the answers are put in the order of their lines. They are written when the section has ended, and
 //! only then is the next section read. An index of the server's own begins without rows or with those of a sound image.
 #![tactic(auto)]
 
 mod chunks;
+mod dealing;
 mod dumping;
 mod joining;
 mod meeting;

@@ -1,5 +1,5 @@
 -- Worked examples of the definitions.
-use Rattle.std.proofs.Common.{◌≡◌, List, [], ◌∷◌, codes, decimal, get_or, refl, ap, ◌∙◌, lit<, lit≤, Some, None, arith}
+use Rattle.std.proofs.Common.{◌≡◌, ℕ, List, [], ◌∷◌, codes, decimal, get_or, refl, ap, ◌∙◌, lit<, lit≤, Some, None, arith}
 use Rattle.std.proofs.lemmas.Fmt.{decimal_digit}
 use Rattle.std.proofs.lemmas.List.Elements.{All-nil, All-cons}
 use Rattle.bl_model.specs.declared.operation.Op.TheVariants.{Find, Insert, Change, Part, PartDown}
@@ -11,7 +11,7 @@ use Rattle.bl_model.specs.History.{IsLegalFrom}
 use Rattle.bl_serve_lines.specs.declared.request.Request.TheVariants.{Ask, Scan, Sync}
 use Rattle.bl_serve_lines.specs.Text.{Spells}
 use Rattle.bl_serve_lines.specs.Lines.{Line, AreParts, ArePartsDown, Fits, Replied, Scanned, ScannedDown, Stated, Synced, key_below, answer_text, input_of, output_of, rest_text, text_of}
-use Rattle.bl_serve_lines.specs.Served.{Interleaves}
+use Rattle.bl_serve_lines.specs.Served.{Interleaves, on_key}
 use Rattle.bl_serve_lines.specs.Served.Interleaves.{Done, Takes}
 
 abbrev inserted : Entry
@@ -20,9 +20,9 @@ inserted = record { pass = 0; op = Insert 1 5; reply = Inserted }
 abbrev found : Entry
 found = record { pass = 0; op = Find 1; reply = Found 5 }
 
--- with two workers, the find of the second line may come first
+-- with two workers, the find of the second line may come first, if it is of another key
 abbrev missed : Entry
-missed = record { pass = 1; op = Find 1; reply = Absent }
+missed = record { pass = 1; op = Find 2; reply = Absent }
 
 find_first_is_legal : IsLegalFrom empty (missed ∷ inserted ∷ [])
 find_first_is_legal = (refl, (refl, tt))
@@ -30,6 +30,17 @@ find_first_is_legal = (refl, (refl, tt))
 find_first_interleaves : Interleaves ((inserted ∷ []) ∷ (missed ∷ []) ∷ []) (missed ∷ inserted ∷ [])
 find_first_interleaves = Takes ((inserted ∷ []) ∷ []) missed [] [] (inserted ∷ []) (Takes [] inserted [] ([] ∷ []) []
     (Done ([] ∷ [] ∷ []) (All-cons (λ list. list ≡ []) [] ([] ∷ []) refl (All-cons (λ list. list ≡ []) [] [] refl (All-nil (λ list. list ≡ []))))))
+
+-- one of the same key may not
+abbrev too_soon : Entry
+too_soon = record { pass = 1; op = Find 1; reply = Absent }
+
+find_too_soon : ((key : ℕ) → on_key key (too_soon ∷ inserted ∷ []) ≡ on_key key (inserted ∷ too_soon ∷ [])) → ⊥
+find_too_soon order = let e = ap first_pass (order 1) in omega (arith, e)
+  where
+    first_pass : List Entry → ℕ
+    first_pass [] = 0
+    first_pass (e ∷ es) = e.pass
 
 one : decimal 1 ≡ codes "1"
 one = decimal_digit 1 (lit< tt)

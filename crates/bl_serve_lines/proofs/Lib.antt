@@ -5,3 +5,5 @@ pub mod Known
 mod Cuts
 pub mod Sections
 mod LineOrder
+pub mod Keys
+pub mod Dealing

@@ -3,3 +3,4 @@ pub mod Lines
 pub mod Served
 pub mod Streams
 pub mod Options
+pub mod Dealt

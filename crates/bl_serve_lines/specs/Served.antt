@@ -1,6 +1,8 @@
 -- What is written for what is read.
-use Rattle.std.specs.Prelude.{◌≡◌, ◌≢◌, ◌==◌, ◌⊎◌, ℕ, ◌+◌, ◌-◌, ◌<◌, ◌≤◌, suc, List, [], ◌∷◌, ◌++◌, All, flat_map, map, length, sum_by, count_by}
+use Rattle.std.specs.Prelude.{◌≡◌, ◌≢◌, ◌==◌, ◌⊎◌, ℕ, ◌+◌, ◌-◌, ◌<◌, ◌≤◌, suc, Bool, false, filter, List, [], ◌∷◌, ◌++◌, All, flat_map, map, length, sum_by, count_by}
 use Rattle.bl_model.specs.declared.operation.Entry.{Entry}
+use Rattle.bl_model.specs.declared.operation.Op.{Op}
+use Rattle.bl_model.specs.declared.operation.Op.TheVariants.{Find, Insert, Put, Delete, Change, Part, PartDown}
 use Rattle.bl_model.specs.Map.{Map}
 use Rattle.bl_model.specs.History.{IsLegalFrom}
 use Rattle.bl_serve_lines.specs.declared.serving.Sectioning.{Sectioning}
@@ -16,14 +18,30 @@ pub data Interleaves : List (List Entry) → List Entry → Type 0 where
   Takes : (before : List (List Entry)) (e : Entry) (list : List Entry) (after : List (List Entry)) (history : List Entry)
       → Interleaves (before ++ list ∷ after) history → Interleaves (before ++ (e ∷ list) ∷ after) (e ∷ history)
 
+-- the operation is on that key alone
+abbrev pub is_on : ℕ → Op → Bool
+is_on key (Find k) = k == key
+is_on key (Insert k value) = k == key
+is_on key (Put k value) = k == key
+is_on key (Delete k) = k == key
+is_on key (Change k old new) = k == key
+is_on key (Part from) = false
+is_on key (PartDown from) = false
+
+-- the operations on that key, in their order
+abbrev pub on_key : ℕ → List Entry → List Entry
+on_key key history = filter (λ e. is_on key e.op) history
+
 -- a section: its lines, and its part of the history
 pub record Section : Type 0 where
   pub lines : List Line
   pub history : List Entry
 
+-- The history has the entries of the lines, those of a line in their order; and the operations on one key are in it in the order of the lines.
 pub record IsSection (pages : ℕ) (section : Section) : Type 0 where
   pub lines : All (IsLine pages) section.lines
   pub history : Interleaves (map (λ line. entries line.answer) section.lines) section.history
+  pub order : (key : ℕ) → on_key key section.history ≡ on_key key (flat_map (λ line. entries line.answer) section.lines)
 
 -- a line with that answer, the last one of so many in a section, ends it: a sync does, and the last one of as many as there may be
 abbrev pub Ends : Sectioning → ℕ → Answer → Type 0

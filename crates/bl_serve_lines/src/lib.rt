@@ -2,8 +2,8 @@
 //! and what it counts.
 //!
 //! The definitions of what is written for what is read stand in `specs/Served.antt`, for one worker and for many: a
-//! history that is legal from the map at the start, in which the entries of a section's lines stand in any order, with
-//! sections in order, and one output line for each input line by its number. The server of `bl_serve` promises this.
+//! history that is legal from the map at the start, in which the operations of a section's lines on one key stand in the
+//! order of the lines, and all others in any order, with sections in order, and one output line for each input line by its number. The server of `bl_serve` promises this.
 #![tactic(auto)]
 
 pub mod number;

@@ -1,8 +1,8 @@
 -- Lines that are answered one after another.
-use Rattle.std.proofs.Common.{◌≡◌, ℕ, suc, ◌+◌, ◌<◌, List, [], ◌∷◌, ◌++◌, length, take, get_or, refl, sym, ap, ◌∙◌, subst, append_assoc, arith, append-nil}
-use Rattle.std.specs.Prelude.{Option, Some, None, flat_map, codes, decimal}
+use Rattle.std.proofs.Common.{◌≡◌, ℕ, suc, ◌+◌, ◌-◌, List, [], ◌∷◌, ◌++◌, length, length-append, refl, sym, ap, ◌∙◌, subst, append_assoc, arith, append-nil}
+use Rattle.std.specs.Prelude.{Option, Some, None, flat_map, map, codes, decimal}
 use Rattle.std.specs.List.{AllZip}
-use Rattle.std.proofs.lemmas.List.{flat_map_more, take_more, take_all, length-take-le}
+use Rattle.std.proofs.lemmas.List.{flat_map_more, map-append}
 use Rattle.bl_model.specs.declared.operation.Entry.{Entry}
 use Rattle.bl_model.specs.declared.operation.Op.{Op}
 use Rattle.bl_model.specs.declared.operation.Reply.{Reply}
@@ -19,7 +19,7 @@ use Rattle.bl_map.specs.Handles.{IsSameHandle, HasKeptUp, first_map_of, pages_of
 use Rattle.bl_map_calls.specs.Works.{Works}
 use Rattle.bl_map.proofs.Same.{kept_as}
 use Rattle.bl_serve_worker.specs.Answering.IsFor.{Replies, States, Syncs, Refuses}
-use Rattle.bl_serve_worker.specs.Answering.{IsFor, answers_text, AnswersLine, AnswersLines, ListsRows}
+use Rattle.bl_serve_worker.specs.Answering.{IsFor, answers_text, joined_text, replies, AnswersLine, AnswersLines, ListsRows}
 
 pub zip_append : {A B : Type 0} (R : A → B → Type 0) (xs us : List A) (ys vs : List B) → AllZip R xs ys → AllZip R us vs → AllZip R (xs ++ us) (ys ++ vs)
 zip_append R [] us [] vs h k = k
@@ -52,20 +52,32 @@ history_append (m ∷ ms) ys = ap (λ (z : List Entry). entries_at m.event.proce
 pub by_same_map : (P : List (Option Page) → ℕ → ℕ → Type 0) (a b : Handle) → IsSameHandle a b → P (first_map_of b) (pages_of_map b) (number_of_seat b) → P (first_map_of a) (pages_of_map a) (number_of_seat a)
 by_same_map P a b same h = subst (λ (z : List (Option Page) × ℕ × ℕ). P z.0 z.1 z.2) (λ i. (first_of (same.0 i).now, pages_of (same.0 i).now, same.1.2 i)) h
 
--- nothing is answered yet
-pub no_lines : (first : List (Option Page)) (pages pass number : ℕ) (old : Trail) → AnswersLines first pages pass number [] [] old old
-no_lines first pages pass number old = record { answers = []; each = tt; prints = refl; begins = stays old; seen = λ s. s; mine = sym (append-nil (own pass old)) }
+pub replies_long : (numbers : List ℕ) (answers : List Answer) → length answers ≡ length numbers → length (replies numbers answers) ≡ length numbers
+replies_long [] answers same = refl
+replies_long (n ∷ numbers) [] same = absurd (omega (arith, same))
+replies_long (n ∷ numbers) (answer ∷ answers) same = ap suc (replies_long numbers answers (omega (arith, same)))
 
-pub one_more : (first : List (Option Page)) (pages pass number n : ℕ) (lines : List (Option Request)) (asked : Option Request) (text more : List ℕ) (old mid new : Trail) → n ≡ number + length lines
-    → AnswersLines first pages pass number lines text old mid → AnswersLine first pages pass n asked text more mid new → AnswersLines first pages pass number (lines ++ asked ∷ []) more old new
-one_more first pages pass number n lines asked text more old mid new at a b = let long = zip_length (IsFor pages) lines a.answers a.each in
-    let at_number : n ≡ number + length a.answers = omega arith in record {
+replies_more : (numbers : List ℕ) (answers : List Answer) (n : ℕ) (answer : Answer) → length answers ≡ length numbers → replies (numbers ++ n ∷ []) (answers ++ answer ∷ []) ≡ replies numbers answers ++ numbered n (answer_text answer) ∷ []
+replies_more [] [] n answer same = refl
+replies_more [] (a ∷ answers) n answer same = absurd (omega (arith, same))
+replies_more (m ∷ numbers) [] n answer same = absurd (omega (arith, same))
+replies_more (m ∷ numbers) (a ∷ answers) n answer same = ap (λ (z : List (List ℕ)). numbered m (answer_text a) ∷ z) (replies_more numbers answers n answer (omega (arith, same)))
+
+-- nothing is answered yet
+pub no_lines : (first : List (Option Page)) (pages pass : ℕ) (text lengths : List ℕ) (old : Trail) → text ≡ [] → lengths ≡ [] → AnswersLines first pages pass [] [] text lengths old old
+no_lines first pages pass text lengths old is none = record { answers = []; each = tt; prints = is; cuts = none; begins = stays old; seen = λ s. s; mine = sym (append-nil (own pass old)) }
+
+pub one_more : (first : List (Option Page)) (pages pass n : ℕ) (numbers : List ℕ) (lines : List (Option Request)) (asked : Option Request) (text more lengths longer : List ℕ) (old mid new : Trail) → length numbers ≡ length lines → longer ≡ lengths ++ (length more - length text) ∷ []
+    → AnswersLines first pages pass numbers lines text lengths old mid → AnswersLine first pages pass n asked text more mid new → AnswersLines first pages pass (numbers ++ n ∷ []) (lines ++ asked ∷ []) more longer old new
+one_more first pages pass n numbers lines asked text more lengths longer old mid new as_many grown a b = let long = zip_length (IsFor pages) lines a.answers a.each in
+    let reply : List ℕ = numbered n (answer_text b.answer) in
+    let all : replies (numbers ++ n ∷ []) (a.answers ++ b.answer ∷ []) ≡ replies numbers a.answers ++ reply ∷ [] = replies_more numbers a.answers n b.answer (omega (arith, long, as_many)) in
+    let bytes : length more - length text ≡ length reply = let whole = ap length b.prints in let sum = length-append text reply in omega (arith, whole, sum) in record {
       answers = a.answers ++ b.answer ∷ [];
       each = zip_append (IsFor pages) lines (asked ∷ []) a.answers (b.answer ∷ []) a.each (b.is_for, tt);
-      prints = b.prints ∙ (ap (λ (z : List ℕ). z ++ numbered n (answer_text b.answer)) a.prints
-          ∙ (ap (λ (z : ℕ). answers_text number a.answers ++ numbered z (answer_text b.answer)) at_number
-          ∙ (ap (λ (z : List ℕ). answers_text number a.answers ++ z) (sym (append-nil (numbered (number + length a.answers) (answer_text b.answer))))
-          ∙ sym (text_append number a.answers (b.answer ∷ [])))));
+      prints = b.prints ∙ (ap (λ (z : List ℕ). z ++ reply) a.prints ∙ (flat_map_more (λ (z : List ℕ). z) [] (replies numbers a.answers) reply ∙ ap joined_text (sym all)));
+      cuts = grown ∙ (ap (λ (z : List ℕ). z ++ (length more - length text) ∷ []) a.cuts ∙ (ap (λ (z : ℕ). map length (replies numbers a.answers) ++ z ∷ []) bytes
+          ∙ (sym (map-append length (replies numbers a.answers) (reply ∷ [])) ∙ ap (map length) (sym all))));
       begins = goes_on old mid new a.begins b.begins;
       seen = λ s. b.seen (a.seen s);
       mine = b.mine ∙ (ap (λ (z : List Entry). z ++ entries b.answer) a.mine ∙ (append_assoc (own pass old) (flat_map entries a.answers) (entries b.answer) ∙ ap (λ (z : List Entry). own pass old ++ z) (flat_map_more entries [] a.answers b.answer)));
@@ -120,20 +132,3 @@ then_idle a b c n asked before after same l kept = let k = kept_as a b c same ke
   seen = λ s. k.seen (l.seen s);
   mine = k.none ∙ l.mine;
 }
-
--- ---- in a loop
-
-pub no_text : (first : List (Option Page)) (pages pass number : ℕ) (text : List ℕ) (old : Trail) → text ≡ [] → AnswersLines first pages pass number [] text old old
-no_text first pages pass number text old is = subst (λ (z : List ℕ). AnswersLines first pages pass number [] z old old) (sym is) (no_lines first pages pass number old)
-
-pub next_line : (a b : Handle) (number n i : ℕ) (lines : List (Option Request)) (asked d : Option Request) (text more : List ℕ) (old mid new : Trail) → IsSameHandle a b → i < length lines → asked ≡ get_or lines i d → n ≡ number + i
-    → AnswersLines (first_map_of a) (pages_of_map a) (number_of_seat a) number (take i lines) text old mid → AnswersLine (first_map_of b) (pages_of_map b) (number_of_seat b) n asked text more mid new → AnswersLines (first_map_of a) (pages_of_map a) (number_of_seat a) number (take (i + 1) lines) more old new
-next_line a b number n i lines asked d text more old mid new same low at at_number so_far one =
-    let grown : take (i + 1) lines ≡ take i lines ++ asked ∷ [] = take_more lines i d low ∙ ap (λ (z : Option Request). take i lines ++ z ∷ []) (sym at) in
-    let short : length (take i lines) ≡ i = length-take-le i lines (omega arith) in
-    let one' = by_same_map (λ first pages pass. AnswersLine first pages pass n asked text more mid new) a b same one in
-    subst (λ (z : List (Option Request)). AnswersLines (first_map_of a) (pages_of_map a) (number_of_seat a) number z more old new) (sym grown)
-    (one_more (first_map_of a) (pages_of_map a) (number_of_seat a) number n (take i lines) asked text more old mid new (omega arith) so_far one')
-
-pub all_lines : (first : List (Option Page)) (pages pass number i : ℕ) (lines : List (Option Request)) (text : List ℕ) (old new : Trail) → i ≡ length lines → AnswersLines first pages pass number (take i lines) text old new → AnswersLines first pages pass number lines text old new
-all_lines first pages pass number i lines text old new is a = subst (λ (z : List (Option Request)). AnswersLines first pages pass number z text old new) (take_all i lines (omega arith)) a

@@ -1,5 +1,5 @@
 -- What the lines that a pass answers add to what it has seen.
-use Rattle.std.specs.Prelude.{◌≡◌, ℕ, suc, ◌++◌, List, [], ◌∷◌, Option, Some, None, flat_map, codes}
+use Rattle.std.specs.Prelude.{◌≡◌, ℕ, suc, ◌++◌, List, [], ◌∷◌, Option, Some, None, flat_map, map, length, codes}
 use Rattle.std.specs.List.{AllZip, FoldsTo}
 use Rattle.bl_model.specs.declared.operation.Entry.{Entry}
 use Rattle.bl_serve_lines.specs.declared.request.Request.{Request}
@@ -27,6 +27,16 @@ abbrev pub answers_text : ℕ → List Answer → List ℕ
 answers_text n [] = []
 answers_text n (answer ∷ answers) = numbered n (answer_text answer) ++ answers_text (suc n) answers
 
+-- the replies as they are written, with these numbers
+abbrev pub replies : List ℕ → List Answer → List (List ℕ)
+replies [] answers = []
+replies (n ∷ numbers) [] = []
+replies (n ∷ numbers) (answer ∷ answers) = numbered n (answer_text answer) ∷ replies numbers answers
+
+-- they, one after another
+abbrev pub joined_text : List (List ℕ) → List ℕ
+joined_text texts = flat_map (λ text. text) texts
+
 -- the request is a scan
 abbrev pub IsScan : Request → Type 0
 IsScan (Scan low high) = Unit {0}
@@ -52,11 +62,12 @@ pub record AnswersLine (first : List (Option Page)) (pages pass number : ℕ) (a
   pub seen : IsLinearizable first old → IsLinearizable first new
   pub mine : own pass new ≡ own pass old ++ entries answer
 
--- The lines were answered one after another, and the text prints the answers, numbered from that number on.
-pub record AnswersLines (first : List (Option Page)) (pages pass number : ℕ) (lines : List (Option Request)) (text : List ℕ) (old new : Trail) : Type 0 where
+-- The lines of these numbers were answered one after another: the text prints the answers, each in so many bytes.
+pub record AnswersLines (first : List (Option Page)) (pages pass : ℕ) (numbers : List ℕ) (lines : List (Option Request)) (text lengths : List ℕ) (old new : Trail) : Type 0 where
   pub answers : List Answer
   pub each : AllZip (IsFor pages) lines answers
-  pub prints : text ≡ answers_text number answers
+  pub prints : text ≡ joined_text (replies numbers answers)
+  pub cuts : lengths ≡ map length (replies numbers answers)
   pub begins : GoesOnFrom old new
   pub seen : IsLinearizable first old → IsLinearizable first new
   pub mine : own pass new ≡ own pass old ++ flat_map entries answers
@@ -76,6 +87,6 @@ HasWrittenRows asked before after old new =
 abbrev pub HasAnswered : ℕ → Option Request → List ℕ → List ℕ → Handle → Handle → Type 0
 HasAnswered number asked before after old new = AnswersLine (first_map_of old) (pages_of_map old) (number_of_seat old) number asked before after (seen_by old) (seen_by new)
 
--- It has answered the lines, the first of them as that of that number.
-abbrev pub HasAnsweredAll : ℕ → List (Option Request) → List ℕ → Handle → Handle → Type 0
-HasAnsweredAll number lines text old new = AnswersLines (first_map_of old) (pages_of_map old) (number_of_seat old) number lines text (seen_by old) (seen_by new)
+-- It has answered the lines of these numbers.
+abbrev pub HasAnsweredAll : List ℕ → List (Option Request) → List ℕ → List ℕ → Handle → Handle → Type 0
+HasAnsweredAll numbers lines text lengths old new = AnswersLines (first_map_of old) (pages_of_map old) (number_of_seat old) numbers lines text lengths (seen_by old) (seen_by new)

@@ -5,8 +5,11 @@ ghost use Rattle.bl_model.specs.declared.operation.Op.TheVariants as op;
 ghost use Rattle.bl_map.specs.Handles.{IsSameHandle, HasCalled, HasKeptUp};
 ghost use Rattle.bl_model.specs.Replies.{reply_of};
 ghost use Rattle.bl_model.specs.Writes.{write_op, IsRead};
+ghost use Rattle.bl_serve_lines.specs.Dealt.{dealt, numbers};
+ghost use Rattle.bl_serve_worker.specs.Shares.{IsNextPlace};
 ghost use Rattle.bl_serve_worker.specs.Answering.{HasAnswered, HasAnsweredAll, HasToldRows, HasWrittenRows, IsScan};
 
+use crate::chunk::{Chunk, ShareOutput};
 use crate::compressing::enqueue;
 use crate::gate::Gate;
 use crate::service::Service;
@@ -17,16 +20,14 @@ use bl_serve_lines::print::{
     Response, push_key_line, push_line, push_number, push_row, push_word_line,
 };
 use bl_serve_lines::request::Request;
+use memchr::memchr;
 use std::alloc::AllocError;
 use std::sync::Wait;
 
-/// A worker looks each so many lines whether a sweep is due, and behind a batch of one line. With few pages for each handle one is
+/// A worker looks each so many lines whether a sweep is due, and behind a chunk of one line. With few pages for each handle one is
 /// due after each put; but a sweep reads words that the other workers write, and what it releases is no longer at hand for the next
 /// puts of the handle.
 const LINES_TO_SWEEP: u64 = 256;
-
-/// So many bytes of output are reserved at once for each line: an answer about one key has few more.
-const BYTES_A_LINE: usize = 32;
 
 /// Sweeps, where the worker may and a sweep is due.
 fn sweep_if_may(handle: &mut Handle<'_>, may_sweep: bool)
@@ -242,25 +243,47 @@ fn answer<R: Wait, G: Gate>(
     }
 }
 
-/// Answers lines one after another, of which so many others stand before them. Gives their output.
-pub(crate) fn answer_lines<R: Wait, G: Gate>(
-    rt: &R,
-    service: &Service<'_, G>,
-    handle: &mut Handle<'_>,
-    before: u64,
-    lines: &[Option<Request>],
-) -> Result<Vec<u8>, AllocError>
-    requires { before + length lines.now < 2 ^ 64 }
-    ensures same { IsSameHandle handle.old handle.new }
-    ensures answers { IfOk result (λ text. HasAnsweredAll (suc before) lines.now text.items handle.old handle.new) }
+/// The place of the next line of a share, from that one on.
+fn next_place(deals: &[u8], share: u8, from: usize) -> Option<usize>
+    ensures { IsNextPlace share deals.now from result }
 {
-    let mut text = Vec::with_capacity(service.alloc, lines.len().saturating_mul(BYTES_A_LINE))?;
-    let mut number = before;
-    for request in lines {
-        number += 1;
-        answer(rt, service, handle, number, *request, &mut text)?;
-        let may_sweep = number % LINES_TO_SWEEP == 0 || lines.len() == 1;
+    if deals.len() <= from {
+        return None;
+    }
+    match memchr(share, &deals[from..]) {
+        Some(step) => Some(from + step),
+        None => None,
+    }
+}
+
+/// Answers the lines of a share, one after another.
+pub(crate) fn answer_share<R: Wait, G: Gate>(
+    rt: &R,
+    chunk: &Chunk<'_, G>,
+    handle: &mut Handle<'_>,
+    share: u8,
+) -> Result<ShareOutput, AllocError>
+    ensures same { IsSameHandle handle.old handle.new }
+    ensures share { IfOk result (λ output. output.share ≡ share) }
+    ensures answers { IfOk result (λ output. HasAnsweredAll (dealt share chunk.now.deals.now (numbers (suc chunk.now.before) (length chunk.now.lines.now)))
+        (dealt share chunk.now.deals.now chunk.now.lines.now) output.text.items output.lengths.items handle.old handle.new) }
+{
+    let service = chunk.service;
+    let mut text = Vec::new(service.alloc);
+    let mut lengths = Vec::new(service.alloc);
+    let mut from = 0;
+    'lines: while let Some(place) = next_place(chunk.deals, share, from) {
+        from = place + 1;
+        let number = chunk.before + from as u64;
+        let bytes = text.len();
+        answer(rt, service, handle, number, chunk.lines[place], &mut text)?;
+        lengths.push(text.len() - bytes)?;
+        let may_sweep = number % LINES_TO_SWEEP == 0 || chunk.lines.len() == 1;
         sweep_if_may(handle, may_sweep);
     }
-    Ok(text)
+    Ok(ShareOutput {
+        share,
+        text,
+        lengths,
+    })
 }

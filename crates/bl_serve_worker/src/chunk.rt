@@ -1,25 +1,19 @@
 //! A chunk of lines, which several threads answer, and what each of them does.
 
-ghost use Rattle.std.specs.Prelude.{◌+◌, ◌<◌, ◌^◌, length};
+ghost use Rattle.std.specs.Prelude.{◌≡◌, ◌+◌, ◌<◌, ◌^◌, length};
 
 use crate::service::Service;
 use crate::wakeup::Wakeup;
 use bl_serve_lines::request::Request;
 use crossbeam_channel::Receiver;
 
-/// Lines of a chunk that are given out together, by their places in it.
-#[derive(Clone, Copy, Debug, PartialEq, Eq)]
-pub struct Batch {
-    pub from: usize,
-    pub upto: usize,
-}
-
-/// The output of a batch.
+/// The replies to the lines of a share, in the order of the lines.
 #[derive(Debug, PartialEq, Eq, Drop)]
-pub struct BatchOutput {
-    pub from: usize,
-    pub upto: usize,
+pub struct ShareOutput {
+    pub share: u8,
     pub text: Vec<u8>,
+    /// How many bytes of the text each reply has.
+    pub lengths: Vec<usize>,
 }
 
 /// What a handle does for the chunks of a server.
@@ -37,7 +31,7 @@ pub struct Slot {
     pub role: Role,
     /// It is the last one: where the input ends with the chunk, its handle puts the index in order behind all others.
     pub last: bool,
-    pub log: Vec<BatchOutput>,
+    pub log: Vec<ShareOutput>,
     /// There was no memory for all that it was to write.
     pub failed: bool,
 }
@@ -47,13 +41,16 @@ pub struct Slot {
 pub struct Chunk<'a, G> {
     pub service: &'a Service<'a, G>,
     pub wakeup: &'a Wakeup,
-    /// The batches that nobody has taken yet.
-    pub batches: &'a Receiver<Batch>,
+    /// The shares that nobody has taken yet. All lines of a key are in one share.
+    pub shares: &'a Receiver<u8>,
     /// What the lines ask for.
     pub lines: &'a [Option<Request>],
+    /// The share of each line.
+    pub deals: &'a [u8],
     /// How many lines of the input stand before them.
     pub before: u64,
     /// Whether the input ends with them.
     pub last: bool,
     pub ghost room: { before + length lines.now < 2 ^ 64 },
+    pub ghost dealt: { length deals.now ≡ length lines.now },
 }

@@ -1,59 +1,50 @@
-//! What a thread does for a chunk: a worker takes batches of lines from a channel, a compressor follows hints.
+//! What a thread does for a chunk: a worker takes shares of lines from a channel, a compressor follows hints.
 
-ghost use Rattle.std.specs.Prelude.{◌≡◌, suc, ◌+◌, ◌<◌, ◌^◌, [], length, OnOk};
+ghost use Rattle.std.specs.Prelude.{◌≡◌, suc, [], OnOk};
 ghost use Rattle.bl_map.specs.Handles.{IsSameHandle, HasKeptUp, first_map_of, pages_of_map, number_of_seat, seen_by};
-ghost use Rattle.bl_serve_worker.specs.Batches.{Logs, WorksOn};
+ghost use Rattle.bl_serve_worker.specs.Shares.{Logs, WorksOn};
 
-use crate::answering::answer_lines;
-use crate::chunk::{Batch, BatchOutput, Chunk, Role, Slot};
+use crate::answering::answer_share;
+use crate::chunk::{Chunk, Role, ShareOutput, Slot};
 use crate::gate::Gate;
 use crate::wakeup::follow_hints;
 use bl_map::Handle;
 use std::alloc::AllocError;
 use std::sync::Wait;
 
-/// Answers the lines of a batch, if the chunk has them.
-fn serve_batch<R: Wait, G: Gate>(
+/// Answers the lines of a share.
+fn serve_share<R: Wait, G: Gate>(
     rt: &R,
     chunk: &Chunk<'_, G>,
     handle: &mut Handle<'_>,
-    log: &mut Vec<BatchOutput>,
-    batch: Batch,
+    log: &mut Vec<ShareOutput>,
+    share: u8,
 ) -> Result<(), AllocError>
     ensures same { IsSameHandle handle.old handle.new }
-    ensures logs { OnOk result (Logs (first_map_of handle.old) (pages_of_map handle.old) (suc chunk.now.before) chunk.now.lines.now
+    ensures logs { OnOk result (Logs (first_map_of handle.old) (pages_of_map handle.old) (suc chunk.now.before) chunk.now.deals.now chunk.now.lines.now
         (number_of_seat handle.old) (seen_by handle.old) (seen_by handle.new) log.old.items log.new.items) }
 {
-    let Batch { from, upto } = batch;
-    let lines = chunk.lines;
-    if upto <= from {
-        return Ok(());
-    }
-    if lines.len() < upto {
-        return Ok(());
-    }
-    let before = chunk.before + from as u64;
-    let text = answer_lines(rt, chunk.service, handle, before, &lines[from..upto])?;
-    log.push(BatchOutput { from, upto, text })?;
+    let output = answer_share(rt, chunk, handle, share)?;
+    log.push(output)?;
     Ok(())
 }
 
-/// Takes batches from the channel until there are no more, and answers their lines.
-fn serve_batches<R: Wait, G: Gate>(
+/// Takes shares from the channel until there are no more, and answers their lines.
+fn serve_shares<R: Wait, G: Gate>(
     rt: &R,
     chunk: &Chunk<'_, G>,
     handle: &mut Handle<'_>,
-    log: &mut Vec<BatchOutput>,
+    log: &mut Vec<ShareOutput>,
 ) -> Result<(), AllocError>
     ensures same { IsSameHandle handle.old handle.new }
-    ensures logs { OnOk result (Logs (first_map_of handle.old) (pages_of_map handle.old) (suc chunk.now.before) chunk.now.lines.now
+    ensures logs { OnOk result (Logs (first_map_of handle.old) (pages_of_map handle.old) (suc chunk.now.before) chunk.now.deals.now chunk.now.lines.now
         (number_of_seat handle.old) (seen_by handle.old) (seen_by handle.new) log.old.items log.new.items) }
 {
     for _ in rt.forever() {
-        let Ok(batch) = chunk.batches.recv(rt) else {
+        let Ok(share) = chunk.shares.recv(rt) else {
             return Ok(());
         };
-        serve_batch(rt, chunk, handle, log, batch)?;
+        serve_share(rt, chunk, handle, log, share)?;
         chunk.wakeup.ring_for_hints(chunk.service.hints);
     }
     unreachable!()
@@ -66,10 +57,10 @@ fn serve_at<R: Wait, G: Gate>(
     handle: &mut Handle<'_>,
     slot: &mut Slot,
 )
-    ensures { WorksOn (suc chunk.now.before) chunk.now.lines.now handle.old handle.new slot.new }
+    ensures { WorksOn (suc chunk.now.before) chunk.now.deals.now chunk.now.lines.now handle.old handle.new slot.new }
 {
     let mut log = Vec::new(chunk.service.alloc);
-    let served = serve_batches(rt, chunk, handle, &mut log);
+    let served = serve_shares(rt, chunk, handle, &mut log);
     slot.failed = served.is_err();
     slot.log = log;
     chunk.wakeup.worker_done();
@@ -93,7 +84,7 @@ fn compress_at<R: Wait, G: Gate>(
 
 /// A handle answers lines or follows hints, as its slot says.
 fn work_at<R: Wait, G: Gate>(rt: &R, chunk: &Chunk<'_, G>, handle: &mut Handle<'_>, slot: &mut Slot)
-    ensures { WorksOn (suc chunk.now.before) chunk.now.lines.now handle.old handle.new slot.new }
+    ensures { WorksOn (suc chunk.now.before) chunk.now.deals.now chunk.now.lines.now handle.old handle.new slot.new }
 {
     match slot.role {
         Role::Serve => serve_at(rt, chunk, handle, slot),
@@ -125,7 +116,7 @@ pub fn work_on<R: Wait, G: Gate>(
     handle: &mut Handle<'_>,
     slot: &mut Slot,
 )
-    ensures { WorksOn (suc chunk.now.before) chunk.now.lines.now handle.old handle.new slot.new }
+    ensures { WorksOn (suc chunk.now.before) chunk.now.deals.now chunk.now.lines.now handle.old handle.new slot.new }
 {
     work_at(rt, chunk, handle, slot);
     tidy_at_last(rt, chunk, handle, slot);

@@ -211,6 +211,21 @@ fn room_is_told_behind_a_split(rt: HostRuntime) -> Result<(), Fail> {
     Ok(())
 }
 
+// By however many workers the lines of one key are carried out one after another.
+#[test]
+fn lines_of_one_key_keep_their_order(rt: HostRuntime) {
+    let input =
+        b"insert 5 50\nput 6 60\nchange 5 50 51\nput 6 61\ndelete 5\nfind 6\nput 5 52\ndelete 6\nfind 5\nfind 6\n".as_slice();
+    let output =
+        b"1 inserted\n2 inserted\n3 changed\n4 replaced 60\n5 deleted 51\n6 found 61\n7 inserted\n8 deleted 61\n9 found 52\n10 absent\n".as_slice();
+    for (workers, compressors) in [(1, 0), (2, 1), (4, 0), (32, 1)] {
+        assert!(rt;
+            answers(&rt, rt.alloc(), input, output, workers, compressors),
+            "{workers} workers"
+        );
+    }
+}
+
 // A section's lines are answered before those of the next.
 #[test]
 fn sections_stand_in_order(rt: HostRuntime) {
