@@ -7,10 +7,13 @@
 
 mod commands;
 mod fault;
+mod laws;
 mod output;
+mod pages;
 mod playing;
 mod text;
 mod turning;
 
 pub use fault::ReplayFault;
+pub use laws::pages_are_added;
 pub use playing::{PLAYED, replay};
