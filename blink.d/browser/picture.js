@@ -6,7 +6,7 @@ import { element, many, short, span } from "./words.js";
 import { seen } from "./seen.js";
 
 const LABEL = 15, GAP = 6, RIM = 8;
-// How wide a page must be to have its number told, and what it covers.
+// How wide a page must be to have its number told, where that fits, and what it covers.
 const NUMBERED = 32, COVERED = 92;
 
 export const canvas = element("canvas");
@@ -91,8 +91,8 @@ function drawWords(pen, x, left, row, wide) {
   pen.clip();
   pen.fillStyle = styled("--ink");
   pen.font = "700 12px system-ui, sans-serif";
-  pen.fillText(x, left + 4, top + 13);
-  const after = left + 10 + pen.measureText(x).width;
+  const { width } = pen.measureText(x), after = left + 10 + width;
+  if (width <= wide) pen.fillText(x, left + 4, top + 13);
   pen.font = "11px system-ui, sans-serif";
   drawEntries(pen, x, left, row, wide);
   pen.fillStyle = styled("--soft");
