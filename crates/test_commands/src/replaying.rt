@@ -35,7 +35,12 @@ impl<'a> Read for Failing<'a> {
 /// How a script ends whose stream gives these bytes and then fails, and how many bytes are written.
 fn replay_failing(alloc: Global, left: &[u8]) -> (Result<(), CommandFault>, usize) {
     let mut writer = Watched::new(Vec::new(alloc));
-    let result = replay_script(alloc, false, &mut Watched::new(Failing { left }), &mut writer);
+    let result = replay_script(
+        alloc,
+        false,
+        &mut Watched::new(Failing { left }),
+        &mut writer,
+    );
     (result, writer.into_inner().len())
 }
 
