@@ -7,7 +7,8 @@ _blink() {
         words='serve dump load rows check draw replay help --help --version'
     else
         case $before in
-            --pages | --large | --workers | --compressors | --section | --fill) return ;;
+            --large | --workers | --compressors | --section | --fill) return ;;
+            --pages) [ "$command" = replay ] || return ;;
             --image)
                 mapfile -t COMPREPLY < <(compgen -f -- "$word")
                 return
@@ -16,8 +17,9 @@ _blink() {
         case $command in
             serve | dump) words='--pages --large --workers --compressors --image --section --interactive --stats --help' ;;
             load) words='--pages --large --fill --help' ;;
-            draw) words='--svg --help' ;;
-            rows | check | replay) words='--help' ;;
+            draw) words='--svg --html --help' ;;
+            replay) words='--pages --html --help' ;;
+            rows | check) words='--help' ;;
             help) words='serve dump load rows check draw replay help' ;;
         esac
     fi

@@ -32,6 +32,13 @@ class Page:
     def is_thin(self):
         return len(self.pairs) < FEW_PAIRS
 
+    def text(self):
+        """What `replay --pages` prints of it."""
+        covers = f"{self.low} {self.high} {self.right}"
+        head = {"anchor": f"anchor {' '.join(map(str, self.tops))}", "leaf": f"leaf {covers}", "inner": f"inner {self.level} {covers}",
+                "dead": f"dead {self.level} {self.low} {self.right}"}[self.kind]  # fmt: skip
+        return " ".join([head, *(f"{key} {word}" for key, word in self.pairs)])
+
     def hint(self, level):
         """The hint that this page is thin, for the level above it."""
         return f" thin {level} {self.low}" if self.is_thin() and not self.is_alone() else ""
@@ -555,6 +562,8 @@ class World:
             if seen:
                 self.owners[page] = "free"
         self.say(number, "miss" if word in ("latch", "release") and not seen else shown)
+        if word == "put":
+            self.say(number, f"page {page} {does[2].text()}")
         self.tell(number, seen)
 
     def tell(self, number, seen):

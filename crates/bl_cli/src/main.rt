@@ -57,7 +57,7 @@ fn carry_out<T: Threads + Wait + Sync>(
         Ok(Invocation::Rows(file)) => Ok(rows(rt, file.as_str())),
         Ok(Invocation::Check(file)) => Ok(check(rt, file.as_str())),
         Ok(Invocation::Draw(file, svg)) => Ok(draw(rt, file.as_str(), svg)),
-        Ok(Invocation::Replay(file)) => Ok(replay(rt, file.as_str())),
+        Ok(Invocation::Replay(file, with_pages)) => Ok(replay(rt, file.as_str(), with_pages)),
         Ok(Invocation::Nothing) => Ok(ExitCode::from(2)),
         Err(error) => {
             let is_of_pages = error.kind() == ErrorKind::ValueValidation
@@ -135,9 +135,9 @@ fn rows(rt: &HostRuntime, file: &str) -> ExitCode {
 }
 
 /// Carries out the script in the file.
-fn replay(rt: &HostRuntime, file: &str) -> ExitCode {
+fn replay(rt: &HostRuntime, file: &str, with_pages: bool) -> ExitCode {
     let mut writer = output(rt);
-    let replayed = replay_file(rt, file, &mut writer);
+    let replayed = replay_file(rt, file, with_pages, &mut writer);
     end_of(rt, file, replayed.map(|()| true), writer)
 }
 

@@ -17,5 +17,5 @@ IsWithinLimits (Load loading file) = IsImageOf loading
 IsWithinLimits (Rows file) = Unit {0}
 IsWithinLimits (Check file) = Unit {0}
 IsWithinLimits (Draw file svg) = Unit {0}
-IsWithinLimits (Replay file) = Unit {0}
+IsWithinLimits (Replay file with_pages) = Unit {0}
 IsWithinLimits Nothing = Unit {0}

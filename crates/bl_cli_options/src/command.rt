@@ -49,8 +49,8 @@ pub enum Invocation {
     Check(String),
     /// `blink draw` of this file, and whether as SVG.
     Draw(String, bool),
-    /// `blink replay` of this file.
-    Replay(String),
+    /// `blink replay` of this file, and whether with what stands in each page that is put.
+    Replay(String, bool),
     /// No command.
     Nothing,
 }
@@ -300,10 +300,15 @@ fn draw_command<'a>(alloc: Global) -> Result<Command<'a>, AllocError> {
 
 /// The command line of `replay`.
 fn replay_command<'a>(alloc: Global) -> Result<Command<'a>, AllocError> {
+    let pages = Arg::new(alloc, "pages")
+        .long("pages")
+        .action(ArgAction::SetTrue)
+        .help("Print behind each put what stands in its page then");
     Command::new(alloc, "replay")
         .about("Carries out a script of turns, and prints each event")
         .after_help(ABOUT_REPLAY)
-        .arg(file_argument(alloc, "The script to carry out"))
+        .arg(file_argument(alloc, "The script to carry out"))?
+        .arg(pages)
 }
 
 /// The command line of `blink` with one command more.
@@ -359,7 +364,7 @@ fn invocation_of(alloc: Global, name: &str, found: &ArgMatches) -> Result<Invoca
         "rows" => Ok(Invocation::Rows(file)),
         "check" => Ok(Invocation::Check(file)),
         "draw" => Ok(Invocation::Draw(file, found.get_flag("svg"))),
-        "replay" => Ok(Invocation::Replay(file)),
+        "replay" => Ok(Invocation::Replay(file, found.get_flag("pages"))),
         _ => Ok(Invocation::Nothing),
     }
 }

@@ -144,10 +144,13 @@ Prints each level of the tree as a row of pages: number, keys, entries, links,
 and which pages are thin or listed by no parent. A level of more than 64 pages
 is summed up. A file that is no sound image is drawn as far as it can be read,
 and the last line names the rule that it breaks (`blink help check`).
+With --html the command blink prints a page for a browser in place of it, which
+shows an image of up to 1048576 pages at any size: one file, without a network.
 
 Examples:
   blink draw index.image
   blink draw index.image --svg >index.svg
+  blink draw index.image --html >index.html
 
 Exit status: 0 sound; 1 a rule is broken; 3 reading or writing failed; 4 out of
 memory.";
@@ -168,10 +171,13 @@ The lines of a script; the first is `pages N`:
   run P M            turns of process P, at most M, until it has answered
   settle M           turns of those that wait for none, at most M, to the end
 Processes are numbered from 1 in the order in which they start. Each turn prints
-its event.
+its event. With --pages a line `P page X CONTENT` behind each put of page X says
+what stands there then. With --html the command blink prints a page for a
+browser, which plays the script event by event: one file, without a network.
 
 Examples:
   blink replay split.script
+  blink replay split.script --html >split.html
   printf 'pages 4\\ninsert 5 50\\nfind 5\\nrun 1 4\\nrun 2 9\\nrun 1 9\\n' >s
   blink replay s
 

@@ -1,5 +1,5 @@
 -- Commands, one after the other.
-use Rattle.std.proofs.Common.{ℕ, ◌≡◌, ◌⊎◌, ◌<◌, ◌≤◌, ◌+◌, ◌++◌, zero, suc, Some, None, List, [], ◌∷◌, take, drop, slice_get, arith, ap, sym, ◌∙◌, subst, inl, inr, append_assoc, append-nil}
+use Rattle.std.proofs.Common.{ℕ, Bool, ◌≡◌, ◌⊎◌, ◌<◌, ◌≤◌, ◌+◌, ◌++◌, zero, suc, Some, None, List, [], ◌∷◌, take, drop, slice_get, arith, ap, sym, ◌∙◌, subst, inl, inr, append_assoc, append-nil}
 use Rattle.std.proofs.lemmas.Option.{slice_get_within}
 use Rattle.bl_replay_script.specs.declared.command.Command.{Command}
 use Rattle.bl_replay_script.specs.declared.command.Kinds.{Kinds}
@@ -33,8 +33,8 @@ pub further : {A : Type 0} (xs : List A) (i : ℕ) (x : A) → slice_get xs i �
 further xs i x e = rw (one_more i) (further_suc xs i x e)
 
 -- one more command of a script
-pub plays_further : (v mid v' : View) (commands : List Command) (i : ℕ) (c : Command) (text more : List ℕ) → slice_get commands i ≡ Some c → Plays v (take i commands) text mid → Does mid c more v' → Plays v (take (i + 1) commands) (text ++ more) v'
-plays_further v mid v' commands i c text more e p d = rw (further commands i c e) (Then (take i commands) c text more mid v' p d)
+pub plays_further : (with_pages : Bool) (v mid v' : View) (commands : List Command) (i : ℕ) (c : Command) (text more : List ℕ) → slice_get commands i ≡ Some c → Plays with_pages v (take i commands) text mid → Does with_pages mid c more v' → Plays with_pages v (take (i + 1) commands) (text ++ more) v'
+plays_further with_pages v mid v' commands i c text more e p d = rw (further commands i c e) (Then (take i commands) c text more mid v' p d)
 
 -- the command at a place may stand behind those before it
 pub stands_at : (kinds : Kinds) (pages s : ℕ) (commands : List Command) (i : ℕ) (c : Command) → AllStand kinds pages s commands → slice_get commands i ≡ Some c → MayStand kinds pages (s + started_by (take i commands)) c
@@ -60,11 +60,11 @@ pub started_further : (commands : List Command) (i : ℕ) (c : Command) → slic
 started_further commands i c e = ap started_by (further commands i c e) ∙ started_push (take i commands) c
 
 -- a command was broken off
-pub breaks_off : (v mid : View) (commands : List Command) (i : ℕ) (c : Command) (text more : List ℕ) → slice_get commands i ≡ Some c → Plays v (take i commands) text mid → Partly mid c more → BreaksOff v commands (text ++ more)
-breaks_off v mid commands i c text more e p part =
+pub breaks_off : (with_pages : Bool) (v mid : View) (commands : List Command) (i : ℕ) (c : Command) (text more : List ℕ) → slice_get commands i ≡ Some c → Plays with_pages v (take i commands) text mid → Partly with_pages mid c more → BreaksOff with_pages v commands (text ++ more)
+breaks_off with_pages v mid commands i c text more e p part =
     let is = split commands i c e in
     elim part [
-      | inl none ↦ Behind (take i commands) (c ∷ drop (suc i) commands) (text ++ more) mid is (subst (λ t. Plays v (take i commands) t mid) (sym (ap (λ t. text ++ t) none ∙ append-nil text)) p)
+      | inl none ↦ Behind (take i commands) (c ∷ drop (suc i) commands) (text ++ more) mid is (subst (λ t. Plays with_pages v (take i commands) t mid) (sym (ap (λ t. text ++ t) none ∙ append-nil text)) p)
       | inr some ↦ elim some [
         | inl d ↦ Behind (take i commands ++ c ∷ []) (drop (suc i) commands) (text ++ more) d.0 (is ∙ sym (append_assoc (take i commands) (c ∷ []) (drop (suc i) commands))) (Then (take i commands) c text more mid d.0 p d.1)
         | inr some ↦ elim some [
@@ -75,15 +75,15 @@ breaks_off v mid commands i c text more e p part =
     ]
 
 -- a command of one turn was broken off
-pub partly_one : (v : View) (c : Command) (text : List ℕ) → (text ≡ []) ⊎ ((after : View) × Does v c text after) → Partly v c text
-partly_one v c text (inl none) = inl none
-partly_one v c text (inr all) = inr (inl all)
+pub partly_one : (with_pages : Bool) (v : View) (c : Command) (text : List ℕ) → (text ≡ []) ⊎ ((after : View) × Does with_pages v c text after) → Partly with_pages v c text
+partly_one with_pages v c text (inl none) = inl none
+partly_one with_pages v c text (inr all) = inr (inl all)
 
 -- a run was broken off, before a turn or behind it
-pub run_breaks : (number most count : ℕ) (v mid : View) (text more : List ℕ) → count < most → PrintsTurns number v count text mid → HasAnswer mid number None → (more ≡ []) ⊎ ((after : View) × PrintsChosen mid number None more after)
-    → (n : ℕ) × (after : View) × (n ≤ most) × PrintsTurns number v n (text ++ more) after
-run_breaks number most count v mid text more few p unanswered (inl none) = (count, mid, omega (arith, few), subst (λ t. PrintsTurns number v count t mid) (sym (ap (λ t. text ++ t) none ∙ append-nil text)) p)
-run_breaks number most count v mid text more few p unanswered (inr (after, d)) = (count + 1, after, omega (arith, few), More count text more mid after p unanswered d)
+pub run_breaks : (with_pages : Bool) (number most count : ℕ) (v mid : View) (text more : List ℕ) → count < most → PrintsTurns with_pages number v count text mid → HasAnswer mid number None → (more ≡ []) ⊎ ((after : View) × PrintsChosen with_pages mid number None more after)
+    → (n : ℕ) × (after : View) × (n ≤ most) × PrintsTurns with_pages number v n (text ++ more) after
+run_breaks with_pages number most count v mid text more few p unanswered (inl none) = (count, mid, omega (arith, few), subst (λ t. PrintsTurns with_pages number v count t mid) (sym (ap (λ t. text ++ t) none ∙ append-nil text)) p)
+run_breaks with_pages number most count v mid text more few p unanswered (inr (after, d)) = (count + 1, after, omega (arith, few), More count text more mid after p unanswered d)
 
 -- who may go on was started
 pub goer_started : (v : View) (number : ℕ) → MayGoOn v number → IsStarted v number
@@ -93,7 +93,7 @@ goer_started v number go =
     (omega (arith, counts), omega (arith, counts, within))
 
 -- a world that was left to itself was broken off, before a turn or behind it
-pub settle_breaks : (number most count : ℕ) (v mid : View) (text more : List ℕ) → count < most → PrintsSettling v count text mid → MayGoOn mid number → (more ≡ []) ⊎ ((after : View) × PrintsChosen mid number None more after)
-    → (n : ℕ) × (after : View) × (n ≤ most) × PrintsSettling v n (text ++ more) after
-settle_breaks number most count v mid text more few p go (inl none) = (count, mid, omega (arith, few), subst (λ t. PrintsSettling v count t mid) (sym (ap (λ t. text ++ t) none ∙ append-nil text)) p)
-settle_breaks number most count v mid text more few p go (inr (after, d)) = (count + 1, after, omega (arith, few), Onward count number text more mid after p go d)
+pub settle_breaks : (with_pages : Bool) (number most count : ℕ) (v mid : View) (text more : List ℕ) → count < most → PrintsSettling with_pages v count text mid → MayGoOn mid number → (more ≡ []) ⊎ ((after : View) × PrintsChosen with_pages mid number None more after)
+    → (n : ℕ) × (after : View) × (n ≤ most) × PrintsSettling with_pages v n (text ++ more) after
+settle_breaks with_pages number most count v mid text more few p go (inl none) = (count, mid, omega (arith, few), subst (λ t. PrintsSettling with_pages v count t mid) (sym (ap (λ t. text ++ t) none ∙ append-nil text)) p)
+settle_breaks with_pages number most count v mid text more few p go (inr (after, d)) = (count + 1, after, omega (arith, few), Onward count number text more mid after p go d)

@@ -1,2 +1,4 @@
 pub mod Emitting
 pub mod Following
+pub mod Adding
+pub mod Puts

@@ -1,5 +1,5 @@
 -- Text that goes out by way of a buffer. Private functions cite this, and no public clause does.
-use Rattle.std.specs.Prelude.{◌≡◌, ◌⊎◌, ℕ, ◌≤◌, Option, List, [], ◌++◌}
+use Rattle.std.specs.Prelude.{◌≡◌, ◌⊎◌, ℕ, ◌≤◌, Bool, Option, List, [], ◌++◌}
 use Rattle.std.specs.Io.KnownBytes.{Appends}
 use Rattle.bl_replay_script.specs.declared.command.Command.{Command}
 use Rattle.bl_replay_script.specs.declared.command.Command.TheVariants as command
@@ -12,8 +12,8 @@ Emits old new pending left text = (out : List ℕ) × Appends old new out × (pe
 
 -- A command printed this before it was broken off: nothing, all of its text, or that of some turns of a run or of a world that was left to
 -- itself.
-abbrev pub Partly : View → Command → List ℕ → Type 0
-Partly v c text = (text ≡ [])
-    ⊎ (((v' : View) × Does v c text v')
-    ⊎ (((number : ℕ) × (most : ℕ) × (count : ℕ) × (v' : View) × (c ≡ command.Run number most) × (count ≤ most) × PrintsTurns number v count text v')
-    ⊎ ((most : ℕ) × (count : ℕ) × (v' : View) × (c ≡ command.Settle most) × (count ≤ most) × PrintsSettling v count text v')))
+abbrev pub Partly : Bool → View → Command → List ℕ → Type 0
+Partly with_pages v c text = (text ≡ [])
+    ⊎ (((v' : View) × Does with_pages v c text v')
+    ⊎ (((number : ℕ) × (most : ℕ) × (count : ℕ) × (v' : View) × (c ≡ command.Run number most) × (count ≤ most) × PrintsTurns with_pages number v count text v')
+    ⊎ ((most : ℕ) × (count : ℕ) × (v' : View) × (c ≡ command.Settle most) × (count ≤ most) × PrintsSettling with_pages v count text v')))

@@ -6,10 +6,11 @@ ghost use Rattle.bl_replay_script.specs.Commands.{MayStart, MayStand, starts};
 ghost use Rattle.bl_replay_script.specs.declared.command.Command.TheVariants as command;
 ghost use Rattle.bl_world.specs.Views.{View, number_in};
 ghost use Rattle.bl_world.specs.Turns.{IsStarted};
-ghost use Rattle.bl_world.specs.WorldSteps.{MayStart as MayBegin};
+ghost use Rattle.bl_world.specs.WorldSteps.{MayStart as MayBegin, Starts};
 ghost use Rattle.bl_replay.specs.declared.fault.ReplayFault.TheVariants as fault;
 ghost use Rattle.bl_model.specs.Writes.{IsRead};
 ghost use Rattle.bl_proc_steps.specs.declared.acts.Action.TheVariants as act;
+ghost use Rattle.bl_proc.specs.declared.kinds.Proc.{Proc as AnyProc};
 ghost use Rattle.bl_proc.specs.Processes.{next_of};
 ghost use Rattle.bl_replay.specs.Plays.{Prints, PrintsChosen, PrintsTurns, PrintsSettling, Reads, Carries, IsStart, Does, all_kinds};
 ghost use Rattle.bl_replay.specs.Emits.{Emits, Partly};
@@ -70,7 +71,7 @@ fn process_of(start: Start) -> Proc
 /// Starts a process.
 fn start(world: &mut World, start: Start) -> Result<(), ReplayFault>
     requires { MayStart all_kinds (length world.old.pages) start }
-    ensures ok { OnOk result (Does world.old (command.Start start) [] world.new) }
+    ensures ok { OnOk result ((p : AnyProc) × IsStart start p × Starts world.old p world.new) }
     ensures count { OnOk result (length world.new.processes ≡ length world.old.processes + 1) }
     ensures size { OnOk result (length world.new.pages ≡ length world.old.pages) }
     ensures err { IfErr result (λ why. why ≡ fault.Memory) }
@@ -86,22 +87,23 @@ fn play_turn<W: Write>(
     world: &mut World,
     number: usize,
     turn: Turn,
+    with_pages: bool,
     pending: &mut Vec<u8>,
     writer: &mut Watched<W>,
 ) -> Result<(), ReplayFault>
     requires started { IsStarted world.old number }
     requires same { number_in turn ≡ number }
     ensures ok { OnOk result ((text : List ℕ)
-        × Prints world.old number turn text world.new
+        × Prints with_pages world.old number turn text world.new
         × Emits (W.contents writer.old.inner) (W.contents writer.new.inner) pending.old.items pending.new.items text) }
     ensures count { OnOk result (length world.new.processes ≡ length world.old.processes) }
     ensures size { OnOk result (length world.new.pages ≡ length world.old.pages) }
     ensures err { OnErr result ((text : List ℕ)
-        × ((text ≡ []) ⊎ ((after : View) × Prints world.old number turn text after))
+        × ((text ≡ []) ⊎ ((after : View) × Prints with_pages world.old number turn text after))
         × StartsOut (W.contents writer.old.inner) (W.contents writer.new.inner) (pending.old.items ++ text)) }
     ensures write { result ≡ Err fault.Write → writer.new.failed ≡ true }
 {
-    print_turn(world, number, turn, pending)?;
+    print_turn(world, number, turn, with_pages, pending)?;
     write_much(writer, pending)
 }
 
@@ -110,22 +112,23 @@ fn play_chosen<W: Write>(
     world: &mut World,
     number: usize,
     page: Option<u32>,
+    with_pages: bool,
     pending: &mut Vec<u8>,
     writer: &mut Watched<W>,
 ) -> Result<(), ReplayFault>
     requires { IsStarted world.old number }
     ensures ok { OnOk result ((text : List ℕ)
-        × PrintsChosen world.old number page text world.new
+        × PrintsChosen with_pages world.old number page text world.new
         × Emits (W.contents writer.old.inner) (W.contents writer.new.inner) pending.old.items pending.new.items text) }
     ensures count { OnOk result (length world.new.processes ≡ length world.old.processes) }
     ensures size { OnOk result (length world.new.pages ≡ length world.old.pages) }
     ensures err { OnErr result ((text : List ℕ)
-        × ((text ≡ []) ⊎ ((after : View) × PrintsChosen world.old number page text after))
+        × ((text ≡ []) ⊎ ((after : View) × PrintsChosen with_pages world.old number page text after))
         × StartsOut (W.contents writer.old.inner) (W.contents writer.new.inner) (pending.old.items ++ text)) }
     ensures write { result ≡ Err fault.Write → writer.new.failed ≡ true }
 {
     let turn = world.turn_of(number, page);
-    play_turn(world, number, turn, pending, writer)
+    play_turn(world, number, turn, with_pages, pending, writer)
 }
 
 /// Gives a process turns, at most so many, until it has answered, and prints them.
@@ -133,24 +136,25 @@ fn play_run<W: Write>(
     world: &mut World,
     number: usize,
     most: u64,
+    with_pages: bool,
     pending: &mut Vec<u8>,
     writer: &mut Watched<W>,
 ) -> Result<(), ReplayFault>
     requires { IsStarted world.old number }
     ensures ok { OnOk result ((text : List ℕ)
-        × Does world.old (command.Run number most) text world.new
+        × Does with_pages world.old (command.Run number most) text world.new
         × Emits (W.contents writer.old.inner) (W.contents writer.new.inner) pending.old.items pending.new.items text) }
     ensures count { OnOk result (length world.new.processes ≡ length world.old.processes) }
     ensures size { OnOk result (length world.new.pages ≡ length world.old.pages) }
     ensures err { OnErr result ((text : List ℕ) × (count : ℕ) × (after : View)
-        × (count ≤ most) × PrintsTurns number world.old count text after
+        × (count ≤ most) × PrintsTurns with_pages number world.old count text after
         × StartsOut (W.contents writer.old.inner) (W.contents writer.new.inner) (pending.old.items ++ text)) }
     ensures write { result ≡ Err fault.Write → writer.new.failed ≡ true }
 {
     for _ in 0..most {
         match answer_of(world, number) {
             Some(_) => return Ok(()),
-            None => play_chosen(world, number, None, pending, writer)?,
+            None => play_chosen(world, number, None, with_pages, pending, writer)?,
         }
     }
     Ok(())
@@ -160,22 +164,23 @@ fn play_run<W: Write>(
 fn play_settle<W: Write>(
     world: &mut World,
     most: u64,
+    with_pages: bool,
     pending: &mut Vec<u8>,
     writer: &mut Watched<W>,
 ) -> Result<(), ReplayFault>
     ensures ok { OnOk result ((text : List ℕ)
-        × Does world.old (command.Settle most) text world.new
+        × Does with_pages world.old (command.Settle most) text world.new
         × Emits (W.contents writer.old.inner) (W.contents writer.new.inner) pending.old.items pending.new.items text) }
     ensures count { OnOk result (length world.new.processes ≡ length world.old.processes) }
     ensures size { OnOk result (length world.new.pages ≡ length world.old.pages) }
     ensures err { OnErr result ((text : List ℕ) × (count : ℕ) × (after : View)
-        × (count ≤ most) × PrintsSettling world.old count text after
+        × (count ≤ most) × PrintsSettling with_pages world.old count text after
         × StartsOut (W.contents writer.old.inner) (W.contents writer.new.inner) (pending.old.items ++ text)) }
     ensures write { result ≡ Err fault.Write → writer.new.failed ≡ true }
 {
     for _ in 0..most {
         match world.ready() {
-            Some(number) => play_chosen(world, number, None, pending, writer)?,
+            Some(number) => play_chosen(world, number, None, with_pages, pending, writer)?,
             None => return Ok(()),
         }
     }
@@ -186,34 +191,50 @@ fn play_settle<W: Write>(
 pub fn play_command<W: Write>(
     world: &mut World,
     command: Command,
+    with_pages: bool,
     pending: &mut Vec<u8>,
     writer: &mut Watched<W>,
 ) -> Result<(), ReplayFault>
     requires { MayStand all_kinds (length world.old.pages) (length world.old.processes) command }
     ensures ok { OnOk result ((text : List ℕ)
-        × Does world.old command text world.new
+        × Does with_pages world.old command text world.new
         × Emits (W.contents writer.old.inner) (W.contents writer.new.inner) pending.old.items pending.new.items text) }
     ensures count { OnOk result (length world.new.processes ≡ length world.old.processes + starts command) }
     ensures size { OnOk result (length world.new.pages ≡ length world.old.pages) }
-    ensures err { OnErr result ((text : List ℕ) × Partly world.old command text
+    ensures err { OnErr result ((text : List ℕ) × Partly with_pages world.old command text
         × StartsOut (W.contents writer.old.inner) (W.contents writer.new.inner) (pending.old.items ++ text)) }
     ensures write { result ≡ Err fault.Write → writer.new.failed ≡ true }
 {
     match command {
         Command::Start(process) => start(world, process),
-        Command::Turn(number) => play_chosen(world, number as usize, None, pending, writer),
+        Command::Turn(number) => play_chosen(
+            world,
+            number as usize,
+            None,
+            with_pages,
+            pending,
+            writer,
+        ),
         Command::TurnAt(number, page) => play_chosen(
             world,
             number as usize,
             Some(page),
+            with_pages,
             pending,
             writer,
         ),
         Command::Refuse(number) => {
             let turn = Turn::Refuse(number as usize);
-            play_turn(world, number as usize, turn, pending, writer)
+            play_turn(world, number as usize, turn, with_pages, pending, writer)
         }
-        Command::Run(number, most) => play_run(world, number as usize, most, pending, writer),
-        Command::Settle(most) => play_settle(world, most, pending, writer),
+        Command::Run(number, most) => play_run(
+            world,
+            number as usize,
+            most,
+            with_pages,
+            pending,
+            writer,
+        ),
+        Command::Settle(most) => play_settle(world, most, with_pages, pending, writer),
     }
 }

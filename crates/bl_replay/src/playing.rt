@@ -30,20 +30,21 @@ pub const PLAYED: Kinds = Kinds {
 fn play_all<W: Write>(
     world: &mut World,
     commands: &[Command],
+    with_pages: bool,
     pending: &mut Vec<u8>,
     writer: &mut Watched<W>,
 ) -> Result<(), ReplayFault>
     requires { AllStand all_kinds (length world.old.pages) (length world.old.processes) commands.now }
     ensures ok { OnOk result ((text : List ℕ)
-        × Plays world.old commands.now text world.new
+        × Plays with_pages world.old commands.now text world.new
         × Emits (W.contents writer.old.inner) (W.contents writer.new.inner) pending.old.items pending.new.items text) }
     ensures account { OnOk result (∥ Account world.new ∥₁) }
-    ensures err { OnErr result ((text : List ℕ) × BreaksOff world.old commands.now text
+    ensures err { OnErr result ((text : List ℕ) × BreaksOff with_pages world.old commands.now text
         × StartsOut (W.contents writer.old.inner) (W.contents writer.new.inner) (pending.old.items ++ text)) }
     ensures write { result ≡ Err fault.Write → writer.new.failed ≡ true }
 {
     for command in commands {
-        play_command(world, *command, pending, writer)?;
+        play_command(world, *command, with_pages, pending, writer)?;
     }
     // What may be believed of a world is told with its events.
     let _events = world.steps();
@@ -51,20 +52,22 @@ fn play_all<W: Write>(
 }
 
 /// Carries out a script on a new world, and prints each event as it is recorded, and each answer behind the event by which
-/// its process answered. It gathers a few KiB before it writes. Lend a writer on which no call has failed.
+/// its process answered; and, where pages are wanted, what stands in each page that is put, behind the put. It gathers a few
+/// KiB before it writes. Lend a writer on which no call has failed.
 ///
 /// After `Write` a beginning of what the script had printed is out, and the writer has failed. `Memory` comes only where
 /// the world or the buffer couldn't grow; then, too, a beginning is out.
 pub fn replay<W: Write>(
     alloc: Global,
     script: &Script,
+    with_pages: bool,
     writer: &mut Watched<W>,
 ) -> Result<(), ReplayFault>
     requires { MayPlay script.now.pages script.now.commands.items }
-    ensures ok { OnOk result ((text : List ℕ) × PlaysOut script.now.pages script.now.commands.items text
+    ensures ok { OnOk result ((text : List ℕ) × PlaysOut with_pages script.now.pages script.now.commands.items text
         × Appends (W.contents writer.old.inner) (W.contents writer.new.inner) text) }
     ensures flushed { OnOk result (writer.new.pending ≡ false) }
-    ensures err { OnErr result ((text : List ℕ) × PlaysInto script.now.pages script.now.commands.items text
+    ensures err { OnErr result ((text : List ℕ) × PlaysInto with_pages script.now.pages script.now.commands.items text
         × StartsOut (W.contents writer.old.inner) (W.contents writer.new.inner) text) }
     ensures write { result ≡ Err fault.Write → writer.new.failed ≡ true }
 {
@@ -72,6 +75,12 @@ pub fn replay<W: Write>(
         return Err(ReplayFault::Memory);
     };
     let mut pending = Vec::new(alloc);
-    play_all(&mut world, script.commands.as_slice(), &mut pending, writer)?;
+    play_all(
+        &mut world,
+        script.commands.as_slice(),
+        with_pages,
+        &mut pending,
+        writer,
+    )?;
     write_last(writer, &pending)
 }

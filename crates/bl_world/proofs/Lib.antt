@@ -30,3 +30,4 @@ pub mod Needing
 pub mod Weights
 pub mod Counted
 pub mod Nearing
+pub mod Putting

@@ -6,6 +6,7 @@ ghost use Rattle.bl_world.specs.Worlds.{key_in};
 use crate::lists::Lists;
 use crate::opening::opening;
 use crate::turns::{Event, Turn, WorldFault};
+use bl_page::Page;
 use bl_proc::{Answer, Proc, Process};
 use std::alloc::Global;
 use std::marker::Model;
@@ -52,12 +53,15 @@ fn key_of(process: &Proc) -> u64
 }
 
 impl World {
-    ghost use Rattle.std.specs.Prelude.{◌≡◌, ◌≢◌, ◌⊎◌, ◌<◌, ◌≤◌, ◌+◌, ◌↔◌, Some, None, Ok, Err, slice_get, length, IfSome, IfNone, IfOk, IfErr, OnOk, OnErr};
+    ghost use Rattle.std.specs.Prelude.{◌≡◌, ◌≢◌, ◌⊎◌, ◌<◌, ◌≤◌, ◌+◌, ◌↔◌, ◌++◌, ◌∷◌, [], Some, None, Ok, Err, slice_get, length, IfSome, IfNone, IfOk, IfErr, OnOk, OnErr};
     ghost use Rattle.bl_proc.specs.declared.kinds.Proc.{Proc as AnyProc};
     ghost use Rattle.bl_proc.specs.Processes.{answer_of};
     ghost use Rattle.bl_world.specs.declared.turns.WorldFault.TheVariants as fault;
     ghost use Rattle.bl_world.specs.Views.{View};
-    ghost use Rattle.bl_world.specs.Turns.{RunsTo, RunsInto, IsStarted, HasUnknown};
+    ghost use Rattle.bl_world.specs.declared.turns.Act.TheVariants as act;
+    ghost use Rattle.bl_world.specs.declared.turns.Event.{Event as AnyEvent};
+    ghost use Rattle.bl_world.specs.declared.turns.Turn.{Turn as AnyTurn};
+    ghost use Rattle.bl_world.specs.Turns.{TurnsTo, RunsTo, RunsInto, IsStarted, HasUnknown};
     ghost use Rattle.bl_world.specs.WorldSteps.{IsOpening, MayStart, Starts};
     ghost use Rattle.bl_world.specs.Choices.{Chooses};
     ghost use Rattle.bl_world.specs.Accounts.{Account, Continues};
@@ -153,6 +157,24 @@ impl World {
         match self.lists.settle(most) {
             Ok(done) => Ok(done),
             Err(_) => Err(WorldFault::Memory),
+        }
+    }
+
+    /// Says that what the next turn puts, if it puts anything, is a page of this world.
+    pub fn has_what_is_put(&self)
+        ensures { (turn : AnyTurn) (after : View) (event : AnyEvent) (x : ℕ) → TurnsTo self.now turn after
+            → after.events ≡ self.now.events ++ event ∷ [] → event.act ≡ act.Put x → x < length self.now.pages }
+    {
+        let _ = &self.lists;
+    }
+
+    /// A copy of what stands in a page, if this world has one with that number.
+    pub fn page(&self, at: u32) -> Option<Page>
+        ensures { result ≡ slice_get self.now.pages at }
+    {
+        match self.lists.pages.as_slice().get(at as usize) {
+            Some(page) => Some(page.copied()),
+            None => None,
         }
     }
 

@@ -34,7 +34,7 @@ fn replayed(alloc: Global, script: &Script, left: u32) -> (Result<(), ReplayFaul
     requires { MayPlay script.now.pages script.now.commands.items }
 {
     let mut writer = Watched::new(Failing { left });
-    let result = replay(alloc, script, &mut writer);
+    let result = replay(alloc, script, false, &mut writer);
     (result, writer.failed())
 }
 

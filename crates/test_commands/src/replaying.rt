@@ -35,7 +35,12 @@ impl<'a> Read for Failing<'a> {
 /// How a script ends whose stream gives these bytes and then fails, and how many bytes are written.
 fn replay_failing(alloc: Global, left: &[u8]) -> (Result<(), CommandFault>, usize) {
     let mut writer = Watched::new(Vec::new(alloc));
-    let result = replay_script(alloc, &mut Watched::new(Failing { left }), &mut writer);
+    let result = replay_script(
+        alloc,
+        false,
+        &mut Watched::new(Failing { left }),
+        &mut writer,
+    );
     (result, writer.into_inner().len())
 }
 
@@ -61,7 +66,7 @@ fn replay_within(alloc: Global, text: &[u8], room: usize) -> (Result<(), Command
         bytes: Vec::new(alloc),
         room,
     });
-    let result = replay_script(alloc, &mut Watched::new(text), &mut writer);
+    let result = replay_script(alloc, false, &mut Watched::new(text), &mut writer);
     (result, writer.into_inner().bytes)
 }
 
@@ -74,6 +79,21 @@ fn writes_that_fail(rt: HostRuntime) {
         let writes = written.as_slice() == &wanted[..room];
         assert_eq!(rt; (result, writes), (Err(CommandFault::Write), true));
     }
+}
+
+/// What a script prints with pages.
+fn replayed_with_pages(alloc: Global, text: &[u8]) -> Vec<u8> {
+    let mut writer = Watched::new(Vec::new(alloc));
+    let _ = replay_script(alloc, true, &mut Watched::new(text), &mut writer);
+    writer.into_inner()
+}
+
+#[test]
+fn pages_stand_behind_puts(rt: HostRuntime) {
+    let text = b"pages 4\ninsert 5 50\nrun 1 9\n".as_slice();
+    let wanted =
+        b"1 begin\n1 get 0\n1 latch 1\n1 get 1\n1 put 1\n1 page 1 leaf 0 0 0 5 50\n1 open 1\n1 end\n1 answer inserted\n".as_slice();
+    assert!(rt; replayed_with_pages(rt.alloc(), text).as_slice() == wanted);
 }
 
 /// Holds whichever allocation is refused: the answer is Memory and a beginning of the output, or that of ample memory.
@@ -98,7 +118,7 @@ fn is_no_file(rt: &HostRuntime, path: &str) -> bool {
     let mut writer = Watched::new(Vec::new(rt.alloc()));
     let checked = check_file(rt, path, &mut writer);
     let drawn = draw_file(rt, path, Form::Text, &mut writer);
-    let replayed = replay_file(rt, path, &mut writer);
+    let replayed = replay_file(rt, path, false, &mut writer);
     checked == Err(CommandFault::Read)
         && drawn == Err(CommandFault::Read)
         && replayed == Err(CommandFault::Read)
@@ -172,7 +192,7 @@ impl Read for Endless {
 fn replay_endless(alloc: Global, beginning: &[u8]) -> Result<(), CommandFault> {
     let mut writer = Watched::new(Vec::new(alloc));
     let file = ScriptFile::new(beginning.chain(Endless));
-    replay_script(alloc, &mut Watched::new(file), &mut writer)
+    replay_script(alloc, false, &mut Watched::new(file), &mut writer)
 }
 
 #[test]

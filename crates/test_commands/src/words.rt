@@ -175,7 +175,7 @@ fn words_of_the_command_line(rt: HostRuntime) -> Result<(), Fail> {
 fn is_for_file(invocation: &Invocation, file: &str) -> (bool, bool) {
     match invocation {
         Invocation::Check(named) => (named.as_str() == file, false),
-        Invocation::Replay(named) => (false, named.as_str() == file),
+        Invocation::Replay(named, _) => (false, named.as_str() == file),
         _ => (false, false),
     }
 }
@@ -193,6 +193,28 @@ fn words_that_name_a_file(rt: HostRuntime) -> Result<(), Fail> {
     let checked = reads_file(rt.alloc(), "blink check image", "image")?;
     let replayed = reads_file(rt.alloc(), "blink replay script", "script")?;
     assert_eq!(rt; (checked, replayed), ((true, false), (false, true)));
+    Ok(())
+}
+
+/// Whether a replay is to print what stands in each page that is put, None where none is asked for.
+fn wants_pages(alloc: Global, text: &str) -> Result<Option<bool>, Fail> {
+    Ok(match invoked(alloc, text)? {
+        Some(Invocation::Replay(_, with_pages)) => Some(with_pages),
+        _ => None,
+    })
+}
+
+#[test]
+fn words_that_ask_for_pages(rt: HostRuntime) -> Result<(), Fail> {
+    for (text, wanted) in [
+        ("blink replay script", Some(false)),
+        ("blink replay --pages script", Some(true)),
+        ("blink replay script --pages", Some(true)),
+        ("blink replay --html script", None),
+        ("blink draw --pages image", None),
+    ] {
+        assert!(rt; wants_pages(rt.alloc(), text)? == wanted, "{text}");
+    }
     Ok(())
 }
 

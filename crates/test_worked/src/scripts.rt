@@ -93,7 +93,7 @@ fn tell(rt: &HostRuntime, name: &str, wrong: Option<usize>) -> anyhow::Result<bo
 /// All that `blink replay` prints for a script.
 fn printed(alloc: Global, script: &[u8]) -> anyhow::Result<Vec<u8>> {
     let mut writer = Watched::new(Vec::new(alloc));
-    let result = replay_script(alloc, &mut Watched::new(script), &mut writer);
+    let result = replay_script(alloc, false, &mut Watched::new(script), &mut writer);
     let mut text = writer.into_inner();
     if let Err(fault) = result {
         let line = format!(in alloc; "{fault}\n")?;

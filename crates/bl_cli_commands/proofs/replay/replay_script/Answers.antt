@@ -13,9 +13,9 @@ returns-clause-replays g c =
     let fault = c.in-Err-replay.fault in (
       read.0,
       read.1,
-      subst (λ (f : CommandFault). StopsReplay f read.0 (IsAtEnd (g.R.Read.remaining c.read_script.new.reader.inner)) (c.read_script.new.reader.failed ≡ true) (c.replay.new.writer.failed ≡ true) (g.W.Write.contents c.args.writer.now.inner) (g.W.Write.contents c.replay.new.writer.inner))
+      subst (λ (f : CommandFault). StopsReplay c.args.with_pages f read.0 (IsAtEnd (g.R.Read.remaining c.read_script.new.reader.inner)) (c.read_script.new.reader.failed ≡ true) (c.replay.new.writer.failed ≡ true) (g.W.Write.contents c.args.writer.now.inner) (g.W.Write.contents c.replay.new.writer.inner))
           (sym c.from-in-Err-replay.ensures)
-          (stops_replaying fault read.0 _ _ _ _ _
+          (stops_replaying c.args.with_pages fault read.0 _ _ _ _ _
           (record { pages = c.in-Ok.script.pages; commands = c.in-Ok.script.commands.items; script = read.2.0; whole = read.2.1; text = broken.0; played = broken.1; written = broken.2 })
           (λ is. c.in-Err-replay.ensures.write (ap Err is))),
     )

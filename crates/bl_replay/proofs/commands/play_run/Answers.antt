@@ -13,7 +13,7 @@ returns-in_err-play_chosen-in-None-clause-err g c =
     let i = c.loop.invariant in
     let e = c.in_err-play_chosen-in-None.ensures.err in
     let unanswered = subst (HasAnswer c.loop.world c.args.number) c.in-None.is c.answer_of.ensures in
-    let r = run_breaks c.args.number c.args.most c.loop.counter c.args.world.now c.loop.world i.text e.0 (omega (arith, c.loop-test.true)) i.printed unanswered e.1 in
+    let r = run_breaks c.args.with_pages c.args.number c.args.most c.loop.counter c.args.world.now c.loop.world i.text e.0 (omega (arith, c.loop-test.true)) i.printed unanswered e.1 in
     err_of c.from_residual.result (i.text ++ e.0, r.0, r.1, r.2, r.3, emits_stop _ _ _ c.args.pending.now.items c.loop.pending.items i.text e.0 i.emitted e.2)
 
 pub loop-preserved : goal.loop-preserved

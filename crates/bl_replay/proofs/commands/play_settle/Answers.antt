@@ -14,7 +14,7 @@ pub returns-in_err-play_chosen-in-Some-clause-err : goal.returns-in_err-play_cho
 returns-in_err-play_chosen-in-Some-clause-err g c =
     let i = c.loop.invariant in
     let e = c.in_err-play_chosen-in-Some.ensures.err in
-    let r = settle_breaks c.in-Some.number c.args.most c.loop.counter c.args.world.now c.loop.world i.text e.0 (omega (arith, c.loop-test.true)) i.printed c.in-Some.ensures.goes.0 e.1 in
+    let r = settle_breaks c.args.with_pages c.in-Some.number c.args.most c.loop.counter c.args.world.now c.loop.world i.text e.0 (omega (arith, c.loop-test.true)) i.printed c.in-Some.ensures.goes.0 e.1 in
     err_of c.from_residual.result (i.text ++ e.0, r.0, r.1, r.2, r.3, emits_stop _ _ _ c.args.pending.now.items c.loop.pending.items i.text e.0 i.emitted e.2)
 
 pub loop-preserved : goal.loop-preserved

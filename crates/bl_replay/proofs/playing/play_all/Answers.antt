@@ -28,7 +28,7 @@ returns-in_err-play_command-clause-err g c =
     let e = c.in_err-play_command.ensures.err in
     err_of c.from_residual.result (
       n.text ++ e.0,
-      breaks_off c.args.world.now c.loop-command.world commands i _ n.text e.0 at n.played e.1,
+      breaks_off c.args.with_pages c.args.world.now c.loop-command.world commands i _ n.text e.0 at n.played e.1,
       emits_stop _ _ _ c.args.pending.now.items c.loop-command.pending.items n.text e.0 n.emitted e.2,
     )
 
@@ -42,7 +42,7 @@ loop-command-preserved g c =
     let more = started_further commands i _ at in
     record {
       text = n.text ++ e.0;
-      played = plays_further c.args.world.now c.loop-command.world c.play_command.new.world commands i _ n.text e.0 at n.played e.1;
+      played = plays_further c.args.with_pages c.args.world.now c.loop-command.world c.play_command.new.world commands i _ n.text e.0 at n.played e.1;
       emitted = emits_more _ _ _ c.args.pending.now.items c.loop-command.pending.items c.play_command.new.pending.items n.text e.0 n.emitted e.2;
       count = omega (arith, more, n.count, c.in_ok-play_command.ensures.count);
       size = c.in_ok-play_command.ensures.size ∙ n.size;
