@@ -1,5 +1,5 @@
 -- Lines that are answered one after another.
-use Rattle.std.proofs.Common.{◌≡◌, ℕ, suc, ◌+◌, ◌-◌, List, [], ◌∷◌, ◌++◌, length, length-append, refl, sym, ap, ◌∙◌, subst, append_assoc, arith, append-nil}
+use Rattle.std.proofs.Common.{◌≡◌, ℕ, suc, ◌+◌, ◌-◌, ◌≤◌, List, [], ◌∷◌, ◌++◌, length, length-append, refl, sym, ap, ◌∙◌, subst, append_assoc, arith, append-nil}
 use Rattle.std.specs.Prelude.{Option, Some, None, flat_map, map, codes, decimal}
 use Rattle.std.specs.List.{AllZip}
 use Rattle.std.proofs.lemmas.List.{flat_map_more, map-append}
@@ -82,6 +82,10 @@ one_more first pages pass n numbers lines asked text more lengths longer old mid
       seen = λ s. b.seen (a.seen s);
       mine = b.mine ∙ (ap (λ (z : List Entry). z ++ entries b.answer) a.mine ∙ (append_assoc (own pass old) (flat_map entries a.answers) (entries b.answer) ∙ ap (λ (z : List Entry). own pass old ++ z) (flat_map_more entries [] a.answers b.answer)));
     }
+
+-- the text has as many bytes as before, or more
+pub text_grows : (first : List (Option Page)) (pages pass n : ℕ) (asked : Option Request) (text more : List ℕ) (old new : Trail) → AnswersLine first pages pass n asked text more old new → length text ≤ length more
+text_grows first pages pass n asked text more old new l = let whole = ap length l.prints in let sum = length-append text (numbered n (answer_text l.answer)) in omega (arith, whole, sum)
 
 -- ---- single lines
 
