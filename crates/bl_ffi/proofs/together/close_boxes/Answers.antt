@@ -1,4 +1,4 @@
-use Rattle.std.proofs.Common.{◌≡◌, ◌+◌, ◌*◌, Some, List, length, inl, inr, refl, sym, ap, subst, ◌∙◌, arith}
+use Rattle.std.proofs.Common.{◌≡◌, ◌+◌, ◌*◌, ◌++◌, ℤ, pos, to_z, of_z, w32, Option, Some, List, length, drop, inl, inr, refl, sym, ap, subst, ◌∙◌, arith}
 use Rattle.std.specs.Prelude.{slice_get}
 use Rattle.std.specs.Arc.{arc_value}
 use Rattle.std.proofs.lemmas.List.{length-take-le}
@@ -8,7 +8,10 @@ use Rattle.bl_image.specs.declared.image.Image.{Image}
 use Rattle.bl_ffi_seats.specs.Closed.{values}
 use Rattle.bl_ffi_seats.specs.declared.seat.Seat.{Seat}
 use Rattle.bl_ffi_seats.proofs.Closings.{Boxed}
-use Rattle.bl_ffi.specs.Places.{seats_in}
+use Rattle.bl_index.specs.declared.config.CloseFault.{CloseFault}
+use Rattle.bl_index.specs.declared.config.CloseFault.TheVariants as fault
+use Rattle.bl_ffi.specs.Places.{seats_in, closed, opened, placed}
+use Rattle.bl_ffi.specs.Together.{IsCodeOfFault}
 use Rattle.bl_ffi.proofs.Placing.{put_full, pages_closed, value_length}
 use Rattle.bl_ffi.proofs.ClosedTo.{too_long, back_fits, closed_to}
 use Rattle.bl_ffi.proofs.together.close_boxes.Goals as goal
@@ -47,3 +50,20 @@ returns-in-Ok c =
           (sym (value_length boxes ∙ c.requires.count)) c.requires.empty (subst (λ (z : Image). IsImage z.pages.items c.spell.new.bytes) c.image.ensures.same c.spell.ensures)
           (c.spell.auto.bytes ∙ length-take-le c.image_length-needed.result c.args.bytes.now (omega (arith, c.if-needed-bytes.false))),
     )
+
+-- the code is the same, as a number of 32 bits
+code_again : (why : CloseFault) (code : ℤ) → IsCodeOfFault why code → IsCodeOfFault why (to_z w32 (of_z w32 code))
+code_again fault.Underway code is = ap (λ (z : ℤ). to_z w32 (of_z w32 z)) is
+code_again fault.Missing code is = ap (λ (z : ℤ). to_z w32 (of_z w32 z)) is
+code_again fault.Shared code is = ap (λ (z : ℤ). to_z w32 (of_z w32 z)) is
+code_again fault.Memory code is = ap (λ (z : ℤ). to_z w32 (of_z w32 z)) is
+code_again fault.Lost code is = ap (λ (z : ℤ). to_z w32 (of_z w32 z)) is
+
+pub returns-in-Err : goal.returns-in-Err
+returns-in-Err c =
+    let boxes = c.args.boxes.items in let back = c.in-Err.boxes.items in
+    let all : length (values boxes) ≡ length c.args.places.now = value_length boxes ∙ c.requires.count in
+    let are : seats_in c.put_all-in-Err.new.places ≡ placed (values back) (length (values boxes)) =
+    c.put_all-in-Err.ensures ∙ (ap (λ (z : List (Option Seat)). opened (values back) ++ drop (length back) z) c.requires.empty
+    ∙ (ap (λ n. opened (values back) ++ drop (length back) (closed n)) (sym all) ∙ ap (λ n. opened (values back) ++ drop n (closed (length (values boxes)))) (sym (value_length back)))) in
+    inr (inr (c.in-Err.why, values back, code_again c.in-Err.why c.code_of.result c.code_of.ensures, c.in-Err.ensures.fault, are, refl))
