@@ -8,8 +8,8 @@ use Rattle.bl_image.specs.declared.image.Image.{Image}
 use Rattle.bl_ffi_seats.specs.Closed.{values}
 use Rattle.bl_ffi_seats.specs.declared.seat.Seat.{Seat}
 use Rattle.bl_ffi_seats.proofs.Closings.{Boxed}
-use Rattle.bl_index.specs.declared.config.CloseFault.{CloseFault}
-use Rattle.bl_index.specs.declared.config.CloseFault.TheVariants as fault
+use Rattle.bl_ffi_seats.specs.declared.closing.CloseFault.{CloseFault}
+use Rattle.bl_ffi_seats.specs.declared.closing.CloseFault.TheVariants as fault
 use Rattle.bl_ffi.specs.Places.{seats_in, closed, opened, placed}
 use Rattle.bl_ffi.specs.Together.{IsCodeOfFault}
 use Rattle.bl_ffi.proofs.Placing.{put_full, pages_closed, value_length}
