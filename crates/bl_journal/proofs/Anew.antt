@@ -1,14 +1,15 @@
 -- A log that is written anew.
-use Rattle.std.proofs.Common.{◌≡◌, inl, ℕ, ◌+◌, ◌*◌, ◌<◌, ◌≤◌, ◌^◌, List, [], ◌∷◌, ◌++◌, length, Option, refl, sym, ◌∙◌, ap, subst, arith}
+use Rattle.std.proofs.Common.{◌≡◌, inl, ℕ, ◌+◌, ◌*◌, List, [], ◌∷◌, ◌++◌, length, Option, refl, sym, ◌∙◌, ap, arith}
 use Rattle.std.specs.Prelude.{replicate}
-use Rattle.bl_journal.specs.Records.{word_bytes, Fits64, mark, Begins, body_words}
+use Rattle.bl_image.specs.Images.{word_bytes}
+use Rattle.bl_journal.specs.Records.{mark, body_words}
 use Rattle.bl_journal.specs.Rows.{IsLeft}
-use Rattle.bl_journal.specs.Logs.{IsLogOf, EndsIn, HasRoom}
+use Rattle.bl_journal.specs.Logs.{EndsIn, HasRoom}
 use Rattle.bl_journal.specs.Parts.{IsNewLog}
-use Rattle.bl_journal.proofs.Spelling.{word_bytes-append, length-word_bytes, zero_bytes, fits-append, fits-zeros}
+use Rattle.bl_image.proofs.Chunks.{length-word_bytes}
+use Rattle.bl_journal.proofs.Spelling.{word_bytes-append, zero_bytes, fits-append, fits-zeros}
 use Rattle.bl_journal.proofs.Telling.{at_rest}
 use Rattle.bl_journal.proofs.Bodies.{left_of_rows}
-use Rattle.bl_journal.proofs.Filling.{log_of_room}
 
 pub new_room : (salt : ℕ) (rows : List (ℕ × ℕ)) (bytes : List ℕ) (m : ℕ → Option ℕ) (zeros k : ℕ) → IsNewLog salt rows bytes → IsLeft rows [] m → zeros ≡ 8 * k
     → HasRoom (bytes ++ replicate zeros 0) salt (length bytes) (length bytes + zeros) m

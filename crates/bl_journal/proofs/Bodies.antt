@@ -1,13 +1,14 @@
 -- The bodies of records: what they say, that words tell one list of them, and the map that is left.
-use Rattle.std.proofs.Common.{◌≡◌, ℕ, suc, ◌+◌, ◌*◌, ◌<◌, ◌≤◌, List, [], ◌∷◌, ◌++◌, length, take, drop, refl, sym, ◌∙◌, ap, subst, arith, length-append, Option}
+use Rattle.std.proofs.Common.{◌≡◌, ℕ, ◌+◌, ◌*◌, List, [], ◌∷◌, ◌++◌, length, take, drop, refl, sym, ◌∙◌, ap, subst, arith, Option}
 use Rattle.std.specs.Prelude.{flat_map}
 use Rattle.std.proofs.lemmas.List.{take_at, drop_at, append-nil}
 use Rattle.std.proofs.lemmas.Grind.{flat_map-append}
-use Rattle.bl_journal.specs.Rows.{times, has, IsLeft, Leads, AreLeft}
-use Rattle.bl_journal.specs.Records.{Begins, Tells, mark, HasRecords, row_words, rows_in, body_words, came_in, went_in, word_bytes, Fits64}
+use Rattle.bl_journal.specs.Rows.{times, IsLeft, Leads, AreLeft}
+use Rattle.bl_image.specs.Images.{word_bytes, Fits64}
+use Rattle.bl_journal.specs.Records.{Begins, Tells, HasRecords, row_words, rows_in, body_words, came_in, went_in}
 use Rattle.bl_journal.specs.Logs.{IsLogOf}
 use Rattle.bl_journal.proofs.Leaving.{times-append}
-use Rattle.bl_journal.proofs.Spelling.{word_bytes-same}
+use Rattle.bl_journal.proofs.Spelling.{bytes_same}
 use Rattle.bl_journal.specs.Parts.{TellsRows}
 
 length-row_words : (rows : List (ℕ × ℕ)) → length (row_words rows) ≡ 2 * length rows
@@ -89,7 +90,7 @@ left_of_rows rows m left key value =
 pub left_told : (bytes words records : List ℕ) (first salt : ℕ) (came went rows : List (ℕ × ℕ)) (m : ℕ → Option ℕ) → word_bytes words ≡ bytes → Fits64 words → words ≡ first ∷ salt ∷ records
     → IsLogOf bytes m → TellsRows salt records came went → AreLeft came went rows → IsLeft rows [] m
 left_told bytes words records first salt came went rows m spelled fits is log told are key value =
-    let same : log.words ≡ words = word_bytes-same log.words words log.fits fits (sym log.spelled ∙ sym spelled) in
+    let same : log.words ≡ words = bytes_same log.words words log.fits fits (sym log.spelled ∙ sym spelled) in
     let theirs : HasRecords (first ∷ salt ∷ records) log.bodies = subst (λ (l : List ℕ). HasRecords l log.bodies) (same ∙ is) log.records in
     let one = same_bodies salt records told.bodies log.bodies told.tells theirs.1 in
     let c1 = ap (λ (l : List (ℕ × ℕ)). times key value l) told.came_are in
@@ -101,7 +102,7 @@ left_told bytes words records first salt came went rows m spelled fits is log to
 -- where there is no log yet, the map has no rows
 pub left_none : (bytes words : List ℕ) (m : ℕ → Option ℕ) → word_bytes words ≡ bytes → Fits64 words → words ≡ [] → IsLogOf bytes m → IsLeft [] [] m
 left_none bytes words m spelled fits none log key value =
-    let same : log.words ≡ words = word_bytes-same log.words words log.fits fits (sym log.spelled ∙ sym spelled) in
+    let same : log.words ≡ words = bytes_same log.words words log.fits fits (sym log.spelled ∙ sym spelled) in
     let no_bodies : log.bodies ≡ [] = subst (λ (l : List ℕ). HasRecords l log.bodies) (same ∙ none) log.records in
     let c1 = ap (λ (bs : List (List ℕ)). times key value (flat_map came_in bs)) no_bodies in
     let c2 = ap (λ (bs : List (List ℕ)). times key value (flat_map went_in bs)) no_bodies in

@@ -1,14 +1,15 @@
 -- What a crash leaves while a record is written over the zeros of a log.
-use Rattle.std.proofs.Common.{◌≡◌, ◌⊎◌, inl, inr, ⊎_elim, ℕ, ◌+◌, ◌-◌, ◌*◌, ◌^◌, ◌<◌, ◌≤◌, List, [], ◌∷◌, ◌++◌, length, take, drop, Option, refl, sym, ◌∙◌, ap, subst, arith, append_assoc, length-append}
+use Rattle.std.proofs.Common.{◌≡◌, ◌⊎◌, inl, inr, ℕ, ◌+◌, ◌-◌, ◌*◌, ◌≤◌, List, [], ◌∷◌, ◌++◌, length, take, drop, Option, refl, sym, ◌∙◌, ap, subst, arith, append_assoc, length-append}
 use Rattle.std.specs.Prelude.{replicate, flat_map}
 use Rattle.std.proofs.lemmas.List.{take_at, drop_at, append-nil, drop-replicate, take-replicate, length-replicate}
 use Rattle.std.proofs.Math.Seq.{drop-append-add}
 use Rattle.bl_journal.specs.Files.{AreZeros, IsFilled, Fills}
-use Rattle.bl_journal.specs.Records.{word_bytes, Fits64, mark, Begins, Tells, HasRecords, body_words, came_in, went_in}
+use Rattle.bl_image.specs.Images.{word_bytes, Fits64}
+use Rattle.bl_journal.specs.Records.{mark, Begins, Tells, body_words, came_in, went_in}
 use Rattle.bl_journal.specs.Rows.{IsLeft, Leads}
 use Rattle.bl_journal.specs.Logs.{IsLogOf, EndsIn, Spells, HasRoom}
-use Rattle.bl_journal.proofs.Spelling.{word_bytes-append, length-word_bytes, zero_bytes, fits-append, fits-zeros, left_of, LeftOf}
-use Rattle.bl_journal.proofs.Torn.{length_at_most}
+use Rattle.bl_image.proofs.Chunks.{length-word_bytes}
+use Rattle.bl_journal.proofs.Spelling.{word_bytes-append, zero_bytes, fits-append, fits-zeros, left_of, LeftOf}
 use Rattle.bl_journal.proofs.Telling.{torn_tells, spells_then_tells, spells_push, at_rest, no_zeros}
 use Rattle.bl_journal.proofs.Bodies.{left_more}
 

@@ -1,5 +1,5 @@
 -- A journal that keeps a map.
-use Rattle.std.proofs.Common.{◌≡◌, ◌⊎◌, inl, inr, ℕ, ◌<◌, ◌≤◌, List, [], ◌∷◌, Option, sym, subst, arith}
+use Rattle.std.proofs.Common.{ℕ, List, [], Option, sym, subst}
 use Rattle.std.specs.Prelude.{flat_map}
 use Rattle.bl_journal.specs.Files.{Only}
 use Rattle.bl_journal.specs.Records.{came_in, went_in}

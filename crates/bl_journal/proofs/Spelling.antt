@@ -1,15 +1,16 @@
 -- Words as bytes, and what is left of bytes that were written over zeros.
-use Rattle.std.proofs.Common.{◌≡◌, ◌⊎◌, ⊎_elim, ℕ, zero, suc, ◌+◌, ◌*◌, ◌^◌, ◌<◌, ◌≤◌, List, [], ◌∷◌, ◌++◌, length, get_or, take, drop, refl, ap, sym, subst, ◌∙◌, inl, inr, arith, append_assoc}
-use Rattle.std.specs.Prelude.{replicate, flat_map}
-use Rattle.std.specs.List.{AllZip, AllByRecursion}
-use Rattle.std.specs.Int.{w64, from_le_bytes}
-use Rattle.std.proofs.lemmas.Nat.{le_bytes_8, from_le_bytes-to_le_bytes_8}
+use Rattle.std.proofs.Common.{◌≡◌, ◌⊎◌, ⊎_elim, ℕ, zero, suc, ◌+◌, ◌*◌, ◌^◌, ◌<◌, ◌≤◌, List, [], ◌∷◌, ◌++◌, length, get_or, take, drop, refl, ap, sym, ◌∙◌, inl, inr, arith, append_assoc}
+use Rattle.std.specs.Prelude.{replicate}
+use Rattle.std.specs.List.{AllZip}
+use Rattle.std.proofs.lemmas.Nat.{from_le_bytes-to_le_bytes_8}
 use Rattle.std.proofs.lemmas.Bool.{cases_lt}
-use Rattle.std.proofs.lemmas.List.{append-nil, take_at, take_more, replicate-append-replicate, get_or-drop, get_or-take, get_or_past, length-take}
+use Rattle.std.proofs.lemmas.List.{append-nil, take_all, take_more, replicate-append-replicate, get_or-drop, get_or-take, get_or_past, length-take}
 use Rattle.std.proofs.lemmas.List.Concat.{flat_map-append}
 use Rattle.byteorder.specs.Endian.{little_bytes, little_number}
+use Rattle.bl_image.proofs.Bytes.{again as number_again}
+use Rattle.bl_image.proofs.Chunks.{word_bytes-same, length-word_bytes}
 use Rattle.bl_journal.specs.Files.{AreTorn}
-use Rattle.bl_journal.specs.Records.{word_bytes, Fits64}
+use Rattle.bl_image.specs.Images.{word_bytes, Fits64}
 
 pub fits_64 : (words : List ℕ) → ((i : ℕ) → get_or words i 0 < 2 ^ 64) → Fits64 words
 fits_64 [] h = tt
@@ -26,10 +27,6 @@ fits-zeros (suc n) = (omega arith, fits-zeros n)
 pub word_bytes-append : (a b : List ℕ) → word_bytes (a ++ b) ≡ word_bytes a ++ word_bytes b
 word_bytes-append a b = flat_map-append (little_bytes 8) a b
 
-pub length-word_bytes : (words : List ℕ) → length (word_bytes words) ≡ 8 * length words
-length-word_bytes [] = refl
-length-word_bytes (word ∷ words) = let more = length-word_bytes words in omega (arith, more)
-
 pub zero_bytes : (n : ℕ) → replicate (8 * n) 0 ≡ word_bytes (replicate n 0)
 zero_bytes zero = refl
 zero_bytes (suc n) = ap (λ (m : ℕ). replicate m 0) (let e : 8 * suc n ≡ 8 + 8 * n = omega arith in e) ∙ sym (replicate-append-replicate 8 (8 * n) 0) ∙ ap (λ (l : List ℕ). 0 ∷ 0 ∷ 0 ∷ 0 ∷ 0 ∷ 0 ∷ 0 ∷ 0 ∷ l) (zero_bytes n)
@@ -37,14 +34,8 @@ zero_bytes (suc n) = ap (λ (m : ℕ). replicate m 0) (let e : 8 * suc n ≡ 8 +
 read_back : (word : ℕ) (rest : List ℕ) → word < 2 ^ 64 → little_number 8 (little_bytes 8 word ++ rest) ≡ word
 read_back word rest small = let back = from_le_bytes-to_le_bytes_8 word small in omega (arith, back)
 
-pub word_bytes-same : (a b : List ℕ) → Fits64 a → Fits64 b → word_bytes a ≡ word_bytes b → a ≡ b
-word_bytes-same [] [] small_a small_b e = refl
-word_bytes-same [] (y ∷ b) small_a small_b e = absurd (omega (arith, ap length e))
-word_bytes-same (x ∷ a) [] small_a small_b e = absurd (omega (arith, ap length e))
-word_bytes-same (x ∷ a) (y ∷ b) small_a small_b e =
-    let first : x ≡ y = sym (read_back x (word_bytes a) small_a.0) ∙ ap (little_number 8) e ∙ read_back y (word_bytes b) small_b.0 in
-    let rest = word_bytes-same a b small_a.1 small_b.1 (ap (drop 8) e) in
-    ap (λ w. w ∷ a) first ∙ ap (λ t. y ∷ t) rest
+pub bytes_same : (a b : List ℕ) → Fits64 a → Fits64 b → word_bytes a ≡ word_bytes b → a ≡ b
+bytes_same a b small_a small_b e = word_bytes-same a b (omega (arith, length-word_bytes a, length-word_bytes b, ap length e)) small_a small_b e
 
 abbrev pub AreBytes : List ℕ → Type 0
 AreBytes bytes = (i : ℕ) → get_or bytes i 0 < 256
@@ -60,7 +51,7 @@ AreBytes-drop n bytes small i = rw get_or-drop (small (n + i))
 
 -- eight bytes, read as a number and written again
 pub again : (bytes : List ℕ) → length bytes ≡ 8 → AreBytes bytes → little_bytes 8 (little_number 8 bytes) ≡ bytes
-again bytes long small = le_bytes_8 bytes (little_number 8 bytes) long small (let e : little_number 8 bytes ≡ from_le_bytes w64 bytes = omega arith in e)
+again bytes long small = number_again bytes (omega (arith, long)) small ∙ take_all 8 bytes (omega (arith, long))
 
 -- one word more, as it was written
 pub spelled_more : (words : List ℕ) (i word : ℕ) (bytes new : List ℕ) → i < length words → word ≡ get_or words i word → bytes ≡ word_bytes (take i words)

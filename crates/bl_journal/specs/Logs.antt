@@ -1,7 +1,8 @@
 -- What a log stands for, and a journal between two calls.
 use Rattle.std.specs.Prelude.{◌≡◌, ◌⊎◌, ℕ, ◌+◌, ◌*◌, ◌<◌, List, [], ◌∷◌, ◌++◌, length, replicate, flat_map, Option}
 use Rattle.bl_journal.specs.Files.{Only}
-use Rattle.bl_journal.specs.Records.{word_bytes, Fits64, mark, came_in, went_in, Begins, HasRecords}
+use Rattle.bl_image.specs.Images.{word_bytes, Fits64}
+use Rattle.bl_journal.specs.Records.{mark, came_in, went_in, Begins, HasRecords}
 use Rattle.bl_journal.specs.Rows.{IsLeft}
 use Rattle.bl_journal.specs.declared.journal.Journal.{Journal}
 
@@ -39,6 +40,10 @@ pub record HasRoom (file : List ℕ) (salt end size : ℕ) (m : ℕ → Option �
   pub ends : end ≡ 16 + 8 * length front
   pub sized : size ≡ end + 8 * zeros
   pub left : IsLeft (flat_map came_in bodies) (flat_map went_in bodies) m
+
+-- the file of a journal
+abbrev pub device_of : {D : Type 0} → Journal D → D
+device_of journal = journal.device
 
 -- The file is the log of that map, all of it on the disk; and where the journal says that there is room behind its records, there are zeros.
 pub record KeepsMap {D : Type 0} (seen : D → List ℕ) (moment : D → ℕ) (leaves : D → ℕ → List ℕ → Type 0) (m : ℕ → Option ℕ) (journal : Journal D) : Type 0 where

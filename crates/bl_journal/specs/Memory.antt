@@ -1,5 +1,5 @@
 -- A file in memory, and what it has been.
-use Rattle.std.specs.Prelude.{◌≡◌, ℕ, zero, suc, List, [], ◌∷◌, ◌++◌, map, Vec, length}
+use Rattle.std.specs.Prelude.{ℕ, zero, suc, List, [], ◌∷◌, Vec}
 use Rattle.std.specs.declared.alloc.Global.{Global}
 use Rattle.bl_journal.specs.declared.memory.Memory.{Memory}
 

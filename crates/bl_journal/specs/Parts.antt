@@ -1,6 +1,7 @@
 -- What the parts of a call promise each other.
 use Rattle.std.specs.Prelude.{◌≡◌, ℕ, List, [], ◌∷◌, flat_map}
-use Rattle.bl_journal.specs.Records.{word_bytes, Fits64, mark, Begins, Tells, body_words, came_in, went_in}
+use Rattle.bl_image.specs.Images.{word_bytes, Fits64}
+use Rattle.bl_journal.specs.Records.{mark, Begins, Tells, body_words, came_in, went_in}
 
 -- The words tell these rows that came and these that went.
 pub record TellsRows (salt : ℕ) (words : List ℕ) (came went : List (ℕ × ℕ)) : Type 0 where

@@ -1,15 +1,5 @@
 -- The words of a log: its head, records, and zeros.
-use Rattle.std.specs.Prelude.{◌≡◌, ℕ, ◌+◌, ◌*◌, ◌^◌, ◌<◌, List, [], ◌∷◌, ◌++◌, length, take, drop, sum, flat_map}
-use Rattle.std.specs.List.{AllByRecursion}
-use Rattle.byteorder.specs.Endian.{little_bytes}
-
--- each word as eight bytes, the lowest first
-abbrev pub word_bytes : List ℕ → List ℕ
-word_bytes words = flat_map (little_bytes 8) words
-
--- words of 64 bits
-abbrev pub Fits64 : List ℕ → Type 0
-Fits64 words = AllByRecursion (λ word. word < 2 ^ 64) words
+use Rattle.std.specs.Prelude.{◌≡◌, ℕ, ◌+◌, ◌*◌, ◌^◌, ◌<◌, List, [], ◌∷◌, ◌++◌, length, take, drop, sum}
 
 -- the words of rows: each key and its value
 abbrev pub row_words : List (ℕ × ℕ) → List ℕ

@@ -3,7 +3,8 @@
 use crate::device::DeviceFault;
 use std::alloc::AllocError;
 
-/// Why a log is not read, or not written to. A journal that has told one is not gone on with: the log is read again.
+/// Why a log is not read, or not written to, as far as the journal can tell: no clause says that there was cause. A journal that has told
+/// one is not gone on with: the log is read again.
 #[derive(Clone, Copy, Debug, PartialEq, Eq)]
 pub enum LogFault {
     /// There was no memory.

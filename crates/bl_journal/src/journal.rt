@@ -4,7 +4,7 @@ ghost use Rattle.std.specs.Prelude.{◌≡◌, ◌⊎◌, ◌+◌, ◌*◌, ◌%
 ghost use Rattle.bl_journal.specs.Files.{LeavesOnly, Only};
 ghost use Rattle.bl_journal.specs.Records.{Begins, body_words};
 ghost use Rattle.bl_journal.specs.Rows.{IsLeft, Leads};
-ghost use Rattle.bl_journal.specs.Logs.{IsLogOf, EndsIn, KeepsMap};
+ghost use Rattle.bl_journal.specs.Logs.{IsLogOf, EndsIn, KeepsMap, device_of};
 ghost use Rattle.bl_journal.specs.Parts.{IsNewLog};
 
 use crate::device::Device;
@@ -73,10 +73,10 @@ impl<D: Device + Drop> Journal<D> {
     /// A journal over a log that was read, or over no file. With the first commit the log is written anew, with that salt: a number that
     /// nobody can foresee who chooses keys and values. Until then nothing is written, so it needs no room.
     pub fn over(device: D, salt: u64) -> Journal<D>
-        ensures modelled { D.is_modelled device → D.is_modelled result.device }
+        ensures modelled { D.is_modelled device → D.is_modelled (device_of result) }
         ensures keeps { D.is_modelled device → Only (D.seen device) (D.leaves device (D.moment device)) → (m : ℕ → Option ℕ) → IsLogOf (D.seen device) m
             → KeepsMap D.seen D.moment D.leaves m result }
-        ensures same { result.device ≡ device }
+        ensures same { device_of result ≡ device }
     {
         Journal {
             device,
@@ -88,18 +88,18 @@ impl<D: Device + Drop> Journal<D> {
 
     /// Its file.
     pub fn into_device(self) -> D
-        ensures { result ≡ self.device }
+        ensures { result ≡ device_of self }
     {
         self.device
     }
 
     /// Writes the log anew, with one record of these rows.
     fn begin_anew(&mut self, alloc: Global, rows: &[(u64, u64)]) -> Result<(), LogFault>
-        ensures modelled { D.is_modelled self.old.device → D.is_modelled self.new.device }
-        ensures kept { D.is_modelled self.old.device → (m : ℕ → Option ℕ) → IsLeft rows.now [] m → OnOk result (KeepsMap D.seen D.moment D.leaves m self.new) }
-        ensures ends { D.is_modelled self.old.device → (last : List ℕ) → OnOk result (EndsIn (D.seen self.new.device) last) }
-        ensures any_moment { D.is_modelled self.old.device → (m : ℕ → Option ℕ) → IsLeft rows.now [] m
-            → LeavesOnly D.moment D.leaves self.old.device self.new.device (λ c. D.leaves self.old.device (D.moment self.old.device) c ⊎ IsLogOf c m) }
+        ensures modelled { D.is_modelled (device_of self.old) → D.is_modelled (device_of self.new) }
+        ensures kept { D.is_modelled (device_of self.old) → (m : ℕ → Option ℕ) → IsLeft rows.now [] m → OnOk result (KeepsMap D.seen D.moment D.leaves m self.new) }
+        ensures ends { D.is_modelled (device_of self.old) → (last : List ℕ) → OnOk result (EndsIn (D.seen (device_of self.new)) last) }
+        ensures any_moment { D.is_modelled (device_of self.old) → (m : ℕ → Option ℕ) → IsLeft rows.now [] m
+            → LeavesOnly D.moment D.leaves (device_of self.old) (device_of self.new) (λ c. D.leaves (device_of self.old) (D.moment (device_of self.old)) c ⊎ IsLogOf c m) }
     {
         let bytes = new_log(alloc, self.salt, rows)?;
         let zeros = room_behind(bytes.len());
@@ -111,17 +111,17 @@ impl<D: Device + Drop> Journal<D> {
 
     /// Writes a record over the zeros, of which there are enough.
     fn append(&mut self, alloc: Global, words: &[u64]) -> Result<(), LogFault>
-        requires kept { D.is_modelled self.old.device → (m : ℕ → Option ℕ) × KeepsMap D.seen D.moment D.leaves m self.old }
+        requires kept { D.is_modelled (device_of self.old) → (m : ℕ → Option ℕ) × KeepsMap D.seen D.moment D.leaves m self.old }
         requires room { (self.old.end + 8 * length words.now ≤ self.old.size) × (self.old.size < 2 ^ 64) }
         requires some { 0 < length words.now }
-        ensures modelled { D.is_modelled self.old.device → D.is_modelled self.new.device }
-        ensures kept { D.is_modelled self.old.device → (old new : ℕ → Option ℕ) (came went : List (ℕ × ℕ)) → KeepsMap D.seen D.moment D.leaves old self.old
+        ensures modelled { D.is_modelled (device_of self.old) → D.is_modelled (device_of self.new) }
+        ensures kept { D.is_modelled (device_of self.old) → (old new : ℕ → Option ℕ) (came went : List (ℕ × ℕ)) → KeepsMap D.seen D.moment D.leaves old self.old
             → Begins self.old.salt words.now (body_words came went) [] → Leads came went old new → OnOk result (KeepsMap D.seen D.moment D.leaves new self.new) }
-        ensures ends { D.is_modelled self.old.device → (came went : List (ℕ × ℕ)) → Begins self.old.salt words.now (body_words came went) []
-            → OnOk result (EndsIn (D.seen self.new.device) (body_words came went)) }
-        ensures any_moment { D.is_modelled self.old.device → (old new : ℕ → Option ℕ) (came went : List (ℕ × ℕ)) → KeepsMap D.seen D.moment D.leaves old self.old
+        ensures ends { D.is_modelled (device_of self.old) → (came went : List (ℕ × ℕ)) → Begins self.old.salt words.now (body_words came went) []
+            → OnOk result (EndsIn (D.seen (device_of self.new)) (body_words came went)) }
+        ensures any_moment { D.is_modelled (device_of self.old) → (old new : ℕ → Option ℕ) (came went : List (ℕ × ℕ)) → KeepsMap D.seen D.moment D.leaves old self.old
             → Begins self.old.salt words.now (body_words came went) [] → Leads came went old new
-            → LeavesOnly D.moment D.leaves self.old.device self.new.device (λ c. IsLogOf c old ⊎ IsLogOf c new) }
+            → LeavesOnly D.moment D.leaves (device_of self.old) (device_of self.new) (λ c. IsLogOf c old ⊎ IsLogOf c new) }
     {
         let bytes = spell(alloc, words)?;
         self.device.fill(self.end, bytes.as_slice())?;
@@ -137,13 +137,13 @@ impl<D: Device + Drop> Journal<D> {
         came: &[(u64, u64)],
         went: &[(u64, u64)],
     ) -> Result<(), LogFault>
-        requires kept { D.is_modelled self.old.device → (m : ℕ → Option ℕ) × KeepsMap D.seen D.moment D.leaves m self.old }
-        ensures modelled { D.is_modelled self.old.device → D.is_modelled self.new.device }
-        ensures kept { D.is_modelled self.old.device → (old new : ℕ → Option ℕ) → KeepsMap D.seen D.moment D.leaves old self.old
+        requires kept { D.is_modelled (device_of self.old) → (m : ℕ → Option ℕ) × KeepsMap D.seen D.moment D.leaves m self.old }
+        ensures modelled { D.is_modelled (device_of self.old) → D.is_modelled (device_of self.new) }
+        ensures kept { D.is_modelled (device_of self.old) → (old new : ℕ → Option ℕ) → KeepsMap D.seen D.moment D.leaves old self.old
             → Leads came.now went.now old new → OnOk result (KeepsMap D.seen D.moment D.leaves new self.new) }
-        ensures ends { D.is_modelled self.old.device → (last : List ℕ) → OnOk result (EndsIn (D.seen self.new.device) last) }
-        ensures any_moment { D.is_modelled self.old.device → (old new : ℕ → Option ℕ) → KeepsMap D.seen D.moment D.leaves old self.old
-            → Leads came.now went.now old new → LeavesOnly D.moment D.leaves self.old.device self.new.device (λ c. IsLogOf c old ⊎ IsLogOf c new) }
+        ensures ends { D.is_modelled (device_of self.old) → (last : List ℕ) → OnOk result (EndsIn (D.seen (device_of self.new)) last) }
+        ensures any_moment { D.is_modelled (device_of self.old) → (old new : ℕ → Option ℕ) → KeepsMap D.seen D.moment D.leaves old self.old
+            → Leads came.now went.now old new → LeavesOnly D.moment D.leaves (device_of self.old) (device_of self.new) (λ c. IsLogOf c old ⊎ IsLogOf c new) }
     {
         let rows = read(alloc, &mut self.device)?;
         let after = changed_rows(alloc, rows, came, went)?;
@@ -157,13 +157,13 @@ impl<D: Device + Drop> Journal<D> {
         came: &[(u64, u64)],
         went: &[(u64, u64)],
     ) -> Result<(), LogFault>
-        requires kept { D.is_modelled self.old.device → (m : ℕ → Option ℕ) × KeepsMap D.seen D.moment D.leaves m self.old }
-        ensures modelled { D.is_modelled self.old.device → D.is_modelled self.new.device }
-        ensures kept { D.is_modelled self.old.device → (old new : ℕ → Option ℕ) → KeepsMap D.seen D.moment D.leaves old self.old
+        requires kept { D.is_modelled (device_of self.old) → (m : ℕ → Option ℕ) × KeepsMap D.seen D.moment D.leaves m self.old }
+        ensures modelled { D.is_modelled (device_of self.old) → D.is_modelled (device_of self.new) }
+        ensures kept { D.is_modelled (device_of self.old) → (old new : ℕ → Option ℕ) → KeepsMap D.seen D.moment D.leaves old self.old
             → Leads came.now went.now old new → OnOk result (KeepsMap D.seen D.moment D.leaves new self.new) }
-        ensures ends { D.is_modelled self.old.device → OnOk result (EndsIn (D.seen self.new.device) (body_words came.now went.now)) }
-        ensures any_moment { D.is_modelled self.old.device → (old new : ℕ → Option ℕ) → KeepsMap D.seen D.moment D.leaves old self.old
-            → Leads came.now went.now old new → LeavesOnly D.moment D.leaves self.old.device self.new.device (λ c. IsLogOf c old ⊎ IsLogOf c new) }
+        ensures ends { D.is_modelled (device_of self.old) → OnOk result (EndsIn (D.seen (device_of self.new)) (body_words came.now went.now)) }
+        ensures any_moment { D.is_modelled (device_of self.old) → (old new : ℕ → Option ℕ) → KeepsMap D.seen D.moment D.leaves old self.old
+            → Leads came.now went.now old new → LeavesOnly D.moment D.leaves (device_of self.old) (device_of self.new) (λ c. IsLogOf c old ⊎ IsLogOf c new) }
     {
         let record = record_of(alloc, self.salt, came, went)?;
         if record.len() > self.size.saturating_sub(self.end) / WORD {
@@ -180,13 +180,13 @@ impl<D: Device + Drop> Journal<D> {
         came: &[(u64, u64)],
         went: &[(u64, u64)],
     ) -> Result<(), LogFault>
-        requires kept { D.is_modelled self.old.device → (m : ℕ → Option ℕ) × KeepsMap D.seen D.moment D.leaves m self.old }
-        ensures modelled { D.is_modelled self.old.device → D.is_modelled self.new.device }
-        ensures kept { D.is_modelled self.old.device → (old new : ℕ → Option ℕ) → KeepsMap D.seen D.moment D.leaves old self.old
+        requires kept { D.is_modelled (device_of self.old) → (m : ℕ → Option ℕ) × KeepsMap D.seen D.moment D.leaves m self.old }
+        ensures modelled { D.is_modelled (device_of self.old) → D.is_modelled (device_of self.new) }
+        ensures kept { D.is_modelled (device_of self.old) → (old new : ℕ → Option ℕ) → KeepsMap D.seen D.moment D.leaves old self.old
             → Leads came.now went.now old new → OnOk result (KeepsMap D.seen D.moment D.leaves new self.new) }
         // A crash at any moment of the call leaves the log of the map from before it, or of the changed one.
-        ensures any_moment { D.is_modelled self.old.device → (old new : ℕ → Option ℕ) → KeepsMap D.seen D.moment D.leaves old self.old
-            → Leads came.now went.now old new → LeavesOnly D.moment D.leaves self.old.device self.new.device (λ c. IsLogOf c old ⊎ IsLogOf c new) }
+        ensures any_moment { D.is_modelled (device_of self.old) → (old new : ℕ → Option ℕ) → KeepsMap D.seen D.moment D.leaves old self.old
+            → Leads came.now went.now old new → LeavesOnly D.moment D.leaves (device_of self.old) (device_of self.new) (λ c. IsLogOf c old ⊎ IsLogOf c new) }
     {
         if came.is_empty() && went.is_empty() {
             return Ok(());
@@ -197,13 +197,13 @@ impl<D: Device + Drop> Journal<D> {
     /// Puts a record without rows to the log, for a clean end: what was committed last is no longer the last record, so that damage to it is
     /// not taken for a write that a crash has cut short.
     pub fn seal(&mut self, alloc: Global) -> Result<(), LogFault>
-        requires kept { D.is_modelled self.old.device → (m : ℕ → Option ℕ) × KeepsMap D.seen D.moment D.leaves m self.old }
-        ensures modelled { D.is_modelled self.old.device → D.is_modelled self.new.device }
-        ensures kept { D.is_modelled self.old.device → (m : ℕ → Option ℕ) → KeepsMap D.seen D.moment D.leaves m self.old
+        requires kept { D.is_modelled (device_of self.old) → (m : ℕ → Option ℕ) × KeepsMap D.seen D.moment D.leaves m self.old }
+        ensures modelled { D.is_modelled (device_of self.old) → D.is_modelled (device_of self.new) }
+        ensures kept { D.is_modelled (device_of self.old) → (m : ℕ → Option ℕ) → KeepsMap D.seen D.moment D.leaves m self.old
             → OnOk result (KeepsMap D.seen D.moment D.leaves m self.new) }
-        ensures ends { D.is_modelled self.old.device → OnOk result (EndsIn (D.seen self.new.device) (body_words [] [])) }
-        ensures any_moment { D.is_modelled self.old.device → (m : ℕ → Option ℕ) → KeepsMap D.seen D.moment D.leaves m self.old
-            → LeavesOnly D.moment D.leaves self.old.device self.new.device (λ c. IsLogOf c m) }
+        ensures ends { D.is_modelled (device_of self.old) → OnOk result (EndsIn (D.seen (device_of self.new)) (body_words [] [])) }
+        ensures any_moment { D.is_modelled (device_of self.old) → (m : ℕ → Option ℕ) → KeepsMap D.seen D.moment D.leaves m self.old
+            → LeavesOnly D.moment D.leaves (device_of self.old) (device_of self.new) (λ c. IsLogOf c m) }
     {
         self.put(alloc, &[], &[])
     }

@@ -1,7 +1,7 @@
 //! Words as bytes.
 
 ghost use Rattle.std.specs.Prelude.{◌≡◌, ◌≢◌, ◌%◌, ◌*◌, ◌++◌, true, List, ℕ, length, IfOk, OnOk, MatchOption};
-ghost use Rattle.bl_journal.specs.Records.{word_bytes, Fits64};
+ghost use Rattle.bl_image.specs.Images.{word_bytes, Fits64};
 
 use byteorder::{ByteOrder, LittleEndian};
 use std::alloc::{AllocError, Global};

@@ -1,6 +1,6 @@
 //! Tests of values, texts and processes: watched streams, the layout and the room of a store, images that are written and read again, refused memory in
-//! the checker; request lines and their replies, and scripts; compressions that meet a latch, processes that release a page, hints that
-//! wait, and logs. Pages and what becomes of them, damaged images, the plain map, what processes read of a page and each other kind of process are
+//! the checker; request lines and their replies, and scripts; compressions that meet a latch, processes that release a page, and hints that
+//! wait. Pages and what becomes of them, damaged images, the plain map, what processes read of a page and each other kind of process are
 //! calls of `test_worked_values`, which cost no proof.
 //!
 //! They stand apart from the crates that they test, each of which would be proved once more for its tests, and nothing else uses them.
@@ -14,8 +14,6 @@ mod compressions;
 mod hints;
 #[cfg(test)]
 mod images;
-#[cfg(test)]
-mod journal;
 #[cfg(test)]
 mod layout;
 #[cfg(test)]

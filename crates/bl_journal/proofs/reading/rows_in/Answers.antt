@@ -1,8 +1,8 @@
-use Rattle.std.proofs.Common.{◌≡◌, ◌≢◌, ◌-◌, ℕ, List, [], Option, Vec, Global, length, take, drop, slice_index_or, sym, ◌∙◌, subst}
+use Rattle.std.proofs.Common.{◌≡◌, ◌≢◌, ◌-◌, ℕ, List, Option, Vec, Global, length, take, drop, slice_index_or, sym, ◌∙◌, subst}
 use Rattle.std.specs.Prelude.{MatchOption}
-use Rattle.bl_journal.specs.Records.{word_bytes, Fits64}
+use Rattle.bl_image.specs.Images.{word_bytes, Fits64}
 use Rattle.bl_journal.proofs.Told.{two_and_others}
-use Rattle.bl_journal.proofs.Bodies.{left_told, left_none}
+use Rattle.bl_journal.proofs.Bodies.{left_told}
 use Rattle.bl_journal.proofs.reading.rows_in.Goals as goal
 
 pub returns-in-len2-up-clause-left : goal.returns-in-len2-up-clause-left

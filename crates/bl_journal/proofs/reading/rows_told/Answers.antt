@@ -1,4 +1,4 @@
-use Rattle.std.proofs.Common.{ℕ, List, Option, Vec, Global, subst}
+use Rattle.std.proofs.Common.{ℕ, Option, Vec, Global, subst}
 use Rattle.std.specs.Prelude.{IfSome}
 use Rattle.bl_journal.specs.Rows.{AreLeft}
 use Rattle.bl_journal.proofs.reading.rows_told.Goals as goal

@@ -1,8 +1,7 @@
-use Rattle.std.proofs.Common.{◌≡◌, ◌+◌, ◌-◌, ◌<◌, ◌≤◌, ◌++◌, ◌∷◌, [], ℕ, List, length, take, drop, subst, length-drop, refl, sym, ◌∙◌, ap, arith}
+use Rattle.std.proofs.Common.{◌≡◌, ◌+◌, ◌-◌, ◌++◌, ℕ, List, length, take, drop, subst, length-drop, sym, ◌∙◌, arith}
 use Rattle.bl_journal.specs.Records.{Begins, came_in}
-use Rattle.bl_journal.specs.Parts.{TellsRows}
 use Rattle.std.proofs.lemmas.List.{take_all}
-use Rattle.bl_journal.proofs.Told.{HasRead, read_none, read_one, read_all, begins_long, begins_rest}
+use Rattle.bl_journal.proofs.Told.{HasRead, read_one, read_all, begins_rest}
 use Rattle.bl_journal.proofs.reading.told_by.Goals as goal
 
 pub overflow_sub-result : goal.overflow_sub-result

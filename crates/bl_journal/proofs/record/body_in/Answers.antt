@@ -1,5 +1,4 @@
-use Rattle.std.proofs.Common.{◌≡◌, ◌+◌, ◌-◌, ◌*◌, ◌^◌, ◌<◌, ◌≤◌, ℕ, List, length, take, drop, sum, slice_index_or, arith}
-use Rattle.bl_journal.specs.Records.{Begins}
+use Rattle.std.proofs.Common.{arith}
 use Rattle.bl_journal.proofs.Told.{reads}
 use Rattle.bl_journal.proofs.record.body_in.Goals as goal
 

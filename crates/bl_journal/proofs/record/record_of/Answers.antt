@@ -1,5 +1,5 @@
-use Rattle.std.proofs.Common.{◌≡◌, ◌+◌, ◌*◌, ◌^◌, ◌<◌, ◌≤◌, ◌/◌, ◌%◌, ◌∷◌, [], ℕ, List, length, sum, refl, sym, ◌∙◌, ap, arith}
-use Rattle.bl_journal.specs.Records.{Begins, body_words}
+use Rattle.std.proofs.Common.{◌≡◌, ◌+◌, ◌^◌, ◌/◌, ◌%◌, ◌∷◌, ℕ, List, length, sum, ◌∙◌, ap, arith}
+use Rattle.bl_journal.specs.Records.{body_words}
 use Rattle.bl_journal.proofs.Told.{writes}
 use Rattle.bl_journal.proofs.record.record_of.Goals as goal
 

@@ -1,5 +1,5 @@
 use Rattle.std.proofs.Common.{◌≡◌, take}
-use Rattle.bl_journal.specs.Records.{word_bytes}
+use Rattle.bl_image.specs.Images.{word_bytes}
 use Rattle.bl_journal.proofs.words.spell.Given as goal
 
 abbrev pub invariant-loop-word : goal.invariant-loop-word

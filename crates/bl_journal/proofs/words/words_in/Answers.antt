@@ -1,8 +1,9 @@
-use Rattle.std.proofs.Common.{◌≡◌, ◌+◌, ◌*◌, ◌%◌, ◌++◌, [], ℕ, List, length, take, drop, refl, sym, ◌∙◌, ap, subst, arith, take-append-drop}
+use Rattle.std.proofs.Common.{◌≡◌, ◌++◌, [], ℕ, List, length, take, drop, sym, ◌∙◌, ap, subst, arith, take-append-drop}
 use Rattle.std.proofs.lemmas.List.{append-nil, nil_from_length, length-append, length-take-le}
 use Rattle.byteorder.specs.Endian.{little_bytes, little_number}
-use Rattle.bl_journal.specs.Records.{word_bytes, Fits64}
-use Rattle.bl_journal.proofs.Spelling.{length-word_bytes, again, read_more, AreBytes, AreBytes-take, AreBytes-drop}
+use Rattle.bl_image.specs.Images.{word_bytes, Fits64}
+use Rattle.bl_image.proofs.Chunks.{length-word_bytes}
+use Rattle.bl_journal.proofs.Spelling.{again, read_more, AreBytes, AreBytes-take, AreBytes-drop}
 use Rattle.bl_journal.proofs.words.words_in.Goals as goal
 
 pub returns-then-bytes-ne0 : goal.returns-then-bytes-ne0

@@ -1,5 +1,5 @@
 use Rattle.std.proofs.Common.{◌≡◌, ◌++◌, length}
-use Rattle.bl_journal.specs.Records.{word_bytes}
+use Rattle.bl_image.specs.Images.{word_bytes}
 use Rattle.bl_journal.proofs.Spelling.{AreBytes}
 use Rattle.bl_journal.proofs.words.words_in.Given as goal
 

@@ -1,8 +1,9 @@
-use Rattle.std.proofs.Common.{◌≡◌, ◌⊎◌, inl, inr, ℕ, ◌+◌, ◌*◌, ◌≤◌, ◌<◌, length, List, [], Option, refl, sym, ◌∙◌, ap, subst, arith}
-use Rattle.bl_journal.specs.Files.{AreZeros, IsFilled, Fills, Only}
-use Rattle.bl_journal.specs.Records.{word_bytes, Fits64, Begins, body_words}
-use Rattle.bl_journal.specs.Logs.{IsLogOf, EndsIn, HasRoom, KeepsMap}
-use Rattle.bl_journal.proofs.Spelling.{length-word_bytes}
+use Rattle.std.proofs.Common.{◌≡◌, ◌⊎◌, inl, ℕ, ◌+◌, ◌*◌, length, List, refl, sym, ◌∙◌, ap, subst, arith}
+use Rattle.bl_journal.specs.Files.{IsFilled, Fills, Only}
+use Rattle.bl_image.specs.Images.{word_bytes}
+use Rattle.bl_journal.specs.Records.{body_words}
+use Rattle.bl_journal.specs.Logs.{IsLogOf, EndsIn}
+use Rattle.bl_image.proofs.Chunks.{length-word_bytes}
 use Rattle.bl_journal.proofs.Moments.{started, goes_on, by_call}
 use Rattle.bl_journal.proofs.Filling.{are_zeros, fill_crash, fill_room, fill_ends, room_as}
 use Rattle.bl_journal.proofs.Keeping.{leaves_log, keeps_room}

@@ -1,4 +1,4 @@
-use Rattle.std.proofs.Common.{◌≡◌, ◌⊎◌, inl, inr, ⊎_elim, ℕ, ◌+◌, ◌*◌, ◌/◌, ◌%◌, List, [], ◌++◌, Option, length, sym, ◌∙◌, ap, subst, arith}
+use Rattle.std.proofs.Common.{◌≡◌, ◌⊎◌, inl, inr, ⊎_elim, ℕ, ◌+◌, ◌/◌, ◌%◌, List, [], ◌++◌, Option, length, sym, subst, arith}
 use Rattle.std.specs.Prelude.{replicate}
 use Rattle.bl_journal.specs.Files.{Only}
 use Rattle.bl_journal.specs.Rows.{IsLeft}

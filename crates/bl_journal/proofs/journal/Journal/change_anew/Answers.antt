@@ -1,4 +1,4 @@
-use Rattle.std.proofs.Common.{◌≡◌, ◌⊎◌, inl, inr, ⊎_elim, ℕ, List, [], Option, sym, ◌∙◌, subst}
+use Rattle.std.proofs.Common.{◌⊎◌, inl, inr, ⊎_elim, ℕ, List, [], sym, ◌∙◌, subst}
 use Rattle.bl_journal.specs.Rows.{IsLeft}
 use Rattle.bl_journal.specs.Logs.{IsLogOf}
 use Rattle.bl_journal.proofs.Moments.{leaves_less, leaves_then}

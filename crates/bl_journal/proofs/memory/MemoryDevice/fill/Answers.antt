@@ -1,4 +1,4 @@
-use Rattle.std.proofs.Common.{◌≡◌, ◌∙◌, ◌+◌, ◌++◌, ◌∷◌, [], List, ℕ, length, take, drop, refl, sym, ap, arith, rules}
+use Rattle.std.proofs.Common.{refl, arith}
 use Rattle.std.proofs.lemmas.Grind.{common_steps}
 use Rattle.bl_journal.specs.Files.{IsFilled, Fills}
 use Rattle.bl_journal.proofs.Past.{goes_nowhere, goes_to, left_alone, left_whole}

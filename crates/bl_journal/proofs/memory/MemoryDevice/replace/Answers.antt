@@ -1,4 +1,4 @@
-use Rattle.std.proofs.Common.{◌≡◌, ◌∙◌, ◌++◌, inl, inr, List, ℕ, length, refl, ap, arith, rules}
+use Rattle.std.proofs.Common.{◌≡◌, ◌∙◌, ◌++◌, inl, inr, length, refl, arith, rules}
 use Rattle.std.specs.Prelude.{replicate}
 use Rattle.bl_journal.specs.Files.{Replaces}
 use Rattle.bl_journal.proofs.Past.{at_now, goes_to}

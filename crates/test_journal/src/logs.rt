@@ -1,4 +1,4 @@
-//! Logs of what a map has changed: their bytes, what a crash leaves of them, and what is refused.
+//! Logs: their bytes, what a crash leaves of them, and what is refused.
 
 use bl_changes::Changes;
 use bl_journal::{Device, DeviceFault, Journal, LogFault, read, rows_in};
