@@ -22,6 +22,8 @@ use Rattle.bl_map_calls.specs.Falling.{FindsGreatest}
 use Rattle.bl_map_calls.specs.Many.{WritesMany, StopsFull}
 use Rattle.bl_map_calls.specs.Follows.{FollowsHint, WritesLeaving}
 use Rattle.bl_map_calls.specs.Copies.{Copies}
+use Rattle.bl_map_calls.specs.Ranges.{Ranged, CountsRange}
+use Rattle.bl_map_calls.specs.declared.ranging.RangeRefusal.{RangeRefusal}
 use Rattle.bl_map_calls.specs.Updates.{Updates}
 use Rattle.bl_map_calls.specs.declared.updating.Updated.{Updated}
 use Rattle.bl_map_calls.specs.Waits.{WritesKey, TriesAgain, Tidies}
@@ -85,6 +87,16 @@ HasFoundGreatest from answer old new = FindsGreatest (first_map_of old) (pages_o
 -- It has counted the rows from a key on up to an end, or to that of the map.
 abbrev pub HasCounted : ℕ → Option ℕ → ℕ → Handle → Handle → Type 0
 HasCounted from to answer old new = CountsRows (first_map_of old) (pages_of_map old) (number_of_seat old) from to answer (seen_by old) (seen_by new)
+
+-- It has read a range, as it was at one moment.
+abbrev pub HasRanged : ℕ → Option ℕ → ℕ → Result ℕ RangeRefusal → List (ℕ × ℕ) → List (ℕ × ℕ) → Handle → Handle → Type 0
+HasRanged from to rounds result before after old new =
+    Ranged (first_map_of old) (pages_of_map old) (number_of_seat old) from to rounds result before after (seen_by old) (seen_by new)
+
+-- It has counted the rows of a range, as it was at one moment.
+abbrev pub HasCountedRange : ℕ → Option ℕ → ℕ → Result ℕ RangeRefusal → Handle → Handle → Type 0
+HasCountedRange from to rounds result old new =
+    CountsRange (first_map_of old) (pages_of_map old) (number_of_seat old) from to rounds result (seen_by old) (seen_by new)
 
 -- It has scanned the whole map, and copied the rows that it met.
 abbrev pub HasCopied : ℕ → Result Quiet LoadFault → Handle → Handle → Type 0

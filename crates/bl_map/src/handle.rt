@@ -16,6 +16,7 @@ use bl_check::Quiet;
 use bl_index::{Appending, Hint, Index, KeyReply, KeyWrite, Pass, Reply, RoomSeen};
 use bl_load::LoadFault;
 use bl_map_calls::many::{Deletions, Insertions, Puts};
+use bl_map_calls::ranging::{self, RangeRefusal};
 use bl_map_calls::updating::{self, Updated};
 use bl_map_calls::upkeep::{self, Followed};
 use bl_map_calls::{
@@ -44,7 +45,7 @@ pub struct Handle<'a> {
 }
 
 impl<'a> Handle<'a> {
-    ghost use Rattle.bl_map.specs.Handles.{IsSameHandle, HasCalled, HasOnlySearched, HasFoundMany, HasChanged, HasWritten, HasFoundNoRoom, HasFoundLeast, HasFoundGreatest, HasCounted, HasKeptUp, HasFollowed, HasSwept, HasTriedAgain, HasTidied};
+    ghost use Rattle.bl_map.specs.Handles.{IsSameHandle, HasCalled, HasOnlySearched, HasFoundMany, HasChanged, HasWritten, HasFoundNoRoom, HasFoundLeast, HasFoundGreatest, HasCounted, HasRanged, HasCountedRange, HasKeptUp, HasFollowed, HasSwept, HasTriedAgain, HasTidied};
     ghost use Rattle.bl_map.specs.Handles.{HasWrittenMany, HasStoppedFull};
     ghost use Rattle.bl_map_calls.specs.Many.{insertion_of, put_of, deletion_of, HadRoomBefore};
     ghost use Rattle.bl_map.specs.Handles.{HasUpdated, HasCopied};
@@ -54,6 +55,7 @@ impl<'a> Handle<'a> {
     ghost use Rattle.bl_map_calls.specs.Limits.{ScannedAtMost};
     ghost use Rattle.bl_map_calls.specs.Falling.{ScannedDown};
     ghost use Rattle.bl_index_read.specs.Sinks.{Appends};
+    ghost use Rattle.bl_index_read.specs.LeafRows.{IsBelow};
 
     /// The handle that works on an index from a seat of it. For a map see [`crate::Map::handle`].
     pub fn over(index: &'a Index, seat: Pass) -> Handle<'a>
@@ -422,6 +424,43 @@ impl<'a> Handle<'a> {
         ensures keeps { KeepsHints self.old self.new }
     {
         counting::count(rt, self.index, &mut self.pass, from, to)
+    }
+
+    /// Appends the rows from a key on and below an end, if there is one, by rising keys: all of them as the map had them at one moment of the
+    /// call. Where others have changed a leaf since it was read, it begins again from there, so many times at most, and says how often it did.
+    /// Where it is refused, the rows stay as they were. Until it ends nothing is given back that was swapped out since it began, so it is for
+    /// ranges of some hundred leaves, and [`Handle::scan`] for longer ones.
+    pub fn range<R: Wait>(
+        &mut self,
+        rt: &R,
+        from: u64,
+        to: Option<u64>,
+        rounds: u32,
+        rows: &mut Vec<(u64, u64)>,
+    ) -> Result<u32, RangeRefusal>
+        ensures same { IsSameHandle self.old self.new }
+        ensures ranged { IsBelow to from → HasRanged from to rounds result rows.old.items rows.new.items self.old self.new }
+        ensures none { ¬ IsBelow to from → (result ≡ Ok 0) × (rows.new.items ≡ rows.old.items) × (seen_by self.new ≡ seen_by self.old) }
+        ensures keeps { KeepsHints self.old self.new }
+    {
+        ranging::range(rt, self.index, &mut self.pass, from, to, rounds, rows)
+    }
+
+    /// How many rows [`Handle::range`] would list. It takes memory for them.
+    pub fn count_range<R: Wait>(
+        &mut self,
+        rt: &R,
+        alloc: Global,
+        from: u64,
+        to: Option<u64>,
+        rounds: u32,
+    ) -> Result<u64, RangeRefusal>
+        ensures same { IsSameHandle self.old self.new }
+        ensures counted { IsBelow to from → HasCountedRange from to rounds result self.old self.new }
+        ensures none { ¬ IsBelow to from → (result ≡ Ok 0) × (seen_by self.new ≡ seen_by self.old) }
+        ensures keeps { KeepsHints self.old self.new }
+    {
+        ranging::count(rt, alloc, self.index, &mut self.pass, from, to, rounds)
     }
 
     /// A copy of the map while other threads go on: a sound image with as many pages, whose leaves have `fill` rows each, 1 to 14. Its rows are

@@ -25,6 +25,7 @@ pub use bl_index::{
     CloseFault, Hint, KeyReply, KeyWrite, Next, OpenFault, Pass as Seat, Reply, RoomSeen,
 };
 pub use bl_load::LoadFault;
+pub use bl_map_calls::ranging::RangeRefusal;
 pub use bl_map_calls::updating::Updated;
 pub use bl_map_calls::upkeep::Followed;
 pub use handle::{Backlog, Handle};

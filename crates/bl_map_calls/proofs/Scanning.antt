@@ -187,7 +187,7 @@ module _ (first : List (Option Page)) (pass from at : ℕ) (to upto : Option ℕ
 -- ---- what a call of the index adds to it
 
 -- its parts were searched for
-calls_then : (first : List (Option Page)) (pages pass turns : ℕ) (xs ys : List Entry) (old mid new : Trail) → turns ≡ pages → Searches first pages pass xs old mid → AreCalls first pages pass turns ys mid new → Searches first pages pass (xs ++ ys) old new
+pub calls_then : (first : List (Option Page)) (pages pass turns : ℕ) (xs ys : List Entry) (old mid new : Trail) → turns ≡ pages → Searches first pages pass xs old mid → AreCalls first pages pass turns ys mid new → Searches first pages pass (xs ++ ys) old new
 calls_then first pages pass turns xs [] old mid new is s c =
     subst (λ (z : List Entry). Searches first pages pass z old new) (sym (append-nil xs)) (subst (λ (z : Trail). Searches first pages pass xs old z) (sym c) s)
 calls_then first pages pass turns xs (y ∷ ys) old mid new is s c =

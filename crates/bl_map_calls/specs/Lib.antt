@@ -10,3 +10,4 @@ pub mod Limits
 pub mod Updates
 pub mod Copies
 pub mod Falling
+pub mod Ranges
