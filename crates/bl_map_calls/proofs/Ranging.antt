@@ -63,9 +63,12 @@ module _ (first : List (Option Page)) (pages pass it turns from : ℕ) (to : Opt
     parts = parts ++ r.parts;
     makes = parts_then r.parts new r.makes;
     few = few;
-    told = (rows, appended ∙ ap (λ (z : List (ℕ × ℕ)). z ++ rows) kept,
+    told = (
+      rows,
+      appended ∙ ap (λ (z : List (ℕ × ℕ)). z ++ rows) kept,
       moment_on first pass from to rows (history_of old) (history_of mid) (history_of s.begins.0) (history_of new) (ap history_of s.begins.1 ∙ history_append old s.begins.0)
-      (subst (λ (z : ℕ). IsAtOneMoment first z from to rows (history_of mid) (history_of new)) same r.moment));
+          (subst (λ (z : ℕ). IsAtOneMoment first z from to rows (history_of mid) (history_of new)) same r.moment),
+    );
     kept = tt;
     refused = tt;
   }
@@ -75,14 +78,16 @@ module _ (first : List (Option Page)) (pages pass it turns from : ℕ) (to : Opt
     ran_out is =
         let t : StopsRange first pages it turns rounds from to fault.OutOfTurns mid new = subst (λ (z : RangeFault). StopsRange first pages it turns rounds from to z mid new) is stop in
         let m = parts_then t.parts t.mid t.makes in
-        let a = call_adds first pass it t.mid new same t.stops.adds in
-        (parts ++ t.parts, record {
-          within = m.within;
-          searches = lost_more first pages pass it turns (parts ++ t.parts) old t.mid new same is_turns m.searches t.stops;
-          begins = (m.begins.0 ++ a.begins.0, a.begins.1 ∙ (ap (λ (z : Trail). z ++ a.begins.0) m.begins.1 ∙ append_assoc old m.begins.0 a.begins.0));
-          seen = λ x. a.seen (m.seen x);
-          mine = a.none ∙ m.mine;
-        })
+        let a = call_adds first pass it t.mid new same t.stops.adds in (
+          parts ++ t.parts,
+          record {
+            within = m.within;
+            searches = lost_more first pages pass it turns (parts ++ t.parts) old t.mid new same is_turns m.searches t.stops;
+            begins = (m.begins.0 ++ a.begins.0, a.begins.1 ∙ (ap (λ (z : Trail). z ++ a.begins.0) m.begins.1 ∙ append_assoc old m.begins.0 a.begins.0));
+            seen = λ x. a.seen (m.seen x);
+            mine = a.none ∙ m.mine;
+          },
+        )
 
     pub lacked_memory : (before after : List (ℕ × ℕ)) → after ≡ before → why ≡ fault.Memory → Ranged first pages pass from to rounds (Err refusal.Memory) before after old new
     lacked_memory before after kept is =

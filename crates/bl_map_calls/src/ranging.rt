@@ -39,7 +39,14 @@ fn read<R: Wait>(
     let turns = index.patience();
     let mut kept = Vec::new(*rows.allocator());
     for _ in rt.forever() {
-        match index.range_into(pass, from, to, RangeLimits { turns, rounds }, &mut kept, rows) {
+        match index.range_into(
+            pass,
+            from,
+            to,
+            RangeLimits { turns, rounds },
+            &mut kept,
+            rows,
+        ) {
             Ok(again) => return Ok(again),
             Err(RangeFault::OutOfTurns) => {}
             Err(RangeFault::Memory) => return Err(RangeRefusal::Memory),

@@ -1,4 +1,4 @@
-//! Rows by pages: so many at most, and from where the next ones begin.
+//! Rows by pages: so many at most, and from where the next ones begin. Rows of a range, at one moment.
 
 use crate::maps::calls::fill;
 use crate::maps::trials::{Trial, holds_in};
@@ -116,4 +116,24 @@ pub(crate) fn greatest_key_is_listed<R: Wait>(
 #[test]
 fn the_greatest_key_is_listed_last(rt: HostRuntime) {
     assert!(rt; holds_in(&rt, rt.alloc(), 64, Trial::GreatestKey) == Some(true));
+}
+
+/// Ranges with an end and without one, each behind the rows of those before; one whose end is not above its first key; and how many rows they
+/// have. Nobody writes, so none begins again.
+pub(crate) fn ranges_are_read<R: Wait>(rt: &R, alloc: Global, handle: &mut Handle<'_>) -> bool {
+    let mut rows = Vec::new(alloc);
+    fill(rt, handle, 0, ROWS) == ROWS
+        && handle.range(rt, 7, Some(30), 0, &mut rows) == Ok(0)
+        && are_tens(rows.as_slice(), 7, 23)
+        && handle.range(rt, 30, Some(30), 0, &mut rows) == Ok(0)
+        && rows.len() == 23
+        && handle.range(rt, 30, None, 0, &mut rows) == Ok(0)
+        && are_tens(rows.as_slice(), 7, 33)
+        && handle.count_range(rt, alloc, 7, Some(30), 0) == Ok(23)
+        && handle.count_range(rt, alloc, 9, Some(9), 0) == Ok(0)
+}
+
+#[test]
+fn a_range_has_the_rows_between_two_keys(rt: HostRuntime) {
+    assert!(rt; holds_in(&rt, rt.alloc(), 64, Trial::Ranges) == Some(true));
 }
