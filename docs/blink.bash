@@ -4,7 +4,7 @@ _blink() {
     local word=${COMP_WORDS[COMP_CWORD]} before=${COMP_WORDS[COMP_CWORD - 1]} command=${COMP_WORDS[1]:-} words=
     COMPREPLY=()
     if [ "$COMP_CWORD" -eq 1 ]; then
-        words='serve dump load rows check draw replay help --help --version'
+        words='serve dump load rows check draw replay log help --help --version'
     else
         case $before in
             --large | --workers | --compressors | --section | --fill) return ;;
@@ -20,12 +20,13 @@ _blink() {
             draw) words='--svg --html --help' ;;
             replay) words='--pages --html --help' ;;
             rows | check) words='--help' ;;
-            help) words='serve dump load rows check draw replay help' ;;
+            log) words='rows check load --help' ;;
+            help) words='serve dump load rows check draw replay log help' ;;
         esac
     fi
     mapfile -t COMPREPLY < <(compgen -W "$words" -- "$word")
     case $command in
-        dump | load | rows | check | draw | replay)
+        dump | load | rows | check | draw | replay | log)
             local files
             mapfile -t files < <(compgen -f -- "$word")
             COMPREPLY+=("${files[@]}")

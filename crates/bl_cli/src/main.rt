@@ -5,6 +5,8 @@
 //! what was served; and what `bl_cli_commands` promises of `check`, `rows`, `load` and `replay`. What is said on standard error is tested.
 #![tactic(auto)]
 
+mod logs;
+
 ghost use Rattle.std.specs.Prelude.{◌≤◌, ◌^◌, IfOk};
 ghost use Rattle.bl_serve_lines.specs.Options.{AreWithin};
 ghost use Rattle.bl_serve.specs.Origins.{HasPages, MayServe};
@@ -58,6 +60,7 @@ fn carry_out<T: Threads + Wait + Sync>(
         Ok(Invocation::Check(file)) => Ok(check(rt, file.as_str())),
         Ok(Invocation::Draw(file, svg)) => Ok(draw(rt, file.as_str(), svg)),
         Ok(Invocation::Replay(file, with_pages)) => Ok(replay(rt, file.as_str(), with_pages)),
+        Ok(Invocation::Log(action, folder)) => Ok(logs::run(rt, action, folder.as_str())),
         Ok(Invocation::Nothing) => Ok(ExitCode::from(2)),
         Err(error) => {
             let is_of_pages = error.kind() == ErrorKind::ValueValidation
@@ -88,10 +91,10 @@ fn end_with(rt: &HostRuntime, file: &str, fault: CommandFault) -> ExitCode {
 }
 
 /// What the program writes to.
-type Output<'a> = Watched<Piped<Printer<'a, HostRuntime>>>;
+pub(crate) type Output<'a> = Watched<Piped<Printer<'a, HostRuntime>>>;
 
 /// Standard output.
-fn output(rt: &HostRuntime) -> Output<'_> {
+pub(crate) fn output(rt: &HostRuntime) -> Output<'_> {
     Watched::new(Piped::new(io::writer(rt)))
 }
 

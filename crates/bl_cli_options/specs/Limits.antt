@@ -3,7 +3,7 @@ use Rattle.std.specs.Prelude.{◌≤◌, ◌^◌}
 use Rattle.bl_serve_lines.specs.Options.{AreWithin}
 use Rattle.bl_cli_options.specs.declared.command.Loading.{Loading}
 use Rattle.bl_cli_options.specs.declared.command.Invocation.{Invocation}
-use Rattle.bl_cli_options.specs.declared.command.Invocation.TheVariants.{Serve, Dump, Load, Rows, Check, Draw, Replay, Nothing}
+use Rattle.bl_cli_options.specs.declared.command.Invocation.TheVariants.{Serve, Dump, Load, Rows, Check, Draw, Replay, Log, Nothing}
 
 -- 4 to 2^28 pages, and 1 to 14 pairs a page
 abbrev pub IsImageOf : Loading → Type 0
@@ -18,4 +18,5 @@ IsWithinLimits (Rows file) = Unit {0}
 IsWithinLimits (Check file) = Unit {0}
 IsWithinLimits (Draw file svg) = Unit {0}
 IsWithinLimits (Replay file with_pages) = Unit {0}
+IsWithinLimits (Log action folder) = Unit {0}
 IsWithinLimits Nothing = Unit {0}

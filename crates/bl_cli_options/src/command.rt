@@ -4,6 +4,7 @@ ghost use Rattle.std.specs.Prelude.{IfOk};
 ghost use Rattle.bl_serve_lines.specs.Options.{AreWithin};
 ghost use Rattle.bl_cli_options.specs.Limits.{IsImageOf, IsWithinLimits};
 
+use crate::logging::{LogAction, log_command, log_of};
 use crate::texts::{
     ABOUT_ALL, ABOUT_CHECK, ABOUT_DRAW, ABOUT_DUMP, ABOUT_LOAD, ABOUT_REPLAY, ABOUT_ROWS,
     ABOUT_SERVE, VERSION,
@@ -51,6 +52,8 @@ pub enum Invocation {
     Draw(String, bool),
     /// `blink replay` of this file, and whether with what stands in each page that is put.
     Replay(String, bool),
+    /// `blink log` with this action, of the log in this folder.
+    Log(LogAction, String),
     /// No command.
     Nothing,
 }
@@ -337,7 +340,8 @@ fn blink_command<'a>(alloc: Global) -> Result<Command<'a>, AllocError> {
     let blink = with_servers(alloc, blink)?;
     let blink = with_command(blink, check_command(alloc))?;
     let blink = with_command(blink, draw_command(alloc))?;
-    with_command(blink, replay_command(alloc))
+    let blink = with_command(blink, replay_command(alloc))?;
+    with_command(blink, log_command(alloc))
 }
 
 /// The file that clap has found.
@@ -354,6 +358,12 @@ fn invocation_of(alloc: Global, name: &str, found: &ArgMatches) -> Result<Invoca
 {
     if name == "serve" {
         return Ok(Invocation::Serve(server_of(alloc, found)?));
+    }
+    if name == "log" {
+        return Ok(match log_of(alloc, found)? {
+            Some((action, folder)) => Invocation::Log(action, folder),
+            None => Invocation::Nothing,
+        });
     }
     let Some(file) = file_of(alloc, found)? else {
         return Ok(Invocation::Nothing);

@@ -5,7 +5,9 @@
 #![tactic(auto)]
 
 mod command;
+mod logging;
 mod texts;
 
 pub use bl_serve_lines::{Sectioning, ServeOptions};
 pub use command::{Invocation, Loading, Server, read_words};
+pub use logging::LogAction;

@@ -1,6 +1,8 @@
 //! Why a command on a log ends early.
 
-use bl_journal::LogFault;
+ghost use Rattle.std.specs.Prelude.{◌≡◌};
+ghost use Rattle.bl_log_files.specs.Statuses.{status_of};
+
 use bl_row_lines::{PrintFault, RowsFault};
 use std::alloc::AllocError;
 
@@ -22,7 +24,9 @@ pub enum LogError {
 
 impl LogError {
     /// The exit status of the program.
-    pub fn status(&self) -> u8 {
+    pub fn status(&self) -> u8
+        ensures { result ≡ status_of self.now }
+    {
         match self {
             LogError::Memory | LogError::Rows(RowsFault::Memory) => 4,
             LogError::Write | LogError::Rows(_) | LogError::Log(_) => 3,
