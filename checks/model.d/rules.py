@@ -4,18 +4,21 @@ Each kind of process is a generator: it yields what it does next, as ("get", 5),
 program's code, so that where both print the same events, the rules have been read twice.
 """
 
+import collections
+
 MOST_PAIRS, FEW_PAIRS, MOST_LEVELS = 14, 7, 12
 
 
-class Page:
+class Page(collections.namedtuple("Page", "kind level low high right pairs tops")):
     """A page by its values. What its kind has not stays at its default; a `high` of 0 is no bound, a `right` of 0 no link."""
 
-    def __init__(self, kind, level=0, low=0, high=0, right=0, pairs=(), tops=()):
-        self.kind, self.level, self.low, self.high, self.right = kind, level, low, high, right
-        self.pairs, self.tops = tuple(pairs), tuple(tops)
+    __slots__ = ()
+
+    def __new__(cls, kind, level=0, low=0, high=0, right=0, pairs=(), tops=()):
+        return super().__new__(cls, kind, level, low, high, right, tuple(pairs), tuple(tops))
 
     def having(self, **others):
-        return Page(**{**vars(self), **others})
+        return Page(**{**self._asdict(), **others})
 
     def covers(self, key):
         return self.low <= key and (self.high == 0 or key < self.high)

@@ -1,8 +1,7 @@
 -- Rows whose keys rise up to a place.
-use Rattle.std.proofs.Common.{◌≡◌, ℕ, ◌+◌, ◌-◌, ◌<◌, ◌≤◌, List, take, sym, subst, inl, inr, arith}
+use Rattle.std.proofs.Common.{◌≡◌, ℕ, ◌+◌, ◌-◌, ◌<◌, ◌≤◌, List, sym, subst, inl, inr, arith}
 use Rattle.std.proofs.lemmas.Bool.{cases_lt, cases_eq}
-use Rattle.std.proofs.lemmas.List.{get_or-take, length-take}
-use Rattle.bl_model.specs.Rows.{key_at, HasRisingKeys}
+use Rattle.bl_model.specs.Rows.{key_at}
 
 -- the keys of the rows below a place rise
 abbrev pub RiseBelow : List (ℕ × ℕ) → ℕ → Type 0
@@ -18,12 +17,3 @@ rise_more rows n some below next i j lt within = elim (cases_lt j n) [
         | inr other ↦ (let a = below i (n - 1) (omega arith) (omega arith) in omega arith)
       ])
 ]
-
-pub rise_taken : (rows : List (ℕ × ℕ)) (n : ℕ) → RiseBelow rows n → HasRisingKeys (take n rows)
-rise_taken rows n below i j lt within =
-    let short = length-take n rows in
-    let jn : j < n = omega arith in
-    let i_n : i < n = omega arith in
-    let a = get_or-take n rows i (0, 0) i_n in
-    let b = get_or-take n rows j (0, 0) jn in
-    subst (λ (p : ℕ × ℕ). p.0 < key_at (take n rows) j) (sym a) (subst (λ (p : ℕ × ℕ). key_at rows i < p.0) (sym b) (below i j lt jn))

@@ -6,5 +6,4 @@ pub mod Forests
 pub mod Stepping
 pub mod Sounding
 pub mod Padding
-pub mod Places
 pub mod Ordering

@@ -126,12 +126,6 @@ pages_few fan n some le = elim (cases_eq n 0) [
   | inr more ↦ (let e : (n - 1) / fan ≡ 0 = div-eq_of_lt (omega arith) in grind (arith, nat_tests, e))
 ]
 
-pub pages_some : (fan n : ℕ) → 0 < pages_for fan n
-pages_some fan n = elim (cases_eq n 0) [
-  | inl zero ↦ subst (λ m. 0 < pages_for fan m) (sym zero) (omega arith)
-  | inr more ↦ grind (arith, nat_tests)
-]
-
 full_pages : (fan n : ℕ) → n ≢ 0 → pages_for fan n ≡ (n - 1) / fan + 1
 full_pages fan n some = grind (arith, nat_tests)
 
@@ -150,9 +144,6 @@ pub record IsOrdered (fan level before : ℕ) (pairs : List (ℕ × ℕ)) (built
   pub bound : ((high ≡ 0) × (entries ≡ [])) ⊎ ((high ≢ 0) × AllBelow high rest × RisesFrom high (reverse entries) × (0 < length entries))
   pub count : length entries + pages_for fan (length rest) ≡ pages_for fan (length pairs)
   pub size : built + pages_for fan (length rest) ≡ before + pages_for fan (length pairs)
-
-pub ordered_none : (fan level before : ℕ) (pairs : List (ℕ × ℕ)) → RisesFrom 0 pairs → (0 < level → BeginsWith 0 pairs) → IsOrdered fan level before pairs before pairs [] 0
-ordered_none fan level before pairs rising begins = record { rising = rising; begins = begins; bound = inl (refl, refl); count = omega arith; size = refl }
 
 reverse_last : (entries : List (ℕ × ℕ)) (x : ℕ × ℕ) → reverse (entries ++ x ∷ []) ≡ x ∷ reverse entries
 reverse_last entries x = reverse-append entries (x ∷ [])

@@ -115,19 +115,6 @@ module _ (fill level : ℕ) (before : List (Option Page)) (roots : List ℕ) (pa
     rows = λ zero. subst (RowsFrom now (length pages)) (sym (b.split ∙ ap (λ t. t ++ b.listed_now) (parts ∙ ap (λ t. t ++ back) none))) (rows_now zero);
   }
 
--- nothing of the level is there yet
-pub begun_none : (fill level : ℕ) (pages : List (Option Page)) (roots : List ℕ) (pairs : List (ℕ × ℕ)) → IsForest fill pages roots level 0 → AreListed pages level pairs → IsBegun fill level pages roots pairs pages pairs [] 0 0
-begun_none fill level pages roots pairs f listed = record {
-  grown = λ x s at. refl;
-  forest = f;
-  link = inl (refl, refl);
-  listed = listed;
-  built = tt;
-  listed_now = [];
-  split = sym (append-nil pairs);
-  rows = λ zero. inl (refl, refl);
-}
-
 pub parts_of : (n : ℕ) (front back rest : List (ℕ × ℕ)) → front ≡ take n rest → back ≡ drop n rest → rest ≡ front ++ back
 parts_of n front back rest f b = sym (ap (λ (t : List (ℕ × ℕ)). t ++ back) f ∙ ap (λ (t : List (ℕ × ℕ)). take n rest ++ t) b ∙ take-append-drop n rest)
 
