@@ -120,18 +120,18 @@ names as `blink check` does; 3 reading or writing failed; 4 out of memory.";
 
 /// Of `log`.
 pub(crate) const ABOUT_LOG: &str = "\
-A log is a file `log` in a folder: what came into a map and what went, in records
-of which each counts as a whole or not at all.
-  rows FOLDER   prints a line `K V` for each row of the log's map, by rising keys
-  check FOLDER  prints `ok rows N`; or standard error says from which byte on it is
-                damaged
-  load FOLDER   makes a log of the lines `K V` on standard input, by rising keys; a
-                folder that has a log keeps it
-rows and check write nothing, and need no room on the disk. A record that a crash
-has cut short counts as not there.
+A log is a file `log` in a folder: what came into a map and what went, in
+records of which each counts as a whole or not at all.
+  rows FOLDER   prints a line `K V` for each row of its map, by rising keys
+  check FOLDER  prints `ok rows N`; or standard error says from which byte on
+                the log is damaged
+  load FOLDER   makes a log of the lines `K V` on standard input, by rising
+                keys; a folder that has a log keeps it
+rows and check write nothing, and need no room on the disk. A last record that
+a crash has cut short counts as not there.
 
 Examples:
-  mkdir kept && seq 1 3 | sed 's/.*/& &0/' | blink log load kept
+  mkdir kept && printf '5 50\\n6 60\\n' | blink log load kept
   blink log rows kept
 
 Exit status: 0 all is well; 3 reading or writing failed, the log is damaged, or
