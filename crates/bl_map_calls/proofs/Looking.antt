@@ -53,6 +53,10 @@ pub below_so : (to : Option ℕ) (at : ℕ) → is_below to at ≡ true → IsBe
 below_so None at is = tt
 below_so (Some end) at is = grind (arith, nat_tests, is)
 
+pub not_so : (to : Option ℕ) (at : ℕ) → is_below to at ≡ false → IsBelow to at → ⊥
+not_so None at is below = absurd is
+not_so (Some end) at is below = grind (arith, nat_tests, is, below)
+
 -- a scan that has come to that key, and has counted its rows
 abbrev pub HasCountedTo : List (Option Page) → ℕ → ℕ → ℕ → Option ℕ → Option ℕ → ℕ → Trail → Trail → Type 0
 HasCountedTo first pages pass from to upto counted old new = (rows : List (ℕ × ℕ)) × HasSearched first pages pass from to upto rows old new × (counted ≡ min (length rows) (2 ^ 64 - 1))
