@@ -12,4 +12,4 @@ pub mod Imaged
 pub mod GivenDown
 pub mod Groups
 pub mod Downwards
-pub mod Ranging
+pub mod OneMoment

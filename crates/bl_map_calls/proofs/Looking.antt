@@ -54,7 +54,7 @@ below_so None at is = tt
 below_so (Some end) at is = grind (arith, nat_tests, is)
 
 pub not_so : (to : Option ℕ) (at : ℕ) → is_below to at ≡ false → IsBelow to at → ⊥
-not_so None at is below = absurd is
+not_so None at is below = let never : ⊥ = cc in never
 not_so (Some end) at is below = grind (arith, nat_tests, is, below)
 
 -- a scan that has come to that key, and has counted its rows

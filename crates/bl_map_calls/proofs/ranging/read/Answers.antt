@@ -1,5 +1,5 @@
 use Rattle.std.proofs.Common.{rules, [], refl, ◌∙◌}
-use Rattle.bl_map_calls.proofs.Ranging.{no_parts, was_read, ran_out, lacked_memory, was_unsteady}
+use Rattle.bl_map_calls.proofs.OneMoment.{no_parts, was_read, ran_out, lacked_memory, was_unsteady}
 use Rattle.bl_map_calls.proofs.ranging.read.Goals as goal
 
 pub loop-init : goal.loop-init
