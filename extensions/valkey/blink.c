@@ -1184,7 +1184,7 @@ enum {
 
 static const struct {
     const char *name;
-    RedisModuleCmdFunc run;
+    int (*run)(RedisModuleCtx *ctx, RedisModuleString **argv, int argc);
     const char *flags, *categories;
     int arity;
     uint64_t key;

@@ -245,14 +245,16 @@ class Commands(unittest.TestCase):
             with self.assertRaises(Error) as caught:
                 client(*words)
             self.assertTrue(str(caught.exception).startswith("NOPERM"))
-        # By categories, where the server has them for modules.
+        # By categories, where the server has them for commands of modules.
         version = tuple(int(it) for it in self.call.info("server", "redis_version").split(".")[:2])
-        if version >= (7, 2):
-            self.assertIn("blink.get", self.call("ACL", "CAT", "read"))
-            self.assertIn("blink.set", self.call("ACL", "CAT", "write"))
-            self.assertIn("blink.set", self.call("ACL", "CAT", "fast"))
+        for category, name, *words in (("read", "get", 1), ("write", "set", 1, 1), ("fast", "next", 1), ("slow", "range", 1, 1)):
+            self.call("ACL", "SETUSER", "kind", "reset", "%RW~*", "-@all", "+@" + category)
+            answer = self.call("ACL", "DRYRUN", "kind", "blink." + name, "m", *words)
+            self.assertEqual(answer == "OK", version >= (7, 2), answer)
         if "blink" in self.call("ACL", "CAT"):
-            self.assertEqual(sorted(self.call("ACL", "CAT", "blink")), sorted(NAMES))
+            self.call("ACL", "SETUSER", "kind", "reset", "%RW~*", "-@all", "+@blink")
+            for name, *words in ALL:
+                self.assertEqual(self.call("ACL", "DRYRUN", "kind", "blink." + name, "m", *words), "OK")
 
     def test_transactions(self):
         other = self.server.connect()
