@@ -24,11 +24,12 @@
 #include <stdatomic.h>
 #include <string.h>
 
-/* FEW: the most rows of a map that is an array. LEAST_PAGES: what a part has beside those for its rows. */
-enum { ENCODING = 0, FEW = 128, LEAST_PAGES = 16, ROWS_AT_ONCE = 256, AOF_ROWS = 64, PARTS_AT_ONCE = 64 };
+/* FEW: the most rows of a map that is an array. FILL: rows of a leaf in a part that is made anew, which leave room for some more.
+ * LEAST_PAGES: what such a part has beside the pages for its rows. */
+enum { ENCODING = 0, FEW = 128, FILL = 10, LEAST_PAGES = 16, ROWS_AT_ONCE = 256, AOF_ROWS = 64, PARTS_AT_ONCE = 64 };
 
 static RedisModuleType *type;
-static long long part_pages = 256, thread_rows = 0, max_rows = 0;
+static long long part_pages = 512, thread_rows = 0, max_rows = 0;
 static pthread_t main_thread;
 
 /* ---- Memory: the library's calls of malloc go to the server, which counts it (the linker's --wrap). ---- */
@@ -183,8 +184,11 @@ static void places_leave(const Place *place, size_t count) {
     worker_add(&freer, &leaving->job);
 }
 
-/* Pages for so many rows, ten a leaf, and for half as many more. */
-static uint32_t pages_for(size_t rows) { return (uint32_t)(rows / 8 + LEAST_PAGES); }
+/* Pages for so many rows, `fill` in each leaf, with those above, and a few more. */
+static uint32_t pages_for(size_t rows, uint32_t fill) { return (uint32_t)(rows / (fill - 1) + LEAST_PAGES); }
+
+/* The same, and a quarter more for rows to come. */
+static uint32_t pages_to_grow(size_t rows, uint32_t fill) { return pages_for(rows, fill) * 5 / 4; }
 
 /* A place with rows, `fill` of them in each leaf. A lone part has no seat for the thread that reads. */
 static Place place_new(uint64_t first, const blink_row *rows, size_t count, uint32_t pages, uint32_t fill, bool is_lone) {
@@ -259,49 +263,35 @@ static blink_row *rows_of(const Map *map, size_t at, size_t places, size_t *coun
     return rows;
 }
 
-/* Makes a place anew, with so many pages. */
-static void place_renew(Map *map, size_t at, uint32_t pages) {
-    size_t count = 0;
-    blink_row *rows = rows_of(map, at, 1, &count);
-    const Place made = place_new(map->parts->place[at].first, rows, count, pages, 10, map->parts->count == 1);
-    RedisModule_Free(rows);
-    map_splice(map, at, 1, &made, 1);
-}
-
 /* The most pages of a part: a quarter less or not, by its first key, so that parts of keys at random do not fill up in step. */
 static uint32_t most_pages(uint64_t first) {
     const uint32_t most = (uint32_t)part_pages;
     return most - (uint32_t)((first * 0x9E3779B97F4A7C15u >> 32) % (most / 4));
 }
 
-/* More room for a key at its place: more pages; or, behind all rows, a new part; or two halves. */
+/* More room for a key at its place: more pages; or, behind all rows, a new part; or two halves. Rows that come by rising keys leave full
+ * leaves behind, and others such as have room. */
 static void place_make_room(Map *map, size_t at, uint64_t key) {
     const Place old = map->parts->place[at];
-    const uint32_t had = old.part->pages, needed = pages_for(old.rows), most = most_pages(old.first);
-    uint32_t pages = had + had / 2 + LEAST_PAGES;
-    if (pages > most) pages = most;
-    if (pages < needed) pages = needed;
-    /* So few rows always fit: what was replaced is held back by a thread that reads and has lost its processor. */
-    if (old.rows < 4 * (uint64_t)had) pages = needed < had ? had : needed;
-    else if (pages > most || pages <= had) pages = 0;
-    if (pages > 0) {
-        place_renew(map, at, pages);
-        return;
-    }
-    size_t count = 0;
-    Place made[2];
+    size_t count = 0, news = 1;
     blink_row *rows = rows_of(map, at, 1, &count);
-    if (at + 1 == map->parts->count && key > rows[count - 1].key) {
-        /* Rows that come by rising keys leave full leaves behind. */
-        made[0] = place_new(old.first, rows, count, (uint32_t)(count / 12 + LEAST_PAGES), BLINK_LEAF_ROWS, false);
+    const bool is_rising = at + 1 == map->parts->count && key > rows[count - 1].key, is_lone = map->parts->count == 1;
+    const uint32_t fill = is_rising ? BLINK_LEAF_ROWS : FILL, pages = pages_to_grow(count, fill);
+    Place made[2];
+    if (pages <= most_pages(old.first)) {
+        made[0] = place_new(old.first, rows, count, pages, fill, is_lone);
+    } else if (is_rising) {
+        made[0] = place_new(old.first, rows, count, pages_for(count, fill), fill, false);
         made[1] = place_new(key, NULL, 0, 4 * LEAST_PAGES, 0, false);
+        news = 2;
     } else {
-        const size_t half = count / 2;
-        made[0] = place_new(old.first, rows, half, pages_for(half), 10, false);
-        made[1] = place_new(rows[half].key, rows + half, count - half, pages_for(count - half), 10, false);
+        const size_t half = count / 2, other = count - half;
+        made[0] = place_new(old.first, rows, half, pages_to_grow(half, fill), fill, false);
+        made[1] = place_new(rows[half].key, rows + half, other, pages_to_grow(other, fill), fill, false);
+        news = 2;
     }
     RedisModule_Free(rows);
-    map_splice(map, at, 1, made, 2);
+    map_splice(map, at, 1, made, news);
 }
 
 /* ---- Maps of few rows, and how a map becomes one, or ceases to be. ---- */
@@ -334,7 +324,7 @@ static void few_move(Map *map, size_t at, size_t olds, size_t news) {
 
 static void map_becomes_parts(Map *map) {
     blink_row *few = map->few;
-    const Place made = place_new(0, few, map->rows, pages_for(map->rows), 10, true);
+    const Place made = place_new(0, few, map->rows, pages_to_grow(map->rows, FILL), FILL, true);
     map->parts = RedisModule_Calloc(1, sizeof *map->parts);
     map->has_parts = true;
     map_splice(map, 0, 0, &made, 1);
@@ -365,7 +355,7 @@ static void map_shrink(Map *map, size_t at) {
         if (at + 1 < parts->count && place->rows + place[1].rows <= most) olds = 2;
         else if (at > 0 && place->rows + place[-1].rows <= most) from = at - 1, olds = 2;
         blink_row *rows = rows_of(map, from, olds, &count);
-        const Place made = place_new(parts->place[from].first, rows, count, pages_for(count), 10, parts->count == olds);
+        const Place made = place_new(parts->place[from].first, rows, count, pages_for(count, FILL), FILL, parts->count == olds);
         RedisModule_Free(rows);
         map_splice(map, from, olds, &made, 1);
     }
@@ -391,11 +381,17 @@ static bool map_get(const Map *map, uint64_t key, uint64_t *value) {
     return true;
 }
 
-/* The place of a key that is to be written. What another map has too, since COPY, is made anew first. */
+/* The place of a key that is to be written. A part that another map has too, since COPY, is made anew first. */
 static size_t place_to_write(Map *map, uint64_t key) {
     const size_t at = place_find(map, key);
-    const Place *place = &map->parts->place[at];
-    if (atomic_load(&place->part->maps) > 1) place_renew(map, at, pages_for(place->rows));
+    const Place old = map->parts->place[at];
+    if (atomic_load(&old.part->maps) > 1) {
+        size_t count = 0;
+        blink_row *rows = rows_of(map, at, 1, &count);
+        const Place made = place_new(old.first, rows, count, pages_to_grow(count, FILL), FILL, map->parts->count == 1);
+        RedisModule_Free(rows);
+        map_splice(map, at, 1, &made, 1);
+    }
     return at;
 }
 
@@ -455,7 +451,7 @@ static void place_delete(Map *map, size_t at, uint64_t from, uint64_t last) {
     blink_row *rows = rows_of(map, at, 1, &count);
     for (size_t i = 0; i < count; i++)
         if (rows[i].key < from || rows[i].key > last) rows[kept++] = rows[i];
-    const Place made = place_new(map->parts->place[at].first, rows, kept, pages_for(kept), 10, map->parts->count == 1);
+    const Place made = place_new(map->parts->place[at].first, rows, kept, pages_for(kept, FILL), FILL, map->parts->count == 1);
     RedisModule_Free(rows);
     map_splice(map, at, 1, &made, 1);
     map->rows -= count - kept;
@@ -622,7 +618,7 @@ static void *type_load(RedisModuleIO *rdb, int encoding) {
             map->parts = RedisModule_Calloc(1, sizeof *map->parts);
             map->has_parts = true;
         }
-        const Place made = place_new(rows[0].key, rows, count, (uint32_t)(count / 10 + LEAST_PAGES), 12, all <= at_once);
+        const Place made = place_new(rows[0].key, rows, count, pages_for(count, 12), 12, all <= at_once);
         map_splice(map, map->parts->count, 0, &made, 1);
         map->rows += count;
     }

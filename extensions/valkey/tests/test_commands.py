@@ -164,7 +164,7 @@ class Commands(unittest.TestCase):
         rows = self.spread(30000)
         keys = sorted(key for key, _ in rows)
         self.call("CONFIG", "SET", "blink.part-pages", 64)
-        self.addCleanup(self.call, "CONFIG", "SET", "blink.part-pages", 256)
+        self.addCleanup(self.call, "CONFIG", "SET", "blink.part-pages", 512)
         for low, high in ((0, 10), (5, 29000), (100, 29990), (0, 30000), (29000, 30000), (14000, 14200), (1, 29999)):
             self.fill("m", rows)
             self.call("COPY", "m", "n", "REPLACE")
@@ -370,7 +370,7 @@ class Commands(unittest.TestCase):
         self.call("UNLINK", "m")
         until(lambda: self.used() - before < 300000)
         self.call("CONFIG", "SET", "blink.part-pages", 64)
-        self.addCleanup(self.call, "CONFIG", "SET", "blink.part-pages", 256)
+        self.addCleanup(self.call, "CONFIG", "SET", "blink.part-pages", 512)
         for words in (("DEL", "m"), ("FLUSHALL", "ASYNC"), ("FLUSHALL", "SYNC"), ("PEXPIRE", "m", 1), ("SET", "m", "text"),
                       ("BLINK.REMRANGE", "m", "-", "+")):  # fmt: skip
             self.fill("m", rows)
@@ -399,7 +399,7 @@ class Commands(unittest.TestCase):
         # Of so many parts that else a thread would free them.
         self.call("FLUSHALL")
         self.call("CONFIG", "SET", "blink.part-pages", 64)
-        self.addCleanup(self.call, "CONFIG", "SET", "blink.part-pages", 256)
+        self.addCleanup(self.call, "CONFIG", "SET", "blink.part-pages", 512)
         for name in "mnopqrst":
             self.fill(name, self.spread(40000))
             self.assertGreater(self.call.pairs("BLINK.INFO", name)["parts"], 64)
