@@ -275,7 +275,7 @@ static void place_make_room(Map *map, size_t at, uint64_t key) {
     const Place old = map->parts->place[at];
     size_t count = 0, news = 1;
     blink_row *rows = rows_of(map, at, 1, &count);
-    const bool is_rising = at + 1 == map->parts->count && key > rows[count - 1].key, is_lone = map->parts->count == 1;
+    const bool is_lone = map->parts->count == 1, is_rising = at + 1 == map->parts->count && count > 0 && key > rows[count - 1].key;
     const uint32_t fill = is_rising ? BLINK_LEAF_ROWS : FILL, pages = pages_to_grow(count, fill);
     Place made[2];
     if (pages <= most_pages(old.first)) {
@@ -341,23 +341,24 @@ static void map_becomes_few(Map *map) {
     map->few = rows;
 }
 
-/* A place with few rows for its pages goes to a neighbour, or has fewer pages from now on; and with few rows in all a map is an array. */
+/* A place with few rows for its pages is joined with its neighbours, up to half as many rows as a part has, or has fewer pages from now on.
+ * With few rows in all the map is an array again. */
 static void map_shrink(Map *map, size_t at) {
-    const Parts *parts = map->parts;
-    const Place *place = parts->place + at;
-    const uint64_t most = 4 * (uint64_t)part_pages;
+    const Place *place = map->parts->place;
     if (map->rows <= FEW / 2) {
         map_becomes_few(map);
-    } else if (place->rows == 0) {
+    } else if (place[at].rows == 0) {
         map_splice(map, at, 1, NULL, 0);
-    } else if (place->rows < 2 * (uint64_t)(place->part->pages - LEAST_PAGES)) {
-        size_t count = 0, from = at, olds = 1;
-        if (at + 1 < parts->count && place->rows + place[1].rows <= most) olds = 2;
-        else if (at > 0 && place->rows + place[-1].rows <= most) from = at - 1, olds = 2;
-        blink_row *rows = rows_of(map, from, olds, &count);
-        const Place made = place_new(parts->place[from].first, rows, count, pages_for(count, FILL), FILL, parts->count == olds);
+    } else if (place[at].rows < 2 * (uint64_t)(place[at].part->pages - LEAST_PAGES)) {
+        const uint64_t most = 4 * (uint64_t)part_pages;
+        size_t from = at, behind = at + 1, count = 0;
+        uint64_t all = place[at].rows;
+        while (behind < map->parts->count && all + place[behind].rows <= most) all += place[behind++].rows;
+        while (from > 0 && all + place[from - 1].rows <= most) all += place[--from].rows;
+        blink_row *rows = rows_of(map, from, behind - from, &count);
+        const Place made = place_new(place[from].first, rows, count, pages_for(count, FILL), FILL, behind - from == map->parts->count);
         RedisModule_Free(rows);
-        map_splice(map, from, olds, &made, 1);
+        map_splice(map, from, behind - from, &made, 1);
     }
 }
 
@@ -538,20 +539,22 @@ static uint64_t map_delete_range(Map *map, uint64_t from, uint64_t last) {
         if (place[low].first < from) low++;
         if (last == UINT64_MAX) high++;
         for (size_t i = low; i < high; i++) map->rows -= place[i].rows;
-        if (low < high) map_splice(map, low, high - low, NULL, 0);
-        if (map->rows <= FEW / 2) map_becomes_few(map);
+        if (low < high) {
+            map_splice(map, low, high - low, NULL, 0);
+            if (map->rows <= FEW / 2) map_becomes_few(map);
+        }
     }
     while (map->has_parts) {
         Walk walk = walk_of(map, false, from, last);
         blink_row rows[FEW];
         const size_t count = walk_rows(&walk, rows, FEW);
         if (count == 0) break;
+        for (size_t i = 0; i < count && count < FEW; i++) map_delete(map, rows[i].key);
         if (count == FEW) place_delete(map, place_find(map, rows[0].key), from, last);
-        else for (size_t i = 0; i < count; i++) map_delete(map, rows[i].key);
     }
     if (!map->has_parts) {
         const Walk walk = walk_of(map, false, from, last);
-        if (walk.count > 0) few_move(map, walk.few - map->few, walk.count, 0);
+        if (walk.count > 0) few_move(map, (size_t)(walk.few - map->few), walk.count, 0);
     }
     return before - map->rows;
 }
