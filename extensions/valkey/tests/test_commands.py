@@ -339,23 +339,25 @@ class Commands(unittest.TestCase):
         """What is read as a map is one: its keys rise, and a map without rows is one that is kept."""
         self.call("DEBUG", "SET-SKIP-CHECKSUM-VALIDATION", 1)
         self.addCleanup(self.call, "DEBUG", "SET-SKIP-CHECKSUM-VALIDATION", 0)
+        self.b("CREATE", "kept")
+        self.b("MSET", "few", *range(2, 8))
+        self.fill("m", [(7 * n, n) for n in range(300)])
         refused = 0
-        for count in (3, 300):
-            self.fill("m", [(7 * n, n) for n in range(count)])
-            data = self.call.dump("m")
-            for at in range(9, len(data) - 10, 1 if count < 10 else 3):
-                bad = bytearray(data)
-                bad[at] ^= 0x40
-                try:
-                    self.call("RESTORE", "r", 0, bytes(bad), "REPLACE")
-                except Error as error:
-                    refused += 1
-                    self.assertTrue(str(error).startswith("ERR Bad data format"), str(error))
-                    continue
-                keys = [int(key) for key in self.b("RANGE", "r", "-", "+")[::2]]
-                self.assertEqual(keys, sorted(set(keys)))
-                self.assertEqual(len(keys), self.b("CARD", "r"))
-                self.assertTrue(keys or self.call.pairs("BLINK.INFO", "r")["kept"])
+        for name, step in (("kept", 1), ("few", 1), ("m", 3)):
+            data = self.call.dump(name)
+            for at in range(9, len(data) - 10, step):
+                for byte in (data[at] ^ 0x40, 0):
+                    bad = data[:at] + bytes([byte]) + data[at + 1 :]
+                    try:
+                        self.call("RESTORE", "r", 0, bad, "REPLACE")
+                    except Error as error:
+                        refused += 1
+                        self.assertTrue(str(error).startswith("ERR Bad data format"), str(error))
+                        continue
+                    keys = [int(key) for key in self.b("RANGE", "r", "-", "+")[::2]]
+                    self.assertEqual(keys, sorted(set(keys)))
+                    self.assertEqual(len(keys), self.b("CARD", "r"))
+                    self.assertTrue(keys or self.call.pairs("BLINK.INFO", "r")["kept"])
         self.assertGreater(refused, 50)
 
     def test_memory(self):
