@@ -3,7 +3,7 @@
 import time
 import unittest
 
-from server import Error, Server, request, until
+from server import Error, Server, until
 
 MOST = (1 << 64) - 1
 FEW = 128

@@ -1,7 +1,6 @@
 """What stays of a map after its server has ended, was killed or is followed by another one: test_lasting.py."""
 
 import threading
-import time
 import unittest
 
 from server import Error, Server, until
