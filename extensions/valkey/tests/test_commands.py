@@ -1,5 +1,7 @@
 """Each command, and what the server makes of a map: test_commands.py."""
 
+import os
+import re
 import time
 import unittest
 
@@ -68,6 +70,15 @@ class Commands(unittest.TestCase):
         self.assertEqual(self.call("TYPE", "m"), "blink-map")
         self.refused("ERR syntax", "BLINK.SET", "m", 1, 2, "NX", "XX")
         self.refused("ERR syntax", "BLINK.SET", "m", 1, 2, "EX")
+
+    def test_what_documents_show(self):
+        """Commands with their replies, two spaces or more apart."""
+        with open(os.path.join(os.path.dirname(__file__), "../../../docs/EMBEDDING.md"), encoding="utf-8") as file:
+            shown = re.findall(r"^    (BLINK\..*?)  +(.*)", file.read(), re.M)
+        self.assertGreater(len(shown), 3)
+        for command, wanted in shown:
+            reply = self.call(*command.split())
+            self.assertEqual(" ".join(reply) if isinstance(reply, list) else str(reply), wanted)
 
     def test_numbers(self):
         for word in ("", "-1", "01", "1 ", "+1", "1.0", "0x1", MOST + 1, "99999999999999999999", "100000000000000000000", "a"):
