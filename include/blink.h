@@ -27,7 +27,8 @@
  *      Else: as above.
  *   5. malloc, realloc and free come from one allocator, which aligns to 16 bytes. No
  *      function is called from a signal handler, nor in the child of a fork of a program
- *      with threads.
+ *      with threads; there only those that read keys and rows, by a seat that was in no
+ *      call, where no seat was in a call that writes: these allocate nothing (tested).
  *      Else: the heap's own faults.
  *   6. All seats of one call are of one map: those of blink_try_meet and of
  *      blink_try_close_image. (blink_meet and blink_close_image look first, and answer
