@@ -1,0 +1,81 @@
+-- The rows that a line asks for: the scan that lists them, its parts, and what is told of them.
+use Rattle.std.specs.Prelude.{◌≡◌, ℕ, zero, suc, ◌+◌, ◌-◌, ◌^◌, Bool, true, false, ◌&&◌, if◌then◌else◌, Option, Some, None, List, [], ◌∷◌, ◌++◌, length, take, flat_map, filter, nat_le, nat_lt, codes, decimal}
+use Rattle.bl_model.specs.declared.operation.Op.{Op}
+use Rattle.bl_model.specs.declared.operation.Op.TheVariants.{Part, PartDown}
+use Rattle.bl_model.specs.Parts.{rows_of, ended_at}
+use Rattle.bl_model.specs.declared.operation.Entry.{Entry}
+use Rattle.bl_serve_lines.specs.declared.listing.Listing.{Listing}
+use Rattle.bl_serve_lines.specs.declared.listing.Listing.TheVariants as listing
+use Rattle.bl_serve_lines.specs.declared.listing.Until.{Until}
+use Rattle.bl_serve_lines.specs.declared.listing.Until.TheVariants.{Top, Below, DownTo}
+use Rattle.bl_serve_lines.specs.declared.listing.Tells.{Tells}
+use Rattle.bl_serve_lines.specs.declared.listing.Tells.TheVariants as tells
+use Rattle.bl_serve_lines.specs.declared.listing.Scan.{Scan}
+use Rattle.bl_serve_lines.specs.Text.{row_text}
+
+-- the greatest key below that one, if there is one
+abbrev pub key_below : ℕ → Option ℕ
+key_below zero = None
+key_below (suc key) = Some key
+
+-- the least key above it
+abbrev pub key_above : ℕ → Option ℕ
+key_above key = if nat_lt key (2 ^ 64 - 1) then Some (suc key) else None
+
+-- what is told of the rows of a scan that has this limit
+abbrev pub limited : Option ℕ → Tells
+limited None = tells.All
+limited (Some most) = tells.First most
+
+-- the scan that a line asks for: from which key on, if there is one, up to where, and what is told of its rows
+abbrev pub scan_of : Listing → Scan
+scan_of (listing.Scan low high limit) = record { from = Some low; until = Below high; tells = limited limit }
+scan_of (listing.ScanFrom low limit) = record { from = Some low; until = Top; tells = limited limit }
+scan_of (listing.ScanDown low high limit) = record { from = key_below high; until = DownTo low; tells = limited limit }
+scan_of (listing.ScanDownFrom high limit) = record { from = Some high; until = DownTo 0; tells = limited limit }
+scan_of listing.First = record { from = Some 0; until = Top; tells = tells.First 1 }
+scan_of listing.Last = record { from = Some (2 ^ 64 - 1); until = DownTo 0; tells = tells.First 1 }
+scan_of (listing.Next key) = record { from = key_above key; until = Top; tells = tells.First 1 }
+scan_of (listing.Previous key) = record { from = key_below key; until = DownTo 0; tells = tells.First 1 }
+scan_of (listing.Count low high) = record { from = Some low; until = Below high; tells = tells.Count }
+
+-- the key lies before the end of a scan
+abbrev pub is_before : Until → ℕ → Bool
+is_before Top key = true
+is_before (Below high) key = nat_lt key high
+is_before (DownTo low) key = nat_le low key
+
+-- behind so many rows more are wanted
+abbrev pub wants_more : Tells → ℕ → Bool
+wants_more tells.All met = true
+wants_more (tells.First most) met = nat_lt met most
+wants_more tells.Count met = true
+
+-- the scan goes on from that key, behind so many rows
+abbrev pub goes_on : Scan → ℕ → ℕ → Bool
+goes_on scan met from = is_before scan.until from && wants_more scan.tells met
+
+-- the operation that lists the rows of a leaf from that key on
+abbrev pub part_of : Until → ℕ → Op
+part_of Top from = Part from
+part_of (Below high) from = Part from
+part_of (DownTo low) from = PartDown from
+
+-- the rows that lie before the end
+abbrev pub rows_before : Until → List (ℕ × ℕ) → List (ℕ × ℕ)
+rows_before until rows = filter (λ row. is_before until row.0) rows
+
+-- The parts of a scan behind so many rows: the first from that key on, each further one from where the last one ended, and each where
+-- the scan goes on. Behind the last one it does not: the map or the scan is at its end, or no more rows are wanted.
+abbrev pub AreParts : Scan → ℕ → Option ℕ → List Entry → Type 0
+AreParts scan met None [] = Unit {0}
+AreParts scan met (Some from) [] = goes_on scan met from ≡ false
+AreParts scan met None (e ∷ es) = ⊥
+AreParts scan met (Some from) (e ∷ es) = (goes_on scan met from ≡ true) × (e.op ≡ part_of scan.until from)
+    × AreParts scan (met + length (rows_before scan.until (rows_of e.reply))) (ended_at e.reply) es
+
+-- what is printed of its rows
+abbrev pub told_text : Tells → List (ℕ × ℕ) → List ℕ
+told_text tells.All rows = codes "rows" ++ flat_map row_text rows
+told_text (tells.First most) rows = codes "rows" ++ flat_map row_text (take most rows)
+told_text tells.Count rows = codes "count " ++ decimal (length rows)
