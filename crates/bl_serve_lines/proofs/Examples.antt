@@ -1,5 +1,5 @@
 -- Worked examples of the definitions.
-use Rattle.std.proofs.Common.{◌≡◌, ℕ, List, [], ◌∷◌, codes, decimal, get_or, true, false, refl, ap, ◌∙◌, lit<, lit≤, Some, None, inl, arith}
+use Rattle.std.proofs.Common.{◌≡◌, ℕ, List, [], ◌∷◌, codes, decimal, get_or, true, false, refl, ap, ◌∙◌, lit<, lit≤, Some, None, arith}
 use Rattle.std.proofs.lemmas.Fmt.{decimal_digit}
 use Rattle.std.proofs.lemmas.List.Elements.{All-nil, All-cons}
 use Rattle.bl_model.specs.declared.operation.Op.TheVariants.{Find, Insert, Change, Part, PartDown}
@@ -14,7 +14,6 @@ use Rattle.bl_serve_lines.specs.declared.request.Request.TheVariants.{Ask, Scan,
 use Rattle.bl_serve_lines.specs.Text.{Spells}
 use Rattle.bl_serve_lines.specs.Scans.{AreParts, scan_of}
 use Rattle.bl_serve_lines.specs.Lines.{Line, Adds, Fits, Replied, Added, Scanned, Stated, Synced, answer_text, input_of, output_of, rest_text, text_of}
-use Rattle.bl_serve_lines.specs.Lines.Adds.{Sees, Changes, Ends}
 use Rattle.bl_serve_lines.specs.Served.{Interleaves, on_key}
 use Rattle.bl_serve_lines.specs.Served.Interleaves.{Done, Takes}
 
@@ -141,7 +140,7 @@ both = first_part ∷ second_part ∷ []
 
 -- what is read for the rows, and its parts
 abbrev Parts : Listing → List Entry → Type 0
-Parts asked parts = AreParts (scan_of asked) 0 (scan_of asked).from parts
+Parts asked parts = AreParts (scan_of asked).until (scan_of asked).tells (scan_of asked).from parts
 
 scan_parts : Parts (listing.Scan 1 4 None) both
 scan_parts = (refl, refl, (refl, refl, tt))
@@ -224,7 +223,7 @@ abbrev to_seven : Entry
 to_seven = record { pass = 0; op = Change 1 5 7; reply = Changed }
 
 sum_fits : Fits 4 (codes "add 1 2") (Added 1 2 (found ∷ to_seven ∷ []) (Replaced 5))
-sum_fits = ((lit< tt, lit< tt, simp (one, two)), Sees found (to_seven ∷ []) None 5 (Replaced 5) refl (inl refl) (Changes to_seven 5 refl refl))
+sum_fits = ((lit< tt, lit< tt, simp (one, two)), (refl, (refl, (refl, refl))))
 
 sum_written : answer_text (Added 1 2 (found ∷ to_seven ∷ []) (Replaced 5)) ≡ codes "replaced 5"
 sum_written = simp five
@@ -234,4 +233,8 @@ sums_are_legal = (refl, (refl, (refl, tt)))
 
 -- what is not there stays away
 no_sum : Adds 2 5 None (missed ∷ []) Absent
-no_sum = Ends missed None refl (inl refl)
+no_sum = (refl, (refl, refl))
+
+-- nothing is changed that was not looked up
+from_nowhere : Adds 1 2 None (to_seven ∷ []) (Replaced 5) → ⊥
+from_nowhere adds = let e : Change 1 5 7 ≡ Find 1 = adds.0 in let never : ⊥ = cc in never

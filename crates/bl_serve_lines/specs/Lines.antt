@@ -1,9 +1,9 @@
 -- Lines of the input, their answers, and the lines of the output.
-use Rattle.std.specs.Prelude.{◌≡◌, ◌≢◌, ◌⊎◌, ℕ, suc, ◌+◌, ◌%◌, ◌^◌, ◌≤◌, Option, Some, None, List, [], ◌∷◌, ◌++◌, All, length, flat_map, codes}
+use Rattle.std.specs.Prelude.{◌≡◌, ◌≢◌, ℕ, suc, ◌+◌, ◌%◌, ◌^◌, ◌≤◌, Option, Some, None, List, [], ◌∷◌, ◌++◌, All, length, flat_map, codes, MatchOption}
 use Rattle.bl_model.specs.declared.operation.Op.{Op}
 use Rattle.bl_model.specs.declared.operation.Op.TheVariants.{Find, Change}
 use Rattle.bl_model.specs.declared.operation.Reply.{Reply}
-use Rattle.bl_model.specs.declared.operation.Reply.TheVariants.{Found, Absent, Replaced, Changed, Differs, NoRoom}
+use Rattle.bl_model.specs.declared.operation.Reply.TheVariants.{Found, Replaced, Changed, Differs}
 use Rattle.bl_model.specs.Parts.{rows_of}
 use Rattle.bl_model.specs.declared.operation.Entry.{Entry}
 use Rattle.bl_serve_lines.specs.declared.listing.Listing.{Listing}
@@ -36,13 +36,22 @@ abbrev pub addition : ℕ → ℕ → Option ℕ → Op
 addition key number None = Find key
 addition key number (Some value) = Change key value ((value + number) % 2 ^ 64)
 
--- The entries of an addition behind the value that was seen last, and its reply: each asks so, and only the last one saw no value, or changed
--- it, to which the reply is that of a `put`.
-pub data Adds (key number : ℕ) : Option ℕ → List Entry → Reply → Type 0 where
-  Sees : (e : Entry) (es : List Entry) (seen : Option ℕ) (value : ℕ) (reply : Reply) → e.op ≡ addition key number seen
-      → (e.reply ≡ Found value) ⊎ (e.reply ≡ Differs value) → Adds key number (Some value) es reply → Adds key number seen (e ∷ es) reply
-  Changes : (e : Entry) (value : ℕ) → e.op ≡ addition key number (Some value) → e.reply ≡ Changed → Adds key number (Some value) (e ∷ []) (Replaced value)
-  Ends : (e : Entry) (seen : Option ℕ) → e.op ≡ addition key number seen → (e.reply ≡ Absent) ⊎ (e.reply ≡ NoRoom) → Adds key number seen (e ∷ []) e.reply
+-- the value that the reply says the key has, if it says one
+abbrev pub value_in : Reply → Option ℕ
+value_in (Found value) = Some value
+value_in (Differs value) = Some value
+value_in reply = None
+
+-- the reply to an addition whose last entry has this one: a change of the value that was seen is told as a put is
+abbrev pub sum_reply : Option ℕ → Reply → Reply
+sum_reply (Some value) Changed = Replaced value
+sum_reply seen reply = reply
+
+-- The entries of an addition behind the value that was seen last, and its reply: each asks so, and all but the last one saw a value.
+abbrev pub Adds : ℕ → ℕ → Option ℕ → List Entry → Reply → Type 0
+Adds key number seen [] reply = ⊥
+Adds key number seen (e ∷ es) reply = (e.op ≡ addition key number seen)
+    × MatchOption (value_in e.reply) ((es ≡ []) × (reply ≡ sum_reply seen e.reply)) (λ value. Adds key number (Some value) es reply)
 
 -- These are all pages, pages in use and pages that may be taken of an index of so many pages.
 abbrev pub IsRoom : ℕ → ℕ → ℕ → ℕ → Type 0
@@ -52,7 +61,7 @@ IsRoom pages all used free = (all ≡ pages) × (used + free ≤ all)
 abbrev pub Fits : ℕ → List ℕ → Answer → Type 0
 Fits pages bytes (Replied entry) = Spells bytes (Ask entry.op)
 Fits pages bytes (Added key number es reply) = Spells bytes (Add key number) × Adds key number None es reply
-Fits pages bytes (Scanned asked parts) = Spells bytes (Scan asked) × AreParts (scan_of asked) 0 (scan_of asked).from parts
+Fits pages bytes (Scanned asked parts) = Spells bytes (Scan asked) × AreParts (scan_of asked).until (scan_of asked).tells (scan_of asked).from parts
 Fits pages bytes (Stated all used free) = Spells bytes Stat × IsRoom pages all used free
 Fits pages bytes Synced = Spells bytes Sync
 Fits pages bytes Malformed = IsMalformed bytes

@@ -45,15 +45,17 @@ is_before Top key = true
 is_before (Below high) key = nat_lt key high
 is_before (DownTo low) key = nat_le low key
 
--- behind so many rows more are wanted
-abbrev pub wants_more : Tells → ℕ → Bool
-wants_more tells.All met = true
-wants_more (tells.First most) met = nat_lt met most
-wants_more tells.Count met = true
+-- rows are wanted
+abbrev pub wants_more : Tells → Bool
+wants_more tells.All = true
+wants_more (tells.First most) = nat_lt 0 most
+wants_more tells.Count = true
 
--- the scan goes on from that key, behind so many rows
-abbrev pub goes_on : Scan → ℕ → ℕ → Bool
-goes_on scan met from = is_before scan.until from && wants_more scan.tells met
+-- what is told behind so many rows
+abbrev pub behind : Tells → ℕ → Tells
+behind tells.All met = tells.All
+behind (tells.First most) met = tells.First (most - met)
+behind tells.Count met = tells.Count
 
 -- the operation that lists the rows of a leaf from that key on
 abbrev pub part_of : Until → ℕ → Op
@@ -65,17 +67,22 @@ part_of (DownTo low) from = PartDown from
 abbrev pub rows_before : Until → List (ℕ × ℕ) → List (ℕ × ℕ)
 rows_before until rows = filter (λ row. is_before until row.0) rows
 
--- The parts of a scan behind so many rows: the first from that key on, each further one from where the last one ended, and each where
--- the scan goes on. Behind the last one it does not: the map or the scan is at its end, or no more rows are wanted.
-abbrev pub AreParts : Scan → ℕ → Option ℕ → List Entry → Type 0
-AreParts scan met None [] = Unit {0}
-AreParts scan met (Some from) [] = goes_on scan met from ≡ false
-AreParts scan met None (e ∷ es) = ⊥
-AreParts scan met (Some from) (e ∷ es) = (goes_on scan met from ≡ true) × (e.op ≡ part_of scan.until from)
-    × AreParts scan (met + length (rows_before scan.until (rows_of e.reply))) (ended_at e.reply) es
+-- The parts of a scan: the first from that key on, and each further one from where the last one ended. Each is from before the end, and
+-- where rows are wanted behind those of the others. Behind the last one none are, or the map or the scan is at its end.
+abbrev pub AreParts : Until → Tells → Option ℕ → List Entry → Type 0
+AreParts until tells None [] = Unit {0}
+AreParts until tells (Some from) [] = (is_before until from && wants_more tells) ≡ false
+AreParts until tells None (e ∷ es) = ⊥
+AreParts until tells (Some from) (e ∷ es) = ((is_before until from && wants_more tells) ≡ true) × (e.op ≡ part_of until from)
+    × AreParts until (behind tells (length (rows_before until (rows_of e.reply)))) (ended_at e.reply) es
+
+-- those of its rows that are told
+abbrev pub shown : Tells → List (ℕ × ℕ) → List (ℕ × ℕ)
+shown tells.All rows = rows
+shown (tells.First most) rows = take most rows
+shown tells.Count rows = []
 
 -- what is printed of its rows
 abbrev pub told_text : Tells → List (ℕ × ℕ) → List ℕ
-told_text tells.All rows = codes "rows" ++ flat_map row_text rows
-told_text (tells.First most) rows = codes "rows" ++ flat_map row_text (take most rows)
 told_text tells.Count rows = codes "count " ++ decimal (length rows)
+told_text tells rows = codes "rows" ++ flat_map row_text (shown tells rows)

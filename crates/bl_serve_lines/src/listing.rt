@@ -1,7 +1,7 @@
 //! Which rows a line asks for.
 
 ghost use Rattle.std.specs.Prelude.{◌≡◌};
-ghost use Rattle.bl_serve_lines.specs.Scans.{key_above, key_below, limited, scan_of};
+ghost use Rattle.bl_serve_lines.specs.Scans.{behind, is_before, key_above, key_below, limited, scan_of, wants_more};
 
 /// Rows that a line asks for, or their number.
 #[derive(Clone, Copy, Debug, PartialEq, Eq)]
@@ -46,6 +46,41 @@ pub enum Tells {
     First(u64),
     /// How many there are.
     Count,
+}
+
+impl Until {
+    /// Whether the key lies before the end.
+    pub fn is_before(self, key: u64) -> bool
+        ensures { result ≡ is_before self key }
+    {
+        match self {
+            Until::Top => true,
+            Until::Below(high) => key < high,
+            Until::DownTo(low) => low <= key,
+        }
+    }
+}
+
+impl Tells {
+    /// Whether rows are wanted.
+    pub fn wants_more(self) -> bool
+        ensures { result ≡ wants_more self }
+    {
+        match self {
+            Tells::All | Tells::Count => true,
+            Tells::First(most) => 0 < most,
+        }
+    }
+
+    /// What is told behind so many rows.
+    pub fn behind(self, met: u64) -> Tells
+        ensures { result ≡ behind self met }
+    {
+        match self {
+            Tells::First(most) => Tells::First(most.saturating_sub(met)),
+            Tells::All | Tells::Count => self,
+        }
+    }
 }
 
 /// A scan.
