@@ -1,5 +1,5 @@
 -- Worked examples of the definitions.
-use Rattle.std.proofs.Common.{◌≡◌, ℕ, List, [], ◌∷◌, codes, decimal, get_or, true, false, refl, ap, ◌∙◌, lit<, lit≤, Some, None, arith}
+use Rattle.std.proofs.Common.{◌≡◌, ℕ, List, [], ◌∷◌, codes, decimal, get_or, refl, ap, ◌∙◌, lit<, lit≤, Some, None, arith}
 use Rattle.std.proofs.lemmas.Fmt.{decimal_digit}
 use Rattle.std.proofs.lemmas.List.Elements.{All-nil, All-cons}
 use Rattle.bl_model.specs.declared.operation.Op.TheVariants.{Find, Insert, Change, Part, PartDown}
@@ -138,12 +138,11 @@ second_part = record { pass = 0; op = Part 3; reply = Rows (record { items = (3,
 abbrev both : List Entry
 both = first_part ∷ second_part ∷ []
 
--- what is read for the rows, and its parts
 abbrev Parts : Listing → List Entry → Type 0
-Parts asked parts = AreParts (scan_of asked).until (scan_of asked).tells (scan_of asked).from parts
+Parts asked parts = AreParts (scan_of asked) parts
 
 scan_parts : Parts (listing.Scan 1 4 None) both
-scan_parts = (refl, refl, (refl, refl, tt))
+scan_parts = (1, refl, refl, (3, refl, refl, refl))
 
 -- a scan from 5 up to 5 has none
 no_parts : Parts (listing.Scan 5 5 None) []
@@ -158,20 +157,20 @@ scan_written = simp (one, two, three)
 
 -- a scan from 1 on in the same parts lists all their rows
 scan_from_fits : Fits 4 (codes "scanfrom 1") (Scanned (listing.ScanFrom 1 None) both)
-scan_from_fits = ((lit< tt, tt, simp one), (refl, refl, (refl, refl, tt)))
+scan_from_fits = ((lit< tt, tt, simp one), (1, refl, refl, (3, refl, refl, refl)))
 
 scan_from_written : answer_text (Scanned (listing.ScanFrom 1 None) both) ≡ codes "rows 1=2 2=3 3=1 4=5"
 scan_from_written = simp (one, two, three, four, five)
 
 -- it has not ended where the map goes on, and one that lists two rows at most has; no part is read behind it
 first_part_alone : Parts (listing.ScanFrom 1 None) (first_part ∷ []) → ⊥
-first_part_alone are = let e : true ≡ false = are.2 in let never : ⊥ = cc in never
+first_part_alone are = let e : Some 3 ≡ None = are.3 in let never : ⊥ = cc in never
 
 first_part_of_two : Parts (listing.ScanFrom 1 (Some 2)) (first_part ∷ [])
-first_part_of_two = (refl, refl, refl)
+first_part_of_two = (1, refl, refl, refl)
 
 a_part_too_many : Parts (listing.ScanFrom 1 (Some 2)) both → ⊥
-a_part_too_many are = let e : false ≡ true = are.2.0 in let never : ⊥ = cc in never
+a_part_too_many are = let e : None ≡ Some are.3.0 = are.3.1 in let never : ⊥ = cc in never
 
 -- three rows take both, and the fourth one is not listed
 three_written : answer_text (Scanned (listing.ScanFrom 1 (Some 3)) both) ≡ codes "rows 1=2 2=3 3=1"
@@ -186,10 +185,10 @@ next_begins = refl
 
 -- there is none behind the greatest key, and none before the least one
 none_behind : Parts (listing.Next 18446744073709551615) []
-none_behind = tt
+none_behind = refl
 
 none_before : Parts (listing.Previous 0) []
-none_before = tt
+none_before = refl
 
 count_written : answer_text (Scanned (listing.Count 1 4) both) ≡ codes "count 3"
 count_written = simp three
@@ -202,18 +201,18 @@ low_part = record { pass = 0; op = PartDown 2; reply = Rows (record { items = (2
 
 -- a scan from below 4 down to 2 in two parts, of which the second goes on past its end
 scan_down_fits : Fits 4 (codes "scandown 2 4") (Scanned (listing.ScanDown 2 4 None) (high_part ∷ low_part ∷ []))
-scan_down_fits = ((lit< tt, lit< tt, tt, simp (two, four)), (refl, refl, (refl, refl, tt)))
+scan_down_fits = ((lit< tt, lit< tt, tt, simp (two, four)), (3, refl, refl, (2, refl, refl, refl)))
 
 scan_down_written : answer_text (Scanned (listing.ScanDown 2 4 None) (high_part ∷ low_part ∷ [])) ≡ codes "rows 3=1 2=3"
 scan_down_written = simp (one, two, three)
 
 -- one from 3 on has the same parts
 scan_down_from_fits : Fits 4 (codes "scandownfrom 3") (Scanned (listing.ScanDownFrom 3 None) (high_part ∷ low_part ∷ []))
-scan_down_from_fits = ((lit< tt, tt, simp three), (refl, refl, (refl, refl, tt)))
+scan_down_from_fits = ((lit< tt, tt, simp three), (3, refl, refl, (2, refl, refl, refl)))
 
 -- below 0 there is no key, and below 3 none from 3 on
 no_parts_down : Parts (listing.ScanDown 0 0 None) []
-no_parts_down = tt
+no_parts_down = refl
 
 none_from_three : Parts (listing.ScanDown 3 3 None) []
 none_from_three = refl

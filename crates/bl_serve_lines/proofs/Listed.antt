@@ -14,35 +14,25 @@ use Rattle.bl_serve_lines.specs.declared.listing.Listing.{Listing}
 use Rattle.bl_serve_lines.specs.declared.listing.Listing.TheVariants as listing
 use Rattle.bl_serve_lines.specs.declared.listing.Until.{Until}
 use Rattle.bl_serve_lines.specs.declared.listing.Until.TheVariants.{Below}
+use Rattle.bl_serve_lines.specs.declared.listing.Scan.{Scan}
 use Rattle.bl_serve_lines.specs.declared.listing.Tells.{Tells}
 use Rattle.bl_serve_lines.specs.declared.listing.Tells.TheVariants as tells
 use Rattle.bl_serve_lines.specs.Text.{row_text}
 use Rattle.bl_serve_lines.specs.Lines.{rows_in}
-use Rattle.bl_serve_lines.specs.Scans.{AreParts, is_before, wants_more, behind, part_of, rows_before, scan_of, shown, told_text}
+use Rattle.bl_serve_lines.specs.Scans.{AreParts, is_before, behind, less, part_of, place_of, rows_before, scan_of, shown, told_text}
 
 -- ---- part by part
 
 -- what the parts so far leave to be made
-abbrev pub GoesOn : Until → Tells → Option ℕ → List Entry → Tells → Option ℕ → Type 0
-GoesOn until tells start es left at = (rest : List Entry) → AreParts until left at rest → AreParts until tells start (es ++ rest)
+abbrev pub GoesOn : Scan → List Entry → Scan → Type 0
+GoesOn scan es left = (rest : List Entry) → AreParts left rest → AreParts scan (es ++ rest)
 
-pub one_part : (until : Until) (tells left : Tells) (start : Option ℕ) (from : ℕ) (es : List Entry) (e : Entry) → GoesOn until tells start es left (Some from) → is_before until from ≡ true → wants_more left ≡ true → e.op ≡ part_of until from
-    → GoesOn until tells start (es ++ e ∷ []) (behind left (length (rows_before until (rows_of e.reply)))) (ended_at e.reply)
-one_part until tells left start from es e goes before wanted op rest are = subst (AreParts until tells start) (sym (append_assoc es (e ∷ []) rest)) (goes (e ∷ rest) ((λ i. before i && wanted i), op, are))
+pub one_part : (scan left : Scan) (from : ℕ) (es : List Entry) (e : Entry) → GoesOn scan es left → place_of left ≡ Some from → e.op ≡ part_of left.until from → GoesOn scan (es ++ e ∷ []) (behind left e.reply)
+one_part scan left from es e goes at op rest are = subst (AreParts scan) (sym (append_assoc es (e ∷ []) rest)) (goes (e ∷ rest) (from, at, op, are))
 
 -- behind the last one
-pub all_parts : (until : Until) (tells left : Tells) (start at : Option ℕ) (es : List Entry) → GoesOn until tells start es left at → AreParts until left at [] → AreParts until tells start es
-all_parts until tells left start at es goes over = subst (AreParts until tells start) (append-nil es) (goes [] over)
-
-pub over_at : (until : Until) (left : Tells) (from : ℕ) → is_before until from ≡ false → AreParts until left (Some from) []
-over_at until left from out = ap (λ (b : Bool). b && wants_more left) out
-
-pub over_told : (until : Until) (left : Tells) (from : ℕ) → wants_more left ≡ false → AreParts until left (Some from) []
-over_told until left from none = go (is_before until from)
-  where
-    go : (b : Bool) → (b && wants_more left) ≡ false
-    go true = none
-    go false = refl
+pub all_parts : (scan left : Scan) (es : List Entry) → GoesOn scan es left → place_of left ≡ None → AreParts scan es
+all_parts scan left es goes over = subst (AreParts scan) (append-nil es) (goes [] over)
 
 -- ---- their rows
 
@@ -55,25 +45,31 @@ take_append (suc n) [] ys = ap (λ k. take k ys) (let e : suc n ≡ suc n - 0 = 
 take_append {A} zero (x ∷ xs) ys = ap (λ k. take k ys) (let e : 0 ≡ 0 - suc (length xs) = omega arith in e)
 take_append {A} (suc n) (x ∷ xs) ys = ap (λ (z : List A). x ∷ z) (take_append n xs ys ∙ ap (λ k. take n xs ++ take k ys) (let e : n - length xs ≡ suc n - suc (length xs) = omega arith in e))
 
-pub shown_append : (tells : Tells) (xs ys : List (ℕ × ℕ)) → shown tells (xs ++ ys) ≡ shown tells xs ++ shown (behind tells (length xs)) ys
+pub shown_append : (tells : Tells) (xs ys : List (ℕ × ℕ)) → shown tells (xs ++ ys) ≡ shown tells xs ++ shown (less tells (length xs)) ys
 shown_append tells.All xs ys = refl
 shown_append (tells.First most) xs ys = take_append most xs ys
 shown_append tells.Count xs ys = refl
 
-pub behind_both : (tells : Tells) (n m : ℕ) → behind (behind tells n) m ≡ behind tells (n + m)
-behind_both tells.All n m = refl
-behind_both (tells.First most) n m = ap tells.First (let e : most - n - m ≡ most - (n + m) = omega arith in e)
-behind_both tells.Count n m = refl
+pub less_both : (tells : Tells) (n m : ℕ) → less (less tells n) m ≡ less tells (n + m)
+less_both tells.All n m = refl
+less_both (tells.First most) n m = ap tells.First (let e : most - n - m ≡ most - (n + m) = omega arith in e)
+less_both tells.Count n m = refl
 
-pub behind_none : (tells : Tells) → behind tells 0 ≡ tells
-behind_none tells.All = refl
-behind_none (tells.First most) = ap tells.First (let e : most - 0 ≡ most = omega arith in e)
-behind_none tells.Count = refl
+pub less_none : (tells : Tells) → less tells 0 ≡ tells
+less_none tells.All = refl
+less_none (tells.First most) = ap tells.First (let e : most - 0 ≡ most = omega arith in e)
+less_none tells.Count = refl
+
+pub none_shown : (tells : Tells) (start : List ℕ) → start ≡ start ++ flat_map row_text (shown tells [])
+none_shown tells.All start = sym (append-nil start)
+none_shown (tells.First zero) start = sym (append-nil start)
+none_shown (tells.First (suc most)) start = sym (append-nil start)
+none_shown tells.Count start = sym (append-nil start)
 
 -- the text of rows, and that of those behind them
-pub shown_more : (tells : Tells) (xs ys : List (ℕ × ℕ)) (start text more : List ℕ) → text ≡ start ++ flat_map row_text (shown tells xs) → more ≡ text ++ flat_map row_text (shown (behind tells (length xs)) ys) → more ≡ start ++ flat_map row_text (shown tells (xs ++ ys))
+pub shown_more : (tells : Tells) (xs ys : List (ℕ × ℕ)) (start text more : List ℕ) → text ≡ start ++ flat_map row_text (shown tells xs) → more ≡ text ++ flat_map row_text (shown (less tells (length xs)) ys) → more ≡ start ++ flat_map row_text (shown tells (xs ++ ys))
 shown_more tells xs ys start text more so_far now =
-    let left : List (ℕ × ℕ) = shown (behind tells (length xs)) ys in
+    let left : List (ℕ × ℕ) = shown (less tells (length xs)) ys in
     now ∙ (ap (λ (z : List ℕ). z ++ flat_map row_text left) so_far ∙ (append_assoc start (flat_map row_text (shown tells xs)) (flat_map row_text left)
     ∙ ap (λ (z : List ℕ). start ++ z) (sym (flat_map-append row_text (shown tells xs) left) ∙ ap (flat_map row_text) (sym (shown_append tells xs ys)))))
 

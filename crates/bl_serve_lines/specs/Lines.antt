@@ -61,7 +61,7 @@ IsRoom pages all used free = (all ≡ pages) × (used + free ≤ all)
 abbrev pub Fits : ℕ → List ℕ → Answer → Type 0
 Fits pages bytes (Replied entry) = Spells bytes (Ask entry.op)
 Fits pages bytes (Added key number es reply) = Spells bytes (Add key number) × Adds key number None es reply
-Fits pages bytes (Scanned asked parts) = Spells bytes (Scan asked) × AreParts (scan_of asked).until (scan_of asked).tells (scan_of asked).from parts
+Fits pages bytes (Scanned asked parts) = Spells bytes (Scan asked) × AreParts (scan_of asked) parts
 Fits pages bytes (Stated all used free) = Spells bytes Stat × IsRoom pages all used free
 Fits pages bytes Synced = Spells bytes Sync
 Fits pages bytes Malformed = IsMalformed bytes

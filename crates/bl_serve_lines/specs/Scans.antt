@@ -2,6 +2,7 @@
 use Rattle.std.specs.Prelude.{◌≡◌, ℕ, zero, suc, ◌+◌, ◌-◌, ◌^◌, Bool, true, false, ◌&&◌, if◌then◌else◌, Option, Some, None, List, [], ◌∷◌, ◌++◌, length, take, flat_map, filter, nat_le, nat_lt, codes, decimal}
 use Rattle.bl_model.specs.declared.operation.Op.{Op}
 use Rattle.bl_model.specs.declared.operation.Op.TheVariants.{Part, PartDown}
+use Rattle.bl_model.specs.declared.operation.Reply.{Reply}
 use Rattle.bl_model.specs.Parts.{rows_of, ended_at}
 use Rattle.bl_model.specs.declared.operation.Entry.{Entry}
 use Rattle.bl_serve_lines.specs.declared.listing.Listing.{Listing}
@@ -52,10 +53,18 @@ wants_more (tells.First most) = nat_lt 0 most
 wants_more tells.Count = true
 
 -- what is told behind so many rows
-abbrev pub behind : Tells → ℕ → Tells
-behind tells.All met = tells.All
-behind (tells.First most) met = tells.First (most - met)
-behind tells.Count met = tells.Count
+abbrev pub less : Tells → ℕ → Tells
+less tells.All met = tells.All
+less (tells.First most) met = tells.First (most - met)
+less tells.Count met = tells.Count
+
+-- the key from which a scan goes on: none, where it lies behind the end, or no rows are wanted
+abbrev pub place_in : Until → Tells → Option ℕ → Option ℕ
+place_in until tells None = None
+place_in until tells (Some from) = if is_before until from && wants_more tells then Some from else None
+
+abbrev pub place_of : Scan → Option ℕ
+place_of scan = place_in scan.until scan.tells scan.from
 
 -- the operation that lists the rows of a leaf from that key on
 abbrev pub part_of : Until → ℕ → Op
@@ -67,14 +76,14 @@ part_of (DownTo low) from = PartDown from
 abbrev pub rows_before : Until → List (ℕ × ℕ) → List (ℕ × ℕ)
 rows_before until rows = filter (λ row. is_before until row.0) rows
 
--- The parts of a scan: the first from that key on, and each further one from where the last one ended. Each is from before the end, and
--- where rows are wanted behind those of the others. Behind the last one none are, or the map or the scan is at its end.
-abbrev pub AreParts : Until → Tells → Option ℕ → List Entry → Type 0
-AreParts until tells None [] = Unit {0}
-AreParts until tells (Some from) [] = (is_before until from && wants_more tells) ≡ false
-AreParts until tells None (e ∷ es) = ⊥
-AreParts until tells (Some from) (e ∷ es) = ((is_before until from && wants_more tells) ≡ true) × (e.op ≡ part_of until from)
-    × AreParts until (behind tells (length (rows_before until (rows_of e.reply)))) (ended_at e.reply) es
+-- what is left of a scan behind a part
+abbrev pub behind : Scan → Reply → Scan
+behind scan reply = record { from = ended_at reply; until = scan.until; tells = less scan.tells (length (rows_before scan.until (rows_of reply))) }
+
+-- The parts of a scan, each from the key from which it goes on behind the others. Behind the last one there is none.
+abbrev pub AreParts : Scan → List Entry → Type 0
+AreParts scan [] = place_of scan ≡ None
+AreParts scan (part ∷ parts) = (from : ℕ) × (place_of scan ≡ Some from) × (part.op ≡ part_of scan.until from) × AreParts (behind scan part.reply) parts
 
 -- those of its rows that are told
 abbrev pub shown : Tells → List (ℕ × ℕ) → List (ℕ × ℕ)

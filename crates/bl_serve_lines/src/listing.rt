@@ -1,7 +1,7 @@
 //! Which rows a line asks for.
 
 ghost use Rattle.std.specs.Prelude.{◌≡◌};
-ghost use Rattle.bl_serve_lines.specs.Scans.{behind, is_before, key_above, key_below, limited, scan_of, wants_more};
+ghost use Rattle.bl_serve_lines.specs.Scans.{is_before, key_above, key_below, less, limited, place_of, scan_of, wants_more};
 
 /// Rows that a line asks for, or their number.
 #[derive(Clone, Copy, Debug, PartialEq, Eq)]
@@ -74,7 +74,7 @@ impl Tells {
 
     /// What is told behind so many rows.
     pub fn behind(self, met: u64) -> Tells
-        ensures { result ≡ behind self met }
+        ensures { result ≡ less self met }
     {
         match self {
             Tells::First(most) => Tells::First(most.saturating_sub(met)),
@@ -90,6 +90,20 @@ pub struct Scan {
     pub from: Option<u64>,
     pub until: Until,
     pub tells: Tells,
+}
+
+impl Scan {
+    /// The key from which it goes on: none, where it is over, or no rows are wanted.
+    pub fn place(self) -> Option<u64>
+        ensures { result ≡ place_of self }
+    {
+        let from = self.from?;
+        if self.until.is_before(from) && self.tells.wants_more() {
+            Some(from)
+        } else {
+            None
+        }
+    }
 }
 
 /// What is told of the rows of a scan that has this limit.

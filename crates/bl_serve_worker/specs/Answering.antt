@@ -1,16 +1,14 @@
 -- What the lines that a pass answers add to what it has seen.
-use Rattle.std.specs.Prelude.{◌≡◌, ℕ, suc, ◌++◌, List, [], ◌∷◌, Option, Some, None, take, flat_map, map, length}
+use Rattle.std.specs.Prelude.{◌≡◌, ℕ, suc, ◌++◌, List, [], ◌∷◌, Option, Some, None, flat_map, map, length}
 use Rattle.std.specs.List.{AllZip}
 use Rattle.bl_model.specs.declared.operation.Entry.{Entry}
 use Rattle.bl_model.specs.declared.operation.Reply.{Reply}
 use Rattle.bl_serve_lines.specs.declared.request.Request.{Request}
 use Rattle.bl_serve_lines.specs.declared.request.Request.TheVariants.{Ask, Add, Scan, Stat, Sync}
 use Rattle.bl_serve_lines.specs.Lines.{Answer, Replied, Added, Scanned, Stated, Synced, Malformed, Adds, IsRoom, entries, rows_in, answer_text}
-use Rattle.bl_serve_lines.specs.Scans.{AreParts, rows_before, scan_of}
+use Rattle.bl_serve_lines.specs.Scans.{AreParts, rows_before, scan_of, shown}
 use Rattle.bl_serve_lines.specs.declared.listing.Listing.{Listing}
 use Rattle.bl_serve_lines.specs.declared.listing.Scan as listing
-use Rattle.bl_serve_lines.specs.declared.listing.Tells.{Tells}
-use Rattle.bl_serve_lines.specs.declared.listing.Tells.TheVariants as tells
 use Rattle.bl_serve_lines.specs.Text.{numbered, row_text}
 use Rattle.bl_page.specs.declared.page.Page.{Page}
 use Rattle.bl_claims.specs.Trails.{Trail}
@@ -22,8 +20,7 @@ use Rattle.bl_map.specs.Handles.{first_map_of, pages_of_map, number_of_seat, see
 pub data IsFor (pages : ℕ) : Option Request → Answer → Type 0 where
   Replies : (entry : Entry) → IsFor pages (Some (Ask entry.op)) (Replied entry)
   Sums : (key number : ℕ) (es : List Entry) (reply : Reply) → Adds key number None es reply → IsFor pages (Some (Add key number)) (Added key number es reply)
-  Scans : (asked : Listing) (parts : List Entry) → AreParts (scan_of asked).until (scan_of asked).tells (scan_of asked).from parts
-      → IsFor pages (Some (Scan asked)) (Scanned asked parts)
+  Scans : (asked : Listing) (parts : List Entry) → AreParts (scan_of asked) parts → IsFor pages (Some (Scan asked)) (Scanned asked parts)
   States : (all used free : ℕ) → IsRoom pages all used free → IsFor pages (Some Stat) (Stated all used free)
   Syncs : IsFor pages (Some Sync) Synced
   Refuses : IsFor pages None Malformed
@@ -42,12 +39,6 @@ replies (n ∷ numbers) (answer ∷ answers) = numbered n (answer_text answer) �
 -- they, one after another
 abbrev pub joined_text : List (List ℕ) → List ℕ
 joined_text texts = flat_map (λ text. text) texts
-
--- those rows of a scan that are told
-abbrev pub shown : Tells → List (ℕ × ℕ) → List (ℕ × ℕ)
-shown tells.All rows = rows
-shown (tells.First most) rows = take most rows
-shown tells.Count rows = []
 
 -- These entries of the pass are all that is new of its own.
 pub record HasMade (first : List (Option Page)) (pass : ℕ) (es : List Entry) (old new : Trail) : Type 0 where
@@ -76,8 +67,8 @@ pub record AnswersLines (first : List (Option Page)) (pages pass : ℕ) (numbers
 
 -- The handle has made the parts of a scan, and those rows of them that are told were written.
 abbrev pub HasWrittenRows : listing.Scan → List ℕ → List ℕ → Handle → Handle → Type 0
-HasWrittenRows scan before after old new = (parts : List Entry) × AreParts scan.until scan.tells scan.from parts
-    × HasMade (first_map_of old) (number_of_seat old) parts (seen_by old) (seen_by new) × (after ≡ before ++ flat_map row_text (shown scan.tells (rows_before scan.until (rows_in parts))))
+HasWrittenRows scan before after old new = (parts : List Entry) × AreParts scan parts × HasMade (first_map_of old) (number_of_seat old) parts (seen_by old) (seen_by new)
+    × (after ≡ before ++ flat_map row_text (shown scan.tells (rows_before scan.until (rows_in parts))))
 
 -- It has added a number to the value of a key, with this reply.
 abbrev pub HasAdded : ℕ → ℕ → Reply → Handle → Handle → Type 0

@@ -3,9 +3,9 @@
 ghost use Rattle.std.specs.Prelude.{◌≡◌, ◌≢◌, ℕ, [], ◌∷◌, ◌++◌, Some, IfOk, OnOk, flat_map, length};
 ghost use Rattle.bl_model.specs.Parts.{rows_of, ended_at};
 ghost use Rattle.bl_map.specs.Handles.{IsSameHandle, HasCalled};
-ghost use Rattle.bl_serve_lines.specs.Scans.{part_of, rows_before};
+ghost use Rattle.bl_serve_lines.specs.Scans.{part_of, rows_before, shown};
 ghost use Rattle.bl_serve_lines.specs.Text.{row_text};
-ghost use Rattle.bl_serve_worker.specs.Answering.{HasAnswered, HasWrittenRows, shown};
+ghost use Rattle.bl_serve_worker.specs.Answering.{HasAnswered, HasWrittenRows};
 
 use bl_map::Handle;
 use bl_model::{Next, Reply};
@@ -86,19 +86,18 @@ fn write_rows<R: Wait>(
     ensures writes { OnOk result (HasWrittenRows scan text.old.items text.new.items handle.old handle.new) }
 {
     let mut near = None;
-    let mut tells = scan.tells;
-    let mut at = scan.from;
+    let mut left = scan;
     for _ in rt.forever() {
-        let Some(from) = at else {
+        let Some(from) = left.place() else {
             return Ok(());
         };
-        if !scan.until.is_before(from) || !tells.wants_more() {
-            return Ok(());
-        }
-        let reply = part(rt, handle, scan.until, from, &mut near);
-        let met = push_part(text, &reply, scan.until, tells)?;
-        tells = tells.behind(met);
-        at = end_of(&reply);
+        let reply = part(rt, handle, left.until, from, &mut near);
+        let met = push_part(text, &reply, left.until, left.tells)?;
+        left = Scan {
+            from: end_of(&reply),
+            until: left.until,
+            tells: left.tells.behind(met),
+        };
     }
     unreachable!()
 }
