@@ -1,5 +1,5 @@
 -- Worked examples of the definitions.
-use Rattle.std.proofs.Common.{◌≡◌, ℕ, List, [], ◌∷◌, codes, decimal, get_or, refl, ap, ◌∙◌, lit<, lit≤, Some, None, arith}
+use Rattle.std.proofs.Common.{◌≡◌, ℕ, List, [], ◌∷◌, codes, decimal, get_or, refl, ap, ◌∙◌, lit<, lit≤, Option, Some, None, arith}
 use Rattle.std.proofs.lemmas.Fmt.{decimal_digit}
 use Rattle.std.proofs.lemmas.List.Elements.{All-nil, All-cons}
 use Rattle.bl_model.specs.declared.operation.Op.TheVariants.{Find, Insert, Change, Part, PartDown}
@@ -164,13 +164,13 @@ scan_from_written = simp (one, two, three, four, five)
 
 -- it has not ended where the map goes on, and one that lists two rows at most has; no part is read behind it
 first_part_alone : Parts (listing.ScanFrom 1 None) (first_part ∷ []) → ⊥
-first_part_alone are = let e : Some 3 ≡ None = are.3 in let never : ⊥ = cc in never
+first_part_alone are = let e : ◌≡◌ {A = Option ℕ} (Some 3) None = are.3 in let never : ⊥ = cc in never
 
 first_part_of_two : Parts (listing.ScanFrom 1 (Some 2)) (first_part ∷ [])
 first_part_of_two = (1, refl, refl, refl)
 
 a_part_too_many : Parts (listing.ScanFrom 1 (Some 2)) both → ⊥
-a_part_too_many are = let e : None ≡ Some are.3.0 = are.3.1 in let never : ⊥ = cc in never
+a_part_too_many are = let e : ◌≡◌ {A = Option ℕ} None (Some are.3.0) = are.3.1 in let never : ⊥ = cc in never
 
 -- three rows take both, and the fourth one is not listed
 three_written : answer_text (Scanned (listing.ScanFrom 1 (Some 3)) both) ≡ codes "rows 1=2 2=3 3=1"

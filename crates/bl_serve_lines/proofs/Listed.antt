@@ -1,14 +1,12 @@
 -- Scans part by part, and their rows.
-use Rattle.std.proofs.Common.{◌≡◌, ◌≢◌, ℕ, zero, suc, ◌+◌, ◌-◌, ◌<◌, ◌≤◌, true, false, refl, sym, ap, ◌∙◌, subst, List, [], ◌∷◌, ◌++◌, length, take, codes, append_assoc, append-nil, length-append, ⊎_elim, arith}
-use Rattle.std.specs.Prelude.{◌&&◌, Bool, All, Option, Some, None, flat_map, filter}
-use Rattle.std.proofs.Math.Seq.{take-append-add}
-use Rattle.std.proofs.lemmas.Bool.{cases_lt}
+use Rattle.std.proofs.Common.{◌≡◌, ◌≢◌, ℕ, zero, suc, ◌+◌, ◌-◌, ◌<◌, ◌≤◌, true, false, refl, sym, ap, ◌∙◌, subst, List, [], ◌∷◌, ◌++◌, length, get_or, take, codes, append_assoc, append-nil, arith}
+use Rattle.std.specs.Prelude.{Bool, Some, None, flat_map}
 use Rattle.std.proofs.lemmas.Bool.Decides.{nat_tests}
-use Rattle.std.proofs.lemmas.List.{flat_map_more, take-append-le}
+use Rattle.std.proofs.lemmas.List.{flat_map_more, take_more}
 use Rattle.std.proofs.lemmas.List.Concat.{flat_map-append}
 use Rattle.std.proofs.lemmas.List.Elements.{All-get_or, filter-append, filter_passes}
 use Rattle.bl_model.specs.declared.operation.Entry.{Entry}
-use Rattle.bl_model.specs.Parts.{rows_of, ended_at}
+use Rattle.bl_model.specs.Parts.{rows_of}
 use Rattle.bl_model.specs.Rows.{HasRisingKeys, key_at}
 use Rattle.bl_serve_lines.specs.declared.listing.Listing.{Listing}
 use Rattle.bl_serve_lines.specs.declared.listing.Listing.TheVariants as listing
@@ -72,6 +70,28 @@ shown_more tells xs ys start text more so_far now =
     let left : List (ℕ × ℕ) = shown (less tells (length xs)) ys in
     now ∙ (ap (λ (z : List ℕ). z ++ flat_map row_text left) so_far ∙ (append_assoc start (flat_map row_text (shown tells xs)) (flat_map row_text left)
     ∙ ap (λ (z : List ℕ). start ++ z) (sym (flat_map-append row_text (shown tells xs) left) ∙ ap (flat_map row_text) (sym (shown_append tells xs ys)))))
+
+-- a row more of a part
+pub before_more : (until : Until) (list : List (ℕ × ℕ)) (i : ℕ) → i < length list → rows_before until (take (i + 1) list) ≡ rows_before until (take i list) ++ rows_before until (get_or list i (0, 0) ∷ [])
+before_more until list i low = ap (rows_before until) (take_more list i (0, 0) low) ∙ filter-append (λ (row : ℕ × ℕ). is_before until row.0) (take i list) (get_or list i (0, 0) ∷ [])
+
+pub one_before : (until : Until) (row : ℕ × ℕ) → is_before until row.0 ≡ true → rows_before until (row ∷ []) ≡ row ∷ []
+one_before until row is = grind (arith, is)
+
+pub none_before : (until : Until) (row : ℕ × ℕ) → is_before until row.0 ≡ false → rows_before until (row ∷ []) ≡ []
+none_before until row is = grind (arith, is)
+
+pub few_before : (until : Until) (row : ℕ × ℕ) → length (rows_before until (row ∷ [])) ≤ 1
+few_before until row = go (is_before until row.0) refl
+  where
+    go : (b : Bool) → is_before until row.0 ≡ b → length (rows_before until (row ∷ [])) ≤ 1
+    go true is = let e = ap length (one_before until row is) in omega (arith, e)
+    go false is = let e = ap length (none_before until row is) in omega (arith, e)
+
+pub one_shown : (most : ℕ) (row : ℕ × ℕ) → most ≢ 0 → take most (row ∷ []) ≡ row ∷ []
+one_shown zero row some = absurd (some refl)
+one_shown (suc zero) row some = refl
+one_shown (suc (suc most)) row some = refl
 
 -- what lists rows, and does not count them, prints them
 pub told_rows : (asked : Listing) (rows : List (ℕ × ℕ)) → ((low high : ℕ) → asked ≢ listing.Count low high) → told_text (scan_of asked).tells rows ≡ codes "rows" ++ flat_map row_text (shown (scan_of asked).tells rows)

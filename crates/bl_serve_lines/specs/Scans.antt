@@ -1,5 +1,5 @@
 -- The rows that a line asks for: the scan that lists them, its parts, and what is told of them.
-use Rattle.std.specs.Prelude.{◌≡◌, ℕ, zero, suc, ◌+◌, ◌-◌, ◌^◌, Bool, true, false, ◌&&◌, if◌then◌else◌, Option, Some, None, List, [], ◌∷◌, ◌++◌, length, take, flat_map, filter, nat_le, nat_lt, codes, decimal}
+use Rattle.std.specs.Prelude.{◌≡◌, ℕ, zero, suc, ◌-◌, ◌^◌, Bool, true, ◌&&◌, if◌then◌else◌, Option, Some, None, List, [], ◌∷◌, ◌++◌, length, take, flat_map, filter, nat_le, nat_lt, codes, decimal}
 use Rattle.bl_model.specs.declared.operation.Op.{Op}
 use Rattle.bl_model.specs.declared.operation.Op.TheVariants.{Part, PartDown}
 use Rattle.bl_model.specs.declared.operation.Reply.{Reply}

@@ -74,7 +74,18 @@ fn scan_rows(words: &[u8]) -> Option<Listing>
             let (low, high, limit) = two_numbers_and_limit(rest)?;
             Some(Listing::ScanDown(low, high, limit))
         }
-        [b'd', b'o', b'w', b'n', b'f', b'r', b'o', b'm', b' ', rest @ ..] => {
+        [
+            b'd',
+            b'o',
+            b'w',
+            b'n',
+            b'f',
+            b'r',
+            b'o',
+            b'm',
+            b' ',
+            rest @ ..,
+        ] => {
             let (high, limit) = number_and_limit(rest)?;
             Some(Listing::ScanDownFrom(high, limit))
         }
@@ -92,9 +103,18 @@ fn rows(line: &[u8]) -> Option<Listing>
         [b'f', b'i', b'r', b's', b't'] => Some(Listing::First),
         [b'l', b'a', b's', b't'] => Some(Listing::Last),
         [b'n', b'e', b'x', b't', b' ', rest @ ..] => Some(Listing::Next(number(rest)?)),
-        [b'p', b'r', b'e', b'v', b'i', b'o', b'u', b's', b' ', rest @ ..] => {
-            Some(Listing::Previous(number(rest)?))
-        }
+        [
+            b'p',
+            b'r',
+            b'e',
+            b'v',
+            b'i',
+            b'o',
+            b'u',
+            b's',
+            b' ',
+            rest @ ..,
+        ] => { Some(Listing::Previous(number(rest)?)) }
         [b'c', b'o', b'u', b'n', b't', b' ', rest @ ..] => {
             let (low, high) = two_numbers(rest)?;
             Some(Listing::Count(low, high))

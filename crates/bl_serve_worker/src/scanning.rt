@@ -1,16 +1,15 @@
 //! Scans: the parts of a map, each from where the last one ended, and what is told of their rows.
 
-ghost use Rattle.std.specs.Prelude.{◌≡◌, ◌≢◌, ℕ, [], ◌∷◌, ◌++◌, Some, IfOk, OnOk, flat_map, length};
-ghost use Rattle.bl_model.specs.Parts.{rows_of, ended_at};
+ghost use Rattle.std.specs.Prelude.{◌≡◌, ◌≢◌, ℕ, Some, OnOk};
+ghost use Rattle.bl_model.specs.Parts.{ended_at};
 ghost use Rattle.bl_map.specs.Handles.{IsSameHandle, HasCalled};
-ghost use Rattle.bl_serve_lines.specs.Scans.{part_of, rows_before, shown};
-ghost use Rattle.bl_serve_lines.specs.Text.{row_text};
+ghost use Rattle.bl_serve_lines.specs.Scans.{part_of};
 ghost use Rattle.bl_serve_worker.specs.Answering.{HasAnswered, HasWrittenRows};
 
 use bl_map::Handle;
 use bl_model::{Next, Reply};
-use bl_serve_lines::listing::{Listing, Scan, Tells, Until};
-use bl_serve_lines::print::{push_number, push_row};
+use bl_serve_lines::listing::{Listing, Scan, Until};
+use bl_serve_lines::print::{push_number, push_part};
 use bl_serve_lines::request::Request;
 use std::alloc::AllocError;
 use std::sync::Wait;
@@ -40,39 +39,6 @@ fn end_of(reply: &Reply) -> Option<u64>
         Reply::Rows(_, Next::More(key)) => Some(*key),
         _ => None,
     }
-}
-
-/// Appends a row, if it is wanted.
-fn push_wanted(text: &mut Vec<u8>, row: &(u64, u64), tells: Tells) -> Result<(), AllocError>
-    ensures { OnOk result (text.new.items ≡ text.old.items ++ flat_map row_text (shown tells (row.now ∷ []))) }
-{
-    match tells {
-        Tells::All => push_row(text, row),
-        Tells::First(most) if 0 < most => push_row(text, row),
-        _ => Ok(()),
-    }
-}
-
-/// Appends those rows of a part that lie before the scan's end, as far as they are wanted, and says how many lie there.
-fn push_part(
-    text: &mut Vec<u8>,
-    reply: &Reply,
-    until: Until,
-    tells: Tells,
-) -> Result<u64, AllocError>
-    ensures pushes { OnOk result (text.new.items ≡ text.old.items ++ flat_map row_text (shown tells (rows_before until (rows_of reply.now)))) }
-    ensures counts { IfOk result (λ met. met ≡ length (rows_before until (rows_of reply.now))) }
-{
-    let mut met = 0;
-    if let Reply::Rows(rows, _) = reply {
-        for row in rows.as_slice() {
-            if until.is_before(row.0) {
-                push_wanted(text, row, tells.behind(met))?;
-                met += 1;
-            }
-        }
-    }
-    Ok(met)
 }
 
 /// Writes the rows of a scan, part by part. No part is read that is not wanted.
