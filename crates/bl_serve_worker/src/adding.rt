@@ -36,13 +36,7 @@ fn sum_told(value: u64, reply: KeyReply) -> KeyReply
 }
 
 /// Puts the sum of a key's value and a number in its place: finds the value, and changes it; where it is another one by then, changes that.
-fn sum_up<R: Wait>(
-    rt: &R,
-    hints: &Hints,
-    handle: &mut Handle<'_>,
-    key: u64,
-    added: u64,
-) -> KeyReply
+fn sum_up<R: Wait>(rt: &R, hints: &Hints, handle: &mut Handle<'_>, key: u64, added: u64) -> KeyReply
     ensures same { IsSameHandle handle.old handle.new }
     ensures adds { HasAdded key added (reply_of result) handle.old handle.new }
 {
