@@ -1,5 +1,5 @@
 -- The parts by which rows are counted.
-use Rattle.std.proofs.Common.{◌≡◌, ℕ, ◌<◌, ◌≤◌, true, false, List, [], ◌∷◌, ◌++◌, refl, sym, ap, ◌∙◌, subst, arith}
+use Rattle.std.proofs.Common.{◌≡◌, ℕ, ◌<◌, ◌≤◌, true, false, List, [], ◌∷◌, ◌++◌, refl, sym, ap, ◌∙◌, arith}
 use Rattle.std.specs.Prelude.{◌&&◌, Bool, Option, Some, None, flat_map, filter, nat_lt, if◌then◌else◌}
 use Rattle.std.proofs.lemmas.Bool.Decides.{nat_tests}
 use Rattle.std.proofs.lemmas.List.Elements.{filter-append}
@@ -9,7 +9,6 @@ use Rattle.bl_serve_lines.specs.declared.listing.Until.TheVariants.{Below}
 use Rattle.bl_serve_lines.specs.declared.listing.Tells.TheVariants as tells
 use Rattle.bl_serve_lines.specs.Lines.{rows_in}
 use Rattle.bl_serve_lines.specs.Scans.{AreParts}
-use Rattle.bl_index_read.specs.LeafRows.{IsOver}
 use Rattle.bl_index.specs.Scans.{AreParts as ArePartsUpTo}
 
 within : (from high : ℕ) → from < high → (if nat_lt from high && true then Some from else None) ≡ Some from
@@ -18,9 +17,9 @@ within from high low = let test : nat_lt from high ≡ true = grind (arith, nat_
 beyond : (from high : ℕ) → high ≤ from → (if nat_lt from high && true then Some from else None) ≡ None
 beyond from high over = let test : nat_lt from high ≡ false = grind (arith, nat_tests, over) in ap (λ (b : Bool). if b && true then Some from else None) test
 
-pub counted_parts : (pass high : ℕ) (from upto : Option ℕ) (es : List Entry) → ArePartsUpTo pass (Some high) from es upto → IsOver (Some high) upto → AreParts (record { from = from; until = Below high; tells = tells.Count }) es
+pub counted_parts : (pass high : ℕ) (from upto : Option ℕ) (es : List Entry) → ArePartsUpTo pass (Some high) from es upto → ((at : ℕ) → upto ≡ Some at → high ≤ at) → AreParts (record { from = from; until = Below high; tells = tells.Count }) es
 counted_parts pass high None upto [] parts over = refl
-counted_parts pass high (Some from) upto [] parts over = beyond from high (subst (IsOver (Some high)) parts over)
+counted_parts pass high (Some from) upto [] parts over = beyond from high (over from parts)
 counted_parts pass high None upto (e ∷ es) parts over = absurd parts
 counted_parts pass high (Some from) upto (e ∷ es) parts over = (from, within from high parts.2, parts.1, counted_parts pass high (ended_at e.reply) upto es parts.3 over)
 

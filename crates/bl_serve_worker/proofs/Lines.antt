@@ -130,7 +130,7 @@ counted_line a b n low high count before head counted after small headed more is
     let few = few_below (rows_in s.parts) high (subst HasRisingKeys rows_are s.rising) in let long = ap length rows_are in let answer = c.count in
     let all : count ≡ length kept = omega (arith, few, long, answer, small) in record {
       answer = Scanned (listing.Count low high) s.parts;
-      is_for = Scans (listing.Count low high) s.parts (counted_parts (number_of_seat a) high (Some low) c.upto s.parts s.are_parts c.over);
+      is_for = Scans (listing.Count low high) s.parts (counted_parts (number_of_seat a) high (Some low) c.upto s.parts s.are_parts (λ at is. rw is at c.over));
       prints = is ∙ (ap (λ (z : List ℕ). z ++ 10 ∷ []) (more ∙ ap (λ (z : List ℕ). z ++ (codes " count " ++ decimal count)) headed)
           ∙ (line_of before (decimal n) (codes "count " ++ decimal count) ∙ ap (λ (k : ℕ). before ++ numbered n (codes "count " ++ decimal k)) all));
       begins = s.begins;

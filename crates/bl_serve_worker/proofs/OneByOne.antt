@@ -93,7 +93,7 @@ saw key number value seen e rest reply is adds = subst (λ (z : Option ℕ). Mat
 
 -- the last one
 saw_none : (key number : ℕ) (seen : Option ℕ) (e : Entry) → value_in e.reply ≡ None
-    → MatchOption (value_in e.reply) (([] ≡ []) × (sum_reply seen e.reply ≡ sum_reply seen e.reply)) (λ value. Adds key number (Some value) [] (sum_reply seen e.reply))
+    → MatchOption (value_in e.reply) ((◌≡◌ {A = List Entry} [] []) × (sum_reply seen e.reply ≡ sum_reply seen e.reply)) (λ value. Adds key number (Some value) [] (sum_reply seen e.reply))
 saw_none key number seen e is = subst (λ (z : Option ℕ). MatchOption z ((◌≡◌ {A = List Entry} [] []) × (sum_reply seen e.reply ≡ sum_reply seen e.reply)) (λ value. Adds key number (Some value) [] (sum_reply seen e.reply))) (sym is) (refl, refl)
 
 pub found_sum : (a b : Handle) (key number value : ℕ) (reply : Reply) → HasCalled (Find key) reply a b → Some value ≡ value_in reply → Summed a b key number value
