@@ -13,13 +13,14 @@ ghost use Rattle.bl_serve.specs.Origins.{HasPages, MayServe};
 
 use bl_check::Quiet;
 use bl_cli_commands::{
-    CommandFault, Counting, DumpFault, Form, MakeFault, Piped, ScriptFile, Usage, argument_line,
-    check_file, draw_file, load_file, make_image, malformed_line, may_replace, noroom_line,
-    print_file, reason_of, replace_file, replay_file, stats_line, used_pages,
+    CommandFault, Counting, DumpFault, Form, MakeFault, Piped, Remembering, SECTION_ADVICE,
+    ScriptFile, Usage, argument_line, check_file, draw_file, index_line, load_file, make_image,
+    malformed_line, may_replace, noroom_line, print_file, reason_of, replace_file, replay_file,
+    section_line, stats_line, used_pages,
 };
 use bl_cli_options::{Invocation, Loading, Server, read_words};
 use bl_model::Watched;
-use bl_serve::{Origin, ServeFault, ServePlan, Totals, dump_by_plan, serve_by_plan};
+use bl_serve::{Origin, Sectioning, ServeFault, ServePlan, Totals, dump_by_plan, serve_by_plan};
 use clap::Error;
 use clap::error::ErrorKind;
 use std::alloc::AllocError;
@@ -98,6 +99,12 @@ pub(crate) fn output(rt: &HostRuntime) -> Output<'_> {
     Watched::new(Piped::new(io::writer(rt)))
 }
 
+/// Says why standard output could not be written.
+fn say_why(rt: &HostRuntime, piped: &Piped<Printer<'_, HostRuntime>>) {
+    let why = piped.why();
+    let _ = eprintln!(rt; "blink: standard output: {why}");
+}
+
 /// Ends as the image in the file is sound, or as the fault says. Where a write failed since the reader has gone, the status alone tells
 /// it: whoever ends a pipe early has what they wanted.
 fn end_of(
@@ -108,7 +115,12 @@ fn end_of(
 ) -> ExitCode {
     match sound {
         Ok(is_sound) => ExitCode::from(if is_sound { 0 } else { 1 }),
-        Err(CommandFault::Write) if writer.into_inner().is_gone() => {
+        Err(CommandFault::Write) => {
+            let piped = writer.into_inner();
+            if !piped.is_gone() {
+                let _ = eprintln!(rt; "{}", CommandFault::Write);
+                say_why(rt, &piped);
+            }
             ExitCode::from(CommandFault::Write.status())
         }
         Err(fault) => end_with(rt, file, fault),
@@ -166,6 +178,8 @@ struct Counts {
     /// The line of the first malformed request.
     first_malformed: Option<u64>,
     norooms: u64,
+    /// The bytes of the longest replies of a section.
+    longest: u64,
     /// The pages, where the index was closed.
     usage: Option<Usage>,
 }
@@ -185,17 +199,45 @@ fn counts_of(totals: Totals, usage: Option<Usage>, writer: Replies<'_>) -> Count
         totals,
         first_malformed: counting.first_malformed(),
         norooms: counting.norooms(),
+        longest: counting.longest(),
         usage,
+    }
+}
+
+/// Says what a server wanted that there was no memory for.
+fn say_wanted(rt: &HostRuntime, server: &Server)
+    requires { AreWithin server.now.options }
+{
+    if server.image.is_none() {
+        let threads = server.options.workers + server.options.compressors;
+        let line = index_line(rt.alloc(), server.options.pages, threads);
+        say(rt, line.map(Some));
+    }
+    if server.sections == Sectioning::BySync {
+        let _ = eprintln!(rt; "{SECTION_ADVICE}");
     }
 }
 
 /// Ends as a server that has met a fault, where these replies were written. Where whoever read them has gone, the status alone
 /// tells it.
-fn end_serving(rt: &HostRuntime, fault: ServeFault, writer: Replies<'_>) -> ExitCode {
+fn end_serving(
+    rt: &HostRuntime,
+    server: &Server,
+    fault: ServeFault,
+    writer: Replies<'_>,
+) -> ExitCode
+    requires { AreWithin server.now.options }
+{
     let fault = CommandFault::from(fault);
-    let is_gone = writer.into_inner().into_inner().is_gone();
-    if fault != CommandFault::Write || !is_gone {
-        let _ = eprintln!(rt; "{fault}");
+    let piped = writer.into_inner().into_inner();
+    if fault == CommandFault::Write && piped.is_gone() {
+        return ExitCode::from(fault.status());
+    }
+    let _ = eprintln!(rt; "{fault}");
+    match fault {
+        CommandFault::Write => say_why(rt, &piped),
+        CommandFault::Memory => say_wanted(rt, server),
+        _ => {}
     }
     ExitCode::from(fault.status())
 }
@@ -208,6 +250,9 @@ fn say_counts(rt: &HostRuntime, server: &Server, counts: &Counts) {
     if let Some(first) = counts.first_malformed {
         let line = malformed_line(alloc, counts.totals.malformed, first);
         say(rt, line.map(Some));
+    }
+    if server.sections == Sectioning::BySync {
+        say(rt, section_line(alloc, counts.longest));
     }
     if server.stats {
         let line = stats_line(alloc, &counts.totals, norooms, counts.usage);
@@ -266,14 +311,14 @@ fn serve_from<T: Threads + Wait + Sync>(
     rt: &HostRuntime,
     threads: &T,
     origin: Origin,
-    plan: ServePlan,
-    stats: bool,
+    server: &Server,
 ) -> Result<Counts, ExitCode>
     requires pages { HasPages origin }
-    requires passes { MayServe plan }
+    requires within { AreWithin server.now.options }
 {
+    let plan = plan_of(server);
     let mut writer = replies(rt);
-    let served = if stats {
+    let served = if server.stats {
         serve_and_close(rt, threads, origin, plan, &mut writer).map(|(totals, closed)| (
             totals,
             closed.ok().map(|quiet| used_pages(quiet.image())),
@@ -283,7 +328,7 @@ fn serve_from<T: Threads + Wait + Sync>(
     };
     match served {
         Ok((totals, usage)) => Ok(counts_of(totals, usage, writer)),
-        Err(fault) => Err(end_serving(rt, fault, writer)),
+        Err(fault) => Err(end_serving(rt, server, fault, writer)),
     }
 }
 
@@ -295,7 +340,7 @@ fn serve<T: Threads + Wait + Sync>(rt: &HostRuntime, threads: &T, server: Server
         Ok(origin) => origin,
         Err(code) => return code,
     };
-    match serve_from(rt, threads, origin, plan_of(&server), server.stats) {
+    match serve_from(rt, threads, origin, &server) {
         Ok(counts) => {
             say_counts(rt, &server, &counts);
             ExitCode::SUCCESS
@@ -344,7 +389,7 @@ fn dump<T: Threads + Wait + Sync>(
     let plan = plan_of(&server);
     let (totals, closed) = match serve_and_close(rt, threads, origin, plan, &mut writer) {
         Ok(served) => served,
-        Err(fault) => return Ok(end_serving(rt, fault, writer)),
+        Err(fault) => return Ok(end_serving(rt, &server, fault, writer)),
     };
     let quiet = closed?;
     let usage = Some(used_pages(quiet.image()));
@@ -366,11 +411,18 @@ fn load(rt: &HostRuntime, loading: Loading, file: &str) -> ExitCode {
     if let Err(fault) = may_replace(rt, file, process) {
         return fail(rt, fault);
     }
-    let mut reader = Watched::new(ScriptFile::new(rt.stdin()));
+    let lines = Remembering::new(rt.alloc(), ScriptFile::new(rt.stdin()));
+    let mut reader = Watched::new(lines);
     let made = make_image(rt.alloc(), &mut reader, loading.pages, loading.fill);
     let quiet = match made {
         Ok(quiet) => quiet,
-        Err(fault) => return fail_rows(rt, fault, loading),
+        Err(fault) => {
+            let code = fail_rows(rt, fault, loading);
+            if let Some(line) = fault.bad_row() {
+                say(rt, reader.into_inner().wrong_row(line));
+            }
+            return code;
+        }
     };
     match replace_file(rt, file, process, quiet.image()) {
         Ok(()) => ExitCode::SUCCESS,

@@ -1,4 +1,4 @@
-//! A writer that counts the requests that found no room, and finds the first malformed one.
+//! A writer that counts the requests that found no room and the bytes of a section, and finds the first malformed request.
 
 ghost use Rattle.std.specs.Prelude.{◌≡◌};
 ghost use Rattle.std.specs.Io.{WritesAtMost};
@@ -19,6 +19,10 @@ pub struct Counting<W> {
     /// The number at the beginning of the line that has not ended yet.
     number: u64,
     first_malformed: Option<u64>,
+    /// How many bytes were written since the last flush: a server flushes behind each section.
+    section: u64,
+    /// The most of a section.
+    longest: u64,
 }
 
 impl<W> Counting<W> {
@@ -32,6 +36,8 @@ impl<W> Counting<W> {
             ends_in_m: false,
             number: 0,
             first_malformed: None,
+            section: 0,
+            longest: 0,
         }
     }
 
@@ -53,6 +59,13 @@ impl<W> Counting<W> {
         *first_malformed
     }
 
+    /// How many bytes the replies of a section had at most.
+    pub fn longest(&self) -> u64
+        ensures { result ≡ self.now.longest }
+    {
+        self.longest
+    }
+
     /// The writer that lines were handed on to.
     pub fn into_inner(self) -> W
         ensures { result ≡ self.inner }
@@ -70,6 +83,8 @@ impl<W> Counting<W> {
         if self.first_malformed.is_none() {
             self.first_malformed = malformed_in(written, self.ends_in_m, self.number);
         }
+        self.section = self.section.saturating_add(written.len() as u64);
+        self.longest = self.longest.max(self.section);
         self.ends_in_m = ends_in_m(written, self.ends_in_m);
         self.number = number_behind(written, self.number);
     }
@@ -155,6 +170,7 @@ impl<W: Write> Write for Counting<W> {
     fn flush(&mut self) -> io::Result<()>
         ensures { Keeps (W.contents self.old.inner) (W.contents self.new.inner) }
     {
+        self.section = 0;
         self.inner.flush()
     }
 }

@@ -33,7 +33,16 @@ impl MakeFault {
         }
     }
 
-    /// The second line on standard error: what helps where rows had no room. None of another fault.
+    /// The number of the line that is no row, where one is not.
+    pub fn bad_row(self) -> Option<u64> {
+        match self {
+            MakeFault::Rows(RowsFault::NoRow(line)) => Some(line),
+            _ => None,
+        }
+    }
+
+    /// The second line on standard error: what helps where rows had no room, and what an image without
+    /// memory takes. None of another fault.
     pub fn advice(
         self,
         alloc: Global,
@@ -47,6 +56,12 @@ impl MakeFault {
             MakeFault::Image(LoadFault::Levels) => Ok(Some(format!(in alloc;
                 "blink: a greater --fill than {fill} may help"
             )?)),
+            MakeFault::Image(LoadFault::Memory) => {
+                let bytes = u64::from(pages).saturating_mul(256).saturating_add(32);
+                Ok(Some(format!(in alloc;
+                    "blink: an image of {pages} pages has {bytes} bytes, and more than these are wanted"
+                )?))
+            }
             MakeFault::Rows(_) | MakeFault::Image(_) => Ok(None),
         }
     }

@@ -3,6 +3,7 @@
 use crate::fault::CommandFault;
 use crate::image_file::image_file;
 use bl_draw::rule_words;
+use bl_model::limits::{LEAST_PAGES, MOST_PAGES};
 use bl_serve_lines::request::LINE_LIMIT;
 use bl_serve_lines::source::read_some;
 use std::alloc::{AllocError, Global};
@@ -60,6 +61,18 @@ fn unread<R: Files + AllocGlobal>(rt: &R, path: &str) -> Result<String, AllocErr
     }
 }
 
+/// How many bytes a file has that there was no memory for, as far as the system tells.
+fn wanted<R: Files + AllocGlobal>(rt: &R, path: &str) -> Result<Option<String>, AllocError> {
+    let alloc = rt.alloc();
+    match fs::metadata(rt, path) {
+        Ok(metadata) if metadata.is_file() => {
+            let bytes = metadata.len();
+            Ok(Some(format!(in alloc; "blink: {path}: has {bytes} bytes, and more than these are wanted")?))
+        }
+        _ => Ok(None),
+    }
+}
+
 /// The line behind that of a fault: the file that it is of, and why. None of a fault of no file. It is made after the fault, by
 /// another look at the file.
 pub fn reason_of<R: Files + AllocGlobal>(
@@ -70,6 +83,9 @@ pub fn reason_of<R: Files + AllocGlobal>(
     let alloc = rt.alloc();
     match fault {
         CommandFault::Read => Ok(Some(unread(rt, path)?)),
+        CommandFault::Script(1) => Ok(Some(format!(in alloc;
+            "blink: {path}: line 1 is not `pages N`, with a number of pages from {LEAST_PAGES} to {MOST_PAGES} (see blink help replay)"
+        )?)),
         CommandFault::Script(line) => Ok(Some(format!(in alloc;
             "blink: {path}: line {line} is no valid line there, of {LINE_LIMIT} bytes at most (see blink help replay)"
         )?)),
@@ -79,7 +95,8 @@ pub fn reason_of<R: Files + AllocGlobal>(
                 "blink: {path}: not a sound image: page {page} breaks the rule that {words}"
             )?))
         }
-        CommandFault::Write | CommandFault::Memory | CommandFault::Lost(_) => Ok(None),
+        CommandFault::Memory => wanted(rt, path),
+        CommandFault::Write | CommandFault::Lost(_) => Ok(None),
     }
 }
 

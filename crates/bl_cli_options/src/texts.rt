@@ -28,6 +28,14 @@ to 18446744073709551615:
                     rising keys
   scandown LO HI    the same rows, by falling keys
   scanfrom LO       rows K=V K=V, all rows from key LO on, by rising keys
+  scandownfrom HI   all rows from key HI on, by falling keys
+  .. limit N        behind one of these four: N rows at most
+  first, last       rows K=V, the row of the least key, or of the greatest; or rows
+  next K            rows K=V, the row of the least key above K; or rows
+  previous K        rows K=V, the row of the greatest key below K; or rows
+  count LO HI       count N, the number of rows that scan LO HI lists
+  add K D           replaced V, and K has V + D then, modulo 2^64; or absent; or
+                    noroom
   stat              pages A used U free F: all pages of the index, those in use,
                     and those that may be taken
   sync              synced: the end of a section

@@ -1,22 +1,25 @@
 -- The operations on one key are those of one share, in the order of the lines.
 use Rattle.std.proofs.Common.{◌≡◌, ◌≢◌, ℕ, ◌<◌, Bool, true, false, Option, Some, None, List, [], ◌∷◌, ◌++◌, length, map, refl, sym, ap, ◌∙◌, subst, arith, ⊎_elim}
-use Rattle.std.specs.Prelude.{All, flat_map, IsPermutation}
+use Rattle.std.specs.Prelude.{◌==◌, All, MatchOption, flat_map, IsPermutation}
 use Rattle.std.specs.List.{AllZip}
 use Rattle.std.proofs.lemmas.Bool.{cases_eq}
 use Rattle.std.proofs.lemmas.List.{map-append}
 use Rattle.std.proofs.lemmas.List.Elements.{All-nil, All-cons, All-map}
 use Rattle.std.proofs.lemmas.List.Sorted.{IsPermutation-map}
 use Rattle.bl_model.specs.declared.operation.Entry.{Entry}
-use Rattle.bl_model.specs.declared.operation.Op.TheVariants.{Part, PartDown}
-use Rattle.bl_model.specs.Parts.{ended_at}
+use Rattle.bl_model.specs.declared.operation.Reply.{Reply}
 use Rattle.bl_serve_lines.specs.declared.request.Request.{Request}
-use Rattle.bl_serve_lines.specs.Lines.{Answer, AreParts, ArePartsDown, key_below, entries}
+use Rattle.bl_serve_lines.specs.declared.listing.Scan.{Scan}
+use Rattle.bl_serve_lines.specs.declared.listing.Until.{Until}
+use Rattle.bl_serve_lines.specs.declared.listing.Until.TheVariants.{Top, Below, DownTo}
+use Rattle.bl_serve_lines.specs.Scans.{AreParts, behind, part_of, scan_of}
+use Rattle.bl_serve_lines.specs.Lines.{Answer, Adds, addition, entries, sum_reply, value_in}
 use Rattle.bl_serve_lines.specs.Served.{Interleaves, is_on, on_key}
 use Rattle.bl_serve_lines.specs.Dealt.{dealt}
 use Rattle.bl_serve_lines.proofs.Dealing.{here, elsewhere}
 use Rattle.bl_serve_lines.proofs.Keys.{from_one, on_key_append}
 use Rattle.bl_serve_worker.specs.Answering.{IsFor}
-use Rattle.bl_serve_worker.specs.Answering.IsFor.{Replies, Scans, ScansFrom, ScansDown, States, Syncs, Refuses}
+use Rattle.bl_serve_worker.specs.Answering.IsFor.{Replies, Sums, Scans, States, Syncs, Refuses}
 use Rattle.bl_serve_worker.specs.Shares.{Piece}
 use Rattle.bl_serve.specs.Dealing.{AreDealt, IsOn}
 use Rattle.bl_serve.proofs.Hands.{hand_at, split_at}
@@ -25,21 +28,35 @@ use Rattle.bl_serve.proofs.Weaving.{joined, all_of, in_any_order, one_by_one}
 
 -- ---- what is apart from a key
 
-parts_apart : (key : ℕ) (from to : Option ℕ) (es : List Entry) → AreParts from to es → on_key key es ≡ []
-parts_apart key from to [] are = refl
-parts_apart key None to (e ∷ es) are = absurd are
-parts_apart key (Some from) to (e ∷ es) are = apart key e es from are.1 (parts_apart key (ended_at e.reply) to es are.2)
-  where
-    apart : (key : ℕ) (e : Entry) (es : List Entry) (from : ℕ) → e.op ≡ Part from → on_key key es ≡ [] → on_key key (e ∷ es) ≡ []
-    apart key e es from is more = let off : is_on key e.op ≡ false = ap (is_on key) is in grind (arith, off, more)
+first_apart : (key : ℕ) (e : Entry) (es : List Entry) → is_on key e.op ≡ false → on_key key es ≡ [] → on_key key (e ∷ es) ≡ []
+first_apart key e es off more = grind (arith, off, more)
 
-parts_apart_down : (key low : ℕ) (from : Option ℕ) (es : List Entry) → ArePartsDown from low es → on_key key es ≡ []
-parts_apart_down key low from [] are = refl
-parts_apart_down key low None (e ∷ es) are = absurd are
-parts_apart_down key low (Some from) (e ∷ es) are = apart key e es from are.1 (parts_apart_down key low (ended_at e.reply) es are.2)
-  where
-    apart : (key : ℕ) (e : Entry) (es : List Entry) (from : ℕ) → e.op ≡ PartDown from → on_key key es ≡ [] → on_key key (e ∷ es) ≡ []
-    apart key e es from is more = let off : is_on key e.op ≡ false = ap (is_on key) is in grind (arith, off, more)
+part_apart : (key from : ℕ) (until : Until) → is_on key (part_of until from) ≡ false
+part_apart key from Top = refl
+part_apart key from (Below high) = refl
+part_apart key from (DownTo low) = refl
+
+parts_apart : (key : ℕ) (scan : Scan) (es : List Entry) → AreParts scan es → on_key key es ≡ []
+parts_apart key scan [] are = refl
+parts_apart key scan (e ∷ es) (from, at, op, are) = first_apart key e es (ap (is_on key) op ∙ part_apart key from scan.until) (parts_apart key (behind scan e.reply) es are)
+
+sum_apart : (key its number : ℕ) (seen : Option ℕ) → is_on key (addition its number seen) ≡ (its == key)
+sum_apart key its number None = refl
+sum_apart key its number (Some value) = refl
+
+others_apart : (key its number : ℕ) (seen : Option ℕ) (es : List Entry) (reply told : Reply) (o : Option ℕ) → MatchOption o ((es ≡ []) × (reply ≡ told)) (λ value. Adds its number (Some value) es reply)
+    → ((value : ℕ) → Adds its number (Some value) es reply → on_key key es ≡ []) → on_key key es ≡ []
+others_apart key its number seen es reply told None (none, said) more = ap (on_key key) none
+others_apart key its number seen es reply told (Some value) adds more = more value adds
+
+sums_apart : (key its number : ℕ) (seen : Option ℕ) (es : List Entry) (reply : Reply) → (its == key) ≡ false → Adds its number seen es reply → on_key key es ≡ []
+sums_apart key its number seen [] reply off adds = absurd adds
+sums_apart key its number seen (e ∷ es) reply off adds = first_apart key e es (ap (is_on key) adds.0 ∙ (sum_apart key its number seen ∙ off))
+    (others_apart key its number seen es reply (sum_reply seen e.reply) (value_in e.reply) adds.1 (λ value more. sums_apart key its number (Some value) es reply off more))
+
+not_true : (b : Bool) → ¬ (b ≡ true) → b ≡ false
+not_true true no = absurd (no refl)
+not_true false no = refl
 
 -- the answer to a line has no operation on a key that the line is not on
 apart_of : {pages : ℕ} {asked : Option Request} {answer : Answer} (key : ℕ) → IsFor pages asked answer → ¬ IsOn key asked → on_key key (entries answer) ≡ []
@@ -48,9 +65,8 @@ apart_of key (Replies entry) off = go (is_on key entry.op) refl
     go : (b : Bool) → is_on key entry.op ≡ b → on_key key (entry ∷ []) ≡ []
     go true is = absurd (off is)
     go false is = grind (arith, is)
-apart_of key (Scans low high parts are) off = parts_apart key (Some low) (Some high) parts are
-apart_of key (ScansFrom low parts are) off = parts_apart key (Some low) None parts are
-apart_of key (ScansDown low high parts are) off = parts_apart_down key low (key_below high) parts are
+apart_of key (Sums its number es reply adds) off = sums_apart key its number None es reply (not_true (its == key) off) adds
+apart_of key (Scans asked parts are) off = parts_apart key (scan_of asked) parts are
 apart_of key (States all used free room) off = refl
 apart_of key Syncs off = refl
 apart_of key Refuses off = refl

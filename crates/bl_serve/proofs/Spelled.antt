@@ -1,8 +1,9 @@
 -- Lines of the input, from their bytes and their answers.
-use Rattle.std.proofs.Common.{◌≡◌, ◌≢◌, ℕ, zero, suc, ◌+◌, ◌<◌, ◌≤◌, List, [], ◌∷◌, ◌++◌, length, map, reverse, refl, sym, ap, ◌∙◌, subst, arith, ⊎_elim, inl, inr}
-use Rattle.std.specs.Prelude.{◌↔◌, All, Bool, Contains, Option, Some, None, flat_map, slice_index_or, sum_by, count_by, is_none, IsSome}
+use Rattle.std.proofs.Common.{◌≡◌, ◌≢◌, ◌⊎◌, ℕ, zero, suc, ◌+◌, ◌-◌, ◌%◌, ◌^◌, ◌<◌, ◌≤◌, true, false, List, [], ◌∷◌, ◌++◌, length, map, reverse, refl, sym, ap, ◌∙◌, subst, arith, ⊎_elim, inl, inr}
+use Rattle.std.specs.Prelude.{◌↔◌, ◌&&◌, if◌then◌else◌, nat_le, nat_lt, All, Bool, Contains, Option, Some, None, flat_map, slice_index_or, sum_by, count_by, is_none, IsSome}
 use Rattle.std.specs.List.{AllZip}
-use Rattle.std.proofs.lemmas.Bool.{cases_eq, cases_lt}
+use Rattle.std.proofs.lemmas.Bool.{cases_eq}
+use Rattle.std.proofs.lemmas.Bool.Decides.{nat_tests}
 use Rattle.std.proofs.lemmas.Grind.{common_steps}
 use Rattle.std.proofs.lemmas.List.Concat.{flat_map-cons}
 use Rattle.std.proofs.lemmas.List.Elements.{All-nil, All-cons, All-head, All-tail}
@@ -12,19 +13,27 @@ use Rattle.bl_model.specs.declared.operation.Op.TheVariants.{Find, Insert, Put, 
 use Rattle.bl_model.specs.declared.operation.Reply.{Reply}
 use Rattle.bl_model.specs.declared.operation.Next.TheVariants.{More, End}
 use Rattle.bl_model.specs.declared.operation.Reply.TheVariants.{Found, Absent, Present, Differs, Rows, NoRoom}
+use Rattle.bl_serve_lines.specs.declared.listing.Listing.{Listing}
+use Rattle.bl_serve_lines.specs.declared.listing.Listing.TheVariants as listing
+use Rattle.bl_serve_lines.specs.declared.listing.Scan as scan
+use Rattle.bl_serve_lines.specs.declared.listing.Until.{Until}
+use Rattle.bl_serve_lines.specs.declared.listing.Until.TheVariants.{Top, Below, DownTo}
+use Rattle.bl_serve_lines.specs.declared.listing.Tells.{Tells}
+use Rattle.bl_serve_lines.specs.declared.listing.Tells.TheVariants as tells
 use Rattle.bl_serve_lines.specs.declared.request.Request.{Request}
-use Rattle.bl_serve_lines.specs.declared.request.Request.TheVariants.{Ask, Scan, ScanFrom, ScanDown, Stat, Sync}
+use Rattle.bl_serve_lines.specs.declared.request.Request.TheVariants.{Ask, Add, Scan, Stat, Sync}
 use Rattle.bl_model.specs.Map.{Map, MayAnswer, ListsPairs, map_step}
 use Rattle.bl_model.specs.History.{IsLegalFrom, final_map}
 use Rattle.bl_model.specs.Rows.{HasRisingKeys}
 use Rattle.bl_model.proofs.Histories.{legal_append}
-use Rattle.bl_serve_lines.specs.Lines.{Line, IsLine, AreParts, ArePartsDown, Fits, Answer, Replied, Scanned, ScannedDown, Stated, Synced, Malformed, key_below, entries, answer_text, input_of, output_of}
+use Rattle.bl_serve_lines.specs.Lines.{Line, IsLine, Adds, Fits, Answer, Replied, Added, Scanned, Stated, Synced, Malformed, entries, answer_text, input_of, output_of}
+use Rattle.bl_serve_lines.specs.Scans.{AreParts, is_before, key_above, key_below, less, limited, place_in, rows_before, scan_of, wants_more}
 use Rattle.bl_serve_lines.specs.Text.{Means, Spells, numbered}
 use Rattle.bl_serve_lines.specs.declared.serving.Sectioning.{Sectioning}
 use Rattle.bl_serve_lines.specs.declared.serving.Sectioning.TheVariants.{BySync, AtMost}
 use Rattle.bl_serve_lines.specs.Served.{Ends, IsShort, HasNoEnd, malformed_of, syncs_of}
 use Rattle.bl_serve_worker.specs.Answering.{IsFor, answers_text}
-use Rattle.bl_serve_worker.specs.Answering.IsFor.{Replies, Scans, ScansFrom, ScansDown, States, Syncs, Refuses}
+use Rattle.bl_serve_worker.specs.Answering.IsFor.{Replies, Sums, Scans, States, Syncs, Refuses}
 use Rattle.bl_serve.specs.Reading.{IsReadAs, bytes_of, AsksEnd, AskNoEnd, AskEndLast}
 use Rattle.bl_serve.specs.Sections.{is_sync}
 use Rattle.bl_serve.proofs.Finite.{IsFinite, finite_step, finite_history}
@@ -36,36 +45,32 @@ lines_with (text ∷ texts) (answer ∷ answers) = record { bytes = text; answer
 
 fits_one : {pages : ℕ} {asked : Option Request} {answer : Answer} → IsFor pages asked answer → (bytes : List ℕ) → Means bytes asked → Fits pages bytes answer
 fits_one (Replies entry) bytes m = m
-fits_one (Scans low high parts are) bytes m = (m, are)
-fits_one (ScansFrom low parts are) bytes m = (m, are)
-fits_one (ScansDown low high parts are) bytes m = (m, are)
+fits_one (Sums key number es reply adds) bytes m = (m, adds)
+fits_one (Scans asked parts are) bytes m = (m, are)
 fits_one (States all used free room) bytes m = (m, room)
 fits_one Syncs bytes m = m
 fits_one Refuses bytes m = m
 
 malformed_one : {pages : ℕ} {asked : Option Request} {answer : Answer} → IsFor pages asked answer → malformed_of answer ≡ count_by is_none (asked ∷ [])
 malformed_one (Replies entry) = refl
-malformed_one (Scans low high parts are) = refl
-malformed_one (ScansFrom low parts are) = refl
-malformed_one (ScansDown low high parts are) = refl
+malformed_one (Sums key number es reply adds) = refl
+malformed_one (Scans asked parts are) = refl
 malformed_one (States all used free room) = refl
 malformed_one Syncs = refl
 malformed_one Refuses = refl
 
 not_synced : {pages : ℕ} {asked : Option Request} {answer : Answer} → IsFor pages asked answer → asked ≢ Some Sync → answer ≢ Synced
 not_synced (Replies entry) other e = let no : ⊥ = cc in no
-not_synced (Scans low high parts are) other e = let no : ⊥ = cc in no
-not_synced (ScansFrom low parts are) other e = let no : ⊥ = cc in no
-not_synced (ScansDown low high parts are) other e = let no : ⊥ = cc in no
+not_synced (Sums key number es reply adds) other e = let no : ⊥ = cc in no
+not_synced (Scans asked parts are) other e = let no : ⊥ = cc in no
 not_synced (States all used free room) other e = let no : ⊥ = cc in no
 not_synced Syncs other e = other refl
 not_synced Refuses other e = let no : ⊥ = cc in no
 
 is_synced : {pages : ℕ} {asked : Option Request} {answer : Answer} → IsFor pages asked answer → asked ≡ Some Sync → answer ≡ Synced
 is_synced (Replies entry) e = let no : ⊥ = cc in absurd no
-is_synced (Scans low high parts are) e = let no : ⊥ = cc in absurd no
-is_synced (ScansFrom low parts are) e = let no : ⊥ = cc in absurd no
-is_synced (ScansDown low high parts are) e = let no : ⊥ = cc in absurd no
+is_synced (Sums key number es reply adds) e = let no : ⊥ = cc in absurd no
+is_synced (Scans asked parts are) e = let no : ⊥ = cc in absurd no
 is_synced (States all used free room) e = let no : ⊥ = cc in absurd no
 is_synced Syncs e = refl
 is_synced Refuses e = let no : ⊥ = cc in absurd no
@@ -78,9 +83,8 @@ answers_end (AtMost most) count f (inr many) = inr many
 
 synced_one : {pages : ℕ} {asked : Option Request} {answer : Answer} → IsFor pages asked answer → syncs_of answer ≡ count_by is_sync (asked ∷ [])
 synced_one (Replies entry) = refl
-synced_one (Scans low high parts are) = refl
-synced_one (ScansFrom low parts are) = refl
-synced_one (ScansDown low high parts are) = refl
+synced_one (Sums key number es reply adds) = refl
+synced_one (Scans asked parts are) = refl
 synced_one (States all used free room) = refl
 synced_one Syncs = refl
 synced_one Refuses = refl
@@ -265,62 +269,116 @@ last_part_down m = subst (ListsPairs m (λ key. key ≤ 0)) (sym (reversed_one 0
 })
 
 -- parts of one key each
-pub record LawfulParts (m : Map) (low : ℕ) (high : Option ℕ) : Type 0 where
+pub record LawfulParts (m : Map) (its : scan.Scan) : Type 0 where
   pub parts : List Entry
-  pub are : AreParts (Some low) high parts
+  pub are : AreParts its parts
   pub legal : IsLegalFrom m parts
 
-some_parts : (m : Map) (n low high : ℕ) → high ≤ low + n → LawfulParts m low (Some high)
-some_parts m zero low high within = record { parts = []; are = omega (arith, within); legal = tt }
-some_parts m (suc n) low high within = ⊎_elim
-    (λ (below : low < high). let r = some_parts m n (suc low) high (omega (arith, within)) in let reply : Reply = Rows (record { items = one_row low (m low) }) (More (suc low)) in record {
-      parts = record { pass = 0; op = Part low; reply = reply } ∷ r.parts;
-      are = (below, refl, r.are);
+cases_bool : (b : Bool) → (b ≡ true) ⊎ (b ≡ false)
+cases_bool true = inl refl
+cases_bool false = inr refl
+
+-- where the scan does not go on, there is none
+parts_none : (m : Map) (until : Until) (tells : Tells) (from : ℕ) → (is_before until from && wants_more tells) ≡ false → LawfulParts m (record { from = Some from; until = until; tells = tells })
+parts_none m until tells from no = record { parts = []; are = ap (λ (b : Bool). if b then Some from else None) no; legal = tt }
+
+goes_there : (until : Until) (tells : Tells) (from : ℕ) → (is_before until from && wants_more tells) ≡ true → place_in until tells (Some from) ≡ Some from
+goes_there until tells from yes = ap (λ (b : Bool). if b then Some from else None) yes
+
+not_behind : (low high : ℕ) (wanted : Bool) → high ≤ low → (nat_lt low high && wanted) ≡ true → ⊥
+not_behind low high wanted over yes = let test : nat_lt low high ≡ false = grind (arith, nat_tests, over) in let no : false ≡ true = sym (ap (λ (b : Bool). b && wanted) test) ∙ yes in let never : ⊥ = cc in never
+
+abbrev row_reply : Map → ℕ → Reply
+row_reply m low = Rows (record { items = one_row low (m low) }) (More (suc low))
+
+parts_below : (m : Map) (n : ℕ) (tells : Tells) (low high : ℕ) → high ≤ low + n → LawfulParts m (record { from = Some low; until = Below high; tells = tells })
+parts_below m zero tells low high within = ⊎_elim
+    (λ (yes : (nat_lt low high && wants_more tells) ≡ true). absurd (not_behind low high (wants_more tells) (omega (arith, within)) yes))
+    (λ (no : (nat_lt low high && wants_more tells) ≡ false). parts_none m (Below high) tells low no)
+    (cases_bool (nat_lt low high && wants_more tells))
+parts_below m (suc n) tells low high within = ⊎_elim
+    (λ (yes : (nat_lt low high && wants_more tells) ≡ true).
+    let r = parts_below m n (less tells (length (rows_before (Below high) (one_row low (m low))))) (suc low) high (omega (arith, within)) in record {
+      parts = record { pass = 0; op = Part low; reply = row_reply m low } ∷ r.parts;
+      are = (low, goes_there (Below high) tells low yes, refl, r.are);
       legal = (one_part m low, r.legal);
     })
-    (λ (over : high ≤ low). record { parts = []; are = over; legal = tt })
-    (cases_lt low high)
+    (λ (no : (nat_lt low high && wants_more tells) ≡ false). parts_none m (Below high) tells low no)
+    (cases_bool (nat_lt low high && wants_more tells))
 
 -- up to the end of the map, behind which a part has no row
-all_parts : (m : Map) (f : IsFinite m) (n low : ℕ) → f.0 ≤ low + n → LawfulParts m low None
-all_parts m f zero low within = record {
-  parts = record { pass = 0; op = Part low; reply = Rows (record { items = [] }) End } ∷ [];
-  are = (tt, refl, tt);
-  legal = (no_part m low (λ key least. f.1 key (omega (arith, within, least))), tt);
-}
-all_parts m f (suc n) low within = let r = all_parts m f n (suc low) (omega (arith, within)) in record {
-  parts = record { pass = 0; op = Part low; reply = Rows (record { items = one_row low (m low) }) (More (suc low)) } ∷ r.parts;
-  are = (tt, refl, r.are);
-  legal = (one_part m low, r.legal);
-}
+parts_up : (m : Map) (f : IsFinite m) (n : ℕ) (tells : Tells) (low : ℕ) → f.0 ≤ low + n → LawfulParts m (record { from = Some low; until = Top; tells = tells })
+parts_up m f zero tells low within = ⊎_elim
+    (λ (yes : (true && wants_more tells) ≡ true). record {
+      parts = record { pass = 0; op = Part low; reply = Rows (record { items = [] }) End } ∷ [];
+      are = (low, goes_there Top tells low yes, refl, refl);
+      legal = (no_part m low (λ key least. f.1 key (omega (arith, within, least))), tt);
+    })
+    (λ (no : (true && wants_more tells) ≡ false). parts_none m Top tells low no)
+    (cases_bool (true && wants_more tells))
+parts_up m f (suc n) tells low within = ⊎_elim
+    (λ (yes : (true && wants_more tells) ≡ true). let r = parts_up m f n (less tells (length (rows_before Top (one_row low (m low))))) (suc low) (omega (arith, within)) in record {
+      parts = record { pass = 0; op = Part low; reply = row_reply m low } ∷ r.parts;
+      are = (low, goes_there Top tells low yes, refl, r.are);
+      legal = (one_part m low, r.legal);
+    })
+    (λ (no : (true && wants_more tells) ≡ false). parts_none m Top tells low no)
+    (cases_bool (true && wants_more tells))
 
 -- and downwards
-pub record LawfulPartsDown (m : Map) (from : Option ℕ) (low : ℕ) : Type 0 where
-  pub parts : List Entry
-  pub are : ArePartsDown from low parts
-  pub legal : IsLegalFrom m parts
-
-parts_down : (m : Map) (from low : ℕ) → LawfulPartsDown m (Some from) low
-parts_down m zero low = ⊎_elim
-    (λ (under : 0 < low). record { parts = []; are = under; legal = tt })
-    (λ (least : low ≤ 0). record {
+parts_down : (m : Map) (tells : Tells) (from low : ℕ) → LawfulParts m (record { from = Some from; until = DownTo low; tells = tells })
+parts_down m tells zero low = ⊎_elim
+    (λ (yes : (nat_le low 0 && wants_more tells) ≡ true). record {
       parts = record { pass = 0; op = PartDown 0; reply = Rows (record { items = one_row 0 (m 0) }) End } ∷ [];
-      are = (least, refl, tt);
+      are = (0, goes_there (DownTo low) tells 0 yes, refl, refl);
       legal = (last_part_down m, tt);
     })
-    (cases_lt 0 low)
-parts_down m (suc at) low = ⊎_elim
-    (λ (under : suc at < low). record { parts = []; are = under; legal = tt })
-    (λ (least : low ≤ suc at). let r = parts_down m at low in record {
+    (λ (no : (nat_le low 0 && wants_more tells) ≡ false). parts_none m (DownTo low) tells 0 no)
+    (cases_bool (nat_le low 0 && wants_more tells))
+parts_down m tells (suc at) low = ⊎_elim
+    (λ (yes : (nat_le low (suc at) && wants_more tells) ≡ true). let r = parts_down m (less tells (length (rows_before (DownTo low) (one_row (suc at) (m (suc at)))))) at low in record {
       parts = record { pass = 0; op = PartDown (suc at); reply = Rows (record { items = one_row (suc at) (m (suc at)) }) (More at) } ∷ r.parts;
-      are = (least, refl, r.are);
+      are = (suc at, goes_there (DownTo low) tells (suc at) yes, refl, r.are);
       legal = (one_part_down m at, r.legal);
     })
-    (cases_lt (suc at) low)
+    (λ (no : (nat_le low (suc at) && wants_more tells) ≡ false). parts_none m (DownTo low) tells (suc at) no)
+    (cases_bool (nat_le low (suc at) && wants_more tells))
 
-some_parts_down : (m : Map) (from : Option ℕ) (low : ℕ) → LawfulPartsDown m from low
-some_parts_down m None low = record { parts = []; are = tt; legal = tt }
-some_parts_down m (Some from) low = parts_down m from low
+lawful_scan : (m : Map) → IsFinite m → (from : Option ℕ) (until : Until) (tells : Tells) → LawfulParts m (record { from = from; until = until; tells = tells })
+lawful_scan m f None until tells = record { parts = []; are = refl; legal = tt }
+lawful_scan m f (Some from) Top tells = parts_up m f f.0 tells from (omega arith)
+lawful_scan m f (Some from) (Below high) tells = parts_below m high tells from high (omega arith)
+lawful_scan m f (Some from) (DownTo low) tells = parts_down m tells from low
+
+lawful_listing : (m : Map) → IsFinite m → (asked : Listing) → LawfulParts m (scan_of asked)
+lawful_listing m f (listing.Scan low high limit) = lawful_scan m f (Some low) (Below high) (limited limit)
+lawful_listing m f (listing.ScanFrom low limit) = lawful_scan m f (Some low) Top (limited limit)
+lawful_listing m f (listing.ScanDown low high limit) = lawful_scan m f (key_below high) (DownTo low) (limited limit)
+lawful_listing m f (listing.ScanDownFrom high limit) = lawful_scan m f (Some high) (DownTo 0) (limited limit)
+lawful_listing m f listing.First = lawful_scan m f (Some 0) Top (tells.First 1)
+lawful_listing m f listing.Last = lawful_scan m f (Some (2 ^ 64 - 1)) (DownTo 0) (tells.First 1)
+lawful_listing m f (listing.Next key) = lawful_scan m f (key_above key) Top (tells.First 1)
+lawful_listing m f (listing.Previous key) = lawful_scan m f (key_below key) (DownTo 0) (tells.First 1)
+lawful_listing m f (listing.Count low high) = lawful_scan m f (Some low) (Below high) tells.Count
+
+-- an addition that finds no room, or nothing
+pub record LawfulSum (m : Map) (key number : ℕ) : Type 0 where
+  pub es : List Entry
+  pub reply : Reply
+  pub adds : Adds key number None es reply
+  pub legal : IsLegalFrom m es
+
+lawful_sum : (m : Map) (key number : ℕ) → LawfulSum m key number
+lawful_sum m key number = go (m key) refl
+  where
+    go : (o : Option ℕ) → m key ≡ o → LawfulSum m key number
+    go None is = record { es = record { pass = 0; op = Find key; reply = Absent } ∷ []; reply = Absent; adds = (refl, (refl, refl)); legal = (is, tt) }
+    go (Some value) is = record {
+      es = record { pass = 0; op = Find key; reply = Found value } ∷ record { pass = 0; op = Change key value ((value + number) % 2 ^ 64); reply = NoRoom } ∷ [];
+      reply = NoRoom;
+      adds = (refl, (refl, (refl, refl)));
+      legal = (is, (is, tt));
+    }
 
 pub record Lawful (pages : ℕ) (m : Map) (asked : List (Option Request)) : Type 0 where
   pub answers : List Answer
@@ -335,9 +393,7 @@ lawful pages m f (Some Stat ∷ asked) (text ∷ texts) h = let r = lawful pages
 lawful pages m f (Some Sync ∷ asked) (text ∷ texts) h = let r = lawful pages m f asked texts h.1 in record { answers = Synced ∷ r.answers; each = (Syncs, r.each); legal = r.legal }
 lawful pages m f (Some (Ask op) ∷ asked) (text ∷ texts) h = let one = some_reply m text op h.0.means in let e : Entry = record { pass = 0; op = op; reply = one.0 } in
     let r = lawful pages (map_step op one.0 m) (finite_step op one.0 m f) asked texts h.1 in record { answers = Replied e ∷ r.answers; each = (Replies e, r.each); legal = (one.1, r.legal) }
-lawful pages m f (Some (Scan from to) ∷ asked) (text ∷ texts) h = let p = some_parts m to from to (omega arith) in let r = lawful pages (final_map m p.parts) (finite_history m p.parts f) asked texts h.1 in
-    record { answers = Scanned from (Some to) p.parts ∷ r.answers; each = (Scans from to p.parts p.are, r.each); legal = legal_append m p.parts (flat_map entries r.answers) p.legal r.legal }
-lawful pages m f (Some (ScanFrom from) ∷ asked) (text ∷ texts) h = let p = all_parts m f f.0 from (omega arith) in let r = lawful pages (final_map m p.parts) (finite_history m p.parts f) asked texts h.1 in
-    record { answers = Scanned from None p.parts ∷ r.answers; each = (ScansFrom from p.parts p.are, r.each); legal = legal_append m p.parts (flat_map entries r.answers) p.legal r.legal }
-lawful pages m f (Some (ScanDown from to) ∷ asked) (text ∷ texts) h = let p = some_parts_down m (key_below to) from in let r = lawful pages (final_map m p.parts) (finite_history m p.parts f) asked texts h.1 in
-    record { answers = ScannedDown from to p.parts ∷ r.answers; each = (ScansDown from to p.parts p.are, r.each); legal = legal_append m p.parts (flat_map entries r.answers) p.legal r.legal }
+lawful pages m f (Some (Add key number) ∷ asked) (text ∷ texts) h = let p = lawful_sum m key number in let r = lawful pages (final_map m p.es) (finite_history m p.es f) asked texts h.1 in
+    record { answers = Added key number p.es p.reply ∷ r.answers; each = (Sums key number p.es p.reply p.adds, r.each); legal = legal_append m p.es (flat_map entries r.answers) p.legal r.legal }
+lawful pages m f (Some (Scan its) ∷ asked) (text ∷ texts) h = let p = lawful_listing m f its in let r = lawful pages (final_map m p.parts) (finite_history m p.parts f) asked texts h.1 in
+    record { answers = Scanned its p.parts ∷ r.answers; each = (Scans its p.parts p.are, r.each); legal = legal_append m p.parts (flat_map entries r.answers) p.legal r.legal }

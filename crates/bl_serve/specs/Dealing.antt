@@ -1,14 +1,15 @@
 -- How lines are dealt into shares.
-use Rattle.std.specs.Prelude.{◌≡◌, ℕ, ◌+◌, ◌-◌, ◌*◌, ◌/◌, ◌%◌, ◌<◌, ◌^◌, min, true, List, Option, Some, None}
+use Rattle.std.specs.Prelude.{◌≡◌, ◌==◌, ℕ, ◌+◌, ◌-◌, ◌*◌, ◌/◌, ◌%◌, ◌<◌, ◌^◌, min, true, List, Option, Some, None}
 use Rattle.std.specs.List.{AllZip}
 use Rattle.bl_model.specs.declared.operation.Op.{Op}
 use Rattle.bl_serve_lines.specs.declared.request.Request.{Request}
-use Rattle.bl_serve_lines.specs.declared.request.Request.TheVariants.{Ask}
+use Rattle.bl_serve_lines.specs.declared.request.Request.TheVariants.{Ask, Add}
 use Rattle.bl_serve_lines.specs.Served.{is_on}
 
--- the line asks for an operation on that key alone
+-- the line asks for operations on that key alone
 abbrev pub IsOn : ℕ → Option Request → Type 0
 IsOn key (Some (Ask op)) = is_on key op ≡ true
+IsOn key (Some (Add its number)) = (its == key) ≡ true
 IsOn key other = ⊥
 
 -- the key that a line is about, if it is about one alone

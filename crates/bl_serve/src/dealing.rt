@@ -61,6 +61,7 @@ fn key_of(request: Option<Request>) -> Option<u64>
 {
     match request {
         Some(Request::Ask(op)) => key_in(op),
+        Some(Request::Add(key, _)) => Some(key),
         _ => None,
     }
 }

@@ -1,16 +1,19 @@
 -- Worked examples of the definitions.
-use Rattle.std.proofs.Common.{◌≡◌, ℕ, List, [], ◌∷◌, codes, decimal, get_or, refl, ap, ◌∙◌, lit<, lit≤, Some, None, arith}
+use Rattle.std.proofs.Common.{◌≡◌, ℕ, List, [], ◌∷◌, codes, decimal, get_or, refl, ap, ◌∙◌, lit<, lit≤, Option, Some, None, arith}
 use Rattle.std.proofs.lemmas.Fmt.{decimal_digit}
 use Rattle.std.proofs.lemmas.List.Elements.{All-nil, All-cons}
 use Rattle.bl_model.specs.declared.operation.Op.TheVariants.{Find, Insert, Change, Part, PartDown}
-use Rattle.bl_model.specs.declared.operation.Reply.TheVariants.{Found, Absent, Inserted, Changed, Differs, Rows}
+use Rattle.bl_model.specs.declared.operation.Reply.TheVariants.{Found, Absent, Inserted, Replaced, Changed, Differs, Rows}
 use Rattle.bl_model.specs.declared.operation.Next.TheVariants.{More, End}
 use Rattle.bl_model.specs.declared.operation.Entry.{Entry}
 use Rattle.bl_model.specs.Map.{empty}
 use Rattle.bl_model.specs.History.{IsLegalFrom}
+use Rattle.bl_serve_lines.specs.declared.listing.Listing.{Listing}
+use Rattle.bl_serve_lines.specs.declared.listing.Listing.TheVariants as listing
 use Rattle.bl_serve_lines.specs.declared.request.Request.TheVariants.{Ask, Scan, Sync}
 use Rattle.bl_serve_lines.specs.Text.{Spells}
-use Rattle.bl_serve_lines.specs.Lines.{Line, AreParts, ArePartsDown, Fits, Replied, Scanned, ScannedDown, Stated, Synced, key_below, answer_text, input_of, output_of, rest_text, text_of}
+use Rattle.bl_serve_lines.specs.Scans.{AreParts, scan_of}
+use Rattle.bl_serve_lines.specs.Lines.{Line, Adds, Fits, Replied, Added, Scanned, Stated, Synced, answer_text, input_of, output_of, rest_text, text_of}
 use Rattle.bl_serve_lines.specs.Served.{Interleaves, on_key}
 use Rattle.bl_serve_lines.specs.Served.Interleaves.{Done, Takes}
 
@@ -119,8 +122,12 @@ changes = record { bytes = codes "change 1 5 2"; answer = Replied changed } ∷ 
 changes_written : output_of 1 changes ≡ codes "1 changed\n2 differs 2\n"
 changes_written = simp (one, two)
 
-scan_line : Spells (codes "scan 1 4") (Scan 1 4)
-scan_line = (lit< tt, lit< tt, simp (one, four))
+scan_line : Spells (codes "scan 1 4") (Scan (listing.Scan 1 4 None))
+scan_line = (lit< tt, lit< tt, tt, simp (one, four))
+
+-- at most two rows of it
+limited_line : Spells (codes "scan 1 4 limit 2") (Scan (listing.Scan 1 4 (Some 2)))
+limited_line = (lit< tt, lit< tt, lit< tt, simp (one, four, two))
 
 abbrev first_part : Entry
 first_part = record { pass = 0; op = Part 1; reply = Rows (record { items = (1, 2) ∷ (2, 3) ∷ [] }) (More 3) }
@@ -128,30 +135,63 @@ first_part = record { pass = 0; op = Part 1; reply = Rows (record { items = (1, 
 abbrev second_part : Entry
 second_part = record { pass = 0; op = Part 3; reply = Rows (record { items = (3, 1) ∷ (4, 5) ∷ [] }) End }
 
-scan_parts : AreParts (Some 1) (Some 4) (first_part ∷ second_part ∷ [])
-scan_parts = (lit< tt, refl, (lit< tt, refl, tt))
+abbrev both : List Entry
+both = first_part ∷ second_part ∷ []
+
+abbrev Parts : Listing → List Entry → Type 0
+Parts asked parts = AreParts (scan_of asked) parts
+
+scan_parts : Parts (listing.Scan 1 4 None) both
+scan_parts = (1, refl, refl, (3, refl, refl, refl))
 
 -- a scan from 5 up to 5 has none
-no_parts : AreParts (Some 5) (Some 5) []
-no_parts = lit≤ tt
+no_parts : Parts (listing.Scan 5 5 None) []
+no_parts = refl
 
-none_written : answer_text (Scanned 5 (Some 5) []) ≡ codes "rows"
+none_written : answer_text (Scanned (listing.Scan 5 5 None) []) ≡ codes "rows"
 none_written = refl
 
 -- a scan from 1 up to 4 in two parts, of which the second goes on past its end
-scan_written : answer_text (Scanned 1 (Some 4) (first_part ∷ second_part ∷ [])) ≡ codes "rows 1=2 2=3 3=1"
+scan_written : answer_text (Scanned (listing.Scan 1 4 None) both) ≡ codes "rows 1=2 2=3 3=1"
 scan_written = simp (one, two, three)
 
 -- a scan from 1 on in the same parts lists all their rows
-scan_from_fits : Fits 4 (codes "scanfrom 1") (Scanned 1 None (first_part ∷ second_part ∷ []))
-scan_from_fits = ((lit< tt, simp one), (tt, refl, (tt, refl, tt)))
+scan_from_fits : Fits 4 (codes "scanfrom 1") (Scanned (listing.ScanFrom 1 None) both)
+scan_from_fits = ((lit< tt, tt, simp one), (1, refl, refl, (3, refl, refl, refl)))
 
-scan_from_written : answer_text (Scanned 1 None (first_part ∷ second_part ∷ [])) ≡ codes "rows 1=2 2=3 3=1 4=5"
+scan_from_written : answer_text (Scanned (listing.ScanFrom 1 None) both) ≡ codes "rows 1=2 2=3 3=1 4=5"
 scan_from_written = simp (one, two, three, four, five)
 
--- it has not ended where the map goes on
-first_part_alone : AreParts (Some 1) None (first_part ∷ []) → ⊥
-first_part_alone are = are.2
+-- it has not ended where the map goes on, and one that lists two rows at most has; no part is read behind it
+first_part_alone : Parts (listing.ScanFrom 1 None) (first_part ∷ []) → ⊥
+first_part_alone are = let e : ◌≡◌ {A = Option ℕ} (Some 3) None = are.3 in let never : ⊥ = cc in never
+
+first_part_of_two : Parts (listing.ScanFrom 1 (Some 2)) (first_part ∷ [])
+first_part_of_two = (1, refl, refl, refl)
+
+a_part_too_many : Parts (listing.ScanFrom 1 (Some 2)) both → ⊥
+a_part_too_many are = let e : ◌≡◌ {A = Option ℕ} None (Some are.3.0) = are.3.1 in let never : ⊥ = cc in never
+
+-- three rows take both, and the fourth one is not listed
+three_written : answer_text (Scanned (listing.ScanFrom 1 (Some 3)) both) ≡ codes "rows 1=2 2=3 3=1"
+three_written = simp (one, two, three)
+
+-- the first row of all, and the one behind 1, which begins at 2
+first_written : answer_text (Scanned listing.First (first_part ∷ [])) ≡ codes "rows 1=2"
+first_written = simp (one, two)
+
+next_begins : (scan_of (listing.Next 1)).from ≡ Some 2
+next_begins = refl
+
+-- there is none behind the greatest key, and none before the least one
+none_behind : Parts (listing.Next 18446744073709551615) []
+none_behind = refl
+
+none_before : Parts (listing.Previous 0) []
+none_before = refl
+
+count_written : answer_text (Scanned (listing.Count 1 4) both) ≡ codes "count 3"
+count_written = simp three
 
 abbrev high_part : Entry
 high_part = record { pass = 0; op = PartDown 3; reply = Rows (record { items = (3, 1) ∷ [] }) (More 2) }
@@ -160,15 +200,40 @@ abbrev low_part : Entry
 low_part = record { pass = 0; op = PartDown 2; reply = Rows (record { items = (2, 3) ∷ (1, 2) ∷ [] }) End }
 
 -- a scan from below 4 down to 2 in two parts, of which the second goes on past its end
-scan_down_fits : Fits 4 (codes "scandown 2 4") (ScannedDown 2 4 (high_part ∷ low_part ∷ []))
-scan_down_fits = ((lit< tt, lit< tt, simp (two, four)), (lit≤ tt, refl, (lit≤ tt, refl, tt)))
+scan_down_fits : Fits 4 (codes "scandown 2 4") (Scanned (listing.ScanDown 2 4 None) (high_part ∷ low_part ∷ []))
+scan_down_fits = ((lit< tt, lit< tt, tt, simp (two, four)), (3, refl, refl, (2, refl, refl, refl)))
 
-scan_down_written : answer_text (ScannedDown 2 4 (high_part ∷ low_part ∷ [])) ≡ codes "rows 3=1 2=3"
+scan_down_written : answer_text (Scanned (listing.ScanDown 2 4 None) (high_part ∷ low_part ∷ [])) ≡ codes "rows 3=1 2=3"
 scan_down_written = simp (one, two, three)
 
--- below 0 there is no key, and below 3 none from 3 on
-no_parts_down : ArePartsDown (key_below 0) 0 []
-no_parts_down = tt
+-- one from 3 on has the same parts
+scan_down_from_fits : Fits 4 (codes "scandownfrom 3") (Scanned (listing.ScanDownFrom 3 None) (high_part ∷ low_part ∷ []))
+scan_down_from_fits = ((lit< tt, tt, simp three), (3, refl, refl, (2, refl, refl, refl)))
 
-none_from_three : ArePartsDown (key_below 3) 3 []
-none_from_three = lit< tt
+-- below 0 there is no key, and below 3 none from 3 on
+no_parts_down : Parts (listing.ScanDown 0 0 None) []
+no_parts_down = refl
+
+none_from_three : Parts (listing.ScanDown 3 3 None) []
+none_from_three = refl
+
+-- an addition finds 5, and changes it to 7; the reply says what was there
+abbrev to_seven : Entry
+to_seven = record { pass = 0; op = Change 1 5 7; reply = Changed }
+
+sum_fits : Fits 4 (codes "add 1 2") (Added 1 2 (found ∷ to_seven ∷ []) (Replaced 5))
+sum_fits = ((lit< tt, lit< tt, simp (one, two)), (refl, (refl, (refl, refl))))
+
+sum_written : answer_text (Added 1 2 (found ∷ to_seven ∷ []) (Replaced 5)) ≡ codes "replaced 5"
+sum_written = simp five
+
+sums_are_legal : IsLegalFrom empty (inserted ∷ found ∷ to_seven ∷ [])
+sums_are_legal = (refl, (refl, (refl, tt)))
+
+-- what is not there stays away
+no_sum : Adds 2 5 None (missed ∷ []) Absent
+no_sum = (refl, (refl, refl))
+
+-- nothing is changed that was not looked up
+from_nowhere : Adds 1 2 None (to_seven ∷ []) (Replaced 5) → ⊥
+from_nowhere adds = let e : Change 1 5 7 ≡ Find 1 = adds.0 in let never : ⊥ = cc in never

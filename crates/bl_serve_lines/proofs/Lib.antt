@@ -7,3 +7,4 @@ pub mod Sections
 mod LineOrder
 pub mod Keys
 pub mod Dealing
+pub mod Listed

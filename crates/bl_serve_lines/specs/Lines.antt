@@ -1,18 +1,23 @@
 -- Lines of the input, their answers, and the lines of the output.
-use Rattle.std.specs.Prelude.{◌≡◌, ◌≢◌, ℕ, zero, suc, ◌+◌, ◌<◌, ◌≤◌, Bool, true, Option, Some, None, List, [], ◌∷◌, ◌++◌, All, length, flat_map, filter, nat_le, nat_lt, codes}
-use Rattle.bl_model.specs.declared.operation.Op.TheVariants.{Part, PartDown}
-use Rattle.bl_model.specs.Parts.{rows_of, ended_at}
+use Rattle.std.specs.Prelude.{◌≡◌, ◌≢◌, ℕ, suc, ◌+◌, ◌%◌, ◌^◌, ◌≤◌, Option, Some, None, List, [], ◌∷◌, ◌++◌, All, length, flat_map, codes, MatchOption}
+use Rattle.bl_model.specs.declared.operation.Op.{Op}
+use Rattle.bl_model.specs.declared.operation.Op.TheVariants.{Find, Change}
+use Rattle.bl_model.specs.declared.operation.Reply.{Reply}
+use Rattle.bl_model.specs.declared.operation.Reply.TheVariants.{Found, Replaced, Changed, Differs}
+use Rattle.bl_model.specs.Parts.{rows_of}
 use Rattle.bl_model.specs.declared.operation.Entry.{Entry}
-use Rattle.bl_serve_lines.specs.declared.request.Request.TheVariants.{Ask, Scan, ScanFrom, ScanDown, Stat, Sync}
-use Rattle.bl_serve_lines.specs.Text.{Spells, IsMalformed, reply_text, row_text, room_text, numbered}
+use Rattle.bl_serve_lines.specs.declared.listing.Listing.{Listing}
+use Rattle.bl_serve_lines.specs.declared.request.Request.TheVariants.{Ask, Add, Scan, Stat, Sync}
+use Rattle.bl_serve_lines.specs.Scans.{AreParts, rows_before, scan_of, told_text}
+use Rattle.bl_serve_lines.specs.Text.{Spells, IsMalformed, reply_text, room_text, numbered}
 
--- what a line is answered: an operation's entry; a scan's first key, its end, if it has one, and its parts in order; the same bounds of a scan
--- downwards, and its parts; how many pages the index has, how many are in use, and how many may be taken; that a section ended; that it
--- spells no request
+-- what a line is answered: an operation's entry; an addition's key, its number, its entries in order and its reply; the rows that were asked
+-- for, and the scan's parts in order; how many pages the index has, how many are in use, and how many may be taken; that a section ended; that
+-- it spells no request
 pub data Answer : Type 0 where
   Replied : Entry → Answer
-  Scanned : ℕ → Option ℕ → List Entry → Answer
-  ScannedDown : ℕ → ℕ → List Entry → Answer
+  Added : ℕ → ℕ → List Entry → Reply → Answer
+  Scanned : Listing → List Entry → Answer
   Stated : ℕ → ℕ → ℕ → Answer
   Synced : Answer
   Malformed : Answer
@@ -26,42 +31,27 @@ pub record Line : Type 0 where
 abbrev pub HasNoLf : List ℕ → Type 0
 HasNoLf bytes = All (λ b. b ≢ 10) bytes
 
--- the key is below the end of a scan, if it has one
-abbrev pub IsBelow : Option ℕ → ℕ → Type 0
-IsBelow None key = Unit {0}
-IsBelow (Some high) key = key < high
+-- what an addition asks of its key: the value, and where one was seen last, that it change from there to the sum, modulo 2^64
+abbrev pub addition : ℕ → ℕ → Option ℕ → Op
+addition key number None = Find key
+addition key number (Some value) = Change key value ((value + number) % 2 ^ 64)
 
--- the test of it
-abbrev pub is_below : Option ℕ → ℕ → Bool
-is_below None key = true
-is_below (Some high) key = nat_lt key high
+-- the value that the reply says the key has, if it says one
+abbrev pub value_in : Reply → Option ℕ
+value_in (Found value) = Some value
+value_in (Differs value) = Some value
+value_in reply = None
 
--- The parts of a scan up to its end: the first from that key on, each further one from where the last one ended, and each from below
--- the scan's end. Behind the last one nothing is left: it went to the end of the map, or not less far than the scan.
-abbrev pub AreParts : Option ℕ → Option ℕ → List Entry → Type 0
-AreParts None high [] = Unit {0}
-AreParts (Some from) None [] = ⊥
-AreParts (Some from) (Some high) [] = high ≤ from
-AreParts None high (e ∷ es) = ⊥
-AreParts (Some from) high (e ∷ es) = IsBelow high from × (e.op ≡ Part from) × AreParts (ended_at e.reply) high es
+-- the reply to an addition whose last entry has this one: a change of the value that was seen is told as a put is
+abbrev pub sum_reply : Option ℕ → Reply → Reply
+sum_reply (Some value) Changed = Replaced value
+sum_reply seen reply = reply
 
--- The parts of a scan downwards to that least key: the first from that key on, each further one from where the last one ended, and none
--- from below the least key. Behind the last one nothing is left: it went to the end of the map, or below the least key.
-abbrev pub ArePartsDown : Option ℕ → ℕ → List Entry → Type 0
-ArePartsDown None low [] = Unit {0}
-ArePartsDown (Some from) low [] = from < low
-ArePartsDown None low (e ∷ es) = ⊥
-ArePartsDown (Some from) low (e ∷ es) = (low ≤ from) × (e.op ≡ PartDown from) × ArePartsDown (ended_at e.reply) low es
-
--- the greatest key below that one, if there is one
-abbrev pub key_below : ℕ → Option ℕ
-key_below zero = None
-key_below (suc key) = Some key
-
--- A scan is asked for with these bounds: the second one is its end, if it has one.
-abbrev pub SpellsScan : List ℕ → ℕ → Option ℕ → Type 0
-SpellsScan bytes low None = Spells bytes (ScanFrom low)
-SpellsScan bytes low (Some high) = Spells bytes (Scan low high)
+-- The entries of an addition behind the value that was seen last, and its reply: each asks so, and all but the last one saw a value.
+abbrev pub Adds : ℕ → ℕ → Option ℕ → List Entry → Reply → Type 0
+Adds key number seen [] reply = ⊥
+Adds key number seen (e ∷ es) reply = (e.op ≡ addition key number seen)
+    × MatchOption (value_in e.reply) ((es ≡ []) × (reply ≡ sum_reply seen e.reply)) (λ value. Adds key number (Some value) es reply)
 
 -- These are all pages, pages in use and pages that may be taken of an index of so many pages.
 abbrev pub IsRoom : ℕ → ℕ → ℕ → ℕ → Type 0
@@ -70,8 +60,8 @@ IsRoom pages all used free = (all ≡ pages) × (used + free ≤ all)
 -- The answer is of the line's kind, where the index has so many pages.
 abbrev pub Fits : ℕ → List ℕ → Answer → Type 0
 Fits pages bytes (Replied entry) = Spells bytes (Ask entry.op)
-Fits pages bytes (Scanned low high parts) = SpellsScan bytes low high × AreParts (Some low) high parts
-Fits pages bytes (ScannedDown low high parts) = Spells bytes (ScanDown low high) × ArePartsDown (key_below high) low parts
+Fits pages bytes (Added key number es reply) = Spells bytes (Add key number) × Adds key number None es reply
+Fits pages bytes (Scanned asked parts) = Spells bytes (Scan asked) × AreParts (scan_of asked) parts
 Fits pages bytes (Stated all used free) = Spells bytes Stat × IsRoom pages all used free
 Fits pages bytes Synced = Spells bytes Sync
 Fits pages bytes Malformed = IsMalformed bytes
@@ -83,8 +73,8 @@ pub record IsLine (pages : ℕ) (line : Line) : Type 0 where
 -- the entries that an answer has in the history
 abbrev pub entries : Answer → List Entry
 entries (Replied entry) = entry ∷ []
-entries (Scanned low high parts) = parts
-entries (ScannedDown low high parts) = parts
+entries (Added key number es reply) = es
+entries (Scanned asked parts) = parts
 entries (Stated all used free) = []
 entries Synced = []
 entries Malformed = []
@@ -93,19 +83,11 @@ entries Malformed = []
 abbrev pub rows_in : List Entry → List (ℕ × ℕ)
 rows_in parts = flat_map (λ entry. rows_of entry.reply) parts
 
--- the rows that lie below the end of a scan
-abbrev pub rows_below : Option ℕ → List (ℕ × ℕ) → List (ℕ × ℕ)
-rows_below high rows = filter (λ row. is_below high row.0) rows
-
--- the rows whose keys are not below that one
-abbrev pub rows_from : ℕ → List (ℕ × ℕ) → List (ℕ × ℕ)
-rows_from low rows = filter (λ row. nat_le low row.0) rows
-
--- what is printed behind a line's number; of a scan, the rows of its parts that lie within its bounds
+-- what is printed behind a line's number; of a scan, what it tells of those rows of its parts that are before its end
 abbrev pub answer_text : Answer → List ℕ
 answer_text (Replied entry) = reply_text entry.reply
-answer_text (Scanned low high parts) = codes "rows" ++ flat_map row_text (rows_below high (rows_in parts))
-answer_text (ScannedDown low high parts) = codes "rows" ++ flat_map row_text (rows_from low (rows_in parts))
+answer_text (Added key number es reply) = reply_text reply
+answer_text (Scanned asked parts) = told_text (scan_of asked).tells (rows_before (scan_of asked).until (rows_in parts))
 answer_text (Stated all used free) = room_text all used free
 answer_text Synced = codes "synced"
 answer_text Malformed = codes "malformed"

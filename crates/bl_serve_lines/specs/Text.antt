@@ -1,14 +1,24 @@
 -- The text of requests and of replies.
-use Rattle.std.specs.Prelude.{◌≡◌, ℕ, ◌<◌, ◌^◌, List, [], ◌∷◌, ◌++◌, flat_map, codes, decimal, None, Some, Option}
+use Rattle.std.specs.Prelude.{◌≡◌, ℕ, ◌<◌, ◌^◌, List, [], ◌∷◌, ◌++◌, flat_map, codes, decimal, None, Some, Option, IfSome}
 use Rattle.bl_model.specs.declared.operation.Op.TheVariants.{Find, Insert, Put, Delete, Change, Part, PartDown}
 use Rattle.bl_model.specs.declared.operation.Next.{Next}
 use Rattle.bl_model.specs.declared.operation.Next.TheVariants.{More, End}
 use Rattle.bl_model.specs.declared.operation.Reply.{Reply}
 use Rattle.bl_model.specs.declared.operation.Reply.TheVariants.{Found, Absent, Inserted, Present, Replaced, Deleted, Changed, Differs, Rows, NoRoom}
+use Rattle.bl_serve_lines.specs.declared.listing.Listing.TheVariants as listing
 use Rattle.bl_serve_lines.specs.declared.request.Request.{Request}
-use Rattle.bl_serve_lines.specs.declared.request.Request.TheVariants.{Ask, Scan, ScanFrom, ScanDown, Stat, Sync}
+use Rattle.bl_serve_lines.specs.declared.request.Request.TheVariants.{Ask, Add, Scan, Stat, Sync}
 use Rattle.bl_serve_lines.specs.declared.print.Response.{Response}
 use Rattle.bl_serve_lines.specs.declared.print.Response.TheVariants.{Replied, Stated, Synced, Malformed}
+
+-- what stands behind the bounds of a scan that has this limit of rows
+abbrev pub limit_text : Option ℕ → List ℕ
+limit_text None = []
+limit_text (Some most) = codes " limit " ++ decimal most
+
+-- a limit has 32 bits
+abbrev pub IsLimit : Option ℕ → Type 0
+IsLimit limit = IfSome limit (λ most. most < 2 ^ 32)
 
 -- the line is a spelling of the request, whose numbers have 64 bits; no line asks for one part alone
 abbrev pub Spells : List ℕ → Request → Type 0
@@ -20,9 +30,18 @@ Spells line (Ask (Change key old new)) =
     (key < 2 ^ 64) × (old < 2 ^ 64) × (new < 2 ^ 64) × (line ≡ codes "change " ++ decimal key ++ codes " " ++ decimal old ++ codes " " ++ decimal new)
 Spells line (Ask (Part from)) = ⊥
 Spells line (Ask (PartDown from)) = ⊥
-Spells line (Scan low high) = (low < 2 ^ 64) × (high < 2 ^ 64) × (line ≡ codes "scan " ++ decimal low ++ codes " " ++ decimal high)
-Spells line (ScanFrom low) = (low < 2 ^ 64) × (line ≡ codes "scanfrom " ++ decimal low)
-Spells line (ScanDown low high) = (low < 2 ^ 64) × (high < 2 ^ 64) × (line ≡ codes "scandown " ++ decimal low ++ codes " " ++ decimal high)
+Spells line (Add key number) = (key < 2 ^ 64) × (number < 2 ^ 64) × (line ≡ codes "add " ++ decimal key ++ codes " " ++ decimal number)
+Spells line (Scan (listing.Scan low high limit)) =
+    (low < 2 ^ 64) × (high < 2 ^ 64) × IsLimit limit × (line ≡ codes "scan " ++ decimal low ++ codes " " ++ decimal high ++ limit_text limit)
+Spells line (Scan (listing.ScanFrom low limit)) = (low < 2 ^ 64) × IsLimit limit × (line ≡ codes "scanfrom " ++ decimal low ++ limit_text limit)
+Spells line (Scan (listing.ScanDown low high limit)) =
+    (low < 2 ^ 64) × (high < 2 ^ 64) × IsLimit limit × (line ≡ codes "scandown " ++ decimal low ++ codes " " ++ decimal high ++ limit_text limit)
+Spells line (Scan (listing.ScanDownFrom high limit)) = (high < 2 ^ 64) × IsLimit limit × (line ≡ codes "scandownfrom " ++ decimal high ++ limit_text limit)
+Spells line (Scan listing.First) = line ≡ codes "first"
+Spells line (Scan listing.Last) = line ≡ codes "last"
+Spells line (Scan (listing.Next key)) = (key < 2 ^ 64) × (line ≡ codes "next " ++ decimal key)
+Spells line (Scan (listing.Previous key)) = (key < 2 ^ 64) × (line ≡ codes "previous " ++ decimal key)
+Spells line (Scan (listing.Count low high)) = (low < 2 ^ 64) × (high < 2 ^ 64) × (line ≡ codes "count " ++ decimal low ++ codes " " ++ decimal high)
 Spells line Stat = line ≡ codes "stat"
 Spells line Sync = line ≡ codes "sync"
 

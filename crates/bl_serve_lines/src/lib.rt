@@ -6,6 +6,7 @@
 //! order of the lines, and all others in any order, with sections in order, and one output line for each input line by its number. The server of `bl_serve` promises this.
 #![tactic(auto)]
 
+pub mod listing;
 pub mod number;
 mod options;
 pub mod print;

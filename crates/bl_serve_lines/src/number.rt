@@ -1,6 +1,7 @@
 //! Decimal numbers without leading zeros.
 
-ghost use Rattle.std.specs.Prelude.{◌≡◌, ◌≢◌, ℕ, ◌<◌, ◌^◌, ◌≤◌, ◌++◌, length, slice_index, codes, decimal, IfSome, IfNone};
+ghost use Rattle.std.specs.Prelude.{◌≡◌, ◌≢◌, ℕ, ◌<◌, ◌^◌, ◌≤◌, ◌++◌, length, slice_index, codes, decimal, IfSome, IfNone, Option};
+ghost use Rattle.bl_serve_lines.specs.Text.{IsLimit, limit_text};
 
 /// The number that the text spells, which is at most `u64::MAX`.
 pub fn number(text: &[u8]) -> Option<u64>
@@ -65,6 +66,52 @@ pub fn three_numbers(text: &[u8]) -> Option<(u64, u64, u64)>
     }
     match (number(&text[..space]), two_numbers(&text[space + 1..])) {
         (Some(first), Some((second, third))) => Some((first, second, third)),
+        _ => None,
+    }
+}
+
+/// The limit of rows that the text spells, which is at most `u32::MAX`; no limit where it is empty.
+fn limit(text: &[u8]) -> Option<Option<u32>>
+    ensures found { IfSome result (λ most. IsLimit most × (text.now ≡ limit_text most)) }
+    ensures none { IfNone result ((most : Option ℕ) → IsLimit most → text.now ≢ limit_text most) }
+{
+    match text {
+        [] => Some(None),
+        [b' ', b'l', b'i', b'm', b'i', b't', b' ', rest @ ..] => {
+            let most = number(rest)?;
+            if most > u64::from(u32::MAX) {
+                return None;
+            }
+            Some(Some(most as u32))
+        }
+        _ => None,
+    }
+}
+
+/// A number, and a limit of rows behind it, if there is one.
+pub fn number_and_limit(text: &[u8]) -> Option<(u64, Option<u32>)>
+    ensures found { IfSome result (λ p. IsLimit p.1 × (text.now ≡ decimal p.0 ++ limit_text p.1)) }
+    ensures none { IfNone result ((n : ℕ) (most : Option ℕ) → n < 2 ^ 64 → IsLimit most → text.now ≢ decimal n ++ limit_text most) }
+{
+    let space = first_space(text);
+    match (number(&text[..space]), limit(&text[space..])) {
+        (Some(first), Some(most)) => Some((first, most)),
+        _ => None,
+    }
+}
+
+/// Two numbers with one space between them, and a limit of rows behind them, if there is one.
+pub fn two_numbers_and_limit(text: &[u8]) -> Option<(u64, u64, Option<u32>)>
+    ensures found { IfSome result (λ p. IsLimit p.2 × (text.now ≡ decimal p.0 ++ codes " " ++ decimal p.1 ++ limit_text p.2)) }
+    ensures none { IfNone result ((m n : ℕ) (most : Option ℕ) → m < 2 ^ 64 → n < 2 ^ 64 → IsLimit most
+        → text.now ≢ decimal m ++ codes " " ++ decimal n ++ limit_text most) }
+{
+    let space = first_space(text);
+    if space == text.len() {
+        return None;
+    }
+    match (number(&text[..space]), number_and_limit(&text[space + 1..])) {
+        (Some(first), Some((second, most))) => Some((first, second, most)),
         _ => None,
     }
 }

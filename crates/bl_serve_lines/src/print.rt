@@ -1,9 +1,12 @@
 //! The printed form of replies.
 
-ghost use Rattle.std.specs.Prelude.{◌≡◌, ◌++◌, flat_map, OnOk, codes, decimal};
+ghost use Rattle.std.specs.Prelude.{◌≡◌, [], ◌∷◌, ◌++◌, length, flat_map, IfOk, OnOk, codes, decimal};
+ghost use Rattle.bl_model.specs.Parts.{rows_of};
 ghost use Rattle.bl_model.specs.Replies.{reply_of};
+ghost use Rattle.bl_serve_lines.specs.Scans.{rows_before, shown};
 ghost use Rattle.bl_serve_lines.specs.Text.{row_text, next_text, reply_text, room_text, response_text, numbered};
 
+use crate::listing::{Tells, Until};
 use bl_model::{KeyReply, Next, Reply};
 use itoa::Buffer;
 use std::alloc::AllocError;
@@ -56,6 +59,54 @@ fn push_rows(out: &mut Vec<u8>, rows: &[(u64, u64)]) -> Result<(), AllocError>
         push_row(out, row)?;
     }
     Ok(())
+}
+
+/// Appends a row of a scan, if it is told.
+fn push_told(out: &mut Vec<u8>, row: &(u64, u64), tells: Tells) -> Result<(), AllocError>
+    ensures { OnOk result (out.new.items ≡ out.old.items ++ flat_map row_text (shown tells (row.now ∷ []))) }
+{
+    match tells {
+        Tells::Count | Tells::First(0) => Ok(()),
+        Tells::All | Tells::First(_) => push_row(out, row),
+    }
+}
+
+/// Appends a row, if it lies before the end of a scan and is told. Says how many rows lie there.
+fn push_within(
+    out: &mut Vec<u8>,
+    row: &(u64, u64),
+    until: Until,
+    tells: Tells,
+) -> Result<u64, AllocError>
+    ensures pushes { OnOk result (out.new.items ≡ out.old.items ++ flat_map row_text (shown tells (rows_before until (row.now ∷ [])))) }
+    ensures counts { IfOk result (λ met. met ≡ length (rows_before until (row.now ∷ []))) }
+{
+    if !until.is_before(row.0) {
+        return Ok(0);
+    }
+    push_told(out, row, tells)?;
+    Ok(1)
+}
+
+/// Appends those rows of a part that lie before the end of its scan, as far as they are told. Says how many lie there.
+pub fn push_part(
+    out: &mut Vec<u8>,
+    reply: &Reply,
+    until: Until,
+    tells: Tells,
+) -> Result<u64, AllocError>
+    ensures pushes { OnOk result (out.new.items ≡ out.old.items ++ flat_map row_text (shown tells (rows_before until (rows_of reply.now)))) }
+    ensures counts { IfOk result (λ met. met ≡ length (rows_before until (rows_of reply.now))) }
+{
+    let Reply::Rows(rows, _) = reply else {
+        return Ok(0);
+    };
+    let list = rows.as_slice();
+    let mut met = 0;
+    for row in list {
+        met += push_within(out, row, until, tells.behind(met))?;
+    }
+    Ok(met)
 }
 
 /// Appends how far a part went.

@@ -1,9 +1,10 @@
 //! The request that a line spells.
 
-ghost use Rattle.std.specs.Prelude.{◌≡◌, ◌≢◌, ℕ, ◌<◌, List, ◌++◌, length, codes, IsNone, MatchOption};
-ghost use Rattle.bl_serve_lines.specs.Text.{Means};
+ghost use Rattle.std.specs.Prelude.{◌≡◌, ◌≢◌, ℕ, ◌<◌, List, ◌++◌, length, codes, IsNone, IfSome, IfNone, MatchOption};
+ghost use Rattle.bl_serve_lines.specs.Text.{Means, Spells};
 
-use crate::number::{number, three_numbers, two_numbers};
+use crate::listing::Listing;
+use crate::number::{number, number_and_limit, three_numbers, two_numbers, two_numbers_and_limit};
 use bl_model::Op;
 
 /// The most bytes that a line may have before its LF. A longer one is malformed.
@@ -14,12 +15,10 @@ pub const LINE_LIMIT: usize = 69;
 pub enum Request {
     /// One operation, which is no `Part` or `PartDown`.
     Ask(Op),
-    /// The rows from the first key on, below the second one, by rising keys.
-    Scan(u64, u64),
-    /// All rows from the key on, by rising keys.
-    ScanFrom(u64),
-    /// The rows of a `Scan` with these keys, by falling keys.
-    ScanDown(u64, u64),
+    /// A change of the key's value to its sum with the number, modulo 2^64.
+    Add(u64, u64),
+    /// Rows, or how many there are.
+    Scan(Listing),
     /// How much room there is.
     Stat,
     /// The end of a section.
@@ -33,20 +32,110 @@ pub fn after<'a>(line: &'a [u8], word: &[u8]) -> Option<&'a [u8]>
     line.strip_prefix(word)
 }
 
-/// The scan that a line spells, of which this stands behind `scan`.
-fn scan_spelled(words: &[u8]) -> Option<Request>
-    ensures { Means (codes "scan" ++ words.now) result }
+/// The operation that the line spells.
+fn operation(line: &[u8]) -> Option<Op>
+    ensures found { IfSome result (λ op. Spells line.now (Request.Ask op)) }
+    ensures none { IfNone result ((op : Op) → ¬ Spells line.now (Request.Ask op)) }
+{
+    match line {
+        [b'f', b'i', b'n', b'd', b' ', rest @ ..] => Some(Op::Find(number(rest)?)),
+        [b'i', b'n', b's', b'e', b'r', b't', b' ', rest @ ..] => {
+            let (key, value) = two_numbers(rest)?;
+            Some(Op::Insert(key, value))
+        }
+        [b'p', b'u', b't', b' ', rest @ ..] => {
+            let (key, value) = two_numbers(rest)?;
+            Some(Op::Put(key, value))
+        }
+        [b'd', b'e', b'l', b'e', b't', b'e', b' ', rest @ ..] => Some(Op::Delete(number(rest)?)),
+        [b'c', b'h', b'a', b'n', b'g', b'e', b' ', rest @ ..] => {
+            let (key, old, new) = three_numbers(rest)?;
+            Some(Op::Change(key, old, new))
+        }
+        _ => None,
+    }
+}
+
+/// The rows that a line asks for, of which this stands behind `scan`.
+fn scan_rows(words: &[u8]) -> Option<Listing>
+    ensures found { IfSome result (λ asked. Spells (codes "scan" ++ words.now) (Request.Scan asked)) }
+    ensures none { IfNone result ((asked : Listing) → ¬ Spells (codes "scan" ++ words.now) (Request.Scan asked)) }
 {
     match words {
         [b' ', rest @ ..] => {
-            let (low, high) = two_numbers(rest)?;
-            Some(Request::Scan(low, high))
+            let (low, high, limit) = two_numbers_and_limit(rest)?;
+            Some(Listing::Scan(low, high, limit))
         }
-        [b'f', b'r', b'o', b'm', b' ', rest @ ..] => Some(Request::ScanFrom(number(rest)?)),
+        [b'f', b'r', b'o', b'm', b' ', rest @ ..] => {
+            let (low, limit) = number_and_limit(rest)?;
+            Some(Listing::ScanFrom(low, limit))
+        }
         [b'd', b'o', b'w', b'n', b' ', rest @ ..] => {
-            let (low, high) = two_numbers(rest)?;
-            Some(Request::ScanDown(low, high))
+            let (low, high, limit) = two_numbers_and_limit(rest)?;
+            Some(Listing::ScanDown(low, high, limit))
         }
+        [
+            b'd',
+            b'o',
+            b'w',
+            b'n',
+            b'f',
+            b'r',
+            b'o',
+            b'm',
+            b' ',
+            rest @ ..,
+        ] => {
+            let (high, limit) = number_and_limit(rest)?;
+            Some(Listing::ScanDownFrom(high, limit))
+        }
+        _ => None,
+    }
+}
+
+/// The rows that the line asks for.
+fn rows(line: &[u8]) -> Option<Listing>
+    ensures found { IfSome result (λ asked. Spells line.now (Request.Scan asked)) }
+    ensures none { IfNone result ((asked : Listing) → ¬ Spells line.now (Request.Scan asked)) }
+{
+    match line {
+        [b's', b'c', b'a', b'n', rest @ ..] => scan_rows(rest),
+        [b'f', b'i', b'r', b's', b't'] => Some(Listing::First),
+        [b'l', b'a', b's', b't'] => Some(Listing::Last),
+        [b'n', b'e', b'x', b't', b' ', rest @ ..] => Some(Listing::Next(number(rest)?)),
+        [
+            b'p',
+            b'r',
+            b'e',
+            b'v',
+            b'i',
+            b'o',
+            b'u',
+            b's',
+            b' ',
+            rest @ ..,
+        ] => { Some(Listing::Previous(number(rest)?)) }
+        [b'c', b'o', b'u', b'n', b't', b' ', rest @ ..] => {
+            let (low, high) = two_numbers(rest)?;
+            Some(Listing::Count(low, high))
+        }
+        _ => None,
+    }
+}
+
+/// The request that the line spells, if it is no operation and asks for no rows.
+fn other(line: &[u8]) -> Option<Request>
+    requires no_operation { (op : Op) → ¬ Spells line.now (Request.Ask op) }
+    requires no_rows { (asked : Listing) → ¬ Spells line.now (Request.Scan asked) }
+    ensures { Means line.now result }
+{
+    match line {
+        [b'a', b'd', b'd', b' ', rest @ ..] => {
+            let (key, added) = two_numbers(rest)?;
+            Some(Request::Add(key, added))
+        }
+        [b's', b't', b'a', b't'] => Some(Request::Stat),
+        [b's', b'y', b'n', b'c'] => Some(Request::Sync),
         _ => None,
     }
 }
@@ -55,28 +144,13 @@ fn scan_spelled(words: &[u8]) -> Option<Request>
 fn spelled(line: &[u8]) -> Option<Request>
     ensures { Means line.now result }
 {
-    match line {
-        [b'f', b'i', b'n', b'd', b' ', rest @ ..] => Some(Request::Ask(Op::Find(number(rest)?))),
-        [b'i', b'n', b's', b'e', b'r', b't', b' ', rest @ ..] => {
-            let (key, value) = two_numbers(rest)?;
-            Some(Request::Ask(Op::Insert(key, value)))
-        }
-        [b'p', b'u', b't', b' ', rest @ ..] => {
-            let (key, value) = two_numbers(rest)?;
-            Some(Request::Ask(Op::Put(key, value)))
-        }
-        [b'd', b'e', b'l', b'e', b't', b'e', b' ', rest @ ..] => {
-            Some(Request::Ask(Op::Delete(number(rest)?)))
-        }
-        [b'c', b'h', b'a', b'n', b'g', b'e', b' ', rest @ ..] => {
-            let (key, old, new) = three_numbers(rest)?;
-            Some(Request::Ask(Op::Change(key, old, new)))
-        }
-        [b's', b'c', b'a', b'n', rest @ ..] => scan_spelled(rest),
-        [b's', b't', b'a', b't'] => Some(Request::Stat),
-        [b's', b'y', b'n', b'c'] => Some(Request::Sync),
-        _ => None,
+    if let Some(op) = operation(line) {
+        return Some(Request::Ask(op));
     }
+    if let Some(asked) = rows(line) {
+        return Some(Request::Scan(asked));
+    }
+    other(line)
 }
 
 /// What the line asks for, or None where it is malformed.

@@ -1,4 +1,5 @@
 pub mod Lines
 pub mod Shares
 pub mod Dealt
-pub mod Scanning
+pub mod OneByOne
+pub mod Counting

@@ -1,25 +1,32 @@
 -- Lines that are answered one after another.
-use Rattle.std.proofs.Common.{◌≡◌, ℕ, suc, ◌+◌, ◌-◌, ◌≤◌, List, [], ◌∷◌, ◌++◌, length, length-append, refl, sym, ap, ◌∙◌, subst, append_assoc, arith, append-nil}
-use Rattle.std.specs.Prelude.{Option, Some, None, flat_map, map, codes, decimal}
+use Rattle.std.proofs.Common.{◌≡◌, ◌≢◌, ℕ, suc, ◌+◌, ◌-◌, ◌^◌, ◌<◌, ◌≤◌, List, [], ◌∷◌, ◌++◌, length, length-append, refl, sym, ap, ◌∙◌, subst, append_assoc, arith, append-nil}
+use Rattle.std.specs.Prelude.{Option, Some, None, flat_map, map, codes, decimal, nat_lt}
 use Rattle.std.specs.List.{AllZip}
 use Rattle.std.proofs.lemmas.List.{flat_map_more, map-append}
 use Rattle.bl_model.specs.declared.operation.Entry.{Entry}
 use Rattle.bl_model.specs.declared.operation.Op.{Op}
 use Rattle.bl_model.specs.declared.operation.Reply.{Reply}
 use Rattle.bl_serve_lines.specs.declared.request.Request.{Request}
-use Rattle.bl_serve_lines.specs.declared.request.Request.TheVariants.{Ask, Stat, Sync}
-use Rattle.bl_serve_lines.specs.Lines.{Answer, Replied, Stated, Synced, Malformed, IsRoom, entries, answer_text}
+use Rattle.bl_serve_lines.specs.declared.request.Request.TheVariants.{Ask, Add, Scan, Stat, Sync}
+use Rattle.bl_serve_lines.specs.declared.listing.Listing.{Listing}
+use Rattle.bl_serve_lines.specs.declared.listing.Listing.TheVariants as listing
+use Rattle.bl_serve_lines.specs.declared.listing.Until.TheVariants.{Below}
+use Rattle.bl_serve_lines.specs.Scans.{rows_before, scan_of, shown}
+use Rattle.bl_serve_lines.proofs.Listed.{told_rows, few_below}
+use Rattle.bl_serve_lines.specs.Lines.{Answer, Replied, Added, Scanned, Stated, Synced, Malformed, IsRoom, entries, rows_in, answer_text}
 use Rattle.bl_serve_lines.specs.Text.{numbered, reply_text, row_text, room_text}
 use Rattle.bl_page.specs.declared.page.Page.{Page}
 use Rattle.bl_claims.specs.Trails.{Trail, entries_at, history_of}
 use Rattle.bl_claims.specs.Seeing.{own, GoesOnFrom}
 use Rattle.bl_index.specs.Calls.{first_of, pages_of}
 use Rattle.bl_map.specs.declared.handle.Handle.{Handle}
-use Rattle.bl_map.specs.Handles.{IsSameHandle, HasKeptUp, first_map_of, pages_of_map, number_of_seat, seen_by}
+use Rattle.bl_map.specs.Handles.{IsSameHandle, HasCounted, HasKeptUp, first_map_of, pages_of_map, number_of_seat, seen_by}
+use Rattle.bl_model.specs.Rows.{HasRisingKeys}
 use Rattle.bl_map_calls.specs.Works.{Works}
 use Rattle.bl_map.proofs.Same.{kept_as}
-use Rattle.bl_serve_worker.specs.Answering.IsFor.{Replies, States, Syncs, Refuses}
-use Rattle.bl_serve_worker.specs.Answering.{IsFor, answers_text, joined_text, replies, AnswersLine, AnswersLines, ListsRows}
+use Rattle.bl_serve_worker.specs.Answering.IsFor.{Replies, Sums, Scans, States, Syncs, Refuses}
+use Rattle.bl_serve_worker.specs.Answering.{IsFor, answers_text, joined_text, replies, AnswersLine, AnswersLines, HasAdded, HasAnswered, HasWrittenRows}
+use Rattle.bl_serve_worker.proofs.Counting.{counted_parts, kept_of_all}
 
 pub zip_append : {A B : Type 0} (R : A → B → Type 0) (xs us : List A) (ys vs : List B) → AllZip R xs ys → AllZip R us vs → AllZip R (xs ++ us) (ys ++ vs)
 zip_append R [] us [] vs h k = k
@@ -96,21 +103,44 @@ pub asked_as : (first : List (Option Page)) (pages pass n : ℕ) (asked : Option
     → AnswersLine first pages pass n asked before after old new
 asked_as first pages pass n asked request op reply before after old new is ask w written = subst (λ (z : Option Request). AnswersLine first pages pass n z before after old new) (sym (is ∙ ap Some ask)) (asked_line first pages pass n op reply before after old new w written)
 
-pub scanned_line : (first : List (Option Page)) (pages pass n : ℕ) (asked : Request) (listed : List (ℕ × ℕ)) (before head rows after : List ℕ) (old new : Trail) → head ≡ (before ++ decimal n) ++ codes " rows" → after ≡ rows ++ 10 ∷ []
-    → ListsRows first pages pass asked listed old new → rows ≡ head ++ flat_map row_text listed → AnswersLine first pages pass n (Some asked) before after old new
-scanned_line first pages pass n asked listed before head rows after old new headed is l prints =
-    let text : List ℕ = flat_map row_text listed in record {
-      answer = l.answer;
-      is_for = l.is_for;
-      prints = is ∙ (ap (λ (z : List ℕ). z ++ 10 ∷ []) (prints ∙ ap (λ (z : List ℕ). z ++ text) headed) ∙ (line_of before (decimal n) text ∙ ap (λ (z : List ℕ). before ++ numbered n z) (sym l.lists)));
-      begins = l.begins;
-      seen = l.seen;
-      mine = l.mine;
+-- the number, a space, what stands behind it, and an LF
+line_of : (before number text : List ℕ) → ((before ++ number) ++ (codes " " ++ text)) ++ 10 ∷ [] ≡ before ++ (number ++ codes " " ++ text ++ 10 ∷ [])
+line_of before number text = append_assoc (before ++ number) (32 ∷ text) (10 ∷ []) ∙ (append_assoc before number ((32 ∷ text) ++ 10 ∷ [])
+    ∙ ap (λ (t : List ℕ). before ++ t) (sym (append_assoc (number ++ codes " ") text (10 ∷ []) ∙ append_assoc number (codes " ") (text ++ 10 ∷ []))))
+
+pub listed_line : (a b : Handle) (n : ℕ) (asked : Listing) (before head rows after : List ℕ) → ((low high : ℕ) → asked ≢ listing.Count low high) → head ≡ (before ++ decimal n) ++ codes " rows" → after ≡ rows ++ 10 ∷ []
+    → HasWrittenRows (scan_of asked) head rows a b → HasAnswered n (Some (Scan asked)) before after a b
+listed_line a b n asked before head rows after other headed is (parts, are, made, written) =
+    let all : List (ℕ × ℕ) = rows_before (scan_of asked).until (rows_in parts) in
+    let text : List ℕ = flat_map row_text (shown (scan_of asked).tells all) in record {
+      answer = Scanned asked parts;
+      is_for = Scans asked parts are;
+      prints = is ∙ (ap (λ (z : List ℕ). z ++ 10 ∷ []) (written ∙ (ap (λ (z : List ℕ). z ++ text) headed ∙ append_assoc (before ++ decimal n) (codes " rows") text))
+          ∙ (line_of before (decimal n) (codes "rows" ++ text) ∙ ap (λ (z : List ℕ). before ++ numbered n z) (sym (told_rows asked all other))));
+      begins = made.begins;
+      seen = made.seen;
+      mine = made.mine;
     }
-  where
-    line_of : (xs ys zs : List ℕ) → (((xs ++ ys) ++ codes " rows") ++ zs) ++ 10 ∷ [] ≡ xs ++ (ys ++ codes " " ++ (codes "rows" ++ zs) ++ 10 ∷ [])
-    line_of xs ys zs = append_assoc ((xs ++ ys) ++ codes " rows") zs (10 ∷ []) ∙ (append_assoc (xs ++ ys) (codes " rows") (zs ++ 10 ∷ []) ∙ (append_assoc xs ys (codes " rows" ++ (zs ++ 10 ∷ []))
-        ∙ ap (λ (t : List ℕ). xs ++ t) (sym (append_assoc (ys ++ codes " ") (codes "rows" ++ zs) (10 ∷ []) ∙ append_assoc ys (codes " ") ((codes "rows" ++ zs) ++ 10 ∷ [])))))
+
+pub counted_line : (a b : Handle) (n low high count : ℕ) (before head counted after : List ℕ) → high < 2 ^ 64 → head ≡ before ++ decimal n → counted ≡ head ++ (codes " count " ++ decimal count) → after ≡ counted ++ 10 ∷ []
+    → HasCounted low (Some high) count a b → HasAnswered n (Some (Scan (listing.Count low high))) before after a b
+counted_line a b n low high count before head counted after small headed more is c =
+    let s = c.scanned in let kept : List (ℕ × ℕ) = rows_before (Below high) (rows_in s.parts) in
+    let rows_are : c.rows ≡ kept = s.listed ∙ kept_of_all (λ row. nat_lt row.0 high) s.parts in
+    let few = few_below (rows_in s.parts) high (subst HasRisingKeys rows_are s.rising) in let long = ap length rows_are in let answer = c.count in
+    let all : count ≡ length kept = omega (arith, few, long, answer, small) in record {
+      answer = Scanned (listing.Count low high) s.parts;
+      is_for = Scans (listing.Count low high) s.parts (counted_parts (number_of_seat a) high (Some low) c.upto s.parts s.are_parts (λ at is. rw is at c.over));
+      prints = is ∙ (ap (λ (z : List ℕ). z ++ 10 ∷ []) (more ∙ ap (λ (z : List ℕ). z ++ (codes " count " ++ decimal count)) headed)
+          ∙ (line_of before (decimal n) (codes "count " ++ decimal count) ∙ ap (λ (k : ℕ). before ++ numbered n (codes "count " ++ decimal k)) all));
+      begins = s.begins;
+      seen = s.seen;
+      mine = s.mine;
+    }
+
+pub summed_line : (a b : Handle) (n key number : ℕ) (reply : Reply) (before after : List ℕ) → HasAdded key number reply a b → after ≡ before ++ numbered n (reply_text reply) → HasAnswered n (Some (Add key number)) before after a b
+summed_line a b n key number reply before after (es, adds, made) is =
+    record { answer = Added key number es reply; is_for = Sums key number es reply adds; prints = is; begins = made.begins; seen = made.seen; mine = made.mine }
 
 -- a line that has no entry
 word_line : (first : List (Option Page)) (pages pass n : ℕ) (asked : Option Request) (answer : Answer) (before after : List ℕ) (old : Trail) → IsFor pages asked answer → entries answer ≡ [] → after ≡ before ++ numbered n (answer_text answer) → AnswersLine first pages pass n asked before after old old

@@ -1,10 +1,14 @@
 -- What the lines that a pass answers add to what it has seen.
-use Rattle.std.specs.Prelude.{◌≡◌, ℕ, suc, ◌++◌, List, [], ◌∷◌, Option, Some, None, flat_map, map, length, codes}
-use Rattle.std.specs.List.{AllZip, FoldsTo}
+use Rattle.std.specs.Prelude.{◌≡◌, ℕ, suc, ◌++◌, List, [], ◌∷◌, Option, Some, None, flat_map, map, length}
+use Rattle.std.specs.List.{AllZip}
 use Rattle.bl_model.specs.declared.operation.Entry.{Entry}
+use Rattle.bl_model.specs.declared.operation.Reply.{Reply}
 use Rattle.bl_serve_lines.specs.declared.request.Request.{Request}
-use Rattle.bl_serve_lines.specs.declared.request.Request.TheVariants.{Ask, Scan, ScanFrom, ScanDown, Stat, Sync}
-use Rattle.bl_serve_lines.specs.Lines.{Answer, Replied, Scanned, ScannedDown, Stated, Synced, Malformed, IsRoom, AreParts, ArePartsDown, key_below, entries, answer_text}
+use Rattle.bl_serve_lines.specs.declared.request.Request.TheVariants.{Ask, Add, Scan, Stat, Sync}
+use Rattle.bl_serve_lines.specs.Lines.{Answer, Replied, Added, Scanned, Stated, Synced, Malformed, Adds, IsRoom, entries, rows_in, answer_text}
+use Rattle.bl_serve_lines.specs.Scans.{AreParts, rows_before, scan_of, shown}
+use Rattle.bl_serve_lines.specs.declared.listing.Listing.{Listing}
+use Rattle.bl_serve_lines.specs.declared.listing.Scan as listing
 use Rattle.bl_serve_lines.specs.Text.{numbered, row_text}
 use Rattle.bl_page.specs.declared.page.Page.{Page}
 use Rattle.bl_claims.specs.Trails.{Trail}
@@ -15,9 +19,8 @@ use Rattle.bl_map.specs.Handles.{first_map_of, pages_of_map, number_of_seat, see
 -- the answer is one to what was asked, of an index of so many pages
 pub data IsFor (pages : ℕ) : Option Request → Answer → Type 0 where
   Replies : (entry : Entry) → IsFor pages (Some (Ask entry.op)) (Replied entry)
-  Scans : (low high : ℕ) (parts : List Entry) → AreParts (Some low) (Some high) parts → IsFor pages (Some (Scan low high)) (Scanned low (Some high) parts)
-  ScansFrom : (low : ℕ) (parts : List Entry) → AreParts (Some low) None parts → IsFor pages (Some (ScanFrom low)) (Scanned low None parts)
-  ScansDown : (low high : ℕ) (parts : List Entry) → ArePartsDown (key_below high) low parts → IsFor pages (Some (ScanDown low high)) (ScannedDown low high parts)
+  Sums : (key number : ℕ) (es : List Entry) (reply : Reply) → Adds key number None es reply → IsFor pages (Some (Add key number)) (Added key number es reply)
+  Scans : (asked : Listing) (parts : List Entry) → AreParts (scan_of asked) parts → IsFor pages (Some (Scan asked)) (Scanned asked parts)
   States : (all used free : ℕ) → IsRoom pages all used free → IsFor pages (Some Stat) (Stated all used free)
   Syncs : IsFor pages (Some Sync) Synced
   Refuses : IsFor pages None Malformed
@@ -37,21 +40,11 @@ replies (n ∷ numbers) (answer ∷ answers) = numbered n (answer_text answer) �
 abbrev pub joined_text : List (List ℕ) → List ℕ
 joined_text texts = flat_map (λ text. text) texts
 
--- the request is a scan
-abbrev pub IsScan : Request → Type 0
-IsScan (Scan low high) = Unit {0}
-IsScan (ScanFrom low) = Unit {0}
-IsScan (ScanDown low high) = Unit {0}
-IsScan other = ⊥
-
--- A scan was answered, and its answer lists these rows: the new entries of the pass are those of the answer.
-pub record ListsRows (first : List (Option Page)) (pages pass : ℕ) (asked : Request) (rows : List (ℕ × ℕ)) (old new : Trail) : Type 0 where
-  pub answer : Answer
-  pub is_for : IsFor pages (Some asked) answer
-  pub lists : answer_text answer ≡ codes "rows" ++ flat_map row_text rows
+-- These entries of the pass are all that is new of its own.
+pub record HasMade (first : List (Option Page)) (pass : ℕ) (es : List Entry) (old new : Trail) : Type 0 where
   pub begins : GoesOnFrom old new
   pub seen : IsLinearizable first old → IsLinearizable first new
-  pub mine : own pass new ≡ own pass old ++ entries answer
+  pub mine : own pass new ≡ own pass old ++ es
 
 -- The line of that number was answered, and its answer was written: the new entries of the pass are those of the answer.
 pub record AnswersLine (first : List (Option Page)) (pages pass number : ℕ) (asked : Option Request) (before after : List ℕ) (old new : Trail) : Type 0 where
@@ -72,16 +65,15 @@ pub record AnswersLines (first : List (Option Page)) (pages pass : ℕ) (numbers
   pub seen : IsLinearizable first old → IsLinearizable first new
   pub mine : own pass new ≡ own pass old ++ flat_map entries answers
 
--- The handle has answered a scan, and a callback was told its rows, each once, one after another. A call of it with a row leads from one
--- state to another one.
-abbrev pub HasToldRows : {F : Type 0} → (F → ℕ × ℕ → F → Type 0) → Request → F → F → Handle → Handle → Type 0
-HasToldRows leads asked before after old new =
-    (rows : List (ℕ × ℕ)) × ListsRows (first_map_of old) (pages_of_map old) (number_of_seat old) asked rows (seen_by old) (seen_by new) × FoldsTo leads before rows after
+-- The handle has made the parts of a scan, and those rows of them that are told were written.
+abbrev pub HasWrittenRows : listing.Scan → List ℕ → List ℕ → Handle → Handle → Type 0
+HasWrittenRows scan before after old new = (parts : List Entry) × AreParts scan parts × HasMade (first_map_of old) (number_of_seat old) parts (seen_by old) (seen_by new)
+    × (after ≡ before ++ flat_map row_text (shown scan.tells (rows_before scan.until (rows_in parts))))
 
--- It has answered a scan, and its rows were written.
-abbrev pub HasWrittenRows : Request → List ℕ → List ℕ → Handle → Handle → Type 0
-HasWrittenRows asked before after old new =
-    (rows : List (ℕ × ℕ)) × ListsRows (first_map_of old) (pages_of_map old) (number_of_seat old) asked rows (seen_by old) (seen_by new) × (after ≡ before ++ flat_map row_text rows)
+-- It has added a number to the value of a key, with this reply.
+abbrev pub HasAdded : ℕ → ℕ → Reply → Handle → Handle → Type 0
+HasAdded key number reply old new =
+    (es : List Entry) × Adds key number None es reply × HasMade (first_map_of old) (number_of_seat old) es (seen_by old) (seen_by new)
 
 -- It has answered the line of that number.
 abbrev pub HasAnswered : ℕ → Option Request → List ℕ → List ℕ → Handle → Handle → Type 0

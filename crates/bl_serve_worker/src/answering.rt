@@ -7,18 +7,18 @@ ghost use Rattle.bl_model.specs.Replies.{reply_of};
 ghost use Rattle.bl_model.specs.Writes.{write_op, IsRead};
 ghost use Rattle.bl_serve_lines.specs.Dealt.{dealt, numbers};
 ghost use Rattle.bl_serve_worker.specs.Shares.{IsNextPlace};
-ghost use Rattle.bl_serve_worker.specs.Answering.{HasAnswered, HasAnsweredAll, HasToldRows, HasWrittenRows, IsScan};
+ghost use Rattle.bl_serve_worker.specs.Answering.{HasAnswered, HasAnsweredAll};
 
+use crate::adding::add;
 use crate::chunk::{Chunk, ShareOutput};
 use crate::compressing::enqueue;
 use crate::gate::Gate;
+use crate::scanning::scan;
 use crate::service::Service;
 use bl_hints::Hints;
 use bl_map::{Handle, KeyReply};
 use bl_model::{KeyWrite, Op};
-use bl_serve_lines::print::{
-    Response, push_key_line, push_line, push_number, push_row, push_word_line,
-};
+use bl_serve_lines::print::{Response, push_key_line, push_line, push_word_line};
 use bl_serve_lines::request::Request;
 use memchr::memchr;
 use std::alloc::AllocError;
@@ -40,7 +40,7 @@ fn sweep_if_may(handle: &mut Handle<'_>, may_sweep: bool)
 }
 
 /// Writes a key. A split is posted. The hint of a thin page waits for a compressor, and so does that of a post that found no room.
-fn write<R: Wait>(
+pub(crate) fn write<R: Wait>(
     rt: &R,
     hints: &Hints,
     handle: &mut Handle<'_>,
@@ -53,71 +53,6 @@ fn write<R: Wait>(
     let (reply, left) = handle.write_leaving(rt, key, write);
     enqueue(rt, hints, left);
     reply
-}
-
-/// Tells a callback the rows of a scan. Below key 0 there is none.
-fn tell_rows<R: Wait, F: FnMut((u64, u64))>(
-    rt: &R,
-    handle: &mut Handle<'_>,
-    asked: Request,
-    visit: &mut F,
-)
-    requires scan { IsScan asked }
-    requires callable { F.IsAlwaysCallable visit.old }
-    ensures same { IsSameHandle handle.old handle.new }
-    ensures tells { HasToldRows (λ p x q. F.step p x tt q) asked visit.old visit.new handle.old handle.new }
-{
-    match asked {
-        Request::Scan(low, high) => handle.scan_with(rt, low, Some(high), visit),
-        Request::ScanFrom(low) => handle.scan_with(rt, low, None, visit),
-        Request::ScanDown(low, high) => {
-            if let Some(from) = high.checked_sub(1) {
-                handle.scan_down_with(rt, from, low, visit);
-            }
-        }
-        _ => unreachable!(),
-    }
-}
-
-/// Writes the rows of a scan: each behind the others, as it is read. Where there is no room for one, none is written behind it.
-fn write_rows<R: Wait>(
-    rt: &R,
-    handle: &mut Handle<'_>,
-    asked: Request,
-    text: &mut Vec<u8>,
-) -> Result<(), AllocError>
-    requires { IsScan asked }
-    ensures same { IsSameHandle handle.old handle.new }
-    ensures writes { OnOk result (HasWrittenRows asked text.old.items text.new.items handle.old handle.new) }
-{
-    let mut written = Ok(());
-    let mut visit = |row: (u64, u64)| {
-        if written.is_ok() {
-            written = push_row(text, &row);
-        }
-    };
-    tell_rows(rt, handle, asked, &mut visit);
-    written
-}
-
-/// Answers a scan.
-#[inline(never)]
-fn scan<R: Wait>(
-    rt: &R,
-    handle: &mut Handle<'_>,
-    number: u64,
-    asked: Request,
-    text: &mut Vec<u8>,
-) -> Result<(), AllocError>
-    requires { IsScan asked }
-    ensures same { IsSameHandle handle.old handle.new }
-    ensures answers { OnOk result (HasAnswered number (Some asked) text.old.items text.new.items handle.old handle.new) }
-{
-    push_number(text, b"", number)?;
-    text.extend_from_slice(b" rows")?;
-    write_rows(rt, handle, asked, text)?;
-    text.push(b'\n')?;
-    Ok(())
 }
 
 /// Answers a part. Its reply is wide, so it stands apart from the operations on one key.
@@ -226,6 +161,18 @@ fn answer<R: Wait, G: Gate>(
             gate.after(number);
             answered
         }
+        Some(Request::Add(key, added)) => {
+            gate.before(number);
+            let answered = add(rt, hints, handle, number, key, added, text);
+            gate.after(number);
+            answered
+        }
+        Some(Request::Scan(asked)) => {
+            gate.before(number);
+            let answered = scan(rt, handle, number, asked, text);
+            gate.after(number);
+            answered
+        }
         Some(Request::Stat) => {
             gate.before(number);
             let answered = state(handle, number, text);
@@ -234,12 +181,6 @@ fn answer<R: Wait, G: Gate>(
         }
         Some(Request::Sync) => push_word_line(text, number, b"synced"),
         None => push_word_line(text, number, b"malformed"),
-        Some(asked) => {
-            gate.before(number);
-            let answered = scan(rt, handle, number, asked, text);
-            gate.after(number);
-            answered
-        }
     }
 }
 

@@ -10,10 +10,12 @@
 //! sweeps, adds no entry.
 #![tactic(auto)]
 
+mod adding;
 mod answering;
 mod chunk;
 mod compressing;
 mod gate;
+mod scanning;
 mod service;
 mod wakeup;
 mod working;

@@ -148,6 +148,13 @@ fn requests_are_spelled_in_one_way(rt: HostRuntime) -> Result<(), Fail> {
         b"scanfrom 5 6".as_slice(),
         b"scanfrom 5 ".as_slice(),
         b"scanfrom -1".as_slice(),
+        b"scan 5 6 limit".as_slice(),
+        b"scan 5 6 limit 4294967296".as_slice(),
+        b"scandownfrom 5 6".as_slice(),
+        b"first 1".as_slice(),
+        b"next".as_slice(),
+        b"count 5".as_slice(),
+        b"add 5".as_slice(),
         b"stat 1".as_slice(),
         b"stat ".as_slice(),
         b" stat".as_slice(),
@@ -175,6 +182,52 @@ fn scans_list_parts_downwards_and_to_the_end(rt: HostRuntime) -> Result<(), Fail
     let served = last_lines(&rt, rt.alloc(), 8, input.as_slice(), last, 2, 1);
     assert!(rt; matches!(served, Some((true, Totals { malformed: 0, .. }))));
     Ok(())
+}
+
+// Key 15 parts the leaf at 9: rows of both leaves, and a part that goes on past the last row that is wanted.
+#[test]
+fn some_rows_are_listed_and_counted(rt: HostRuntime) -> Result<(), Fail> {
+    let more = b"sync\nfirst\nlast\nnext 8\nnext 15\nprevious 9\nprevious 1\nscan 7 11 limit 3\nscandown 7 11 limit 3\nscanfrom 8 limit 2\nscandownfrom 9 limit 2\nscandownfrom 99 limit 1\nscan 7 11 limit 0\nscan 7 11 limit 4\ncount 0 99\ncount 7 11\ncount 11 7\n".as_slice();
+    let last =
+        b"\n16 synced\n17 rows 1=10\n18 rows 15=150\n19 rows 9=90\n20 rows\n21 rows 8=80\n22 rows\n23 rows 7=70 8=80 9=90\n24 rows 10=100 9=90 8=80\n25 rows 8=80 9=90\n26 rows 9=90 8=80\n27 rows 15=150\n28 rows\n29 rows 7=70 8=80 9=90 10=100\n30 count 15\n31 count 4\n32 count 0\n".as_slice();
+    let input = inserts_before(rt.alloc(), 15, more)?;
+    let served = last_lines(&rt, rt.alloc(), 8, input.as_slice(), last, 2, 1);
+    assert!(rt; matches!(served, Some((true, Totals { malformed: 0, .. }))));
+    Ok(())
+}
+
+// No key lies above the greatest one, and none below the least.
+#[test]
+fn the_greatest_key_is_listed(rt: HostRuntime) {
+    for (input, output) in [
+        (
+            b"first\nlast\nnext 0\nprevious 18446744073709551615\ncount 0 18446744073709551615\nscandownfrom 0\n".as_slice(),
+            b"1 rows\n2 rows\n3 rows\n4 rows\n5 count 0\n6 rows\n".as_slice(),
+        ),
+        (
+            b"insert 18446744073709551615 1\ninsert 0 2\nsync\nlast\nnext 18446744073709551614\nnext 18446744073709551615\nprevious 0\nprevious 18446744073709551615\nscandownfrom 18446744073709551615\ncount 0 18446744073709551615\n".as_slice(),
+            b"1 inserted\n2 inserted\n3 synced\n4 rows 18446744073709551615=1\n5 rows 18446744073709551615=1\n6 rows\n7 rows\n8 rows 0=2\n9 rows 18446744073709551615=1 0=2\n10 count 1\n".as_slice(),
+        ),
+    ] {
+        assert_eq!(rt; both_answer(&rt, rt.alloc(), input, output), (true, true));
+    }
+}
+
+// A sum is of the value that the lines before it have left, modulo 2^64. What is absent stays away.
+#[test]
+fn sums_are_added_up(rt: HostRuntime) {
+    for (input, output) in [
+        (
+            b"insert 1 10\nadd 1 5\nadd 1 5\nfind 1\nadd 2 7\nfind 2\n".as_slice(),
+            b"1 inserted\n2 replaced 10\n3 replaced 15\n4 found 20\n5 absent\n6 absent\n".as_slice(),
+        ),
+        (
+            b"insert 1 18446744073709551615\nadd 1 2\nfind 1\nadd 1 18446744073709551615\nfind 1\nadd 1 0\ndelete 1\nadd 1 1\n".as_slice(),
+            b"1 inserted\n2 replaced 18446744073709551615\n3 found 1\n4 replaced 1\n5 found 0\n6 replaced 0\n7 deleted 0\n8 absent\n".as_slice(),
+        ),
+    ] {
+        assert_eq!(rt; both_answer(&rt, rt.alloc(), input, output), (true, true));
+    }
 }
 
 // The anchor and a leaf are in use. A line that asks for room is a request, and ends no section.

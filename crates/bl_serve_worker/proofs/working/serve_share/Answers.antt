@@ -1,4 +1,4 @@
-use Rattle.std.proofs.Common.{sym, subst, ℕ}
+use Rattle.std.proofs.Common.{sym}
 use Rattle.bl_serve_worker.proofs.Shares.{one_log}
 use Rattle.bl_serve_worker.proofs.working.serve_share.Goals as goal
 
