@@ -67,7 +67,9 @@ fn wanted<R: Files + AllocGlobal>(rt: &R, path: &str) -> Result<Option<String>, 
     match fs::metadata(rt, path) {
         Ok(metadata) if metadata.is_file() => {
             let bytes = metadata.len();
-            Ok(Some(format!(in alloc; "blink: {path}: has {bytes} bytes, and more than these are wanted")?))
+            Ok(Some(format!(in alloc;
+                "blink: {path}: has {bytes} bytes, and more than these are wanted"
+            )?))
         }
         _ => Ok(None),
     }

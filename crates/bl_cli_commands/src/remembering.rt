@@ -80,12 +80,7 @@ impl<R> Remembering<R> {
 const SHOWN: usize = 40;
 
 /// What is wrong with a line that is to be two numbers.
-fn wrong_in(
-    alloc: Global,
-    number: u64,
-    line: &[u8],
-    has_end: bool,
-) -> Result<String, AllocError> {
+fn wrong_in(alloc: Global, number: u64, line: &[u8], has_end: bool) -> Result<String, AllocError> {
     let mut words = 0u64;
     for word in line.split(|byte| *byte == b' ') {
         words = words.saturating_add(1);
@@ -94,7 +89,9 @@ fn wrong_in(
         }
     }
     if words != 2 {
-        return format!(in alloc; "blink: line {number}: {words} words, where a key and its value are two");
+        return format!(in alloc;
+            "blink: line {number}: {words} words, where a key and its value are two"
+        );
     }
     if !has_end {
         return format!(in alloc; "blink: line {number}: no line feed stands behind it");
@@ -114,10 +111,12 @@ fn wrong_word(alloc: Global, number: u64, place: u64, word: &[u8]) -> Result<Str
     }
     match from_utf8(word) {
         Ok(text) if word.len() <= SHOWN => format!(in alloc;
-            "blink: line {number}: `{text}` is no number from 0 to {}, without a leading zero", u64::MAX
+            "blink: line {number}: `{text}` is no number from 0 to {}, without a leading zero",
+            u64::MAX
         ),
         _ => format!(in alloc;
-            "blink: line {number}: word {place} is no number from 0 to {}, without a leading zero", u64::MAX
+            "blink: line {number}: word {place} is no number from 0 to {}, without a leading zero",
+            u64::MAX
         ),
     }
 }

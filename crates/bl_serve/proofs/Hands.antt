@@ -11,7 +11,6 @@ use Rattle.bl_serve_lines.specs.Lines.{Answer, answer_text}
 use Rattle.bl_serve_lines.specs.Text.{numbered}
 use Rattle.bl_serve_lines.specs.Dealt.{dealt, numbers}
 use Rattle.bl_serve_lines.proofs.Dealing.{here, elsewhere, shares_of, dealt_long, numbers_long}
-use Rattle.bl_serve_worker.specs.declared.chunk.ShareOutput.{ShareOutput}
 use Rattle.bl_serve_worker.specs.Answering.{IsFor, answers_text, joined_text, replies}
 use Rattle.bl_serve_worker.specs.Shares.{Piece, IsPiece}
 use Rattle.bl_serve_worker.proofs.Lines.{zip_length, replies_long}

@@ -55,8 +55,8 @@ sums_apart key its number seen (e ∷ es) reply off adds = first_apart key e es 
     (others_apart key its number seen es reply (sum_reply seen e.reply) (value_in e.reply) adds.1 (λ value more. sums_apart key its number (Some value) es reply off more))
 
 not_true : (b : Bool) → ¬ (b ≡ true) → b ≡ false
-not_true true no = absurd (no refl)
-not_true false no = refl
+not_true true other = absurd (other refl)
+not_true false other = refl
 
 -- the answer to a line has no operation on a key that the line is not on
 apart_of : {pages : ℕ} {asked : Option Request} {answer : Answer} (key : ℕ) → IsFor pages asked answer → ¬ IsOn key asked → on_key key (entries answer) ≡ []

@@ -1,16 +1,15 @@
 -- What the passes did in a section, put together.
-use Rattle.std.proofs.Common.{◌≡◌, ◌≢◌, ℕ, suc, ◌+◌, ◌<◌, ◌≤◌, List, [], ◌∷◌, ◌++◌, length, take, drop, map, set, get_or, refl, sym, ap, ◌∙◌, subst, append-nil, arith, add-one, length-set}
+use Rattle.std.proofs.Common.{◌≡◌, ℕ, suc, ◌+◌, ◌<◌, ◌≤◌, List, [], ◌∷◌, ◌++◌, length, take, drop, map, set, get_or, refl, sym, ap, ◌∙◌, subst, append-nil, arith, add-one, length-set}
 use Rattle.std.specs.Prelude.{All, Option, Result, Ok, Err, OnOk, is_ok, cond, false, flat_map, IsPermutation}
 use Rattle.std.specs.List.{AllZip}
 use Rattle.std.proofs.lemmas.List.{map-append, length-map, take_all, take_more, take-append-drop}
 use Rattle.std.proofs.Math.Seq.{take-append_seam}
 use Rattle.std.proofs.lemmas.List.Concat.{flat_map-append}
 use Rattle.std.proofs.lemmas.List.Elements.{All-nil, All-cons, All-head, All-tail, All-append, All-map, All-push, All-weaker}
-use Rattle.std.proofs.lemmas.List.Sorted.{All-permutation, IsPermutation-map}
+use Rattle.std.proofs.lemmas.List.Sorted.{All-permutation}
 use Rattle.bl_model.specs.declared.operation.Entry.{Entry}
 use Rattle.bl_serve_lines.specs.declared.request.Request.{Request}
-use Rattle.bl_serve_lines.specs.Lines.{Answer, entries}
-use Rattle.bl_serve_lines.specs.Served.{Interleaves, on_key}
+use Rattle.bl_serve_lines.specs.Lines.{Answer}
 use Rattle.bl_serve_lines.specs.Dealt.{dealt, numbers}
 use Rattle.bl_serve_lines.proofs.Dealing.{regathers, all_pairs, all_shares, numbers_long}
 use Rattle.bl_page.specs.declared.page.Page.{Page}

@@ -280,68 +280,68 @@ cases_bool false = inr refl
 
 -- where the scan does not go on, there is none
 parts_none : (m : Map) (until : Until) (tells : Tells) (from : ℕ) → (is_before until from && wants_more tells) ≡ false → LawfulParts m (record { from = Some from; until = until; tells = tells })
-parts_none m until tells from no = record { parts = []; are = ap (λ (b : Bool). if b then Some from else None) no; legal = tt }
+parts_none m until tells from fails = record { parts = []; are = ap (λ (b : Bool). if b then Some from else None) fails; legal = tt }
 
 goes_there : (until : Until) (tells : Tells) (from : ℕ) → (is_before until from && wants_more tells) ≡ true → place_in until tells (Some from) ≡ Some from
-goes_there until tells from yes = ap (λ (b : Bool). if b then Some from else None) yes
+goes_there until tells from holds = ap (λ (b : Bool). if b then Some from else None) holds
 
 not_behind : (low high : ℕ) (wanted : Bool) → high ≤ low → (nat_lt low high && wanted) ≡ true → ⊥
-not_behind low high wanted over yes = let test : nat_lt low high ≡ false = grind (arith, nat_tests, over) in let no : false ≡ true = sym (ap (λ (b : Bool). b && wanted) test) ∙ yes in let never : ⊥ = cc in never
+not_behind low high wanted over holds = let test : nat_lt low high ≡ false = grind (arith, nat_tests, over) in let fails : false ≡ true = sym (ap (λ (b : Bool). b && wanted) test) ∙ holds in let never : ⊥ = cc in never
 
 abbrev row_reply : Map → ℕ → Reply
 row_reply m low = Rows (record { items = one_row low (m low) }) (More (suc low))
 
 parts_below : (m : Map) (n : ℕ) (tells : Tells) (low high : ℕ) → high ≤ low + n → LawfulParts m (record { from = Some low; until = Below high; tells = tells })
 parts_below m zero tells low high within = ⊎_elim
-    (λ (yes : (nat_lt low high && wants_more tells) ≡ true). absurd (not_behind low high (wants_more tells) (omega (arith, within)) yes))
-    (λ (no : (nat_lt low high && wants_more tells) ≡ false). parts_none m (Below high) tells low no)
+    (λ (holds : (nat_lt low high && wants_more tells) ≡ true). absurd (not_behind low high (wants_more tells) (omega (arith, within)) holds))
+    (λ (fails : (nat_lt low high && wants_more tells) ≡ false). parts_none m (Below high) tells low fails)
     (cases_bool (nat_lt low high && wants_more tells))
 parts_below m (suc n) tells low high within = ⊎_elim
-    (λ (yes : (nat_lt low high && wants_more tells) ≡ true).
+    (λ (holds : (nat_lt low high && wants_more tells) ≡ true).
     let r = parts_below m n (less tells (length (rows_before (Below high) (one_row low (m low))))) (suc low) high (omega (arith, within)) in record {
       parts = record { pass = 0; op = Part low; reply = row_reply m low } ∷ r.parts;
-      are = (low, goes_there (Below high) tells low yes, refl, r.are);
+      are = (low, goes_there (Below high) tells low holds, refl, r.are);
       legal = (one_part m low, r.legal);
     })
-    (λ (no : (nat_lt low high && wants_more tells) ≡ false). parts_none m (Below high) tells low no)
+    (λ (fails : (nat_lt low high && wants_more tells) ≡ false). parts_none m (Below high) tells low fails)
     (cases_bool (nat_lt low high && wants_more tells))
 
--- up to the end of the map, behind which a part has no row
+-- up to the end of the map, behind which a part has fails row
 parts_up : (m : Map) (f : IsFinite m) (n : ℕ) (tells : Tells) (low : ℕ) → f.0 ≤ low + n → LawfulParts m (record { from = Some low; until = Top; tells = tells })
 parts_up m f zero tells low within = ⊎_elim
-    (λ (yes : (true && wants_more tells) ≡ true). record {
+    (λ (holds : (true && wants_more tells) ≡ true). record {
       parts = record { pass = 0; op = Part low; reply = Rows (record { items = [] }) End } ∷ [];
-      are = (low, goes_there Top tells low yes, refl, refl);
+      are = (low, goes_there Top tells low holds, refl, refl);
       legal = (no_part m low (λ key least. f.1 key (omega (arith, within, least))), tt);
     })
-    (λ (no : (true && wants_more tells) ≡ false). parts_none m Top tells low no)
+    (λ (fails : (true && wants_more tells) ≡ false). parts_none m Top tells low fails)
     (cases_bool (true && wants_more tells))
 parts_up m f (suc n) tells low within = ⊎_elim
-    (λ (yes : (true && wants_more tells) ≡ true). let r = parts_up m f n (less tells (length (rows_before Top (one_row low (m low))))) (suc low) (omega (arith, within)) in record {
+    (λ (holds : (true && wants_more tells) ≡ true). let r = parts_up m f n (less tells (length (rows_before Top (one_row low (m low))))) (suc low) (omega (arith, within)) in record {
       parts = record { pass = 0; op = Part low; reply = row_reply m low } ∷ r.parts;
-      are = (low, goes_there Top tells low yes, refl, r.are);
+      are = (low, goes_there Top tells low holds, refl, r.are);
       legal = (one_part m low, r.legal);
     })
-    (λ (no : (true && wants_more tells) ≡ false). parts_none m Top tells low no)
+    (λ (fails : (true && wants_more tells) ≡ false). parts_none m Top tells low fails)
     (cases_bool (true && wants_more tells))
 
 -- and downwards
 parts_down : (m : Map) (tells : Tells) (from low : ℕ) → LawfulParts m (record { from = Some from; until = DownTo low; tells = tells })
 parts_down m tells zero low = ⊎_elim
-    (λ (yes : (nat_le low 0 && wants_more tells) ≡ true). record {
+    (λ (holds : (nat_le low 0 && wants_more tells) ≡ true). record {
       parts = record { pass = 0; op = PartDown 0; reply = Rows (record { items = one_row 0 (m 0) }) End } ∷ [];
-      are = (0, goes_there (DownTo low) tells 0 yes, refl, refl);
+      are = (0, goes_there (DownTo low) tells 0 holds, refl, refl);
       legal = (last_part_down m, tt);
     })
-    (λ (no : (nat_le low 0 && wants_more tells) ≡ false). parts_none m (DownTo low) tells 0 no)
+    (λ (fails : (nat_le low 0 && wants_more tells) ≡ false). parts_none m (DownTo low) tells 0 fails)
     (cases_bool (nat_le low 0 && wants_more tells))
 parts_down m tells (suc at) low = ⊎_elim
-    (λ (yes : (nat_le low (suc at) && wants_more tells) ≡ true). let r = parts_down m (less tells (length (rows_before (DownTo low) (one_row (suc at) (m (suc at)))))) at low in record {
+    (λ (holds : (nat_le low (suc at) && wants_more tells) ≡ true). let r = parts_down m (less tells (length (rows_before (DownTo low) (one_row (suc at) (m (suc at)))))) at low in record {
       parts = record { pass = 0; op = PartDown (suc at); reply = Rows (record { items = one_row (suc at) (m (suc at)) }) (More at) } ∷ r.parts;
-      are = (suc at, goes_there (DownTo low) tells (suc at) yes, refl, r.are);
+      are = (suc at, goes_there (DownTo low) tells (suc at) holds, refl, r.are);
       legal = (one_part_down m at, r.legal);
     })
-    (λ (no : (nat_le low (suc at) && wants_more tells) ≡ false). parts_none m (DownTo low) tells (suc at) no)
+    (λ (fails : (nat_le low (suc at) && wants_more tells) ≡ false). parts_none m (DownTo low) tells (suc at) fails)
     (cases_bool (nat_le low (suc at) && wants_more tells))
 
 lawful_scan : (m : Map) → IsFinite m → (from : Option ℕ) (until : Until) (tells : Tells) → LawfulParts m (record { from = from; until = until; tells = tells })

@@ -1,7 +1,6 @@
 -- How lines are dealt into shares.
-use Rattle.std.specs.Prelude.{◌≡◌, ◌==◌, ℕ, ◌+◌, ◌-◌, ◌*◌, ◌/◌, ◌%◌, ◌<◌, ◌^◌, min, true, List, Option, Some, None}
+use Rattle.std.specs.Prelude.{◌≡◌, ◌==◌, ℕ, ◌-◌, ◌*◌, ◌/◌, ◌%◌, ◌<◌, ◌^◌, min, true, List, Option, Some, None}
 use Rattle.std.specs.List.{AllZip}
-use Rattle.bl_model.specs.declared.operation.Op.{Op}
 use Rattle.bl_serve_lines.specs.declared.request.Request.{Request}
 use Rattle.bl_serve_lines.specs.declared.request.Request.TheVariants.{Ask, Add}
 use Rattle.bl_serve_lines.specs.Served.{is_on}

@@ -1,4 +1,3 @@
-use Rattle.std.proofs.Common.{take}
 use Rattle.bl_serve.proofs.Deals.{DealsUpto}
 use Rattle.bl_serve.proofs.dealing.deal.Given as goal
 

@@ -1,8 +1,7 @@
-use Rattle.std.proofs.Common.{sym, ap, subst, ◌∙◌, ◌≡◌, ◌<◌, ℕ, List, map, length, arith}
+use Rattle.std.proofs.Common.{sym, ap, subst, ◌∙◌, List, length, arith}
 use Rattle.std.specs.Prelude.{All}
 use Rattle.std.proofs.lemmas.List.Sorted.{All-permutation}
 use Rattle.bl_serve_worker.specs.declared.chunk.ShareOutput.{ShareOutput}
-use Rattle.bl_serve_lines.specs.Dealt.{numbers}
 use Rattle.bl_serve.specs.Joining.{IsWhole, NamesLost}
 use Rattle.bl_serve.proofs.Merging.{names_lost, as_many, all_numbered}
 use Rattle.bl_serve.proofs.joining.join_outputs.Goals as goal
