@@ -187,7 +187,8 @@ fn scans_list_parts_downwards_and_to_the_end(rt: HostRuntime) -> Result<(), Fail
 // Key 15 parts the leaf at 9: rows of both leaves, and a part that goes on past the last row that is wanted.
 #[test]
 fn some_rows_are_listed_and_counted(rt: HostRuntime) -> Result<(), Fail> {
-    let more = b"sync\nfirst\nlast\nnext 8\nnext 15\nprevious 9\nprevious 1\nscan 7 11 limit 3\nscandown 7 11 limit 3\nscanfrom 8 limit 2\nscandownfrom 9 limit 2\nscandownfrom 99 limit 1\nscan 7 11 limit 0\nscan 7 11 limit 4\ncount 0 99\ncount 7 11\ncount 11 7\n".as_slice();
+    let more =
+        b"sync\nfirst\nlast\nnext 8\nnext 15\nprevious 9\nprevious 1\nscan 7 11 limit 3\nscandown 7 11 limit 3\nscanfrom 8 limit 2\nscandownfrom 9 limit 2\nscandownfrom 99 limit 1\nscan 7 11 limit 0\nscan 7 11 limit 4\ncount 0 99\ncount 7 11\ncount 11 7\n".as_slice();
     let last =
         b"\n16 synced\n17 rows 1=10\n18 rows 15=150\n19 rows 9=90\n20 rows\n21 rows 8=80\n22 rows\n23 rows 7=70 8=80 9=90\n24 rows 10=100 9=90 8=80\n25 rows 8=80 9=90\n26 rows 9=90 8=80\n27 rows 15=150\n28 rows\n29 rows 7=70 8=80 9=90 10=100\n30 count 15\n31 count 4\n32 count 0\n".as_slice();
     let input = inserts_before(rt.alloc(), 15, more)?;
