@@ -30,7 +30,7 @@ to 18446744073709551615:
   scanfrom LO       rows K=V K=V, all rows from key LO on, by rising keys
   scandownfrom HI   all rows from key HI on, by falling keys
   .. limit N        behind one of these four: N rows at most
-  first, last       rows K=V, the row of the least key, or of the greatest; or rows
+  first, last       rows K=V, the row of the least key, the greatest; or rows
   next K            rows K=V, the row of the least key above K; or rows
   previous K        rows K=V, the row of the greatest key below K; or rows
   count LO HI       count N, the number of rows that scan LO HI lists
