@@ -88,6 +88,11 @@ fn wrong_in(alloc: Global, number: u64, line: &[u8], has_end: bool) -> Result<St
             return wrong_word(alloc, number, words, word);
         }
     }
+    if words == 1 {
+        return format!(in alloc;
+            "blink: line {number}: one word, where a key and its value are two"
+        );
+    }
     if words != 2 {
         return format!(in alloc;
             "blink: line {number}: {words} words, where a key and its value are two"
