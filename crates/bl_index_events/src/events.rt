@@ -26,8 +26,9 @@ use bl_reserve::{finds_frames, reserve};
 use bl_store::{Glance, Hand, Splice, Stock};
 use std::thread;
 
-/// How often a process lets others run at most where it finds too few frames.
-const YIELDS: u32 = 256;
+/// How often a process lets others run at most where it finds too few frames. It is not often: on a crowded machine each time costs a slice of each
+/// other thread, and those that wait for the page that this one holds are in the middle of a process too, so they hold frames back as long as it waits.
+const YIELDS: u32 = 16;
 
 impl Tree {
     /// The process gets the page.

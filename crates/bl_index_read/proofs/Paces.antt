@@ -142,7 +142,3 @@ at_answer pages pass number most answer e f named counted last done =
     let q = whole pages p e.pass e.number (End answer) e f then n last.begin last.begun refl in
     let same = ap (gets_of p) n.trail ∙ q.gets in
     (subst (IsWithinBound pages p) (sym n.trail) (q.within last.bounded), subst (λ (z : ℕ). z ≤ most) (sym same) last.few)
-
--- both
-pub at_found : (pages pass number turns : ℕ) (d : PassState) (named : d.pass ≡ pass) (counted : d.number ≡ number) (t : IsAtTurn pages pass number turns d.trail) (x : ℕ) (answer : Option Reply) (e f : PassState) → e.pages ≡ pages → e.pass ≡ pass → e.number ≡ number → Steps (Get x) d e → IsSearch e.state → Finishes answer e f → (most : ℕ) → turns + 1 ≤ most → IsWithinBound pages (name pass number) f.trail × (gets_of (name pass number) f.trail ≤ most)
-at_found pages pass number turns d named counted t x answer e f size named_then counted_then s search done most le = at_answer pages pass number most answer e f named_then counted_then (at_last pages pass number turns d named counted t x e size s search most le) done

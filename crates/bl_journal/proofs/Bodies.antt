@@ -62,10 +62,6 @@ left_more bodies came went old new left leads key value =
     let c2 = times_push key value went_in bodies (body_words came went) went (went_of_body came went) in
     omega (arith, left key value, leads key value, c1, c2)
 
--- the map that is left of all rows, in one record
-pub left_anew : (came went rows : List (ℕ × ℕ)) (m : ℕ → Option ℕ) → IsLeft came went m → AreLeft came went rows → IsLeft rows [] m
-left_anew came went rows m left are key value = omega (arith, left key value, are key value)
-
 -- the map after these rows came and those went
 pub left_with : (rows came went after : List (ℕ × ℕ)) (old new : ℕ → Option ℕ) → IsLeft rows [] old → Leads came went old new → AreLeft (rows ++ came) went after → IsLeft after [] new
 left_with rows came went after old new left leads are key value =
@@ -98,12 +94,3 @@ left_told bytes words records first salt came went rows m spelled fits is log to
     let c3 = ap (λ (bs : List (List ℕ)). times key value (flat_map came_in bs)) one in
     let c4 = ap (λ (bs : List (List ℕ)). times key value (flat_map went_in bs)) one in
     omega (arith, c1, c2, c3, c4, log.left key value, are key value)
-
--- where there is no log yet, the map has no rows
-pub left_none : (bytes words : List ℕ) (m : ℕ → Option ℕ) → word_bytes words ≡ bytes → Fits64 words → words ≡ [] → IsLogOf bytes m → IsLeft [] [] m
-left_none bytes words m spelled fits none log key value =
-    let same : log.words ≡ words = bytes_same log.words words log.fits fits (sym log.spelled ∙ sym spelled) in
-    let no_bodies : log.bodies ≡ [] = subst (λ (l : List ℕ). HasRecords l log.bodies) (same ∙ none) log.records in
-    let c1 = ap (λ (bs : List (List ℕ)). times key value (flat_map came_in bs)) no_bodies in
-    let c2 = ap (λ (bs : List (List ℕ)). times key value (flat_map went_in bs)) no_bodies in
-    omega (arith, c1, c2, log.left key value)

@@ -36,13 +36,6 @@ module _ {D : Type 0} (seen : D → List ℕ) (moment : D → ℕ) (leaves : D �
   pub leaves_log : (m : ℕ → Option ℕ) (journal : Journal D) → KeepsMap seen moment leaves m journal → (c : List ℕ) → leaves journal.device (moment journal.device) c → IsLogOf c m
   leaves_log m journal keeps c left = subst (λ (l : List ℕ). IsLogOf l m) (sym (keeps.durable c left)) keeps.log
 
-  pub keeps_same : (old new : ℕ → Option ℕ) (journal : Journal D) → KeepsMap seen moment leaves old journal → Leads [] [] old new → KeepsMap seen moment leaves new journal
-  keeps_same old new journal keeps leads = record {
-    log = same_log _ old new keeps.log leads;
-    durable = keeps.durable;
-    room = λ some. same_room _ _ _ _ old new (keeps.room some) leads;
-  }
-
   pub keeps_room : (m : ℕ → Option ℕ) (journal : Journal D) → HasRoom (seen journal.device) journal.salt journal.end journal.size m
       → Only (seen journal.device) (leaves journal.device (moment journal.device)) → KeepsMap seen moment leaves m journal
   keeps_room m journal r only = record { log = log_of_room (seen journal.device) journal.salt journal.end journal.size m r; durable = only; room = λ some. r }

@@ -60,9 +60,6 @@ begins_rest salt words body rest begins =
     ap (λ (l : List ℕ). drop (length body + 4) l) begins.words_are
     ∙ drop_at ((4 + length body) ∷ begins.low ∷ begins.high ∷ salt ∷ body) rest (length body + 4) (omega arith)
 
-pub read_none : (salt : ℕ) (words : List ℕ) → HasRead salt words words [] []
-read_none salt words = record { bodies = []; came_are = refl; went_are = refl; short = omega arith; tells = λ others tells. tells }
-
 pub read_one : (salt : ℕ) (words rest body after : List ℕ) (came went : List (ℕ × ℕ)) → HasRead salt words rest came went → Begins salt rest body after
     → HasRead salt words after (came ++ came_in body) (went ++ went_in body)
 read_one salt words rest body after came went so_far begins = record {

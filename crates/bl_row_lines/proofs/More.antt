@@ -42,9 +42,6 @@ rise_more rows row rising above i j lt within =
           ]
     ]
 
-pub none_rise : HasRisingKeys []
-none_rise i j lt within = absurd (omega arith)
-
 pub stops : (rows : List (ℕ × ℕ)) (good unread : List ℕ) (number : ℕ) (Bad : List (ℕ × ℕ) → List ℕ → Type 0) → good ≡ rows_text rows → HasRisingKeys rows → number ≡ length rows + 1 → Bad rows unread
     → StopsAt (good ++ unread) number Bad
 stops rows good unread number Bad is rising counted bad = record { rows = rows; left = unread; begins = ap (λ t. t ++ unread) is; rising = rising; counted = counted; bad = bad }
