@@ -10,8 +10,7 @@ use Rattle.bl_claims.specs.Trails.{history_of}
 use Rattle.bl_store.specs.declared.store.Hand.{Hand}
 use Rattle.bl_store.specs.Hands.{known}
 use Rattle.bl_index_rule.specs.declared.known.PassState.{PassState}
-use Rattle.bl_index.proofs.PartByPart.{history_append}
-use Rattle.bl_index.proofs.Scanned.{answered}
+use Rattle.bl_index_range.proofs.Told.{answered, history_append}
 use Rattle.bl_ffi_seats.specs.Seats.{HasReplied}
 
 pub part_may : (hand : Hand PassState) (op : Op) (reply : Reply) → HasReplied hand op reply → (m : Map) × MayAnswer m op reply

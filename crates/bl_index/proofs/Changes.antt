@@ -30,8 +30,7 @@ use Rattle.bl_index_events.proofs.Ends.{op_in_call}
 use Rattle.bl_index_write.specs.Events.{HasWritten}
 use Rattle.bl_index.specs.declared.index.Pass.{Pass}
 use Rattle.bl_index.specs.Calls.{number_of, trail, Writes, Inserts, InsertLacks, WriteLacks}
-use Rattle.bl_index.proofs.Scanned.{answered}
-use Rattle.bl_index.proofs.PartByPart.{history_append}
+use Rattle.bl_index_range.proofs.Told.{answered, history_append}
 
 same_reply : (a b : Reply) (h i : Option Hint) → Op a h ≡ Op b i → a ≡ b
 same_reply a b h i e = cc

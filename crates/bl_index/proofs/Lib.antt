@@ -13,11 +13,6 @@ pub mod Learning
 pub mod Encounters
 pub mod Scanned
 pub mod PartByPart
-pub mod Looks
-pub mod PartsMade
-pub mod LeafParts
-pub mod OneMoment
-pub mod RangeSteps
 pub mod Holders
 pub mod Gathered
 pub mod AtRest

@@ -7,7 +7,7 @@ use Rattle.bl_model.specs.declared.operation.Entry.{Entry}
 use Rattle.bl_model.specs.declared.operation.Op.TheVariants.{Part as OpPart}
 use Rattle.bl_model.specs.declared.operation.Reply.{Reply}
 use Rattle.bl_model.specs.Map.{Map, MayAnswer}
-use Rattle.bl_claims.specs.Trails.{Trail, history_of, entries_at}
+use Rattle.bl_claims.specs.Trails.{Trail, history_of}
 use Rattle.bl_page.specs.declared.page.Page.{Page}
 use Rattle.bl_claims.specs.Seeing.{first_map, own}
 use Rattle.bl_index.specs.declared.scanning.ScanFault.{ScanFault}
@@ -15,7 +15,8 @@ use Rattle.bl_index_read.specs.Searching.{Finds}
 use Rattle.bl_index_read.specs.declared.leaf_rows.Behind.{Behind}
 use Rattle.bl_index_read.specs.declared.leaf_rows.Behind.TheVariants.{Part, Nothing}
 use Rattle.bl_index_read.specs.LeafRows.{IsBelow, is_below, IsOver, GoesOnWithin}
-use Rattle.bl_index.specs.Scans.{rows_below, AreCalls, Scans, EndsScan, GivesPart, LeavesPart, StopsAt, StopsScan}
+use Rattle.bl_index_range.specs.Parts.{rows_below}
+use Rattle.bl_index.specs.Scans.{Scans, EndsScan, GivesPart, LeavesPart, StopsAt, StopsScan}
 use Rattle.bl_model.specs.Parts.{ended_at}
 use Rattle.bl_store.specs.Hands.{known, IsSameHand}
 use Rattle.bl_store.specs.declared.store.Hand.{Hand}
@@ -26,15 +27,9 @@ use Rattle.bl_index_read.specs.LeafWays.{HasSetOff}
 use Rattle.bl_index_read.proofs.Setting.{same_number}
 use Rattle.bl_index_events.specs.declared.tree.Tree.{Tree}
 use Rattle.bl_proc_steps.specs.declared.descent.Descent.{Descent}
-use Rattle.bl_index.proofs.Scanned.{IsFrom, IsBehind, Answered, answered, part_is, parts_push, right_more, from_more, rising_more}
-
-pub history_append : (xs ys : Trail) → history_of (xs ++ ys) ≡ history_of xs ++ history_of ys
-history_append [] ys = refl
-history_append (m ∷ ms) ys = ap (λ (z : List Entry). entries_at m.event.process m.said ++ z) (history_append ms ys) ∙ sym (append_assoc (entries_at m.event.process m.said) (history_of ms) (history_of ys))
-
-pub calls_push : (first : List (Option Page)) (pages pass turns : ℕ) (es : List Entry) (e : Entry) (old mid new : Trail) → AreCalls first pages pass turns es old mid → Finds first pages pass turns e.op e.reply mid new → AreCalls first pages pass turns (es ++ e ∷ []) old new
-calls_push first pages pass turns [] e old mid new calls finds = (new, subst (λ (z : Trail). Finds first pages pass turns e.op e.reply z new) calls finds, refl)
-calls_push first pages pass turns (x ∷ xs) e old mid new calls finds = (calls.0, calls.1, calls_push first pages pass turns xs e calls.0 mid new calls.2 finds)
+use Rattle.bl_index_range.proofs.Told.{IsBehind, Answered, answered, part_is, history_append}
+use Rattle.bl_index_range.proofs.PartsMade.{calls_push}
+use Rattle.bl_index.proofs.Scanned.{IsFrom, parts_push, right_more, from_more, rising_more}
 
 -- a scan that is about to begin
 pub scans_none : (first : List (Option Page)) (pages pass turns from : ℕ) (to : Option ℕ) (old : Trail) → Scans first pages pass turns from to (Some from) [] old old

@@ -1,95 +1,28 @@
--- What a part tells of the map, and where its entry stands.
-use Rattle.std.proofs.Common.{◌≡◌, ⊎_elim, ℕ, get_or, ◌<◌, ◌≤◌, Bool, true, false, Option, Some, None, List, [], ◌∷◌, ◌++◌, cond, refl, sym, ap, ◌∙◌, subst, append_assoc, arith}
-use Rattle.std.specs.Prelude.{◌↔◌, ◌==◌, All, Contains}
+-- The parts of a scan, and what it lists with one more.
+use Rattle.std.proofs.Common.{◌≡◌, ⊎_elim, ℕ, get_or, ◌<◌, ◌≤◌, Option, Some, None, List, [], ◌∷◌, ◌++◌, refl, sym, ap, ◌∙◌, append_assoc, arith}
+use Rattle.std.specs.Prelude.{All, Contains}
 use Rattle.std.proofs.lemmas.Bool.{cases_lt}
-use Rattle.std.proofs.lemmas.List.{append_cancel_left}
 use Rattle.std.proofs.lemmas.List.Elements.{All-append, All-contains, All-filter, All-weaker, Contains-append_left, Contains-append_right, Contains-append_cases, Contains-get_or}
 use Rattle.bl_model.specs.Map.{Map, MayAnswer}
-use Rattle.bl_model.specs.History.{IsLegalFrom, final_map, entries_of_pass}
-use Rattle.bl_model.proofs.Histories.{legal_rest, entries_of_pass-append}
+use Rattle.bl_model.specs.History.{final_map}
 use Rattle.bl_model.specs.Rows.{HasRisingKeys}
 use Rattle.bl_model.specs.declared.operation.Entry.{Entry}
-use Rattle.bl_model.specs.declared.operation.Next.TheVariants.{More, End}
 use Rattle.bl_model.specs.declared.operation.Op.TheVariants.{Part}
 use Rattle.bl_model.specs.declared.operation.Reply.{Reply}
-use Rattle.bl_model.specs.declared.operation.Reply.TheVariants.{Rows}
 use Rattle.bl_page.specs.declared.page.Page.{Page}
 use Rattle.bl_claims.specs.Seeing.{first_map}
 use Rattle.bl_index_read.specs.LeafRows.{IsBelow, is_below}
-use Rattle.bl_index.specs.Scans.{rows_below, AreParts, IsRight}
+use Rattle.bl_index_range.specs.Parts.{rows_below}
+use Rattle.bl_index_range.proofs.Told.{IsBehind, IsPartOf, Answered}
+use Rattle.bl_index.specs.Scans.{AreParts, IsRight}
 use Rattle.bl_model.specs.Parts.{rows_of, ended_at}
 use Rattle.bl_index_read.proofs.Ranges.{below_true, filter_keeps, filter_has, rising_filter, rising_behind}
-
--- an end behind a key
-abbrev pub IsBehind : ℕ → Option ℕ → Type 0
-IsBehind key None = Unit {0}
-IsBehind key (Some end) = key < end
-
--- the reply of a part: the pairs of the map from its key on up to where it ended
-pub record IsPartOf (m : Map) (from : ℕ) (reply : Reply) : Type 0 where
-  pub rising : HasRisingKeys (rows_of reply)
-  pub further : IsBehind from (ended_at reply)
-  pub pairs : (key value : ℕ) → Contains (rows_of reply) (key, value) ↔ ((m key ≡ Some value) × (from ≤ key) × IsBelow (ended_at reply) key)
-
-pub part_is : (m : Map) (from : ℕ) (reply : Reply) → MayAnswer m (Part from) reply → IsPartOf m from reply
-part_is m from (Rows rows (More next)) may = record {
-  rising = may.1.rising;
-  further = may.0;
-  pairs = λ key value. let both = may.1.pairs key value in (λ c. let there = both.0 c in (there.0, there.1.0, there.1.1), λ (is, low, high). both.1 (is, (low, high)));
-}
-part_is m from (Rows rows End) may = record {
-  rising = may.rising;
-  further = tt;
-  pairs = λ key value. let both = may.pairs key value in (λ c. let there = both.0 c in (there.0, there.1, tt), λ (is, low, high). both.1 (is, low));
-}
-part_is m from reply may = absurd may
-
--- ---- where an entry stands
-
--- the entry stands among others
-pub record Stands (e : Entry) (es : List Entry) : Type 0 where
-  pub before : List Entry
-  pub after : List Entry
-  pub is : es ≡ before ++ e ∷ after
-
-stands_cons : (e x : Entry) (xs mine : List Entry) (b : Bool) → cond b (x ∷ mine) mine ≡ e ∷ [] → (mine ≡ e ∷ [] → Stands e xs) → Stands e (x ∷ xs)
-stands_cons e x xs mine true h rest = let same : x ≡ e = cc in record { before = []; after = xs; is = ap (λ (z : Entry). z ∷ xs) same }
-stands_cons e x xs mine false h rest = let there = rest h in record { before = x ∷ there.before; after = there.after; is = ap (λ (z : List Entry). x ∷ z) there.is }
-
--- the only entry of a pass stands somewhere
-pub stands : (pass : ℕ) (e : Entry) (es : List Entry) → entries_of_pass pass es ≡ e ∷ [] → Stands e es
-stands pass e [] h = let none : ⊥ = cc in absurd none
-stands pass e (x ∷ xs) h = stands_cons e x xs (entries_of_pass pass xs) (x.pass == pass) h (stands pass e xs)
-
--- ---- the parts of a scan
 
 pub parts_push : (pass : ℕ) (to from : Option ℕ) (es : List Entry) (at : ℕ) (reply : Reply) → AreParts pass to from es (Some at) → IsBelow to at
     → AreParts pass to from (es ++ record { pass = pass; op = Part at; reply = reply } ∷ []) (ended_at reply)
 parts_push pass to from [] at reply are below = rw (sym are) (refl, refl, below, refl)
 parts_push pass to None (e ∷ es) at reply are below = absurd are
 parts_push pass to (Some from) (e ∷ es) at reply are below = (are.0, are.1, are.2, parts_push pass to (ended_at e.reply) es at reply are.3 below)
-
--- where the entry of a call stands in the history, and that it is answered on the map before it
-pub record Answered (start : Map) (e : Entry) (old new : List Entry) : Type 0 where
-  pub before : List Entry
-  pub after : List Entry
-  pub stands : new ≡ old ++ (before ++ e ∷ after)
-  pub may : MayAnswer (final_map start (old ++ before)) e.op e.reply
-
-pub answered : (start : Map) (pass : ℕ) (e : Entry) (old more new : List Entry) → new ≡ old ++ more → IsLegalFrom start new → entries_of_pass pass new ≡ entries_of_pass pass old ++ e ∷ [] → Answered start e old new
-answered start pass e old more new on legal once =
-    let mine : entries_of_pass pass more ≡ e ∷ [] = append_cancel_left (entries_of_pass pass old) (entries_of_pass pass more) (e ∷ [])
-    (sym (ap (entries_of_pass pass) on ∙ entries_of_pass-append pass old more) ∙ once) in
-    let there : Stands e more = stands pass e more mine in
-    let is : new ≡ old ++ (there.before ++ e ∷ there.after) = on ∙ ap (λ (z : List Entry). old ++ z) there.is in
-    record {
-      before = there.before;
-      after = there.after;
-      stands = is;
-      may = (legal_rest start (old ++ there.before) (e ∷ there.after) (subst (IsLegalFrom start) (is ∙ sym (append_assoc old there.before (e ∷ there.after))) legal)).0;
-    }
-
--- ---- one part more
 
 below_behind : (end : Option ℕ) (at key : ℕ) → IsBehind at end → key < at → IsBelow end key
 below_behind None at key further lt = tt

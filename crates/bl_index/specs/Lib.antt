@@ -4,5 +4,3 @@ pub mod Meetings
 pub mod Scans
 pub mod Closed
 pub mod Within
-pub mod Ranges
-pub mod Gathering

@@ -1,9 +1,9 @@
 -- What a scan tells the pass that makes it: parts, each from where the last one ended, and the rows that they list together.
-use Rattle.std.specs.Prelude.{◌≡◌, ℕ, ◌≤◌, ◌++◌, ◌↔◌, List, [], ◌∷◌, Option, Some, None, Result, Ok, Err, All, Contains, filter, flat_map, length, OnOk, IfErr}
+use Rattle.std.specs.Prelude.{◌≡◌, ℕ, ◌≤◌, ◌++◌, ◌↔◌, List, [], ◌∷◌, Option, Some, None, Result, Ok, Err, All, Contains, flat_map, length, OnOk, IfErr}
 use Rattle.bl_page.specs.declared.page.Page.{Page}
 use Rattle.bl_model.specs.History.{final_map}
 use Rattle.bl_model.specs.Rows.{HasRisingKeys}
-use Rattle.bl_model.specs.Parts.{rows_of, ended_at}
+use Rattle.bl_model.specs.Parts.{ended_at}
 use Rattle.bl_model.specs.declared.operation.Entry.{Entry}
 use Rattle.bl_model.specs.declared.operation.Op.TheVariants.{Part}
 use Rattle.bl_model.specs.declared.operation.Reply.{Reply}
@@ -11,14 +11,11 @@ use Rattle.bl_claims.specs.Trails.{Trail, history_of}
 use Rattle.bl_claims.specs.Seeing.{first_map, IsLinearizable, own, GoesOnFrom}
 use Rattle.bl_index_read.specs.Searching.{Finds, RunsOut}
 use Rattle.bl_index_read.specs.declared.leaf_rows.Behind.{Behind}
+use Rattle.bl_index_range.specs.Parts.{rows_below, AreCalls}
 use Rattle.bl_index.specs.declared.scanning.ScanFault.{ScanFault}
 use Rattle.bl_index.specs.declared.scanning.ScanFault.TheVariants.{Memory, OutOfTurns}
 use Rattle.bl_index.specs.declared.scanning.OutOfTurnsAt.{OutOfTurnsAt}
-use Rattle.bl_index_read.specs.LeafRows.{is_below, IsBelow, IsOver, GoesOnWithin}
-
--- the rows of a part that lie below the end of a scan
-abbrev pub rows_below : Option ℕ → Reply → List (ℕ × ℕ)
-rows_below to reply = filter (λ row. is_below to row.0) (rows_of reply)
+use Rattle.bl_index_read.specs.LeafRows.{IsBelow, IsOver, GoesOnWithin}
 
 -- Entries of the pass that are parts: the first from that key on, and each further one from where the last one ended, all of
 -- them from below the scan's end. Together they end before upto, or go to the end of the map.
@@ -26,12 +23,6 @@ abbrev pub AreParts : ℕ → Option ℕ → Option ℕ → List Entry → Optio
 AreParts pass to from [] upto = upto ≡ from
 AreParts pass to None (e ∷ es) upto = ⊥
 AreParts pass to (Some from) (e ∷ es) upto = (e.pass ≡ pass) × (e.op ≡ Part from) × IsBelow to from × AreParts pass to (ended_at e.reply) es upto
-
--- The pass has made calls that were answered so, one after another, each with so many turns, and nothing else.
-abbrev pub AreCalls : List (Option Page) → ℕ → ℕ → ℕ → List Entry → Trail → Trail → Type 0
-AreCalls first pages pass turns [] old new = new ≡ old
-AreCalls first pages pass turns (e ∷ es) old new =
-    (mid : Trail) × Finds first pages pass turns e.op e.reply old mid × AreCalls first pages pass turns es mid new
 
 -- A scan answers a key right: its rows list the key with the value that the map had for it, or do not list it, as the map stood
 -- where one of its parts stands in the history. The history was old before the scan, and is new after it.

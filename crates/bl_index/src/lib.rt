@@ -27,6 +27,7 @@ mod scanning;
 mod sweeping;
 
 pub use bl_index_events::ABREAST;
+pub use bl_index_range::{Kept, RangeFault, RangeLimits};
 pub use bl_index_read::{Appending, OutOfTurns, Sink, Telling};
 pub use bl_model::{KeyReply, KeyWrite, Next, Reply};
 pub use bl_proc::{Hint, Level, Lowered, Posted, Squeezed};
@@ -34,5 +35,4 @@ pub use bl_reserve::RoomSeen;
 pub use closing::CloseRoom;
 pub use config::{CloseFault, Config, OpenFault};
 pub use index::{Index, Pass};
-pub use ranging::{Kept, RangeFault, RangeLimits};
 pub use scanning::{OutOfTurnsAt, ScanFault};

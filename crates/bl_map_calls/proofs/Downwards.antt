@@ -20,7 +20,7 @@ use Rattle.bl_page.specs.declared.page.Page.{Page}
 use Rattle.bl_claims.specs.Trails.{Trail, history_of}
 use Rattle.bl_claims.specs.Seeing.{first_map, own}
 use Rattle.bl_index.specs.Scans.{IsRight}
-use Rattle.bl_index.proofs.Scanned.{Answered, answered}
+use Rattle.bl_index_range.proofs.Told.{Answered, answered}
 use Rattle.bl_index_read.specs.Searching.{Finds, RunsOut}
 use Rattle.bl_index_read.proofs.Ranges.{filter_keeps, filter_has}
 use Rattle.bl_map_calls.specs.declared.least.Found.TheVariants.{Row, GoesOn, Nothing}

@@ -14,7 +14,7 @@ use Rattle.bl_claims.specs.Trails.{Trail}
 use Rattle.bl_claims.specs.Seeing.{own}
 use Rattle.bl_index_read.specs.Searching.{Finds, RunsOut}
 use Rattle.bl_index_read.specs.LeafRows.{is_below, IsOver}
-use Rattle.bl_index.specs.Scans.{rows_below}
+use Rattle.bl_index_range.specs.Parts.{rows_below}
 use Rattle.bl_index.proofs.PartByPart.{over}
 use Rattle.bl_map_calls.specs.Limits.{first_key, IsNext, AreWanted, ScannedAtMost}
 use Rattle.bl_map_calls.proofs.Adding.{call_adds}

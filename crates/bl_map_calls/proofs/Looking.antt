@@ -10,7 +10,8 @@ use Rattle.bl_model.specs.Parts.{rows_of, ended_at}
 use Rattle.bl_claims.specs.Trails.{Trail}
 use Rattle.bl_index_read.specs.Searching.{Finds}
 use Rattle.bl_index_read.specs.LeafRows.{is_below, IsBelow}
-use Rattle.bl_index.specs.Scans.{rows_below, Scans}
+use Rattle.bl_index_range.specs.Parts.{rows_below}
+use Rattle.bl_index.specs.Scans.{Scans}
 use Rattle.bl_index.proofs.PartByPart.{scans_none, scans_more, over}
 use Rattle.bl_map_calls.specs.declared.least.Found.TheVariants.{Row, GoesOn, Nothing}
 use Rattle.bl_map_calls.specs.Leasts.{FindsLeast, IsFoundIn, CountsRows}

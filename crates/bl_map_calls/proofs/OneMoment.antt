@@ -10,9 +10,9 @@ use Rattle.bl_claims.specs.Trails.{Trail, history_of}
 use Rattle.bl_claims.specs.Seeing.{first_map, own}
 use Rattle.bl_index_read.specs.LeafRows.{IsBelow}
 use Rattle.bl_index_read.specs.Searching.{RunsOut}
-use Rattle.bl_index.specs.Ranges.{IsPartWithin, MakesParts, IsAtOneMoment, ReadsRange, StopsRange}
-use Rattle.bl_index.specs.declared.ranging.RangeFault.{RangeFault}
-use Rattle.bl_index.specs.declared.ranging.RangeFault.TheVariants as fault
+use Rattle.bl_index_range.specs.Ranges.{IsPartWithin, MakesParts, IsAtOneMoment, ReadsRange, StopsRange}
+use Rattle.bl_index_range.specs.declared.ranging.RangeFault.{RangeFault}
+use Rattle.bl_index_range.specs.declared.ranging.RangeFault.TheVariants as fault
 use Rattle.bl_map_calls.specs.declared.ranging.RangeRefusal.{RangeRefusal}
 use Rattle.bl_map_calls.specs.declared.ranging.RangeRefusal.TheVariants as refusal
 use Rattle.bl_map_calls.specs.Works.{Searches}

@@ -14,12 +14,13 @@ use Rattle.bl_page.specs.declared.page.Page.{Page}
 use Rattle.bl_claims.specs.Seeing.{first_map, own}
 use Rattle.bl_index_read.specs.Searching.{Finds, RunsOut}
 use Rattle.bl_index_read.specs.LeafRows.{IsBelow}
-use Rattle.bl_index.specs.Scans.{rows_below, AreParts, AreCalls, Scans, IsRight, StopsScan, EndsScan, FindsNoRoom}
+use Rattle.bl_index_range.specs.Parts.{rows_below, AreCalls}
+use Rattle.bl_index.specs.Scans.{AreParts, Scans, IsRight, StopsScan, EndsScan, FindsNoRoom}
 use Rattle.bl_index.specs.declared.scanning.ScanFault.{ScanFault}
 use Rattle.bl_index.specs.declared.scanning.ScanFault.TheVariants.{Memory, OutOfTurns}
 use Rattle.bl_index.proofs.PartByPart.{ends_behind}
 use Rattle.bl_index_read.proofs.Ranges.{rising_behind}
-use Rattle.bl_index.proofs.Scanned.{IsBehind}
+use Rattle.bl_index_range.proofs.Told.{IsBehind}
 use Rattle.bl_map_calls.specs.Works.{Adds, Searches}
 use Rattle.bl_map_calls.specs.Scans.{HasScanned, Scanned}
 use Rattle.bl_map_calls.proofs.Adding.{call_adds, made_more, lost_more, searches_then}

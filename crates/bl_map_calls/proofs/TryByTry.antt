@@ -12,8 +12,7 @@ use Rattle.bl_model.specs.Map.{Map, MayAnswer}
 use Rattle.bl_page.specs.declared.page.Page.{Page}
 use Rattle.bl_claims.specs.Trails.{Trail, history_of}
 use Rattle.bl_claims.specs.Seeing.{first_map, IsLinearizable, GoesOnFrom}
-use Rattle.bl_index.proofs.PartByPart.{history_append}
-use Rattle.bl_index.proofs.Scanned.{answered}
+use Rattle.bl_index_range.proofs.Told.{answered, history_append}
 use Rattle.bl_map_calls.specs.declared.updating.Updated.{Updated}
 use Rattle.bl_map_calls.specs.declared.updating.Updated.TheVariants.{Changed, Absent, NoRoom}
 use Rattle.bl_waiting.specs.declared.waiting.Waiting.{Waiting}

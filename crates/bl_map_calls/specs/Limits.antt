@@ -7,7 +7,7 @@ use Rattle.bl_model.specs.declared.operation.Reply.{Reply}
 use Rattle.bl_claims.specs.Trails.{Trail}
 use Rattle.bl_index_read.specs.LeafRows.{IsBelow, IsOver}
 use Rattle.bl_index_read.specs.Searching.{Finds}
-use Rattle.bl_index.specs.Scans.{rows_below}
+use Rattle.bl_index_range.specs.Parts.{rows_below}
 use Rattle.bl_map_calls.specs.Works.{Searches}
 use Rattle.bl_map_calls.specs.Scans.{HasScanned}
 

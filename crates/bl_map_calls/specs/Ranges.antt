@@ -4,7 +4,7 @@ use Rattle.bl_page.specs.declared.page.Page.{Page}
 use Rattle.bl_model.specs.declared.operation.Entry.{Entry}
 use Rattle.bl_claims.specs.Trails.{Trail, history_of}
 use Rattle.bl_claims.specs.Seeing.{IsLinearizable, own, GoesOnFrom}
-use Rattle.bl_index.specs.Ranges.{IsPartWithin, IsAtOneMoment}
+use Rattle.bl_index_range.specs.Ranges.{IsPartWithin, IsAtOneMoment}
 use Rattle.bl_map_calls.specs.declared.ranging.RangeRefusal.{RangeRefusal}
 use Rattle.bl_map_calls.specs.declared.ranging.RangeRefusal.TheVariants.{Memory, Unsteady}
 use Rattle.bl_map_calls.specs.Works.{Searches}

@@ -7,7 +7,8 @@ use Rattle.bl_model.specs.declared.operation.Entry.{Entry}
 use Rattle.bl_claims.specs.Trails.{Trail, history_of}
 use Rattle.bl_claims.specs.Seeing.{IsLinearizable, own, GoesOnFrom}
 use Rattle.bl_index_read.specs.LeafRows.{IsBelow, IsOver}
-use Rattle.bl_index.specs.Scans.{rows_below, AreParts, IsRight, FindsNoRoom}
+use Rattle.bl_index_range.specs.Parts.{rows_below}
+use Rattle.bl_index.specs.Scans.{AreParts, IsRight, FindsNoRoom}
 use Rattle.bl_map_calls.specs.Works.{Searches}
 
 -- The pass has scanned from a key on up to another, or to the end of the map: its new entries are parts, and their rows below the

@@ -3,7 +3,7 @@
 ghost use Rattle.std.specs.Prelude.{◌≡◌, length, Option};
 ghost use Rattle.bl_model.specs.Parts.{ended_at};
 ghost use Rattle.bl_index.specs.Calls.{first_of, pages_of, IsPassOf, IsSamePass, number_of, trail};
-ghost use Rattle.bl_index.specs.Scans.{rows_below};
+ghost use Rattle.bl_index_range.specs.Parts.{rows_below};
 ghost use Rattle.bl_index_read.specs.LeafRows.{is_below as below};
 ghost use Rattle.bl_map_calls.specs.Leasts.{CountsRows};
 

@@ -3,7 +3,7 @@
 ghost use Rattle.std.specs.Prelude.{◌≡◌, ◌<◌, ◌-◌, ◌++◌, OnOk, OnErr, IfOk, length, take, drop, vec_len};
 ghost use Rattle.std.specs.Vec.{vec_capacity};
 ghost use Rattle.bl_index.specs.Calls.{first_of, pages_of, IsPassOf, IsSamePass, number_of, trail};
-ghost use Rattle.bl_index.specs.Scans.{rows_below};
+ghost use Rattle.bl_index_range.specs.Parts.{rows_below};
 ghost use Rattle.bl_map_calls.specs.Limits.{first_key, ScannedAtMost};
 
 use crate::counting::{count_in, end_of, is_below};

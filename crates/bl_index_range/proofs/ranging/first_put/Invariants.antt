@@ -1,7 +1,7 @@
 use Rattle.std.proofs.Common.{◌≡◌, ℕ, ◌<◌, get_or}
-use Rattle.bl_index.specs.Gathering.{IsUnput}
-use Rattle.bl_index.specs.declared.ranging.Kept.{Kept}
-use Rattle.bl_index.proofs.ranging.first_put.Given as goal
+use Rattle.bl_index_range.specs.Gathering.{IsUnput}
+use Rattle.bl_index_range.specs.declared.ranging.Kept.{Kept}
+use Rattle.bl_index_range.proofs.ranging.first_put.Given as goal
 
 abbrev pub invariant-loop-place : goal.invariant-loop-place
 invariant-loop-place l = record {

@@ -1,7 +1,7 @@
 use Rattle.std.proofs.Common.{rules, ◌<◌, Bool, true, false, Ok, Err, refl, sym, subst}
 use Rattle.bl_store.specs.Hands.{known}
-use Rattle.bl_index.proofs.RangeSteps.{IsUnderWay, left_while, gathers_none, under_way, gathers_on, by_part}
-use Rattle.bl_index.proofs.ranging.gather.Goals as goal
+use Rattle.bl_index_range.proofs.RangeSteps.{IsUnderWay, left_while, gathers_none, under_way, gathers_on, by_part}
+use Rattle.bl_index_range.proofs.ranging.gather.Goals as goal
 
 pub loop-goes_on-init : goal.loop-goes_on-init
 loop-goes_on-init c = record {

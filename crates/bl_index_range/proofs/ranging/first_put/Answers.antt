@@ -2,9 +2,9 @@ use Rattle.std.proofs.Common.{inl, inr, arith, ◌∙◌, subst}
 use Rattle.std.proofs.lemmas.Bool.{cases_eq}
 use Rattle.bl_store.specs.declared.store.Hand.{Hand}
 use Rattle.bl_index_rule.specs.declared.known.PassState.{PassState}
-use Rattle.bl_index.specs.Gathering.{IsUnput}
-use Rattle.bl_index.proofs.Looks.{unput_here}
-use Rattle.bl_index.proofs.ranging.first_put.Goals as goal
+use Rattle.bl_index_range.specs.Gathering.{IsUnput}
+use Rattle.bl_index_range.proofs.Looks.{unput_here}
+use Rattle.bl_index_range.proofs.ranging.first_put.Goals as goal
 
 pub loop-place-preserved : goal.loop-place-preserved
 loop-place-preserved c =

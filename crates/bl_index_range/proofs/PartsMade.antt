@@ -1,5 +1,5 @@
 -- A range that has made parts, and makes one more.
-use Rattle.std.proofs.Common.{ℕ, zero, suc, ◌≡◌, ◌≤◌, ◌++◌, Option, List, [], ◌∷◌, refl, sym, ap, ◌∙◌, append_assoc, append-nil, arith}
+use Rattle.std.proofs.Common.{ℕ, zero, suc, ◌≡◌, ◌≤◌, ◌++◌, Option, List, [], ◌∷◌, refl, sym, ap, ◌∙◌, subst, append_assoc, append-nil, arith}
 use Rattle.std.specs.Prelude.{All}
 use Rattle.std.proofs.lemmas.List.Elements.{All-append, All-nil}
 use Rattle.bl_model.specs.declared.operation.Entry.{Entry}
@@ -10,8 +10,12 @@ use Rattle.bl_claims.specs.Trails.{Trail}
 use Rattle.bl_claims.specs.Seeing.{own}
 use Rattle.bl_index_read.specs.LeafRows.{IsBelow}
 use Rattle.bl_index_read.specs.Searching.{Finds}
-use Rattle.bl_index.specs.Ranges.{IsPartWithin, MakesParts}
-use Rattle.bl_index.proofs.PartByPart.{calls_push}
+use Rattle.bl_index_range.specs.Parts.{AreCalls}
+use Rattle.bl_index_range.specs.Ranges.{IsPartWithin, MakesParts}
+
+pub calls_push : (first : List (Option Page)) (pages pass turns : ℕ) (es : List Entry) (e : Entry) (old mid new : Trail) → AreCalls first pages pass turns es old mid → Finds first pages pass turns e.op e.reply mid new → AreCalls first pages pass turns (es ++ e ∷ []) old new
+calls_push first pages pass turns [] e old mid new calls finds = (new, subst (λ (z : Trail). Finds first pages pass turns e.op e.reply z new) calls finds, refl)
+calls_push first pages pass turns (x ∷ xs) e old mid new calls finds = (calls.0, calls.1, calls_push first pages pass turns xs e calls.0 mid new calls.2 finds)
 
 pub makes_none : (first : List (Option Page)) (pages pass turns from : ℕ) (to : Option ℕ) (old : Trail) → MakesParts first pages pass turns from to [] old old
 makes_none first pages pass turns from to old = record {

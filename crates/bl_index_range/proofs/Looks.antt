@@ -11,8 +11,8 @@ use Rattle.bl_store.specs.Hands.{known}
 use Rattle.bl_index_rule.specs.declared.known.PassState.{PassState}
 use Rattle.bl_index_read.specs.Keeping.{KeepsStill}
 use Rattle.bl_index_read.specs.LeafRows.{IsBelow}
-use Rattle.bl_index.specs.Gathering.{IsLook, AreLooks, IsUnput}
-use Rattle.bl_index.specs.declared.ranging.Kept.{Kept}
+use Rattle.bl_index_range.specs.Gathering.{IsLook, AreLooks, IsUnput}
+use Rattle.bl_index_range.specs.declared.ranging.Kept.{Kept}
 
 -- what was looked at again at a place
 pub unput_here : (h : Seat (Unit {0}) (View PassState)) (looks : List Kept) (place k : ℕ) (d e : Kept) → k ≡ place → place < length looks → IsUnput h (get_or looks place e) → IsUnput h (get_or looks k d)

@@ -27,14 +27,14 @@ use Rattle.bl_index_read.specs.Keeping.{KeepsStill, IsKeptLeaf}
 use Rattle.bl_index_read.specs.LeafRows.{IsBelow, GoesOnWithin}
 use Rattle.bl_index_read.specs.LeafWays.{HasLeaf, HasSetOff}
 use Rattle.bl_index_read.specs.Searching.{Finds, RunsOut}
-use Rattle.bl_index.specs.Scans.{rows_below}
-use Rattle.bl_index.specs.Ranges.{MakesParts, ReadsRange, StopsRange}
-use Rattle.bl_index.specs.declared.ranging.AtLeaf.{AtLeaf}
-use Rattle.bl_index.specs.declared.ranging.Gathering.{Gathering}
-use Rattle.bl_index.specs.declared.ranging.Kept.{Kept}
-use Rattle.bl_index.specs.declared.ranging.RangeFault.{RangeFault}
-use Rattle.bl_index.specs.declared.ranging.RangeFault.TheVariants.{Memory, OutOfTurns, Unsteady}
-use Rattle.bl_index.specs.declared.ranging.RangeLimits.{RangeLimits}
+use Rattle.bl_index_range.specs.Parts.{rows_below}
+use Rattle.bl_index_range.specs.Ranges.{MakesParts, ReadsRange, StopsRange}
+use Rattle.bl_index_range.specs.declared.ranging.AtLeaf.{AtLeaf}
+use Rattle.bl_index_range.specs.declared.ranging.Gathering.{Gathering}
+use Rattle.bl_index_range.specs.declared.ranging.Kept.{Kept}
+use Rattle.bl_index_range.specs.declared.ranging.RangeFault.{RangeFault}
+use Rattle.bl_index_range.specs.declared.ranging.RangeFault.TheVariants.{Memory, OutOfTurns, Unsteady}
+use Rattle.bl_index_range.specs.declared.ranging.RangeLimits.{RangeLimits}
 
 -- The hand keeps that look at a leaf in mind, of which the rows from one key up to another are these. It got the leaf at some event.
 pub record IsLook (h : Seat (Unit {0}) (View PassState)) (pages : ℕ) (to : Option ℕ) (from upto : ℕ) (look : Kept) (rows : List (ℕ × ℕ)) : Type 0 where

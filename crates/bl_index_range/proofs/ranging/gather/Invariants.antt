@@ -1,7 +1,7 @@
 use Rattle.std.proofs.Common.{ℕ}
 use Rattle.bl_store.specs.Hands.{known, IsSameHand, IsSameStock}
-use Rattle.bl_index.proofs.RangeSteps.{IsUnderWay, left_while}
-use Rattle.bl_index.proofs.ranging.gather.Given as goal
+use Rattle.bl_index_range.proofs.RangeSteps.{IsUnderWay, left_while}
+use Rattle.bl_index_range.proofs.ranging.gather.Given as goal
 
 abbrev pub invariant-loop-goes_on : goal.invariant-loop-goes_on
 invariant-loop-goes_on l = record {

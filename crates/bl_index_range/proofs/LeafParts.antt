@@ -30,10 +30,10 @@ use Rattle.bl_index_read.specs.LeafWays.{HasLeaf}
 use Rattle.bl_index_read.proofs.Answered.{part_finds}
 use Rattle.bl_index_read.proofs.Leaves.{TellsBehind, below_are}
 use Rattle.bl_index_read.proofs.Ranges.{below_true, filter_keeps, filter_has, rising_filter}
-use Rattle.bl_index.specs.Scans.{rows_below}
-use Rattle.bl_index.specs.Gathering.{IsLook, ReadsLeaf, LeavesLeaf, RestsAfter}
-use Rattle.bl_index.specs.declared.ranging.AtLeaf.{AtLeaf}
-use Rattle.bl_index.specs.declared.ranging.RangeFault.TheVariants.{Memory}
+use Rattle.bl_index_range.specs.Parts.{rows_below}
+use Rattle.bl_index_range.specs.Gathering.{IsLook, ReadsLeaf, LeavesLeaf, RestsAfter}
+use Rattle.bl_index_range.specs.declared.ranging.AtLeaf.{AtLeaf}
+use Rattle.bl_index_range.specs.declared.ranging.RangeFault.TheVariants.{Memory}
 
 below_less : (to : Option ℕ) (next key : ℕ) → IsBelow to next → key < next → IsBelow to key
 below_less None next key below lt = tt

@@ -23,11 +23,10 @@ use Rattle.bl_index_rule.proofs.Entries.{own-push}
 use Rattle.bl_index_read.specs.LeafRows.{IsBelow, is_below, IsOver}
 use Rattle.bl_index_read.specs.Searching.{Finds}
 use Rattle.bl_index_read.proofs.Ranges.{below_true, filter_keeps, filter_has, rising_filter, rising_behind}
-use Rattle.bl_index.specs.Ranges.{IsPartWithin, IsAtOneMoment}
-use Rattle.bl_index.specs.Scans.{rows_below}
-use Rattle.bl_index.proofs.PartByPart.{history_append}
-use Rattle.bl_index.proofs.PartsMade.{part_entry}
-use Rattle.bl_index.proofs.Scanned.{IsPartOf, part_is}
+use Rattle.bl_index_range.specs.Ranges.{IsPartWithin, IsAtOneMoment}
+use Rattle.bl_index_range.specs.Parts.{rows_below}
+use Rattle.bl_index_range.proofs.Told.{IsPartOf, part_is, history_append}
+use Rattle.bl_index_range.proofs.PartsMade.{part_entry}
 
 -- ---- the last rows behind the others
 

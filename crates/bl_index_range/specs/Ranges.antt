@@ -9,9 +9,9 @@ use Rattle.bl_claims.specs.Trails.{Trail, history_of}
 use Rattle.bl_claims.specs.Seeing.{first_map, IsLinearizable, own, GoesOnFrom}
 use Rattle.bl_index_read.specs.LeafRows.{IsBelow}
 use Rattle.bl_index_read.specs.Searching.{RunsOut}
-use Rattle.bl_index.specs.Scans.{AreCalls}
-use Rattle.bl_index.specs.declared.ranging.RangeFault.{RangeFault}
-use Rattle.bl_index.specs.declared.ranging.RangeFault.TheVariants.{Memory, OutOfTurns, Unsteady}
+use Rattle.bl_index_range.specs.Parts.{AreCalls}
+use Rattle.bl_index_range.specs.declared.ranging.RangeFault.{RangeFault}
+use Rattle.bl_index_range.specs.declared.ranging.RangeFault.TheVariants.{Memory, OutOfTurns, Unsteady}
 
 -- an entry of the pass that is a part of the range
 pub record IsPartWithin (pass from : ℕ) (to : Option ℕ) (entry : Entry) : Type 0 where

@@ -27,19 +27,19 @@ use Rattle.bl_index_read.specs.Searching.{Finds, RunsOut}
 use Rattle.bl_index_read.proofs.Answered.{part_finds}
 use Rattle.bl_index_read.proofs.Keeping.{still_on}
 use Rattle.bl_index_read.proofs.Setting.{same_number}
-use Rattle.bl_index.specs.Scans.{rows_below}
-use Rattle.bl_index.specs.Ranges.{MakesParts, IsAtOneMoment, StopsFor, StopsRange}
-use Rattle.bl_index.specs.Gathering.{AreLooks, IsUnput, ReadsLeaf, LeavesLeaf, RestsAfter, EndsThere, SetsOff, GoesOnBehind, GoesOnOrStops, BeginsAgain, EndsRound, Gathers, HasGathered, GoesOrEnds, left_of}
-use Rattle.bl_index.specs.declared.ranging.AtLeaf.{AtLeaf}
-use Rattle.bl_index.specs.declared.ranging.Gathering.{Gathering}
-use Rattle.bl_index.specs.declared.ranging.Kept.{Kept}
-use Rattle.bl_index.specs.declared.ranging.RangeFault.{RangeFault}
-use Rattle.bl_index.specs.declared.ranging.RangeFault.TheVariants.{Memory, OutOfTurns, Unsteady}
-use Rattle.bl_index.specs.declared.ranging.RangeLimits.{RangeLimits}
-use Rattle.bl_index.proofs.Looks.{looks_on, looks_push, looks_take, taken_past, adjoins}
-use Rattle.bl_index.proofs.PartsMade.{part_entry, makes_none, makes_more}
-use Rattle.bl_index.proofs.LeafParts.{ends_behind, look_of}
-use Rattle.bl_index.proofs.OneMoment.{at_one_moment}
+use Rattle.bl_index_range.specs.Parts.{rows_below}
+use Rattle.bl_index_range.specs.Ranges.{MakesParts, IsAtOneMoment, StopsFor, StopsRange}
+use Rattle.bl_index_range.specs.Gathering.{AreLooks, IsUnput, ReadsLeaf, LeavesLeaf, RestsAfter, EndsThere, SetsOff, GoesOnBehind, GoesOnOrStops, BeginsAgain, EndsRound, Gathers, HasGathered, GoesOrEnds, left_of}
+use Rattle.bl_index_range.specs.declared.ranging.AtLeaf.{AtLeaf}
+use Rattle.bl_index_range.specs.declared.ranging.Gathering.{Gathering}
+use Rattle.bl_index_range.specs.declared.ranging.Kept.{Kept}
+use Rattle.bl_index_range.specs.declared.ranging.RangeFault.{RangeFault}
+use Rattle.bl_index_range.specs.declared.ranging.RangeFault.TheVariants.{Memory, OutOfTurns, Unsteady}
+use Rattle.bl_index_range.specs.declared.ranging.RangeLimits.{RangeLimits}
+use Rattle.bl_index_range.proofs.Looks.{looks_on, looks_push, looks_take, taken_past, adjoins}
+use Rattle.bl_index_range.proofs.PartsMade.{part_entry, makes_none, makes_more}
+use Rattle.bl_index_range.proofs.LeafParts.{ends_behind, look_of}
+use Rattle.bl_index_range.proofs.OneMoment.{at_one_moment}
 
 -- rows behind rows behind rows
 behind_all : (all now before rows more : List (ℕ × ℕ)) → all ≡ now ++ more → now ≡ before ++ rows → all ≡ before ++ (rows ++ more)

@@ -1,10 +1,10 @@
 use Rattle.std.proofs.Common.{ℕ, refl}
 use Rattle.bl_proc.specs.declared.parts.Direction.TheVariants.{Up}
 use Rattle.bl_index_read.specs.declared.sought.Sought.TheVariants.{Rows}
-use Rattle.bl_index.specs.declared.ranging.Gathering.{Gathering}
-use Rattle.bl_index.proofs.Looks.{looks_near}
-use Rattle.bl_index.proofs.RangeSteps.{stops_before, behind_leaf, at_end}
-use Rattle.bl_index.proofs.ranging.gather_part.Goals as goal
+use Rattle.bl_index_range.specs.declared.ranging.Gathering.{Gathering}
+use Rattle.bl_index_range.proofs.Looks.{looks_near}
+use Rattle.bl_index_range.proofs.RangeSteps.{stops_before, behind_leaf, at_end}
+use Rattle.bl_index_range.proofs.ranging.gather_part.Goals as goal
 
 pub read_leaf-requires-clause-off : goal.read_leaf-requires-clause-off
 read_leaf-requires-clause-off c = let inv = c.requires.gathers.3 in (inv.mid, c.args.hand.now.number, inv.off)

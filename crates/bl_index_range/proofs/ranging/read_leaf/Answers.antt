@@ -11,10 +11,10 @@ use Rattle.bl_index_read.specs.LeafWays.{IsAtLeaf}
 use Rattle.bl_index_read.proofs.Leaves.{leaf_pairs}
 use Rattle.bl_index_read.proofs.Picked.{between_rows}
 use Rattle.bl_index_read.proofs.Ranges.{below_less}
-use Rattle.bl_index.specs.Gathering.{ReadsLeaf}
-use Rattle.bl_index.specs.declared.ranging.AtLeaf.{AtLeaf}
-use Rattle.bl_index.proofs.LeafParts.{reads_leaf, leaves_leaf}
-use Rattle.bl_index.proofs.ranging.read_leaf.Goals as goal
+use Rattle.bl_index_range.specs.Gathering.{ReadsLeaf}
+use Rattle.bl_index_range.specs.declared.ranging.AtLeaf.{AtLeaf}
+use Rattle.bl_index_range.proofs.LeafParts.{reads_leaf, leaves_leaf}
+use Rattle.bl_index_range.proofs.ranging.read_leaf.Goals as goal
 
 pub descend_to_page-requires : goal.descend_to_page-requires
 descend_to_page-requires c = record { off = c.requires.off }
