@@ -1,8 +1,8 @@
 //! The command `log`: the log of a folder is read or made.
 
 use crate::{Output, output};
-use bl_cli_commands::ScriptFile;
 use bl_cli_options::LogAction;
+use bl_cli_streams::ScriptFile;
 use bl_log_files::{LogError, check_log, claim, load_log, print_log};
 use bl_model::Watched;
 use std::process::ExitCode;

@@ -13,12 +13,14 @@ ghost use Rattle.bl_serve.specs.Origins.{HasPages, MayServe};
 
 use bl_check::Quiet;
 use bl_cli_commands::{
-    CommandFault, Counting, DumpFault, Form, MakeFault, Piped, Remembering, SECTION_ADVICE,
-    ScriptFile, Usage, argument_line, check_file, draw_file, index_line, load_file, make_image,
-    malformed_line, may_replace, noroom_line, print_file, reason_of, replace_file, replay_file,
-    section_line, stats_line, used_pages,
+    CommandFault, Form, MakeFault, argument_line, check_file, draw_file, load_file, make_image,
+    print_file, reason_of, replay_file,
 };
 use bl_cli_options::{Invocation, Loading, Server, read_words};
+use bl_cli_streams::{
+    Counting, DumpFault, Piped, Remembering, SECTION_ADVICE, ScriptFile, Usage, index_line,
+    malformed_line, may_replace, noroom_line, replace_file, section_line, stats_line, used_pages,
+};
 use bl_model::Watched;
 use bl_serve::{Origin, Sectioning, ServeFault, ServePlan, Totals, dump_by_plan, serve_by_plan};
 use clap::Error;

@@ -11,8 +11,6 @@ use Rattle.bl_replay.specs.declared.fault.ReplayFault.{ReplayFault}
 use Rattle.bl_replay.specs.declared.fault.ReplayFault.TheVariants as replaying
 use Rattle.bl_row_lines.specs.declared.writing.PrintFault.{PrintFault}
 use Rattle.bl_row_lines.specs.declared.writing.PrintFault.TheVariants as printing
-use Rattle.bl_cli_commands.specs.declared.dump.DumpFault.{DumpFault}
-use Rattle.bl_cli_commands.specs.declared.dump.DumpFault.TheVariants as dump
 use Rattle.bl_cli_commands.specs.declared.fault.CommandFault.{CommandFault}
 use Rattle.bl_cli_commands.specs.declared.fault.CommandFault.TheVariants as command
 
@@ -25,15 +23,6 @@ status_of command.Memory = 4
 status_of (command.Script line) = 3
 status_of (command.Unsound rule page) = 1
 status_of (command.Lost number) = 5
-
--- the same where the image did not come to stand in its file, or may not stay there
-abbrev pub status_of_dump : DumpFault → ℕ
-status_of_dump dump.Memory = 4
-status_of_dump (dump.Refuse path) = 3
-status_of_dump (dump.Make path) = 3
-status_of_dump (dump.Fill path) = 3
-status_of_dump (dump.Rename path) = 3
-status_of_dump (dump.Sync path) = 3
 
 -- a command fails as its serving did
 abbrev pub fault_of : ServeFault → CommandFault

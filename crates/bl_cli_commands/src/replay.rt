@@ -5,7 +5,7 @@ ghost use Rattle.std.specs.Io.KnownBytes.{Consumes, IsAtEnd};
 ghost use Rattle.bl_cli_commands.specs.Replays.{Replays, StopsReplay};
 
 use crate::fault::CommandFault;
-use crate::limits::ScriptFile;
+use bl_cli_streams::ScriptFile;
 use bl_model::Watched;
 use bl_replay::{PLAYED, replay};
 use bl_replay_script::read_script;

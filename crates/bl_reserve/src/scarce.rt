@@ -70,9 +70,9 @@ fn puts_a_look<D, R: PageRule<D>, A: Allocator>(store: &Store<D, R, A>) -> u32
     half.saturating_sub(FRAMES_A_HAND).min(PUTS_A_LOOK)
 }
 
-// Whether so many frames are free where they are ample, and as many more as all hands keep in sight, which others take without a look: as it
-// sees them near by, or as they are counted, and then as it sees them. Where too few are counted it counts one more chunk, so that what nobody keeps in mind is found in
-// the end. As there are more frames to spare than all hands keep in sight, some are retired then.
+// Whether so many frames are free where they are ample, and as many more as all hands keep in sight and take without a look: it sees them
+// near by, or goes by counts and then looks. Where too few are counted it counts one more chunk, so that each is found in the end; some
+// are retired then, as more are to spare than all hands keep in sight.
 #[inline(never)]
 fn counts_enough<D, R: PageRule<D>, A: Allocator>(
     store: &Store<D, R, A>,

@@ -1,7 +1,7 @@
 //! What a server counts at its end, and whether whoever reads its output has gone.
 
 use crate::streams::Full;
-use bl_cli_commands::{Counting, Piped, Usage, malformed_line, noroom_line, stats_line};
+use bl_cli_streams::{Counting, Piped, Usage, malformed_line, noroom_line, stats_line};
 use bl_model::{Watched, write_text};
 use bl_serve_lines::Totals;
 use std::alloc::Global;

@@ -3,9 +3,10 @@
 
 use crate::streams::Full;
 use bl_cli_commands::{
-    CommandFault, Form, ScriptFile, argument_line, check_file, draw_file, load_file, reason_of,
-    replay_file, replay_script,
+    CommandFault, Form, argument_line, check_file, draw_file, load_file, reason_of, replay_file,
+    replay_script,
 };
+use bl_cli_streams::ScriptFile;
 use bl_model::Watched;
 use std::alloc::Global;
 use std::env::FillError;

@@ -1,7 +1,8 @@
 //! The words of the command line, and the words on standard error.
 
-use bl_cli_commands::{CommandFault, DumpFault};
+use bl_cli_commands::CommandFault;
 use bl_cli_options::{Invocation, Sectioning, ServeOptions, Server, read_words};
+use bl_cli_streams::DumpFault;
 use bl_serve_lines::ServeFault;
 use std::alloc::Global;
 use std::test::Fail;

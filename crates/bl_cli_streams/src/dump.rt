@@ -1,7 +1,7 @@
 //! The file of a dump: it is replaced as a whole, and nothing else is. This is tested.
 
 ghost use Rattle.std.specs.Prelude.{◌≡◌};
-ghost use Rattle.bl_cli_commands.specs.Statuses.{status_of_dump};
+ghost use Rattle.bl_cli_streams.specs.DumpStatuses.{status_of_dump};
 
 use crate::kinds::kind_of;
 use crate::piped::Piped;

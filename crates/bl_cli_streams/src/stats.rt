@@ -1,7 +1,7 @@
 //! What a server says at its end. But for the line on malformed requests, these are tested.
 
 ghost use Rattle.std.specs.Prelude.{◌≡◌, ◌≢◌, IfOk, string_bytes};
-ghost use Rattle.bl_cli_commands.specs.Counted.{malformed_text, one_malformed_text};
+ghost use Rattle.bl_cli_streams.specs.Counted.{malformed_text, one_malformed_text};
 
 use bl_image::Image;
 use bl_model::limits::{MOST_LARGE_PAGES, MOST_PAGES};

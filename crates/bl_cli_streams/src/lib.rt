@@ -1,0 +1,24 @@
+//! The streams of `blink`, and what is said of them: writers that count replies and keep why they failed, readers that stop and
+//! remember lines, the file of a dump, and what a server says at its end.
+//!
+//! Promised to `bl_cli` and `bl_cli_commands`: the writers hand on each byte, a dump that failed has its exit status, and the line on
+//! malformed requests has their number and the first one's line. What the writers count and keep, how far is read, how a file is
+//! replaced, and the other lines are tested.
+#![tactic(auto)]
+
+mod counting;
+mod dump;
+mod kinds;
+mod limits;
+mod piped;
+mod remembering;
+mod stats;
+mod wanted;
+
+pub use counting::Counting;
+pub use dump::{DumpFault, may_replace, replace_file};
+pub use limits::ScriptFile;
+pub use piped::Piped;
+pub use remembering::Remembering;
+pub use stats::{Usage, malformed_line, noroom_line, stats_line, used_pages};
+pub use wanted::{SECTION_ADVICE, index_line, section_line};
