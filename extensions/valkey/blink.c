@@ -20,6 +20,7 @@
 #include "redismodule.h"
 #include "blink.h"
 
+#include <endian.h>
 #include <pthread.h>
 #include <stdatomic.h>
 #include <string.h>
@@ -126,22 +127,38 @@ typedef struct Place {
     Part *part;
 } Place;
 
+/* How the block begins that the server has as a map: Parts or Few. */
+typedef struct Head {
+    bool has_parts : 1;
+    bool is_kept : 1; /* made by BLINK.CREATE: stays where it has no row */
+} Head;
+
 /* Places by rising keys, of which the first begins at 0, and none is without rows between two commands. */
 typedef struct Parts {
+    Head head;
+    uint64_t rows, most;
     size_t count, room;
     size_t bytes; /* of the parts */
     Place place[];
 } Parts;
 
+/* Few rows by rising keys. All keys have as many bytes as the greatest wants, 4 at least, and so have all values, 1 at least: with 12 for both,
+ * a map of one row is a block of 16 bytes, the least that there is. A map that is kept has `most` before its rows. */
+typedef struct Few {
+    Head head;
+    uint8_t rows, key_bytes, value_bytes;
+    uint8_t packed[];
+} Few;
+
+/* A map while a command is at it. Its block may move, of which the server hears at the end (map_store). */
 typedef struct Map {
     uint64_t rows;
     uint64_t most; /* how many there may be, by BLINK.CREATE, or 0 */
     union {
-        blink_row *few; /* by rising keys */
+        Few *few; /* null: there is no map */
         Parts *parts;
     };
-    bool has_parts;
-    bool is_kept; /* made by BLINK.CREATE: stays where it has no row */
+    bool has_parts, is_kept;
 } Map;
 
 static void part_leave(Part *part) {
@@ -296,39 +313,105 @@ static void place_make_room(Map *map, size_t at, uint64_t key) {
 
 /* ---- Maps of few rows, and how a map becomes one, or ceases to be. ---- */
 
+/* How many bytes a number wants, one at least. */
+static unsigned bytes_of(uint64_t number) { return (71 - (unsigned)__builtin_clzll(number | 1)) / 8; }
+
+/* A number is packed with the least byte first. It is read with what is before it, eight bytes at once: these are of the block too, since
+ * a key has four at least. */
+static uint64_t number_before(const uint8_t *end, unsigned bytes) {
+    uint64_t number;
+    memcpy(&number, end - sizeof number, sizeof number);
+    return le64toh(number) >> (64 - 8 * bytes);
+}
+
+static void number_pack(uint8_t *at, unsigned bytes, uint64_t number) {
+    for (unsigned i = 0; i < bytes; i++) at[i] = (uint8_t)(number >> 8 * i);
+}
+
+static size_t few_offset(const Few *few, size_t at) {
+    return (few->head.is_kept ? sizeof(uint64_t) : 0) + at * (few->key_bytes + few->value_bytes);
+}
+
+static uint64_t few_key(const Few *few, size_t at) {
+    return number_before(few->packed + few_offset(few, at) + few->key_bytes, few->key_bytes);
+}
+
+static uint64_t few_value(const Few *few, size_t at) { return number_before(few->packed + few_offset(few, at + 1), few->value_bytes); }
+
+static void few_set(Few *few, size_t at, blink_row row) {
+    uint8_t *packed = few->packed + few_offset(few, at);
+    number_pack(packed, few->key_bytes, row.key);
+    number_pack(packed + few->key_bytes, few->value_bytes, row.value);
+}
+
+static void few_rows(const Map *map, blink_row *rows) {
+    for (size_t i = 0; i < map->rows; i++) rows[i] = (blink_row){few_key(map->few, i), few_value(map->few, i)};
+}
+
+/* Makes a block of these rows the map's. Its numbers have bytes enough for those of the other row, too. */
+static void few_pack(Map *map, const blink_row *rows, size_t count, blink_row other) {
+    for (size_t i = 0; i < count; i++) other = (blink_row){other.key | rows[i].key, other.value | rows[i].value};
+    const Few made = {{false, map->is_kept}, 0, (uint8_t)bytes_of(other.key | UINT32_MAX), (uint8_t)bytes_of(other.value)};
+    map->few = RedisModule_Alloc(sizeof made + few_offset(&made, count));
+    *map->few = made;
+    if (map->is_kept) number_pack(map->few->packed, sizeof map->most, map->most);
+    for (size_t i = 0; i < count; i++) few_set(map->few, i, rows[i]);
+    map->rows = count;
+    map->has_parts = false;
+}
+
 /* How many of few rows have lesser keys. */
 static size_t few_below(const Map *map, uint64_t key) {
     size_t low = 0, high = map->rows;
     while (low < high) {
         const size_t middle = low + (high - low) / 2;
-        if (map->few[middle].key < key) low = middle + 1;
+        if (few_key(map->few, middle) < key) low = middle + 1;
         else high = middle;
     }
     return low;
 }
 
-static bool few_has(const Map *map, size_t at, uint64_t key) { return at < map->rows && map->few[at].key == key; }
+static bool few_has(const Map *map, size_t at, uint64_t key) { return at < map->rows && few_key(map->few, at) == key; }
 
 /* Makes room for one of few rows, or takes some away. */
 static void few_move(Map *map, size_t at, size_t olds, size_t news) {
-    const size_t rows = map->rows - olds + news, behind = map->rows - at - olds;
-    if (news > olds) map->few = RedisModule_Realloc(map->few, rows * sizeof *map->few);
-    if (behind > 0) memmove(map->few + at + news, map->few + at + olds, behind * sizeof *map->few);
-    if (news < olds && rows > 0) map->few = RedisModule_Realloc(map->few, rows * sizeof *map->few);
-    if (rows == 0) {
-        RedisModule_Free(map->few);
-        map->few = NULL;
-    }
+    const size_t rows = map->rows - olds + news, size = sizeof *map->few + few_offset(map->few, rows);
+    const size_t behind = few_offset(map->few, map->rows) - few_offset(map->few, at + olds);
+    if (news > olds) map->few = RedisModule_Realloc(map->few, size);
+    memmove(map->few->packed + few_offset(map->few, at + news), map->few->packed + few_offset(map->few, at + olds), behind);
+    if (news < olds) map->few = RedisModule_Realloc(map->few, size);
     map->rows = rows;
 }
 
-static void map_becomes_parts(Map *map) {
-    blink_row *few = map->few;
-    const Place made = place_new(0, few, map->rows, pages_to_grow(map->rows, FILL), FILL, true);
+/* Puts a row at its place among few, in the stead of the one with its key if that is there. For a greater number than all before, the
+ * block is packed anew. */
+static void few_put(Map *map, size_t at, bool had, blink_row row) {
+    Few *old = map->few;
+    if (!old || bytes_of(row.key) > old->key_bytes || bytes_of(row.value) > old->value_bytes) {
+        blink_row rows[FEW];
+        few_rows(map, rows);
+        few_pack(map, rows, map->rows, row);
+        RedisModule_Free(old);
+    }
+    if (!had) few_move(map, at, 0, 1);
+    few_set(map->few, at, row);
+}
+
+/* Makes the map one of parts, as yet without any. */
+static void parts_begin(Map *map) {
     map->parts = RedisModule_Calloc(1, sizeof *map->parts);
+    map->parts->head = (Head){true, map->is_kept};
+    map->parts->most = map->most;
     map->has_parts = true;
+}
+
+static void map_becomes_parts(Map *map) {
+    blink_row rows[FEW];
+    few_rows(map, rows);
+    const Place made = place_new(0, rows, map->rows, pages_to_grow(map->rows, FILL), FILL, true);
+    RedisModule_Free(map->few);
+    parts_begin(map);
     map_splice(map, 0, 0, &made, 1);
-    RedisModule_Free(few);
 }
 
 static void map_becomes_few(Map *map) {
@@ -337,8 +420,8 @@ static void map_becomes_few(Map *map) {
     blink_row *rows = rows_of(map, 0, parts->count, &count);
     places_leave(parts->place, parts->count);
     RedisModule_Free(parts);
-    map->has_parts = false;
-    map->few = rows;
+    few_pack(map, rows, count, (blink_row){0, 0});
+    RedisModule_Free(rows);
 }
 
 /* A place with few rows for its pages is joined with its neighbours, up to half as many rows as a part has, or has fewer pages from now on.
@@ -364,21 +447,43 @@ static void map_shrink(Map *map, size_t at) {
 
 /* ---- The map's calls. ---- */
 
-static Map *map_new(void) { return RedisModule_Calloc(1, sizeof(Map)); }
+/* The map that the server has as this block. */
+static Map map_of(const void *value) {
+    const Head *head = value;
+    Map map = {.has_parts = head->has_parts, .is_kept = head->is_kept};
+    if (map.has_parts) {
+        map.parts = (Parts *)value;
+        map.rows = map.parts->rows;
+        map.most = map.parts->most;
+    } else {
+        map.few = (Few *)value;
+        map.rows = map.few->rows;
+        if (map.is_kept) map.most = number_before(map.few->packed + sizeof map.most, sizeof map.most);
+    }
+    return map;
+}
+
+/* The block of a map, for the server. */
+static void *map_value(const Map *map) {
+    if (map->has_parts) {
+        map->parts->rows = map->rows;
+        return map->parts;
+    }
+    map->few->rows = (uint8_t)map->rows;
+    return map->few;
+}
 
 static void map_free(void *value) {
-    Map *map = value;
-    if (map->has_parts) places_leave(map->parts->place, map->parts->count);
-    /* Or the parts, which stand in its place. */
-    RedisModule_Free(map->few);
-    RedisModule_Free(map);
+    const Map map = map_of(value);
+    if (map.has_parts) places_leave(map.parts->place, map.parts->count);
+    RedisModule_Free(value);
 }
 
 static bool map_get(const Map *map, uint64_t key, uint64_t *value) {
     if (map->has_parts) return blink_find(&map->parts->place[place_find(map, key)].part->seat[0], key, value) == BLINK_OK;
     const size_t at = few_below(map, key);
     if (!few_has(map, at, key)) return false;
-    *value = map->few[at].value;
+    *value = few_value(map->few, at);
     return true;
 }
 
@@ -402,9 +507,8 @@ static bool map_put(Map *map, uint64_t key, uint64_t value, uint64_t *old) {
         const size_t at = few_below(map, key);
         const bool had = few_has(map, at, key);
         if (had || map->rows < FEW) {
-            if (had) *old = map->few[at].value;
-            else few_move(map, at, 0, 1);
-            map->few[at] = (blink_row){key, value};
+            if (had) *old = few_value(map->few, at);
+            few_put(map, at, had, (blink_row){key, value});
             return had;
         }
         map_becomes_parts(map);
@@ -461,7 +565,8 @@ static void place_delete(Map *map, size_t at, uint64_t from, uint64_t last) {
 
 /* A walk along rows, upwards or downwards: of few rows, or of some places by one of the seats. */
 typedef struct Walk {
-    const blink_row *few;
+    const Few *few;
+    size_t low; /* the first of few rows */
     const Place *place;
     size_t at, count; /* of rows, or places: which is next, of how many */
     int seat;
@@ -479,7 +584,8 @@ static Walk walk_of(const Map *map, bool is_down, uint64_t from, uint64_t last) 
         walk.count = high - low + 1;
     } else {
         const size_t low = few_below(map, least), high = greatest == UINT64_MAX ? map->rows : few_below(map, greatest + 1);
-        walk.few = map->few + low;
+        walk.few = map->few;
+        walk.low = low;
         walk.count = high - low;
         walk.is_over = walk.count == 0;
     }
@@ -497,7 +603,10 @@ static void walk_on(Walk *walk) {
 static size_t walk_rows(Walk *walk, blink_row *rows, size_t room) {
     size_t count = 0;
     if (!walk->place) {
-        for (; count < room && !walk->is_over; walk_on(walk)) rows[count++] = walk->few[walk->at];
+        for (; count < room && !walk->is_over; walk_on(walk)) {
+            const size_t at = walk->low + walk->at;
+            rows[count++] = (blink_row){few_key(walk->few, at), few_value(walk->few, at)};
+        }
         return count;
     }
     while (count == 0 && !walk->is_over) {
@@ -554,28 +663,34 @@ static uint64_t map_delete_range(Map *map, uint64_t from, uint64_t last) {
     }
     if (!map->has_parts) {
         const Walk walk = walk_of(map, false, from, last);
-        if (walk.count > 0) few_move(map, (size_t)(walk.few - map->few), walk.count, 0);
+        if (walk.count > 0) few_move(map, walk.low, walk.count, 0);
     }
     return before - map->rows;
 }
 
+/* How large the block is. */
+static size_t map_size(const Map *map) {
+    if (!map->has_parts) return sizeof *map->few + few_offset(map->few, map->rows);
+    return sizeof *map->parts + map->parts->room * sizeof *map->parts->place;
+}
+
+/* What it takes, as the server counts it. */
 static size_t map_bytes(const Map *map) {
-    if (!map->has_parts) return sizeof *map + map->rows * sizeof *map->few;
-    return sizeof *map + sizeof *map->parts + map->parts->room * sizeof *map->parts->place + map->parts->bytes;
+    return map->has_parts ? map_size(map) + map->parts->bytes : RedisModule_MallocSize(map->few);
 }
 
 /* ---- What the server calls. ---- */
 
 /* RDB: kept, most, count; then each row as the distance from the key before, and the value. */
 static void type_save(RedisModuleIO *rdb, void *value) {
-    const Map *map = value;
-    Walk walk = walk_of(map, false, 0, UINT64_MAX);
+    const Map map = map_of(value);
+    Walk walk = walk_of(&map, false, 0, UINT64_MAX);
     blink_row rows[ROWS_AT_ONCE];
     uint64_t key = 0;
     size_t count;
-    RedisModule_SaveUnsigned(rdb, map->is_kept);
-    RedisModule_SaveUnsigned(rdb, map->most);
-    RedisModule_SaveUnsigned(rdb, map->rows);
+    RedisModule_SaveUnsigned(rdb, map.is_kept);
+    RedisModule_SaveUnsigned(rdb, map.most);
+    RedisModule_SaveUnsigned(rdb, map.rows);
     while ((count = walk_rows(&walk, rows, ROWS_AT_ONCE)) > 0)
         for (size_t i = 0; i < count; i++) {
             RedisModule_SaveUnsigned(rdb, rows[i].key - key);
@@ -595,40 +710,37 @@ static size_t load_rows(RedisModuleIO *rdb, blink_row *rows, size_t count, uint6
     return count;
 }
 
-/* Rows become parts as they come, with twelve a leaf. */
-static void *type_load(RedisModuleIO *rdb, int encoding) {
-    if (encoding != ENCODING) return NULL;
-    Map *map = map_new();
-    const uint64_t kept = RedisModule_LoadUnsigned(rdb);
-    map->is_kept = kept != 0;
-    map->most = RedisModule_LoadUnsigned(rdb);
-    const uint64_t all = RedisModule_LoadUnsigned(rdb), at_once = 9 * (uint64_t)part_pages;
-    /* What was not kept has a row, and no bound. */
-    bool is_good = !RedisModule_IsIOError(rdb) && kept <= 1 && (map->is_kept || (map->most == 0 && all > 0));
+/* The rows of an RDB, which become parts as they come, with twelve a leaf, or are few. */
+static bool load_map(RedisModuleIO *rdb, Map *map, uint64_t all) {
+    const uint64_t at_once = 9 * (uint64_t)part_pages;
+    bool is_good = true;
     uint64_t key = 0;
     blink_row *rows = RedisModule_Alloc(((all < at_once ? all : at_once) + 1) * sizeof *rows);
+    if (all > FEW) parts_begin(map);
     while (is_good && map->rows < all) {
         const size_t wanted = all - map->rows < at_once ? all - map->rows : at_once;
         const size_t count = load_rows(rdb, rows, wanted, &key, map->rows == 0);
         is_good = count == wanted;
-        if (!is_good) break;
-        if (all <= FEW) {
-            few_move(map, 0, 0, count);
-            memcpy(map->few, rows, count * sizeof *rows);
-            break;
-        }
-        if (!map->has_parts) {
-            map->parts = RedisModule_Calloc(1, sizeof *map->parts);
-            map->has_parts = true;
-        }
+        if (!is_good || !map->has_parts) break;
         const Place made = place_new(rows[0].key, rows, count, pages_for(count, 12), 12, all <= at_once);
         map_splice(map, map->parts->count, 0, &made, 1);
         map->rows += count;
     }
+    if (!map->has_parts) few_pack(map, rows, is_good ? all : 0, (blink_row){0, 0});
     RedisModule_Free(rows);
-    if (is_good) return map;
+    return is_good;
+}
+
+static void *type_load(RedisModuleIO *rdb, int encoding) {
+    if (encoding != ENCODING) return NULL;
+    const uint64_t kept = RedisModule_LoadUnsigned(rdb), most = RedisModule_LoadUnsigned(rdb), all = RedisModule_LoadUnsigned(rdb);
+    Map map = {.is_kept = kept != 0, .most = most};
+    /* What was not kept has a row, and no bound. */
+    if (!RedisModule_IsIOError(rdb) && kept <= 1 && (kept == 1 || (most == 0 && all > 0))) {
+        if (load_map(rdb, &map, all)) return map_value(&map);
+        map_free(map_value(&map));
+    }
     RedisModule_LogIOError(rdb, "warning", "blink: the rows of a map cannot be read");
-    map_free(map);
     return NULL;
 }
 
@@ -647,16 +759,16 @@ static RedisModuleString *string_of(uint64_t number) {
 }
 
 static void type_rewrite(RedisModuleIO *aof, RedisModuleString *name, void *value) {
-    const Map *map = value;
-    Walk walk = walk_of(map, false, 0, UINT64_MAX);
+    const Map map = map_of(value);
+    Walk walk = walk_of(&map, false, 0, UINT64_MAX);
     blink_row rows[AOF_ROWS];
     RedisModuleString *words[2 * AOF_ROWS];
     size_t count;
-    if (map->is_kept && map->most > 0) {
-        RedisModuleString *most = string_of(map->most);
+    if (map.is_kept && map.most > 0) {
+        RedisModuleString *most = string_of(map.most);
         RedisModule_EmitAOF(aof, "BLINK.CREATE", "scs", name, "MAXROWS", most);
         RedisModule_FreeString(NULL, most);
-    } else if (map->is_kept) {
+    } else if (map.is_kept) {
         RedisModule_EmitAOF(aof, "BLINK.CREATE", "s", name);
     }
     while ((count = walk_rows(&walk, rows, AOF_ROWS)) > 0) {
@@ -669,10 +781,14 @@ static void type_rewrite(RedisModuleIO *aof, RedisModuleString *name, void *valu
     }
 }
 
-static size_t type_memory(const void *value) { return map_bytes(value); }
+static size_t type_memory(const void *value) {
+    const Map map = map_of(value);
+    return map_bytes(&map);
+}
 
 static void type_digest(RedisModuleDigest *digest, void *value) {
-    Walk walk = walk_of(value, false, 0, UINT64_MAX);
+    const Map map = map_of(value);
+    Walk walk = walk_of(&map, false, 0, UINT64_MAX);
     blink_row rows[ROWS_AT_ONCE];
     size_t count;
     while ((count = walk_rows(&walk, rows, ROWS_AT_ONCE)) > 0)
@@ -685,25 +801,21 @@ static void type_digest(RedisModuleDigest *digest, void *value) {
 
 /* Above 64 the server frees it in its thread. A part is a dozen large blocks. */
 static size_t type_effort(RedisModuleString *name, const void *value) {
-    const Map *map = value;
+    const Map map = map_of(value);
     (void)name;
-    return map->has_parts ? 16 * map->parts->count : 1;
+    return map.has_parts ? 16 * map.parts->count : 1;
 }
 
 /* The copy has the same parts, of which each is made anew when one of the two maps is to write to it. */
 static void *type_copy(RedisModuleString *from, RedisModuleString *to, const void *value) {
-    const Map *map = value;
-    Map *made = map_new();
+    const Map map = map_of(value);
+    const size_t size = map_size(&map);
     (void)from, (void)to;
-    *made = *map;
-    const size_t size = map->has_parts ? sizeof *map->parts + map->parts->room * sizeof *map->parts->place : map->rows * sizeof *map->few;
-    made->few = NULL;
-    if (size > 0) made->few = memcpy(RedisModule_Alloc(size), map->few, size);
-    for (size_t i = 0; map->has_parts && i < map->parts->count; i++) {
-        atomic_fetch_add(&map->parts->place[i].part->maps, 1);
-        atomic_fetch_add(&map->parts->place[i].part->shares, 1);
+    for (size_t i = 0; map.has_parts && i < map.parts->count; i++) {
+        atomic_fetch_add(&map.parts->place[i].part->maps, 1);
+        atomic_fetch_add(&map.parts->place[i].part->shares, 1);
     }
-    return made;
+    return memcpy(RedisModule_Alloc(size), value, size);
 }
 
 /* ---- Words of commands. ---- */
@@ -796,54 +908,50 @@ static void answer_rows(RedisModuleCtx *ctx, Walk *walk, uint64_t most, bool is_
     RedisModule_ReplySetArrayLength(ctx, (long)(is_pairs ? all : 2 * all));
 }
 
-/* The map at a key of the server, null where there is none. Answers false where it has said why not. */
-static bool map_at(RedisModuleCtx *ctx, RedisModuleString *name, int mode, RedisModuleKey **key, Map **map) {
+/* The map at a key of the server, which has no block and no row where there is none. Answers false where it has said why not. */
+static bool map_at(RedisModuleCtx *ctx, RedisModuleString *name, int mode, RedisModuleKey **key, Map *map) {
     *key = RedisModule_OpenKey(ctx, name, mode);
-    *map = NULL;
+    *map = (Map){0};
     if (!*key || RedisModule_KeyType(*key) == REDISMODULE_KEYTYPE_EMPTY) return true;
     if (RedisModule_ModuleTypeGetType(*key) != type) {
         RedisModule_ReplyWithError(ctx, REDISMODULE_ERRORMSG_WRONGTYPE);
         return false;
     }
-    *map = RedisModule_ModuleTypeGetValue(*key);
+    *map = map_of(RedisModule_ModuleTypeGetValue(*key));
     return true;
 }
 
-static bool map_to_read(RedisModuleCtx *ctx, RedisModuleString *name, Map **map) {
+static bool map_to_read(RedisModuleCtx *ctx, RedisModuleString *name, Map *map) {
     RedisModuleKey *key;
     return map_at(ctx, name, REDISMODULE_READ, &key, map);
 }
 
-static bool map_to_write(RedisModuleCtx *ctx, RedisModuleString *name, RedisModuleKey **key, Map **map) {
+static bool map_to_write(RedisModuleCtx *ctx, RedisModuleString *name, RedisModuleKey **key, Map *map) {
     return map_at(ctx, name, REDISMODULE_READ | REDISMODULE_WRITE, key, map);
 }
 
-static Map *map_made(RedisModuleKey *key, Map *map) {
-    if (map) return map;
-    map = map_new();
-    RedisModule_ModuleTypeSetValue(key, type, map);
-    return map;
+/* Gives the server the map's block, which may have moved even where no row has changed. */
+static void map_store(RedisModuleKey *key, const Map *map) {
+    if (!map->few) return;
+    void *value = map_value(map);
+    if (RedisModule_ModuleTypeReplaceValue(key, type, value, NULL) == REDISMODULE_ERR) RedisModule_ModuleTypeSetValue(key, type, value);
 }
 
-/* What each change is followed by. */
-static void changed(RedisModuleCtx *ctx, RedisModuleString *name, const char *event) {
+/* What each change is followed by. A map goes with its last row, where BLINK.CREATE has not made it. */
+static void changed(RedisModuleCtx *ctx, RedisModuleString *name, RedisModuleKey *key, const Map *map, const char *event) {
+    const bool is_gone = map->rows == 0 && !map->is_kept;
+    map_store(key, map);
+    if (is_gone) RedisModule_DeleteKey(key);
     RedisModule_ReplicateVerbatim(ctx);
     RedisModule_SignalModifiedKey(ctx, name);
     RedisModule_NotifyKeyspaceEvent(ctx, REDISMODULE_NOTIFY_MODULE, event, name);
-}
-
-/* A map goes with its last row, where BLINK.CREATE has not made it. */
-static void taken_away(RedisModuleCtx *ctx, RedisModuleString *name, RedisModuleKey *key, const Map *map, const char *event) {
-    const bool is_gone = map->rows == 0 && !map->is_kept;
-    if (is_gone) RedisModule_DeleteKey(key);
-    changed(ctx, name, event);
     if (is_gone) RedisModule_NotifyKeyspaceEvent(ctx, REDISMODULE_NOTIFY_GENERIC, "del", name);
 }
 
 /* Whether so many more rows are too many. A replica, and what reads an AOF, do as the master did. */
 static bool is_too_full(RedisModuleCtx *ctx, const Map *map, uint64_t more) {
-    const uint64_t rows = map ? map->rows : 0, most = map && map->most > 0 ? map->most : (uint64_t)max_rows;
-    if (most == 0 || more == 0 || rows + more <= most) return false;
+    const uint64_t most = map->most > 0 ? map->most : (uint64_t)max_rows;
+    if (most == 0 || more == 0 || map->rows + more <= most) return false;
     return (RedisModule_GetContextFlags(ctx) & (REDISMODULE_CTX_FLAGS_REPLICATED | REDISMODULE_CTX_FLAGS_LOADING)) == 0;
 }
 
@@ -854,17 +962,16 @@ static bool is_too_full(RedisModuleCtx *ctx, const Map *map, uint64_t more) {
 COMMAND(create) {
     uint64_t most = 0;
     RedisModuleKey *key;
-    Map *map;
+    Map map;
     if (argc != 2 && argc != 4) return RedisModule_WrongArity(ctx);
     RedisModule_AutoMemory(ctx);
     if (argc == 4 && !is_word(argv[2], "MAXROWS")) return RedisModule_ReplyWithError(ctx, NO_SYNTAX);
     if (argc == 4 && (!number_of(argv[3], &most) || most == 0)) return RedisModule_ReplyWithError(ctx, NO_NUMBER);
     if (!map_to_write(ctx, argv[1], &key, &map)) return REDISMODULE_OK;
-    if (map) return RedisModule_ReplyWithError(ctx, "BUSYKEY Target key name already exists.");
-    map = map_made(key, NULL);
-    map->is_kept = true;
-    map->most = most;
-    changed(ctx, argv[1], "blink.create");
+    if (map.few) return RedisModule_ReplyWithError(ctx, "BUSYKEY Target key name already exists.");
+    map = (Map){.is_kept = true, .most = most};
+    few_pack(&map, NULL, 0, (blink_row){0, 0});
+    changed(ctx, argv[1], key, &map, "blink.create");
     return RedisModule_ReplyWithSimpleString(ctx, "OK");
 }
 
@@ -872,7 +979,7 @@ COMMAND(set) {
     uint64_t at, value, old = 0;
     bool is_new = false, is_old = false, is_get = false;
     RedisModuleKey *key;
-    Map *map;
+    Map map;
     if (argc < 4) return RedisModule_WrongArity(ctx);
     RedisModule_AutoMemory(ctx);
     for (int i = 4; i < argc; i++) {
@@ -884,12 +991,12 @@ COMMAND(set) {
     if (is_new && is_old) return RedisModule_ReplyWithError(ctx, NO_SYNTAX);
     if (!number_of(argv[2], &at) || !number_of(argv[3], &value)) return RedisModule_ReplyWithError(ctx, NO_NUMBER);
     if (!map_to_write(ctx, argv[1], &key, &map)) return REDISMODULE_OK;
-    const bool had = map && map_get(map, at, &old), is_done = had ? !is_new : !is_old;
-    if (is_done && !had && is_too_full(ctx, map, 1)) return RedisModule_ReplyWithError(ctx, FULL);
+    const bool had = map_get(&map, at, &old), is_done = had ? !is_new : !is_old;
+    if (is_done && !had && is_too_full(ctx, &map, 1)) return RedisModule_ReplyWithError(ctx, FULL);
     if (is_done) {
         uint64_t before = 0;
-        map_put(map_made(key, map), at, value, &before);
-        changed(ctx, argv[1], "blink.set");
+        map_put(&map, at, value, &before);
+        changed(ctx, argv[1], key, &map, "blink.set");
     }
     if (is_get) return answer_maybe(ctx, had, old);
     return is_done ? RedisModule_ReplyWithSimpleString(ctx, "OK") : RedisModule_ReplyWithNull(ctx);
@@ -900,46 +1007,45 @@ static uint64_t fresh_among(const Map *map, RedisModuleString **argv, int argc) 
     uint64_t fresh = 0, key = 0, value;
     for (int i = 2; i < argc; i += 2) {
         number_of(argv[i], &key);
-        fresh += !map || !map_get(map, key, &value);
+        fresh += !map_get(map, key, &value);
     }
     return fresh;
 }
 
 COMMAND(mset) {
     RedisModuleKey *key;
-    Map *map;
+    Map map;
     uint64_t at = 0, value = 0, old = 0;
     long long fresh = 0;
     if (argc < 4 || argc % 2 != 0) return RedisModule_WrongArity(ctx);
     RedisModule_AutoMemory(ctx);
     if (!are_numbers(argv + 2, argc - 2)) return RedisModule_ReplyWithError(ctx, NO_NUMBER);
     if (!map_to_write(ctx, argv[1], &key, &map)) return REDISMODULE_OK;
-    if (is_too_full(ctx, map, (uint64_t)argc / 2 - 1) && is_too_full(ctx, map, fresh_among(map, argv, argc)))
+    if (is_too_full(ctx, &map, (uint64_t)argc / 2 - 1) && is_too_full(ctx, &map, fresh_among(&map, argv, argc)))
         return RedisModule_ReplyWithError(ctx, FULL);
-    map = map_made(key, map);
     for (int i = 2; i < argc; i += 2) {
         number_of(argv[i], &at);
         number_of(argv[i + 1], &value);
-        fresh += !map_put(map, at, value, &old);
+        fresh += !map_put(&map, at, value, &old);
     }
-    changed(ctx, argv[1], "blink.mset");
+    changed(ctx, argv[1], key, &map, "blink.mset");
     return RedisModule_ReplyWithLongLong(ctx, fresh);
 }
 
 COMMAND(get) {
     uint64_t at, value = 0;
-    Map *map;
+    Map map;
     if (argc != 3) return RedisModule_WrongArity(ctx);
     RedisModule_AutoMemory(ctx);
     if (!number_of(argv[2], &at)) return RedisModule_ReplyWithError(ctx, NO_NUMBER);
     if (!map_to_read(ctx, argv[1], &map)) return REDISMODULE_OK;
-    const bool had = map && map_get(map, at, &value);
+    const bool had = map_get(&map, at, &value);
     return answer_maybe(ctx, had, value);
 }
 
 COMMAND(mget) {
     uint64_t at = 0, value = 0;
-    Map *map;
+    Map map;
     if (argc < 3) return RedisModule_WrongArity(ctx);
     RedisModule_AutoMemory(ctx);
     if (!are_numbers(argv + 2, argc - 2)) return RedisModule_ReplyWithError(ctx, NO_NUMBER);
@@ -947,7 +1053,7 @@ COMMAND(mget) {
     RedisModule_ReplyWithArray(ctx, argc - 2);
     for (int i = 2; i < argc; i++) {
         number_of(argv[i], &at);
-        const bool had = map && map_get(map, at, &value);
+        const bool had = map_get(&map, at, &value);
         answer_maybe(ctx, had, value);
     }
     return REDISMODULE_OK;
@@ -955,54 +1061,56 @@ COMMAND(mget) {
 
 COMMAND(del) {
     RedisModuleKey *key;
-    Map *map;
+    Map map;
     uint64_t at = 0;
     long long gone = 0;
     if (argc < 3) return RedisModule_WrongArity(ctx);
     RedisModule_AutoMemory(ctx);
     if (!are_numbers(argv + 2, argc - 2)) return RedisModule_ReplyWithError(ctx, NO_NUMBER);
     if (!map_to_write(ctx, argv[1], &key, &map)) return REDISMODULE_OK;
-    for (int i = 2; map && i < argc; i++) {
+    for (int i = 2; i < argc; i++) {
         number_of(argv[i], &at);
-        gone += map_delete(map, at);
+        gone += map_delete(&map, at);
     }
-    if (gone > 0) taken_away(ctx, argv[1], key, map, "blink.del");
+    if (gone > 0) changed(ctx, argv[1], key, &map, "blink.del");
+    else map_store(key, &map);
     return RedisModule_ReplyWithLongLong(ctx, gone);
 }
 
 COMMAND(remrange) {
     RedisModuleKey *key;
-    Map *map;
+    Map map;
     uint64_t from, last, gone = 0;
     bool is_empty;
     if (argc != 4) return RedisModule_WrongArity(ctx);
     RedisModule_AutoMemory(ctx);
     if (!range_of(argv[2], argv[3], &from, &last, &is_empty)) return RedisModule_ReplyWithError(ctx, NO_BOUND);
     if (!map_to_write(ctx, argv[1], &key, &map)) return REDISMODULE_OK;
-    if (map && !is_empty) gone = map_delete_range(map, from, last);
-    if (gone > 0) taken_away(ctx, argv[1], key, map, "blink.remrange");
+    if (!is_empty) gone = map_delete_range(&map, from, last);
+    if (gone > 0) changed(ctx, argv[1], key, &map, "blink.remrange");
+    else map_store(key, &map);
     return RedisModule_ReplyWithLongLong(ctx, (long long)gone);
 }
 
 COMMAND(cas) {
     RedisModuleKey *key;
-    Map *map;
+    Map map;
     uint64_t at, old, value, there = 0;
     if (argc != 5) return RedisModule_WrongArity(ctx);
     RedisModule_AutoMemory(ctx);
     if (!number_of(argv[2], &at) || !number_of(argv[3], &old) || !number_of(argv[4], &value))
         return RedisModule_ReplyWithError(ctx, NO_NUMBER);
     if (!map_to_write(ctx, argv[1], &key, &map)) return REDISMODULE_OK;
-    if (!map || !map_get(map, at, &there)) return RedisModule_ReplyWithNull(ctx);
+    if (!map_get(&map, at, &there)) return RedisModule_ReplyWithNull(ctx);
     if (there != old) return RedisModule_ReplyWithLongLong(ctx, 0);
-    map_put(map, at, value, &there);
-    changed(ctx, argv[1], "blink.cas");
+    map_put(&map, at, value, &there);
+    changed(ctx, argv[1], key, &map, "blink.cas");
     return RedisModule_ReplyWithLongLong(ctx, 1);
 }
 
 COMMAND(incrby) {
     RedisModuleKey *key;
-    Map *map;
+    Map map;
     uint64_t at, step, value = 0, old = 0;
     size_t length = 0;
     if (argc != 4) return RedisModule_WrongArity(ctx);
@@ -1012,26 +1120,26 @@ COMMAND(incrby) {
     if (!number_of(argv[2], &at) || !digits_of(text + is_less, length - is_less, &step))
         return RedisModule_ReplyWithError(ctx, NO_NUMBER);
     if (!map_to_write(ctx, argv[1], &key, &map)) return REDISMODULE_OK;
-    const bool had = map && map_get(map, at, &value);
+    const bool had = map_get(&map, at, &value);
     if (is_less ? step > value : step > UINT64_MAX - value)
         return RedisModule_ReplyWithError(ctx, "ERR increment or decrement would overflow");
-    if (!had && is_too_full(ctx, map, 1)) return RedisModule_ReplyWithError(ctx, FULL);
+    if (!had && is_too_full(ctx, &map, 1)) return RedisModule_ReplyWithError(ctx, FULL);
     value = is_less ? value - step : value + step;
-    map_put(map_made(key, map), at, value, &old);
-    changed(ctx, argv[1], "blink.incrby");
+    map_put(&map, at, value, &old);
+    changed(ctx, argv[1], key, &map, "blink.incrby");
     return answer_number(ctx, value);
 }
 
 static int answer_nearest(RedisModuleCtx *ctx, RedisModuleString **argv, int argc, bool is_down) {
     uint64_t at;
-    Map *map;
+    Map map;
     blink_row row;
     if (argc != 3) return RedisModule_WrongArity(ctx);
     RedisModule_AutoMemory(ctx);
     if (!number_of(argv[2], &at)) return RedisModule_ReplyWithError(ctx, NO_NUMBER);
     if (!map_to_read(ctx, argv[1], &map)) return REDISMODULE_OK;
-    if (!map || at == (is_down ? 0 : UINT64_MAX)) return RedisModule_ReplyWithNullArray(ctx);
-    Walk walk = walk_of(map, is_down, is_down ? at - 1 : at + 1, is_down ? 0 : UINT64_MAX);
+    if (at == (is_down ? 0 : UINT64_MAX)) return RedisModule_ReplyWithNullArray(ctx);
+    Walk walk = walk_of(&map, is_down, is_down ? at - 1 : at + 1, is_down ? 0 : UINT64_MAX);
     if (walk_rows(&walk, &row, 1) == 0) return RedisModule_ReplyWithNullArray(ctx);
     RedisModule_ReplyWithArray(ctx, 2);
     answer_number(ctx, row.key);
@@ -1044,34 +1152,34 @@ COMMAND(prev) { return answer_nearest(ctx, argv, argc, true); }
 COMMAND(count) {
     uint64_t from, last, count = 0;
     bool is_empty;
-    Map *map;
+    Map map;
     if (argc != 4) return RedisModule_WrongArity(ctx);
     RedisModule_AutoMemory(ctx);
     if (!range_of(argv[2], argv[3], &from, &last, &is_empty)) return RedisModule_ReplyWithError(ctx, NO_BOUND);
     if (!map_to_read(ctx, argv[1], &map)) return REDISMODULE_OK;
-    if (map && !is_empty) count = map_count(map, from, last);
+    if (!is_empty) count = map_count(&map, from, last);
     return RedisModule_ReplyWithLongLong(ctx, (long long)count);
 }
 
 COMMAND(card) {
-    Map *map;
+    Map map;
     if (argc != 2) return RedisModule_WrongArity(ctx);
     RedisModule_AutoMemory(ctx);
     if (!map_to_read(ctx, argv[1], &map)) return REDISMODULE_OK;
-    return RedisModule_ReplyWithLongLong(ctx, map ? (long long)map->rows : 0);
+    return RedisModule_ReplyWithLongLong(ctx, (long long)map.rows);
 }
 
 COMMAND(info) {
-    Map *map;
+    Map map;
     uint64_t pages = 0;
     if (argc != 2) return RedisModule_WrongArity(ctx);
     RedisModule_AutoMemory(ctx);
     if (!map_to_read(ctx, argv[1], &map)) return REDISMODULE_OK;
-    if (!map) return RedisModule_ReplyWithError(ctx, "ERR no such key");
-    const size_t parts = map->has_parts ? map->parts->count : 0;
-    for (size_t i = 0; i < parts; i++) pages += map->parts->place[i].part->pages;
+    if (!map.few) return RedisModule_ReplyWithError(ctx, "ERR no such key");
+    const size_t parts = map.has_parts ? map.parts->count : 0;
+    for (size_t i = 0; i < parts; i++) pages += map.parts->place[i].part->pages;
     const char *names[] = {"rows", "max-rows", "kept", "parts", "pages", "bytes"};
-    const uint64_t numbers[] = {map->rows, map->most, map->is_kept, parts, pages, map_bytes(map)};
+    const uint64_t numbers[] = {map.rows, map.most, map.is_kept, parts, pages, map_bytes(&map)};
     RedisModule_ReplyWithMap(ctx, 6);
     for (int i = 0; i < 6; i++) {
         RedisModule_ReplyWithCString(ctx, names[i]);
@@ -1129,7 +1237,7 @@ static void reader_add(RedisModuleCtx *ctx, const Walk *walk, uint64_t most, boo
 static int answer_range(RedisModuleCtx *ctx, RedisModuleString **argv, int argc, bool is_down) {
     uint64_t least, greatest, most = UINT64_MAX;
     bool is_empty;
-    Map *map;
+    Map map;
     if (argc != 4 && argc != 6) return RedisModule_WrongArity(ctx);
     RedisModule_AutoMemory(ctx);
     if (!range_of(argv[is_down ? 3 : 2], argv[is_down ? 2 : 3], &least, &greatest, &is_empty))
@@ -1137,8 +1245,8 @@ static int answer_range(RedisModuleCtx *ctx, RedisModuleString **argv, int argc,
     if (argc == 6 && !is_word(argv[4], "COUNT")) return RedisModule_ReplyWithError(ctx, NO_SYNTAX);
     if (argc == 6 && !number_of(argv[5], &most)) return RedisModule_ReplyWithError(ctx, NO_NUMBER);
     if (!map_to_read(ctx, argv[1], &map)) return REDISMODULE_OK;
-    if (!map || is_empty || most == 0) return RedisModule_ReplyWithEmptyArray(ctx);
-    Walk walk = walk_of(map, is_down, is_down ? greatest : least, is_down ? least : greatest);
+    if (is_empty || most == 0) return RedisModule_ReplyWithEmptyArray(ctx);
+    Walk walk = walk_of(&map, is_down, is_down ? greatest : least, is_down ? least : greatest);
     const int flags = RedisModule_GetContextFlags(ctx);
     const int atomic = REDISMODULE_CTX_FLAGS_MULTI | REDISMODULE_CTX_FLAGS_LUA | REDISMODULE_CTX_FLAGS_DENY_BLOCKING;
     const bool is_pairs = (flags & REDISMODULE_CTX_FLAGS_RESP3) != 0;

@@ -207,6 +207,41 @@ class Commands(unittest.TestCase):
             self.assertEqual(self.b("REMRANGE", "m", 3, 5), 2)
             self.assertEqual(self.b("RANGE", "m", "-", "+")[::2], ["0", "2", *(str(2 * key) for key in range(3, 10)), str(2 * FEW - 2)])
 
+    def test_numbers_of_few_rows(self):
+        """Those that are there stay as they are when greater ones come, which take more bytes."""
+        numbers = [0, *(256**n - 1 for n in range(1, 9)), *(256**n for n in range(1, 8))]
+        for keys, values in ((numbers, numbers), (numbers, numbers[::-1]), (numbers[::-1], numbers)):
+            for is_kept in (False, True):
+                self.call("FLUSHALL")
+                if is_kept:
+                    self.b("CREATE", "m", "MAXROWS", len(numbers))
+                rows = {}
+                for key, value in zip(keys, values):
+                    self.b("SET", "m", key, 0)
+                    self.b("SET", "m", key, value)
+                    rows[key] = value
+                    self.assertEqual(self.b("RANGE", "m", "-", "+"), [str(it) for it in flat(sorted(rows.items()))])
+                self.call("COPY", "m", "n")
+                self.call("RESTORE", "o", 0, self.call.dump("m"))
+                digest = self.call.digest("m")
+                for name in "mno":
+                    self.assertEqual(self.call.digest(name), digest)
+                    about = self.call.pairs("BLINK.INFO", name)
+                    self.assertEqual((about["rows"], about["kept"], about["max-rows"]), (len(rows), is_kept, len(rows) * is_kept))
+                    self.assertEqual(self.b("DEL", name, *keys), len(keys))
+                    self.assertEqual(self.call("EXISTS", name), is_kept)
+                    self.assertEqual(self.b("CARD", name), 0)
+
+    def test_memory_of_one_row(self):
+        """As much as a sorted set of one; with some allocators a little more."""
+        taken = {}
+        for word in ("BLINK.SET", "ZADD", "BLINK.SET", "ZADD"):
+            self.call("FLUSHALL", "SYNC")
+            before = int(self.call.info("memory", "used_memory"))
+            self.call.many([(word, f"m{n}", 10**12 + n, 10**12 + n) for n in range(1000)])
+            taken[word] = int(self.call.info("memory", "used_memory")) - before
+        self.assertLess(taken["BLINK.SET"], taken["ZADD"] + 10 * 1000)
+
     def test_resp3(self):
         client = self.server.connect()
         client("HELLO", 3)
