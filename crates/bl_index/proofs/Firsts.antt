@@ -1,6 +1,6 @@
 -- An index as it is made.
-use Rattle.std.proofs.Common.{ℕ, zero, suc, ◌≡◌, ◌++◌, append-nil, ◌-◌, ◌+◌, ◌<◌, ◌≤◌, Option, List, [], ◌∷◌, length, replicate, refl, sym, ap, ◌∙◌, subst, arith}
-use Rattle.std.specs.Prelude.{Result, Ok, Err, IfOk}
+use Rattle.std.proofs.Common.{ℕ, zero, suc, ◌≡◌, ◌-◌, ◌+◌, ◌<◌, ◌≤◌, Option, List, [], ◌∷◌, length, replicate, refl, sym, ap, ◌∙◌, subst, arith}
+use Rattle.std.specs.Prelude.{Result, Ok, Err, IfOk, IfErr}
 use Rattle.std.proofs.lemmas.List.{length-replicate}
 use mathlib.Core.Option.{some, some-injective, some-ne-none}
 use lib.ListN.{get_elem?}
@@ -64,13 +64,6 @@ pads many (a ∷ b ∷ []) two f = record {
     each (suc (suc x)) words at = all_alike (many - 2) (replicate 32 0) x words at
 pads many (a ∷ b ∷ c ∷ rest) two f = let count = f.count in absurd (omega (arith, count))
 
--- nothing stands behind all pages
-pub padded_all : (many : ℕ) (contents : List (List ℕ)) → length contents ≡ many → padded many contents ≡ contents
-padded_all many contents all = ap (λ (n : ℕ). contents ++ replicate n (replicate 32 0)) (none (length contents) many all) ∙ append-nil contents
-  where
-    none : (a b : ℕ) → a ≡ b → b - a ≡ 0
-    none a b same = omega (arith, same)
-
 pub opens : (many : ℕ) (contents : List (List ℕ)) → 4 ≤ many → AreFirst many contents → (passes : ℕ) → Simulates (first_pages contents passes newcomer)
 opens many contents four f passes =
     let count = f.count in
@@ -109,6 +102,11 @@ is_begun first image pages among index hands passes pages_are passes_are frames 
 pub if_ok : {A E : Type 0} (P Q : A → Type 0) (r : Result A E) → ((a : A) → P a → Q a) → IfOk r P → IfOk r Q
 if_ok P Q (Ok a) f h = f a h
 if_ok P Q (Err e) f h = tt
+
+-- the same of what holds where it is a fault
+pub if_err : {A E : Type 0} (P Q : E → Type 0) (r : Result A E) → ((e : E) → P e → Q e) → IfErr r P → IfErr r Q
+if_err P Q (Ok a) f h = tt
+if_err P Q (Err e) f h = f e h
 
 -- the same by other names of what it began with and of how many pages it has
 pub begun_as : (image other : List (Option Page)) (size many among : ℕ) (index : Index) (passes : List Pass) → image ≡ other → size ≡ many → IsBegun image size among index passes → IsBegun other many among index passes

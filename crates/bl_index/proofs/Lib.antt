@@ -17,3 +17,4 @@ pub mod Holders
 pub mod Gathered
 pub mod AtRest
 pub mod Reopening
+pub mod Resized

@@ -3,4 +3,6 @@ pub mod Opened
 pub mod Meetings
 pub mod Scans
 pub mod Closed
+pub mod Resized
+pub mod Lives
 pub mod Within

@@ -23,23 +23,23 @@ use Rattle.bl_index.specs.declared.index.Pass.{Pass}
 use Rattle.bl_layout.specs.Words.{HasFrames}
 use Rattle.bl_index.specs.Calls.{pages_of, passes_of, frames_of, first_of, IsPassOf, number_of, trail}
 
--- it has as many pages as an index may have, so many at most
-abbrev pub HasPages : ℕ → Config → Type 0
-HasPages most config = (4 ≤ config.pages) × (config.pages ≤ most)
+-- it has at least so many pages, and so many at most
+abbrev pub HasPages : ℕ → ℕ → Config → Type 0
+HasPages least most config = (least ≤ config.pages) × (config.pages ≤ most)
 
--- Why an index of that size was refused: the pages are not within their limits; they are, and the passes are not; or both
+-- Why an index of that size was refused: the pages are not within these limits; they are, and the passes are not within theirs; or both
 -- are, and there was no memory.
-abbrev pub IsRefusalOf : ℕ → Config → OpenFault → Type 0
-IsRefusalOf most config Pages = (config.pages < 4) ⊎ (most < config.pages)
-IsRefusalOf most config Passes = HasPages most config × ((config.passes < 1) ⊎ (64 < config.passes))
-IsRefusalOf most config Memory = HasPages most config × ((1 ≤ config.passes) × (config.passes ≤ 64))
+abbrev pub IsRefusalOf : ℕ → ℕ → Config → OpenFault → Type 0
+IsRefusalOf least most config Pages = (config.pages < least) ⊎ (most < config.pages)
+IsRefusalOf least most config Passes = HasPages least most config × ((config.passes < 1) ⊎ (64 < config.passes))
+IsRefusalOf least most config Memory = HasPages least most config × ((1 ≤ config.passes) × (config.passes ≤ 64))
 
 abbrev pub IsRefusal : Config → OpenFault → Type 0
-IsRefusal config why = IsRefusalOf 65536 config why
+IsRefusal config why = IsRefusalOf 4 65536 config why
 
 -- the same of a large index
 abbrev pub IsLargeRefusal : Config → OpenFault → Type 0
-IsLargeRefusal config why = IsRefusalOf (2 ^ 28) config why
+IsLargeRefusal config why = IsRefusalOf 4 (2 ^ 28) config why
 
 -- The index has so many pages, and the frames that these take, and began so. There is a pass of it for each number, in their order. None has seen anything, so
 -- that it stands at what the index began with.
@@ -56,12 +56,21 @@ pub record IsBegun (image : List (Option Page)) (size among : ℕ) (index : Inde
 abbrev pub IsIndexOpened : Config → Index → List Pass → Type 0
 IsIndexOpened config index passes = IsBegun [] config.pages config.passes index passes
 
--- The same of an index that is opened from an image: it begins with the image's pages, and with the map of the image's rows.
-pub record IsReopened (image : List (Option Page)) (among : ℕ) (index : Index) (passes : List Pass) : Type 0 where
-  pub begun : IsBegun image (length image) among index passes
+-- The same of an index that is opened from an image with so many pages, of which the image's are the first: it begins with the
+-- image's pages, and with the map of the image's rows.
+pub record IsReopenedIn (image : List (Option Page)) (size among : ℕ) (index : Index) (passes : List Pass) : Type 0 where
+  pub begun : IsBegun image size among index passes
   pub rows : List (ℕ × ℕ)
   pub are_rows : AreRowsOf image rows
   pub map : SameMap (first_map image) (map_of rows)
+
+-- The same with as many pages as the image.
+abbrev pub IsReopened : List (Option Page) → ℕ → Index → List Pass → Type 0
+IsReopened image among index passes = IsReopenedIn image (length image) among index passes
+
+-- Why an index of so many pages was not opened from an image: they are fewer than the image's, or too many; or as above.
+abbrev pub IsLargerRefusal : List (Option Page) → ℕ → ℕ → OpenFault → Type 0
+IsLargerRefusal image pages passes why = IsRefusalOf (length image) (2 ^ 28) (record { pages = pages; passes = passes }) why
 
 -- Why an index was not opened from an image: the passes are not within their limits; or they are, and there was no memory.
 abbrev pub IsImageRefusal : ℕ → OpenFault → Type 0

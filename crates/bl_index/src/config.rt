@@ -28,3 +28,14 @@ pub enum CloseFault {
     /// There was no memory.
     Memory,
 }
+
+/// Why an index does not go on with so many pages.
+#[derive(Clone, Copy, Debug, PartialEq, Eq)]
+pub enum ResizeFault {
+    /// The number of pages is smaller than it was, or larger than 2^28.
+    Pages,
+    /// A pass is missing.
+    Pass,
+    /// There was no memory.
+    Memory,
+}

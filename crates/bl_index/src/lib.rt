@@ -23,6 +23,7 @@ mod meeting;
 mod opening;
 mod posting;
 mod ranging;
+mod resizing;
 mod scanning;
 mod sweeping;
 
@@ -33,6 +34,7 @@ pub use bl_model::{KeyReply, KeyWrite, Next, Reply};
 pub use bl_proc::{Hint, Level, Lowered, Posted, Squeezed};
 pub use bl_reserve::RoomSeen;
 pub use closing::CloseRoom;
-pub use config::{CloseFault, Config, OpenFault};
+pub use config::{CloseFault, Config, OpenFault, ResizeFault};
 pub use index::{Index, Pass};
+pub use resizing::{Unresized, lives_are_one_history};
 pub use scanning::{OutOfTurnsAt, ScanFault};

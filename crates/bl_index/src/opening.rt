@@ -4,7 +4,7 @@ ghost use Rattle.std.specs.Prelude.{◌≡◌, ◌≤◌, ◌^◌, [], length, I
 ghost use Rattle.bl_store.specs.Opening.{first_pages as store_pages, padded};
 ghost use Rattle.bl_claims.specs.Seeing.{IsSeen};
 ghost use Rattle.bl_index_rule.specs.Simulation.{beginner as unborn_pass, Simulates};
-ghost use Rattle.bl_index.specs.Opened.{IsRefusal, IsLargeRefusal, IsRefusalOf, IsFirstAnchor, IsFirstLeaf, IsFirst, AreFirst, AreNew, ArePasses, IsBegun, IsIndexOpened, IsReopened, IsImageRefusal};
+ghost use Rattle.bl_index.specs.Opened.{IsRefusal, IsLargeRefusal, IsRefusalOf, IsFirstAnchor, IsFirstLeaf, IsFirst, AreFirst, AreNew, ArePasses, IsBegun, IsIndexOpened, IsReopenedIn, IsLargerRefusal, IsReopened, IsImageRefusal};
 
 use crate::config::{Config, OpenFault};
 use crate::index::{Index, Pass};
@@ -140,7 +140,7 @@ impl Index {
     ) -> Result<(Index, Vec<Pass>), OpenFault>
         requires { most ≤ 2 ^ 28 }
         ensures ok { IfOk result (λ t. IsIndexOpened config t.0 t.1.items) }
-        ensures fault { IfErr result (IsRefusalOf most config) }
+        ensures fault { IfErr result (IsRefusalOf 4 most config) }
     {
         if config.pages < LEAST_PAGES || config.pages > most {
             return Err(OpenFault::Pages);
@@ -204,30 +204,44 @@ impl Index {
         ensures ok { IfOk result (λ t. IsReopened quiet.image.pages.items passes t.0 t.1.items) }
         ensures fault { IfErr result (λ t. (t.0 ≡ quiet) × IsImageRefusal passes t.1) }
     {
+        let pages = quiet.image().pages.len() as u32;
+        Self::open_larger(alloc, quiet, pages, passes)
+    }
+
+    /// The same with so many pages, as many as the image has or more, up to 2^28. Those behind the image's are free.
+    pub fn open_larger(
+        alloc: Global,
+        quiet: Quiet,
+        pages: u32,
+        passes: u32,
+    ) -> Result<(Index, Vec<Pass>), (Quiet, OpenFault)>
+        ensures ok { IfOk result (λ t. IsReopenedIn quiet.image.pages.items pages passes t.0 t.1.items) }
+        ensures fault { IfErr result (λ t. (t.0 ≡ quiet) × IsLargerRefusal quiet.image.pages.items pages passes t.1) }
+    {
+        if quiet.image().pages.len() > pages as usize || pages > MOST_LARGE_PAGES {
+            return Err((quiet, OpenFault::Pages));
+        }
         if passes < 1 || passes > 64 {
             return Err((quiet, OpenFault::Passes));
         }
-        match Self::made_from(alloc, &quiet, passes) {
+        match Self::made_from(alloc, &quiet, Config { pages, passes }) {
             Ok(opened) => Ok(opened),
             Err(_) => Err((quiet, OpenFault::Memory)),
         }
     }
 
-    /// An index with the pages of a checked image.
+    /// An index of that size, whose first pages are those of a checked image.
     fn made_from(
         alloc: Global,
         quiet: &Quiet,
-        passes: u32,
+        config: Config,
     ) -> Result<(Index, Vec<Pass>), AllocError>
-        requires passes { (1 ≤ passes) × (passes ≤ 64) }
-        ensures { IfOk result (λ t. IsReopened quiet.now.image.pages.items passes t.0 t.1.items) }
+        requires pages { (length quiet.now.image.pages.items ≤ config.pages) × (config.pages ≤ 2 ^ 28) }
+        requires passes { (1 ≤ config.passes) × (config.passes ≤ 64) }
+        ensures { IfOk result (λ t. IsReopenedIn quiet.now.image.pages.items config.pages config.passes t.0 t.1.items) }
     {
         let image = quiet.image();
         let words = image.to_words(alloc)?;
-        let config = Config {
-            pages: words.len() as u32,
-            passes,
-        };
         Self::begun(alloc, words.as_slice(), config, &image.pages)
     }
 }

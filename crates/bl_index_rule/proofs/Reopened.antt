@@ -1,5 +1,6 @@
--- An index begins from a sound image: the words of its pages show the image's, and no pass has begun a process.
-use Rattle.std.proofs.Common.{ℕ, zero, suc, ◌≡◌, ◌≢◌, ◌<◌, ◌&&◌, eqb, true, false, Option, Some, None, List, [], ◌∷◌, length, map, replicate, refl, sym, ap, ◌∙◌, subst, inl, inr, arith}
+-- An index begins from a sound image, with as many pages as that or more: the words of its pages show the image's, those behind are zeros, and
+-- no pass has begun a process.
+use Rattle.std.proofs.Common.{ℕ, zero, suc, ◌≡◌, ◌≢◌, ◌<◌, ◌≤◌, ◌++◌, ◌&&◌, eqb, Bool, true, false, Option, Some, None, List, [], ◌∷◌, length, map, replicate, refl, sym, ap, ◌∙◌, subst, inl, inr, arith, length-append}
 use Rattle.std.proofs.lemmas.Bool.{false≢true, eqb-true}
 use mathlib.Core.Option.{some, some-injective, some-ne-none}
 use lib.ListN.{get_elem?}
@@ -21,7 +22,7 @@ use Rattle.bl_claims.specs.States.{HasMoments}
 use Rattle.bl_tree_worlds.proofs.States.{moments_first}
 use Rattle.bl_one_moment.proofs.Worlds.{firm_first, firm_alone}
 use Rattle.bl_tree_worlds.specs.Worlds.{World, IsGood}
-use Rattle.bl_tree_worlds.proofs.Starts.{sound_world, sound_good}
+use Rattle.bl_tree_worlds.proofs.Starts.{Sound, sound_world, sound_good}
 use Rattle.bl_claims.specs.Opening.{node_in, roots_in, IsStored, IsOpened}
 use Rattle.bl_check_laws.specs.Begins.{live_in}
 use Rattle.bl_check_laws.proofs.Beginnings.{begins}
@@ -101,6 +102,43 @@ owns_page : (hands : List (Stage × PassState)) (page : Option Page) → owner_o
 owns_page hands None = refl
 owns_page hands (Some page) = rw (not_blank page) refl
 
+-- the image with so many pages behind it that are not in use
+abbrev with_more : List (Option Page) → ℕ → List (Option Page)
+with_more pages more = pages ++ replicate more None
+
+none_in : (more x : ℕ) → page_at (replicate more None) x ≡ None
+none_in zero zero = refl
+none_in zero (suc x) = refl
+none_in (suc more) zero = refl
+none_in (suc more) (suc x) = none_in more x
+
+none_past : (x : ℕ) → page_at [] x ≡ None
+none_past zero = refl
+none_past (suc x) = refl
+
+same_page : (pages : List (Option Page)) (more x : ℕ) → page_at (with_more pages more) x ≡ page_at pages x
+same_page [] more x = none_in more x ∙ sym (none_past x)
+same_page (page ∷ pages) more zero = refl
+same_page (page ∷ pages) more (suc x) = same_page pages more x
+
+-- the words of these pages are those of the image, and zeros behind them
+pub more_words : (pages : List (Option Page)) (more : ℕ) → map page_words pages ++ replicate more (replicate 32 0) ≡ map page_words (with_more pages more)
+more_words [] zero = refl
+more_words [] (suc more) = ap (λ (z : List (List ℕ)). replicate 32 0 ∷ z) (more_words [] more)
+more_words (page ∷ pages) more = ap (λ (z : List (List ℕ)). page_words page ∷ z) (more_words pages more)
+
+-- pages that are sound among so many are sound among more
+among_more : (live : ℕ → Bool) (s : State Page) (size larger : ℕ) → size ≤ larger → Sound live s size → Sound live s larger
+among_more live s size larger le o = record {
+  pages = o.pages;
+  anchor_open = o.anchor_open;
+  live_open = o.live_open;
+  others = o.others;
+  small = λ x alive. (let lt = o.small x alive in omega (arith, lt, le));
+  some = (let lt = o.some in omega (arith, lt, le));
+  waiting = o.waiting;
+}
+
 module _ (pages : List (Option Page)) (bytes : List ℕ) (image : IsImage pages bytes) (sound : AreSound pages) where
   abbrev start : State Page
   start = record { contents = λ x. contents_in (page_at pages x); owner = λ x. owner_of (page_at pages x); phase = λ p. machine.Waiting; clock = 0 }
@@ -112,75 +150,83 @@ module _ (pages : List (Option Page)) (bytes : List ℕ) (image : IsImage pages 
   opened : IsOpened pages start
   opened = record { pages_are = λ x. stored x (page_at pages x) refl; waiting = λ p. refl }
 
-  abbrev world : World Run
-  world = sound_world (live_in pages) start (length pages) (λ p. fresh_run unborn)
-
-  good : IsGood know world
-  good = sound_good know (live_in pages) start (length pages) (λ p. fresh_run unborn) (opened_sound pages bytes start image sound opened) (λ p. blank_is)
-
-  logs : KeepsLogs world
-  logs p since runs = absurd (let both : machine.Waiting ≡ machine.Running since = runs in cc)
-
   has_pages : 0 < length pages
   has_pages = let many = image.count.0 in omega arith
 
-  first : world.first ≡ first_map pages
+  first : start_map (λ x. node_of (start.contents x)) (roots_of (start.contents 0)) 0 ≡ first_map pages
   first = (let roots = same_roots (page_at pages 0) (anchor_at pages bytes image sound) in λ i. start_map (λ x. same_node (page_at pages x) i) (roots i) 0) ∙ (λ i k. sym (leaves_say pages (begins pages bytes image sound) k) i)
-
-  moments : HasMoments (first_map pages) start []
-  moments = moments_first (first_map pages) start (world_moment world pages good logs first)
 
   -- the map that it begins with is that of the rows
   pub rows_map : (rows : List (ℕ × ℕ)) → AreRowsOf pages rows → SameMap (first_map pages) (map_of rows)
   rows_map rows are = λ key. sym ((opened_begins pages bytes rows start image sound are opened).map key) ∙ ap (λ (z : Map). z key) first
 
-  -- a pass that has done nothing has seen the image
-  pub beginner_seen : IsSeen pages []
-  beginner_seen = world_seen world pages good (begins_so pages start has_pages opened) first moments
-
   anchor_there : (x : ℕ) (page : Option Page) → page_at pages x ≡ page → x ≡ 0 → is_anchor page ≡ true
   anchor_there x page at zero_is = ap is_anchor (sym at) ∙ (ap (λ (z : ℕ). is_anchor (page_at pages z)) zero_is ∙ anchor_at pages bytes image sound)
 
-  words_at : (x : ℕ) (words : List ℕ) → get_elem? (map page_words pages) x ≡ some words → Shows x words (contents_in (page_at pages x))
-  words_at x words e =
-      let is = of_map page_words pages x words e in
-      let at : page_at pages x ≡ is.0 = page_there pages x is.0 is.1 in
-      subst (λ (z : List ℕ × Option Page). Shows x z.0 (contents_in z.1)) (λ i. (is.2 i, sym at i)) (shows_page x is.0 (anchor_there x is.0 at))
+  module _ (more : ℕ) where
+    abbrev all : List (Option Page)
+    all = with_more pages more
 
-  owner_at : (hands : List (Stage × PassState)) (x : ℕ) (own : Owner) → get_elem? (map first_owner (map page_words pages)) x ≡ some own → owner_of (page_at pages x) ≡ owner_in hands own
-  owner_at hands x own e =
-      let outer = of_map first_owner (map page_words pages) x own e in
-      let inner = of_map page_words pages x outer.0 outer.1 in
-      ap owner_of (page_there pages x inner.0 inner.1) ∙ (owns_page hands inner.0 ∙ ap (owner_in hands) (ap first_owner inner.2 ∙ outer.2))
+    enough : length pages ≤ length all
+    enough = let behind : List (Option Page) = replicate more None in let size = length-append pages behind in omega (arith, size)
 
-  hand_at : (n : ℕ) → IsHand world n Idle (beginner pages)
-  hand_at n = record {
-    named = λ begun. absurd (begun refl);
-    stage = (refl, λ x. none_held (page_at pages x) (name n 0));
-    later = λ m l. (refl, blank_is);
-    begins = ([], refl, tt);
-    counted = tt;
-    mine = refl;
-  }
+    abbrev world : World Run
+    world = sound_world (live_in pages) start (length all) (λ p. fresh_run unborn)
 
-  pub reopens : (passes : ℕ) → Simulates (first_pages (map page_words pages) passes (beginner pages))
-  reopens passes = record {
-    world = world;
-    good = good;
-    kept = first_kept world refl (λ p. blank_is.stage);
-    image = pages;
-    opening = begins_so pages start has_pages opened;
-    first = first;
-    moments = moments;
-    size = sym (map_length pages);
-    clock = omega arith;
-    pages = words_at;
-    owners = owner_at (replicate passes (Idle, beginner pages));
-    hands = λ n st d e. subst (λ (z : Stage × PassState). IsHand world n z.0 z.1) (of_all passes (Idle, beginner pages) n (st, d) e) (hand_at n);
-    within = none_within (length (replicate passes (Idle, beginner pages)));
-    counts = λ n st d e begun. absurd (begun (ap (λ (z : Stage × PassState). z.1.number) (sym (of_all passes (Idle, beginner pages) n (st, d) e))));
-    firsts = λ n st d e. ap (λ (z : Stage × PassState). z.1.first) (sym (of_all passes (Idle, beginner pages) n (st, d) e));
-    busy = λ p since e. absurd (let both : machine.Waiting ≡ machine.Running since = e in cc);
-    versions = λ x version e. sym (of_all (length (map page_words pages)) 0 x version e);
-    firm = firm_alone (first_map pages) start (firm_moment world pages good logs first (firm_first know world good refl));
-  }
+    good : IsGood know world
+    good = sound_good know (live_in pages) start (length all) (λ p. fresh_run unborn) (among_more (live_in pages) start (length pages) (length all) enough (opened_sound pages bytes start image sound opened)) (λ p. blank_is)
+
+    logs : KeepsLogs world
+    logs p since runs = absurd (let both : machine.Waiting ≡ machine.Running since = runs in cc)
+
+    moments : HasMoments (first_map pages) start []
+    moments = moments_first (first_map pages) start (world_moment world pages good logs first)
+
+    -- a pass that has done nothing has seen the image
+    pub beginner_seen : IsSeen pages []
+    beginner_seen = world_seen world pages good (begins_so pages start has_pages opened) first moments
+
+    words_at : (x : ℕ) (words : List ℕ) → get_elem? (map page_words all) x ≡ some words → Shows x words (contents_in (page_at pages x))
+    words_at x words e =
+        let is = of_map page_words all x words e in
+        let at : page_at pages x ≡ is.0 = sym (same_page pages more x) ∙ page_there all x is.0 is.1 in
+        subst (λ (z : List ℕ × Option Page). Shows x z.0 (contents_in z.1)) (λ i. (is.2 i, sym at i)) (shows_page x is.0 (anchor_there x is.0 at))
+
+    owner_at : (hands : List (Stage × PassState)) (x : ℕ) (own : Owner) → get_elem? (map first_owner (map page_words all)) x ≡ some own → owner_of (page_at pages x) ≡ owner_in hands own
+    owner_at hands x own e =
+        let outer = of_map first_owner (map page_words all) x own e in
+        let inner = of_map page_words all x outer.0 outer.1 in
+        let at : page_at pages x ≡ inner.0 = sym (same_page pages more x) ∙ page_there all x inner.0 inner.1 in
+        ap owner_of at ∙ (owns_page hands inner.0 ∙ ap (owner_in hands) (ap first_owner inner.2 ∙ outer.2))
+
+    hand_at : (n : ℕ) → IsHand world n Idle (beginner pages)
+    hand_at n = record {
+      named = λ begun. absurd (begun refl);
+      stage = (refl, λ x. none_held (page_at pages x) (name n 0));
+      later = λ m l. (refl, blank_is);
+      begins = ([], refl, tt);
+      counted = tt;
+      mine = refl;
+    }
+
+    pub reopens : (passes : ℕ) → Simulates (first_pages (map page_words all) passes (beginner pages))
+    reopens passes = record {
+      world = world;
+      good = good;
+      kept = first_kept world refl (λ p. blank_is.stage);
+      image = pages;
+      opening = begins_so pages start has_pages opened;
+      first = first;
+      moments = moments;
+      size = sym (map_length all);
+      clock = omega arith;
+      pages = words_at;
+      owners = owner_at (replicate passes (Idle, beginner pages));
+      hands = λ n st d e. subst (λ (z : Stage × PassState). IsHand world n z.0 z.1) (of_all passes (Idle, beginner pages) n (st, d) e) (hand_at n);
+      within = none_within (length (replicate passes (Idle, beginner pages)));
+      counts = λ n st d e begun. absurd (begun (ap (λ (z : Stage × PassState). z.1.number) (sym (of_all passes (Idle, beginner pages) n (st, d) e))));
+      firsts = λ n st d e. ap (λ (z : Stage × PassState). z.1.first) (sym (of_all passes (Idle, beginner pages) n (st, d) e));
+      busy = λ p since e. absurd (let both : machine.Waiting ≡ machine.Running since = e in cc);
+      versions = λ x version e. sym (of_all (length (map page_words all)) 0 x version e);
+      firm = firm_alone (first_map pages) start (firm_moment world pages good logs first (firm_first know world good refl));
+    }

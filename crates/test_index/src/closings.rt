@@ -24,7 +24,7 @@ fn rows_of(alloc: Global, quiet: Quiet) -> Option<usize> {
 }
 
 /// The passes with one more behind them.
-fn together(index: &Index, passes: Vec<Pass>, last: Pass) -> Option<Vec<Pass>>
+pub(crate) fn together(index: &Index, passes: Vec<Pass>, last: Pass) -> Option<Vec<Pass>>
     requires passes { All (IsPassOf index.now) passes.items }
     requires last { IsPassOf index.now last }
     ensures { IfSome result (λ all. All (IsPassOf index.now) all.items) }
