@@ -1,6 +1,6 @@
 -- An index as it is made.
 use Rattle.std.proofs.Common.{ℕ, zero, suc, ◌≡◌, ◌-◌, ◌+◌, ◌<◌, ◌≤◌, Option, List, [], ◌∷◌, length, replicate, refl, sym, ap, ◌∙◌, subst, arith}
-use Rattle.std.specs.Prelude.{Result, Ok, Err, IfOk, IfErr}
+use Rattle.std.specs.Prelude.{Result, Ok, Err, IfOk}
 use Rattle.std.proofs.lemmas.List.{length-replicate}
 use mathlib.Core.Option.{some, some-injective, some-ne-none}
 use lib.ListN.{get_elem?}
@@ -102,11 +102,6 @@ is_begun first image pages among index hands passes pages_are passes_are frames 
 pub if_ok : {A E : Type 0} (P Q : A → Type 0) (r : Result A E) → ((a : A) → P a → Q a) → IfOk r P → IfOk r Q
 if_ok P Q (Ok a) f h = f a h
 if_ok P Q (Err e) f h = tt
-
--- the same of what holds where it is a fault
-pub if_err : {A E : Type 0} (P Q : E → Type 0) (r : Result A E) → ((e : E) → P e → Q e) → IfErr r P → IfErr r Q
-if_err P Q (Ok a) f h = tt
-if_err P Q (Err e) f h = f e h
 
 -- the same by other names of what it began with and of how many pages it has
 pub begun_as : (image other : List (Option Page)) (size many among : ℕ) (index : Index) (passes : List Pass) → image ≡ other → size ≡ many → IsBegun image size among index passes → IsBegun other many among index passes

@@ -8,14 +8,14 @@ use Rattle.bl_model.specs.declared.operation.Entry.{Entry}
 use Rattle.bl_page.specs.declared.page.Page.{Page}
 use Rattle.bl_check.specs.Spans.{leftmost}
 use Rattle.bl_check_laws.proofs.RowsFound.{rows_same}
-use Rattle.bl_claims.specs.Trails.{Trail, history_of}
+use Rattle.bl_claims.specs.Trails.{history_of}
 use Rattle.bl_claims.specs.Seeing.{first_map, IsSeen}
 use Rattle.bl_index.specs.declared.index.Index.{Index}
 use Rattle.bl_index.specs.declared.index.Pass.{Pass}
-use Rattle.bl_index.specs.Calls.{passes_of, first_of, map_after}
+use Rattle.bl_index.specs.Calls.{passes_of}
 use Rattle.bl_index.specs.Closed.{Closes}
 use Rattle.bl_index.specs.Opened.{IsReopenedIn}
-use Rattle.bl_index.specs.Lives.{Life, life_of, last_map, AreLivesFrom, map_after_lives, history_of_lives, IsOneHistory, LivesAreOneHistory, SeenIsALife, ResizingAddsALife}
+use Rattle.bl_index.specs.Lives.{Life, life_of, last_map, AreLivesFrom, map_after_lives, history_of_lives, LivesAreOneHistory, SeenIsALife, ResizingAddsALife}
 use Rattle.bl_index.specs.Resized.{Resizes}
 
 -- an image has one list of rows, so what is opened from it begins with the map that it was closed with

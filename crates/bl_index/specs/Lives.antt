@@ -1,5 +1,5 @@
 -- The lives of an index that is closed and opened again: each begins with the map that the one before it ends with.
-use Rattle.std.specs.Prelude.{◌≡◌, ℕ, List, [], ◌∷◌, ◌++◌, Option, flat_map}
+use Rattle.std.specs.Prelude.{ℕ, List, [], ◌∷◌, ◌++◌, Option, flat_map}
 use Rattle.bl_model.specs.Map.{Map, SameMap}
 use Rattle.bl_model.specs.History.{IsLegalFrom, final_map}
 use Rattle.bl_model.specs.declared.operation.Entry.{Entry}

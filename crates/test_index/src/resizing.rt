@@ -6,9 +6,7 @@ ghost use Rattle.bl_index.specs.Calls.{IsPassOf};
 use crate::calls::opened;
 use crate::closings::together;
 use bl_check::Quiet;
-use bl_index::{
-    Index, KeyReply, OpenFault, Pass, ResizeFault, Unresized, lives_are_one_history,
-};
+use bl_index::{Index, KeyReply, OpenFault, Pass, ResizeFault, Unresized, lives_are_one_history};
 use std::alloc::Global;
 use std::sync::Wait;
 
