@@ -1,5 +1,4 @@
 pub mod Elements
 pub mod AllMet
 pub mod Same
-pub mod Seated
 pub mod Handed

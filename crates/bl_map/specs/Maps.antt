@@ -6,12 +6,16 @@ use Rattle.bl_index.specs.Opened.{IsIndexOpened, IsLargeRefusal, IsReopened as I
 use Rattle.bl_index.specs.Closed.{AreOf, Closes, IsRefused}
 use Rattle.bl_index.specs.declared.config.CloseFault.{CloseFault}
 use Rattle.bl_index.specs.declared.config.OpenFault.{OpenFault}
+use Rattle.bl_index.specs.declared.resizing.Unresized.TheVariants as unresized
+use Rattle.bl_index.specs.Resized.{Resizes, IsNotResized}
 use Rattle.bl_index.specs.declared.index.Pass.{Pass}
 use Rattle.bl_load.specs.Loads.{HoldsRows, IsFaultOf}
 use Rattle.bl_map.specs.declared.map.MapLoadFault.{MapLoadFault}
 use Rattle.bl_map.specs.declared.map.MapLoadFault.TheVariants as loading
 use Rattle.bl_map.specs.declared.handle.Handle.{Handle}
 use Rattle.bl_map.specs.declared.map.Map.{Map}
+use Rattle.bl_map.specs.declared.map.UnresizedMap.{UnresizedMap}
+use Rattle.bl_map.specs.declared.map.UnresizedMap.TheVariants.{Kept, Closed}
 use Rattle.bl_map.specs.Handles.{index_of, IsHandleOver}
 
 -- the seat is one of this map, and has the pages in mind that it began with
@@ -50,6 +54,13 @@ IsClosed map seats quiet = Closes map.index seats quiet.image.pages.items
 
 abbrev pub IsBack : Map → List Pass → Map → List Pass → CloseFault → Type 0
 IsBack map seats back seats_back why = IsRefused map.index seats back.index seats_back why
+
+abbrev pub IsMapResized : Map → List Pass → ℕ → Map → List Pass → Type 0
+IsMapResized map seats pages new news = Resizes map.index seats pages new.index news
+
+abbrev pub IsMapNotResized : Map → List Pass → ℕ → UnresizedMap → Type 0
+IsMapNotResized map seats pages (Kept back seats_back why) = IsNotResized map.index seats pages (unresized.Kept back.index seats_back why)
+IsMapNotResized map seats pages (Closed quiet) = IsNotResized map.index seats pages (unresized.Closed quiet)
 
 -- the handle is one of this map
 abbrev pub IsHandleOf : Map → Handle → Type 0

@@ -507,6 +507,12 @@ impl<'a> Handle<'a> {
         self.index.tree().store.room.free()
     }
 
+    /// Whether fewer than a sixteenth of the pages are free, about: a map that is to grow is resized then, before changes look long for
+    /// room.
+    pub fn is_short(&self) -> bool {
+        self.free_pages() < u64::from(self.index.patience() / 16)
+    }
+
     /// How full the map is, as one look over all its pages and frames finds it: see [`RoomSeen`]. It takes time with each of them, and is
     /// exact where no other handle works.
     pub fn room(&self) -> RoomSeen

@@ -22,13 +22,14 @@ mod meeting;
 mod seating;
 
 pub use bl_index::{
-    CloseFault, Hint, KeyReply, KeyWrite, Next, OpenFault, Pass as Seat, Reply, RoomSeen,
+    CloseFault, Hint, KeyReply, KeyWrite, Next, OpenFault, Pass as Seat, Reply, ResizeFault,
+    RoomSeen,
 };
 pub use bl_load::LoadFault;
 pub use bl_map_calls::ranging::RangeRefusal;
 pub use bl_map_calls::updating::Updated;
 pub use bl_map_calls::upkeep::Followed;
 pub use handle::{Backlog, Handle};
-pub use map::{Map, MapLoadFault};
+pub use map::{Map, MapLoadFault, UnresizedMap};
 pub use meeting::meet_all;
 pub use seating::{give_seats, handles_over};

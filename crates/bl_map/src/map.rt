@@ -1,11 +1,11 @@
 //! The map, which its threads share.
 
 ghost use Rattle.std.specs.Prelude.{◌≡◌, IfOk, IfErr};
-ghost use Rattle.bl_map.specs.Maps.{IsSeatOf, AreSeatsOf, IsNewHandle, IsMapOpened, IsOpenFault, IsMapReopened, IsImageFault, IsLoaded, IsLoadFault, IsClosed, IsBack};
+ghost use Rattle.bl_map.specs.Maps.{IsSeatOf, AreSeatsOf, IsNewHandle, IsMapOpened, IsOpenFault, IsMapReopened, IsImageFault, IsLoaded, IsLoadFault, IsClosed, IsBack, IsMapResized, IsMapNotResized};
 
 use crate::handle::Handle;
 use bl_check::Quiet;
-use bl_index::{CloseFault, Config, Index, OpenFault, Pass};
+use bl_index::{CloseFault, Config, Index, OpenFault, Pass, ResizeFault, Unresized};
 use bl_load::{LoadFault, image_of};
 use std::alloc::Global;
 
@@ -13,6 +13,18 @@ use std::alloc::Global;
 #[derive(Drop)]
 pub struct Map {
     pub(crate) index: Index,
+}
+
+/// A map that is to grow begins with so many pages.
+const FIRST_PAGES: u32 = 1_024;
+
+/// What there is in place of a map that was not resized.
+#[derive(Drop)]
+pub enum UnresizedMap {
+    /// The map and its seats, as they were.
+    Kept(Map, Vec<Pass>, ResizeFault),
+    /// There was no memory for the larger map behind the close of this one: its image, from which another one may be opened.
+    Closed(Quiet),
 }
 
 /// Why no map was loaded.
@@ -37,6 +49,15 @@ impl Map {
         };
         let (index, seats) = Index::open_large(alloc, config)?;
         Ok((Map { index }, seats))
+    }
+
+    /// An empty map of 1,024 pages, for who has it resized as it fills, and a seat for each of so many threads, 1 to 64.
+    pub fn new(alloc: Global, seats: u32) -> Result<(Map, Vec<Pass>), OpenFault>
+        ensures ok { IfOk result (λ t. IsMapOpened 1024 seats t.0 t.1.items) }
+        ensures seats { IfOk result (λ t. AreSeatsOf t.0 t.1.items) }
+        ensures fault { IfErr result (IsOpenFault 1024 seats) }
+    {
+        Map::open(alloc, FIRST_PAGES, seats)
     }
 
     /// A map that begins with the rows of a sound image, with as many pages, and a seat for each of so many threads, 1 to 64. Where it
@@ -100,6 +121,29 @@ impl Map {
         match self.index.close(alloc, seats) {
             Ok(image) => Ok(image),
             Err((index, seats, why)) => Err((Map { index }, seats, why)),
+        }
+    }
+
+    /// The map goes on with so many pages, as many as it has or more, up to 2^28. It takes all seats, and gives as many new ones: what
+    /// each of them sees begins anew, with the map after all that has happened so far. Where a seat is missing or the pages are not
+    /// within these limits, nothing is closed.
+    pub fn resize(
+        self,
+        alloc: Global,
+        seats: Vec<Pass>,
+        pages: u32,
+    ) -> Result<(Map, Vec<Pass>), UnresizedMap>
+        requires own { AreSeatsOf self seats.items }
+        ensures ok { IfOk result (λ t. IsMapResized self seats.items pages t.0 t.1.items) }
+        ensures seats { IfOk result (λ t. AreSeatsOf t.0 t.1.items) }
+        ensures fault { IfErr result (IsMapNotResized self seats.items pages) }
+    {
+        match self.index.resize(alloc, seats, pages) {
+            Ok((index, seats)) => Ok((Map { index }, seats)),
+            Err(Unresized::Kept(index, seats, why)) => {
+                Err(UnresizedMap::Kept(Map { index }, seats, why))
+            }
+            Err(Unresized::Closed(image)) => Err(UnresizedMap::Closed(image)),
         }
     }
 }
