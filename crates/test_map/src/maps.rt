@@ -5,6 +5,7 @@
 mod calls;
 mod counts;
 mod groups;
+mod growing;
 mod images;
 mod limits;
 mod room;
