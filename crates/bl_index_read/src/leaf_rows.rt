@@ -270,12 +270,12 @@ fn portion_down_in<W: Words>(
     let least = least_above(to);
     let count = (word(source, hand, HEAD) % LEVEL_UNIT) as usize;
     let first = place_from(source, hand, count, least);
-    let last = count_to(source, hand, count, from);
+    let end = count_to(source, hand, count, from);
     let low = word(source, hand, LOW);
     let behind = behind_down(low, least);
     Portion {
         first,
-        last,
+        last: end,
         behind,
     }
 }
@@ -358,8 +358,8 @@ fn give_down<W: Words, S, K: Sink<S>>(
     ensures ready { K.IsReady state.new }
     ensures takes { K.Takes (K.held state.old) (reverse (take (last - first) (drop first (pairs_of (W.shown source.now hand.old))))) (K.held state.new) }
 {
-    for done in 0..last - first {
-        let row = row_at(source, hand, last - 1 - done);
+    for gone in 0..last - first {
+        let row = row_at(source, hand, last - 1 - gone);
         K::accept(state, row);
     }
 }

@@ -380,7 +380,7 @@ impl<'a> Handle<'a> {
         ensures none { from < low → (visit.new ≡ visit.old) × (seen_by self.new ≡ seen_by self.old) }
         ensures keeps { KeepsHints self.old self.new }
     {
-        if from < low {
+        if low > from {
             return;
         }
         let to = calls::end_below(low);

@@ -22,13 +22,13 @@ pub returns-clause-last : goal.returns-clause-last
 returns-clause-last g c =
     let shown = g.W.Words.shown c.args.source.now in
     let place = subst (λ hand. IsPlaceOf (pairs_of (shown hand)) c.least_above-least.result c.place_from-first.result) c.word.ensures.same c.place_from-first.ensures.place in
-    let count = subst (λ hand. IsCountTo (pairs_of (shown hand)) c.args.from c.count_to-last.result) (c.place_from-first.ensures.same ∙ c.word.ensures.same) c.count_to-last.ensures.count in
+    let count = subst (λ hand. IsCountTo (pairs_of (shown hand)) c.args.from c.count_to-end.result) (c.place_from-first.ensures.same ∙ c.word.ensures.same) c.count_to-end.ensures.count in
     let low : c.least_above-least.result ≤ c.args.from = omega (arith, c.least_above-least.ensures, above_first c.args.to c.args.from c.requires.above) in
-    ends_at (pairs_of (shown c.args.hand.now)) c.least_above-least.result c.args.from c.place_from-first.result c.count_to-last.result place count low
+    ends_at (pairs_of (shown c.args.hand.now)) c.least_above-least.result c.args.from c.place_from-first.result c.count_to-end.result place count low
 
 pub returns-clause-behind : goal.returns-clause-behind
 returns-clause-behind g c = λ page next tree e goes.
     let shown = g.W.Words.shown c.args.source.now in
-    let same = c.count_to-last.ensures.same ∙ (c.place_from-first.ensures.same ∙ c.word.ensures.same) in
+    let same = c.count_to-end.ensures.same ∙ (c.place_from-first.ensures.same ∙ c.word.ensures.same) in
     let low : c.word-low.result ≡ (node_of page).shape.low = c.word-low.ensures.word ∙ (ap (λ hand. get_or (shown hand) 1 0) same ∙ (bounds_are page (shown c.args.hand.now) tree e).0) in
     c.behind_down-behind.ensures c.args.to next c.least_above-least.ensures (subst (λ (z : ℕ). GoesOnBelow z next) (sym low) goes)

@@ -2,5 +2,5 @@ use Rattle.std.proofs.Common.{refl}
 use Rattle.bl_map_calls.proofs.Scanning.{nothing_down}
 use Rattle.bl_map.proofs.handle.Handle.scan_down_with.Goals as goal
 
-pub returns-then-from-low-clause-tells : goal.returns-then-from-low-clause-tells
-returns-then-from-low-clause-tells g c = nothing_down _ _ _ _ _ c.args.from c.args.low _ _ refl c.if-from-low.true
+pub returns-then-low-from-clause-tells : goal.returns-then-low-from-clause-tells
+returns-then-low-from-clause-tells g c = nothing_down _ _ _ _ _ c.args.from c.args.low _ _ refl c.if-low-from.true
