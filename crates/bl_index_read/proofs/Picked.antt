@@ -255,7 +255,7 @@ back_filter : {X : Type 0} (p : X → Bool) (xs : List X) → reverse (filter p 
 back_filter p [] = refl
 back_filter p (x ∷ xs) =
     kept_back (p x) x (filter p xs) ∙ (ap (λ (z : List _). z ++ cond (p x) (x ∷ []) []) (back_filter p xs)
-        ∙ sym (ap (filter p) (reverse-append (x ∷ []) xs) ∙ filter-append p (reverse xs) (x ∷ [])))
+    ∙ sym (ap (filter p) (reverse-append (x ∷ []) xs) ∙ filter-append p (reverse xs) (x ∷ [])))
 
 module _ (c : Page) (words : List ℕ) (from : ℕ) (tree : IsTreePage c) (is : words ≡ words_of c) (to : Option ℕ) where
   abbrev Taken : ℕ → Type 0

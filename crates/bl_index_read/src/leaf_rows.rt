@@ -252,12 +252,7 @@ fn behind_down(low: u64, least: u64) -> Behind
 
 /// What a scan downwards takes of a leaf, from a key on and above an end, if there is one.
 #[inline(always)]
-fn portion_down_in<W: Words>(
-    source: &W,
-    hand: &mut W::Hand,
-    from: u64,
-    to: Option<u64>,
-) -> Portion
+fn portion_down_in<W: Words>(source: &W, hand: &mut W::Hand, from: u64, to: Option<u64>) -> Portion
     requires sees { W.Sees source.now hand.old }
     requires pairs { HasPairs (W.shown source.now hand.old) }
     requires above { IsBefore directions.Down to from }
@@ -550,11 +545,7 @@ pub(crate) fn part_in<W: Words>(
 
 /// The page at which the part behind a leaf may look first, if the leaf links to it. Nothing is said of it.
 #[inline(always)]
-pub(crate) fn near_in<W: Words>(
-    source: &W,
-    hand: &mut W::Hand,
-    direction: Direction,
-) -> Option<u32>
+pub(crate) fn near_in<W: Words>(source: &W, hand: &mut W::Hand, direction: Direction) -> Option<u32>
     requires sees { W.Sees source.now hand.old }
     ensures same { hand.new ≡ hand.old }
 {

@@ -44,8 +44,7 @@ pub fn list_part(
         (known hand.old.seat).trail (known hand.new.seat).trail }
 {
     let way = set_off(tree, hand, Sought::Rows(direction), from, *near);
-    let Some(glance) = descend_to_leaf(tree, hand, Sought::Rows(direction), from, way, turns)
-    else {
+    let Some(glance) = descend_to_leaf(tree, hand, Sought::Rows(direction), from, way, turns) else {
         return Err(OutOfTurns);
     };
     let shown = FrameView {

@@ -112,7 +112,8 @@ impl<'a> Handle<'a> {
         ensures searched { HasOnlySearched (op.PartDown from) result self.old self.new }
         ensures keeps { KeepsHints self.old self.new }
     {
-        calls::part(rt, self.index, &mut self.pass, Direction::Down, from, &mut None)
+        let index = self.index;
+        calls::part(rt, index, &mut self.pass, Direction::Down, from, &mut None)
     }
 
     /// Writes a key: what each of the calls below does.
@@ -266,7 +267,8 @@ impl<'a> Handle<'a> {
             (number_of_seat self.old) directions.Up from to result rows.old.items rows.new.items (seen_by self.old) (seen_by self.new) }
         ensures keeps { KeepsHints self.old self.new }
     {
-        calls::scan(rt, self.index, &mut self.pass, Direction::Up, from, to, rows)
+        let index = self.index;
+        calls::scan(rt, index, &mut self.pass, Direction::Up, from, to, rows)
     }
 
     /// Appends the first of the rows that [`Handle::scan`] lists, so many at most, and says with which key a scan for the next ones begins:
@@ -305,7 +307,8 @@ impl<'a> Handle<'a> {
             (number_of_seat self.old) directions.Up from to (Ok tt) visit.old visit.new (seen_by self.old) (seen_by self.new) }
         ensures keeps { KeepsHints self.old self.new }
     {
-        telling::tell(rt, self.index, &mut self.pass, Direction::Up, from, to, visit);
+        let index = self.index;
+        telling::tell(rt, index, &mut self.pass, Direction::Up, from, to, visit);
     }
 
     /// The row of the least key, if there is one. No key below it was in the map all the while: each was absent at some moment of the call. It
@@ -360,8 +363,9 @@ impl<'a> Handle<'a> {
         if from < low {
             return Ok(());
         }
+        let index = self.index;
         let to = calls::end_below(low);
-        calls::scan(rt, self.index, &mut self.pass, Direction::Down, from, to, rows)
+        calls::scan(rt, index, &mut self.pass, Direction::Down, from, to, rows)
     }
 
     /// Tells a callback the rows from a key on downwards to another one, both included, by falling keys: the rows of [`Handle::scan_down`],
@@ -383,8 +387,9 @@ impl<'a> Handle<'a> {
         if low > from {
             return;
         }
+        let index = self.index;
         let to = calls::end_below(low);
-        telling::tell(rt, self.index, &mut self.pass, Direction::Down, from, to, visit);
+        telling::tell(rt, index, &mut self.pass, Direction::Down, from, to, visit);
     }
 
     /// The row of the greatest key, if there is one. No key above it was in the map all the while: each was absent at some moment of the call.
