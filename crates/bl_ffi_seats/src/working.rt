@@ -9,17 +9,13 @@ ghost use Rattle.bl_ffi_seats.specs.Seats.{IsSeated, IsSameOne, HasAnswered, Has
 ghost use Rattle.bl_ffi_seats.specs.Accounts.{account, HasGone, AddsEntry, Starts};
 ghost use Rattle.bl_index_resume.specs.Running.{IsWriteOf, IsFor, IsLowering};
 ghost use Rattle.bl_proc.specs.Parts.{op_toward};
-ghost use Rattle.bl_store.specs.Hands.{known, IsIdle, IsSameHand, IsSameStock};
-ghost use Rattle.bl_store.specs.Owners.{IsHandOf};
-ghost use Rattle.bl_claims.specs.Seeing.{IsSeen};
+ghost use Rattle.bl_store.specs.Hands.{known};
 ghost use Rattle.bl_index_events.specs.Runs.{Rests};
-ghost use Rattle.bl_index_read.specs.Searching.{AnswersOrRunsOut};
 ghost use Rattle.bl_index.specs.Meetings.{Meet};
 ghost use Rattle.bl_index_resume.specs.declared.running.Running.TheVariants as at_seat;
 
 use bl_index::{Hint, Index, KeyReply, KeyWrite, Reply};
-use bl_index_events::Tree;
-use bl_index_read::{OutOfTurns, find_key, list_part, list_part_down};
+use bl_index_read::{find_key, list_part};
 use bl_index_resume::{
     Running, advance, begin_hint, begin_lower, stands, start_post, start_write, sweep,
 };
@@ -56,31 +52,6 @@ pub(crate) fn find(
     }
 }
 
-/// Carries a part out in that direction, from its begin to its end: it is answered, or has got so many pages. With a page in mind it
-/// looks at that one first; upwards it leaves there the page to which its leaf links.
-fn list(
-    tree: &Tree,
-    hand: &mut Hand<PassState>,
-    direction: Direction,
-    from: u64,
-    near: &mut Option<u32>,
-    turns: u32,
-) -> Result<Reply, OutOfTurns>
-    requires own { IsHandOf tree.now.store hand.old }
-    requires idle { IsIdle hand.old.seat }
-    ensures same { IsSameHand hand.old.seat hand.new.seat × IsSameStock hand.old.seat hand.new.seat }
-    ensures rests { Rests hand.new.seat }
-    ensures first { (known hand.new.seat).first ≡ (known hand.old.seat).first }
-    ensures seen { IsSeen (known hand.new.seat).first (known hand.new.seat).trail }
-    ensures answers { AnswersOrRunsOut (known hand.old.seat).first tree.now.store.layout.pages hand.old.number turns (op_toward direction from) result
-        (known hand.old.seat).trail (known hand.new.seat).trail }
-{
-    match direction {
-        Direction::Up => list_part(tree, hand, from, near, turns),
-        Direction::Down => list_part_down(tree, hand, from, *near, turns),
-    }
-}
-
 /// The rows of one leaf from a key on, in that direction. None: as for a search.
 pub(crate) fn part(
     index: &Index,
@@ -101,7 +72,14 @@ pub(crate) fn part(
 {
     stands(index.tree(), hand, running);
     match running {
-        Running::Rests => match list(index.tree(), hand, direction, from, near, index.patience()) {
+        Running::Rests => match list_part(
+            index.tree(),
+            hand,
+            direction,
+            from,
+            near,
+            index.patience(),
+        ) {
             Ok(rows) => Some(rows),
             Err(_) => None,
         },

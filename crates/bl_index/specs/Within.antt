@@ -4,6 +4,7 @@ use Rattle.bl_claims.specs.Seeing.{IsSeen}
 use Rattle.bl_claims.specs.Trails.{Trail}
 use Rattle.bl_index_read.specs.Parts.{StandsBehind}
 use Rattle.bl_index_read.specs.declared.leaf_rows.Behind.{Behind}
+use Rattle.bl_proc.specs.declared.parts.Direction.{Direction}
 use Rattle.bl_index_rule.specs.declared.known.PassState.{PassState}
 use Rattle.bl_index_events.specs.Runs.{Rests}
 use Rattle.bl_index_events.specs.declared.tree.Tree.{Tree}
@@ -24,10 +25,10 @@ IsLowerAnswer (Some (Lower what)) = Unit {0}
 IsLowerAnswer (Some (InsertPost reply last left)) = ⊥
 
 -- The part was answered and has ended, and the scan stands behind it.
-pub record GoesBehind (tree : Tree) (hand : Hand PassState) (pass : ℕ) (behind : Behind) (way : Descent) (did : Trail → Trail → Type 0)
+pub record GoesBehind (tree : Tree) (hand : Hand PassState) (pass : ℕ) (direction : Direction) (behind : Behind) (way : Descent) (did : Trail → Trail → Type 0)
     (old : PassState) : Type 0 where
   pub new : PassState
-  pub stands : StandsBehind tree hand pass behind way new
+  pub stands : StandsBehind tree hand pass direction behind way new
   pub first : new.first ≡ old.first
   pub seen : IsSeen new.first new.trail
   pub does : did old.trail new.trail
@@ -40,7 +41,7 @@ pub record StopsBefore (hand : Hand PassState) (did : Trail → Trail → Type 0
   pub does : did old.trail (known hand.seat).trail
 
 -- One or the other.
-abbrev pub GoesOrStops : {E : Type 0} → Tree → Hand PassState → ℕ → (Behind → Trail → Trail → Type 0) → (E → Trail → Trail → Type 0)
+abbrev pub GoesOrStops : {E : Type 0} → Tree → Hand PassState → ℕ → Direction → (Behind → Trail → Trail → Type 0) → (E → Trail → Trail → Type 0)
     → PassState → Result (Behind × Descent) E → Type 0
-GoesOrStops tree hand pass goes stops old (Ok on) = GoesBehind tree hand pass on.0 on.1 (goes on.0) old
-GoesOrStops tree hand pass goes stops old (Err fault) = StopsBefore hand (stops fault) old
+GoesOrStops tree hand pass direction goes stops old (Ok on) = GoesBehind tree hand pass direction on.0 on.1 (goes on.0) old
+GoesOrStops tree hand pass direction goes stops old (Err fault) = StopsBefore hand (stops fault) old

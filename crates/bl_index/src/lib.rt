@@ -31,7 +31,7 @@ pub use bl_index_events::ABREAST;
 pub use bl_index_range::{Kept, RangeFault, RangeLimits};
 pub use bl_index_read::{Appending, OutOfTurns, Sink, Telling};
 pub use bl_model::{KeyReply, KeyWrite, Next, Reply};
-pub use bl_proc::{Hint, Level, Lowered, Posted, Squeezed};
+pub use bl_proc::{Direction, Hint, Level, Lowered, Posted, Squeezed};
 pub use bl_reserve::RoomSeen;
 pub use closing::CloseRoom;
 pub use config::{CloseFault, Config, OpenFault, ResizeFault};

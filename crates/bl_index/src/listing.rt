@@ -2,10 +2,12 @@
 
 ghost use Rattle.std.specs.Prelude.{IfOk, IfErr};
 ghost use Rattle.bl_model.specs.declared.operation.Op.TheVariants as op;
+ghost use Rattle.bl_proc.specs.Parts.{op_toward};
 
 use crate::index::{Index, Pass};
-use bl_index_read::{OutOfTurns, list_part, list_part_down};
+use bl_index_read::{OutOfTurns, list_part};
 use bl_model::Reply;
+use bl_proc::Direction;
 
 impl Index {
     ghost use Rattle.bl_index.specs.Calls.{first_of, IsPassOf, IsSamePass, pages_of, number_of, trail, StepsAlone};
@@ -21,7 +23,7 @@ impl Index {
         ensures runs_out { IfErr result (λ _. RunsOut (first_of self.now) (pages_of self.now) (number_of pass.old) turns (trail pass.old) (trail pass.new)) }
         ensures alone { IfOk result (λ reply. StepsAlone (first_of self.now) self.now (op.Part from) reply (trail pass.old) (trail pass.new)) }
     {
-        list_part(&self.tree, &mut pass.hand, from, &mut None, turns)
+        self.part_toward(pass, Direction::Up, from, &mut None, turns)
     }
 
     /// The same for one who goes along the leaves: with `None` for the first part, it takes the page from which the way to each further
@@ -41,7 +43,7 @@ impl Index {
         ensures runs_out { IfErr result (λ _. RunsOut (first_of self.now) (pages_of self.now) (number_of pass.old) turns (trail pass.old) (trail pass.new)) }
         ensures alone { IfOk result (λ reply. StepsAlone (first_of self.now) self.now (op.Part from) reply (trail pass.old) (trail pass.new)) }
     {
-        list_part(&self.tree, &mut pass.hand, from, near, turns)
+        self.part_toward(pass, Direction::Up, from, near, turns)
     }
 
     /// The pairs of one leaf from a key on downwards, in falling order, and the key with which the next part downwards begins, where
@@ -61,6 +63,26 @@ impl Index {
         ensures runs_out { IfErr result (λ _. RunsOut (first_of self.now) (pages_of self.now) (number_of pass.old) turns (trail pass.old) (trail pass.new)) }
         ensures alone { IfOk result (λ reply. StepsAlone (first_of self.now) self.now (op.PartDown from) reply (trail pass.old) (trail pass.new)) }
     {
-        list_part_down(&self.tree, &mut pass.hand, from, near, turns)
+        let mut near = near;
+        self.part_toward(pass, Direction::Down, from, &mut near, turns)
+    }
+
+    /// The one or the other: see [`Index::part_near`]. Downwards no leaf links to the next one, and `None` is left.
+    pub fn part_toward(
+        &self,
+        pass: &mut Pass,
+        direction: Direction,
+        from: u64,
+        near: &mut Option<u32>,
+        turns: u32,
+    ) -> Result<Reply, OutOfTurns>
+        requires { IsPassOf self.now pass.old }
+        ensures same { IsSamePass pass.old pass.new }
+        ensures found { IfOk result (λ reply. Finds (first_of self.now) (pages_of self.now) (number_of pass.old) turns (op_toward direction from) reply
+            (trail pass.old) (trail pass.new)) }
+        ensures runs_out { IfErr result (λ _. RunsOut (first_of self.now) (pages_of self.now) (number_of pass.old) turns (trail pass.old) (trail pass.new)) }
+        ensures alone { IfOk result (λ reply. StepsAlone (first_of self.now) self.now (op_toward direction from) reply (trail pass.old) (trail pass.new)) }
+    {
+        list_part(&self.tree, &mut pass.hand, direction, from, near, turns)
     }
 }

@@ -1,6 +1,6 @@
-//! Scans: parts of the map, each from where the last one ended.
+//! Scans, upwards or downwards: parts of the map, each from where the last one ended.
 
-ghost use Rattle.std.specs.Prelude.{◌≡◌, ℕ, ◌-◌, ◌<◌, Some, vec_len};
+ghost use Rattle.std.specs.Prelude.{◌≡◌, ℕ, ◌-◌, ◌<◌, Option, Some, vec_len};
 ghost use Rattle.std.specs.List.{FoldsTo};
 ghost use Rattle.std.specs.Vec.{vec_capacity};
 ghost use Rattle.bl_store.specs.Hands.{known, IsIdle, IsSameHand, IsSameStock};
@@ -8,10 +8,10 @@ ghost use Rattle.bl_store.specs.Owners.{IsHandOf};
 ghost use Rattle.bl_claims.specs.Seeing.{IsSeen};
 ghost use Rattle.bl_index_rule.specs.declared.known.PassState.{PassState as Knows};
 ghost use Rattle.bl_index_events.specs.Runs.{Rests};
-ghost use Rattle.bl_proc.specs.declared.parts.Direction.TheVariants as direction;
+ghost use Rattle.bl_proc.specs.declared.parts.Direction.TheVariants as directions;
 ghost use Rattle.bl_index_read.specs.declared.sought.Sought.TheVariants as sought;
 ghost use Rattle.bl_index_read.specs.LeafWays.{HasSetOff};
-ghost use Rattle.bl_index_read.specs.LeafRows.{is_below as below, IsBelow, IsOver};
+ghost use Rattle.bl_index_read.specs.LeafRows.{is_before as before, IsBefore, IsPast};
 ghost use Rattle.bl_index_read.specs.Sinks.{Appends};
 ghost use Rattle.bl_index.specs.Scans.{GivesPart, LeavesPart, MayScan, roomy};
 ghost use Rattle.bl_index.specs.Within.{GoesOrStops};
@@ -20,7 +20,7 @@ use crate::index::{Index, Pass};
 use bl_index_events::{FrameView, Tree};
 use bl_index_read::{
     Appending, Behind, Sink, Sought, Telling, descend_to_leaf, end_at_leaf, fetch_behind,
-    give_rows, go_behind, portion_in, set_off,
+    give_rows, go_behind, portion_toward, set_off,
 };
 use bl_index_rule::PassState;
 use bl_proc::Direction;
@@ -44,13 +44,29 @@ pub struct OutOfTurnsAt {
     pub key: u64,
 }
 
-/// Whether the key is below the end, if there is one.
-fn is_below(to: Option<u64>, key: u64) -> bool
-    ensures { result ≡ below to key }
+/// Which rows a scan is to give, part by part.
+#[derive(Clone, Copy)]
+struct Wanted {
+    direction: Direction,
+    /// Those of keys before that one, if there is one.
+    to: Option<u64>,
+    /// How many pages each part may get.
+    turns: u32,
+}
+
+/// Whether the key comes before the end, if there is one.
+fn is_before(direction: Direction, to: Option<u64>, key: u64) -> bool
+    ensures { result ≡ before direction to key }
 {
-    match to {
-        Some(end) => key < end,
-        None => true,
+    match direction {
+        Direction::Up => match to {
+            Some(end) => key < end,
+            None => true,
+        },
+        Direction::Down => match to {
+            Some(end) => end < key,
+            None => true,
+        },
     }
 }
 
@@ -74,28 +90,53 @@ impl Index {
         requires { IsPassOf self.now pass.old }
         ensures same { IsSamePass pass.old pass.new }
         ensures scans { MayScan Appends (λ many. vec_capacity rows.new - vec_len rows.new < many) (first_of self.now) (pages_of self.now)
-            (number_of pass.old) turns from to result rows.old.items rows.new.items (trail pass.old) (trail pass.new) }
-        ensures nothing { IsOver to (Some from) → trail pass.new ≡ trail pass.old }
+            (number_of pass.old) turns directions.Up from to result rows.old.items rows.new.items (trail pass.old) (trail pass.new) }
+        ensures nothing { IsPast directions.Up to (Some from) → (trail pass.new ≡ trail pass.old) × (rows.new.items ≡ rows.old.items) }
     {
-        if !is_below(to, from) {
+        self.scan_toward(pass, Direction::Up, from, to, turns, rows)
+    }
+
+    /// The same upwards or downwards: [`Index::scan_into`] is the one upwards. Downwards the keys fall, from the key on to above the end.
+    pub fn scan_toward(
+        &self,
+        pass: &mut Pass,
+        direction: Direction,
+        from: u64,
+        to: Option<u64>,
+        turns: u32,
+        rows: &mut Vec<(u64, u64)>,
+    ) -> Result<(), ScanFault>
+        requires { IsPassOf self.now pass.old }
+        ensures same { IsSamePass pass.old pass.new }
+        ensures scans { MayScan Appends (λ many. vec_capacity rows.new - vec_len rows.new < many) (first_of self.now) (pages_of self.now)
+            (number_of pass.old) turns direction from to result rows.old.items rows.new.items (trail pass.old) (trail pass.new) }
+        ensures nothing { IsPast direction to (Some from) → (trail pass.new ≡ trail pass.old) × (rows.new.items ≡ rows.old.items) }
+    {
+        if !is_before(direction, to, from) {
             return Ok(());
         }
         // Behind the reference its fields would be read again after each word of a leaf.
         let none = Vec::new(*rows.allocator());
         let mut all = mem::replace(rows, none);
-        let scanned = self.scan::<_, Appending>(pass, from, to, turns, &mut all);
+        let wanted = Wanted {
+            direction,
+            to,
+            turns,
+        };
+        let scanned = self.scan::<_, Appending>(pass, from, wanted, &mut all);
         *rows = all;
         scanned
     }
 
-    /// Tells a callback the rows that [`Index::scan_into`] would append, one after another, as it reads them of the leaves. Where a
-    /// part runs out of turns it stops: the rows of all keys below the fault's were told, and none from there on.
+    /// Tells a callback the rows that [`Index::scan_toward`] would append, one after another, as it reads them of the leaves. Where a
+    /// part runs out of turns it stops: the rows of all keys before the fault's were told, and none from there on.
     ///
     /// The callback is called while a part is under way, and until that ends nothing is given back that was swapped out since it
     /// began. So it should not wait.
     pub fn scan_with<F: FnMut((u64, u64))>(
         &self,
         pass: &mut Pass,
+        direction: Direction,
         from: u64,
         to: Option<u64>,
         turns: u32,
@@ -106,37 +147,42 @@ impl Index {
         ensures same { IsSamePass pass.old pass.new }
         ensures callable { F.IsAlwaysCallable visit.new }
         ensures tells { MayScan (FoldsTo (λ p x q. F.step p x tt q)) (λ many. ⊥) (first_of self.now) (pages_of self.now)
-            (number_of pass.old) turns from to (roomy result) visit.old visit.new (trail pass.old) (trail pass.new) }
+            (number_of pass.old) turns direction from to (roomy result) visit.old visit.new (trail pass.old) (trail pass.new) }
+        ensures nothing { IsPast direction to (Some from) → (trail pass.new ≡ trail pass.old) × (visit.new ≡ visit.old) }
     {
-        if !is_below(to, from) {
+        if !is_before(direction, to, from) {
             return Ok(());
         }
-        match self.scan::<F, Telling>(pass, from, to, turns, visit) {
+        let wanted = Wanted {
+            direction,
+            to,
+            turns,
+        };
+        match self.scan::<F, Telling>(pass, from, wanted, visit) {
             Ok(()) => Ok(()),
             Err(ScanFault::OutOfTurns(key)) => Err(OutOfTurnsAt { key }),
             Err(ScanFault::Memory(_)) => unreachable!(),
         }
     }
 
-    /// Gives the rows from a key below the end.
+    /// Gives the rows that are wanted from a key on, which comes before their end.
     #[inline(always)]
     fn scan<S, K: Sink<S>>(
         &self,
         pass: &mut Pass,
         from: u64,
-        to: Option<u64>,
-        turns: u32,
+        wanted: Wanted,
         state: &mut S,
     ) -> Result<(), ScanFault>
         requires own { IsPassOf self.now pass.old }
-        requires below { IsBelow to from }
+        requires before { IsBefore wanted.direction wanted.to from }
         requires ready { K.IsReady state.old }
         ensures same { IsSamePass pass.old pass.new }
         ensures ready { K.IsReady state.new }
-        ensures scans { MayScan K.Takes (K.Lacks state.new) (first_of self.now) (pages_of self.now) (number_of pass.old) turns from to result
-            (K.held state.old) (K.held state.new) (trail pass.old) (trail pass.new) }
+        ensures scans { MayScan K.Takes (K.Lacks state.new) (first_of self.now) (pages_of self.now) (number_of pass.old) wanted.turns
+            wanted.direction from wanted.to result (K.held state.old) (K.held state.new) (trail pass.old) (trail pass.new) }
     {
-        give_parts::<S, K>(&self.tree, &mut pass.hand, from, to, turns, state)
+        give_parts::<S, K>(&self.tree, &mut pass.hand, from, wanted, state)
     }
 }
 
@@ -146,26 +192,25 @@ fn give_parts<S, K: Sink<S>>(
     tree: &Tree,
     hand: &mut Hand<PassState>,
     from: u64,
-    to: Option<u64>,
-    turns: u32,
+    wanted: Wanted,
     state: &mut S,
 ) -> Result<(), ScanFault>
     requires own { IsHandOf tree.now.store hand.old }
     requires idle { IsIdle hand.old.seat }
-    requires below { IsBelow to from }
+    requires before { IsBefore wanted.direction wanted.to from }
     requires ready { K.IsReady state.old }
     ensures same { IsSameHand hand.old.seat hand.new.seat × IsSameStock hand.old.seat hand.new.seat }
     ensures rests { Rests hand.new.seat }
     ensures first { (known hand.new.seat).first ≡ (known hand.old.seat).first }
     ensures seen { IsSeen (known hand.new.seat).first (known hand.new.seat).trail }
     ensures ready { K.IsReady state.new }
-    ensures scans { MayScan K.Takes (K.Lacks state.new) (known hand.old.seat).first tree.now.store.layout.pages hand.old.number turns from to
-        result (K.held state.old) (K.held state.new) (known hand.old.seat).trail (known hand.new.seat).trail }
+    ensures scans { MayScan K.Takes (K.Lacks state.new) (known hand.old.seat).first tree.now.store.layout.pages hand.old.number wanted.turns
+        wanted.direction from wanted.to result (K.held state.old) (K.held state.new) (known hand.old.seat).trail (known hand.new.seat).trail }
 {
-    let mut way = set_off(tree, hand, Sought::Rows(Direction::Up), from, None);
+    let mut way = set_off(tree, hand, Sought::Rows(wanted.direction), from, None);
     let mut behind = Behind::Part(from, 0);
     while let Behind::Part(at, _) = behind {
-        match give_part::<S, K>(tree, hand, at, way, to, turns, state) {
+        match give_part::<S, K>(tree, hand, at, way, wanted, state) {
             Ok((next, on)) => {
                 behind = next;
                 way = on;
@@ -176,41 +221,42 @@ fn give_parts<S, K: Sink<S>>(
     Ok(())
 }
 
-/// Gives the rows of one part, which has set off, that lie below the end, and says how the scan goes on.
+/// Gives the wanted rows of one part, which has set off, and says how the scan goes on.
 #[inline(always)]
 fn give_part<S, K: Sink<S>>(
     tree: &Tree,
     hand: &mut Hand<PassState>,
     from: u64,
     way: Descent,
-    to: Option<u64>,
-    turns: u32,
+    wanted: Wanted,
     state: &mut S,
 ) -> Result<(Behind, Descent), ScanFault>
-    requires off { (old : Knows) × (pass : ℕ) × HasSetOff tree.now hand.old pass (sought.Rows direction.Up) from way old }
-    requires below { IsBelow to from }
+    requires off { (old : Knows) × (pass : ℕ) × HasSetOff tree.now hand.old pass (sought.Rows wanted.direction) from way old }
+    requires before { IsBefore wanted.direction wanted.to from }
     requires ready { K.IsReady state.old }
     ensures same { IsSameHand hand.old.seat hand.new.seat × IsSameStock hand.old.seat hand.new.seat }
     ensures ready { K.IsReady state.new }
-    ensures gives { (old : Knows) → HasSetOff tree.now hand.old hand.old.number (sought.Rows direction.Up) from way old → GoesOrStops tree.now hand.new hand.old.number
-        (λ behind. GivesPart K.Takes old.first tree.now.store.layout.pages hand.old.number turns from to behind
+    ensures gives { (old : Knows) → HasSetOff tree.now hand.old hand.old.number (sought.Rows wanted.direction) from way old
+        → GoesOrStops tree.now hand.new hand.old.number wanted.direction
+        (λ behind. GivesPart K.Takes old.first tree.now.store.layout.pages hand.old.number wanted.turns wanted.direction from wanted.to behind
         (K.held state.old) (K.held state.new))
-        (λ fault. LeavesPart old.first tree.now.store.layout.pages hand.old.number turns from to (K.Lacks state.new) fault
-        (K.held state.old) (K.held state.new)) old result }
+        (λ fault. LeavesPart old.first tree.now.store.layout.pages hand.old.number wanted.turns wanted.direction from wanted.to
+        (K.Lacks state.new) fault (K.held state.old) (K.held state.new)) old result }
 {
-    let Some(glance) = descend_to_leaf(tree, hand, Sought::Rows(Direction::Up), from, way, turns)
-    else {
+    let sought = Sought::Rows(wanted.direction);
+    let Some(glance) = descend_to_leaf(tree, hand, sought, from, way, wanted.turns) else {
         return Err(ScanFault::OutOfTurns(from));
     };
     let shown = FrameView {
         store: &tree.store,
         glance,
     };
-    let portion = portion_in(&shown, hand, from, to);
+    let portion = portion_toward(&shown, hand, wanted.direction, from, wanted.to);
     fetch_behind(tree, portion.behind);
-    match give_rows::<_, S, K>(&shown, hand, portion.first, portion.last, state) {
+    let (first, last) = (portion.first, portion.last);
+    match give_rows::<_, S, K>(&shown, hand, wanted.direction, first, last, state) {
         Ok(()) => {
-            let on = go_behind(tree, hand, portion.behind);
+            let on = go_behind(tree, hand, wanted.direction, portion.behind);
             Ok((portion.behind, on))
         }
         Err(_) => {

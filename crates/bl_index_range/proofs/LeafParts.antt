@@ -28,7 +28,7 @@ use Rattle.bl_index_read.specs.Keeping.{KeepsStill, IsKeptLeaf}
 use Rattle.bl_index_read.specs.LeafRows.{IsBelow, is_below, rows_between}
 use Rattle.bl_index_read.specs.LeafWays.{HasLeaf}
 use Rattle.bl_index_read.proofs.Answered.{part_finds}
-use Rattle.bl_index_read.proofs.Leaves.{TellsBehind, below_are}
+use Rattle.bl_index_read.proofs.Leaves.{TellsBehind, before_are}
 use Rattle.bl_index_read.proofs.Ranges.{below_true, filter_keeps, filter_has, rising_filter}
 use Rattle.bl_index_range.specs.Parts.{rows_below}
 use Rattle.bl_index_range.specs.Gathering.{IsLook, ReadsLeaf, LeavesLeaf, RestsAfter}
@@ -46,7 +46,7 @@ ends_at end End next goes is = let none : ⊥ = cc in absurd none
 -- what was read of the leaf's words
 pub reads_leaf : (tree : Tree) (hand hand' : Hand PassState) (pass at : ℕ) (to : Option ℕ) (turns : ℕ) (leaf : AtLeaf) (before after : List (ℕ × ℕ)) (old : PassState) → Runs tree hand' (known hand'.seat).state
     → HasLeaf tree.store.layout pass (Rows Up) at turns old hand'.seat leaf.look.glance → IsKeptLeaf tree.store.layout.pages pass old leaf.look.page hand'.seat leaf.look.glance → KeepsStill hand.seat hand'.seat
-    → leaf.look.from ≡ at → leaf.look.rows ≡ length before → after ≡ before ++ rows_between at to (pairs_of (read_words hand'.seat)) → TellsBehind to (read_words hand'.seat) leaf.behind
+    → leaf.look.from ≡ at → leaf.look.rows ≡ length before → after ≡ before ++ rows_between at to (pairs_of (read_words hand'.seat)) → TellsBehind Up to (read_words hand'.seat) leaf.behind
     → ReadsLeaf tree hand hand' pass at to turns leaf before after old
 reads_leaf tree hand hand' pass at to turns leaf before after old runs has kept still start count listed tells = record {
   runs = runs;
@@ -55,7 +55,7 @@ reads_leaf tree hand hand' pass at to turns leaf before after old runs has kept 
   still = still;
   start = start;
   count = count;
-  listed = listed ∙ ap (λ (z : List (ℕ × ℕ)). before ++ z) (sym (below_are at (read_words hand'.seat) (known hand'.seat) has.leaf to));
+  listed = listed ∙ ap (λ (z : List (ℕ × ℕ)). before ++ z) (sym (before_are Up at (read_words hand'.seat) (known hand'.seat) has.leaf to));
   goes = tells has.leaf.page has.leaf.ends.0.next has.leaf.leads.0 has.leaf.is has.leaf.ends.1.next;
 }
 
@@ -66,7 +66,7 @@ leaves_leaf tree hand' hand'' pass at turns glance old has ended idle within = r
   rests = record { idle = idle; within = within; over = ended.0.runs };
   first = ended.0.notes.first ∙ has.since.beginning;
   seen = ended.0.notes.seen;
-  does = (ReplyRows has.leaf.ends.0.rows has.leaf.ends.0.next, part_finds tree.store.layout pass at turns old hand'.seat (known hand''.seat) glance has ended);
+  does = (ReplyRows has.leaf.ends.0.rows has.leaf.ends.0.next, part_finds tree.store.layout pass Up at turns old hand'.seat (known hand''.seat) glance has ended);
 }
 
 -- the rows of a leaf that lie below its end all lie below the range's

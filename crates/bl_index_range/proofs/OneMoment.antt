@@ -20,12 +20,13 @@ use Rattle.bl_tree_worlds.proofs.Pushes.{history_of-push}
 use Rattle.bl_one_moment.specs.Moments.{HasFirmMoments, Adjoin, IsRange}
 use Rattle.bl_one_moment.proofs.Together.{range_agrees}
 use Rattle.bl_index_rule.proofs.Entries.{own-push}
+use Rattle.bl_proc.specs.declared.parts.Direction.TheVariants.{Up}
 use Rattle.bl_index_read.specs.LeafRows.{IsBelow, is_below, IsOver}
 use Rattle.bl_index_read.specs.Searching.{Finds}
 use Rattle.bl_index_read.proofs.Ranges.{below_true, filter_keeps, filter_has, rising_filter, rising_behind}
 use Rattle.bl_index_range.specs.Ranges.{IsPartWithin, IsAtOneMoment}
 use Rattle.bl_index_range.specs.Parts.{rows_below}
-use Rattle.bl_index_range.proofs.Told.{IsPartOf, part_is, history_append}
+use Rattle.bl_index_range.proofs.Told.{TellsPart, part_tells, history_append}
 use Rattle.bl_index_range.proofs.PartsMade.{part_entry}
 
 -- ---- the last rows behind the others
@@ -44,7 +45,7 @@ below_last to None key over below = tt
 below_last None (Some e) key over below = absurd over
 below_last (Some end) (Some e) key over below = omega (arith, over, below)
 
-module _ (m : Map) (from at : ℕ) (to : Option ℕ) (rows : List (ℕ × ℕ)) (reply : Reply) (kept : ListsPairs m (λ key. (from ≤ key) × (key < at)) rows) (last : IsPartOf m at reply) (low : from ≤ at) (below : IsBelow to at) (over : IsOver to (ended_at reply)) where
+module _ (m : Map) (from at : ℕ) (to : Option ℕ) (rows : List (ℕ × ℕ)) (reply : Reply) (kept : ListsPairs m (λ key. (from ≤ key) × (key < at)) rows) (last : TellsPart Up m at reply) (low : from ≤ at) (below : IsBelow to at) (over : IsOver to (ended_at reply)) where
   more : List (ℕ × ℕ)
   more = rows_below to reply
 
@@ -56,7 +57,7 @@ module _ (m : Map) (from at : ℕ) (to : Option ℕ) (rows : List (ℕ × ℕ)) 
 
   pub lists_all : ListsPairs m (λ key. (from ≤ key) × IsBelow to key) (rows ++ rows_below to reply)
   lists_all = record {
-    rising = rising_behind at rows (rows_below to reply) kept.rising (rising_filter (λ r. is_below to r.0) (rows_of reply) last.rising) first_keys last_keys;
+    rising = rising_behind at rows (rows_below to reply) kept.rising (rising_filter (λ r. is_below to r.0) (rows_of reply) last.ordered) first_keys last_keys;
     pairs = λ key value. (
       (λ has. elim (Contains-append_cases rows (rows_below to reply) (key, value) has) [
         | inl h ↦ let there = (kept.pairs key value).0 h in (there.0, (there.1.0, below_first to at key below there.1.1))
@@ -109,7 +110,7 @@ module _ (first : List (Option Page)) (start : State Page) (pages pass turns fro
         let may : MayAnswer (final_map (first_map first) (history_of before)) (Part at) reply = (legal_rest (first_map first) (history_of before) (e ∷ history_of rest) (subst (IsLegalFrom (first_map first)) all legal)).0 in
         let kept : IsRange (first_map first) there from at rows = range_agrees (first_map first) start there from at rows firm adjoin in
         let kept_before : ListsPairs (final_map (first_map first) (history_of before)) (λ key. (from ≤ key) × (key < at)) rows = subst (λ (m : Map). ListsPairs m (λ key. (from ≤ key) × (key < at)) rows) same_map kept in
-        let lists = lists_all (final_map (first_map first) (history_of before)) from at to rows reply kept_before (part_is _ at reply may) low below over in
+        let lists = lists_all (final_map (first_map first) (history_of before)) from at to rows reply kept_before (part_tells Up _ at reply may) low below over in
         record {
           before = history_of further;
           last = e;

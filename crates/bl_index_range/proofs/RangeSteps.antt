@@ -83,7 +83,7 @@ module _ (tree : Tree) (hand hand' : Hand PassState) (limits : RangeLimits) (fro
 
     finds : Finds old.first tree.store.layout.pages hand.number limits.turns (OpPart g.at) said inv.mid.trail e.trail
     finds = subst (λ (z : List (Option Page)). Finds z tree.store.layout.pages hand.number limits.turns (OpPart g.at) said inv.mid.trail e.trail) inv.first
-        (part_finds tree.store.layout hand.number g.at limits.turns inv.mid hand'.seat e leaf.look.glance r.has ended)
+        (part_finds tree.store.layout hand.number Up g.at limits.turns inv.mid hand'.seat e leaf.look.glance r.has ended)
 
     made : MakesParts old.first tree.store.layout.pages hand.number limits.turns from to (inv.parts ++ part_entry hand.number g.at said ∷ []) old.trail e.trail
     made = makes_more old.first tree.store.layout.pages hand.number limits.turns from to inv.parts g.at said old.trail inv.mid.trail e.trail inv.makes inv.low inv.below finds

@@ -1,43 +1,74 @@
 -- What a part tells of the map, and where its entry stands.
-use Rattle.std.proofs.Common.{◌≡◌, ℕ, ◌<◌, ◌≤◌, Bool, true, false, Option, Some, None, List, [], ◌∷◌, ◌++◌, cond, refl, sym, ap, ◌∙◌, subst, append_assoc}
+use Rattle.std.proofs.Common.{◌≡◌, ℕ, ◌-◌, ◌<◌, Bool, true, false, Option, Some, List, [], ◌∷◌, ◌++◌, length, reverse, cond, refl, sym, ap, ◌∙◌, subst, append_assoc, arith}
 use Rattle.std.specs.Prelude.{◌↔◌, ◌==◌, Contains}
-use Rattle.std.proofs.lemmas.List.{append_cancel_left}
+use Rattle.std.proofs.lemmas.List.{append_cancel_left, length-reverse, get_or-reverse, reverse-reverse}
 use Rattle.bl_model.specs.Map.{Map, MayAnswer}
 use Rattle.bl_model.specs.History.{IsLegalFrom, final_map, entries_of_pass}
 use Rattle.bl_model.specs.Parts.{rows_of, ended_at}
-use Rattle.bl_model.specs.Rows.{HasRisingKeys}
+use Rattle.bl_model.specs.Rows.{key_at, HasRisingKeys}
 use Rattle.bl_model.specs.declared.operation.Entry.{Entry}
 use Rattle.bl_model.specs.declared.operation.Next.TheVariants.{More, End}
-use Rattle.bl_model.specs.declared.operation.Op.TheVariants.{Part}
 use Rattle.bl_model.specs.declared.operation.Reply.{Reply}
 use Rattle.bl_model.specs.declared.operation.Reply.TheVariants.{Rows}
 use Rattle.bl_model.proofs.Histories.{legal_rest, entries_of_pass-append}
 use Rattle.bl_claims.specs.Trails.{Trail, history_of, entries_at}
-use Rattle.bl_index_read.specs.LeafRows.{IsBelow}
+use Rattle.bl_proc.specs.declared.parts.Direction.{Direction}
+use Rattle.bl_proc.specs.declared.parts.Direction.TheVariants.{Up, Down}
+use Rattle.bl_proc.specs.Parts.{op_toward}
+use Rattle.bl_index_read.specs.LeafRows.{IsBefore, IsFrom, AreInOrder}
 
--- an end behind a key
-abbrev pub IsBehind : ℕ → Option ℕ → Type 0
-IsBehind key None = Unit {0}
-IsBehind key (Some end) = key < end
+-- ---- the reply of a part
 
--- the reply of a part: the pairs of the map from its key on up to where it ended
-pub record IsPartOf (m : Map) (from : ℕ) (reply : Reply) : Type 0 where
-  pub rising : HasRisingKeys (rows_of reply)
-  pub further : IsBehind from (ended_at reply)
-  pub pairs : (key value : ℕ) → Contains (rows_of reply) (key, value) ↔ ((m key ≡ Some value) × (from ≤ key) × IsBelow (ended_at reply) key)
+-- rows that rise from the back fall
+falling_of : (rows : List (ℕ × ℕ)) → HasRisingKeys (reverse rows) → AreInOrder Down rows
+falling_of rows h i j lt within =
+    let n : length (reverse rows) ≡ length rows = length-reverse rows in
+    let at : (k : ℕ) → k < length rows → key_at (reverse rows) (length rows - 1 - k) ≡ key_at rows k = λ k low.
+    let place : length rows - 1 - (length rows - 1 - k) ≡ k = omega (arith, low) in
+    ap (λ (r : ℕ × ℕ). r.0) (get_or-reverse rows (length rows - 1 - k) (0, 0) (omega (arith, low))) ∙ ap (key_at rows) place in
+    omega (arith, at i (omega (arith, lt, within)), at j within, h (length rows - 1 - j) (length rows - 1 - i) (omega (arith, lt, within)) (omega (arith, n, lt, within)))
 
-pub part_is : (m : Map) (from : ℕ) (reply : Reply) → MayAnswer m (Part from) reply → IsPartOf m from reply
-part_is m from (Rows rows (More next)) may = record {
-  rising = may.1.rising;
+in_reversed : (xs : List (ℕ × ℕ)) (x : ℕ × ℕ) → Contains (reverse xs) x → Contains xs x
+in_reversed xs x (k, lt, is) = let n = length-reverse xs in (length xs - 1 - k, omega (arith, n, lt), sym (get_or-reverse xs k x (omega (arith, n, lt))) ∙ is)
+
+of_reversed : (xs : List (ℕ × ℕ)) (x : ℕ × ℕ) → Contains xs x → Contains (reverse xs) x
+of_reversed xs x c = in_reversed (reverse xs) x (subst (λ (z : List (ℕ × ℕ)). Contains z x) (sym (reverse-reverse xs)) c)
+
+-- the pairs of the map from its key on up to where it ended, upwards or downwards
+pub record TellsPart (direction : Direction) (m : Map) (from : ℕ) (reply : Reply) : Type 0 where
+  pub ordered : AreInOrder direction (rows_of reply)
+  pub further : IsBefore direction (ended_at reply) from
+  pub pairs : (key value : ℕ) → Contains (rows_of reply) (key, value) ↔ ((m key ≡ Some value) × IsFrom direction from key × IsBefore direction (ended_at reply) key)
+
+pub part_tells : (direction : Direction) (m : Map) (from : ℕ) (reply : Reply) → MayAnswer m (op_toward direction from) reply → TellsPart direction m from reply
+part_tells Up m from (Rows rows (More next)) may = record {
+  ordered = may.1.rising;
   further = may.0;
   pairs = λ key value. let both = may.1.pairs key value in (λ c. let there = both.0 c in (there.0, there.1.0, there.1.1), λ (is, low, high). both.1 (is, (low, high)));
 }
-part_is m from (Rows rows End) may = record {
-  rising = may.rising;
+part_tells Up m from (Rows rows End) may = record {
+  ordered = may.rising;
   further = tt;
   pairs = λ key value. let both = may.pairs key value in (λ c. let there = both.0 c in (there.0, there.1, tt), λ (is, low, high). both.1 (is, low));
 }
-part_is m from reply may = absurd may
+part_tells Up m from reply may = absurd may
+part_tells Down m from (Rows rows (More next)) may = record {
+  ordered = falling_of rows.items may.1.rising;
+  further = may.0;
+  pairs = λ key value. let both = may.1.pairs key value in (
+    λ c. let there = both.0 (of_reversed rows.items (key, value) c) in (there.0, there.1.1, there.1.0),
+    λ (is, high, low). in_reversed rows.items (key, value) (both.1 (is, (low, high))),
+  );
+}
+part_tells Down m from (Rows rows End) may = record {
+  ordered = falling_of rows.items may.rising;
+  further = tt;
+  pairs = λ key value. let both = may.pairs key value in (
+    λ c. let there = both.0 (of_reversed rows.items (key, value) c) in (there.0, there.1, tt),
+    λ (is, high, low). in_reversed rows.items (key, value) (both.1 (is, high)),
+  );
+}
+part_tells Down m from reply may = absurd may
 
 -- ---- where an entry stands
 

@@ -74,7 +74,7 @@ pub record ReadsLeaf (tree : Tree) (hand hand' : Hand PassState) (pass at : ℕ)
   pub start : leaf.look.from ≡ at
   pub count : leaf.look.rows ≡ length before
   pub listed : after ≡ before ++ rows_below to (ReplyRows has.leaf.ends.0.rows has.leaf.ends.0.next)
-  pub goes : GoesOnWithin to (ended_at (ReplyRows has.leaf.ends.0.rows has.leaf.ends.0.next)) leaf.behind
+  pub goes : GoesOnWithin Up to (ended_at (ReplyRows has.leaf.ends.0.rows has.leaf.ends.0.next)) leaf.behind
 
 -- The part is over, and the range stops: there was no room for what was read of its leaf, or it ran out of turns.
 abbrev pub LeavesLeaf : List (Option Page) → ℕ → ℕ → ℕ → ℕ → RangeFault → Trail → Trail → Type 0

@@ -110,7 +110,14 @@ fn read_leaf(
         from: at,
         rows: rows.len(),
     };
-    match give_rows::<_, _, Appending>(&shown, hand, portion.first, portion.last, rows) {
+    match give_rows::<_, _, Appending>(
+        &shown,
+        hand,
+        Direction::Up,
+        portion.first,
+        portion.last,
+        rows,
+    ) {
         Ok(()) => Ok(AtLeaf {
             look,
             behind: portion.behind,

@@ -13,7 +13,6 @@ use Rattle.bl_answers.specs.declared.answers.Answer.{Answer}
 use Rattle.bl_answers.specs.declared.answers.Answer.TheVariants.{Op}
 use Rattle.bl_proc.specs.declared.kinds.Proc.{Proc}
 use Rattle.bl_proc.specs.declared.parts.Direction.{Direction}
-use Rattle.bl_proc.specs.declared.parts.Direction.TheVariants.{Up, Down}
 use Rattle.bl_proc.specs.declared.parts.PartRows.{PartRows}
 use Rattle.bl_proc.specs.declared.parts.PartStage.TheVariants as part
 use Rattle.bl_proc.specs.declared.searching.FindStage.TheVariants as find
@@ -95,8 +94,5 @@ part_answered direction from rows state e = subst (λ (z : Proc). Answered z (op
   tidy = λ marks tidy. tidy;
 })
 
-pub part_finds : (l : Layout) (pass from turns : ℕ) (old : PassState) (h : Seat (Unit {0}) (View PassState)) (e : PassState) (glance : Glance) (has : HasLeaf l pass (Rows Up) from turns old h glance) → ends (known h) 0 e → Finds old.first l.pages pass turns (op.Part from) (reply.Rows has.leaf.ends.0.rows has.leaf.ends.0.next) old.trail e.trail
-part_finds l pass from turns old h e glance has ended = finds l pass (Rows Up) from turns old h e glance has ended (op.Part from) _ (part_answered Up from has.leaf.ends.0 _ has.leaf.ends.2)
-
-pub part_down_finds : (l : Layout) (pass from turns : ℕ) (old : PassState) (h : Seat (Unit {0}) (View PassState)) (e : PassState) (glance : Glance) (has : HasLeaf l pass (Rows Down) from turns old h glance) → ends (known h) 0 e → Finds old.first l.pages pass turns (op.PartDown from) (reply.Rows has.leaf.ends.0.rows has.leaf.ends.0.next) old.trail e.trail
-part_down_finds l pass from turns old h e glance has ended = finds l pass (Rows Down) from turns old h e glance has ended (op.PartDown from) _ (part_answered Down from has.leaf.ends.0 _ has.leaf.ends.2)
+pub part_finds : (l : Layout) (pass : ℕ) (direction : Direction) (from turns : ℕ) (old : PassState) (h : Seat (Unit {0}) (View PassState)) (e : PassState) (glance : Glance) (has : HasLeaf l pass (Rows direction) from turns old h glance) → ends (known h) 0 e → Finds old.first l.pages pass turns (op_toward direction from) (reply.Rows has.leaf.ends.0.rows has.leaf.ends.0.next) old.trail e.trail
+part_finds l pass direction from turns old h e glance has ended = finds l pass (Rows direction) from turns old h e glance has ended (op_toward direction from) _ (part_answered direction from has.leaf.ends.0 _ has.leaf.ends.2)

@@ -4,6 +4,7 @@ pub mod Ways
 pub mod Setting
 pub mod Keeping
 pub mod Answered
+pub mod Orders
 pub mod Ranges
 pub mod Picked
 pub mod Portions

@@ -1,11 +1,12 @@
--- The rows of a leaf from a key on, and those of them below an end.
-use Rattle.std.proofs.Common.{◌≡◌, ℕ, zero, suc, ◌+◌, ◌-◌, ◌*◌, ◌<◌, ◌≤◌, Bool, true, false, Option, Some, None, inl, inr, List, [], ◌∷◌, ◌++◌, length, get_or, take, drop, refl, sym, ap, ◌∙◌, subst, append_assoc, arith}
+-- The rows of a leaf from a key on, and those of them before an end.
+use Rattle.std.proofs.Common.{◌≡◌, ⊎_elim, cond, reverse, append-nil, ℕ, zero, suc, ◌+◌, ◌-◌, ◌*◌, ◌<◌, ◌≤◌, Bool, true, false, Option, Some, None, inl, inr, List, [], ◌∷◌, ◌++◌, length, get_or, take, drop, refl, sym, ap, ◌∙◌, subst, append_assoc, arith}
 use Rattle.std.specs.Prelude.{filter, nat_le, nat_lt}
-use Rattle.std.proofs.lemmas.Bool.{cases_eq}
+use Rattle.std.proofs.lemmas.Bool.{cases_eq, cases_lt}
 use Rattle.std.proofs.lemmas.Bool.Decides.{nat_tests}
-use Rattle.std.proofs.lemmas.List.{get_or_default, get_or-drop, length-drop}
+use Rattle.std.proofs.lemmas.List.{get_or_default, get_or-drop, length-drop, reverse-append, reverse-reverse}
+use Rattle.std.proofs.lemmas.List.Elements.{filter-append}
 use Rattle.std.specs.List.Sorted.{IsPartitionPoint}
-use Rattle.bl_model.specs.Map.{ListsPairs}
+use Rattle.bl_model.specs.Map.{Map, ListsPairs}
 use Rattle.bl_model.specs.Rows.{map_of, key_at}
 use Rattle.bl_model.proofs.Parts.{IsPlaceOf}
 use Rattle.bl_model.proofs.Falling.{IsCountTo}
@@ -17,10 +18,12 @@ use Rattle.bl_page.specs.Words.{words_of}
 use Rattle.bl_page.specs.Nodes.{IsTreePage, node_of}
 use Rattle.bl_proc_routes.proofs.Spellings.{tree_pairs, tree_lists}
 use Rattle.bl_proc.specs.declared.parts.PartRows.{PartRows}
-use Rattle.bl_proc.specs.Parts.{IsPartOf}
+use Rattle.bl_proc.specs.declared.parts.Direction.TheVariants.{Down}
+use Rattle.bl_proc.specs.Parts.{IsPartOf, IsPartDownOf}
 use Rattle.bl_proc.proofs.Rising.{first_from, lists_from, rising_keys}
-use Rattle.bl_proc_deterministic.proofs.Listings.{lists_one}
-use Rattle.bl_index_read.specs.LeafRows.{is_below, rows_from, rows_between, EndsBefore}
+use Rattle.bl_proc_deterministic.proofs.Listings.{lists_one, back_one}
+use Rattle.bl_index_read.specs.LeafRows.{is_below, is_before, rows_from, rows_between, EndsBefore, first_above}
+use Rattle.bl_index_read.proofs.Orders.{above_into, above_out}
 use Rattle.bl_index_read.proofs.Ranges.{first_rows, none_fails, filter_keeps, filter_has, rising_filter}
 
 le_true : (a b : ℕ) → a ≤ b → nat_le a b ≡ true
@@ -34,6 +37,9 @@ le_is a b h = grind (arith, nat_tests, h)
 
 lt_true : (a b : ℕ) → a < b → nat_lt a b ≡ true
 lt_true a b h = grind (arith, nat_tests)
+
+lt_is : (a b : ℕ) → nat_lt a b ≡ true → a < b
+lt_is a b h = grind (arith, nat_tests, h)
 
 lt_false : (a b : ℕ) → b ≤ a → nat_lt a b ≡ false
 lt_false a b h = grind (arith, nat_tests)
@@ -228,3 +234,59 @@ module _ (c : Page) (words : List ℕ) (from : ℕ) (tree : IsTreePage c) (is : 
 
   pub part_rows : (part : PartRows) → IsPartOf c from part → part.rows.items ≡ rows_from from (pairs_of words)
   part_rows part lists = lists_one (node_of c).look (λ key. from ≤ key) part.rows.items (rows_from from (pairs_of words)) lists.rows (listed_rows (rows_from from (pairs_of words)) refl)
+
+-- ---- what a scan downwards takes
+
+-- of listed pairs those whose keys pass
+lists_kept : (m : Map) (T U : ℕ → Type 0) (p : ℕ → Bool) (rows : List (ℕ × ℕ)) → ListsPairs m T rows → ((key : ℕ) → T key → p key ≡ true → U key) → ((key : ℕ) → U key → T key × (p key ≡ true)) → ListsPairs m U (filter (λ row. p row.0) rows)
+lists_kept m T U p rows all into out = record {
+  rising = rising_filter (λ row. p row.0) rows all.rising;
+  pairs = λ key value. (
+    λ c. let has = filter_has (λ row. p row.0) rows (key, value) c in let there = (all.pairs key value).0 has.0 in (there.0, into key there.1 has.1),
+    λ (is, taken). let both = out key taken in filter_keeps (λ row. p row.0) rows (key, value) ((all.pairs key value).1 (is, both.0)) both.1,
+  );
+}
+
+kept_back : {X : Type 0} (b : Bool) (x : X) (ys : List X) → reverse (cond b (x ∷ ys) ys) ≡ reverse ys ++ cond b (x ∷ []) []
+kept_back true x ys = reverse-append (x ∷ []) ys
+kept_back false x ys = sym (append-nil (reverse ys))
+
+back_filter : {X : Type 0} (p : X → Bool) (xs : List X) → reverse (filter p xs) ≡ filter p (reverse xs)
+back_filter p [] = refl
+back_filter p (x ∷ xs) =
+    kept_back (p x) x (filter p xs) ∙ (ap (λ (z : List _). z ++ cond (p x) (x ∷ []) []) (back_filter p xs)
+    ∙ sym (ap (filter p) (reverse-append (x ∷ []) xs) ∙ filter-append p (reverse xs) (x ∷ [])))
+
+module _ (c : Page) (words : List ℕ) (from : ℕ) (tree : IsTreePage c) (is : words ≡ words_of c) (to : Option ℕ) where
+  abbrev Taken : ℕ → Type 0
+  Taken key = (first_above to ≤ key) × (key < from + 1)
+
+  abbrev window : List (ℕ × ℕ)
+  window = rows_between (first_above to) (Some (from + 1)) (pairs_of words)
+
+  lists_window : ListsPairs (node_of c).look Taken window
+  lists_window = lists_kept (node_of c).look (λ key. first_above to ≤ key) Taken (λ key. is_below (Some (from + 1)) key) (rows_from (first_above to) (pairs_of words))
+      (listed_rows c words (first_above to) tree is (rows_from (first_above to) (pairs_of words)) refl)
+      (λ key low lt. (low, lt_is key (from + 1) lt))
+      (λ key taken. (taken.0, lt_true key (from + 1) taken.1))
+
+  pub down_rows : (part : PartRows) → IsPartDownOf c from part → filter (λ row. is_before Down to row.0) part.rows.items ≡ reverse window
+  down_rows part lists =
+      let kept : ListsPairs (node_of c).look Taken (filter (λ row. is_before Down to row.0) (reverse part.rows.items)) = lists_kept (node_of c).look (λ key. key ≤ from) Taken (λ key. is_before Down to key) (reverse part.rows.items) lists.rows
+      (λ key le above. (above_into to key above, omega (arith, le)))
+      (λ key taken. (let high = taken.1 in omega (arith, high), above_out to key taken.0)) in
+      back_one (node_of c).look Taken (filter (λ row. is_before Down to row.0) part.rows.items) (reverse window)
+      (subst (ListsPairs (node_of c).look Taken) (sym (back_filter (λ row. is_before Down to row.0) part.rows.items)) kept)
+      (subst (ListsPairs (node_of c).look Taken) (sym (reverse-reverse window)) lists_window)
+
+-- the places of the least key that it takes, and behind the greatest
+pub ends_at : (rows : List (ℕ × ℕ)) (low from first last : ℕ) → IsPlaceOf rows low first → IsCountTo rows from last → low ≤ from → EndsBefore rows (Some (from + 1)) first last
+ends_at rows low from first last place count le = record {
+  behind = ⊎_elim
+      (λ (lt : last < first). let within = place.in_range in absurd (omega (arith, le, place.before last lt, count.behind last (omega arith) (omega arith))))
+      (λ (is : first ≤ last). is)
+      (cases_lt last first);
+  in_range = count.in_range;
+  below = λ i low lt. lt_true (key_at rows i) (from + 1) (let high = count.before i lt in omega arith);
+  others = λ i low lt. lt_false (key_at rows i) (from + 1) (let high = count.behind i low lt in omega arith);
+}

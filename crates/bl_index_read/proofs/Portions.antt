@@ -1,7 +1,10 @@
--- What a scan reads of a leaf's words: that it begins with a key, and that it ends below the scan's end.
-use Rattle.std.proofs.Common.{◌≡◌, ℕ, zero, suc, ◌<◌, ◌≤◌, Option, Some, None, List, [], ◌∷◌, length, get_or, sym, subst, arith}
+-- What a scan reads of a leaf's words: that it begins with a key, that it ends below the scan's end, and how the scan goes on.
+use Rattle.std.proofs.Common.{◌≡◌, ℕ, zero, suc, ◌-◌, ◌^◌, ◌<◌, ◌≤◌, Option, Some, None, List, [], ◌∷◌, length, get_or, sym, ap, subst, arith}
 use Rattle.std.proofs.lemmas.Bool.Decides.{nat_tests}
 use Rattle.bl_model.specs.Rows.{key_at}
+use Rattle.bl_model.specs.Parts.{next_key}
+use Rattle.bl_model.specs.declared.operation.Next.{Next}
+use Rattle.bl_model.specs.declared.operation.Next.TheVariants.{More, End}
 use Rattle.bl_model.proofs.Parts.{IsPlaceOf}
 use Rattle.bl_page.specs.declared.page.Page.{Page}
 use Rattle.bl_page.specs.declared.page.Page.TheVariants as page
@@ -11,7 +14,10 @@ use Rattle.bl_page.specs.Words.{words_of}
 use Rattle.bl_page.proofs.FaultLemmas.{fits}
 use Rattle.bl_page.specs.Nodes.{IsTreePage}
 use Rattle.bl_proc_routes.proofs.Spellings.{tree_pairs}
-use Rattle.bl_index_read.specs.LeafRows.{IsBelow, EndsBefore, IsLastBelow}
+use Rattle.bl_proc.specs.declared.parts.Direction.TheVariants.{Down}
+use Rattle.bl_proc.specs.Parts.{GoesOnBelow}
+use Rattle.bl_index_read.specs.declared.leaf_rows.Behind.TheVariants.{Part, Nothing}
+use Rattle.bl_index_read.specs.LeafRows.{IsBelow, IsBefore, first_above, GoesOnWithin, EndsBefore, IsLastBelow}
 use Rattle.bl_index_read.proofs.Picked.{count_is}
 use Rattle.bl_index_read.proofs.Ranges.{below_true}
 
@@ -53,3 +59,19 @@ module _ (c : Page) (words : List ℕ) (tree : IsTreePage c) (e : words ≡ word
       below : (end : Option ℕ) → IsLastBelow end last → (i : ℕ) → i < length (pairs_of words) → IsBelow end (key_at (pairs_of words) i)
       below None l i lt = tt
       below (Some end) l i lt = let w = within_each (get_or words 1 0) (get_or words 2 0) (pairs_of words) (all_within c words tree e) i lt in let h = end_is (get_or words 2 0) (omega (arith, some, bound)) in omega (arith, l, w.1, h, bound, low)
+
+-- ---- how a scan downwards goes on
+
+pub goes_down : (to : Option ℕ) (least low page : ℕ) (next : Next) → least ≡ first_above to → GoesOnBelow low next → least < low → low < 2 ^ 64 → GoesOnWithin Down to (next_key next) (Part (low - 1) page)
+goes_down to least low page (More key) is goes lt fits = (ap Some (let e : key ≡ low - 1 = omega (arith, goes) in e), omega (arith, fits), above to is)
+  where
+    above : (end : Option ℕ) → least ≡ first_above end → IsBefore Down end (low - 1)
+    above None e = tt
+    above (Some end) e = omega (arith, e, lt)
+goes_down to least low page End is goes lt fits = absurd (omega (arith, goes, lt))
+
+pub ends_down : (to : Option ℕ) (least low : ℕ) (next : Next) → least ≡ first_above to → GoesOnBelow low next → low ≤ least → GoesOnWithin Down to (next_key next) Nothing
+ends_down None least low (More key) is goes le = omega (arith, is, goes, le)
+ends_down None least low End is goes le = tt
+ends_down (Some end) least low (More key) is goes le = omega (arith, is, goes, le)
+ends_down (Some end) least low End is goes le = tt

@@ -1,5 +1,5 @@
--- Rows with rising keys: what a filter keeps, and rows behind rows.
-use Rattle.std.proofs.Common.{◌≡◌, ◌⊎◌, ℕ, zero, suc, ◌<◌, ◌≤◌, Bool, true, false, Option, Some, None, List, [], ◌∷◌, ◌++◌, get_or, take, cond, refl, sym, ap, ◌∙◌, arith, inl, inr, ⊎_elim}
+-- Rows with keys in order: what a filter keeps, and rows behind rows.
+use Rattle.std.proofs.Common.{◌≡◌, ◌⊎◌, ℕ, zero, suc, ◌<◌, ◌≤◌, Bool, true, false, Option, Some, None, List, [], ◌∷◌, ◌++◌, get_or, take, cond, refl, sym, ap, ◌∙◌, subst, arith, inl, inr, ⊎_elim}
 use Rattle.std.specs.Prelude.{All, AllPairs, Contains, filter}
 use Rattle.std.proofs.lemmas.List.{get_or_default}
 use Rattle.std.proofs.lemmas.List.Kept.{AllPairs-cons, AllPairs-filter}
@@ -9,7 +9,10 @@ use Rattle.std.proofs.lemmas.List.Sorted.{IsNonDecreasingBy-from_default}
 use Rattle.std.proofs.lemmas.Bool.{cases_eq}
 use Rattle.std.proofs.lemmas.Bool.Decides.{nat_tests}
 use Rattle.bl_model.specs.Rows.{HasRisingKeys}
-use Rattle.bl_index_read.specs.LeafRows.{IsBelow, is_below}
+use Rattle.bl_proc.specs.declared.parts.Direction.{Direction}
+use Rattle.bl_proc.specs.declared.parts.Direction.TheVariants.{Up}
+use Rattle.bl_index_read.specs.LeafRows.{IsBelow, is_below, IsBefore, IsFrom, AreInOrder}
+use Rattle.bl_index_read.proofs.Orders.{before_from}
 
 -- ---- a test that keeps rows
 
@@ -54,34 +57,42 @@ module _ {X : Type 0} (p : X → Bool) where
     All-contains (λ y. p y ≡ true) (filter p xs) x (filter_passes p xs) c,
   )
 
--- ---- rising keys
+-- ---- keys in order
 
-abbrev Below : (ℕ × ℕ) → (ℕ × ℕ) → Type 0
-Below a b = a.0 < b.0
+abbrev Before : Direction → (ℕ × ℕ) → (ℕ × ℕ) → Type 0
+Before direction a b = IsBefore direction (Some b.0) a.0
 
-rises : (xs : List (ℕ × ℕ)) → HasRisingKeys xs → AllPairs Below xs
-rises xs h i j d lt within =
-    let x : (get_or xs i d).0 ≡ (get_or xs i (0, 0)).0 = ap (λ (r : ℕ × ℕ). r.0) (get_or_default xs i d (0, 0) (omega arith)) in
-    let y : (get_or xs j d).0 ≡ (get_or xs j (0, 0)).0 = ap (λ (r : ℕ × ℕ). r.0) (get_or_default xs j d (0, 0) (omega arith)) in
-    omega (arith, x, y, h i j lt within)
+ordered : (direction : Direction) (xs : List (ℕ × ℕ)) → AreInOrder direction xs → AllPairs (Before direction) xs
+ordered direction xs h i j d lt within =
+    let x : (get_or xs i (0, 0)).0 ≡ (get_or xs i d).0 = ap (λ (r : ℕ × ℕ). r.0) (get_or_default xs i (0, 0) d (omega arith)) in
+    let y : (get_or xs j (0, 0)).0 ≡ (get_or xs j d).0 = ap (λ (r : ℕ × ℕ). r.0) (get_or_default xs j (0, 0) d (omega arith)) in
+    subst (λ (z : ℕ × ℕ). IsBefore direction (Some z.1) z.0) (λ k. (x k, y k)) (h i j lt within)
 
-rising : (xs : List (ℕ × ℕ)) → AllPairs Below xs → HasRisingKeys xs
-rising xs h i j lt within = h i j (0, 0) lt within
+in_order : (direction : Direction) (xs : List (ℕ × ℕ)) → AllPairs (Before direction) xs → AreInOrder direction xs
+in_order direction xs h i j lt within = h i j (0, 0) lt within
+
+pub order_filter : (direction : Direction) (p : ℕ × ℕ → Bool) (xs : List (ℕ × ℕ)) → AreInOrder direction xs → AreInOrder direction (filter p xs)
+order_filter direction p xs h = in_order direction (filter p xs) (AllPairs-filter (Before direction) p xs (ordered direction xs h))
+
+behind : (direction : Direction) (n : ℕ) (xs ys : List (ℕ × ℕ)) → AllPairs (Before direction) xs → AllPairs (Before direction) ys
+    → All (λ r. IsBefore direction (Some n) r.0) xs → All (λ r. IsFrom direction n r.0) ys → AllPairs (Before direction) (xs ++ ys)
+behind direction n [] ys a b low high = b
+behind direction n (x ∷ xs) ys a b low high =
+    let here : IsBefore direction (Some n) x.0 = low 0 x (omega arith) in
+    AllPairs-cons (Before direction) x (xs ++ ys)
+    (All-append (Before direction x) xs ys (λ k d lt. a 0 (suc k) d (omega arith) (omega arith)) (All-weaker (λ r. IsFrom direction n r.0) (Before direction x) (λ r from. before_from direction n x.0 r.0 here from) ys high))
+    (behind direction n xs ys (λ i j d lt within. a (suc i) (suc j) d (omega arith) (omega arith)) b (λ k d lt. low (suc k) d (omega arith)) high)
+
+-- rows from a key on stand behind those before it
+pub order_behind : (direction : Direction) (n : ℕ) (xs ys : List (ℕ × ℕ)) → AreInOrder direction xs → AreInOrder direction ys
+    → All (λ r. IsBefore direction (Some n) r.0) xs → All (λ r. IsFrom direction n r.0) ys → AreInOrder direction (xs ++ ys)
+order_behind direction n xs ys a b low high = in_order direction (xs ++ ys) (behind direction n xs ys (ordered direction xs a) (ordered direction ys b) low high)
 
 pub rising_filter : (p : ℕ × ℕ → Bool) (xs : List (ℕ × ℕ)) → HasRisingKeys xs → HasRisingKeys (filter p xs)
-rising_filter p xs h = rising (filter p xs) (AllPairs-filter Below p xs (rises xs h))
+rising_filter p xs h = order_filter Up p xs h
 
-behind : (n : ℕ) (xs ys : List (ℕ × ℕ)) → AllPairs Below xs → AllPairs Below ys → All (λ r. r.0 < n) xs → All (λ r. n ≤ r.0) ys → AllPairs Below (xs ++ ys)
-behind n [] ys a b low high = b
-behind n (x ∷ xs) ys a b low high =
-    let here : x.0 < n = low 0 x (omega arith) in
-    AllPairs-cons Below x (xs ++ ys)
-    (All-append (Below x) xs ys (λ k d lt. a 0 (suc k) d (omega arith) (omega arith)) (All-weaker (λ r. n ≤ r.0) (Below x) (λ r le. omega arith) ys high))
-    (behind n xs ys (λ i j d lt within. a (suc i) (suc j) d (omega arith) (omega arith)) b (λ k d lt. low (suc k) d (omega arith)) high)
-
--- rows from a key on stand behind those below it
 pub rising_behind : (n : ℕ) (xs ys : List (ℕ × ℕ)) → HasRisingKeys xs → HasRisingKeys ys → All (λ r. r.0 < n) xs → All (λ r. n ≤ r.0) ys → HasRisingKeys (xs ++ ys)
-rising_behind n xs ys a b low high = rising (xs ++ ys) (behind n xs ys (rises xs a) (rises ys b) low high)
+rising_behind n xs ys a b low high = order_behind Up n xs ys a b low high
 
 -- ---- the first rows that pass
 

@@ -1,6 +1,6 @@
 //! The rows of a leaf from a key on, upwards or downwards, by the leaf's words.
 
-ghost use Rattle.std.specs.Prelude.{◌≡◌, ◌-◌, ◌<◌, ◌≤◌, Some, IsTrue, OnOk, OnErr, length, slice_index_or, take, drop, reverse};
+ghost use Rattle.std.specs.Prelude.{◌≡◌, ◌+◌, ◌-◌, ◌^◌, ◌<◌, ◌≤◌, ℕ, Option, Some, IsTrue, OnOk, OnErr, length, slice_index_or, take, drop, reverse};
 ghost use Rattle.bl_model.proofs.Parts.{IsPlaceOf};
 ghost use Rattle.bl_model.proofs.Falling.{IsCountTo};
 ghost use Rattle.bl_model.specs.Map.{ListsPairs};
@@ -15,8 +15,9 @@ ghost use Rattle.bl_page.specs.Nodes.{node_of, IsTreePage};
 ghost use Rattle.bl_proc_routes.specs.declared.routes.Step.TheVariants as onward;
 ghost use Rattle.bl_proc_routes.specs.Routes.{Leads};
 ghost use Rattle.bl_proc_steps.specs.Descents.{Descends};
-ghost use Rattle.bl_proc.specs.Parts.{GoesOnAt, GoesOnBelow};
-ghost use Rattle.bl_index_read.specs.LeafRows.{IsBelow, GoesOnWithin, rows_from, EndsBefore, IsLastBelow};
+ghost use Rattle.bl_proc.specs.declared.parts.Direction.TheVariants as directions;
+ghost use Rattle.bl_proc.specs.Parts.{GoesOnAt, GoesOnBelow, IsPartToward};
+ghost use Rattle.bl_index_read.specs.LeafRows.{IsBelow, IsBefore, first_above, GoesOnWithin, GoesOnToward, rows_from, EndsBefore, IsLastBelow, toward, portion_of};
 
 use crate::sinks::Sink;
 use arrayvec::ArrayVec;
@@ -25,11 +26,15 @@ use bl_page::{
     FIRST_KEY, FIRST_WORD, HEAD, HIGH, KEY_BEFORE, KIND_UNIT, LEVEL_UNIT, LOW, Pairs, RIGHT, Words,
     word,
 };
+use bl_proc::{Direction, PartRows};
 use bl_proc_steps::{Descended, Descent};
 use std::alloc::AllocError;
 
 /// The head of each leaf has so many units of levels: its kind, which is 2, and level 0.
 const LEAF_UNITS: u64 = 2 * (KIND_UNIT / LEVEL_UNIT);
+
+/// No page has this number.
+const NO_PAGE: u32 = u32::MAX;
 
 /// The place of the first of so many rows whose key is not below that one.
 #[inline(always)]
@@ -113,7 +118,7 @@ fn row_at<W: Words>(source: &W, hand: &mut W::Hand, place: usize) -> (u64, u64)
 /// How a scan goes on behind a leaf.
 #[derive(Clone, Copy)]
 pub enum Behind {
-    /// By the part from that key on. The leaf links to that page.
+    /// By the part from that key on, which looks at that page first, if there is such a page: upwards the leaf links to it.
     Part(u64, u32),
     /// It is over: it has come to its end, or to the end of the map.
     Nothing,
@@ -189,7 +194,7 @@ fn last_below(to: Option<u64>) -> u64
     }
 }
 
-/// What a scan takes of a leaf, from a key on and below an end, if there is one. It looks for its last row only where the leaf goes
+/// What a scan upwards takes of a leaf, from a key on and below an end, if there is one. It looks for its last row only where the leaf goes
 /// on behind that.
 #[inline(always)]
 pub fn portion_in<W: Words>(source: &W, hand: &mut W::Hand, from: u64, to: Option<u64>) -> Portion
@@ -200,7 +205,7 @@ pub fn portion_in<W: Words>(source: &W, hand: &mut W::Hand, from: u64, to: Optio
     ensures first { IsPlaceOf (pairs_of (W.shown source.now hand.old)) from result.first }
     ensures last { EndsBefore (pairs_of (W.shown source.now hand.old)) to result.first result.last }
     ensures behind { (c : Page) (next : Next) → IsTreePage c → W.shown source.now hand.old ≡ words_of c → GoesOnAt (node_of c).shape.end next
-        → GoesOnWithin to (next_key next) result.behind }
+        → GoesOnWithin directions.Up to (next_key next) result.behind }
 {
     let count = (word(source, hand, HEAD) % LEVEL_UNIT) as usize;
     let first = first_from(source, hand, count, from);
@@ -218,6 +223,81 @@ pub fn portion_in<W: Words>(source: &W, hand: &mut W::Hand, from: u64, to: Optio
             last: place_before(source, hand, first, count, to),
             behind: Behind::Nothing,
         }
+    }
+}
+
+/// The least key above an end, if there is one.
+#[inline(always)]
+fn least_above(to: Option<u64>) -> u64
+    requires { IsBefore directions.Down to (2 ^ 64 - 1) }
+    ensures { result ≡ first_above to }
+{
+    match to {
+        Some(end) => end + 1,
+        None => 0,
+    }
+}
+
+/// How a scan downwards to a least key goes on behind a leaf that begins with that one. Leaves do not link downwards.
+#[inline(always)]
+fn behind_down(low: u64, least: u64) -> Behind
+    ensures { (to : Option ℕ) (next : Next) → least ≡ first_above to → GoesOnBelow low next → GoesOnWithin directions.Down to (next_key next) result }
+{
+    if least < low {
+        Behind::Part(low - 1, NO_PAGE)
+    } else {
+        Behind::Nothing
+    }
+}
+
+/// What a scan downwards takes of a leaf, from a key on and above an end, if there is one.
+#[inline(always)]
+fn portion_down_in<W: Words>(source: &W, hand: &mut W::Hand, from: u64, to: Option<u64>) -> Portion
+    requires sees { W.Sees source.now hand.old }
+    requires pairs { HasPairs (W.shown source.now hand.old) }
+    requires above { IsBefore directions.Down to from }
+    ensures same { hand.new ≡ hand.old }
+    ensures first { IsPlaceOf (pairs_of (W.shown source.now hand.old)) (first_above to) result.first }
+    ensures last { EndsBefore (pairs_of (W.shown source.now hand.old)) (Some (from + 1)) result.first result.last }
+    ensures behind { (c : Page) (next : Next) → IsTreePage c → W.shown source.now hand.old ≡ words_of c → GoesOnBelow (node_of c).shape.low next
+        → GoesOnWithin directions.Down to (next_key next) result.behind }
+{
+    let least = least_above(to);
+    let count = (word(source, hand, HEAD) % LEVEL_UNIT) as usize;
+    let first = place_from(source, hand, count, least);
+    let end = count_to(source, hand, count, from);
+    let low = word(source, hand, LOW);
+    let behind = behind_down(low, least);
+    Portion {
+        first,
+        last: end,
+        behind,
+    }
+}
+
+/// What a scan takes of a leaf in that direction, from a key on and before an end, if there is one.
+#[inline(always)]
+pub fn portion_toward<W: Words>(
+    source: &W,
+    hand: &mut W::Hand,
+    direction: Direction,
+    from: u64,
+    to: Option<u64>,
+) -> Portion
+    requires sees { W.Sees source.now hand.old }
+    requires leaf { (c : Page) × IsTreePage c × (W.shown source.now hand.old ≡ words_of c) }
+    requires before { IsBefore direction to from }
+    ensures same { hand.new ≡ hand.old }
+    ensures order { result.first ≤ result.last }
+    ensures within { result.last ≤ length (pairs_of (W.shown source.now hand.old)) }
+    ensures rows { toward direction (take (result.last - result.first) (drop result.first (pairs_of (W.shown source.now hand.old))))
+        ≡ portion_of direction from to (pairs_of (W.shown source.now hand.old)) }
+    ensures behind { (c : Page) (next : Next) → IsTreePage c → W.shown source.now hand.old ≡ words_of c → GoesOnToward direction c next
+        → GoesOnWithin direction to (next_key next) result.behind }
+{
+    match direction {
+        Direction::Up => portion_in(source, hand, from, to),
+        Direction::Down => portion_down_in(source, hand, from, to),
     }
 }
 
@@ -254,11 +334,64 @@ fn give_between<W: Words, S, K: Sink<S>>(
     }
 }
 
-/// Gives the leaf's rows from one place up to another; or none of them, where there is no room.
+/// Gives the leaf's rows from one place up to another, the last one first, for which there is room.
+#[inline(always)]
+fn give_down<W: Words, S, K: Sink<S>>(
+    source: &W,
+    hand: &mut W::Hand,
+    first: usize,
+    last: usize,
+    state: &mut S,
+)
+    requires sees { W.Sees source.now hand.old }
+    requires pairs { HasPairs (W.shown source.now hand.old) }
+    requires order { first ≤ last }
+    requires within { last ≤ length (pairs_of (W.shown source.now hand.old)) }
+    requires ready { K.IsReady state.old }
+    requires room { K.HasRoom state.old (last - first) }
+    ensures same { hand.new ≡ hand.old }
+    ensures ready { K.IsReady state.new }
+    ensures takes { K.Takes (K.held state.old) (reverse (take (last - first) (drop first (pairs_of (W.shown source.now hand.old))))) (K.held state.new) }
+{
+    for gone in 0..last - first {
+        let row = row_at(source, hand, last - 1 - gone);
+        K::accept(state, row);
+    }
+}
+
+/// Gives the leaf's rows from one place up to another in that direction, for which there is room.
+#[inline(always)]
+fn give_toward<W: Words, S, K: Sink<S>>(
+    source: &W,
+    hand: &mut W::Hand,
+    direction: Direction,
+    first: usize,
+    last: usize,
+    state: &mut S,
+)
+    requires sees { W.Sees source.now hand.old }
+    requires pairs { HasPairs (W.shown source.now hand.old) }
+    requires order { first ≤ last }
+    requires within { last ≤ length (pairs_of (W.shown source.now hand.old)) }
+    requires ready { K.IsReady state.old }
+    requires room { K.HasRoom state.old (last - first) }
+    ensures same { hand.new ≡ hand.old }
+    ensures ready { K.IsReady state.new }
+    ensures takes { K.Takes (K.held state.old) (toward direction (take (last - first) (drop first (pairs_of (W.shown source.now hand.old)))))
+        (K.held state.new) }
+{
+    match direction {
+        Direction::Up => give_between::<_, _, K>(source, hand, first, last, state),
+        Direction::Down => give_down::<_, _, K>(source, hand, first, last, state),
+    }
+}
+
+/// Gives the leaf's rows from one place up to another in that direction; or none of them, where there is no room.
 #[inline(always)]
 pub fn give_rows<W: Words, S, K: Sink<S>>(
     source: &W,
     hand: &mut W::Hand,
+    direction: Direction,
     first: usize,
     last: usize,
     state: &mut S,
@@ -270,13 +403,14 @@ pub fn give_rows<W: Words, S, K: Sink<S>>(
     requires ready { K.IsReady state.old }
     ensures same { hand.new ≡ hand.old }
     ensures ready { K.IsReady state.new }
-    ensures takes { OnOk result (K.Takes (K.held state.old) (take (last - first) (drop first (pairs_of (W.shown source.now hand.old)))) (K.held state.new)) }
+    ensures takes { OnOk result (K.Takes (K.held state.old) (toward direction (take (last - first) (drop first (pairs_of (W.shown source.now hand.old)))))
+        (K.held state.new)) }
     ensures kept { OnErr result (K.held state.new ≡ K.held state.old) }
     ensures lacks { OnErr result (K.Lacks state.new (last - first)) }
 {
     match K::make_room(state, last - first) {
         Ok(()) => {
-            give_between::<_, _, K>(source, hand, first, last, state);
+            give_toward::<_, _, K>(source, hand, direction, first, last, state);
             Ok(())
         }
         Err(full) => Err(full),
@@ -285,7 +419,7 @@ pub fn give_rows<W: Words, S, K: Sink<S>>(
 
 /// The leaf's rows from a key on.
 #[inline(always)]
-pub(crate) fn rows_in<W: Words>(source: &W, hand: &mut W::Hand, from: u64) -> Pairs
+fn rows_in<W: Words>(source: &W, hand: &mut W::Hand, from: u64) -> Pairs
     requires sees { W.Sees source.now hand.old }
     requires pairs { HasPairs (W.shown source.now hand.old) }
     ensures same { hand.new ≡ hand.old }
@@ -315,7 +449,7 @@ fn next_after(high: u64) -> Next
 
 /// Where the part behind a leaf begins.
 #[inline(always)]
-pub(crate) fn next_in<W: Words>(source: &W, hand: &mut W::Hand) -> Next
+fn next_in<W: Words>(source: &W, hand: &mut W::Hand) -> Next
     requires sees { W.Sees source.now hand.old }
     ensures same { hand.new ≡ hand.old }
     ensures next { (c : Page) → IsTreePage c → W.shown source.now hand.old ≡ words_of c → GoesOnAt (node_of c).shape.end result }
@@ -344,7 +478,7 @@ fn count_to<W: Words>(source: &W, hand: &mut W::Hand, count: usize, from: u64) -
 
 /// The leaf's rows from a key on downwards, in falling order.
 #[inline(always)]
-pub(crate) fn rows_down_in<W: Words>(source: &W, hand: &mut W::Hand, from: u64) -> Pairs
+fn rows_down_in<W: Words>(source: &W, hand: &mut W::Hand, from: u64) -> Pairs
     requires sees { W.Sees source.now hand.old }
     requires pairs { HasPairs (W.shown source.now hand.old) }
     ensures same { hand.new ≡ hand.old }
@@ -374,7 +508,7 @@ fn next_below(low: u64) -> Next
 
 /// Where the part under a leaf begins, downwards.
 #[inline(always)]
-pub(crate) fn next_below_in<W: Words>(source: &W, hand: &mut W::Hand) -> Next
+fn next_below_in<W: Words>(source: &W, hand: &mut W::Hand) -> Next
     requires sees { W.Sees source.now hand.old }
     ensures same { hand.new ≡ hand.old }
     ensures next { (c : Page) → IsTreePage c → W.shown source.now hand.old ≡ words_of c → GoesOnBelow (node_of c).shape.low result }
@@ -382,9 +516,48 @@ pub(crate) fn next_below_in<W: Words>(source: &W, hand: &mut W::Hand) -> Next
     next_below(word(source, hand, LOW))
 }
 
+/// What a part lists of its leaf in that direction, from a key on, and where the next one begins.
+#[inline(always)]
+pub(crate) fn part_in<W: Words>(
+    source: &W,
+    hand: &mut W::Hand,
+    direction: Direction,
+    from: u64,
+) -> PartRows
+    requires sees { W.Sees source.now hand.old }
+    requires pairs { HasPairs (W.shown source.now hand.old) }
+    ensures same { hand.new ≡ hand.old }
+    ensures part { (c : Page) → IsTreePage c → W.shown source.now hand.old ≡ words_of c → IsPartToward direction c from result }
+{
+    match direction {
+        Direction::Up => {
+            let rows = rows_in(source, hand, from);
+            let next = next_in(source, hand);
+            PartRows { rows, next }
+        }
+        Direction::Down => {
+            let rows = rows_down_in(source, hand, from);
+            let next = next_below_in(source, hand);
+            PartRows { rows, next }
+        }
+    }
+}
+
+/// The page at which the part behind a leaf may look first, if the leaf links to it. Nothing is said of it.
+#[inline(always)]
+pub(crate) fn near_in<W: Words>(source: &W, hand: &mut W::Hand, direction: Direction) -> Option<u32>
+    requires sees { W.Sees source.now hand.old }
+    ensures same { hand.new ≡ hand.old }
+{
+    match direction {
+        Direction::Up => Some(link_in(source, hand)),
+        Direction::Down => None,
+    }
+}
+
 /// The page to which the leaf links. Nothing is said of it.
 #[inline(always)]
-pub(crate) fn link_in<W: Words>(source: &W, hand: &mut W::Hand) -> u32
+fn link_in<W: Words>(source: &W, hand: &mut W::Hand) -> u32
     requires sees { W.Sees source.now hand.old }
     ensures same { hand.new ≡ hand.old }
 {

@@ -220,13 +220,19 @@ pub fn end_at_leaf(tree: &Tree, hand: &mut Hand<PassState>)
     tree.store.end::<Ended>(hand);
 }
 
-// It ends, and it has its leaf; and the next one begins, which has a page in mind. The bound names it beside its pass.
+// It ends, and it has its leaf; and the next one begins. The bound names it beside its pass.
 #[inline(always)]
-fn relaunch<J: Launch>(tree: &Tree, hand: &mut Hand<PassState>, sought: Sought, key: u64, page: u32)
+fn relaunch<J: Launch>(
+    tree: &Tree,
+    hand: &mut Hand<PassState>,
+    sought: Sought,
+    key: u64,
+    near: Option<u32>,
+)
     requires runs { Runs tree.now hand.old (known hand.old.seat).state }
     requires leaf { (kind : Seeks) × (at : ℕ) × (words : List ℕ) × IsAtLeaf kind at words (known hand.old.seat) }
     requires names { (hand.old.number ≡ J.pass) × (tree.now.store.layout.pages ≡ J.pages) × (tree.now.store.layout.passes ≡ J.passes)
-        × (fresh sought key (Some page) ≡ J.process) }
+        × (fresh sought key near ≡ J.process) }
     requires next { next_of J.process ≡ act.Begin }
     requires unborn { IsUnborn J.process }
     requires course { GoesOn J.process seen.Done }
@@ -237,7 +243,7 @@ fn relaunch<J: Launch>(tree: &Tree, hand: &mut Hand<PassState>, sought: Sought, 
 {
     let _ = sought;
     let _ = key;
-    let _ = page;
+    let _ = near;
     tree.store.renew::<Ended, Began<J>>(hand);
 }
 
@@ -252,11 +258,23 @@ fn renew_near(tree: &Tree, hand: &mut Hand<PassState>, sought: Sought, key: u64,
         × Begins hand.old.number tree.now.store.layout.pages tree.now.store.layout.passes (fresh sought key (Some page)) between
         (known hand.new.seat) }
 {
-    relaunch::<Brand>(tree, hand, sought, key, page);
+    relaunch::<Brand>(tree, hand, sought, key, Some(page));
 }
 
-/// It ends, and it has its leaf; and the next one sets off, which looks at that page first. Where there is such a page, the begin of the
-/// next one is the same event.
+/// The same of one that is to get the anchor.
+#[inline(always)]
+fn renew_far(tree: &Tree, hand: &mut Hand<PassState>, sought: Sought, key: u64)
+    requires runs { Runs tree.now hand.old (known hand.old.seat).state }
+    requires leaf { (kind : Seeks) × (at : ℕ) × (words : List ℕ) × IsAtLeaf kind at words (known hand.old.seat) }
+    ensures same { IsSameHand hand.old.seat hand.new.seat × IsSameStock hand.old.seat hand.new.seat }
+    ensures runs { Runs tree.now hand.new (going sought key descent.AtAnchor) }
+    ensures observed { (between : Knows) × ends (known hand.old.seat) 0 between
+        × Begins hand.old.number tree.now.store.layout.pages tree.now.store.layout.passes (fresh sought key None) between (known hand.new.seat) }
+{
+    relaunch::<Brand>(tree, hand, sought, key, None);
+}
+
+/// It ends, and it has its leaf; and at the same event the next one sets off, which looks at that page first, if there is such a page.
 #[inline(always)]
 pub(crate) fn set_off_behind(
     tree: &Tree,
@@ -274,8 +292,7 @@ pub(crate) fn set_off_behind(
         renew_near(tree, hand, sought, key, link);
         return probe(tree, hand, sought, key, link);
     }
-    end_at_leaf(tree, hand);
-    begin_far(tree, hand, sought, key);
+    renew_far(tree, hand, sought, key);
     Descent::AtAnchor
 }
 

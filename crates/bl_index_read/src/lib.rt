@@ -13,8 +13,8 @@ mod sinks;
 mod sought;
 
 pub use finding::{OutOfTurns, find_from, find_key, find_keys};
-pub use leaf_rows::{Behind, Portion, give_rows, portion_in};
+pub use leaf_rows::{Behind, Portion, give_rows, portion_in, portion_toward};
 pub use leaf_ways::{descend_to_leaf, descend_to_page, end_at_leaf, set_off, set_off_keeping};
-pub use listing::{fetch_behind, go_behind, list_part, list_part_down};
+pub use listing::{fetch_behind, go_behind, list_part};
 pub use sinks::{Appending, Sink, Telling};
 pub use sought::Sought;

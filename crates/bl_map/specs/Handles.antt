@@ -5,6 +5,7 @@ use Rattle.bl_model.specs.declared.operation.KeyReply.{KeyReply}
 use Rattle.bl_model.specs.declared.operation.Op.{Op}
 use Rattle.bl_model.specs.declared.operation.Reply.{Reply}
 use Rattle.bl_page.specs.declared.page.Page.{Page}
+use Rattle.bl_proc.specs.declared.parts.Direction.TheVariants.{Up, Down}
 use Rattle.bl_claims.specs.Trails.{Trail}
 use Rattle.bl_index.specs.Calls.{first_of, pages_of, frames_of, IsPassOf, IsSamePass, number_of, trail, released_by, AllSwept, SweptOnce}
 use Rattle.bl_index.specs.Meetings.{Meet}
@@ -17,8 +18,7 @@ use Rattle.bl_map.specs.declared.handle.Handle.{Handle}
 use Rattle.bl_map_calls.specs.declared.upkeep.Followed.{Followed}
 use Rattle.bl_map_calls.specs.Works.{Works, Adds, Searched, Swept, FoundNoRoom}
 use Rattle.bl_map_calls.specs.Finds.{FindsMany}
-use Rattle.bl_map_calls.specs.Leasts.{FindsLeast, CountsRows}
-use Rattle.bl_map_calls.specs.Falling.{FindsGreatest}
+use Rattle.bl_map_calls.specs.Leasts.{FindsFirst, CountsRows}
 use Rattle.bl_map_calls.specs.Many.{WritesMany, StopsFull}
 use Rattle.bl_map_calls.specs.Follows.{FollowsHint, WritesLeaving}
 use Rattle.bl_map_calls.specs.Copies.{Copies}
@@ -78,11 +78,11 @@ HasFoundMany keys replies old new = FindsMany (first_map_of old) (pages_of_map o
 
 -- It has looked for the least row from a key on.
 abbrev pub HasFoundLeast : ℕ → Option (ℕ × ℕ) → Handle → Handle → Type 0
-HasFoundLeast from answer old new = FindsLeast (first_map_of old) (pages_of_map old) (number_of_seat old) from answer (seen_by old) (seen_by new)
+HasFoundLeast from answer old new = FindsFirst (first_map_of old) (pages_of_map old) (number_of_seat old) Up from answer (seen_by old) (seen_by new)
 
 -- It has looked for the greatest row up to a key.
 abbrev pub HasFoundGreatest : ℕ → Option (ℕ × ℕ) → Handle → Handle → Type 0
-HasFoundGreatest from answer old new = FindsGreatest (first_map_of old) (pages_of_map old) (number_of_seat old) from answer (seen_by old) (seen_by new)
+HasFoundGreatest from answer old new = FindsFirst (first_map_of old) (pages_of_map old) (number_of_seat old) Down from answer (seen_by old) (seen_by new)
 
 -- It has counted the rows from a key on up to an end, or to that of the map.
 abbrev pub HasCounted : ℕ → Option ℕ → ℕ → Handle → Handle → Type 0

@@ -8,20 +8,19 @@ ghost use Rattle.bl_model.specs.declared.deciding.KeyWrite.TheVariants as key_wr
 ghost use Rattle.bl_model.specs.declared.operation.KeyReply.TheVariants as replies;
 ghost use Rattle.bl_model.specs.Replies.{reply_of};
 ghost use Rattle.bl_model.specs.Writes.{write_op};
+ghost use Rattle.bl_proc.specs.declared.parts.Direction.TheVariants as directions;
 ghost use Rattle.bl_index.specs.Calls.{IsPassOf, Sweeps};
 ghost use Rattle.bl_map.specs.Seats.{IsPassOf-prop};
 ghost use Rattle.bl_map_calls.specs.declared.updating.Updated.TheVariants as updated;
 
 use bl_check::Quiet;
-use bl_index::{Appending, Hint, Index, KeyReply, KeyWrite, Pass, Reply, RoomSeen};
+use bl_index::{Direction, Hint, Index, KeyReply, KeyWrite, Pass, Reply, RoomSeen};
 use bl_load::LoadFault;
 use bl_map_calls::many::{Deletions, Insertions, Puts};
 use bl_map_calls::ranging::{self, RangeRefusal};
 use bl_map_calls::updating::{self, Updated};
 use bl_map_calls::upkeep::{self, Followed};
-use bl_map_calls::{
-    calls, copying, counting, falling, least, limiting, many, room, telling, writes,
-};
+use bl_map_calls::{calls, copying, counting, least, limiting, many, room, telling, writes};
 use bl_waiting::Waiting;
 use std::alloc::{AllocError, Global};
 use std::sync::Wait;
@@ -51,9 +50,8 @@ impl<'a> Handle<'a> {
     ghost use Rattle.bl_map.specs.Handles.{HasUpdated, HasCopied};
     ghost use Rattle.bl_map.specs.Handles.{HaveMet, KeepsHints, AreOfOne, IsHandleOver, released_in, NoneUnswept, HasSweptAgain};
     ghost use Rattle.bl_map.specs.Handles.{first_map_of, pages_of_map, frames_of_map, number_of_seat, seat_of, seen_by, waiting_of, dropped_of};
-    ghost use Rattle.bl_map_calls.specs.Scans.{Scanned};
+    ghost use Rattle.bl_map_calls.specs.Scans.{key_below, Scanned};
     ghost use Rattle.bl_map_calls.specs.Limits.{ScannedAtMost};
-    ghost use Rattle.bl_map_calls.specs.Falling.{ScannedDown};
     ghost use Rattle.bl_index_read.specs.Sinks.{Appends};
     ghost use Rattle.bl_index_read.specs.LeafRows.{IsBelow};
 
@@ -104,7 +102,7 @@ impl<'a> Handle<'a> {
         ensures searched { HasOnlySearched (op.Part from) result self.old self.new }
         ensures keeps { KeepsHints self.old self.new }
     {
-        calls::part(rt, self.index, &mut self.pass, from, near)
+        calls::part(rt, self.index, &mut self.pass, Direction::Up, from, near)
     }
 
     /// The rows of one leaf from a key on downwards, in falling order, in a `Rows` that says where it ends.
@@ -114,7 +112,8 @@ impl<'a> Handle<'a> {
         ensures searched { HasOnlySearched (op.PartDown from) result self.old self.new }
         ensures keeps { KeepsHints self.old self.new }
     {
-        calls::part_down(rt, self.index, &mut self.pass, from)
+        let index = self.index;
+        calls::part(rt, index, &mut self.pass, Direction::Down, from, &mut None)
     }
 
     /// Writes a key: what each of the calls below does.
@@ -265,10 +264,11 @@ impl<'a> Handle<'a> {
     ) -> Result<(), AllocError>
         ensures same { IsSameHandle self.old self.new }
         ensures scanned { Scanned Appends (λ many. vec_capacity rows.new - vec_len rows.new < many) (first_map_of self.old) (pages_of_map self.old)
-            (number_of_seat self.old) from to result rows.old.items rows.new.items (seen_by self.old) (seen_by self.new) }
+            (number_of_seat self.old) directions.Up from to result rows.old.items rows.new.items (seen_by self.old) (seen_by self.new) }
         ensures keeps { KeepsHints self.old self.new }
     {
-        calls::scan(rt, self.index, &mut self.pass, from, to, rows)
+        let index = self.index;
+        calls::scan(rt, index, &mut self.pass, Direction::Up, from, to, rows)
     }
 
     /// Appends the first of the rows that [`Handle::scan`] lists, so many at most, and says with which key a scan for the next ones begins:
@@ -304,10 +304,11 @@ impl<'a> Handle<'a> {
         requires { F.IsAlwaysCallable visit.old }
         ensures same { IsSameHandle self.old self.new }
         ensures tells { Scanned (FoldsTo (λ p x q. F.step p x tt q)) (λ many. ⊥) (first_map_of self.old) (pages_of_map self.old)
-            (number_of_seat self.old) from to (Ok tt) visit.old visit.new (seen_by self.old) (seen_by self.new) }
+            (number_of_seat self.old) directions.Up from to (Ok tt) visit.old visit.new (seen_by self.old) (seen_by self.new) }
         ensures keeps { KeepsHints self.old self.new }
     {
-        telling::tell(rt, self.index, &mut self.pass, from, to, visit);
+        let index = self.index;
+        telling::tell(rt, index, &mut self.pass, Direction::Up, from, to, visit);
     }
 
     /// The row of the least key, if there is one. No key below it was in the map all the while: each was absent at some moment of the call. It
@@ -326,7 +327,7 @@ impl<'a> Handle<'a> {
         ensures found { HasFoundLeast key result self.old self.new }
         ensures keeps { KeepsHints self.old self.new }
     {
-        least::least_from(rt, self.index, &mut self.pass, key)
+        least::first_toward(rt, self.index, &mut self.pass, Direction::Up, key)
     }
 
     /// The row of the least key above this one, if there is one: see [`Handle::first`]. Above the greatest number there is none, and nothing is
@@ -354,15 +355,17 @@ impl<'a> Handle<'a> {
         rows: &mut Vec<(u64, u64)>,
     ) -> Result<(), AllocError>
         ensures same { IsSameHandle self.old self.new }
-        ensures scanned { low ≤ from → ScannedDown Appends (λ many. vec_capacity rows.new - vec_len rows.new < many) (first_map_of self.old)
-            (pages_of_map self.old) (number_of_seat self.old) from low result rows.old.items rows.new.items (seen_by self.old) (seen_by self.new) }
+        ensures scanned { Scanned Appends (λ many. vec_capacity rows.new - vec_len rows.new < many) (first_map_of self.old) (pages_of_map self.old)
+            (number_of_seat self.old) directions.Down from (key_below low) result rows.old.items rows.new.items (seen_by self.old) (seen_by self.new) }
         ensures none { from < low → (result ≡ Ok tt) × (rows.new.items ≡ rows.old.items) × (seen_by self.new ≡ seen_by self.old) }
         ensures keeps { KeepsHints self.old self.new }
     {
         if from < low {
             return Ok(());
         }
-        falling::scan_down::<_, _, Appending>(rt, self.index, &mut self.pass, from, low, rows)
+        let index = self.index;
+        let to = calls::end_below(low);
+        calls::scan(rt, index, &mut self.pass, Direction::Down, from, to, rows)
     }
 
     /// Tells a callback the rows from a key on downwards to another one, both included, by falling keys: the rows of [`Handle::scan_down`],
@@ -376,14 +379,17 @@ impl<'a> Handle<'a> {
     )
         requires { F.IsAlwaysCallable visit.old }
         ensures same { IsSameHandle self.old self.new }
-        ensures tells { low ≤ from → ScannedDown (FoldsTo (λ p x q. F.step p x tt q)) (λ many. ⊥) (first_map_of self.old) (pages_of_map self.old)
-            (number_of_seat self.old) from low (Ok tt) visit.old visit.new (seen_by self.old) (seen_by self.new) }
+        ensures tells { Scanned (FoldsTo (λ p x q. F.step p x tt q)) (λ many. ⊥) (first_map_of self.old) (pages_of_map self.old)
+            (number_of_seat self.old) directions.Down from (key_below low) (Ok tt) visit.old visit.new (seen_by self.old) (seen_by self.new) }
         ensures none { from < low → (visit.new ≡ visit.old) × (seen_by self.new ≡ seen_by self.old) }
         ensures keeps { KeepsHints self.old self.new }
     {
-        if low <= from {
-            falling::tell_down(rt, self.index, &mut self.pass, from, low, visit);
+        if low > from {
+            return;
         }
+        let index = self.index;
+        let to = calls::end_below(low);
+        telling::tell(rt, index, &mut self.pass, Direction::Down, from, to, visit);
     }
 
     /// The row of the greatest key, if there is one. No key above it was in the map all the while: each was absent at some moment of the call.
@@ -401,7 +407,7 @@ impl<'a> Handle<'a> {
         ensures found { HasFoundGreatest key result self.old self.new }
         ensures keeps { KeepsHints self.old self.new }
     {
-        falling::greatest_to(rt, self.index, &mut self.pass, key)
+        least::first_toward(rt, self.index, &mut self.pass, Direction::Down, key)
     }
 
     /// The row of the greatest key below this one, if there is one: see [`Handle::last`]. Below 0 there is none, and nothing is looked for.

@@ -10,6 +10,7 @@ use Rattle.bl_load.specs.Loads.{HoldsRows, IsFaultOf}
 use Rattle.bl_load.specs.declared.fault.LoadFault.{LoadFault}
 use Rattle.bl_load.specs.declared.fault.LoadFault.TheVariants as fault
 use Rattle.bl_map_calls.specs.Copies.{IsCopyOf, Copies}
+use Rattle.bl_proc.specs.declared.parts.Direction.TheVariants.{Up}
 use Rattle.bl_map_calls.specs.Scans.{Scanned}
 
 -- what is said of an image of all rows, of its pages and of its fault, is said together
@@ -20,13 +21,13 @@ image_is rows pages fill done (Ok quiet) holds long wrong = ((holds, long), wron
 image_is rows pages fill done (Err e) holds long wrong = (holds, wrong)
 
 module _ (first : List (Option Page)) (pages pass fill room : ℕ) (before rows : List (ℕ × ℕ)) (listed : Result (Unit {0}) AllocError) (result : Result Quiet LoadFault)
-    (old new : Trail) (none : before ≡ []) (s : Scanned Appends (λ many. room < many) first pages pass 0 None listed before rows old new) where
+    (old new : Trail) (none : before ≡ []) (s : Scanned Appends (λ many. room < many) first pages pass Up 0 None listed before rows old new) where
   copied : IsCopyOf rows pages fill listed result → Copies first pages pass fill result old new
   copied copy = record {
     rows = rows;
     room = room;
     listed = listed;
-    scanned = subst (λ (z : List (ℕ × ℕ)). Scanned Appends (λ many. room < many) first pages pass 0 None listed z rows old new) none s;
+    scanned = subst (λ (z : List (ℕ × ℕ)). Scanned Appends (λ many. room < many) first pages pass Up 0 None listed z rows old new) none s;
     copy = copy;
   }
 

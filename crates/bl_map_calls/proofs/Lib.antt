@@ -9,7 +9,5 @@ pub mod Looking
 pub mod Limited
 pub mod TryByTry
 pub mod Imaged
-pub mod GivenDown
 pub mod Groups
-pub mod Downwards
 pub mod OneMoment

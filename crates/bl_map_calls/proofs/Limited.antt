@@ -10,12 +10,13 @@ use Rattle.bl_model.specs.declared.operation.Entry.{Entry}
 use Rattle.bl_model.specs.declared.operation.Op.TheVariants.{Part}
 use Rattle.bl_model.specs.declared.operation.Reply.{Reply}
 use Rattle.bl_page.specs.declared.page.Page.{Page}
+use Rattle.bl_proc.specs.declared.parts.Direction.TheVariants.{Up}
 use Rattle.bl_claims.specs.Trails.{Trail}
 use Rattle.bl_claims.specs.Seeing.{own}
 use Rattle.bl_index_read.specs.Searching.{Finds, RunsOut}
 use Rattle.bl_index_read.specs.LeafRows.{is_below, IsOver}
 use Rattle.bl_index_range.specs.Parts.{rows_below}
-use Rattle.bl_index.proofs.PartByPart.{over}
+use Rattle.bl_index_read.proofs.Orders.{past}
 use Rattle.bl_map_calls.specs.Limits.{first_key, IsNext, AreWanted, ScannedAtMost}
 use Rattle.bl_map_calls.proofs.Adding.{call_adds}
 use Rattle.bl_map_calls.proofs.Looking.{below_so, part_more}
@@ -66,7 +67,7 @@ many_rows most key rows is = ⊎_elim
 
 -- ---- the parts of a scan, by the entries that the pass has
 
-module _ (first : List (Option Page)) (pages pass from : ℕ) (to upto next : Option ℕ) (xs ys : List (ℕ × ℕ)) (old mid new : Trail) (s : HasSearched first pages pass from to upto xs old mid) (t : HasSearched first pages pass from to next ys old new) where
+module _ (first : List (Option Page)) (pages pass from : ℕ) (to upto next : Option ℕ) (xs ys : List (ℕ × ℕ)) (old mid new : Trail) (s : HasSearched first pages pass Up from to upto xs old mid) (t : HasSearched first pages pass Up from to next ys old new) where
   parts_then : (es : List Entry) → own pass new ≡ own pass mid ++ es → t.scanned.parts ≡ s.scanned.parts ++ es
   parts_then es is = append_cancel_left (own pass old) t.scanned.parts (s.scanned.parts ++ es)
       (sym t.scanned.mine ∙ (is ∙ (ap (λ (z : List Entry). z ++ es) s.scanned.mine ∙ append_assoc (own pass old) s.scanned.parts es)))
@@ -88,12 +89,12 @@ pub record HasListed (first : List (Option Page)) (pages pass from : ℕ) (to : 
   pub low : from ≤ at
   pub grown : after ≡ before ++ rows
   pub count : length rows + left ≡ most
-  pub searched : HasSearched first pages pass from to (Some at) rows old new
+  pub searched : HasSearched first pages pass Up from to (Some at) rows old new
   pub wanted : AreWanted to most searched.scanned.parts
 
 pub nothing_listed : (first : List (Option Page)) (pages pass from : ℕ) (to : Option ℕ) (most : ℕ) (before : List (ℕ × ℕ)) (old : Trail) → HasListed first pages pass from to most from most before before old old
 nothing_listed first pages pass from to most before old =
-    let s = searched_none first pages pass from to old in
+    let s = searched_none first pages pass Up from to old in
     record {
       rows = [];
       low = omega arith;
@@ -108,7 +109,7 @@ module _ (first : List (Option Page)) (pages pass it turns from : ℕ) (to : Opt
   -- the part ran out of turns
   pub listed_lost : RunsOut first pages it turns mid new → HasListed first pages pass from to most at left before middle old new
   listed_lost lost =
-      let t = searched_lost first pages pass it turns from to (Some at) s.rows old mid new same is_turns s.searched lost in
+      let t = searched_lost first pages pass it turns Up from to (Some at) s.rows old mid new same is_turns s.searched lost in
       let none : own pass new ≡ own pass mid = (call_adds first pass it mid new same lost.adds).none in
       record {
         rows = s.rows;
@@ -123,8 +124,8 @@ module _ (first : List (Option Page)) (pages pass it turns from : ℕ) (to : Opt
     abbrev more : List (ℕ × ℕ)
     more = rows_below to reply
 
-    by_part : HasSearched first pages pass from to (ended_at reply) (s.rows ++ more) old new × IsFurther (Some at) (ended_at reply)
-    by_part = part_more first pages pass it turns from to s.rows old mid new same is_turns at reply s.searched s.low (below_so to at below) finds
+    by_part : HasSearched first pages pass Up from to (ended_at reply) (s.rows ++ more) old new × IsFurther Up (Some at) (ended_at reply)
+    by_part = part_more first pages pass it turns Up from to s.rows old mid new same is_turns at reply s.searched s.low (below_so to at below) finds
 
     abbrev entry : Entry
     entry = record { pass = pass; op = Part at; reply = reply }
@@ -195,7 +196,7 @@ module _ (first : List (Option Page)) (pages pass it turns from : ℕ) (to : Opt
       pub goes_on : (key rest : ℕ) → first_key (drop left more) ≡ None → ended_at reply ≡ Some key → rest ≡ left - length more → HasListed first pages pass from to most key rest before after old new
       goes_on key rest is ends less =
           let few : length more ≤ left = few_rows left more is in
-          let on = subst (λ (z : Option ℕ). (t : HasSearched first pages pass from to z (s.rows ++ more) old new) × AreWanted to most t.scanned.parts × IsFurther (Some at) z) ends (by_part.0, wanted, by_part.1) in
+          let on = subst (λ (z : Option ℕ). (t : HasSearched first pages pass Up from to z (s.rows ++ more) old new) × AreWanted to most t.scanned.parts × IsFurther Up (Some at) z) ends (by_part.0, wanted, by_part.1) in
           let further : at ≤ key = on.2 in
           record {
             rows = s.rows ++ more;
@@ -223,7 +224,7 @@ module _ (first : List (Option Page)) (pages pass from : ℕ) (to : Option ℕ) 
 
   -- it has come to its end
   pub is_over : {E : Type 0} (room : ℕ) → is_below to at ≡ false → ScannedAtMost {E = E} first pages pass from to most room (Ok None) before after old new
-  is_over room fails = stops_so room None (over to at fails) tt
+  is_over room fails = stops_so room None (past Up to at fails) tt
 
   -- or has so many rows
   pub is_enough : {E : Type 0} (room : ℕ) → is_below to at ≡ true → left ≡ 0 → ScannedAtMost {E = E} first pages pass from to most room (Ok (Some at)) before after old new

@@ -3,6 +3,7 @@ use Rattle.std.specs.Prelude.{◌≡◌, ℕ, ◌<◌, List, [], Option, None, R
 use Rattle.std.specs.declared.alloc.AllocError.{AllocError}
 use Rattle.bl_page.specs.declared.page.Page.{Page}
 use Rattle.bl_check.specs.declared.quiet.Quiet.{Quiet}
+use Rattle.bl_proc.specs.declared.parts.Direction.TheVariants.{Up}
 use Rattle.bl_claims.specs.Trails.{Trail}
 use Rattle.bl_index_read.specs.Sinks.{Appends}
 use Rattle.bl_load.specs.Loads.{HoldsRows, IsFaultOf}
@@ -22,5 +23,5 @@ pub record Copies (first : List (Option Page)) (pages pass fill : ℕ) (result :
   pub rows : List (ℕ × ℕ)
   pub room : ℕ
   pub listed : Result (Unit {0}) AllocError
-  pub scanned : Scanned Appends (λ many. room < many) first pages pass 0 None listed [] rows old new
+  pub scanned : Scanned Appends (λ many. room < many) first pages pass Up 0 None listed [] rows old new
   pub copy : IsCopyOf rows pages fill listed result

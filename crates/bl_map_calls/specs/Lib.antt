@@ -9,5 +9,4 @@ pub mod Leasts
 pub mod Limits
 pub mod Updates
 pub mod Copies
-pub mod Falling
 pub mod Ranges

@@ -4,6 +4,7 @@ use Rattle.bl_page.specs.declared.page.Page.{Page}
 use Rattle.bl_model.specs.declared.operation.Entry.{Entry}
 use Rattle.bl_model.specs.declared.operation.Op.TheVariants.{Part}
 use Rattle.bl_model.specs.declared.operation.Reply.{Reply}
+use Rattle.bl_proc.specs.declared.parts.Direction.TheVariants.{Up}
 use Rattle.bl_claims.specs.Trails.{Trail}
 use Rattle.bl_index_read.specs.LeafRows.{IsBelow, IsOver}
 use Rattle.bl_index_read.specs.Searching.{Finds}
@@ -37,7 +38,7 @@ pub record ScannedAtMost {E : Type 0} (first : List (Option Page)) (pages pass f
   pub appended : after ≡ before ++ take most rows
   pub upto : Option ℕ
   pub mid : Trail
-  pub scanned : HasScanned first pass from to upto rows old mid
+  pub scanned : HasScanned first pass Up from to upto rows old mid
   pub searches : Searches first pages pass scanned.parts old mid
   pub wanted : AreWanted to most scanned.parts
   pub next : IfOk result (λ next. IsNext (first_key (drop most rows)) to upto next × IfSome next (λ _. most ≤ length rows) × (new ≡ mid))

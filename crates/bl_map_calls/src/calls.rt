@@ -4,6 +4,7 @@ ghost use Rattle.std.specs.Prelude.{◌≡◌, ◌-◌, ◌<◌, ◌≤◌, leng
 ghost use Rattle.std.specs.Vec.{vec_capacity};
 ghost use Rattle.bl_model.specs.declared.operation.Op.TheVariants as op;
 ghost use Rattle.bl_model.specs.declared.operation.KeyReply.TheVariants as replies;
+ghost use Rattle.bl_proc.specs.Parts.{op_toward};
 ghost use Rattle.bl_index.specs.Calls.{first_of, pages_of, IsPassOf, IsSamePass, number_of, trail};
 ghost use Rattle.bl_model.specs.Replies.{reply_of};
 ghost use Rattle.bl_model.specs.Writes.{write_op};
@@ -11,10 +12,10 @@ ghost use Rattle.bl_index_read.specs.Sinks.{Appends};
 ghost use Rattle.bl_map_calls.specs.Works.{Works, Searched, FoundNoRoom};
 ghost use Rattle.bl_map_calls.specs.Finds.{FindsMany};
 ghost use Rattle.bl_map_calls.specs.Follows.{Written};
-ghost use Rattle.bl_map_calls.specs.Scans.{Scanned};
+ghost use Rattle.bl_map_calls.specs.Scans.{key_below, Scanned};
 
 use crate::room::make_room;
-use bl_index::{ABREAST, Hint, Index, KeyReply, KeyWrite, Pass, Reply, ScanFault};
+use bl_index::{ABREAST, Direction, Hint, Index, KeyReply, KeyWrite, Pass, Reply, ScanFault};
 use std::alloc::AllocError;
 use std::sync::Wait;
 
@@ -110,41 +111,25 @@ pub fn find_many<R: Wait>(
     }
 }
 
-/// The rows of one leaf from a key on. It looks first at the page that is near, if there is one, and leaves there the page to which
-/// the leaf links.
+/// The rows of one leaf from a key on, upwards or downwards. It looks first at the page that is near, if there is one, and leaves there
+/// the page to which the leaf links in that direction, if it does.
 pub fn part<R: Wait>(
     rt: &R,
     index: &Index,
     pass: &mut Pass,
+    direction: Direction,
     from: u64,
     near: &mut Option<u32>,
 ) -> Reply
     requires { IsPassOf index.now pass.old }
     ensures same { IsSamePass pass.old pass.new }
-    ensures works { Works (first_of index.now) (number_of pass.old) (op.Part from) result (trail pass.old) (trail pass.new) }
-    ensures searched { Searched (first_of index.now) (pages_of index.now) (number_of pass.old) (op.Part from) result
+    ensures works { Works (first_of index.now) (number_of pass.old) (op_toward direction from) result (trail pass.old) (trail pass.new) }
+    ensures searched { Searched (first_of index.now) (pages_of index.now) (number_of pass.old) (op_toward direction from) result
         (trail pass.old) (trail pass.new) }
 {
     let turns = index.patience();
     for _ in rt.forever() {
-        if let Ok(reply) = index.part_near(pass, from, near, turns) {
-            return reply;
-        }
-    }
-    unreachable!()
-}
-
-/// The rows of one leaf from a key on downwards.
-pub fn part_down<R: Wait>(rt: &R, index: &Index, pass: &mut Pass, from: u64) -> Reply
-    requires { IsPassOf index.now pass.old }
-    ensures same { IsSamePass pass.old pass.new }
-    ensures works { Works (first_of index.now) (number_of pass.old) (op.PartDown from) result (trail pass.old) (trail pass.new) }
-    ensures searched { Searched (first_of index.now) (pages_of index.now) (number_of pass.old) (op.PartDown from) result
-        (trail pass.old) (trail pass.new) }
-{
-    let turns = index.patience();
-    for _ in rt.forever() {
-        if let Ok(reply) = index.part_down(pass, from, None, turns) {
+        if let Ok(reply) = index.part_toward(pass, direction, from, near, turns) {
             return reply;
         }
     }
@@ -189,11 +174,20 @@ fn note_change(index: &Index, reply: &KeyReply) {
     }
 }
 
-/// Appends the rows from a key on and below an end, if there is one. Where a part ran out of turns the scan goes on from there.
+/// Where a scan downwards ends whose last key is that one: at the greatest key below it, if there is one.
+pub fn end_below(low: u64) -> Option<u64>
+    ensures { result ≡ key_below low }
+{
+    if low == 0 { None } else { Some(low - 1) }
+}
+
+/// Appends the rows from a key on and before an end, if there is one, upwards or downwards. Where a part ran out of turns the scan goes on
+/// from there.
 pub fn scan<R: Wait>(
     rt: &R,
     index: &Index,
     pass: &mut Pass,
+    direction: Direction,
     from: u64,
     to: Option<u64>,
     rows: &mut Vec<(u64, u64)>,
@@ -201,12 +195,12 @@ pub fn scan<R: Wait>(
     requires { IsPassOf index.now pass.old }
     ensures same { IsSamePass pass.old pass.new }
     ensures scanned { Scanned Appends (λ many. vec_capacity rows.new - vec_len rows.new < many) (first_of index.now) (pages_of index.now)
-        (number_of pass.old) from to result rows.old.items rows.new.items (trail pass.old) (trail pass.new) }
+        (number_of pass.old) direction from to result rows.old.items rows.new.items (trail pass.old) (trail pass.new) }
 {
     let turns = index.patience();
     let mut at = from;
     for _ in rt.forever() {
-        match index.scan_into(pass, at, to, turns, rows) {
+        match index.scan_toward(pass, direction, at, to, turns, rows) {
             Ok(()) => return Ok(()),
             Err(ScanFault::OutOfTurns(key)) => at = key,
             Err(ScanFault::Memory(_)) => return Err(AllocError),

@@ -6,7 +6,7 @@ ghost use Rattle.bl_map_calls.specs.Copies.{Copies};
 
 use crate::calls;
 use bl_check::Quiet;
-use bl_index::{Index, Pass};
+use bl_index::{Direction, Index, Pass};
 use bl_load::{LoadFault, image_of};
 use std::alloc::Global;
 use std::sync::Wait;
@@ -24,7 +24,7 @@ pub fn copy<R: Wait>(
     ensures copies { Copies (first_of index.now) (pages_of index.now) (number_of pass.old) fill result (trail pass.old) (trail pass.new) }
 {
     let mut rows = Vec::new(alloc);
-    match calls::scan(rt, index, pass, 0, None, &mut rows) {
+    match calls::scan(rt, index, pass, Direction::Up, 0, None, &mut rows) {
         Ok(()) => image_of(alloc, rows.as_slice(), index.tree().pages, fill),
         Err(_) => Err(LoadFault::Memory),
     }

@@ -6,7 +6,7 @@
 //!
 //! Promised to `bl_map`, whose handles are a seat with what waits (`bl_waiting`) and call these by name: a call adds one entry to what
 //! the pass has seen, this operation with this reply (`specs/Works`), or those of its keys, one after another (`specs/Finds`, `Many`,
-//! `Updates`); a scan is parts and nothing else (`specs/Scans`, `Limits`, `Falling`, `Leasts`, `Copies`), and so is a range,
+//! `Updates`); a scan is parts and nothing else (`specs/Scans`, `Limits`, `Leasts`, `Copies`), and so is a range,
 //! whose rows are those of one moment (`specs/Ranges`). Upkeep adds no entry: it is posts, compressions,
 //! lowerings and sweeps of the pass's own (`specs/Follows`), and a piece is carried out, waits, or is counted as dropped (`specs/Waits`).
 #![tactic(auto)]
@@ -14,7 +14,6 @@
 pub mod calls;
 pub mod copying;
 pub mod counting;
-pub mod falling;
 pub mod least;
 pub mod limiting;
 pub mod many;

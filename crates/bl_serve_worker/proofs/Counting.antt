@@ -5,6 +5,7 @@ use Rattle.std.proofs.lemmas.Bool.Decides.{nat_tests}
 use Rattle.std.proofs.lemmas.List.Elements.{filter-append}
 use Rattle.bl_model.specs.declared.operation.Entry.{Entry}
 use Rattle.bl_model.specs.Parts.{rows_of, ended_at}
+use Rattle.bl_proc.specs.declared.parts.Direction.TheVariants.{Up}
 use Rattle.bl_serve_lines.specs.declared.listing.Until.TheVariants.{Below}
 use Rattle.bl_serve_lines.specs.declared.listing.Tells.TheVariants as tells
 use Rattle.bl_serve_lines.specs.Lines.{rows_in}
@@ -17,7 +18,7 @@ within from high low = let test : nat_lt from high ≡ true = grind (arith, nat_
 beyond : (from high : ℕ) → high ≤ from → (if nat_lt from high && true then Some from else None) ≡ None
 beyond from high over = let test : nat_lt from high ≡ false = grind (arith, nat_tests, over) in ap (λ (b : Bool). if b && true then Some from else None) test
 
-pub counted_parts : (pass high : ℕ) (from upto : Option ℕ) (es : List Entry) → ArePartsUpTo pass (Some high) from es upto → ((at : ℕ) → upto ≡ Some at → high ≤ at) → AreParts (record { from = from; until = Below high; tells = tells.Count }) es
+pub counted_parts : (pass high : ℕ) (from upto : Option ℕ) (es : List Entry) → ArePartsUpTo Up pass (Some high) from es upto → ((at : ℕ) → upto ≡ Some at → high ≤ at) → AreParts (record { from = from; until = Below high; tells = tells.Count }) es
 counted_parts pass high None upto [] parts over = refl
 counted_parts pass high (Some from) upto [] parts over = beyond from high (over from parts)
 counted_parts pass high None upto (e ∷ es) parts over = absurd parts

@@ -5,16 +5,16 @@ use Rattle.bl_ffi_seats.proofs.working.part.Goals as goal
 
 pub returns-in-Ok-clause-same : goal.returns-in-Ok-clause-same
 returns-in-Ok-clause-same c = (
-  same_number c.args.hand.now c.list.new.hand c.list.ensures.same.0,
-  c.list.ensures.first,
-  search_goes _ _ _ _ _ c.list.result _ _ c.list.ensures.answers,
+  same_number c.args.hand.now c.list_part.new.hand c.list_part.ensures.same.0,
+  c.list_part.ensures.first,
+  search_goes _ _ _ _ _ c.list_part.result _ _ c.list_part.ensures.answers,
 )
 
 pub returns-in-Err-clause-same : goal.returns-in-Err-clause-same
 returns-in-Err-clause-same c = (
-  same_number c.args.hand.now c.list.new.hand c.list.ensures.same.0,
-  c.list.ensures.first,
-  search_goes _ _ _ _ _ c.list.result _ _ c.list.ensures.answers,
+  same_number c.args.hand.now c.list_part.new.hand c.list_part.ensures.same.0,
+  c.list_part.ensures.first,
+  search_goes _ _ _ _ _ c.list_part.result _ _ c.list_part.ensures.answers,
 )
 
 pub returns-in_default-clause-same : goal.returns-in_default-clause-same

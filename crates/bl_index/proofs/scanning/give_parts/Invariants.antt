@@ -12,13 +12,13 @@ invariant-loop-behind g l = record {
   same : IsSameHand l.fn.hand.seat l.hand.seat × IsSameStock l.fn.hand.seat l.hand.seat;
   ready : g.K.Sink.IsReady l.state;
   mid : PassState;
-  stands : StandsBehind l.tree l.hand l.fn.hand.number l.behind l.way mid;
+  stands : StandsBehind l.tree l.hand l.fn.hand.number l.wanted.direction l.behind l.way mid;
   first : mid.first ≡ (known l.fn.hand.seat).first;
   seen : l.behind ≡ Nothing → IsSeen mid.first mid.trail;
   listed : List (ℕ × ℕ);
   taken : g.K.Sink.Takes (g.K.Sink.held l.fn.state) listed (g.K.Sink.held l.state);
-  so_far : IsSoFar (known l.fn.hand.seat).first l.tree.store.layout.pages l.fn.hand.number l.turns l.from l.to l.behind listed (known l.fn.hand.seat).trail mid.trail;
+  so_far : IsSoFar (known l.fn.hand.seat).first l.tree.store.layout.pages l.fn.hand.number l.wanted.turns l.wanted.direction l.from l.wanted.to l.behind listed (known l.fn.hand.seat).trail mid.trail;
 }
 
 abbrev pub decreases-loop-behind : goal.decreases-loop-behind
-decreases-loop-behind g l = left_behind l.behind
+decreases-loop-behind g l = left_behind l.wanted.direction l.behind

@@ -1,17 +1,9 @@
 use Rattle.std.proofs.Common.{subst, sym}
-use Rattle.bl_proc.specs.declared.parts.Direction.TheVariants.{Up}
-use Rattle.bl_index_read.specs.declared.sought.Sought.TheVariants as sought
 use Rattle.bl_index_read.specs.declared.leaf_rows.Behind.{Behind}
 use Rattle.bl_index_read.specs.Parts.{StandsBehind}
 use Rattle.bl_index_read.proofs.listing.go_behind.Goals as goal
 
-pub set_off_behind-requires-clause-leaf : goal.set_off_behind-requires-clause-leaf
-set_off_behind-requires-clause-leaf c = (let leaf = c.requires.leaf in (sought.Rows Up, leaf.0, leaf.1, leaf.2))
-
-pub end_at_leaf-requires-clause-leaf : goal.end_at_leaf-requires-clause-leaf
-end_at_leaf-requires-clause-leaf c = (let leaf = c.requires.leaf in (sought.Rows Up, leaf.0, leaf.1, leaf.2))
-
 pub returns-in-Part-clause-stands : goal.returns-in-Part-clause-stands
 returns-in-Part-clause-stands c =
     let off = c.set_off_behind.ensures.set_off in
-    (off.0, off.1, subst (λ (b : Behind). StandsBehind c.args.tree.now c.set_off_behind.new.hand c.args.hand.now.number b c.set_off_behind.result off.0) (sym c.in-Part.is) off.2)
+    (off.0, off.1, subst (λ (b : Behind). StandsBehind c.args.tree.now c.set_off_behind.new.hand c.args.hand.now.number c.args.direction b c.set_off_behind.result off.0) (sym c.in-Part.is) off.2)

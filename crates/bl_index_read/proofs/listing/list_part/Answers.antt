@@ -1,31 +1,28 @@
-use Rattle.std.proofs.Common.{rules, ℕ, List, ap, sym, subst, refl, ◌∙◌}
-use Rattle.bl_store.specs.Hands.{known, read_words}
+use Rattle.std.proofs.Common.{rules, ℕ, List, sym, subst, ◌∙◌}
+use Rattle.bl_store.specs.Hands.{known}
 use Rattle.bl_store.specs.declared.store.Hand.{Hand}
 use Rattle.bl_index_rule.specs.declared.known.PassState.{PassState}
 use Rattle.bl_index_rule.specs.Observed.{ends}
 use Rattle.bl_index_read.specs.declared.sought.Sought.{Sought}
-use Rattle.bl_proc.specs.declared.parts.Direction.TheVariants.{Up}
 use Rattle.bl_index_read.specs.declared.sought.Sought.TheVariants as sought
 use Rattle.bl_index_read.specs.LeafWays.{IsAtLeaf}
-use Rattle.bl_index_read.proofs.Leaves.{GoesOnBehind, leaf_pairs, part_answers}
+use Rattle.bl_index_read.proofs.Leaves.{leaf_pairs, part_answers}
 use Rattle.bl_index_read.proofs.listing.list_part.Goals as goal
 
-pub rows_in-rows-requires-clause-pairs : goal.rows_in-rows-requires-clause-pairs
-rows_in-rows-requires-clause-pairs c = leaf_pairs _ _ _ (c.in-Some.ensures.came _ _ c.set_off-way.ensures.set_off).leaf
+pub part_in-part-requires-clause-pairs : goal.part_in-part-requires-clause-pairs
+part_in-part-requires-clause-pairs c = leaf_pairs _ _ _ (c.in-Some.ensures.came _ _ c.set_off-way.ensures.set_off).leaf
 
 pub end_at_leaf-requires-clause-leaf : goal.end_at_leaf-requires-clause-leaf
 end_at_leaf-requires-clause-leaf c =
     let leaf = (c.in-Some.ensures.came _ _ c.set_off-way.ensures.set_off).leaf in
-    subst (λ (h : Hand PassState). (kind : Sought) × (from : ℕ) × (words : List ℕ) × IsAtLeaf kind from words (known h.seat)) (sym (c.link_in.ensures.same ∙ (c.next_in-next.ensures.same ∙ c.rows_in-rows.ensures.same))) (sought.Rows Up, c.args.from, _, leaf)
+    subst (λ (h : Hand PassState). (kind : Sought) × (from : ℕ) × (words : List ℕ) × IsAtLeaf kind from words (known h.seat)) (sym (c.near_in.ensures.same ∙ c.part_in-part.ensures.same)) (sought.Rows c.args.direction, c.args.from, _, leaf)
 
 pub returns-clause-answers : goal.returns-clause-answers
 returns-clause-answers c =
     let has = (c.in-Some.ensures.came _ _ c.set_off-way.ensures.set_off) in
-    let same = c.link_in.ensures.same ∙ (c.next_in-next.ensures.same ∙ c.rows_in-rows.ensures.same) in
-    let ended = subst (λ (h : Hand PassState). ends (known h.seat) 0 (known c.end_at_leaf.new.hand.seat)) same c.end_at_leaf.ensures.ended in
-    let goes : GoesOnBehind (read_words c.descend_to_leaf.new.hand.seat) c.next_in-next.result = λ page tree e. c.next_in-next.ensures.next page tree (ap (λ (h : Hand PassState). read_words h.seat) c.rows_in-rows.ensures.same ∙ e) in
+    let ended = subst (λ (h : Hand PassState). ends (known h.seat) 0 (known c.end_at_leaf.new.hand.seat)) (c.near_in.ensures.same ∙ c.part_in-part.ensures.same) c.end_at_leaf.ensures.ended in
     record {
-      answered = part_answers _ _ c.args.from c.args.turns _ c.descend_to_leaf.new.hand.seat c.end_at_leaf.new.hand.seat _ has ended c.next_in-next.result goes (record { rows = c.rows_in-rows.result; next = c.next_in-next.result }) c.rows_in-rows.ensures.rows refl;
+      answered = part_answers _ _ c.args.direction c.args.from c.args.turns _ c.descend_to_leaf.new.hand.seat c.end_at_leaf.new.hand.seat _ has ended c.part_in-part.result (c.part_in-part.ensures.part has.leaf.page has.leaf.leads.0 has.leaf.is);
       refused = tt;
     }
 
@@ -57,6 +54,5 @@ returns-in_default-clause-answers c = record { answered = tt; refused = (c.in_de
 pub returns-clause-first : goal.returns-clause-first
 returns-clause-first c =
     let has = c.in-Some.ensures.came _ _ c.set_off-way.ensures.set_off in
-    let same = c.link_in.ensures.same ∙ (c.next_in-next.ensures.same ∙ c.rows_in-rows.ensures.same) in
-    let ended = subst (λ (h : Hand PassState). ends (known h.seat) 0 (known c.end_at_leaf.new.hand.seat)) same c.end_at_leaf.ensures.ended in
+    let ended = subst (λ (h : Hand PassState). ends (known h.seat) 0 (known c.end_at_leaf.new.hand.seat)) (c.near_in.ensures.same ∙ c.part_in-part.ensures.same) c.end_at_leaf.ensures.ended in
     ended.0.notes.first ∙ has.since.beginning

@@ -4,12 +4,12 @@ use Rattle.bl_map_calls.proofs.Looking.{counted_on, counted_all, counted_up_to}
 use Rattle.bl_map_calls.proofs.counting.count.Goals as goal
 
 pub loop-init : goal.loop-init
-loop-init g c = record { same = search rules; low = omega arith; so_far = ([], searched_none _ _ _ _ _ _, search rules) }
+loop-init g c = record { same = search rules; low = omega arith; so_far = ([], searched_none _ _ _ _ _ _ _, search rules) }
 
 pub loop-preserved : goal.loop-preserved
 loop-preserved g c =
     let inv = c.loop.invariant in
-    record { same = search rules; low = inv.low; so_far = (inv.so_far.0, searched_lost _ _ _ _ _ _ _ _ _ _ _ _ inv.same.2 c.patience-turns.ensures inv.so_far.1 c.in_default.ensures.runs_out, inv.so_far.2) }
+    record { same = search rules; low = inv.low; so_far = (inv.so_far.0, searched_lost _ _ _ _ _ _ _ _ _ _ _ _ _ inv.same.2 c.patience-turns.ensures inv.so_far.1 c.in_default.ensures.runs_out, inv.so_far.2) }
 
 pub loop-preserved-in-Ok : goal.loop-preserved-in-Ok
 loop-preserved-in-Ok g c =
