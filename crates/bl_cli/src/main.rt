@@ -18,8 +18,8 @@ use bl_cli_commands::{
 };
 use bl_cli_options::{Invocation, Loading, Server, read_words};
 use bl_cli_streams::{
-    DumpFault, Piped, Remembering, SECTION_ADVICE, ScriptFile, Usage, index_line,
-    malformed_line, may_replace, noroom_line, replace_file, section_line, stats_line, used_pages,
+    DumpFault, Piped, Remembering, SECTION_ADVICE, ScriptFile, Usage, index_line, malformed_line,
+    may_replace, noroom_line, replace_file, section_line, stats_line, used_pages,
 };
 use bl_model::Watched;
 use bl_serve::{Origin, Sectioning, ServeFault, ServePlan, Summary, dump_by_plan, serve_by_plan};
@@ -197,12 +197,7 @@ fn say_wanted(rt: &HostRuntime, server: &Server)
 
 /// Ends as a server that has met a fault, where these replies were written. Where whoever read them has gone, the status alone
 /// tells it.
-fn end_serving(
-    rt: &HostRuntime,
-    server: &Server,
-    fault: ServeFault,
-    writer: Output<'_>,
-) -> ExitCode
+fn end_serving(rt: &HostRuntime, server: &Server, fault: ServeFault, writer: Output<'_>) -> ExitCode
     requires { AreWithin server.now.options }
 {
     let fault = CommandFault::from(fault);

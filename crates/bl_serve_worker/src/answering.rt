@@ -217,8 +217,9 @@ pub(crate) fn answer_share<R: Wait, G: Gate>(
     'lines: while let Some(place) = next_place(chunk.deals, share, from) {
         from = place + 1;
         let number = chunk.before + from as u64;
+        let asked = chunk.lines[place];
         let bytes = text.len();
-        answer(rt, service, aside, handle, number, chunk.lines[place], &mut text)?;
+        answer(rt, service, aside, handle, number, asked, &mut text)?;
         lengths.push(text.len() - bytes)?;
         let may_sweep = number % LINES_TO_SWEEP == 0 || chunk.lines.len() == 1;
         sweep_if_may(handle, may_sweep);

@@ -39,7 +39,12 @@ fn counted<R: Threads + Wait + Sync>(
 fn the_first_malformed_line_and_the_longest_section_are_told(rt: HostRuntime) {
     for (input, totals, first_malformed, longest) in [
         (b"".as_slice(), (0, 0, 0), None, 0),
-        (b"find 1\nfind 2\nsync\nfind 3\n".as_slice(), (4, 0, 1), None, 27),
+        (
+            b"find 1\nfind 2\nsync\nfind 3\n".as_slice(),
+            (4, 0, 1),
+            None,
+            27,
+        ),
         (b"find 1\nx\n\nsync\ny".as_slice(), (5, 3, 1), Some(2), 42),
         (
             b"sync\nfind 1\nsync\nfind 1\nfind 2\nfind 3".as_slice(),
