@@ -28,14 +28,13 @@ use std::mem;
 use std::sync::Wait;
 use std::thread::Threads;
 
-/// Counts the lines of a section, and remarks the first malformed one.
-fn count(totals: &mut Totals, remarks: &mut Remarks, lines: &ParsedLines, end: SectionEnd)
+/// Counts the lines of a section.
+fn count(totals: &mut Totals, lines: &ParsedLines, end: SectionEnd)
     requires requests { totals.old.requests + length lines.now + rests end < 2 ^ 64 }
     requires malformed { totals.old.malformed ≤ totals.old.requests }
     requires sections { totals.old.sections ≤ totals.old.requests }
     ensures { CountsSection totals.old totals.new lines.now end }
 {
-    remarks.look_at(lines, end, totals.requests);
     totals.requests += lines.len() as u64;
     totals.malformed += lines.malformed() as u64;
     totals.sections += lines.syncs() as u64;
@@ -100,7 +99,9 @@ fn serve_chunk<'a, T: Threads + Wait + Sync, R: Read, G: Gate + Sync>(
     ensures fault { IfErr result (IsInside session.entry.totals.requests (length lines.now)) }
 {
     let mut session = run_chunk(rt, service, session, lines, reader, ahead)?;
-    count(&mut session.totals, &mut session.remarks, lines, end);
+    let before = session.totals.requests;
+    session.remarks.look_at(lines, end, before);
+    count(&mut session.totals, lines, end);
     if end != SectionEnd::Rest {
         return Ok(session);
     }
