@@ -18,11 +18,11 @@ use bl_cli_commands::{
 };
 use bl_cli_options::{Invocation, Loading, Server, read_words};
 use bl_cli_streams::{
-    Counting, DumpFault, Piped, Remembering, SECTION_ADVICE, ScriptFile, Usage, index_line,
-    malformed_line, may_replace, noroom_line, replace_file, section_line, stats_line, used_pages,
+    DumpFault, Piped, Remembering, SECTION_ADVICE, ScriptFile, Usage, index_line, malformed_line,
+    may_replace, noroom_line, replace_file, section_line, stats_line, used_pages,
 };
 use bl_model::Watched;
-use bl_serve::{Origin, Sectioning, ServeFault, ServePlan, Totals, dump_by_plan, serve_by_plan};
+use bl_serve::{Origin, Sectioning, ServeFault, ServePlan, Summary, dump_by_plan, serve_by_plan};
 use clap::Error;
 use clap::error::ErrorKind;
 use std::alloc::AllocError;
@@ -176,34 +176,9 @@ fn origin_of(rt: &HostRuntime, pages: u32, image: Option<&str>) -> Result<Origin
 /// What a server has counted at its end.
 #[derive(Clone, Copy)]
 struct Counts {
-    totals: Totals,
-    /// The line of the first malformed request.
-    first_malformed: Option<u64>,
-    norooms: u64,
-    /// The bytes of the longest replies of a section.
-    longest: u64,
+    summary: Summary,
     /// The pages, where the index was closed.
     usage: Option<Usage>,
-}
-
-/// What a server writes to.
-type Replies<'a> = Watched<Counting<Piped<Printer<'a, HostRuntime>>>>;
-
-/// Standard output, for a server.
-fn replies(rt: &HostRuntime) -> Replies<'_> {
-    Watched::new(Counting::new(Piped::new(io::writer(rt))))
-}
-
-/// What was counted, where these replies were written.
-fn counts_of(totals: Totals, usage: Option<Usage>, writer: Replies<'_>) -> Counts {
-    let counting = writer.into_inner();
-    Counts {
-        totals,
-        first_malformed: counting.first_malformed(),
-        norooms: counting.norooms(),
-        longest: counting.longest(),
-        usage,
-    }
 }
 
 /// Says what a server wanted that there was no memory for.
@@ -222,16 +197,11 @@ fn say_wanted(rt: &HostRuntime, server: &Server)
 
 /// Ends as a server that has met a fault, where these replies were written. Where whoever read them has gone, the status alone
 /// tells it.
-fn end_serving(
-    rt: &HostRuntime,
-    server: &Server,
-    fault: ServeFault,
-    writer: Replies<'_>,
-) -> ExitCode
+fn end_serving(rt: &HostRuntime, server: &Server, fault: ServeFault, writer: Output<'_>) -> ExitCode
     requires { AreWithin server.now.options }
 {
     let fault = CommandFault::from(fault);
-    let piped = writer.into_inner().into_inner();
+    let piped = writer.into_inner();
     if fault == CommandFault::Write && piped.is_gone() {
         return ExitCode::from(fault.status());
     }
@@ -248,16 +218,17 @@ fn end_serving(
 /// no room, where some did.
 fn say_counts(rt: &HostRuntime, server: &Server, counts: &Counts) {
     let alloc = rt.alloc();
-    let (norooms, pages) = (counts.norooms, server.options.pages);
-    if let Some(first) = counts.first_malformed {
-        let line = malformed_line(alloc, counts.totals.malformed, first);
+    let Summary { totals, remarks } = counts.summary;
+    let (norooms, pages) = (remarks.norooms, server.options.pages);
+    if let Some(first) = remarks.first_malformed {
+        let line = malformed_line(alloc, totals.malformed, first);
         say(rt, line.map(Some));
     }
     if server.sections == Sectioning::BySync {
-        say(rt, section_line(alloc, counts.longest));
+        say(rt, section_line(alloc, remarks.longest as u64));
     }
     if server.stats {
-        let line = stats_line(alloc, &counts.totals, norooms, counts.usage);
+        let line = stats_line(alloc, &totals, norooms, counts.usage);
         say(rt, line.map(Some));
     } else if norooms > 0 {
         let line = noroom_line(alloc, norooms, pages, server.image.is_some());
@@ -283,8 +254,8 @@ fn serve_and_close<T: Threads + Wait + Sync>(
     threads: &T,
     origin: Origin,
     plan: ServePlan,
-    writer: &mut Replies<'_>,
-) -> Result<(Totals, Result<Quiet, AllocError>), ServeFault>
+    writer: &mut Output<'_>,
+) -> Result<(Summary, Result<Quiet, AllocError>), ServeFault>
     requires pages { HasPages origin }
     requires passes { MayServe plan }
 {
@@ -298,8 +269,8 @@ fn serve_alone<T: Threads + Wait + Sync>(
     threads: &T,
     origin: Origin,
     plan: ServePlan,
-    writer: &mut Replies<'_>,
-) -> Result<Totals, ServeFault>
+    writer: &mut Output<'_>,
+) -> Result<Summary, ServeFault>
     requires pages { HasPages origin }
     requires passes { MayServe plan }
 {
@@ -319,17 +290,20 @@ fn serve_from<T: Threads + Wait + Sync>(
     requires within { AreWithin server.now.options }
 {
     let plan = plan_of(server);
-    let mut writer = replies(rt);
+    let mut writer = output(rt);
     let served = if server.stats {
-        serve_and_close(rt, threads, origin, plan, &mut writer).map(|(totals, closed)| (
-            totals,
-            closed.ok().map(|quiet| used_pages(quiet.image())),
-        ))
+        serve_and_close(rt, threads, origin, plan, &mut writer).map(|(summary, closed)| Counts {
+            summary,
+            usage: closed.ok().map(|quiet| used_pages(quiet.image())),
+        })
     } else {
-        serve_alone(rt, threads, origin, plan, &mut writer).map(|totals| (totals, None))
+        serve_alone(rt, threads, origin, plan, &mut writer).map(|summary| Counts {
+            summary,
+            usage: None,
+        })
     };
     match served {
-        Ok((totals, usage)) => Ok(counts_of(totals, usage, writer)),
+        Ok(counts) => Ok(counts),
         Err(fault) => Err(end_serving(rt, server, fault, writer)),
     }
 }
@@ -387,15 +361,15 @@ fn dump<T: Threads + Wait + Sync>(
         Ok(origin) => origin,
         Err(code) => return Ok(code),
     };
-    let mut writer = replies(rt);
+    let mut writer = output(rt);
     let plan = plan_of(&server);
-    let (totals, closed) = match serve_and_close(rt, threads, origin, plan, &mut writer) {
+    let (summary, closed) = match serve_and_close(rt, threads, origin, plan, &mut writer) {
         Ok(served) => served,
         Err(fault) => return Ok(end_serving(rt, &server, fault, writer)),
     };
     let quiet = closed?;
     let usage = Some(used_pages(quiet.image()));
-    let counts = counts_of(totals, usage, writer);
+    let counts = Counts { summary, usage };
     Ok(keep(rt, &server, file, &quiet, &counts))
 }
 

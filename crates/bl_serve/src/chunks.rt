@@ -66,6 +66,7 @@ pub fn new_slots(alloc: Global, count: usize, workers: usize) -> Result<Vec<Slot
             role: role_of(number, workers),
             last: number + 1 == count,
             log: Vec::new(alloc),
+            norooms: 0,
             failed: false,
         })?;
     }
@@ -226,6 +227,7 @@ fn answer_chunk<'a, 'b, R: Threads + Wait + Sync, G: Gate + Sync, I: Read>(
         mut handles,
         mut slots,
         totals,
+        remarks,
         mut text,
     } = session;
     let (alloc, before) = (service.alloc, totals.requests);
@@ -254,6 +256,7 @@ fn answer_chunk<'a, 'b, R: Threads + Wait + Sync, G: Gate + Sync, I: Read>(
         handles,
         slots,
         totals,
+        remarks,
         text,
     })
 }
@@ -269,6 +272,7 @@ fn met<'a>(index: &Index, session: Session<'a>) -> Result<Session<'a>, AllocErro
         mut handles,
         slots,
         totals,
+        remarks,
         text,
     } = session;
     meet_all(index, &mut handles)?;
@@ -277,6 +281,7 @@ fn met<'a>(index: &Index, session: Session<'a>) -> Result<Session<'a>, AllocErro
         handles,
         slots,
         totals,
+        remarks,
         text,
     })
 }

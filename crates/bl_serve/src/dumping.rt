@@ -12,6 +12,7 @@ use crate::origin::Origin;
 use crate::serving::serve_with;
 use crate::session::ServePlan;
 use crate::starting::{open_index, plan_of};
+use crate::summary::Summary;
 use bl_check::Quiet;
 use bl_index::{CloseFault, Index, Pass};
 use bl_model::Watched;
@@ -61,10 +62,13 @@ pub fn dump_index<T: Threads + Wait + Sync, R: Read, W: Write>(
         compressors,
         sections: Sectioning::BySync,
     };
-    dump_by_plan(rt, alloc, origin, plan, reader, writer)
+    match dump_by_plan(rt, alloc, origin, plan, reader, writer) {
+        Ok((summary, closed)) => Ok((summary.totals, closed)),
+        Err(fault) => Err(fault),
+    }
 }
 
-/// The same by a plan, as `serve_by_plan` serves.
+/// The same by a plan, as `serve_by_plan` serves, and what else was counted.
 pub fn dump_by_plan<T: Threads + Wait + Sync, R: Read, W: Write>(
     rt: &T,
     alloc: Global,
@@ -72,10 +76,10 @@ pub fn dump_by_plan<T: Threads + Wait + Sync, R: Read, W: Write>(
     plan: ServePlan,
     reader: &mut Watched<R>,
     writer: &mut Watched<W>,
-) -> Result<(Totals, Result<Quiet, AllocError>), ServeFault>
+) -> Result<(Summary, Result<Quiet, AllocError>), ServeFault>
     requires pages { HasPages origin }
     requires passes { MayServe plan }
-    ensures serves { EndsServing (λ t. DumpedFrom plan.sections origin t.0 t.1) (StopsFrom plan.sections origin)
+    ensures serves { EndsServing (λ t. DumpedFrom plan.sections origin t.0.totals t.1) (StopsFrom plan.sections origin)
         (R.remaining reader.old.inner) (R.remaining reader.new.inner) (reader.new.failed ≡ true)
         (W.contents writer.old.inner) (W.contents writer.new.inner) (writer.new.failed ≡ true) result }
     ensures flushed { OnOk result (writer.new.pending ≡ false) }
@@ -83,7 +87,7 @@ pub fn dump_by_plan<T: Threads + Wait + Sync, R: Read, W: Write>(
     let threads = plan_of(plan);
     let (index, passes) = open_index(alloc, origin, plan.workers + plan.compressors)?;
     match serve_with(rt, &index, passes, reader, writer, &OpenGate, threads) {
-        Ok((totals, passes)) => Ok((totals, shut(alloc, index, passes))),
+        Ok((summary, passes)) => Ok((summary, shut(alloc, index, passes))),
         Err(fault) => Err(fault),
     }
 }

@@ -18,6 +18,7 @@ mod section_reader;
 mod serving;
 mod session;
 mod starting;
+mod summary;
 
 pub use bl_serve_lines::{Sectioning, ServeFault, Totals};
 pub use bl_serve_worker::{Gate, OpenGate, follow_hint};
@@ -26,3 +27,4 @@ pub use origin::Origin;
 pub use serving::serve;
 pub use session::ServePlan;
 pub use starting::{serve_by_plan, serve_index};
+pub use summary::{Remarks, Summary};

@@ -14,6 +14,7 @@ use std::marker::Model;
 pub struct ParsedLines {
     requests: Vec<Option<Request>>,
     malformed: usize,
+    first_malformed: Option<usize>,
     syncs: usize,
     operations: usize,
     deletions: usize,
@@ -42,6 +43,7 @@ impl ParsedLines {
         ParsedLines {
             requests: Vec::new(alloc),
             malformed: 0,
+            first_malformed: None,
             syncs: 0,
             operations: 0,
             deletions: 0,
@@ -52,9 +54,13 @@ impl ParsedLines {
     pub fn push(&mut self, request: Option<Request>) -> Result<(), AllocError>
         ensures { OnOk result (self.new ≡ self.old ++ request ∷ []) }
     {
+        let place = self.requests.len();
         self.requests.push(request)?;
         match request {
-            None => self.malformed += 1,
+            None => {
+                self.first_malformed = self.first_malformed.or(Some(place));
+                self.malformed += 1;
+            }
             Some(Request::Sync) => self.syncs += 1,
             Some(Request::Ask(Op::Delete(_))) => {
                 self.operations = self.operations.saturating_add(1);
@@ -71,6 +77,7 @@ impl ParsedLines {
     {
         self.requests.clear();
         self.malformed = 0;
+        self.first_malformed = None;
         self.syncs = 0;
         self.operations = 0;
         self.deletions = 0;
@@ -95,6 +102,15 @@ impl ParsedLines {
         ensures { result ≡ count_by is_none self.now }
     {
         self.malformed
+    }
+
+    /// The place of the first one of these, from 0. It is tested, and in no clause.
+    pub fn first_malformed(&self) -> Option<usize> {
+        let ParsedLines {
+            first_malformed,
+            ..
+        } = self;
+        *first_malformed
     }
 
     /// How many of them are a sync.

@@ -13,6 +13,7 @@ use crate::chunks::{new_slots, run_chunk};
 use crate::parsed_lines::ParsedLines;
 use crate::section_reader::{ReadAhead, SectionEnd, read_on};
 use crate::session::{Session, ThreadPlan};
+use crate::summary::{Remarks, Summary, summed_up};
 use bl_hints::Hints;
 use bl_index::{Index, Pass};
 use bl_map::{Handle, give_seats, handles_over};
@@ -98,6 +99,8 @@ fn serve_chunk<'a, T: Threads + Wait + Sync, R: Read, G: Gate + Sync>(
     ensures fault { IfErr result (IsInside session.entry.totals.requests (length lines.now)) }
 {
     let mut session = run_chunk(rt, service, session, lines, reader, ahead)?;
+    let before = session.totals.requests;
+    session.remarks.look_at(lines, end, before);
     count(&mut session.totals, lines, end);
     if end != SectionEnd::Rest {
         return Ok(session);
@@ -107,13 +110,15 @@ fn serve_chunk<'a, T: Threads + Wait + Sync, R: Read, G: Gate + Sync>(
     Ok(session)
 }
 
-/// The same session, with no text.
+/// The same session, with no text. What it had is measured.
 fn emptied(session: Session<'_>) -> Session<'_>
     ensures text { result.text.items ≡ [] }
     ensures handles { result.handles.items ≡ session.entry.handles.items }
     ensures totals { result.totals ≡ session.entry.totals }
 {
     let mut session = session;
+    let bytes = session.text.len();
+    session.remarks.measure(bytes);
     session.text.clear();
     session
 }
@@ -223,6 +228,7 @@ fn begun(
         handles,
         slots,
         totals,
+        remarks: Remarks::new(),
         text: Vec::new(alloc),
     })
 }
@@ -264,10 +270,13 @@ pub fn serve<T: Threads + Wait + Sync, R: Read, W: Write, G: Gate + Sync>(
         alone: 2,
         sections: Sectioning::BySync,
     };
-    serve_with(rt, index, passes, reader, writer, gate, plan)
+    match serve_with(rt, index, passes, reader, writer, gate, plan) {
+        Ok((summary, passes)) => Ok((summary.totals, passes)),
+        Err(fault) => Err(fault),
+    }
 }
 
-/// The same by a plan, which may have fewer threads for few requests, and other sections.
+/// The same by a plan, which may have fewer threads for few requests, and other sections. It tells what else was counted.
 pub fn serve_with<T: Threads + Wait + Sync, R: Read, W: Write, G: Gate + Sync>(
     rt: &T,
     index: &Index,
@@ -276,10 +285,10 @@ pub fn serve_with<T: Threads + Wait + Sync, R: Read, W: Write, G: Gate + Sync>(
     writer: &mut Watched<W>,
     gate: &G,
     plan: ThreadPlan,
-) -> Result<(Totals, Vec<Pass>), ServeFault>
+) -> Result<(Summary, Vec<Pass>), ServeFault>
     requires together { AreTogether index.now (seen_by passes.items) passes.items }
     requires some { 0 < vec_len passes }
-    ensures serves { EndsServing (λ t. Serves plan.sections index.now passes.items t.1.items t.0)
+    ensures serves { EndsServing (λ t. Serves plan.sections index.now passes.items t.1.items t.0.totals)
         (Stops plan.sections (pages_of index.now) (map_after (first_of index.now) (seen_by passes.items)))
         (R.remaining reader.old.inner) (R.remaining reader.new.inner) (reader.new.failed ≡ true)
         (W.contents writer.old.inner) (W.contents writer.new.inner) (writer.new.failed ≡ true) result }
@@ -301,10 +310,12 @@ pub fn serve_with<T: Threads + Wait + Sync, R: Read, W: Write, G: Gate + Sync>(
     let Session {
         plan: _,
         handles,
-        slots: _,
+        slots,
         totals,
-        text: _,
+        remarks,
+        text,
     } = session;
     give_seats(handles, &mut passes);
-    Ok((totals, passes))
+    let summary = summed_up(totals, remarks, slots.as_slice(), text.len());
+    Ok((summary, passes))
 }

@@ -2,6 +2,7 @@
 
 ghost use Rattle.std.specs.Prelude.{◌≡◌, ◌<◌, ◌≤◌, vec_len};
 
+use crate::summary::Remarks;
 use bl_map::Handle;
 use bl_serve_lines::{Sectioning, Totals};
 use bl_serve_worker::Slot;
@@ -35,6 +36,7 @@ pub struct Session<'a> {
     pub handles: Vec<Handle<'a>>,
     pub slots: Vec<Slot>,
     pub totals: Totals,
+    pub remarks: Remarks,
     pub text: Vec<u8>,
     pub ghost some: { 0 < vec_len handles },
     pub ghost paired: { vec_len slots ≡ vec_len handles },

@@ -9,6 +9,7 @@ ghost use Rattle.bl_serve.specs.Serving.{EndsServing};
 use crate::origin::Origin;
 use crate::serving::serve_with;
 use crate::session::{ServePlan, ThreadPlan};
+use crate::summary::Summary;
 use bl_check::Quiet;
 use bl_index::{Config, Index, OpenFault, Pass};
 use bl_model::Watched;
@@ -100,11 +101,14 @@ pub fn serve_index<T: Threads + Wait + Sync, R: Read, W: Write>(
         compressors,
         sections: Sectioning::BySync,
     };
-    serve_by_plan(rt, alloc, origin, plan, reader, writer)
+    match serve_by_plan(rt, alloc, origin, plan, reader, writer) {
+        Ok(summary) => Ok(summary.totals),
+        Err(fault) => Err(fault),
+    }
 }
 
-/// The same by a plan. Where each line is a section, its reply is written and flushed before the next line is read, and the history
-/// is in the order of the lines.
+/// The same by a plan, and what else was counted. Where each line is a section, its reply is written and flushed before the next line
+/// is read, and the history is in the order of the lines.
 pub fn serve_by_plan<T: Threads + Wait + Sync, R: Read, W: Write>(
     rt: &T,
     alloc: Global,
@@ -112,10 +116,10 @@ pub fn serve_by_plan<T: Threads + Wait + Sync, R: Read, W: Write>(
     plan: ServePlan,
     reader: &mut Watched<R>,
     writer: &mut Watched<W>,
-) -> Result<Totals, ServeFault>
+) -> Result<Summary, ServeFault>
     requires pages { HasPages origin }
     requires passes { MayServe plan }
-    ensures serves { EndsServing (ServedFrom plan.sections origin) (StopsFrom plan.sections origin)
+    ensures serves { EndsServing (λ s. ServedFrom plan.sections origin s.totals) (StopsFrom plan.sections origin)
         (R.remaining reader.old.inner) (R.remaining reader.new.inner) (reader.new.failed ≡ true)
         (W.contents writer.old.inner) (W.contents writer.new.inner) (writer.new.failed ≡ true) result }
     ensures flushed { OnOk result (writer.new.pending ≡ false) }
@@ -123,7 +127,7 @@ pub fn serve_by_plan<T: Threads + Wait + Sync, R: Read, W: Write>(
     let threads = plan_of(plan);
     let (index, passes) = open_index(alloc, origin, plan.workers + plan.compressors)?;
     match serve_with(rt, &index, passes, reader, writer, &OpenGate, threads) {
-        Ok((totals, _)) => Ok(totals),
+        Ok((summary, _)) => Ok(summary),
         Err(fault) => Err(fault),
     }
 }

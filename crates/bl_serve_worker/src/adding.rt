@@ -7,7 +7,7 @@ ghost use Rattle.bl_serve_lines.specs.Lines.{sum_reply, value_in as told};
 ghost use Rattle.bl_serve_worker.specs.Answering.{HasAdded, HasAnswered};
 
 use crate::answering::write;
-use bl_hints::Hints;
+use crate::aside::Aside;
 use bl_map::{Handle, KeyReply};
 use bl_model::KeyWrite;
 use bl_serve_lines::print::push_key_line;
@@ -36,7 +36,13 @@ fn sum_told(value: u64, reply: KeyReply) -> KeyReply
 }
 
 /// Puts the sum of a key's value and a number in its place: finds the value, and changes it; where it is another one by then, changes that.
-fn sum_up<R: Wait>(rt: &R, hints: &Hints, handle: &mut Handle<'_>, key: u64, added: u64) -> KeyReply
+fn sum_up<R: Wait>(
+    rt: &R,
+    aside: &mut Aside<'_>,
+    handle: &mut Handle<'_>,
+    key: u64,
+    added: u64,
+) -> KeyReply
     ensures same { IsSameHandle handle.old handle.new }
     ensures adds { HasAdded key added (reply_of result) handle.old handle.new }
 {
@@ -46,7 +52,7 @@ fn sum_up<R: Wait>(rt: &R, hints: &Hints, handle: &mut Handle<'_>, key: u64, add
     };
     for _ in rt.forever() {
         let change = KeyWrite::Change(value, value.wrapping_add(added));
-        let reply = write(rt, hints, handle, key, change);
+        let reply = write(rt, aside, handle, key, change);
         match value_in(reply) {
             Some(other) => value = other,
             None => return sum_told(value, reply),
@@ -58,7 +64,7 @@ fn sum_up<R: Wait>(rt: &R, hints: &Hints, handle: &mut Handle<'_>, key: u64, add
 /// Answers an addition.
 pub(crate) fn add<R: Wait>(
     rt: &R,
-    hints: &Hints,
+    aside: &mut Aside<'_>,
     handle: &mut Handle<'_>,
     number: u64,
     key: u64,
@@ -68,6 +74,6 @@ pub(crate) fn add<R: Wait>(
     ensures same { IsSameHandle handle.old handle.new }
     ensures answers { OnOk result (HasAnswered number (Some (Request.Add key added)) text.old.items text.new.items handle.old handle.new) }
 {
-    let reply = sum_up(rt, hints, handle, key, added);
+    let reply = sum_up(rt, aside, handle, key, added);
     push_key_line(text, number, reply)
 }

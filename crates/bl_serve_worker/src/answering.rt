@@ -10,12 +10,11 @@ ghost use Rattle.bl_serve_worker.specs.Shares.{IsNextPlace};
 ghost use Rattle.bl_serve_worker.specs.Answering.{HasAnswered, HasAnsweredAll};
 
 use crate::adding::add;
+use crate::aside::Aside;
 use crate::chunk::{Chunk, ShareOutput};
-use crate::compressing::enqueue;
 use crate::gate::Gate;
 use crate::scanning::scan;
 use crate::service::Service;
-use bl_hints::Hints;
 use bl_map::{Handle, KeyReply};
 use bl_model::{KeyWrite, Op};
 use bl_serve_lines::print::{Response, push_key_line, push_line, push_word_line};
@@ -42,7 +41,7 @@ fn sweep_if_may(handle: &mut Handle<'_>, may_sweep: bool)
 /// Writes a key. A split is posted. The hint of a thin page waits for a compressor, and so does that of a post that found no room.
 pub(crate) fn write<R: Wait>(
     rt: &R,
-    hints: &Hints,
+    aside: &mut Aside<'_>,
     handle: &mut Handle<'_>,
     key: u64,
     write: KeyWrite,
@@ -51,7 +50,7 @@ pub(crate) fn write<R: Wait>(
     ensures called { HasCalled (write_op key write) (reply_of result) handle.old handle.new }
 {
     let (reply, left) = handle.write_leaving(rt, key, write);
-    enqueue(rt, hints, left);
+    aside.take(rt, reply, left);
     reply
 }
 
@@ -123,7 +122,7 @@ fn look<R: Wait>(
 /// Carries an operation out, and answers it.
 fn operate<R: Wait>(
     rt: &R,
-    hints: &Hints,
+    aside: &mut Aside<'_>,
     handle: &mut Handle<'_>,
     number: u64,
     op: Op,
@@ -134,7 +133,7 @@ fn operate<R: Wait>(
 {
     match op.write() {
         Some((key, does)) => {
-            let reply = write(rt, hints, handle, key, does);
+            let reply = write(rt, aside, handle, key, does);
             push_key_line(text, number, reply)
         }
         None => look(rt, handle, number, op, text),
@@ -145,6 +144,7 @@ fn operate<R: Wait>(
 fn answer<R: Wait, G: Gate>(
     rt: &R,
     service: &Service<'_, G>,
+    aside: &mut Aside<'_>,
     handle: &mut Handle<'_>,
     number: u64,
     request: Option<Request>,
@@ -153,17 +153,17 @@ fn answer<R: Wait, G: Gate>(
     ensures same { IsSameHandle handle.old handle.new }
     ensures answers { OnOk result (HasAnswered number request text.old.items text.new.items handle.old handle.new) }
 {
-    let (hints, gate) = (service.hints, service.gate);
+    let gate = service.gate;
     match request {
         Some(Request::Ask(op)) => {
             gate.before(number);
-            let answered = operate(rt, hints, handle, number, op, text);
+            let answered = operate(rt, aside, handle, number, op, text);
             gate.after(number);
             answered
         }
         Some(Request::Add(key, added)) => {
             gate.before(number);
-            let answered = add(rt, hints, handle, number, key, added, text);
+            let answered = add(rt, aside, handle, number, key, added, text);
             gate.after(number);
             answered
         }
@@ -201,6 +201,7 @@ fn next_place(deals: &[u8], share: u8, from: usize) -> Option<usize>
 pub(crate) fn answer_share<R: Wait, G: Gate>(
     rt: &R,
     chunk: &Chunk<'_, G>,
+    aside: &mut Aside<'_>,
     handle: &mut Handle<'_>,
     share: u8,
 ) -> Result<ShareOutput, AllocError>
@@ -216,8 +217,9 @@ pub(crate) fn answer_share<R: Wait, G: Gate>(
     'lines: while let Some(place) = next_place(chunk.deals, share, from) {
         from = place + 1;
         let number = chunk.before + from as u64;
+        let asked = chunk.lines[place];
         let bytes = text.len();
-        answer(rt, service, handle, number, chunk.lines[place], &mut text)?;
+        answer(rt, service, aside, handle, number, asked, &mut text)?;
         lengths.push(text.len() - bytes)?;
         let may_sweep = number % LINES_TO_SWEEP == 0 || chunk.lines.len() == 1;
         sweep_if_may(handle, may_sweep);

@@ -32,6 +32,8 @@ pub struct Slot {
     /// It is the last one: where the input ends with the chunk, its handle puts the index in order behind all others.
     pub last: bool,
     pub log: Vec<ShareOutput>,
+    /// How many requests of the handle found no room, in all chunks so far.
+    pub norooms: u64,
     /// There was no memory for all that it was to write.
     pub failed: bool,
 }

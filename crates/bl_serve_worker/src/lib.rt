@@ -12,6 +12,7 @@
 
 mod adding;
 mod answering;
+mod aside;
 mod chunk;
 mod compressing;
 mod gate;

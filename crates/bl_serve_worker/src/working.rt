@@ -5,6 +5,7 @@ ghost use Rattle.bl_map.specs.Handles.{IsSameHandle, HasKeptUp, first_map_of, pa
 ghost use Rattle.bl_serve_worker.specs.Shares.{Logs, WorksOn};
 
 use crate::answering::answer_share;
+use crate::aside::Aside;
 use crate::chunk::{Chunk, Role, ShareOutput, Slot};
 use crate::gate::Gate;
 use crate::wakeup::follow_hints;
@@ -16,6 +17,7 @@ use std::sync::Wait;
 fn serve_share<R: Wait, G: Gate>(
     rt: &R,
     chunk: &Chunk<'_, G>,
+    aside: &mut Aside<'_>,
     handle: &mut Handle<'_>,
     log: &mut Vec<ShareOutput>,
     share: u8,
@@ -24,7 +26,7 @@ fn serve_share<R: Wait, G: Gate>(
     ensures logs { OnOk result (Logs (first_map_of handle.old) (pages_of_map handle.old) (suc chunk.now.before) chunk.now.deals.now chunk.now.lines.now
         (number_of_seat handle.old) (seen_by handle.old) (seen_by handle.new) log.old.items log.new.items) }
 {
-    let output = answer_share(rt, chunk, handle, share)?;
+    let output = answer_share(rt, chunk, aside, handle, share)?;
     log.push(output)?;
     Ok(())
 }
@@ -33,6 +35,7 @@ fn serve_share<R: Wait, G: Gate>(
 fn serve_shares<R: Wait, G: Gate>(
     rt: &R,
     chunk: &Chunk<'_, G>,
+    aside: &mut Aside<'_>,
     handle: &mut Handle<'_>,
     log: &mut Vec<ShareOutput>,
 ) -> Result<(), AllocError>
@@ -44,13 +47,13 @@ fn serve_shares<R: Wait, G: Gate>(
         let Ok(share) = chunk.shares.recv(rt) else {
             return Ok(());
         };
-        serve_share(rt, chunk, handle, log, share)?;
+        serve_share(rt, chunk, aside, handle, log, share)?;
         chunk.wakeup.ring_for_hints(chunk.service.hints);
     }
     unreachable!()
 }
 
-/// A worker answers lines, and leaves the output in its slot.
+/// A worker answers lines, and leaves the output in its slot. Those that found no room are added to what the slot has counted.
 fn serve_at<R: Wait, G: Gate>(
     rt: &R,
     chunk: &Chunk<'_, G>,
@@ -60,8 +63,10 @@ fn serve_at<R: Wait, G: Gate>(
     ensures { WorksOn (suc chunk.now.before) chunk.now.deals.now chunk.now.lines.now handle.old handle.new slot.new }
 {
     let mut log = Vec::new(chunk.service.alloc);
-    let served = serve_shares(rt, chunk, handle, &mut log);
+    let mut aside = Aside::new(chunk.service.hints);
+    let served = serve_shares(rt, chunk, &mut aside, handle, &mut log);
     slot.failed = served.is_err();
+    slot.norooms = slot.norooms.saturating_add(aside.norooms());
     slot.log = log;
     chunk.wakeup.worker_done();
 }

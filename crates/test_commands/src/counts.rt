@@ -1,8 +1,7 @@
 //! What a server counts at its end, and whether whoever reads its output has gone.
 
 use crate::streams::Full;
-use bl_cli_streams::{Counting, Piped, Usage, malformed_line, noroom_line, stats_line};
-use bl_model::{Watched, write_text};
+use bl_cli_streams::{Piped, Usage, malformed_line, noroom_line, stats_line};
 use bl_serve_lines::Totals;
 use std::alloc::Global;
 use std::io::Write;
@@ -69,57 +68,6 @@ fn lines_of_counts(rt: HostRuntime) -> Result<(), Fail> {
         "blink: requests 12 malformed 1 sections 2 noroom 4"
     );
     Ok(())
-}
-
-/// How many lines of no room are counted where these pieces are written one after the other.
-fn counted(alloc: Global, pieces: &[&[u8]]) -> u64 {
-    let mut writer = Watched::new(Counting::new(Full {
-        bytes: Vec::new(alloc),
-        room: 999,
-    }));
-    for piece in pieces {
-        let _ = write_text(&mut writer, piece);
-    }
-    writer.into_inner().norooms()
-}
-
-#[test]
-fn lines_on_no_room_are_counted(rt: HostRuntime) {
-    let alloc = rt.alloc();
-    let whole = b"1 noroom\n2 malformed\n3 rows 1=1\n4 noroom\n".as_slice();
-    assert_eq!(rt; counted(alloc, &[whole]), 2);
-    // wherever a piece ends
-    for at in 0..whole.len() {
-        assert_eq!(rt; counted(alloc, &[&whole[..at], &whole[at..]]), 2);
-    }
-    assert_eq!(rt; counted(alloc, &[b"1 absent\n"]), 0);
-}
-
-/// The first malformed line where these pieces are written one after the other.
-fn first_malformed(alloc: Global, pieces: &[&[u8]]) -> Option<u64> {
-    let mut writer = Watched::new(Counting::new(Full {
-        bytes: Vec::new(alloc),
-        room: 999,
-    }));
-    for piece in pieces {
-        let _ = write_text(&mut writer, piece);
-    }
-    writer.into_inner().first_malformed()
-}
-
-#[test]
-fn the_first_malformed_line_is_found(rt: HostRuntime) {
-    let alloc = rt.alloc();
-    let whole = b"8 found 12\n9 noroom\n10 malformed\n11 rows 1=1\n12 malformed\n".as_slice();
-    assert_eq!(rt; first_malformed(alloc, &[whole]), Some(10));
-    // wherever a piece ends
-    for at in 0..whole.len() {
-        assert_eq!(rt;
-            first_malformed(alloc, &[&whole[..at], &whole[at..]]),
-            Some(10)
-        );
-    }
-    assert_eq!(rt; first_malformed(alloc, &[b"1 noroom\n2 absent\n"]), None);
 }
 
 #[test]

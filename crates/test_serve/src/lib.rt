@@ -18,4 +18,6 @@ mod served;
 #[cfg(test)]
 mod streams;
 #[cfg(test)]
+mod summaries;
+#[cfg(test)]
 mod texts;

@@ -26,7 +26,7 @@ fn end<R: Threads + Wait + Sync, I: Read + Drop, O: Write + Drop>(
     let mut writer = Watched::new(writer);
     let origin = Origin::Empty(8);
     let ended = serve_by_plan(rt, alloc, origin, plan, &mut reader, &mut writer);
-    (ended, writer.into_inner())
+    (ended.map(|summary| summary.totals), writer.into_inner())
 }
 
 /// Whether so many workers and compressors write these lines for those, and what they count.

@@ -45,7 +45,7 @@ returns-in-Ok-clause-serves g c =
       output = h.output;
       consumed = h.consumed;
       wrote = h.wrote;
-      ok = (served_image c.args.plan.sections c.args.origin _ c.in_ok-index.index c.in_ok-index.passes.items s.0.now c.in-Ok.totals c.shut.result h.input h.output c.in_ok-index.ensures s.0.served left, s.1);
+      ok = (served_image c.args.plan.sections c.args.origin _ c.in_ok-index.index c.in_ok-index.passes.items s.0.now c.in-Ok.summary.totals c.shut.result h.input h.output c.in_ok-index.ensures s.0.served left, s.1);
       fault = tt;
     }
 

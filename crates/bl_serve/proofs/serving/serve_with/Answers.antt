@@ -1,6 +1,7 @@
 use Rattle.std.proofs.Common.{◌≡◌, ◌∙◌, ◌++◌, List, [], length, refl, sym, ap, subst, true, arith}
 use Rattle.std.proofs.lemmas.Result.{err_from_is_err_and}
 use Rattle.bl_serve_lines.specs.declared.serving.ServeFault.TheVariants.{Memory}
+use Rattle.bl_serve_lines.specs.declared.serving.Totals.{Totals}
 use Rattle.bl_serve_lines.specs.Served.{Stops}
 use Rattle.bl_serve_lines.proofs.Known.{consumes_start, appends_start}
 use Rattle.bl_index.specs.declared.index.Pass.{Pass}
@@ -72,6 +73,6 @@ returns-clause-serves g c =
       output = h.output;
       consumed = h.consumed;
       wrote = h.wrote;
-      ok = (subst (λ (z : List Pass × List Pass). Serves c.args.plan.sections c.args.index.now z.0 z.1 c.in_ok-session.session.totals h.input h.output) (λ i. (seats i, sym back i)) h.ok.0, h.ok.1);
+      ok = (subst (λ (z : List Pass × List Pass × Totals). Serves c.args.plan.sections c.args.index.now z.0 z.1 z.2 h.input h.output) (λ i. (seats i, sym back i, sym c.summed_up-summary.ensures i)) h.ok.0, h.ok.1);
       fault = tt;
     }

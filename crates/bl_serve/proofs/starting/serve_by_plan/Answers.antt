@@ -19,7 +19,7 @@ returns-in-Ok-clause-serves g c =
       output = h.output;
       consumed = h.consumed;
       wrote = h.wrote;
-      ok = (served_from c.args.plan.sections c.args.origin _ c.in_ok-index.index c.in_ok-index.passes.items c.in_ok-index.ensures c.in-Ok.field-0-1.items c.in-Ok.totals h.input h.output s.0, s.1);
+      ok = (served_from c.args.plan.sections c.args.origin _ c.in_ok-index.index c.in_ok-index.passes.items c.in_ok-index.ensures c.in-Ok.field-0-1.items c.in-Ok.summary.totals h.input h.output s.0, s.1);
       fault = tt;
     }
 

@@ -1,0 +1,9 @@
+use Rattle.bl_serve.proofs.starting.serve_index.Goals as goal
+
+pub returns-in-Ok-clause-serves : goal.returns-in-Ok-clause-serves
+returns-in-Ok-clause-serves g c = let h = c.serve_by_plan.ensures.serves in
+    record { input = h.input; ahead = h.ahead; output = h.output; consumed = h.consumed; wrote = h.wrote; ok = rw c.in-Ok.is at h.ok; fault = tt }
+
+pub returns-in-Err-clause-serves : goal.returns-in-Err-clause-serves
+returns-in-Err-clause-serves g c = let h = c.serve_by_plan.ensures.serves in
+    record { input = h.input; ahead = h.ahead; output = h.output; consumed = h.consumed; wrote = h.wrote; ok = tt; fault = rw c.in-Err.is at h.fault }
