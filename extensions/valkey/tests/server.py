@@ -99,9 +99,14 @@ class Client:
         return self("DEBUG", "DIGEST-VALUE", key)[0]
 
     def saved(self, word, begun, status):
-        """BGSAVE or BGREWRITEAOF, to its end."""
+        """BGSAVE or BGREWRITEAOF, to its end. The server may be saving already: for a replica, or by its own rules."""
+
+        def has_ended():
+            return all(self.info("persistence", it) == "0" for it in begun)
+
+        until(has_ended, 60)
         self(word)
-        until(lambda: all(self.info("persistence", it) == "0" for it in begun), 60)
+        until(has_ended, 60)
         if self.info("persistence", status) != "ok":
             raise AssertionError(f"{word} has failed")
 
