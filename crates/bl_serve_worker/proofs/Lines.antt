@@ -127,7 +127,7 @@ pub counted_line : (a b : Handle) (n low high count : ℕ) (before head counted 
 counted_line a b n low high count before head counted after small headed more is c =
     let s = c.scanned in let kept : List (ℕ × ℕ) = rows_before (Below high) (rows_in s.parts) in
     let rows_are : c.rows ≡ kept = s.listed ∙ kept_of_all (λ row. nat_lt row.0 high) s.parts in
-    let few = few_below (rows_in s.parts) high (subst HasRisingKeys rows_are s.rising) in let long = ap length rows_are in let answer = c.count in
+    let few = few_below (rows_in s.parts) high (subst HasRisingKeys rows_are s.ordered) in let long = ap length rows_are in let answer = c.count in
     let all : count ≡ length kept = omega (arith, few, long, answer, small) in record {
       answer = Scanned (listing.Count low high) s.parts;
       is_for = Scans (listing.Count low high) s.parts (counted_parts (number_of_seat a) high (Some low) c.upto s.parts s.are_parts (λ at is. rw is at c.over));
