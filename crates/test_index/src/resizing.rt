@@ -32,7 +32,7 @@ fn found(index: &Index, pass: &mut Pass, keys: u64) -> u64
 {
     let mut found = 0;
     for key in 0..keys {
-        if index.find(pass, key, 1_000) == Ok(KeyReply::Found(key + 5)) {
+        if index.find(pass, key, 1_000) == Ok(KeyReply::Found(key.wrapping_add(5))) {
             found += 1;
         }
     }
