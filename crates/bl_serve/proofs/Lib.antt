@@ -16,3 +16,4 @@ pub mod Faults
 pub mod Continuing
 pub mod Beginning
 pub mod Leaving
+pub mod Noting

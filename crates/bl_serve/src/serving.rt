@@ -5,6 +5,7 @@ ghost use Rattle.std.specs.Io.KnownBytes.{Appends, Consumes, IsAtEnd};
 ghost use Rattle.bl_serve_lines.specs.Served.{Stops};
 ghost use Rattle.bl_index.specs.Calls.{first_of, pages_of, map_after};
 ghost use Rattle.bl_map.specs.Handles.{seats_of};
+ghost use Rattle.bl_serve.specs.Noting.{HaveNoted, StillNote};
 ghost use Rattle.bl_serve.specs.Reading.{EndsReading, ReadsOn};
 ghost use Rattle.bl_serve.specs.Sections.{CountsSection, rests};
 ghost use Rattle.bl_serve.specs.Serving.{AreMet, AreTogether, EndsServing, FailsSection, IsInside, Serves, ServesSection, seen_by};
@@ -14,6 +15,7 @@ use crate::parsed_lines::ParsedLines;
 use crate::section_reader::{ReadAhead, SectionEnd, read_on};
 use crate::session::{Session, ThreadPlan};
 use crate::summary::{Remarks, Summary, summed_up};
+use bl_changes::Changes;
 use bl_hints::Hints;
 use bl_index::{Index, Pass};
 use bl_map::{Handle, give_seats, handles_over};
@@ -97,6 +99,8 @@ fn serve_chunk<'a, T: Threads + Wait + Sync, R: Read, G: Gate + Sync>(
     ensures reads { OnOk result (ReadsOn ahead.old ahead.new (R.remaining reader.old.inner) (R.remaining reader.new.inner) (reader.new.failed ≡ true)) }
     ensures consumes { (more : List ℕ) × Consumes (R.remaining reader.old.inner) (R.remaining reader.new.inner) more }
     ensures fault { IfErr result (IsInside session.entry.totals.requests (length lines.now)) }
+    ensures noted { IfOk result (λ back. service.now.keeps ≡ true
+        → StillNote (seats_of session.entry.handles.items) session.entry.changes (seats_of back.handles.items) back.changes) }
 {
     let mut session = run_chunk(rt, service, session, lines, reader, ahead)?;
     let before = session.totals.requests;
@@ -110,21 +114,24 @@ fn serve_chunk<'a, T: Threads + Wait + Sync, R: Read, G: Gate + Sync>(
     Ok(session)
 }
 
-/// The same session, with no text. What it had is measured.
+/// The same session, with no changes and no text. What text it had is measured.
 fn emptied(session: Session<'_>) -> Session<'_>
     ensures text { result.text.items ≡ [] }
+    ensures came { result.changes.came.items ≡ [] }
+    ensures went { result.changes.went.items ≡ [] }
     ensures handles { result.handles.items ≡ session.entry.handles.items }
     ensures totals { result.totals ≡ session.entry.totals }
 {
     let mut session = session;
     let bytes = session.text.len();
     session.remarks.measure(bytes);
+    session.changes.clear();
     session.text.clear();
     session
 }
 
 /// Reads a section, answers it and counts its lines, in chunks: while the lines of one are answered, the next ones are read. The
-/// text then holds the output, and nothing else.
+/// text then holds the output, and nothing else, and the changes are those of the section, where changes are noted.
 fn serve_section<'a, T: Threads + Wait + Sync, R: Read, G: Gate + Sync>(
     rt: &T,
     service: &Service<'_, G>,
@@ -135,7 +142,7 @@ fn serve_section<'a, T: Threads + Wait + Sync, R: Read, G: Gate + Sync>(
 ) -> Result<(Session<'a>, SectionEnd), ServeFault>
     requires met { AreMet service.now.index.now session.handles.items }
     requires requests { session.totals.requests < 2 ^ 64 }
-    ensures { (requests : List (Option Request)) × (rest : List ℕ) × (more : List ℕ)
+    ensures serves { (requests : List (Option Request)) × (rest : List ℕ) × (more : List ℕ)
         × Consumes (R.remaining reader.old.inner) (R.remaining reader.new.inner) more
         × MatchResult result
         (λ t. EndsReading service.now.sections (Ok t.1) (2 ^ 64 - 1 - session.entry.totals.requests) requests rest (ahead.old.source ++ more) ahead.new.source
@@ -145,6 +152,7 @@ fn serve_section<'a, T: Threads + Wait + Sync, R: Read, G: Gate + Sync>(
         (seats_of session.entry.handles.items) (seats_of t.0.handles.items))
         (λ fault. (left : List ℕ) × FailsSection service.now.sections fault session.entry.totals.requests (2 ^ 64 - 1 - session.entry.totals.requests) requests rest
         (ahead.old.source ++ more) left (IsAtEnd (R.remaining reader.new.inner)) (reader.new.failed ≡ true)) }
+    ensures noted { IfOk result (λ t. service.now.keeps ≡ true → HaveNoted (seats_of session.entry.handles.items) (seats_of t.0.handles.items) t.0.changes) }
 {
     let mut session = emptied(session);
     let mut chunk = FIRST_CHUNK;
@@ -229,6 +237,7 @@ fn begun(
         slots,
         totals,
         remarks: Remarks::new(),
+        changes: Changes::new(alloc),
         text: Vec::new(alloc),
     })
 }
@@ -303,6 +312,7 @@ pub fn serve_with<T: Threads + Wait + Sync, R: Read, W: Write, G: Gate + Sync>(
         hints: &hints,
         gate,
         sections: plan.sections,
+        keeps: false,
         alloc,
     };
     let fresh = begun(alloc, plan, handles)?;
@@ -313,6 +323,7 @@ pub fn serve_with<T: Threads + Wait + Sync, R: Read, W: Write, G: Gate + Sync>(
         slots,
         totals,
         remarks,
+        changes: _,
         text,
     } = session;
     give_seats(handles, &mut passes);

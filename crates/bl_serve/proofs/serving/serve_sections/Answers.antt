@@ -35,7 +35,7 @@ loop-section-init g c = record {
 
 -- the section could not be read whole, or not be answered
 pub returns-in_err-back-clause-serves : goal.returns-in_err-back-clause-serves
-returns-in_err-back-clause-serves g c = let i = c.loop-section.invariant in let e = c.in_err-back.ensures in let p = err_from_is_err_and c.from_residual-in_err-back.result c.from_residual-in_err-back.ensures.1 in
+returns-in_err-back-clause-serves g c = let i = c.loop-section.invariant in let e = c.in_err-back.ensures.serves in let p = err_from_is_err_and c.from_residual-in_err-back.result c.from_residual-in_err-back.ensures.1 in
     rw (p.1, p.2) (record {
       input = i.input;
       ahead = c.loop-section.ahead.source ++ e.2;
@@ -52,7 +52,7 @@ serve_section-requires-clause-met g c κs within = let i = c.loop-section.invari
 
 -- its output was not written whole
 pub returns-in-Err-clause-serves : goal.returns-in-Err-clause-serves
-returns-in-Err-clause-serves g c = let i = c.loop-section.invariant in let e = c.in_ok-back.ensures in let ends = e.4.0 in let counts = e.4.1 in let s = e.4.2 in
+returns-in-Err-clause-serves g c = let i = c.loop-section.invariant in let e = c.in_ok-back.ensures.serves in let ends = e.4.0 in let counts = e.4.1 in let s = e.4.2 in
     let w = c.in-Err.ensures.err in record {
       input = i.input;
       ahead = c.loop-section.ahead.source ++ e.2;
@@ -65,7 +65,7 @@ returns-in-Err-clause-serves g c = let i = c.loop-section.invariant in let e = c
     }
 
 pub returns-then-ne-clause-serves : goal.returns-then-ne-clause-serves
-returns-then-ne-clause-serves g c = let i = c.loop-section.invariant in let e = c.in_ok-back.ensures in let ends = e.4.0 in let counts = e.4.1 in let s = e.4.2 in
+returns-then-ne-clause-serves g c = let i = c.loop-section.invariant in let e = c.in_ok-back.ensures.serves in let ends = e.4.0 in let counts = e.4.1 in let s = e.4.2 in
     let other : c.in_ok-back.end ≢ section_end.ByLine = search rules in
     let v = serves_at_end c.args.service.now.sections c.args.service.now.index.now i.seen c.loop-section.session.totals e.0 c.in_ok-back.end c.in_ok-back.back.text.items (seats_of c.loop-section.session.handles.items) (seats_of c.in_ok-back.back.handles.items) i.together i.some s (seen_by (seats_of c.args.session.handles.items)) c.in_ok-back.back.totals i.input i.output (c.loop-section.ahead.source ++ e.2) c.serve_section.new.ahead.source e.1
     (IsAtEnd (g.R.Read.remaining c.serve_section.new.reader.inner)) (c.serve_section.new.reader.failed ≡ true) other i.progress ends i.room counts in record {
@@ -79,7 +79,7 @@ returns-then-ne-clause-serves g c = let i = c.loop-section.invariant in let e = 
     }
 
 pub loop-section-preserved : goal.loop-section-preserved
-loop-section-preserved g c = let i = c.loop-section.invariant in let e = c.in_ok-back.ensures in let ends = e.4.0 in let counts = e.4.1 in let s = e.4.2 in
+loop-section-preserved g c = let i = c.loop-section.invariant in let e = c.in_ok-back.ensures.serves in let ends = e.4.0 in let counts = e.4.1 in let s = e.4.2 in
     let is : c.in_ok-back.end ≡ section_end.ByLine = search rules in
     let v = goes_on_behind_end c.args.service.now.sections c.args.service.now.index.now i.seen c.loop-section.session.totals e.0 c.in_ok-back.end c.in_ok-back.back.text.items (seats_of c.loop-section.session.handles.items) (seats_of c.in_ok-back.back.handles.items) i.together i.some s (seen_by (seats_of c.args.session.handles.items)) c.in_ok-back.back.totals i.input i.output (c.loop-section.ahead.source ++ e.2) c.serve_section.new.ahead.source e.1 (18446744073709551615 - c.loop-section.session.totals.requests)
     (IsAtEnd (g.R.Read.remaining c.serve_section.new.reader.inner)) (c.serve_section.new.reader.failed ≡ true) is i.progress ends counts in record {

@@ -11,3 +11,15 @@ returns-in-Some-Sync-clause-answers g c = let sync : c.args.request ≡ Some Syn
 
 pub returns-in-None-clause-answers : goal.returns-in-None-clause-answers
 returns-in-None-clause-answers g c = on_ok_weaker c.push_word_line-in-None.result (λ is. malformed_line _ _ _ _ _ _ _ _ c.in-None.is is) c.push_word_line-in-None.ensures
+
+pub returns-in-Some-Scan-clause-noted : goal.returns-in-Some-Scan-clause-noted
+returns-in-Some-Scan-clause-noted g c = on_ok_weaker c.scan-answered.result (λ is. answered_notes c.args.handle.now c.scan-answered.new.handle c.args.aside.now _ _ _ _ tt c.scan-answered.ensures.same is) c.scan-answered.ensures.answers
+
+pub returns-in-Some-Stat-clause-noted : goal.returns-in-Some-Stat-clause-noted
+returns-in-Some-Stat-clause-noted g c = ?
+
+pub returns-in-Some-Sync-clause-noted : goal.returns-in-Some-Sync-clause-noted
+returns-in-Some-Sync-clause-noted g c = ?
+
+pub returns-in-None-clause-noted : goal.returns-in-None-clause-noted
+returns-in-None-clause-noted g c = ?
