@@ -17,3 +17,4 @@ pub mod Continuing
 pub mod Beginning
 pub mod Leaving
 pub mod Noting
+pub mod Led

@@ -5,7 +5,8 @@ ghost use Rattle.std.specs.Io.KnownBytes.{Appends, Consumes, IsAtEnd};
 ghost use Rattle.bl_serve_lines.specs.Served.{Stops};
 ghost use Rattle.bl_index.specs.Calls.{first_of, pages_of, map_after};
 ghost use Rattle.bl_map.specs.Handles.{seats_of};
-ghost use Rattle.bl_serve.specs.Noting.{HaveNoted, StillNote};
+ghost use Rattle.bl_journal.specs.Rows.{Leads};
+ghost use Rattle.bl_serve.specs.Noting.{StillNote};
 ghost use Rattle.bl_serve.specs.Reading.{EndsReading, ReadsOn};
 ghost use Rattle.bl_serve.specs.Sections.{CountsSection, rests};
 ghost use Rattle.bl_serve.specs.Serving.{AreMet, AreTogether, EndsServing, FailsSection, IsInside, Serves, ServesSection, seen_by};
@@ -131,7 +132,7 @@ fn emptied(session: Session<'_>) -> Session<'_>
 }
 
 /// Reads a section, answers it and counts its lines, in chunks: while the lines of one are answered, the next ones are read. The
-/// text then holds the output, and nothing else, and the changes are those of the section, where changes are noted.
+/// text then holds the output, and nothing else. Where changes are noted, they lead from the map before the section to that behind it.
 fn serve_section<'a, T: Threads + Wait + Sync, R: Read, G: Gate + Sync>(
     rt: &T,
     service: &Service<'_, G>,
@@ -152,7 +153,9 @@ fn serve_section<'a, T: Threads + Wait + Sync, R: Read, G: Gate + Sync>(
         (seats_of session.entry.handles.items) (seats_of t.0.handles.items))
         (λ fault. (left : List ℕ) × FailsSection service.now.sections fault session.entry.totals.requests (2 ^ 64 - 1 - session.entry.totals.requests) requests rest
         (ahead.old.source ++ more) left (IsAtEnd (R.remaining reader.new.inner)) (reader.new.failed ≡ true)) }
-    ensures noted { IfOk result (λ t. service.now.keeps ≡ true → HaveNoted (seats_of session.entry.handles.items) (seats_of t.0.handles.items) t.0.changes) }
+    ensures leads { IfOk result (λ t. service.now.keeps ≡ true → Leads t.0.changes.came.items t.0.changes.went.items
+        (map_after (first_of service.now.index.now) (seen_by (seats_of session.entry.handles.items)))
+        (map_after (first_of service.now.index.now) (seen_by (seats_of t.0.handles.items)))) }
 {
     let mut session = emptied(session);
     let mut chunk = FIRST_CHUNK;

@@ -14,8 +14,9 @@ use Rattle.bl_map.specs.Handles.{seats_of}
 use Rattle.bl_serve.specs.declared.section_reader.SectionEnd.TheVariants as section_end
 use Rattle.bl_serve.specs.Noting.{HaveNoted}
 use Rattle.bl_serve.specs.Reading.{EndsReading}
-use Rattle.bl_serve.specs.Serving.{FailsSection, ServesSection}
+use Rattle.bl_serve.specs.Serving.{FailsSection, ServesSection, seen_by}
 use Rattle.bl_serve.proofs.Holding.{together_by_first}
+use Rattle.bl_serve.proofs.Led.{leads}
 use Rattle.bl_serve.proofs.Noting.{nothing_noted}
 use Rattle.bl_serve.proofs.Continuing.{HasServed, served_nothing, any_failed, ends_section, counts_all, serves_all, fails_answering, goes_on, finished_by, finished_none}
 use Rattle.bl_serve.proofs.Together.{seats_long}
@@ -107,8 +108,15 @@ returns-then-not-open-clause-serves g c = let i = c.loop.invariant in let r = c.
       ),
     )
 
-pub returns-then-not-open-clause-noted : goal.returns-then-not-open-clause-noted
-returns-then-not-open-clause-noted g c keeps = c.in_ok-back.ensures.noted keeps (seats_of c.args.session.handles.items) (c.loop.invariant.noted keeps)
+-- what was noted leads from map to map
+pub returns-then-not-open-clause-leads : goal.returns-then-not-open-clause-leads
+returns-then-not-open-clause-leads g c keeps =
+    let index = c.args.service.now.index.now in let olds = seats_of c.args.session.handles.items in let news = seats_of c.in_ok-back.back.handles.items in
+    let noted = c.in_ok-back.ensures.noted keeps olds (c.loop.invariant.noted keeps) in
+    let h = c.in_ok-back.ensures.serves.2.holds in
+    let some : 0 < length olds = (let a = c.args.session.some in let d = c.args.session.handles.ok in let e = seats_long c.args.session.handles.items in omega (arith, a, d, e)) in
+    let many : 0 < length news = (let a = c.in_ok-back.back.some in let d = c.in_ok-back.back.handles.ok in let e = seats_long c.in_ok-back.back.handles.items in omega (arith, a, d, e)) in
+    leads index (seen_by olds) (seen_by news) olds news c.in_ok-back.back.changes some many c.requires.met (together_by_first index _ news many h.together) noted
 
 -- they were answered, and it goes on
 pub loop-preserved : goal.loop-preserved
