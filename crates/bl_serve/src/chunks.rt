@@ -143,7 +143,8 @@ fn work_abreast<R: Threads + Wait + Sync, G: Gate + Sync, I: Read>(
     ahead: &mut ReadAhead,
 ) -> Result<(), AllocError>
     requires { length slots.old ≡ vec_len handles.old }
-    ensures turns { OnOk result (WorkOn chunk.now.service.now.keeps (suc chunk.now.before) chunk.now.deals.now chunk.now.lines.now handles.old.items handles.new.items slots.new) }
+    ensures turns { OnOk result (WorkOn chunk.now.service.now.keeps (suc chunk.now.before) chunk.now.deals.now chunk.now.lines.now
+        handles.old.items handles.new.items slots.new) }
     ensures reads { ReadsOn ahead.old ahead.new (I.remaining reader.old.inner) (I.remaining reader.new.inner) (reader.new.failed ≡ true) }
 {
     let place = last_share(slots.len(), threads);
@@ -160,12 +161,13 @@ fn work_abreast<R: Threads + Wait + Sync, G: Gate + Sync, I: Read>(
         rt,
         &mut ||
             requires { length theirs.now ≡ vec_len some }
-            ensures { WorkOn chunk.entry.now.service.now.keeps (suc chunk.entry.now.before) chunk.entry.now.deals.now chunk.entry.now.lines.now some.entry.items some.exit.items theirs.exit.now }
+            ensures { WorkOn chunk.entry.now.service.now.keeps (suc chunk.entry.now.before) chunk.entry.now.deals.now chunk.entry.now.lines.now
+                some.entry.items some.exit.items theirs.exit.now }
         { work_in_turn(rt, chunk, some.as_mut_slice(), theirs) },
         &mut ||
             requires { IsSync R.row × IsSync G.row × (length rest.now ≡ vec_len handles.now) }
-            ensures turns { OnOk result (WorkOn chunk.entry.now.service.now.keeps (suc chunk.entry.now.before) chunk.entry.now.deals.now chunk.entry.now.lines.now
-                handles.entry.now.items handles.exit.now.items rest.exit.now) }
+            ensures turns { OnOk result (WorkOn chunk.entry.now.service.now.keeps (suc chunk.entry.now.before) chunk.entry.now.deals.now
+                chunk.entry.now.lines.now handles.entry.now.items handles.exit.now.items rest.exit.now) }
             ensures reads { ReadsOn ahead.entry.now ahead.exit.now (I.remaining reader.entry.now.inner) (I.remaining reader.exit.now.inner)
                 (reader.exit.now.failed ≡ true) }
         {
