@@ -12,6 +12,7 @@ ghost use Rattle.bl_serve.specs.Sections.{CountsSection, rests};
 ghost use Rattle.bl_serve.specs.Serving.{AreMet, AreTogether, EndsServing, FailsSection, IsInside, Serves, ServesSection, seen_by};
 
 use crate::chunks::{new_slots, run_chunk};
+use crate::outside::{Outside, keep_and_print};
 use crate::parsed_lines::ParsedLines;
 use crate::section_reader::{ReadAhead, SectionEnd, read_on};
 use crate::session::{Session, ThreadPlan};
@@ -20,7 +21,7 @@ use bl_changes::Changes;
 use bl_hints::Hints;
 use bl_index::{Index, Pass};
 use bl_map::{Handle, give_seats, handles_over};
-use bl_model::{Watched, write_out};
+use bl_model::Watched;
 use bl_serve_lines::print::{Response, push_line};
 use bl_serve_lines::request::Request;
 use bl_serve_lines::{Sectioning, ServeFault, Totals};
@@ -185,21 +186,21 @@ fn serve_section<'a, T: Threads + Wait + Sync, R: Read, G: Gate + Sync>(
     unreachable!()
 }
 
-/// Serves all sections from the first line on, and writes the output of each when it has ended.
-fn serve_sections<'a, T: Threads + Wait + Sync, R: Read, W: Write, G: Gate + Sync>(
+/// Serves all sections from the first line on. When one has ended, what it has changed is kept, and then its output is printed.
+fn serve_sections<'a, T: Threads + Wait + Sync, R: Read, O: Outside, G: Gate + Sync>(
     rt: &T,
     service: &Service<'_, G>,
     session: Session<'a>,
     reader: &mut Watched<R>,
-    writer: &mut Watched<W>,
+    outside: &mut O,
 ) -> Result<Session<'a>, ServeFault>
     requires met { AreMet service.now.index.now session.handles.items }
     requires first { (session.totals.requests ≡ 0) × (session.totals.malformed ≡ 0) × (session.totals.sections ≡ 0) }
     ensures serves { EndsServing (λ s. Serves service.now.sections service.now.index.now (seats_of session.entry.handles.items) (seats_of s.handles.items) s.totals)
         (Stops service.now.sections (pages_of service.now.index.now) (map_after (first_of service.now.index.now) (seen_by (seats_of session.entry.handles.items))))
         (R.remaining reader.old.inner) (R.remaining reader.new.inner) (reader.new.failed ≡ true)
-        (W.contents writer.old.inner) (W.contents writer.new.inner) (writer.new.failed ≡ true) result }
-    ensures flushed { OnOk result (writer.new.pending ≡ false) }
+        (O.printed outside.old) (O.printed outside.new) (O.has_failed outside.new) result }
+    ensures flushed { OnOk result (O.is_flushed outside.new) }
 {
     let mut ahead = ReadAhead::new(service.alloc)?;
     let mut lines = ParsedLines::new(service.alloc);
@@ -207,7 +208,8 @@ fn serve_sections<'a, T: Threads + Wait + Sync, R: Read, W: Write, G: Gate + Syn
     for _section in 0..u64::MAX {
         let (back, end) = serve_section(rt, service, session, &mut lines, reader, &mut ahead)?;
         session = back;
-        match write_out(writer, session.text.as_slice()) {
+        let text = session.text.as_slice();
+        match keep_and_print(outside, service.alloc, &session.changes, text) {
             Ok(()) => {}
             Err(_) => return Err(ServeFault::Write),
         }
@@ -288,13 +290,14 @@ pub fn serve<T: Threads + Wait + Sync, R: Read, W: Write, G: Gate + Sync>(
     }
 }
 
-/// The same by a plan, which may have fewer threads for few requests, and other sections. It tells what else was counted.
-pub fn serve_with<T: Threads + Wait + Sync, R: Read, W: Write, G: Gate + Sync>(
+/// The same by a plan, which may have fewer threads for few requests, and other sections. What was changed is kept before it is
+/// answered, where that is wanted; and it tells what else was counted.
+pub fn serve_with<T: Threads + Wait + Sync, R: Read, O: Outside, G: Gate + Sync>(
     rt: &T,
     index: &Index,
     passes: Vec<Pass>,
     reader: &mut Watched<R>,
-    writer: &mut Watched<W>,
+    outside: &mut O,
     gate: &G,
     plan: ThreadPlan,
 ) -> Result<(Summary, Vec<Pass>), ServeFault>
@@ -303,8 +306,8 @@ pub fn serve_with<T: Threads + Wait + Sync, R: Read, W: Write, G: Gate + Sync>(
     ensures serves { EndsServing (λ t. Serves plan.sections index.now passes.items t.1.items t.0.totals)
         (Stops plan.sections (pages_of index.now) (map_after (first_of index.now) (seen_by passes.items)))
         (R.remaining reader.old.inner) (R.remaining reader.new.inner) (reader.new.failed ≡ true)
-        (W.contents writer.old.inner) (W.contents writer.new.inner) (writer.new.failed ≡ true) result }
-    ensures flushed { OnOk result (writer.new.pending ≡ false) }
+        (O.printed outside.old) (O.printed outside.new) (O.has_failed outside.new) result }
+    ensures flushed { OnOk result (O.is_flushed outside.new) }
 {
     let mut passes = passes;
     let handles = handles_over(index, &mut passes)?;
@@ -315,11 +318,11 @@ pub fn serve_with<T: Threads + Wait + Sync, R: Read, W: Write, G: Gate + Sync>(
         hints: &hints,
         gate,
         sections: plan.sections,
-        keeps: false,
+        keeps: outside.keeps(),
         alloc,
     };
     let fresh = begun(alloc, plan, handles)?;
-    let session = serve_sections(rt, &service, fresh, reader, writer)?;
+    let session = serve_sections(rt, &service, fresh, reader, outside)?;
     let Session {
         plan: _,
         handles,

@@ -16,7 +16,7 @@ use Rattle.bl_serve.proofs.serving.serve_sections.Goals as goal
 -- no memory at the start
 pub returns-in_err-ahead-clause-serves : goal.returns-in_err-ahead-clause-serves
 returns-in_err-ahead-clause-serves g c = let p = err_from_is_err_and c.from_residual.result c.from_residual.ensures.1 in
-    rw (p.1, p.2) (record { input = []; ahead = []; output = []; consumed = consumes_start _; wrote = appends_start _; ok = tt; fault = stops_inside c.args.service.now.sections (pages_of c.args.service.now.index.now) (first_of c.args.service.now.index.now) (seen_by (seats_of c.args.session.handles.items)) (seen_by (seats_of c.args.session.handles.items)) _ [] [] [] Memory (c.args.reader.now.failed ≡ true) (c.args.writer.now.failed ≡ true) (no_progress c.args.service.now.sections (pages_of c.args.service.now.index.now) (seen_by (seats_of c.args.session.handles.items)) c.args.session.totals c.requires.first) c.requires.met.may_be refl tt })
+    rw (p.1, p.2) (record { input = []; ahead = []; output = []; consumed = consumes_start _; wrote = appends_start _; ok = tt; fault = stops_inside c.args.service.now.sections (pages_of c.args.service.now.index.now) (first_of c.args.service.now.index.now) (seen_by (seats_of c.args.session.handles.items)) (seen_by (seats_of c.args.session.handles.items)) _ [] [] [] Memory (c.args.reader.now.failed ≡ true) (g.O.Outside.has_failed c.args.outside.now) (no_progress c.args.service.now.sections (pages_of c.args.service.now.index.now) (seen_by (seats_of c.args.session.handles.items)) c.args.session.totals c.requires.first) c.requires.met.may_be refl tt })
 
 pub loop-section-init : goal.loop-section-init
 loop-section-init g c = record {
@@ -44,7 +44,7 @@ returns-in_err-back-clause-serves g c = let i = c.loop-section.invariant in let 
       wrote = i.wrote;
       ok = tt;
       fault = stops_at_section c.args.service.now.sections (pages_of c.args.service.now.index.now) (first_of c.args.service.now.index.now) c.in_err-back.field-0.0 (seen_by (seats_of c.args.session.handles.items)) i.seen c.loop-section.session.totals i.input i.output (c.loop-section.ahead.source ++ e.2) e.4.0 e.1 e.0 (18446744073709551615 - c.loop-section.session.totals.requests)
-          (IsAtEnd (g.R.Read.remaining c.serve_section.new.reader.inner)) (c.serve_section.new.reader.failed ≡ true) (c.loop-section.writer.failed ≡ true) i.progress i.together.may_be e.4.1;
+          (IsAtEnd (g.R.Read.remaining c.serve_section.new.reader.inner)) (c.serve_section.new.reader.failed ≡ true) (g.O.Outside.has_failed c.loop-section.outside) i.progress i.together.may_be e.4.1;
     })
 
 pub serve_section-requires-clause-met : goal.serve_section-requires-clause-met
@@ -61,7 +61,7 @@ returns-in-Err-clause-serves g c = let i = c.loop-section.invariant in let e = c
       wrote = appends_more _ _ _ _ _ i.wrote w.3;
       ok = tt;
       fault = stops_at_write c.args.service.now.sections c.args.service.now.index.now i.seen c.loop-section.session.totals e.0 c.in_ok-back.end c.in_ok-back.back.text.items (seats_of c.loop-section.session.handles.items) (seats_of c.in_ok-back.back.handles.items) i.together i.some s (seen_by (seats_of c.args.session.handles.items)) i.input i.output (c.loop-section.ahead.source ++ e.2) c.serve_section.new.ahead.source e.1 w.0 w.1 (18446744073709551615 - c.loop-section.session.totals.requests)
-          (IsAtEnd (g.R.Read.remaining c.serve_section.new.reader.inner)) (c.serve_section.new.reader.failed ≡ true) (c.write_out.new.writer.failed ≡ true) i.progress ends (sym c.as_slice.ensures.value ∙ w.2) c.in-Err.ensures.failed;
+          (IsAtEnd (g.R.Read.remaining c.serve_section.new.reader.inner)) (c.serve_section.new.reader.failed ≡ true) (g.O.Outside.has_failed c.keep_and_print.new.outside) i.progress ends (sym c.as_slice.ensures.value ∙ w.2) c.in-Err.ensures.failed;
     }
 
 pub returns-then-ne-clause-serves : goal.returns-then-ne-clause-serves
@@ -104,7 +104,7 @@ returns-clause-serves g c = let i = c.loop-section.invariant in
       ahead = c.loop-section.ahead.source;
       output = i.output ++ [];
       consumed = subst (λ (t : List ℕ). Consumes (g.R.Read.remaining c.args.reader.now.inner) (g.R.Read.remaining c.loop-section.reader.inner) t) (ap (λ (t : List ℕ). i.input ++ t) v.read ∙ sym (append_assoc i.input v.consumed c.loop-section.ahead.source)) i.consumed;
-      wrote = subst (λ (t : List ℕ). Appends (g.W.Write.contents c.args.writer.now.inner) (g.W.Write.contents c.loop-section.writer.inner) t) (sym (append-nil i.output)) i.wrote;
+      wrote = subst (λ (t : List ℕ). Appends (g.O.Outside.printed c.args.outside.now) (g.O.Outside.printed c.loop-section.outside) t) (sym (append-nil i.output)) i.wrote;
       ok = (record { now = i.seen; served = v.served; together = i.together }, v.ends);
       fault = tt;
     }
