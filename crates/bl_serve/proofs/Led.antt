@@ -6,10 +6,10 @@ use Rattle.std.proofs.lemmas.List.Elements.{All-head, All-tail}
 use Rattle.bl_journal.specs.Rows.{times, Leads}
 use Rattle.bl_journal.proofs.Leaving.{times-append}
 use Rattle.bl_changes.specs.declared.changes.Changes.{Changes}
-use Rattle.bl_changes.specs.Changes.{came_of, went_of}
-use Rattle.bl_changes.proofs.Steps.{history}
+use Rattle.bl_changes.specs.Changes.{came_of, went_of, all_came, all_went}
 use Rattle.bl_model.specs.declared.operation.Entry.{Entry}
-use Rattle.bl_model.specs.History.{entries_of_pass}
+use Rattle.bl_model.specs.History.{IsLegalFrom, entries_of_pass, final_map}
+use Rattle.bl_model.specs.Map.{Map}
 use Rattle.bl_serve_lines.specs.Served.{Interleaves}
 use Rattle.bl_serve_lines.specs.Served.Interleaves.{Done, Takes}
 use Rattle.bl_claims.specs.Trails.{Trail, history_of}
@@ -71,16 +71,20 @@ module _ (rows_of : Entry → List (ℕ × ℕ)) where
 
 -- ---- the maps
 
+-- The law that what a legal history changes leads from its first map to its last one.
+abbrev pub HistoriesLead : Type 0
+HistoriesLead = (m : Map) (entries : List Entry) → IsLegalFrom m entries → Leads (all_came entries) (all_went entries) m (final_map m entries)
+
 -- what passes have noted, which had met and have met again, leads from the map that they had seen to that which they see
-pub leads : (index : Index) (base now : Trail) (olds news : List Pass) (changes : Changes) → 0 < length olds → 0 < length news → AreTogether index base olds → AreTogether index now news → HaveNoted olds news changes
+pub leads : HistoriesLead → (index : Index) (base now : Trail) (olds news : List Pass) (changes : Changes) → 0 < length olds → 0 < length news → AreTogether index base olds → AreTogether index now news → HaveNoted olds news changes
     → Leads changes.came.items changes.went.items (map_after (first_of index) base) (map_after (first_of index) now)
-leads index base now olds news changes some many met again noted key value =
+leads law index base now olds news changes some many met again noted key value =
     let came_before = counted_together (λ (e : Entry). came_of e.op e.reply) index base olds key value some met in
     let came_now = counted_together (λ (e : Entry). came_of e.op e.reply) index now news key value many again in
     let went_before = counted_together (λ (e : Entry). went_of e.op e.reply) index base olds key value some met in
     let went_now = counted_together (λ (e : Entry). went_of e.op e.reply) index now news key value many again in
     let came = noted.came key value in
     let went = noted.went key value in
-    let was = history (first_map (first_of index)) (history_of base) met.may_be.legal key value in
-    let is = history (first_map (first_of index)) (history_of now) again.may_be.legal key value in
+    let was = law (first_map (first_of index)) (history_of base) met.may_be.legal key value in
+    let is = law (first_map (first_of index)) (history_of now) again.may_be.legal key value in
     omega (arith, came_before, came_now, went_before, went_now, came, went, was, is)

@@ -17,7 +17,7 @@ use crate::parsed_lines::ParsedLines;
 use crate::section_reader::{ReadAhead, SectionEnd, read_on};
 use crate::session::{Session, ThreadPlan};
 use crate::summary::{Remarks, Summary, summed_up};
-use bl_changes::Changes;
+use bl_changes::{Changes, histories_lead};
 use bl_hints::Hints;
 use bl_index::{Index, Pass};
 use bl_map::{Handle, give_seats, handles_over};
@@ -180,6 +180,8 @@ fn serve_section<'a, T: Threads + Wait + Sync, R: Read, G: Gate + Sync>(
         let back = serve_chunk(rt, service, session, lines, end, reader, ahead)?;
         session = back;
         if !open {
+            // The law by which what was noted leads from map to map.
+            histories_lead();
             return Ok((session, end));
         }
     }

@@ -116,7 +116,7 @@ returns-then-not-open-clause-leads g c keeps =
     let h = c.in_ok-back.ensures.serves.2.holds in
     let some : 0 < length olds = (let a = c.args.session.some in let d = c.args.session.handles.ok in let e = seats_long c.args.session.handles.items in omega (arith, a, d, e)) in
     let many : 0 < length news = (let a = c.in_ok-back.back.some in let d = c.in_ok-back.back.handles.ok in let e = seats_long c.in_ok-back.back.handles.items in omega (arith, a, d, e)) in
-    leads index (seen_by olds) (seen_by news) olds news c.in_ok-back.back.changes some many c.requires.met (together_by_first index _ news many h.together) noted
+    leads c.histories_lead.ensures index (seen_by olds) (seen_by news) olds news c.in_ok-back.back.changes some many c.requires.met (together_by_first index _ news many h.together) noted
 
 -- they were answered, and it goes on
 pub loop-preserved : goal.loop-preserved
