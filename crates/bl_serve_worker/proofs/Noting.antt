@@ -1,6 +1,6 @@
 -- What is noted of the entries of a handle, one after another.
 use Rattle.std.proofs.Common.{◌≡◌, ℕ, List, [], ◌∷◌, ◌++◌, true, false, refl, sym, ap, ◌∙◌, subst, append-nil, append_assoc}
-use Rattle.std.specs.Prelude.{Option, Some, None, flat_map}
+use Rattle.std.specs.Prelude.{◌||◌, Bool, Option, Some, None, Result, Ok, Err, OnOk, is_err, flat_map}
 use Rattle.std.proofs.lemmas.List.Concat.{flat_map-append}
 use Rattle.bl_model.specs.declared.operation.Entry.{Entry}
 use Rattle.bl_model.specs.declared.operation.Op.{Op}
@@ -132,6 +132,14 @@ pub answered_notes : (a b : Handle) (x : Aside) (n : ℕ) (asked : Option Reques
 answered_notes a b x n asked before after quiet same answered = quiet_notes a b x (entries answered.answer) same answered.mine (answer_none answered.is_for quiet)
 
 -- ---- at the end
+
+pub neither : (a b : Bool) → (a || b) ≡ false → (a ≡ false) × (b ≡ false)
+neither false b no = (refl, no)
+neither true b no = cc
+
+pub where_ok : {A E : Type 0} (P : Type 0) (r : Result A E) → is_err r ≡ false → OnOk r P → P
+where_ok P (Ok x) no here = here
+where_ok P (Err e) no here = cc
 
 -- since the handle began
 pub all_noted : (a b : Handle) (x y : Aside) → x.keeps ≡ true → x.changes.came.items ≡ [] → x.changes.went.items ≡ [] → y.failed ≡ false → IsSameHandle a b → Notes a x b y → HasNoted (number_of_seat a) (seen_by a) (seen_by b) y.changes

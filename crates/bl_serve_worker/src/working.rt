@@ -70,7 +70,7 @@ fn serve_at<R: Wait, G: Gate>(
     let mut log = Vec::new(service.alloc);
     let mut aside = Aside::new(service.alloc, service.hints, service.keeps);
     let served = serve_shares(rt, chunk, &mut aside, handle, &mut log);
-    slot.failed = served.is_err() || aside.has_failed();
+    slot.failed = served.is_err() | aside.has_failed();
     slot.norooms = slot.norooms.saturating_add(aside.norooms());
     slot.log = log;
     slot.changes = aside.into_changes();

@@ -1,5 +1,5 @@
 use Rattle.std.proofs.Common.{sym, ◌∙◌}
-use Rattle.bl_serve_worker.proofs.Noting.{read_notes, then_notes}
+use Rattle.bl_serve_worker.proofs.Noting.{read_notes}
 use Rattle.bl_serve_worker.proofs.OneByOne.{found_sum}
 use Rattle.bl_serve_worker.proofs.adding.sum_up.Goals as goal
 
@@ -9,6 +9,3 @@ loop-init g c = record {
   summed = found_sum c.args.handle.now c.find-found.new.self c.args.key c.args.added c.in-Some.value _ c.find-found.ensures.called (sym c.in-Some.is ∙ c.value_in.ensures);
   noted = read_notes c.args.handle.now c.find-found.new.self c.args.aside.now _ _ tt c.find-found.ensures.same c.find-found.ensures.called;
 }
-
-pub loop-preserved : goal.loop-preserved
-loop-preserved g c = ?
