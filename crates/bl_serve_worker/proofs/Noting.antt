@@ -134,12 +134,12 @@ answered_notes a b x n asked before after quiet same answered = quiet_notes a b 
 -- ---- at the end
 
 pub neither : (a b : Bool) → (a || b) ≡ false → (a ≡ false) × (b ≡ false)
-neither false b no = (refl, no)
-neither true b no = cc
+neither false b off = (refl, off)
+neither true b off = cc
 
 pub where_ok : {A E : Type 0} (P : Type 0) (r : Result A E) → is_err r ≡ false → OnOk r P → P
-where_ok P (Ok x) no here = here
-where_ok P (Err e) no here = cc
+where_ok P (Ok x) fine here = here
+where_ok P (Err e) fine here = cc
 
 -- since the handle began
 pub all_noted : (a b : Handle) (x y : Aside) → x.keeps ≡ true → x.changes.came.items ≡ [] → x.changes.went.items ≡ [] → y.failed ≡ false → IsSameHandle a b → Notes a x b y → HasNoted (number_of_seat a) (seen_by a) (seen_by b) y.changes

@@ -84,7 +84,7 @@ impl<'a> Aside<'a> {
 
     /// The changes that were noted.
     pub(crate) fn into_changes(self) -> Changes
-        ensures { result ≡ self.changes }
+        ensures { result ≡ self.entry.changes }
     {
         let Aside { changes, .. } = self;
         changes
