@@ -3,4 +3,3 @@ pub mod Shares
 pub mod Dealt
 pub mod OneByOne
 pub mod Counting
-pub mod Noting
