@@ -1,6 +1,6 @@
 //! Writing an image into an array.
 
-ghost use Rattle.std.specs.Prelude.{◌≡◌, ◌+◌, ◌*◌, length, flat_map};
+ghost use Rattle.std.specs.Prelude.{◌≡◌, ◌+◌, ◌*◌, ◌≤◌, length, flat_map};
 ghost use Rattle.std.specs.List.{AllByRecursion};
 ghost use Rattle.bl_image.specs.Images.{Fits64, page_words, page_bytes, IsImage, image_size};
 
@@ -32,7 +32,8 @@ fn spell_pages(pages: &[Option<Page>], bytes: &mut [u8])
 impl Image {
     /// How many bytes the image has.
     pub fn size(&self) -> u64
-        ensures { result ≡ image_size self.now.pages.items }
+        ensures same { result ≡ image_size self.now.pages.items }
+        ensures most { result ≤ 32 + 256 * length self.now.pages.items }
     {
         32 + 256 * self.stored() as u64
     }
