@@ -104,14 +104,32 @@ blank_more pages behind lt none blank =
     let rest : drop (x + 1) pages ≡ blanks behind = ap (λ n. drop n pages) next ∙ blank in
     ap (λ n. drop n pages) here ∙ drop_more pages x None (omega (arith, lt)) ∙ (λ i. none i ∷ rest i) ∙ ap blanks count
 
+pub most_left : (a b : ℕ) → a ≤ max a b
+most_left a b = omega arith
+
+pub most_right : (a b : ℕ) → b ≤ max a b
+most_right a b = omega arith
+
+most_within : (a b c : ℕ) → a ≤ c → b ≤ c → max a b ≤ c
+most_within a b c left right = omega arith
+
+pub right_most : (a b : ℕ) → a < max a b → b ≡ max a b
+right_most a b lt = omega arith
+
+pub most_is_right : (a b c : ℕ) → a < c → b ≡ c → max a b ≡ c
+most_is_right a b c lt same = omega arith
+
+pub most_is_left : (a b c : ℕ) → a ≤ c → c ≤ a → b ≤ c → max a b ≡ c
+most_is_left a b c low high right = omega arith
+
 least_most : (count : ℕ) → 4 ≤ count → least_stored count ≤ count
 least_most count some = grind arith
 
 pub stored_most : (pages : List (Option Page)) → 4 ≤ length pages → stored pages ≤ length pages
-stored_most pages some = let a = least_most (length pages) some in let b = used_most pages in omega (arith, a, b)
+stored_most pages some = most_within (least_stored (length pages)) (used_to pages) (length pages) (least_most (length pages) some) (used_most pages)
 
 pub used_stored : (pages : List (Option Page)) → used_to pages ≤ stored pages
-used_stored pages = omega arith
+used_stored pages = most_right (least_stored (length pages)) (used_to pages)
 
 -- those that are stored, and those behind them
 pub stored_rest : (pages : List (Option Page)) → pages ≡ take (stored pages) pages ++ blanks (length pages - stored pages)

@@ -11,13 +11,13 @@ use Rattle.bl_image.specs.Images.{page_words, page_bytes, image_bytes, head_byte
 use Rattle.bl_image.specs.declared.fault.ImageFault.{ImageFault}
 use Rattle.bl_image.specs.declared.fault.ImageFault.TheVariants as fault
 use Rattle.bl_image.proofs.Chunks.{chunk_stored, fits_at, below_at, length-pages, page_bytes-same, pages-same}
-use Rattle.bl_image.proofs.Stored.{blanks, used_behind, used_most, used_full, last_used, stored_most, stored_rest, none_fits, blanks_fit, blanks_below, all_both}
+use Rattle.bl_image.proofs.Stored.{blanks, used_behind, used_most, used_full, last_used, most_left, right_most, most_is_left, most_is_right, stored_most, stored_rest, none_fits, blanks_fit, blanks_below, all_both}
 
 read_4 : (n : ℕ) (rest : List ℕ) → n < 2 ^ 32 → little_number 4 (little_bytes 4 n ++ rest) ≡ n
 read_4 n rest small = let back = from_le_bytes-to_le_bytes_4 n small in omega (arith, back)
 
 count_told : (count kept : ℕ) → count < 2 ^ 32 → little_number 4 (drop 12 (head_bytes count kept)) ≡ count
-count_told count kept small = let back = from_le_bytes-to_le_bytes_4 count small in omega (arith, back)
+count_told count kept small = read_4 count (little_bytes 4 (if nat_lt 65536 count then kept else 0) ++ replicate 12 0) small
 
 told_large : (count kept : ℕ) → 65536 < count → (if nat_lt 65536 count then kept else 0) ≡ kept
 told_large count kept large = grind arith
@@ -41,13 +41,17 @@ chunk_is x pages bytes image lt =
     let size = stored_size pages image.count.0 in
     chunk_stored x (take (stored pages) pages) bytes (sym (ap (drop 32) image.bytes_are)) (omega (arith, lt, size)) ∙ ap page_bytes (get_or-take (stored pages) pages x None lt)
 
+not_none : (a n : ℕ) → a < n → n ≡ suc (n - 1)
+not_none a n lt = omega arith
+
 -- the last page that is stored has to be
 last_stored : (pages : List (Option Page)) (bytes : List ℕ) → IsImage pages bytes → least_stored (length pages) < stored pages → chunk bytes (stored pages - 1) ≡ replicate 256 0 → ⊥
 last_stored pages bytes image lt blank =
     let x : ℕ = stored pages - 1 in
-    let used : used_to pages ≡ stored pages = omega (arith, lt) in
-    let last : used_to pages ≡ suc x = omega (arith, lt, used) in
-    let below : x < stored pages = omega (arith, lt) in
+    let used : used_to pages ≡ stored pages = right_most (least_stored (length pages)) (used_to pages) lt in
+    let some : stored pages ≡ suc x = not_none (least_stored (length pages)) (stored pages) lt in
+    let last : used_to pages ≡ suc x = used ∙ some in
+    let below : x < stored pages = omega (arith, some) in
     let within : x < length pages = omega (arith, below, stored_most pages image.count.0) in
     let none : get_or pages x None ≡ None = page_bytes-same (get_or pages x None) None (fits_at x pages image.words within) none_fits (sym (chunk_is x pages bytes image below) ∙ blank) in
     last_used pages x last none
@@ -56,7 +60,7 @@ pub head_of_image : (pages : List (Option Page)) (bytes : List ℕ) → IsImage 
 head_of_image pages bytes image = record {
   count_fits = image.count;
   kept_fits = record {
-    least = omega arith;
+    least = most_left (least_stored (length pages)) (used_to pages);
     most = stored_most pages image.count.0;
     last = λ lt blank. last_stored pages bytes image lt blank;
   };
@@ -110,11 +114,11 @@ module _ (pages all : List (Option Page)) (bytes : List ℕ) (count kept : ℕ) 
   many : max (least_stored count) (used_to pages) ≡ kept
   many = elim (cases_lt (least_stored count) kept) [
     | inl lt ↦
-        let at : kept ≡ suc (kept - 1) = omega (arith, lt) in
+        let at : kept ≡ suc (kept - 1) = not_none (least_stored count) kept lt in
         let full : used_to pages ≡ suc (kept - 1) = used_full pages (kept - 1) (held.many ∙ at)
             (λ none. head.kept_fits.last lt (chunk_stored (kept - 1) pages bytes held.bytes_are (omega (arith, held.many, at)) ∙ ap page_bytes none)) in
-        omega (arith, lt, at, full)
-    | inr le ↦ (let low = head.kept_fits.least in let most = used_most pages in omega (arith, le, low, most, held.many))
+        most_is_right (least_stored count) (used_to pages) kept lt (full ∙ sym at)
+    | inr le ↦ most_is_left (least_stored count) (used_to pages) kept head.kept_fits.least le (subst (λ (n : ℕ). used_to pages ≤ n) held.many (used_most pages))
   ]
 
   keeps : stored all ≡ kept
