@@ -1,13 +1,13 @@
 -- Whole images: what their heads say, and that there is one for each list of pages.
-use Rattle.std.proofs.Common.{◌≡◌, ℕ, zero, suc, ◌+◌, ◌*◌, ◌-◌, ◌<◌, ◌≤◌, ◌^◌, List, [], ◌∷◌, ◌++◌, length, get_or, take, drop, Option, None, refl, ap, sym, subst, ◌∙◌, length-append, inl, inr, arith}
-use Rattle.std.specs.Prelude.{flat_map, replicate, max, nat_lt, if◌then◌else◌}
+use Rattle.std.proofs.Common.{◌≡◌, ℕ, zero, suc, ◌+◌, ◌*◌, ◌-◌, ◌<◌, ◌≤◌, ◌^◌, List, [], ◌∷◌, ◌++◌, length, get_or, take, drop, Option, Some, None, refl, ap, sym, subst, ◌∙◌, length-append, inl, inr, arith}
+use Rattle.std.specs.Prelude.{flat_map, replicate, max}
 use Rattle.std.specs.List.{AllByRecursion}
 use Rattle.std.proofs.lemmas.Bool.{cases_lt}
 use Rattle.std.proofs.lemmas.Nat.{from_le_bytes-to_le_bytes_4}
 use Rattle.std.proofs.lemmas.List.{take_at, get_or-take, length-take-le, length-replicate, take-append-drop}
 use Rattle.byteorder.specs.Endian.{little_bytes, little_number}
 use Rattle.bl_page.specs.declared.page.Page.{Page}
-use Rattle.bl_image.specs.Images.{page_words, page_bytes, image_bytes, head_bytes, bound_of, least_stored, used_to, stored, Fits64, NamesBelow, AreWithin, IsCount, IsStored, AreStored, IsHead, IsImage, IsFault, ArePage, chunk}
+use Rattle.bl_image.specs.Images.{page_words, page_bytes, image_bytes, head_bytes, told_of, bound_of, least_stored, used_to, stored, Fits64, NamesBelow, AreWithin, IsCount, IsStored, AreStored, IsHead, IsImage, IsFault, ArePage, chunk}
 use Rattle.bl_image.specs.declared.fault.ImageFault.{ImageFault}
 use Rattle.bl_image.specs.declared.fault.ImageFault.TheVariants as fault
 use Rattle.bl_image.proofs.Chunks.{chunk_stored, fits_at, below_at, length-pages, page_bytes-same, pages-same}
@@ -16,21 +16,45 @@ use Rattle.bl_image.proofs.Stored.{blanks, used_behind, used_most, used_full, la
 read_4 : (n : ℕ) (rest : List ℕ) → n < 2 ^ 32 → little_number 4 (little_bytes 4 n ++ rest) ≡ n
 read_4 n rest small = let back = from_le_bytes-to_le_bytes_4 n small in omega (arith, back)
 
-count_told : (count kept : ℕ) → count < 2 ^ 32 → little_number 4 (drop 12 (head_bytes count kept)) ≡ count
-count_told count kept small = read_4 count (little_bytes 4 (if nat_lt 65536 count then kept else 0) ++ replicate 12 0) small
+pub count_told : (count kept : ℕ) → count < 2 ^ 32 → little_number 4 (drop 12 (head_bytes count kept)) ≡ count
+count_told count kept small = read_4 count (little_bytes 4 (told_of count kept) ++ replicate 12 0) small
 
-told_large : (count kept : ℕ) → 65536 < count → (if nat_lt 65536 count then kept else 0) ≡ kept
+told_large : (count kept : ℕ) → 65536 < count → told_of count kept ≡ kept
 told_large count kept large = grind arith
 
 -- in version 2 the head tells how many pages are stored
 pub kept_told : (count kept : ℕ) → 65536 < count → kept < 2 ^ 32 → little_number 4 (drop 16 (head_bytes count kept)) ≡ kept
 kept_told count kept large small =
     let told = told_large count kept large in
-    read_4 (if nat_lt 65536 count then kept else 0) (replicate 12 0) (subst (λ (n : ℕ). n < 2 ^ 32) (sym told) small) ∙ told
+    read_4 (told_of count kept) (replicate 12 0) (subst (λ (n : ℕ). n < 2 ^ 32) (sym told) small) ∙ told
 
 -- the head tells how many pages there are
 pub count_read : (bytes : List ℕ) (count kept : ℕ) → IsHead bytes count kept → little_number 4 (drop 12 (take 32 bytes)) ≡ count
 count_read bytes count kept head = ap (λ t. little_number 4 (drop 12 t)) head.head ∙ count_told count kept (omega (arith, head.count_fits.1))
+
+small_least : (count : ℕ) → count ≤ 65536 → least_stored count ≡ count
+small_least count le = grind arith
+
+-- in version 1 all pages are stored
+all_stored : (bytes : List ℕ) (count kept : ℕ) → count ≤ 65536 → IsStored bytes count kept → count ≡ kept
+all_stored bytes count kept le held =
+    let least : count ≤ kept = subst (λ (n : ℕ). n ≤ kept) (small_least count le) held.least in
+    let most = held.most in omega (arith, least, most)
+
+-- the number of stored pages that is read of a head is the one that it tells
+pub stored_read : (bytes : List ℕ) (count stored n k : ℕ) → count ≡ n → IsHead bytes n k → (65536 < count → (kept : ℕ) → take 32 bytes ≡ head_bytes count kept → kept < 2 ^ 32 → stored ≡ kept)
+    → (count ≤ 65536 → stored ≡ count) → stored ≡ k
+stored_read bytes count stored n k same head large small = elim (cases_lt 65536 count) [
+  | inl lt ↦ large lt k (head.head ∙ ap (λ (m : ℕ). head_bytes m k) (sym same)) (omega (arith, head.kept_fits.most, head.count_fits.1))
+  | inr le ↦ small le ∙ (same ∙ all_stored bytes n k (omega (arith, le, same)) head.kept_fits)
+]
+
+abbrev value : Option ℕ → ℕ
+value None = 0
+value (Some n) = n
+
+pub same_value : (a b : ℕ) → Some a ≡ Some b → a ≡ b
+same_value a b e = ap value e
 
 pub stored_size : (pages : List (Option Page)) → 4 ≤ length pages → length (take (stored pages) pages) ≡ stored pages
 stored_size pages some = length-take-le (stored pages) pages (stored_most pages some)

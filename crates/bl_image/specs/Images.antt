@@ -19,10 +19,14 @@ bound_of count = if nat_lt 65536 count then 2 ^ 32 else 2 ^ 16
 abbrev pub least_stored : ℕ → ℕ
 least_stored count = if nat_lt 65536 count then 4 else count
 
--- the mark, the version and the number of pages, four bytes each; in version 2 how many pages are stored; and zeros
+-- what the head tells of so many stored pages: in version 1 nothing
+abbrev pub told_of : ℕ → ℕ → ℕ
+told_of count kept = if nat_lt 65536 count then kept else 0
+
+-- the mark; the version, the number of pages, and what is told of the stored ones, four bytes each; and zeros
 abbrev pub head_bytes : ℕ → ℕ → List ℕ
 head_bytes count kept =
-    codes "BLNKIDX1" ++ little_bytes 4 (version_of count) ++ little_bytes 4 count ++ little_bytes 4 (if nat_lt 65536 count then kept else 0) ++ replicate 12 0
+    codes "BLNKIDX1" ++ little_bytes 4 (version_of count) ++ little_bytes 4 count ++ little_bytes 4 (told_of count kept) ++ replicate 12 0
 
 -- one page more in front: it counts where it is in use, or where one behind it is
 abbrev pub one_more : Option Page → ℕ → ℕ
