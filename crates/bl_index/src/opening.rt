@@ -7,6 +7,7 @@ ghost use Rattle.bl_index_rule.specs.Simulation.{beginner as unborn_pass, Simula
 ghost use Rattle.bl_index.specs.Opened.{IsRefusal, IsLargeRefusal, IsRefusalOf, IsFirstAnchor, IsFirstLeaf, IsFirst, AreFirst, AreNew, ArePasses, IsBegun, IsIndexOpened, IsReopenedIn, IsLargerRefusal, IsReopened, IsImageRefusal};
 
 use crate::config::{Config, OpenFault};
+use crate::image_words::ImageWords;
 use crate::index::{Index, Pass};
 use arrayvec::ArrayVec;
 use bl_check::Quiet;
@@ -16,6 +17,7 @@ use bl_layout::Layout;
 use bl_model::limits::{LEAST_PAGES, MOST_LARGE_PAGES, MOST_PAGES};
 use bl_page::{Anchor, Leaf, Page};
 use bl_proc::{Find, FindStage, Proc};
+use bl_room::FirstWords;
 use bl_store::{Hand, Store};
 use std::alloc::{AllocError, Global};
 use std::collections::LinkedList;
@@ -162,21 +164,21 @@ impl Index {
     {
         let words = first_pages(alloc, PAGES_AT_FIRST)?;
         let image = no_pages(alloc);
-        Self::begun(alloc, words.as_slice(), config, &image)
+        Self::begun(alloc, &words, config, &image)
     }
 
     // An index whose first pages have these words, which are those of the image, or of the opening index where there is no image. All other
     // pages are free.
-    fn begun(
+    fn begun<F: FirstWords>(
         alloc: Global,
-        words: &[[u64; 32]],
+        words: &F,
         config: Config,
         image: &Vec<Option<Page>>,
     ) -> Result<(Index, Vec<Pass>), AllocError>
         requires pages { (4 ≤ config.pages) × (config.pages ≤ 2 ^ 28) }
         requires passes { (1 ≤ config.passes) × (config.passes ≤ 64) }
-        requires words { length words.now ≤ config.pages }
-        requires rule { Simulates (store_pages (padded config.pages words.now) config.passes (unborn_pass image.now.items)) }
+        requires words { length (F.contents words.now) ≤ config.pages }
+        requires rule { Simulates (store_pages (padded config.pages (F.contents words.now)) config.passes (unborn_pass image.now.items)) }
         requires seen { IsSeen image.now.items [] }
         ensures { IfOk result (λ t. IsBegun image.now.items config.pages config.passes t.0 t.1.items) }
     {
@@ -241,7 +243,8 @@ impl Index {
         ensures { IfOk result (λ t. IsReopenedIn quiet.now.image.pages.items config.pages config.passes t.0 t.1.items) }
     {
         let image = quiet.image();
-        let words = image.to_words(alloc)?;
-        Self::begun(alloc, words.as_slice(), config, &image.pages)
+        // Of 64 bits are the words of an image alone.
+        image.is_of_64_bits();
+        Self::begun(alloc, &ImageWords { image }, config, &image.pages)
     }
 }

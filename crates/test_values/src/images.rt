@@ -127,6 +127,7 @@ fn an_image_is_written_as_it_was_read(rt: HostRuntime) -> Result<(), Fail> {
     let image = read(rt.alloc(), &opening(&[])).ok().ok_or("no image")?;
     let back = reread(rt.alloc(), &image).ok().ok_or("not read again")?;
     assert!(rt; back.pages.len() == 4);
+    assert!(rt; back.words_at(1)[0] == 2 << 32 && back.words_at(2) == [0; 32]);
     Ok(())
 }
 

@@ -21,8 +21,7 @@ begun-requires-clause-pages c =
 pub begun-requires-clause-words : goal.begun-requires-clause-words
 begun-requires-clause-words c =
     let image = c.image-image.result.now in
-    let words : c.as_slice.result.now ≡ map page_words image.pages.items = c.as_slice.ensures.value ∙ c.in_ok-words.ensures.words in
-    let count : length c.as_slice.result.now ≡ length image.pages.items = ap length words ∙ map_length image.pages.items in
+    let count : length (map page_words image.pages.items) ≡ length image.pages.items = map_length image.pages.items in
     let same = ap (λ (z : Image). length z.pages.items) c.image-image.ensures.same in
     let fit = c.requires.pages.0 in
     omega (arith, count, same, fit)
@@ -32,22 +31,21 @@ begun-requires-clause-rule c =
     let image = c.image-image.result.now in
     let pages = image.pages.items in
     let config = c.args.config in
-    let fits : AllFit pages = c.in_ok-words.ensures.fits in
-    let words : c.as_slice.result.now ≡ map page_words pages = c.as_slice.ensures.value ∙ c.in_ok-words.ensures.words in
+    let fits : AllFit pages = c.is_of_64_bits.ensures.fits in
     let more : ℕ = config.pages - length (map page_words pages) in
-    let all = ap (λ (z : List (List ℕ)). padded config.pages z) words ∙ more_words pages more in
+    let all = more_words pages more in
     subst (λ (z : List (List ℕ)). Simulates (first_pages z config.passes (beginner pages))) (sym all) (reopens pages (image_bytes pages) (is_image image fits) c.image-image.ensures.sound more config.passes)
 
 pub begun-requires-clause-seen : goal.begun-requires-clause-seen
 begun-requires-clause-seen c =
     let image = c.image-image.result.now in
-    let fits : AllFit image.pages.items = c.in_ok-words.ensures.fits in
+    let fits : AllFit image.pages.items = c.is_of_64_bits.ensures.fits in
     beginner_seen image.pages.items (image_bytes image.pages.items) (is_image image fits) c.image-image.ensures.sound 0
 
 pub returns : goal.returns
 returns c =
     let image = c.image-image.result.now in
     let config = c.args.config in
-    let fits : AllFit image.pages.items = c.in_ok-words.ensures.fits in
+    let fits : AllFit image.pages.items = c.is_of_64_bits.ensures.fits in
     subst (λ (z : Image). IfOk c.begun.result (λ t. IsReopenedIn z.pages.items config.pages config.passes t.0 t.1.items)) c.image-image.ensures.same
     (if_ok _ _ c.begun.result (λ t begun. is_reopened image config.pages config.passes t.0 t.1.items fits c.image-image.ensures.sound begun) c.begun.ensures)
