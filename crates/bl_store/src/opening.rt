@@ -29,31 +29,32 @@ impl<D> Split<View<D>> for Deal {
 impl<D, R: PageRule<D>> Store<D, R, Global> {
     /// A store whose pages have these words, and a hand for each pass, which knows at first what is lent here. A page with
     /// only zeros is released, every other is open.
-    pub fn new<F: FirstWords>(
+    pub fn new<F: FirstWords + Drop>(
         alloc: Global,
-        first: &F,
+        first: F,
         passes: u32,
         known: &D,
     ) -> Result<(Store<D, R, Global>, Vec<Hand<D>>), AllocError>
-        requires pages { (4 ≤ length (F.contents first.now)) × (length (F.contents first.now) ≤ 2 ^ 28) }
+        requires pages { (4 ≤ length (F.contents first)) × (length (F.contents first) ≤ 2 ^ 28) }
         requires passes { (1 ≤ passes) × (passes ≤ 64) }
-        requires rule { R.holds (first_pages (F.contents first.now) passes known.now) }
-        ensures layout { IfOk result (λ t. (t.0.layout.pages ≡ length (F.contents first.now)) × (t.0.layout.passes ≡ passes)) }
+        requires rule { R.holds (first_pages (F.contents first) passes known.now) }
+        ensures layout { IfOk result (λ t. (t.0.layout.pages ≡ length (F.contents first)) × (t.0.layout.passes ≡ passes)) }
         ensures hands { IfOk result (λ t. IsDealt t.0.table.shared.table_id t.0.layout known.now passes t.1.items) }
         ensures known { IfOk result (λ t. t.0.table.shared.key.known.value ≡ known.now) }
     {
-        Self::of_layout(alloc, Layout::of(first.count() as u32, passes), first, known)
+        let layout = Layout::of(first.count() as u32, passes);
+        Self::of_layout(alloc, layout, first, known)
     }
 
-    /// The same of so many pages, with so many frames to spare. These are the words of the first pages, and all others have only zeros.
-    pub fn of_layout<F: FirstWords>(
+    /// The same of so many pages, with so many frames to spare. Who gives the words is let go as soon as they stand in the store. These are the words of the first pages, and all others have only zeros.
+    pub fn of_layout<F: FirstWords + Drop>(
         alloc: Global,
         layout: Layout,
-        first: &F,
+        first: F,
         known: &D,
     ) -> Result<(Store<D, R, Global>, Vec<Hand<D>>), AllocError>
-        requires pages { length (F.contents first.now) ≤ layout.pages }
-        requires rule { R.holds (first_pages (padded layout.pages (F.contents first.now)) layout.passes known.now) }
+        requires pages { length (F.contents first) ≤ layout.pages }
+        requires rule { R.holds (first_pages (padded layout.pages (F.contents first)) layout.passes known.now) }
         ensures layout { IfOk result (λ t. t.0.layout ≡ layout) }
         ensures hands { IfOk result (λ t. IsDealt t.0.table.shared.table_id layout known.now layout.passes t.1.items) }
         ensures known { IfOk result (λ t. t.0.table.shared.key.known.value ≡ known.now) }
@@ -62,7 +63,10 @@ impl<D, R: PageRule<D>> Store<D, R, Global> {
         for _ in 0..layout.cells() {
             words.push(0u64)?;
         }
-        lay(layout, first, words.as_mut_slice());
+        lay(layout, &first, words.as_mut_slice());
+        let room = Room::new(alloc, layout, &first)?;
+        // Nobody needs it any more, and the table takes as much memory again.
+        drop(first);
         let ground = Ground {
             layout,
             known: Snapshot::of(known),
@@ -75,7 +79,7 @@ impl<D, R: PageRule<D>> Store<D, R, Global> {
             firsts: layout.frame_word_cell(0, 0),
             stamps: layout.process_cell(0),
             apart: [0; APART],
-            room: Room::new(alloc, layout, first)?,
+            room,
             behind: [0; APART],
         };
         let hands = store.deal(alloc, seat)?;
