@@ -48,7 +48,7 @@ impl TimePlay<PassState> for Ended {
     ghost then = { ends };
 }
 
-/// A search ends and has answered nothing.
+/// A process ends that holds no page, and has answered nothing.
 pub struct GaveUp;
 
 impl TimePlay<PassState> for GaveUp {

@@ -1,19 +1,19 @@
 -- What each process keeps, at each kind of turn.
-use Rattle.std.proofs.Common.{ℕ, ◌≡◌, ◌≢◌, []}
+use Rattle.std.proofs.Common.{ℕ, ◌≡◌, ◌≢◌, [], ap, refl, ◌∙◌}
 use Rattle.bl_page.specs.Machine.{Name}
 use Rattle.bl_page.specs.Machine.Act.{Latch}
 use Rattle.bl_claims.specs.Trails.{Mark, marks_of}
 use Rattle.bl_tree_worlds.specs.Worlds.{Stage, World, IsGood, Extends}
 use Rattle.bl_proc_steps.specs.declared.acts.Seen.{Seen}
-use Rattle.bl_proc_writes.specs.declared.post.Post.{Post}
+use Rattle.bl_proc.specs.declared.kinds.Proc.{Proc}
 use Rattle.bl_proc.specs.declared.kinds.Proc.TheVariants as proc
 use Rattle.bl_proc.specs.Processes.{next_of, Takes}
 use Rattle.bl_proc_invariant.specs.Logs.{proc_log}
 use Rattle.bl_proc_invariant.specs.Turns.{event_of, IsObserved}
 use Rattle.bl_proc_invariant.specs.Knowing.{Run, know, end_of_proc}
 use Rattle.bl_proc_invariant.proofs.Instead.{with_proc}
+use Rattle.bl_proc_invariant.proofs.GivingUp.{left_of}
 use Rattle.bl_claims.specs.Bounds.{gets_in, puts_in}
-use Rattle.bl_proc_bounds.specs.Searches.{IsSearch}
 use Rattle.bl_proc_bounds.specs.Paces.{place_of, AllKept}
 use Rattle.bl_proc_bounds.specs.Paces.Place.{Nowhere}
 use Rattle.bl_proc_bounds.proofs.Keeping.{turn_paced}
@@ -37,12 +37,23 @@ idle_kept w w' m e g g' no_get no_put looks all = record {
   tidy = tidy_still w w' m e g all.owned looks all.tidy;
 }
 
--- A search gives up: what stands for it then is a post that is over.
-pub left_kept : (w w' : World Run) (m : Mark) (b : Run) (post : Post) → Extends w w' m b → IsGood know w → IsGood know w' → b.state ≡ proc.Post post → place_of b.state ≡ Nowhere → IsSearch (w.proc m.event.process).state → ((x : ℕ) → m.event.act ≢ Latch x) → AllKept w → AllKept w'
-left_kept w w' m b post e g g' is none search looks all = record {
-  paced = left_paced w w' m b e g g' none all.paced;
+-- what stands for a process that has given up searches nowhere
+left_nowhere : (a : Proc) → place_of (left_of a) ≡ Nowhere
+left_nowhere (proc.Find p) = refl
+left_nowhere (proc.Write p) = refl
+left_nowhere (proc.Post p) = refl
+left_nowhere (proc.Part p) = refl
+left_nowhere (proc.Compress p) = refl
+left_nowhere (proc.Reclaim p) = refl
+left_nowhere (proc.Lower p) = refl
+left_nowhere (proc.InsertPost p) = refl
+
+-- A process that runs gives up.
+pub left_kept : (w w' : World Run) (m : Mark) (b : Run) → Extends w w' m b → IsGood know w → IsGood know w' → b.state ≡ left_of (w.proc m.event.process).state → (know (w.proc m.event.process)).stage ≡ Stage.Busy → ((x : ℕ) → m.event.act ≢ Latch x) → AllKept w → AllKept w'
+left_kept w w' m b e g g' is busy looks all = record {
+  paced = left_paced w w' m b e g g' (ap place_of is ∙ left_nowhere (w.proc m.event.process).state) all.paced;
   owned = owned_on w w' m b e all.owned;
-  tidy = tidy_left w w' m b post e is search looks all.tidy;
+  tidy = tidy_left w w' m b e g all.owned is busy looks all.tidy;
 }
 
 -- a world in which nothing has happened and none has begun

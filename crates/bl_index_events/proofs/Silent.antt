@@ -3,11 +3,12 @@ use Rattle.std.proofs.Common.{ℕ, ◌≡◌, ◌+◌, Option, None, List, [], s
 use Rattle.bl_page.specs.declared.page.Page.{Page}
 use Rattle.bl_tree_worlds.specs.Worlds.{Know, Stage}
 use Rattle.bl_proc.specs.declared.kinds.Proc.{Proc}
+use Rattle.bl_proc_invariant.specs.Logs.{proc_log}
 use Rattle.bl_proc_invariant.specs.Knowing.{Run, know_of}
-use Rattle.bl_proc_bounds.specs.Searches.{IsSearch}
 use Rattle.bl_index_rule.specs.declared.known.PassState.{PassState}
+use Rattle.bl_claims.specs.Trails.{Trail}
 use Rattle.bl_claims.specs.Seeing.{own}
-use Rattle.bl_index_rule.specs.Observed.{Finishes, MayGiveUp}
+use Rattle.bl_index_rule.specs.Observed.{Finishes, Leaves, MayGiveUp}
 use Rattle.bl_index_events.specs.Answered.{SaysNothing}
 use Rattle.bl_index_events.specs.Runs.{IsSince}
 use Rattle.bl_index_events.proofs.Calls.{since_end, since_said, end_seen}
@@ -19,13 +20,13 @@ pub record IsSilent (k : Know) : Type 0 where
   pub empty : k.holds ≡ []
   pub no_middle : k.middle ≡ None
 
-pub may_give_up : (state process : Proc) → state ≡ process → IsSearch process → ((got : ℕ → Page) (child time : ℕ) → IsSilent (know_of got child time process)) → MayGiveUp state
-may_give_up state process is search silent = record {
-  search = subst IsSearch (sym is) search;
+pub may_give_up : (state process : Proc) → state ≡ process → ((marks : Trail) → proc_log process marks → Leaves process marks) → ((got : ℕ → Page) (child time : ℕ) → IsSilent (know_of got child time process)) → MayGiveUp state
+may_give_up state process is leaves silent = record {
   busy = λ r e. (here r e).busy;
   silent = λ r e. (here r e).silent;
   empty = λ r e. (here r e).empty;
   no_middle = λ r e. (here r e).no_middle;
+  leaves = subst (λ (z : Proc). (marks : Trail) → proc_log z marks → Leaves z marks) (sym is) leaves;
 }
   where
     here : (r : Run) → r.state ≡ state → IsSilent (know_of r.got r.child r.time r.state)
