@@ -1,4 +1,5 @@
 pub mod Alone
+pub mod GivingUp
 pub mod PostEnds
 pub mod Underway
 pub mod Climbs

@@ -15,4 +15,4 @@ mod writing;
 
 pub use climbing::write_key_posting;
 pub use posting::{post_key, post_within};
-pub use writing::{begin_write, end_write, write_key, write_within};
+pub use writing::{begin_write, end_write, try_write, write_key, write_within};
