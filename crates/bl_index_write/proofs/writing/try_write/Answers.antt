@@ -1,10 +1,6 @@
 use Rattle.std.proofs.Common.{◌∙◌}
-use Rattle.bl_proc_writes.specs.declared.writing.WriteStage.TheVariants as write
 use Rattle.bl_store.specs.Hands.{known}
-use Rattle.bl_index_events.specs.Answered.{WritesNothing}
-use Rattle.bl_index_events.proofs.Silent.{gives_up_undone}
-use Rattle.bl_index_write.specs.Events.{writing}
-use Rattle.bl_index_write.proofs.GivingUp.{write_may_give_up}
+use Rattle.bl_index_write.proofs.GivingUp.{write_may_give_up, write_undone}
 use Rattle.bl_index_write.proofs.writing.try_write.Goals as goal
 
 pub returns-in-Ok-clause-rests : goal.returns-in-Ok-clause-rests
@@ -39,5 +35,5 @@ returns-in-Err-clause-empty c = c.give_up.ensures.same.1.0 ∙ c.write_within.en
 pub returns-in-Err-clause-undone : goal.returns-in-Err-clause-undone
 returns-in-Err-clause-undone c =
     let underway = c.in-Err.ensures.underway in
-    gives_up_undone WritesNothing (writing c.args.key c.args.write (write.Coming c.in-Err._way)) (λ marks left. left) c.args.hand.now.number (known c.args.hand.now.seat) (known c.write_within.new.hand.seat) (known c.give_up.new.hand.seat) underway.2 underway.1.on.state
-    (write_may_give_up c.args.key c.args.write c.in-Err._way _ underway.0 underway.1.on.state) c.give_up.ensures.observed c.give_up.ensures.leaves
+    write_undone c.args.key c.args.write c.in-Err._way c.args.hand.now.number (known c.args.hand.now.seat) (known c.write_within.new.hand.seat) (known c.give_up.new.hand.seat) underway.0 underway.2 underway.1.on.state
+    c.give_up.ensures.observed c.give_up.ensures.leaves
