@@ -1,5 +1,5 @@
 -- A compression of which a pass has no value goes on.
-use Rattle.std.proofs.Common.{ℕ, ◌≡◌, ◌≢◌, List, get_or, Option, Some, None, refl, sym, ap, ◌∙◌, subst, Bool, true}
+use Rattle.std.proofs.Common.{ℕ, ◌≡◌, ◌≢◌, List, get_or, Option, Some, None, IfNone, refl, sym, ap, ◌∙◌, subst, Bool, true}
 use Rattle.bl_layout.specs.declared.layout.Layout.{Layout}
 use Rattle.bl_page.specs.declared.page.Page.{Page}
 use Rattle.bl_page.specs.Words.{words_of}
@@ -154,6 +154,11 @@ module _ (l : Layout) (j : CompressTarget) (kin : Kin) (parent words : List ℕ)
   -- and lists a page first that is not listed yet
   pub unlinked : get_or words 3 0 ≢ kin.at.right → (decision : Decision) → decision ≡ Unposted (hint.Post j.level (get_or words 2 0)) → IsOn l e (compression_of j (OpeningLeft kin.at decision))
   unlinked differ decision is = subst (λ (z : Decision). IsOn l e (compression_of j (OpeningLeft kin.at z))) (sym is) (links_left differ j.level refl)
+
+-- what it has found at the left child where it does not decide there
+pub linked : (kin : Kin) (words : List ℕ) (decided : Option Decision) → IfNone decided (get_or words 3 0 ≡ kin.at.right) → ((d : Decision) → decided ≡ Some d → ⊥) → get_or words 3 0 ≡ kin.at.right
+linked kin words None h not = h
+linked kin words (Some d) h not = absurd (not d refl)
 
 pub lost_has_room : {A : Type 0} (hint : Option Hint) → ◌≡◌ {A = Option (Squeezed × Option Hint)} None (Some (squeezed.NoRoom, hint)) → A
 lost_has_room hint e = absurd (let z : ◌≡◌ {A = Option (Squeezed × Option Hint)} None (Some (squeezed.NoRoom, hint)) = e in cc)

@@ -1,6 +1,6 @@
 //! A compression that holds its parent, and latches two children of it.
 
-ghost use Rattle.std.specs.Prelude.{◌≡◌, ◌<◌, ◌≤◌, ◌⊎◌, ◌↔◌, IsTrue, true, false};
+ghost use Rattle.std.specs.Prelude.{◌≡◌, ◌≢◌, ◌<◌, ◌≤◌, ◌⊎◌, ◌↔◌, IsTrue, IfSome, IfNone, get_or, true, false};
 ghost use Rattle.bl_page.specs.declared.page.Page.{Page};
 ghost use Rattle.bl_page.specs.Words.{words_of};
 ghost use Rattle.bl_rearrange.specs.Neighbours.{AreNeighbours, together};
@@ -31,14 +31,19 @@ use bl_rearrange::Side;
 use bl_store::Hand;
 use std::sync::Wait;
 
-/// A page between the two children is to be listed first: the left one ends at that key.
-fn unposted(target: CompressTarget, high: u64) -> Decision
-    ensures { result ≡ decisions.Unposted (hints.Post target.level high) }
+/// What it decides at the left child, with these words, if that does not link to the right one: a page between the two is to be listed first.
+fn unposted_at(target: CompressTarget, kin: Kin, left: &[u64; 32]) -> Option<Decision>
+    ensures some { IfSome result (λ decision. (get_or left.now 3 0 ≢ kin.at.right)
+        × (decision ≡ decisions.Unposted (hints.Post target.level (get_or left.now 2 0)))) }
+    ensures none { IfNone result (get_or left.now 3 0 ≡ kin.at.right) }
 {
-    Decision::Unposted(Hint::Post {
-        level: Level::new(target.level),
-        key: high,
-    })
+    if left[RIGHT] != kin.at.right as u64 {
+        return Some(Decision::Unposted(Hint::Post {
+            level: Level::new(target.level),
+            key: left[HIGH],
+        }));
+    }
+    None
 }
 
 /// What a compression answers by what became of the children, if it does not begin again.
@@ -255,8 +260,8 @@ fn latch_and_compress<R: Wait>(
 {
     latch(tree, rt, hand, kin.at.left);
     let left = words_at(tree, hand, kin.at.left);
-    if left[RIGHT] != kin.at.right as u64 {
-        return unposted(target, left[HIGH]);
+    if let Some(decision) = unposted_at(target, kin, &left) {
+        return decision;
     }
     latch(tree, rt, hand, kin.at.right);
     tree.await_frames(hand);
@@ -278,8 +283,8 @@ fn compress_from_left(
     ensures { IsDecided tree.now hand.old.seat hand.new target kin result }
 {
     let left = words_at(tree, hand, kin.at.left);
-    if left[RIGHT] != kin.at.right as u64 {
-        return unposted(target, left[HIGH]);
+    if let Some(decision) = unposted_at(target, kin, &left) {
+        return decision;
     }
     if tree.try_latch(hand, kin.at.right) {
         return decide(tree, hand, target, kin, parent, &left);
