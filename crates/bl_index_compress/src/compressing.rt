@@ -142,7 +142,7 @@ fn compress_once(
     requires empty { HasNoStock hand.old.seat }
     requires yields { target.waits ≡ false }
     ensures same { IsSameHand hand.old.seat hand.new.seat }
-    ensures over { IfSome result (λ said. IsCompressOver target (known hand.old.seat) hand.new.seat said.0 said.1) }
+    ensures over { IfSome result (λ answer. IsCompressOver target (known hand.old.seat) hand.new.seat answer.0 answer.1) }
     ensures back { IfNone result (HasTurnedBack tree.now (known hand.old.seat) hand.new target) }
 {
     match reach_within(tree, hand, &target, &mut (), turns) {

@@ -19,17 +19,17 @@ words_at-left-requires-clause-next c = let t = c.requires.process in ap next_of 
 pub words_at-left-requires-clause-course : goal.words_at-left-requires-clause-course
 words_at-left-requires-clause-course c = λ page. let t = c.requires.process in compression_course c.args.target (LatchedLeft t.0) (seen.Words page) _ t.2 tt
 
-pub returns-in-Some-unposted_at : goal.returns-in-Some-unposted_at
-returns-in-Some-unposted_at c =
+pub returns-in-Some : goal.returns-in-Some
+returns-in-Some c =
     let t = c.requires.process in let got = c.words_at-left.ensures.goes in
     let l = c.args.tree.now.store.layout in
     let on = on_as l (known c.args.hand.now.seat) _ c.requires.runs.on t.2 in
     record {
       same = c.words_at-left.ensures.same.0;
       empty = c.words_at-left.ensures.same.2.0 ∙ c.requires.empty;
-      runs = record { own = search rules; running = search rules; on = unlinked l c.args.target c.args.kin c.args.parent.now c.words_at-left.result t.0 got.0 _ _ t.1 got.1 on got.2 c.in-Some-unposted_at.ensures.some.0 c.in-Some-unposted_at.decision c.in-Some-unposted_at.ensures.some.1 };
+      runs = record { own = search rules; running = search rules; on = unlinked l c.args.target c.args.kin c.args.parent.now c.words_at-left.result t.0 got.0 _ _ t.1 got.1 on got.2 c.in-Some.ensures.some.0 c.in-Some.decision c.in-Some.ensures.some.1 };
       since = same_goes _ _ _ got.2;
-      no_room = λ e. absurd (let z : Unposted (hint.Post c.args.target.level (get_or c.words_at-left.result 2 0)) ≡ Refused = sym c.in-Some-unposted_at.ensures.some.1 ∙ e in cc);
+      no_room = λ e. absurd (let z : Unposted (hint.Post c.args.target.level (get_or c.words_at-left.result 2 0)) ≡ Refused = sym c.in-Some.ensures.some.1 ∙ e in cc);
     }
 
 pub try_latch-requires-clause-runs : goal.try_latch-requires-clause-runs

@@ -36,16 +36,16 @@ words_at-left-requires-clause-course g c = λ page.
     let t = c.requires.process in let on = c.latch.ensures.latched _ (latches c.args.target (LatchingLeft t.0) (LatchedLeft t.0) _ t.2 refl) in
     compression_course c.args.target (LatchedLeft t.0) (seen.Words page) _ on.state tt
 
-pub returns-in-Some-unposted_at : goal.returns-in-Some-unposted_at
-returns-in-Some-unposted_at g c =
+pub returns-in-Some : goal.returns-in-Some
+returns-in-Some g c =
     let t = c.requires.process in let got = c.words_at-left.ensures.goes in
     let on = c.latch.ensures.latched _ (latches c.args.target (LatchingLeft t.0) (LatchedLeft t.0) _ t.2 refl) in
     record {
       same = same_hands c.args.hand.now.seat c.latch.new.hand.seat c.words_at-left.new.hand.seat c.latch.ensures.same.0 c.words_at-left.ensures.same.0;
       empty = c.words_at-left.ensures.same.2.0 ∙ (c.latch.ensures.same.2.0 ∙ c.requires.empty);
-      runs = record { own = search rules; running = search rules; on = unlinked c.args.tree.now.store.layout c.args.target c.args.kin c.args.parent.now c.words_at-left.result t.0 got.0 _ _ t.1 got.1 on got.2 c.in-Some-unposted_at.ensures.some.0 c.in-Some-unposted_at.decision c.in-Some-unposted_at.ensures.some.1 };
+      runs = record { own = search rules; running = search rules; on = unlinked c.args.tree.now.store.layout c.args.target c.args.kin c.args.parent.now c.words_at-left.result t.0 got.0 _ _ t.1 got.1 on got.2 c.in-Some.ensures.some.0 c.in-Some.decision c.in-Some.ensures.some.1 };
       since = same_all _ _ _ c.latch.ensures.since (same_goes _ _ _ got.2);
-      no_room = λ e. absurd (let z : Unposted (hint.Post c.args.target.level (get_or c.words_at-left.result 2 0)) ≡ Refused = sym c.in-Some-unposted_at.ensures.some.1 ∙ e in cc);
+      no_room = λ e. absurd (let z : Unposted (hint.Post c.args.target.level (get_or c.words_at-left.result 2 0)) ≡ Refused = sym c.in-Some.ensures.some.1 ∙ e in cc);
     }
 
 pub latch-requires-2-clause-runs : goal.latch-requires-2-clause-runs
