@@ -15,12 +15,13 @@ ghost use Rattle.bl_store.specs.Drafts.{IsSplice};
 ghost use Rattle.bl_store.specs.Hands.{known, read_words, IsSameHand, IsSameStamp, IsSameStock, HasNoStock, IsStockOf, ReadsFrom, WasRefused, IsSameRefusal, Keeps, KeepsNow};
 ghost use Rattle.bl_index_rule.specs.declared.known.PassState.{PassState as Knows};
 ghost use Rattle.bl_index_rule.specs.Observed.{Goes, HasFirmTrail, is_unput as unput_since};
+ghost use Rattle.bl_proc_invariant.specs.Walks.{LeavesWalk};
 ghost use Rattle.bl_index_events.specs.Held.{KeepsLatch};
 ghost use Rattle.bl_index_events.specs.Runs.{Runs, KeepsHand, Rests, IsSince, IsDone, EndsAs};
 
 use crate::tree::Tree;
 use bl_index_rule::{
-    Ended, Got, GotKept, Opened, PassState, Probed, Put, Refused, Took, Tried, Unput,
+    Ended, Got, GotKept, LeftWalk, Opened, PassState, Probed, Put, Refused, Took, Tried, Unput,
 };
 use bl_reserve::{finds_frames, reserve};
 use bl_store::{Glance, Hand, Splice, Stock};
@@ -114,6 +115,21 @@ impl Tree {
         ensures refusal { IsSameRefusal hand.old.seat hand.new.seat }
     {
         self.store.open::<Opened>(hand, page);
+    }
+
+    /// A post on its walk from the page to the child gives that up, and opens the page: it goes on as one that was about to open it, and
+    /// begins its way again. So a post that may not wait need not hold its parent however long the walk is.
+    #[inline(always)]
+    pub fn leave_walk(&self, hand: &mut Hand<PassState>, page: u32)
+        requires runs { Runs self.now hand.old (known hand.old.seat).state }
+        requires page { page < self.now.store.layout.pages }
+        requires walks { (off : Proc) × LeavesWalk (known hand.old.seat).state off page }
+        ensures same { KeepsHand hand.old.seat hand.new.seat }
+        ensures off { (off : Proc) × LeavesWalk (known hand.old.seat).state off page
+            × Goes seen.Done (record (known hand.old.seat) { state = off }) (known hand.new.seat) }
+        ensures refusal { IsSameRefusal hand.old.seat hand.new.seat }
+    {
+        self.store.open::<LeftWalk>(hand, page);
     }
 
     /// Lets other threads run while a reservation would find too few frames, so often at most: those that hold frames back may be in the

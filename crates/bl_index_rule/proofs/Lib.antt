@@ -10,6 +10,7 @@ pub mod Shown
 pub mod Runners
 pub mod Turns
 pub mod Pages
+pub mod OffWalk
 pub mod Bounds
 pub mod Releasing
 pub mod Starts

@@ -13,6 +13,7 @@ use Rattle.bl_proc.specs.declared.kinds.Proc.{Proc}
 use Rattle.bl_proc.specs.declared.kinds.Proc.TheVariants as proc
 use Rattle.bl_proc.specs.Processes.{next_of}
 use Rattle.bl_proc_invariant.specs.Logs.{proc_log}
+use Rattle.bl_proc_invariant.specs.Walks.{LeavesWalk}
 use Rattle.bl_proc_invariant.specs.Turns.{event_of}
 use Rattle.bl_proc_invariant.specs.Knowing.{Run, know, end_of_proc}
 use Rattle.bl_claims.specs.Bounds.{IsWithinBound, IsBelowBound}
@@ -93,6 +94,10 @@ puts d x owner words e = Goes seen.Done d e
 
 abbrev pub opens : PassState → ℕ → Owner → List ℕ → PassState → Type 0
 opens d x owner words e = Goes seen.Done d e
+
+-- The process was a post on its walk from that page, and has given that up and opened the page: it goes on as one that had been about to.
+abbrev pub leaves_walk : PassState → ℕ → Owner → List ℕ → PassState → Type 0
+leaves_walk d x owner words e = (between : Proc) × LeavesWalk d.state between x × Goes seen.Done (record d { state = between }) e
 
 abbrev pub takes : PassState → ℕ → Owner → List ℕ → PassState → Type 0
 takes d x owner words e = Goes (seen.Took x) d e

@@ -5,6 +5,8 @@ use Rattle.bl_page.specs.Machine.Act.{Latch}
 use Rattle.bl_claims.specs.Trails.{Mark, marks_of}
 use Rattle.bl_tree_worlds.specs.Worlds.{Stage, World, IsGood, Extends}
 use Rattle.bl_proc_steps.specs.declared.acts.Seen.{Seen}
+use Rattle.bl_proc_writes.specs.declared.walking.Walk.{Walk}
+use Rattle.bl_proc_writes.specs.declared.post.Post.{Post}
 use Rattle.bl_proc.specs.declared.kinds.Proc.{Proc}
 use Rattle.bl_proc.specs.declared.kinds.Proc.TheVariants as proc
 use Rattle.bl_proc.specs.Processes.{next_of, Takes}
@@ -13,13 +15,14 @@ use Rattle.bl_proc_invariant.specs.Turns.{event_of, IsObserved}
 use Rattle.bl_proc_invariant.specs.Knowing.{Run, know, end_of_proc}
 use Rattle.bl_proc_invariant.proofs.Instead.{with_proc}
 use Rattle.bl_proc_invariant.proofs.GivingUp.{left_of}
+use Rattle.bl_proc_invariant.proofs.OffWalk.{off_run}
 use Rattle.bl_claims.specs.Bounds.{gets_in, puts_in}
 use Rattle.bl_proc_bounds.specs.Paces.{place_of, AllKept}
 use Rattle.bl_proc_bounds.specs.Paces.Place.{Nowhere}
 use Rattle.bl_proc_bounds.proofs.Keeping.{turn_paced}
-use Rattle.bl_proc_bounds.proofs.Bounded.{idle_paced, left_paced, first_paced, enter_paced}
+use Rattle.bl_proc_bounds.proofs.Bounded.{idle_paced, left_paced, first_paced, enter_paced, off_paced}
 use Rattle.bl_proc_bounds.proofs.Held.{owned_on, owned_first}
-use Rattle.bl_proc_bounds.proofs.Latching.{tidy_turn, tidy_still, tidy_left, tidy_enter, tidy_first}
+use Rattle.bl_proc_bounds.proofs.Latching.{tidy_turn, tidy_still, tidy_left, tidy_enter, tidy_first, off_tidy}
 
 -- A turn of a process that is told something of its next action, truly.
 pub turn_kept : (w w' : World Run) (m : Mark) (b : Run) (what : Seen) → Extends w w' m b → IsGood know w → IsGood know w' → proc_log (w.proc m.event.process).state (marks_of m.event.process w.trail) → Takes (w.proc m.event.process).state what b.state → IsObserved w.now w.size (next_of (w.proc m.event.process).state) what → m.event.act ≡ event_of (end_of_proc (w.proc m.event.process).state) (next_of (w.proc m.event.process).state) what → AllKept w → AllKept w'
@@ -63,3 +66,7 @@ first_kept w none blank = record { paced = first_paced w blank; owned = owned_fi
 -- a world that one enters who has done nothing
 pub enter_kept : (w : World Run) (p : Name) (b : Run) → marks_of p w.trail ≡ [] → (know b).stage ≡ Stage.Early → AllKept w → AllKept (with_proc w p b)
 enter_kept w p b none early all = record { paced = enter_paced w p b early all.paced; owned = all.owned; tidy = tidy_enter w p b none all.tidy }
+
+-- a world in which a post has given up its walk
+pub off_kept : (w : World Run) (p : Name) (a : Post) (v : Walk) → (w.proc p).state ≡ proc.Post a → AllKept w → AllKept (with_proc w p (off_run (w.proc p) a v))
+off_kept w p a v is all = record { paced = off_paced w p a v all.paced; owned = all.owned; tidy = off_tidy w p a v is all.tidy }

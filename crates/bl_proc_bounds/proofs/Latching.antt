@@ -66,6 +66,9 @@ use Rattle.bl_proc_invariant.specs.Knowing.{Run, path_goes, inserted, know_growt
 use Rattle.bl_tree_worlds.proofs.After.{is_put_name}
 use Rattle.bl_proc_invariant.proofs.Instead.{with_proc}
 use Rattle.bl_proc_invariant.proofs.GivingUp.{left_of}
+use Rattle.bl_proc_invariant.proofs.OffWalk.{off_run}
+use Rattle.bl_proc_writes.specs.declared.walking.Walk.{Walk}
+use Rattle.bl_proc_writes.specs.declared.post.Post.{Post}
 use Rattle.bl_claims.specs.Latches.{KeepsPage, LatchesNone, LatchesAlone, LatchesBelowAnchor}
 use Rattle.bl_claims.specs.Families.{HoldsFamily, LatchesBeside}
 use Rattle.bl_proc_bounds.specs.Latches.{IsTidy, AllOwned, AllTidy}
@@ -335,6 +338,15 @@ pub tidy_enter : (w : World Run) (p : Name) (b : Run) → marks_of p w.trail ≡
 tidy_enter w p b none all q = elim (name_cases q p) [
   | inl i ↦ subst (λ (r : Run). IsTidy r.state (marks_of q w.trail)) (sym (ap (with_proc w p b).proc i ∙ (is_put_name p b w.proc).at)) (nothing_done b.state (marks_of q w.trail) (ap (λ n. marks_of n w.trail) i ∙ none))
   | inr n ↦ subst (λ (r : Run). IsTidy r.state (marks_of q w.trail)) (sym ((is_put_name p b w.proc).others q n)) (all q)
+]
+
+-- a world in which a post has given up its walk
+pub off_tidy : (w : World Run) (p : Name) (a : Post) (v : Walk) → (w.proc p).state ≡ proc.Post a → AllTidy w → AllTidy (with_proc w p (off_run (w.proc p) a v))
+off_tidy w p a v is all q = elim (name_cases q p) [
+  | inl i ↦
+      let own : IsTidy (proc.Post a) (marks_of q w.trail) = subst (λ n. IsTidy (proc.Post a) (marks_of n w.trail)) (sym i) (subst (λ z. IsTidy z (marks_of p w.trail)) is (all p)) in
+      subst (λ (r : Run). IsTidy r.state (marks_of q w.trail)) (sym (ap (with_proc w p (off_run (w.proc p) a v)).proc i ∙ (is_put_name p (off_run (w.proc p) a v) w.proc).at)) own
+  | inr n ↦ subst (λ (r : Run). IsTidy r.state (marks_of q w.trail)) (sym ((is_put_name p (off_run (w.proc p) a v) w.proc).others q n)) (all q)
 ]
 
 -- A world in which nothing has happened.

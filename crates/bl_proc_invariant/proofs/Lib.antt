@@ -35,6 +35,7 @@ pub mod ByPages
 pub mod CompressAnswers
 pub mod Gets
 pub mod GivingUp
+pub mod OffWalk
 pub mod Releasing
 pub mod Compressing
 pub mod Coupling
