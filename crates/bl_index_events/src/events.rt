@@ -14,7 +14,7 @@ ghost use Rattle.bl_proc_deterministic.specs.Frames.{op_of, work_of};
 ghost use Rattle.bl_store.specs.Drafts.{IsSplice};
 ghost use Rattle.bl_store.specs.Hands.{known, read_words, IsSameHand, IsSameStamp, IsSameStock, HasNoStock, IsStockOf, ReadsFrom, WasRefused, IsSameRefusal, Keeps, KeepsNow};
 ghost use Rattle.bl_index_rule.specs.declared.known.PassState.{PassState as Knows};
-ghost use Rattle.bl_index_rule.specs.Observed.{Goes, HasFirmTrail, is_unput as unput_since};
+ghost use Rattle.bl_index_rule.specs.Observed.{Goes, HasFirmTrail, HasLeftWalk, is_unput as unput_since};
 ghost use Rattle.bl_proc_invariant.specs.Walks.{LeavesWalk};
 ghost use Rattle.bl_index_events.specs.Held.{KeepsLatch};
 ghost use Rattle.bl_index_events.specs.Runs.{Runs, KeepsHand, Rests, IsSince, IsDone, EndsAs};
@@ -125,8 +125,7 @@ impl Tree {
         requires page { page < self.now.store.layout.pages }
         requires walks { (off : Proc) × LeavesWalk (known hand.old.seat).state off page }
         ensures same { KeepsHand hand.old.seat hand.new.seat }
-        ensures off { (off : Proc) × LeavesWalk (known hand.old.seat).state off page
-            × Goes seen.Done (record (known hand.old.seat) { state = off }) (known hand.new.seat) }
+        ensures off { HasLeftWalk (known hand.old.seat) page (known hand.new.seat) }
         ensures refusal { IsSameRefusal hand.old.seat hand.new.seat }
     {
         self.store.open::<LeftWalk>(hand, page);

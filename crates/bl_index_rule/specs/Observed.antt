@@ -96,8 +96,11 @@ abbrev pub opens : PassState → ℕ → Owner → List ℕ → PassState → Ty
 opens d x owner words e = Goes seen.Done d e
 
 -- The process was a post on its walk from that page, and has given that up and opened the page: it goes on as one that had been about to.
+abbrev pub HasLeftWalk : PassState → ℕ → PassState → Type 0
+HasLeftWalk d x e = (off : Proc) × LeavesWalk d.state off x × Goes seen.Done (record d { state = off }) e
+
 abbrev pub leaves_walk : PassState → ℕ → Owner → List ℕ → PassState → Type 0
-leaves_walk d x owner words e = (between : Proc) × LeavesWalk d.state between x × Goes seen.Done (record d { state = between }) e
+leaves_walk d x owner words e = HasLeftWalk d x e
 
 abbrev pub takes : PassState → ℕ → Owner → List ℕ → PassState → Type 0
 takes d x owner words e = Goes (seen.Took x) d e

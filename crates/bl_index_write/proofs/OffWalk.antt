@@ -15,7 +15,7 @@ use Rattle.bl_proc.specs.Processes.{next_of}
 use Rattle.bl_proc_invariant.specs.Knowing.{Run, know, know_of}
 use Rattle.bl_proc_invariant.specs.Walks.{off_walk, LeavesWalk}
 use Rattle.bl_index_rule.specs.declared.known.PassState.{PassState}
-use Rattle.bl_index_rule.specs.Observed.{Goes, IsNear}
+use Rattle.bl_index_rule.specs.Observed.{HasLeftWalk, IsNear}
 use Rattle.bl_index_events.specs.Held.{own_marks, proc_held}
 use Rattle.bl_index_events.specs.Runs.{IsOn, IsSameProcess, IsSince}
 use Rattle.bl_index_events.proofs.Calls.{since_step}
@@ -42,7 +42,7 @@ module _ (j : Posting) (x : ℕ) (walk : Walk) (below : j.level < 12) where
       leaves.then ∙ (ap (λ (z : Post). proc.Post (off_walk z leaves.walk)) same ∙ ap (λ (y : ℕ). posting j (post.Coming (way.Leaving y None)) tt) leaves.at)
 
   module _ (d e : PassState) where
-    pub off_on : (l : Layout) → IsOn l d (posting j (post.Walking walk) below) → x < l.pages → (off : Proc) × LeavesWalk d.state off x × Goes seen.Done (record d { state = off }) e → IsOn l e (posting j (post.Coming way.Start) tt)
+    pub off_on : (l : Layout) → IsOn l d (posting j (post.Walking walk) below) → x < l.pages → HasLeftWalk d x e → IsOn l e (posting j (post.Coming way.Start) tt)
     off_on l on near (off, leaves, goes) =
         let is = off_is d.state off on.state leaves in
         let there : IsOn l (record d { state = off }) leaving = record {
@@ -59,7 +59,7 @@ module _ (j : Posting) (x : ℕ) (walk : Walk) (below : j.level < 12) where
     silent r p is none = ap (λ (z : Proc). (know_of r.got r.child r.time z).said) is ∙ none r.got r.child r.time
 
     -- it is the same process
-    pub off_same : d.state ≡ posting j (post.Walking walk) below → (off : Proc) × LeavesWalk d.state off x × Goes seen.Done (record d { state = off }) e → IsSameProcess d e
+    pub off_same : d.state ≡ posting j (post.Walking walk) below → HasLeftWalk d x e → IsSameProcess d e
     off_same state (off, leaves, goes) pass old since =
         let h = since.own in
         let is = off_is d.state off state leaves in
