@@ -1,11 +1,10 @@
 -- A post on its walk gives that up and opens its parent: it keeps the rule, and the pass knows it.
 use Rattle.std.proofs.Common.{ℕ, ◌≡◌, ◌≢◌, ◌≤◌, true, List, set, refl, sym, ap, ◌∙◌, subst, arith}
-use Rattle.bl_page.specs.declared.page.Page.{Page}
-use Rattle.bl_page.specs.Machine.{Name, State, Act}
+use Rattle.bl_page.specs.Machine.{Name, Act}
 use Rattle.bl_page.specs.Machine as machine
 use Rattle.bl_claims.specs.Trails.{marks_of}
 use Rattle.bl_tree_worlds.specs.Worlds.{World, IsGood}
-use Rattle.bl_tree_worlds.proofs.After.{put_at, is_put_at, is_put_name}
+use Rattle.bl_tree_worlds.proofs.After.{is_put_at, is_put_name}
 use Rattle.bl_proc_steps.specs.declared.acts.Action.TheVariants as act
 use Rattle.bl_proc_steps.specs.declared.acts.Seen.TheVariants as seen
 use Rattle.bl_proc_writes.specs.declared.walking.Walk.{Walk}
@@ -18,7 +17,6 @@ use Rattle.bl_proc_invariant.specs.Turns.{Does, Turned}
 use Rattle.bl_proc_invariant.specs.Walks.{off_walk, LeavesWalk}
 use Rattle.bl_proc_invariant.specs.Knowing.{Run, know, run_next}
 use Rattle.bl_proc_invariant.proofs.Instead.{with_proc, turned_instead}
-use Rattle.bl_proc_invariant.proofs.Middles.{KeepsLogs}
 use Rattle.bl_proc_invariant.proofs.OffWalk.{off_run, off_good, off_log}
 use Rattle.bl_proc_bounds.specs.Paces.{AllKept}
 use Rattle.bl_proc_bounds.proofs.Kept.{off_kept}
@@ -29,14 +27,13 @@ use Rattle.bl_layout.specs.declared.layout.Layout.{Layout}
 use Rattle.bl_store_rule.specs.Pages.{Open, Held, Stage, Running, Pages, Stands, IsOrderly, observed, owned, Opens}
 use Rattle.bl_index_rule.specs.declared.known.PassState.{PassState}
 use Rattle.bl_claims.specs.Seeing.{name}
-use Rattle.bl_index_rule.specs.Simulation.{owner_in, Simulates}
-use Rattle.bl_index_rule.specs.Observed.{Notes, Goes, leaves_walk}
-use Rattle.bl_index_rule.proofs.Advance.{next_known, advance, next_notes, next_near, next_own, next_stage}
+use Rattle.bl_index_rule.specs.Simulation.{Simulates}
+use Rattle.bl_index_rule.specs.Observed.{Goes, leaves_walk}
+use Rattle.bl_index_rule.proofs.Opened.{opened_at, known_then, fits_then, steps_then}
 use Rattle.bl_index_rule.proofs.Doings.{log_after}
-use Rattle.bl_index_rule.proofs.Logs.{next_logs}
-use Rattle.bl_index_rule.proofs.Pages.{as_often, kept_owner, running, shown_owner}
-use Rattle.bl_index_rule.proofs.Shown.{is_held, same_owner}
-use Rattle.bl_index_rule.proofs.Turns.{standing, is_named, turn_of}
+use Rattle.bl_index_rule.proofs.Pages.{running}
+use Rattle.bl_index_rule.proofs.Shown.{is_held}
+use Rattle.bl_index_rule.proofs.Turns.{standing, turn_of}
 
 module _ (s : Pages PassState) (f : Simulates s) (n since : ℕ) (d : PassState) (at : Stands s n (Running since) d) (a : Post) (v : Walk) (state : d.state ≡ proc.Post a) (walks : a.stage ≡ Walking v) where
   abbrev mine : Name
@@ -65,83 +62,63 @@ module _ (s : Pages PassState) (f : Simulates s) (n since : ℕ) (d : PassState)
   log : proc_log leaving (marks_of mine f.world.trail)
   log = off_log a v (marks_of mine f.world.trail) walks (subst (λ (z : Proc). proc_log z (marks_of mine f.world.trail)) state (standing s f n since d at).5)
 
-  abbrev opened : State Page
-  opened = record f.world.now { owner = put_at v.at machine.Owner.Open f.world.now.owner }
-
   abbrev then_run : Run
   then_run = run_next off_world.now (off_world.proc mine) seen.Done course.new
 
-  off_turned : Turned know off_world mine (Act.Open v.at) opened then_run
-  off_turned = turn_of off_world mine leaving seen.Done opened good off_is course (act.Open v.at) refl tt tt (record { changes = (λ z. refl, is_put_at v.at machine.Owner.Open f.world.now.owner, λ q. refl); on = omega arith })
+  off_turned : Turned know off_world mine (Act.Open v.at) (opened_at f v.at) then_run
+  off_turned = turn_of off_world mine leaving seen.Done (opened_at f v.at) good off_is course (act.Open v.at) refl tt tt (record { changes = (λ z. refl, is_put_at v.at machine.Owner.Open f.world.now.owner, λ q. refl); on = omega arith })
 
-  abbrev turned : Turned know f.world mine (Act.Open v.at) opened then_run
-  turned = turned_instead know f.world mine (Act.Open v.at) opened (off_run (f.world.proc mine) a v) then_run off_turned
+  abbrev turned : Turned know f.world mine (Act.Open v.at) (opened_at f v.at) then_run
+  turned = turned_instead know f.world mine (Act.Open v.at) (opened_at f v.at) (off_run (f.world.proc mine) a v) then_run off_turned
 
   then_log : proc_log course.new (marks_of mine turned.next.trail)
-  then_log = log_after off_world mine leaving seen.Done course (act.Open v.at) opened then_run off_turned refl tt log
-
-  logs : KeepsLogs turned.next
-  logs = next_logs s f n d.number (Act.Open v.at) opened then_run turned (λ z runs. then_log)
+  then_log = log_after off_world mine leaving seen.Done course (act.Open v.at) (opened_at f v.at) then_run off_turned refl tt log
 
   kept : AllKept turned.next
   kept = state_kept off_world turned.next mine leaving then_run seen.Done (act.Open v.at) _ refl off_is refl off_turned.extends good off_turned.good log course.takes tt (off_kept f.world mine a v stood f.kept)
 
   abbrev pub off_known : PassState
-  off_known = next_known s f n d.number (Running since) d at (Act.Open v.at) opened then_run turned true d.past
+  off_known = known_then s f n since d at v.at then_run turned then_log kept
 
-  -- the pages go on as the store's do
   pub off_fits : Simulates (observed (owned s v.at Open) n (Running since) off_known)
-  off_fits =
-      let is = standing s f n since d at in
-      advance s f n d.number (Running since) d at (Act.Open v.at) opened then_run turned true d.past logs kept (observed (owned s v.at Open) n (Running since) off_known) (Running since) refl refl (omega arith) f.clock
-      (λ q ne. refl)
-      (λ y q ne e. kept_owner f.world.now.owner v.at machine.Owner.Open (λ i. let z : machine.Owner.Open ≡ machine.Held q = i in cc) y e)
-      f.pages
-      (λ y o e. shown_owner f.world.now.owner v.at machine.Owner.Open s.owners s.hands Open refl f.owners y o e ∙ sym (same_owner s.hands n (Running since, d) (Running since, off_known) o at refl))
-      (next_stage s f n d.number (Running since) d at (Act.Open v.at) opened then_run turned true d.past since is.2.0 is.2.1 refl is.1 is.2.2 is.4 then_log)
-      (λ z e. refl)
-      (λ z e. (since, (let both : machine.Running is.2.0 ≡ machine.Running z = sym is.2.2 ∙ e in let same : is.2.0 ≡ z = cc in subst (λ (w : ℕ). since ≤ w) same is.2.1), refl))
-      (λ y version e. as_often s f y version 0 e refl)
-      (λ y e. absurd cc)
-
-  -- what the pass notes of it, as if the process had stood there
-  off_notes : Notes d.pass d.number (Act.Open v.at) (record d { state = leaving }) off_known
-  off_notes =
-      let notes : Notes n d.number (Act.Open v.at) d off_known = next_notes s f n d.number (Running since) d at (Act.Open v.at) opened then_run turned true d.past logs kept in
-      subst (λ (z : ℕ). Notes z d.number (Act.Open v.at) (record d { state = leaving }) off_known) (sym (is_named s f n since d at).0) (record {
-        between = notes.between;
-        last = notes.last;
-        trail = notes.trail;
-        event = notes.event;
-        first = notes.first;
-        seen = notes.seen;
-        within = notes.within;
-        pass = notes.pass;
-        number = notes.number;
-        others = notes.others;
-        bounded = notes.bounded;
-        below = notes.below;
-        tidy = notes.tidy;
-      })
-
-  pub off_goes : Goes seen.Done (record d { state = leaving }) off_known
-  off_goes = record {
-    steps = record {
-      notes = off_notes;
-      runs = refl;
-      pages = sym (is_named s f n since d at).1;
-      passes = sym (f.counts n (Running since) d at (standing s f n since d at).1);
-      past = refl;
-      own = next_own s f n d.number (Running since) d at (Act.Open v.at) opened then_run turned true d.past (standing s f n since d at).4;
-      near = next_near s f n d.number (Running since) d at (Act.Open v.at) opened then_run turned true d.past;
-    };
-    saw = λ x c e observed. absurd (let z : Act.Open v.at ≡ Act.Get x = e in cc);
-    course = course;
-    state = refl;
-  }
+  off_fits = fits_then s f n since d at v.at then_run turned then_log kept
 
   pub off_held : f.world.now.owner v.at ≡ machine.Held mine
   off_held = turned.extends.steps.enabled
+
+  -- what the pass notes of it, as if the process had stood there
+  pub off_goes : Goes seen.Done (record d { state = leaving }) off_known
+  off_goes =
+      let steps = steps_then s f n since d at v.at then_run turned then_log kept in
+      let notes = steps.notes in
+      record {
+        steps = record {
+          notes = record {
+            between = notes.between;
+            last = notes.last;
+            trail = notes.trail;
+            event = notes.event;
+            first = notes.first;
+            seen = notes.seen;
+            within = notes.within;
+            pass = notes.pass;
+            number = notes.number;
+            others = notes.others;
+            bounded = notes.bounded;
+            below = notes.below;
+            tidy = notes.tidy;
+          };
+          runs = steps.runs;
+          pages = steps.pages;
+          passes = steps.passes;
+          past = steps.past;
+          own = steps.own;
+          near = steps.near;
+        };
+        saw = λ x c e observed. absurd (let z : Act.Open v.at ≡ Act.Get x = e in cc);
+        course = course;
+        state = refl;
+      }
 
 pub leaves_walk_page : (l : Layout) (n : ℕ) (d : PassState) → d.runs ≡ true → (x : ℕ) → (new : Proc) × LeavesWalk d.state new x → Opens Simulates l n d x leaves_walk
 leaves_walk_page l n d runs x (new, leaves) s st words owner f o at page =

@@ -9,11 +9,12 @@ use Rattle.bl_proc_steps.specs.declared.acts.Action.{Action}
 use Rattle.bl_proc_steps.specs.declared.acts.Action.TheVariants as action
 use Rattle.bl_proc_steps.specs.declared.acts.Seen.{Seen}
 use Rattle.bl_proc_steps.specs.declared.acts.Seen.TheVariants as seen
+use Rattle.bl_proc_steps.specs.declared.lowering.Summit.{Summit}
 use Rattle.bl_proc.specs.declared.kinds.Proc.{Proc}
 use Rattle.bl_proc.specs.declared.kinds.Proc.TheVariants as proc
 use Rattle.bl_proc.specs.Processes.{next_of}
 use Rattle.bl_proc_invariant.specs.Logs.{proc_log}
-use Rattle.bl_proc_invariant.specs.Walks.{LeavesWalk}
+use Rattle.bl_proc_invariant.specs.Walks.{LeavesWalk, looking, at_summit}
 use Rattle.bl_proc_invariant.specs.Turns.{event_of}
 use Rattle.bl_proc_invariant.specs.Knowing.{Run, know, end_of_proc}
 use Rattle.bl_claims.specs.Bounds.{IsWithinBound, IsBelowBound}
@@ -101,6 +102,16 @@ HasLeftWalk d x e = (off : Proc) × LeavesWalk d.state off x × Goes seen.Done (
 
 abbrev pub leaves_walk : PassState → ℕ → Owner → List ℕ → PassState → Type 0
 leaves_walk d x owner words e = HasLeftWalk d x e
+
+-- The process was a lowering that held the anchor and was to latch the top page. It has opened the anchor, and is to look at that again.
+pub record HasLeftTop (d e : PassState) : Type 0 where
+  pub top : Summit
+  pub was : d.state ≡ at_summit top
+  pub steps : Steps (Act.Open 0) d e
+  pub is : e.state ≡ looking
+
+abbrev pub leaves_top : PassState → ℕ → Owner → List ℕ → PassState → Type 0
+leaves_top d x owner words e = HasLeftTop d e
 
 abbrev pub takes : PassState → ℕ → Owner → List ℕ → PassState → Type 0
 takes d x owner words e = Goes (seen.Took x) d e

@@ -1,7 +1,7 @@
 //! What each event tells the pass that makes it.
 
 ghost use Rattle.std.specs.Prelude.{ℕ};
-ghost use Rattle.bl_index_rule.specs.Observed.{begins, ends, gives_up, gets, gets_kept, is_unput, puts, relays, takes, tries, probes, opens, leaves_walk, retires, refuses, sweeps};
+ghost use Rattle.bl_index_rule.specs.Observed.{begins, ends, gives_up, gets, gets_kept, is_unput, puts, relays, takes, tries, probes, opens, leaves_walk, leaves_top, retires, refuses, sweeps};
 
 use crate::known::PassState;
 use bl_store_rule::{KeepPlay, PagePlay, SweepPlay, TellPlay, TimePlay};
@@ -125,6 +125,13 @@ pub struct LeftWalk;
 
 impl PagePlay<PassState> for LeftWalk {
     ghost then = { leaves_walk };
+}
+
+/// A lowering has opened the anchor without the latch of the top page.
+pub struct LeftTop;
+
+impl PagePlay<PassState> for LeftTop {
+    ghost then = { leaves_top };
 }
 
 /// A page was retired.

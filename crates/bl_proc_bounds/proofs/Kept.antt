@@ -1,8 +1,9 @@
 -- What each process keeps, at each kind of turn.
-use Rattle.std.proofs.Common.{ℕ, ◌≡◌, ◌≢◌, [], ap, refl, ◌∙◌}
+use Rattle.std.proofs.Common.{ℕ, ◌≡◌, ◌≢◌, [], ap, refl, sym, subst, ◌∙◌}
 use Rattle.bl_page.specs.Machine.{Name}
 use Rattle.bl_page.specs.Machine.Act.{Latch}
-use Rattle.bl_claims.specs.Trails.{Mark, marks_of}
+use Rattle.bl_claims.specs.Trails.{Mark, Trail, marks_of}
+use Rattle.bl_proc_bounds.specs.Latches.{IsTidy}
 use Rattle.bl_tree_worlds.specs.Worlds.{Stage, World, IsGood, Extends}
 use Rattle.bl_proc_steps.specs.declared.acts.Seen.{Seen}
 use Rattle.bl_proc_writes.specs.declared.walking.Walk.{Walk}
@@ -22,7 +23,7 @@ use Rattle.bl_proc_bounds.specs.Paces.Place.{Nowhere}
 use Rattle.bl_proc_bounds.proofs.Keeping.{turn_paced}
 use Rattle.bl_proc_bounds.proofs.Bounded.{idle_paced, left_paced, first_paced, enter_paced, off_paced}
 use Rattle.bl_proc_bounds.proofs.Held.{owned_on, owned_first}
-use Rattle.bl_proc_bounds.proofs.Latching.{tidy_turn, tidy_still, tidy_left, tidy_enter, tidy_first, off_tidy}
+use Rattle.bl_proc_bounds.proofs.Latching.{tidy_turn, tidy_still, left_tidy, tidy_to, tidy_enter, tidy_first, off_tidy}
 
 -- A turn of a process that is told something of its next action, truly.
 pub turn_kept : (w w' : World Run) (m : Mark) (b : Run) (what : Seen) → Extends w w' m b → IsGood know w → IsGood know w' → proc_log (w.proc m.event.process).state (marks_of m.event.process w.trail) → Takes (w.proc m.event.process).state what b.state → IsObserved w.now w.size (next_of (w.proc m.event.process).state) what → m.event.act ≡ event_of (end_of_proc (w.proc m.event.process).state) (next_of (w.proc m.event.process).state) what → AllKept w → AllKept w'
@@ -51,13 +52,19 @@ left_nowhere (proc.Reclaim p) = refl
 left_nowhere (proc.Lower p) = refl
 left_nowhere (proc.InsertPost p) = refl
 
+-- A turn at which the process latches nothing, and after which it is one that searches nowhere and may have latched what it has.
+pub to_kept : (w w' : World Run) (m : Mark) (b : Run) → Extends w w' m b → IsGood know w → IsGood know w' → ((marks : Trail) → IsTidy (w.proc m.event.process).state marks → IsTidy b.state marks) → place_of b.state ≡ Nowhere → ((x : ℕ) → m.event.act ≢ Latch x) → AllKept w → AllKept w'
+to_kept w w' m b e g g' means nowhere looks all = record {
+  paced = left_paced w w' m b e g g' nowhere all.paced;
+  owned = owned_on w w' m b e all.owned;
+  tidy = tidy_to w w' m b e g all.owned means looks all.tidy;
+}
+
 -- A process that runs gives up.
 pub left_kept : (w w' : World Run) (m : Mark) (b : Run) → Extends w w' m b → IsGood know w → IsGood know w' → b.state ≡ left_of (w.proc m.event.process).state → (know (w.proc m.event.process)).stage ≡ Stage.Busy → ((x : ℕ) → m.event.act ≢ Latch x) → AllKept w → AllKept w'
-left_kept w w' m b e g g' is busy looks all = record {
-  paced = left_paced w w' m b e g g' (ap place_of is ∙ left_nowhere (w.proc m.event.process).state) all.paced;
-  owned = owned_on w w' m b e all.owned;
-  tidy = tidy_left w w' m b e g all.owned is busy looks all.tidy;
-}
+left_kept w w' m b e g g' is busy looks all =
+    let r = w.proc m.event.process in
+    to_kept w w' m b e g g' (λ marks h. subst (λ (z : Proc). IsTidy z marks) (sym is) (left_tidy r.got r.child r.time r.state marks busy h)) (ap place_of is ∙ left_nowhere r.state) looks all
 
 -- a world in which nothing has happened and none has begun
 pub first_kept : (w : World Run) → w.trail ≡ [] → ((p : Name) → (know (w.proc p)).stage ≡ Stage.Early) → AllKept w

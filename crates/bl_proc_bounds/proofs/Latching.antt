@@ -300,7 +300,7 @@ never_busy time reclaim.Releasing e = cc
 never_busy time (reclaim.Over what) e = cc
 
 -- What stands for a process that has given up may have latched what that has.
-left_tidy : (got : ℕ → Page) (child time : ℕ) (a : Proc) (marks : Trail) → (know_of got child time a).stage ≡ Stage.Busy → IsTidy a marks → IsTidy (left_of a) marks
+pub left_tidy : (got : ℕ → Page) (child time : ℕ) (a : Proc) (marks : Trail) → (know_of got child time a).stage ≡ Stage.Busy → IsTidy a marks → IsTidy (left_of a) marks
 left_tidy got child time (proc.Find a) marks busy h = none_alone marks h
 left_tidy got child time (proc.Write a) marks busy h = h
 left_tidy got child time (proc.Post a) marks busy h = h
@@ -310,13 +310,12 @@ left_tidy got child time (proc.Reclaim a) marks busy h = absurd (never_busy time
 left_tidy got child time (proc.Lower a) marks busy h = h
 left_tidy got child time (proc.InsertPost a) marks busy h = h
 
--- A process that runs gives up.
-pub tidy_left : (w w' : World Run) (m : Mark) (b : Run) → Extends w w' m b → IsGood know w → AllOwned w → b.state ≡ left_of (w.proc m.event.process).state → (know (w.proc m.event.process)).stage ≡ Stage.Busy → ((x : ℕ) → m.event.act ≢ Latch x) → AllTidy w → AllTidy w'
-tidy_left w w' m b e g owned is busy none all =
-    let r = w.proc m.event.process in
-    let marks : Trail = marks_of m.event.process w.trail ++ m ∷ [] in
-    let over : IsTidy (left_of r.state) marks = left_tidy r.got r.child r.time r.state marks busy (tidy_same w m.event.process r.state m g owned all refl none) in
-    tidy_on w w' m b e (λ p i. subst (λ q. IsTidy b.state (marks_of q w.trail ++ m ∷ [])) (sym i) (subst (λ z. IsTidy z marks) (sym is) over)) all
+-- An act by which the process latches nothing, and then is one that may have latched what it has.
+pub tidy_to : (w w' : World Run) (m : Mark) (b : Run) → Extends w w' m b → IsGood know w → AllOwned w → ((marks : Trail) → IsTidy (w.proc m.event.process).state marks → IsTidy b.state marks) → ((x : ℕ) → m.event.act ≢ Latch x) → AllTidy w → AllTidy w'
+tidy_to w w' m b e g owned means none all =
+    let old : Proc = (w.proc m.event.process).state in
+    let then : IsTidy b.state (marks_of m.event.process w.trail ++ m ∷ []) = means (marks_of m.event.process w.trail ++ m ∷ []) (tidy_same w m.event.process old m g owned all refl none) in
+    tidy_on w w' m b e (λ p i. subst (λ q. IsTidy b.state (marks_of q w.trail ++ m ∷ [])) (sym i) then) all
 
 -- A process that has done nothing yet
 

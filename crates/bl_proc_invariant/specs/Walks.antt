@@ -1,9 +1,13 @@
--- A post that gives up its walk from a parent to the child.
+-- Processes that hold one page, have not put it, and open it without having done what they hold it for: a post gives up its walk to the
+-- child, and a lowering the latch of the top page.
 use Rattle.std.specs.Prelude.{◌≡◌, ℕ, None}
 use Rattle.bl_proc_steps.specs.declared.approach.Approach.TheVariants.{Leaving}
+use Rattle.bl_proc_steps.specs.declared.lowering.Summit.{Summit}
+use Rattle.bl_proc_steps.specs.declared.lowering.Lowering.TheVariants.{Looking, LatchingTop}
 use Rattle.bl_proc_writes.specs.declared.walking.Walk.{Walk}
 use Rattle.bl_proc_writes.specs.declared.post.Post.{Post}
 use Rattle.bl_proc_writes.specs.declared.post.PostStage.TheVariants.{Coming, Walking}
+use Rattle.bl_proc.specs.declared.lowering.LowerStage.TheVariants.{Sinking}
 use Rattle.bl_proc.specs.declared.kinds.Proc.{Proc}
 use Rattle.bl_proc.specs.declared.kinds.Proc.TheVariants as proc
 
@@ -19,3 +23,10 @@ pub record LeavesWalk (old new : Proc) (x : ℕ) : Type 0 where
   pub walks : post.stage ≡ Walking walk
   pub at : walk.at ≡ x
   pub then : new ≡ proc.Post (off_walk post walk)
+
+-- a lowering that is to look at the anchor, and one that holds it and is to latch the top page
+abbrev pub looking : Proc
+looking = proc.Lower (record { stage = Sinking Looking })
+
+abbrev pub at_summit : Summit → Proc
+at_summit t = proc.Lower (record { stage = Sinking (LatchingTop t) })
