@@ -5,3 +5,4 @@ pub mod AtParent
 pub mod Spreading
 pub mod Splits
 pub mod Walked
+pub mod HandedOver

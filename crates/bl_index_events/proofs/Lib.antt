@@ -1,5 +1,4 @@
 pub mod Calls
-pub mod Silent
 pub mod Got
 pub mod Held
 pub mod Standing

@@ -1,3 +1,4 @@
+pub mod Silent
 pub mod Paces
 pub mod Ways
 pub mod Setting

@@ -6,4 +6,3 @@ pub mod LoweringLog
 pub mod Logs
 pub mod Knowing
 pub mod Beside
-pub mod Walks
