@@ -5,7 +5,7 @@
  * plain map. There is one order of all calls, which keeps the order of calls that did not
  * overlap. It is proved for the calls of one seat, and for those of two seats that meet
  * (blink_meet) in between; for others it is tested. A scan is many calls, each of which
- * answers the rows of one leaf.
+ * answers the rows of one leaf; blink_range reads rows as they were at one moment.
  *
  * Behind this header stands a library whose functions are proved: whatever a caller does
  * that keeps the rules below, no call reads or writes memory that is not its own, and
@@ -115,7 +115,8 @@ enum {
     BLINK_BAD_ROWS = 15,   /* the keys of the rows do not rise */
     BLINK_BAD_FILL = 16,   /* pages are to have less than 1 row or more than 14; or so few
                               that the tree would have more than 12 levels */
-    BLINK_IN_USE = 17      /* a place has an open seat: close it first; nothing is done */
+    BLINK_IN_USE = 17,     /* a place has an open seat: close it first; nothing is done */
+    BLINK_UNSTEADY = 18    /* others changed the rows each time that they were read */
 };
 
 /* The most rows of one leaf: as much room as blink_rows ever needs. */
@@ -365,6 +366,21 @@ BLINK_INLINE int32_t blink_rows(blink_seat *seat, uint64_t from, blink_row *rows
 BLINK_INLINE int32_t blink_rows_down(blink_seat *seat, uint64_t from, blink_row *rows,
                                      size_t room, blink_part *part);
 
+/* All rows from a key up to the key `last`, both included, by rising keys, as the map had
+ * them at one moment of the call: sums of them add up. Where others have changed a leaf
+ * since it was read, it is read again from there on, `rounds` times at most. It takes
+ * memory for the rows. Until it ends nothing is given back that others replace meanwhile,
+ * so it is for some thousand rows, and blink_scan for more.
+ *   BLINK_OK          the first `*count` rows of the array are these
+ *   BLINK_FEW_ROWS    there are `*count` rows, more than `room`; none is written
+ *   BLINK_UNSTEADY    others changed a leaf each time; `*count` is as it was, here and
+ *                     below, and no row is written
+ *   BLINK_NO_MEMORY   malloc refused
+ *   BLINK_CLOSED      the seat is closed */
+BLINK_INLINE int32_t blink_range(blink_seat *seat, uint64_t from, uint64_t last,
+                                 uint32_t rounds, blink_row *rows, size_t room,
+                                 uint64_t *count);
+
 /* The row of the least key. This, and each of the four calls below, reads as a scan does:
  * each leaf on the way as the map stood at one moment of the call.
  *   BLINK_OK          `*row` is that row
@@ -512,6 +528,12 @@ int32_t blink_try_rows(blink_seat *seat, uint64_t from, blink_row *rows, size_t 
  *   BLINK_AGAIN       no answer yet: nothing is written */
 int32_t blink_try_rows_down(blink_seat *seat, uint64_t from, blink_row *rows, size_t room,
                             blink_part *part);
+
+/* The rows of one moment, as blink_range.
+ *   BLINK_OK, BLINK_FEW_ROWS, BLINK_UNSTEADY, BLINK_NO_MEMORY, BLINK_CLOSED  as there
+ *   BLINK_AGAIN       no answer yet: nothing is written */
+int32_t blink_try_range(blink_seat *seat, uint64_t from, uint64_t last, uint32_t rounds,
+                        blink_row *rows, size_t room, uint64_t *count);
 
 /* Upkeep, as blink_upkeep, which is this call behind the guard.
  *   BLINK_OK, BLINK_AGAIN, BLINK_CLOSED  as there */
@@ -688,6 +710,12 @@ BLINK_INLINE int32_t blink_rows(blink_seat *seat, uint64_t from, blink_row *rows
 BLINK_INLINE int32_t blink_rows_down(blink_seat *seat, uint64_t from, blink_row *rows,
                                      size_t room, blink_part *part) {
     BLINK_RETURN_CALL_(seat, blink_try_rows_down, from, rows, room, part)
+}
+
+BLINK_INLINE int32_t blink_range(blink_seat *seat, uint64_t from, uint64_t last,
+                                 uint32_t rounds, blink_row *rows, size_t room,
+                                 uint64_t *count) {
+    BLINK_RETURN_CALL_(seat, blink_try_range, from, last, rounds, rows, room, count)
 }
 
 /* Whether a key lies behind the last one that is asked for. */
@@ -893,6 +921,7 @@ BLINK_INLINE const char *blink_text(int32_t code) {
         case BLINK_BAD_ROWS: return "the keys of the rows do not rise";
         case BLINK_BAD_FILL: return "so many rows a page are not 1 to 14, or too few";
         case BLINK_IN_USE: return "a place has an open seat: close it first";
+        case BLINK_UNSTEADY: return "others changed the rows each time that they were read";
         default: return "no code of this library";
     }
 }

@@ -345,6 +345,20 @@ public:
     Range range_down(Key from = 0) { return Range(&seat_, from, UINT64_MAX, true); }
     Range range_down(Key from, Key below) { return bounded(from, below, true); }
 
+    // All rows of such a range as the map had them at one moment. Where others change them
+    // each time that they are read, `rounds` times more, the code is BLINK_UNSTEADY.
+    Result<std::vector<Row>> snapshot(Key from, Key below, std::nothrow_t,
+                                      uint32_t rounds = 64) {
+        if (below == 0) return std::vector<Row>();
+        return at_once(from, below - 1, rounds);
+    }
+    std::vector<Row> snapshot(Key from, Key below) {
+        return snapshot(from, below, std::nothrow).value();
+    }
+    std::vector<Row> snapshot(Key from = 0) {
+        return at_once(from, UINT64_MAX, 64).value();
+    }
+
     // The first and the last row, and those of the next greater and the next smaller key.
     std::optional<Row> first() {
         blink_row row{};
@@ -396,6 +410,24 @@ private:
     Range bounded(Key from, Key below, bool is_falling) {
         if (below == 0) return Range(&seat_, 1, 0, is_falling);
         return Range(&seat_, from, below - 1, is_falling);
+    }
+    // With more room where there was too little.
+    Result<std::vector<Row>> at_once(Key from, Key last, uint32_t rounds) {
+        std::vector<blink_row> rows(256);
+        uint64_t count = 0;
+        for (;;) {
+            const int32_t code = blink_range(&seat_, from, last, rounds, rows.data(),
+                                             rows.size(), &count);
+            if (code == BLINK_OK) break;
+            if (code != BLINK_FEW_ROWS)
+                return Result<std::vector<Row>>::refused(code);
+            rows.resize(static_cast<size_t>(count + count / 8));
+        }
+        std::vector<Row> found;
+        found.reserve(static_cast<size_t>(count));
+        for (size_t at = 0; at < count; at++)
+            found.emplace_back(rows[at].key, rows[at].value);
+        return found;
     }
     uint64_t counted(Key from, Key last) {
         uint64_t rows = 0;

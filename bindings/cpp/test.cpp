@@ -36,6 +36,7 @@ static void same_range(blink::Handle &handle, const Model &model, uint64_t from,
         ++at;
     }
     CHECK(at == model.lower_bound(std::max(from, below)));
+    CHECK(handle.snapshot(from, below) == std::vector<blink::Row>(model.lower_bound(from), model.lower_bound(std::max(from, below))));
     for (auto [key, value] : handle.range_down(from, below)) {
         --at;
         CHECK(key == at->first && value == at->second);
@@ -176,6 +177,7 @@ static void edges() {
         same_range(handle, {{0, 1}, {top, 2}}, 0, 0);
         same_range(handle, {{0, 1}, {top, 2}}, 5, 5);
         same_range(handle, {{0, 1}, {top, 2}}, 0, top);
+        CHECK(handle.snapshot().size() == 2 && handle.snapshot(1).size() == 1 && handle.snapshot(0, top, std::nothrow, 0).value().size() == 1);
         auto range = handle.range_down(1);
         auto at = range.begin();
         CHECK(at->first == top && (*at++).second == 2 && at == range.end());

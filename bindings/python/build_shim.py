@@ -18,6 +18,8 @@ typedef struct { uint32_t pages, count; ...; } shim_map;
 #define BLINK_NO_MEMORY ...
 #define BLINK_BAD_IMAGE ...
 #define BLINK_CLOSED ...
+#define BLINK_FEW_ROWS ...
+#define BLINK_UNSTEADY ...
 int32_t shim_open(uint32_t pages, uint32_t count, const uint8_t *image, size_t length, shim_map **made);
 void shim_close(shim_map *map);
 void shim_free(shim_map *map);
@@ -33,6 +35,7 @@ int32_t shim_change(shim_map *map, uint64_t key, uint64_t old_value, uint64_t ne
 int32_t shim_add(shim_map *map, uint64_t key, uint64_t delta, uint64_t *now);
 int32_t shim_end(shim_map *map, bool is_last, blink_row *row);
 int32_t shim_rows(shim_map *map, bool is_falling, size_t most, uint64_t *keys, uint64_t *values, shim_range *range);
+int32_t shim_snapshot(shim_map *map, uint64_t from, uint64_t last, uint32_t rounds, blink_row *rows, size_t room, uint64_t *count);
 int32_t shim_get_many(shim_map *map, const uint64_t *keys, size_t count, uint64_t *values, uint8_t *found);
 int32_t shim_put_many(shim_map *map, const uint64_t *keys, const uint64_t *values, size_t count, size_t *done);
 int64_t shim_length(const shim_map *map);

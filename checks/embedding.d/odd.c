@@ -33,8 +33,8 @@ static void versions(void) {
 /* No code is told as another one, and what is none is told so. */
 static void texts(void) {
     int32_t one, two;
-    HOLDS(!strcmp(blink_text(-1), blink_text(BLINK_IN_USE + 1)));
-    for (one = -1; one <= BLINK_IN_USE; one++) {
+    HOLDS(!strcmp(blink_text(-1), blink_text(BLINK_UNSTEADY + 1)));
+    for (one = -1; one <= BLINK_UNSTEADY; one++) {
         for (two = -1; two < one; two++) HOLDS(strcmp(blink_text(one), blink_text(two)) != 0);
     }
 }
@@ -98,6 +98,9 @@ static void closed(void) {
     WANT(blink_try_put(&seats[0], 1, 1, &value), BLINK_CLOSED);
     WANT(blink_try_rows(&seats[0], 0, rows, 64, &part), BLINK_CLOSED);
     WANT(blink_try_rows_down(&seats[0], 9, rows, 64, &part), BLINK_CLOSED);
+    WANT(blink_try_range(&seats[0], 0, 9, 1, rows, 64, &next), BLINK_CLOSED);
+    WANT(blink_try_range(&seats[0], 9, 0, 1, rows, 64, &next), BLINK_CLOSED);
+    HOLDS(next == 9);
     HOLDS(part.count == 0 && part.next == 0 && part.more);
     WANT(blink_scan_to(&seats[0], 5, 4, rows, 64, &found, &next, &more), BLINK_CLOSED);
     WANT(blink_scan_down(&seats[0], 5, rows, 64, &found, &next, &more), BLINK_CLOSED);
@@ -190,11 +193,32 @@ static void parted(bool down, uint64_t count, size_t room) {
     HOLDS(key == (down ? 0 : count));
 }
 
+/* The rows of one moment, which are those of the keys 1 to count - 1. */
+static void at_one_moment(uint64_t count) {
+    uint64_t found = 77, at;
+    WANT(blink_range(&seats[0], 0, UINT64_MAX, 0, rows, 64, &found), BLINK_OK);
+    HOLDS(found == count - 1);
+    for (at = 0; at < found; at++) HOLDS(rows[at].key == at + 1 && rows[at].value == at + 1);
+    WANT(blink_range(&seats[0], 3, 17, 0, rows, 15, &found), BLINK_OK);
+    HOLDS(found == 15 && rows[0].key == 3 && rows[14].key == 17);
+    rows[0].key = 77;
+    WANT(blink_range(&seats[0], 3, 17, 0, rows, 14, &found), BLINK_FEW_ROWS);
+    HOLDS(found == 15 && rows[0].key == 77);
+    WANT(blink_range(&seats[0], 5, 5, 0, rows, 1, &found), BLINK_OK);
+    HOLDS(found == 1 && rows[0].key == 5);
+    WANT(blink_range(&seats[0], UINT64_MAX, UINT64_MAX, 0, rows, 0, &found), BLINK_OK);
+    HOLDS(found == 0);
+    found = 77;
+    WANT(blink_range(&seats[0], 6, 5, 0, rows, 0, &found), BLINK_OK);
+    HOLDS(found == 0);
+}
+
 static void listed(uint64_t count) {
     blink_part part = {UINT64_MAX, UINT64_MAX, true, UINT32_MAX};
     size_t found = 0, room;
     uint64_t next = 0;
     bool more = true;
+    at_one_moment(count);
     WANT(blink_rows(&seats[0], 0, rows, 0, &part), BLINK_FEW_ROWS);
     WANT(blink_rows_down(&seats[0], 0, rows, 0, &part), BLINK_FEW_ROWS);
     WANT(blink_scan(&seats[0], 0, rows, 0, &found, &next, &more), BLINK_FEW_ROWS);

@@ -13,6 +13,7 @@
  *   seats=N     how many tables may share a map with a name, 1 to 64, by default 16
  *   image=FILE  the table begins with the rows of an image, and with as many pages where pages=N does not say otherwise
  *   create=1    where there is no file of image=, the table begins without rows
+ *   snapshot=1  a range of keys is read at one moment, of 4096 rows at most; more are refused
  *
  *   blink_save(TABLE [, FILE])        writes the image of the table's map to a file, by default that of image=; answers its length
  *   blink_open(TABLE, FILE)           the rows of an image take the place of the table's; answers how many they are
@@ -47,6 +48,7 @@ SQLITE_EXTENSION_INIT1
 #include <sys/stat.h>
 #include <unistd.h>
 
+enum { SNAPSHOT_ROWS = 4096, SNAPSHOT_ROUNDS = 256 };
 enum { MOST_SEATS = 64, DEFAULT_SEATS = 16, DEFAULT_PAGES = 4096, ROWS_AT_ONCE = 128, FIRST_ROWS = 32 };
 enum { COLUMN_K, COLUMN_V, COLUMN_WAS };
 
@@ -83,6 +85,7 @@ typedef struct Table {
     int shown; /* by how many sqlite3_vtab */
     bool is_dropped;
     bool is_kept; /* dropped in a transaction, which may be rolled back */
+    bool takes_snapshots;
     char *schema, *name, *image;
     char *before; /* its name before it was renamed, or null */
     Map *map;
@@ -114,7 +117,8 @@ typedef struct Keys {
 
 typedef struct Cursor {
     sqlite3_vtab_cursor base;
-    blink_row rows[ROWS_AT_ONCE];
+    blink_row some[ROWS_AT_ONCE], *all; /* room for the rows of a scan, and of a snapshot if there was one */
+    blink_row *rows;                    /* those that are read, in either */
     size_t at, count, most;
     uint64_t next; /* where further rows begin */
     Keys wanted, later; /* those that are read now, and those behind them: negative keys and others are apart in the map */
@@ -316,7 +320,7 @@ static int32_t undo_to(Table *t, size_t count) {
 
 /* What a table is made with. Numbers are 0 where they are not said. */
 typedef struct Wish {
-    sqlite3_int64 pages, seats, create;
+    sqlite3_int64 pages, seats, create, snapshot;
     char *name, *image;
 } Wish;
 
@@ -351,6 +355,9 @@ static char *read_word(const char *word, Wish *wish) {
     } else if (is && length == 5 && !strncmp(word, "seats", 5)) {
         wish->seats = number_of(is);
         if (wish->seats == 0) return sqlite3_mprintf("blink: seats=N has a number of 1 to 64, not %s", is);
+    } else if (is && length == 8 && !strncmp(word, "snapshot", 8)) {
+        wish->snapshot = number_of(is);
+        if (wish->snapshot != 1) return sqlite3_mprintf("blink: snapshot=1 is known, not snapshot=%s", is);
     } else if (is && length == 6 && !strncmp(word, "create", 6)) {
         wish->create = number_of(is);
         if (wish->create != 1) return sqlite3_mprintf("blink: create=1 is known, not create=%s", is);
@@ -359,7 +366,7 @@ static char *read_word(const char *word, Wish *wish) {
     } else if (is && length == 5 && !strncmp(word, "image", 5) && !wish->image) {
         wish->image = unquoted(is);
     } else {
-        return sqlite3_mprintf("blink: pages=N, seats=N, name=NAME, image=FILE and create=1 are known, once each, not %s", word);
+        return sqlite3_mprintf("blink: pages=N, seats=N, name=NAME, image=FILE, create=1 and snapshot=1 are known, once each, not %s", word);
     }
     return NULL;
 }
@@ -509,7 +516,7 @@ static Table *find_renamed(const Home *home, const char *schema, const char *nam
 
 /* A new table as the words wish it. */
 static int make_table(Home *home, int count, const char *const *words, Table **made, char **error) {
-    Wish wish = { 0, 0, 0, NULL, NULL };
+    Wish wish = { 0, 0, 0, 0, NULL, NULL };
     Table *t = calloc(1, sizeof *t);
     int code = t ? SQLITE_OK : SQLITE_NOMEM;
     for (int i = 3; i < count && code == SQLITE_OK; i++) {
@@ -533,6 +540,7 @@ static int make_table(Home *home, int count, const char *const *words, Table **m
         return code;
     }
     t->image = wish.image;
+    t->takes_snapshots = wish.snapshot == 1;
     t->home = home;
     t->next = home->tables;
     home->tables = *made = t;
@@ -673,11 +681,13 @@ static int open_cursor(sqlite3_vtab *base, sqlite3_vtab_cursor **made) {
     (void)base;
     if (!c) return SQLITE_NOMEM;
     memset(c, 0, sizeof *c);
+    c->rows = c->some;
     *made = &c->base;
     return SQLITE_OK;
 }
 
 static int close_cursor(sqlite3_vtab_cursor *base) {
+    sqlite3_free(((Cursor *)base)->all);
     sqlite3_free(base);
     return SQLITE_OK;
 }
@@ -702,8 +712,8 @@ static int fill(Cursor *c) {
             return SQLITE_OK;
         }
         blink_seat *seat = hold(t);
-        int32_t answer = c->is_falling ? blink_scan_down_to(seat, c->next, c->wanted.low, c->rows, c->most, &c->count, &c->next, &c->more)
-                                       : blink_scan_to(seat, c->next, c->wanted.high, c->rows, c->most, &c->count, &c->next, &c->more);
+        int32_t answer = c->is_falling ? blink_scan_down_to(seat, c->next, c->wanted.low, c->some, c->most, &c->count, &c->next, &c->more)
+                                       : blink_scan_to(seat, c->next, c->wanted.high, c->some, c->most, &c->count, &c->next, &c->more);
         let_go(t);
         c->at = 0;
         /* Few at first, since many queries want few rows. */
@@ -742,6 +752,7 @@ static int find_row(Cursor *c, uint64_t key) {
     uint64_t value = 0;
     int32_t answer = blink_find(hold(t), key, &value);
     let_go(t);
+    c->rows = c->some;
     c->rows[0] = (blink_row){ key, value };
     c->at = 0;
     c->count = answer == BLINK_OK;
@@ -759,6 +770,54 @@ static void choose_keys(Cursor *c, sqlite3_int64 low, sqlite3_int64 high) {
     else read_keys(c, low < 0 ? negative : other);
 }
 
+/* Turns the rows from one place up to another one around. */
+static void turn_around(blink_row *rows, size_t from, size_t to) {
+    for (; from + 1 < to; from++, to--) {
+        const blink_row kept = rows[from];
+        rows[from] = rows[to - 1];
+        rows[to - 1] = kept;
+    }
+}
+
+/* Keeps the rows of the keys from one to another in the table's order, of rows in the map's, which has the negative keys behind the others. */
+static void keep_in_order(Cursor *c, sqlite3_int64 low, sqlite3_int64 high) {
+    size_t kept = 0, others = 0;
+    for (size_t at = 0; at < c->count; at++) {
+        const sqlite3_int64 k = int_of(c->all[at].key);
+        if (k < low || k > high) continue;
+        others += k >= 0;
+        c->all[kept++] = c->all[at];
+    }
+    c->count = kept;
+    /* Each of two parts, and then both, are turned around: so the second comes first. */
+    turn_around(c->all, 0, others);
+    turn_around(c->all, others, kept);
+    if (!c->is_falling) turn_around(c->all, 0, kept);
+}
+
+/* Reads the rows of the keys from one to another at one moment. Keys on both sides of 0 lie at both ends of the map, which is read whole. */
+static int take_snapshot(Cursor *c, sqlite3_int64 low, sqlite3_int64 high) {
+    Table *t = table_of(c->base.pVtab);
+    const bool is_apart = low < 0 && high >= 0;
+    uint64_t count = 0;
+    int32_t answer;
+    if (!c->all) c->all = sqlite3_malloc(SNAPSHOT_ROWS * sizeof *c->all);
+    if (!c->all) return SQLITE_NOMEM;
+    answer = blink_range(hold(t), is_apart ? 0 : key_of(low), is_apart ? UINT64_MAX : key_of(high), SNAPSHOT_ROUNDS, c->all,
+                         SNAPSHOT_ROWS, &count);
+    let_go(t);
+    if (answer == BLINK_FEW_ROWS)
+        return fail(c->base.pVtab, SQLITE_ERROR, "blink: a snapshot has 4096 rows at most; ask for fewer keys, or make the table without snapshot=1");
+    if (answer == BLINK_UNSTEADY)
+        return fail(c->base.pVtab, SQLITE_BUSY, "blink: others changed the rows each time that they were read; try the statement again");
+    if (answer != BLINK_OK) return told(c->base.pVtab, answer);
+    c->rows = c->all;
+    c->count = (size_t)count;
+    c->more = c->has_later = false;
+    keep_in_order(c, low, high);
+    return SQLITE_OK;
+}
+
 static int filter_rows(sqlite3_vtab_cursor *base, int plan, const char *text, int count, sqlite3_value **values) {
     Cursor *c = (Cursor *)base;
     sqlite3_int64 low = INT64_MIN, high = INT64_MAX;
@@ -772,10 +831,17 @@ static int filter_rows(sqlite3_vtab_cursor *base, int plan, const char *text, in
     table_of(base->pVtab)->undos_as_read = table_of(base->pVtab)->undos;
     if ((plan & EQUAL) && can_fit && low == high) return find_row(c, key_of(low));
     c->is_falling = (plan & FALLING) != 0;
+    c->rows = c->some;
     c->at = c->count = 0;
     c->most = FIRST_ROWS;
     c->is_over = !can_fit || low > high;
-    if (!c->is_over) choose_keys(c, low, high);
+    if (c->is_over) return SQLITE_OK;
+    if (table_of(base->pVtab)->takes_snapshots) {
+        int code = take_snapshot(c, low, high);
+        if (code != SQLITE_OK) return code;
+    } else {
+        choose_keys(c, low, high);
+    }
     return fill(c);
 }
 

@@ -13,7 +13,7 @@ import threading
 import unittest
 
 import blink
-from blink import BadImage, Closed, Map, NoRoom
+from blink import BadImage, Closed, Map, NoRoom, Unsteady
 
 try:
     from test import mapping_tests
@@ -56,6 +56,9 @@ class Rows(unittest.TestCase):
         self.assertEqual(list(reversed(m.items())), [(TOP, 0), (0, TOP)])
         self.assertEqual((list(m.irange(1, TOP - 1)), list(m.irange(5, 4)), list(m.irange(-5, 2**70))), ([], [], [0, TOP]))
         self.assertEqual(list(m.irange(0, TOP, (False, False))), [])
+        self.assertEqual((m.snapshot(), m.snapshot(1), m.snapshot(-5, 2**70, (False, False)), m.snapshot(5, 4)), ([(0, TOP), (TOP, 0)], [(TOP, 0)], [(0, TOP), (TOP, 0)], []))
+        with self.assertRaises(ValueError):
+            m.snapshot(rounds=2**32)
         self.assertEqual((list(m.irange(2**70, 2**71)), list(m.irange(None, -1, reverse=True)), list(m.irange(2**70))), ([], [], []))
         self.assertEqual((m.peekitem(1), m.peekitem(-2)), ((TOP, 0), (0, TOP)))
         for wrong in (2, -3):
@@ -130,6 +133,7 @@ class Rows(unittest.TestCase):
             low, high, down, kinds = *sorted((r.randrange(320), r.randrange(320))), what == 8, (r.random() < 0.5, r.random() < 0.5)
             wanted = sorted((k for k in d if (low < k or kinds[0] and low == k) and (k < high or kinds[1] and k == high)), reverse=down)
             self.assertEqual(list(m.irange(low, high, kinds, down)), wanted)
+            self.assertEqual(m.snapshot(low, high, kinds), [(k, d[k]) for k in sorted(wanted)])
         elif what == 9:
             self.assertEqual(m.insert(k, v), d.get(k))
             d.setdefault(k, v)
@@ -387,6 +391,32 @@ class Threads(unittest.TestCase):
         self.together(*[count] * threads, *[lambda t=t: load(t) for t in range(threads)])
         self.assertEqual((sum(m[k] for k in range(5)), m[5] + m[6]), (3 * threads * times, 10 * threads * times))
         self.assertEqual(len(m), 5 + 2 + 1000 * threads)
+
+    def test_snapshots_add_up(self):
+        """Others move amounts by two calls each; what a snapshot lists adds up to what it was, less what is on its way."""
+        movers, rows, is_over = 3, 1000, threading.Event()
+        m = Map({k: 100 for k in range(rows)}, pages=1024)
+
+        def move(t):
+            drawn = random.Random(t)
+            while not is_over.is_set():
+                m.add(drawn.randrange(rows), -1)
+                m.add(drawn.randrange(rows))
+
+        def read():
+            try:
+                for _ in range(300):
+                    try:
+                        found = m.snapshot()
+                    except Unsteady:
+                        continue
+                    assert [k for k, _ in found] == list(range(rows))
+                    assert 100 * rows - movers <= sum(v for _, v in found) <= 100 * rows, sum(v for _, v in found)
+            finally:
+                is_over.set()
+
+        self.together(read, *[lambda t=t: move(t) for t in range(movers)])
+        self.assertEqual(sum(m.values()), 100 * rows)
 
     def test_saves_beside_calls(self):
         """What was put before an image is in it, and what is put meanwhile is not lost."""

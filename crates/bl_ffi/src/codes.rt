@@ -34,3 +34,5 @@ pub(crate) const BAD_ROWS: i32 = 15;
 pub(crate) const BAD_FILL: i32 = 16;
 /// A place has an open seat.
 pub(crate) const IN_USE: i32 = 17;
+/// Others changed the rows of a range each time that it was read.
+pub(crate) const UNSTEADY: i32 = 18;

@@ -10,6 +10,7 @@ mod codes;
 mod loose;
 mod opening;
 mod places;
+mod ranging;
 mod room;
 mod saving;
 mod seat;
@@ -22,6 +23,7 @@ pub use calls::{
     blink_waiting,
 };
 pub use opening::{blink_open, blink_open_image};
+pub use ranging::blink_try_range;
 pub use room::{Room, blink_room_of};
 pub use saving::blink_image_of;
 pub use seat::{Hidden, SeatOfC};

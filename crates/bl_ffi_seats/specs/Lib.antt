@@ -6,3 +6,4 @@ pub mod Tended
 pub mod Opened
 pub mod Meetings
 pub mod Closed
+pub mod Ranges

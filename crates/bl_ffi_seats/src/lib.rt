@@ -10,11 +10,12 @@
 
 mod closing;
 mod opening;
+mod ranging;
 mod seat;
 mod walk;
 mod working;
 
-pub use bl_index::{KeyReply, KeyWrite, Next, OpenFault, Reply};
+pub use bl_index::{KeyReply, KeyWrite, Next, OpenFault, RangeFault, Reply};
 pub use closing::{CloseFault, close};
 pub use opening::{ImageFault, open, open_image};
 pub use seat::Seat;

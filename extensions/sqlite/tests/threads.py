@@ -2,9 +2,11 @@
 
 Each thread inserts a few rows that all share, puts rows of its own and takes some away, undoes changes, and lists its rows
 both ways. At the end nothing is lost, and each image that was saved has the shared rows that were there before. Then eight connections
-count up the same ten rows, by UPDATE and by blink_add, and the sums are exact; and a ROLLBACK leaves what others have written since."""
+count up the same ten rows, by UPDATE and by blink_add, and the sums are exact; a ROLLBACK leaves what others have written since; and sums of a table that takes snapshots add up beside
+connections that move amounts."""
 
 import os
+import random
 import sqlite3
 import sys
 import tempfile
@@ -12,6 +14,7 @@ import threading
 
 THREADS, SHARED = 4, 3
 COUNTERS, COUNTED = 8, 10
+MOVERS, MOVED = 3, 1000
 
 
 def connect(extension, table="t USING blink(pages=8192, name=counted, seats=8)"):
@@ -118,6 +121,47 @@ def counted(extension, times):
     return sum(tries) - len(tries)
 
 
+def move(db, number, is_over, failed):
+    """Moves 1 from a key to another one and back, by two statements."""
+    try:
+        drawn = random.Random(number)
+        while not is_over.is_set():
+            db.execute("SELECT blink_add('m', ?, -1)", (drawn.randrange(MOVED),)).fetchone()
+            db.execute("SELECT blink_add('m', ?, 1)", (drawn.randrange(MOVED),)).fetchone()
+    except BaseException as error:
+        failed.append(error)
+
+
+def at_one_moment(extension, times):
+    """Sums beside connections that move amounts, of a table that takes snapshots: how many, and how many were to be asked again."""
+    made, is_over, failed, again = "m USING blink(pages=4096, name=moved, seats=8", threading.Event(), [], 0
+    connections = [connect(extension, made + ")") for _ in range(MOVERS)]
+    reader = connect(extension, made + ", snapshot=1)")
+    reader.execute("WITH RECURSIVE n(i) AS (SELECT 0 UNION ALL SELECT i + 1 FROM n WHERE i < ?) INSERT INTO m SELECT i, 100 FROM n", (MOVED - 1,))
+    running = [threading.Thread(target=move, args=(db, n, is_over, failed)) for n, db in enumerate(connections)]
+    for thread in running:
+        thread.start()
+    for _ in range(times):
+        try:
+            count, total = reader.execute("SELECT count(*), sum(v) FROM m").fetchone()
+        except sqlite3.OperationalError as error:
+            if "try the statement again" not in str(error):
+                raise
+            again += 1
+            continue
+        if count != MOVED or not 100 * MOVED - MOVERS <= total <= 100 * MOVED:
+            failed.append(AssertionError(f"{count} rows with {total} are of no one moment"))
+            break
+    is_over.set()
+    for thread in running:
+        thread.join()
+    for db in [*connections, reader]:
+        db.close()
+    if failed:
+        raise failed[0]
+    return again
+
+
 def main(extension, times="2000"):
     times, failed, saved = int(times), [], []
     extension, kept = os.path.abspath(extension), connect(os.path.abspath(extension))
@@ -135,7 +179,8 @@ def main(extension, times="2000"):
     if rows != wanted:
         sys.exit(f"{rows} rows, and wanted are {wanted}")
     repeated = counted(extension, times)
-    print(f"{THREADS} connections, {rows} rows as wanted, {len(saved)} images saved meanwhile; {COUNTERS} count exactly, {repeated} times once more")
+    again = at_one_moment(extension, times)
+    print(f"{THREADS} connections, {rows} rows as wanted, {len(saved)} images saved meanwhile; {COUNTERS} count exactly, {repeated} times once more; {times - again} sums of one moment")
 
 
 if __name__ == "__main__":

@@ -15,7 +15,7 @@ True
 The map is that of the proved C library; this package is tested and not proved.
 """
 
-from ._map import BadImage, Closed, Error, Map, NoRoom, library_version
+from ._map import BadImage, Closed, Error, Map, NoRoom, Unsteady, library_version
 
-__all__ = ["BadImage", "Closed", "Error", "Map", "NoRoom", "library_version"]
+__all__ = ["BadImage", "Closed", "Error", "Map", "NoRoom", "Unsteady", "library_version"]
 __version__ = "0.1.0"

@@ -43,6 +43,10 @@ class BadImage(Error, ValueError):
     """The bytes are no sound image of a map."""
 
 
+class Unsteady(Error, RuntimeError):
+    """Others changed the rows of a snapshot each time that they were read."""
+
+
 def library_version() -> str:
     """The version of the C library, as "0.1.0"."""
     return str(ffi.string(lib.blink_version()).decode())
@@ -57,6 +61,8 @@ def _refuse(code: int, more: str = "") -> NoReturn:
         raise MemoryError(text)
     if code == lib.BLINK_CLOSED:
         raise Closed("the map is closed")
+    if code == lib.BLINK_UNSTEADY:
+        raise Unsteady(text)
     raise (BadImage if code == lib.BLINK_BAD_IMAGE else ValueError)(text)
 
 
@@ -124,6 +130,13 @@ def _flags(buffer: Any, count: int) -> Any:
     if len(view) != count:
         raise ValueError(f"found has {len(view)} places, and there are {count} keys")
     return ffi.from_buffer("uint8_t[]", view, require_writable=True)
+
+
+def _bounds(minimum: int | None, maximum: int | None, inclusive: tuple[bool, bool]) -> tuple[int, int]:
+    """The least and the greatest key of a range, whose bounds may be any integers; it has none where the first is greater."""
+    low = 0 if minimum is None else max(0, index(minimum) + (not inclusive[0]))
+    high = _MOST if maximum is None else min(_MOST, index(maximum) - (not inclusive[1]))
+    return low, high
 
 
 class Map(MutableMapping[int, int]):
@@ -428,9 +441,35 @@ class Map(MutableMapping[int, int]):
         reverse: bool = False,
     ) -> Iterator[int]:
         """The keys of a range, as sortedcontainers.SortedDict.irange; bounds may be any integers."""
-        low = 0 if minimum is None else max(0, index(minimum) + (not inclusive[0]))
-        high = _MOST if maximum is None else min(_MOST, index(maximum) - (not inclusive[1]))
-        return self._keys(low, high, reverse)
+        return self._keys(*_bounds(minimum, maximum, inclusive), reverse)
+
+    def snapshot(
+        self,
+        minimum: int | None = None,
+        maximum: int | None = None,
+        inclusive: tuple[bool, bool] = (True, True),
+        *,
+        rounds: int = 64,
+    ) -> list[tuple[int, int]]:
+        """The rows of a range, with bounds as irange has them, all of them as the map had them at one moment. Where other
+        threads change some meanwhile they are read again, so many times at most: Unsteady then. Meanwhile no room comes back of
+        what others replace, so it is for some thousand rows."""
+        low, high = _bounds(minimum, maximum, inclusive)
+        if low > high:
+            return []
+        if not 0 <= rounds < 2**32:
+            raise ValueError(f"rounds is 0 to 2^32 - 1, not {rounds}")
+        count, room = _new("uint64_t *"), 256
+        while True:
+            words = array("Q", bytes(16 * room))
+            code = lib.shim_snapshot(self._at, low, high, rounds, ffi.from_buffer("blink_row[]", words), room, count)
+            if code == _OK:
+                end = 2 * count[0]
+                return list(zip(words[0:end:2].tolist(), words[1:end:2].tolist()))
+            if code != lib.BLINK_FEW_ROWS:
+                _refuse(code)
+            # Some more, since others may insert.
+            room = count[0] + count[0] // 8
 
     def keys(self) -> KeysView[int]:
         """All keys, rising; reversed() of it gives them falling, here and below."""

@@ -240,6 +240,13 @@ static int32_t shim_rows(shim_map *map, bool is_falling, size_t most, uint64_t *
     return BLINK_OK;
 }
 
+/* All rows from a key up to another one as the map had them at one moment, where there is room for all; `*count` is how many. */
+static int32_t shim_snapshot(shim_map *map, uint64_t from, uint64_t last, uint32_t rounds, blink_row *rows, size_t room,
+                             uint64_t *count) {
+    SHIM_CALL(map, answer = blink_range(seat, from, last, rounds, rows, room, count))
+    return answer;
+}
+
 /* Looks many keys up, some at a time: writes the values of those that are there, and, if `found` is not null, which they are. */
 static int32_t shim_get_many(shim_map *map, const uint64_t *keys, size_t count, uint64_t *values, uint8_t *found) {
     enum { SOME = 256 };

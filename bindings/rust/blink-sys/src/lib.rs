@@ -106,6 +106,8 @@ pub const BLINK_BAD_ROWS: i32 = 15;
 pub const BLINK_BAD_FILL: i32 = 16;
 /// A place has an open seat: close it first; nothing was done.
 pub const BLINK_IN_USE: i32 = 17;
+/// Others changed the rows of a range each time that they were read.
+pub const BLINK_UNSTEADY: i32 = 18;
 /// The most rows of one leaf.
 pub const BLINK_LEAF_ROWS: usize = 14;
 
@@ -214,6 +216,15 @@ extern "C" {
         room: usize,
         part: *mut blink_part,
     ) -> i32;
+    pub fn blink_range(
+        seat: *mut blink_seat,
+        from: u64,
+        last: u64,
+        rounds: u32,
+        rows: *mut blink_row,
+        room: usize,
+        count: *mut u64,
+    ) -> i32;
     pub fn blink_first(seat: *mut blink_seat, row: *mut blink_row) -> i32;
     pub fn blink_last(seat: *mut blink_seat, row: *mut blink_row) -> i32;
     pub fn blink_next(seat: *mut blink_seat, key: u64, row: *mut blink_row) -> i32;
@@ -248,6 +259,15 @@ extern "C" {
         rows: *mut blink_row,
         room: usize,
         part: *mut blink_part,
+    ) -> i32;
+    pub fn blink_try_range(
+        seat: *mut blink_seat,
+        from: u64,
+        last: u64,
+        rounds: u32,
+        rows: *mut blink_row,
+        room: usize,
+        count: *mut u64,
     ) -> i32;
     pub fn blink_tend(seat: *mut blink_seat, most: u32) -> i32;
     pub fn blink_try_meet(one: *mut blink_seat, two: *mut blink_seat) -> i32;

@@ -81,6 +81,27 @@ impl fmt::Display for NoRoomAfter {
 
 impl Error for NoRoomAfter {}
 
+/// Why [`Handle::snapshot`](crate::Handle::snapshot) has no rows.
+#[derive(Clone, Copy, Debug, PartialEq, Eq)]
+#[non_exhaustive]
+pub enum SnapshotError {
+    /// Others changed the rows each time that they were read.
+    Unsteady,
+    /// There is no memory.
+    Memory,
+}
+
+impl fmt::Display for SnapshotError {
+    fn fmt(&self, f: &mut fmt::Formatter<'_>) -> fmt::Result {
+        f.write_str(match self {
+            SnapshotError::Unsteady => "others changed the rows each time that they were read",
+            SnapshotError::Memory => "there is no memory",
+        })
+    }
+}
+
+impl Error for SnapshotError {}
+
 /// What keeps [`Handle::compare_exchange`](crate::Handle::compare_exchange) from its change.
 #[derive(Clone, Copy, Debug, PartialEq, Eq)]
 pub enum ExchangeError {

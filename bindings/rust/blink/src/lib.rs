@@ -31,7 +31,7 @@ mod range;
 mod update;
 
 pub use blink_sys::blink_room as Room;
-pub use error::{CloseError, ExchangeError, NoRoom, NoRoomAfter, OpenError};
+pub use error::{CloseError, ExchangeError, NoRoom, NoRoomAfter, OpenError, SnapshotError};
 pub use range::Range;
 
 use blink_sys::*;
@@ -45,6 +45,8 @@ use std::sync::{Arc, Mutex, MutexGuard, PoisonError};
 
 /// The most rows of one leaf.
 const LEAF_ROWS: usize = 14;
+/// So many times a snapshot reads leaves again that others have changed.
+const ROUNDS: u32 = 64;
 
 /// A seat that is closed when it is dropped.
 #[repr(transparent)]
@@ -380,6 +382,35 @@ impl Handle {
     pub fn range(&self, range: impl RangeBounds<u64>) -> Range<'_> {
         let (low, high) = bounds_of(range).unwrap_or((1, 0));
         Range::new(self, low, high)
+    }
+
+    /// All rows of a range as the map had them at one moment.
+    ///
+    /// # Errors
+    ///
+    /// Where others changed them each time that they were read, 65 times; or there is no memory.
+    pub fn snapshot(&self, range: impl RangeBounds<u64>) -> Result<Vec<(u64, u64)>, SnapshotError> {
+        let Some((low, high)) = bounds_of(range) else {
+            return Ok(Vec::new());
+        };
+        let mut rows = vec![blink_row::default(); 256];
+        loop {
+            let mut count = 0;
+            // SAFETY: the seat is this handle's alone, and each other pointer is of a vector, with its length, or a variable.
+            let code =
+                unsafe { blink_range(self.at(), low, high, ROUNDS, rows.as_mut_ptr(), rows.len(), &mut count) };
+            match code {
+                BLINK_OK => {
+                    rows.truncate(count as usize);
+                    return Ok(rows.into_iter().map(|row| (row.key, row.value)).collect());
+                }
+                // Some more, since others may insert.
+                BLINK_FEW_ROWS => rows.resize(count as usize * 9 / 8, blink_row::default()),
+                BLINK_UNSTEADY => return Err(SnapshotError::Unsteady),
+                BLINK_NO_MEMORY => return Err(SnapshotError::Memory),
+                code => error::unexpected(code),
+            }
+        }
     }
 
     /// All rows, as [`Handle::range`].

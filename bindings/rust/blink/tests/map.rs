@@ -15,6 +15,7 @@ fn draw(x: &mut u64) -> u64 {
 fn same_range(handle: &Handle, model: &Model, from: u64, to: u64, x: &mut u64) {
     let rows: Vec<(u64, u64)> = model.range(from..=to).map(|(k, v)| (*k, *v)).collect();
     assert!(handle.range(from..=to).eq(rows.iter().copied()));
+    assert_eq!(handle.snapshot(from..=to).unwrap(), rows);
     assert!(handle.range(from..=to).rev().eq(rows.iter().rev().copied()));
     assert!(handle.range(from..to).eq(model.range(from..to).map(|(k, v)| (*k, *v))));
     let (mut range, mut left) = (handle.range(from..=to), &rows[..]);
@@ -107,6 +108,8 @@ fn edges() {
     handle.insert(u64::MAX, 2).unwrap();
     assert_eq!(handle.range(..).collect::<Vec<_>>(), [(0, 1), (u64::MAX, 2)]);
     assert_eq!(handle.range(..).rev().collect::<Vec<_>>(), [(u64::MAX, 2), (0, 1)]);
+    assert_eq!(handle.snapshot(..), Ok(vec![(0, 1), (u64::MAX, 2)]));
+    assert_eq!((handle.snapshot(5..5), handle.snapshot(..u64::MAX)), (Ok(vec![]), Ok(vec![(0, 1)])));
     assert_eq!(handle.range(..u64::MAX).count(), 1);
     assert_eq!(handle.range(..=u64::MAX).count(), 2);
     assert_eq!((handle.range(5..5).count(), handle.range(0..0).count()), (0, 0));
