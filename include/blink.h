@@ -116,7 +116,7 @@ enum {
     BLINK_BAD_FILL = 16,   /* pages are to have less than 1 row or more than 14; or so few
                               that the tree would have more than 12 levels */
     BLINK_IN_USE = 17,     /* a place has an open seat: close it first; nothing is done */
-    BLINK_UNSTEADY = 18    /* others changed the rows each time that they were read */
+    BLINK_UNSTEADY = 18    /* others changed the rows each time they were read */
 };
 
 /* The most rows of one leaf: as much room as blink_rows ever needs. */
@@ -186,6 +186,16 @@ int32_t blink_open(uint32_t pages, blink_seat *seats, size_t count);
 int32_t blink_open_image(const uint8_t *bytes, size_t length, blink_seat *seats,
                          size_t count);
 
+/* The same with so many pages, as many as the image's map had or more.
+ *   BLINK_OK          all places are open
+ *   BLINK_BAD_IMAGE   the bytes are no sound image
+ *   BLINK_BAD_PAGES   `pages` is less than the image's, or more than 2^28
+ *   BLINK_BAD_SEATS   `count` is not 1 to 64
+ *   BLINK_IN_USE      a place has an open seat
+ *   BLINK_NO_MEMORY   malloc refused */
+int32_t blink_open_larger(const uint8_t *bytes, size_t length, uint32_t pages,
+                          blink_seat *seats, size_t count);
+
 /* Closes a seat, and leaves it all zeros. What was underway at it is ended first, so a
  * write that was told BLINK_AGAIN may take effect. A map goes with its last seat, and its
  * rows with it: for an image all seats are closed together, by blink_close_image.
@@ -211,6 +221,28 @@ uint64_t blink_image_length(uint32_t pages);
  *                     as only seats own the map, which is so today but not proved */
 BLINK_INLINE int32_t blink_close_image(blink_seat *seats, size_t count, uint8_t *bytes,
                                        size_t room, uint64_t *length);
+
+/* Gives a map so many pages, as many as it has or more, while no other thread is in a call
+ * of it: it is closed by all its seats, to an image in the caller's array, which has room
+ * for so many bytes, and opened from it again. So grow by two, before the last sixteenth
+ * of the pages is used: a map that is nearly full looks long for room. With every answer
+ * but BLINK_OK and BLINK_SEATS_LOST the map has its rows and its pages as before.
+ *   BLINK_OK          it has so many pages
+ *   BLINK_BAD_PAGES   `pages` is less than it has, or more than 2^28
+ *   BLINK_NO_MEMORY   malloc refused, here or where the larger map was opened
+ *   BLINK_CLOSED, BLINK_OTHER_MAP, BLINK_SEATS_OPEN, BLINK_FEW_BYTES
+ *                     as of blink_close_image
+ *   BLINK_SEATS_LOST  all seats are closed, since there was no memory for a map of the old
+ *                     size either: the first `*length` bytes are the image. Or as there:
+ *                     `*length` is 0 then */
+BLINK_INLINE int32_t blink_resize(blink_seat *seats, size_t count, uint32_t pages,
+                                  uint8_t *bytes, size_t room, uint64_t *length);
+
+/* Whether fewer than a sixteenth of the pages are free, and some more: time to grow. What
+ * others have replaced and nobody reads any more is given back first, where too few are.
+ *   BLINK_OK          `*is_short` says so
+ *   BLINK_CLOSED      the seat is closed; `*is_short` is as it was */
+BLINK_INLINE int32_t blink_is_short(blink_seat *seat, bool *is_short);
 
 /* Writes the image of a map of so many pages with these rows, whose keys rise: `fill` of
  * them, 1 to 14, in each leaf but the first. It is as blink_close_image's.
@@ -901,6 +933,39 @@ BLINK_INLINE int32_t blink_close_image(blink_seat *seats, size_t count, uint8_t 
         answer_ = blink_close_image_once_(seats, count, bytes, room, length))
 }
 
+BLINK_INLINE int32_t blink_is_short(blink_seat *seat, bool *is_short) {
+    blink_stats stats = { 0, 0, 0, 0 };
+    uint64_t looks;
+    /* Each piece of upkeep looks at some pages alone: so many look at all. */
+    for (looks = 0; looks <= stats.pages / 16; looks++) {
+        int32_t answer;
+        BLINK_CALL_(seat, blink_stat, answer, &stats);
+        if (answer != BLINK_OK) return answer;
+        *is_short = stats.free_pages < stats.pages / 16 + 16;
+        if (!*is_short) return BLINK_OK;
+        blink_upkeep(seat, 64);
+    }
+    return BLINK_OK;
+}
+
+BLINK_INLINE int32_t blink_resize(blink_seat *seats, size_t count, uint32_t pages,
+                                  uint8_t *bytes, size_t room, uint64_t *length) {
+    blink_stats stats = { 0, 0, 0, 0 };
+    int32_t answer;
+    *length = 0;
+    if (count == 0) return BLINK_SEATS_OPEN;
+    BLINK_CALL_(&seats[0], blink_stat, answer, &stats);
+    if (answer != BLINK_OK) return answer;
+    if (pages < stats.pages || pages > (uint32_t)1 << 28) return BLINK_BAD_PAGES;
+    answer = blink_close_image(seats, count, bytes, room, length);
+    if (answer != BLINK_OK) return answer;
+    answer = blink_open_larger(bytes, (size_t)*length, pages, seats, count);
+    if (answer == BLINK_OK) return BLINK_OK;
+    return blink_open_image(bytes, (size_t)*length, seats, count) == BLINK_OK
+               ? answer
+               : BLINK_SEATS_LOST;
+}
+
 BLINK_INLINE const char *blink_text(int32_t code) {
     switch (code) {
         case BLINK_OK: return "done";
@@ -921,7 +986,7 @@ BLINK_INLINE const char *blink_text(int32_t code) {
         case BLINK_BAD_ROWS: return "the keys of the rows do not rise";
         case BLINK_BAD_FILL: return "so many rows a page are not 1 to 14, or too few";
         case BLINK_IN_USE: return "a place has an open seat: close it first";
-        case BLINK_UNSTEADY: return "others changed the rows each time that they were read";
+        case BLINK_UNSTEADY: return "others changed the rows each time they were read";
         default: return "no code of this library";
     }
 }

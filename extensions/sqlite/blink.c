@@ -8,10 +8,11 @@
  * A table is (k INTEGER PRIMARY KEY, v INTEGER NOT NULL), both signed 64-bit; k is the rowid too. The rows are in memory.
  * The map has unsigned keys: those from 0 to 2^63 - 1 are the same in both, and a negative k is the key of the same 64 bits, k + 2^64.
  *
- *   pages=N     how much room there is, 4 to 2^28, by default 4096: 6 N - 10 rows surely fit. A full map is SQLITE_FULL.
+ *   pages=N     so much room there is, 4 to 2^28: 6 N - 10 rows surely fit, and a full map is SQLITE_FULL. By default the map begins
+ *               with 4096, or as many as the image has, and grows by two as rows come, while other statements wait.
  *   name=NAME   one map for all tables of this name in the process, of whatever connection and thread
  *   seats=N     how many tables may share a map with a name, 1 to 64, by default 16
- *   image=FILE  the table begins with the rows of an image, and with as many pages where pages=N does not say otherwise
+ *   image=FILE  the table begins with the rows of an image
  *   create=1    where there is no file of image=, the table begins without rows
  *   snapshot=1  a range of keys is read at one moment, of 4096 rows at most; more are refused
  *
@@ -49,7 +50,7 @@ SQLITE_EXTENSION_INIT1
 #include <unistd.h>
 
 enum { SNAPSHOT_ROWS = 4096, SNAPSHOT_ROUNDS = 256 };
-enum { MOST_SEATS = 64, DEFAULT_SEATS = 16, DEFAULT_PAGES = 4096, ROWS_AT_ONCE = 128, FIRST_ROWS = 32 };
+enum { MOST_SEATS = 64, DEFAULT_SEATS = 16, DEFAULT_PAGES = 4096, MOST_PAGES = 1 << 28, ROWS_AT_ONCE = 128, FIRST_ROWS = 32 };
 enum { COLUMN_K, COLUMN_V, COLUMN_WAS };
 
 /* How often, and after what time, what wants all transactions to be over looks again whether they are. */
@@ -61,7 +62,7 @@ struct Table;
 typedef struct Map {
     struct Map *next;
     char *name; /* null where it is not shared */
-    uint32_t pages;
+    uint32_t pages, most; /* how many there are, and to how many it may grow */
     size_t seats, users;
     blink_seat seat[MOST_SEATS];
     pthread_mutex_t lock[MOST_SEATS];
@@ -230,6 +231,7 @@ static int32_t take_image(Map *map, const uint8_t *bytes, size_t length) {
     }
     blink_stat(&map->seat[0], &stats);
     map->pages = (uint32_t)stats.pages;
+    if (map->most < map->pages) map->most = map->pages;
     free(map->kept);
     map->kept = NULL;
     count_rows(map);
@@ -244,6 +246,51 @@ static void free_map(Map *map) {
     free(map->kept);
     sqlite3_free(map->name);
     free(map);
+}
+
+/* Gives a map of which all seats are held twice its pages, or as many as it may have: whether it has more then. Where there is no memory it
+ * stays as it is; where it could not be opened again, it is closed, and its image is kept. */
+static bool grow_held(Map *map) {
+    uint64_t length = 0;
+    size_t room = (size_t)blink_image_length(map->pages);
+    uint32_t wanted = map->pages > map->most / 2 ? map->most : 2 * map->pages;
+    uint8_t *bytes = map->pages < map->most && !map->kept ? malloc(room) : NULL;
+    int32_t answer;
+    if (!bytes) return false;
+    answer = blink_resize(map->seat, map->seats, wanted, bytes, room, &length);
+    if (answer == BLINK_OK) map->pages = wanted;
+    if (answer == BLINK_SEATS_LOST && length > 0) {
+        map->kept = bytes;
+        map->kept_length = length;
+    } else {
+        free(bytes);
+    }
+    return answer == BLINK_OK;
+}
+
+/* The same in between the calls of others, unless it has more than so many pages by then: whether it has. */
+static bool grow(Map *map, uint32_t pages) {
+    bool has_more;
+    hold_all(map);
+    has_more = map->pages > pages || grow_held(map);
+    let_all_go(map);
+    return has_more;
+}
+
+/* Whether it is time to grow, since insertions look long for room soon. Seldom, since it is a look. */
+static bool is_short(Map *map, blink_seat *seat) {
+    bool is_short = false;
+    if (map->pages == map->most || __atomic_load_n(&map->rows, __ATOMIC_RELAXED) % 64 != 0) return false;
+    return blink_is_short(seat, &is_short) == BLINK_OK && is_short;
+}
+
+/* Behind a call that entered a row: grows the map where it is short. */
+static void grow_in_time(Table *t) {
+    blink_seat *seat = hold(t);
+    const uint32_t pages = t->map->pages;
+    const bool wants_more = is_short(t->map, seat);
+    let_go(t);
+    if (wants_more) grow(t->map, pages);
 }
 
 /* The table's seat is free again, and with the last table of a map that goes. */
@@ -312,7 +359,9 @@ static int32_t undo_to(Table *t, size_t count) {
     hold_all(t->map);
     while (answer == BLINK_OK && t->undos > count) {
         answer = write_back(t->map, &t->map->seat[t->place], &t->undo[t->undos - 1]);
+        if (answer == BLINK_NO_ROOM && grow_held(t->map)) answer = write_back(t->map, &t->map->seat[t->place], &t->undo[t->undos - 1]);
         if (answer == BLINK_OK) t->undos--;
+        if (is_short(t->map, &t->map->seat[t->place])) grow_held(t->map);
     }
     let_all_go(t->map);
     return answer;
@@ -437,6 +486,7 @@ static int make_map(const Wish *wish, Map **made, char **error) {
         return SQLITE_NOMEM;
     }
     map->pages = wish->pages ? (uint32_t)(wish->pages > UINT32_MAX ? UINT32_MAX : wish->pages) : DEFAULT_PAGES;
+    map->most = wish->pages ? map->pages : MOST_PAGES;
     map->seats = wish->seats ? (size_t)wish->seats : wish->name ? DEFAULT_SEATS : 1;
     answer = map->seats > MOST_SEATS ? BLINK_BAD_SEATS
              : bytes                 ? take_image_as(map, bytes, length, wish->pages ? map->pages : 0)
@@ -907,9 +957,15 @@ static int told_stale(sqlite3_vtab *base, uint64_t key) {
 static int take_away(sqlite3_vtab *base, uint64_t key) {
     Table *t = table_of(base);
     uint64_t old = 0;
-    int32_t answer = blink_delete(hold(t), key, &old);
-    if (answer == BLINK_OK) note(t, (Undo){ key, old, 0, true, false });
-    let_go(t);
+    uint32_t pages;
+    int32_t answer;
+    do {
+        blink_seat *seat = hold(t);
+        pages = t->map->pages;
+        answer = blink_delete(seat, key, &old);
+        if (answer == BLINK_OK) note(t, (Undo){ key, old, 0, true, false });
+        let_go(t);
+    } while (answer == BLINK_NO_ROOM && grow(t->map, pages));
     /* Where it is not there another connection was first. */
     return answer == BLINK_ABSENT ? SQLITE_OK : told(base, answer);
 }
@@ -934,27 +990,39 @@ static int take_away_as_read(sqlite3_vtab *base, uint64_t key, uint64_t was) {
 /* Puts a value at a row that was read with another one. */
 static int set_value(sqlite3_vtab *base, uint64_t key, uint64_t was, uint64_t value) {
     Table *t = table_of(base);
-    blink_seat *seat = hold(t);
     uint64_t there = 0;
-    int32_t answer = blink_change(seat, key, was, value, &there);
-    if (answer == BLINK_PRESENT && is_own(t, key, there)) {
-        was = there;
+    uint32_t pages;
+    int32_t answer;
+    do {
+        blink_seat *seat = hold(t);
+        pages = t->map->pages;
         answer = blink_change(seat, key, was, value, &there);
-    }
-    if (answer == BLINK_OK) note(t, (Undo){ key, was, value, true, true });
-    let_go(t);
+        if (answer == BLINK_PRESENT && is_own(t, key, there)) {
+            was = there;
+            answer = blink_change(seat, key, was, value, &there);
+        }
+        if (answer == BLINK_OK) note(t, (Undo){ key, was, value, true, true });
+        let_go(t);
+    } while (answer == BLINK_NO_ROOM && grow(t->map, pages));
     return answer == BLINK_PRESENT || answer == BLINK_ABSENT ? told_stale(base, key) : told(base, answer);
 }
 
 static int put_row(sqlite3_vtab *base, uint64_t key, uint64_t value, bool is_replacing) {
     Table *t = table_of(base);
     uint64_t old = 0;
-    blink_seat *seat = hold(t);
-    int32_t answer = is_replacing ? blink_put(seat, key, value, &old) : blink_insert(seat, key, value, &old);
-    bool had = is_replacing && answer == BLINK_PRESENT;
-    if (had) answer = BLINK_OK;
-    if (answer == BLINK_OK) note(t, (Undo){ key, old, value, had, true });
-    let_go(t);
+    uint32_t pages;
+    bool had;
+    int32_t answer;
+    do {
+        blink_seat *seat = hold(t);
+        pages = t->map->pages;
+        answer = is_replacing ? blink_put(seat, key, value, &old) : blink_insert(seat, key, value, &old);
+        had = is_replacing && answer == BLINK_PRESENT;
+        if (had) answer = BLINK_OK;
+        if (answer == BLINK_OK) note(t, (Undo){ key, old, value, had, true });
+        let_go(t);
+    } while (answer == BLINK_NO_ROOM && grow(t->map, pages));
+    if (answer == BLINK_OK && !had) grow_in_time(t);
     return told(base, answer);
 }
 
@@ -1222,11 +1290,19 @@ static bool are_integers(sqlite3_context *context, int count, sqlite3_value **va
 static void add_to_value(sqlite3_context *context, int count, sqlite3_value **values) {
     Table *t = named_table(context, values);
     uint64_t now = 0;
+    uint32_t pages;
     int32_t answer;
     if (!t || !are_integers(context, count, values)) return;
-    answer = blink_add(hold(t), key_of(sqlite3_value_int64(values[1])), (uint64_t)sqlite3_value_int64(values[2]), &now);
-    let_go(t);
-    if (answer == BLINK_OK) __atomic_add_fetch(&t->map->rows, 1, __ATOMIC_RELAXED);
+    do {
+        blink_seat *seat = hold(t);
+        pages = t->map->pages;
+        answer = blink_add(seat, key_of(sqlite3_value_int64(values[1])), (uint64_t)sqlite3_value_int64(values[2]), &now);
+        let_go(t);
+    } while (answer == BLINK_NO_ROOM && grow(t->map, pages));
+    if (answer == BLINK_OK) {
+        __atomic_add_fetch(&t->map->rows, 1, __ATOMIC_RELAXED);
+        grow_in_time(t);
+    }
     result_answer(context, answer == BLINK_PRESENT ? BLINK_OK : answer, (sqlite3_int64)now);
 }
 

@@ -243,10 +243,14 @@ class Images(unittest.TestCase):
 
     def test_pages_for_the_rows(self):
         self.assertEqual((Map().pages, Map({1: 1}).pages), (4096, 4096))
-        for rows in ({k * SPREAD % 2**64: k for k in range(100_000)}, ((k * SPREAD % 2**64, k) for k in range(100_000))):
-            m = Map(rows)
-            self.assertEqual((len(m), m.pages), (100_000, 25_000))
-            self.assertTrue(0 < m.free_pages < 25_000)
+        rows = {k * SPREAD % 2**64: k for k in range(100_000)}
+        m = Map(rows)
+        self.assertEqual((len(m), m.pages), (100_000, 25_000))
+        self.assertTrue(0 < m.free_pages < 25_000)
+        # Of an iterator it does not know how many rows come: it grows by two. A page has 14 rows at most, and 6 at least in the end.
+        m = Map(iter(rows.items()))
+        self.assertEqual((len(m), dict(m)), (100_000, rows))
+        self.assertIn(m.pages, (8192, 16384, 32768))
 
     def test_path(self):
         with self.assertRaises(FileNotFoundError):
@@ -391,6 +395,38 @@ class Threads(unittest.TestCase):
         self.together(*[count] * threads, *[lambda t=t: load(t) for t in range(threads)])
         self.assertEqual((sum(m[k] for k in range(5)), m[5] + m[6]), (3 * threads * times, 10 * threads * times))
         self.assertEqual(len(m), 5 + 2 + 1000 * threads)
+
+    def test_grows(self):
+        """By each call that enters a row, from one thread and from many, and by those that write images meanwhile."""
+        for enter in (Map.__setitem__, Map.put, Map.insert, Map.add):
+            m = Map()
+            for k in range(40_000):
+                enter(m, k * SPREAD % 2**64, k + 1)
+            self.assertGreater(m.pages, 4096)
+            self.assertEqual((len(m), sum(m.values())), (40_000, 40_000 * 40_001 // 2))
+        # Rows that come and go take no more pages than those that are there at a time.
+        m = Map()
+        for k in range(200_000):
+            m[k] = k
+            if k >= 5000:
+                del m[k - 5000]
+        self.assertEqual((len(m), m.pages), (5000, 4096))
+        m, threads = Map(seats=3), 6
+
+        def load(t):
+            m.put_many(array.array("Q", range(t, 20_000 * threads, threads)), array.array("Q", range(20_000)))
+            for k in range(t, 3_000 * threads, threads):
+                assert m.pop(k) == k // threads
+
+        def copy_on():
+            for _ in range(5):
+                found = Map.from_image(m.image())
+                assert all(k // threads == v for k, v in found.items())
+
+        self.together(copy_on, *[lambda t=t: load(t) for t in range(threads)])
+        self.assertEqual((len(m), list(m)), (17_000 * threads, list(range(3_000 * threads, 20_000 * threads))))
+        self.assertGreater(m.pages, 4096)
+        self.assertEqual(list(m.copy().items()), list(m.items()))
 
     def test_snapshots_add_up(self):
         """Others move amounts by two calls each; what a snapshot lists adds up to what it was, less what is on its way."""

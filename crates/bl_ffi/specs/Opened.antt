@@ -2,7 +2,11 @@
 use Rattle.std.specs.Prelude.{◌≡◌, ◌⊎◌, ◌<◌, ◌^◌, ℕ, ℤ, pos, List, Option, length}
 use Rattle.bl_check.specs.Faults.{AreSoundImage}
 use Rattle.bl_ffi_seats.specs.declared.seat.Seat.{Seat}
-use Rattle.bl_ffi_seats.specs.Opened.{AreSeatsOpened, AreReopened}
+use Rattle.bl_image.specs.Images.{IsImage}
+use Rattle.bl_page.specs.declared.page.Page.{Page}
+use Rattle.bl_ffi_seats.specs.declared.opening.ImageFault.{ImageFault}
+use Rattle.bl_ffi_seats.specs.declared.opening.ImageFault.TheVariants as fault
+use Rattle.bl_ffi_seats.specs.Opened.{AreSeatsOpened, AreReopened, AreReopenedIn}
 use Rattle.bl_ffi.specs.Places.{opened, closed, HasOpenSeat}
 
 -- Each place has its seat; or there was no memory, and the places are as they were.
@@ -36,3 +40,21 @@ abbrev pub OpensImage : List ℕ → List (Option Seat) → List (Option Seat) �
 OpensImage bytes old new code =
     ((code ≡ pos 0) × (old ≡ closed (length old)) × ((seats : List Seat) × AreReopened bytes (length old) seats × (new ≡ opened seats)))
     ⊎ (IsNotReopened bytes old code × (new ≡ old))
+
+-- the code of why no map was opened from bytes
+abbrev pub IsCodeOfImage : ImageFault → ℤ → Type 0
+IsCodeOfImage fault.Image code = code ≡ pos 8
+IsCodeOfImage fault.Pages code = code ≡ pos 5
+IsCodeOfImage fault.Seats code = code ≡ pos 6
+IsCodeOfImage fault.Memory code = code ≡ pos 7
+
+-- Why none with so many pages was opened from bytes: these are fewer than the image's, or too many; or as above.
+abbrev pub IsNotOpenedLarger : List ℕ → ℕ → List (Option Seat) → ℤ → Type 0
+IsNotOpenedLarger bytes pages places code =
+    ((code ≡ pos 5) × ((image : List (Option Page)) × IsImage image bytes × ((pages < length image) ⊎ (2 ^ 28 < pages)))) ⊎ IsNotReopened bytes places code
+
+-- The same of a map with so many pages, of which the image's are the first.
+abbrev pub OpensLarger : List ℕ → ℕ → List (Option Seat) → List (Option Seat) → ℤ → Type 0
+OpensLarger bytes pages old new code =
+    ((code ≡ pos 0) × (old ≡ closed (length old)) × ((seats : List Seat) × AreReopenedIn bytes pages (length old) seats × (new ≡ opened seats)))
+    ⊎ (IsNotOpenedLarger bytes pages old code × (new ≡ old))

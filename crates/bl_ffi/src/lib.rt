@@ -22,7 +22,7 @@ pub use calls::{
     blink_try_find, blink_try_insert, blink_try_put, blink_try_rows, blink_try_rows_down,
     blink_waiting,
 };
-pub use opening::{blink_open, blink_open_image};
+pub use opening::{blink_open, blink_open_image, blink_open_larger};
 pub use ranging::blink_try_range;
 pub use room::{Room, blink_room_of};
 pub use saving::blink_image_of;

@@ -2,13 +2,13 @@
 
 ghost use Rattle.std.specs.Prelude.{◌≡◌, length, IfOk};
 ghost use Rattle.bl_ffi_seats.specs.Closed.{values};
-ghost use Rattle.bl_ffi.specs.Opened.{Opens, OpensImage, AreHandedOut};
+ghost use Rattle.bl_ffi.specs.Opened.{Opens, OpensImage, OpensLarger, AreHandedOut, IsCodeOfImage};
 ghost use Rattle.bl_ffi.specs.Places.{seats_in, closed};
 
 use crate::codes::{BAD_IMAGE, BAD_PAGES, BAD_SEATS, IN_USE, NO_MEMORY, OK};
 use crate::places::{is_any_open, put_all};
 use crate::seat::SeatOfC;
-use bl_ffi_seats::{ImageFault, OpenFault, Seat, open, open_image};
+use bl_ffi_seats::{ImageFault, OpenFault, Seat, open, open_image, open_larger};
 use std::alloc::{AllocError, Global};
 
 /// Boxes for the seats, before any is handed out.
@@ -71,8 +71,40 @@ pub extern "C" fn blink_open_image(alloc: Global, bytes: &[u8], seats: &mut [Sea
     }
     match open_image(alloc, bytes, seats.len() as u32) {
         Ok(opened) => hand_out(alloc, opened, seats),
-        Err(ImageFault::Image) => BAD_IMAGE,
-        Err(ImageFault::Seats) => BAD_SEATS,
-        Err(ImageFault::Memory) => NO_MEMORY,
+        Err(why) => code_of(why),
+    }
+}
+
+/// The same with so many pages, as many as the image has or more.
+#[unsafe(no_mangle)]
+pub extern "C" fn blink_open_larger(
+    alloc: Global,
+    bytes: &[u8],
+    pages: u32,
+    seats: &mut [SeatOfC],
+) -> i32
+    ensures { OpensLarger bytes.now pages (seats_in seats.old) (seats_in seats.new) result }
+{
+    if seats.len() > 64 {
+        return BAD_SEATS;
+    }
+    if is_any_open(alloc, seats) {
+        return IN_USE;
+    }
+    match open_larger(alloc, bytes, pages, seats.len() as u32) {
+        Ok(opened) => hand_out(alloc, opened, seats),
+        Err(why) => code_of(why),
+    }
+}
+
+/// The code of why no map was opened from bytes.
+fn code_of(why: ImageFault) -> i32
+    ensures { IsCodeOfImage why result }
+{
+    match why {
+        ImageFault::Image => BAD_IMAGE,
+        ImageFault::Pages => BAD_PAGES,
+        ImageFault::Seats => BAD_SEATS,
+        ImageFault::Memory => NO_MEMORY,
     }
 }

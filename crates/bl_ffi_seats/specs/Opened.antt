@@ -1,5 +1,5 @@
 -- Seats that were just made.
-use Rattle.std.specs.Prelude.{◌≡◌, ◌<◌, ◌⊎◌, ℕ, Option, List}
+use Rattle.std.specs.Prelude.{◌≡◌, ◌<◌, ◌^◌, ◌⊎◌, ℕ, Option, List, length}
 use Rattle.std.specs.Arc.{arc_value}
 use Rattle.std.specs.List.{AllZip}
 use Rattle.bl_page.specs.declared.page.Page.{Page}
@@ -7,7 +7,7 @@ use Rattle.bl_image.specs.Images.{IsImage}
 use Rattle.bl_check.specs.Faults.{AreSoundImage}
 use Rattle.bl_index.specs.declared.index.Index.{Index}
 use Rattle.bl_index.specs.declared.index.Pass.{Pass}
-use Rattle.bl_index.specs.Opened.{IsIndexOpened, IsReopened as IsIndexReopened}
+use Rattle.bl_index.specs.Opened.{IsIndexOpened, IsReopened as IsIndexReopened, IsReopenedIn as IsIndexReopenedIn}
 use Rattle.bl_ffi_seats.specs.declared.seat.Seat.{Seat}
 use Rattle.bl_ffi_seats.specs.declared.opening.ImageFault.{ImageFault}
 use Rattle.bl_ffi_seats.specs.declared.opening.ImageFault.TheVariants as fault
@@ -40,8 +40,23 @@ pub record AreReopened (bytes : List ℕ) (among : ℕ) (seats : List Seat) : Ty
   pub opened : IsIndexReopened image among index passes
   pub each : AreSeatsOf index passes seats
 
+-- The same of an index that has so many pages, of which the image's are the first.
+pub record AreReopenedIn (bytes : List ℕ) (size among : ℕ) (seats : List Seat) : Type 0 where
+  pub image : List (Option Page)
+  pub spelled : IsImage image bytes
+  pub index : Index
+  pub passes : List Pass
+  pub opened : IsIndexReopenedIn image size among index passes
+  pub each : AreSeatsOf index passes seats
+
 -- Why no index was opened from the bytes: they are no sound image; or they are an image, and the seats are not within their limits.
 abbrev pub IsImageFault : List ℕ → ℕ → ImageFault → Type 0
 IsImageFault bytes among fault.Image = AreSoundImage bytes → ⊥
+IsImageFault bytes among fault.Pages = ⊥
 IsImageFault bytes among fault.Seats = (image : List (Option Page)) × IsImage image bytes × ((among < 1) ⊎ (64 < among))
 IsImageFault bytes among fault.Memory = Unit {0}
+
+-- The same of one with so many pages: or these are fewer than the image's, or too many.
+abbrev pub IsLargerFault : List ℕ → ℕ → ℕ → ImageFault → Type 0
+IsLargerFault bytes size among fault.Pages = (image : List (Option Page)) × IsImage image bytes × ((size < length image) ⊎ (2 ^ 28 < size))
+IsLargerFault bytes size among why = IsImageFault bytes among why

@@ -17,5 +17,5 @@ mod working;
 
 pub use bl_index::{KeyReply, KeyWrite, Next, OpenFault, RangeFault, Reply};
 pub use closing::{CloseFault, close};
-pub use opening::{ImageFault, open, open_image};
+pub use opening::{ImageFault, open, open_image, open_larger};
 pub use seat::Seat;

@@ -4,7 +4,7 @@ ghost use Rattle.std.specs.Prelude.{All, IfOk, IfErr};
 ghost use Rattle.std.specs.Arc.{arc_value};
 ghost use Rattle.bl_index.specs.Calls.{IsPassOf};
 ghost use Rattle.bl_index.specs.Opened.{IsLargeRefusal};
-ghost use Rattle.bl_ffi_seats.specs.Opened.{AreSeatsOf, AreSeatsOpened, AreReopened, IsImageFault, IsNewSeat};
+ghost use Rattle.bl_ffi_seats.specs.Opened.{AreSeatsOf, AreSeatsOpened, AreReopened, AreReopenedIn, IsImageFault, IsLargerFault, IsNewSeat};
 
 use crate::seat::{Seat, Upkeep};
 use bl_check::{Fault, load};
@@ -18,6 +18,8 @@ use std::sync::Arc;
 pub enum ImageFault {
     /// They are no sound image.
     Image,
+    /// The number of pages is less than the image's, or more than 2^28.
+    Pages,
     /// The number of seats is not 1 to 64.
     Seats,
     /// There was no memory.
@@ -61,6 +63,32 @@ pub fn open_image(alloc: Global, bytes: &[u8], seats: u32) -> Result<Vec<Seat>, 
         },
         Err((_, OpenFault::Memory)) => Err(ImageFault::Memory),
         Err(_) => Err(ImageFault::Seats),
+    }
+}
+
+/// The same with so many pages, as many as the image has or more, up to 2^28: with `Pages` it fails where they are others.
+pub fn open_larger(
+    alloc: Global,
+    bytes: &[u8],
+    pages: u32,
+    seats: u32,
+) -> Result<Vec<Seat>, ImageFault>
+    ensures ok { IfOk result (λ v. AreReopenedIn bytes.now pages seats v.items) }
+    ensures fault { IfErr result (IsLargerFault bytes.now pages seats) }
+{
+    let quiet = match load(alloc, bytes) {
+        Ok(quiet) => quiet,
+        Err(Fault::Memory) => return Err(ImageFault::Memory),
+        Err(_) => return Err(ImageFault::Image),
+    };
+    match Index::open_larger(alloc, quiet, pages, seats) {
+        Ok((index, passes)) => match shared(alloc, index, passes) {
+            Ok(seats) => Ok(seats),
+            Err(_) => Err(ImageFault::Memory),
+        },
+        Err((_, OpenFault::Memory)) => Err(ImageFault::Memory),
+        Err((_, OpenFault::Pages)) => Err(ImageFault::Pages),
+        Err((_, OpenFault::Passes)) => Err(ImageFault::Seats),
     }
 }
 

@@ -21,8 +21,8 @@ _UNSURE = lib.SHIM_UNSURE
 _find = lib.shim_find
 _new = ffi.new
 _NOTHING: Any = object()
-# The pages of a map that nobody has sized, and rows a page where only the rows are known: six surely fit, and some are to come.
-_PAGES, _ROWS_A_PAGE = 4096, 4
+# The pages with which a map begins that nobody has sized, and rows a page where the rows are known; and the most pages.
+_PAGES, _ROWS_A_PAGE, _MOST_PAGES = 4096, 4, 2**28
 
 
 class Error(Exception):
@@ -145,8 +145,8 @@ class Map(MutableMapping[int, int]):
     Threads may share a map: each call of one key is one step of one plain map. An iteration is many calls: it is right
     whatever others change meanwhile, and no snapshot. len() is exact while no other thread writes.
 
-    `pages` is how much room there is, 4 to 2**28, which does not change: 6 * pages - 10 rows surely fit, and NoRoom is raised
-    behind that. Where it is not given there is room for the rows that are, and as many as the image has where there is one.
+    The map grows as rows come, by two each time, while other calls wait. With `pages`, 4 to 2**28, it has just so many, in which
+    6 * pages - 10 rows surely fit, and NoRoom is raised behind that.
     `seats` is how many calls may be underway at once, 1 to 64; others wait for their turn. With `path` the map begins with the
     image in that file, and save() and close() write it there; with `create` the file need not be there.
 
@@ -168,26 +168,25 @@ class Map(MutableMapping[int, int]):
         if path is not None and (os.path.exists(path) or not create):
             with open(path, "rb") as file:
                 image = file.read()
-        if pages is None and image is None:
-            if not hasattr(rows, "__len__"):
-                rows = list(rows)
-            pages = max(_PAGES, len(rows) // _ROWS_A_PAGE)
-        if pages is None or image is None or lib.blink_image_length(pages) == len(image):
-            self._begin(pages or _PAGES, seats, image, path)
+        if pages is None:
+            wanted = len(rows) // _ROWS_A_PAGE if hasattr(rows, "__len__") else 0
+            self._begin(max(_PAGES, wanted), seats, image, path, grows=True)
+        elif image is None or lib.blink_image_length(pages) == len(image):
+            self._begin(pages, seats, image, path)
         else:
             with Map.from_image(image, seats=1) as old:
                 self._begin(pages, seats, None, path)
                 self.update(old)
         self.update(rows)
 
-    def _begin(self, pages: int, seats: int, image: Any, path: Any) -> None:
+    def _begin(self, pages: int, seats: int, image: Any, path: Any, *, grows: bool = False) -> None:
         made = _new("shim_map **")
         if _is_orphan:
             raise Error("the library cannot be used in the child of a fork of a program with threads: spawn it")
         if not 0 <= index(pages) < 2**32 or not 0 <= index(seats) < 2**32:
             raise ValueError(f"a map has 4 to 2**28 pages and 1 to 64 seats, not {pages} and {seats}")
         bytes_ = ffi.NULL if image is None else ffi.from_buffer("uint8_t[]", image)
-        code = lib.shim_open(pages, seats, bytes_, 0 if image is None else len(bytes_), made)
+        code = lib.shim_open(pages, _MOST_PAGES if grows else 0, seats, bytes_, 0 if image is None else len(bytes_), made)
         if code != _OK:
             _refuse(code, f": {os.fspath(path)}" if image is not None and path is not None else "")
         self._at = ffi.gc(made[0], _free)
@@ -204,7 +203,7 @@ class Map(MutableMapping[int, int]):
     def from_image(cls, image: Any, *, seats: int = 8) -> Map:
         """A map that begins with the bytes of an image, as image() and `blink dump` make it."""
         made = cls.__new__(cls)
-        made._begin(4, seats, image, None)
+        made._begin(4, seats, image, None, grows=True)
         return made
 
     @classmethod
@@ -521,8 +520,8 @@ class Map(MutableMapping[int, int]):
     # Copies and images.
 
     def copy(self) -> Map:
-        """A map with the same rows and as many pages, without a path."""
-        return type(self)(self, pages=self.pages, seats=self.seats)
+        """A map with the same rows, without a path. It grows as this one does, or has as many pages."""
+        return type(self)(self, pages=None if self._at.most > self.pages else self.pages, seats=self.seats)
 
     __copy__ = copy
 
@@ -546,14 +545,23 @@ class Map(MutableMapping[int, int]):
 
     def _close_to(self, goes_on: bool) -> tuple[bytearray, bool]:
         """Closes the map to its image, and opens it again where it is to go on: the image, and whether it does."""
-        image, is_open = bytearray(lib.blink_image_length(self.pages)), _new("bool *", goes_on)
-        code = lib.shim_image(self._at, ffi.from_buffer("uint8_t[]", image), len(image), is_open)
+        is_open, code = _new("bool *", goes_on), lib.BLINK_FEW_BYTES
+        # It may grow until it is closed.
+        while code == lib.BLINK_FEW_BYTES:
+            image = bytearray(lib.blink_image_length(self.pages))
+            code = lib.shim_image(self._at, ffi.from_buffer("uint8_t[]", image), len(image), is_open)
+        if code == lib.BLINK_CLOSED:
+            kept = _new("uint8_t **")
+            length = lib.shim_kept(self._at, kept)
+            if length:
+                return bytearray(ffi.buffer(kept[0], length)), True
         if code != _OK:
             _refuse(code)
         return image, bool(is_open[0])
 
     def image(self) -> bytes:
-        """The map's image. Calls of other threads wait meanwhile, since it is closed and opened again."""
+        """The map's image. Calls of other threads wait meanwhile, since it is closed and opened again. Where memory was refused as it
+        grew, and it is closed since, this and save() give its rows all the same."""
         with self._saving:
             image, is_open = self._close_to(True)
         if not is_open:
@@ -696,7 +704,7 @@ def _free(at: Any) -> None:
 
 def _closed_map() -> Any:
     made = _new("shim_map **")
-    if lib.shim_open(4, 1, ffi.NULL, 0, made) != _OK:
+    if lib.shim_open(4, 0, 1, ffi.NULL, 0, made) != _OK:
         raise MemoryError("there is no memory for a map of four pages")
     lib.shim_close(made[0])
     return made[0]

@@ -16,8 +16,12 @@ typedef struct shim_map {
     blink_seat *seats;
     uint64_t free;    /* a bit for each seat that is in no call */
     uint32_t waiting; /* how many threads wait for a seat */
+    uint32_t takers;  /* how many of them wait for all seats: no other call takes one before them */
     uint32_t pages, count;
+    uint32_t most;    /* to so many pages it may grow */
     int64_t rows; /* how many rows there are: the library would go along them; SHIM_CLOSED where the map is closed */
+    uint8_t *kept;    /* the image of a map that could not be opened again as it grew, or null */
+    uint64_t kept_length;
     pthread_mutex_t lock;
     pthread_cond_t given;
 } shim_map;
@@ -35,9 +39,10 @@ static bool shim_try_take(shim_map *map, uint64_t wanted) {
     return false;
 }
 
-/* Takes a free seat, if there is one: its number, or -1. */
+/* Takes a free seat, if there is one and nobody wants all: its number, or -1. */
 static int shim_try_one(shim_map *map) {
     uint64_t free = __atomic_load_n(&map->free, __ATOMIC_SEQ_CST);
+    if (__atomic_load_n(&map->takers, __ATOMIC_SEQ_CST) > 0) return -1;
     while (free) {
         int place = __builtin_ctzll(free);
         if (__atomic_compare_exchange_n(&map->free, &free, free & (free - 1), false, __ATOMIC_SEQ_CST, __ATOMIC_SEQ_CST))
@@ -62,7 +67,9 @@ static int shim_take(shim_map *map) {
 static void shim_take_all(shim_map *map) {
     pthread_mutex_lock(&map->lock);
     __atomic_add_fetch(&map->waiting, 1, __ATOMIC_SEQ_CST);
+    __atomic_add_fetch(&map->takers, 1, __ATOMIC_SEQ_CST);
     while (!shim_try_take(map, shim_all(map))) pthread_cond_wait(&map->given, &map->lock);
+    __atomic_sub_fetch(&map->takers, 1, __ATOMIC_SEQ_CST);
     __atomic_sub_fetch(&map->waiting, 1, __ATOMIC_SEQ_CST);
     pthread_mutex_unlock(&map->lock);
 }
@@ -76,7 +83,7 @@ static void shim_give(shim_map *map, uint64_t places) {
     pthread_mutex_unlock(&map->lock);
 }
 
-static void shim_count(shim_map *map, int64_t more) { __atomic_add_fetch(&map->rows, more, __ATOMIC_RELAXED); }
+static int64_t shim_count(shim_map *map, int64_t more) { return __atomic_add_fetch(&map->rows, more, __ATOMIC_RELAXED); }
 
 /* Does what makes a call with the seat `seat` and sets `answer`, between taking that seat and giving it back. */
 #define SHIM_CALL(map, call)                       \
@@ -93,8 +100,70 @@ static void shim_count_all(shim_map *map) {
     map->rows = (int64_t)rows;
 }
 
-/* Opens a map without rows, or, where `image` is not null, with the rows of an image. */
-static int32_t shim_open(uint32_t pages, uint32_t count, const uint8_t *image, size_t length, shim_map **made) {
+/* How many pages the map has now: it may grow meanwhile. */
+static uint32_t shim_pages(shim_map *map) { return __atomic_load_n(&map->pages, __ATOMIC_SEQ_CST); }
+
+/* Whether it is time to grow: insertions look long for room soon. */
+static bool shim_is_short(shim_map *map) {
+    bool is_short = false;
+    SHIM_CALL(map, answer = blink_is_short(seat, &is_short))
+    return answer == BLINK_OK && is_short;
+}
+
+/* Gives the map twice its pages, or as many as it may have, by all seats, unless it has more than so many by then. Where there is no memory
+ * it stays as it is; where it could not be opened again, it is closed, and keeps its image. */
+static void shim_resize(shim_map *map, uint32_t pages) {
+    uint64_t length = 0;
+    size_t room = (size_t)blink_image_length(pages);
+    uint32_t wanted = pages > map->most / 2 ? map->most : 2 * pages;
+    uint8_t *bytes;
+    int32_t answer;
+    if (map->rows == SHIM_CLOSED || map->pages != pages || pages >= map->most) return;
+    bytes = malloc(room);
+    if (!bytes) return;
+    answer = blink_resize(map->seats, map->count, wanted, bytes, room, &length);
+    if (answer == BLINK_OK) __atomic_store_n(&map->pages, wanted, __ATOMIC_SEQ_CST);
+    if (answer == BLINK_SEATS_LOST) {
+        map->rows = SHIM_CLOSED;
+        map->kept = length ? bytes : NULL;
+        map->kept_length = length;
+    }
+    if (!map->kept) free(bytes);
+}
+
+/* The same while no call is underway: whether it has more pages than so many then. */
+static bool shim_grow(shim_map *map, uint32_t pages) {
+    if (pages >= map->most) return false;
+    shim_take_all(map);
+    shim_resize(map, pages);
+    shim_give(map, shim_all(map));
+    return shim_pages(map) > pages;
+}
+
+/* Behind a call that began when the map had so many pages, and has entered so many rows: where it is short of pages it grows. Whether the
+ * call found no room, and is to be made again. */
+static bool shim_again(shim_map *map, uint32_t pages, int32_t answer, int64_t fresh) {
+    if (fresh > 0) {
+        const int64_t rows = shim_count(map, fresh);
+        /* Seldom, since it is a look. */
+        if (rows / 64 != (rows - fresh) / 64 && pages < map->most && shim_is_short(map)) shim_grow(map, pages);
+    }
+    return answer == BLINK_NO_ROOM && shim_grow(map, pages);
+}
+
+/* Makes a call that may enter a row, where the answer is_new says that it did, again and again while it finds no room and the map grows. */
+#define SHIM_WRITE(map, call, is_new)                                     \
+    int32_t answer_;                                                      \
+    uint32_t pages_;                                                      \
+    do {                                                                  \
+        pages_ = shim_pages(map);                                         \
+        SHIM_CALL(map, call)                                              \
+        answer_ = answer;                                                 \
+    } while (shim_again(map, pages_, answer_, (is_new) && answer_ == BLINK_OK));
+
+/* Opens a map without rows, or, where `image` is not null, with the rows of an image. It may grow to `most` pages. */
+static int32_t shim_open(uint32_t pages, uint32_t most, uint32_t count, const uint8_t *image, size_t length,
+                         shim_map **made) {
     shim_map *map;
     blink_stats stats = { 0, 0, 0, 0 };
     int32_t answer;
@@ -112,6 +181,7 @@ static int32_t shim_open(uint32_t pages, uint32_t count, const uint8_t *image, s
     }
     blink_stat(&map->seats[0], &stats);
     map->pages = (uint32_t)stats.pages;
+    map->most = most > map->pages ? most : map->pages;
     map->count = count;
     map->free = shim_all(map);
     pthread_mutex_init(&map->lock, NULL);
@@ -134,6 +204,7 @@ static void shim_free(shim_map *map) {
     shim_close(map);
     pthread_cond_destroy(&map->given);
     pthread_mutex_destroy(&map->lock);
+    free(map->kept);
     free(map->seats);
     free(map);
 }
@@ -175,40 +246,36 @@ static int32_t shim_find_surely(shim_map *map, uint64_t key, uint64_t *value) {
 }
 
 static int32_t shim_insert(shim_map *map, uint64_t key, uint64_t value, uint64_t *there) {
-    SHIM_CALL(map, answer = blink_insert(seat, key, value, there))
-    if (answer == BLINK_OK) shim_count(map, 1);
-    return answer;
+    SHIM_WRITE(map, answer = blink_insert(seat, key, value, there), true)
+    return answer_;
 }
 
 /* Puts a value, and tells no old one: so BLINK_OK in place of BLINK_PRESENT. */
 static int32_t shim_set(shim_map *map, uint64_t key, uint64_t value) {
     uint64_t old = 0;
-    SHIM_CALL(map, answer = blink_put(seat, key, value, &old))
-    if (answer == BLINK_OK) shim_count(map, 1);
-    return answer == BLINK_PRESENT ? BLINK_OK : answer;
+    SHIM_WRITE(map, answer = blink_put(seat, key, value, &old), true)
+    return answer_ == BLINK_PRESENT ? BLINK_OK : answer_;
 }
 
 static int32_t shim_put(shim_map *map, uint64_t key, uint64_t value, uint64_t *old) {
-    SHIM_CALL(map, answer = blink_put(seat, key, value, old))
-    if (answer == BLINK_OK) shim_count(map, 1);
-    return answer;
+    SHIM_WRITE(map, answer = blink_put(seat, key, value, old), true)
+    return answer_;
 }
 
 static int32_t shim_delete(shim_map *map, uint64_t key, uint64_t *gone) {
-    SHIM_CALL(map, answer = blink_delete(seat, key, gone))
-    if (answer == BLINK_OK) shim_count(map, -1);
-    return answer;
+    SHIM_WRITE(map, answer = blink_delete(seat, key, gone), false)
+    if (answer_ == BLINK_OK) shim_count(map, -1);
+    return answer_;
 }
 
 static int32_t shim_change(shim_map *map, uint64_t key, uint64_t old_value, uint64_t new_value, uint64_t *there) {
-    SHIM_CALL(map, answer = blink_change(seat, key, old_value, new_value, there))
-    return answer;
+    SHIM_WRITE(map, answer = blink_change(seat, key, old_value, new_value, there), false)
+    return answer_;
 }
 
 static int32_t shim_add(shim_map *map, uint64_t key, uint64_t delta, uint64_t *now) {
-    SHIM_CALL(map, answer = blink_add(seat, key, delta, now))
-    if (answer == BLINK_OK) shim_count(map, 1);
-    return answer;
+    SHIM_WRITE(map, answer = blink_add(seat, key, delta, now), true)
+    return answer_;
 }
 
 /* The first row, or the last one. */
@@ -264,24 +331,47 @@ static int32_t shim_get_many(shim_map *map, const uint64_t *keys, size_t count, 
     return answer;
 }
 
-/* Puts so many pairs, in their order, up to the first that finds no room; `*done` says how many were put. */
-static int32_t shim_put_many(shim_map *map, const uint64_t *keys, const uint64_t *values, size_t count, size_t *done) {
-    int64_t fresh = 0;
+/* Puts some pairs, in their order, up to the first that finds no room; `*done` says how many were put, `*fresh` how many keys were new. */
+static int32_t shim_put_some(shim_map *map, const uint64_t *keys, const uint64_t *values, size_t count, size_t *done,
+                             int64_t *fresh) {
     uint64_t old = 0;
     *done = 0;
+    *fresh = 0;
     SHIM_CALL(map, answer = BLINK_OK;
               for (; *done < count && answer != BLINK_NO_ROOM && answer != BLINK_CLOSED; *done += answer <= BLINK_PRESENT) {
                   answer = blink_put(seat, keys[*done], values[*done], &old);
-                  fresh += answer == BLINK_OK;
+                  *fresh += answer == BLINK_OK;
               })
-    shim_count(map, fresh);
-    return answer == BLINK_PRESENT ? BLINK_OK : answer;
+    return answer;
+}
+
+/* The same of many, some at a time, between which the map may grow: up to the first that finds no room all the same. */
+static int32_t shim_put_many(shim_map *map, const uint64_t *keys, const uint64_t *values, size_t count, size_t *done) {
+    enum { SOME = 64 };
+    int32_t answer = BLINK_OK;
+    *done = 0;
+    while (*done < count) {
+        const size_t some = count - *done < SOME ? count - *done : SOME;
+        const uint32_t pages = shim_pages(map);
+        size_t put = 0;
+        int64_t fresh = 0;
+        answer = shim_put_some(map, keys + *done, values + *done, some, &put, &fresh);
+        *done += put;
+        if (!shim_again(map, pages, answer, fresh) && answer > BLINK_PRESENT) return answer;
+    }
+    return BLINK_OK;
 }
 
 /* How many rows there are, or -1 where the map is closed. */
 static int64_t shim_length(const shim_map *map) {
     int64_t rows = __atomic_load_n(&map->rows, __ATOMIC_RELAXED);
     return rows == SHIM_CLOSED ? -1 : rows < 0 ? 0 : rows;
+}
+
+/* The image of a map that could not be opened again as it grew: how long it is, and its bytes; 0 where there is none. */
+static uint64_t shim_kept(const shim_map *map, uint8_t **bytes) {
+    *bytes = map->kept;
+    return map->kept ? map->kept_length : 0;
 }
 
 /* How many pages are free, about, or -1 where the map is closed. */

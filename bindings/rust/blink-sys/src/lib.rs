@@ -115,11 +115,27 @@ pub const BLINK_LEAF_ROWS: usize = 14;
 extern "C" {
     pub fn blink_open(pages: u32, seats: *mut blink_seat, count: usize) -> i32;
     pub fn blink_open_image(bytes: *const u8, length: usize, seats: *mut blink_seat, count: usize) -> i32;
+    pub fn blink_open_larger(
+        bytes: *const u8,
+        length: usize,
+        pages: u32,
+        seats: *mut blink_seat,
+        count: usize,
+    ) -> i32;
     pub fn blink_close(seat: *mut blink_seat) -> i32;
     pub fn blink_image_length(pages: u32) -> u64;
     pub fn blink_close_image(
         seats: *mut blink_seat,
         count: usize,
+        bytes: *mut u8,
+        room: usize,
+        length: *mut u64,
+    ) -> i32;
+    pub fn blink_is_short(seat: *mut blink_seat, is_short: *mut bool) -> i32;
+    pub fn blink_resize(
+        seats: *mut blink_seat,
+        count: usize,
+        pages: u32,
         bytes: *mut u8,
         room: usize,
         length: *mut u64,

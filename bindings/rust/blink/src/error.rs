@@ -94,7 +94,7 @@ pub enum SnapshotError {
 impl fmt::Display for SnapshotError {
     fn fmt(&self, f: &mut fmt::Formatter<'_>) -> fmt::Result {
         f.write_str(match self {
-            SnapshotError::Unsteady => "others changed the rows each time that they were read",
+            SnapshotError::Unsteady => "others changed the rows each time they were read",
             SnapshotError::Memory => "there is no memory",
         })
     }

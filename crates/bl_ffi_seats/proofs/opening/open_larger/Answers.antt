@@ -1,0 +1,5 @@
+use Rattle.bl_ffi_seats.proofs.Begun.{all_begun}
+use Rattle.bl_ffi_seats.proofs.opening.open_larger.Goals as goal
+
+pub shared-requires : goal.shared-requires
+shared-requires c = all_begun _ _ _ c.in-Ok-open_larger.index _ c.in-Ok-open_larger.ensures.ok.begun
