@@ -11,3 +11,4 @@ pub mod Gone
 pub mod Closings
 pub mod PartReplies
 pub mod Followed
+pub mod Settled
