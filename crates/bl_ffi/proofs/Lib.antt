@@ -4,3 +4,4 @@ pub mod Called
 pub mod Placing
 pub mod ClosedTo
 pub mod Listing
+pub mod RangeCodes
