@@ -11,12 +11,12 @@ abbrev pub blanks : ℕ → List (Option Page)
 blanks n = replicate n None
 
 pub is_none : (page : Option Page) → is_some page ≡ false → page ≡ None
-is_none None no = refl
-is_none (Some p) no = absurd (true≢false no)
+is_none None h = refl
+is_none (Some p) h = absurd (true≢false h)
 
 pub is_used : (page : Option Page) → is_some page ≡ true → page ≡ None → ⊥
-is_used None yes none = false≢true yes
-is_used (Some p) yes none = absurd cc
+is_used None h blank = false≢true h
+is_used (Some p) h blank = absurd cc
 
 pub used_blanks : (n : ℕ) → used_to (blanks n) ≡ 0
 used_blanks zero = refl

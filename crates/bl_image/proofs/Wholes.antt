@@ -1,5 +1,5 @@
 -- Whole images: what their heads say, and that there is one for each list of pages.
-use Rattle.std.proofs.Common.{◌≡◌, ℕ, zero, suc, ◌+◌, ◌*◌, ◌-◌, ◌<◌, ◌≤◌, ◌^◌, List, [], ◌∷◌, ◌++◌, length, get_or, take, drop, Option, Some, None, refl, ap, sym, subst, ◌∙◌, length-append, inl, inr, arith}
+use Rattle.std.proofs.Common.{◌≡◌, ℕ, zero, suc, ◌-◌, ◌<◌, ◌≤◌, ◌^◌, List, [], ◌∷◌, ◌++◌, length, get_or, take, drop, Option, Some, None, refl, ap, sym, subst, ◌∙◌, length-append, inl, inr, arith}
 use Rattle.std.specs.Prelude.{flat_map, replicate, max}
 use Rattle.std.specs.List.{AllByRecursion}
 use Rattle.std.proofs.lemmas.Bool.{cases_lt}
@@ -7,7 +7,7 @@ use Rattle.std.proofs.lemmas.Nat.{from_le_bytes-to_le_bytes_4}
 use Rattle.std.proofs.lemmas.List.{take_at, get_or-take, length-take-le, length-replicate, take-append-drop}
 use Rattle.byteorder.specs.Endian.{little_bytes, little_number}
 use Rattle.bl_page.specs.declared.page.Page.{Page}
-use Rattle.bl_image.specs.Images.{page_words, page_bytes, image_bytes, head_bytes, told_of, bound_of, least_stored, used_to, stored, Fits64, NamesBelow, AreWithin, IsCount, IsStored, AreStored, IsHead, IsImage, IsFault, ArePage, chunk}
+use Rattle.bl_image.specs.Images.{page_words, page_bytes, image_bytes, head_bytes, told_of, bound_of, least_stored, used_to, stored, Fits64, NamesBelow, AreWithin, IsCount, IsStored, AreStored, IsHead, IsImage, IsFault, chunk}
 use Rattle.bl_image.specs.declared.fault.ImageFault.{ImageFault}
 use Rattle.bl_image.specs.declared.fault.ImageFault.TheVariants as fault
 use Rattle.bl_image.proofs.Chunks.{chunk_stored, fits_at, below_at, length-pages, page_bytes-same, pages-same}
@@ -123,7 +123,7 @@ image_same a b bytes p q =
     let many = same_stored bytes (length a) (length b) (stored a) (stored b) of_a of_b in
     let size_a = stored_size a p.count.0 in let size_b = stored_size b q.count.0 in
     let front : take (stored a) a ≡ take (stored b) b = pages-same (take (stored a) a) (take (stored b) b)
-        (all_take _ (stored a) a p.words) (all_take _ (stored b) b q.words) (size_a ∙ many ∙ sym size_b) (ap (drop 32) (sym p.bytes_are ∙ q.bytes_are)) in
+    (all_take _ (stored a) a p.words) (all_take _ (stored b) b q.words) (size_a ∙ many ∙ sym size_b) (ap (drop 32) (sym p.bytes_are ∙ q.bytes_are)) in
     stored_rest a ∙ (λ i. front i ++ blanks (count i - many i)) ∙ sym (stored_rest b)
 
 -- pages that are stored behind a head, and so many behind them that they are as many as it says
@@ -140,7 +140,7 @@ module _ (pages all : List (Option Page)) (bytes : List ℕ) (count kept : ℕ) 
     | inl lt ↦
         let at : kept ≡ suc (kept - 1) = not_none (least_stored count) kept lt in
         let full : used_to pages ≡ suc (kept - 1) = used_full pages (kept - 1) (held.many ∙ at)
-            (λ none. head.kept_fits.last lt (chunk_stored (kept - 1) pages bytes held.bytes_are (omega (arith, held.many, at)) ∙ ap page_bytes none)) in
+        (λ none. head.kept_fits.last lt (chunk_stored (kept - 1) pages bytes held.bytes_are (omega (arith, held.many, at)) ∙ ap page_bytes none)) in
         most_is_right (least_stored count) (used_to pages) kept lt (full ∙ sym at)
     | inr le ↦ most_is_left (least_stored count) (used_to pages) kept head.kept_fits.least le (subst (λ (n : ℕ). used_to pages ≤ n) held.many (used_most pages))
   ]

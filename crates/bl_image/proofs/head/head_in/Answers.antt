@@ -1,5 +1,7 @@
 use Rattle.std.proofs.Common.{◌≡◌, ℕ, ◌+◌, ◌*◌, ap, sym, subst, ◌∙◌}
-use Rattle.std.proofs.lemmas.Bool.{false≢true}
+use Rattle.std.proofs.lemmas.Bool.{true≢false, false≢true}
+use Rattle.std.specs.Prelude.{not}
+use lib.Pointwise.{bytes_decides}
 use Rattle.bl_image.specs.Images.{head_bytes, IsStored}
 use Rattle.bl_image.proofs.Wholes.{stored_read, same_value}
 use Rattle.bl_image.proofs.head.head_in.Goals as goal
@@ -14,11 +16,12 @@ returns-then-not-fits c n k head =
     let count : c.in-Some.count ≡ n = same_value c.in-Some.count n (c.in-Some.ensures.only n k head.head head.count_fits) in
     let stored : c.stored_in-stored.result ≡ k = stored_read bytes c.in-Some.count c.stored_in-stored.result n k count head c.stored_in-stored.ensures.large c.stored_in-stored.ensures.small in
     absurd (false≢true (sym c.if-not-fits.true ∙ c.fits.ensures.1
-    (subst (λ (z : ℕ × ℕ). IsStored bytes z.0 z.1) (λ i. (sym count i, sym stored i)) head.kept_fits, head.long ∙ ap (λ n. 32 + 256 * n) (sym stored))))
+    (subst (λ (z : ℕ × ℕ). IsStored bytes z.0 z.1) (sym (λ i. (count i, stored i))) head.kept_fits, head.long ∙ ap (λ n. 32 + 256 * n) (sym stored))))
 
-pub returns-then-head-ne : goal.returns-then-head-ne
-returns-then-head-ne c n k head =
+pub returns-then-ne : goal.returns-then-ne
+returns-then-ne c n k head =
     let bytes = c.args.bytes.now in
     let count : c.in-Some.count ≡ n = same_value c.in-Some.count n (c.in-Some.ensures.only n k head.head head.count_fits) in
     let stored : c.stored_in-stored.result ≡ k = stored_read bytes c.in-Some.count c.stored_in-stored.result n k count head c.stored_in-stored.ensures.large c.stored_in-stored.ensures.small in
-    absurd (c.if-head-ne.true (head.head ∙ ((λ i. head_bytes (sym count i) (sym stored i)) ∙ sym c.head_of.ensures)))
+    absurd (true≢false (sym c.if-ne.true ∙ c.ne.ensures
+    ∙ ap not ((bytes_decides _ _).1 (head.head ∙ (sym (λ i. head_bytes (count i) (stored i)) ∙ (sym c.head_of.ensures ∙ sym c.as_slice.ensures))))))

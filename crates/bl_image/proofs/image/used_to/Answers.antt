@@ -1,8 +1,7 @@
-use Rattle.std.proofs.Common.{◌≡◌, ℕ, ◌+◌, ◌-◌, ◌<◌, List, Option, None, length, get_or, drop, refl, sym, ap, ◌∙◌, arith}
+use Rattle.std.proofs.Common.{◌≡◌, ℕ, ◌+◌, ◌-◌, ◌<◌, None, length, get_or, drop, refl, sym, ap, ◌∙◌, arith}
 use Rattle.std.proofs.lemmas.List.{drop_all, get_or_read_under}
-use Rattle.bl_page.specs.declared.page.Page.{Page}
 use Rattle.bl_image.specs.Images.{used_to}
-use Rattle.bl_image.proofs.Stored.{blanks, is_none, is_used, used_at, used_blanks, blank_more}
+use Rattle.bl_image.proofs.Stored.{is_none, is_used, used_at, used_blanks, blank_more}
 use Rattle.bl_image.proofs.image.used_to.Goals as goal
 
 pub loop-behind-init : goal.loop-behind-init

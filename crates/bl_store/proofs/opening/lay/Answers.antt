@@ -13,7 +13,7 @@ loop-page-init g c = let first = g.F.FirstWords.contents c.args.first.now in
 pub loop-page-preserved : goal.loop-page-preserved
 loop-page-preserved g c =
     let first = g.F.FirstWords.contents c.args.first.now in let page = c.loop-page.page in
-    let inside : page < length first = omega (arith, c.loop-page-test.true, c.count.ensures) in
+    let inside : page < length first = omega (arith, c.loop-page-test.true, c.count-page-end.ensures) in
     let low : page < c.args.layout.pages = omega (arith, inside, c.requires.pages) in
     let here = index_there first page [] inside in
     let same : c.words_of-contents.result ≡ get_or first page [] = c.words_of-contents.ensures.same in
