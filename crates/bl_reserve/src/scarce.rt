@@ -84,7 +84,9 @@ fn counts_enough<D, R: PageRule<D>, A: Allocator>(
     }
     let mark = store.room.ahead();
     let more = LOOKS_AHEAD * PUTS_A_LOOK * store.layout.passes;
-    let all = (wanted + RING as u32 * store.layout.passes).saturating_add(more);
+    let all = wanted
+        .saturating_add(RING as u32 * store.layout.passes)
+        .saturating_add(more);
     let frames = store.layout.frames();
     if all <= FRAMES_NEAR && sees_frames_near(store, hand, all) {
         store.room.note_ahead(mark, more);
