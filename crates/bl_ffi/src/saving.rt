@@ -55,10 +55,8 @@ pub extern "C" fn blink_image_of(
     };
     match image_of(alloc, pairs.as_slice(), pages, fill) {
         Ok(quiet) => {
-            let image = quiet.image();
-            let size = image.size();
-            *long = size;
-            image.spell(&mut bytes[..size as usize]);
+            *long = needed;
+            quiet.image().spell(&mut bytes[..needed as usize]);
             OK
         }
         Err(why) => code_of(why),

@@ -16,7 +16,6 @@ mod compressing;
 mod config;
 mod editing;
 mod finding;
-mod image_words;
 mod index;
 mod listing;
 mod lowering;

@@ -4,7 +4,6 @@ ghost use Rattle.std.specs.Prelude.{◌<◌, ◌≤◌, ◌^◌};
 ghost use Rattle.bl_layout.specs.Words.{frame_count};
 
 use crate::blank::is_all_zeros;
-use crate::first_words::FirstWords;
 use bl_layout::Layout;
 use std::alloc::{AllocError, Global};
 use std::sync::atomic::{AtomicU64, Ordering};
@@ -14,9 +13,6 @@ const BLOCK: u32 = 4_096;
 
 /// So many frames that nobody has used yet a hand takes at once, and it looks at so many before it does. As many are counted together.
 const CHUNK: u32 = 1_024;
-
-/// So many chunks of frames a hand looks at for as many as all hands may take.
-pub const CHUNKS_A_LOOK: u32 = 64;
 
 /// A count of free frames has in its upper half how often some were taken.
 const ONCE_TAKEN: u64 = 1 << 32;
@@ -59,23 +55,16 @@ pub struct Room {
     // How many frames of each chunk are free, of those that no hand keeps in sight. A put that finds its frame in sight writes to none of
     // these words.
     spare: Vec<AtomicU64>,
-    // How many puts hands may make of which the last look by counts has seen the frames, beside those of which each hand has looked itself;
-    // and in the upper half how many such looks there were.
-    ahead: AtomicU64,
     // How many puts each hand has made when it looks for frames next, and the chunk that it counts next, in a line of its own.
     looks_at: Vec<AtomicU64>,
 }
 
 impl Room {
     /// A store of that layout, of which the first pages have these words. Those with only zeros are free, and so are all others.
-    pub fn new<F: FirstWords>(
-        alloc: Global,
-        layout: Layout,
-        first: &F,
-    ) -> Result<Room, AllocError> {
+    pub fn new(alloc: Global, layout: Layout, first: &[[u64; 32]]) -> Result<Room, AllocError> {
         let (free, blocks) = free_in_blocks(alloc, layout.pages, first)?;
         let passes = layout.passes;
-        let spare = spare_in_chunks(alloc, layout, first.count() as u64)?;
+        let spare = spare_in_chunks(alloc, layout, first.len() as u64)?;
         let words = passes as usize * LINE;
         let mut looks_at = Vec::with_capacity(alloc, words)?;
         for _ in 0..words {
@@ -90,9 +79,8 @@ impl Room {
             last: AtomicU64::new(UNKNOWN),
             least: AtomicU64::new(1),
             blocks,
-            fresh: AtomicU64::new((first.count() as u64).max(u64::from(first_frame(passes)))),
+            fresh: AtomicU64::new((first.len() as u64).max(u64::from(first_frame(passes)))),
             spare,
-            ahead: AtomicU64::new(0),
             looks_at,
         })
     }
@@ -256,14 +244,13 @@ impl Room {
         }
     }
 
-    /// Whether so many frames are free, as they are counted, from the chunk of that frame on and around, in as many chunks as a look goes over:
-    /// so a look that would find too few does not begin.
+    /// Whether so many frames are free, as they are counted, from the chunk of that frame on and around.
     pub fn has_spare(&self, frame: u32, frames: u32, wanted: u32) -> bool
         requires { frames ≤ 2 ^ 30 }
     {
         let count = frames / CHUNK + 1;
         let mut free = 0u64;
-        for step in 0..count.min(CHUNKS_A_LOOK) {
+        for step in 0..count {
             free = free.saturating_add(self.spare_at(around(frame / CHUNK, step, count)));
             if free >= u64::from(wanted) {
                 return true;
@@ -318,44 +305,12 @@ impl Room {
         }
     }
 
-    /// The hand of that number has seen enough frames for all, and looks again when it has made so many puts.
+    /// The hand of that number has seen enough frames for all, and looks again when it has made so many puts; or it was refused, and looks
+    /// at once.
     pub fn note_looked(&self, number: u32, puts: u64) {
         if let Some(next) = self.looks_at.get(number as usize * LINE) {
             next.store(puts, Ordering::SeqCst);
         }
-    }
-
-    /// What the last look by counts has left, as it stands when one begins.
-    pub fn ahead(&self) -> u64 {
-        self.ahead.load(Ordering::SeqCst)
-    }
-
-    /// A look that began at that mark has seen the frames of so many puts more than each hand may make before it looks. Where another look
-    /// has ended meanwhile, what that one has seen stands.
-    pub fn note_ahead(&self, mark: u64, puts: u32) {
-        let looks = (mark / ONCE_TAKEN).wrapping_add(1);
-        let after = looks.wrapping_mul(ONCE_TAKEN).wrapping_add(u64::from(puts));
-        let _ = self
-            .ahead
-            .compare_exchange(mark, after, Ordering::SeqCst, Ordering::SeqCst);
-    }
-
-    /// Takes so many of the puts of which another hand has seen the frames. Says whether as many were left.
-    pub fn take_ahead(&self, puts: u32) -> bool {
-        let before = self.ahead.load(Ordering::SeqCst);
-        if before % ONCE_TAKEN < u64::from(puts) {
-            return false;
-        }
-        let after = before.wrapping_sub(u64::from(puts));
-        self.ahead
-            .compare_exchange(before, after, Ordering::SeqCst, Ordering::SeqCst)
-            .is_ok()
-    }
-
-    /// The hand of that number was refused. It looks at once, and nobody goes by what others have seen before.
-    pub fn note_refused(&self, number: u32) {
-        self.note_looked(number, 0);
-        self.note_ahead(self.ahead(), 0);
     }
 
     /// A walk may find room that the last one did not.
@@ -405,10 +360,10 @@ pub fn end_near(layout: Layout, frame: u32) -> u32
 }
 
 // How many pages are free, and how many of each block.
-fn free_in_blocks<F: FirstWords>(
+fn free_in_blocks(
     alloc: Global,
     pages: u32,
-    first: &F,
+    first: &[[u64; 32]],
 ) -> Result<(u64, Vec<AtomicU64>), AllocError>
     requires { pages ≤ 2 ^ 28 }
 {
@@ -459,11 +414,13 @@ fn chunk_of(chunk: u32, frames: u32) -> (u32, u32)
 }
 
 // How many of the pages of a range have only zeros.
-fn blanks<F: FirstWords>(first: &F, from: u32, to: u32) -> u64 {
-    let count = first.count();
+fn blanks(first: &[[u64; 32]], from: u32, to: u32) -> u64 {
     let mut blank = 0u64;
     for page in from..to {
-        let is_blank = page as usize >= count || is_all_zeros(&first.words_of(page));
+        let is_blank = match first.get(page as usize) {
+            Some(words) => is_all_zeros(words),
+            None => true,
+        };
         blank = blank.wrapping_add(u64::from(is_blank));
     }
     blank
