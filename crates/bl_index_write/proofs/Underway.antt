@@ -10,7 +10,6 @@ use Rattle.bl_proc_steps.specs.declared.approach.Approach.TheVariants as way
 use Rattle.bl_proc_writes.specs.declared.post.Post.{Post}
 use Rattle.bl_proc_writes.specs.declared.post.PostStage.{PostStage}
 use Rattle.bl_proc_writes.specs.declared.post.PostStage.TheVariants as post
-use Rattle.bl_proc_writes.specs.declared.walking.Walk.{Walk}
 use Rattle.bl_proc_writes.specs.Levels.{IsBelowTop, IsBelowTop-prop}
 use Rattle.bl_proc_writes.specs.Posts.{post_next_in}
 use Rattle.bl_proc.specs.declared.kinds.Proc.{Proc}
@@ -39,7 +38,7 @@ use Rattle.bl_index_write.proofs.PostEnds.{posted_first}
 use Rattle.bl_index_write.specs.Events.{HasPosted, IsPostOver, IsPostUnderway, posting}
 
 -- the post that a process is, if it is one
-abbrev post_in : Proc → Post → Post
+abbrev pub post_in : Proc → Post → Post
 post_in (proc.Post p) other = p
 post_in kind other = other
 
@@ -66,20 +65,6 @@ module _ (tree : Tree) (hand : Hand PassState) (j : Posting) (p : Post) (empty :
         runs = runs;
         going = (refl, not_begin_way a);
         reserved = (refl, empty, not_retire (post.Coming a));
-        free = ((λ r. r), (λ r. r));
-      })
-
-  -- on its walk to the child
-  pub underway_on_walk : (w : Walk) (below : j.level < 12) → proc.Post p ≡ posting j (post.Walking w) below → Runs tree hand (posting j (post.Walking w) below) → IsPostUnderway tree hand j.level j.key p
-  underway_on_walk w below is runs =
-      let q : Post = record { level = j.level; key = j.key; stage = post.Walking w; least = j.least; most = j.most; below = below } in
-      let same : p ≡ q = ap (λ (z : Proc). post_in z p) is in
-      subst (λ (z : Post). IsPostUnderway tree hand j.level j.key z) (sym same) (record {
-        level_is = refl;
-        key_is = refl;
-        runs = runs;
-        going = (refl, λ e. cc);
-        reserved = (refl, empty, not_retire (post.Walking w));
         free = ((λ r. r), (λ r. r));
       })
 
